@@ -8,10 +8,10 @@ each peering in turn goes to the router other than the emptied one whose load, w
 below their room, and of several with that load to the one with the lowest number. A peering has no target where no such router is below
 its room.
 
-The search goes through all ways to give at most so many peerings, told by how many each router gets, as one peering is like another. It
+The search tries all ways to give at most that many peerings, each way by how many each router gets, as one peering is like another. It
 keeps those in which nobody passes its room with what it gets, and the emptied router gets nothing. A plan is to be one of them; to give
 as many as any of them does, which is all or as many as there are free places; and where it gives all, no way that gives all is to have a
-lower greatest load among the other routers. A case of which this doesn't hold is told on standard error, and the status is 1 then.
+lower greatest load among the other routers. A case of which this doesn't hold is printed on standard error, and then the status is 1.
 
 With a program (graftlab) the targets are those of its report: each case is a laboratory whose last step empties the router, in which all
 peerings stand where they start, so that no load is above its room. They are also to be the targets of the plan.
@@ -87,7 +87,7 @@ def plan(case):
 
 @functools.lru_cache(maxsize=None)
 def shares(routers, count):
-    """All ways to give so many routers at most `count` peerings: how many each gets."""
+    """All ways to give routers at most `count` peerings: how many each gets."""
     if routers == 0:
         return [()]
     return [(first, *others) for first in range(count + 1) for others in shares(routers - 1, count - first)]

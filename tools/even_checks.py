@@ -96,7 +96,7 @@ def frames(whole):
 
 
 def opened(peering, whole):
-    """The hold time and the four-octet AS number of the OPEN at the front, where a sound one stands there."""
+    """The hold time and the four-octet AS number of the OPEN at the beginning, where a sound one stands there."""
     for kind, body in frames(whole):
         try:
             return bgp_reader.read_open(body, peering["remote_as"], peering.get("as4", False)) if kind == bgp_reader.OPEN else None

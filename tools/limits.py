@@ -5,7 +5,7 @@
 
 Each case is an input, the command that is done on it, and what is to come of it by docs/INPUT.md: the status, and lines that the
 program is to write. With --parts, PROGRAM check is done on each first part of a file as well: it is to write two lines with status 0
-or 2. A case that ends otherwise is told, with the lines that it wrote, and the status is 1 then. --only does the cases whose
+or 2. A case that ends otherwise is printed, with the lines that it wrote, and then the status is 1. --only does the cases whose
 names have a word in them.
 """
 import argparse
@@ -70,7 +70,7 @@ def lab(*tables):
 
 
 def rules(count, **keys):
-    """A router with a policy of so many rules, which are the same."""
+    """A router with a policy of this many rules, which are the same."""
     return lab(router(0), policy(0), *[table("router.policy.rule", **keys)] * count)
 
 
@@ -97,7 +97,7 @@ def lost(segment):
 
 
 def announced(count):
-    """Steps that announce so many different prefixes."""
+    """Steps that announce this many different prefixes."""
     return [announce(0, prefixes(min(200, count - at), at)) for at in range(0, count, 200)]
 
 
@@ -184,7 +184,7 @@ def whole_cases():
 
 
 def route_of(octets, number, as_number=65001, mark=0):
-    """An UPDATE of so many octets: one prefix /24 and an unknown attribute, whose first two octets are a mark."""
+    """An UPDATE of this many octets: one prefix /24 and an unknown attribute, whose first two octets are a mark."""
     known = attribute(0x40, 1, b"\0") + attribute(0x40, 2, b"\2\1" + struct.pack(">H", as_number)) + attribute(0x40, 3, b"\xc0\0\2\1")
     value = octets - 23 - len(known) - 4 - 4
     assert value > 255
@@ -192,7 +192,7 @@ def route_of(octets, number, as_number=65001, mark=0):
 
 
 def said_steps(count):
-    """Steps with which a remote says so many octets, its opening included: an octet too many begins a further message."""
+    """Steps with which a remote says this many octets, its opening included: an octet too many begins a further message."""
     left = min(count, MOST_SAID) - DEFAULT_OPENING
     lengths = [4096] * (left // 4096) + [left % 4096]
     steps = [raw(0, route_of(length, number)) for number, length in enumerate(lengths)]
@@ -200,7 +200,7 @@ def said_steps(count):
 
 
 def announced_steps(count):
-    """Announce steps that are said in so many octets, the opening included: 41 for each, and 4 for each prefix but one, which has 4 or 5."""
+    """Announce steps that are said in this many octets, the opening included: 41 for each, and 4 for each prefix but one, which has 4 or 5."""
     whole, rest = divmod(min(count, MOST_BEATEN) - DEFAULT_OPENING, 41 + 4 * 200)
     assert (rest - 41) % 4 == 0
     last = prefixes((rest - 41) // 4)
@@ -265,12 +265,12 @@ def timer_cases():
 
 
 def long_says(count):
-    """Steps by which two remotes say so many UPDATEs in turn, each of which is told in 4,000 octets, with the home network's AS in front."""
+    """Steps by which two remotes say this many UPDATEs in turn, each of which is told in 4,000 octets, with the home network's AS in front."""
     return [raw(number % 2, route_of(3998, number, 65001 + number % 2, number)) for number in range(count)]
 
 
 def last_say(octets):
-    """A step whose UPDATE is told in so many octets."""
+    """A step whose UPDATE is told in this many octets."""
     return raw(0, route_of(octets - 2, 999, 65001, 999))
 
 

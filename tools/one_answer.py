@@ -11,7 +11,7 @@ workers, 10 times by default. Each run is to settle, with status 0, and all runs
 which that doesn't hold is kept in the current folder as answers.N, and the status is 1 then.
 
 With --premises four laboratories are run in place of these, each of which lacks one premise: MEDs that differ, a hold time, a graft in
-the first group, and room for one session where two go. It is told how many different reports there were, and how often each came. Two
+the first group, and room for one session where two go. It prints how many different reports there were, and how often each came. Two
 reports may come of each, or one; nothing is failed. With --write each laboratory is written into a folder and nothing is run.
 """
 import argparse

@@ -16,7 +16,7 @@ are the input's own, and then once for each call that it made there, with that c
 A run whose memory is refused is to end with the input's own status and text, or with status 6 and nothing written. One whose read
 fails is to end with status 4 and nothing written. One whose write fails is to end with status 5, and the bytes of the writes before
 it are the first part of the input's own text. One whose read or write is short, or whose thread isn't started, is to end with the input's own
-status and text. No run may write to standard error or take longer than 20 seconds. A run for which this doesn't hold is told, and the status is 1 then.
+status and text. No run may write to standard error or take longer than 20 seconds. A run for which this doesn't hold is printed, and then the status is 1.
 
 It needs a C compiler, by the name cc, for refusing_calls.c. Where threads share the work, which allocation is the Nth differs from
 run to run, so with --workers 1 each is refused in turn, and with more some.
@@ -117,7 +117,8 @@ def try_input(program, name, kinds, most):
     """Runs an input with each refusal of each kind, and counts the runs and those that were wrong."""
     text = pathlib.Path(name).read_bytes()
     own, calls = program.run(text)
-    print(f"{name}: status {own.status}, {len(own.text)} bytes, {calls.allocations} allocations, {calls.reads} reads, {calls.writes} writes, {calls.threads} threads")
+    made = f"{calls.allocations} allocations, {calls.reads} reads, {calls.writes} writes, {calls.threads} threads"
+    print(f"{name}: status {own.status}, {len(own.text)} bytes, {made}")
     counts = [try_kind(kind, program, name, text, own, most) for kind in kinds]
     return [sum(column) for column in zip(*counts)]
 
@@ -133,7 +134,7 @@ def built_library(folder):
 def main():
     options = argparse.ArgumentParser(description=__doc__, formatter_class=argparse.RawDescriptionHelpFormatter)
     options.add_argument("--kinds", default=",".join(KINDS))
-    options.add_argument("--most", type=int, help="so many runs of a kind for an input, at most")
+    options.add_argument("--most", type=int, help="runs of a kind for an input, at most")
     options.add_argument("command", nargs=argparse.REMAINDER)
     words = sys.argv[1:]
     if "--" not in words:

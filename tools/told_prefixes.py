@@ -3,7 +3,7 @@
 
     told_prefixes.py < OUTPUT
 
-OUTPUT is what `top_cases` prints of commands that show the octets that each remote received, as lines `received: `.
+OUTPUT is what `top_rows` prints of commands that show the octets that each remote received, as lines `received: `.
 """
 import sys
 

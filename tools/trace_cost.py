@@ -5,12 +5,12 @@
 
 The laboratory is that of moving_labs.py: 8 routers, 32 peerings, and each remote announces its share of the prefixes (4,096 where
 no other number is named). PROGRAM run is done on it by one worker without addresses to follow, with one, and with all of them
-(64 where no other number is named). For each the least time of the runs is told, the most memory that a run had (no less than
+(64 where no other number is named). For each the least time of the runs is printed, the most memory that a run had (no less than
 this script has itself), and with --instructions what valgrind counts. The first address costs the tables in which packets are
 followed; each further one costs a walk and a line for each router.
 
 Each line `trace` of a report is compared with a walk by the lines `best` of the same report: at each router the longest prefix that
-covers the address. A line that says something else is told, and the status is 1 then.
+covers the address. A line that says something else is printed, and then the status is 1.
 """
 import argparse
 import ipaddress

@@ -3,9 +3,9 @@ use Rattle.std.proofs.Common.{◌≡◌, ◌≤◌, ℕ, zero, suc, List, [], �
 use Rattle.std.proofs.lemmas.Bool.Decides.{nat_tests}
 use Rattle.std.specs.Prelude.{◌==◌, option_map, if◌then◌else◌, slice_get}
 use Rattle.link_bag.specs.declared.plan.Plan.{Plan}
-use Rattle.far_side.specs.Says.{bytes_of}
+use Rattle.far_side.specs.Says.{bytes_to_say}
 use Rattle.far_side.specs.Parts.{say_by}
-use Rattle.far_side.specs.Fars.{IsConfigOf}
+use Rattle.far_side.specs.Fars.{IsFarConfigOf}
 use Rattle.far_side.specs.declared.says.Say.{Say}
 use Rattle.actor_rows.specs.Laboratory.{laboratory}
 
@@ -18,7 +18,7 @@ found first second third a b c = option_map (λ (say : Say). say.bytes)
     (if a then Some (record { step = 0; bytes = first }) else if b then Some (record { step = 2; bytes = second }) else if c then Some (record { step = 7; bytes = third }) else None)
 
 says_are : (opening first second third : List ℕ) (step : ℕ)
-    → bytes_of (says_of first second third) step ≡ say_by 0 (slice_get (laboratory opening first second third).steps step)
+    → bytes_to_say (says_of first second third) step ≡ say_by 0 (slice_get (laboratory opening first second third).steps step)
 says_are opening first second third zero = refl
 says_are opening first second third (suc zero) = refl
 says_are opening first second third (suc (suc zero)) = refl
@@ -37,7 +37,7 @@ says_are opening first second third (suc (suc (suc (suc (suc (suc (suc (suc (suc
     ∙ (ap (λ (x : Bool). found first second third false x (7 == step)) b ∙ ap (found first second third false false) c)
 
 pub is_config : (opening first second third : List ℕ) (says : List Say) (plan : Plan) → length opening ≤ 4096 → says ≡ says_of first second third
-    → IsConfigOf (laboratory opening first second third)
+    → IsFarConfigOf (laboratory opening first second third)
     (record { routers = 3; peerings = 2; peering = record { 0 = 0 }; pointer = record { 0 = 0 }; send_first = record { 0 = 5000 }; receive_first = record { 0 = 1000 }; opening = opening; says = says; plan = plan; wide = false; beat = 5 })
 is_config opening first second third says plan short said = record {
   peering = _;
@@ -51,6 +51,6 @@ is_config opening first second third says plan short said = record {
   receives = refl;
   opening = refl;
   short = short;
-  says = λ step. ap (λ (xs : List Say). bytes_of xs step) said ∙ says_are opening first second third step;
+  says = λ step. ap (λ (xs : List Say). bytes_to_say xs step) said ∙ says_are opening first second third step;
   beat = refl;
 }

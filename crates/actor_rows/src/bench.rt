@@ -2,7 +2,7 @@
 
 use crate::laboratory::{far_side, operator};
 use crate::plans::plans_that_come_through;
-use crate::words::{fault_of, item_of, number, word};
+use crate::words::{fault_of, item_of};
 use anyhow::{Result, bail};
 use far_side::Far;
 use graft_edge::NoMemory;
@@ -10,6 +10,7 @@ use graft_model::{ActorEvent, Code, event_of};
 use graft_steps::{GraftLog, Item};
 use operator_core::Operator;
 use ring_net::{JournalEntry, Post};
+use row_harness::{Table, number, word};
 use settled_check::{far_rest, operator_rest};
 use std::alloc::Global;
 
@@ -207,9 +208,10 @@ impl Bench {
             _ => bail!("a call"),
         }
     }
+}
 
-    /// Returns the answer to a row.
-    pub fn answer(&mut self, alloc: Global, words: &[&str]) -> Result<String> {
+impl Table for Bench {
+    fn answer(&mut self, alloc: Global, words: &[&str]) -> Result<String> {
         match word(words, 0) {
             "operator" | "far" => self.begin(alloc, words)?,
             "take" => self.take_item(alloc, words)?,

@@ -6,26 +6,13 @@ use graft_edge::{NoMemory, PeeringId};
 use graft_steps::Item;
 use link_bag::{Fault, FaultKind};
 use ring_net::Post;
+use row_harness::Random;
 use std::alloc::Global;
 use tcp_end::{End, SendStop};
 use tcp_seq::{Segment, Seq, Way};
 
 /// The limit of rounds for a plan.
 const MOST_ROUNDS: u32 = 400;
-
-/// A linear congruential generator modulo 2^64, with the constants of Knuth's MMIX.
-#[derive(Drop)]
-struct Random(u64);
-
-impl Random {
-    fn below(&mut self, n: u32) -> u32 {
-        self.0 = self
-            .0
-            .wrapping_mul(6_364_136_223_846_793_005)
-            .wrapping_add(1_442_695_040_888_963_407);
-        (self.0 >> 33) as u32 % n.max(1)
-    }
-}
 
 /// Returns a fault of a segment, or none.
 fn fault(random: &mut Random, way: Way, segment: u32) -> Option<Fault> {
@@ -41,13 +28,13 @@ fn fault(random: &mut Random, way: Way, segment: u32) -> Option<Fault> {
         way,
         segment,
         kind,
-        after: random.below(6).saturating_add(1),
+        after: random.below(6) + 1,
     })
 }
 
 /// Returns faults for about half of the first 40 segments each way.
 fn faults(alloc: Global, seed: u32) -> Result<Vec<Fault>, NoMemory> {
-    let mut random = Random(u64::from(seed));
+    let mut random = Random::new(seed);
     let mut faults = Vec::new(alloc);
     for segment in 1..41u32 {
         if let Some(fault) = fault(&mut random, Way::Home, segment) {

@@ -5,23 +5,9 @@ use bgp_types::Prefix;
 use graft_edge::{Items, PeeringId, RouterId};
 use graft_steps::{Item, Outcome, Refusal};
 use link_bag::{Fault, FaultKind};
+use row_harness::{number, small, word};
 use std::alloc::Global;
 use tcp_seq::{Segment, Seq, Way};
-
-/// Returns the word at a place of a row; empty past its end.
-pub fn word<'a>(words: &[&'a str], place: usize) -> &'a str {
-    words.get(place).copied().unwrap_or("")
-}
-
-/// Returns the number at a place of a row.
-pub fn number(words: &[&str], place: usize) -> Result<u32> {
-    Ok(word(words, place).parse::<u32>()?)
-}
-
-/// Returns the number of a router or a peering at a place of a row.
-fn small(words: &[&str], place: usize) -> Result<u8> {
-    Ok(word(words, place).parse::<u8>()?)
-}
 
 fn way_of(word: &str) -> Option<Way> {
     match word {

@@ -71,11 +71,13 @@ apart p q o e n = elim (same_prefix p q) as (λ b. same_prefix p q ≡ b → sam
   ] refl ((eq_by_cmp_equiv prefix_total).refl q)
 
 -- a search by halves tells whether a prefix is there
-pub searched : (ps : List PrefixValue) (p : PrefixValue) (r : Result ℕ ℕ) → IsStrictlySortedBy prefix_cmp ps → IsSearchInRange r (length ps) → IsBinarySearchResult (λ q. prefix_cmp q p) ps r → is_ok r ≡ list_any (same_prefix p) ps
+pub searched : (ps : List PrefixValue) (p : PrefixValue) (r : Result ℕ ℕ) → IsStrictlySortedBy prefix_cmp ps → IsSearchInRange r (length ps)
+    → IsBinarySearchResult (λ q. prefix_cmp q p) ps r → is_ok r ≡ list_any (same_prefix p) ps
 searched ps p (Ok at) rise in_range here = sym (list_any_at (same_prefix p) ps at p in_range (ap (same_prefix p) (exact_prefixes _ _ (here p)) ∙ same_itself p))
 searched ps p (Err at) rise in_range parted =
     let parts = parted (searchable_from_sorted prefix_total (λ q. q) ps p (sorted ps rise)) in
     sym (list_any_none (same_prefix p) ps (λ k d low. by_side k d low (cases_lt k at) parts)) where
-      by_side : (k : ℕ) (d : PrefixValue) → k < length ps → (k < at) ⊎ (at ≤ k) → IsPartitionPoint (λ q. prefix_cmp q p ≡ Less) (λ q. prefix_cmp q p ≡ Greater) ps at → same_prefix p (get_or ps k d) ≡ false
+      by_side : (k : ℕ) (d : PrefixValue) → k < length ps → (k < at) ⊎ (at ≤ k)
+          → IsPartitionPoint (λ q. prefix_cmp q p ≡ Less) (λ q. prefix_cmp q p ≡ Greater) ps at → same_prefix p (get_or ps k d) ≡ false
       by_side k d low (inl before) parts = apart p (get_or ps k d) Less (parts.0 k d (omega arith) before) (λ e. cc)
       by_side k d low (inr after) parts = apart p (get_or ps k d) Greater (parts.1 k d after low) (λ e. cc)

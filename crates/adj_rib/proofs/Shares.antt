@@ -17,7 +17,8 @@ module _ {V W : Type 0} (f : V → W) where
 
   sorted_seen : (es : List (PrefixValue × V)) → table.is_sorted prefix_cmp (map (λ e. (e.0, f e.1)) es) ≡ table.is_sorted prefix_cmp es
   sorted_seen [] = refl
-  sorted_seen (e ∷ es) = ap (λ (b : Bool). b && table.is_sorted prefix_cmp (map (λ e. (e.0, f e.1)) es)) (below_seen e.0 es) ∙ ap (λ (b : Bool). below_all prefix_cmp e.0 es && b) (sorted_seen es)
+  sorted_seen (e ∷ es) = ap (λ (b : Bool). b && table.is_sorted prefix_cmp (map (λ e. (e.0, f e.1)) es)) (below_seen e.0 es)
+      ∙ ap (λ (b : Bool). below_all prefix_cmp e.0 es && b) (sorted_seen es)
 
   find_seen : (q : PrefixValue) (es : List (PrefixValue × V)) → table.find prefix_cmp q (map (λ e. (e.0, f e.1)) es) ≡ option_map f (table.find prefix_cmp q es)
   find_seen q [] = refl
@@ -39,10 +40,12 @@ module _ {V W : Type 0} (f : V → W) where
     rises = subst T (sym (sorted_seen (table.entries m))) (table.entries_sorted m)
 
     pub each_get : (q : PrefixValue) → table.get (each_value f m) q ≡ option_map f (table.get m q)
-    each_get q = table.get-from_sorted prefix_cmp (map (λ e. (e.0, f e.1)) (table.entries m)) q rises ∙ (find_seen q (table.entries m) ∙ ap (option_map f) (sym (table.get-entries m q)))
+    each_get q = table.get-from_sorted prefix_cmp (map (λ e. (e.0, f e.1)) (table.entries m)) q rises
+        ∙ (find_seen q (table.entries m) ∙ ap (option_map f) (sym (table.get-entries m q)))
 
     pub each_keys : table.keys (each_value f m) ≡ table.keys m
-    each_keys = ap (map (λ (x : PrefixValue × W). x.0)) (table.entries-from_sorted prefix_cmp (map (λ e. (e.0, f e.1)) (table.entries m)) rises) ∙ keys_seen (table.entries m)
+    each_keys = ap (map (λ (x : PrefixValue × W). x.0)) (table.entries-from_sorted prefix_cmp (map (λ e. (e.0, f e.1)) (table.entries m)) rises)
+        ∙ keys_seen (table.entries m)
 
     pub each_len : table.len (each_value f m) ≡ table.len m
     each_len = table.len-entries (each_value f m)

@@ -9,7 +9,7 @@ ghost use Rattle.bgp_types.specs.declared.attrs.Attrs.{Attrs};
 ghost use Rattle.bgp_types.specs.Prefixes.{PrefixValue, same_prefix};
 ghost use Rattle.bgp_types.specs.Tables.{prefix_cmp};
 ghost use Rattle.bgp_story.specs.Readings.{Routes, apply, announce as announced};
-ghost use Rattle.adj_rib.specs.Changes.{Moved, given, withdraw_unless};
+ghost use Rattle.adj_rib.specs.Changes.{RoutesMoved, given_by_update, withdraw_unless};
 
 use crate::shared::{SharedAttrs, SharedRoutes};
 use bgp_types::{Attrs, Items, NoMemory, Prefix, PrefixList, TryCopy, Update};
@@ -45,7 +45,7 @@ fn is_among(prefix: Prefix, prefixes: &[Prefix]) -> bool
 /// Returns the prefixes that an UPDATE announces, each once, in ascending order.
 fn list_announced(alloc: Global, update: &Update) -> Result<PrefixList, NoMemory>
     ensures rising { IfOk result (λ prefixes. IsStrictlySortedBy prefix_cmp prefixes) }
-    ensures given { IfOk result (λ prefixes. (p : PrefixValue) → list_any (same_prefix p) prefixes ≡ is_some (given update.now p)) }
+    ensures given { IfOk result (λ prefixes. (p : PrefixValue) → list_any (same_prefix p) prefixes ≡ is_some (given_by_update update.now p)) }
 {
     if update.attrs.is_none() {
         return Ok(Items::new(alloc));
@@ -64,7 +64,7 @@ fn withdraw_one(
     requires { IsStrictlySortedBy prefix_cmp announced.now }
     ensures routes { OnOk result (routes.new ≡ withdraw_unless announced.now routes.old prefix) }
     ensures changed { OnOk result ((before : Routes) (to : PrefixValue → Option Attrs) → list_any (same_prefix prefix) announced.now ≡ is_some (to prefix)
-        → Moved to before routes.old changed.old → Moved to before routes.new changed.new) }
+        → RoutesMoved to before routes.old changed.old → RoutesMoved to before routes.new changed.new) }
 {
     if is_among(prefix, announced) {
         return Ok(());
@@ -86,7 +86,7 @@ fn withdraw(
     requires { IsStrictlySortedBy prefix_cmp announced.now }
     ensures routes { OnOk result (routes.new ≡ fold (withdraw_unless announced.now) routes.old prefixes.now) }
     ensures changed { OnOk result ((before : Routes) (to : PrefixValue → Option Attrs) → ((p : PrefixValue) → list_any (same_prefix p) announced.now ≡ is_some (to p))
-        → Moved to before routes.old changed.old → Moved to before routes.new changed.new) }
+        → RoutesMoved to before routes.old changed.old → RoutesMoved to before routes.new changed.new) }
 {
     for prefix in prefixes {
         withdraw_one(routes, *prefix, announced, changed)?;
@@ -103,7 +103,7 @@ pub fn withdraw_all(
     changed: &mut PrefixList,
 ) -> Result<(), NoMemory>
     ensures routes { OnOk result (fold (announced update.now.attrs) routes.new update.now.nlri ≡ apply routes.old update.now) }
-    ensures changed { OnOk result ((before : Routes) → Moved (given update.now) before routes.old changed.old → Moved (given update.now) before routes.new changed.new) }
+    ensures changed { OnOk result ((before : Routes) → RoutesMoved (given_by_update update.now) before routes.old changed.old → RoutesMoved (given_by_update update.now) before routes.new changed.new) }
 {
     if update.withdrawn.is_empty() {
         return Ok(());
@@ -142,7 +142,7 @@ fn announce_one(
 ) -> Result<(), NoMemory>
     ensures routes { OnOk result (routes.new ≡ map.insert routes.old prefix (arc_value attrs.now)) }
     ensures changed { OnOk result ((before : Routes) (to : PrefixValue → Option Attrs) → to prefix ≡ Some (arc_value attrs.now)
-        → Moved to before routes.old changed.old → Moved to before routes.new changed.new) }
+        → RoutesMoved to before routes.old changed.old → RoutesMoved to before routes.new changed.new) }
 {
     let had = routes.set(prefix, attrs)?;
     if is_same(&had, attrs) {
@@ -162,7 +162,7 @@ pub fn announce(
 ) -> Result<(), NoMemory>
     ensures routes { OnOk result (routes.new ≡ fold (announced (Some attrs.now)) routes.old prefixes.now) }
     ensures changed { OnOk result ((before : Routes) (to : PrefixValue → Option Attrs) → ((p : PrefixValue) → list_any (same_prefix p) prefixes.now ≡ true → to p ≡ Some attrs.now)
-        → Moved to before routes.old changed.old → Moved to before routes.new changed.new) }
+        → RoutesMoved to before routes.old changed.old → RoutesMoved to before routes.new changed.new) }
 {
     let shared = Arc::new(alloc, attrs.copy()?)?;
     for prefix in prefixes {

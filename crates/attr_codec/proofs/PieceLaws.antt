@@ -5,7 +5,8 @@ use Rattle.bgp_types.specs.OctetLists.{AreOctets}
 use Rattle.bgp_types.specs.WireAttrs.{WireAttr, attr_at, attr_octets}
 use Rattle.bgp_types.proofs.AttrLaws.{attr_takes}
 
-pub front_is : (bytes : List ℕ) (a : WireAttr) (rest front : List ℕ) → AreOctets bytes → attr_at bytes ≡ Some (a, rest) → front ≡ take (length bytes - length rest) bytes → front ≡ attr_octets a
+pub front_is : (bytes : List ℕ) (a : WireAttr) (rest front : List ℕ) → AreOctets bytes → attr_at bytes ≡ Some (a, rest)
+    → front ≡ take (length bytes - length rest) bytes → front ≡ attr_octets a
 front_is bytes a rest front fits e f =
     let t = (attr_takes bytes (a, rest) fits e).parts in
     let n : length (attr_octets a) ≡ length bytes - length rest = rw t (omega (arith, length-append (attr_octets a) rest)) in

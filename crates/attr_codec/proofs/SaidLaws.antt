@@ -14,19 +14,21 @@ use Rattle.bgp_types.specs.Found.{said, as4_path_in, as4_aggregator_in, unless_w
 use Rattle.bgp_types.specs.Values.{is_other}
 use Rattle.bgp_types.specs.WireAttrs.{WireAttr}
 use Rattle.attr_codec.specs.declared.said.Said.{Said}
-use Rattle.attr_codec.specs.Saying.{said_in, with_kept, with_attr}
+use Rattle.attr_codec.specs.Saying.{attributes_said, with_kept, with_attr}
 
 pub not_eq : (m n : ℕ) → m ≢ n → eqb m n ≡ false
 not_eq m n h = grind (arith, nat_tests)
 
 -- a look-up after a further attribute of a type that wasn't there
-pub found_last : {B : Type 0} (read : Option WireAttr → B) (k : ℕ) (before : List WireAttr) (a : WireAttr) → attr_of a.kind before ≡ None → read (attr_of k (before ++ a ∷ [])) ≡ cond (eqb a.kind k) (read (Some a)) (read (attr_of k before))
+pub found_last : {B : Type 0} (read : Option WireAttr → B) (k : ℕ) (before : List WireAttr) (a : WireAttr) → attr_of a.kind before ≡ None
+    → read (attr_of k (before ++ a ∷ [])) ≡ cond (eqb a.kind k) (read (Some a)) (read (attr_of k before))
 found_last read k [] a h = by_test (eqb a.kind k) where
   by_test : (t : Bool) → read (cond t (Some a) None) ≡ cond t (read (Some a)) (read None)
   by_test true = refl
   by_test false = refl
 found_last {B} read k (b ∷ before) a h = by_test (eqb b.kind a.kind) refl h (eqb b.kind k) refl (found_last read k before a) where
-  by_test : (t : Bool) → eqb b.kind a.kind ≡ t → cond t (Some b) (attr_of a.kind before) ≡ None → (u : Bool) → eqb b.kind k ≡ u → (attr_of a.kind before ≡ None → read (attr_of k (before ++ a ∷ [])) ≡ cond (eqb a.kind k) (read (Some a)) (read (attr_of k before)))
+  by_test : (t : Bool) → eqb b.kind a.kind ≡ t → cond t (Some b) (attr_of a.kind before) ≡ None → (u : Bool) → eqb b.kind k ≡ u
+      → (attr_of a.kind before ≡ None → read (attr_of k (before ++ a ∷ [])) ≡ cond (eqb a.kind k) (read (Some a)) (read (attr_of k before)))
       → read (cond u (Some b) (attr_of k (before ++ a ∷ []))) ≡ cond (eqb a.kind k) (read (Some a)) (read (cond u (Some b) (attr_of k before)))
   by_test true e h u f ih = absurd cc
   by_test false e h false f ih = ih h
@@ -60,7 +62,8 @@ either {Q} k j same_kind other_kinds = by_test (eqb k j) refl where
 pub is_unknown : (k : ℕ) → k ≢ 1 → k ≢ 2 → k ≢ 3 → k ≢ 4 → k ≢ 5 → k ≢ 6 → k ≢ 7 → k ≢ 17 → k ≢ 18 → is_other k ≡ true
 is_unknown k n1 n2 n3 n4 n5 n6 n7 n17 n18 = grind (arith, nat_tests)
 
-kind_cases : (P : ℕ → Type 0) → P 1 → P 2 → P 3 → P 4 → P 5 → P 6 → P 7 → P 17 → P 18 → ((k : ℕ) → k ≢ 1 → k ≢ 2 → k ≢ 3 → k ≢ 4 → k ≢ 5 → k ≢ 6 → k ≢ 7 → k ≢ 17 → k ≢ 18 → P k) → (k : ℕ) → P k
+kind_cases : (P : ℕ → Type 0) → P 1 → P 2 → P 3 → P 4 → P 5 → P 6 → P 7 → P 17 → P 18
+    → ((k : ℕ) → k ≢ 1 → k ≢ 2 → k ≢ 3 → k ≢ 4 → k ≢ 5 → k ≢ 6 → k ≢ 7 → k ≢ 17 → k ≢ 18 → P k) → (k : ℕ) → P k
 kind_cases P p1 p2 p3 p4 p5 p6 p7 p17 p18 other k =
     either k 1 (λ e. subst P (sym e) p1) (λ n1.
     either k 2 (λ e. subst P (sym e) p2) (λ n2.
@@ -115,8 +118,9 @@ shape n s =
     (λ k n1 n2 n3 n4 n5 n6 n7 n17 n18.
     rw (not_eq k 1 n1, not_eq k 2 n2, not_eq k 3 n3, not_eq k 4 n4, not_eq k 5 n5, not_eq k 6 n6, not_eq k 7 n7, not_eq k 17 n17, not_eq k 18 n18, is_unknown k n1 n2 n3 n4 n5 n6 n7 n17 n18) refl)
 
-pub said_step : (wide : Bool) (before : List WireAttr) (a : WireAttr) → attr_of a.kind before ≡ None → said_in wide (before ++ a ∷ []) ≡ with_attr wide a (said_in wide before)
-unfolding said_in with_attr
+pub said_step : (wide : Bool) (before : List WireAttr) (a : WireAttr) → attr_of a.kind before ≡ None
+    → attributes_said wide (before ++ a ∷ []) ≡ with_attr wide a (attributes_said wide before)
+unfolding attributes_said with_attr
 said_step wide before a h =
     let n : Says = record {
       origin = ok_in (origin_in a);
@@ -138,7 +142,7 @@ said_step wide before a h =
       found_last (λ o. unless_wide wide (as4_path_in o)) 17 before a h,
       found_last (λ o. unless_wide wide (as4_aggregator_in o)) 18 before a h,
       unknown_last before a,
-    ) (shape n (said_in wide before) a.kind)
+    ) (shape n (attributes_said wide before) a.kind)
 
 -- ---- an unknown one
 
@@ -150,7 +154,8 @@ pub other_ok : (a : WireAttr) (o : Option RawAttr) → other_in a ≡ Ok o → k
 unfolding other_in
 other_ok a o e = ok_else (eqb (bit_and a.flags 128) 0) _ (kept_raw a) o e
 
-pub with_other : (wide : Bool) (a : WireAttr) (s : Said) (u : List RawAttr) → a.kind ≢ 1 → a.kind ≢ 2 → a.kind ≢ 3 → a.kind ≢ 4 → a.kind ≢ 5 → a.kind ≢ 6 → a.kind ≢ 7 → a.kind ≢ 17 → a.kind ≢ 18 → u ≡ with_kept (kept_raw a) s.unknown
+pub with_other : (wide : Bool) (a : WireAttr) (s : Said) (u : List RawAttr) → a.kind ≢ 1 → a.kind ≢ 2 → a.kind ≢ 3 → a.kind ≢ 4 → a.kind ≢ 5
+    → a.kind ≢ 6 → a.kind ≢ 7 → a.kind ≢ 17 → a.kind ≢ 18 → u ≡ with_kept (kept_raw a) s.unknown
     → (let r : Said = record s { unknown = u } in r) ≡ with_attr wide a s
 unfolding with_attr
 with_other wide a s u n1 n2 n3 n4 n5 n6 n7 n17 n18 e = rw (not_eq a.kind 1 n1, not_eq a.kind 2 n2, not_eq a.kind 3 n3, not_eq a.kind 4 n4, not_eq a.kind 5 n5, not_eq a.kind 6 n6, not_eq a.kind 7 n7, not_eq a.kind 17 n17, not_eq a.kind 18 n18, e) refl

@@ -43,7 +43,8 @@ module _ {A : Type 0} (key : A → ℕ) where
 
   -- ---- an insert keeps the members of each key as they are
 
-  both_orders : (x a y : A) (s t : Bool) (rest zs : List A) → rest ≡ cond s (a ∷ zs) zs → (s ≡ true → t ≡ true → ⊥) → cond t (y ∷ rest) rest ≡ cond s (a ∷ cond t (y ∷ zs) zs) (cond t (y ∷ zs) zs)
+  both_orders : (x a y : A) (s t : Bool) (rest zs : List A) → rest ≡ cond s (a ∷ zs) zs → (s ≡ true → t ≡ true → ⊥)
+      → cond t (y ∷ rest) rest ≡ cond s (a ∷ cond t (y ∷ zs) zs) (cond t (y ∷ zs) zs)
   both_orders x a y true true rest zs e n = absurd (n refl refl)
   both_orders x a y true false rest zs e n = e
   both_orders x a y false true rest zs e n = ap (λ (l : List A). y ∷ l) e
@@ -52,7 +53,8 @@ module _ {A : Type 0} (key : A → ℕ) where
   insert_ties : (x a : A) (xs : List A) → filter (tied x) (insert_by key a xs) ≡ filter (tied x) (a ∷ xs)
   insert_ties x a [] = refl
   insert_ties x a (y ∷ ys) = by_test (insert_ties x a ys) (ltb (key y) (key a)) refl where
-    by_test : filter (tied x) (insert_by key a ys) ≡ filter (tied x) (a ∷ ys) → (t : Bool) → ltb (key y) (key a) ≡ t → filter (tied x) (cond t (y ∷ insert_by key a ys) (a ∷ y ∷ ys)) ≡ filter (tied x) (a ∷ y ∷ ys)
+    by_test : filter (tied x) (insert_by key a ys) ≡ filter (tied x) (a ∷ ys) → (t : Bool) → ltb (key y) (key a) ≡ t
+        → filter (tied x) (cond t (y ∷ insert_by key a ys) (a ∷ y ∷ ys)) ≡ filter (tied x) (a ∷ y ∷ ys)
     by_test rest true e = both_orders x a y (tied x a) (tied x y) (filter (tied x) (insert_by key a ys)) (filter (tied x) ys) rest
         (λ s t. let lower = ltb-true (key y) (key a) e in let one = same_key x a s in let other = same_key x y t in absurd (omega (arith, lower, one, other)))
     by_test rest false e = refl
@@ -104,7 +106,8 @@ module _ {A : Type 0} (key : A → ℕ) where
   insert_from : (low : ℕ) (x : A) (xs : List A) → low ≤ key x → AllByRecursion (λ z. low ≤ key z) xs → AllByRecursion (λ z. low ≤ key z) (insert_by key x xs)
   insert_from low x [] le all = (le, tt)
   insert_from low x (y ∷ ys) le all = by_test (insert_from low x ys le all.1) (ltb (key y) (key x)) where
-    by_test : AllByRecursion (λ z. low ≤ key z) (insert_by key x ys) → (t : Bool) → AllByRecursion (λ z. low ≤ key z) (cond t (y ∷ insert_by key x ys) (x ∷ y ∷ ys))
+    by_test : AllByRecursion (λ z. low ≤ key z) (insert_by key x ys) → (t : Bool)
+        → AllByRecursion (λ z. low ≤ key z) (cond t (y ∷ insert_by key x ys) (x ∷ y ∷ ys))
     by_test rest true = (all.0, rest)
     by_test rest false = (le, all)
 

@@ -33,8 +33,10 @@ flat_map_map f g [] = refl
 flat_map_map f g (x ∷ xs) = ap (λ (y : List ℕ). f (g x) ++ y) (flat_map_map f g xs)
 
 same_part : (part : PathPart) → part_octets false (narrow_part part) ≡ part_in_width false part
-same_part (parts.Set ases) = ap (λ (n : ℕ). 1 ∷ n ∷ flat_map (to_be_bytes w16) (map narrow_as ases)) (length-map ases narrow_as) ∙ ap (λ (y : List ℕ). 1 ∷ length ases ∷ y) (flat_map_map (to_be_bytes w16) narrow_as ases)
-same_part (parts.Sequence ases) = ap (λ (n : ℕ). 2 ∷ n ∷ flat_map (to_be_bytes w16) (map narrow_as ases)) (length-map ases narrow_as) ∙ ap (λ (y : List ℕ). 2 ∷ length ases ∷ y) (flat_map_map (to_be_bytes w16) narrow_as ases)
+same_part (parts.Set ases) = ap (λ (n : ℕ). 1 ∷ n ∷ flat_map (to_be_bytes w16) (map narrow_as ases)) (length-map ases narrow_as)
+    ∙ ap (λ (y : List ℕ). 1 ∷ length ases ∷ y) (flat_map_map (to_be_bytes w16) narrow_as ases)
+same_part (parts.Sequence ases) = ap (λ (n : ℕ). 2 ∷ n ∷ flat_map (to_be_bytes w16) (map narrow_as ases)) (length-map ases narrow_as)
+    ∙ ap (λ (y : List ℕ). 2 ∷ length ases ∷ y) (flat_map_map (to_be_bytes w16) narrow_as ases)
 
 wide_part : (part : PathPart) → part_octets true part ≡ part_in_width true part
 wide_part (parts.Set ases) = refl
@@ -44,9 +46,11 @@ wide_part (parts.Sequence ases) = refl
 pub path_octets_are : (wide : Bool) (path : List PathPart) → flat_map (part_in_width wide) path ≡ path_octets wide (path_in_width wide path)
 unfolding path_octets
 path_octets_are true [] = refl
-path_octets_are true (part ∷ path) = ap (λ (y : List ℕ). y ++ flat_map (part_in_width true) path) (sym (wide_part part)) ∙ ap (λ (y : List ℕ). part_octets true part ++ y) (path_octets_are true path)
+path_octets_are true (part ∷ path) = ap (λ (y : List ℕ). y ++ flat_map (part_in_width true) path) (sym (wide_part part))
+    ∙ ap (λ (y : List ℕ). part_octets true part ++ y) (path_octets_are true path)
 path_octets_are false [] = refl
-path_octets_are false (part ∷ path) = ap (λ (y : List ℕ). y ++ flat_map (part_in_width false) path) (sym (same_part part)) ∙ ap (λ (y : List ℕ). part_octets false (narrow_part part) ++ y) (path_octets_are false path)
+path_octets_are false (part ∷ path) = ap (λ (y : List ℕ). y ++ flat_map (part_in_width false) path) (sym (same_part part))
+    ∙ ap (λ (y : List ℕ). part_octets false (narrow_part part) ++ y) (path_octets_are false path)
 
 -- ---- room
 
@@ -63,14 +67,16 @@ values_below (x ∷ xs) lt =
 size_above : (n : ℕ) → n ≤ attr_size_of n
 size_above n = grind (arith, nat_tests)
 
-others_below : (others : List RawAttr) → sum_by (λ (o : RawAttr). attr_size_of (length o.bytes)) others < 65536 → AllByRecursion (λ (o : RawAttr). length o.bytes < 65536) others
+others_below : (others : List RawAttr) → sum_by (λ (o : RawAttr). attr_size_of (length o.bytes)) others < 65536
+    → AllByRecursion (λ (o : RawAttr). length o.bytes < 65536) others
 others_below [] lt = tt
 others_below (o ∷ others) lt =
     let sum = sum_by-cons (λ (o : RawAttr). attr_size_of (length o.bytes)) o others in
     let above = size_above (length o.bytes) in
     (omega arith, others_below others (omega arith))
 
-long_below : (wide : Bool) (path : List PathPart) → NeedsLong wide path → attrs_size (as4_path_written wide path) < 65536 → length (path_octets true path) < 65536
+long_below : (wide : Bool) (path : List PathPart) → NeedsLong wide path → attrs_size (as4_path_written wide path) < 65536
+    → length (path_octets true path) < 65536
 long_below wide path needs lt =
     let t : (not wide && has_long_as path) ≡ true = rw (needs.narrow, needs.long) refl in
     let below = values_below (as4_path_written wide path) lt in
@@ -117,7 +123,8 @@ rising_parts key (suc n) [] r = (tt, tt)
 rising_parts key (suc n) (x ∷ xs) r = let h = rising_parts key n xs r.1 in (((all_take (λ y. key x < key y) n xs r.0).0, h.0), h.1)
 
 -- members from a place on
-pub rest_above : {A : Type 0} (key : A → ℕ) (k n : ℕ) (xs : List A) (d : A) → IsRising key xs → n < length xs → k ≤ key (get_or xs n d) → AllByRecursion (λ x. k ≤ key x) (drop n xs)
+pub rest_above : {A : Type 0} (key : A → ℕ) (k n : ℕ) (xs : List A) (d : A) → IsRising key xs → n < length xs → k ≤ key (get_or xs n d)
+    → AllByRecursion (λ x. k ≤ key x) (drop n xs)
 rest_above key k n [] d r lt le = absurd (omega arith)
 rest_above key k zero (x ∷ xs) d r lt le = (le, all_weaker (λ y. key x < key y) (λ y. k ≤ key y) xs (λ y h. omega arith) r.0)
 rest_above key k (suc n) (x ∷ xs) d r lt le = rest_above key k n xs d r.1 (omega arith) le
@@ -128,7 +135,8 @@ record Ranged (low high : ℕ) (xs : List WireAttr) : Type 0 where
   from : AllByRecursion (λ x. low ≤ wire_kind x) xs
   below : AllByRecursion (λ x. wire_kind x < high) xs
 
-rising_append : (m : ℕ) (xs ys : List WireAttr) → IsRising wire_kind xs → IsRising wire_kind ys → AllByRecursion (λ x. wire_kind x < m) xs → AllByRecursion (λ y. m ≤ wire_kind y) ys → IsRising wire_kind (xs ++ ys)
+rising_append : (m : ℕ) (xs ys : List WireAttr) → IsRising wire_kind xs → IsRising wire_kind ys → AllByRecursion (λ x. wire_kind x < m) xs
+    → AllByRecursion (λ y. m ≤ wire_kind y) ys → IsRising wire_kind (xs ++ ys)
 rising_append m [] ys r q low high = q
 rising_append m (x ∷ xs) ys r q low high =
     let lt = low.0 in
@@ -141,15 +149,19 @@ append_ranged low mid high xs ys l h r q = record {
   below = all_append (λ x. wire_kind x < high) xs ys (all_weaker (λ x. wire_kind x < mid) (λ x. wire_kind x < high) xs (λ x g. omega arith) r.below) q.below;
 }
 
-apart : (m : ℕ) (xs ys : List WireAttr) → AllByRecursion (λ x. m ≤ wire_kind x) xs → AllByRecursion (λ y. wire_kind y < m) ys → AllByRecursion (λ x. AllByRecursion (λ y. wire_kind y ≢ wire_kind x) ys) xs
+apart : (m : ℕ) (xs ys : List WireAttr) → AllByRecursion (λ x. m ≤ wire_kind x) xs → AllByRecursion (λ y. wire_kind y < m) ys
+    → AllByRecursion (λ x. AllByRecursion (λ y. wire_kind y ≢ wire_kind x) ys) xs
 apart m [] ys high low = tt
 apart m (x ∷ xs) ys high low = let le = high.0 in (all_weaker (λ y. wire_kind y < m) (λ y. wire_kind y ≢ wire_kind x) ys (λ y h. λ e. omega arith) low, apart m xs ys high.1 low)
 
-rising_past : (x : WireAttr) (ys zs : List WireAttr) → AllByRecursion (λ y. wire_kind y ≢ wire_kind x) ys → in_rising wire_kind (x ∷ (ys ++ zs)) ≡ in_rising wire_kind (ys ++ x ∷ zs)
+rising_past : (x : WireAttr) (ys zs : List WireAttr) → AllByRecursion (λ y. wire_kind y ≢ wire_kind x) ys
+    → in_rising wire_kind (x ∷ (ys ++ zs)) ≡ in_rising wire_kind (ys ++ x ∷ zs)
 rising_past x [] zs h = refl
-rising_past x (y ∷ ys) zs h = insert_swap wire_kind x y (in_rising wire_kind (ys ++ zs)) (λ e. h.0 (sym e)) ∙ ap (insert_by wire_kind y) (rising_past x ys zs h.1)
+rising_past x (y ∷ ys) zs h = insert_swap wire_kind x y (in_rising wire_kind (ys ++ zs)) (λ e. h.0 (sym e))
+    ∙ ap (insert_by wire_kind y) (rising_past x ys zs h.1)
 
-rising_swap : (xs ys zs : List WireAttr) → AllByRecursion (λ x. AllByRecursion (λ y. wire_kind y ≢ wire_kind x) ys) xs → in_rising wire_kind (xs ++ (ys ++ zs)) ≡ in_rising wire_kind (ys ++ (xs ++ zs))
+rising_swap : (xs ys zs : List WireAttr) → AllByRecursion (λ x. AllByRecursion (λ y. wire_kind y ≢ wire_kind x) ys) xs
+    → in_rising wire_kind (xs ++ (ys ++ zs)) ≡ in_rising wire_kind (ys ++ (xs ++ zs))
 rising_swap [] ys zs h = refl
 rising_swap (x ∷ xs) ys zs h = ap (insert_by wire_kind x) (rising_swap xs ys zs h.1) ∙ rising_past x ys (xs ++ zs) h.0
 
@@ -206,7 +218,8 @@ rising_written : (us : List RawAttr) → IsRising other_kind us → IsRising wir
 rising_written [] r = tt
 rising_written (u ∷ us) r = (all_written (λ k. other_kind u < k) us r.0, rising_written us r.1)
 
-others_ranged : (low high : ℕ) (us : List RawAttr) → IsRising other_kind us → AllByRecursion (λ u. low ≤ other_kind u) us → AllByRecursion (λ u. other_kind u < high) us → Ranged low high (map other_written us)
+others_ranged : (low high : ℕ) (us : List RawAttr) → IsRising other_kind us → AllByRecursion (λ u. low ≤ other_kind u) us
+    → AllByRecursion (λ u. other_kind u < high) us → Ranged low high (map other_written us)
 others_ranged low high us r from below = record { rising = rising_written us r; from = all_written (λ k. low ≤ k) us from; below = all_written (λ k. k < high) us below }
 
 -- a type that isn't known, from 1 or from 17 on
@@ -258,18 +271,17 @@ spelled_in_parts wide a first middle last p =
 
 -- ---- one group after another
 
-pub known_put : (o0 o1 o2 o3 o4 o5 o6 : List ℕ) (x y z : WireAttr) (ms ts gs : List WireAttr) → o1 ≡ o0 ++ attr_octets x → o2 ≡ o1 ++ attr_octets y → o3 ≡ o2 ++ attr_octets z
+pub known_put : (o0 o1 o2 o3 o4 o5 o6 : List ℕ) (x y z : WireAttr) (ms ts gs : List WireAttr) → o1 ≡ o0 ++ attr_octets x → o2 ≡ o1 ++ attr_octets y
+    → o3 ≡ o2 ++ attr_octets z
     → o4 ≡ o3 ++ flat_map attr_octets ms → o5 ≡ o4 ++ flat_map attr_octets ts → o6 ≡ o5 ++ flat_map attr_octets gs
     → o6 ≡ o0 ++ flat_map attr_octets (x ∷ y ∷ z ∷ [] ++ (ms ++ (ts ++ gs)))
 known_put o0 o1 o2 o3 o4 o5 o6 x y z ms ts gs e1 e2 e3 e4 e5 e6 =
-    e6 ∙ (rw (e5, e4, e3, e2, e1) (regroup o0 (attr_octets x) (attr_octets y) (attr_octets z) (flat_map attr_octets ms) (flat_map attr_octets ts) (flat_map attr_octets gs))
+    e6
+    ∙ (rw (e5, e4, e3, e2, e1) (regroup o0 (attr_octets x) (attr_octets y) (attr_octets z) (flat_map attr_octets ms) (flat_map attr_octets ts) (flat_map attr_octets gs))
     ∙ ap (λ (w : List ℕ). o0 ++ (attr_octets x ++ (attr_octets y ++ (attr_octets z ++ w)))) (sym (flat_map-append attr_octets ms (ts ++ gs) ∙ ap (λ (w : List ℕ). flat_map attr_octets ms ++ w) (flat_map-append attr_octets ts gs))))
   where
     regroup : (o a b c d e f : List ℕ) → (((((o ++ a) ++ b) ++ c) ++ d) ++ e) ++ f ≡ o ++ (a ++ (b ++ (c ++ (d ++ (e ++ f)))))
     regroup o a b c d e f = simp append_assoc
-
-pub as4_put : (o0 o1 o2 : List ℕ) (ps gs : List WireAttr) → o1 ≡ o0 ++ flat_map attr_octets ps → o2 ≡ o1 ++ flat_map attr_octets gs → o2 ≡ o0 ++ flat_map attr_octets (ps ++ gs)
-as4_put o0 o1 o2 ps gs e1 e2 = e2 ∙ (ap (λ (w : List ℕ). w ++ flat_map attr_octets gs) e1 ∙ (append_assoc o0 (flat_map attr_octets ps) (flat_map attr_octets gs) ∙ ap (λ (w : List ℕ). o0 ++ w) (sym (flat_map-append attr_octets ps gs))))
 
 pub all_put : (o1 o2 o3 o4 o5 a b c d e : List ℕ) → o1 ≡ [] ++ a → o2 ≡ o1 ++ b → o3 ≡ o2 ++ c → o4 ≡ o3 ++ d → o5 ≡ o4 ++ e → o5 ≡ a ++ (b ++ (c ++ (d ++ e)))
 all_put o1 o2 o3 o4 o5 a b c d e e1 e2 e3 e4 e5 = e5 ∙ (rw (e4, e3, e2, e1) (regroup a b c d e)) where
@@ -282,7 +294,8 @@ all_parts : {A : Type 0} (P : A → Type 0) (xs ys : List A) → AllByRecursion 
 all_parts P [] ys all = (tt, all)
 all_parts P (x ∷ xs) ys all = let h = all_parts P xs ys all.1 in ((all.0, h.0), h.1)
 
-pub all_in_parts : (P : RawAttr → Type 0) (others first middle last : List RawAttr) → AreParts others first middle last → All P others → All P first × All P middle × All P last
+pub all_in_parts : (P : RawAttr → Type 0) (others first middle last : List RawAttr) → AreParts others first middle last → All P others
+    → All P first × All P middle × All P last
 all_in_parts P others first middle last p all =
     let h = all_parts P first (middle ++ last) (subst (AllByRecursion P) p.parts (recursion_from_All P others all)) in
     let k = all_parts P middle last h.1 in
@@ -303,7 +316,8 @@ parted others first rest middle last n m rising kinds f r d l first_below rest_f
     let ks2 = all_take IsOther m rest rest_kinds in
     let from = all_take (λ u. 1 ≤ other_kind u) m rest (recursion_from_All (λ u. 1 ≤ other_kind u) rest rest_from) in
     record {
-      parts = sym (take-append-drop n others) ∙ (ap (λ (xs : List RawAttr). xs ++ drop n others) (sym f) ∙ ap (λ (xs : List RawAttr). first ++ xs) (sym r ∙ (sym (take-append-drop m rest) ∙ (ap (λ (xs : List RawAttr). xs ++ drop m rest) (sym d) ∙ ap (λ (xs : List RawAttr). middle ++ xs) (sym l)))));
+      parts = sym (take-append-drop n others)
+          ∙ (ap (λ (xs : List RawAttr). xs ++ drop n others) (sym f) ∙ ap (λ (xs : List RawAttr). first ++ xs) (sym r ∙ (sym (take-append-drop m rest) ∙ (ap (λ (xs : List RawAttr). xs ++ drop m rest) (sym d) ∙ ap (λ (xs : List RawAttr). middle ++ xs) (sym l)))));
       rising = (first_rising, subst (IsRising other_kind) (sym d) rs2.0, subst (IsRising other_kind) (sym l) rs2.1);
       kinds = (first_kinds, subst (AllByRecursion IsOther) (sym d) ks2.0, subst (AllByRecursion IsOther) (sym l) ks2.1);
       first_below = recursion_from_All (λ u. other_kind u < 1) first first_below;

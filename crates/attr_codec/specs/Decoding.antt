@@ -11,9 +11,9 @@ Stops stops.NoMemory fault = Unit {0}
 Stops (stops.Wire n) fault = fault ≡ Some n
 
 -- It passes if and only if there is no fault, unless memory runs out.
-abbrev pub Passes : {A : Type 0} → Result A CodecFault → Option Notice → Type 0
-Passes (Ok x) fault = fault ≡ None
-Passes (Err stop) fault = Stops stop fault
+abbrev pub PassesOrStops : {A : Type 0} → Result A CodecFault → Option Notice → Type 0
+PassesOrStops (Ok x) fault = fault ≡ None
+PassesOrStops (Err stop) fault = Stops stop fault
 
 -- It gives the value that is read, or stops with the fault, unless memory runs out.
 abbrev pub Decodes : {A : Type 0} → Result A CodecFault → Result A Notice → Type 0

@@ -12,8 +12,8 @@ use Rattle.bgp_types.specs.Values.{other_kind}
 use Rattle.bgp_types.specs.WireAttrs.{WireAttr, attr_at}
 use Rattle.attr_codec.specs.declared.said.Said.{Said}
 
-unfoldable pub said_in : Bool → List WireAttr → Said
-said_in wide attrs = record {
+unfoldable pub attributes_said : Bool → List WireAttr → Said
+attributes_said wide attrs = record {
   origin = said origin_in (attr_of 1 attrs);
   path = said (path_in wide) (attr_of 2 attrs);
   next_hop = said next_hop_in (attr_of 3 attrs);
@@ -27,7 +27,7 @@ said_in wide attrs = record {
 
 -- the field, cut into attributes: their first fault, or what they give
 unfoldable pub all_said : Bool → List ℕ → Result Said Notice
-all_said wide bytes = unless (attrs_fault wide [] (many attr_at bytes).0 (many attr_at bytes).1) (said_in wide (many attr_at bytes).0)
+all_said wide bytes = unless (attrs_fault wide [] (many attr_at bytes).0 (many attr_at bytes).1) (attributes_said wide (many attr_at bytes).0)
 
 -- what they give together
 abbrev pub found_of : Said → FoundAttrs

@@ -5,9 +5,9 @@ ghost use Rattle.bgp_types.specs.Faults.{own_fault};
 ghost use Rattle.bgp_types.specs.Merge.{is_stale, merged_aggregator, path_with};
 ghost use Rattle.bgp_types.specs.Rising.{in_rising as rising};
 ghost use Rattle.bgp_types.specs.Values.{other_kind};
-ghost use Rattle.attr_codec.specs.Decoding.{Passes};
+ghost use Rattle.attr_codec.specs.Decoding.{PassesOrStops};
 ghost use Rattle.attr_codec.specs.Pieces.{wire, IsPiece};
-ghost use Rattle.attr_codec.specs.Saying.{said_in, with_attr, found_of, with_kept};
+ghost use Rattle.attr_codec.specs.Saying.{attributes_said, with_attr, found_of, with_kept};
 
 use crate::fault::CodecFault;
 use crate::merge::merged;
@@ -105,9 +105,9 @@ fn path_of(
 
 impl Said {
     /// Returns what no attributes give.
-    #[tactic(auto, unfolding(crate::specs::Saying::said_in))]
+    #[tactic(auto, unfolding(crate::specs::Saying::attributes_said))]
     pub fn new(alloc: Global) -> Said
-        ensures { (wide : Bool) → result ≡ said_in wide [] }
+        ensures { (wide : Bool) → result ≡ attributes_said wide [] }
     {
         Said {
             origin: None,
@@ -126,7 +126,7 @@ impl Said {
     #[tactic(auto, unfolding(bgp_types::specs::Faults::own_fault, crate::specs::Saying::with_attr))]
     pub fn add(&mut self, alloc: Global, piece: &Piece, wide: bool) -> Result<(), CodecFault>
         requires { IsPiece piece.now }
-        ensures fault { Passes result (own_fault wide (wire piece.now)) }
+        ensures fault { PassesOrStops result (own_fault wide (wire piece.now)) }
         ensures said { OnOk result (self.new ≡ with_attr wide (wire piece.now) self.old) }
     {
         match piece.kind {

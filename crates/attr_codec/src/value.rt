@@ -6,7 +6,7 @@ ghost use Rattle.bgp_types.specs.Faults.{about, fault_in, is_partial, is_transit
 ghost use Rattle.bgp_types.specs.Found.{as4_path_in, as4_aggregator_in, unless_wide};
 ghost use Rattle.bgp_types.specs.PathOctets.{as_width};
 ghost use Rattle.bgp_types.specs.WireAttrs.{attr_octets};
-ghost use Rattle.attr_codec.specs.Decoding.{Stops, Decodes, Passes};
+ghost use Rattle.attr_codec.specs.Decoding.{Stops, Decodes, PassesOrStops};
 ghost use Rattle.attr_codec.specs.Pieces.{wire, IsPiece};
 
 use crate::fault::{CodecFault, bare_fault, fault_about};
@@ -138,7 +138,7 @@ impl Piece<'_> {
     #[tactic(auto, unfolding(bgp_types::specs::Faults::atomic_in))]
     pub fn atomic(&self, alloc: Global) -> Result<(), CodecFault>
         requires { IsPiece self.now }
-        ensures { Passes result (fault_in (atomic_in (wire self.now))) }
+        ensures { PassesOrStops result (fault_in (atomic_in (wire self.now))) }
     {
         if !self.has_mode(TRANSITIVE) {
             return Err(self.fault(alloc, WRONG_FLAGS));
@@ -181,7 +181,7 @@ impl Piece<'_> {
     #[tactic(auto, unfolding(bgp_types::specs::Faults::other_in))]
     pub fn optional(&self, alloc: Global) -> Result<(), CodecFault>
         requires { IsPiece self.now }
-        ensures { Passes result (fault_in (other_in (wire self.now))) }
+        ensures { PassesOrStops result (fault_in (other_in (wire self.now))) }
     {
         if self.flags & OPTIONAL == 0 {
             return Err(self.fault(alloc, UNKNOWN_WELL_KNOWN));

@@ -20,16 +20,16 @@ asked s None = s
 asked s (Some f) = record { fed = s.fed; given = s.given ++ f.0 ∷ []; held = f.1 }
 
 -- `feed` and `next` as their contracts say
-abbrev pub called : Stream → Call → Stream
-called s (Feed bytes) = record { fed = s.fed ++ bytes; given = s.given; held = s.held ++ bytes }
-called s Ask = asked s (frame_at s.held)
+abbrev pub after_call : Stream → Call → Stream
+after_call s (Feed bytes) = record { fed = s.fed ++ bytes; given = s.given; held = s.held ++ bytes }
+after_call s Ask = asked s (frame_at s.held)
 
 abbrev pub all_called : Stream → List Call → Stream
 all_called s [] = s
-all_called s (c ∷ calls) = all_called (called s c) calls
+all_called s (c ∷ calls) = all_called (after_call s c) calls
 
-abbrev pub begun : Stream
-begun = record { fed = []; given = []; held = [] }
+abbrev pub empty_stream : Stream
+empty_stream = record { fed = []; given = []; held = [] }
 
 -- The frames and what is held, joined, are what was fed; and the frames, with those still in what is held, are the frames of what was fed.
 pub record IsStream (s : Stream) : Type 0 where
@@ -37,7 +37,7 @@ pub record IsStream (s : Stream) : Type 0 where
   pub frames : (s.given ++ (many frame_at s.held).0, (many frame_at s.held).1) ≡ many frame_at s.fed
 
 -- The header at the front has this fault, and the frames are those that were given before.
-pub record IsStuck (fault : HeaderFault) (before s : Stream) : Type 0 where
+pub record HasFaultAtFront (fault : HeaderFault) (before s : Stream) : Type 0 where
   pub enough : 19 ≤ length s.held
   pub fault_is : header_fault s.held ≡ Some fault
   pub given : s.given ≡ before.given

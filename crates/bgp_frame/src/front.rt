@@ -2,7 +2,7 @@
 
 ghost use Rattle.std.specs.Prelude.{◌≡◌, [], take, Some, IfOk, IfSome};
 ghost use Rattle.bgp_types.specs.Header.{frame_at};
-ghost use Rattle.bgp_frame.specs.Next.{Begins};
+ghost use Rattle.bgp_frame.specs.Next.{IsFrontOf};
 
 use bgp_types::{HEADER, HeaderFault, header_fault, header_len};
 
@@ -20,7 +20,7 @@ pub struct FrontFrame {
 /// bytes.
 #[tactic(auto, unfolding(bgp_types::specs::Header::frame_at), using(bgp_types::proofs::FrameLaws::long_enough))]
 pub fn first_frame(bytes: &[u8]) -> Result<Option<FrontFrame>, HeaderFault>
-    ensures front { Begins result bytes.now }
+    ensures front { IsFrontOf result bytes.now }
     ensures whole { IfOk result (λ front. IfSome front (λ f. frame_at (take f.len bytes.now) ≡ Some (take f.len bytes.now, []))) }
 {
     if bytes.len() < HEADER {

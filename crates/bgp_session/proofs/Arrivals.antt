@@ -12,7 +12,7 @@ use Rattle.tcp_seq.specs.declared.state.EndState.{EndState}
 use Rattle.tcp_seq.proofs.Received.{some_none}
 use Rattle.tcp_reasm.specs.Reassembly.{brought, byte_ahead}
 use Rattle.tcp_reasm.specs.Runs.{held}
-use Rattle.tcp_end.specs.Arriving.{BringsNewByte, IsArrival, Says, ahead_of}
+use Rattle.tcp_end.specs.Arriving.{BringsNewByte, IsArrival, SaysAck, ahead_of}
 use Rattle.tcp_end.specs.State.{counted_from, expected, got, own_number}
 use Rattle.tcp_end.specs.Standing.{EndStands, Numbered}
 use Rattle.tcp_end.specs.declared.arrival.Arrival.{Arrival}
@@ -23,7 +23,8 @@ use Rattle.tcp_end.proofs.Steps.{received_is}
 use Rattle.bgp_session.specs.Steps.{ArrivesAs, BringsTo}
 
 -- an acknowledgement that is new by numbers is above what was acknowledged
-new_ack : (f acked emitted ack : ℕ) → acked ≤ emitted → emitted < 2 ^ 30 → ack < 2 ^ 30 → IsAck New (number f acked) (number f emitted) (number f ack) → acked < ack
+new_ack : (f acked emitted ack : ℕ) → acked ≤ emitted → emitted < 2 ^ 30 → ack < 2 ^ 30
+    → IsAck New (number f acked) (number f emitted) (number f ack) → acked < ack
 new_ack f acked emitted ack le small fits is = elim (cases_lt acked ack) [
   | inl above ↦ above
   | inr not ↦ elim (cases_lt ack acked) [
@@ -37,14 +38,14 @@ some_or None more then' e same some = subst (λ (x : Option ℕ). IsSome x) same
 some_or (Some x) more then' e same some = absurd cc
 
 module _ (s : EndState) (e : Endpoint) (g : Segment) (p : PlacedSegment) (stands : EndStands s e) (numbered : Numbered s.receive_first.0 s.send_first.0 g p) (streams : IsInStreams p) (short : length g.bytes < 2 ^ 16) where
-  old_ack : ¬ Says New s g → ¬ Says Beyond s g → p.ack ≤ e.acked
+  old_ack : ¬ SaysAck New s g → ¬ SaysAck Beyond s g → p.ack ≤ e.acked
   old_ack old within =
       let le : p.ack ≤ s.acked = new_place s.send_first.0 s.acked s.sent p.ack stands.sound.sending.acked (omega (arith, stands.sound.sending.emitted, stands.sound.sending.stream)) (omega (arith, streams.ack))
       (within_sent s e g p stands numbered streams within)
       (λ new. old (subst (λ (m : ℕ). IsAck New (own_number s s.acked) (own_number s s.sent) m) (sym numbered.ack) new)) in
       omega (arith, le, stands.acked)
 
-  above_acked : Says New s g → e.acked < p.ack
+  above_acked : SaysAck New s g → e.acked < p.ack
   above_acked new =
       let lt : s.acked < p.ack = new_ack s.send_first.0 s.acked s.sent p.ack stands.sound.sending.acked (omega (arith, stands.sound.sending.emitted, stands.sound.sending.stream)) (omega (arith, streams.ack))
       (subst (λ (m : ℕ). IsAck New (own_number s s.acked) (own_number s s.sent) m) numbered.ack new) in

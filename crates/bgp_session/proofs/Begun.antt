@@ -10,7 +10,7 @@ use Rattle.bgp_types.specs.Spelling.{spell}
 use Rattle.bgp_types.specs.Writable.{IsWritable}
 use Rattle.tcp_seq.specs.declared.segment.Way.TheVariants.{Remote}
 use Rattle.tcp_seq.specs.declared.state.EndState.{EndState}
-use Rattle.tcp_end.specs.State.{fresh}
+use Rattle.tcp_end.specs.State.{fresh_end}
 use Rattle.tcp_end.specs.Standing.{EndStands}
 use Rattle.tcp_end.specs.Whole.{endpoint_of}
 use Rattle.bgp_story.specs.declared.line.Line.{Line}
@@ -22,7 +22,7 @@ use Rattle.session_value.specs.Sessions.{begun, peering_of}
 use Rattle.session_value.proofs.Rooms.{open_size}
 use Rattle.session_value.proofs.Ties.{begun_is}
 use Rattle.bgp_session.specs.declared.parts.Parts.{Parts}
-use Rattle.bgp_session.specs.Inner.{Keeps, value_of}
+use Rattle.bgp_session.specs.Inner.{SessionInvariant, value_of}
 use Rattle.std.specs.declared.alloc.Global.{Global}
 use Rattle.tcp_end.proofs.Followed.{fresh_stands}
 use Rattle.bgp_story.specs.Readings.{Routes}
@@ -57,7 +57,7 @@ module _ (config : SessionConfig) (alloc : Global) (valid : IsPeering (peering_o
   lines = Put (OpenMsg (peering_of config).first) ∷ []
 
   abbrev first_state : EndState
-  first_state = fresh Remote config.peering config.send_first config.receive_first
+  first_state = fresh_end Remote config.peering config.send_first config.receive_first
 
   abbrev pub made : StoryValue → Routes → Routes → EndState → Parts
   made story heard told end = record { alloc = alloc; config = config; story = story; heard = heard; told = told; end = end; opened = None; left = 0; next_round = 0 }
@@ -74,7 +74,7 @@ module _ (config : SessionConfig) (alloc : Global) (valid : IsPeering (peering_o
       subst (λ (xs : List ℕ). EndStands (with_sent first_state octets) (endpoint_of xs [] (with_sent first_state octets))) (sym put_is)
       (sent_stands first_state [] [] octets (fresh_stands Remote config.peering config.send_first config.receive_first) (omega (arith, short)))
 
-  first_keeps : Keeps first_made
+  first_keeps : SessionInvariant first_made
   first_keeps = record {
     stands = stands;
     tied = (begun_is config valid).tied;
@@ -90,10 +90,12 @@ module _ (config : SessionConfig) (alloc : Global) (valid : IsPeering (peering_o
     next_round = refl;
   }
 
-  pub begins : (story : StoryValue) (heard told : Routes) (end : EndState) → story ≡ record { lines = lines; remote_as = config.remote_as } → heard ≡ map.empty → told ≡ map.empty → end ≡ with_sent first_state octets → (value_of (made story heard told end) ≡ begun config) × Keeps (made story heard told end)
+  pub begins : (story : StoryValue) (heard told : Routes) (end : EndState) → story ≡ record { lines = lines; remote_as = config.remote_as }
+      → heard ≡ map.empty → told ≡ map.empty → end ≡ with_sent first_state octets
+      → (value_of (made story heard told end) ≡ begun config) × SessionInvariant (made story heard told end)
   begins story heard told end a b c d =
-      subst (λ (x : StoryValue). (value_of (made x heard told end) ≡ begun config) × Keeps (made x heard told end)) (sym a)
-      (subst (λ (x : Routes). (value_of (made (record { lines = lines; remote_as = config.remote_as }) x told end) ≡ begun config) × Keeps (made (record { lines = lines; remote_as = config.remote_as }) x told end)) (sym b)
-      (subst (λ (x : Routes). (value_of (made (record { lines = lines; remote_as = config.remote_as }) map.empty x end) ≡ begun config) × Keeps (made (record { lines = lines; remote_as = config.remote_as }) map.empty x end)) (sym c)
-      (subst (λ (x : EndState). (value_of (made (record { lines = lines; remote_as = config.remote_as }) map.empty map.empty x) ≡ begun config) × Keeps (made (record { lines = lines; remote_as = config.remote_as }) map.empty map.empty x)) (sym d)
+      subst (λ (x : StoryValue). (value_of (made x heard told end) ≡ begun config) × SessionInvariant (made x heard told end)) (sym a)
+      (subst (λ (x : Routes). (value_of (made (record { lines = lines; remote_as = config.remote_as }) x told end) ≡ begun config) × SessionInvariant (made (record { lines = lines; remote_as = config.remote_as }) x told end)) (sym b)
+      (subst (λ (x : Routes). (value_of (made (record { lines = lines; remote_as = config.remote_as }) map.empty x end) ≡ begun config) × SessionInvariant (made (record { lines = lines; remote_as = config.remote_as }) map.empty x end)) (sym c)
+      (subst (λ (x : EndState). (value_of (made (record { lines = lines; remote_as = config.remote_as }) map.empty map.empty x) ≡ begun config) × SessionInvariant (made (record { lines = lines; remote_as = config.remote_as }) map.empty map.empty x)) (sym d)
       (refl, first_keeps))))

@@ -8,7 +8,7 @@ use Rattle.tcp_end.specs.State.{got, stream_length, unsent}
 use Rattle.tcp_end.specs.Standing.{EndStands, Becomes}
 use Rattle.tcp_end.specs.Whole.{arrived_of, endpoint_of}
 use Rattle.tcp_end.proofs.Steps.{sends, reads_by}
-use Rattle.session_value.specs.Cases.{reading}
+use Rattle.session_value.specs.Cases.{having_read}
 
 -- bytes at the end of the waiting ones
 abbrev pub with_sent : EndState → List ℕ → EndState
@@ -37,7 +37,7 @@ module _ (s : EndState) (put got' bytes rest : List ℕ) (stands : EndStands s (
       ∙ ap (λ (xs : List ℕ). got' ++ (bytes ++ xs)) (ap (drop (length bytes)) front ∙ drop-append_seam bytes rest)
       ∙ ap (λ (xs : List ℕ). got' ++ xs) (sym front)
 
-  pub read_is : endpoint_of put (got' ++ bytes) (with_read s (length bytes)) ≡ reading (length bytes) (endpoint_of put got' s)
+  pub read_is : endpoint_of put (got' ++ bytes) (with_read s (length bytes)) ≡ having_read (length bytes) (endpoint_of put got' s)
   read_is =
       ap (λ (m : Bytes). record (endpoint_of put got' s) { arrived = m; read = plus s.taken (length bytes) }) (ap (λ (xs : List ℕ). arrived_of xs s.ahead) bytes_are)
       ∙ ap (λ (n : ℕ). record (endpoint_of put got' s) { read = n }) taken_is
@@ -52,8 +52,3 @@ module _ (s : EndState) (put got' bytes rest : List ℕ) (stands : EndStands s (
 pub all_unsent : (s after : EndState) (bytes : List ℕ) → s.sent ≤ stream_length s → after ≡ with_sent s bytes → length bytes ≤ unsent after
 all_unsent s after bytes within is =
     subst (λ (x : EndState). length bytes ≤ unsent x) (sym is) (let n = length-append s.waiting bytes in omega (arith, n, within))
-
-pub taken_back : (s after : EndState) (bytes : List ℕ) → after ≡ with_sent s bytes → record after { waiting = take (length after.waiting - length bytes) after.waiting } ≡ s
-taken_back s after bytes is =
-    ap (λ (x : EndState). let y : EndState = record x { waiting = take (length x.waiting - length bytes) x.waiting } in y) is
-    ∙ ap (λ (xs : List ℕ). let y : EndState = record s { waiting = xs } in y) (ap (λ (n : ℕ). take n (s.waiting ++ bytes)) (let n = length-append s.waiting bytes in let m : length (s.waiting ++ bytes) - length bytes ≡ length s.waiting = omega (arith, n) in m) ∙ take-append_seam s.waiting bytes)

@@ -24,7 +24,7 @@ use Rattle.bgp_story.specs.declared.line.Line.{Line}
 use Rattle.bgp_story.specs.declared.line.Line.TheVariants.{Put, Got}
 use Rattle.bgp_story.specs.Legal.{Peering, Allowed, count_round, got_open, hold, is_wide, reply_to, silence}
 use Rattle.bgp_story.specs.Readings.{Routes, apply_if, put_bytes, put_in, got_bytes, unless_closed, update_in}
-use Rattle.bgp_story.specs.States.{Begins, answered, state_of}
+use Rattle.bgp_story.specs.States.{BeginsStory, answer_lines, state_of}
 use Rattle.session_value.specs.Cases.{GetsFrame, put_by, sending}
 use Rattle.session_value.specs.Cases as cases
 use Rattle.session_value.specs.Sessions.{peering_of}
@@ -33,7 +33,7 @@ use Rattle.session_value.proofs.GotTies.{gets_tied}
 use Rattle.session_value.proofs.Rooms.{got_has_room, most_any}
 use Rattle.bgp_session.specs.declared.parts.Opened.{Opened}
 use Rattle.bgp_session.specs.declared.parts.Parts.{Parts}
-use Rattle.bgp_session.specs.Inner.{AtFront, Keeps, after_line, hold_of, opened_by, reading, value_of}
+use Rattle.bgp_session.specs.Inner.{AtFront, SessionInvariant, after_line, hold_of, opened_by, read_in_session, value_of}
 use Rattle.bgp_session.proofs.Ends.{read_is, read_stands, sent_stands, with_read, with_sent}
 use Rattle.bgp_session.proofs.Numbers.{numbers_then}
 use Rattle.bgp_session.proofs.Opens.{hold_kept}
@@ -56,7 +56,8 @@ keepalive_writable = record { body = tt; size = lit≤ tt }
 pub same_line : (m n : Message) → Put m ∷ [] ≡ Put n ∷ [] → m ≡ n
 same_line m n e = cc
 
-pub reply_writable : (e : Expected) (bytes : List ℕ) (r : Result Message Notice) (answer : Option Message) → message_of e bytes ≡ r → (reply_to r).0 ≡ answered answer → IfSome answer (λ m. IsWritable m false)
+pub reply_writable : (e : Expected) (bytes : List ℕ) (r : Result Message Notice) (answer : Option Message) → message_of e bytes ≡ r
+    → (reply_to r).0 ≡ answer_lines answer → IfSome answer (λ m. IsWritable m false)
 reply_writable e bytes r None g f = tt
 reply_writable e bytes (Ok (OpenMsg _)) (Some m) g f = subst (λ (x : Message). IsWritable x false) (same_line KeepaliveMsg m f) keepalive_writable
 reply_writable e bytes (Ok (UpdateMsg _)) (Some m) g f = absurd cc
@@ -92,7 +93,7 @@ gotten parts bytes answer heard told opened left = record parts {
   left = left;
 }
 
-module _ (parts : Parts) (bytes : List ℕ) (answer : List Line) (next : SessionState) (front : AtFront parts bytes) (reply : reply_to (reading parts bytes) ≡ (answer, next)) where
+module _ (parts : Parts) (bytes : List ℕ) (answer : List Line) (next : SessionState) (front : AtFront parts bytes) (reply : reply_to (read_in_session parts bytes) ≡ (answer, next)) where
   abbrev p : Peering
   p = peering_of parts.config
 
@@ -108,11 +109,12 @@ module _ (parts : Parts) (bytes : List ℕ) (answer : List Line) (next : Session
   abbrev allowed : Allowed p lines (state_of lines)
   allowed = front.keeps.tied.allowed
 
-  answer_is : (reply_to (reading parts bytes)).0 ≡ answer
+  answer_is : (reply_to (read_in_session parts bytes)).0 ≡ answer
   answer_is = ap (λ (x : List Line × SessionState). x.0) reply
 
   octets_are : put_by (value_of parts) lines' answer ≡ octets
-  octets_are = ap (λ (xs : List Line). flat_map (put_in (is_wide p lines')) xs) (sym answer_is) ∙ (alike (is_wide p lines') (reading parts bytes) ∙ ap (λ (xs : List Line). flat_map (put_in false) xs) answer_is)
+  octets_are = ap (λ (xs : List Line). flat_map (put_in (is_wide p lines')) xs) (sym answer_is)
+      ∙ (alike (is_wide p lines') (read_in_session parts bytes) ∙ ap (λ (xs : List Line). flat_map (put_in false) xs) answer_is)
 
   put_is : put_bytes p lines' ≡ put_bytes p lines ++ octets
   put_is = lines_got.put_then p lines bytes answer next front.unclosed front.got reply allowed ∙ ap (λ (xs : List ℕ). put_bytes p lines ++ xs) octets_are
@@ -122,7 +124,7 @@ module _ (parts : Parts) (bytes : List ℕ) (answer : List Line) (next : Session
 
   -- ---- what may be written down
 
-  pub got_begins : Begins parts.story.remote_as lines'
+  pub got_begins : BeginsStory parts.story.remote_as lines'
   got_begins = record {
     peering = p;
     remote = sym front.keeps.remote_as;
@@ -141,9 +143,6 @@ module _ (parts : Parts) (bytes : List ℕ) (answer : List Line) (next : Session
 
   -- ---- the endpoint
 
-  end' : EndState
-  end' = with_read (with_sent parts.end octets) (length bytes)
-
   sent : EndStands (with_sent parts.end octets) (endpoint_of (put_bytes p lines ++ octets) (got_bytes lines) (with_sent parts.end octets))
   sent = sent_stands parts.end (put_bytes p lines) (got_bytes lines) octets front.keeps.stands got_room
 
@@ -151,15 +150,15 @@ module _ (parts : Parts) (bytes : List ℕ) (answer : List Line) (next : Session
   end_stands = rw (put_is, got_is) (read_stands (with_sent parts.end octets) (put_bytes p lines ++ octets) (got_bytes lines) bytes front.rest sent front.front)
 
   end_is : endpoint_of (put_bytes p lines') (got_bytes lines') (with_read (with_sent parts.end octets) (length bytes))
-      ≡ sending (put_by (value_of parts) lines' answer) (cases.reading (length bytes) (value_of parts).end)
+      ≡ sending (put_by (value_of parts) lines' answer) (cases.having_read (length bytes) (value_of parts).end)
   end_is =
       ap (λ (xs : List ℕ). endpoint_of xs (got_bytes lines') (with_read (with_sent parts.end octets) (length bytes))) put_is
       ∙ (ap (λ (xs : List ℕ). endpoint_of (put_bytes p lines ++ octets) xs (with_read (with_sent parts.end octets) (length bytes))) got_is
       ∙ (read_is (with_sent parts.end octets) (put_bytes p lines ++ octets) (got_bytes lines) bytes front.rest sent front.front
-      ∙ ap (λ (xs : List ℕ). sending xs (cases.reading (length bytes) (value_of parts).end)) (sym octets_are)))
+      ∙ ap (λ (xs : List ℕ). sending xs (cases.having_read (length bytes) (value_of parts).end)) (sym octets_are)))
 
   module _ (heard told : Routes) (opened : Option Opened) (left : ℕ)
-      (hears : heard ≡ unless_closed next (apply_if parts.heard (update_in (reading parts bytes))))
+      (hears : heard ≡ unless_closed next (apply_if parts.heard (update_in (read_in_session parts bytes))))
       (tells : told ≡ unless_closed next parts.told)
       (opens : opened ≡ option_map (opened_by p.first) (got_open p lines'))
       (lefts : left ≡ hold_of opened) where
@@ -177,17 +176,18 @@ module _ (parts : Parts) (bytes : List ℕ) (answer : List Line) (next : Session
       reply = reply;
       effect =
           ap (λ (e : Endpoint). record (value_of parts) { story = lines'; heard = heard; told = told; end = e }) end_is
-          ∙ (ap (λ (x : Routes). record (value_of parts) { story = lines'; heard = x; told = told; end = sending (put_by (value_of parts) lines' answer) (cases.reading (length bytes) (value_of parts).end) }) hears
-          ∙ ap (λ (x : Routes). record (value_of parts) { story = lines'; heard = unless_closed next (apply_if parts.heard (update_in (reading parts bytes))); told = x; end = sending (put_by (value_of parts) lines' answer) (cases.reading (length bytes) (value_of parts).end) }) tells);
+          ∙ (ap (λ (x : Routes). record (value_of parts) { story = lines'; heard = x; told = told; end = sending (put_by (value_of parts) lines' answer) (cases.having_read (length bytes) (value_of parts).end) }) hears
+          ∙ ap (λ (x : Routes). record (value_of parts) { story = lines'; heard = unless_closed next (apply_if parts.heard (update_in (read_in_session parts bytes))); told = x; end = sending (put_by (value_of parts) lines' answer) (cases.having_read (length bytes) (value_of parts).end) }) tells);
     }
 
     silent : silence lines' ≡ 0
-    silent = fold-append count_round 0 lines (Got bytes ∷ answer) ∙ (ap (λ (xs : List Line). fold count_round 0 xs) (sym answer_is) ∙ reply_silent (reading parts bytes))
+    silent = fold-append count_round 0 lines (Got bytes ∷ answer)
+        ∙ (ap (λ (xs : List Line). fold count_round 0 xs) (sym answer_is) ∙ reply_silent (read_in_session parts bytes))
 
     hold_is : hold_of opened ≡ hold p lines'
     hold_is = ap hold_of opens ∙ hold_kept p.first (got_open p lines')
 
-    pub keeps : Keeps after
+    pub keeps : SessionInvariant after
     keeps = record {
       stands = end_stands;
       tied = gets_tied (value_of parts) (value_of after) bytes gets front.keeps.tied;
@@ -200,14 +200,12 @@ module _ (parts : Parts) (bytes : List ℕ) (answer : List Line) (next : Session
       remote_as = front.keeps.remote_as;
       opened = opens;
       left = omega (arith, lefts, hold_is, silent);
-      next_round = front.keeps.next_round ∙ sym (numbers_then lines (Got bytes) answer (λ n. ap (λ (xs : List Line). fold after_line n xs) (sym answer_is) ∙ reply_numbers n (reading parts bytes)));
+      next_round = front.keeps.next_round
+          ∙ sym (numbers_then lines (Got bytes) answer (λ n. ap (λ (xs : List Line). fold after_line n xs) (sym answer_is) ∙ reply_numbers n (read_in_session parts bytes)));
     }
 
 -- ---- by the answer
 
-pub reply_of : (parts : Parts) (bytes : List ℕ) (answer : Option Message) → (reply_to (reading parts bytes)).0 ≡ answered answer → reply_to (reading parts bytes) ≡ (answered answer, (reply_to (reading parts bytes)).1)
-reply_of parts bytes answer e = ap (λ (x : List Line). let r : List Line × SessionState = (x, (reply_to (reading parts bytes)).1) in r) e
-
--- what is read is at the front of what is ready
-pub front_within : (parts : Parts) (bytes : List ℕ) → AtFront parts bytes → length bytes ≤ length parts.end.ready
-front_within parts bytes f = omega (arith, ap (λ (xs : List ℕ). length xs) f.front, length-append bytes f.rest)
+pub reply_of : (parts : Parts) (bytes : List ℕ) (answer : Option Message) → (reply_to (read_in_session parts bytes)).0 ≡ answer_lines answer
+    → reply_to (read_in_session parts bytes) ≡ (answer_lines answer, (reply_to (read_in_session parts bytes)).1)
+reply_of parts bytes answer e = ap (λ (x : List Line). let r : List Line × SessionState = (x, (reply_to (read_in_session parts bytes)).1) in r) e

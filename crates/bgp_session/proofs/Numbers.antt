@@ -37,5 +37,6 @@ pub number_least : (round : ℕ) (lines : List Line) → All (IsEarlier round) l
 number_least round lines later = number_within round lines 0 (omega arith) later
 
 -- with further lines, of which none but the first may be a round
-pub numbers_then : (lines : List Line) (line : Line) (answer : List Line) → ((n : ℕ) → fold after_line n answer ≡ n) → after_rounds (lines ++ line ∷ answer) ≡ after_line (after_rounds lines) line
+pub numbers_then : (lines : List Line) (line : Line) (answer : List Line) → ((n : ℕ) → fold after_line n answer ≡ n)
+    → after_rounds (lines ++ line ∷ answer) ≡ after_line (after_rounds lines) line
 numbers_then lines line answer none = fold-append after_line 0 lines (line ∷ answer) ∙ none (after_line (after_rounds lines) line)

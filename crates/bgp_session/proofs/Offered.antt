@@ -15,25 +15,25 @@ use Rattle.bgp_story.specs.declared.line.Line.{Line}
 use Rattle.bgp_story.specs.declared.line.Line.TheVariants.{Put}
 use Rattle.bgp_story.specs.Legal.{Peering, Allowed, IsOneWay, count_round, is_up, is_wide, silence}
 use Rattle.bgp_story.specs.Readings.{Routes, apply, put_bytes, got_bytes}
-use Rattle.bgp_story.specs.States.{Begins, state_of}
+use Rattle.bgp_story.specs.States.{BeginsStory, state_of}
 use Rattle.bgp_story.proofs.Grows.{hold_stays, open_stays}
 use Rattle.session_value.specs.Cases.{Changes, PutsUpdate, sending}
 use Rattle.session_value.specs.Sessions.{peering_of}
 use Rattle.session_value.proofs.PutTies.{puts_tied}
 use Rattle.session_value.proofs.Updates as lines_put
 use Rattle.bgp_session.specs.declared.parts.Parts.{Parts}
-use Rattle.bgp_session.specs.Inner.{Keeps, opened_by, value_of}
+use Rattle.bgp_session.specs.Inner.{SessionInvariant, opened_by, value_of}
 use Rattle.bgp_session.specs.Steps.{offered_length}
 use Rattle.bgp_session.proofs.Ends.{sent_stands, with_sent}
 use Rattle.bgp_session.proofs.Numbers.{numbers_then}
 
 -- the length of the stream
-pub length_is : (parts : Parts) (update : Update) → Keeps parts
+pub length_is : (parts : Parts) (update : Update) → SessionInvariant parts
     → stream_length parts.end + length (spell (UpdateMsg update) (is_wide (peering_of parts.config) parts.story.lines)) ≡ offered_length (value_of parts) update
 length_is parts update keeps = omega (arith, stream_is parts.end (value_of parts).end keeps.stands)
 
 -- the tables are no part of what is kept
-pub keeps_heard : (parts : Parts) (heard : Routes) → Keeps parts → Keeps (record parts { heard = heard })
+pub keeps_heard : (parts : Parts) (heard : Routes) → SessionInvariant parts → SessionInvariant (record parts { heard = heard })
 keeps_heard parts heard k = record {
   stands = k.stands;
   tied = record { allowed = k.tied.allowed; put = k.tied.put; room = k.tied.room; read = k.tied.read; got = k.tied.got };
@@ -57,7 +57,7 @@ offered parts update told = record parts {
   end = with_sent parts.end (spell (UpdateMsg update) (is_wide (peering_of parts.config) parts.story.lines));
 }
 
-module _ (parts : Parts) (update : Update) (k : Keeps parts) (established : state_of parts.story.lines ≡ Established)
+module _ (parts : Parts) (update : Update) (k : SessionInvariant parts) (established : state_of parts.story.lines ≡ Established)
     (one_way : IsOneWay update (is_wide (peering_of parts.config) parts.story.lines))
     (fits : offered_length (value_of parts) update ≤ 1044480) where
   abbrev p : Peering
@@ -81,7 +81,7 @@ module _ (parts : Parts) (update : Update) (k : Keeps parts) (established : stat
   got_is : got_bytes lines' ≡ got_bytes lines
   got_is = lines_put.got_then p lines update established one_way allowed
 
-  pub offered_begins : Begins parts.story.remote_as lines'
+  pub offered_begins : BeginsStory parts.story.remote_as lines'
   offered_begins = record {
     peering = p;
     remote = sym k.remote_as;
@@ -125,7 +125,7 @@ module _ (parts : Parts) (update : Update) (k : Keeps parts) (established : stat
           ∙ ap (λ (x : Routes). record (value_of parts) { story = lines'; told = x; end = sending octets (value_of parts).end }) tells;
     }
 
-    pub keeps : Keeps after
+    pub keeps : SessionInvariant after
     keeps = record {
       stands = end_stands;
       tied = puts_tied (value_of parts) (value_of after) update puts k.tied;
@@ -143,17 +143,20 @@ module _ (parts : Parts) (update : Update) (k : Keeps parts) (established : stat
 
 -- ---- by what the calls answer
 
-pub offered_fits : (parts : Parts) (update : Update) (stream len : ℕ) (wide : Bool) → Keeps parts → stream ≡ stream_length parts.end → wide ≡ is_wide (peering_of parts.config) parts.story.lines
+pub offered_fits : (parts : Parts) (update : Update) (stream len : ℕ) (wide : Bool) → SessionInvariant parts → stream ≡ stream_length parts.end
+    → wide ≡ is_wide (peering_of parts.config) parts.story.lines
     → len ≡ min (length (spell (UpdateMsg update) wide)) (2 ^ 64 - 1) → stream + len ≤ 1044480 → offered_length (value_of parts) update ≤ 1044480
 offered_fits parts update stream len wide k s w l fits =
     let same = ap (λ (b : Bool). length (spell (UpdateMsg update) b)) w in
     omega (arith, length_is parts update k, s, l, fits, same)
 
-pub offers_to : (parts : Parts) (update : Update) (told : Routes) (octets : List ℕ) (then' : Parts) → Keeps parts → state_of parts.story.lines ≡ Established → IsOneWay update (is_wide (peering_of parts.config) parts.story.lines) → Changes parts.told update
-    → offered_length (value_of parts) update ≤ 1044480 → told ≡ apply parts.told update → octets ≡ spell (UpdateMsg update) (is_wide (peering_of parts.config) parts.story.lines)
+pub offers_to : (parts : Parts) (update : Update) (told : Routes) (octets : List ℕ) (then' : Parts) → SessionInvariant parts
+    → state_of parts.story.lines ≡ Established → IsOneWay update (is_wide (peering_of parts.config) parts.story.lines) → Changes parts.told update
+    → offered_length (value_of parts) update ≤ 1044480 → told ≡ apply parts.told update
+    → octets ≡ spell (UpdateMsg update) (is_wide (peering_of parts.config) parts.story.lines)
     → then' ≡ record parts { story = record parts.story { lines = parts.story.lines ++ Put (UpdateMsg update) ∷ [] }; told = told; end = with_sent parts.end octets }
-    → PutsUpdate (value_of parts) update (value_of then') × Keeps then'
+    → PutsUpdate (value_of parts) update (value_of then') × SessionInvariant then'
 offers_to parts update told octets then' k established one_way changes fits tells written is =
-    subst (λ (m : Parts). PutsUpdate (value_of parts) update (value_of m) × Keeps m)
+    subst (λ (m : Parts). PutsUpdate (value_of parts) update (value_of m) × SessionInvariant m)
     (sym (is ∙ ap (λ (xs : List ℕ). let m : Parts = record parts { story = record parts.story { lines = parts.story.lines ++ Put (UpdateMsg update) ∷ [] }; told = told; end = with_sent parts.end xs } in m) written))
     (puts parts update k established one_way fits told changes tells, keeps parts update k established one_way fits told changes tells)

@@ -28,7 +28,7 @@ use Rattle.session_value.specs.Sessions.{peering_of}
 use Rattle.session_value.proofs.Openings.{only_opened}
 use Rattle.session_value.proofs.Replies.{only_open}
 use Rattle.bgp_session.specs.declared.parts.Parts.{Parts}
-use Rattle.bgp_session.specs.Inner.{Keeps, opened_by, hold_of}
+use Rattle.bgp_session.specs.Inner.{SessionInvariant, opened_by, hold_of}
 
 -- ---- what is kept says the hold time
 
@@ -39,7 +39,8 @@ hold_kept first (Some theirs) = refl
 -- ---- the OPEN that was got, after something more was got
 
 module _ (p : Peering) (lines : List Line) (bytes : List ℕ) (answer : List Line) where
-  opening_reads : (state : SessionState) → Allowed p lines state → state ≡ OpenSent → got_open p (lines ++ Got bytes ∷ answer) ≡ open_in (message_of (expected_next p lines state) bytes)
+  opening_reads : (state : SessionState) → Allowed p lines state → state ≡ OpenSent
+      → got_open p (lines ++ Got bytes ∷ answer) ≡ open_in (message_of (expected_next p lines state) bytes)
   opening_reads state l s =
       let alone : lines ≡ Put (messages.OpenMsg p.first) ∷ [] = only_opened p lines state l s in
       ap (λ (xs : List Line). got_open p (xs ++ Got bytes ∷ answer)) alone
@@ -47,7 +48,8 @@ module _ (p : Peering) (lines : List Line) (bytes : List ℕ) (answer : List Lin
       ∙ ap (λ (x : SessionState). open_in (message_of (expected_next p (Put (messages.OpenMsg p.first) ∷ []) x) bytes)) s)
 
   -- it is the one that is read
-  pub open_read : (state : SessionState) (theirs : OpenMsg) → Allowed p lines state → message_of (expected_next p lines state) bytes ≡ Ok (messages.OpenMsg theirs) → got_open p (lines ++ Got bytes ∷ answer) ≡ Some theirs
+  pub open_read : (state : SessionState) (theirs : OpenMsg) → Allowed p lines state
+      → message_of (expected_next p lines state) bytes ≡ Ok (messages.OpenMsg theirs) → got_open p (lines ++ Got bytes ∷ answer) ≡ Some theirs
   open_read state theirs l r =
       let sent : state ≡ OpenSent = only_open state (read_of (expected_next p lines state) bytes (messages.OpenMsg theirs) r).in_state in
       opening_reads state l sent ∙ ap open_in r
@@ -56,7 +58,8 @@ module _ (p : Peering) (lines : List Line) (bytes : List ℕ) (answer : List Lin
   none_opened state l s = ap (got_open p) (only_opened p lines state l s)
 
   -- or the one that was got before
-  pub open_kept : (state : SessionState) → Allowed p lines state → state ≢ Closed → open_in (message_of (expected_next p lines state) bytes) ≡ None → got_open p (lines ++ Got bytes ∷ answer) ≡ got_open p lines
+  pub open_kept : (state : SessionState) → Allowed p lines state → state ≢ Closed → open_in (message_of (expected_next p lines state) bytes) ≡ None
+      → got_open p (lines ++ Got bytes ∷ answer) ≡ got_open p lines
   open_kept OpenSent l o r = opening_reads OpenSent l refl ∙ r ∙ sym (none_opened OpenSent l refl)
   open_kept OpenConfirm l o r = open_stays p lines (Got bytes ∷ answer) OpenConfirm l refl
   open_kept Established l o r = open_stays p lines (Got bytes ∷ answer) Established l refl
@@ -95,7 +98,9 @@ no_update_open (Ok u) o e = cc
 body_hold : (e : Expected) (kind : ℕ) (body : List ℕ) (o : OpenMsg) → body_of e kind body ≡ Ok (messages.OpenMsg o) → is_short_hold o.hold ≡ false
 unfolding body_of
 body_hold e kind body o f = tests (eqb kind 1) (eqb kind 2) (eqb kind 3) f where
-  tests : (t u v : Bool) → cond t (open_message (open_of e body)) (cond u (update_message (update_of e.wide body)) (cond v (Ok (messages.NoticeMsg (notice_of body))) (Ok messages.KeepaliveMsg))) ≡ Ok (messages.OpenMsg o) → is_short_hold o.hold ≡ false
+  tests : (t u v : Bool)
+      → cond t (open_message (open_of e body)) (cond u (update_message (update_of e.wide body)) (cond v (Ok (messages.NoticeMsg (notice_of body))) (Ok messages.KeepaliveMsg))) ≡ Ok (messages.OpenMsg o)
+      → is_short_hold o.hold ≡ false
   tests true u v g = open_hold e body o (open_of_message (open_of e body) o g)
   tests false true v g = absurd (no_update_open (update_of e.wide body) o g)
   tests false false true g = absurd cc
@@ -112,7 +117,8 @@ message_hold e bytes o f = by_header (header_fault bytes) f where
   by_header (Some fault) g = absurd cc
   by_header None g = by_state (is_in_state e.state (kind_in bytes)) g
 
-read_hold : (e : Expected) (bytes : List ℕ) (m : Result Message Notice) (o : OpenMsg) → message_of e bytes ≡ m → open_in m ≡ Some o → is_short_hold o.hold ≡ false
+read_hold : (e : Expected) (bytes : List ℕ) (m : Result Message Notice) (o : OpenMsg) → message_of e bytes ≡ m → open_in m ≡ Some o
+    → is_short_hold o.hold ≡ false
 read_hold e bytes (Ok (messages.OpenMsg x)) o g f = let same : x ≡ o = cc in message_hold e bytes o (g ∙ ap (λ (y : OpenMsg). Ok (messages.OpenMsg y)) same)
 read_hold e bytes (Ok (messages.UpdateMsg _)) o g f = absurd cc
 read_hold e bytes (Ok (messages.NoticeMsg _)) o g f = absurd cc
@@ -128,7 +134,8 @@ got_hold p (Got bytes ∷ lines) o e = read_hold _ bytes _ o refl e
 long_hold : (n : ℕ) → is_short_hold n ≡ false → 0 < n → 3 ≤ n
 long_hold n s some = grind (arith, nat_tests)
 
-smaller_long : (p : Peering) (lines : List Line) (first : OpenMsg) (o : Option OpenMsg) → got_open p lines ≡ o → is_short_hold first.hold ≡ false → 0 < smaller_hold first o → 3 ≤ smaller_hold first o
+smaller_long : (p : Peering) (lines : List Line) (first : OpenMsg) (o : Option OpenMsg) → got_open p lines ≡ o → is_short_hold first.hold ≡ false
+    → 0 < smaller_hold first o → 3 ≤ smaller_hold first o
 smaller_long p lines first None e s some = absurd (omega (arith, some))
 smaller_long p lines first (Some theirs) e s some =
     let ours : 3 ≤ first.hold = long_hold first.hold s (omega (arith, some)) in
@@ -140,5 +147,5 @@ hold_long p lines state l some = smaller_long p lines p.first (got_open p lines)
 
 -- ---- the same of the parts that keep it
 
-pub kept_hold : (parts : Parts) → Keeps parts → hold_of parts.opened ≡ hold (peering_of parts.config) parts.story.lines
+pub kept_hold : (parts : Parts) → SessionInvariant parts → hold_of parts.opened ≡ hold (peering_of parts.config) parts.story.lines
 kept_hold parts k = ap hold_of k.opened ∙ hold_kept (peering_of parts.config).first (got_open (peering_of parts.config) parts.story.lines)

@@ -31,9 +31,9 @@ use Rattle.bgp_session.specs.declared.answers.ReadStep.{ReadStep}
 use Rattle.bgp_session.specs.declared.answers.ReadStep.TheVariants as steps
 use Rattle.bgp_session.specs.declared.parts.Opened.{Opened}
 use Rattle.bgp_session.specs.declared.parts.Parts.{Parts}
-use Rattle.bgp_session.specs.Inner.{AtFront, Keeps, hold_of, opened_by, reading, running, value_of}
+use Rattle.bgp_session.specs.Inner.{AtFront, SessionInvariant, hold_of, opened_by, read_in_session, running, value_of}
 use Rattle.bgp_session.specs.Fronts.{BeginsSome, CanRead, CantRead}
-use Rattle.bgp_session.specs.Steps.{ReadsFrame, Tells}
+use Rattle.bgp_session.specs.Steps.{ReadsFrame, TellsRead}
 use Rattle.session_value.specs.Fronts.{BeginsNothing}
 use Rattle.bgp_session.proofs.Fronts.{begins_nothing, front_fault, header_got, header_reads}
 use Rattle.bgp_session.proofs.Got.{gets, gotten, keeps}
@@ -46,7 +46,7 @@ taken_down parts bytes answer = gotten parts bytes answer parts.heard parts.told
 
 -- the session reads by this step, and keeps what it keeps
 abbrev pub ReadsTo : Parts → ReadStep → Parts → Type 0
-ReadsTo before step after = ReadsFrame step (running before) (running after) × Keeps after
+ReadsTo before step after = ReadsFrame step (running before) (running after) × SessionInvariant after
 
 takes_update : (state : SessionState) → is_in_state state 2 ≡ true → state ≡ Established
 takes_update OpenSent e = absurd cc
@@ -83,29 +83,34 @@ module _ (parts : Parts) (bytes : List ℕ) (front : AtFront parts bytes) where
   expected = expected_next (peering_of parts.config) parts.story.lines (state_of parts.story.lines)
 
   -- the state after it
-  next_is : (answer : List Line) (next : SessionState) → reply_to (reading parts bytes) ≡ (answer, next) → state_of (lines ++ Got bytes ∷ answer) ≡ next
+  next_is : (answer : List Line) (next : SessionState) → reply_to (read_in_session parts bytes) ≡ (answer, next) → state_of (lines ++ Got bytes ∷ answer) ≡ next
   next_is answer next reply = state_next (peering_of parts.config) lines bytes answer next front.unclosed front.got reply front.keeps.tied.allowed
 
   -- what the OPENs settled stays
-  opened_stays : (answer : List Line) → open_in (reading parts bytes) ≡ None → parts.opened ≡ option_map (opened_by (peering_of parts.config).first) (got_open (peering_of parts.config) (lines ++ Got bytes ∷ answer))
+  opened_stays : (answer : List Line) → open_in (read_in_session parts bytes) ≡ None
+      → parts.opened ≡ option_map (opened_by (peering_of parts.config).first) (got_open (peering_of parts.config) (lines ++ Got bytes ∷ answer))
   opened_stays answer none =
-      front.keeps.opened ∙ ap (option_map (opened_by (peering_of parts.config).first)) (sym (open_kept (peering_of parts.config) lines bytes answer state front.keeps.tied.allowed front.unclosed none))
+      front.keeps.opened
+      ∙ ap (option_map (opened_by (peering_of parts.config).first)) (sym (open_kept (peering_of parts.config) lines bytes answer state front.keeps.tied.allowed front.unclosed none))
 
   abbrev p : Peering
   p = peering_of parts.config
 
   -- an OPEN
-  module _ (theirs : open_type.OpenMsg) (reads : reading parts bytes ≡ Ok (OpenMsg theirs)) where
-    confirm_reply : reply_to (reading parts bytes) ≡ (Put KeepaliveMsg ∷ [], OpenConfirm)
+  module _ (theirs : open_type.OpenMsg) (reads : read_in_session parts bytes ≡ Ok (OpenMsg theirs)) where
+    confirm_reply : reply_to (read_in_session parts bytes) ≡ (Put KeepaliveMsg ∷ [], OpenConfirm)
     confirm_reply = ap reply_to reads
 
-    confirm_hears : parts.heard ≡ unless_closed OpenConfirm (apply_if parts.heard (update_in (reading parts bytes)))
+    confirm_hears : parts.heard ≡ unless_closed OpenConfirm (apply_if parts.heard (update_in (read_in_session parts bytes)))
     confirm_hears = sym (ap (λ (m : Result Message Notice). apply_if parts.heard (update_in m)) reads)
 
-    confirm_opens : (opened : Opened) → opened ≡ opened_by p.first theirs → Some opened ≡ option_map (opened_by p.first) (got_open p (lines ++ Got bytes ∷ (Put KeepaliveMsg ∷ [])))
-    confirm_opens opened is = ap Some is ∙ sym (ap (option_map (opened_by p.first)) (open_read p lines bytes (Put KeepaliveMsg ∷ []) state theirs front.keeps.tied.allowed reads))
+    confirm_opens : (opened : Opened) → opened ≡ opened_by p.first theirs
+        → Some opened ≡ option_map (opened_by p.first) (got_open p (lines ++ Got bytes ∷ (Put KeepaliveMsg ∷ [])))
+    confirm_opens opened is = ap Some is
+        ∙ sym (ap (option_map (opened_by p.first)) (open_read p lines bytes (Put KeepaliveMsg ∷ []) state theirs front.keeps.tied.allowed reads))
 
-    pub confirms : (opened : Opened) (left : ℕ) (mid : Parts) → opened ≡ opened_by p.first theirs → left ≡ opened.hold → mid ≡ taken_down parts bytes (Put KeepaliveMsg ∷ []) → ReadsTo parts steps.Opened (record mid { opened = Some opened; left = left })
+    pub confirms : (opened : Opened) (left : ℕ) (mid : Parts) → opened ≡ opened_by p.first theirs → left ≡ opened.hold
+        → mid ≡ taken_down parts bytes (Put KeepaliveMsg ∷ []) → ReadsTo parts steps.Opened (record mid { opened = Some opened; left = left })
     confirms opened left mid opens lefts is = subst (λ (m : Parts). ReadsTo parts steps.Opened (record m { opened = Some opened; left = left })) (sym is) (
       record {
         bytes = bytes;
@@ -117,17 +122,18 @@ module _ (parts : Parts) (bytes : List ℕ) (front : AtFront parts bytes) where
     )
 
   -- a KEEPALIVE
-  module _ (reads : reading parts bytes ≡ Ok KeepaliveMsg) where
-    alive_reply : reply_to (reading parts bytes) ≡ ([], Established)
+  module _ (reads : read_in_session parts bytes ≡ Ok KeepaliveMsg) where
+    alive_reply : reply_to (read_in_session parts bytes) ≡ ([], Established)
     alive_reply = ap reply_to reads
 
-    alive_hears : parts.heard ≡ unless_closed Established (apply_if parts.heard (update_in (reading parts bytes)))
+    alive_hears : parts.heard ≡ unless_closed Established (apply_if parts.heard (update_in (read_in_session parts bytes)))
     alive_hears = sym (ap (λ (m : Result Message Notice). apply_if parts.heard (update_in m)) reads)
 
     alive_opens : parts.opened ≡ option_map (opened_by p.first) (got_open p (lines ++ Got bytes ∷ []))
     alive_opens = opened_stays [] (ap open_in reads)
 
-    alive_as : (step : ReadStep) (mid : Parts) → mid ≡ taken_down parts bytes [] → Tells step (value_of parts) (value_of (taken_down parts bytes [])) → ReadsTo parts step mid
+    alive_as : (step : ReadStep) (mid : Parts) → mid ≡ taken_down parts bytes []
+        → TellsRead step (value_of parts) (value_of (taken_down parts bytes [])) → ReadsTo parts step mid
     alive_as step mid is tells = subst (λ (m : Parts). ReadsTo parts step m) (sym is) (
       record {
         bytes = bytes;
@@ -145,17 +151,19 @@ module _ (parts : Parts) (bytes : List ℕ) (front : AtFront parts bytes) where
     stays_established mid is other = alive_as (steps.Changed []) mid is (takes_keepalive state (read_of expected bytes KeepaliveMsg reads).in_state other, next_is [] Established alive_reply, none_changed parts.heard)
 
   -- an UPDATE
-  module _ (update : Update) (reads : reading parts bytes ≡ Ok (UpdateMsg update)) where
-    hear_reply : reply_to (reading parts bytes) ≡ ([], Established)
+  module _ (update : Update) (reads : read_in_session parts bytes ≡ Ok (UpdateMsg update)) where
+    hear_reply : reply_to (read_in_session parts bytes) ≡ ([], Established)
     hear_reply = ap reply_to reads
 
-    hear_hears : (heard : Routes) → heard ≡ apply parts.heard update → heard ≡ unless_closed Established (apply_if parts.heard (update_in (reading parts bytes)))
+    hear_hears : (heard : Routes) → heard ≡ apply parts.heard update
+        → heard ≡ unless_closed Established (apply_if parts.heard (update_in (read_in_session parts bytes)))
     hear_hears heard is = is ∙ sym (ap (λ (m : Result Message Notice). apply_if parts.heard (update_in m)) reads)
 
     hear_opens : parts.opened ≡ option_map (opened_by p.first) (got_open p (lines ++ Got bytes ∷ []))
     hear_opens = opened_stays [] (ap open_in reads)
 
-    pub hears_changes : (changed : List PrefixValue) (heard : Routes) (mid : Parts) → mid ≡ taken_down parts bytes [] → heard ≡ apply mid.heard update → Changed mid.heard heard changed → ReadsTo parts (steps.Changed changed) (record mid { heard = heard })
+    pub hears_changes : (changed : List PrefixValue) (heard : Routes) (mid : Parts) → mid ≡ taken_down parts bytes []
+        → heard ≡ apply mid.heard update → Changed mid.heard heard changed → ReadsTo parts (steps.Changed changed) (record mid { heard = heard })
     hears_changes changed heard mid is = subst (λ (m : Parts). heard ≡ apply m.heard update → Changed m.heard heard changed → ReadsTo parts (steps.Changed changed) (record m { heard = heard })) (sym is) (λ applied changes. (
       record {
         bytes = bytes;
@@ -167,16 +175,17 @@ module _ (parts : Parts) (bytes : List ℕ) (front : AtFront parts bytes) where
     ))
 
     -- also where the routes are left in any way
-    pub hears_keeps : (heard : Routes) (mid : Parts) → mid ≡ taken_down parts bytes [] → Keeps (record mid { heard = heard })
-    hears_keeps heard mid is = subst (λ (m : Parts). Keeps (record m { heard = heard })) (sym is)
+    pub hears_keeps : (heard : Routes) (mid : Parts) → mid ≡ taken_down parts bytes [] → SessionInvariant (record mid { heard = heard })
+    hears_keeps heard mid is = subst (λ (m : Parts). SessionInvariant (record m { heard = heard })) (sym is)
         (keeps_heard (gotten parts bytes [] (apply parts.heard update) parts.told parts.opened (hold_of parts.opened)) heard
         (keeps parts bytes [] Established front hear_reply (apply parts.heard update) parts.told parts.opened (hold_of parts.opened) (hear_hears (apply parts.heard update) refl) refl hear_opens refl))
 
   -- the session closes
-  pub closes : (answer : List Line) (prefixes : List PrefixValue) (mid after : Parts) → reply_to (reading parts bytes) ≡ (answer, Closed) → mid ≡ taken_down parts bytes answer
+  pub closes : (answer : List Line) (prefixes : List PrefixValue) (mid after : Parts) → reply_to (read_in_session parts bytes) ≡ (answer, Closed)
+      → mid ≡ taken_down parts bytes answer
       → after ≡ record mid { heard = map.empty; told = map.empty } → prefixes ≡ map.keys parts.heard → ReadsTo parts (steps.Closed prefixes) after
   closes answer prefixes mid after reply is drops keys =
-      let none : open_in (reading parts bytes) ≡ None = closed_none (reading parts bytes) answer reply in
+      let none : open_in (read_in_session parts bytes) ≡ None = closed_none (read_in_session parts bytes) answer reply in
       subst (λ (m : Parts). ReadsTo parts (steps.Closed prefixes) m) (sym (drops ∙ ap (λ (m : Parts). let d : Parts = record m { heard = map.empty; told = map.empty } in d) is)) (
         record {
           bytes = bytes;
@@ -189,7 +198,8 @@ module _ (parts : Parts) (bytes : List ℕ) (front : AtFront parts bytes) where
 
 -- ---- what is at the front
 
-pub frame_front : (parts : Parts) (bytes : List ℕ) (len : ℕ) → Keeps parts → state_of parts.story.lines ≢ Closed → frame_at (take len parts.end.ready) ≡ Some (take len parts.end.ready, []) → bytes ≡ take len parts.end.ready → AtFront parts bytes
+pub frame_front : (parts : Parts) (bytes : List ℕ) (len : ℕ) → SessionInvariant parts → state_of parts.story.lines ≢ Closed
+    → frame_at (take len parts.end.ready) ≡ Some (take len parts.end.ready, []) → bytes ≡ take len parts.end.ready → AtFront parts bytes
 frame_front parts bytes len k o whole is = subst (AtFront parts) (sym is) (record {
   keeps = k;
   unclosed = o;
@@ -198,7 +208,8 @@ frame_front parts bytes len k o whole is = subst (AtFront parts) (sym is) (recor
   got = inl whole;
 })
 
-pub header_front : (parts : Parts) (bytes : List ℕ) (fault : HeaderFault) → Keeps parts → state_of parts.story.lines ≢ Closed → 19 ≤ length parts.end.ready → header_fault parts.end.ready ≡ Some fault → bytes ≡ take 19 parts.end.ready → AtFront parts bytes
+pub header_front : (parts : Parts) (bytes : List ℕ) (fault : HeaderFault) → SessionInvariant parts → state_of parts.story.lines ≢ Closed
+    → 19 ≤ length parts.end.ready → header_fault parts.end.ready ≡ Some fault → bytes ≡ take 19 parts.end.ready → AtFront parts bytes
 header_front parts bytes fault k o long faulty is = subst (AtFront parts) (sym is) (record {
   keeps = k;
   unclosed = o;
@@ -207,15 +218,18 @@ header_front parts bytes fault k o long faulty is = subst (AtFront parts) (sym i
   got = header_got parts.end.ready fault long faulty;
 })
 
-pub header_read : (parts : Parts) (bytes : List ℕ) (fault : HeaderFault) (notice : Notice) → 19 ≤ length parts.end.ready → header_fault parts.end.ready ≡ Some fault → bytes ≡ take 19 parts.end.ready → notice ≡ header_notice fault → reading parts bytes ≡ Err notice
+pub header_read : (parts : Parts) (bytes : List ℕ) (fault : HeaderFault) (notice : Notice) → 19 ≤ length parts.end.ready
+    → header_fault parts.end.ready ≡ Some fault → bytes ≡ take 19 parts.end.ready → notice ≡ header_notice fault
+    → read_in_session parts bytes ≡ Err notice
 header_read parts bytes fault notice long faulty is told =
     header_reads (expected_next (peering_of parts.config) parts.story.lines (state_of parts.story.lines)) bytes fault (ap header_fault is ∙ front_fault parts.end.ready fault long faulty)
     ∙ ap (λ (n : Notice). Err n) (sym told)
 
 -- ---- whether there is something
 
-pub cant_read : (parts : Parts) → Keeps parts → frame_at parts.end.ready ≡ None → (19 ≤ length parts.end.ready → header_fault parts.end.ready ≡ None) → CantRead (value_of parts)
+pub cant_read : (parts : Parts) → SessionInvariant parts → frame_at parts.end.ready ≡ None
+    → (19 ≤ length parts.end.ready → header_fault parts.end.ready ≡ None) → CantRead (value_of parts)
 cant_read parts k none sound = inr (subst BeginsNothing k.stands.ready (begins_nothing parts.end.ready none sound))
 
-pub can_read : (parts : Parts) → Keeps parts → state_of parts.story.lines ≢ Closed → BeginsSome parts.end.ready → CanRead (value_of parts)
+pub can_read : (parts : Parts) → SessionInvariant parts → state_of parts.story.lines ≢ Closed → BeginsSome parts.end.ready → CanRead (value_of parts)
 can_read parts k o some = record { unclosed = o; begins = subst BeginsSome k.stands.ready some }

@@ -22,7 +22,7 @@ use Rattle.bgp_story.specs.declared.line.Line.{Line}
 use Rattle.bgp_story.specs.declared.line.Line.TheVariants.{Put, Tick}
 use Rattle.bgp_story.specs.Legal.{Peering, Allowed, count_round, hold, hold_expired, is_up, is_wide, reply_at, silence}
 use Rattle.bgp_story.specs.Readings.{Routes, put_bytes, put_in, got_bytes, unless_closed}
-use Rattle.bgp_story.specs.States.{Begins, answered, state_of}
+use Rattle.bgp_story.specs.States.{BeginsStory, answer_lines, state_of}
 use Rattle.bgp_story.proofs.Grows.{hold_stays, open_stays}
 use Rattle.session_value.specs.Cases.{PassesRound, put_by, sending}
 use Rattle.session_value.specs.Sessions.{peering_of}
@@ -34,8 +34,8 @@ use Rattle.session_value.proofs.Rooms.{passed_has_room, most_any}
 use Rattle.bgp_session.specs.declared.parts.Parts.{Parts}
 use Rattle.bgp_session.specs.declared.answers.TickStep.{TickStep}
 use Rattle.bgp_session.specs.declared.answers.TickStep.TheVariants as tick
-use Rattle.bgp_session.specs.Inner.{AtRound, Keeps, after_line, after_rounds, hold_of, opened_by, round_reply, running, value_of}
-use Rattle.bgp_session.specs.Steps.{MayPass, TellsRound, Ticks}
+use Rattle.bgp_session.specs.Inner.{AtRound, SessionInvariant, after_line, after_rounds, hold_of, opened_by, round_reply, running, value_of}
+use Rattle.bgp_session.specs.Steps.{MayPass, TellsRound, SessionTicks}
 use Rattle.bgp_session.proofs.Ends.{sent_stands, with_sent}
 use Rattle.bgp_session.proofs.Got.{keepalive_writable, same_line}
 use Rattle.bgp_session.proofs.Numbers.{earlier_all, number_least, numbers_then}
@@ -43,7 +43,8 @@ use Rattle.bgp_session.proofs.Opens.{hold_long, kept_hold}
 
 -- ---- answers
 
-round_alike : (wide : Bool) (state : SessionState) (answer : List Line) (next : SessionState) → Answers state answer next → flat_map (put_in wide) answer ≡ flat_map (put_in false) answer
+round_alike : (wide : Bool) (state : SessionState) (answer : List Line) (next : SessionState) → Answers state answer next
+    → flat_map (put_in wide) answer ≡ flat_map (put_in false) answer
 unfolding spell
 round_alike wide state _ _ ends = refl
 round_alike wide state _ _ beats = refl
@@ -53,7 +54,8 @@ expired_writable : IsWritable (NoticeMsg hold_expired) false
 unfolding spell
 expired_writable = record { body = tt; size = lit≤ tt }
 
-round_writable_by : (state : SessionState) (lines : List Line) (next : SessionState) (answer : Option Message) → Answers state lines next → lines ≡ answered answer → IfSome answer (λ m. IsWritable m false)
+round_writable_by : (state : SessionState) (lines : List Line) (next : SessionState) (answer : Option Message) → Answers state lines next
+    → lines ≡ answer_lines answer → IfSome answer (λ m. IsWritable m false)
 round_writable_by state _ _ None a e = tt
 round_writable_by state _ _ (Some m) ends e = subst (λ (x : Message). IsWritable x false) (same_line (NoticeMsg hold_expired) m e) expired_writable
 round_writable_by state _ _ (Some m) beats e = subst (λ (x : Message). IsWritable x false) (same_line KeepaliveMsg m e) keepalive_writable
@@ -71,20 +73,8 @@ round_numbers state _ _ n stays = refl
 
 -- ---- which answer it is
 
--- one round was left
-pub round_over : (h c round : ℕ) (state : SessionState) → h - c ≡ 1 → reply_at h (c + 1) round state ≡ (Put (NoticeMsg hold_expired) ∷ [], Closed)
-round_over h c round state one =
-    let t : eqb (c + 1) h ≡ true = grind (arith, nat_tests) in
-    ap (λ (b : Bool). cond b (Put (NoticeMsg hold_expired) ∷ [], Closed) (cond (eqb (round % (h / 3)) 0) (Put KeepaliveMsg ∷ [], state) ([], state))) t
-
 not_over : (h c : ℕ) → h - c ≢ 1 → eqb (c + 1) h ≡ false
 not_over h c more = grind (arith, nat_tests)
-
-pub round_beats : (h c round : ℕ) (state : SessionState) → h - c ≢ 1 → round % (h / 3) ≡ 0 → reply_at h (c + 1) round state ≡ (Put KeepaliveMsg ∷ [], state)
-round_beats h c round state more third =
-    let u : eqb (round % (h / 3)) 0 ≡ true = grind (arith, nat_tests) in
-    ap (λ (b : Bool). cond b (Put (NoticeMsg hold_expired) ∷ [], Closed) (cond (eqb (round % (h / 3)) 0) (Put KeepaliveMsg ∷ [], state) ([], state))) (not_over h c more)
-    ∙ ap (λ (b : Bool). cond b (Put KeepaliveMsg ∷ [], state) ([], state)) u
 
 pub round_passes : (h c round : ℕ) (state : SessionState) → h - c ≢ 1 → round % (h / 3) ≢ 0 → reply_at h (c + 1) round state ≡ ([], state)
 round_passes h c round state more third =
@@ -127,15 +117,16 @@ module _ (parts : Parts) (round : ℕ) (answer : List Line) (next : SessionState
   octets_are = round_alike (is_wide p lines') (state_of lines) answer next answers
 
   put_is : put_bytes p lines' ≡ put_bytes p lines ++ octets
-  put_is = lines_passed.put_then p lines round answer next at.may.up at.may.runs at.may.later reply allowed ∙ ap (λ (xs : List ℕ). put_bytes p lines ++ xs) octets_are
+  put_is = lines_passed.put_then p lines round answer next at.may.up at.may.runs at.may.later reply allowed
+      ∙ ap (λ (xs : List ℕ). put_bytes p lines ++ xs) octets_are
 
   got_is : got_bytes lines' ≡ got_bytes lines
   got_is = lines_passed.got_then p lines round answer next at.may.up at.may.runs at.may.later reply allowed
 
-  pub round_writable : (m : Option Message) → answer ≡ answered m → IfSome m (λ x. IsWritable x false)
+  pub round_writable : (m : Option Message) → answer ≡ answer_lines m → IfSome m (λ x. IsWritable x false)
   round_writable m e = round_writable_by (state_of lines) answer next m answers e
 
-  pub passed_begins : Begins parts.story.remote_as lines'
+  pub passed_begins : BeginsStory parts.story.remote_as lines'
   passed_begins = record {
     peering = p;
     remote = sym at.keeps.remote_as;
@@ -196,7 +187,7 @@ module _ (parts : Parts) (round : ℕ) (answer : List Line) (next : SessionState
         let then' = numbers_then lines (Tick round) answer (λ n. round_numbers (state_of lines) answer next n answers) in
         omega (arith, least, then')
 
-    pub keeps : Keeps after
+    pub keeps : SessionInvariant after
     keeps = record {
       stands = end_stands;
       tied = passes_tied (value_of parts) (value_of after) round passes at.keeps.tied;
@@ -213,9 +204,10 @@ module _ (parts : Parts) (round : ℕ) (answer : List Line) (next : SessionState
     }
 
   -- what the session is after the round
-  pub ticks : (step : TickStep) (mid : Parts) → mid ≡ passed parts round answer parts.heard parts.told (parts.left - 1) → next ≢ Closed → TellsRound step (value_of parts) round (value_of (passed parts round answer parts.heard parts.told (parts.left - 1)))
-      → Ticks step (running parts) round (running mid) × Keeps mid
-  ticks step mid is o tells = subst (λ (m : Parts). Ticks step (running parts) round (running m) × Keeps m) (sym is) (
+  pub ticks : (step : TickStep) (mid : Parts) → mid ≡ passed parts round answer parts.heard parts.told (parts.left - 1) → next ≢ Closed
+      → TellsRound step (value_of parts) round (value_of (passed parts round answer parts.heard parts.told (parts.left - 1)))
+      → SessionTicks step (running parts) round (running mid) × SessionInvariant mid
+  ticks step mid is o tells = subst (λ (m : Parts). SessionTicks step (running parts) round (running m) × SessionInvariant m) (sym is) (
     record {
       passes = passes parts.heard parts.told (parts.left - 1) (sym (while_unclosed next parts.heard o)) (sym (while_unclosed next parts.told o)) refl;
       tells = tells;
@@ -233,23 +225,28 @@ module _ (parts : Parts) (round : ℕ) (at : AtRound parts round) where
   pub tick_long : 3 ≤ hold_of parts.opened
   tick_long = omega (arith, kept_hold parts at.keeps, hold_long (peering_of parts.config) parts.story.lines (state_of parts.story.lines) at.keeps.tied.allowed at.may.runs)
 
-  pub reply_of : (answer : Option Message) → (round_reply parts round).0 ≡ answered answer → round_reply parts round ≡ (answered answer, (round_reply parts round).1)
+  pub reply_of : (answer : Option Message) → (round_reply parts round).0 ≡ answer_lines answer
+      → round_reply parts round ≡ (answer_lines answer, (round_reply parts round).1)
   reply_of answer e = ap (λ (x : List Line). let r : List Line × SessionState = (x, (round_reply parts round).1) in r) e
 
   up_unclosed : state_of parts.story.lines ≢ Closed
   up_unclosed = up_open (state_of parts.story.lines) at.may.up
 
-  pub beats_to : (mid : Parts) → round_reply parts round ≡ (Put KeepaliveMsg ∷ [], state_of parts.story.lines) → mid ≡ passed_down parts round (Put KeepaliveMsg ∷ []) → Ticks tick.Beat (running parts) round (running mid) × Keeps mid
+  pub beats_to : (mid : Parts) → round_reply parts round ≡ (Put KeepaliveMsg ∷ [], state_of parts.story.lines)
+      → mid ≡ passed_down parts round (Put KeepaliveMsg ∷ []) → SessionTicks tick.Beat (running parts) round (running mid) × SessionInvariant mid
   beats_to mid reply is = ticks parts round (Put KeepaliveMsg ∷ []) (state_of parts.story.lines) at reply tick.Beat mid is up_unclosed refl
 
-  pub passes_to : (mid : Parts) → round_reply parts round ≡ ([], state_of parts.story.lines) → mid ≡ passed_down parts round [] → Ticks tick.Plain (running parts) round (running mid) × Keeps mid
+  pub passes_to : (mid : Parts) → round_reply parts round ≡ ([], state_of parts.story.lines) → mid ≡ passed_down parts round []
+      → SessionTicks tick.Plain (running parts) round (running mid) × SessionInvariant mid
   passes_to mid reply is = ticks parts round [] (state_of parts.story.lines) at reply tick.Plain mid is up_unclosed refl
 
-  pub expires_to : (prefixes : List PrefixValue) (mid then' : Parts) → round_reply parts round ≡ (Put (NoticeMsg hold_expired) ∷ [], Closed) → mid ≡ passed_down parts round (Put (NoticeMsg hold_expired) ∷ [])
-      → then' ≡ record mid { heard = map.empty; told = map.empty } → prefixes ≡ map.keys parts.heard → Ticks (tick.Expired prefixes) (running parts) round (running then') × Keeps then'
+  pub expires_to : (prefixes : List PrefixValue) (mid then' : Parts) → round_reply parts round ≡ (Put (NoticeMsg hold_expired) ∷ [], Closed)
+      → mid ≡ passed_down parts round (Put (NoticeMsg hold_expired) ∷ [])
+      → then' ≡ record mid { heard = map.empty; told = map.empty } → prefixes ≡ map.keys parts.heard
+      → SessionTicks (tick.Expired prefixes) (running parts) round (running then') × SessionInvariant then'
   expires_to prefixes mid then' reply is drops same =
       let answer : List Line = Put (NoticeMsg hold_expired) ∷ [] in
-      subst (λ (m : Parts). Ticks (tick.Expired prefixes) (running parts) round (running m) × Keeps m) (sym (drops ∙ ap (λ (m : Parts). let d : Parts = record m { heard = map.empty; told = map.empty } in d) is)) (
+      subst (λ (m : Parts). SessionTicks (tick.Expired prefixes) (running parts) round (running m) × SessionInvariant m) (sym (drops ∙ ap (λ (m : Parts). let d : Parts = record m { heard = map.empty; told = map.empty } in d) is)) (
         record {
           passes = passes parts round answer Closed at reply map.empty map.empty (parts.left - 1) refl refl refl;
           tells = (lines_passed.state_next (peering_of parts.config) parts.story.lines round answer Closed at.may.up at.may.runs at.may.later reply at.keeps.tied.allowed, same);
@@ -260,8 +257,9 @@ module _ (parts : Parts) (round : ℕ) (at : AtRound parts round) where
 
 -- ---- whether a round may pass
 
-module _ (parts : Parts) (round : ℕ) (k : Keeps parts) where
-  by_looks : is_up (state_of parts.story.lines) ≡ true → 0 < hold_of parts.opened → parts.next_round ≤ round → stream_length parts.end ≤ 1044461 → MayPass (value_of parts) round
+module _ (parts : Parts) (round : ℕ) (k : SessionInvariant parts) where
+  by_looks : is_up (state_of parts.story.lines) ≡ true → 0 < hold_of parts.opened → parts.next_round ≤ round → stream_length parts.end ≤ 1044461
+      → MayPass (value_of parts) round
   by_looks up runs later room = record {
     up = up;
     runs = omega (arith, runs, kept_hold parts k);
@@ -269,7 +267,8 @@ module _ (parts : Parts) (round : ℕ) (k : Keeps parts) where
     room = let stream = stream_is parts.end (value_of parts).end k.stands in omega (arith, room, stream);
   }
 
-  pub may_match : (t : Bool) → is_up (state_of parts.story.lines) ≡ true → 0 < hold_of parts.opened → parts.next_round ≤ round → t ≡ leb (stream_length parts.end) 1044461 → MatchBool t (MayPass (value_of parts) round) (¬ MayPass (value_of parts) round)
+  pub may_match : (t : Bool) → is_up (state_of parts.story.lines) ≡ true → 0 < hold_of parts.opened → parts.next_round ≤ round
+      → t ≡ leb (stream_length parts.end) 1044461 → MatchBool t (MayPass (value_of parts) round) (¬ MayPass (value_of parts) round)
   may_match true up runs later e = by_looks up runs later (grind (arith, nat_tests))
   may_match false up runs later e = λ may. let stream = stream_is parts.end (value_of parts).end k.stands in let room = may.room in grind (arith, nat_tests)
 

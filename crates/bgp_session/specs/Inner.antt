@@ -54,7 +54,7 @@ abbrev pub after_rounds : List Line → ℕ
 after_rounds lines = fold after_line 0 lines
 
 -- The end stands for the endpoint, which is tied to the story, and what is kept beside the story agrees with it.
-pub record Keeps (parts : Parts) : Type 0 where
+pub record SessionInvariant (parts : Parts) : Type 0 where
   pub stands : EndStands parts.end (value_of parts).end
   pub tied : IsTied (value_of parts)
   pub peering : parts.end.peering ≡ parts.config.peering
@@ -72,12 +72,12 @@ pub record Keeps (parts : Parts) : Type 0 where
 -- ---- what is got
 
 -- what bytes read as, in the session as it is
-abbrev pub reading : Parts → List ℕ → Result Message Notice
-reading parts bytes = message_of (expected_next (peering_of parts.config) parts.story.lines (state_of parts.story.lines)) bytes
+abbrev pub read_in_session : Parts → List ℕ → Result Message Notice
+read_in_session parts bytes = message_of (expected_next (peering_of parts.config) parts.story.lines (state_of parts.story.lines)) bytes
 
 -- The unread bytes begin with a whole message or a faulty header, and the session isn't closed.
 pub record AtFront (parts : Parts) (bytes : List ℕ) : Type 0 where
-  pub keeps : Keeps parts
+  pub keeps : SessionInvariant parts
   pub unclosed : state_of parts.story.lines ≢ Closed
   pub rest : List ℕ
   pub front : parts.end.ready ≡ bytes ++ rest
@@ -91,5 +91,5 @@ round_reply parts round = reply_at (hold_time (value_of parts)) (silence parts.s
 
 -- A round that may pass.
 pub record AtRound (parts : Parts) (round : ℕ) : Type 0 where
-  pub keeps : Keeps parts
+  pub keeps : SessionInvariant parts
   pub may : MayPass (value_of parts) round

@@ -30,22 +30,22 @@ use Rattle.bgp_session.specs.declared.answers.TickStep.TheVariants.{Plain, Beat,
 
 -- The result for a message, or a faulty header, that a session got: the states before and after it, and the prefixes whose routes changed, or those
 -- that had routes when the session closed, in ascending order.
-abbrev pub Tells : ReadStep → SessionValue → SessionValue → Type 0
-Tells Opened before after = (state before ≡ states.OpenSent) × (state after ≡ states.OpenConfirm)
-Tells Established before after = (state before ≡ states.OpenConfirm) × (state after ≡ states.Established)
-Tells (Changed prefixes) before after = (state before ≡ states.Established) × (state after ≡ states.Established) × ChangedRoutes before.heard after.heard prefixes
-Tells (Closed prefixes) before after = (state after ≡ states.Closed) × (prefixes ≡ map.keys before.heard)
+abbrev pub TellsRead : ReadStep → SessionValue → SessionValue → Type 0
+TellsRead Opened before after = (state before ≡ states.OpenSent) × (state after ≡ states.OpenConfirm)
+TellsRead Established before after = (state before ≡ states.OpenConfirm) × (state after ≡ states.Established)
+TellsRead (Changed prefixes) before after = (state before ≡ states.Established) × (state after ≡ states.Established) × ChangedRoutes before.heard after.heard prefixes
+TellsRead (Closed prefixes) before after = (state after ≡ states.Closed) × (prefixes ≡ map.keys before.heard)
 
 pub record ReadsFrame (step : ReadStep) (before after : RunningSession) : Type 0 where
   pub bytes : List ℕ
   pub gets : GetsFrame before.session bytes after.session
-  pub tells : Tells step before.session after.session
+  pub tells : TellsRead step before.session after.session
   pub same_turn : after.acked_at_turn ≡ before.acked_at_turn
 
 -- One message or faulty header is got. None exactly where the session is closed or the unread bytes begin with neither; then nothing changes.
-abbrev pub Reads : Option ReadStep → RunningSession → RunningSession → Type 0
-Reads None before after = CantRead before.session × (after ≡ before)
-Reads (Some step) before after = ReadsFrame step before after
+abbrev pub ReadsFrameIfAny : Option ReadStep → RunningSession → RunningSession → Type 0
+ReadsFrameIfAny None before after = CantRead before.session × (after ≡ before)
+ReadsFrameIfAny (Some step) before after = ReadsFrame step before after
 
 -- ---- rounds
 
@@ -63,7 +63,7 @@ TellsRound Plain before round after = after.story ≡ before.story ++ Tick round
 TellsRound Beat before round after = after.story ≡ before.story ++ Tick round ∷ Put KeepaliveMsg ∷ []
 TellsRound (Expired prefixes) before round after = (state after ≡ states.Closed) × (prefixes ≡ map.keys before.heard)
 
-pub record Ticks (step : TickStep) (before : RunningSession) (round : ℕ) (after : RunningSession) : Type 0 where
+pub record SessionTicks (step : TickStep) (before : RunningSession) (round : ℕ) (after : RunningSession) : Type 0 where
   pub passes : PassesRound before.session round after.session
   pub tells : TellsRound step before.session round after.session
   pub same_turn : after.acked_at_turn ≡ before.acked_at_turn
@@ -83,7 +83,7 @@ abbrev pub received_as : SessionConfig → Segment → PlacedSegment
 received_as config segment = placed config.receive_first.0 config.send_first.0 segment
 
 -- The endpoint makes a step that emits what this segment stands for, on the way to the remote and with a window of 16,384.
-pub record Emits (Step : Endpoint → PlacedSegment → Endpoint → Type 0) (before : SessionValue) (segment : Segment) (after : SessionValue) : Type 0 where
+pub record SessionEmits (Step : Endpoint → PlacedSegment → Endpoint → Type 0) (before : SessionValue) (segment : Segment) (after : SessionValue) : Type 0 where
   pub end : Endpoint
   pub step : Step before.end (sent_as before.config segment) end
   pub in_streams : IsInStreams (sent_as before.config segment)
@@ -93,9 +93,9 @@ pub record Emits (Step : Endpoint → PlacedSegment → Endpoint → Type 0) (be
   pub effect : after ≡ record before { end = end }
 
 -- with no segment the session stays as it is
-abbrev pub EmitsBy : (Endpoint → PlacedSegment → Endpoint → Type 0) → SessionValue → Option Segment → SessionValue → Type 0
-EmitsBy Step before None after = after ≡ before
-EmitsBy Step before (Some segment) after = Emits Step before segment after
+abbrev pub SessionEmitsIfAny : (Endpoint → PlacedSegment → Endpoint → Type 0) → SessionValue → Option Segment → SessionValue → Type 0
+SessionEmitsIfAny Step before None after = after ≡ before
+SessionEmitsIfAny Step before (Some segment) after = SessionEmits Step before segment after
 
 -- ---- what arrives
 
@@ -113,7 +113,7 @@ ArrivesAs Duplicate e segment ack = IsAcceptable e segment × (¬ IsBeyond e seg
 ArrivesAs Accepted e segment ack = IsAcceptable e segment × (¬ IsBeyond e segment) × ((e.acked < segment.ack) ⊎ BringsTo e segment)
 
 -- The endpoint takes what this segment stands for.
-pub record Arrives (arrival : Arrival) (before : RunningSession) (segment : Segment) (after : RunningSession) : Type 0 where
+pub record SegmentArrives (arrival : Arrival) (before : RunningSession) (segment : Segment) (after : RunningSession) : Type 0 where
   pub is : ArrivesAs arrival before.session.end (received_as before.session.config segment) segment.ack
   pub end : Endpoint
   pub takes : TakesSegment before.session.end (received_as before.session.config segment) end

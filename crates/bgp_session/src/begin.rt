@@ -4,24 +4,21 @@ ghost use Rattle.std.specs.Prelude.{◌≡◌, ◌≤◌, ◌^◌, length, false
 ghost use Rattle.bgp_types.specs.Spelling.{spell};
 ghost use Rattle.bgp_types.specs.declared.message.Message.TheVariants as messages;
 ghost use Rattle.tcp_seq.specs.declared.segment.Way.TheVariants as ways;
-ghost use Rattle.tcp_end.specs.State.{fresh};
+ghost use Rattle.tcp_end.specs.State.{fresh_end};
 ghost use Rattle.bgp_story.specs.Legal.{IsPeering};
 ghost use Rattle.bgp_story.specs.Opens.{as_cap as as_cap_lem, unicast_cap as unicast_cap_lem, home_caps as home_caps_lem};
 ghost use Rattle.session_value.specs.Sessions.{begun, peering_of};
-ghost use Rattle.bgp_session.specs.Inner.{Keeps, value_of};
+ghost use Rattle.bgp_session.specs.Inner.{SessionInvariant, value_of};
 
 use crate::parts::{Parts, send};
 use adj_rib::AdjRib;
 use bgp_story::Story;
 use bgp_types::{Cap, Caps, Items, Message, NoMemory, Octets, OpenMsg, narrow_as};
-use bgp_wire::write_message;
+use bgp_wire::{FOUR_OCTET_AS, write_message};
 use session_value::SessionConfig;
 use std::alloc::Global;
 use tcp_end::End;
 use tcp_seq::Way;
-
-/// Capability code for support for four-octet AS numbers (RFC 6793, section 9).
-const FOUR_OCTET_AS: u8 = 65;
 
 /// Capability code for multiprotocol extensions (RFC 4760, section 8).
 const MULTIPROTOCOL: u8 = 1;
@@ -88,7 +85,7 @@ fn first_octets(alloc: Global, config: &SessionConfig) -> Result<Octets, NoMemor
 /// Returns the endpoint of a new session, with these octets waiting to be sent.
 fn first_end(alloc: Global, config: &SessionConfig, octets: &[u8]) -> Result<End, NoMemory>
     requires { length octets.now ≤ 2 ^ 20 }
-    ensures { IfOk result (λ end. end ≡ record (fresh ways.Remote config.now.peering config.now.send_first config.now.receive_first) { waiting = octets.now }) }
+    ensures { IfOk result (λ end. end ≡ record (fresh_end ways.Remote config.now.peering config.now.send_first config.now.receive_first) { waiting = octets.now }) }
 {
     let mut end = End::new(
         alloc,
@@ -105,7 +102,7 @@ fn first_end(alloc: Global, config: &SessionConfig, octets: &[u8]) -> Result<End
 pub(crate) fn first_parts(alloc: Global, config: SessionConfig) -> Result<Parts, NoMemory>
     requires { IsPeering (peering_of config) }
     ensures value { IfOk result (λ parts. value_of parts ≡ begun config) }
-    ensures keeps { IfOk result Keeps }
+    ensures keeps { IfOk result SessionInvariant }
 {
     let octets = first_octets(alloc, &config)?;
     let end = first_end(alloc, &config, octets.as_slice())?;

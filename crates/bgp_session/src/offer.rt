@@ -8,7 +8,7 @@ ghost use Rattle.bgp_story.specs.States.{state_of};
 ghost use Rattle.session_value.specs.Sessions.{peering_of};
 ghost use Rattle.session_value.specs.Cases.{Changes, PutsUpdate};
 ghost use Rattle.bgp_session.specs.Steps.{offered_length};
-ghost use Rattle.bgp_session.specs.Inner.{Keeps, value_of};
+ghost use Rattle.bgp_session.specs.Inner.{SessionInvariant, value_of};
 
 use crate::answers::OfferStop;
 use crate::parts::Parts;
@@ -34,7 +34,7 @@ fn tell(told: &mut AdjRib, message: &Message) -> Result<(), NoMemory>
 impl Parts {
     /// Puts an UPDATE. If the stream is full, nothing changes.
     pub(crate) fn offer(&mut self, update: Update) -> Result<(), OfferStop>
-        requires keeps { Keeps self.old }
+        requires keeps { SessionInvariant self.old }
         requires established { state_of self.old.story.lines ≡ states.Established }
         requires one_way { IsOneWay update (is_wide (peering_of self.old.config) self.old.story.lines) }
         requires changes { Changes self.old.told update }
@@ -42,7 +42,7 @@ impl Parts {
         ensures full { 1044480 < offered_length (value_of self.old) update → result ≡ Err (OfferStop.StreamFull (offered_length (value_of self.old) update)) }
         ensures only_full { (n : ℕ) → result ≡ Err (OfferStop.StreamFull n) → (n ≡ offered_length (value_of self.old) update) × (1044480 < n) × (self.new ≡ self.old) }
         ensures same_turn { self.new.end.acked_at_turn ≡ self.old.end.acked_at_turn }
-        ensures keeps { Keeps self.new }
+        ensures keeps { SessionInvariant self.new }
     {
         let message = Message::UpdateMsg(update);
         let wide = self.wide();

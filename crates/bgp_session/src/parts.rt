@@ -7,7 +7,7 @@ ghost use Rattle.bgp_types.specs.Writable.{IsWritable};
 ghost use Rattle.tcp_end.specs.State.{stream_length};
 ghost use Rattle.bgp_story.specs.Legal.{expected_next, got_open, hold as hold_lem, is_wide};
 ghost use Rattle.bgp_story.specs.Readings.{put_in};
-ghost use Rattle.bgp_story.specs.States.{Begins, answered, state_of};
+ghost use Rattle.bgp_story.specs.States.{BeginsStory, answer_lines, state_of};
 ghost use Rattle.session_value.specs.Sessions.{peering_of};
 
 use adj_rib::AdjRib;
@@ -61,7 +61,7 @@ pub(crate) fn send(end: &mut End, octets: &[u8]) -> Result<(), NoMemory>
 /// Returns the octets of an answer, or none without one. They are the same in each width of AS numbers.
 pub(crate) fn written(alloc: Global, answer: &Option<Message>) -> Result<Octets, NoMemory>
     requires { IfSome answer.now (λ message. IsWritable message false) }
-    ensures { IfOk result (λ octets. octets ≡ flat_map (put_in false) (answered answer.now)) }
+    ensures { IfOk result (λ octets. octets ≡ flat_map (put_in false) (answer_lines answer.now)) }
 {
     match answer {
         Some(message) => write_message(alloc, message, false),
@@ -70,7 +70,7 @@ pub(crate) fn written(alloc: Global, answer: &Option<Message>) -> Result<Octets,
 }
 
 impl Parts {
-    ghost use Rattle.bgp_session.specs.Inner.{Keeps, hold_of};
+    ghost use Rattle.bgp_session.specs.Inner.{SessionInvariant, hold_of};
     ghost use Rattle.bgp_session.specs.Steps.{identifier_of};
 
     /// Sends octets, and adds to the story the line that caused them, with the message that answers it, if there is
@@ -81,10 +81,10 @@ impl Parts {
         line: Line,
         answer: Option<Message>,
     ) -> Result<(), NoMemory>
-        requires begins { Begins self.old.story.remote_as (self.old.story.lines ++ line ∷ answered answer) }
+        requires begins { BeginsStory self.old.story.remote_as (self.old.story.lines ++ line ∷ answer_lines answer) }
         requires room { stream_length self.old.end + length octets.now ≤ 2 ^ 20 }
         requires emitted { self.old.end.sent ≤ stream_length self.old.end }
-        ensures ok { OnOk result (self.new ≡ record self.old { story = record self.old.story { lines = self.old.story.lines ++ line ∷ answered answer }; end = record self.old.end { waiting = self.old.end.waiting ++ octets.now } }) }
+        ensures ok { OnOk result (self.new ≡ record self.old { story = record self.old.story { lines = self.old.story.lines ++ line ∷ answer_lines answer }; end = record self.old.end { waiting = self.old.end.waiting ++ octets.now } }) }
         ensures err { OnErr result (self.new ≡ self.old) }
     {
         send(&mut self.end, octets)?;
@@ -99,7 +99,7 @@ impl Parts {
 
     /// Returns whether AS numbers have four octets.
     pub(crate) fn wide(&self) -> bool
-        requires { Keeps self.now }
+        requires { SessionInvariant self.now }
         ensures { result ≡ is_wide (peering_of self.now.config) self.now.story.lines }
     {
         match self.opened {
@@ -120,7 +120,7 @@ impl Parts {
 
     /// Returns the hold time in seconds.
     pub(crate) fn hold(&self) -> u32
-        requires { Keeps self.now }
+        requires { SessionInvariant self.now }
         ensures { result ≡ hold_lem (peering_of self.now.config) self.now.story.lines }
     {
         self.hold_so_far()
@@ -128,7 +128,7 @@ impl Parts {
 
     /// Returns the BGP Identifier of the remote, once its OPEN was received.
     pub(crate) fn remote_identifier(&self) -> Option<u32>
-        requires { Keeps self.now }
+        requires { SessionInvariant self.now }
         ensures { result ≡ option_map identifier_of (got_open (peering_of self.now.config) self.now.story.lines) }
     {
         match self.opened {
@@ -140,7 +140,7 @@ impl Parts {
     /// Returns which messages are expected next.
     #[tactic(auto, using(bgp_story::proofs::Ranges::offers_home))]
     pub(crate) fn expected(&self) -> Expected
-        requires { Keeps self.now }
+        requires { SessionInvariant self.now }
         ensures { result ≡ expected_next (peering_of self.now.config) self.now.story.lines (state_of self.now.story.lines) }
     {
         Expected {

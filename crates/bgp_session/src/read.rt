@@ -1,48 +1,30 @@
 //! Reading messages, and answering them (RFC 4271, sections 6 and 8.2.2).
 
-ghost use Rattle.std.specs.Prelude.{◌≡◌, ◌≢◌, ◌≤◌, ◌++◌, ◌∷◌, [], true, false, length, take, drop, Ok, Err, Some, is_some, IfOk, OnOk, OnErr, MatchBool};
+ghost use Rattle.std.specs.Prelude.{◌≡◌, ◌≢◌, ◌≤◌, ◌++◌, ◌∷◌, [], true, false, length, take, drop, Ok, Err, Some, IfOk, OnOk, OnErr, MatchBool};
 ghost use Rattle.std.specs.FinMap as map;
 ghost use Rattle.std.specs.List.{flat_map};
 ghost use Rattle.bgp_types.specs.declared.message.Message.TheVariants as messages;
 ghost use Rattle.bgp_types.specs.declared.message.SessionState.TheVariants as states;
 ghost use Rattle.bgp_types.specs.Header.{header_fault, frame_at};
-ghost use Rattle.bgp_types.specs.OpenBody.{as_said};
 ghost use Rattle.tcp_seq.specs.Numbers.{plus};
 ghost use Rattle.bgp_story.specs.declared.line.Line.TheVariants as lines;
 ghost use Rattle.bgp_story.specs.Legal.{reply_to};
 ghost use Rattle.bgp_story.specs.Readings.{put_in};
-ghost use Rattle.bgp_story.specs.States.{answered, state_of};
+ghost use Rattle.bgp_story.specs.States.{answer_lines, state_of};
 ghost use Rattle.session_value.specs.Sessions.{peering_of};
 ghost use Rattle.bgp_session.specs.Fronts.{CanRead, CantRead};
-ghost use Rattle.bgp_session.specs.Steps.{Reads, ReadsFrame};
-ghost use Rattle.bgp_session.specs.Inner.{AtFront, Keeps, running, value_of, reading, opened_by, hold_of};
+ghost use Rattle.bgp_session.specs.Steps.{ReadsFrameIfAny, ReadsFrame};
+ghost use Rattle.bgp_session.specs.Inner.{AtFront, SessionInvariant, running, value_of, read_in_session, opened_by, hold_of};
 
 use crate::answers::ReadStep;
 use crate::parts::{Opened, Parts, written};
 use bgp_frame::first_frame;
 use bgp_story::Line;
 use bgp_types::{
-    Cap, HEADER, HeaderFault, Items, Message, NoMemory, Notice, Octets, OpenMsg, PrefixList,
+    HEADER, HeaderFault, Items, Message, NoMemory, Notice, Octets, OpenMsg, PrefixList,
     SessionState, Update,
 };
-use bgp_wire::{CodecFault, header_notice, read_message};
-
-/// Capability code for support for four-octet AS numbers (RFC 6793, section 3).
-const FOUR_OCTET_AS: u8 = 65;
-
-const FOUR_OCTETS: usize = 4;
-
-/// Returns whether the capabilities of an OPEN offer four-octet AS numbers (RFC 6793, section 3).
-fn offers(caps: &[Cap]) -> bool
-    ensures { result ≡ is_some (as_said caps.now) }
-{
-    for cap in caps {
-        if cap.code == FOUR_OCTET_AS && cap.bytes.len() == FOUR_OCTETS {
-            return true;
-        }
-    }
-    false
-}
+use bgp_wire::{CodecFault, as_said, header_notice, read_message};
 
 impl Parts {
     /// Returns the first `len` bytes that are ready.
@@ -56,8 +38,8 @@ impl Parts {
     /// Adds to the story what was got and its answer, which is sent. If memory runs out, nothing changes.
     fn take_down(&mut self, bytes: Octets, answer: Option<Message>) -> Result<(), NoMemory>
         requires front { AtFront self.old bytes }
-        requires reply { (reply_to (reading self.old bytes)).0 ≡ answered answer }
-        ensures ok { OnOk result (self.new ≡ record self.old { story = record self.old.story { lines = self.old.story.lines ++ lines.Got bytes ∷ answered answer }; end = record self.old.end { waiting = self.old.end.waiting ++ flat_map (put_in false) (answered answer); taken = plus self.old.end.taken (length bytes); ready = drop (length bytes) self.old.end.ready }; left = hold_of self.old.opened }) }
+        requires reply { (reply_to (read_in_session self.old bytes)).0 ≡ answer_lines answer }
+        ensures ok { OnOk result (self.new ≡ record self.old { story = record self.old.story { lines = self.old.story.lines ++ lines.Got bytes ∷ answer_lines answer }; end = record self.old.end { waiting = self.old.end.waiting ++ flat_map (put_in false) (answer_lines answer); taken = plus self.old.end.taken (length bytes); ready = drop (length bytes) self.old.end.ready }; left = hold_of self.old.opened }) }
         ensures err { OnErr result (self.new ≡ self.old) }
     {
         let octets = written(self.alloc, &answer)?;
@@ -71,22 +53,22 @@ impl Parts {
     /// Returns what an OPEN of the remote settles.
     #[tactic(auto, using(bgp_story::proofs::Ranges::offers_home))]
     fn opened_with(&self, theirs: &OpenMsg) -> Opened
-        requires { Keeps self.now }
+        requires { SessionInvariant self.now }
         ensures { result ≡ opened_by (peering_of self.now.config).first theirs.now }
     {
         Opened {
             identifier: theirs.identifier,
             hold: self.config.home_hold.min(theirs.hold),
-            wide: self.config.offered && offers(&theirs.caps),
+            wide: self.config.offered && as_said(&theirs.caps).is_some(),
         }
     }
 
     /// Answers an OPEN by a KEEPALIVE.
     fn confirm(&mut self, bytes: Octets, theirs: &OpenMsg) -> Result<ReadStep, NoMemory>
         requires front { AtFront self.old bytes }
-        requires reading { reading self.old bytes ≡ Ok (messages.OpenMsg theirs.now) }
+        requires reading { read_in_session self.old bytes ≡ Ok (messages.OpenMsg theirs.now) }
         ensures step { IfOk result (λ step. ReadsFrame step (running self.old) (running self.new)) }
-        ensures keeps { Keeps self.new }
+        ensures keeps { SessionInvariant self.new }
     {
         let opened = self.opened_with(theirs);
         self.take_down(bytes, Some(Message::KeepaliveMsg))?;
@@ -98,9 +80,9 @@ impl Parts {
     /// Takes a KEEPALIVE. It has no answer, and establishes the session if it isn't established yet.
     fn establish(&mut self, bytes: Octets) -> Result<ReadStep, NoMemory>
         requires front { AtFront self.old bytes }
-        requires reading { reading self.old bytes ≡ Ok messages.KeepaliveMsg }
+        requires reading { read_in_session self.old bytes ≡ Ok messages.KeepaliveMsg }
         ensures step { IfOk result (λ step. ReadsFrame step (running self.old) (running self.new)) }
-        ensures keeps { Keeps self.new }
+        ensures keeps { SessionInvariant self.new }
     {
         let state = self.story.state();
         self.take_down(bytes, None)?;
@@ -114,9 +96,9 @@ impl Parts {
     /// Takes an UPDATE. It has no answer, and changes the routes that were heard.
     fn hear(&mut self, bytes: Octets, update: &Update) -> Result<ReadStep, NoMemory>
         requires front { AtFront self.old bytes }
-        requires reading { reading self.old bytes ≡ Ok (messages.UpdateMsg update.now) }
+        requires reading { read_in_session self.old bytes ≡ Ok (messages.UpdateMsg update.now) }
         ensures step { IfOk result (λ step. ReadsFrame step (running self.old) (running self.new)) }
-        ensures keeps { Keeps self.new }
+        ensures keeps { SessionInvariant self.new }
     {
         self.take_down(bytes, None)?;
         Ok(ReadStep::Changed(self.heard.apply(update)?))
@@ -133,9 +115,9 @@ impl Parts {
     /// Takes a NOTIFICATION. It has no answer, and closes the session.
     fn close(&mut self, bytes: Octets) -> Result<ReadStep, NoMemory>
         requires front { AtFront self.old bytes }
-        requires reply { reply_to (reading self.old bytes) ≡ ([], states.Closed) }
+        requires reply { reply_to (read_in_session self.old bytes) ≡ ([], states.Closed) }
         ensures step { IfOk result (λ step. ReadsFrame step (running self.old) (running self.new)) }
-        ensures keeps { Keeps self.new }
+        ensures keeps { SessionInvariant self.new }
     {
         let heard = self.heard.prefixes()?;
         self.take_down(bytes, None)?;
@@ -146,9 +128,9 @@ impl Parts {
     /// Answers a fault by a NOTIFICATION, which closes the session.
     fn refuse(&mut self, bytes: Octets, notice: Notice) -> Result<ReadStep, NoMemory>
         requires front { AtFront self.old bytes }
-        requires fault { reading self.old bytes ≡ Err notice }
+        requires fault { read_in_session self.old bytes ≡ Err notice }
         ensures step { IfOk result (λ step. ReadsFrame step (running self.old) (running self.new)) }
-        ensures keeps { Keeps self.new }
+        ensures keeps { SessionInvariant self.new }
     {
         let heard = self.heard.prefixes()?;
         self.take_down(bytes, Some(Message::NoticeMsg(notice)))?;
@@ -159,9 +141,9 @@ impl Parts {
     /// Acts on a message that was read.
     fn take(&mut self, bytes: Octets, message: Message) -> Result<ReadStep, NoMemory>
         requires front { AtFront self.old bytes }
-        requires reading { reading self.old bytes ≡ Ok message }
+        requires reading { read_in_session self.old bytes ≡ Ok message }
         ensures step { IfOk result (λ step. ReadsFrame step (running self.old) (running self.new)) }
-        ensures keeps { Keeps self.new }
+        ensures keeps { SessionInvariant self.new }
     {
         match message {
             Message::OpenMsg(theirs) => self.confirm(bytes, &theirs),
@@ -173,12 +155,12 @@ impl Parts {
 
     /// Reads a whole message of `len` octets, and acts on it.
     fn read_frame(&mut self, len: usize) -> Result<ReadStep, NoMemory>
-        requires keeps { Keeps self.old }
+        requires keeps { SessionInvariant self.old }
         requires unclosed { state_of self.old.story.lines ≢ states.Closed }
         requires within { len ≤ length self.old.end.ready }
         requires whole { frame_at (take len self.old.end.ready) ≡ Some (take len self.old.end.ready, []) }
         ensures step { IfOk result (λ step. ReadsFrame step (running self.old) (running self.new)) }
-        ensures keeps { Keeps self.new }
+        ensures keeps { SessionInvariant self.new }
     {
         let bytes = self.first_ready(len)?;
         let expected = self.expected();
@@ -191,12 +173,12 @@ impl Parts {
 
     /// Answers the faulty header that comes first in what is ready.
     fn refuse_header(&mut self, fault: HeaderFault) -> Result<ReadStep, NoMemory>
-        requires keeps { Keeps self.old }
+        requires keeps { SessionInvariant self.old }
         requires unclosed { state_of self.old.story.lines ≢ states.Closed }
         requires long { 19 ≤ length self.old.end.ready }
         requires fault { header_fault self.old.end.ready ≡ Some fault }
         ensures step { IfOk result (λ step. ReadsFrame step (running self.old) (running self.new)) }
-        ensures keeps { Keeps self.new }
+        ensures keeps { SessionInvariant self.new }
     {
         let notice = header_notice(self.alloc, fault)?;
         let bytes = self.first_ready(HEADER)?;
@@ -205,9 +187,9 @@ impl Parts {
 
     /// Reads the first message of what is ready, or its faulty header, and answers it.
     pub(crate) fn read(&mut self) -> Result<Option<ReadStep>, NoMemory>
-        requires { Keeps self.old }
-        ensures step { IfOk result (λ step. Reads step (running self.old) (running self.new)) }
-        ensures keeps { Keeps self.new }
+        requires { SessionInvariant self.old }
+        ensures step { IfOk result (λ step. ReadsFrameIfAny step (running self.old) (running self.new)) }
+        ensures keeps { SessionInvariant self.new }
     {
         if self.story.state() == SessionState::Closed {
             return Ok(None);
@@ -221,7 +203,7 @@ impl Parts {
 
     /// Returns whether there is something to read.
     pub(crate) fn frame_waits(&self) -> bool
-        requires { Keeps self.now }
+        requires { SessionInvariant self.now }
         ensures { MatchBool result (CanRead (value_of self.now)) (CantRead (value_of self.now)) }
     {
         if self.story.state() == SessionState::Closed {

@@ -10,7 +10,7 @@ ghost use Rattle.session_value.specs.Sessions.{state, hold_time, peering_of, beg
 ghost use Rattle.session_value.specs.Cases.{Changes, PutsUpdate};
 ghost use Rattle.session_value.specs.Ties.{IsTied};
 ghost use Rattle.bgp_session.specs.Fronts.{CanRead, CantRead};
-ghost use Rattle.bgp_session.specs.Steps.{Reads, MayPass, Ticks, EmitsBy, Arrives, identifier_of, offered_length, received_as, remote_open};
+ghost use Rattle.bgp_session.specs.Steps.{ReadsFrameIfAny, MayPass, SessionTicks, SessionEmitsIfAny, SegmentArrives, identifier_of, offered_length, received_as, remote_open};
 
 use crate::answers::{OfferStop, ReadStep, TickStep};
 use crate::begin::first_parts;
@@ -43,11 +43,11 @@ impl Model for Session {
 
     ghost coded = { coded_running };
 
-    ghost use Rattle.bgp_session.specs.Inner.{running, Keeps};
+    ghost use Rattle.bgp_session.specs.Inner.{running, SessionInvariant};
 
     ghost view = { λ session. running session.parts.value };
 
-    ghost invariant = { λ session. Keeps session.parts.value };
+    ghost invariant = { λ session. SessionInvariant session.parts.value };
 }
 
 impl Session {
@@ -69,7 +69,7 @@ impl Session {
         requires way { segment.now.way ≡ ways.Home }
         requires len { length segment.now.bytes < 2 ^ 16 }
         requires in_streams { IsInStreams (received_as self.old.session.config segment.now) }
-        ensures { IfOk result (λ arrival. Arrives arrival self.old segment.now self.new) }
+        ensures { IfOk result (λ arrival. SegmentArrives arrival self.old segment.now self.new) }
     {
         self.parts.arrive(segment)
     }
@@ -77,7 +77,7 @@ impl Session {
     /// Reads one message, or a faulty header, and answers it (RFC 4271, sections 6 and 8.2.2). Returns `None` if the
     /// session is closed, or if the unread bytes begin with neither a whole message nor a faulty header.
     pub fn read(&mut self) -> Result<Option<ReadStep>, NoMemory>
-        ensures { IfOk result (λ step. Reads step self.old self.new) }
+        ensures { IfOk result (λ step. ReadsFrameIfAny step self.old self.new) }
     {
         self.parts.read()
     }
@@ -110,7 +110,7 @@ impl Session {
     /// Lets a round of one second pass (RFC 4271, sections 4.4, 6.5 and 10). It must be one that may pass.
     pub fn tick(&mut self, round: u32) -> Result<TickStep, NoMemory>
         requires { MayPass self.old.session round }
-        ensures { IfOk result (λ step. Ticks step self.old round self.new) }
+        ensures { IfOk result (λ step. SessionTicks step self.old round self.new) }
     {
         self.parts.tick(round)
     }
@@ -120,8 +120,8 @@ impl Session {
     pub fn next_segment(&mut self) -> Result<Option<Segment>, NoMemory>
         ensures none { IfOk result (λ answer. IsNone answer ↔ (next_length self.old.session.end ≡ 0)) }
         ensures all { IfOk result (λ answer. IfNone answer (self.old.session.end.emitted ≡ min (length self.old.session.end.stream) (self.old.session.end.acked + 15360))) }
-        ensures step { IfOk result (λ answer. EmitsBy EmitsNext self.old.session answer self.new.session) }
-        ensures slice { IfOk result (λ answer. EmitsBy EmitsSlice self.old.session answer self.new.session) }
+        ensures step { IfOk result (λ answer. SessionEmitsIfAny EmitsNext self.old.session answer self.new.session) }
+        ensures slice { IfOk result (λ answer. SessionEmitsIfAny EmitsSlice self.old.session answer self.new.session) }
         ensures same_turn { OnOk result (self.new.acked_at_turn ≡ self.old.acked_at_turn) }
     {
         self.parts.next_segment()
@@ -131,8 +131,8 @@ impl Session {
     /// some were acknowledged since the last turn.
     pub fn turn(&mut self) -> Result<Option<Segment>, NoMemory>
         ensures none { IfOk result (λ answer. IsNone answer ↔ ((again_length self.old.session.end ≡ 0) ⊎ (self.old.acked_at_turn < self.old.session.end.acked))) }
-        ensures step { IfOk result (λ answer. EmitsBy EmitsAgain self.old.session answer self.new.session) }
-        ensures slice { IfOk result (λ answer. EmitsBy EmitsSlice self.old.session answer self.new.session) }
+        ensures step { IfOk result (λ answer. SessionEmitsIfAny EmitsAgain self.old.session answer self.new.session) }
+        ensures slice { IfOk result (λ answer. SessionEmitsIfAny EmitsSlice self.old.session answer self.new.session) }
         ensures within { self.old.session.end.emitted ≤ length self.old.session.end.stream }
         ensures turned { OnOk result (self.new.acked_at_turn ≡ self.old.session.end.acked) }
     {
@@ -143,7 +143,7 @@ impl Session {
     /// takes no memory.
     pub fn answer(&mut self) -> Option<Segment>
         ensures some { IsSome result ↔ (self.old.session.end.owed ≡ true) }
-        ensures step { EmitsBy EmitsAnswer self.old.session result self.new.session }
+        ensures step { SessionEmitsIfAny EmitsAnswer self.old.session result self.new.session }
         ensures same_turn { self.new.acked_at_turn ≡ self.old.acked_at_turn }
     {
         self.parts.answer()

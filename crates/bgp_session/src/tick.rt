@@ -7,9 +7,9 @@ ghost use Rattle.bgp_types.specs.declared.message.SessionState.TheVariants as st
 ghost use Rattle.bgp_story.specs.declared.line.Line.TheVariants as lines;
 ghost use Rattle.bgp_story.specs.Legal.{hold_expired, is_up as is_up_lem};
 ghost use Rattle.bgp_story.specs.Readings.{put_in};
-ghost use Rattle.bgp_story.specs.States.{answered, state_of};
-ghost use Rattle.bgp_session.specs.Steps.{MayPass, Ticks};
-ghost use Rattle.bgp_session.specs.Inner.{AtRound, Keeps, round_reply, running, value_of};
+ghost use Rattle.bgp_story.specs.States.{answer_lines, state_of};
+ghost use Rattle.bgp_session.specs.Steps.{MayPass, SessionTicks};
+ghost use Rattle.bgp_session.specs.Inner.{AtRound, SessionInvariant, round_reply, running, value_of};
 
 use crate::answers::TickStep;
 use crate::parts::{Parts, written};
@@ -48,8 +48,8 @@ impl Parts {
     /// Adds a round with its answer to the story, and sends the answer. If memory runs out, nothing changes.
     fn pass_down(&mut self, round: u32, answer: Option<Message>) -> Result<(), NoMemory>
         requires at { AtRound self.old round }
-        requires reply { (round_reply self.old round).0 ≡ answered answer }
-        ensures ok { OnOk result (self.new ≡ record self.old { story = record self.old.story { lines = self.old.story.lines ++ lines.Tick round ∷ answered answer }; end = record self.old.end { waiting = self.old.end.waiting ++ flat_map (put_in false) (answered answer) }; left = self.old.left - 1; next_round = round + 1 }) }
+        requires reply { (round_reply self.old round).0 ≡ answer_lines answer }
+        ensures ok { OnOk result (self.new ≡ record self.old { story = record self.old.story { lines = self.old.story.lines ++ lines.Tick round ∷ answer_lines answer }; end = record self.old.end { waiting = self.old.end.waiting ++ flat_map (put_in false) (answer_lines answer) }; left = self.old.left - 1; next_round = round + 1 }) }
         ensures err { OnErr result (self.new ≡ self.old) }
     {
         let octets = written(self.alloc, &answer)?;
@@ -63,8 +63,8 @@ impl Parts {
     fn expire(&mut self, round: u32) -> Result<TickStep, NoMemory>
         requires at { AtRound self.old round }
         requires reply { round_reply self.old round ≡ (lines.Put (messages.NoticeMsg hold_expired) ∷ [], states.Closed) }
-        ensures step { IfOk result (λ step. Ticks step (running self.old) round (running self.new)) }
-        ensures keeps { Keeps self.new }
+        ensures step { IfOk result (λ step. SessionTicks step (running self.old) round (running self.new)) }
+        ensures keeps { SessionInvariant self.new }
     {
         let heard = self.heard.prefixes()?;
         let notice = hold_over(self.alloc);
@@ -77,8 +77,8 @@ impl Parts {
     fn beat(&mut self, round: u32) -> Result<TickStep, NoMemory>
         requires at { AtRound self.old round }
         requires reply { round_reply self.old round ≡ (lines.Put messages.KeepaliveMsg ∷ [], state_of self.old.story.lines) }
-        ensures step { IfOk result (λ step. Ticks step (running self.old) round (running self.new)) }
-        ensures keeps { Keeps self.new }
+        ensures step { IfOk result (λ step. SessionTicks step (running self.old) round (running self.new)) }
+        ensures keeps { SessionInvariant self.new }
     {
         self.pass_down(round, Some(Message::KeepaliveMsg))?;
         Ok(TickStep::Beat)
@@ -88,8 +88,8 @@ impl Parts {
     fn pass(&mut self, round: u32) -> Result<TickStep, NoMemory>
         requires at { AtRound self.old round }
         requires reply { round_reply self.old round ≡ ([], state_of self.old.story.lines) }
-        ensures step { IfOk result (λ step. Ticks step (running self.old) round (running self.new)) }
-        ensures keeps { Keeps self.new }
+        ensures step { IfOk result (λ step. SessionTicks step (running self.old) round (running self.new)) }
+        ensures keeps { SessionInvariant self.new }
     {
         self.pass_down(round, None)?;
         Ok(TickStep::Plain)
@@ -97,7 +97,7 @@ impl Parts {
 
     /// Returns whether a round of this number may pass.
     pub(crate) fn may_pass(&self, round: u32) -> bool
-        requires { Keeps self.now }
+        requires { SessionInvariant self.now }
         ensures { MatchBool result (MayPass (value_of self.now) round) (¬ MayPass (value_of self.now) round) }
     {
         if !is_up(self.story.state()) {
@@ -115,8 +115,8 @@ impl Parts {
     /// Lets a round pass.
     pub(crate) fn tick(&mut self, round: u32) -> Result<TickStep, NoMemory>
         requires { AtRound self.old round }
-        ensures step { IfOk result (λ step. Ticks step (running self.old) round (running self.new)) }
-        ensures keeps { Keeps self.new }
+        ensures step { IfOk result (λ step. SessionTicks step (running self.old) round (running self.new)) }
+        ensures keeps { SessionInvariant self.new }
     {
         if self.left == 1 {
             return self.expire(round);

@@ -15,7 +15,7 @@ use Rattle.bgp_story.specs.declared.line.Line.{Line}
 use Rattle.bgp_story.specs.declared.line.Line.TheVariants.{Put, Got, Tick}
 use Rattle.bgp_story.specs.Laws.{HasCause}
 use Rattle.bgp_story.specs.Legal.{Peering, Allowed, opened, got, updated, passed, IsGot, reply_to, reply_at, hold_expired, is_up, expected_next, hold, silence}
-use Rattle.bgp_story.specs.States.{is_type, with_keepalive_got, after_got, after, state_of, Begins}
+use Rattle.bgp_story.specs.States.{is_type, with_keepalive_got, after_got, after, state_of, BeginsStory}
 use Rattle.bgp_story.proofs.HeaderKinds.{read_of, read_type, notice_sound}
 use Rattle.bgp_story.proofs.Splits.{Cut, behind, ahead, cut_of, some_left}
 use Rattle.bgp_story.proofs.StoryLaws.{after_is, state_is}
@@ -35,7 +35,8 @@ stays_open false state o = o
 not_closed : (state : SessionState) (bytes : List ℕ) → state ≢ Closed → is_type 3 bytes ≡ false → after_got state bytes ≢ Closed
 not_closed state bytes o t = λ e. stays_open (is_type 4 bytes) state o (sym (after_is state bytes false (is_type 4 bytes) t refl) ∙ e)
 
-got_brief : (e : Expected) (bytes : List ℕ) → e.state ≢ Closed → IsGot bytes → (r : Result Message Notice) → message_of e bytes ≡ r → Brief e.state (Got bytes) (reply_to r).0
+got_brief : (e : Expected) (bytes : List ℕ) → e.state ≢ Closed → IsGot bytes → (r : Result Message Notice) → message_of e bytes ≡ r
+    → Brief e.state (Got bytes) (reply_to r).0
 got_brief e bytes o w (Ok (OpenMsg m)) g = one_answer (Put KeepaliveMsg) (not_closed e.state bytes o (read_type 3 e bytes (OpenMsg m) w (read_of e bytes (OpenMsg m) g)))
 got_brief e bytes o w (Ok (UpdateMsg _)) g = no_answer
 got_brief e bytes o w (Ok (NoticeMsg _)) g = no_answer
@@ -54,22 +55,27 @@ up_open OpenConfirm e = λ f. cc
 up_open Established e = λ f. cc
 up_open Closed e = absurd cc
 
-of_reply : (state : SessionState) (line : Line) (r : List Line × SessionState) (answer : List Line) (next : SessionState) → r ≡ (answer, next) → Brief state line r.0 → Brief state line answer
+of_reply : (state : SessionState) (line : Line) (r : List Line × SessionState) (answer : List Line) (next : SessionState) → r ≡ (answer, next)
+    → Brief state line r.0 → Brief state line answer
 of_reply state line r answer next e b = subst (λ (x : List Line × SessionState). Brief state line x.0) e b
 
-got_short : (p : Peering) (before : List Line) (state : SessionState) (bytes : List ℕ) (answer : List Line) (next : SessionState) → state ≢ Closed → IsGot bytes → reply_to (message_of (expected_next p before state) bytes) ≡ (answer, next) → Brief state (Got bytes) answer
+got_short : (p : Peering) (before : List Line) (state : SessionState) (bytes : List ℕ) (answer : List Line) (next : SessionState) → state ≢ Closed
+    → IsGot bytes → reply_to (message_of (expected_next p before state) bytes) ≡ (answer, next) → Brief state (Got bytes) answer
 got_short p before state bytes answer next o w r = of_reply state (Got bytes) _ answer next r (got_brief (expected_next p before state) bytes o w (message_of (expected_next p before state) bytes) refl)
 
-passed_short : (h c round : ℕ) (state : SessionState) (answer : List Line) (next : SessionState) → is_up state ≡ true → reply_at h c round state ≡ (answer, next) → Brief state (Tick round) answer
+passed_short : (h c round : ℕ) (state : SessionState) (answer : List Line) (next : SessionState) → is_up state ≡ true
+    → reply_at h c round state ≡ (answer, next) → Brief state (Tick round) answer
 passed_short h c round state answer next up r = of_reply state (Tick round) _ answer next r (round_brief (eqb c h) (eqb (round % (h / 3)) 0) state round (up_open state up))
 
 -- ---- nothing follows Closed
 
-answered : (state : SessionState) (line : Line) (answer : List Line) (m y : Line) (ys : List Line) → Brief state line answer → line ∷ answer ≡ m ∷ y ∷ ys → after state m ≢ Closed
+answered : (state : SessionState) (line : Line) (answer : List Line) (m y : Line) (ys : List Line) → Brief state line answer
+    → line ∷ answer ≡ m ∷ y ∷ ys → after state m ≢ Closed
 answered state line _ m y ys no_answer g = absurd cc
 answered state line _ m y ys (one_answer a o) g = let same : line ≡ m = cc in λ c. o (ap (after state) same ∙ c)
 
-too_long : (state : SessionState) (line : Line) (answer : List Line) (m k : Line) (mid : List Line) (y : Line) (ys : List Line) → Brief state line answer → line ∷ answer ≡ m ∷ k ∷ (mid ++ y ∷ ys) → ⊥
+too_long : (state : SessionState) (line : Line) (answer : List Line) (m k : Line) (mid : List Line) (y : Line) (ys : List Line)
+    → Brief state line answer → line ∷ answer ≡ m ∷ k ∷ (mid ++ y ∷ ys) → ⊥
 too_long state line _ m k mid y ys no_answer g = cc
 too_long state line _ m k mid y ys (one_answer a o) g = let h : ◌≡◌ {A = List Line} [] (mid ++ y ∷ ys) = cc in some_left mid y ys h
 
@@ -89,7 +95,8 @@ first_line : (l : Line) (xs : List Line) (y : Line) (ys : List Line) → l ∷ [
 first_line l [] y ys e = λ c. cc
 first_line l (x ∷ xs) y ys e = let h : ◌≡◌ {A = List Line} [] (xs ++ y ∷ ys) = cc in absurd (some_left xs y ys h)
 
-pub open_before : (p : Peering) (lines : List Line) (state : SessionState) → Allowed p lines state → (xs : List Line) (y : Line) (ys : List Line) → lines ≡ xs ++ y ∷ ys → state_of xs ≢ Closed
+pub open_before : (p : Peering) (lines : List Line) (state : SessionState) → Allowed p lines state → (xs : List Line) (y : Line) (ys : List Line)
+    → lines ≡ xs ++ y ∷ ys → state_of xs ≢ Closed
 open_before p _ _ (opened lines h e) xs y ys f = first_line _ xs y ys (sym e ∙ f)
 open_before p _ _ (got before state bytes answer next lines l o w r e) xs y ys f =
     closed_step xs y ys before state (Got bytes) answer (state_is p before state l) o (got_short p before state bytes answer next o w r) (open_before p before state l) (sym f ∙ e)
@@ -102,7 +109,7 @@ pub closed_ends : (p : Peering) (lines more : List Line) (state : SessionState) 
 closed_ends p lines [] state l k = refl
 closed_ends p lines (m ∷ more) state l k = absurd (open_before p (lines ++ m ∷ more) state k lines m more refl (state_is p lines Closed l))
 
-pub begun_open : (remote_as : ℕ) (lines more : List Line) (line : Line) → Begins remote_as (lines ++ line ∷ more) → state_of lines ≢ Closed
+pub begun_open : (remote_as : ℕ) (lines more : List Line) (line : Line) → BeginsStory remote_as (lines ++ line ∷ more) → state_of lines ≢ Closed
 begun_open remote_as lines more line b = open_before b.peering ((lines ++ line ∷ more) ++ b.rest) b.state b.legal lines line (more ++ b.rest) (append_assoc lines (line ∷ more) b.rest)
 
 -- ---- causes
@@ -123,7 +130,8 @@ cause_step p n xs ys before state line answer other b cause ih e = by_cut (cut_o
       subst (λ (x : List Line). HasCause p x n) (ap (λ (x : Line). before ++ x ∷ []) same ∙ sym f) (cause rest)
   by_cut (behind (m ∷ k ∷ mid) f g) = absurd (too_long state line answer m k mid (Put (NoticeMsg n)) ys b g)
 
-got_cause : (e : Expected) (bytes : List ℕ) (n : Notice) (ys answer : List Line) (next : SessionState) (r : Result Message Notice) → message_of e bytes ≡ r → reply_to r ≡ (answer, next) → answer ≡ Put (NoticeMsg n) ∷ ys → fault_in (message_of e bytes) ≡ Some n
+got_cause : (e : Expected) (bytes : List ℕ) (n : Notice) (ys answer : List Line) (next : SessionState) (r : Result Message Notice)
+    → message_of e bytes ≡ r → reply_to r ≡ (answer, next) → answer ≡ Put (NoticeMsg n) ∷ ys → fault_in (message_of e bytes) ≡ Some n
 got_cause e bytes n ys answer next (Ok (OpenMsg _)) g f h = let k : ◌≡◌ {A = List Line} (Put KeepaliveMsg ∷ []) answer = ap (λ (x : List Line × SessionState). x.0) f in absurd cc
 got_cause e bytes n ys answer next (Ok (UpdateMsg _)) g f h = let k : ◌≡◌ {A = List Line} [] answer = ap (λ (x : List Line × SessionState). x.0) f in absurd cc
 got_cause e bytes n ys answer next (Ok (NoticeMsg _)) g f h = let k : ◌≡◌ {A = List Line} [] answer = ap (λ (x : List Line × SessionState). x.0) f in absurd cc
@@ -134,7 +142,8 @@ got_cause e bytes n ys answer next (Err m) g f h =
     ap fault_in g ∙ ap Some same
 
 round_cause : (n : Notice) (ys answer : List Line) (next state : SessionState) (c h : ℕ) (t u : Bool) → eqb c h ≡ t →
-    ◌≡◌ {A = List Line × SessionState} (cond t (Put (NoticeMsg hold_expired) ∷ [], Closed) (cond u (Put KeepaliveMsg ∷ [], state) ([], state))) (answer, next) → answer ≡ Put (NoticeMsg n) ∷ ys → (c ≡ h) × (n ≡ hold_expired)
+    ◌≡◌ {A = List Line × SessionState} (cond t (Put (NoticeMsg hold_expired) ∷ [], Closed) (cond u (Put KeepaliveMsg ∷ [], state) ([], state))) (answer, next)
+    → answer ≡ Put (NoticeMsg n) ∷ ys → (c ≡ h) × (n ≡ hold_expired)
 round_cause n ys answer next state c h true u g f e =
     let k : ◌≡◌ {A = List Line} (Put (NoticeMsg hold_expired) ∷ []) answer = ap (λ (x : List Line × SessionState). x.0) f in
     let same : n ≡ hold_expired = cc in
@@ -142,11 +151,13 @@ round_cause n ys answer next state c h true u g f e =
 round_cause n ys answer next state c h false true g f e = let k : ◌≡◌ {A = List Line} (Put KeepaliveMsg ∷ []) answer = ap (λ (x : List Line × SessionState). x.0) f in absurd cc
 round_cause n ys answer next state c h false false g f e = let k : ◌≡◌ {A = List Line} [] answer = ap (λ (x : List Line × SessionState). x.0) f in absurd cc
 
-first_cause : (p : Peering) (n : Notice) (o : Message) (xs ys : List Line) → Put o ≢ Put (NoticeMsg n) → Put o ∷ [] ≡ xs ++ Put (NoticeMsg n) ∷ ys → HasCause p xs n
+first_cause : (p : Peering) (n : Notice) (o : Message) (xs ys : List Line) → Put o ≢ Put (NoticeMsg n) → Put o ∷ [] ≡ xs ++ Put (NoticeMsg n) ∷ ys
+    → HasCause p xs n
 first_cause p n o [] ys other e = absurd (other cc)
 first_cause p n o (x ∷ xs) ys other e = let h : ◌≡◌ {A = List Line} [] (xs ++ Put (NoticeMsg n) ∷ ys) = cc in absurd (some_left xs (Put (NoticeMsg n)) ys h)
 
-pub cause_of : (p : Peering) (lines : List Line) (state : SessionState) → Allowed p lines state → (n : Notice) (xs ys : List Line) → lines ≡ xs ++ Put (NoticeMsg n) ∷ ys → HasCause p xs n
+pub cause_of : (p : Peering) (lines : List Line) (state : SessionState) → Allowed p lines state → (n : Notice) (xs ys : List Line)
+    → lines ≡ xs ++ Put (NoticeMsg n) ∷ ys → HasCause p xs n
 cause_of p _ _ (opened lines h e) n xs ys f = first_cause p n (OpenMsg p.first) xs ys (λ g. cc) (sym e ∙ f)
 cause_of p _ _ (got before state bytes answer next lines l o w r e) n xs ys f =
     let m : Result Message Notice = message_of (expected_next p before state) bytes in

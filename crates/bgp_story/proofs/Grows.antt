@@ -56,10 +56,13 @@ data Stage (p : Peering) (lines : List Line) (state : SessionState) : Type 0 whe
 abbrev first_expected : Peering → Expected
 first_expected p = record { state = OpenSent; remote_as = p.remote_as; offered = offers p.first; wide = false }
 
-joined_more : (p : Peering) (before step lines : List Line) (state : SessionState) (o : open_type.OpenMsg) → lines ≡ before ++ step → got_open p before ≡ Some o → Stage p lines state
+joined_more : (p : Peering) (before step lines : List Line) (state : SessionState) (o : open_type.OpenMsg) → lines ≡ before ++ step
+    → got_open p before ≡ Some o → Stage p lines state
 joined_more p before step lines state o e f = joined o (ap (got_open p) e ∙ got_open-append p before step o f)
 
-first_got : (p : Peering) (bytes : List ℕ) (answer : List Line) (next : SessionState) (lines : List Line) (r : Result Message Notice) → message_of (first_expected p) bytes ≡ r → reply_to r ≡ (answer, next) → AllByRecursion IsAnswer answer → lines ≡ Put (OpenMsg p.first) ∷ Got bytes ∷ answer → Stage p lines next
+first_got : (p : Peering) (bytes : List ℕ) (answer : List Line) (next : SessionState) (lines : List Line) (r : Result Message Notice)
+    → message_of (first_expected p) bytes ≡ r → reply_to r ≡ (answer, next) → AllByRecursion IsAnswer answer
+    → lines ≡ Put (OpenMsg p.first) ∷ Got bytes ∷ answer → Stage p lines next
 first_got p bytes answer next lines (Ok (OpenMsg o)) g f a e = joined o (ap (got_open p) e ∙ ap open_in g)
 first_got p bytes answer next lines (Ok (UpdateMsg u)) g f a e = let r = (read_of (first_expected p) bytes (UpdateMsg u) g).in_state in absurd cc
 first_got p bytes answer next lines (Ok KeepaliveMsg) g f a e = let r = (read_of (first_expected p) bytes KeepaliveMsg g).in_state in absurd cc
@@ -68,7 +71,9 @@ first_got p bytes answer next lines (Ok (NoticeMsg n)) g f a e =
 first_got p bytes answer next lines (Err n) g f a e =
     failed (subst (λ (x : List Line). AllByRecursion PutsNoUpdate x) (sym e) (tt, (tt, all_weaken IsAnswer PutsNoUpdate answer_no_update answer a))) (sym (ap (λ (x : List Line × SessionState). x.1) f))
 
-alone_got : (p : Peering) (before : List Line) (state : SessionState) (bytes : List ℕ) (answer : List Line) (next : SessionState) (lines : List Line) → before ≡ Put (OpenMsg p.first) ∷ [] → state ≡ OpenSent → reply_to (message_of (expected_next p before state) bytes) ≡ (answer, next) → lines ≡ before ++ Got bytes ∷ answer → Stage p lines next
+alone_got : (p : Peering) (before : List Line) (state : SessionState) (bytes : List ℕ) (answer : List Line) (next : SessionState) (lines : List Line)
+    → before ≡ Put (OpenMsg p.first) ∷ [] → state ≡ OpenSent → reply_to (message_of (expected_next p before state) bytes) ≡ (answer, next)
+    → lines ≡ before ++ Got bytes ∷ answer → Stage p lines next
 alone_got p before state bytes answer next lines f g r e =
     let same : expected_next p before state ≡ first_expected p = ap (λ (x : List Line). expected_next p x state) f ∙ ap (λ (x : SessionState). expected_next p (Put (OpenMsg p.first) ∷ []) x) g in
     first_got p bytes answer next lines (message_of (first_expected p) bytes) refl (ap (λ (x : Expected). reply_to (message_of x bytes)) (sym same) ∙ r) (got_answers p before state bytes answer next r) (e ∙ ap (λ (x : List Line). x ++ Got bytes ∷ answer) f)
@@ -91,19 +96,23 @@ stage p _ _ (passed before state round answer next lines l up h a r e) = by_stag
   by_stage (alone f g) = let u = ap is_up (sym g) ∙ up in absurd cc
   by_stage (failed f g) = let u = ap is_up (sym g) ∙ up in absurd cc
 
-up_joined : (p : Peering) (lines : List Line) (state : SessionState) → Stage p lines state → is_up state ≡ true → (more : List Line) → got_open p (lines ++ more) ≡ got_open p lines
+up_joined : (p : Peering) (lines : List Line) (state : SessionState) → Stage p lines state → is_up state ≡ true → (more : List Line)
+    → got_open p (lines ++ more) ≡ got_open p lines
 up_joined p lines state (joined o f) up more = got_open-append p lines more o f ∙ sym f
 up_joined p lines state (alone f g) up more = let u = ap is_up (sym g) ∙ up in absurd cc
 up_joined p lines state (failed f g) up more = let u = ap is_up (sym g) ∙ up in absurd cc
 
 -- the OPEN that was got stays
-pub open_stays : (p : Peering) (lines more : List Line) (state : SessionState) → Allowed p lines state → is_up state ≡ true → got_open p (lines ++ more) ≡ got_open p lines
+pub open_stays : (p : Peering) (lines more : List Line) (state : SessionState) → Allowed p lines state → is_up state ≡ true
+    → got_open p (lines ++ more) ≡ got_open p lines
 open_stays p lines more state l up = up_joined p lines state (stage p lines state l) up more
 
-pub width_stays : (p : Peering) (lines more : List Line) (state : SessionState) → Allowed p lines state → is_up state ≡ true → is_wide p (lines ++ more) ≡ is_wide p lines
+pub width_stays : (p : Peering) (lines more : List Line) (state : SessionState) → Allowed p lines state → is_up state ≡ true
+    → is_wide p (lines ++ more) ≡ is_wide p lines
 width_stays p lines more state l up = ap (both_offer p.first) (open_stays p lines more state l up)
 
-pub hold_stays : (p : Peering) (lines more : List Line) (state : SessionState) → Allowed p lines state → is_up state ≡ true → hold p (lines ++ more) ≡ hold p lines
+pub hold_stays : (p : Peering) (lines more : List Line) (state : SessionState) → Allowed p lines state → is_up state ≡ true
+    → hold p (lines ++ more) ≡ hold p lines
 hold_stays p lines more state l up = ap (smaller_hold p.first) (open_stays p lines more state l up)
 
 -- ---- octets
@@ -123,12 +132,14 @@ puts_same w v (line ∷ lines) a =
     ap (λ (x : List ℕ). x ++ flat_map (put_in w) lines) (put_in_same w v line a.0)
     ∙ ap (λ (x : List ℕ). put_in v line ++ x) (puts_same w v lines a.1)
 
-front_same : (p : Peering) (lines more : List Line) (state : SessionState) → Stage p lines state → flat_map (put_in (is_wide p (lines ++ more))) lines ≡ put_bytes p lines
+front_same : (p : Peering) (lines more : List Line) (state : SessionState) → Stage p lines state
+    → flat_map (put_in (is_wide p (lines ++ more))) lines ≡ put_bytes p lines
 front_same p lines more state (joined o f) = ap (λ (x : Option open_type.OpenMsg). flat_map (put_in (both_offer p.first x)) lines) (got_open-append p lines more o f ∙ sym f)
 front_same p lines more state (alone f g) = puts_same _ _ lines (subst (λ (x : List Line). AllByRecursion PutsNoUpdate x) (sym f) (tt, tt))
 front_same p lines more state (failed f g) = puts_same _ _ lines f
 
-pub put_grows : (p : Peering) (lines more : List Line) (state : SessionState) → Allowed p lines state → put_bytes p (lines ++ more) ≡ put_bytes p lines ++ flat_map (put_in (is_wide p (lines ++ more))) more
+pub put_grows : (p : Peering) (lines more : List Line) (state : SessionState) → Allowed p lines state
+    → put_bytes p (lines ++ more) ≡ put_bytes p lines ++ flat_map (put_in (is_wide p (lines ++ more))) more
 put_grows p lines more state l =
     flat_map-append (put_in (is_wide p (lines ++ more))) lines more
     ∙ ap (λ (x : List ℕ). x ++ flat_map (put_in (is_wide p (lines ++ more))) more) (front_same p lines more state (stage p lines state l))
@@ -150,14 +161,17 @@ told_grows lines more o q =
     ∙ (fold-append tell map.empty lines more
     ∙ ap (λ (x : Routes). fold tell x more) (sym (while_open (state_of lines) o (fold tell map.empty lines))))
 
-heard_front : (p : Peering) (lines more : List Line) (state : SessionState) → Stage p lines state → state ≢ Closed → fold (hear (expected_next p (lines ++ more) Established)) map.empty lines ≡ fold (hear (expected_next p lines Established)) map.empty lines
+heard_front : (p : Peering) (lines more : List Line) (state : SessionState) → Stage p lines state → state ≢ Closed
+    → fold (hear (expected_next p (lines ++ more) Established)) map.empty lines ≡ fold (hear (expected_next p lines Established)) map.empty lines
 heard_front p lines more state (joined o f) c = ap (λ (x : Option open_type.OpenMsg). fold (hear (record { state = Established; remote_as = p.remote_as; offered = offers p.first; wide = both_offer p.first x })) map.empty lines) (got_open-append p lines more o f ∙ sym f)
-heard_front p lines more state (alone f g) c = only_open (expected_next p (lines ++ more) Established) ∙ sym (only_open (expected_next p lines Established)) where
-  only_open : (e : Expected) → fold (hear e) map.empty lines ≡ map.empty
-  only_open e = ap (λ (x : List Line). fold (hear e) map.empty x) f
+heard_front p lines more state (alone f g) c = only_open (expected_next p (lines ++ more) Established)
+    ∙ sym (only_open (expected_next p lines Established)) where
+      only_open : (e : Expected) → fold (hear e) map.empty lines ≡ map.empty
+      only_open e = ap (λ (x : List Line). fold (hear e) map.empty x) f
 heard_front p lines more state (failed f g) c = absurd (c g)
 
-pub heard_grows : (p : Peering) (lines more : List Line) (state : SessionState) → state_of lines ≡ state → Allowed p lines state → state ≢ Closed → state_of (lines ++ more) ≢ Closed → heard p (lines ++ more) ≡ fold (hear (expected_next p (lines ++ more) Established)) (heard p lines) more
+pub heard_grows : (p : Peering) (lines more : List Line) (state : SessionState) → state_of lines ≡ state → Allowed p lines state → state ≢ Closed
+    → state_of (lines ++ more) ≢ Closed → heard p (lines ++ more) ≡ fold (hear (expected_next p (lines ++ more) Established)) (heard p lines) more
 heard_grows p lines more state s l o q =
     let e : Expected = expected_next p (lines ++ more) Established in
     while_open (state_of (lines ++ more)) q (fold (hear e) map.empty (lines ++ more))

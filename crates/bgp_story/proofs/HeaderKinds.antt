@@ -49,7 +49,9 @@ last_kind Closed kind s a b c = absurd cc
 body_kind : (e : Expected) (kind : ℕ) (body : List ℕ) (m : Message) → is_in_state e.state kind ≡ true → body_of e kind body ≡ Ok m → kind ≡ kind_of m
 unfolding body_of
 body_kind e kind body m s g = tests (eqb kind 1) (eqb kind 2) (eqb kind 3) refl refl refl g where
-  tests : (t u v : Bool) → eqb kind 1 ≡ t → eqb kind 2 ≡ u → eqb kind 3 ≡ v → cond t (open_message (open_of e body)) (cond u (update_message (update_of e.wide body)) (cond v (Ok (messages.NoticeMsg (notice_of body))) (Ok messages.KeepaliveMsg))) ≡ Ok m → kind ≡ kind_of m
+  tests : (t u v : Bool) → eqb kind 1 ≡ t → eqb kind 2 ≡ u → eqb kind 3 ≡ v
+      → cond t (open_message (open_of e body)) (cond u (update_message (update_of e.wide body)) (cond v (Ok (messages.NoticeMsg (notice_of body))) (Ok messages.KeepaliveMsg))) ≡ Ok m
+      → kind ≡ kind_of m
   tests true u v a b c h = eqb-true _ _ a ∙ sym (open_kind (open_of e body) m h)
   tests false true v a b c h = eqb-true _ _ b ∙ sym (update_kind (update_of e.wide body) m h)
   tests false false true a b c h = let i : messages.NoticeMsg (notice_of body) ≡ m = cc in eqb-true _ _ c ∙ ap kind_of i
@@ -64,7 +66,8 @@ pub record IsRead (e : Expected) (bytes : List ℕ) (m : Message) : Type 0 where
 pub read_of : (e : Expected) (bytes : List ℕ) (m : Message) → message_of e bytes ≡ Ok m → IsRead e bytes m
 unfolding message_of
 read_of e bytes m g = by_header (header_fault bytes) refl g where
-  by_state : (t : Bool) → header_fault bytes ≡ None → is_in_state e.state (kind_in bytes) ≡ t → cond t (body_of e (kind_in bytes) (drop 19 bytes)) (Err state_fault) ≡ Ok m → IsRead e bytes m
+  by_state : (t : Bool) → header_fault bytes ≡ None → is_in_state e.state (kind_in bytes) ≡ t
+      → cond t (body_of e (kind_in bytes) (drop 19 bytes)) (Err state_fault) ≡ Ok m → IsRead e bytes m
   by_state true h s f =
       let k : kind_in bytes ≡ kind_of m = body_kind e (kind_in bytes) (drop 19 bytes) m s f in
       record { sound = h; kind = k; in_state = ap (is_in_state e.state) (sym k) ∙ s }
@@ -81,7 +84,8 @@ got_long bytes (inl e) = let f = frame_is bytes (bytes, []) e in let le : 19 ≤
 got_long bytes (inr h) = let le : length bytes ≡ 19 = h.0 in grind (arith, nat_tests)
 
 pub type_is : (kind n : ℕ) (bytes : List ℕ) → IsGot bytes → header_fault bytes ≡ None → kind_in bytes ≡ n → is_type kind bytes ≡ eqb n kind
-type_is kind n bytes w h k = ap (λ (t : Bool). t && (is_none (header_fault bytes) && eqb (kind_in bytes) kind)) (got_long bytes w) ∙ (ap (λ (o : Option HeaderFault). is_none o && eqb (kind_in bytes) kind) h ∙ ap (λ (x : ℕ). eqb x kind) k)
+type_is kind n bytes w h k = ap (λ (t : Bool). t && (is_none (header_fault bytes) && eqb (kind_in bytes) kind)) (got_long bytes w)
+    ∙ (ap (λ (o : Option HeaderFault). is_none o && eqb (kind_in bytes) kind) h ∙ ap (λ (x : ℕ). eqb x kind) k)
 
 pub read_type : (kind : ℕ) (e : Expected) (bytes : List ℕ) (m : Message) → IsGot bytes → IsRead e bytes m → is_type kind bytes ≡ eqb (kind_of m) kind
 read_type kind e bytes m w r = type_is kind (kind_of m) bytes w r.sound r.kind
@@ -92,7 +96,8 @@ all_take_notice OpenConfirm = refl
 all_take_notice Established = refl
 all_take_notice Closed = refl
 
-notice_read : (e : Expected) (bytes : List ℕ) → header_fault bytes ≡ None → kind_in bytes ≡ 3 → message_of e bytes ≡ Ok (messages.NoticeMsg (notice_of (drop 19 bytes)))
+notice_read : (e : Expected) (bytes : List ℕ) → header_fault bytes ≡ None → kind_in bytes ≡ 3
+    → message_of e bytes ≡ Ok (messages.NoticeMsg (notice_of (drop 19 bytes)))
 unfolding message_of body_of
 notice_read e bytes h k =
     ap (λ (o : Option HeaderFault). with_header o e bytes) h

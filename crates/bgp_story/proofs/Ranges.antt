@@ -50,13 +50,17 @@ offers_home home_as hold identifier true false = refl
 offers_home home_as hold identifier false true = refl
 offers_home home_as hold identifier false false = refl
 
-said_home : (home_as as_number : ℕ) (offered unicast : Bool) → home_as < 2 ^ 32 → as_said (home_caps home_as offered unicast) ≡ Some as_number → as_number ≡ home_as
-said_home home_as as_number true true fits e = sym (same_Some (from_be_bytes w32 (to_be_bytes w32 home_as)) as_number e) ∙ from_be_bytes-to_be_bytes_4 home_as fits
-said_home home_as as_number true false fits e = sym (same_Some (from_be_bytes w32 (to_be_bytes w32 home_as)) as_number e) ∙ from_be_bytes-to_be_bytes_4 home_as fits
+said_home : (home_as as_number : ℕ) (offered unicast : Bool) → home_as < 2 ^ 32 → as_said (home_caps home_as offered unicast) ≡ Some as_number
+    → as_number ≡ home_as
+said_home home_as as_number true true fits e = sym (same_Some (from_be_bytes w32 (to_be_bytes w32 home_as)) as_number e)
+    ∙ from_be_bytes-to_be_bytes_4 home_as fits
+said_home home_as as_number true false fits e = sym (same_Some (from_be_bytes w32 (to_be_bytes w32 home_as)) as_number e)
+    ∙ from_be_bytes-to_be_bytes_4 home_as fits
 said_home home_as as_number false true fits e = absurd cc
 said_home home_as as_number false false fits e = absurd cc
 
-pub said_range : (first : OpenMsg) → IsHomeOpen first → (as_number : ℕ) → as_said first.caps ≡ Some as_number → (0 < as_number) × (as_number < 2 ^ 32) × (first.as_number ≡ narrow_as as_number)
+pub said_range : (first : OpenMsg) → IsHomeOpen first → (as_number : ℕ) → as_said first.caps ≡ Some as_number
+    → (0 < as_number) × (as_number < 2 ^ 32) × (first.as_number ≡ narrow_as as_number)
 said_range first is as_number e =
     let same : as_number ≡ is.home_as = said_home is.home_as as_number is.offered is.unicast is.as_number.fits (sym (ap (λ (o : OpenMsg). as_said o.caps) is.is) ∙ e) in
     let field : first.as_number ≡ narrow_as is.home_as = ap (λ (o : OpenMsg). o.as_number) is.is in

@@ -46,13 +46,16 @@ round_answers true u state = (tt, tt)
 round_answers false true state = (tt, tt)
 round_answers false false state = tt
 
-of_reply : (r : List Line × SessionState) (answer : List Line) (next : SessionState) → r ≡ (answer, next) → AllByRecursion IsAnswer r.0 → AllByRecursion IsAnswer answer
+of_reply : (r : List Line × SessionState) (answer : List Line) (next : SessionState) → r ≡ (answer, next) → AllByRecursion IsAnswer r.0
+    → AllByRecursion IsAnswer answer
 of_reply r answer next e a = subst (λ (x : List Line × SessionState). AllByRecursion IsAnswer x.0) e a
 
-pub got_answers : (p : Peering) (before : List Line) (state : SessionState) (bytes : List ℕ) (answer : List Line) (next : SessionState) → reply_to (message_of (expected_next p before state) bytes) ≡ (answer, next) → AllByRecursion IsAnswer answer
+pub got_answers : (p : Peering) (before : List Line) (state : SessionState) (bytes : List ℕ) (answer : List Line) (next : SessionState)
+    → reply_to (message_of (expected_next p before state) bytes) ≡ (answer, next) → AllByRecursion IsAnswer answer
 got_answers p before state bytes answer next r = of_reply _ answer next r (reply_answers (message_of (expected_next p before state) bytes))
 
-pub passed_answers : (h c round : ℕ) (state : SessionState) (answer : List Line) (next : SessionState) → reply_at h c round state ≡ (answer, next) → AllByRecursion IsAnswer answer
+pub passed_answers : (h c round : ℕ) (state : SessionState) (answer : List Line) (next : SessionState) → reply_at h c round state ≡ (answer, next)
+    → AllByRecursion IsAnswer answer
 passed_answers h c round state answer next r = of_reply _ answer next r (round_answers (eqb c h) (eqb (round % (h / 3)) 0) state)
 
 pub all_weaken : (P Q : Line → Type 0) → ((line : Line) → P line → Q line) → (lines : List Line) → AllByRecursion P lines → AllByRecursion Q lines
@@ -97,7 +100,8 @@ opens_once_is p _ _ (passed before state round answer next lines l up h a r e) =
 
 -- ---- frames
 
-frames_more : (before step lines : List Line) → lines ≡ before ++ step → AllByRecursion IsGotLine step → AllByRecursion IsGotLine before → AllByRecursion IsGotLine lines
+frames_more : (before step lines : List Line) → lines ≡ before ++ step → AllByRecursion IsGotLine step → AllByRecursion IsGotLine before
+    → AllByRecursion IsGotLine lines
 frames_more before step lines e a b = rw e (all_append IsGotLine before step b a)
 
 pub got_in_frames_is : (p : Peering) (lines : List Line) (state : SessionState) → Allowed p lines state → AllByRecursion IsGotLine lines

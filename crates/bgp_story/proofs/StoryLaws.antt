@@ -17,7 +17,8 @@ use Rattle.bgp_story.proofs.HeaderKinds.{read_of, read_type}
 
 -- ---- the state
 
-pub after_is : (state : SessionState) (bytes : List ℕ) (t u : Bool) → is_type 3 bytes ≡ t → is_type 4 bytes ≡ u → after_got state bytes ≡ cond t Closed (cond u (with_keepalive_got state) state)
+pub after_is : (state : SessionState) (bytes : List ℕ) (t u : Bool) → is_type 3 bytes ≡ t → is_type 4 bytes ≡ u
+    → after_got state bytes ≡ cond t Closed (cond u (with_keepalive_got state) state)
 after_is state bytes t u a b =
     ap (λ (x : Bool). cond x Closed (cond (is_type 4 bytes) (with_keepalive_got state) state)) a
     ∙ ap (λ (x : Bool). cond t Closed (cond x (with_keepalive_got state) state)) b
@@ -40,7 +41,8 @@ takes_keepalive OpenConfirm e = refl
 takes_keepalive Established e = refl
 takes_keepalive Closed e = absurd cc
 
-got_step : (e : Expected) (bytes : List ℕ) → IsGot bytes → (r : Result Message Notice) → message_of e bytes ≡ r → fold after e.state (Got bytes ∷ (reply_to r).0) ≡ (reply_to r).1
+got_step : (e : Expected) (bytes : List ℕ) → IsGot bytes → (r : Result Message Notice) → message_of e bytes ≡ r
+    → fold after e.state (Got bytes ∷ (reply_to r).0) ≡ (reply_to r).1
 got_step e bytes w (Err n) g = refl
 got_step e bytes w (Ok (OpenMsg o)) g =
     let r = read_of e bytes (OpenMsg o) g in
@@ -68,11 +70,14 @@ round_step false true state round e = stays_up state e
 round_step false false state round e = refl
 
 -- the answer and the state after it are those of a reply
-replied : (state : SessionState) (line : Line) (r : List Line × SessionState) (answer : List Line) (next : SessionState) → r ≡ (answer, next) → fold after state (line ∷ r.0) ≡ r.1 → fold after state (line ∷ answer) ≡ next
-replied state line r answer next e f = ap (λ (x : List Line × SessionState). fold after state (line ∷ x.0)) (sym e) ∙ (f ∙ ap (λ (x : List Line × SessionState). x.1) e)
+replied : (state : SessionState) (line : Line) (r : List Line × SessionState) (answer : List Line) (next : SessionState) → r ≡ (answer, next)
+    → fold after state (line ∷ r.0) ≡ r.1 → fold after state (line ∷ answer) ≡ next
+replied state line r answer next e f = ap (λ (x : List Line × SessionState). fold after state (line ∷ x.0)) (sym e)
+    ∙ (f ∙ ap (λ (x : List Line × SessionState). x.1) e)
 
 -- a step of a story, from the state before it
-stepped : (before step lines : List Line) (state next : SessionState) → lines ≡ before ++ step → state_of before ≡ state → fold after state step ≡ next → state_of lines ≡ next
+stepped : (before step lines : List Line) (state next : SessionState) → lines ≡ before ++ step → state_of before ≡ state
+    → fold after state step ≡ next → state_of lines ≡ next
 stepped before step lines state next e f g = ap state_of e ∙ (fold-append after OpenSent before step ∙ (ap (λ (x : SessionState). fold after x step) f ∙ g))
 
 pub state_is : (p : Peering) (lines : List Line) (state : SessionState) → Allowed p lines state → state_of lines ≡ state

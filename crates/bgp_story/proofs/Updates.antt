@@ -66,7 +66,8 @@ update_step p u v xs ys before k ih e = by_cut (cut_of xs (Put (UpdateMsg u) ∷
 no_update : (answer : List Line) → AllByRecursion IsAnswer answer → AllByRecursion PutsNoUpdate answer
 no_update answer a = all_weaken IsAnswer PutsNoUpdate answer_no_update answer a
 
-pub put_update : (p : Peering) (lines : List Line) (state : SessionState) → IsLegal p lines state → (u : Update) (xs ys : List Line) → lines ≡ xs ++ Put (UpdateMsg u) ∷ ys → PutUpdate p xs u
+pub put_update : (p : Peering) (lines : List Line) (state : SessionState) → IsLegal p lines state → (u : Update) (xs ys : List Line)
+    → lines ≡ xs ++ Put (UpdateMsg u) ∷ ys → PutUpdate p xs u
 put_update p _ _ (opened lines h e) u xs ys f = absurd (none_put u xs ys (subst (AllByRecursion PutsNoUpdate) (sym e ∙ f) (tt, tt)))
 put_update p _ _ (got before state bytes answer next lines l o w r e) u xs ys f =
     other_step p u xs ys before (Got bytes ∷ answer) (tt, no_update answer (got_answers p before state bytes answer next r)) (put_update p before state l u) (sym f ∙ e)
@@ -91,7 +92,8 @@ either true true new old = refl
 either true false new old = refl
 either false u new old = refl
 
-get_announced : (a : Attrs) (xs : List PrefixValue) (routes : Routes) (p : PrefixValue) → map.get (fold (announce (Some a)) routes xs) p ≡ cond (is_among p xs) (Some a) (map.get routes p)
+get_announced : (a : Attrs) (xs : List PrefixValue) (routes : Routes) (p : PrefixValue)
+    → map.get (fold (announce (Some a)) routes xs) p ≡ cond (is_among p xs) (Some a) (map.get routes p)
 unfolding is_among
 get_announced a [] routes p = refl
 get_announced a (x ∷ xs) routes p =
@@ -152,7 +154,8 @@ not_among p xs n = by_test (is_among p xs) refl where
   by_test true e = absurd (n (is_there p xs e))
   by_test false e = refl
 
-untouched : (attrs : Option Attrs) (xs : List PrefixValue) (routes : Routes) (p : PrefixValue) → is_among p xs ≡ false → map.get (fold (announce attrs) routes xs) p ≡ map.get routes p
+untouched : (attrs : Option Attrs) (xs : List PrefixValue) (routes : Routes) (p : PrefixValue) → is_among p xs ≡ false
+    → map.get (fold (announce attrs) routes xs) p ≡ map.get routes p
 untouched (Some a) xs routes p e = get_announced a xs routes p ∙ ap (λ (t : Bool). cond t (Some a) (map.get routes p)) e
 untouched None [] routes p e = refl
 untouched None (x ∷ xs) routes p e = none_told xs routes where
@@ -166,21 +169,26 @@ pub announced_attrs : (attrs : Option Attrs) (nlri : List PrefixValue) (prefix :
 announced_attrs None nlri prefix h c = absurd (none_of prefix (subst (λ (xs : List PrefixValue). Contains xs prefix) h c))
 announced_attrs (Some a) nlri prefix h c = refl
 
-apply_announced : (attrs : Option Attrs) (nlri : List PrefixValue) (routes : Routes) (prefix : PrefixValue) → HasAttrsFor attrs nlri → Contains nlri prefix → map.get (fold (announce attrs) routes nlri) prefix ≡ attrs
+apply_announced : (attrs : Option Attrs) (nlri : List PrefixValue) (routes : Routes) (prefix : PrefixValue) → HasAttrsFor attrs nlri
+    → Contains nlri prefix → map.get (fold (announce attrs) routes nlri) prefix ≡ attrs
 apply_announced None nlri routes prefix h c = absurd (none_of prefix (subst (λ (xs : List PrefixValue). Contains xs prefix) h c))
-apply_announced (Some a) nlri routes prefix h c = get_announced a nlri routes prefix ∙ ap (λ (t : Bool). cond t (Some a) (map.get routes prefix)) (among prefix nlri c)
+apply_announced (Some a) nlri routes prefix h c = get_announced a nlri routes prefix
+    ∙ ap (λ (t : Bool). cond t (Some a) (map.get routes prefix)) (among prefix nlri c)
 
-pub told_changes : (p : Peering) (lines : List Line) (u : Update) (prefix : PrefixValue) → PutUpdate p lines u → Contains (u.withdrawn ++ u.nlri) prefix → map.get (told (lines ++ Put (UpdateMsg u) ∷ [])) prefix ≢ map.get (told lines) prefix
+pub told_changes : (p : Peering) (lines : List Line) (u : Update) (prefix : PrefixValue) → PutUpdate p lines u
+    → Contains (u.withdrawn ++ u.nlri) prefix → map.get (told (lines ++ Put (UpdateMsg u) ∷ [])) prefix ≢ map.get (told lines) prefix
 told_changes p lines u prefix k c = λ e.
     All-contains (λ q. map.get (apply (told lines) u) q ≢ map.get (told lines) q) (u.withdrawn ++ u.nlri) prefix k.changes c
     (ap (λ (r : Routes). map.get r prefix) (sym (told_after p lines u k.legal)) ∙ e)
 
-pub told_announced : (p : Peering) (lines : List Line) (u : Update) (prefix : PrefixValue) → PutUpdate p lines u → Contains u.nlri prefix → map.get (told (lines ++ Put (UpdateMsg u) ∷ [])) prefix ≡ u.attrs
+pub told_announced : (p : Peering) (lines : List Line) (u : Update) (prefix : PrefixValue) → PutUpdate p lines u → Contains u.nlri prefix
+    → map.get (told (lines ++ Put (UpdateMsg u) ∷ [])) prefix ≡ u.attrs
 told_announced p lines u prefix k c =
     ap (λ (r : Routes). map.get r prefix) (told_after p lines u k.legal)
     ∙ apply_announced u.attrs u.nlri (fold map.remove (told lines) u.withdrawn) prefix k.way.writable.body.attrs c
 
-pub told_withdrawn : (p : Peering) (lines : List Line) (u : Update) (prefix : PrefixValue) → PutUpdate p lines u → Contains u.withdrawn prefix → map.get (told (lines ++ Put (UpdateMsg u) ∷ [])) prefix ≡ None
+pub told_withdrawn : (p : Peering) (lines : List Line) (u : Update) (prefix : PrefixValue) → PutUpdate p lines u → Contains u.withdrawn prefix
+    → map.get (told (lines ++ Put (UpdateMsg u) ∷ [])) prefix ≡ None
 told_withdrawn p lines u prefix k c = ap (λ (r : Routes). map.get r prefix) (told_after p lines u k.legal) ∙ by_way k.way.one_way where
   by_way : ((u.withdrawn ≢ []) × (u.nlri ≡ [])) ⊎ ((u.withdrawn ≡ []) × (u.nlri ≢ [])) → map.get (apply (told lines) u) prefix ≡ None
   by_way (inl w) =
@@ -188,7 +196,8 @@ told_withdrawn p lines u prefix k c = ap (λ (r : Routes). map.get r prefix) (to
       ∙ (get_removed u.withdrawn (told lines) prefix ∙ ap (λ (t : Bool). cond t None (map.get (told lines) prefix)) (among prefix u.withdrawn c))
   by_way (inr w) = absurd (none_of prefix (subst (λ (xs : List PrefixValue). Contains xs prefix) w.0 c))
 
-pub told_others : (p : Peering) (lines : List Line) (u : Update) (prefix : PrefixValue) → PutUpdate p lines u → ¬ Contains (u.withdrawn ++ u.nlri) prefix → map.get (told (lines ++ Put (UpdateMsg u) ∷ [])) prefix ≡ map.get (told lines) prefix
+pub told_others : (p : Peering) (lines : List Line) (u : Update) (prefix : PrefixValue) → PutUpdate p lines u
+    → ¬ Contains (u.withdrawn ++ u.nlri) prefix → map.get (told (lines ++ Put (UpdateMsg u) ∷ [])) prefix ≡ map.get (told lines) prefix
 told_others p lines u prefix k n =
     ap (λ (r : Routes). map.get r prefix) (told_after p lines u k.legal)
     ∙ (untouched u.attrs u.nlri (fold map.remove (told lines) u.withdrawn) prefix (not_among prefix u.nlri (λ c. n (Contains-append_right u.withdrawn u.nlri prefix c)))

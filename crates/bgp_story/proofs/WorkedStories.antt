@@ -31,7 +31,7 @@ use Rattle.bgp_story.specs.declared.line.Line.TheVariants.{Put, Got, Tick}
 use Rattle.bgp_story.specs.Legal.{IsPeering, IsOneWay, opened, got, updated, passed, IsEarlier, hold_expired, hold, is_wide}
 use Rattle.bgp_story.specs.Readings.{Routes, IsLegal, put_bytes, apply, told, heard}
 use Rattle.bgp_story.specs.WorkedSessions.{worked_peering, open_bytes, keepalive_bytes, update_bytes, cease_bytes, sent_lines, confirmed_lines, joined_lines, heard_lines, ten, attrs_over, announcement_over, withdrawal, told_lines, withdrawn_lines, expired_lines, wide_home, wide_peering, wide_open_bytes, wide_lines, wide_put_bytes, heard_attrs, beaten_lines, offering_peering, offering_lines, unicast_home, unicast_peering, unicast_lines, unicast_put_bytes, both_home, both_peering, both_open_bytes, both_lines, both_put_bytes}
-use Rattle.bgp_story.specs.States.{Begins}
+use Rattle.bgp_story.specs.States.{BeginsStory}
 use Rattle.bgp_story.proofs.Shapes.{allowed_of}
 
 not_sent : OpenSent ≢ Closed
@@ -271,23 +271,23 @@ none_told prefix =
 
 -- ---- each line may be added
 
-begins : (hold : ℕ) (lines rest : List Line) (state : SessionState) → IsLegal (worked_peering hold) (lines ++ rest) state → Begins 65001 lines
+begins : (hold : ℕ) (lines rest : List Line) (state : SessionState) → IsLegal (worked_peering hold) (lines ++ rest) state → BeginsStory 65001 lines
 begins hold lines rest state l = record { peering = worked_peering hold; remote = refl; rest = rest; state = state; legal = allowed_of _ _ _ l }
 
-pub may_get_open : (hold : ℕ) → IsPeering (worked_peering hold) → Begins 65001 (sent_lines hold ++ Got open_bytes ∷ [])
+pub may_get_open : (hold : ℕ) → IsPeering (worked_peering hold) → BeginsStory 65001 (sent_lines hold ++ Got open_bytes ∷ [])
 may_get_open hold is = begins hold (sent_lines hold ++ Got open_bytes ∷ []) (Put KeepaliveMsg ∷ []) OpenConfirm (confirmed hold is)
 
-pub may_confirm : (hold : ℕ) → IsPeering (worked_peering hold) → Begins 65001 (confirmed_lines hold)
+pub may_confirm : (hold : ℕ) → IsPeering (worked_peering hold) → BeginsStory 65001 (confirmed_lines hold)
 may_confirm hold is = begins hold (confirmed_lines hold) [] OpenConfirm (confirmed hold is)
 
-pub may_join : (hold : ℕ) → IsPeering (worked_peering hold) → Begins 65001 (joined_lines hold)
+pub may_join : (hold : ℕ) → IsPeering (worked_peering hold) → BeginsStory 65001 (joined_lines hold)
 may_join hold is = begins hold (joined_lines hold) [] Established (joined hold is)
 
-pub may_hear : (hold : ℕ) → IsPeering (worked_peering hold) → Begins 65001 (heard_lines hold)
+pub may_hear : (hold : ℕ) → IsPeering (worked_peering hold) → BeginsStory 65001 (heard_lines hold)
 may_hear hold is = begins hold (heard_lines hold) [] Established (heard_all hold is)
 
-pub may_tick : Begins 65001 (confirmed_lines 90 ++ Tick 30 ∷ [])
+pub may_tick : BeginsStory 65001 (confirmed_lines 90 ++ Tick 30 ∷ [])
 may_tick = begins 90 (confirmed_lines 90 ++ Tick 30 ∷ []) (Put KeepaliveMsg ∷ []) OpenConfirm beaten
 
-pub may_beat : Begins 65001 (confirmed_lines 90 ++ Tick 30 ∷ Put KeepaliveMsg ∷ [])
+pub may_beat : BeginsStory 65001 (confirmed_lines 90 ++ Tick 30 ∷ Put KeepaliveMsg ∷ [])
 may_beat = begins 90 beaten_lines [] OpenConfirm beaten

@@ -46,12 +46,12 @@ abbrev pub state_of : List Line → SessionState
 state_of lines = fold after OpenSent lines
 
 -- the line of a message that is put in answer, if there is one
-abbrev pub answered : Option Message → List Line
-answered None = []
-answered (Some message) = Put message ∷ []
+abbrev pub answer_lines : Option Message → List Line
+answer_lines None = []
+answer_lines (Some message) = Put message ∷ []
 
 -- The lines begin an allowed story, with a remote of this AS.
-pub record Begins (remote_as : ℕ) (lines : List Line) : Type 0 where
+pub record BeginsStory (remote_as : ℕ) (lines : List Line) : Type 0 where
   pub peering : Peering
   pub remote : peering.remote_as ≡ remote_as
   pub rest : List Line

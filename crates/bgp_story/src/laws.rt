@@ -18,13 +18,13 @@ ghost use Rattle.bgp_story.specs.Laws.{OpensOnce, IsGotLine, HasCause};
 ghost use Rattle.bgp_story.specs.Legal.{Peering, Allowed, is_up, is_wide, hold, expected_next};
 ghost use Rattle.bgp_story.specs.Opens.{IsHomeOpen};
 ghost use Rattle.bgp_story.specs.Readings.{IsLegal, put_bytes, put_in, got_bytes, told, heard, tell, hear};
-ghost use Rattle.bgp_story.specs.States.{Begins, state_of};
+ghost use Rattle.bgp_story.specs.States.{BeginsStory, state_of};
 ghost use Rattle.bgp_story.specs.WorkedSessions as worked;
 
 /// A legal story has the form that the laws below require, and that the type `Story` keeps.
 pub fn legal_is_allowed()
     ensures allowed { (p : Peering) (lines : List Line) (state : SessionState) → IsLegal p lines state → Allowed p lines state }
-    ensures begins { (p : Peering) (lines more : List Line) (state : SessionState) → IsLegal p (lines ++ more) state → Begins p.remote_as lines }
+    ensures begins { (p : Peering) (lines more : List Line) (state : SessionState) → IsLegal p (lines ++ more) state → BeginsStory p.remote_as lines }
 {}
 
 /// The OPEN of a legal story is one that a home side can put: its hold time is 0, or at least 3
@@ -57,7 +57,7 @@ pub fn got_in_frames()
 /// Nothing follows in state Closed.
 pub fn closed_is_the_end()
     ensures legal { (p : Peering) (lines more : List Line) (state : SessionState) → Allowed p lines Closed → Allowed p (lines ++ more) state → more ≡ [] }
-    ensures begun { (remote_as : ℕ) (lines more : List Line) (line : Line) → Begins remote_as (lines ++ line ∷ more) → state_of lines ≢ Closed }
+    ensures begun { (remote_as : ℕ) (lines more : List Line) (line : Line) → BeginsStory remote_as (lines ++ line ∷ more) → state_of lines ≢ Closed }
 {}
 
 /// A NOTIFICATION is put only after a message with its fault was got, or when the hold time has

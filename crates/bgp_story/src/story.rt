@@ -3,7 +3,7 @@
 ghost use Rattle.std.specs.Prelude.{◌≡◌, ◌++◌, ◌∷◌, [], IfOk, IfErr, OnOk, OnErr};
 ghost use Rattle.bgp_types.specs.declared.message.Message.TheVariants as messages;
 ghost use Rattle.bgp_story.specs.Legal.{IsPeering};
-ghost use Rattle.bgp_story.specs.States.{Begins, state_of, answered, after as after_lem, after_put as after_put_lem, after_got as after_got_lem};
+ghost use Rattle.bgp_story.specs.States.{BeginsStory, state_of, answer_lines, after as after_lem, after_put as after_put_lem, after_got as after_got_lem};
 ghost use Rattle.bgp_story.specs.declared.line.Line.TheVariants.{Put, Got, Tick};
 
 use crate::header::{KEEPALIVE, NOTIFICATION, is_type};
@@ -23,13 +23,13 @@ pub struct Story {
 
 impl Model for Story {
     ghost use Rattle.std.specs.Prelude.{◌≡◌};
-    ghost use Rattle.bgp_story.specs.States.{StoryValue, Begins, state_of};
+    ghost use Rattle.bgp_story.specs.States.{StoryValue, BeginsStory, state_of};
 
     ghost Value = { StoryValue };
 
     ghost view = { λ s. record { lines = s.lines.items; remote_as = s.remote_as } };
 
-    ghost invariant = { λ s. (s.state ≡ state_of s.lines.items) × Begins s.remote_as s.lines.items };
+    ghost invariant = { λ s. (s.state ≡ state_of s.lines.items) × BeginsStory s.remote_as s.lines.items };
 }
 
 /// Returns the state after a message was put.
@@ -116,7 +116,7 @@ impl Story {
 
     /// Adds a line after which the session has this state. If memory runs out, nothing changes.
     fn add_line(&mut self, line: Line, state: SessionState) -> Result<(), NoMemory>
-        requires begins { Begins self.old.remote_as (self.old.lines ++ line ∷ []) }
+        requires begins { BeginsStory self.old.remote_as (self.old.lines ++ line ∷ []) }
         requires state { state ≡ state_of (self.old.lines ++ line ∷ []) }
         ensures ok { OnOk result (self.new ≡ record self.old { lines = self.old.lines ++ line ∷ [] }) }
         ensures err { OnErr result (self.new ≡ self.old) }
@@ -133,7 +133,7 @@ impl Story {
     /// Adds a message that is put. The lines with it have to begin a legal story. If memory runs out,
     /// the message is returned and nothing changes; there is no other failure.
     pub fn put(&mut self, message: Message) -> Result<(), Message>
-        requires { Begins self.old.remote_as (self.old.lines ++ Put message ∷ []) }
+        requires { BeginsStory self.old.remote_as (self.old.lines ++ Put message ∷ []) }
         ensures ok { OnOk result (self.new ≡ record self.old { lines = self.old.lines ++ Put message ∷ [] }) }
         ensures back { IfErr result (λ back. back ≡ message) }
         ensures err { OnErr result (self.new ≡ self.old) }
@@ -152,7 +152,7 @@ impl Story {
     /// Adds octets that are got. The lines with them have to begin a legal story. If memory runs out,
     /// the octets are returned and nothing changes; there is no other failure.
     pub fn got(&mut self, bytes: Octets) -> Result<(), Octets>
-        requires { Begins self.old.remote_as (self.old.lines ++ Got bytes ∷ []) }
+        requires { BeginsStory self.old.remote_as (self.old.lines ++ Got bytes ∷ []) }
         ensures ok { OnOk result (self.new ≡ record self.old { lines = self.old.lines ++ Got bytes ∷ [] }) }
         ensures back { IfErr result (λ back. back ≡ bytes) }
         ensures err { OnErr result (self.new ≡ self.old) }
@@ -171,7 +171,7 @@ impl Story {
     /// Adds a round in which the hold timer ran. The lines with it have to begin a legal story. If
     /// memory runs out, nothing changes; there is no other failure.
     pub fn tick(&mut self, round: u32) -> Result<(), NoMemory>
-        requires { Begins self.old.remote_as (self.old.lines ++ Tick round ∷ []) }
+        requires { BeginsStory self.old.remote_as (self.old.lines ++ Tick round ∷ []) }
         ensures ok { OnOk result (self.new ≡ record self.old { lines = self.old.lines ++ Tick round ∷ [] }) }
         ensures err { OnErr result (self.new ≡ self.old) }
     {
@@ -184,8 +184,8 @@ impl Story {
     /// Adds a line and, if there is one, the message that is put in answer to it. The lines with both
     /// have to begin a legal story. If memory runs out, nothing changes; there is no other failure.
     pub fn add(&mut self, line: Line, answer: Option<Message>) -> Result<(), NoMemory>
-        requires { Begins self.old.remote_as (self.old.lines ++ line ∷ answered answer) }
-        ensures ok { OnOk result (self.new ≡ record self.old { lines = self.old.lines ++ line ∷ answered answer }) }
+        requires { BeginsStory self.old.remote_as (self.old.lines ++ line ∷ answer_lines answer) }
+        ensures ok { OnOk result (self.new ≡ record self.old { lines = self.old.lines ++ line ∷ answer_lines answer }) }
         ensures err { OnErr result (self.new ≡ self.old) }
     {
         let state = after(self.state, &line);
@@ -208,7 +208,7 @@ impl Story {
     /// Returns the lines in order. They begin a legal story.
     pub fn lines(&self) -> &[Line]
         ensures lines { result.now ≡ self.now.lines }
-        ensures legal { Begins self.now.remote_as self.now.lines }
+        ensures legal { BeginsStory self.now.remote_as self.now.lines }
     {
         &self.lines
     }

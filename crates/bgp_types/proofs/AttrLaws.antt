@@ -8,7 +8,7 @@ use Rattle.std.proofs.lemmas.Nat.{be_bytes_2, be_bytes_4, from_be_bytes-to_be_by
 use Rattle.std.proofs.lemmas.Option.{same_Some}
 use Rattle.bgp_types.specs.Many.{number_at, told_at}
 use Rattle.bgp_types.specs.WireAttrs.{WireAttr}
-use Rattle.bgp_types.specs.WireAttrs.{IsWireAttr, attr_at, with_value, size_width, size_limit, attr_octets}
+use Rattle.bgp_types.specs.WireAttrs.{IsWireAttr, attr_at, attr_with_value, size_width, size_limit, attr_octets}
 use Rattle.bgp_types.specs.OctetLists.{AreOctets}
 use Rattle.bgp_types.proofs.ManyLaws.{Reads, Shortens, kept_out}
 
@@ -69,12 +69,14 @@ wide_size flags = by_test (eqb (bit_and flags 16) 0) where
   by_test true = wide8
   by_test false = wide16
 
-pub number_is : (w : Width) (bytes : List ℕ) (x : ℕ × List ℕ) → number_at w bytes ≡ Some x → (byte_len w ≤ length bytes) × ((from_be_bytes w (take (byte_len w) bytes), drop (byte_len w) bytes) ≡ x)
+pub number_is : (w : Width) (bytes : List ℕ) (x : ℕ × List ℕ) → number_at w bytes ≡ Some x
+    → (byte_len w ≤ length bytes) × ((from_be_bytes w (take (byte_len w) bytes), drop (byte_len w) bytes) ≡ x)
 number_is w bytes x e =
     let g = kept_out (ltb (length bytes) (byte_len w)) (Some (from_be_bytes w (take (byte_len w) bytes), drop (byte_len w) bytes)) x e in
     (ltb-false _ _ g.0, same_Some _ x g.1)
 
-pub told_is : (o : Option (ℕ × List ℕ)) (v : List ℕ × List ℕ) → told_at o ≡ Some v → (n : ℕ × List ℕ) × (o ≡ Some n) × (n.0 ≤ length n.1) × ((take n.0 n.1, drop n.0 n.1) ≡ v)
+pub told_is : (o : Option (ℕ × List ℕ)) (v : List ℕ × List ℕ) → told_at o ≡ Some v
+    → (n : ℕ × List ℕ) × (o ≡ Some n) × (n.0 ≤ length n.1) × ((take n.0 n.1, drop n.0 n.1) ≡ v)
 told_is None v e = absurd cc
 told_is (Some n) v e =
     let g = kept_out (ltb (length n.1) n.0) (Some (take n.0 n.1, drop n.0 n.1)) v e in
@@ -83,7 +85,8 @@ told_is (Some n) v e =
 abbrev attr_with : ℕ → ℕ → List ℕ → WireAttr
 attr_with flags kind value = record { flags = flags; kind = kind; value = value }
 
-value_is : (flags kind : ℕ) (o : Option (List ℕ × List ℕ)) (x : WireAttr × List ℕ) → with_value flags kind o ≡ Some x → (v : List ℕ × List ℕ) × (o ≡ Some v) × ((attr_with flags kind v.0, v.1) ≡ x)
+value_is : (flags kind : ℕ) (o : Option (List ℕ × List ℕ)) (x : WireAttr × List ℕ) → attr_with_value flags kind o ≡ Some x
+    → (v : List ℕ × List ℕ) × (o ≡ Some v) × ((attr_with flags kind v.0, v.1) ≡ x)
 value_is flags kind None x e = absurd cc
 value_is flags kind (Some v) x e = (v, refl, same_Some _ x e)
 
@@ -112,7 +115,8 @@ attr_takes (f ∷ k ∷ bytes) x fits e =
     let len : length (take n rest) ≡ n = length-take-le n rest long in
     let size : to_be_bytes w n ≡ take (byte_len w) bytes = wide.back (take (byte_len w) bytes) (length-take-le (byte_len w) bytes c.0) front_fits in
     let parts : bytes ≡ (to_be_bytes w (length (take n rest)) ++ take n rest) ++ drop n rest =
-    sym (take-append-drop (byte_len w) bytes) ∙ (ap (λ (y : List ℕ). y ++ rest) (sym size) ∙ (ap (λ (y : List ℕ). to_be_bytes w n ++ y) (sym (take-append-drop n rest))
+    sym (take-append-drop (byte_len w) bytes)
+    ∙ (ap (λ (y : List ℕ). y ++ rest) (sym size) ∙ (ap (λ (y : List ℕ). to_be_bytes w n ++ y) (sym (take-append-drop n rest))
     ∙ (sym (append_assoc (to_be_bytes w n) (take n rest) (drop n rest)) ∙ ap (λ (m : ℕ). (to_be_bytes w m ++ take n rest) ++ drop n rest) (sym len)))) in
     let here : TakesAttr (f ∷ k ∷ bytes) (attr_with f k (take n rest)) (drop n rest) = record {
       parts = ap (λ (y : List ℕ). f ∷ k ∷ y) parts;
@@ -137,11 +141,12 @@ pub attr_again : (a : WireAttr) (rest : List ℕ) → IsWireAttr a → attr_at (
 unfolding attr_at
 attr_again a rest fits =
     let w = size_width a.flags in
-    ap (λ (y : List ℕ). with_value a.flags a.kind (told_at (number_at w y))) (append_assoc (to_be_bytes w (length a.value)) a.value rest)
-    ∙ (ap (λ (o : Option (ℕ × List ℕ)). with_value a.flags a.kind (told_at o)) (number_again w (size_limit a.flags) (wide_size a.flags) (length a.value) (a.value ++ rest) fits.size)
-    ∙ ap (with_value a.flags a.kind) (told_again a.value rest))
+    ap (λ (y : List ℕ). attr_with_value a.flags a.kind (told_at (number_at w y))) (append_assoc (to_be_bytes w (length a.value)) a.value rest)
+    ∙ (ap (λ (o : Option (ℕ × List ℕ)). attr_with_value a.flags a.kind (told_at o)) (number_again w (size_limit a.flags) (wide_size a.flags) (length a.value) (a.value ++ rest) fits.size)
+    ∙ ap (attr_with_value a.flags a.kind) (told_again a.value rest))
 
-told_shorter : (n : Option (ℕ × List ℕ)) (len : ℕ) (v : List ℕ × List ℕ) → ((x : ℕ × List ℕ) → n ≡ Some x → length x.1 ≤ len) → told_at n ≡ Some v → length v.1 ≤ len
+told_shorter : (n : Option (ℕ × List ℕ)) (len : ℕ) (v : List ℕ × List ℕ) → ((x : ℕ × List ℕ) → n ≡ Some x → length x.1 ≤ len) → told_at n ≡ Some v
+    → length v.1 ≤ len
 told_shorter None len v h e = absurd cc
 told_shorter (Some n) len v h e =
     let g = kept_out (ltb (length n.1) n.0) (Some (take n.0 n.1, drop n.0 n.1)) v e in
@@ -156,7 +161,8 @@ number_shorter flags bytes x e =
     let d : x.1 ≡ drop (byte_len w) bytes = ap (λ (y : ℕ × List ℕ). y.1) (sym (same_Some _ x g.1)) in
     rw (d, length-drop (byte_len w) bytes) (omega arith)
 
-value_shorter : (flags kind : ℕ) (v : Option (List ℕ × List ℕ)) (len : ℕ) (x : WireAttr × List ℕ) → ((y : List ℕ × List ℕ) → v ≡ Some y → length y.1 ≤ len) → with_value flags kind v ≡ Some x → length x.1 ≤ len
+value_shorter : (flags kind : ℕ) (v : Option (List ℕ × List ℕ)) (len : ℕ) (x : WireAttr × List ℕ)
+    → ((y : List ℕ × List ℕ) → v ≡ Some y → length y.1 ≤ len) → attr_with_value flags kind v ≡ Some x → length x.1 ≤ len
 value_shorter flags kind None len x h e = absurd cc
 value_shorter flags kind (Some y) len x h e = rw (ap (λ (z : WireAttr × List ℕ). z.1) (sym (same_Some _ x e))) (h y refl)
 

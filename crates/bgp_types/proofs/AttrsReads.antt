@@ -10,7 +10,7 @@ use Rattle.bgp_types.specs.WireAttrs.{WireAttr}
 use Rattle.bgp_types.specs.WireAttrs.{wire_kind}
 use Rattle.bgp_types.specs.Many.{many}
 use Rattle.bgp_types.specs.WireAttrs.{attr_at, IsWireAttr, attr_octets}
-use Rattle.bgp_types.specs.Faults.{bare, own_fault, attr_of, fault_after, first_of, attrs_fault}
+use Rattle.bgp_types.specs.Faults.{bare, own_fault, attr_of, fault_after, earlier_notice, attrs_fault}
 use Rattle.bgp_types.specs.Found.{found_in, unless, attrs_in}
 use Rattle.bgp_types.specs.Reads.{Differ, ReadsAttrs}
 use Rattle.bgp_types.proofs.ManyLaws.{many_again}
@@ -30,20 +30,23 @@ record IsClean (wide : Bool) (before raws : List WireAttr) (rest : List ℕ) : T
   fresh : AllByRecursion (λ a. attr_of a.kind before ≡ None) raws
   differ : Differ wire_kind raws
 
-first_none : (o p : Option Notice) → first_of o p ≡ None → (o ≡ None) × (p ≡ None)
+first_none : (o p : Option Notice) → earlier_notice o p ≡ None → (o ≡ None) × (p ≡ None)
 first_none None p e = (refl, e)
 first_none (Some n) p e = absurd cc
 
-after_none : (wide : Bool) (before : List WireAttr) (a : WireAttr) → fault_after wide before a ≡ None → (attr_of a.kind before ≡ None) × (own_fault wide a ≡ None)
+after_none : (wide : Bool) (before : List WireAttr) (a : WireAttr) → fault_after wide before a ≡ None
+    → (attr_of a.kind before ≡ None) × (own_fault wide a ≡ None)
 after_none wide before a e = by_test (attr_of a.kind before) refl e where
-  by_test : (o : Option WireAttr) → attr_of a.kind before ≡ o → cond (is_some o) (Some (bare 1)) (own_fault wide a) ≡ None → (attr_of a.kind before ≡ None) × (own_fault wide a ≡ None)
+  by_test : (o : Option WireAttr) → attr_of a.kind before ≡ o → cond (is_some o) (Some (bare 1)) (own_fault wide a) ≡ None
+      → (attr_of a.kind before ≡ None) × (own_fault wide a ≡ None)
   by_test None f e = (f, e)
   by_test (Some b) f e = absurd cc
 
 last_none : (k : ℕ) (before : List WireAttr) (a : WireAttr) → attr_of k (before ++ a ∷ []) ≡ None → (attr_of k before ≡ None) × (k ≢ a.kind)
 last_none k [] a e = (refl, λ f. grind (arith, nat_tests))
 last_none k (b ∷ before) a e = by_test (eqb b.kind k) (λ f. last_none k before a f) e where
-  by_test : (t : Bool) → (attr_of k (before ++ a ∷ []) ≡ None → (attr_of k before ≡ None) × (k ≢ a.kind)) → cond t (Some b) (attr_of k (before ++ a ∷ [])) ≡ None → (cond t (Some b) (attr_of k before) ≡ None) × (k ≢ a.kind)
+  by_test : (t : Bool) → (attr_of k (before ++ a ∷ []) ≡ None → (attr_of k before ≡ None) × (k ≢ a.kind))
+      → cond t (Some b) (attr_of k (before ++ a ∷ [])) ≡ None → (cond t (Some b) (attr_of k before) ≡ None) × (k ≢ a.kind)
   by_test true ih e = absurd cc
   by_test false ih e = ih e
 

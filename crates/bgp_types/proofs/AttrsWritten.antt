@@ -44,7 +44,8 @@ record IsFlags (flags : ℕ) : Type 0 where
 
 written_sound : (flags kind : ℕ) (value : List ℕ) → IsFlags flags → kind < 256 → length value < 65536 → IsWireAttr (written flags kind value)
 written_sound flags kind value f k v = by_test (ltb 255 (length value)) refl where
-  by_test : (t : Bool) → ltb 255 (length value) ≡ t → (let a : WireAttr = record { flags = cond t (flags + 16) flags; kind = kind; value = value } in IsWireAttr a)
+  by_test : (t : Bool) → ltb 255 (length value) ≡ t
+      → (let a : WireAttr = record { flags = cond t (flags + 16) flags; kind = kind; value = value } in IsWireAttr a)
   by_test true e = record { flags = f.small; kind = k; size = rw f.long v }
   by_test false e = record { flags = let s = f.small in omega arith; kind = k; size = rw f.short (let l = ltb-false _ _ e in omega arith) }
 
@@ -79,7 +80,8 @@ path_said wide path fits = by_test (ltb 255 (length (path_octets wide path))) wh
   by_test true = rw (path_again wide path fits) refl
   by_test false = rw (path_again wide path fits) refl
 
-path_good : (wide : Bool) (path : List PathPart) → All (IsPartIn wide) path → length (path_octets wide path) < 65536 → IsGood wide (written 64 2 (path_octets wide path))
+path_good : (wide : Bool) (path : List PathPart) → All (IsPartIn wide) path → length (path_octets wide path) < 65536
+    → IsGood wide (written 64 2 (path_octets wide path))
 unfolding own_fault
 path_good wide path fits size = record { sound = written_sound 64 2 (path_octets wide path) flags64 (omega arith) size; own = ap fault_in (path_said wide path fits) }
 
@@ -119,19 +121,24 @@ atomic_slot wide false = none
 aggregator_said : (wide partial : Bool) (kind as_number address : ℕ) → as_number < (cond wide (2 ^ 32) (2 ^ 16)) → address < 2 ^ 32 →
     aggregator_of wide (written (passed_flags partial) kind (aggregator_octets wide as_number address)) ≡ record { as_number = as_number; address = address; partial = partial }
 aggregator_said true true kind n address a b = same_aggregator _ _ _ _ _ (wide32.again n a) (wide32.again address b) where
-  same_aggregator : (n n' d d' : ℕ) (p : Bool) → n ≡ n' → d ≡ d' → (let a : Aggregator = record { as_number = n; address = d; partial = p } in a) ≡ record { as_number = n'; address = d'; partial = p }
+  same_aggregator : (n n' d d' : ℕ) (p : Bool) → n ≡ n' → d ≡ d'
+      → (let a : Aggregator = record { as_number = n; address = d; partial = p } in a) ≡ record { as_number = n'; address = d'; partial = p }
   same_aggregator n n' d d' p e f = cc
 aggregator_said true false kind n address a b = same_aggregator _ _ _ _ _ (wide32.again n a) (wide32.again address b) where
-  same_aggregator : (n n' d d' : ℕ) (p : Bool) → n ≡ n' → d ≡ d' → (let a : Aggregator = record { as_number = n; address = d; partial = p } in a) ≡ record { as_number = n'; address = d'; partial = p }
+  same_aggregator : (n n' d d' : ℕ) (p : Bool) → n ≡ n' → d ≡ d'
+      → (let a : Aggregator = record { as_number = n; address = d; partial = p } in a) ≡ record { as_number = n'; address = d'; partial = p }
   same_aggregator n n' d d' p e f = cc
 aggregator_said false true kind n address a b = same_aggregator _ _ _ _ _ (wide16.again n a) (wide32.again address b) where
-  same_aggregator : (n n' d d' : ℕ) (p : Bool) → n ≡ n' → d ≡ d' → (let a : Aggregator = record { as_number = n; address = d; partial = p } in a) ≡ record { as_number = n'; address = d'; partial = p }
+  same_aggregator : (n n' d d' : ℕ) (p : Bool) → n ≡ n' → d ≡ d'
+      → (let a : Aggregator = record { as_number = n; address = d; partial = p } in a) ≡ record { as_number = n'; address = d'; partial = p }
   same_aggregator n n' d d' p e f = cc
 aggregator_said false false kind n address a b = same_aggregator _ _ _ _ _ (wide16.again n a) (wide32.again address b) where
-  same_aggregator : (n n' d d' : ℕ) (p : Bool) → n ≡ n' → d ≡ d' → (let a : Aggregator = record { as_number = n; address = d; partial = p } in a) ≡ record { as_number = n'; address = d'; partial = p }
+  same_aggregator : (n n' d d' : ℕ) (p : Bool) → n ≡ n' → d ≡ d'
+      → (let a : Aggregator = record { as_number = n; address = d; partial = p } in a) ≡ record { as_number = n'; address = d'; partial = p }
   same_aggregator n n' d d' p e f = cc
 
-aggregator_reads : (wide partial : Bool) (n address : ℕ) → (let a : WireAttr = written (passed_flags partial) 7 (aggregator_octets wide n address) in aggregator_in wide a ≡ Ok (aggregator_of wide a))
+aggregator_reads : (wide partial : Bool) (n address : ℕ)
+    → (let a : WireAttr = written (passed_flags partial) 7 (aggregator_octets wide n address) in aggregator_in wide a ≡ Ok (aggregator_of wide a))
 unfolding aggregator_in
 aggregator_reads true true n address = refl
 aggregator_reads true false n address = refl
@@ -169,9 +176,11 @@ abbrev aggregator_in_width : Bool → Option Aggregator → Option Aggregator
 aggregator_in_width wide None = None
 aggregator_in_width wide (Some a) = Some (record { as_number = as_in_width wide a.as_number; address = a.address; partial = a.partial })
 
-aggregator_found : (wide : Bool) (a : Option Aggregator) → IfSome a IsAggregator → said (aggregator_in wide) (head_of (aggregator_written wide a)) ≡ aggregator_in_width wide a
+aggregator_found : (wide : Bool) (a : Option Aggregator) → IfSome a IsAggregator
+    → said (aggregator_in wide) (head_of (aggregator_written wide a)) ≡ aggregator_in_width wide a
 aggregator_found wide None f = refl
-aggregator_found wide (Some a) f = ap ok_in (aggregator_reads wide a.partial (as_in_width wide a.as_number) a.address) ∙ ap (λ (b : Aggregator). Some b) (aggregator_said wide a.partial 7 (as_in_width wide a.as_number) a.address (in_width_small wide a.as_number f.as_number) f.address)
+aggregator_found wide (Some a) f = ap ok_in (aggregator_reads wide a.partial (as_in_width wide a.as_number) a.address)
+    ∙ ap (λ (b : Aggregator). Some b) (aggregator_said wide a.partial 7 (as_in_width wide a.as_number) a.address (in_width_small wide a.as_number f.as_number) f.address)
 
 -- ---- AS4_PATH and AS4_AGGREGATOR
 
@@ -182,13 +191,15 @@ other_own wide r o = grind (arith, nat_tests)
 passed_own : (partial : Bool) (kind : ℕ) (value : List ℕ) → fault_in (other_in (written (passed_flags partial) kind value)) ≡ None
 unfolding other_in
 passed_own partial kind value = by_test partial (ltb 255 (length value)) where
-  by_test : (p t : Bool) → (let a : WireAttr = record { flags = cond t (passed_flags p + 16) (passed_flags p); kind = kind; value = value } in fault_in (other_in a) ≡ None)
+  by_test : (p t : Bool)
+      → (let a : WireAttr = record { flags = cond t (passed_flags p + 16) (passed_flags p); kind = kind; value = value } in fault_in (other_in a) ≡ None)
   by_test true true = refl
   by_test true false = refl
   by_test false true = refl
   by_test false false = refl
 
-passed_good : (wide partial : Bool) (kind : ℕ) (value : List ℕ) → (is_other kind || (eqb kind 17 || eqb kind 18)) ≡ true → kind < 256 → length value < 65536 → IsGood wide (written (passed_flags partial) kind value)
+passed_good : (wide partial : Bool) (kind : ℕ) (value : List ℕ) → (is_other kind || (eqb kind 17 || eqb kind 18)) ≡ true → kind < 256
+    → length value < 65536 → IsGood wide (written (passed_flags partial) kind value)
 passed_good wide partial kind value o k size = record {
   sound = written_sound (passed_flags partial) kind value (passed partial) k size;
   own = other_own wide (written (passed_flags partial) kind value) o ∙ passed_own partial kind value;
@@ -196,7 +207,8 @@ passed_good wide partial kind value o k size = record {
 
 as4_path_slot : (wide : Bool) (path : List PathPart) → attrs_size (as4_path_written wide path) < 65536 → IsSlot wide 17 (as4_path_written wide path)
 as4_path_slot wide path size = by_test (not wide && has_long_as path) size where
-  by_test : (t : Bool) → attrs_size (cond t (written 192 17 (path_octets true path) ∷ []) []) < 65536 → IsSlot wide 17 (cond t (written 192 17 (path_octets true path) ∷ []) [])
+  by_test : (t : Bool) → attrs_size (cond t (written 192 17 (path_octets true path) ∷ []) []) < 65536
+      → IsSlot wide 17 (cond t (written 192 17 (path_octets true path) ∷ []) [])
   by_test true size =
       let s = sized 192 17 (path_octets true path) refl refl in
       let room : length (path_octets true path) < 65536 = grind (arith, nat_tests) in
@@ -250,7 +262,8 @@ path_fits false path all = All-from_recursion _ (map narrow_part path) (path_nar
 narrow_same : (ases : List ℕ) → list_any is_long_as ases ≡ false → map narrow_as ases ≡ ases
 narrow_same [] e = refl
 narrow_same (n ∷ ases) e = by_test (is_long_as n) refl e (narrow_same ases) where
-  by_test : (t : Bool) → is_long_as n ≡ t → (t || list_any is_long_as ases) ≡ false → (list_any is_long_as ases ≡ false → map narrow_as ases ≡ ases) → cond t 23456 n ∷ map narrow_as ases ≡ n ∷ ases
+  by_test : (t : Bool) → is_long_as n ≡ t → (t || list_any is_long_as ases) ≡ false → (list_any is_long_as ases ≡ false → map narrow_as ases ≡ ases)
+      → cond t 23456 n ∷ map narrow_as ases ≡ n ∷ ases
   by_test true f e ih = absurd cc
   by_test false f e ih = ap (λ (xs : List ℕ). n ∷ xs) (ih e)
 
@@ -261,16 +274,18 @@ narrow_part_same (parts.Sequence ases) e = ap (λ (xs : List ℕ). (let p : Path
 narrow_path_same : (path : List PathPart) → has_long_as path ≡ false → map narrow_part path ≡ path
 narrow_path_same [] e = refl
 narrow_path_same (part ∷ path) e = by_test (list_any is_long_as (ases_of part)) refl e (narrow_path_same path) where
-  by_test : (t : Bool) → list_any is_long_as (ases_of part) ≡ t → (t || has_long_as path) ≡ false → (has_long_as path ≡ false → map narrow_part path ≡ path) → narrow_part part ∷ map narrow_part path ≡ part ∷ path
+  by_test : (t : Bool) → list_any is_long_as (ases_of part) ≡ t → (t || has_long_as path) ≡ false
+      → (has_long_as path ≡ false → map narrow_part path ≡ path) → narrow_part part ∷ map narrow_part path ≡ part ∷ path
   by_test true f e ih = absurd cc
   by_test false f e ih = ap (λ (p : PathPart). p ∷ map narrow_part path) (narrow_part_same part f) ∙ ap (λ (ps : List PathPart). part ∷ ps) (ih e)
 
 narrow_count : (path : List PathPart) → path_count (map narrow_part path) ≡ path_count path
 narrow_count [] = refl
-narrow_count (part ∷ path) = sum_by-cons part_count (narrow_part part) (map narrow_part path) ∙ (rw (same part, narrow_count path) (sym (sum_by-cons part_count part path))) where
-  same : (part : PathPart) → part_count (narrow_part part) ≡ part_count part
-  same (parts.Set ases) = refl
-  same (parts.Sequence ases) = length-map ases narrow_as
+narrow_count (part ∷ path) = sum_by-cons part_count (narrow_part part) (map narrow_part path)
+    ∙ (rw (same part, narrow_count path) (sym (sum_by-cons part_count part path))) where
+      same : (part : PathPart) → part_count (narrow_part part) ≡ part_count part
+      same (parts.Set ases) = refl
+      same (parts.Sequence ases) = length-map ases narrow_as
 
 -- a path that counts as much as AS4_PATH gives way to it
 merged_whole : (path : List PathPart) → merged_path (map narrow_part path) path ≡ path
@@ -294,7 +309,8 @@ merged_whole path = counts (path_count (map narrow_part path)) (path_count path)
 
 as4_path_found : (path : List PathPart) → All (IsPartIn true) path → as4_path_in (Some (written 192 17 (path_octets true path))) ≡ if_some_part (Some path)
 as4_path_found path fits = by_test (ltb 255 (length (path_octets true path))) where
-  by_test : (t : Bool) → (let a : WireAttr = record { flags = cond t 208 192; kind = 17; value = path_octets true path } in as4_path_in (Some a) ≡ if_some_part (Some path))
+  by_test : (t : Bool)
+      → (let a : WireAttr = record { flags = cond t 208 192; kind = 17; value = path_octets true path } in as4_path_in (Some a) ≡ if_some_part (Some path))
   by_test true = ap if_some_part (path_again true path fits)
   by_test false = ap if_some_part (path_again true path fits)
 
@@ -303,16 +319,19 @@ some_long [] e = absurd cc
 some_long (part ∷ path) e = refl
 
 -- the path that is found, where no AS4 attribute is stale
-path_found : (wide : Bool) (path : List PathPart) → All IsPart path → path_with false (Some (path_in_width wide path)) (unless_wide wide (as4_path_in (head_of (as4_path_written wide path)))) ≡ Some path
+path_found : (wide : Bool) (path : List PathPart) → All IsPart path
+    → path_with false (Some (path_in_width wide path)) (unless_wide wide (as4_path_in (head_of (as4_path_written wide path)))) ≡ Some path
 path_found true path all = refl
 path_found false path all = by_test (has_long_as path) refl where
-  by_test : (t : Bool) → has_long_as path ≡ t → path_with false (Some (map narrow_part path)) (as4_path_in (head_of (cond t (written 192 17 (path_octets true path) ∷ []) []))) ≡ Some path
+  by_test : (t : Bool) → has_long_as path ≡ t
+      → path_with false (Some (map narrow_part path)) (as4_path_in (head_of (cond t (written 192 17 (path_octets true path) ∷ []) []))) ≡ Some path
   by_test true e =
       ap (path_with false (Some (map narrow_part path))) (as4_path_found path (path_fits true path all) ∙ some_long path e)
       ∙ ap (λ (ps : List PathPart). Some ps) (merged_whole path)
   by_test false e = ap (λ (ps : List PathPart). Some ps) (narrow_path_same path e)
 
-as4_aggregator_found : (a : Aggregator) → IsAggregator a → as4_aggregator_in (Some (written 192 18 (aggregator_octets true a.as_number a.address))) ≡ Some (record { as_number = a.as_number; address = a.address; partial = false })
+as4_aggregator_found : (a : Aggregator) → IsAggregator a
+    → as4_aggregator_in (Some (written 192 18 (aggregator_octets true a.as_number a.address))) ≡ Some (record { as_number = a.as_number; address = a.address; partial = false })
 as4_aggregator_found a f = ap (λ (b : Aggregator). Some b) (aggregator_said true false 18 a.as_number a.address f.as_number f.address)
 
 -- the aggregator that is found, and whether AS4 attributes are stale
@@ -342,7 +361,8 @@ record HasRoom (wide : Bool) (a : Attrs) : Type 0 where
 size_above : (n : ℕ) → n ≤ attr_size_of n
 size_above n = grind (arith, nat_tests)
 
-others_room : (others : List RawAttr) → sum_by (λ (o : RawAttr). attr_size_of (length o.bytes)) others < 65536 → AllByRecursion (λ (o : RawAttr). length o.bytes < 65536) others
+others_room : (others : List RawAttr) → sum_by (λ (o : RawAttr). attr_size_of (length o.bytes)) others < 65536
+    → AllByRecursion (λ (o : RawAttr). length o.bytes < 65536) others
 others_room [] lt = tt
 others_room (o ∷ others) lt =
     let sum = sum_by-cons (λ (o : RawAttr). attr_size_of (length o.bytes)) o others in
@@ -358,13 +378,15 @@ room_in wide a lt =
 
 other_said : (a : RawAttr) → kept_raw (other_written a) ≡ Some a
 other_said a = by_test a.partial refl (ltb 255 (length a.bytes)) where
-  by_test : (p : Bool) → a.partial ≡ p → (t : Bool) → (let r : WireAttr = record { flags = cond t (cond p 224 192 + 16) (cond p 224 192); kind = a.kind; value = a.bytes } in kept_raw r ≡ Some a)
+  by_test : (p : Bool) → a.partial ≡ p → (t : Bool)
+      → (let r : WireAttr = record { flags = cond t (cond p 224 192 + 16) (cond p 224 192); kind = a.kind; value = a.bytes } in kept_raw r ≡ Some a)
   by_test true e true = grind arith
   by_test true e false = grind arith
   by_test false e true = grind arith
   by_test false e false = grind arith
 
-others_good : (wide : Bool) (us : List RawAttr) → AllByRecursion IsOther us → AllByRecursion (λ (o : RawAttr). length o.bytes < 65536) us → AllByRecursion (IsGood wide) (map other_written us)
+others_good : (wide : Bool) (us : List RawAttr) → AllByRecursion IsOther us → AllByRecursion (λ (o : RawAttr). length o.bytes < 65536) us
+    → AllByRecursion (IsGood wide) (map other_written us)
 others_good wide [] all room = tt
 others_good wide (u ∷ us) all room = let o = all.0 in (passed_good wide u.partial u.kind u.bytes (either (is_other u.kind) (eqb u.kind 17 || eqb u.kind 18) o.other) o.kind room.0, others_good wide us all.1 room.1) where
   either : (t v : Bool) → t ≡ true → (t || v) ≡ true
@@ -375,7 +397,8 @@ others_are : (us : List RawAttr) → AllByRecursion IsOther us → AllByRecursio
 others_are [] all = tt
 others_are (u ∷ us) all = let o = all.0 in (o.other, others_are us all.1)
 
-all_written : (k : ℕ) (us : List RawAttr) → AllByRecursion (λ (u : RawAttr). other_kind u ≢ k) us → AllByRecursion (λ (r : WireAttr). wire_kind r ≢ k) (map other_written us)
+all_written : (k : ℕ) (us : List RawAttr) → AllByRecursion (λ (u : RawAttr). other_kind u ≢ k) us
+    → AllByRecursion (λ (r : WireAttr). wire_kind r ≢ k) (map other_written us)
 all_written k [] all = tt
 all_written k (u ∷ us) all = (all.0, all_written k us all.1)
 
@@ -446,7 +469,8 @@ are_slots wide a w r = (
 abbrev pub all_found : Attrs → FoundAttrs
 all_found a = record { origin = Some a.origin; path = Some a.path; next_hop = Some a.next_hop; med = a.med; atomic = a.atomic; aggregator = a.aggregator; unknown = a.unknown }
 
-look : (wide : Bool) (a : Attrs) (k : ℕ) → is_other k ≡ false → IsWritableAttrs a → HasRoom wide a → attr_of k (in_rising wire_kind (joined (slots wide a) (map other_written a.unknown))) ≡ slot_of k kinds (slots wide a)
+look : (wide : Bool) (a : Attrs) (k : ℕ) → is_other k ≡ false → IsWritableAttrs a → HasRoom wide a
+    → attr_of k (in_rising wire_kind (joined (slots wide a) (map other_written a.unknown))) ≡ slot_of k kinds (slots wide a)
 look wide a k o w r =
     find_rising k (joined (slots wide a) (map other_written a.unknown))
     ∙ find_slot wide k kinds (slots wide a) (map other_written a.unknown) o (are_slots wide a w r) (others_are a.unknown (recursion_from_All IsOther a.unknown w.unknown))
@@ -455,7 +479,8 @@ atomic_found : (atomic : Bool) → is_some (head_of (atomic_written atomic)) ≡
 atomic_found true = refl
 atomic_found false = refl
 
-same_found : (o o' : Option Origin) (p p' : Option (List PathPart)) (n n' m m' : Option ℕ) (t t' : Bool) (g g' : Option Aggregator) (u u' : List RawAttr) → o ≡ o' → p ≡ p' → n ≡ n' → m ≡ m' → t ≡ t' → g ≡ g' → u ≡ u' →
+same_found : (o o' : Option Origin) (p p' : Option (List PathPart)) (n n' m m' : Option ℕ) (t t' : Bool) (g g' : Option Aggregator) (u u' : List RawAttr)
+    → o ≡ o' → p ≡ p' → n ≡ n' → m ≡ m' → t ≡ t' → g ≡ g' → u ≡ u' →
     (let x : FoundAttrs = record { origin = o; path = p; next_hop = n; med = m; atomic = t; aggregator = g; unknown = u } in let y : FoundAttrs = record { origin = o'; path = p'; next_hop = n'; med = m'; atomic = t'; aggregator = g'; unknown = u' } in x ≡ y)
 same_found o o' p p' n n' m m' t t' g g' u u' e1 e2 e3 e4 e5 e6 e7 = grind arith
 
@@ -467,7 +492,8 @@ paths_found wide a w g as4 fresh =
     ∙ (ap (λ (o : Option (List PathPart)). path_with false o as4_path) (ap ok_in (path_said wide (path_in_width wide a.path) (path_fits wide a.path w.path)))
     ∙ path_found wide a.path w.path)
 
-all_are_found : (wide : Bool) (a : Attrs) → IsWritableAttrs a → HasRoom wide a → found_in wide (in_rising wire_kind (joined (slots wide a) (map other_written a.unknown))) ≡ all_found a
+all_are_found : (wide : Bool) (a : Attrs) → IsWritableAttrs a → HasRoom wide a
+    → found_in wide (in_rising wire_kind (joined (slots wide a) (map other_written a.unknown))) ≡ all_found a
 unfolding found_in
 all_are_found wide a w r =
     let xs : List WireAttr = in_rising wire_kind (joined (slots wide a) (map other_written a.unknown)) in
@@ -491,7 +517,8 @@ all_are_found wide a w r =
     (ap (λ (o : Option Aggregator). merged_aggregator o (unless_wide wide (as4_aggregator_in (attr_of 18 xs)))) g ∙ (ap (merged_aggregator (aggregator_in_width wide a.aggregator)) as4 ∙ merged.0))
     kept_are
 
-good_parts : (wide : Bool) (xs : List WireAttr) → AllByRecursion (IsGood wide) xs → AllByRecursion IsWireAttr xs × AllByRecursion (λ x. own_fault wide x ≡ None) xs
+good_parts : (wide : Bool) (xs : List WireAttr) → AllByRecursion (IsGood wide) xs
+    → AllByRecursion IsWireAttr xs × AllByRecursion (λ x. own_fault wide x ≡ None) xs
 good_parts wide [] all = (tt, tt)
 good_parts wide (x ∷ xs) all = let g = all.0 in let h = good_parts wide xs all.1 in ((g.sound, h.0), (g.own, h.1))
 

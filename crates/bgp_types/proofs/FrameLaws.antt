@@ -11,7 +11,8 @@ use Rattle.bgp_types.specs.declared.fault.HeaderFault.TheVariants.{NotSynchroniz
 use Rattle.bgp_types.specs.Header.{frame_at, header_fault, len_in, has_room, fault_of_kind}
 use Rattle.bgp_types.proofs.ManyLaws.{Reads, Shortens, kept_out, either_false}
 
-pub frame_is : (bytes : List ℕ) (x : List ℕ × List ℕ) → frame_at bytes ≡ Some x → (19 ≤ length bytes) × (header_fault bytes ≡ None) × (len_in bytes ≤ length bytes) × ((take (len_in bytes) bytes, drop (len_in bytes) bytes) ≡ x)
+pub frame_is : (bytes : List ℕ) (x : List ℕ × List ℕ) → frame_at bytes ≡ Some x
+    → (19 ≤ length bytes) × (header_fault bytes ≡ None) × (len_in bytes ≤ length bytes) × ((take (len_in bytes) bytes, drop (len_in bytes) bytes) ≡ x)
 unfolding frame_at
 frame_is bytes x e =
     let a = kept_out (ltb (length bytes) 19 || is_some (header_fault bytes)) _ x e in
@@ -25,7 +26,9 @@ frame_is bytes x e =
 
 kind_long : (k len : ℕ) → fault_of_kind k len ≡ None → 19 ≤ len
 kind_long k len e = by_test (ltb len 19) refl e where
-  by_test : (t : Bool) → ltb len 19 ≡ t → cond (t || ltb 4096 len) (Some (BadLength len)) (cond ((eqb k 0) || ltb 4 k) (Some (BadType k)) (cond (has_room k len) None (Some (BadLength len)))) ≡ None → 19 ≤ len
+  by_test : (t : Bool) → ltb len 19 ≡ t
+      → cond (t || ltb 4096 len) (Some (BadLength len)) (cond ((eqb k 0) || ltb 4 k) (Some (BadType k)) (cond (has_room k len) None (Some (BadLength len)))) ≡ None
+      → 19 ≤ len
   by_test true f e = absurd cc
   by_test false f e = ltb-false _ _ f
 

@@ -9,6 +9,7 @@ use Rattle.std.proofs.lemmas.List.{length-map}
 use Rattle.bgp_types.specs.declared.attrs.Attrs.{Attrs}
 use Rattle.bgp_types.specs.declared.attrs.RawAttr.{RawAttr}
 use Rattle.bgp_types.specs.declared.message.Cap.{Cap}
+use Rattle.bgp_types.specs.declared.message.Message.TheVariants.{UpdateMsg}
 use Rattle.bgp_types.specs.declared.message.Update.{Update}
 use Rattle.bgp_types.specs.declared.path.PathPart.{PathPart}
 use Rattle.bgp_types.specs.declared.path.PathPart.TheVariants as parts
@@ -17,7 +18,7 @@ use Rattle.bgp_types.specs.PathOctets.{as_width, part_octets, path_octets, narro
 use Rattle.bgp_types.specs.Paths.{ases_of}
 use Rattle.bgp_types.specs.Rising.{insert_by, in_rising}
 use Rattle.bgp_types.specs.Prefixes.{prefix_octets}
-use Rattle.bgp_types.specs.Spelling.{passed_flags, origin_written, path_written, next_hop_written, med_written, atomic_written, aggregator_written, as4_path_written, as4_aggregator_written, other_written, attrs_written, spell_attrs, spell_some_attrs, spell_prefixes, spell_update, counted, param_octets, cap_octets, framed}
+use Rattle.bgp_types.specs.Spelling.{passed_flags, origin_written, path_written, next_hop_written, med_written, atomic_written, aggregator_written, as4_path_written, as4_aggregator_written, other_written, attrs_written, spell, spell_attrs, spell_some_attrs, spell_prefixes, spell_update, length_prefixed, param_octets, cap_octets, framed}
 use Rattle.bgp_types.specs.WireAttrs.{WireAttr, wire_kind, size_width, attr_octets, written}
 
 -- ---- paths
@@ -56,7 +57,8 @@ path_in_width_size false path = path_size_is false (map narrow_part path) ∙ na
 insert_size : (x : WireAttr) (xs : List WireAttr) → attrs_size (insert_by wire_kind x xs) ≡ attr_size x + attrs_size xs
 insert_size x [] = sum_by-cons attr_size x []
 insert_size x (y ∷ ys) = by_test (ltb (wire_kind y) (wire_kind x)) (insert_size x ys) where
-  by_test : (t : Bool) → attrs_size (insert_by wire_kind x ys) ≡ attr_size x + attrs_size ys → attrs_size (cond t (y ∷ insert_by wire_kind x ys) (x ∷ y ∷ ys)) ≡ attr_size x + attrs_size (y ∷ ys)
+  by_test : (t : Bool) → attrs_size (insert_by wire_kind x ys) ≡ attr_size x + attrs_size ys
+      → attrs_size (cond t (y ∷ insert_by wire_kind x ys) (x ∷ y ∷ ys)) ≡ attr_size x + attrs_size (y ∷ ys)
   by_test true h = sum_by-cons attr_size y (insert_by wire_kind x ys) ∙ (rw (h, sum_by-cons attr_size y ys) (omega arith))
   by_test false h = sum_by-cons attr_size x (y ∷ ys)
 
@@ -65,16 +67,19 @@ rising_size [] = refl
 rising_size (x ∷ xs) = insert_size x (in_rising wire_kind xs) ∙ (ap (λ n. attr_size x + n) (rising_size xs) ∙ sym (sum_by-cons attr_size x xs))
 
 -- an attribute, by the size of its value, for each of the flags that are written
-pub sized : (flags kind : ℕ) (value : List ℕ) → (bit_and flags 16 == 0) ≡ true → (bit_and (flags + 16) 16 == 0) ≡ false → attr_size (written flags kind value) ≡ attr_size_of (length value)
+pub sized : (flags kind : ℕ) (value : List ℕ) → (bit_and flags 16 == 0) ≡ true → (bit_and (flags + 16) 16 == 0) ≡ false
+    → attr_size (written flags kind value) ≡ attr_size_of (length value)
 sized flags kind value short long = by_test (ltb 255 (length value)) where
-  by_test : (t : Bool) → suc (suc (length (to_be_bytes (size_width (cond t (flags + 16) flags)) (length value) ++ value))) ≡ cond t (length value + 4) (length value + 3)
+  by_test : (t : Bool)
+      → suc (suc (length (to_be_bytes (size_width (cond t (flags + 16) flags)) (length value) ++ value))) ≡ cond t (length value + 4) (length value + 3)
   by_test true = let h = length-append (to_be_bytes w16 (length value)) value in rw long (omega arith)
   by_test false = let h = length-append (to_be_bytes w8 (length value)) value in rw short (omega arith)
 
 path_written_size : (wide : Bool) (path : List PathPart) → attr_size (path_written wide path) ≡ attr_size_of (sum_by (part_size wide) path)
 path_written_size wide path = sized 64 2 (path_octets wide (path_in_width wide path)) refl refl ∙ ap attr_size_of (path_in_width_size wide path)
 
-pub as4_path_size : (wide : Bool) (path : List PathPart) → attrs_size (as4_path_written wide path) ≡ (if not wide && has_long_as path then attr_size_of (sum_by (part_size true) path) else 0)
+pub as4_path_size : (wide : Bool) (path : List PathPart)
+    → attrs_size (as4_path_written wide path) ≡ (if not wide && has_long_as path then attr_size_of (sum_by (part_size true) path) else 0)
 as4_path_size wide path = by_test (not wide && has_long_as path) where
   by_test : (t : Bool) → attrs_size (cond t (written 192 17 (path_octets true path) ∷ []) []) ≡ cond t (attr_size_of (sum_by (part_size true) path)) 0
   by_test true = let h : attr_size (written 192 17 (path_octets true path)) ≡ attr_size_of (sum_by (part_size true) path) = sized 192 17 (path_octets true path) refl refl ∙ ap attr_size_of (path_size_is true path) in omega arith
@@ -119,30 +124,34 @@ spelled_attrs_size wide a =
 
 -- ---- messages
 
-counted_size : (octets : List ℕ) → length (counted octets) ≡ 2 + length octets
+counted_size : (octets : List ℕ) → length (length_prefixed octets) ≡ 2 + length octets
 counted_size octets = length-append (to_be_bytes w16 (length octets)) octets
 
 -- the three fields of an UPDATE, two of them behind their lengths
-pub update_fields_size : (wide : Bool) (u : Update) → length (spell_update wide u) ≡ 4 + (length (spell_prefixes u.withdrawn) + (length (spell_some_attrs wide u.attrs) + length (spell_prefixes u.nlri)))
+pub update_fields_size : (wide : Bool) (u : Update)
+    → length (spell_update wide u) ≡ 4 + (length (spell_prefixes u.withdrawn) + (length (spell_some_attrs wide u.attrs) + length (spell_prefixes u.nlri)))
 update_fields_size wide u =
     let withdrawn = spell_prefixes u.withdrawn in
     let attrs = spell_some_attrs wide u.attrs in
     let nlri = spell_prefixes u.nlri in
-    let e1 : length (counted withdrawn ++ (counted attrs ++ nlri)) ≡ length (counted withdrawn) + length (counted attrs ++ nlri) = length-append (counted withdrawn) (counted attrs ++ nlri) in
-    let e2 : length (counted attrs ++ nlri) ≡ length (counted attrs) + length nlri = length-append (counted attrs) nlri in
+    let e1 : length (length_prefixed withdrawn ++ (length_prefixed attrs ++ nlri)) ≡ length (length_prefixed withdrawn) + length (length_prefixed attrs ++ nlri) = length-append (length_prefixed withdrawn) (length_prefixed attrs ++ nlri) in
+    let e2 : length (length_prefixed attrs ++ nlri) ≡ length (length_prefixed attrs) + length nlri = length-append (length_prefixed attrs) nlri in
     let c1 = counted_size withdrawn in
     let c2 = counted_size attrs in
     omega arith
 
-pub update_size : (wide : Bool) (u : Update) → length (spell_update wide u) ≡ 4 + (sum_by prefix_size u.withdrawn + (length (spell_some_attrs wide u.attrs) + sum_by prefix_size u.nlri))
+pub framed_size : (kind : ℕ) (body : List ℕ) → length (framed kind body) ≡ 19 + length body
+framed_size kind body = omega arith
+
+pub update_size : (wide : Bool) (u : Update)
+    → length (spell (UpdateMsg u) wide) ≡ 23 + (sum_by prefix_size u.withdrawn + (length (spell_some_attrs wide u.attrs) + sum_by prefix_size u.nlri))
+unfolding spell
 update_size wide u =
     let all = update_fields_size wide u in
     let w : length (spell_prefixes u.withdrawn) ≡ sum_by prefix_size u.withdrawn = length-flat_map prefix_octets u.withdrawn in
     let n : length (spell_prefixes u.nlri) ≡ sum_by prefix_size u.nlri = length-flat_map prefix_octets u.nlri in
+    let whole = framed_size 2 (spell_update wide u) in
     omega arith
 
 pub caps_size : (caps : List Cap) → length (flat_map (λ cap. param_octets (cap_octets cap)) caps) ≡ sum_by cap_size caps
 caps_size caps = length-flat_map (λ cap. param_octets (cap_octets cap)) caps
-
-pub framed_size : (kind : ℕ) (body : List ℕ) → length (framed kind body) ≡ 19 + length body
-framed_size kind body = omega arith

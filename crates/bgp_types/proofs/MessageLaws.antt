@@ -20,7 +20,7 @@ use Rattle.bgp_types.specs.Header.{has_room, fault_of_kind, len_in, kind_in, hea
 use Rattle.bgp_types.specs.OctetLists.{AreOctets}
 use Rattle.bgp_types.specs.OpenBody.{open_of}
 use Rattle.bgp_types.specs.Reads.{Reads, ReadsBody, ReadsOpen, ReadsUpdate}
-use Rattle.bgp_types.specs.Spelling.{kind_of, marker, counted, framed}
+use Rattle.bgp_types.specs.Spelling.{kind_of, marker, length_prefixed, framed}
 use Rattle.bgp_types.specs.UpdateBody.{update_of}
 use Rattle.bgp_types.proofs.AttrLaws.{AreOctets-drop, AreOctets-take, wide16}
 use Rattle.bgp_types.proofs.FrameLaws.{frame_is, frame_of}
@@ -37,7 +37,8 @@ all_ff : (n : ℕ) (bytes : List ℕ) → n ≤ length bytes → list_all (λ b.
 all_ff zero bytes le e = refl
 all_ff (suc n) [] le e = absurd (omega arith)
 all_ff (suc n) (b ∷ bytes) le e = by_test (eqb b 255) refl (all_ff n bytes (omega arith)) e where
-  by_test : (t : Bool) → eqb b 255 ≡ t → (list_all (λ b. eqb b 255) (take n bytes) ≡ true → take n bytes ≡ replicate n 255) → (t && list_all (λ b. eqb b 255) (take n bytes)) ≡ true → b ∷ take n bytes ≡ 255 ∷ replicate n 255
+  by_test : (t : Bool) → eqb b 255 ≡ t → (list_all (λ b. eqb b 255) (take n bytes) ≡ true → take n bytes ≡ replicate n 255)
+      → (t && list_all (λ b. eqb b 255) (take n bytes)) ≡ true → b ∷ take n bytes ≡ 255 ∷ replicate n 255
   by_test true f ih g = ap (λ (x : ℕ). x ∷ take n bytes) (eqb-true _ _ f) ∙ ap (λ (ys : List ℕ). 255 ∷ ys) (ih g)
   by_test false f ih g = absurd cc
 
@@ -49,7 +50,8 @@ record IsSound (bytes : List ℕ) : Type 0 where
 sound_is : (bytes : List ℕ) → header_fault bytes ≡ None → IsSound bytes
 unfolding header_fault
 sound_is bytes e = by_test (list_all (λ b. eqb b 255) (take 16 bytes)) refl e where
-  by_test : (t : Bool) → list_all (λ b. eqb b 255) (take 16 bytes) ≡ t → cond t (fault_of_kind (kind_in bytes) (len_in bytes)) (Some NotSynchronized) ≡ None → IsSound bytes
+  by_test : (t : Bool) → list_all (λ b. eqb b 255) (take 16 bytes) ≡ t
+      → cond t (fault_of_kind (kind_in bytes) (len_in bytes)) (Some NotSynchronized) ≡ None → IsSound bytes
   by_test true f g = record { marked = f; kind = g }
   by_test false f g = absurd cc
 
@@ -63,7 +65,8 @@ pub record HasRoom (kind len : ℕ) : Type 0 where
 
 pub room_is : (kind len : ℕ) → fault_of_kind kind len ≡ None → HasRoom kind len
 room_is kind len e = by_test (ltb len 19) (ltb 4096 len) (eqb kind 0) (ltb 4 kind) (has_room kind len) refl refl refl refl refl e where
-  by_test : (t u v w x : Bool) → ltb len 19 ≡ t → ltb 4096 len ≡ u → eqb kind 0 ≡ v → ltb 4 kind ≡ w → has_room kind len ≡ x → cond (t || u) (Some (BadLength len)) (cond (v || w) (Some (BadType kind)) (cond x None (Some (BadLength len)))) ≡ None → HasRoom kind len
+  by_test : (t u v w x : Bool) → ltb len 19 ≡ t → ltb 4096 len ≡ u → eqb kind 0 ≡ v → ltb 4 kind ≡ w → has_room kind len ≡ x
+      → cond (t || u) (Some (BadLength len)) (cond (v || w) (Some (BadType kind)) (cond x None (Some (BadLength len)))) ≡ None → HasRoom kind len
   by_test true u v w x a b c d f e = absurd cc
   by_test false true v w x a b c d f e = absurd cc
   by_test false false true w x a b c d f e = absurd cc
@@ -101,7 +104,8 @@ whole_is frame b e =
       room = rw body r;
     }
   where
-    joined : (frame xs ys zs : List ℕ) → frame ≡ xs ++ (ys ++ zs) → xs ≡ marker → ys ≡ to_be_bytes w16 (19 + length (drop 19 frame)) → frame ≡ marker ++ (to_be_bytes w16 (19 + length (drop 19 frame)) ++ zs)
+    joined : (frame xs ys zs : List ℕ) → frame ≡ xs ++ (ys ++ zs) → xs ≡ marker → ys ≡ to_be_bytes w16 (19 + length (drop 19 frame))
+        → frame ≡ marker ++ (to_be_bytes w16 (19 + length (drop 19 frame)) ++ zs)
     joined frame xs ys zs e f g = e ∙ (ap (λ (y : List ℕ). y ++ (ys ++ zs)) f ∙ ap (λ (y : List ℕ). marker ++ (y ++ zs)) g)
 
 -- ---- bodies
@@ -115,7 +119,8 @@ record IsBody (expected : Expected) (kind : ℕ) (body : List ℕ) (m : Message)
 same_message : (x y : Message) → (let r : Result Message Notice = Ok x in r) ≡ Ok y → x ≡ y
 same_message x y e = cc
 
-open_body : (expected : Expected) (kind : ℕ) (body : List ℕ) (m : Message) → kind ≡ 1 → AreOctets body → 10 ≤ length body → open_message (open_of expected body) ≡ Ok m → IsBody expected kind body m
+open_body : (expected : Expected) (kind : ℕ) (body : List ℕ) (m : Message) → kind ≡ 1 → AreOctets body → 10 ≤ length body
+    → open_message (open_of expected body) ≡ Ok m → IsBody expected kind body m
 open_body expected kind body m k b le e = by_answer (open_of expected body) refl e where
   by_answer : (r : Result OpenMsg Notice) → open_of expected body ≡ r → open_message r ≡ Ok m → IsBody expected kind body m
   by_answer (Err n) f g = absurd cc
@@ -124,7 +129,8 @@ open_body expected kind body m k b le e = by_answer (open_of expected body) refl
       let here : IsBody expected kind body (messages.OpenMsg o) = record { kind_is = k; says = read.0; from = read.1 } in
       subst (λ (x : Message). IsBody expected kind body x) (same_message _ m g) here
 
-update_body : (expected : Expected) (kind : ℕ) (body : List ℕ) (m : Message) → kind ≡ 2 → AreOctets body → update_message (update_of expected.wide body) ≡ Ok m → IsBody expected kind body m
+update_body : (expected : Expected) (kind : ℕ) (body : List ℕ) (m : Message) → kind ≡ 2 → AreOctets body
+    → update_message (update_of expected.wide body) ≡ Ok m → IsBody expected kind body m
 update_body expected kind body m k b e = by_answer (update_of expected.wide body) refl e where
   by_answer : (r : Result Update Notice) → update_of expected.wide body ≡ r → update_message r ≡ Ok m → IsBody expected kind body m
   by_answer (Err n) f g = absurd cc
@@ -132,14 +138,16 @@ update_body expected kind body m k b e = by_answer (update_of expected.wide body
       let here : IsBody expected kind body (messages.UpdateMsg u) = record { kind_is = k; says = update_read expected.wide body u b f; from = refl } in
       subst (λ (x : Message). IsBody expected kind body x) (same_message _ m g) here
 
-notice_body : (expected : Expected) (kind : ℕ) (body : List ℕ) (m : Message) → kind ≡ 3 → 2 ≤ length body → (let r : Result Message Notice = Ok (messages.NoticeMsg (notice_of body)) in r) ≡ Ok m → IsBody expected kind body m
+notice_body : (expected : Expected) (kind : ℕ) (body : List ℕ) (m : Message) → kind ≡ 3 → 2 ≤ length body
+    → (let r : Result Message Notice = Ok (messages.NoticeMsg (notice_of body)) in r) ≡ Ok m → IsBody expected kind body m
 notice_body expected kind [] m k le e = absurd (omega arith)
 notice_body expected kind (a ∷ []) m k le e = absurd (omega arith)
 notice_body expected kind (a ∷ b ∷ body) m k le e =
     let here : IsBody expected kind (a ∷ b ∷ body) (messages.NoticeMsg (notice_of (a ∷ b ∷ body))) = record { kind_is = k; says = refl; from = refl } in
     subst (λ (x : Message). IsBody expected kind (a ∷ b ∷ body) x) (same_message _ m e) here
 
-keepalive_body : (expected : Expected) (kind : ℕ) (body : List ℕ) (m : Message) → kind ≡ 4 → length body ≡ 0 → (let r : Result Message Notice = Ok messages.KeepaliveMsg in r) ≡ Ok m → IsBody expected kind body m
+keepalive_body : (expected : Expected) (kind : ℕ) (body : List ℕ) (m : Message) → kind ≡ 4 → length body ≡ 0
+    → (let r : Result Message Notice = Ok messages.KeepaliveMsg in r) ≡ Ok m → IsBody expected kind body m
 keepalive_body expected kind (b ∷ body) m k len e = absurd (omega arith)
 keepalive_body expected kind [] m k len e =
     let here : IsBody expected kind [] messages.KeepaliveMsg = record { kind_is = k; says = refl; from = refl } in
@@ -156,11 +164,13 @@ room_for kind len r = (for1 kind len r.room, for3 kind len r.room, for4 kind len
   for4 : (kind len : ℕ) → has_room kind len ≡ true → kind ≡ 4 → len ≡ 19
   for4 kind len e k = let f : has_room 4 len ≡ true = subst (λ (n : ℕ). has_room n len ≡ true) k e in grind (arith, nat_tests)
 
-body_read : (expected : Expected) (kind : ℕ) (body : List ℕ) (m : Message) → AreOctets body → HasRoom kind (19 + length body) → body_of expected kind body ≡ Ok m → IsBody expected kind body m
+body_read : (expected : Expected) (kind : ℕ) (body : List ℕ) (m : Message) → AreOctets body → HasRoom kind (19 + length body)
+    → body_of expected kind body ≡ Ok m → IsBody expected kind body m
 unfolding body_of
 body_read expected kind body m b room e = by_test (eqb kind 1) refl (eqb kind 2) refl (eqb kind 3) refl e where
   by_test : (t : Bool) → eqb kind 1 ≡ t → (u : Bool) → eqb kind 2 ≡ u → (v : Bool) → eqb kind 3 ≡ v
-      → cond t (open_message (open_of expected body)) (cond u (update_message (update_of expected.wide body)) (cond v (Ok (messages.NoticeMsg (notice_of body))) (Ok messages.KeepaliveMsg))) ≡ Ok m → IsBody expected kind body m
+      → cond t (open_message (open_of expected body)) (cond u (update_message (update_of expected.wide body)) (cond v (Ok (messages.NoticeMsg (notice_of body))) (Ok messages.KeepaliveMsg))) ≡ Ok m
+      → IsBody expected kind body m
   by_test true f u g v h e = let k = eqb-true _ _ f in let le = (room_for kind (19 + length body) room).0 k in open_body expected kind body m k b (omega arith) e
   by_test false f true g v h e = update_body expected kind body m (eqb-true _ _ g) b e
   by_test false f false g true h e = let k = eqb-true _ _ h in let le = (room_for kind (19 + length body) room).1 k in notice_body expected kind body m k (omega arith) e
@@ -173,14 +183,18 @@ body_read expected kind body m b room e = by_test (eqb kind 1) refl (eqb kind 2)
 
 -- ---- messages
 
-header_passed : (o : Option HeaderFault) (expected : Expected) (frame : List ℕ) (m : Message) → o ≡ None → with_header o expected frame ≡ Ok m → (is_in_state expected.state (kind_in frame) ≡ true) × (body_of expected (kind_in frame) (drop 19 frame) ≡ Ok m)
+header_passed : (o : Option HeaderFault) (expected : Expected) (frame : List ℕ) (m : Message) → o ≡ None → with_header o expected frame ≡ Ok m
+    → (is_in_state expected.state (kind_in frame) ≡ true) × (body_of expected (kind_in frame) (drop 19 frame) ≡ Ok m)
 header_passed (Some fault) expected frame m f e = absurd cc
 header_passed None expected frame m f e = by_test (is_in_state expected.state (kind_in frame)) refl e where
-  by_test : (t : Bool) → is_in_state expected.state (kind_in frame) ≡ t → cond t (body_of expected (kind_in frame) (drop 19 frame)) (Err state_fault) ≡ Ok m → (is_in_state expected.state (kind_in frame) ≡ true) × (body_of expected (kind_in frame) (drop 19 frame) ≡ Ok m)
+  by_test : (t : Bool) → is_in_state expected.state (kind_in frame) ≡ t
+      → cond t (body_of expected (kind_in frame) (drop 19 frame)) (Err state_fault) ≡ Ok m
+      → (is_in_state expected.state (kind_in frame) ≡ true) × (body_of expected (kind_in frame) (drop 19 frame) ≡ Ok m)
   by_test true g e = (g, e)
   by_test false g e = absurd cc
 
-pub message_read : (expected : Expected) (frame : List ℕ) (m : Message) → AreOctets frame → frame_at frame ≡ Some (frame, []) → message_of expected frame ≡ Ok m → Reads frame m expected.wide × IsExpected expected m
+pub message_read : (expected : Expected) (frame : List ℕ) (m : Message) → AreOctets frame → frame_at frame ≡ Some (frame, [])
+    → message_of expected frame ≡ Ok m → Reads frame m expected.wide × IsExpected expected m
 unfolding message_of
 message_read expected frame m b whole e =
     let w = whole_is frame b whole in
@@ -204,7 +218,8 @@ no_fault kind len low high some known room =
     rw (short, long, zero_kind, high_kind, room) refl
 
 -- the header of a frame that is put together
-header_again : (kind : ℕ) (body : List ℕ) → 19 + length body ≤ 4096 → 1 ≤ kind → kind ≤ 4 → has_room kind (19 + length body) ≡ true → header_fault (framed kind body) ≡ None
+header_again : (kind : ℕ) (body : List ℕ) → 19 + length body ≤ 4096 → 1 ≤ kind → kind ≤ 4 → has_room kind (19 + length body) ≡ true
+    → header_fault (framed kind body) ≡ None
 unfolding header_fault
 header_again kind body size some known room =
     ap (fault_of_kind kind) (len_again kind body size) ∙ no_fault kind (19 + length body) (omega arith) size some known room
@@ -222,8 +237,8 @@ open_length expected body o r = rw r.octets (omega arith)
 update_length : (wide : Bool) (body : List ℕ) (u : Update) → ReadsUpdate wide body u → 4 ≤ length body
 update_length wide body u r =
     let first = length-append (to_be_bytes w16 (length r.withdrawn)) r.withdrawn in
-    let all = length-append (counted r.withdrawn) (counted r.attrs ++ r.nlri) in
-    let second = length-append (counted r.attrs) r.nlri in
+    let all = length-append (length_prefixed r.withdrawn) (length_prefixed r.attrs ++ r.nlri) in
+    let second = length-append (length_prefixed r.attrs) r.nlri in
     let third = length-append (to_be_bytes w16 (length r.attrs)) r.attrs in
     let total = ap length r.fields in
     omega arith

@@ -14,7 +14,7 @@ use Rattle.bgp_types.specs.declared.message.Notice.{Notice}
 use Rattle.bgp_types.specs.declared.message.OpenMsg.{OpenMsg}
 use Rattle.bgp_types.specs.declared.message.Update.{Update}
 use Rattle.bgp_types.specs.FirstFault.{first_fault, message_of, body_of, with_header, open_message, update_message, state_fault, notice_of}
-use Rattle.bgp_types.specs.Faults.{fault_in, bare, about, or_fault, with_flags, with_size, origin_of, origin_in, path_in, host_in, next_hop_in, med_in, atomic_in, aggregator_in, aggregator_of, other_in, kept_raw, own_fault, fault_after, first_of, attrs_fault}
+use Rattle.bgp_types.specs.Faults.{fault_in, bare, about, or_fault, with_flags, with_size, origin_of, origin_in, path_in, host_in, next_hop_in, med_in, atomic_in, aggregator_in, aggregator_of, other_in, kept_raw, own_fault, fault_after, earlier_notice, attrs_fault}
 use Rattle.bgp_types.specs.Found.{attrs_in, found_in, unless}
 use Rattle.bgp_types.specs.Header.{header_fault, header_notice, kind_in}
 use Rattle.bgp_types.specs.Many.{all_of, many}
@@ -112,7 +112,8 @@ aggregator_short wide a = flags_short 192 a _ (size_short (byte_len (as_width wi
 own_short : (wide : Bool) (a : WireAttr) → ShortFault (own_fault wide a)
 unfolding own_fault
 own_short wide a = by_kind (eqb a.kind 1) (eqb a.kind 2) (eqb a.kind 3) (eqb a.kind 4) (eqb a.kind 5) (eqb a.kind 6) (eqb a.kind 7) where
-  by_kind : (t u v w x y z : Bool) → ShortFault (cond t (fault_in (origin_in a)) (cond u (fault_in (path_in wide a)) (cond v (fault_in (next_hop_in a)) (cond w (fault_in (med_in a)) (cond x None (cond y (fault_in (atomic_in a)) (cond z (fault_in (aggregator_in wide a)) (fault_in (other_in a)))))))))
+  by_kind : (t u v w x y z : Bool)
+      → ShortFault (cond t (fault_in (origin_in a)) (cond u (fault_in (path_in wide a)) (cond v (fault_in (next_hop_in a)) (cond w (fault_in (med_in a)) (cond x None (cond y (fault_in (atomic_in a)) (cond z (fault_in (aggregator_in wide a)) (fault_in (other_in a)))))))))
   by_kind true u v w x y z = fault_short (origin_in a) (origin_short a)
   by_kind false true v w x y z = fault_short (path_in wide a) (path_short wide a)
   by_kind false false true w x y z = fault_short (next_hop_in a) (next_hop_short a)
@@ -128,7 +129,7 @@ after_short wide before a = by_test _ where
   by_test true = none_short 3 1
   by_test false = own_short wide a
 
-first_short : (one later : Option Notice) → ShortFault one → ShortFault later → ShortFault (first_of one later)
+first_short : (one later : Option Notice) → ShortFault one → ShortFault later → ShortFault (earlier_notice one later)
 first_short (Some n) later s l = s
 first_short None later s l = l
 
@@ -217,7 +218,8 @@ body_short expected kind body = by_kind (eqb kind 1) (eqb kind 2) (eqb kind 3) w
   updated (Ok u) s = tt
   updated (Err n) s = s
 
-  by_kind : (t u v : Bool) → Short (cond t (open_message (open_of expected body)) (cond u (update_message (update_of expected.wide body)) (cond v (Ok (messages.NoticeMsg (notice_of body))) (Ok messages.KeepaliveMsg))))
+  by_kind : (t u v : Bool)
+      → Short (cond t (open_message (open_of expected body)) (cond u (update_message (update_of expected.wide body)) (cond v (Ok (messages.NoticeMsg (notice_of body))) (Ok messages.KeepaliveMsg))))
   by_kind true u v = opened (open_of expected body) (open_short expected body)
   by_kind false true v = updated (update_of expected.wide body) (update_short expected.wide body)
   by_kind false false true = tt
@@ -239,7 +241,8 @@ message_short expected frame = by_header (header_fault frame) where
   by_header (Some fault) = header_short fault
   by_header None = by_state _
 
-pub fault_writable : (frame : List ℕ) (expected : Expected) (n : Notice) (wide : Bool) → first_fault frame expected ≡ Some n → IsWritable (messages.NoticeMsg n) wide
+pub fault_writable : (frame : List ℕ) (expected : Expected) (n : Notice) (wide : Bool) → first_fault frame expected ≡ Some n
+    → IsWritable (messages.NoticeMsg n) wide
 unfolding spell
 fault_writable frame expected n wide e =
     let s : IsShort n = subst ShortFault e (fault_short (message_of expected frame) (message_short expected frame)) in

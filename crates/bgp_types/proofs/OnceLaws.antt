@@ -57,7 +57,8 @@ module _ {A : Type 0} where
   found : (test : A → Bool) (xs : List A) (y : A) → test y ≡ true → Contains xs y → position_or_len test xs < length xs
   found test [] y e c = absurd (none_in y c)
   found test (x ∷ xs) y e c = by_test (test x) refl (first_or x xs y c) (found test xs y e) where
-    by_test : (t : Bool) → test x ≡ t → (x ≡ y) ⊎ Contains xs y → (Contains xs y → position_or_len test xs < length xs) → cond (not t) (1 + position_or_len test xs) 0 < suc (length xs)
+    by_test : (t : Bool) → test x ≡ t → (x ≡ y) ⊎ Contains xs y → (Contains xs y → position_or_len test xs < length xs)
+        → cond (not t) (1 + position_or_len test xs) 0 < suc (length xs)
     by_test true f d later = omega arith
     by_test false f (inl s) later = absurd (let g : test x ≡ true = ap test s ∙ e in cc)
     by_test false f (inr d) later = let h = later d in omega arith
@@ -72,7 +73,9 @@ module _ {A : Type 0} where
   place_before : (test : A → Bool) (xs ys : List A) → position_or_len test xs < length xs → position_or_len test (xs ++ ys) ≡ position_or_len test xs
   place_before test [] ys low = absurd (omega arith)
   place_before test (x ∷ xs) ys low = by_test (test x) low (place_before test xs ys) where
-    by_test : (t : Bool) → cond (not t) (1 + position_or_len test xs) 0 < suc (length xs) → (position_or_len test xs < length xs → position_or_len test (xs ++ ys) ≡ position_or_len test xs) → cond (not t) (1 + position_or_len test (xs ++ ys)) 0 ≡ cond (not t) (1 + position_or_len test xs) 0
+    by_test : (t : Bool) → cond (not t) (1 + position_or_len test xs) 0 < suc (length xs)
+        → (position_or_len test xs < length xs → position_or_len test (xs ++ ys) ≡ position_or_len test xs)
+        → cond (not t) (1 + position_or_len test (xs ++ ys)) 0 ≡ cond (not t) (1 + position_or_len test xs) 0
     by_test true low later = refl
     by_test false low later = ap (λ n. 1 + n) (later (omega arith))
 
@@ -97,7 +100,8 @@ module _ {A : Type 0} where
   rising_push f (x ∷ xs) y rise below = (all_push (λ z. f x < f z) xs y rise.0 below.0, rising_push f xs y rise.1 below.1)
 
   -- rising lists with the same members are one list
-  one_list : (f : A → ℕ) (xs ys : List A) → IsRising f xs → IsRising f ys → ((z : A) → Contains xs z → Contains ys z) → ((z : A) → Contains ys z → Contains xs z) → xs ≡ ys
+  one_list : (f : A → ℕ) (xs ys : List A) → IsRising f xs → IsRising f ys → ((z : A) → Contains xs z → Contains ys z)
+      → ((z : A) → Contains ys z → Contains xs z) → xs ≡ ys
   one_list f [] [] r s h k = refl
   one_list f (x ∷ xs) [] r s h k = absurd (none_in x (h x (first_in x xs)))
   one_list f [] (y ∷ ys) r s h k = absurd (none_in y (k y (first_in y ys)))

@@ -39,7 +39,8 @@ cap_takes (code ∷ size ∷ bytes) x b e =
     let h = kept_out (ltb (length bytes) size) (Some (cap, drop size bytes)) x e in
     let len : length (take size bytes) ≡ size = length-take-le size bytes (ltb-false _ _ h.0) in
     let here : TakesOne Any cap_at cap_octets AnyCap (code ∷ size ∷ bytes) (cap, drop size bytes) = record {
-      parts = ap (λ (y : List ℕ). code ∷ size ∷ y) (sym (take-append-drop size bytes)) ∙ ap (λ (n : ℕ). code ∷ n ∷ take size bytes ++ drop size bytes) (sym len);
+      parts = ap (λ (y : List ℕ). code ∷ size ∷ y) (sym (take-append-drop size bytes))
+          ∙ ap (λ (n : ℕ). code ∷ n ∷ take size bytes ++ drop size bytes) (sym len);
       fits = tt;
       rest = tt;
     } in
@@ -103,7 +104,8 @@ caps_of_again (caps ∷ params) =
     ap (λ (o : Option (List Cap)). with_caps o (caps_of (params_with params))) (caps_again caps)
     ∙ ap (λ (r : Result (List Cap) Notice). with_caps (Some caps) r) (caps_of_again params)
 
-with_caps_ok : (o : Option (List Cap)) (later : Result (List Cap) Notice) (caps : List Cap) → with_caps o later ≡ Ok caps → (first : List Cap) × (others : List Cap) × (o ≡ Some first) × (later ≡ Ok others) × (first ++ others ≡ caps)
+with_caps_ok : (o : Option (List Cap)) (later : Result (List Cap) Notice) (caps : List Cap) → with_caps o later ≡ Ok caps
+    → (first : List Cap) × (others : List Cap) × (o ≡ Some first) × (later ≡ Ok others) × (first ++ others ≡ caps)
 with_caps_ok None later caps e = absurd cc
 with_caps_ok (Some first) (Err n) caps e = absurd cc
 with_caps_ok (Some first) (Ok others) caps e = (first, others, refl, refl, cc)
@@ -200,7 +202,8 @@ last_test : (offered field said : Bool) → cond offered said field ≡ true →
 last_test true field said e = ap not e
 last_test false field said e = refl
 
-open_passes : (expected : Expected) (body : List ℕ) (o : OpenMsg) → open_of expected body ≡ Ok o → (caps : List Cap) × Passes expected body caps × (is_remote_as expected (as_in body) caps ≡ true) × (open_with body caps ≡ o)
+open_passes : (expected : Expected) (body : List ℕ) (o : OpenMsg) → open_of expected body ≡ Ok o
+    → (caps : List Cap) × Passes expected body caps × (is_remote_as expected (as_in body) caps ≡ true) × (open_with body caps ≡ o)
 unfolding open_of
 open_passes expected body o e =
     let version = unless_ok _ _ _ o e in
@@ -210,7 +213,8 @@ open_passes expected body o e =
     let said = said_ok expected body (with_params (params_of (drop 9 body))) o host.1 in
     (said.0, record { version = eqb-true _ _ (not_false _ version.0); hold = hold.0; host = host.0; params = said.1 }, both_tests expected.offered (is_field expected.remote_as (as_in body)) (is_said expected.remote_as (as_in body) (as_said said.0)) field.0 said.2, said.3)
 
-passes_open : (expected : Expected) (body : List ℕ) (caps : List Cap) → Passes expected body caps → is_remote_as expected (as_in body) caps ≡ true → open_of expected body ≡ Ok (open_with body caps)
+passes_open : (expected : Expected) (body : List ℕ) (caps : List Cap) → Passes expected body caps → is_remote_as expected (as_in body) caps ≡ true
+    → open_of expected body ≡ Ok (open_with body caps)
 unfolding open_of
 passes_open expected body caps p is =
     let offered = expected.offered in
@@ -222,10 +226,12 @@ passes_open expected body caps p is =
 -- ---- what is read is spelled so
 
 -- the length that is told is that of the parameters
-params_told : (size : ℕ) (params : List ℕ) (caps : List Cap) → with_params (params_of (size ∷ params)) ≡ Ok caps → (length params ≡ size) × (ps : List Cap) × (all_of cap_at params ≡ Some ps) × (caps_of ps ≡ Ok caps)
+params_told : (size : ℕ) (params : List ℕ) (caps : List Cap) → with_params (params_of (size ∷ params)) ≡ Ok caps
+    → (length params ≡ size) × (ps : List Cap) × (all_of cap_at params ≡ Some ps) × (caps_of ps ≡ Ok caps)
 unfolding params_of
 params_told size params caps e = by_test (eqb (length params) size) refl (all_of cap_at params) refl e where
-  by_test : (t : Bool) → eqb (length params) size ≡ t → (o : Option (List Cap)) → all_of cap_at params ≡ o → with_params (cond t o None) ≡ Ok caps → (length params ≡ size) × (ps : List Cap) × (all_of cap_at params ≡ Some ps) × (caps_of ps ≡ Ok caps)
+  by_test : (t : Bool) → eqb (length params) size ≡ t → (o : Option (List Cap)) → all_of cap_at params ≡ o → with_params (cond t o None) ≡ Ok caps
+      → (length params ≡ size) × (ps : List Cap) × (all_of cap_at params ≡ Some ps) × (caps_of ps ≡ Ok caps)
   by_test true f (Some ps) g e = (eqb-true _ _ f, ps, g, e)
   by_test true f None g e = absurd cc
   by_test false f o g e = absurd cc
@@ -261,23 +267,27 @@ open_spelled v a b c d e f g h size params caps expected bytes p =
       host = p.host;
     }
   where
-    same_open : (v a b c d e f g h size : ℕ) (params xs ys zs ps : List ℕ) → v ≡ 4 → xs ≡ a ∷ b ∷ [] → ys ≡ c ∷ d ∷ [] → zs ≡ e ∷ f ∷ g ∷ h ∷ [] → length ps ≡ size → params ≡ ps
+    same_open : (v a b c d e f g h size : ℕ) (params xs ys zs ps : List ℕ) → v ≡ 4 → xs ≡ a ∷ b ∷ [] → ys ≡ c ∷ d ∷ [] → zs ≡ e ∷ f ∷ g ∷ h ∷ []
+        → length ps ≡ size → params ≡ ps
         → v ∷ a ∷ b ∷ c ∷ d ∷ e ∷ f ∷ g ∷ h ∷ size ∷ params ≡ 4 ∷ xs ++ (ys ++ (zs ++ length ps ∷ ps))
     same_open v a b c d e f g h size params xs ys zs ps e1 e2 e3 e4 e5 e6 = rw (e1, e2, e3, e4, e5, e6) refl
 
-with_fields : (expected : Expected) (body : List ℕ) (caps : List Cap) → Fields body → AreOctets body → Passes expected body caps → ReadsOpen body (open_with body caps)
+with_fields : (expected : Expected) (body : List ℕ) (caps : List Cap) → Fields body → AreOctets body → Passes expected body caps
+    → ReadsOpen body (open_with body caps)
 with_fields expected body caps f bytes p =
     let Q : List ℕ → Type 0 = λ y. AreOctets y → Passes expected y caps → ReadsOpen y (open_with y caps) in
     subst Q (sym f.all) (open_spelled f.version f.a f.b f.c f.d f.e f.f f.g f.h f.size f.params caps expected) bytes p
 
-pub open_read : (expected : Expected) (body : List ℕ) (o : OpenMsg) → AreOctets body → 10 ≤ length body → open_of expected body ≡ Ok o → ReadsOpen body o × (is_remote_as expected o.as_number o.caps ≡ true)
+pub open_read : (expected : Expected) (body : List ℕ) (o : OpenMsg) → AreOctets body → 10 ≤ length body → open_of expected body ≡ Ok o
+    → ReadsOpen body o × (is_remote_as expected o.as_number o.caps ≡ true)
 open_read expected body o bytes le e =
     let s = open_passes expected body o e in
     (subst (λ (m : OpenMsg). ReadsOpen body m) s.3 (with_fields expected body s.0 (fields body le) bytes s.1), subst (λ (m : OpenMsg). is_remote_as expected m.as_number m.caps ≡ true) s.3 s.2)
 
 -- ---- what is spelled is read
 
-params_again : (params : List (List Cap)) → (let octets : List ℕ = flat_map (λ caps. param_octets (flat_map cap_octets caps)) params in with_params (params_of (length octets ∷ octets)) ≡ Ok (all_caps params))
+params_again : (params : List (List Cap))
+    → (let octets : List ℕ = flat_map (λ caps. param_octets (flat_map cap_octets caps)) params in with_params (params_of (length octets ∷ octets)) ≡ Ok (all_caps params))
 unfolding params_of
 params_again params =
     let octets : List ℕ = flat_map (λ caps. param_octets (flat_map cap_octets caps)) params in
@@ -289,7 +299,8 @@ opened : (as_number hold identifier : ℕ) (params : List (List Cap)) → as_num
     (let body : List ℕ = open_octets as_number hold identifier (flat_map (λ caps. param_octets (flat_map cap_octets caps)) params) in (as_in body ≡ as_number) × (hold_in body ≡ hold) × (identifier_in body ≡ identifier))
 opened as_number hold identifier params a h i = (wide16.again as_number a, wide16.again hold h, wide32.again identifier i)
 
-pub open_are : (expected : Expected) (body : List ℕ) (o : OpenMsg) → ReadsOpen body o → is_remote_as expected o.as_number o.caps ≡ true → open_of expected body ≡ Ok o
+pub open_are : (expected : Expected) (body : List ℕ) (o : OpenMsg) → ReadsOpen body o → is_remote_as expected o.as_number o.caps ≡ true
+    → open_of expected body ≡ Ok o
 open_are expected body o r is =
     let params : List ℕ = flat_map (λ caps. param_octets (flat_map cap_octets caps)) r.params in
     let spelled : List ℕ = open_octets o.as_number o.hold o.identifier params in
@@ -301,9 +312,11 @@ open_are expected body o r is =
       params = params_again r.params;
     } in
     let as_is : is_remote_as expected (as_in spelled) (all_caps r.params) ≡ true = rw (n.0, sym r.caps) is in
-    ap (open_of expected) r.octets ∙ (passes_open expected spelled (all_caps r.params) passes as_is ∙ ap (λ (m : OpenMsg). (let x : Result OpenMsg Notice = Ok m in x)) (same_open _ _ _ _ o n.0 n.1 n.2 (sym r.caps)))
+    ap (open_of expected) r.octets
+    ∙ (passes_open expected spelled (all_caps r.params) passes as_is ∙ ap (λ (m : OpenMsg). (let x : Result OpenMsg Notice = Ok m in x)) (same_open _ _ _ _ o n.0 n.1 n.2 (sym r.caps)))
   where
-    same_open : (a h i : ℕ) (caps : List Cap) (o : OpenMsg) → a ≡ o.as_number → h ≡ o.hold → i ≡ o.identifier → caps ≡ o.caps → (let m : OpenMsg = record { as_number = a; hold = h; identifier = i; caps = caps } in m ≡ o)
+    same_open : (a h i : ℕ) (caps : List Cap) (o : OpenMsg) → a ≡ o.as_number → h ≡ o.hold → i ≡ o.identifier → caps ≡ o.caps
+        → (let m : OpenMsg = record { as_number = a; hold = h; identifier = i; caps = caps } in m ≡ o)
     same_open a h i caps o e1 e2 e3 e4 = grind arith
 
 pub as_again : (body : List ℕ) (o : OpenMsg) → ReadsOpen body o → as_in body ≡ o.as_number

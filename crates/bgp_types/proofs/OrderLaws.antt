@@ -11,11 +11,12 @@ use Rattle.bgp_types.specs.declared.message.Notice.{Notice}
 use Rattle.bgp_types.specs.Values.{other_kind, is_other}
 use Rattle.bgp_types.specs.WireAttrs.{wire_kind}
 use Rattle.bgp_types.specs.Rising.{insert_by, in_rising, IsRising}
-use Rattle.bgp_types.specs.Faults.{is_transitive, is_partial, attr_of, own_fault, fault_after, first_of, attrs_fault, kept_raw}
+use Rattle.bgp_types.specs.Faults.{is_transitive, is_partial, attr_of, own_fault, fault_after, earlier_notice, attrs_fault, kept_raw}
 use Rattle.bgp_types.specs.Reads.{Differ}
 use Rattle.bgp_types.specs.Found.{join, kept}
 
-pub insert_swap : {A : Type 0} (key : A → ℕ) (x y : A) (zs : List A) → key x ≢ key y → insert_by key x (insert_by key y zs) ≡ insert_by key y (insert_by key x zs)
+pub insert_swap : {A : Type 0} (key : A → ℕ) (x y : A) (zs : List A) → key x ≢ key y
+    → insert_by key x (insert_by key y zs) ≡ insert_by key y (insert_by key x zs)
 insert_swap key x y [] h = grind (arith, nat_tests)
 insert_swap key x y (z ∷ zs) h = let e = insert_swap key x y zs h in grind (arith, nat_tests)
 
@@ -45,7 +46,8 @@ pub all_rising : {A : Type 0} (P : A → Type 0) (key : A → ℕ) (xs : List A)
 all_rising P key [] all = tt
 all_rising P key (x ∷ xs) all = all_insert P key x (in_rising key xs) all.0 (all_rising P key xs all.1)
 
-rising_either : {A : Type 0} (key : A → ℕ) (t : Bool) (xs ys : List A) → (t ≡ true → IsRising key xs) → (t ≡ false → IsRising key ys) → IsRising key (cond t xs ys)
+rising_either : {A : Type 0} (key : A → ℕ) (t : Bool) (xs ys : List A) → (t ≡ true → IsRising key xs) → (t ≡ false → IsRising key ys)
+    → IsRising key (cond t xs ys)
 rising_either key true xs ys r q = r refl
 rising_either key false xs ys r q = q refl
 
@@ -88,12 +90,13 @@ none_last k [] a h n = grind (arith, nat_tests)
 none_last k (b ∷ before) a h n = let f = none_last k before a in grind (arith, nat_tests, f)
 
 -- attributes of different types that have no fault of their own have none
-pub clean_differ : (wide : Bool) (before raws : List WireAttr) → AllByRecursion (λ a. own_fault wide a ≡ None) raws → Differ wire_kind raws → AllByRecursion (λ a. attr_of a.kind before ≡ None) raws → attrs_fault wide before raws [] ≡ None
+pub clean_differ : (wide : Bool) (before raws : List WireAttr) → AllByRecursion (λ a. own_fault wide a ≡ None) raws → Differ wire_kind raws
+    → AllByRecursion (λ a. attr_of a.kind before ≡ None) raws → attrs_fault wide before raws [] ≡ None
 unfolding attrs_fault
 clean_differ wide before [] own differ fresh = refl
 clean_differ wide before (a ∷ others) own differ fresh =
     let no_fault : fault_after wide before a ≡ None = rw (fresh.0, own.0) refl in
-    ap (λ (o : Option Notice). first_of o (attrs_fault wide (before ++ a ∷ []) others [])) no_fault
+    ap (λ (o : Option Notice). earlier_notice o (attrs_fault wide (before ++ a ∷ []) others [])) no_fault
     ∙ clean_differ wide (before ++ a ∷ []) others own.1 differ.1
     (all_both (λ b. wire_kind b ≢ wire_kind a) (λ b. attr_of b.kind before ≡ None) (λ b. attr_of b.kind (before ++ a ∷ []) ≡ None) others (λ b n none. none_last b.kind before a none (λ e. n (sym e))) differ.0 fresh.1)
 
@@ -101,18 +104,21 @@ nothing_before : (raws : List WireAttr) → AllByRecursion (λ a. attr_of a.kind
 nothing_before [] = tt
 nothing_before (a ∷ raws) = (refl, nothing_before raws)
 
-pub clean_alone : (wide : Bool) (raws : List WireAttr) → AllByRecursion (λ a. own_fault wide a ≡ None) raws → Differ wire_kind raws → attrs_fault wide [] raws [] ≡ None
+pub clean_alone : (wide : Bool) (raws : List WireAttr) → AllByRecursion (λ a. own_fault wide a ≡ None) raws → Differ wire_kind raws
+    → attrs_fault wide [] raws [] ≡ None
 clean_alone wide raws own differ = clean_differ wide [] raws own differ (nothing_before raws)
 
 -- ---- the unknown ones
 
 -- a swap past what is kept
-join_swap : (o p : Option RawAttr) (others : List RawAttr) → ((r s : RawAttr) → o ≡ Some r → p ≡ Some s → other_kind r ≢ other_kind s) → in_rising other_kind (join o (join p others)) ≡ in_rising other_kind (join p (join o others))
+join_swap : (o p : Option RawAttr) (others : List RawAttr) → ((r s : RawAttr) → o ≡ Some r → p ≡ Some s → other_kind r ≢ other_kind s)
+    → in_rising other_kind (join o (join p others)) ≡ in_rising other_kind (join p (join o others))
 join_swap None p others h = refl
 join_swap (Some r) None others h = refl
 join_swap (Some r) (Some s) others h = insert_swap other_kind r s (in_rising other_kind others) (h r s refl refl)
 
-join_same : (o : Option RawAttr) (xs ys : List RawAttr) → in_rising other_kind xs ≡ in_rising other_kind ys → in_rising other_kind (join o xs) ≡ in_rising other_kind (join o ys)
+join_same : (o : Option RawAttr) (xs ys : List RawAttr) → in_rising other_kind xs ≡ in_rising other_kind ys
+    → in_rising other_kind (join o xs) ≡ in_rising other_kind (join o ys)
 join_same None xs ys e = e
 join_same (Some r) xs ys e = ap (insert_by other_kind r) e
 
@@ -135,7 +141,9 @@ adds_kind a r e = by_test (is_other a.kind) e where
 kept_insert : (x : WireAttr) (ys : List WireAttr) → in_rising other_kind (kept (insert_by wire_kind x ys)) ≡ in_rising other_kind (kept (x ∷ ys))
 kept_insert x [] = refl
 kept_insert x (y ∷ ys) = by_test (ltb (wire_kind y) (wire_kind x)) refl (kept_insert x ys) where
-  by_test : (t : Bool) → ltb (wire_kind y) (wire_kind x) ≡ t → in_rising other_kind (kept (insert_by wire_kind x ys)) ≡ in_rising other_kind (kept (x ∷ ys)) → in_rising other_kind (kept (cond t (y ∷ insert_by wire_kind x ys) (x ∷ y ∷ ys))) ≡ in_rising other_kind (kept (x ∷ y ∷ ys))
+  by_test : (t : Bool) → ltb (wire_kind y) (wire_kind x) ≡ t
+      → in_rising other_kind (kept (insert_by wire_kind x ys)) ≡ in_rising other_kind (kept (x ∷ ys))
+      → in_rising other_kind (kept (cond t (y ∷ insert_by wire_kind x ys) (x ∷ y ∷ ys))) ≡ in_rising other_kind (kept (x ∷ y ∷ ys))
   by_test false e ih = refl
   by_test true e ih =
       let lt : wire_kind y < wire_kind x = ltb-true _ _ e in

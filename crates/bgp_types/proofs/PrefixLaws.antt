@@ -13,7 +13,8 @@ use Rattle.bgp_types.proofs.AttrLaws.{AreOctets-drop}
 use Rattle.bgp_types.proofs.ManyLaws.{Reads, all_again, kept_out, either_false}
 use Rattle.bgp_types.proofs.TakesLaws.{TakesOne, all_taken}
 
-pub prefix_takes : (bytes : List ℕ) (x : WirePrefix × List ℕ) → AreOctets bytes → prefix_at bytes ≡ Some x → TakesOne AreOctets prefix_at wire_octets IsWirePrefix bytes x
+pub prefix_takes : (bytes : List ℕ) (x : WirePrefix × List ℕ) → AreOctets bytes → prefix_at bytes ≡ Some x
+    → TakesOne AreOctets prefix_at wire_octets IsWirePrefix bytes x
 unfolding prefix_at
 prefix_takes [] x b e = absurd cc
 prefix_takes (len ∷ bytes) x b e =
@@ -54,7 +55,9 @@ pub no_prefix : prefix_at [] ≡ None
 unfolding prefix_at
 no_prefix = refl
 
-mapped : (o : Option (List WirePrefix)) (prefixes : List PrefixValue) → option_map (λ spelled. once_after [] (map prefix_said spelled)) o ≡ Some prefixes → (ws : List WirePrefix) × (o ≡ Some ws) × (prefixes ≡ once_after [] (map prefix_said ws))
+mapped : (o : Option (List WirePrefix)) (prefixes : List PrefixValue)
+    → option_map (λ spelled. once_after [] (map prefix_said spelled)) o ≡ Some prefixes
+    → (ws : List WirePrefix) × (o ≡ Some ws) × (prefixes ≡ once_after [] (map prefix_said ws))
 mapped None prefixes e = absurd cc
 mapped (Some ws) prefixes e = (ws, refl, sym (same_Some _ prefixes e))
 

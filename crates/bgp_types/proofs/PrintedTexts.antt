@@ -33,7 +33,8 @@ back (x ∷ xs) us vs e = back xs us vs cc
 pub IsPrefixText_unique : (text : List ℕ) (p q : PrefixValue) → IsPrefixText text p → IsPrefixText text q → p ≡ q
 IsPrefixText_unique text p q one other =
     let joined : address_text one.address ++ 47 ∷ decimal p.len ≡ address_text other.address ++ 47 ∷ decimal q.len =
-    sym (append_assoc (address_text one.address) (47 ∷ []) (decimal p.len)) ∙ sym one.text ∙ other.text ∙ append_assoc (address_text other.address) (47 ∷ []) (decimal q.len) in
+    sym (append_assoc (address_text one.address) (47 ∷ []) (decimal p.len)) ∙ sym one.text ∙ other.text
+    ∙ append_assoc (address_text other.address) (47 ∷ []) (decimal q.len) in
     let texts : address_text one.address ≡ address_text other.address = front _ _ _ _ (NoSlash-address one.address) (NoSlash-address other.address) joined in
     let address : one.address ≡ other.address = IsAddressText_unique (address_text one.address) one.address other.address (record { fits = one.fits; text = refl }) (record { fits = other.fits; text = texts }) in
     let decimals : decimal p.len ≡ decimal q.len = back (address_text one.address) _ _ (joined ∙ ap (λ t. t ++ 47 ∷ decimal q.len) (sym texts)) in

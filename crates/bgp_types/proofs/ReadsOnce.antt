@@ -56,6 +56,7 @@ once frame one other wide r s =
     same : (x y : Message) → (let r : Result Message Notice = Ok x in r) ≡ Ok y → x ≡ y
     same x y e = cc
 
-pub reads_exactly : (frame : List ℕ) (expected : Expected) (m : Message) → AreOctets frame → ((frame_at frame ≡ Some (frame, [])) × (message_of expected frame ≡ Ok m)) ↔ (Reads frame m expected.wide × IsExpected expected m)
+pub reads_exactly : (frame : List ℕ) (expected : Expected) (m : Message) → AreOctets frame
+    → ((frame_at frame ≡ Some (frame, [])) × (message_of expected frame ≡ Ok m)) ↔ (Reads frame m expected.wide × IsExpected expected m)
 reads_exactly frame expected m octets =
     (λ e. message_read expected frame m octets e.0 e.1, λ r. (whole_frame expected frame m r.0 r.1, message_are expected frame m r.0 r.1))

@@ -19,7 +19,8 @@ unfolding spell
 plain_open wide = refl
 
 -- the same with the capability of four-octet AS numbers
-pub wide_open : (wide : Bool) → spell (messages.OpenMsg (record { as_number = 65000; hold = 0; identifier = 0x0AFF0001; caps = record { code = 65; bytes = 0 ∷ 0 ∷ 0xFD ∷ 0xE8 ∷ [] } ∷ [] })) wide
+pub wide_open : (wide : Bool)
+    → spell (messages.OpenMsg (record { as_number = 65000; hold = 0; identifier = 0x0AFF0001; caps = record { code = 65; bytes = 0 ∷ 0 ∷ 0xFD ∷ 0xE8 ∷ [] } ∷ [] })) wide
     ≡ marker ++ 0x00 ∷ 0x25 ∷ 1 ∷ 4 ∷ 0xFD ∷ 0xE8 ∷ 0 ∷ 0 ∷ 0x0A ∷ 0xFF ∷ 0 ∷ 1 ∷ 8 ∷ 0x02 ∷ 0x06 ∷ 0x41 ∷ 0x04 ∷ 0x00 ∷ 0x00 ∷ 0xFD ∷ 0xE8 ∷ []
 unfolding spell
 wide_open wide = refl

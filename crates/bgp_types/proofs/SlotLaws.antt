@@ -46,11 +46,13 @@ slot_of kind (k ∷ kinds) (slot ∷ slots) = cond (eqb k kind) (head_of slot) (
 
 -- ---- all of them
 
-all_slot : (P : WireAttr → Type 0) (wide : Bool) (k : ℕ) (slot rest : List WireAttr) → IsSlot wide k slot → ((a : WireAttr) → a.kind ≡ k → IsGood wide a → P a) → AllByRecursion P rest → AllByRecursion P (slot ++ rest)
+all_slot : (P : WireAttr → Type 0) (wide : Bool) (k : ℕ) (slot rest : List WireAttr) → IsSlot wide k slot
+    → ((a : WireAttr) → a.kind ≡ k → IsGood wide a → P a) → AllByRecursion P rest → AllByRecursion P (slot ++ rest)
 all_slot P wide k _ rest none h all = all
 all_slot P wide k _ rest (one a e g) h all = (h a e g, all)
 
-pub all_good : (wide : Bool) (kinds : List ℕ) (slots : List (List WireAttr)) (others : List WireAttr) → AreSlots wide kinds slots → AllByRecursion (IsGood wide) others → AllByRecursion (IsGood wide) (joined slots others)
+pub all_good : (wide : Bool) (kinds : List ℕ) (slots : List (List WireAttr)) (others : List WireAttr) → AreSlots wide kinds slots
+    → AllByRecursion (IsGood wide) others → AllByRecursion (IsGood wide) (joined slots others)
 all_good wide [] [] others s all = all
 all_good wide [] (slot ∷ slots) others s all = absurd s
 all_good wide (k ∷ kinds) [] others s all = absurd s
@@ -64,13 +66,15 @@ not_fresh k j kinds e = by_test (eqb j k) e where
   by_test true e = absurd cc
   by_test false e = (refl, e)
 
-others_apart : (k : ℕ) (others : List WireAttr) → is_other k ≡ false → AllByRecursion (λ a. is_other a.kind ≡ true) others → AllByRecursion (λ a. wire_kind a ≢ k) others
+others_apart : (k : ℕ) (others : List WireAttr) → is_other k ≡ false → AllByRecursion (λ a. is_other a.kind ≡ true) others
+    → AllByRecursion (λ a. wire_kind a ≢ k) others
 others_apart k [] o all = tt
 others_apart k (a ∷ others) o all = (λ e. true_false (sym all.0 ∙ (ap is_other e ∙ o)), others_apart k others o all.1) where
   true_false : true ≡ false → ⊥
   true_false e = cc
 
-apart : (wide : Bool) (k : ℕ) (kinds : List ℕ) (slots : List (List WireAttr)) (others : List WireAttr) → is_other k ≡ false → is_fresh k kinds ≡ true → AreSlots wide kinds slots → AllByRecursion (λ a. is_other a.kind ≡ true) others → AllByRecursion (λ a. wire_kind a ≢ k) (joined slots others)
+apart : (wide : Bool) (k : ℕ) (kinds : List ℕ) (slots : List (List WireAttr)) (others : List WireAttr) → is_other k ≡ false → is_fresh k kinds ≡ true
+    → AreSlots wide kinds slots → AllByRecursion (λ a. is_other a.kind ≡ true) others → AllByRecursion (λ a. wire_kind a ≢ k) (joined slots others)
 apart wide k [] [] others o fresh s all = others_apart k others o all
 apart wide k [] (slot ∷ slots) others o fresh s all = absurd s
 apart wide k (j ∷ kinds) [] others o fresh s all = absurd s
@@ -79,11 +83,13 @@ apart wide k (j ∷ kinds) (slot ∷ slots) others o fresh s all =
     let differs = f.0 in
     all_slot (λ a. wire_kind a ≢ k) wide j slot (joined slots others) s.0 (λ a e g. λ same. absurd (grind (arith, nat_tests))) (apart wide k kinds slots others o f.1 s.3 all)
 
-differ_slot : (wide : Bool) (k : ℕ) (slot rest : List WireAttr) → IsSlot wide k slot → AllByRecursion (λ a. wire_kind a ≢ k) rest → Differ wire_kind rest → Differ wire_kind (slot ++ rest)
+differ_slot : (wide : Bool) (k : ℕ) (slot rest : List WireAttr) → IsSlot wide k slot → AllByRecursion (λ a. wire_kind a ≢ k) rest
+    → Differ wire_kind rest → Differ wire_kind (slot ++ rest)
 differ_slot wide k _ rest none all differ = differ
 differ_slot wide k _ rest (one a e g) all differ = (subst (λ (n : ℕ). AllByRecursion (λ b. wire_kind b ≢ n) rest) (sym e) all, differ)
 
-pub all_differ : (wide : Bool) (kinds : List ℕ) (slots : List (List WireAttr)) (others : List WireAttr) → AreSlots wide kinds slots → AllByRecursion (λ a. is_other a.kind ≡ true) others → Differ wire_kind others → Differ wire_kind (joined slots others)
+pub all_differ : (wide : Bool) (kinds : List ℕ) (slots : List (List WireAttr)) (others : List WireAttr) → AreSlots wide kinds slots
+    → AllByRecursion (λ a. is_other a.kind ≡ true) others → Differ wire_kind others → Differ wire_kind (joined slots others)
 all_differ wide [] [] others s all differ = differ
 all_differ wide [] (slot ∷ slots) others s all differ = absurd s
 all_differ wide (k ∷ kinds) [] others s all differ = absurd s
@@ -101,7 +107,8 @@ find_none k (x ∷ xs) all =
     differs : (m k : ℕ) → (m ≡ k → ⊥) → eqb m k ≡ false
     differs m k h = grind (arith, nat_tests)
 
-find_here : (wide : Bool) (k : ℕ) (slot rest : List WireAttr) → IsSlot wide k slot → AllByRecursion (λ a. wire_kind a ≢ k) rest → attr_of k (slot ++ rest) ≡ head_of slot
+find_here : (wide : Bool) (k : ℕ) (slot rest : List WireAttr) → IsSlot wide k slot → AllByRecursion (λ a. wire_kind a ≢ k) rest
+    → attr_of k (slot ++ rest) ≡ head_of slot
 find_here wide k _ rest none all = find_none k rest all
 find_here wide k _ rest (one a e g) all = let t : eqb a.kind k ≡ true = grind (arith, nat_tests) in ap (λ (b : Bool). cond b (Some a) (attr_of k rest)) t
 
@@ -109,12 +116,14 @@ find_past : (wide : Bool) (j k : ℕ) (slot rest : List WireAttr) → IsSlot wid
 find_past wide j k _ rest none f = refl
 find_past wide j k _ rest (one a e g) f = ap (λ (b : Bool). cond b (Some a) (attr_of k rest)) (ap (λ (n : ℕ). eqb n k) e ∙ f)
 
-pub find_slot : (wide : Bool) (k : ℕ) (kinds : List ℕ) (slots : List (List WireAttr)) (others : List WireAttr) → is_other k ≡ false → AreSlots wide kinds slots → AllByRecursion (λ a. is_other a.kind ≡ true) others → attr_of k (joined slots others) ≡ slot_of k kinds slots
+pub find_slot : (wide : Bool) (k : ℕ) (kinds : List ℕ) (slots : List (List WireAttr)) (others : List WireAttr) → is_other k ≡ false
+    → AreSlots wide kinds slots → AllByRecursion (λ a. is_other a.kind ≡ true) others → attr_of k (joined slots others) ≡ slot_of k kinds slots
 find_slot wide k [] [] others o s all = find_none k others (others_apart k others o all)
 find_slot wide k [] (slot ∷ slots) others o s all = absurd s
 find_slot wide k (j ∷ kinds) [] others o s all = absurd s
 find_slot wide k (j ∷ kinds) (slot ∷ slots) others o s all = by_test (eqb j k) refl (find_slot wide k kinds slots others o s.3 all) where
-  by_test : (t : Bool) → eqb j k ≡ t → attr_of k (joined slots others) ≡ slot_of k kinds slots → attr_of k (slot ++ joined slots others) ≡ cond t (head_of slot) (slot_of k kinds slots)
+  by_test : (t : Bool) → eqb j k ≡ t → attr_of k (joined slots others) ≡ slot_of k kinds slots
+      → attr_of k (slot ++ joined slots others) ≡ cond t (head_of slot) (slot_of k kinds slots)
   by_test true f ih = let e : j ≡ k = grind (arith, nat_tests) in subst (λ (n : ℕ). attr_of n (slot ++ joined slots others) ≡ head_of slot) e (find_here wide j slot (joined slots others) s.0 (apart wide j kinds slots others s.1 s.2 s.3 all))
   by_test false f ih = find_past wide j k slot (joined slots others) s.0 f ∙ ih
 
@@ -124,7 +133,8 @@ kept_slot : (wide : Bool) (k : ℕ) (slot rest : List WireAttr) → IsSlot wide 
 kept_slot wide k _ rest none o = refl
 kept_slot wide k _ rest (one a e g) o = ap (λ (b : Bool). cond b (join (kept_raw a) (kept rest)) (kept rest)) (ap is_other e ∙ o)
 
-pub kept_slots : (wide : Bool) (kinds : List ℕ) (slots : List (List WireAttr)) (others : List WireAttr) → AreSlots wide kinds slots → kept (joined slots others) ≡ kept others
+pub kept_slots : (wide : Bool) (kinds : List ℕ) (slots : List (List WireAttr)) (others : List WireAttr) → AreSlots wide kinds slots
+    → kept (joined slots others) ≡ kept others
 kept_slots wide [] [] others s = refl
 kept_slots wide [] (slot ∷ slots) others s = absurd s
 kept_slots wide (k ∷ kinds) [] others s = absurd s

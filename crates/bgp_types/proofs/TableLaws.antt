@@ -183,7 +183,8 @@ module _ {X : Type 0} (es : List (PrefixValue × X)) (rise : T (is_sorted prefix
 
 module _ {X : Type 0} where
   -- what is not above p is passed over
-  pub next_right : (p : PrefixValue) (xs ys : List (PrefixValue × X)) → AllByRecursion (λ e. is_above (Some p) e.0 ≡ false) xs → first_above (Some p) (map (λ e. e.0) (xs ++ ys)) ≡ first_above (Some p) (map (λ e. e.0) ys)
+  pub next_right : (p : PrefixValue) (xs ys : List (PrefixValue × X)) → AllByRecursion (λ e. is_above (Some p) e.0 ≡ false) xs
+      → first_above (Some p) (map (λ e. e.0) (xs ++ ys)) ≡ first_above (Some p) (map (λ e. e.0) ys)
   next_right p [] ys b = refl
   next_right p (x ∷ xs) ys b = rw b.0 (next_right p xs ys b.1)
 

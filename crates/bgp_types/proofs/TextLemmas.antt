@@ -27,7 +27,8 @@ digits : IsNumeralModel (AllDigits 10) (digits_value 10)
 digits = record { to = λ ds h. h; from = λ ds h. h; same = λ ds h. refl }
 
 -- what begins plainly and is read as a number of at most 32 is that number's text
-pub IsLengthText-read : (E : Type 0) (text : List ℕ) (len : ℕ) → BeginsPlainly text → len ≤ 32 → ParsesUnsigned {E = E} 8 10 text (Ok len) → IsLengthText text len
+pub IsLengthText-read : (E : Type 0) (text : List ℕ) (len : ℕ) → BeginsPlainly text → len ≤ 32 → ParsesUnsigned {E = E} 8 10 text (Ok len)
+    → IsLengthText text len
 IsLengthText-read E text len plain small read =
     let unsigned : get_or text 0 0 ≢ 43 = λ e. omega (arith, plain.digit_from, e) in
     let result : Result ℕ E = Ok len in
@@ -70,7 +71,8 @@ bytes_4 a b c d fa fb fc fd (suc (suc zero)) = fc
 bytes_4 a b c d fa fb fc fd (suc (suc (suc zero))) = fd
 bytes_4 a b c d fa fb fc fd (suc (suc (suc (suc i)))) = omega arith
 
-pub IsAddressText-dotted : (text octets : List ℕ) (address : ℕ) → address < 2 ^ 32 → address ≡ from_be_bytes w32 octets → IsDotted text octets → IsAddressText text address
+pub IsAddressText-dotted : (text octets : List ℕ) (address : ℕ) → address < 2 ^ 32 → address ≡ from_be_bytes w32 octets → IsDotted text octets
+    → IsAddressText text address
 IsAddressText-dotted text octets address fits is dotted =
     let all = bytes_4 dotted.a dotted.b dotted.c dotted.d dotted.fit.0 dotted.fit.1 dotted.fit.2 dotted.fit.3 in
     let bytes : (i : ℕ) → get_or octets i 0 < 256 = λ i. rw dotted.value (all i) in
@@ -134,14 +136,16 @@ prefix_parts text r split p is =
     (no_slash_at (address_text is.address) (NoSlash-address is.address))
 
 -- both parts read, the text is read
-pub IsPrefixText-parts : (text : List ℕ) (parts : Bor (List ℕ) × Bor (List ℕ)) → IsSplitOnceResult 47 text (Some parts) → (address len : ℕ) → IsAddressText parts.0.now address → IsLengthText parts.1.now len
+pub IsPrefixText-parts : (text : List ℕ) (parts : Bor (List ℕ) × Bor (List ℕ)) → IsSplitOnceResult 47 text (Some parts) → (address len : ℕ)
+    → IsAddressText parts.0.now address → IsLengthText parts.1.now len
     → (o : Option PrefixValue) → IsSome o ↔ (len ≤ 32) → IfSome o (λ p. p ≡ prefix_of len address) → Finds (IsPrefixText text) o
 IsPrefixText-parts text parts split address len front back None some value = λ p is. absurd (false≢true (some.1 back.0))
 IsPrefixText-parts text parts split address len front back (Some p) some value =
     let whole : text ≡ parts.0.now ++ 47 ∷ parts.1.now = (split_parts 47 text (Some parts) split (lit< tt)).0 in
     let same : p.len ≡ len = ap (λ q. q.len) value in
     let joined : text ≡ address_text address ++ codes "/" ++ decimal len =
-    whole ∙ ap (λ t. t ++ 47 ∷ parts.1.now) front.text ∙ ap (λ t. address_text address ++ 47 ∷ t) back.1 ∙ sym (append_assoc (address_text address) (47 ∷ []) (decimal len)) in
+    whole ∙ ap (λ t. t ++ 47 ∷ parts.1.now) front.text ∙ ap (λ t. address_text address ++ 47 ∷ t) back.1
+    ∙ sym (append_assoc (address_text address) (47 ∷ []) (decimal len)) in
     record {
       address = address;
       fits = front.fits;

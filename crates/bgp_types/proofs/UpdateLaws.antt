@@ -15,8 +15,8 @@ use Rattle.bgp_types.specs.Found.{attrs_in}
 use Rattle.bgp_types.specs.Many.{number_at, told_at, many, many_within}
 use Rattle.bgp_types.specs.OctetLists.{AreOctets}
 use Rattle.bgp_types.specs.Prefixes.{PrefixValue, WirePrefix, wire_octets, prefix_said, same_prefix, put_once, once_after, prefix_at, prefixes_of}
-use Rattle.bgp_types.specs.Reads.{ReadsPrefixes, ReadsUpdate, Says}
-use Rattle.bgp_types.specs.Spelling.{counted}
+use Rattle.bgp_types.specs.Reads.{ReadsPrefixes, ReadsUpdate, SaysAttributes}
+use Rattle.bgp_types.specs.Spelling.{length_prefixed}
 use Rattle.bgp_types.specs.UpdateBody.{Fields, with_attrs_field, with_withdrawn_field, fields_of, with_known, all_known, apart, with_nlri, with_found, with_withdrawn, with_fields, update_of}
 use Rattle.bgp_types.proofs.AttrLaws.{AreOctets-drop, AreOctets-take, wide16, number_is, told_is, number_again, told_again}
 use Rattle.bgp_types.proofs.AttrsReads.{attrs_read, attrs_are}
@@ -25,7 +25,7 @@ use Rattle.bgp_types.proofs.PrefixLaws.{prefixes_read, prefixes_are}
 -- ---- fields behind their lengths
 
 record TakesField (bytes : List ℕ) (v : List ℕ × List ℕ) : Type 0 where
-  parts : bytes ≡ counted v.0 ++ v.1
+  parts : bytes ≡ length_prefixed v.0 ++ v.1
   room : length v.0 < 2 ^ 16
   field : AreOctets v.0
   rest : AreOctets v.1
@@ -41,7 +41,7 @@ field_takes bytes v b e =
     let long : n ≤ length rest = subst (λ (y : ℕ × List ℕ). y.0 ≤ length y.1) (sym c.1) t.2 in
     let len : length (take n rest) ≡ n = length-take-le n rest long in
     let size : to_be_bytes w16 n ≡ take 2 bytes = wide16.back (take 2 bytes) (length-take-le 2 bytes c.0) front in
-    let parts : bytes ≡ counted (take n rest) ++ drop n rest =
+    let parts : bytes ≡ length_prefixed (take n rest) ++ drop n rest =
     sym (take-append-drop 2 bytes) ∙ (ap (λ (y : List ℕ). y ++ rest) (sym size) ∙ (ap (λ (y : List ℕ). to_be_bytes w16 n ++ y) (sym (take-append-drop n rest))
     ∙ (sym (append_assoc (to_be_bytes w16 n) (take n rest) (drop n rest)) ∙ ap (λ (m : ℕ). (to_be_bytes w16 m ++ take n rest) ++ drop n rest) (sym len)))) in
     let below : n < 2 ^ 16 = wide16.below (take 2 bytes) front in
@@ -49,24 +49,26 @@ field_takes bytes v b e =
     let value : (take n rest, drop n rest) ≡ v = ap (λ (y : ℕ × List ℕ). (take y.0 y.1, drop y.0 y.1)) c.1 ∙ t.3 in
     subst (λ (y : List ℕ × List ℕ). TakesField bytes y) value here
 
-field_again : (value rest : List ℕ) → length value < 2 ^ 16 → told_at (number_at w16 (counted value ++ rest)) ≡ Some (value, rest)
+field_again : (value rest : List ℕ) → length value < 2 ^ 16 → told_at (number_at w16 (length_prefixed value ++ rest)) ≡ Some (value, rest)
 field_again value rest lt =
     ap (λ (y : List ℕ). told_at (number_at w16 y)) (append_assoc (to_be_bytes w16 (length value)) value rest)
     ∙ (ap told_at (number_again w16 65536 wide16 (length value) (value ++ rest) lt) ∙ told_again value rest)
 
 record TakesFields (body : List ℕ) (f : Fields) : Type 0 where
-  parts : body ≡ counted f.withdrawn ++ (counted f.attrs ++ f.nlri)
+  parts : body ≡ length_prefixed f.withdrawn ++ (length_prefixed f.attrs ++ f.nlri)
   withdrawn_room : length f.withdrawn < 2 ^ 16
   attrs_room : length f.attrs < 2 ^ 16
   withdrawn_fits : AreOctets f.withdrawn
   attrs_fits : AreOctets f.attrs
   nlri_fits : AreOctets f.nlri
 
-attrs_field_is : (withdrawn : List ℕ) (o : Option (List ℕ × List ℕ)) (f : Fields) → with_attrs_field withdrawn o ≡ Some f → (a : List ℕ × List ℕ) × (o ≡ Some a) × ((let g : Fields = record { withdrawn = withdrawn; attrs = a.0; nlri = a.1 } in g) ≡ f)
+attrs_field_is : (withdrawn : List ℕ) (o : Option (List ℕ × List ℕ)) (f : Fields) → with_attrs_field withdrawn o ≡ Some f
+    → (a : List ℕ × List ℕ) × (o ≡ Some a) × ((let g : Fields = record { withdrawn = withdrawn; attrs = a.0; nlri = a.1 } in g) ≡ f)
 attrs_field_is withdrawn None f e = absurd cc
 attrs_field_is withdrawn (Some a) f e = (a, refl, same_Some _ f e)
 
-withdrawn_field_is : (o : Option (List ℕ × List ℕ)) (f : Fields) → with_withdrawn_field o ≡ Some f → (w : List ℕ × List ℕ) × (o ≡ Some w) × (with_attrs_field w.0 (told_at (number_at w16 w.1)) ≡ Some f)
+withdrawn_field_is : (o : Option (List ℕ × List ℕ)) (f : Fields) → with_withdrawn_field o ≡ Some f
+    → (w : List ℕ × List ℕ) × (o ≡ Some w) × (with_attrs_field w.0 (told_at (number_at w16 w.1)) ≡ Some f)
 withdrawn_field_is None f e = absurd cc
 withdrawn_field_is (Some w) f e = (w, refl, e)
 
@@ -78,7 +80,7 @@ fields_take body f b e =
     let a = attrs_field_is w.0.0 (told_at (number_at w16 w.0.1)) f w.2 in
     let second = field_takes w.0.1 a.0 first.rest a.1 in
     let here : TakesFields body (record { withdrawn = w.0.0; attrs = a.0.0; nlri = a.0.1 }) = record {
-      parts = first.parts ∙ ap (λ (y : List ℕ). counted w.0.0 ++ y) second.parts;
+      parts = first.parts ∙ ap (λ (y : List ℕ). length_prefixed w.0.0 ++ y) second.parts;
       withdrawn_room = first.room;
       attrs_room = second.room;
       withdrawn_fits = first.field;
@@ -87,10 +89,11 @@ fields_take body f b e =
     } in
     subst (λ (g : Fields). TakesFields body g) a.2 here
 
-fields_again : (withdrawn attrs nlri : List ℕ) → length withdrawn < 2 ^ 16 → length attrs < 2 ^ 16 → fields_of (counted withdrawn ++ (counted attrs ++ nlri)) ≡ Some (record { withdrawn = withdrawn; attrs = attrs; nlri = nlri })
+fields_again : (withdrawn attrs nlri : List ℕ) → length withdrawn < 2 ^ 16 → length attrs < 2 ^ 16
+    → fields_of (length_prefixed withdrawn ++ (length_prefixed attrs ++ nlri)) ≡ Some (record { withdrawn = withdrawn; attrs = attrs; nlri = nlri })
 unfolding fields_of
 fields_again withdrawn attrs nlri w a =
-    ap with_withdrawn_field (field_again withdrawn (counted attrs ++ nlri) w) ∙ ap (with_attrs_field withdrawn) (field_again attrs nlri a)
+    ap with_withdrawn_field (field_again withdrawn (length_prefixed attrs ++ nlri) w) ∙ ap (with_attrs_field withdrawn) (field_again attrs nlri a)
 
 -- ---- what is read
 
@@ -98,7 +101,8 @@ fields_again withdrawn attrs nlri w a =
 abbrev found_for : Attrs → FoundAttrs
 found_for a = record { origin = Some a.origin; path = Some a.path; next_hop = Some a.next_hop; med = a.med; atomic = a.atomic; aggregator = a.aggregator; unknown = a.unknown }
 
-known_is : (o : Option Origin) (p : Option (List PathPart)) (n : Option ℕ) (found : FoundAttrs) (a : Attrs) → found.origin ≡ o → found.path ≡ p → found.next_hop ≡ n → with_known o p n found ≡ Ok a → found ≡ found_for a
+known_is : (o : Option Origin) (p : Option (List PathPart)) (n : Option ℕ) (found : FoundAttrs) (a : Attrs) → found.origin ≡ o → found.path ≡ p
+    → found.next_hop ≡ n → with_known o p n found ≡ Ok a → found ≡ found_for a
 known_is None p n found a e1 e2 e3 e = absurd cc
 known_is (Some o) None n found a e1 e2 e3 e = absurd cc
 known_is (Some o) (Some p) None found a e1 e2 e3 e = absurd cc
@@ -118,11 +122,13 @@ known_again : (a : Attrs) → all_known (found_for a) ≡ Ok a
 unfolding all_known
 known_again a = refl
 
-update_fields : (wide : Bool) (o : Option Fields) (u : Update) → with_fields wide o ≡ Ok u → (f : Fields) × (o ≡ Some f) × (with_withdrawn wide (prefixes_of f.withdrawn) f ≡ Ok u)
+update_fields : (wide : Bool) (o : Option Fields) (u : Update) → with_fields wide o ≡ Ok u
+    → (f : Fields) × (o ≡ Some f) × (with_withdrawn wide (prefixes_of f.withdrawn) f ≡ Ok u)
 update_fields wide None u e = absurd cc
 update_fields wide (Some f) u e = (f, refl, e)
 
-update_withdrawn : (wide : Bool) (o : Option (List PrefixValue)) (f : Fields) (u : Update) → with_withdrawn wide o f ≡ Ok u → (ps : List PrefixValue) × (o ≡ Some ps) × (with_found ps (attrs_in wide f.attrs) f.nlri ≡ Ok u)
+update_withdrawn : (wide : Bool) (o : Option (List PrefixValue)) (f : Fields) (u : Update) → with_withdrawn wide o f ≡ Ok u
+    → (ps : List PrefixValue) × (o ≡ Some ps) × (with_found ps (attrs_in wide f.attrs) f.nlri ≡ Ok u)
 update_withdrawn wide None f u e = absurd cc
 update_withdrawn wide (Some ps) f u e = (ps, refl, e)
 
@@ -156,11 +162,13 @@ some_prefix b rest prefixes r e = by_spelled r.spelled r.octets r.says where
 
 -- the last part: what is found, and the announced prefixes
 record IsFound (prefixes : List PrefixValue) (found : FoundAttrs) (nlri : List ℕ) (u : Update) : Type 0 where
-  announced : Says found u.attrs u.nlri
+  announced : SaysAttributes found u.attrs u.nlri
   reads_nlri : ReadsPrefixes nlri u.nlri
   others : u.withdrawn ≡ apart prefixes u.nlri
 
-nlri_is : (prefixes : List PrefixValue) (found : FoundAttrs) (known : Result Attrs Notice) (b : ℕ) (rest : List ℕ) (o : Option (List PrefixValue)) (u : Update) → AreOctets (b ∷ rest) → all_known found ≡ known → prefixes_of (b ∷ rest) ≡ o → with_nlri prefixes known o ≡ Ok u → IsFound prefixes found (b ∷ rest) u
+nlri_is : (prefixes : List PrefixValue) (found : FoundAttrs) (known : Result Attrs Notice) (b : ℕ) (rest : List ℕ) (o : Option (List PrefixValue)) (u : Update)
+    → AreOctets (b ∷ rest) → all_known found ≡ known → prefixes_of (b ∷ rest) ≡ o → with_nlri prefixes known o ≡ Ok u
+    → IsFound prefixes found (b ∷ rest) u
 nlri_is prefixes found (Err n) b rest o u fits k p e = absurd cc
 nlri_is prefixes found (Ok a) b rest None u fits k p e = absurd cc
 nlri_is prefixes found (Ok a) b rest (Some nlri) u fits k p e =
@@ -171,7 +179,8 @@ nlri_is prefixes found (Ok a) b rest (Some nlri) u fits k p e =
     same_Ok : (x y : Update) → (let r : Result Update Notice = Ok x in r) ≡ Ok y → x ≡ y
     same_Ok x y e = cc
 
-found_read : (prefixes : List PrefixValue) (r : Result FoundAttrs Notice) (nlri : List ℕ) (u : Update) → AreOctets nlri → with_found prefixes r nlri ≡ Ok u → (found : FoundAttrs) × (r ≡ Ok found) × IsFound prefixes found nlri u
+found_read : (prefixes : List PrefixValue) (r : Result FoundAttrs Notice) (nlri : List ℕ) (u : Update) → AreOctets nlri
+    → with_found prefixes r nlri ≡ Ok u → (found : FoundAttrs) × (r ≡ Ok found) × IsFound prefixes found nlri u
 found_read prefixes (Err n) nlri u fits e = absurd cc
 found_read prefixes (Ok found) [] u fits e =
     let here : IsFound prefixes found [] (record { withdrawn = prefixes; attrs = None; nlri = [] }) = record { announced = refl; reads_nlri = prefixes_read [] [] fits no_prefixes; others = sym (apart_nil prefixes) } in
@@ -206,10 +215,12 @@ update_read wide body u b e =
 
 -- ---- what is spelled is read
 
-found_are : (prefixes : List PrefixValue) (found : FoundAttrs) (nlri : List ℕ) (w : List PrefixValue) (o : Option Attrs) (ps : List PrefixValue) → Says found o ps → ReadsPrefixes nlri ps → w ≡ apart prefixes ps →
+found_are : (prefixes : List PrefixValue) (found : FoundAttrs) (nlri : List ℕ) (w : List PrefixValue) (o : Option Attrs) (ps : List PrefixValue)
+    → SaysAttributes found o ps → ReadsPrefixes nlri ps → w ≡ apart prefixes ps →
     with_found prefixes (Ok found) nlri ≡ Ok (record { withdrawn = w; attrs = o; nlri = ps })
 found_are prefixes found [] w None ps says reads others = same_update _ _ _ _ (sym (others ∙ (ap (apart prefixes) says ∙ apart_nil prefixes))) (sym says) where
-  same_update : (w w' ps ps' : List PrefixValue) → w ≡ w' → ps ≡ ps' → (let r : Result Update Notice = Ok (record { withdrawn = w; attrs = None; nlri = ps }) in r) ≡ Ok (record { withdrawn = w'; attrs = None; nlri = ps' })
+  same_update : (w w' ps ps' : List PrefixValue) → w ≡ w' → ps ≡ ps'
+      → (let r : Result Update Notice = Ok (record { withdrawn = w; attrs = None; nlri = ps }) in r) ≡ Ok (record { withdrawn = w'; attrs = None; nlri = ps' })
   same_update w w' ps ps' e f = cc
 found_are prefixes found (b ∷ rest) w None ps says reads others = absurd (some_prefix b rest ps reads says)
 found_are prefixes found [] w (Some a) ps says reads others = absurd (says.0 (same_Some ps [] (sym (prefixes_are [] ps reads) ∙ no_prefixes)))

@@ -42,13 +42,6 @@ not_above p q e = ap is_lt (reversed q p Less e)
 pub not_itself : (p : PrefixValue) → is_above (Some p) p ≡ false
 not_itself p = ap is_lt (tied_itself prefix_total p)
 
-pub one_or_below : (p q : PrefixValue) → is_above (Some p) q ≡ false → (q ≡ p) ⊎ (prefix_cmp q p ≡ Less)
-one_or_below p q n = elim (prefix_cmp p q) as (λ o. prefix_cmp p q ≡ o → (q ≡ p) ⊎ (prefix_cmp q p ≡ Less)) [
-  | Less ↦ λ e. absurd (false≢true (sym n ∙ ap is_lt e))
-  | Equal ↦ λ e. inl (sym (exact_prefixes p q e))
-  | Greater ↦ λ e. inr (reversed p q Greater e)
-] refl
-
 -- ---- the next prefix
 
 pub next_passes : (last : Option PrefixValue) (p : PrefixValue) (ks : List PrefixValue) → first_above last ks ≡ Some p → is_above last p ≡ true
@@ -77,12 +70,14 @@ module _ (k : PrefixValue) (xs ys : List PrefixValue) where
   first_lt false true e f l = omega arith
   first_lt false false e f l = absurd (false≢true f)
 
-fewer_or_same : (last : Option PrefixValue) (p : PrefixValue) → is_above last p ≡ true → (ks : List PrefixValue) → length (filter (is_above (Some p)) ks) ≤ length (filter (is_above last) ks)
+fewer_or_same : (last : Option PrefixValue) (p : PrefixValue) → is_above last p ≡ true → (ks : List PrefixValue)
+    → length (filter (is_above (Some p)) ks) ≤ length (filter (is_above last) ks)
 fewer_or_same last p a [] = omega arith
 fewer_or_same last p a (k ∷ ks) = step_le k (filter (is_above (Some p)) ks) (filter (is_above last) ks) (is_above (Some p) k) (is_above last k) (above_too last p k a) (fewer_or_same last p a ks)
 
 -- there are fewer prefixes above the next one
-pub fewer : (last : Option PrefixValue) (p : PrefixValue) (ks : List PrefixValue) → first_above last ks ≡ Some p → length (filter (is_above (Some p)) ks) < length (filter (is_above last) ks)
+pub fewer : (last : Option PrefixValue) (p : PrefixValue) (ks : List PrefixValue) → first_above last ks ≡ Some p
+    → length (filter (is_above (Some p)) ks) < length (filter (is_above last) ks)
 fewer last p [] e = absurd cc
 fewer last p (k ∷ ks) e =
     let a = next_passes last p (k ∷ ks) e in
@@ -109,19 +104,9 @@ module _ {X : Type 0} where
   above_all q p [] e a = tt
   above_all q p (x ∷ es) e a = (prefix_total.trans q p x.0 e a.0, above_all q p es e a.1)
 
-  -- between the last prefix and the next one there is none
-  pub none_between : (last : Option PrefixValue) (p q : PrefixValue) → is_above last q ≡ true → prefix_cmp q p ≡ Less → (es : List (PrefixValue × X)) → T (table.is_sorted prefix_cmp es) → first_above last (map (λ e. e.0) es) ≡ Some p → table.find prefix_cmp q es ≡ None
-  none_between last p q a l [] rise e = refl
-  none_between last p q a l (x ∷ es) rise e =
-      elim (is_above last x.0) as (λ b. is_above last x.0 ≡ b → cond b (Some x.0) (first_above last (map (λ e. e.0) es)) ≡ Some p → table.find prefix_cmp q (x ∷ es) ≡ None) [
-        | true ↦ λ f g.
-            let first : prefix_cmp q x.0 ≡ Less = ap (prefix_cmp q) (same_Some x.0 p g) ∙ l in
-            find_above prefix_cmp q (x ∷ es) (first, above_all q x.0 es first (rising_parts prefix_total [] x es rise).1)
-        | false ↦ λ f g. miss (eq_by_cmp prefix_cmp q x.0) x.1 (table.find prefix_cmp q es) (another last q x.0 a f) (none_between last p q a l es (rest_rises _ _ rise) g)
-      ] refl e
-
   -- nor is there one above the last of all
-  pub none_past : (last : Option PrefixValue) (q : PrefixValue) → is_above last q ≡ true → (es : List (PrefixValue × X)) → first_above last (map (λ e. e.0) es) ≡ None → table.find prefix_cmp q es ≡ None
+  pub none_past : (last : Option PrefixValue) (q : PrefixValue) → is_above last q ≡ true → (es : List (PrefixValue × X))
+      → first_above last (map (λ e. e.0) es) ≡ None → table.find prefix_cmp q es ≡ None
   none_past last q a [] e = refl
   none_past last q a (x ∷ es) e =
       elim (is_above last x.0) as (λ b. is_above last x.0 ≡ b → cond b (Some x.0) (first_above last (map (λ e. e.0) es)) ≡ None → table.find prefix_cmp q (x ∷ es) ≡ None) [
@@ -145,7 +130,8 @@ module _ {X : Type 0} where
   all_past p (x ∷ es) h = rw h.0 (ap (λ (l : List (PrefixValue × X)). x ∷ l) (all_past p es h.1))
 
   -- the next prefix is above those that all are above
-  next_above : (last : Option PrefixValue) (k p : PrefixValue) (es : List (PrefixValue × X)) → AllAbove prefix_cmp k es → first_above last (map (λ e. e.0) es) ≡ Some p → prefix_cmp k p ≡ Less
+  next_above : (last : Option PrefixValue) (k p : PrefixValue) (es : List (PrefixValue × X)) → AllAbove prefix_cmp k es
+      → first_above last (map (λ e. e.0) es) ≡ Some p → prefix_cmp k p ≡ Less
   next_above last k p [] h e = absurd cc
   next_above last k p (x ∷ es) h e =
       elim (is_above last x.0) as (λ b. cond b (Some x.0) (first_above last (map (λ e. e.0) es)) ≡ Some p → prefix_cmp k p ≡ Less) [
@@ -180,7 +166,8 @@ module _ {X : Type 0} where
           is = rw a (rw later next.is);
         }
 
-  pub next_entry : (last : Option PrefixValue) (p : PrefixValue) (es : List (PrefixValue × X)) → T (table.is_sorted prefix_cmp es) → first_above last (map (λ e. e.0) es) ≡ Some p → Next last p es
+  pub next_entry : (last : Option PrefixValue) (p : PrefixValue) (es : List (PrefixValue × X)) → T (table.is_sorted prefix_cmp es)
+      → first_above last (map (λ e. e.0) es) ≡ Some p → Next last p es
   next_entry last p [] rise e = absurd cc
   next_entry last p (x ∷ es) rise e =
       let above : AllAbove prefix_cmp x.0 es = (rising_parts prefix_total [] x es rise).1 in
@@ -217,8 +204,10 @@ module _ {X : Type 0} where
         let is : kept last es ≡ (p, value) ∷ kept (Some p) es = next.is ∙ ap (λ (x : X). (p, x) ∷ kept (Some p) es) same in
         append_assoc done (f (p, value) ∷ []) (map f (kept (Some p) es)) ∙ ap (λ (l : List (PrefixValue × X)). done ++ map f l) (sym is) ∙ so_far
 
-    pub walk_finds : (last : Option PrefixValue) (p : PrefixValue) → T (table.is_sorted prefix_cmp es) → first_above last (map (λ e. e.0) es) ≡ Some p → table.find prefix_cmp p es ≡ None → ⊥
+    pub walk_finds : (last : Option PrefixValue) (p : PrefixValue) → T (table.is_sorted prefix_cmp es)
+        → first_above last (map (λ e. e.0) es) ≡ Some p → table.find prefix_cmp p es ≡ None → ⊥
     walk_finds last p rise first none = let next = next_entry last p es rise first in let both : None ≡ Some next.value = sym none ∙ next.found in absurd cc
 
-    pub walk_ends : (done : List A) (last : Option PrefixValue) → first_above last (map (λ e. e.0) es) ≡ None → done ++ map f (kept last es) ≡ map f es → done ≡ map f es
+    pub walk_ends : (done : List A) (last : Option PrefixValue) → first_above last (map (λ e. e.0) es) ≡ None
+        → done ++ map f (kept last es) ≡ map f es → done ≡ map f es
     walk_ends done last none so_far = sym (append-nil done) ∙ ap (λ (l : List (PrefixValue × X)). done ++ map f l) (sym (none_left last es none)) ∙ so_far

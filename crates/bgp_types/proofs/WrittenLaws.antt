@@ -17,7 +17,7 @@ use Rattle.bgp_types.specs.declared.message.Update.{Update}
 use Rattle.bgp_types.specs.declared.fault.FoundAttrs.{FoundAttrs}
 use Rattle.bgp_types.specs.Found.{found_in}
 use Rattle.bgp_types.specs.Prefixes.{PrefixValue, IsPrefix, cleared, octets_for, prefix_octets, address_of, WirePrefix, IsWirePrefix, wire_octets, prefix_said, same_prefix, once_after}
-use Rattle.bgp_types.specs.Reads.{Reads, ReadsBody, ReadsPrefixes, ReadsAttrs, ReadsUpdate, ReadsOpen, Says}
+use Rattle.bgp_types.specs.Reads.{Reads, ReadsBody, ReadsPrefixes, ReadsAttrs, ReadsUpdate, ReadsOpen, SaysAttributes}
 use Rattle.bgp_types.specs.Spelling.{cap_octets, param_octets, spell_prefixes, spell_some_attrs, spell_update, open_octets, spell_open, spell_body, kind_of, spell}
 use Rattle.bgp_types.specs.UpdateBody.{apart}
 use Rattle.bgp_types.specs.Values.{is_no_host}
@@ -63,7 +63,8 @@ wires_fit (p ∷ ps) all = (wire_fits p all.0, wires_fit ps all.1)
 
 wires_said : (ps : List PrefixValue) → AllByRecursion IsPrefix ps → map prefix_said (map wire_of ps) ≡ ps
 wires_said [] all = refl
-wires_said (p ∷ ps) all = ap (λ (q : PrefixValue). q ∷ map prefix_said (map wire_of ps)) (wire_said p all.0) ∙ ap (λ (qs : List PrefixValue). p ∷ qs) (wires_said ps all.1)
+wires_said (p ∷ ps) all = ap (λ (q : PrefixValue). q ∷ map prefix_said (map wire_of ps)) (wire_said p all.0)
+    ∙ ap (λ (qs : List PrefixValue). p ∷ qs) (wires_said ps all.1)
 
 -- ---- no prefix twice
 
@@ -131,7 +132,7 @@ apart_same (x ∷ xs) ys d =
 record ReadsSome (wide : Bool) (a : Option Attrs) (nlri : List PrefixValue) : Type 0 where
   found : FoundAttrs
   reads : ReadsAttrs wide (spell_some_attrs wide a) found
-  says : Says found a nlri
+  says : SaysAttributes found a nlri
 
 some_again : (wide : Bool) (a : Option Attrs) (nlri : List PrefixValue) → HasAttrsFor a nlri → length (spell_some_attrs wide a) < 65536 → ReadsSome wide a nlri
 some_again wide None nlri h lt = record { found = found_in wide []; reads = record { attrs = []; octets = refl; each = tt; sound = tt; once = tt; says = refl }; says = h }

@@ -102,12 +102,12 @@ attr_of kind (a ∷ others) = if a.kind == kind then Some a else attr_of kind ot
 abbrev pub fault_after : Bool → List WireAttr → WireAttr → Option Notice
 fault_after wide before a = if is_some (attr_of a.kind before) then Some (bare 1) else own_fault wide a
 
-abbrev pub first_of : Option Notice → Option Notice → Option Notice
-first_of (Some n) later = Some n
-first_of None later = later
+abbrev pub earlier_notice : Option Notice → Option Notice → Option Notice
+earlier_notice (Some n) later = Some n
+earlier_notice None later = later
 
 -- the first fault of the attributes from left to right; octets left at the end that are no whole attribute are one
 unfoldable pub attrs_fault : Bool → List WireAttr → List WireAttr → List ℕ → Option Notice
 attrs_fault wide before [] [] = None
 attrs_fault wide before [] (octet ∷ rest) = Some (bare 1)
-attrs_fault wide before (a ∷ others) rest = first_of (fault_after wide before a) (attrs_fault wide (before ++ a ∷ []) others rest)
+attrs_fault wide before (a ∷ others) rest = earlier_notice (fault_after wide before a) (attrs_fault wide (before ++ a ∷ []) others rest)

@@ -47,8 +47,8 @@ numbers w zero bytes = []
 numbers w (suc n) bytes = from_be_bytes w (take (byte_len w) bytes) ∷ numbers w n (drop (byte_len w) bytes)
 
 -- the part of this kind
-abbrev pub part_of : ℕ → List ℕ → Option PathPart
-part_of kind ases = if kind == 1 then Some (Set ases) else if kind == 2 then Some (Sequence ases) else None
+abbrev pub path_part : ℕ → List ℕ → Option PathPart
+path_part kind ases = if kind == 1 then Some (Set ases) else if kind == 2 then Some (Sequence ases) else None
 
 abbrev pub with_rest : {A : Type 0} → Option A → List ℕ → Option (A × List ℕ)
 with_rest None rest = None
@@ -60,7 +60,7 @@ part_at wide [] = None
 part_at wide (kind ∷ []) = None
 part_at wide (kind ∷ count ∷ bytes) =
     let size = count * byte_len (as_width wide) in
-    if (count == 0) || nat_lt (length bytes) size then None else with_rest (part_of kind (numbers (as_width wide) count bytes)) (drop size bytes)
+    if (count == 0) || nat_lt (length bytes) size then None else with_rest (path_part kind (numbers (as_width wide) count bytes)) (drop size bytes)
 
 abbrev pub path_of : Bool → List ℕ → Option (List PathPart)
 path_of wide value = all_of (part_at wide) value

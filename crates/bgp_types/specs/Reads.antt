@@ -12,7 +12,7 @@ use Rattle.bgp_types.specs.declared.message.Update.{Update}
 use Rattle.bgp_types.specs.Faults.{own_fault}
 use Rattle.bgp_types.specs.Found.{found_in}
 use Rattle.bgp_types.specs.Prefixes.{PrefixValue, WirePrefix, IsWirePrefix, wire_octets, prefix_said, once_after}
-use Rattle.bgp_types.specs.Spelling.{counted, cap_octets, param_octets, open_octets, framed, kind_of}
+use Rattle.bgp_types.specs.Spelling.{length_prefixed, cap_octets, param_octets, open_octets, framed, kind_of}
 use Rattle.bgp_types.specs.UpdateBody.{apart}
 use Rattle.bgp_types.specs.WireAttrs.{WireAttr, IsWireAttr, wire_kind, attr_octets}
 use Rattle.bgp_types.specs.Values.{is_no_host, is_short_hold}
@@ -43,9 +43,9 @@ pub record ReadsAttrs (wide : Bool) (field : List ℕ) (found : FoundAttrs) : Ty
   pub says : found ≡ found_in wide attrs
 
 -- an announcement has an origin, a path and a next hop; without one the attributes are dropped
-abbrev pub Says : FoundAttrs → Option Attrs → List PrefixValue → Type 0
-Says found None nlri = nlri ≡ []
-Says found (Some a) nlri = (nlri ≢ []) × (found ≡ record { origin = Some a.origin; path = Some a.path; next_hop = Some a.next_hop; med = a.med; atomic = a.atomic; aggregator = a.aggregator; unknown = a.unknown })
+abbrev pub SaysAttributes : FoundAttrs → Option Attrs → List PrefixValue → Type 0
+SaysAttributes found None nlri = nlri ≡ []
+SaysAttributes found (Some a) nlri = (nlri ≢ []) × (found ≡ record { origin = Some a.origin; path = Some a.path; next_hop = Some a.next_hop; med = a.med; atomic = a.atomic; aggregator = a.aggregator; unknown = a.unknown })
 
 -- ---- messages
 
@@ -53,7 +53,7 @@ pub record ReadsUpdate (wide : Bool) (body : List ℕ) (u : Update) : Type 0 whe
   pub withdrawn : List ℕ
   pub attrs : List ℕ
   pub nlri : List ℕ
-  pub fields : body ≡ counted withdrawn ++ (counted attrs ++ nlri)
+  pub fields : body ≡ length_prefixed withdrawn ++ (length_prefixed attrs ++ nlri)
   pub withdrawn_room : length withdrawn < 2 ^ 16
   pub attrs_room : length attrs < 2 ^ 16
   pub prefixes : List PrefixValue
@@ -61,7 +61,7 @@ pub record ReadsUpdate (wide : Bool) (body : List ℕ) (u : Update) : Type 0 whe
   pub found : FoundAttrs
   pub reads_attrs : ReadsAttrs wide attrs found
   pub reads_nlri : ReadsPrefixes nlri u.nlri
-  pub announced : Says found u.attrs u.nlri
+  pub announced : SaysAttributes found u.attrs u.nlri
   pub others : u.withdrawn ≡ apart prefixes u.nlri
 
 -- each parameter has capabilities, none or one or more

@@ -82,8 +82,8 @@ spell_attrs wide a = flat_map attr_octets (in_rising wire_kind (attrs_written wi
 -- ---- messages
 
 -- a field behind a length of two octets
-abbrev pub counted : List ℕ → List ℕ
-counted octets = to_be_bytes w16 (length octets) ++ octets
+abbrev pub length_prefixed : List ℕ → List ℕ
+length_prefixed octets = to_be_bytes w16 (length octets) ++ octets
 
 -- a parameter of type 2 with one capability: code, length, value (RFC 5492, section 4)
 abbrev pub cap_octets : Cap → List ℕ
@@ -109,7 +109,7 @@ spell_some_attrs wide None = []
 spell_some_attrs wide (Some a) = spell_attrs wide a
 
 abbrev pub spell_update : Bool → Update → List ℕ
-spell_update wide u = counted (spell_prefixes u.withdrawn) ++ (counted (spell_some_attrs wide u.attrs) ++ spell_prefixes u.nlri)
+spell_update wide u = length_prefixed (spell_prefixes u.withdrawn) ++ (length_prefixed (spell_some_attrs wide u.attrs) ++ spell_prefixes u.nlri)
 
 -- the type of a message
 abbrev pub kind_of : Message → ℕ

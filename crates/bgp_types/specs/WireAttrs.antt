@@ -32,12 +32,12 @@ pub record IsWireAttr (a : WireAttr) : Type 0 where
   pub kind : a.kind < 256
   pub size : length a.value < size_limit a.flags
 
-abbrev pub with_value : ℕ → ℕ → Option (List ℕ × List ℕ) → Option (WireAttr × List ℕ)
-with_value flags kind None = None
-with_value flags kind (Some v) = Some (record { flags = flags; kind = kind; value = v.0 }, v.1)
+abbrev pub attr_with_value : ℕ → ℕ → Option (List ℕ × List ℕ) → Option (WireAttr × List ℕ)
+attr_with_value flags kind None = None
+attr_with_value flags kind (Some v) = Some (record { flags = flags; kind = kind; value = v.0 }, v.1)
 
 -- the attribute at the front
 unfoldable pub attr_at : List ℕ → Option (WireAttr × List ℕ)
 attr_at [] = None
 attr_at (flags ∷ []) = None
-attr_at (flags ∷ kind ∷ bytes) = with_value flags kind (told_at (number_at (size_width flags) bytes))
+attr_at (flags ∷ kind ∷ bytes) = attr_with_value flags kind (told_at (number_at (size_width flags) bytes))

@@ -1,21 +1,28 @@
 //! The number of octets in which a message is written (RFC 4271, section 4; RFC 6793, section 4).
 
-ghost use Rattle.std.specs.Prelude.{◌≡◌, ◌+◌, ◌-◌, ◌*◌, ◌^◌, length, min, sum_by, if◌then◌else◌};
+ghost use Rattle.std.specs.Prelude.{◌≡◌, ◌+◌, ◌-◌, ◌*◌, ◌^◌, length, min, option_copied, sum_by, if◌then◌else◌};
 ghost use Rattle.std.specs.List.{list_any};
 ghost use Rattle.bgp_types.specs.Lengths.{prefix_size, part_size, cap_size, attr_size_of, attrs_size};
 ghost use Rattle.bgp_types.specs.PathOctets.{has_long_as, is_long_as};
 ghost use Rattle.bgp_types.specs.Paths.{ases_of};
-ghost use Rattle.bgp_types.specs.Spelling.{med_written, atomic_written, aggregator_written, as4_path_written, as4_aggregator_written, spell, spell_attrs, spell_some_attrs, spell_update};
+ghost use Rattle.bgp_types.specs.declared.message.Message.TheVariants.{UpdateMsg};
+ghost use Rattle.bgp_types.specs.Spelling.{med_written, atomic_written, aggregator_written, as4_path_written, as4_aggregator_written, spell, spell_attrs, spell_some_attrs};
 
 use crate::as_number::{as_size, has_long_as, is_long_as};
 use crate::attrs::{Aggregator, Attrs, RawAttr};
 use crate::header::HEADER;
-use crate::message::{Cap, Message, Update};
+use crate::message::{Cap, Message};
 use crate::path::PathPart;
 use crate::prefix::Prefix;
 
 /// The length of an OPEN's fields from its version to the length of its parameters.
 const OPEN_FIELDS: usize = 10;
+
+/// The length of the lengths of an UPDATE's withdrawn routes and attributes.
+const LENGTHS: usize = 4;
+
+/// The length of a NOTIFICATION's code and subcode.
+const CODES: usize = 2;
 
 /// The length of an ORIGIN and a NEXT_HOP together.
 const ORIGIN_AND_NEXT_HOP: usize = 11;
@@ -162,8 +169,8 @@ fn caps_len(caps: &[Cap]) -> usize
     octets
 }
 
-fn some_attrs_len(attrs: &Option<Attrs>, wide: bool) -> usize
-    ensures { result ≡ min (length (spell_some_attrs wide attrs.now)) (2 ^ 64 - 1) }
+fn some_attrs_len(attrs: Option<&Attrs>, wide: bool) -> usize
+    ensures { result ≡ min (length (spell_some_attrs wide (option_copied attrs.entry))) (2 ^ 64 - 1) }
 {
     match attrs {
         Some(attrs) => attrs_len(attrs, wide),
@@ -171,14 +178,16 @@ fn some_attrs_len(attrs: &Option<Attrs>, wide: bool) -> usize
     }
 }
 
+/// Returns the number of octets of the UPDATE message (RFC 4271, section 4.3) with these fields, counted as
+/// `message_len` does. It allocates nothing.
 #[tactic(auto, using(crate::proofs::Lengths::update_size))]
-fn update_len(update: &Update, wide: bool) -> usize
-    ensures { result ≡ min (length (spell_update wide update.now)) (2 ^ 64 - 1) }
+pub fn update_len(withdrawn: &[Prefix], attrs: Option<&Attrs>, nlri: &[Prefix], wide: bool) -> usize
+    ensures { result ≡ min (length (spell (UpdateMsg (record { withdrawn = withdrawn.now; attrs = option_copied attrs.entry; nlri = nlri.now })) wide)) (2 ^ 64 - 1) }
 {
-    prefixes_len(&update.withdrawn)
-        .saturating_add(some_attrs_len(&update.attrs, wide))
-        .saturating_add(prefixes_len(&update.nlri))
-        .saturating_add(4)
+    prefixes_len(withdrawn)
+        .saturating_add(some_attrs_len(attrs, wide))
+        .saturating_add(prefixes_len(nlri))
+        .saturating_add(HEADER + LENGTHS)
 }
 
 /// Returns the number of octets in the written form of a message, in the given width of AS numbers. A
@@ -188,11 +197,15 @@ fn update_len(update: &Update, wide: bool) -> usize
 pub fn message_len(message: &Message, wide: bool) -> usize
     ensures { result ≡ min (length (spell message.now wide)) (2 ^ 64 - 1) }
 {
-    let body = match message {
-        Message::OpenMsg(open) => caps_len(&open.caps).saturating_add(OPEN_FIELDS),
-        Message::UpdateMsg(update) => update_len(update, wide),
-        Message::NoticeMsg(notice) => notice.info.len().saturating_add(2),
-        Message::KeepaliveMsg => 0,
-    };
-    body.saturating_add(HEADER)
+    match message {
+        Message::OpenMsg(open) => caps_len(&open.caps).saturating_add(HEADER + OPEN_FIELDS),
+        Message::UpdateMsg(update) => update_len(
+            &update.withdrawn,
+            update.attrs.as_ref(),
+            &update.nlri,
+            wide,
+        ),
+        Message::NoticeMsg(notice) => notice.info.len().saturating_add(HEADER + CODES),
+        Message::KeepaliveMsg => HEADER,
+    }
 }

@@ -25,7 +25,7 @@ pub use laws::{
     each_prefix_once, equal_is_same, fault_is_writable, printed_address_reads,
     printed_prefix_reads, reads_exactly, reads_once, written_reads,
 };
-pub use length::message_len;
+pub use length::{message_len, update_len};
 pub use message::{Cap, Caps, Message, Notice, OpenMsg, SessionState, Update};
 pub use path::{AsList, AsPath, PathPart, holds_as, neighbour, path_len};
 pub use prefix::{Prefix, PrefixList};

@@ -13,7 +13,7 @@ use Rattle.attr_codec.proofs.PathLaws.{stopped, finished}
 use Rattle.attr_codec.specs.declared.fault.CodecFault.{CodecFault}
 use Rattle.attr_codec.specs.declared.fault.CodecFault.TheVariants as stops
 use Rattle.attr_codec.specs.Decoding.{Stops}
-use Rattle.bgp_wire.specs.Caps.{caps_fault, IsAdded, caps_after}
+use Rattle.bgp_wire.specs.Caps.{caps_fault, AddsCaps, caps_after}
 
 cap_shorter : (bytes : List ℕ) (x : Cap × List ℕ) → cap_at bytes ≡ Some x → length x.1 < length bytes
 unfolding cap_at
@@ -54,17 +54,19 @@ pub adds_none : (octets : List ℕ) (old : List Cap) → Adding octets octets ol
 unfolding begins
 adds_none octets old = record { so_far = begins octets; added = sym (append-nil old) }
 
-pub adds_one : (octets rest : List ℕ) (old new : List Cap) (cap : Cap) (later : List ℕ) (new' : List Cap) → Adding octets rest old new → cap_at rest ≡ Some (cap, later) → new' ≡ new ++ cap ∷ [] → Adding octets later old new'
+pub adds_one : (octets rest : List ℕ) (old new : List Cap) (cap : Cap) (later : List ℕ) (new' : List Cap) → Adding octets rest old new
+    → cap_at rest ≡ Some (cap, later) → new' ≡ new ++ cap ∷ [] → Adding octets later old new'
 unfolding goes_on
 adds_one octets rest old new cap later new' a e more = record {
   so_far = goes_on octets rest cap later a.so_far e;
   added = more ∙ (ap (λ (xs : List Cap). xs ++ cap ∷ []) a.added ∙ append_assoc old a.so_far.before (cap ∷ []));
 }
 
-pub added_all : (octets rest : List ℕ) (old new : List Cap) → Adding octets rest old new → length rest ≡ 0 → IsAdded old new (all_of cap_at octets) × (caps_fault (all_of cap_at octets) ≡ None)
+pub added_all : (octets rest : List ℕ) (old new : List Cap) → Adding octets rest old new → length rest ≡ 0
+    → AddsCaps old new (all_of cap_at octets) × (caps_fault (all_of cap_at octets) ≡ None)
 added_all octets rest old new a e =
     let all = ends octets rest a.so_far e in
-    (subst (IsAdded old new) (sym all) a.added, ap caps_fault all)
+    (subst (AddsCaps old new) (sym all) a.added, ap caps_fault all)
 
 -- ---- parameters
 
@@ -86,28 +88,34 @@ reads_none params caps none whole =
     let w = whole_rest (many cap_at params).0 (many cap_at params).1 whole in
     record {
       left = w.0;
-      result = ap (λ (xs : List Cap). caps_after xs (caps_of (many cap_at params).0)) none ∙ (after_nothing (caps_of (many cap_at params).0) ∙ sym (ap with_params w.1));
+      result = ap (λ (xs : List Cap). caps_after xs (caps_of (many cap_at params).0)) none
+          ∙ (after_nothing (caps_of (many cap_at params).0) ∙ sym (ap with_params w.1));
     }
 
-front_is : (rest : List ℕ) (param : Cap) (later : List ℕ) → cap_at rest ≡ Some (param, later) → many cap_at rest ≡ (param ∷ (many cap_at later).0, (many cap_at later).1)
+front_is : (rest : List ℕ) (param : Cap) (later : List ℕ) → cap_at rest ≡ Some (param, later)
+    → many cap_at rest ≡ (param ∷ (many cap_at later).0, (many cap_at later).1)
 front_is rest param later e = many_some cap_at cap_shortens rest (param, later) e
 
 not_eq : (t : Bool) (r : Result (List Cap) Notice) (n : Notice) → t ≡ false → (let s : Result (List Cap) Notice = cond t r (Err n) in s) ≡ Err n
 not_eq t r n e = ap (λ (b : Bool). (let s : Result (List Cap) Notice = cond b r (Err n) in s)) e
 
-pub other_type : (params rest : List ℕ) (caps : List Cap) (param : Cap) (later : List ℕ) → Reading params rest caps → cap_at rest ≡ Some (param, later) → eqb param.code 2 ≡ false → fault_in (with_params (all_of cap_at params)) ≡ Some (open_fault 4)
+pub other_type : (params rest : List ℕ) (caps : List Cap) (param : Cap) (later : List ℕ) → Reading params rest caps
+    → cap_at rest ≡ Some (param, later) → eqb param.code 2 ≡ false → fault_in (with_params (all_of cap_at params)) ≡ Some (open_fault 4)
 unfolding caps_of
 other_type params rest caps param later r e code =
     let first : caps_of (many cap_at rest).0 ≡ Err (open_fault 4) = ap (λ (m : List Cap × List ℕ). caps_of m.0) (front_is rest param later e) ∙ not_eq (eqb param.code 2) (with_caps (all_of cap_at param.bytes) (caps_of (many cap_at later).0)) (open_fault 4) code in
     ap fault_in (sym r.result ∙ ap (caps_after caps) first)
 
-front_caps : (rest : List ℕ) (param : Cap) (later : List ℕ) → cap_at rest ≡ Some (param, later) → eqb param.code 2 ≡ true → caps_of (many cap_at rest).0 ≡ with_caps (all_of cap_at param.bytes) (caps_of (many cap_at later).0)
+front_caps : (rest : List ℕ) (param : Cap) (later : List ℕ) → cap_at rest ≡ Some (param, later) → eqb param.code 2 ≡ true
+    → caps_of (many cap_at rest).0 ≡ with_caps (all_of cap_at param.bytes) (caps_of (many cap_at later).0)
 unfolding caps_of
 front_caps rest param later e code =
     ap (λ (m : List Cap × List ℕ). caps_of m.0) (front_is rest param later e)
     ∙ ap (λ (b : Bool). (let s : Result (List Cap) Notice = cond b (with_caps (all_of cap_at param.bytes) (caps_of (many cap_at later).0)) (Err (open_fault 4)) in s)) code
 
-pub caps_fail : (params rest : List ℕ) (caps : List Cap) (param : Cap) (later : List ℕ) (stop : CodecFault) → Reading params rest caps → cap_at rest ≡ Some (param, later) → eqb param.code 2 ≡ true → Stops stop (caps_fault (all_of cap_at param.bytes)) → Stops stop (fault_in (with_params (all_of cap_at params)))
+pub caps_fail : (params rest : List ℕ) (caps : List Cap) (param : Cap) (later : List ℕ) (stop : CodecFault) → Reading params rest caps
+    → cap_at rest ≡ Some (param, later) → eqb param.code 2 ≡ true → Stops stop (caps_fault (all_of cap_at param.bytes))
+    → Stops stop (fault_in (with_params (all_of cap_at params)))
 caps_fail params rest caps param later stops.NoMemory r e code f = tt
 caps_fail params rest caps param later (stops.Wire n) r e code f =
     let n_is = none_is (all_of cap_at param.bytes) (caps_of (many cap_at later).0) n f in
@@ -117,12 +125,14 @@ caps_fail params rest caps param later (stops.Wire n) r e code f =
     none_is None later n e = ap (λ (m : Notice). (let r : Result (List Cap) Notice = Err m in r)) (same_Some _ n e)
     none_is (Some caps) later n e = absurd cc
 
-pub reads_one : (params rest : List ℕ) (caps : List Cap) (param : Cap) (later : List ℕ) (caps' : List Cap) → Reading params rest caps → cap_at rest ≡ Some (param, later) → eqb param.code 2 ≡ true → IsAdded caps caps' (all_of cap_at param.bytes) → Reading params later caps'
+pub reads_one : (params rest : List ℕ) (caps : List Cap) (param : Cap) (later : List ℕ) (caps' : List Cap) → Reading params rest caps
+    → cap_at rest ≡ Some (param, later) → eqb param.code 2 ≡ true → AddsCaps caps caps' (all_of cap_at param.bytes) → Reading params later caps'
 reads_one params rest caps param later caps' r e code added = record {
   left = sym (ap (λ (m : List Cap × List ℕ). m.1) (front_is rest param later e)) ∙ r.left;
-  result = joined (all_of cap_at param.bytes) (caps_of (many cap_at later).0) added ∙ (sym (ap (caps_after caps) (front_caps rest param later e code)) ∙ r.result);
+  result = joined (all_of cap_at param.bytes) (caps_of (many cap_at later).0) added
+      ∙ (sym (ap (caps_after caps) (front_caps rest param later e code)) ∙ r.result);
 } where
-  joined : (o : Option (List Cap)) (later : Result (List Cap) Notice) → IsAdded caps caps' o → caps_after caps' later ≡ caps_after caps (with_caps o later)
+  joined : (o : Option (List Cap)) (later : Result (List Cap) Notice) → AddsCaps caps caps' o → caps_after caps' later ≡ caps_after caps (with_caps o later)
   joined None later a = absurd a
   joined (Some more) (Ok others) a = ap (λ (xs : List Cap). (let r : Result (List Cap) Notice = Ok (xs ++ others) in r)) a ∙ ap (λ (xs : List Cap). (let r : Result (List Cap) Notice = Ok xs in r)) (append_assoc caps more others)
   joined (Some more) (Err n) a = refl

@@ -70,21 +70,10 @@ fits (messages.UpdateMsg u) wide w lt = fits_update wide u w.attrs lt
 fits (messages.NoticeMsg n) wide w lt = tt
 fits messages.KeepaliveMsg wide w lt = tt
 
-pub fits_body : (m : Message) (wide : Bool) → IsWritable m wide → FitsBody m wide
-fits_body m wide w =
-    let size = w.size in
-    let total = spelled_size m wide in
-    fits m wide w.body (omega arith)
-
-pub body_room : (m : Message) (wide : Bool) → IsWritable m wide → 19 + length (spell_body m wide) < 65536
-body_room m wide w =
-    let size = w.size in
-    let total = spelled_size m wide in
-    omega arith
-
 -- ---- parameters of an OPEN that is written
 
-caps_below : (caps : List Cap) → length (flat_map (λ cap. param_octets (cap_octets cap)) caps) < 256 → AllByRecursion (λ (cap : Cap). length cap.bytes + 2 < 256) caps
+caps_below : (caps : List Cap) → length (flat_map (λ cap. param_octets (cap_octets cap)) caps) < 256
+    → AllByRecursion (λ (cap : Cap). length cap.bytes + 2 < 256) caps
 caps_below [] lt = tt
 caps_below (cap ∷ caps) lt =
     let rest : List ℕ = flat_map (λ (c : Cap). param_octets (cap_octets c)) caps in

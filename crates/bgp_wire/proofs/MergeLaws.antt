@@ -27,7 +27,8 @@ lead_is count (parts.Sequence ases) e p =
 lead_parts : (count : ℕ) (path : List PathPart) → Parts path → Parts (lead count path)
 lead_parts count [] p = tt
 lead_parts count (part ∷ path) p = by_test (eqb count 0) refl (lead_parts (count - part_count part) path p.1) where
-  by_test : (t : Bool) → eqb count 0 ≡ t → Parts (lead (count - part_count part) path) → Parts (cond t [] (lead_part count part ∷ lead (count - part_count part) path))
+  by_test : (t : Bool) → eqb count 0 ≡ t → Parts (lead (count - part_count part) path)
+      → Parts (cond t [] (lead_part count part ∷ lead (count - part_count part) path))
   by_test true e rest = tt
   by_test false e rest = (lead_is count part e p.0, rest)
 

@@ -68,7 +68,8 @@ apart_distinct : (ps nlri : List PrefixValue) → IsDistinct same_prefix ps → 
 unfolding IsDistinct
 apart_distinct [] nlri d e = e
 apart_distinct (p ∷ ps) nlri d e = by_test (list_any (same_prefix p) nlri) refl (apart_distinct ps nlri d.1 e) where
-  by_test : (t : Bool) → list_any (same_prefix p) nlri ≡ t → IsDistinct same_prefix (apart ps nlri ++ nlri) → IsDistinct same_prefix (cond (not t) (p ∷ apart ps nlri) (apart ps nlri) ++ nlri)
+  by_test : (t : Bool) → list_any (same_prefix p) nlri ≡ t → IsDistinct same_prefix (apart ps nlri ++ nlri)
+      → IsDistinct same_prefix (cond (not t) (p ∷ apart ps nlri) (apart ps nlri) ++ nlri)
   by_test true f rest = rest
   by_test false f rest = (all_joined (λ q. same_prefix p q ≡ false) (apart ps nlri) nlri (all_kept (λ q. same_prefix p q ≡ false) (λ q. not (list_any (same_prefix q) nlri)) ps d.0) (unlike_any p nlri f), rest)
 

@@ -16,17 +16,20 @@ pub record Reading (field rest : List ℕ) (prefixes : List PrefixValue) : Type 
 pub begins : (field : List ℕ) (prefixes : List PrefixValue) → prefixes ≡ [] → Reading field field prefixes
 begins field prefixes e = record { said = ap (λ (ps : List PrefixValue). once_after ps (map prefix_said (many prefix_at field).0)) e; left = refl }
 
-some_front : (o : Option (WirePrefix × List ℕ)) (p : PrefixValue) (later : List ℕ) → option_map (λ (x : WirePrefix × List ℕ). (let y : PrefixValue × List ℕ = (prefix_said x.0, x.1) in y)) o ≡ Some (p, later) → (w : WirePrefix) × (o ≡ Some (w, later)) × (prefix_said w ≡ p)
+some_front : (o : Option (WirePrefix × List ℕ)) (p : PrefixValue) (later : List ℕ)
+    → option_map (λ (x : WirePrefix × List ℕ). (let y : PrefixValue × List ℕ = (prefix_said x.0, x.1) in y)) o ≡ Some (p, later) → (w : WirePrefix) × (o ≡ Some (w, later)) × (prefix_said w ≡ p)
 some_front None p later e = absurd cc
 some_front (Some x) p later e =
     let s = same_Some (prefix_said x.0, x.1) (p, later) e in
     (x.0, ap (λ (b : List ℕ). (let o : Option (WirePrefix × List ℕ) = Some (x.0, b) in o)) (ap (λ (y : PrefixValue × List ℕ). y.1) s), ap (λ (y : PrefixValue × List ℕ). y.0) s)
 
-none_front : (o : Option (WirePrefix × List ℕ)) → option_map (λ (x : WirePrefix × List ℕ). (let y : PrefixValue × List ℕ = (prefix_said x.0, x.1) in y)) o ≡ None → o ≡ None
+none_front : (o : Option (WirePrefix × List ℕ))
+    → option_map (λ (x : WirePrefix × List ℕ). (let y : PrefixValue × List ℕ = (prefix_said x.0, x.1) in y)) o ≡ None → o ≡ None
 none_front None e = refl
 none_front (Some x) e = absurd cc
 
-pub goes_on : (field rest : List ℕ) (prefixes : List PrefixValue) (p : PrefixValue) (later : List ℕ) (prefixes' : List PrefixValue) → Reading field rest prefixes → front_said rest ≡ Some (p, later) → prefixes' ≡ put_once prefixes p → Reading field later prefixes'
+pub goes_on : (field rest : List ℕ) (prefixes : List PrefixValue) (p : PrefixValue) (later : List ℕ) (prefixes' : List PrefixValue)
+    → Reading field rest prefixes → front_said rest ≡ Some (p, later) → prefixes' ≡ put_once prefixes p → Reading field later prefixes'
 goes_on field rest prefixes p later prefixes' s e more =
     let f = some_front (prefix_at rest) p later e in
     let w : WirePrefix = f.0 in
@@ -47,7 +50,8 @@ not_whole : (ws : List WirePrefix) (rest : List ℕ) → 0 < length rest → all
 not_whole ws [] lt = absurd (omega arith)
 not_whole ws (b ∷ rest) lt = refl
 
-pub stops : (field rest : List ℕ) (prefixes : List PrefixValue) → Reading field rest prefixes → front_said rest ≡ None → 0 < length rest → prefixes_of field ≡ None
+pub stops : (field rest : List ℕ) (prefixes : List PrefixValue) → Reading field rest prefixes → front_said rest ≡ None → 0 < length rest
+    → prefixes_of field ≡ None
 unfolding prefixes_of
 stops field rest prefixes s e lt =
     let last : rest ≡ (many prefix_at field).1 = sym (ap (λ (m : List WirePrefix × List ℕ). m.1) (many_none prefix_at rest (none_front (prefix_at rest) e))) ∙ s.left in

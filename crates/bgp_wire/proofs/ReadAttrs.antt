@@ -17,7 +17,7 @@ use Rattle.bgp_types.specs.Merge.{merged_aggregator, is_stale, path_with}
 use Rattle.bgp_types.specs.OctetLists.{AreOctets}
 use Rattle.bgp_types.specs.PathOctets.{as_width, path_of}
 use Rattle.bgp_types.specs.Prefixes.{PrefixValue}
-use Rattle.bgp_types.specs.Reads.{Differ, ReadsAttrs, Says}
+use Rattle.bgp_types.specs.Reads.{Differ, ReadsAttrs, SaysAttributes}
 use Rattle.bgp_types.specs.Rising.{IsRising}
 use Rattle.bgp_types.specs.Values.{is_no_host, is_other, other_kind}
 use Rattle.bgp_types.specs.WireAttrs.{WireAttr, IsWireAttr, wire_kind, size_width, attr_octets}
@@ -52,7 +52,8 @@ of_type P kind (a ∷ attrs) all = by_test (eqb a.kind kind) (of_type P kind att
   by_test true rest = all.0
   by_test false rest = rest
 
-of_said : {A : Type 0} (P : A → Type 0) (read : WireAttr → Result A Notice) (o : Option WireAttr) → Where IsCut o → ((a : WireAttr) → IsCut a → Where P (ok_in (read a))) → Where P (said read o)
+of_said : {A : Type 0} (P : A → Type 0) (read : WireAttr → Result A Notice) (o : Option WireAttr) → Where IsCut o
+    → ((a : WireAttr) → IsCut a → Where P (ok_in (read a))) → Where P (said read o)
 of_said P read None cut h = tt
 of_said P read (Some a) cut h = h a cut
 
@@ -105,7 +106,8 @@ as4_said (Some a) cut = by_test (is_transitive a) (some_part (path_of true a.val
   some_part (Some []) p = tt
   some_part (Some (part ∷ path)) p = p
 
-  by_test : (t : Bool) → Where Parts (if_some_part (path_of true a.value)) → Where Parts (let o : Option (List PathPart) = cond t (if_some_part (path_of true a.value)) None in o)
+  by_test : (t : Bool) → Where Parts (if_some_part (path_of true a.value))
+      → Where Parts (let o : Option (List PathPart) = cond t (if_some_part (path_of true a.value)) None in o)
   by_test true p = p
   by_test false p = tt
 
@@ -127,7 +129,8 @@ IsHost address = is_no_host address ≡ false
 host_said : (a : WireAttr) → Where IsHost (ok_in (next_hop_in a))
 unfolding next_hop_in
 host_said a = of_flags IsHost 64 a (with_size 4 a (host_in a (from_be_bytes w32 a.value))) (of_size IsHost 4 a (host_in a (from_be_bytes w32 a.value)) (by_test (is_no_host (from_be_bytes w32 a.value)) refl)) where
-  by_test : (t : Bool) → is_no_host (from_be_bytes w32 a.value) ≡ t → Where IsHost (ok_in (let r : Result ℕ Notice = cond t (Err (about 8 (attr_octets a))) (Ok (from_be_bytes w32 a.value)) in r))
+  by_test : (t : Bool) → is_no_host (from_be_bytes w32 a.value) ≡ t
+      → Where IsHost (ok_in (let r : Result ℕ Notice = cond t (Err (about 8 (attr_octets a))) (Ok (from_be_bytes w32 a.value)) in r))
   by_test true e = tt
   by_test false e = e
 
@@ -155,7 +158,8 @@ of_merged : (a as4 : Option Aggregator) → Where IsAggregator a → Where IsAgg
 of_merged None as4 p q = tt
 of_merged (Some a) None p q = p
 of_merged (Some a) (Some b) p q = by_test (eqb a.as_number 23456) where
-  by_test : (t : Bool) → Where IsAggregator (let o : Option Aggregator = cond t (Some (record a { as_number = b.as_number; address = b.address })) (Some a) in o)
+  by_test : (t : Bool)
+      → Where IsAggregator (let o : Option Aggregator = cond t (Some (record a { as_number = b.as_number; address = b.address })) (Some a) in o)
   by_test true = record { as_number = q.as_number; address = q.address }
   by_test false = p
 
@@ -169,7 +173,8 @@ record AreOthers (attrs : List WireAttr) : Type 0 where
 kept_unlike : (kind : ℕ) (attrs : List WireAttr) → AllByRecursion (λ a. wire_kind a ≢ kind) attrs → AllByRecursion (λ r. other_kind r ≢ kind) (kept attrs)
 kept_unlike kind [] all = tt
 kept_unlike kind (a ∷ attrs) all = by_test (is_other a.kind) (kept_raw a) refl (kept_unlike kind attrs all.1) where
-  by_test : (t : Bool) (o : Option RawAttr) → kept_raw a ≡ o → AllByRecursion (λ r. other_kind r ≢ kind) (kept attrs) → AllByRecursion (λ r. other_kind r ≢ kind) (cond t (join o (kept attrs)) (kept attrs))
+  by_test : (t : Bool) (o : Option RawAttr) → kept_raw a ≡ o → AllByRecursion (λ r. other_kind r ≢ kind) (kept attrs)
+      → AllByRecursion (λ r. other_kind r ≢ kind) (cond t (join o (kept attrs)) (kept attrs))
   by_test true None e rest = rest
   by_test true (Some r) e rest = ((λ same. all.0 (sym (kept_kind a r e) ∙ same)), rest)
   by_test false o e rest = rest
@@ -177,7 +182,8 @@ kept_unlike kind (a ∷ attrs) all = by_test (is_other a.kind) (kept_raw a) refl
 others_are : (attrs : List WireAttr) → AllByRecursion IsCut attrs → Differ wire_kind attrs → AreOthers attrs
 others_are [] cut differ = record { each = tt; differ = tt }
 others_are (a ∷ attrs) cut differ = let both = by_test (is_other a.kind) refl (kept_raw a) refl (others_are attrs cut.1 differ.1) in record { each = both.0; differ = both.1 } where
-  by_test : (t : Bool) → is_other a.kind ≡ t → (o : Option RawAttr) → kept_raw a ≡ o → AreOthers attrs → AllByRecursion IsOther (cond t (join o (kept attrs)) (kept attrs)) × Differ other_kind (cond t (join o (kept attrs)) (kept attrs))
+  by_test : (t : Bool) → is_other a.kind ≡ t → (o : Option RawAttr) → kept_raw a ≡ o → AreOthers attrs
+      → AllByRecursion IsOther (cond t (join o (kept attrs)) (kept attrs)) × Differ other_kind (cond t (join o (kept attrs)) (kept attrs))
   by_test true e None f rest = (rest.each, rest.differ)
   by_test true e (Some r) f rest =
       let k : other_kind r ≡ a.kind = kept_kind a r f in
@@ -220,7 +226,7 @@ if_some : {A : Type 0} (P : A → Type 0) (o : Option A) → Where P o → IfSom
 if_some P None p = tt
 if_some P (Some x) p = p
 
-pub attrs_for : (found : FoundAttrs) (attrs : Option Attrs) (nlri : List PrefixValue) → IsGood found → Says found attrs nlri → HasAttrsFor attrs nlri
+pub attrs_for : (found : FoundAttrs) (attrs : Option Attrs) (nlri : List PrefixValue) → IsGood found → SaysAttributes found attrs nlri → HasAttrsFor attrs nlri
 attrs_for found None nlri good says = says
 attrs_for found (Some a) nlri good says =
     let g = subst IsGood says.1 good in (

@@ -13,7 +13,7 @@ use Rattle.bgp_types.specs.Header.{frame_at}
 use Rattle.bgp_types.specs.OctetLists.{AreOctets}
 use Rattle.bgp_types.specs.Prefixes.{PrefixValue}
 use Rattle.bgp_types.specs.Reads.{Reads, ReadsBody, ReadsUpdate, ReadsOpen}
-use Rattle.bgp_types.specs.Spelling.{counted, cap_octets, param_octets, framed, kind_of, spell_open, spell}
+use Rattle.bgp_types.specs.Spelling.{length_prefixed, cap_octets, param_octets, framed, kind_of, spell_open, spell}
 use Rattle.bgp_types.specs.Writable.{IsWritable, IsWritableBody, IsWritableOpen, IsWritableUpdate}
 use Rattle.bgp_types.proofs.AttrLaws.{AreOctets-drop}
 use Rattle.bgp_types.proofs.MessageLaws.{message_read}
@@ -25,11 +25,11 @@ use Rattle.bgp_wire.proofs.ReadAttrs.{read_good, attrs_for}
 
 update_is : (wide : Bool) (body : List ℕ) (u : Update) → AreOctets body → ReadsUpdate wide body u → IsWritableUpdate u
 update_is wide body u octets r =
-    let all : AreOctets (counted r.withdrawn ++ (counted r.attrs ++ r.nlri)) = subst AreOctets r.fields octets in
-    let rest : AreOctets (counted r.attrs ++ r.nlri) = AreOctets-back (counted r.withdrawn) (counted r.attrs ++ r.nlri) all in
-    let withdrawn : AreOctets r.withdrawn = AreOctets-back (to_be_bytes w16 (length r.withdrawn)) r.withdrawn (AreOctets-front (counted r.withdrawn) (counted r.attrs ++ r.nlri) all) in
-    let attrs : AreOctets r.attrs = AreOctets-back (to_be_bytes w16 (length r.attrs)) r.attrs (AreOctets-front (counted r.attrs) r.nlri rest) in
-    let nlri : AreOctets r.nlri = AreOctets-back (counted r.attrs) r.nlri rest in
+    let all : AreOctets (length_prefixed r.withdrawn ++ (length_prefixed r.attrs ++ r.nlri)) = subst AreOctets r.fields octets in
+    let rest : AreOctets (length_prefixed r.attrs ++ r.nlri) = AreOctets-back (length_prefixed r.withdrawn) (length_prefixed r.attrs ++ r.nlri) all in
+    let withdrawn : AreOctets r.withdrawn = AreOctets-back (to_be_bytes w16 (length r.withdrawn)) r.withdrawn (AreOctets-front (length_prefixed r.withdrawn) (length_prefixed r.attrs ++ r.nlri) all) in
+    let attrs : AreOctets r.attrs = AreOctets-back (to_be_bytes w16 (length r.attrs)) r.attrs (AreOctets-front (length_prefixed r.attrs) r.nlri rest) in
+    let nlri : AreOctets r.nlri = AreOctets-back (length_prefixed r.attrs) r.nlri rest in
     let prefixes = apart_is r.prefixes u.nlri (read_is r.withdrawn r.prefixes withdrawn r.reads_withdrawn) (read_is r.nlri u.nlri nlri r.reads_nlri) in
     let apart = subst (λ (ps : List PrefixValue). AreApart ps u.nlri) (sym r.others) prefixes in
     record {
@@ -46,7 +46,8 @@ open_is body o r lt = record { as_number = r.as_number; hold = r.hold; hold_time
 open_size : (o : OpenMsg) → length (spell_open o) ≡ 10 + length (flat_map (λ cap. param_octets (cap_octets cap)) o.caps)
 open_size o = omega arith
 
-body_is : (m : Message) (body : List ℕ) (wide other : Bool) → AreOctets body → ReadsBody body m wide → length (spell m other) ≤ written_limit m → IsWritableBody m
+body_is : (m : Message) (body : List ℕ) (wide other : Bool) → AreOctets body → ReadsBody body m wide → length (spell m other) ≤ written_limit m
+    → IsWritableBody m
 body_is (messages.OpenMsg o) body wide other octets r le = let total = spelled_size (messages.OpenMsg o) other in let size = open_size o in open_is body o r (omega arith)
 body_is (messages.UpdateMsg u) body wide other octets r le = update_is wide body u octets r
 body_is (messages.NoticeMsg n) body wide other octets r le = tt
@@ -65,12 +66,14 @@ limit_kept (messages.UpdateMsg u) wide w = w.size
 limit_kept (messages.NoticeMsg n) wide w = w.size
 limit_kept messages.KeepaliveMsg wide w = w.size
 
-pub any_spelling : (frame : List ℕ) (m : Message) (wide other : Bool) → AreOctets frame → Reads frame m wide → IsWritable m other ↔ (length (spell m other) ≤ written_limit m)
+pub any_spelling : (frame : List ℕ) (m : Message) (wide other : Bool) → AreOctets frame → Reads frame m wide
+    → IsWritable m other ↔ (length (spell m other) ≤ written_limit m)
 any_spelling frame m wide other octets r =
     let body : AreOctets r.body = AreOctets-drop 19 (framed (kind_of m) r.body) (subst AreOctets r.octets octets) in (
       limit_kept m other,
       λ le. record { body = body_is m r.body wide other body r.says le; size = within_all m (length (spell m other)) le },
     )
 
-pub answered : (frame : List ℕ) (expected : Expected) (m : Message) (other : Bool) → AreOctets frame → frame_at frame ≡ Some (frame, []) → message_of expected frame ≡ Ok m → IsWritable m other ↔ (length (spell m other) ≤ written_limit m)
+pub answered : (frame : List ℕ) (expected : Expected) (m : Message) (other : Bool) → AreOctets frame → frame_at frame ≡ Some (frame, [])
+    → message_of expected frame ≡ Ok m → IsWritable m other ↔ (length (spell m other) ≤ written_limit m)
 answered frame expected m other octets whole e = any_spelling frame m expected.wide other octets (message_read expected frame m octets whole e).0

@@ -7,13 +7,14 @@ use Rattle.std.proofs.lemmas.Bool.Decides.{nat_tests}
 use Rattle.bgp_types.specs.Prefixes.{PrefixValue, same_prefix, put_once}
 use Rattle.bgp_types.specs.Tables.{prefix_cmp}
 use Rattle.bgp_types.proofs.OnceLaws as once
-use Rattle.bgp_wire.specs.declared.set.PrefixSet.{PrefixSet}
+use Rattle.bgp_wire.specs.declared.set.SeenPrefixes.{SeenPrefixes}
 use Rattle.bgp_wire.specs.Sets.{has, IsSetOf}
 
 -- prefixes compare alike exactly where they are the same
 pub is_same : (p q : PrefixValue) → is_eq (prefix_cmp p q) ≡ same_prefix p q
 is_same p q = by_test (ltb p.address q.address) (eqb p.address q.address) (ltb p.len q.len) (eqb p.len q.len) refl refl refl refl where
-  by_test : (a b c d : Bool) → ltb p.address q.address ≡ a → eqb p.address q.address ≡ b → ltb p.len q.len ≡ c → eqb p.len q.len ≡ d → is_eq (prefix_cmp p q) ≡ same_prefix p q
+  by_test : (a b c d : Bool) → ltb p.address q.address ≡ a → eqb p.address q.address ≡ b → ltb p.len q.len ≡ c → eqb p.len q.len ≡ d
+      → is_eq (prefix_cmp p q) ≡ same_prefix p q
   by_test a b c d e f g h = grind (arith, nat_tests)
 
 any_last : (p q : PrefixValue) (ps : List PrefixValue) → list_any (same_prefix p) (ps ++ q ∷ []) ≡ cond (same_prefix p q) true (list_any (same_prefix p) ps)
@@ -28,18 +29,9 @@ any_last p q (x ∷ ps) = by_test (same_prefix p x) (same_prefix p q) (list_any 
   by_test false u v w e = e
 
 -- a set after a prefix was put in
-abbrev pub IsPut : PrefixSet → PrefixSet → PrefixValue → Type 0
+abbrev pub IsPut : SeenPrefixes → SeenPrefixes → PrefixValue → Type 0
 IsPut old new q = (p : PrefixValue) → has new p ≡ cond (same_prefix p q) true (has old p)
 
-pub set_pushed : (old new : PrefixSet) (q : PrefixValue) (ps : List PrefixValue) → IsSetOf old ps → IsPut old new q → IsSetOf new (ps ++ q ∷ [])
-set_pushed old new q ps s put p = put p ∙ (ap (λ (t : Bool). cond (same_prefix p q) true t) (s p) ∙ sym (any_last p q ps))
-
--- a prefix that is there already
-pub set_same : (old new : PrefixSet) (q : PrefixValue) (ps : List PrefixValue) → IsSetOf old ps → IsPut old new q → has old q ≡ true → IsSetOf new ps
-set_same old new q ps s put there p = put p ∙ by_test (same_prefix p q) refl where
-  by_test : (t : Bool) → same_prefix p q ≡ t → cond t true (has old p) ≡ list_any (same_prefix p) ps
-  by_test true e = sym (sym (s p) ∙ (ap (has old) (once.is_same p q e) ∙ there))
-  by_test false e = s p
-
-pub not_there : (set : PrefixSet) (q : PrefixValue) (ps : List PrefixValue) → IsSetOf set ps → (new : Bool) → has set q ≡ new → put_once ps q ≡ cond new ps (ps ++ q ∷ [])
+pub not_there : (set : SeenPrefixes) (q : PrefixValue) (ps : List PrefixValue) → IsSetOf set ps → (new : Bool) → has set q ≡ new
+    → put_once ps q ≡ cond new ps (ps ++ q ∷ [])
 not_there set q ps s new e = ap (λ (t : Bool). cond t ps (ps ++ q ∷ [])) (sym (s q) ∙ e)

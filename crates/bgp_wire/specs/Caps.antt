@@ -15,9 +15,9 @@ caps_fault None = Some (open_fault 0)
 caps_fault (Some caps) = None
 
 -- the list with these capabilities after those that it had
-abbrev pub IsAdded : List Cap → List Cap → Option (List Cap) → Type 0
-IsAdded old new None = ⊥
-IsAdded old new (Some caps) = new ≡ old ++ caps
+abbrev pub AddsCaps : List Cap → List Cap → Option (List Cap) → Type 0
+AddsCaps old new None = ⊥
+AddsCaps old new (Some caps) = new ≡ old ++ caps
 
 -- capabilities, followed by those that are read later
 abbrev pub caps_after : List Cap → Result (List Cap) Notice → Result (List Cap) Notice

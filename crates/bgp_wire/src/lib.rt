@@ -13,5 +13,6 @@ mod write;
 
 pub use attr_codec::CodecFault;
 pub use laws::{read_message_is_writable, written_message_reads};
+pub use open::{FOUR_OCTET_AS, as_said};
 pub use read::{header_notice, read_message};
 pub use write::write_message;

@@ -2,11 +2,11 @@
 
 ghost use Rattle.std.specs.Prelude.{◌≡◌, ◌<◌, ◌≤◌, length, true, is_some, IfSome, OnOk};
 ghost use Rattle.std.specs.Option.{option_map};
-ghost use Rattle.attr_codec.specs.Decoding.{Decodes, Passes};
+ghost use Rattle.attr_codec.specs.Decoding.{Decodes, PassesOrStops};
 ghost use Rattle.bgp_types.specs.Many.{all_of};
 ghost use Rattle.bgp_types.specs.OpenBody.{cap_at, params_of, with_params, as_said, is_field, is_said, open_of};
 ghost use Rattle.bgp_types.specs.Values.{is_short_hold};
-ghost use Rattle.bgp_wire.specs.Caps.{cap_of, caps_fault, IsAdded};
+ghost use Rattle.bgp_wire.specs.Caps.{cap_of, caps_fault, AddsCaps};
 
 use crate::fault::fault;
 use attr_codec::CodecFault;
@@ -20,8 +20,8 @@ pub const VERSION: u8 = 4;
 /// The type of a parameter that holds capabilities.
 pub const CAPABILITIES: u8 = 2;
 
-/// The code of the capability of four-octet AS numbers, and its length.
-const FOUR_OCTET_AS: u8 = 65;
+/// The code of the capability of four-octet AS numbers (RFC 6793, section 9), and the length of its value.
+pub const FOUR_OCTET_AS: u8 = 65;
 
 const FOUR_OCTETS: usize = 4;
 
@@ -82,8 +82,8 @@ fn are_items(octets: &[u8]) -> bool
 
 /// Adds the capabilities of a parameter.
 fn add_caps(alloc: Global, caps: &mut Caps, octets: &[u8]) -> Result<(), CodecFault>
-    ensures fault { Passes result (caps_fault (all_of cap_at octets.now)) }
-    ensures added { OnOk result (IsAdded caps.old caps.new (all_of cap_at octets.now)) }
+    ensures fault { PassesOrStops result (caps_fault (all_of cap_at octets.now)) }
+    ensures added { OnOk result (AddsCaps caps.old caps.new (all_of cap_at octets.now)) }
 {
     let mut rest = octets;
     while !rest.is_empty() {
@@ -130,9 +130,9 @@ fn params_in(alloc: Global, octets: &[u8]) -> Result<Caps, CodecFault>
     caps_in(alloc, params)
 }
 
-/// Returns the first AS that a capability of four-octet AS numbers gives; a capability of another
-/// length counts as absent.
-fn as_said(caps: &[Cap]) -> Option<u32>
+/// Returns the first AS number that a capability of four-octet AS numbers gives, or `None` if there is no such capability
+/// (RFC 6793, section 3). One of another length counts as absent.
+pub fn as_said(caps: &[Cap]) -> Option<u32>
     ensures { result ≡ as_said caps.now }
 {
     for cap in caps {

@@ -8,7 +8,7 @@ ghost use Rattle.bgp_types.specs.UpdateBody.{apart};
 ghost use Rattle.bgp_wire.specs.Fields.{front_said};
 ghost use Rattle.bgp_wire.specs.Sets.{has};
 
-use crate::set::{PrefixSet, put_once};
+use crate::set::{SeenPrefixes, put_once};
 use bgp_types::{NoMemory, Octets, Prefix, PrefixList};
 use byteorder::{BigEndian, ByteOrder};
 use std::alloc::Global;
@@ -54,7 +54,7 @@ fn prefix_in(octets: &[u8]) -> Option<(Prefix, &[u8])>
 pub fn prefixes_in(alloc: Global, field: &[u8]) -> Result<Option<PrefixList>, NoMemory>
     ensures { IfOk result (λ found. found ≡ prefixes_of field.now) }
 {
-    let mut set = PrefixSet::new(alloc);
+    let mut set = SeenPrefixes::new(alloc);
     let mut prefixes = PrefixList::new(alloc);
     let mut rest = field;
     while !rest.is_empty() {
@@ -68,7 +68,7 @@ pub fn prefixes_in(alloc: Global, field: &[u8]) -> Result<Option<PrefixList>, No
 }
 
 /// Returns the prefixes that aren't in a set, in their order.
-fn outside(alloc: Global, prefixes: &[Prefix], set: &PrefixSet) -> Result<PrefixList, NoMemory>
+fn outside(alloc: Global, prefixes: &[Prefix], set: &SeenPrefixes) -> Result<PrefixList, NoMemory>
     ensures { IfOk result (λ list. list ≡ filter (λ p. not (has set.now p)) prefixes.now) }
 {
     let mut list = PrefixList::new(alloc);
@@ -91,7 +91,7 @@ pub fn apart_from(
     if prefixes.is_empty() {
         return Ok(prefixes);
     }
-    let set = PrefixSet::of(alloc, others)?;
+    let set = SeenPrefixes::of(alloc, others)?;
     outside(alloc, &prefixes, &set)
 }
 

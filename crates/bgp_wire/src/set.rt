@@ -10,16 +10,16 @@ use std::collections::BTreeSet;
 
 /// A set of prefixes.
 #[derive(Drop)]
-pub struct PrefixSet {
+pub struct SeenPrefixes {
     prefixes: BTreeSet<Prefix>,
 }
 
-impl PrefixSet {
+impl SeenPrefixes {
     /// Returns an empty set.
-    pub fn new(alloc: Global) -> PrefixSet
+    pub fn new(alloc: Global) -> SeenPrefixes
         ensures { IsSetOf result [] }
     {
-        PrefixSet {
+        SeenPrefixes {
             prefixes: BTreeSet::new(alloc),
         }
     }
@@ -34,10 +34,10 @@ impl PrefixSet {
     }
 
     /// Returns the set of these prefixes.
-    pub fn of(alloc: Global, prefixes: &[Prefix]) -> Result<PrefixSet, NoMemory>
+    pub fn of(alloc: Global, prefixes: &[Prefix]) -> Result<SeenPrefixes, NoMemory>
         ensures { IfOk result (λ set. IsSetOf set prefixes.now) }
     {
-        let mut set = PrefixSet::new(alloc);
+        let mut set = SeenPrefixes::new(alloc);
         for prefix in prefixes {
             set.put(*prefix)?;
         }
@@ -52,7 +52,11 @@ impl PrefixSet {
 }
 
 /// Appends a prefix to a list, unless the list has it; the set holds the prefixes of the list.
-pub fn put_once(set: &mut PrefixSet, list: &mut PrefixList, prefix: Prefix) -> Result<(), NoMemory>
+pub fn put_once(
+    set: &mut SeenPrefixes,
+    list: &mut PrefixList,
+    prefix: Prefix,
+) -> Result<(), NoMemory>
     requires { IsSetOf set.old list.old }
     ensures list { OnOk result (list.new ≡ put_once list.old prefix) }
     ensures set { OnOk result (IsSetOf set.new list.new) }

@@ -2,7 +2,7 @@
 
 ghost use Rattle.std.specs.Prelude.{◌≡◌, ◌+◌, ◌^◌, ◌<◌, ◌++◌, ◌∷◌, length, All, IfOk, OnOk};
 ghost use Rattle.std.specs.List.{flat_map};
-ghost use Rattle.bgp_types.specs.Spelling.{counted, cap_octets, param_octets, spell_open, spell_some_attrs, spell_update, kind_of, spell_body, framed, spell};
+ghost use Rattle.bgp_types.specs.Spelling.{length_prefixed, cap_octets, param_octets, spell_open, spell_some_attrs, spell_update, kind_of, spell_body, framed, spell};
 ghost use Rattle.bgp_types.specs.Writable.{IsWritableOpen, IsWritableUpdate, IsWritable};
 ghost use Rattle.bgp_wire.specs.Written.{FitsSome, FitsUpdate, FitsBody};
 
@@ -19,7 +19,7 @@ const MARKER: [u8; 16] = [0xFF; 16];
 /// Appends a field behind a length of two octets.
 fn put_counted(out: &mut Octets, field: &[u8]) -> Result<(), NoMemory>
     requires { length field.now < 2 ^ 16 }
-    ensures { OnOk result (out.new ≡ out.old ++ counted field.now) }
+    ensures { OnOk result (out.new ≡ out.old ++ length_prefixed field.now) }
 {
     out.extend(&(field.len() as u16).to_be_bytes())?;
     out.extend(field)

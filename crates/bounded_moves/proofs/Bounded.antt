@@ -9,12 +9,12 @@ use Rattle.graft_model.specs.Setups.{Setup, IsSetup, routers_in, peerings_in}
 use Rattle.graft_model.specs.Parts.{World}
 use Rattle.graft_model.specs.Steps.{ByRouter}
 use Rattle.graft_model.specs.declared.event.RouterEvent.TheVariants.{Freeze}
-use Rattle.graft_laws.specs.Owned.{mesh_of}
+use Rattle.graft_laws.specs.Owned.{mesh_items_on}
 use Rattle.graft_laws.specs.Keeps.{Reached}
-use Rattle.run_marks.specs.Marks.{IsWorldAtMark}
+use Rattle.world_runs.specs.Marks.{IsWorldAtMark}
 use Rattle.real_rounds.specs.Entries.{between}
 use Rattle.real_rounds.specs.Whole.{RoundGoes, Drains, RealRounds}
-use Rattle.bounded_moves.specs.Moves.{SendsAtMost, HearsAtMost, IsOver}
+use Rattle.bounded_moves.specs.Moves.{SendsAtMost, HearsAtMost, HasArrived}
 use Rattle.bounded_moves.proofs.Ranks.{IsOn}
 use Rattle.bounded_moves.proofs.Freezes.{HasLeft, left_by}
 use Rattle.bounded_moves.proofs.Queues.{two_rounds}
@@ -44,7 +44,7 @@ module _ (setup : Setup) (faults : List Fault) (journal : List JournalEntry) (ma
 
   -- two rounds from a mark on, by which the graft goes further
   further : (k p q t least more a b m n o : ℕ) → n ≡ m + 1 → o ≡ m + 2 → o < length marks
-      → ((w : World) → Reached setup w → IsOn setup k p q t least w → mesh_of p (w.mesh a b) ≡ [] → IsOn setup k p q t more w)
+      → ((w : World) → Reached setup w → IsOn setup k p q t least w → mesh_items_on p (w.mesh a b) ≡ [] → IsOn setup k p q t more w)
       → p < peerings_in setup → a ≢ b → a < routers_in setup → b < routers_in setup → length ((real.world m).mesh a b) ≤ 256
       → IsOn setup k p q t least (real.world m) → IsOn setup k p q t more (real.world o)
   further k p q t least more a b m n o e f l emptied below apart from to few on =
@@ -61,7 +61,7 @@ module _ (setup : Setup) (faults : List Fault) (journal : List JournalEntry) (ma
 
   pub moves_bounded : (t r k : ℕ) → t + 5 < length marks → Contains (real.events t) (ByRouter r (Freeze k)) → SendsAtMost 256 (real.world (t + 1)) r
       → HearsAtMost 256 (real.world (t + 3)) r
-      → IsOver k (real.world (t + 5))
+      → HasArrived k (real.world (t + 5))
   moves_bounded t r k l freezes sends hears =
       let x : HasLeft setup r k 3 (real.world (t + 1)) = leaves t r k (omega (arith, l)) freezes in
       let p : ℕ = x.peering in

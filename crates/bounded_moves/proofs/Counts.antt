@@ -16,20 +16,20 @@ use Rattle.graft_model.specs.declared.event.RouterEvent.TheVariants.{Hear, Land,
 use Rattle.graft_laws.specs.Moves.{mesh_taken, mesh_sent}
 use Rattle.graft_laws.proofs.Moves.{router_moves, far_moves, operator_moves}
 use Rattle.graft_laws.proofs.Heads.{only2_here}
-use Rattle.graft_runs.specs.Actors.{ActorName, Router}
-use Rattle.graft_runs.specs.Makes.{HasCode}
-use Rattle.graft_runs.specs.Laws.{IsEntryOf}
-use Rattle.real_rounds.specs.Entries.{is_name, sender_of, taken_from}
+use Rattle.graft_actors.specs.Actors.{ActorName, Router}
+use Rattle.graft_actors.specs.Makes.{HasCode}
+use Rattle.graft_actors.specs.Laws.{IsEntryOf}
+use Rattle.real_rounds.specs.Entries.{is_same_name, sender_of, count_taken_from}
 
 -- ---- entries
 
 -- how many of the entries took an item from the channel between two routers
 abbrev pub taken_between : ℕ → ℕ → List JournalEntry → ℕ
-taken_between a b entries = taken_from (Router a) (entries_by b entries)
+taken_between a b entries = count_taken_from (Router a) (entries_by b entries)
 
 -- whether this one did
 abbrev pub one_between : ℕ → ℕ → JournalEntry → ℕ
-one_between a b entry = if entry.actor == b then (if is_name (Router a) (sender_of entry) then 1 else 0) else 0
+one_between a b entry = if entry.actor == b then (if is_same_name (Router a) (sender_of entry) then 1 else 0) else 0
 
 pub taken_next : (a b : ℕ) (entry : JournalEntry) (entries : List JournalEntry)
     → taken_between a b (entry ∷ entries) ≡ one_between a b entry + taken_between a b entries
@@ -39,14 +39,14 @@ taken_next a b entry entries = by_test (entry.actor == b)
     rest = entries_by b entries
 
     one : ℕ
-    one = if is_name (Router a) (sender_of entry) then 1 else 0
+    one = if is_same_name (Router a) (sender_of entry) then 1 else 0
 
     nothing : (n : ℕ) → n ≡ 0 + n
     nothing n = omega arith
 
-    by_test : (t : Bool) → taken_from (Router a) (if t then entry ∷ rest else rest) ≡ (if t then one else 0) + taken_from (Router a) rest
-    by_test true = sum_by-cons (λ (e : JournalEntry). if is_name (Router a) (sender_of e) then 1 else 0) entry rest
-    by_test false = nothing (taken_from (Router a) rest)
+    by_test : (t : Bool) → count_taken_from (Router a) (if t then entry ∷ rest else rest) ≡ (if t then one else 0) + count_taken_from (Router a) rest
+    by_test true = sum_by-cons (λ (e : JournalEntry). if is_same_name (Router a) (sender_of e) then 1 else 0) entry rest
+    by_test false = nothing (count_taken_from (Router a) rest)
 
 -- ---- a router's event
 
@@ -64,7 +64,7 @@ item_of a q taken item is e = (item, is ∙ ap (λ n. Some (MeshIn n item)) (sym
 
 -- An event whose entry names the router a as the sender took an item that a sent.
 heard : (setup : Setup) (r a : ℕ) (event : RouterEvent) (before after : RouterPart) (taken : Option RouterTaken) (sent : List RouterSent)
-    → router_row setup r event before taken sent after → is_name (Router a) (sender_at (router_code event).kind (router_code event).a) ≡ true
+    → router_row setup r event before taken sent after → is_same_name (Router a) (sender_at (router_code event).kind (router_code event).a) ≡ true
     → (item : Mesh) × (taken ≡ Some (MeshIn a item))
 heard setup r a (Hear q) before after taken sent row e = item_of a q taken (Told row.prefix row.route) row.takes e
 heard setup r a (Land q) before after taken sent row e = item_of a q taken (Moved row.comes.graft row.comes.peering row.comes.session) row.comes.takes e
@@ -122,7 +122,7 @@ differs m n ne = grind (arith, nat_tests)
 
 -- an entry of another actor takes nothing there
 other_actor : (a b : ℕ) (entry : JournalEntry) → entry.actor ≢ b → one_between a b entry ≡ 0
-other_actor a b entry ne = ap (λ t. if t then (if is_name (Router a) (sender_of entry) then 1 else 0) else 0) (differs entry.actor b ne)
+other_actor a b entry ne = ap (λ t. if t then (if is_same_name (Router a) (sender_of entry) then 1 else 0) else 0) (differs entry.actor b ne)
 
 none_counted : (n : ℕ) → n ≡ 0 → n ≤ 0
 none_counted n e = omega (arith, e)
@@ -148,13 +148,13 @@ module _ (setup : Setup) (a b : ℕ) (apart : a ≢ b) (known : b < routers_in s
   counts : (event : RouterEvent) (before after : RouterPart) (taken : Option RouterTaken) (sent : List RouterSent) (entry : JournalEntry)
       → router_row setup b event before taken sent after → HasCode (router_code event) entry
       → one_between a b entry ≤ length (mesh_taken b taken a b)
-  counts event before after taken sent entry row coded = by_test (entry.actor == b) (is_name (Router a) (sender_of entry)) refl
+  counts event before after taken sent entry row coded = by_test (entry.actor == b) (is_same_name (Router a) (sender_of entry)) refl
     where
-      by_test : (s t : Bool) → is_name (Router a) (sender_of entry) ≡ t → (if s then (if t then 1 else 0) else 0) ≤ length (mesh_taken b taken a b)
+      by_test : (s t : Bool) → is_same_name (Router a) (sender_of entry) ≡ t → (if s then (if t then 1 else 0) else 0) ≤ length (mesh_taken b taken a b)
       by_test false t e = omega arith
       by_test true false e = omega arith
       by_test true true e =
-          let h = heard setup b a event before after taken sent row ((λ i. is_name (Router a) (sender_at (sym coded.kind i) (sym coded.a i))) ∙ e) in
+          let h = heard setup b a event before after taken sent row ((λ i. is_same_name (Router a) (sender_at (sym coded.kind i) (sym coded.a i))) ∙ e) in
           let is : mesh_taken b taken a b ≡ h.0 ∷ [] = ap (λ t. mesh_taken b t a b) h.1 ∙ only2_here a b h.0 in
           subst (λ (items : List Mesh). 1 ≤ length items) (sym is) (omega arith)
 

@@ -10,12 +10,12 @@ use Rattle.graft_model.specs.Setups.{Setup, IsSetup, routers_in, peerings_in}
 use Rattle.graft_model.specs.Parts.{Mesh, World}
 use Rattle.graft_model.specs.Steps.{Event, Step, Run}
 use Rattle.graft_laws.specs.Phases.{Moving, Confirmed, Returning, Phase, Busy, mesh_by}
-use Rattle.graft_laws.specs.Owned.{is_on, mesh_of, Owned}
+use Rattle.graft_laws.specs.Owned.{is_on, mesh_items_on, Owned}
 use Rattle.graft_laws.specs.Keeps.{Reached}
 use Rattle.graft_laws.proofs.Runs.{reached_more, reached_run, always_owned}
-use Rattle.graft_runs.specs.Actors.{Router, MeshItem}
-use Rattle.graft_runs.specs.Laws.{IsEntryOf, AreEntriesOf}
-use Rattle.real_rounds.specs.Entries.{taken_from}
+use Rattle.graft_actors.specs.Actors.{Router, MeshItem}
+use Rattle.graft_actors.specs.Laws.{IsEntryOf, AreEntriesOf}
+use Rattle.real_rounds.specs.Entries.{count_taken_from}
 use Rattle.real_rounds.specs.Whole.{Slices, RoundGoes, Drains}
 use Rattle.bounded_moves.proofs.Ranks.{IsOn, stays, goes_on}
 use Rattle.bounded_moves.proofs.Counts.{taken_between, one_between, taken_next, Passes, passes}
@@ -35,9 +35,9 @@ below_step : (t : Bool) (item x : Mesh) (own rest : List Mesh) (n m : ℕ) → (
 below_step true item x own rest n m e f = omega arith
 below_step false item x own rest n m e f = let l = f e in omega (arith, l)
 
-ahead_below : (p : ℕ) (items rest : List Mesh) (x : Mesh) → mesh_of p items ≡ x ∷ rest → ahead p items < length items
+ahead_below : (p : ℕ) (items rest : List Mesh) (x : Mesh) → mesh_items_on p items ≡ x ∷ rest → ahead p items < length items
 ahead_below p [] rest x e = absurd (none_is_some x rest e)
-ahead_below p (item ∷ items) rest x e = below_step (is_on p item) item x (mesh_of p items) rest (ahead p items) (length items) e
+ahead_below p (item ∷ items) rest x e = below_step (is_on p item) item x (mesh_items_on p items) rest (ahead p items) (length items) e
     (λ f. ahead_below p items rest x f)
 
 more_step : (t : Bool) (item x : Mesh) (own rest : List Mesh) (n m : ℕ) → (if t then item ∷ own else own) ≡ x ∷ rest → (own ≡ x ∷ rest → n ≡ m)
@@ -46,9 +46,9 @@ more_step true item x own rest n m e f = refl
 more_step false item x own rest n m e f = ap suc (f e)
 
 -- what is sent stands behind
-ahead_more : (p : ℕ) (items sent rest : List Mesh) (x : Mesh) → mesh_of p items ≡ x ∷ rest → ahead p (items ++ sent) ≡ ahead p items
+ahead_more : (p : ℕ) (items sent rest : List Mesh) (x : Mesh) → mesh_items_on p items ≡ x ∷ rest → ahead p (items ++ sent) ≡ ahead p items
 ahead_more p [] sent rest x e = absurd (none_is_some x rest e)
-ahead_more p (item ∷ items) sent rest x e = more_step (is_on p item) item x (mesh_of p items) rest (ahead p (items ++ sent)) (ahead p items) e
+ahead_more p (item ∷ items) sent rest x e = more_step (is_on p item) item x (mesh_items_on p items) rest (ahead p (items ++ sent)) (ahead p items) e
     (λ f. ahead_more p items sent rest x f)
 
 none_left : (xs : List Mesh) → suc (length xs) ≤ 1 → xs ≡ []
@@ -56,32 +56,33 @@ none_left [] l = refl
 none_left (x ∷ xs) l = absurd (omega (arith, l))
 
 -- where a channel has one item of the peering at most, none is left when that is taken
-ahead_less : (p : ℕ) (item : Mesh) (items : List Mesh) → length (mesh_of p (item ∷ items)) ≤ 1
-    → (mesh_of p items ≡ []) ⊎ (1 + ahead p items ≡ ahead p (item ∷ items))
+ahead_less : (p : ℕ) (item : Mesh) (items : List Mesh) → length (mesh_items_on p (item ∷ items)) ≤ 1
+    → (mesh_items_on p items ≡ []) ⊎ (1 + ahead p items ≡ ahead p (item ∷ items))
 ahead_less p item items few = by_test (is_on p item) few
   where
-    by_test : (t : Bool) → length (if t then item ∷ mesh_of p items else mesh_of p items) ≤ 1
-        → (mesh_of p items ≡ []) ⊎ (1 + ahead p items ≡ (if t then 0 else suc (ahead p items)))
-    by_test true l = inl (none_left (mesh_of p items) l)
+    by_test : (t : Bool) → length (if t then item ∷ mesh_items_on p items else mesh_items_on p items) ≤ 1
+        → (mesh_items_on p items ≡ []) ⊎ (1 + ahead p items ≡ (if t then 0 else suc (ahead p items)))
+    by_test true l = inl (none_left (mesh_items_on p items) l)
     by_test false l = inr (omega arith)
 
 -- An event that takes one item at most, and sends none then, finds or leaves nothing of the peering there, or what it takes stands before its first item.
 goes_ahead : (p : ℕ) (taken sent before after : List Mesh) → taken ++ after ≡ before ++ sent → length taken ≤ 1 → (taken ≡ []) ⊎ (sent ≡ [])
-    → length (mesh_of p before) ≤ 1
-    → (mesh_of p before ≡ []) ⊎ ((mesh_of p after ≡ []) ⊎ (length taken + ahead p after ≡ ahead p before))
-goes_ahead p [] sent before after e few one_way single = by_list (mesh_of p before) refl
+    → length (mesh_items_on p before) ≤ 1
+    → (mesh_items_on p before ≡ []) ⊎ ((mesh_items_on p after ≡ []) ⊎ (length taken + ahead p after ≡ ahead p before))
+goes_ahead p [] sent before after e few one_way single = by_list (mesh_items_on p before) refl
   where
     nothing : (n m : ℕ) → n ≡ m → 0 + n ≡ m
     nothing n m f = omega (arith, f)
 
-    by_list : (own : List Mesh) → mesh_of p before ≡ own → (mesh_of p before ≡ []) ⊎ ((mesh_of p after ≡ []) ⊎ (0 + ahead p after ≡ ahead p before))
+    by_list : (own : List Mesh) → mesh_items_on p before ≡ own
+        → (mesh_items_on p before ≡ []) ⊎ ((mesh_items_on p after ≡ []) ⊎ (0 + ahead p after ≡ ahead p before))
     by_list [] f = inl f
     by_list (x ∷ rest) f = inr (inr (nothing (ahead p after) (ahead p before) (ap (ahead p) e ∙ ahead_more p before sent rest x f)))
 goes_ahead p (x ∷ []) sent before after e few (inl none) single = absurd (none_is_some x [] (sym none))
 goes_ahead p (x ∷ []) sent before after e few (inr none) single =
     let is : x ∷ after ≡ before = e ∙ (ap (λ (items : List Mesh). before ++ items) none ∙ append-nil before) in
-    inr (subst (λ (items : List Mesh). (mesh_of p after ≡ []) ⊎ (1 + ahead p after ≡ ahead p items)) is
-    (ahead_less p x after (subst (λ (items : List Mesh). length (mesh_of p items) ≤ 1) (sym is) single)))
+    inr (subst (λ (items : List Mesh). (mesh_items_on p after ≡ []) ⊎ (1 + ahead p after ≡ ahead p items)) is
+    (ahead_less p x after (subst (λ (items : List Mesh). length (mesh_items_on p items) ≤ 1) (sym is) single)))
 goes_ahead p (x ∷ (y ∷ taken)) sent before after e few one_way single = absurd (omega (arith, few))
 
 -- a phase has one item of its peering at most in a channel
@@ -106,7 +107,7 @@ one_item (Busy q k t (Returning refusal)) p s a b = by_tests _ (a == t) (b == q)
     by_tests item false v = omega arith
 one_item _ p s a b = omega arith
 
-pub one_of : (setup : Setup) (w : World) (p a b : ℕ) → Owned setup w → p < peerings_in setup → length (mesh_of p (w.mesh a b)) ≤ 1
+pub one_of : (setup : Setup) (w : World) (p a b : ℕ) → Owned setup w → p < peerings_in setup → length (mesh_items_on p (w.mesh a b)) ≤ 1
 one_of setup w p a b owned below = let held = owned.peerings p below in subst (λ (items : List Mesh). length items ≤ 1) (sym (held.stands.mesh a b))
     (one_item held.phase p held.session a b)
 
@@ -125,7 +126,7 @@ too_many size now mid later first second few drains l m n = omega (arith, few, d
 -- A graft goes further where the channel from a to b holds nothing of its peering.
 module _ (setup : Setup) (sound : IsSetup setup) (k p q t least more a b : ℕ) (below : p < peerings_in setup) (apart : a ≢ b) (from : a < routers_in setup)
     (to : b < routers_in setup)
-    (emptied : (w : World) → Reached setup w → IsOn setup k p q t least w → mesh_of p (w.mesh a b) ≡ [] → IsOn setup k p q t more w) where
+    (emptied : (w : World) → Reached setup w → IsOn setup k p q t least w → mesh_items_on p (w.mesh a b) ≡ [] → IsOn setup k p q t more w) where
   abbrev On : ℕ → World → Type 0
   On n w = IsOn setup k p q t n w
 
@@ -171,13 +172,13 @@ module _ (setup : Setup) (sound : IsSetup setup) (k p q t least more a b : ℕ) 
       )
 
   -- what is taken between a and b, by the entries of b
-  taken_by : (slices : Slices) (entries : List JournalEntry) → Interleaves slices entries → taken_from (Router a) (slices b) ≡ taken_between a b entries
-  taken_by slices entries merged = ap (taken_from (Router a)) (sym (merged.each b))
+  taken_by : (slices : Slices) (entries : List JournalEntry) → Interleaves slices entries → count_taken_from (Router a) (slices b) ≡ taken_between a b entries
+  taken_by slices entries merged = ap (count_taken_from (Router a)) (sym (merged.each b))
 
   pub two_rounds : (one other : List Event) (first second : Slices) (w u v : World) → Reached setup w → RoundGoes setup w first one u
       → RoundGoes setup u second other v → Drains setup w first second
       → length (w.mesh a b) ≤ 256 → On least w → On more v
-  two_rounds one other first second w u v reached x y drains few on = by_list (mesh_of p (w.mesh a b)) refl
+  two_rounds one other first second w u v reached x y drains few on = by_list (mesh_items_on p (w.mesh a b)) refl
     where
       mid : Reached setup u
       mid = reached_run setup one w u reached x.run
@@ -187,11 +188,11 @@ module _ (setup : Setup) (sound : IsSetup setup) (k p q t least more a b : ℕ) 
 
       taken : min 256 (length (w.mesh a b)) ≤ taken_between a b x.entries + taken_between a b y.entries
       taken = subst (λ (n : ℕ). min 256 (length (w.mesh a b)) ≤ taken_between a b x.entries + n) (taken_by second y.entries y.merged)
-          (subst (λ (n : ℕ). min 256 (length (w.mesh a b)) ≤ n + taken_from (Router a) (second b)) (taken_by first x.entries x.merged)
-          (subst (λ (n : ℕ). min 256 n ≤ taken_from (Router a) (first b) + taken_from (Router a) (second b)) (length-map (w.mesh a b) MeshItem)
+          (subst (λ (n : ℕ). min 256 (length (w.mesh a b)) ≤ n + count_taken_from (Router a) (second b)) (taken_by first x.entries x.merged)
+          (subst (λ (n : ℕ). min 256 n ≤ count_taken_from (Router a) (first b) + count_taken_from (Router a) (second b)) (length-map (w.mesh a b) MeshItem)
           (drains (Router a) (Router b) from to)))
 
-      by_list : (own : List Mesh) → mesh_of p (w.mesh a b) ≡ own → On more v
+      by_list : (own : List Mesh) → mesh_items_on p (w.mesh a b) ≡ own → On more v
       by_list [] none = end_of (goes_on setup sound k p q t more one w u reached x.run (emptied w reached on none))
       by_list (item ∷ rest) some = elim (run_waits one x.entries w u reached x.entries_of x.run on) [
         | inl gone ↦ end_of gone

@@ -16,7 +16,7 @@ IsFrozenFor k (Frozen session order) = order.graft ≡ k
 IsFrozenFor k place = ⊥
 
 -- The session of a graft is no longer on its way: it has landed or come back, and no router has it frozen for the graft.
-pub record IsOver (k : ℕ) (w : World) : Type 0 where
+pub record HasArrived (k : ℕ) (w : World) : Type 0 where
   pub mesh : (a b : ℕ) → list_any (carries k) (w.mesh a b) ≡ false
   pub places : (r p : ℕ) → ¬ IsFrozenFor k ((w.router r).places p)
 
@@ -31,4 +31,4 @@ HearsAtMost most w r = (q : ℕ) → length (w.mesh q r) ≤ most
 -- requires that the router's channels to the others hold at most 256 items each at the end of the round, and those that lead to it two rounds later.
 abbrev pub MovesEnd : (events : ℕ → List Event) (world : ℕ → World) (marks : ℕ) → Type 0
 MovesEnd events world marks = (t r k : ℕ) → t + 5 < marks → Contains (events t) (ByRouter r (Freeze k)) → SendsAtMost 256 (world (t + 1)) r
-    → HearsAtMost 256 (world (t + 3)) r → IsOver k (world (t + 5))
+    → HearsAtMost 256 (world (t + 3)) r → HasArrived k (world (t + 5))

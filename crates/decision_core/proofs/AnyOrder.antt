@@ -9,13 +9,14 @@ use Rattle.std.proofs.lemmas.List.Folds.{list_any_at}
 use Rattle.std.proofs.lemmas.List.Sorted.{IsPermutation-refl, IsPermutation-cons, IsPermutation-middle, IsPermutation-trans, IsPermutation-keeps, list_any-IsPermutation}
 use Rattle.std.proofs.lemmas.Bool.Decides.{nat_tests}
 use Rattle.bgp_types.specs.declared.rank.Rank.{Rank}
-use Rattle.decision_core.specs.Choice.{is_own, has_higher_preference, has_shorter_path, has_lower_origin, has_lower_med, is_external, has_lower_cost, has_lower_identifier, has_lower_address, keep, left_of, first, choice, numbered, ranks_left, AreEqual}
+use Rattle.decision_core.specs.Choice.{is_own, has_higher_preference, has_shorter_path, has_lower_origin, has_lower_med, is_external, has_lower_cost, has_lower_identifier, has_lower_address, keep, left_of, first, choice, ranks_by_place, ranks_left, AreEqual}
 use Rattle.decision_core.specs.Search.{leads, is_nearer}
 use Rattle.decision_core.proofs.NineRules.{on, left_of-in_three, no_rank}
 
 -- ---- a filter of a list in another order
 
-filter_heads : {X : Type 0} (a b : Bool) (x z : X) (ys : List X) → IsPermutation (cond a (x ∷ cond b (z ∷ ys) ys) (cond b (z ∷ ys) ys)) (cond b (z ∷ cond a (x ∷ ys) ys) (cond a (x ∷ ys) ys))
+filter_heads : {X : Type 0} (a b : Bool) (x z : X) (ys : List X)
+    → IsPermutation (cond a (x ∷ cond b (z ∷ ys) ys) (cond b (z ∷ ys) ys)) (cond b (z ∷ cond a (x ∷ ys) ys) (cond a (x ∷ ys) ys))
 filter_heads true true x z ys = IsPermutation-middle (x ∷ []) z ys
 filter_heads true false x z ys = IsPermutation-refl (x ∷ ys)
 filter_heads false true x z ys = IsPermutation-refl (z ∷ ys)
@@ -26,7 +27,8 @@ filter_cons true x ys zs h = IsPermutation-cons x ys zs h
 filter_cons false x ys zs h = h
 
 -- the first element in the place of a later one, and that one first
-filter-exchange_first : {X : Type 0} (p : X → Bool) (x d : X) (xs : List X) (j : ℕ) → j < length xs → IsPermutation (filter p (x ∷ xs)) (filter p (get_or xs j d ∷ set xs j x))
+filter-exchange_first : {X : Type 0} (p : X → Bool) (x d : X) (xs : List X) (j : ℕ) → j < length xs
+    → IsPermutation (filter p (x ∷ xs)) (filter p (get_or xs j d ∷ set xs j x))
 filter-exchange_first p x d [] j within = absurd (omega arith)
 filter-exchange_first p x d (z ∷ zs) zero within = filter_heads (p x) (p z) x z (filter p zs)
 filter-exchange_first p x d (z ∷ zs) (suc j) within =
@@ -37,7 +39,8 @@ filter-exchange_first p x d (z ∷ zs) (suc j) within =
     IsPermutation-trans (filter p (x ∷ (z ∷ zs))) (filter p (z ∷ (x ∷ zs))) (filter p (y ∷ (z ∷ set zs j x))) start
     (IsPermutation-trans (filter p (z ∷ (x ∷ zs))) (filter p (z ∷ (y ∷ set zs j x))) (filter p (y ∷ (z ∷ set zs j x))) middle end)
 
-filter-exchange : {X : Type 0} (p : X → Bool) (d : X) (xs : List X) (i j : ℕ) → i < j → j < length xs → IsPermutation (filter p xs) (filter p (set (set xs i (get_or xs j d)) j (get_or xs i d)))
+filter-exchange : {X : Type 0} (p : X → Bool) (d : X) (xs : List X) (i j : ℕ) → i < j → j < length xs
+    → IsPermutation (filter p xs) (filter p (set (set xs i (get_or xs j d)) j (get_or xs i d)))
 filter-exchange p d [] i j up within = absurd (omega arith)
 filter-exchange p d (x ∷ xs) zero zero up within = absurd (omega arith)
 filter-exchange p d (x ∷ xs) zero (suc j) up within = filter-exchange_first p x d xs j (omega (arith, within))
@@ -58,7 +61,8 @@ at_list p xs ys zs same h = subst (λ ws. IsPermutation (filter p xs) (filter p 
 at_list_right : {X : Type 0} (xs ys zs : List X) → ys ≡ zs → IsPermutation xs ys → IsPermutation xs zs
 at_list_right xs ys zs same h = subst (λ ws. IsPermutation xs ws) same h
 
-at_one : {X : Type 0} (p : X → Bool) (d : X) (xs : List X) (i j : ℕ) → i ≡ j → IsPermutation (filter p xs) (filter p (set (set xs i (get_or xs j d)) j (get_or xs i d)))
+at_one : {X : Type 0} (p : X → Bool) (d : X) (xs : List X) (i j : ℕ) → i ≡ j
+    → IsPermutation (filter p xs) (filter p (set (set xs i (get_or xs j d)) j (get_or xs i d)))
 at_one p d xs i j same =
     let unchanged : xs ≡ set (set xs i (get_or xs j d)) j (get_or xs i d) = rw same (sym (ap (λ ys. set ys j (get_or xs j d)) (set-get_or xs j d) ∙ set-get_or xs j d)) in
     at_list p xs xs (set (set xs i (get_or xs j d)) j (get_or xs i d)) unchanged (IsPermutation-refl (filter p xs))
@@ -69,7 +73,8 @@ first_of_three zero (suc j) less same more = less (omega arith)
 first_of_three (suc i) zero less same more = more (omega arith)
 first_of_three (suc i) (suc j) less same more = first_of_three i j (λ h. less (omega (arith, h))) (λ h. same (ap suc h)) (λ h. more (omega (arith, h)))
 
-filter-swap : {X : Type 0} (p : X → Bool) (d : X) (xs : List X) (i j : ℕ) → i < length xs → j < length xs → IsPermutation (filter p xs) (filter p (set (set xs i (get_or xs j d)) j (get_or xs i d)))
+filter-swap : {X : Type 0} (p : X → Bool) (d : X) (xs : List X) (i j : ℕ) → i < length xs → j < length xs
+    → IsPermutation (filter p xs) (filter p (set (set xs i (get_or xs j d)) j (get_or xs i d)))
 filter-swap p d xs i j first second =
     first_of_three i j
     (λ up. filter-exchange p d xs i j up second)
@@ -117,9 +122,9 @@ map-numbered n (rank ∷ ranks) = ap (λ rest. rank ∷ rest) (map-numbered (n +
 
 ranks_left-in_three : (ranks : List Rank) → ranks_left ranks ≡ keep is_nearer (keep has_lower_med (keep leads ranks))
 ranks_left-in_three ranks =
-    ap (map (λ c. c.1)) (left_of-in_three (numbered ranks))
-    ∙ map-keep (λ c. c.1) is_nearer (keep (on has_lower_med) (keep (on leads) (numbered ranks)))
-    ∙ ap (keep is_nearer) (map-keep (λ c. c.1) has_lower_med (keep (on leads) (numbered ranks)) ∙ ap (keep has_lower_med) (map-keep (λ c. c.1) leads (numbered ranks) ∙ ap (keep leads) (map-numbered 0 ranks)))
+    ap (map (λ c. c.1)) (left_of-in_three (ranks_by_place ranks))
+    ∙ map-keep (λ c. c.1) is_nearer (keep (on has_lower_med) (keep (on leads) (ranks_by_place ranks)))
+    ∙ ap (keep is_nearer) (map-keep (λ c. c.1) has_lower_med (keep (on leads) (ranks_by_place ranks)) ∙ ap (keep has_lower_med) (map-keep (λ c. c.1) leads (ranks_by_place ranks) ∙ ap (keep leads) (map-numbered 0 ranks)))
 
 pub ranks_left-IsPermutation : (ranks others : List Rank) → IsPermutation ranks others → IsPermutation (ranks_left ranks) (ranks_left others)
 ranks_left-IsPermutation ranks others h =
@@ -148,7 +153,8 @@ keep-unbeaten {X} rule xs x y kept (k, within, is) =
     let passes = All-contains (λ z. test z ≡ true) (filter test xs) x (filter_passes test xs) kept in
     none_at (rule y x) (list_any (λ w. rule w x) xs) passes (λ beaten. list_any_at (λ w. rule w x) xs k y within (ap (λ w. rule w x) is ∙ beaten))
 
-pub in_turn-equal : (rab rba sab sba : Bool) → (rab || (not rba && sab)) ≡ false → (rba || (not rab && sba)) ≡ false → (rab ≡ false) × (rba ≡ false) × (sab ≡ false) × (sba ≡ false)
+pub in_turn-equal : (rab rba sab sba : Bool) → (rab || (not rba && sab)) ≡ false → (rba || (not rab && sba)) ≡ false
+    → (rab ≡ false) × (rba ≡ false) × (sab ≡ false) × (sba ≡ false)
 in_turn-equal true rba sab sba h k = cc
 in_turn-equal false true sab sba h k = cc
 in_turn-equal false false sab sba h k = (refl, refl, h, k)
@@ -165,7 +171,8 @@ same_numbers m n h k = grind (arith, nat_tests)
 same_meds : (a b m n : ℕ) → a ≡ b → ((a == b) && nat_lt m n) ≡ false → ((b == a) && nat_lt n m) ≡ false → m ≡ n
 same_meds a b m n same h k = grind (arith, nat_tests)
 
-equal_ranks : (a b : Rank) → leads a b ≡ false → leads b a ≡ false → has_lower_med a b ≡ false → has_lower_med b a ≡ false → is_nearer a b ≡ false → is_nearer b a ≡ false → AreEqual a b
+equal_ranks : (a b : Rank) → leads a b ≡ false → leads b a ≡ false → has_lower_med a b ≡ false → has_lower_med b a ≡ false → is_nearer a b ≡ false
+    → is_nearer b a ≡ false → AreEqual a b
 equal_ranks a b led leading low high near nearing =
     let own = in_turn-equal (is_own a b) (is_own b a) _ _ led leading in
     let preference = in_turn-equal (has_higher_preference a b) (has_higher_preference b a) _ _ own.2 own.3 in
@@ -185,7 +192,8 @@ equal_ranks a b led leading low high near nearing =
       address = same_numbers a.address b.address identifier.2 identifier.3;
     }
 
-left_equal : (ranks : List Rank) (i j : ℕ) (d : Rank) → i < j → j < length (keep is_nearer (keep has_lower_med (keep leads ranks))) → AreEqual (get_or (keep is_nearer (keep has_lower_med (keep leads ranks))) i d) (get_or (keep is_nearer (keep has_lower_med (keep leads ranks))) j d)
+left_equal : (ranks : List Rank) (i j : ℕ) (d : Rank) → i < j → j < length (keep is_nearer (keep has_lower_med (keep leads ranks)))
+    → AreEqual (get_or (keep is_nearer (keep has_lower_med (keep leads ranks))) i d) (get_or (keep is_nearer (keep has_lower_med (keep leads ranks))) j d)
 left_equal ranks i j d up within =
     let led = keep leads ranks in
     let least = keep has_lower_med led in
@@ -205,7 +213,8 @@ left_equal ranks i j d up within =
     (keep-unbeaten has_lower_med led b a in_least_b in_led_a) (keep-unbeaten has_lower_med led a b in_least_a in_led_b)
     (keep-unbeaten is_nearer least b a in_left_b in_least_a) (keep-unbeaten is_nearer least a b in_left_a in_least_b)
 
-pub ranks_left-equal : (ranks : List Rank) (i j : ℕ) (d : Rank) → i < j → j < length (ranks_left ranks) → AreEqual (get_or (ranks_left ranks) i d) (get_or (ranks_left ranks) j d)
+pub ranks_left-equal : (ranks : List Rank) (i j : ℕ) (d : Rank) → i < j → j < length (ranks_left ranks)
+    → AreEqual (get_or (ranks_left ranks) i d) (get_or (ranks_left ranks) j d)
 ranks_left-equal ranks = rw ranks_left-in_three (left_equal ranks)
 
 -- ---- the rank at the chosen place
@@ -222,21 +231,22 @@ slice_get_read (x ∷ xs) (suc i) d within = slice_get_read xs i d (omega (arith
 place_read : (ranks : List Rank) (i : ℕ) (d : Rank) → i < length ranks → (c : ℕ × Rank) → c ≡ (0 + i, get_or ranks i d) → IsAtPlace ranks c
 place_read ranks i d within c is = rw is (let place : 0 + i ≡ i = omega arith in rw place (slice_get_read ranks i d within))
 
-numbered-places : (ranks : List Rank) → All (IsAtPlace ranks) (numbered ranks)
-numbered-places ranks = All-from_get_or (IsAtPlace ranks) (numbered ranks) (0, no_rank)
-    (λ i within. let below : i < length ranks = (let e = length-enumerate_from 0 ranks in omega (arith, within)) in place_read ranks i no_rank below (get_or (numbered ranks) i (0, no_rank)) (get_or-enumerate_from 0 ranks i (0, no_rank) below))
+ranks_by_place-places : (ranks : List Rank) → All (IsAtPlace ranks) (ranks_by_place ranks)
+ranks_by_place-places ranks = All-from_get_or (IsAtPlace ranks) (ranks_by_place ranks) (0, no_rank)
+    (λ i within. let below : i < length ranks = (let e = length-enumerate_from 0 ranks in omega (arith, within)) in place_read ranks i no_rank below (get_or (ranks_by_place ranks) i (0, no_rank)) (get_or-enumerate_from 0 ranks i (0, no_rank) below))
 
 All-keep : {X : Type 0} (rule : X → X → Bool) (P : X → Type 0) (xs : List X) → All P xs → All P (keep rule xs)
 unfolding keep
 All-keep rule P xs h = All-filter (λ x. not (list_any (λ y. rule y x) xs)) P xs h
 
-first_place : (ranks : List Rank) (left : List (ℕ × Rank)) → All (IsAtPlace ranks) left → first (map (λ c. c.1) left) ≡ option_and_then (λ place. slice_get ranks place) (option_map (λ c. c.0) (first left))
+first_place : (ranks : List Rank) (left : List (ℕ × Rank)) → All (IsAtPlace ranks) left
+    → first (map (λ c. c.1) left) ≡ option_and_then (λ place. slice_get ranks place) (option_map (λ c. c.0) (first left))
 first_place ranks [] h = refl
 first_place ranks (c ∷ left) h = sym (All-head (IsAtPlace ranks) c left h)
 
-pub ranks_left-first : (ranks : List Rank) → first (ranks_left ranks) ≡ option_and_then (λ place. slice_get ranks place) (choice (numbered ranks))
+pub ranks_left-first : (ranks : List Rank) → first (ranks_left ranks) ≡ option_and_then (λ place. slice_get ranks place) (choice (ranks_by_place ranks))
 unfolding choice
 ranks_left-first ranks =
-    first_place ranks (left_of (numbered ranks))
-    (rw left_of-in_three (All-keep (on is_nearer) (IsAtPlace ranks) (keep (on has_lower_med) (keep (on leads) (numbered ranks)))
-    (All-keep (on has_lower_med) (IsAtPlace ranks) (keep (on leads) (numbered ranks)) (All-keep (on leads) (IsAtPlace ranks) (numbered ranks) (numbered-places ranks)))))
+    first_place ranks (left_of (ranks_by_place ranks))
+    (rw left_of-in_three (All-keep (on is_nearer) (IsAtPlace ranks) (keep (on has_lower_med) (keep (on leads) (ranks_by_place ranks)))
+    (All-keep (on has_lower_med) (IsAtPlace ranks) (keep (on leads) (ranks_by_place ranks)) (All-keep (on leads) (IsAtPlace ranks) (ranks_by_place ranks) (ranks_by_place-places ranks)))))

@@ -9,10 +9,13 @@ use Rattle.decision_core.specs.Search.{in_turn, pick, best_by}
 
 -- ---- orders
 
-in_turn-one_way : (rxy ryx sxy syx : Bool) → (rxy ≡ true → ryx ≡ false) → (sxy ≡ true → syx ≡ false) → (rxy || (not ryx && sxy)) ≡ true → (ryx || (not rxy && syx)) ≡ false
+in_turn-one_way : (rxy ryx sxy syx : Bool) → (rxy ≡ true → ryx ≡ false) → (sxy ≡ true → syx ≡ false) → (rxy || (not ryx && sxy)) ≡ true
+    → (ryx || (not rxy && syx)) ≡ false
 in_turn-one_way rxy ryx sxy syx r s h = grind arith
 
-in_turn-chain : (rxy ryx ryz rzy rxz rzx sxy syz sxz : Bool) → (rxy ≡ false → ryz ≡ false → rxz ≡ false) → (ryz ≡ false → rzx ≡ false → ryx ≡ false) → (rzx ≡ false → rxy ≡ false → rzy ≡ false) → (sxy ≡ false → syz ≡ false → sxz ≡ false) → (rxy || (not ryx && sxy)) ≡ false → (ryz || (not rzy && syz)) ≡ false → (rxz || (not rzx && sxz)) ≡ false
+in_turn-chain : (rxy ryx ryz rzy rxz rzx sxy syz sxz : Bool) → (rxy ≡ false → ryz ≡ false → rxz ≡ false) → (ryz ≡ false → rzx ≡ false → ryx ≡ false)
+    → (rzx ≡ false → rxy ≡ false → rzy ≡ false) → (sxy ≡ false → syz ≡ false → sxz ≡ false) → (rxy || (not ryx && sxy)) ≡ false
+    → (ryz || (not rzy && syz)) ≡ false → (rxz || (not rzx && sxz)) ≡ false
 in_turn-chain rxy ryx ryz rzy rxz rzx sxy syz sxz a b c d h k = grind arith
 
 pub IsStrictWeakOrder-in_turn : {X : Type 0} (r s : X → X → Bool) → IsStrictWeakOrder r → IsStrictWeakOrder s → IsStrictWeakOrder (in_turn r s)
@@ -49,24 +52,6 @@ irreflexive lt o x = not_itself (lt x x) (o.one_way x x)
 
 -- ---- a rule and then others, as the code tests it
 
-pub flag_differs : (p q rest : Bool) → (p ≡ q → ⊥) → p ≡ ((p && not q) || (not (q && not p) && rest))
-flag_differs true true rest h = absurd (h refl)
-flag_differs true false rest h = refl
-flag_differs false true rest h = refl
-flag_differs false false rest h = absurd (h refl)
-
-pub flag_same : (p q rest : Bool) → p ≡ q → rest ≡ ((p && not q) || (not (q && not p) && rest))
-flag_same true true rest h = refl
-flag_same true false rest h = cc
-flag_same false true rest h = cc
-flag_same false false rest h = refl
-
-pub number_differs : (m n : ℕ) (rest : Bool) → (m ≡ n → ⊥) → ltb m n ≡ (ltb m n || (not (ltb n m) && rest))
-number_differs m n rest h = grind (arith, nat_tests)
-
-pub number_same : (m n : ℕ) (rest : Bool) → m ≡ n → rest ≡ (ltb m n || (not (ltb n m) && rest))
-number_same m n rest h = grind (arith, nat_tests)
-
 -- ---- which elements pass
 
 any_of_cond : {X : Type 0} (p : X → Bool) (b : Bool) (x : X) (xs : List X) (r : Bool) → list_any p xs ≡ r → list_any p (cond b (x ∷ xs) xs) ≡ ((b && p x) || r)
@@ -77,7 +62,8 @@ pub list_any-filter : {X : Type 0} (p q : X → Bool) (xs : List X) → list_any
 list_any-filter p q [] = refl
 list_any-filter p q (x ∷ xs) = any_of_cond p (q x) x (filter q xs) (list_any (λ y. q y && p y) xs) (list_any-filter p q xs)
 
-filter_of_cond : {X : Type 0} (p : X → Bool) (b : Bool) (x : X) (xs ys : List X) → filter p xs ≡ ys → filter p (cond b (x ∷ xs) xs) ≡ cond (b && p x) (x ∷ ys) ys
+filter_of_cond : {X : Type 0} (p : X → Bool) (b : Bool) (x : X) (xs ys : List X) → filter p xs ≡ ys
+    → filter p (cond b (x ∷ xs) xs) ≡ cond (b && p x) (x ∷ ys) ys
 filter_of_cond p true x xs ys h = rw h refl
 filter_of_cond p false x xs ys h = h
 
@@ -119,7 +105,8 @@ same_cons : {X : Type 0} (b c : Bool) (x : X) (ys zs : List X) → b ≡ c → y
 same_cons b c x ys zs h k = rw (h, k) refl
 
 -- two tests that agree at each element that another one refuses, where it refuses all
-pub filter_agree_where : {X : Type 0} (bad p q : X → Bool) → ((x : X) → bad x ≡ false → p x ≡ q x) → (xs : List X) → list_any bad xs ≡ false → filter p xs ≡ filter q xs
+pub filter_agree_where : {X : Type 0} (bad p q : X → Bool) → ((x : X) → bad x ≡ false → p x ≡ q x) → (xs : List X) → list_any bad xs ≡ false
+    → filter p xs ≡ filter q xs
 filter_agree_where bad p q same [] h = refl
 filter_agree_where bad p q same (x ∷ xs) h =
     same_cons (p x) (q x) x (filter p xs) (filter q xs) (same x (or_false-left (bad x) (list_any bad xs) h)) (filter_agree_where bad p q same xs (or_false-right (bad x) (list_any bad xs) h))
@@ -166,11 +153,13 @@ dropped_too lt o b x y worse beaten true is = refl
 dropped_too lt o b x y worse beaten false is =
     let no : lt b x ≡ false = o.chain b y x (sym is) worse in cc
 
-skip_second : {X : Type 0} (a c : Bool) (x y : X) (zs : List X) (r : Option X) → (a ≡ false → c ≡ false) → first (cond a (x ∷ zs) zs) ≡ r → first (cond a (x ∷ cond c (y ∷ zs) zs) (cond c (y ∷ zs) zs)) ≡ r
+skip_second : {X : Type 0} (a c : Bool) (x y : X) (zs : List X) (r : Option X) → (a ≡ false → c ≡ false) → first (cond a (x ∷ zs) zs) ≡ r
+    → first (cond a (x ∷ cond c (y ∷ zs) zs) (cond c (y ∷ zs) zs)) ≡ r
 skip_second true c x y zs r both h = h
 skip_second false c x y zs r both h = first_dropped c y zs r (both refl) h
 
-best_step : {X : Type 0} (lt : X → X → Bool) → IsStrictWeakOrder lt → (x y : X) (ys : List X) (c : Bool) → c ≡ lt y x → BestFrom lt (cond c y x) ys (cond c y x ∷ ys) → BestFrom lt (cond c y x) ys (x ∷ (y ∷ ys))
+best_step : {X : Type 0} (lt : X → X → Bool) → IsStrictWeakOrder lt → (x y : X) (ys : List X) (c : Bool) → c ≡ lt y x
+    → BestFrom lt (cond c y x) ys (cond c y x ∷ ys) → BestFrom lt (cond c y x) ys (x ∷ (y ∷ ys))
 best_step lt o x y ys true is h =
     let b = h.best in
     let least : lt y b ≡ false = or_false-left (lt y b) (list_any (λ z. lt z b) ys) h.tops.least in
@@ -221,11 +210,13 @@ beaten_cases true r where_true where_false = where_true refl
 beaten_cases false r where_true where_false = where_false refl
 
 -- some element is better exactly where the best one is
-pub beaten_by_top : {X : Type 0} (lt : X → X → Bool) → IsStrictWeakOrder lt → (top : X) (xs : List X) → Tops lt top xs → (x : X) → list_any (λ y. lt y x) xs ≡ lt top x
+pub beaten_by_top : {X : Type 0} (lt : X → X → Bool) → IsStrictWeakOrder lt → (top : X) (xs : List X) → Tops lt top xs → (x : X)
+    → list_any (λ y. lt y x) xs ≡ lt top x
 beaten_by_top lt o top xs t x =
     beaten_cases (lt top x) (list_any (λ y. lt y x) xs) (t.there (λ y. lt y x)) (λ apart. list_any-narrower (λ y. lt y top) (λ y. lt y x) (λ y below. o.chain y top x below apart) xs t.least)
 
-pub keep-by_top : {X : Type 0} (lt : X → X → Bool) → IsStrictWeakOrder lt → (top : X) (xs : List X) → Tops lt top xs → keep lt xs ≡ filter (λ x. not (lt top x)) xs
+pub keep-by_top : {X : Type 0} (lt : X → X → Bool) → IsStrictWeakOrder lt → (top : X) (xs : List X) → Tops lt top xs
+    → keep lt xs ≡ filter (λ x. not (lt top x)) xs
 unfolding keep
 keep-by_top lt o top xs t = filter_agree (λ x. not (list_any (λ y. lt y x) xs)) (λ x. not (lt top x)) (λ x. ap not (beaten_by_top lt o top xs t x)) xs
 
@@ -245,7 +236,8 @@ Tops-in_turn_first r s top xs t = record {
   there = t.there;
 }
 
-pub Tops-in_turn_second : {X : Type 0} (r s : X → X → Bool) → IsStrictWeakOrder r → (top : X) (xs : List X) → Tops (in_turn r s) top xs → Tops s top (filter (λ x. not (r top x)) xs)
+pub Tops-in_turn_second : {X : Type 0} (r s : X → X → Bool) → IsStrictWeakOrder r → (top : X) (xs : List X) → Tops (in_turn r s) top xs
+    → Tops s top (filter (λ x. not (r top x)) xs)
 Tops-in_turn_second r s o top xs t = record {
   least = list_any-filter (λ y. s y top) (λ x. not (r top x)) xs
       ∙ list_any-narrower (λ y. in_turn r s y top) (λ y. not (r top y) && s y top) (λ y h. or_false-right (r y top) (not (r top y) && s y top) h) xs t.least;
@@ -302,7 +294,8 @@ filter-none p (x ∷ xs) h =
     or_false (p x) (list_any p xs) parts.0 (filter-none p xs parts.1)
 
 -- where an order says at least what the rule says, the least element is left
-pub keep-none : {X : Type 0} (rule lt : X → X → Bool) → IsStrictWeakOrder lt → ((x y : X) → lt x y ≡ false → rule x y ≡ false) → (xs : List X) → keep rule xs ≡ [] → xs ≡ []
+pub keep-none : {X : Type 0} (rule lt : X → X → Bool) → IsStrictWeakOrder lt → ((x y : X) → lt x y ≡ false → rule x y ≡ false) → (xs : List X)
+    → keep rule xs ≡ [] → xs ≡ []
 unfolding keep
 keep-none rule lt o weaker [] h = refl
 keep-none {X} rule lt o weaker (x ∷ xs) h =

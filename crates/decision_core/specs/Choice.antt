@@ -67,12 +67,12 @@ unfoldable pub choice : {K : Type 0} → List (K × Rank) → Option K
 choice candidates = option_map (λ c. c.0) (first (left_of candidates))
 
 -- the ranks of a list, each named by its place from 0
-abbrev pub numbered : List Rank → List (ℕ × Rank)
-numbered ranks = enumerate_from 0 ranks
+abbrev pub ranks_by_place : List Rank → List (ℕ × Rank)
+ranks_by_place ranks = enumerate_from 0 ranks
 
 -- the ranks that the nine rules leave, in the order of the list
 abbrev pub ranks_left : List Rank → List Rank
-ranks_left ranks = map (λ c. c.1) (left_of (numbered ranks))
+ranks_left ranks = map (λ c. c.1) (left_of (ranks_by_place ranks))
 
 -- neither of two ranks is better by any of the nine rules
 pub record AreEqual (a b : Rank) : Type 0 where

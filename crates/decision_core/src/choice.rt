@@ -3,7 +3,7 @@
 //! 9.1.2.2.
 
 ghost use Rattle.std.specs.Prelude.{◌≡◌, ◌↔◌, [], IsNone, IsPermutation, AllPairs, option_map, option_and_then, slice_get};
-ghost use Rattle.decision_core.specs.Choice.{choice as choice_of, numbered, ranks_left, first, AreEqual, has_lower_med as has_lower_med_lem};
+ghost use Rattle.decision_core.specs.Choice.{choice as choice_of, ranks_by_place, ranks_left, first, AreEqual, has_lower_med as has_lower_med_lem};
 ghost use Rattle.decision_core.specs.Search.{leads as leads_lem, is_nearer as is_nearer_lem, best_by, takes_out as takes_out_lem, is_taken_out as is_taken_out_lem, improves as improves_lem, is_next as is_next_lem};
 
 use bgp_types::Rank;
@@ -102,7 +102,7 @@ fn is_next(list: &[Rank], leader: &Rank, nearest: &Option<(usize, Rank)>, rank: 
 /// to it but was eliminated, by the MED of a third route, may stand before it. It allocates nothing.
 pub fn best(list: &[Rank]) -> Option<usize>
     ensures empty { IsNone result ↔ (list.now ≡ []) }
-    ensures choice { result ≡ choice_of (numbered list.now) }
+    ensures choice { result ≡ choice_of (ranks_by_place list.now) }
 {
     let leader = leader(list)?;
     let mut nearest: Option<(usize, Rank)> = None;
@@ -120,5 +120,5 @@ pub fn order_matters_only_among_equals(list: &[Rank], other: &[Rank])
     requires { IsPermutation list.now other.now }
     ensures same { IsPermutation (ranks_left list.now) (ranks_left other.now) }
     ensures equal { AllPairs AreEqual (ranks_left list.now) }
-    ensures first { option_and_then (λ place. slice_get list.now place) (choice_of (numbered list.now)) ≡ first (ranks_left list.now) }
+    ensures first { option_and_then (λ place. slice_get list.now place) (choice_of (ranks_by_place list.now)) ≡ first (ranks_left list.now) }
 {}

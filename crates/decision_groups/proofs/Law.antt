@@ -17,7 +17,7 @@ use Rattle.decision_core.proofs.Filters.{IsStrictWeakOrder-in_turn, keep-none}
 use Rattle.decision_core.proofs.NineRules.{on, on_order, keep_on, keep_four, leads_order, is_nearer_order, own_order, preference_order, path_order, origin_order, external_order, cost_order, identifier_order, address_order}
 use Rattle.decision_core.proofs.AnyOrder.{Contains-filter, Contains-keep}
 use Rattle.decision_groups.specs.Order.{RankedSource, from_order, IsInOrder}
-use Rattle.decision_groups.specs.Champions.{group_of, is_champion, champions, choice_without_med}
+use Rattle.decision_groups.specs.Champions.{neighbour_group, is_champion, champions, choice_without_med}
 use Rattle.decision_groups.specs.Groups.{beats_without_med}
 use Rattle.decision_groups.proofs.OrderLaws.{from_order_total, from_order_exact}
 use Rattle.decision_groups.proofs.Members.{Contains-head, Contains-first, nothing_in_none, filter-contains}
@@ -46,10 +46,11 @@ equal_order Less h = cc
 equal_order Equal h = refl
 equal_order Greater h = cc
 
-group_sorted : (n : ℕ) (cs : List RankedSource) → IsInOrder cs → IsInOrder (group_of n cs)
+group_sorted : (n : ℕ) (cs : List RankedSource) → IsInOrder cs → IsInOrder (neighbour_group n cs)
 group_sorted n cs s = sorted-filter from_order (λ c. c.1.neighbour == n) cs s
 
-named_cases : (cs : List RankedSource) (c : RankedSource) → IsInOrder cs → Contains cs c → (o : Option RankedSource) → first (left_of cs) ≡ o → option_map_or (λ from. is_at (from_order from) c.0) (option_map (λ e. e.0) o) false ≡ true → IsChosen from_order cs c
+named_cases : (cs : List RankedSource) (c : RankedSource) → IsInOrder cs → Contains cs c → (o : Option RankedSource) → first (left_of cs) ≡ o
+    → option_map_or (λ from. is_at (from_order from) c.0) (option_map (λ e. e.0) o) false ≡ true → IsChosen from_order cs c
 named_cases cs c s there None is named = cc
 named_cases cs c s there (Some e) is named =
     let a = chosen from_order_total cs e s is in
@@ -57,7 +58,8 @@ named_cases cs c s there (Some e) is named =
     subst (IsChosen from_order cs) same a
 
 -- what the choice of a list names is chosen of it
-named : (cs : List RankedSource) (c : RankedSource) → IsInOrder cs → Contains cs c → option_map_or (λ from. is_at (from_order from) c.0) (choice cs) false ≡ true → IsChosen from_order cs c
+named : (cs : List RankedSource) (c : RankedSource) → IsInOrder cs → Contains cs c
+    → option_map_or (λ from. is_at (from_order from) c.0) (choice cs) false ≡ true → IsChosen from_order cs c
 unfolding choice
 named cs c s there is = named_cases cs c s there (first (left_of cs)) refl is
 
@@ -65,25 +67,27 @@ names : (cs : List RankedSource) (c : RankedSource) → first (left_of cs) ≡ S
 unfolding choice
 names cs c is = ap (λ o. option_map_or (λ from. is_at (from_order from) c.0) (option_map (λ e. e.0) o) false) is ∙ is_at-itself c.0
 
-champion_is_chosen : (cs : List RankedSource) (w : RankedSource) → IsInOrder cs → Contains (champions cs) w → IsChosen from_order (group_of w.1.neighbour cs) w
+champion_is_chosen : (cs : List RankedSource) (w : RankedSource) → IsInOrder cs → Contains (champions cs) w
+    → IsChosen from_order (neighbour_group w.1.neighbour cs) w
 champion_is_chosen cs w s there =
     let in_all = Contains-filter (is_champion cs) cs w there in
     let passes = All-contains (λ c. is_champion cs c ≡ true) (champions cs) w (filter_passes (is_champion cs) cs) there in
-    named (group_of w.1.neighbour cs) w (group_sorted w.1.neighbour cs s) (in_own_group cs w.1.neighbour w in_all refl) passes
+    named (neighbour_group w.1.neighbour cs) w (group_sorted w.1.neighbour cs s) (in_own_group cs w.1.neighbour w in_all refl) passes
 
 -- a candidate's group has a champion
 record HasChampion (cs : List RankedSource) (d : RankedSource) : Type 0 where
   pub head : RankedSource
   pub there : Contains (champions cs) head
-  pub is_chosen : IsChosen from_order (group_of d.1.neighbour cs) head
+  pub is_chosen : IsChosen from_order (neighbour_group d.1.neighbour cs) head
 
-champion_cases : (cs : List RankedSource) (d : RankedSource) → IsInOrder cs → Contains cs d → (o : Option RankedSource) → first (left_of (group_of d.1.neighbour cs)) ≡ o → HasChampion cs d
+champion_cases : (cs : List RankedSource) (d : RankedSource) → IsInOrder cs → Contains cs d → (o : Option RankedSource)
+    → first (left_of (neighbour_group d.1.neighbour cs)) ≡ o → HasChampion cs d
 champion_cases cs d s there None is =
-    nothing_in_none d (subst (λ es. Contains es d) (left-none (group_of d.1.neighbour cs) is) (in_own_group cs d.1.neighbour d there refl))
+    nothing_in_none d (subst (λ es. Contains es d) (left-none (neighbour_group d.1.neighbour cs) is) (in_own_group cs d.1.neighbour d there refl))
 champion_cases cs d s there (Some e) is =
-    let a = chosen from_order_total (group_of d.1.neighbour cs) e (group_sorted d.1.neighbour cs s) is in
+    let a = chosen from_order_total (neighbour_group d.1.neighbour cs) e (group_sorted d.1.neighbour cs s) is in
     let of : e.1.neighbour ≡ d.1.neighbour = of_group cs d.1.neighbour e a.there in
-    let test : is_champion cs e ≡ true = subst (λ n. option_map_or (λ from. is_at (from_order from) e.0) (choice (group_of n cs)) false ≡ true) (sym of) (names (group_of d.1.neighbour cs) e is) in
+    let test : is_champion cs e ≡ true = subst (λ n. option_map_or (λ from. is_at (from_order from) e.0) (choice (neighbour_group n cs)) false ≡ true) (sym of) (names (neighbour_group d.1.neighbour cs) e is) in
     record {
       head = e;
       there = filter-contains (is_champion cs) cs e (out_of_group cs d.1.neighbour e a.there) test;
@@ -91,7 +95,7 @@ champion_cases cs d s there (Some e) is =
     }
 
 has_champion : (cs : List RankedSource) (d : RankedSource) → IsInOrder cs → Contains cs d → HasChampion cs d
-has_champion cs d s there = champion_cases cs d s there (first (left_of (group_of d.1.neighbour cs))) refl
+has_champion cs d s there = champion_cases cs d s there (first (left_of (neighbour_group d.1.neighbour cs))) refl
 
 -- ---- the law
 
@@ -109,7 +113,8 @@ pub choice-of_none : (cs : List RankedSource) → cs ≡ [] → choice cs ≡ No
 unfolding choice left_of keep
 choice-of_none cs h = rw h refl
 
-law_cases : (cs : List RankedSource) → IsInOrder cs → (o : Option RankedSource) → first (keep (on beats_without_med) (champions cs)) ≡ o → choice cs ≡ option_map (λ c. c.0) o
+law_cases : (cs : List RankedSource) → IsInOrder cs → (o : Option RankedSource) → first (keep (on beats_without_med) (champions cs)) ≡ o
+    → choice cs ≡ option_map (λ c. c.0) o
 law_cases cs s None is =
     choice-of_none cs (no_champions cs s (keep-none (on beats_without_med) (on beats_without_med) (on_order beats_without_med beats_without_med_order) (λ c d k. k) (champions cs) (first-none (keep (on beats_without_med) (champions cs)) is)))
 law_cases cs s (Some w) is =

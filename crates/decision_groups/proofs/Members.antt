@@ -46,7 +46,8 @@ filter-contains p (y ∷ ys) x there passes =
     (λ same. head_passing (p y) y x (filter p ys) (ap p same ∙ passes) same)
     (λ further. tail_passing (p y) y x (filter p ys) (filter-contains p ys x further passes))
 
-pub keep-contains : {X : Type 0} (rule : X → X → Bool) (xs : List X) (x : X) → Contains xs x → ((y : X) → Contains xs y → rule y x ≡ false) → Contains (keep rule xs) x
+pub keep-contains : {X : Type 0} (rule : X → X → Bool) (xs : List X) (x : X) → Contains xs x → ((y : X) → Contains xs y → rule y x ≡ false)
+    → Contains (keep rule xs) x
 unfolding keep
 keep-contains rule xs x there unbeaten =
     filter-contains (λ z. not (list_any (λ y. rule y z) xs)) xs x there (ap not (list_any-none (λ y. rule y x) xs unbeaten))

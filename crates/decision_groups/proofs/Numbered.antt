@@ -12,7 +12,7 @@ use Rattle.std.proofs.lemmas.Map.{lookup-remove_entry}
 use Rattle.std.proofs.lemmas.Map.Keys.{IsDistinct-from_sorted}
 use Rattle.decision_groups.specs.Order.{RankedSource}
 use Rattle.decision_groups.specs.Groups.{some_members, NumberedGroup, AreNumbered, group_at, members_of}
-use Rattle.decision_groups.specs.Places.{IsPlace, IsGap}
+use Rattle.decision_groups.specs.Places.{IsPlaceOfKey, IsGapForKey}
 use Rattle.decision_groups.proofs.Entries.{sorted-insert, sorted-remove, lookup-insert_entry}
 use Rattle.decision_groups.proofs.Places.{lookup_place, insert_over, remove_place, remove_over, lookup_gap, insert_gap}
 
@@ -31,7 +31,7 @@ some_unless (c ∷ cs) some = refl
 
 -- ---- the group of a neighbour AS that has one
 
-module _ (es : List NumberedGroup) (neighbour at : ℕ) (e : NumberedGroup) (is : e ≡ get_or es at e) (here : IsPlace nat_cmp neighbour es at) where
+module _ (es : List NumberedGroup) (neighbour at : ℕ) (e : NumberedGroup) (is : e ≡ get_or es at e) (here : IsPlaceOfKey nat_cmp neighbour es at) where
   group_there : group_at es neighbour ≡ Some e.1
   group_there = lookup_place nat_cmp neighbour es at e here ∙ ap (λ (f : NumberedGroup). Some f.1) (sym is)
 
@@ -52,30 +52,36 @@ module _ (es : List NumberedGroup) (neighbour at : ℕ) (e : NumberedGroup) (is 
       subst AreNumbered (remove_place nat_cmp neighbour es at here ∙ sym (remove_over nat_cmp neighbour es at (e.0, members) here))
       (sorted-remove nat_cmp (is_at (nat_cmp neighbour)) es numbered)
 
-  gone_group : AreNumbered es → (n : ℕ) (members : List RankedSource) → group_at (list.remove (set es at (e.0, members)) at) n ≡ cond (n == neighbour) None (group_at es n)
+  gone_group : AreNumbered es → (n : ℕ) (members : List RankedSource)
+      → group_at (list.remove (set es at (e.0, members)) at) n ≡ cond (n == neighbour) None (group_at es n)
   gone_group numbered n members =
       ap (λ (gs : List NumberedGroup). group_at gs n) (remove_over nat_cmp neighbour es at (e.0, members) here ∙ sym (remove_place nat_cmp neighbour es at here))
       ∙ (lookup-remove_entry (eq_by_cmp_equiv nat_cmp_total) (is_at (nat_cmp neighbour)) (λ x y passes. ap is_eq (nat_cmp_total.congr neighbour x y ((Equal-is (nat_cmp neighbour x)).0 passes))) n es (IsDistinct-from_sorted nat_cmp (keys_of es) numbered)
       ∙ ap (λ b. cond b None (group_at es n)) (number_at n neighbour))
 
-  by_number : (b : Bool) (n : ℕ) (f : List RankedSource → Option (List RankedSource)) → (n == neighbour) ≡ b → cond b (f e.1) (group_at es n) ≡ cond b (f (members_of es n)) (group_at es n)
+  by_number : (b : Bool) (n : ℕ) (f : List RankedSource → Option (List RankedSource)) → (n == neighbour) ≡ b
+      → cond b (f e.1) (group_at es n) ≡ cond b (f (members_of es n)) (group_at es n)
   by_number true n f same = ap f (sym (members_there n same))
   by_number false n f other = refl
 
   -- what its members become is what the groups have there
-  pub group-changed : (n : ℕ) (f : List RankedSource → List RankedSource) (members : List RankedSource) → members ≡ f e.1 → group_at (set es at (e.0, members)) n ≡ cond (n == neighbour) (Some (f (members_of es n))) (group_at es n)
+  pub group-changed : (n : ℕ) (f : List RankedSource → List RankedSource) (members : List RankedSource) → members ≡ f e.1
+      → group_at (set es at (e.0, members)) n ≡ cond (n == neighbour) (Some (f (members_of es n))) (group_at es n)
   group-changed n f members become =
       changed_group n members
       ∙ (ap (λ ms. cond (n == neighbour) (Some ms) (group_at es n)) become
       ∙ by_number (n == neighbour) n (λ ms. Some (f ms)) refl)
 
-  pub group-stays : (n : ℕ) (f : List RankedSource → List RankedSource) (members : List RankedSource) → members ≡ f e.1 → (members ≡ [] → ⊥) → group_at (set es at (e.0, members)) n ≡ cond (n == neighbour) (some_members (f (members_of es n))) (group_at es n)
+  pub group-stays : (n : ℕ) (f : List RankedSource → List RankedSource) (members : List RankedSource) → members ≡ f e.1 → (members ≡ [] → ⊥)
+      → group_at (set es at (e.0, members)) n ≡ cond (n == neighbour) (some_members (f (members_of es n))) (group_at es n)
   group-stays n f members become some =
       changed_group n members
       ∙ (ap (λ g. cond (n == neighbour) g (group_at es n)) (sym (some_unless members some) ∙ ap some_members become)
       ∙ by_number (n == neighbour) n (λ ms. some_members (f ms)) refl)
 
-  pub group-gone : AreNumbered es → (n : ℕ) (f : List RankedSource → List RankedSource) (members : List RankedSource) → members ≡ f e.1 → members ≡ [] → group_at (list.remove (set es at (e.0, members)) at) n ≡ cond (n == neighbour) (some_members (f (members_of es n))) (group_at es n)
+  pub group-gone : AreNumbered es → (n : ℕ) (f : List RankedSource → List RankedSource) (members : List RankedSource) → members ≡ f e.1
+      → members ≡ []
+      → group_at (list.remove (set es at (e.0, members)) at) n ≡ cond (n == neighbour) (some_members (f (members_of es n))) (group_at es n)
   group-gone numbered n f members become none =
       gone_group numbered n members
       ∙ (ap (λ g. cond (n == neighbour) g (group_at es n)) (ap some_members (sym none ∙ become))
@@ -83,7 +89,7 @@ module _ (es : List NumberedGroup) (neighbour at : ℕ) (e : NumberedGroup) (is 
 
 -- ---- the group of one that has none yet
 
-module _ (es : List NumberedGroup) (neighbour at : ℕ) (gap : IsGap nat_cmp neighbour es at) where
+module _ (es : List NumberedGroup) (neighbour at : ℕ) (gap : IsGapForKey nat_cmp neighbour es at) where
   pub made_numbers : AreNumbered es → (members : List RankedSource) → AreNumbered (list.insert es at (neighbour, members))
   made_numbers numbered members = subst AreNumbered (insert_gap nat_cmp neighbour es at members gap) (sorted-insert nat_cmp_total neighbour members es numbered)
 
@@ -93,20 +99,24 @@ module _ (es : List NumberedGroup) (neighbour at : ℕ) (gap : IsGap nat_cmp nei
   no_group : (n : ℕ) → (n == neighbour) ≡ true → group_at es n ≡ None
   no_group n same = ap (group_at es) (same_number n neighbour same) ∙ lookup_gap nat_cmp neighbour es at gap
 
-  made_by_number : (b : Bool) (n : ℕ) (f : List RankedSource → List RankedSource) → (n == neighbour) ≡ b → cond b (Some (f [])) (group_at es n) ≡ cond b (Some (f (members_of es n))) (group_at es n)
+  made_by_number : (b : Bool) (n : ℕ) (f : List RankedSource → List RankedSource) → (n == neighbour) ≡ b
+      → cond b (Some (f [])) (group_at es n) ≡ cond b (Some (f (members_of es n))) (group_at es n)
   made_by_number true n f same = ap (λ ms. Some (f ms)) (no_members n same)
   made_by_number false n f other = refl
 
-  pub group-made : (n : ℕ) (f : List RankedSource → List RankedSource) → group_at (list.insert es at (neighbour, f [])) n ≡ cond (n == neighbour) (Some (f (members_of es n))) (group_at es n)
+  pub group-made : (n : ℕ) (f : List RankedSource → List RankedSource)
+      → group_at (list.insert es at (neighbour, f [])) n ≡ cond (n == neighbour) (Some (f (members_of es n))) (group_at es n)
   group-made n f =
       ap (λ (gs : List NumberedGroup). group_at gs n) (sym (insert_gap nat_cmp neighbour es at (f []) gap))
       ∙ (lookup-insert_entry nat_cmp_total n neighbour (f []) es
       ∙ (ap (λ b. cond b (Some (f [])) (group_at es n)) (at_number n neighbour)
       ∙ made_by_number (n == neighbour) n f refl))
 
-  none_by_number : (b : Bool) (n : ℕ) (f : List RankedSource → List RankedSource) → f [] ≡ [] → (n == neighbour) ≡ b → group_at es n ≡ cond b (some_members (f (members_of es n))) (group_at es n)
+  none_by_number : (b : Bool) (n : ℕ) (f : List RankedSource → List RankedSource) → f [] ≡ [] → (n == neighbour) ≡ b
+      → group_at es n ≡ cond b (some_members (f (members_of es n))) (group_at es n)
   none_by_number true n f none same = no_group n same ∙ (ap some_members (sym none) ∙ ap (λ ms. some_members (f ms)) (no_members n same))
   none_by_number false n f none other = refl
 
-  pub group-none : (n : ℕ) (f : List RankedSource → List RankedSource) → f [] ≡ [] → group_at es n ≡ cond (n == neighbour) (some_members (f (members_of es n))) (group_at es n)
+  pub group-none : (n : ℕ) (f : List RankedSource → List RankedSource) → f [] ≡ []
+      → group_at es n ≡ cond (n == neighbour) (some_members (f (members_of es n))) (group_at es n)
   group-none n f none = none_by_number (n == neighbour) n f none refl

@@ -46,7 +46,8 @@ module _ {K : Type 0} (source : K → From) where
       (λ x. ap not (any-map (λ (c : K × Rank). (source c.0, c.1)) (λ y. on rule y (source x.0, x.1)) cs)) cs
 
   -- one rule more
-  more : (rule : Rule) (xs : List (From × Rank)) (cs : List (K × Rank)) → xs ≡ ranked_sources source cs → keep (on rule) xs ≡ ranked_sources source (keep (on rule) cs)
+  more : (rule : Rule) (xs : List (From × Rank)) (cs : List (K × Rank)) → xs ≡ ranked_sources source cs
+      → keep (on rule) xs ≡ ranked_sources source (keep (on rule) cs)
   more rule xs cs e = ap (keep (on rule)) e ∙ keep-sources rule cs
 
   left-sources : (cs : List (K × Rank)) → left_of (ranked_sources source cs) ≡ ranked_sources source (left_of cs)
@@ -65,22 +66,26 @@ module _ {K : Type 0} (source : K → From) where
 
   -- ---- the candidate that comes from a source
 
-  of_source : (P : From → Type 0) (cs : List (K × Rank)) (e : K × Rank) → Rattle.std.specs.List.AllByRecursion P (keys_of (ranked_sources source cs)) → Contains cs e → P (source e.0)
+  of_source : (P : From → Type 0) (cs : List (K × Rank)) (e : K × Rank) → Rattle.std.specs.List.AllByRecursion P (keys_of (ranked_sources source cs))
+      → Contains cs e → P (source e.0)
   of_source P [] e h there = nothing_in_none e there
   of_source P (c ∷ cs) e h there = Contains-cases c e cs there (λ same. subst (λ (d : K × Rank). P (source d.0)) same h.0) (λ further. of_source P cs e h.1 further)
 
-  found-first : (c e : K × Rank) (cs : List (K × Rank)) (b : Bool) → is_at (from_order (source e.0)) (source c.0) ≡ b → c ≡ e → cond b (Some c) (find (λ d. is_at (from_order (source e.0)) (source d.0)) cs) ≡ Some e
+  found-first : (c e : K × Rank) (cs : List (K × Rank)) (b : Bool) → is_at (from_order (source e.0)) (source c.0) ≡ b → c ≡ e
+      → cond b (Some c) (find (λ d. is_at (from_order (source e.0)) (source d.0)) cs) ≡ Some e
   found-first c e cs true is same = ap Some same
   found-first c e cs false is same =
       let itself : is_at (from_order (source e.0)) (source c.0) ≡ true = ap (λ (d : K × Rank). is_at (from_order (source e.0)) (source d.0)) same ∙ ap is_eq (tied_itself from_order_total (source e.0)) in
       cc
 
-  found-later : (c e : K × Rank) (found : Option (K × Rank)) → from_order (source c.0) (source e.0) ≡ Less → found ≡ Some e → cond (is_at (from_order (source e.0)) (source c.0)) (Some c) found ≡ Some e
+  found-later : (c e : K × Rank) (found : Option (K × Rank)) → from_order (source c.0) (source e.0) ≡ Less → found ≡ Some e
+      → cond (is_at (from_order (source e.0)) (source c.0)) (Some c) found ≡ Some e
   found-later c e found less is =
       let other : is_at (from_order (source e.0)) (source c.0) ≡ false = ap is_eq (from_order_total.antisymm (source e.0) (source c.0) ∙ ap ordering_reverse less) in
       ap (λ b. cond b (Some c) found) other ∙ is
 
-  found : (cs : List (K × Rank)) (e : K × Rank) → IsInOrder (ranked_sources source cs) → Contains cs e → find (λ c. is_at (from_order (source e.0)) (source c.0)) cs ≡ Some e
+  found : (cs : List (K × Rank)) (e : K × Rank) → IsInOrder (ranked_sources source cs) → Contains cs e
+      → find (λ c. is_at (from_order (source e.0)) (source c.0)) cs ≡ Some e
   found [] e s there = nothing_in_none e there
   found (c ∷ cs) e s there =
       Contains-cases c e cs there
@@ -88,7 +93,8 @@ module _ {K : Type 0} (source : K → From) where
       (λ further. found-later c e _ (of_source (λ q. from_order (source c.0) q ≡ Less) cs e (sorted_head from_order (source c.0) (keys_of (ranked_sources source cs)) s) further)
       (found cs e (sorted_tail from_order (source c.0) (keys_of (ranked_sources source cs)) s) further))
 
-  by_first : (cs : List (K × Rank)) → IsInOrder (ranked_sources source cs) → (o : Option (K × Rank)) → ((e : K × Rank) → o ≡ Some e → Contains cs e) → option_and_then (candidate_from source cs) (option_map source (option_map (λ c. c.0) o)) ≡ option_map (λ c. c.0) o
+  by_first : (cs : List (K × Rank)) → IsInOrder (ranked_sources source cs) → (o : Option (K × Rank)) → ((e : K × Rank) → o ≡ Some e → Contains cs e)
+      → option_and_then (candidate_from source cs) (option_map source (option_map (λ c. c.0) o)) ≡ option_map (λ c. c.0) o
   by_first cs s None there = refl
   by_first cs s (Some e) there = ap (option_map (λ c. c.0)) (found cs e s (there e refl))
 
@@ -98,7 +104,8 @@ module _ {K : Type 0} (source : K → From) where
       Contains-keep (on is_own) cs e (Contains-keep (on has_higher_preference) _ e (Contains-keep (on has_shorter_path) _ e (Contains-keep (on has_lower_origin) _ e (Contains-keep (on has_lower_med) _ e
       (Contains-keep (on is_external) _ e (Contains-keep (on has_lower_cost) _ e (Contains-keep (on has_lower_identifier) _ e (Contains-keep (on has_lower_address) _ e there))))))))
 
-  pub candidate-chosen : (cs : List (K × Rank)) → IsInOrder (ranked_sources source cs) → option_and_then (candidate_from source cs) (choice (ranked_sources source cs)) ≡ choice cs
+  pub candidate-chosen : (cs : List (K × Rank)) → IsInOrder (ranked_sources source cs)
+      → option_and_then (candidate_from source cs) (choice (ranked_sources source cs)) ≡ choice cs
   unfolding choice
   candidate-chosen cs s =
       ap (option_and_then (candidate_from source cs)) (choice-sources cs)

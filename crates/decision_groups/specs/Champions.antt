@@ -7,12 +7,12 @@ use Rattle.decision_core.specs.Choice.{Rule, is_own, has_higher_preference, has_
 use Rattle.decision_groups.specs.Order.{RankedSource, from_order}
 
 -- the candidates from one neighbour AS
-abbrev pub group_of : {K : Type 0} → ℕ → List (K × Rank) → List (K × Rank)
-group_of neighbour candidates = filter (λ c. c.1.neighbour == neighbour) candidates
+abbrev pub neighbour_group : {K : Type 0} → ℕ → List (K × Rank) → List (K × Rank)
+neighbour_group neighbour candidates = filter (λ c. c.1.neighbour == neighbour) candidates
 
 -- A champion is the choice among the candidates of its own neighbour AS.
 abbrev pub is_champion : List RankedSource → RankedSource → Bool
-is_champion candidates c = option_map_or (λ from. is_at (from_order from) c.0) (choice (group_of c.1.neighbour candidates)) false
+is_champion candidates c = option_map_or (λ from. is_at (from_order from) c.0) (choice (neighbour_group c.1.neighbour candidates)) false
 
 -- the champions, in the order of the list
 abbrev pub champions : List RankedSource → List RankedSource

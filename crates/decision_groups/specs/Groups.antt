@@ -8,11 +8,11 @@ use Rattle.bgp_types.specs.declared.rank.Rank.{Rank}
 use Rattle.decision_core.specs.Choice.{Rule}
 use Rattle.decision_core.specs.Search.{in_turn, leads, is_nearer, pick, best_by}
 use Rattle.decision_groups.specs.Order.{RankedSource, from_order, IsInOrder}
-use Rattle.decision_groups.specs.Champions.{group_of}
+use Rattle.decision_groups.specs.Champions.{neighbour_group}
 
 -- better by the nine rules, between two ranks of one neighbour AS: there the rules are one order
-abbrev pub beats : Rule
-beats = in_turn leads (in_turn (λ a b. nat_lt a.med b.med) is_nearer)
+abbrev pub beats_in_group : Rule
+beats_in_group = in_turn leads (in_turn (λ a b. nat_lt a.med b.med) is_nearer)
 
 -- better by the rules except MED
 abbrev pub beats_without_med : Rule
@@ -24,12 +24,12 @@ comes_first = in_turn (λ c d. beats_without_med c.1 d.1) (λ c d. is_lt (from_o
 
 -- the first of the members that no other one beats
 abbrev pub champion_of : List RankedSource → Option RankedSource
-champion_of members = best_by (λ c d. beats c.1 d.1) members
+champion_of members = best_by (λ c d. beats_in_group c.1 d.1) members
 
 -- better than the champion so far, if there is one
 abbrev pub beats_champion : Option RankedSource → Rank → Bool
 beats_champion None rank = true
-beats_champion (Some champion) rank = beats rank champion.1
+beats_champion (Some champion) rank = beats_in_group rank champion.1
 
 -- the better one of the best so far and one more champion
 abbrev pub better_of : Option RankedSource → Option RankedSource → Option RankedSource
@@ -60,4 +60,4 @@ members_of groups neighbour = unwrap_or (group_at groups neighbour) []
 -- each group has exactly the candidates of its neighbour AS, and none is empty
 pub record AreGroupsOf (candidates : List RankedSource) (groups : List NumberedGroup) : Type 0 where
   pub in_order : IsInOrder candidates
-  pub each : (neighbour : ℕ) → group_at groups neighbour ≡ some_members (group_of neighbour candidates)
+  pub each : (neighbour : ℕ) → group_at groups neighbour ≡ some_members (neighbour_group neighbour candidates)

@@ -39,5 +39,5 @@ abbrev pub with_rank : List RankedSource → From → Rank → List RankedSource
 with_rank candidates from rank = insert_entry from_order candidates from rank
 
 -- the list without the rank from this source
-abbrev pub without : List RankedSource → From → List RankedSource
-without candidates from = remove_entry (is_at (from_order from)) candidates
+abbrev pub without_source : List RankedSource → From → List RankedSource
+without_source candidates from = remove_entry (is_at (from_order from)) candidates

@@ -6,17 +6,17 @@ use Rattle.std.specs.declared.cmp.Ordering.{Ordering}
 use Rattle.std.specs.declared.cmp.Ordering.TheVariants.{Less, Equal, Greater}
 
 -- the key is below those of all entries
-abbrev pub IsBelow : {K X : Type 0} → (K → K → Ordering) → K → List (K × X) → Type 0
-IsBelow R k es = AllByRecursion (λ q. R k q ≡ Less) (keys_of es)
+abbrev pub IsBelowAll : {K X : Type 0} → (K → K → Ordering) → K → List (K × X) → Type 0
+IsBelowAll R k es = AllByRecursion (λ q. R k q ≡ Less) (keys_of es)
 
 -- the key is that of the entry at this index, and above those of the entries before it
-abbrev pub IsPlace : {K X : Type 0} → (K → K → Ordering) → K → List (K × X) → ℕ → Type 0
-IsPlace R k [] at = ⊥
-IsPlace R k (e ∷ es) zero = R k e.0 ≡ Equal
-IsPlace R k (e ∷ es) (suc at) = (R k e.0 ≡ Greater) × IsPlace R k es at
+abbrev pub IsPlaceOfKey : {K X : Type 0} → (K → K → Ordering) → K → List (K × X) → ℕ → Type 0
+IsPlaceOfKey R k [] at = ⊥
+IsPlaceOfKey R k (e ∷ es) zero = R k e.0 ≡ Equal
+IsPlaceOfKey R k (e ∷ es) (suc at) = (R k e.0 ≡ Greater) × IsPlaceOfKey R k es at
 
 -- the key is above those of the entries before this index, and below those of the others
-abbrev pub IsGap : {K X : Type 0} → (K → K → Ordering) → K → List (K × X) → ℕ → Type 0
-IsGap R k es zero = IsBelow R k es
-IsGap R k [] (suc at) = ⊥
-IsGap R k (e ∷ es) (suc at) = (R k e.0 ≡ Greater) × IsGap R k es at
+abbrev pub IsGapForKey : {K X : Type 0} → (K → K → Ordering) → K → List (K × X) → ℕ → Type 0
+IsGapForKey R k es zero = IsBelowAll R k es
+IsGapForKey R k [] (suc at) = ⊥
+IsGapForKey R k (e ∷ es) (suc at) = (R k e.0 ≡ Greater) × IsGapForKey R k es at

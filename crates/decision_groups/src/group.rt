@@ -1,7 +1,7 @@
 //! The ranks of one neighbour AS.
 
 ghost use Rattle.std.specs.Prelude.{◌≡◌, ◌↔◌, [], ◌∷◌, IsTrue, IfOk, OnOk, OnErr, IsNone};
-ghost use Rattle.decision_groups.specs.Order.{with_rank, without};
+ghost use Rattle.decision_groups.specs.Order.{with_rank, without_source};
 ghost use Rattle.decision_groups.specs.Groups.{champion_of};
 
 use crate::ranks::Ranks;
@@ -65,7 +65,7 @@ impl Group {
 
     /// Removes the rank of a source, and finds the champion again.
     pub fn remove(&mut self, from: From)
-        ensures { self.new ≡ without self.old from }
+        ensures { self.new ≡ without_source self.old from }
     {
         self.members.remove(from);
         self.champion = self.members.champion();

@@ -3,7 +3,7 @@
 ghost use Rattle.std.specs.Prelude.{◌≡◌, ◌↔◌, [], length, IsTrue, IsSome, IsNone, OnOk, OnErr};
 ghost use Rattle.std.specs.Option.{option_copied};
 ghost use Rattle.decision_core.specs.Choice.{choice};
-ghost use Rattle.decision_groups.specs.Order.{IsInOrder, rank_at, with_rank, without};
+ghost use Rattle.decision_groups.specs.Order.{IsInOrder, rank_at, with_rank, without_source};
 
 use crate::groups::Groups;
 use crate::ranks::Ranks;
@@ -94,7 +94,7 @@ impl GroupSet {
     /// nothing.
     pub fn remove(&mut self, from: From) -> bool
         ensures removed { IsTrue result ↔ IsSome (rank_at self.old from) }
-        ensures left { self.new ≡ without self.old from }
+        ensures left { self.new ≡ without_source self.old from }
         ensures in_order { IsInOrder self.new }
         ensures was_in_order { IsInOrder self.old }
     {

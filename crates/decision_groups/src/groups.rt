@@ -4,9 +4,9 @@ ghost use Rattle.std.specs.Prelude.{◌≡◌, ℕ, ◌==◌, Some, [], OnOk, On
 ghost use Rattle.std.specs.Ordering.{nat_cmp};
 ghost use Rattle.std.specs.Map.{values_of};
 ghost use Rattle.decision_core.specs.Search.{best_by};
-ghost use Rattle.decision_groups.specs.Order.{with_rank, without};
+ghost use Rattle.decision_groups.specs.Order.{with_rank, without_source};
 ghost use Rattle.decision_groups.specs.Groups.{NumberedGroup, AreNumbered, group_at, members_of, some_members, champion_of, comes_first as comes_first_lem, better_of};
-ghost use Rattle.decision_groups.specs.Places.{IsPlace, IsGap};
+ghost use Rattle.decision_groups.specs.Places.{IsPlaceOfKey, IsGapForKey};
 
 use crate::group::Group;
 use bgp_types::{From, NoMemory, Rank};
@@ -62,8 +62,8 @@ fn better(best: Option<(From, Rank)>, champion: Option<(From, Rank)>) -> Option<
 // Returns the place of a neighbour AS' group, or as the error the place where it would be inserted.
 fn place(entries: &[(u32, Group)], neighbour: u32) -> Result<usize, usize>
     requires { AreNumbered entries.now }
-    ensures found { IfOk result (IsPlace nat_cmp neighbour entries.now) }
-    ensures absent { IfErr result (IsGap nat_cmp neighbour entries.now) }
+    ensures found { IfOk result (IsPlaceOfKey nat_cmp neighbour entries.now) }
+    ensures absent { IfErr result (IsGapForKey nat_cmp neighbour entries.now) }
 {
     entries.binary_search_by_key(&neighbour, |entry| entry.0)
 }
@@ -96,7 +96,7 @@ impl Groups {
 
     /// Removes a rank from a neighbour AS' group. A group whose last rank is removed is removed too.
     pub fn leave(&mut self, from: From, neighbour: u32)
-        ensures { (n : ℕ) → group_at self.new n ≡ (if n == neighbour then some_members (without (members_of self.old n) from) else group_at self.old n) }
+        ensures { (n : ℕ) → group_at self.new n ≡ (if n == neighbour then some_members (without_source (members_of self.old n) from) else group_at self.old n) }
     {
         let Ok(at) = place(&self.entries, neighbour) else {
             return;

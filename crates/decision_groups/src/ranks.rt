@@ -2,9 +2,9 @@
 
 ghost use Rattle.std.specs.Prelude.{◌≡◌, ◌↔◌, [], ◌∷◌, IsTrue, IfOk, IfErr, OnErr, OnOk, None, length};
 ghost use Rattle.std.specs.Option.{option_copied};
-ghost use Rattle.decision_groups.specs.Order.{RankedSource, from_order, IsInOrder, rank_at, with_rank, without};
-ghost use Rattle.decision_groups.specs.Groups.{champion_of, beats_champion as beats_champion_lem, beats as beats_lem};
-ghost use Rattle.decision_groups.specs.Places.{IsPlace, IsGap};
+ghost use Rattle.decision_groups.specs.Order.{RankedSource, from_order, IsInOrder, rank_at, with_rank, without_source};
+ghost use Rattle.decision_groups.specs.Groups.{champion_of, beats_champion as beats_champion_lem, beats_in_group};
+ghost use Rattle.decision_groups.specs.Places.{IsPlaceOfKey, IsGapForKey};
 
 use bgp_types::{From, NoMemory, Rank};
 use decision_core::{is_nearer, leads};
@@ -32,7 +32,7 @@ impl Model for Ranks {
 /// Whether the first rank beats the second by the nine rules, where both are from the same neighbour
 /// AS. Their MEDs are compared, so that the nine rules are one order.
 fn beats(a: &Rank, b: &Rank) -> bool
-    ensures { result ≡ beats_lem a.now b.now }
+    ensures { result ≡ beats_in_group a.now b.now }
 {
     if leads(a, b) {
         return true;
@@ -59,8 +59,8 @@ fn beats_champion(champion: &Option<(From, Rank)>, rank: &Rank) -> bool
 // Returns the place of the rank from this source, or as the error the place where it would be inserted.
 fn place(entries: &[(From, Rank)], from: From) -> Result<usize, usize>
     requires { IsInOrder entries.now }
-    ensures found { IfOk result (IsPlace from_order from entries.now) }
-    ensures absent { IfErr result (IsGap from_order from entries.now) }
+    ensures found { IfOk result (IsPlaceOfKey from_order from entries.now) }
+    ensures absent { IfErr result (IsGapForKey from_order from entries.now) }
 {
     entries.binary_search_by_key(&from, |entry| entry.0)
 }
@@ -127,7 +127,7 @@ impl Ranks {
     /// Removes the rank of a source, and returns it. It allocates nothing.
     pub fn remove(&mut self, from: From) -> Option<Rank>
         ensures removed { result ≡ rank_at self.old from }
-        ensures left { self.new ≡ without self.old from }
+        ensures left { self.new ≡ without_source self.old from }
         ensures in_order { IsInOrder self.new }
     {
         match place(&self.entries, from) {

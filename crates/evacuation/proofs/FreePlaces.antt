@@ -7,8 +7,8 @@ use Rattle.std.proofs.Math.ListN.{get_or-map}
 use Rattle.std.proofs.lemmas.Bool.{cases_eq, cases_lt, ne_eqb}
 use Rattle.std.proofs.lemmas.List.Sums.{sum_by-cons}
 use Rattle.graft_edge.specs.declared.ids.RouterId.{RouterId}
-use Rattle.evacuation.specs.Plans.{TargetList, IsFree, IsFull, KeepsRooms, IsGivenRoom, one_more, times_given, number_given, free_places, free_places_at}
-use Rattle.evacuation.proofs.Loads.{one_more-same, one_more-other, length-one_more, times_given-none, times_given-same, times_given-other}
+use Rattle.evacuation.specs.Plans.{TargetList, IsFree, IsFull, KeepsRooms, IsGivenRoom, one_more_load, times_given, number_given, free_places, free_places_at}
+use Rattle.evacuation.proofs.Loads.{one_more_load-same, one_more_load-other, length-one_more, times_given-none, times_given-same, times_given-other}
 use Rattle.evacuation.proofs.Loads.{number_given-none, number_given-some, load_after-one_more}
 
 -- ---- sums over a range of numbers
@@ -71,20 +71,20 @@ module _ (rooms : List ℕ) (from : ℕ) where
 
   -- A peering takes a free place of the router that it is given to.
   pub free_places-one_more : (loads : List ℕ) (r : ℕ) → IsFree loads rooms from r
-      → free_places loads rooms from ≡ free_places (one_more loads r) rooms from + 1
+      → free_places loads rooms from ≡ free_places (one_more_load loads r) rooms from + 1
   free_places-one_more loads r free =
-      let at_r : free_places_at loads rooms from r ≡ free_places_at (one_more loads r) rooms from r + 1 =
+      let at_r : free_places_at loads rooms from r ≡ free_places_at (one_more_load loads r) rooms from r + 1 =
       omega (
         arith,
         free_places_at-other loads r free.other,
-        free_places_at-other (one_more loads r) r free.other,
-        one_more-same loads r free.in_range,
+        free_places_at-other (one_more_load loads r) r free.other,
+        one_more_load-same loads r free.in_range,
         free.below_room,
       ) in
-      let others : (q : ℕ) → q ≢ r → free_places_at loads rooms from q ≡ free_places_at (one_more loads r) rooms from q = λ q other.
-      ap (λ (load : ℕ). cond (eqb q from) 0 (slice_index rooms q - load)) (sym (one_more-other loads r q other)) in
+      let others : (q : ℕ) → q ≢ r → free_places_at loads rooms from q ≡ free_places_at (one_more_load loads r) rooms from q = λ q other.
+      ap (λ (load : ℕ). cond (eqb q from) 0 (slice_index rooms q - load)) (sym (one_more_load-other loads r q other)) in
       let before = free_places_at loads rooms from in
-      let after = free_places_at (one_more loads r) rooms from in
+      let after = free_places_at (one_more_load loads r) rooms from in
       let less = sum_by-one_less before after r 0 (length loads) (omega arith) (omega (arith, free.in_range)) at_r others in
       rw (length-one_more loads r) less
 
@@ -108,7 +108,7 @@ module _ (rooms : List ℕ) (from : ℕ) where
       record { in_range = room.in_range; other = room.other; below_room = omega (arith, room.within_room) }
 
   IsGivenRoom-later : (loads : List ℕ) (target : RouterId) (targets : TargetList) → target.0 < length loads → (r : ℕ)
-      → IsGivenRoom loads rooms from (Some target ∷ targets) r → IsGivenRoom (one_more loads target.0) rooms from targets r
+      → IsGivenRoom loads rooms from (Some target ∷ targets) r → IsGivenRoom (one_more_load loads target.0) rooms from targets r
   IsGivenRoom-later loads target targets there r room = record {
     in_range = omega (arith, room.in_range, length-one_more loads target.0);
     other = room.other;
@@ -116,7 +116,7 @@ module _ (rooms : List ℕ) (from : ℕ) where
   }
 
   pub IsGivenRoom-earlier : (loads : List ℕ) (target : RouterId) (targets : TargetList) → target.0 < length loads → (r : ℕ)
-      → IsGivenRoom (one_more loads target.0) rooms from targets r → IsGivenRoom loads rooms from (Some target ∷ targets) r
+      → IsGivenRoom (one_more_load loads target.0) rooms from targets r → IsGivenRoom loads rooms from (Some target ∷ targets) r
   IsGivenRoom-earlier loads target targets there r room = record {
     in_range = omega (arith, room.in_range, length-one_more loads target.0);
     other = room.other;
@@ -140,7 +140,7 @@ module _ (rooms : List ℕ) (from : ℕ) where
       omega (arith, fewer, number_given-none targets)
   number_given-le-free_places (Some target ∷ targets) loads keeps =
       let free = IsFree-first loads target targets keeps in
-      let fewer = number_given-le-free_places targets (one_more loads target.0) (λ r some.
+      let fewer = number_given-le-free_places targets (one_more_load loads target.0) (λ r some.
       IsGivenRoom-later loads target targets free.in_range r (keeps r (given_more target targets r some))) in
       omega (arith, fewer, number_given-some target targets, free_places-one_more loads target.0 free)
 

@@ -5,15 +5,15 @@ use Rattle.std.proofs.lemmas.Bool.{cases_eq, ne_eqb}
 use Rattle.std.proofs.lemmas.List.{get_or-set_same, get_or-set_other, length-set}
 use Rattle.std.proofs.lemmas.List.Sums.{sum_by-cons}
 use Rattle.graft_edge.specs.declared.ids.RouterId.{RouterId}
-use Rattle.evacuation.specs.Plans.{TargetList, one_more, is_router, times_given, number_given, load_after}
+use Rattle.evacuation.specs.Plans.{TargetList, one_more_load, is_router, times_given, number_given, load_after}
 
-pub one_more-same : (loads : List ℕ) (r : ℕ) → r < length loads → slice_index (one_more loads r) r ≡ slice_index loads r + 1
-one_more-same loads r there = get_or-set_same loads r _ 0 there
+pub one_more_load-same : (loads : List ℕ) (r : ℕ) → r < length loads → slice_index (one_more_load loads r) r ≡ slice_index loads r + 1
+one_more_load-same loads r there = get_or-set_same loads r _ 0 there
 
-pub one_more-other : (loads : List ℕ) (r q : ℕ) → q ≢ r → slice_index (one_more loads r) q ≡ slice_index loads q
-one_more-other loads r q other = get_or-set_other loads r q _ 0 other
+pub one_more_load-other : (loads : List ℕ) (r q : ℕ) → q ≢ r → slice_index (one_more_load loads r) q ≡ slice_index loads q
+one_more_load-other loads r q other = get_or-set_other loads r q _ 0 other
 
-pub length-one_more : (loads : List ℕ) (r : ℕ) → length (one_more loads r) ≡ length loads
+pub length-one_more : (loads : List ℕ) (r : ℕ) → length (one_more_load loads r) ≡ length loads
 length-one_more loads r = length-set loads r _
 
 pub times_given-none : (r : ℕ) (targets : TargetList) → times_given r (None ∷ targets) ≡ times_given r targets
@@ -37,13 +37,13 @@ number_given-some target targets = omega (arith, sum_by-cons (λ o. cond (is_som
 
 -- The load with what a router is given is the same, whether the first of it counts as given or as a load from before.
 pub load_after-one_more : (loads : List ℕ) (target : RouterId) (targets : TargetList) → target.0 < length loads → (r : ℕ)
-    → load_after (one_more loads target.0) targets r ≡ load_after loads (Some target ∷ targets) r
+    → load_after (one_more_load loads target.0) targets r ≡ load_after loads (Some target ∷ targets) r
 load_after-one_more loads target targets there r = elim (cases_eq r target.0) [
   | inl same ↦
-      let load : slice_index (one_more loads target.0) r ≡ slice_index loads r + 1 =
-      ap (slice_index (one_more loads target.0)) same ∙ one_more-same loads target.0 there ∙ ap (λ n. slice_index loads n + 1) (sym same) in
+      let load : slice_index (one_more_load loads target.0) r ≡ slice_index loads r + 1 =
+      ap (slice_index (one_more_load loads target.0)) same ∙ one_more_load-same loads target.0 there ∙ ap (λ n. slice_index loads n + 1) (sym same) in
       omega (arith, load, times_given-same r target targets same)
-  | inr other ↦ omega (arith, one_more-other loads target.0 r other, times_given-other r target targets other)
+  | inr other ↦ omega (arith, one_more_load-other loads target.0 r other, times_given-other r target targets other)
 ]
 
 -- A router that is given the first peering, or one of the others.

@@ -4,16 +4,16 @@ use Rattle.std.specs.Prelude.{slice_index}
 use Rattle.std.proofs.lemmas.Bool.{cases_eq, cases_lt}
 use Rattle.std.proofs.lemmas.List.Sums.{count_by-le-length}
 use Rattle.graft_edge.specs.declared.ids.RouterId.{RouterId}
-use Rattle.evacuation.specs.Plans.{TargetList, IsBefore, IsFree, IsLeast, IsFull, Plan, Done, Given, NotGiven, KeepsRooms, GivesAll}
-use Rattle.evacuation.specs.Plans.{AreAtMost, one_more, times_given, number_given, load_after, free_places}
-use Rattle.evacuation.proofs.Loads.{one_more-same, times_given-none, times_given-same, number_given-none}
+use Rattle.evacuation.specs.Plans.{TargetList, IsLessLoaded, IsFree, IsLeastLoaded, IsFull, Plan, Done, Given, NotGiven, KeepsRooms, GivesAll}
+use Rattle.evacuation.specs.Plans.{AreAtMost, one_more_load, times_given, number_given, load_after, free_places}
+use Rattle.evacuation.proofs.Loads.{one_more_load-same, times_given-none, times_given-same, number_given-none}
 use Rattle.evacuation.proofs.Loads.{number_given-some, load_after-one_more, first_or_later}
 use Rattle.evacuation.proofs.FreePlaces.{free_places-one_more, free_places-full, IsGivenRoom-earlier, number_given-le-free_places, capped, slice_index-capped}
 
 module _ (rooms : List ℕ) (from : ℕ) where
   pub length-plan : (loads : List ℕ) (count : ℕ) (targets : TargetList) → Plan rooms from loads count targets → length targets ≡ count
   length-plan loads _ _ Done = refl
-  length-plan loads _ _ (Given {count = count} {targets = targets} r least rest) = ap suc (length-plan (one_more loads r.0) count targets rest)
+  length-plan loads _ _ (Given {count = count} {targets = targets} r least rest) = ap suc (length-plan (one_more_load loads r.0) count targets rest)
   length-plan loads _ _ (NotGiven {count = count} {targets = targets} full rest) = ap suc (length-plan loads count targets rest)
 
   -- It keeps the rooms.
@@ -32,7 +32,7 @@ module _ (rooms : List ℕ) (from : ℕ) where
           ));
         }
     | inr later ↦
-        let room = KeepsRooms-plan (one_more loads target.0) count targets rest r later in
+        let room = KeepsRooms-plan (one_more_load loads target.0) count targets rest r later in
         IsGivenRoom-earlier rooms from loads target targets least.free.in_range r room
   ]
   KeepsRooms-plan loads _ _ (NotGiven {count = count} {targets = targets} full rest) = λ r some.
@@ -48,7 +48,7 @@ module _ (rooms : List ℕ) (from : ℕ) where
         arith,
         number_given-some target targets,
         free_places-one_more rooms from loads target.0 least.free,
-        number_given-plan (one_more loads target.0) count targets rest,
+        number_given-plan (one_more_load loads target.0) count targets rest,
       )
   number_given-plan loads _ _ (NotGiven {count = count} {targets = targets} full rest) =
       omega (arith, number_given-none targets, free_places-full rooms from loads full, number_given-plan loads count targets rest)
@@ -56,7 +56,7 @@ module _ (rooms : List ℕ) (from : ℕ) where
   -- ---- the greatest load
 
   -- If the router that is given a peering has this load already, so have all that are below their room.
-  full_below : (most : ℕ) (loads : List ℕ) (r : ℕ) → IsLeast loads rooms from r → most ≤ slice_index loads r → IsFull loads (capped most rooms) from
+  full_below : (most : ℕ) (loads : List ℕ) (r : ℕ) → IsLeastLoaded loads rooms from r → most ≤ slice_index loads r → IsFull loads (capped most rooms) from
   full_below most loads r least reached = λ q free.
       let below = free.below_room in
       let room = slice_index-capped most rooms q in
@@ -89,12 +89,12 @@ module _ (rooms : List ℕ) (from : ℕ) where
     | inr reached ↦ inl (omega (arith, free_places-full (capped most rooms) from loads (full_below most loads target.0 least reached)))
     | inl less ↦
         let free = free_places-one_more (capped most rooms) from loads target.0 (free_below most loads target.0 least.free less) in
-        elim (within_or_too_few most (one_more loads target.0) count targets rest (omega (arith, number_given-some target targets))) [
+        elim (within_or_too_few most (one_more_load loads target.0) count targets rest (omega (arith, number_given-some target targets))) [
           | inl few ↦ inl (omega arith)
           | inr within ↦ inr (λ r some.
               let same = load_after-one_more loads target targets least.free.in_range r in
               elim (first_or_later r target targets some) [
-                | inl first ↦ omega (arith, one_more-same loads target.0 least.free.in_range, ap (slice_index (one_more loads target.0)) first.0, first.1)
+                | inl first ↦ omega (arith, one_more_load-same loads target.0 least.free.in_range, ap (slice_index (one_more_load loads target.0)) first.0, first.1)
                 | inr later ↦ omega (arith, within r later)
               ])
         ]
@@ -130,12 +130,12 @@ module _ (rooms : List ℕ) (from : ℕ) where
 
   -- ---- there is one plan
 
-  one_least : (loads : List ℕ) (r q : ℕ) → IsLeast loads rooms from r → IsLeast loads rooms from q → r ≡ q
+  one_least : (loads : List ℕ) (r q : ℕ) → IsLeastLoaded loads rooms from r → IsLeastLoaded loads rooms from q → r ≡ q
   one_least loads r q one other = elim (cases_eq r q) [
     | inl same ↦ same
     | inr apart ↦
-        let before : IsBefore loads r q = one.least q other.free (λ e. apart (sym e)) in
-        let behind : IsBefore loads q r = other.least r one.free apart in
+        let before : IsLessLoaded loads r q = one.least q other.free (λ e. apart (sym e)) in
+        let behind : IsLessLoaded loads q r = other.least r one.free apart in
         absurd (omega arith)
   ]
 
@@ -146,9 +146,9 @@ module _ (rooms : List ℕ) (from : ℕ) where
   one_plan loads _ _ _ Done Done = refl
   one_plan loads _ _ _ (Given {count = count} {targets = one} r least rest) (Given {targets = other} q least' rest') =
       let same = one_least loads r.0 q.0 least least' in
-      let rest'' = subst (λ n. Plan rooms from (one_more loads n) count other) (sym same) rest' in
+      let rest'' = subst (λ n. Plan rooms from (one_more_load loads n) count other) (sym same) rest' in
       ap {B = TargetList} (λ (t : RouterId). Some t ∷ one) (same_router r q same)
-      ∙ ap (λ ts. Some q ∷ ts) (one_plan (one_more loads r.0) count one other rest rest'')
+      ∙ ap (λ ts. Some q ∷ ts) (one_plan (one_more_load loads r.0) count one other rest rest'')
   one_plan loads _ _ _ (Given {count = count} r least rest) (NotGiven full rest') = absurd (full r.0 least.free)
   one_plan loads _ _ _ (NotGiven full rest) (Given q least rest') = absurd (full q.0 least.free)
   one_plan loads _ _ _ (NotGiven {count = count} {targets = one} full rest) (NotGiven {targets = other} full' rest') =

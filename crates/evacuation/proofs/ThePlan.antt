@@ -6,7 +6,7 @@ use Rattle.std.specs.List.{range_with_len}
 use Rattle.std.specs.Option.{option_map}
 use Rattle.std.proofs.lemmas.Bool.{cases_eq, cases_lt, cond_both, and_parts, and_from, ltb-true, lt-ltb, leb-true, leb-false, eq-eqb, ne_eqb, true≢false}
 use Rattle.graft_edge.specs.declared.ids.RouterId.{RouterId}
-use Rattle.evacuation.specs.Plans.{TargetList, IsBefore, IsFree, IsLeast, Plan, Done, Given, NotGiven, lesser, least_of, next_router, loads_with, plan_for}
+use Rattle.evacuation.specs.Plans.{TargetList, IsLessLoaded, IsFree, IsLeastLoaded, Plan, Done, Given, NotGiven, lesser, least_of, next_router, loads_with, plan_for}
 
 -- ---- the least loaded of `n` routers from a number on
 
@@ -31,7 +31,7 @@ module _ (loads rooms : List ℕ) (from : ℕ) where
   record IsLeastFrom (first n r : ℕ) : Type 0 where
     above : first ≤ r
     free : IsFree loads rooms from r
-    least : (q : ℕ) → first ≤ q → q < first + n → IsFree loads rooms from q → q ≢ r → IsBefore loads r q
+    least : (q : ℕ) → first ≤ q → q < first + n → IsFree loads rooms from q → q ≢ r → IsLessLoaded loads r q
 
   -- the least loaded of `n` routers from `first` on, or none
   abbrev IsLeastOf : ℕ → ℕ → Option ℕ → Type 0
@@ -43,7 +43,7 @@ module _ (loads rooms : List ℕ) (from : ℕ) where
     | inr more ↦ absurd (other (omega arith))
   ]
 
-  before : (r q : ℕ) → slice_index loads r ≤ slice_index loads q → r < q → IsBefore loads r q
+  before : (r q : ℕ) → slice_index loads r ≤ slice_index loads q → r < q → IsLessLoaded loads r q
   before r q load less = elim (cases_lt (slice_index loads r) (slice_index loads q)) [
     | inl lighter ↦ inl lighter
     | inr equal ↦ inr (omega arith, less)
@@ -130,7 +130,7 @@ module _ (rooms : List ℕ) (from : ℕ) where
       → Plan rooms from loads (suc count) (option_map {U = RouterId} (λ r. record { 0 = r }) least ∷ targets)
   one_more_turn loads count targets None none rest = NotGiven (λ q free. none q (omega arith) (omega (arith, free.in_range)) free) rest
   one_more_turn loads count targets (Some r) is rest =
-      let least : IsLeast loads rooms from r =
+      let least : IsLeastLoaded loads rooms from r =
       record { free = is.free; least = λ q free apart. is.least q (omega arith) (omega (arith, free.in_range)) free apart } in
       Given (record { 0 = r }) least rest
 

@@ -5,7 +5,7 @@ use Rattle.std.specs.Prelude.{slice_index}
 use Rattle.std.proofs.lemmas.List.{append-nil, get_or_read}
 use Rattle.std.proofs.lemmas.Bool.{cases_eq, cases_lt}
 use Rattle.graft_edge.specs.declared.ids.RouterId.{RouterId}
-use Rattle.evacuation.specs.Plans.{TargetList, IsBefore, IsFree, IsLeast, IsFull, Plan, Done, Given, NotGiven, one_more}
+use Rattle.evacuation.specs.Plans.{TargetList, IsLessLoaded, IsFree, IsLeastLoaded, IsFull, Plan, Done, Given, NotGiven, one_more_load}
 use Rattle.evacuation.proofs.Loads.{length-one_more}
 
 -- ---- the least loaded of the routers below a number
@@ -14,7 +14,7 @@ use Rattle.evacuation.proofs.Loads.{length-one_more}
 pub record IsLeastBelow (loads rooms : List ℕ) (from n r : ℕ) : Type 0 where
   pub below : r < n
   pub free : IsFree loads rooms from r
-  pub least : (q : ℕ) → q < n → IsFree loads rooms from q → q ≢ r → IsBefore loads r q
+  pub least : (q : ℕ) → q < n → IsFree loads rooms from q → q ≢ r → IsLessLoaded loads r q
 
 -- the least loaded router below a number, or none
 abbrev pub IsLeastSoFar : List ℕ → List ℕ → ℕ → ℕ → Option ℕ → Type 0
@@ -27,59 +27,6 @@ module _ (loads rooms : List ℕ) (from n : ℕ) where
     | inr more ↦ absurd (other (omega arith))
   ]
 
-  -- The next router isn't free.
-  pub IsLeastSoFar-passed : (least : Option ℕ) → IsLeastSoFar loads rooms from n least → ¬ IsFree loads rooms from n
-      → IsLeastSoFar loads rooms from (n + 1) least
-  IsLeastSoFar-passed None none taken = λ q below free. elim (cases_eq q n) [
-    | inl same ↦ taken (subst (IsFree loads rooms from) same free)
-    | inr other ↦ none q (below_next q below other) free
-  ]
-  IsLeastSoFar-passed (Some r) is taken = record {
-    below = omega (arith, is.below);
-    free = is.free;
-    least = λ q below free apart. elim (cases_eq q n) [
-      | inl same ↦ absurd (taken (subst (IsFree loads rooms from) same free))
-      | inr other ↦ is.least q (below_next q below other) free apart
-    ];
-  }
-
-  -- The next router has no less load.
-  pub IsLeastSoFar-kept : (r : ℕ) → IsLeastBelow loads rooms from n r → slice_index loads r ≤ slice_index loads n → IsLeastBelow loads rooms from (n + 1) r
-  IsLeastSoFar-kept r is more = record {
-    below = omega (arith, is.below);
-    free = is.free;
-    least = λ q below free apart. elim (cases_eq q n) [
-      | inl same ↦
-          let load = ap (slice_index loads) same in
-          elim (cases_lt (slice_index loads r) (slice_index loads q)) [
-            | inl less ↦ inl less
-            | inr equal ↦ inr (omega arith, omega (arith, is.below))
-          ]
-      | inr other ↦ is.least q (below_next q below other) free apart
-    ];
-  }
-
-  -- The next router is free and has less load, or is the first that is free.
-  pub IsLeastSoFar-taken : (least : Option ℕ) → IsLeastSoFar loads rooms from n least → IsFree loads rooms from n
-      → MatchOption least (Unit {0}) (λ r. slice_index loads n < slice_index loads r)
-      → IsLeastBelow loads rooms from (n + 1) n
-  IsLeastSoFar-taken None none free less = record {
-    below = omega arith;
-    free = free;
-    least = λ q below also apart. absurd (none q (below_next q below apart) also);
-  }
-  IsLeastSoFar-taken (Some r) is free less = record {
-    below = omega arith;
-    free = free;
-    least = λ q below also apart. inl (elim (cases_eq q r) [
-      | inl same ↦ omega (arith, ap (slice_index loads) same)
-      | inr other ↦ elim (is.least q (below_next q below apart) also other) [
-        | inl more ↦ omega arith
-        | inr equal ↦ omega (arith, equal.0)
-      ]
-    ]);
-  }
-
 -- ---- the turns
 
 -- Whatever plan follows, with the loads as they are now, is the rest of a plan from the first loads on.
@@ -88,11 +35,11 @@ pub record Planned (rooms : List ℕ) (from : ℕ) (first now : List ℕ) (turns
   pub rest : (count : ℕ) (later : TargetList) → Plan rooms from now count later → Plan rooms from first (turns + count) (targets ++ later)
 
 -- the loads with one more at a router, as they are written
-pub one_more-written : (loads : List ℕ) (r place load : ℕ) → place ≡ r → r < length loads → load ≡ get_or loads place load
-    → set loads place (load + 1) ≡ one_more loads r
-one_more-written loads r place load same there read =
+pub one_more_load-written : (loads : List ℕ) (r place load : ℕ) → place ≡ r → r < length loads → load ≡ get_or loads place load
+    → set loads place (load + 1) ≡ one_more_load loads r
+one_more_load-written loads r place load same there read =
     let is : load ≡ slice_index loads place = get_or_read loads place load (omega arith) read 0 in
-    ap (λ n. set loads place (n + 1)) is ∙ ap (one_more loads) same
+    ap (λ n. set loads place (n + 1)) is ∙ ap (one_more_load loads) same
 
 module _ (rooms : List ℕ) (from : ℕ) (first now : List ℕ) (turns : ℕ) (targets : TargetList) where
   one_turn : Planned rooms from first now turns targets → (count : ℕ) (target : Option RouterId) (later : TargetList)
@@ -103,10 +50,10 @@ module _ (rooms : List ℕ) (from : ℕ) (first now : List ℕ) (turns : ℕ) (t
       let counted : turns + suc count ≡ turns + 1 + count = omega arith in
       rw (← append_assoc targets (target ∷ []) later, counted) at added
 
-  pub Planned-given : Planned rooms from first now turns targets → (r : RouterId) → IsLeast now rooms from r.0 → (next : List ℕ) (more : TargetList)
-      → next ≡ one_more now r.0 → more ≡ targets ++ Some r ∷ [] → Planned rooms from first next (turns + 1) more
+  pub Planned-given : Planned rooms from first now turns targets → (r : RouterId) → IsLeastLoaded now rooms from r.0 → (next : List ℕ) (more : TargetList)
+      → next ≡ one_more_load now r.0 → more ≡ targets ++ Some r ∷ [] → Planned rooms from first next (turns + 1) more
   Planned-given planned r least next more next_is more_is =
-      let turn : Planned rooms from first (one_more now r.0) (turns + 1) (targets ++ Some r ∷ []) = record {
+      let turn : Planned rooms from first (one_more_load now r.0) (turns + 1) (targets ++ Some r ∷ []) = record {
         same_length = omega (arith, length-one_more now r.0, planned.same_length);
         rest = λ count later plan. one_turn planned count (Some r) later (Given r least plan);
       } in

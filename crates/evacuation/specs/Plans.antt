@@ -17,28 +17,28 @@ pub record IsFree (loads rooms : List ℕ) (from r : ℕ) : Type 0 where
   pub below_room : slice_index loads r < slice_index rooms r
 
 -- A router has less load than another, or the same load and the lower number.
-abbrev pub IsBefore : List ℕ → ℕ → ℕ → Type 0
-IsBefore loads r q = (slice_index loads r < slice_index loads q) ⊎ ((slice_index loads r ≡ slice_index loads q) × (r < q))
+abbrev pub IsLessLoaded : List ℕ → ℕ → ℕ → Type 0
+IsLessLoaded loads r q = (slice_index loads r < slice_index loads q) ⊎ ((slice_index loads r ≡ slice_index loads q) × (r < q))
 
 -- Of the routers other than `from` whose load is below their room, this one has the least load, and of several with that load the lowest number.
-pub record IsLeast (loads rooms : List ℕ) (from r : ℕ) : Type 0 where
+pub record IsLeastLoaded (loads rooms : List ℕ) (from r : ℕ) : Type 0 where
   pub free : IsFree loads rooms from r
-  pub least : (q : ℕ) → IsFree loads rooms from q → q ≢ r → IsBefore loads r q
+  pub least : (q : ℕ) → IsFree loads rooms from q → q ≢ r → IsLessLoaded loads r q
 
 -- No router other than `from` has a load below its room.
 abbrev pub IsFull : List ℕ → List ℕ → ℕ → Type 0
 IsFull loads rooms from = (r : ℕ) → ¬ IsFree loads rooms from r
 
 -- the loads with one more at a router
-abbrev pub one_more : List ℕ → ℕ → List ℕ
-one_more loads r = slice_set loads r (slice_index loads r + 1)
+abbrev pub one_more_load : List ℕ → ℕ → List ℕ
+one_more_load loads r = slice_set loads r (slice_index loads r + 1)
 
 -- Each of `count` peerings in turn goes to the router other than `from` whose load, with the peerings already given, is least among those below their
 -- room, the lowest number first. It has no target if there is no such router.
 pub data Plan (rooms : List ℕ) (from : ℕ) : List ℕ → ℕ → TargetList → Type 0 where
   Done : {loads : List ℕ} → Plan rooms from loads 0 []
-  Given : {loads : List ℕ} {count : ℕ} {targets : TargetList} (r : RouterId) → IsLeast loads rooms from r.0
-      → Plan rooms from (one_more loads r.0) count targets → Plan rooms from loads (suc count) (Some r ∷ targets)
+  Given : {loads : List ℕ} {count : ℕ} {targets : TargetList} (r : RouterId) → IsLeastLoaded loads rooms from r.0
+      → Plan rooms from (one_more_load loads r.0) count targets → Plan rooms from loads (suc count) (Some r ∷ targets)
   NotGiven : {loads : List ℕ} {count : ℕ} {targets : TargetList} → IsFull loads rooms from
       → Plan rooms from loads count targets → Plan rooms from loads (suc count) (None ∷ targets)
 
@@ -63,7 +63,7 @@ next_router rooms from loads = least_of loads (free_routers loads rooms from)
 -- the loads once a peering is given
 abbrev pub loads_with : Option ℕ → List ℕ → List ℕ
 loads_with None loads = loads
-loads_with (Some r) loads = one_more loads r
+loads_with (Some r) loads = one_more_load loads r
 
 -- the plan, as a list
 abbrev pub plan_for : List ℕ → ℕ → List ℕ → ℕ → TargetList

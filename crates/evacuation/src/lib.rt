@@ -3,7 +3,7 @@
 
 ghost use Rattle.std.specs.Prelude.{◌≡◌, ◌≤◌, ◌<◌, ◌↔◌, ℕ, IsTrue, IfOk, IfNone, IfSome, MatchOption, List, length, min, slice_index};
 ghost use Rattle.std.specs.Option.{ForSome};
-ghost use Rattle.evacuation.specs.Plans.{AreAtMost, GivesAll, IsFree, IsFull, IsLeast, KeepsRooms, Plan, TargetList, free_places, number_given, plan_for};
+ghost use Rattle.evacuation.specs.Plans.{AreAtMost, GivesAll, IsFree, IsFull, IsLeastLoaded, KeepsRooms, Plan, TargetList, free_places, number_given, plan_for};
 
 use graft_edge::{Items, NoMemory, RouterId};
 use std::alloc::Global;
@@ -38,7 +38,7 @@ fn has_less(loads: &[u32], router: usize, least: Option<usize>) -> bool
 fn least_loaded(loads: &[u32], rooms: &[u32], from: RouterId) -> Option<RouterId>
     requires same_length { length rooms.now ≡ length loads.now }
     requires numbered { length loads.now ≤ 256 }
-    ensures least { IfSome result (λ router. IsLeast loads.now rooms.now from.0 router.0) }
+    ensures least { IfSome result (λ router. IsLeastLoaded loads.now rooms.now from.0 router.0) }
     ensures full { IfNone result (IsFull loads.now rooms.now from.0) }
 {
     let mut least: Option<usize> = None;

@@ -23,8 +23,8 @@ use Rattle.bgp_story.proofs.StoryLaws.{state_is}
 use Rattle.session_value.specs.Sessions.{peering_of}
 use Rattle.session_value.proofs.Gets.{heard_then}
 use Rattle.graft_model.specs.Setups.{PeeringSetup}
-use Rattle.story_readings.specs.Reads.{IsNoTick, Reads}
-use Rattle.even_inputs.specs.Readings.{Reading, unread, expected_by, opened_with, with_message, unless_ended, read_next, reading_of}
+use Rattle.story_readings.specs.Reads.{IsNoTick, StoryReads}
+use Rattle.even_inputs.specs.Readings.{Reading, nothing_read, expected_by, opened_with, with_message, unless_ended, read_next, reading_of}
 use Rattle.even_inputs.proofs.Readings.{gots}
 use Rattle.even_inputs.proofs.Fronts.{one_got, none_got, timeless_parts, BeginWith, begin_with}
 use Rattle.even_inputs.proofs.Announcing.{open_of, open_gots, offered}
@@ -148,19 +148,19 @@ module _ (peering : PeeringSetup) where
   -- ---- a story
 
   reads_gots : (lines : List Line) (state : SessionState) → Allowed own lines state → AllByRecursion IsNoTick lines
-      → fold (read_next peering) unread (gots lines) ≡ told_by lines state
+      → fold (read_next peering) nothing_read (gots lines) ≡ told_by lines state
   reads_gots _ _ (opened lines h e) n =
-      subst (λ (ls : List Line). fold (read_next peering) unread (gots ls) ≡ told_by ls OpenSent) (sym e) refl
+      subst (λ (ls : List Line). fold (read_next peering) nothing_read (gots ls) ≡ told_by ls OpenSent) (sym e) refl
   reads_gots _ _ (got before state bytes answer next lines l o w r e) n =
       let earlier = (timeless_parts before (Got bytes ∷ answer) lines e n).0 in
-      ap (fold (read_next peering) unread) (one_got before answer lines bytes (got_answers own before state bytes answer next r) e)
-      ∙ fold-append (read_next peering) unread (gots before) (bytes ∷ [])
+      ap (fold (read_next peering) nothing_read) (one_got before answer lines bytes (got_answers own before state bytes answer next r) e)
+      ∙ fold-append (read_next peering) nothing_read (gots before) (bytes ∷ [])
       ∙ ap (λ (x : Reading). read_next peering x bytes) (reads_gots before state l earlier)
       ∙ read_so before state bytes answer next lines l earlier o w r e
   reads_gots _ _ (updated before u lines l w c e) n =
       let step : List Line = Put (UpdateMsg u) ∷ [] in
       let after : state_of (before ++ step) ≡ Established = ap state_of (sym e) ∙ state_is own lines Established (updated before u lines l w c e) in
-      ap (fold (read_next peering) unread) (none_got before lines (Put (UpdateMsg u)) refl e)
+      ap (fold (read_next peering) nothing_read) (none_got before lines (Put (UpdateMsg u)) refl e)
       ∙ reads_gots before Established l (timeless_parts before step lines e n).0
       ∙ ap (λ (o : Option open_type.OpenMsg). record { state = Established; opened = o; heard = heard own before })
       (sym (open_stays own before step Established l refl) ∙ ap (got_open own) (sym e))
@@ -174,10 +174,10 @@ module _ (peering : PeeringSetup) where
   stays_ended [] r e = refl
   stays_ended (f ∷ fs) r e = ap (λ (x : Reading). fold (read_next peering) x fs) (has_ended r.state r _ e) ∙ stays_ended fs r e
 
-  pub reads_all : (said : List ℕ) (lines : List Line) (state : SessionState) → Reads own said lines state → reading_of peering said ≡ told_by lines state
+  pub reads_all : (said : List ℕ) (lines : List Line) (state : SessionState) → StoryReads own said lines state → reading_of peering said ≡ told_by lines state
   reads_all said lines state x =
-      ap (fold (read_next peering) unread) begun.is
-      ∙ fold-append (read_next peering) unread (gots lines) begun.more
+      ap (fold (read_next peering) nothing_read) begun.is
+      ∙ fold-append (read_next peering) nothing_read (gots lines) begun.more
       ∙ ap (λ (r : Reading). fold (read_next peering) r begun.more) (reads_gots lines state legal x.timeless)
       ∙ by_end begun.end
     where

@@ -27,7 +27,7 @@ use Rattle.session_value.specs.declared.config.SessionConfig.{SessionConfig}
 use Rattle.session_value.specs.Sessions.{peering_of}
 use Rattle.graft_model.specs.Setups.{PeeringSetup}
 use Rattle.graft_laws.proofs.Lists.{all_front}
-use Rattle.even_inputs.specs.Announced.{opened_by, established, updates_in, announced_by}
+use Rattle.even_inputs.specs.Announced.{open_at_front, established, updates_in, announced_by}
 use Rattle.even_inputs.proofs.Lists.{all_flat, all_given}
 use Rattle.even_inputs.proofs.Fronts.{joined}
 use Rattle.even_inputs.proofs.Readings.{gots, gots_whole, whole_lines, HasIn, Announces, heard_in}
@@ -52,10 +52,10 @@ module _ (peering : PeeringSetup) where
 
   -- the first message that was got is the first one that was said
   first_open : (f : List ℕ) (said rest : List ℕ) → IsFrame f → said ≡ f ++ rest → (fs : List (List ℕ))
-      → open_of own (f ∷ fs) ≡ opened_by peering (frame_at said)
+      → open_of own (f ∷ fs) ≡ open_at_front peering (frame_at said)
   first_open f said rest frame e fs =
       ap (λ (b : Bool). open_in (message_of (record { state = OpenSent; remote_as = peering.config.remote_as; offered = b; wide = false }) f)) offered
-      ∙ sym (ap (λ (o : Option (List ℕ × List ℕ)). opened_by peering o) (ap frame_at e ∙ frame rest))
+      ∙ sym (ap (λ (o : Option (List ℕ × List ℕ)). open_at_front peering o) (ap frame_at e ∙ frame rest))
 
   same_expected : (o u : Option open_type.OpenMsg) → o ≡ u
       → ◌≡◌ {A = Expected} (record { state = Established; remote_as = own.remote_as; offered = offers own.first; wide = both_offer own.first o })
@@ -91,10 +91,10 @@ module _ (peering : PeeringSetup) where
               let front : said ≡ f ++ (flat_map (λ x. x) fs ++ rest) =
               is ∙ ap (λ (xs : List ℕ). xs ++ rest) (joined lines ∙ ap (λ (xs : List (List ℕ)). flat_map (λ x. x) xs) e)
               ∙ append_assoc f (flat_map (λ x. x) fs) rest in
-              let same : got_open own lines ≡ opened_by peering (frame_at said) =
+              let same : got_open own lines ≡ open_at_front peering (frame_at said) =
               open_gots own lines ∙ ap (open_of own) e ∙ first_open f said (flat_map (λ x. x) fs ++ rest) frame.0 front fs in
               subst (λ (x : Expected). AllByRecursion (Announces Q x) (gots lines))
-              (sym (same_expected (got_open own lines) (opened_by peering (frame_at said)) same))
+              (sym (same_expected (got_open own lines) (open_at_front peering (frame_at said)) same))
               got_announce
 
     -- what a session heard, which got the first bytes of these, has it

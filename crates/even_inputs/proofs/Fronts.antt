@@ -74,9 +74,6 @@ in_front fs rest whole =
 pub at_end : (bytes : List ℕ) → frame_at bytes ≡ None → fronts_in bytes ≡ faulty_front bytes
 at_end bytes none = ap (λ (x : List (List ℕ) × List ℕ). x.0 ++ faulty_front x.1) (many_none frame_at bytes none)
 
-some_frame : (x : List ℕ × List ℕ) → ◌≡◌ {A = Option (List ℕ × List ℕ)} None (Some x) → ⊥
-some_frame x e = absurd cc
-
 no_faulty : (rest : List ℕ) → BeginsNothing rest → faulty_front rest ≡ []
 no_faulty rest nothing = by_test (leb 19 (length rest) && is_some (header_fault rest)) refl where
   by_test : (b : Bool) → (leb 19 (length rest) && is_some (header_fault rest)) ≡ b → cond b (take 19 rest ∷ []) [] ≡ []

@@ -25,8 +25,8 @@ use Rattle.graft_laws.specs.Keeps.{Reached}
 use Rattle.graft_laws.proofs.First.{some_peering}
 use Rattle.graft_laws.proofs.Lists.{all_front, all_back, all_join}
 use Rattle.even_meshes.specs.Meshes as meshes
-use Rattle.even_meshes.specs.Worlds.{mesh_of}
-use Rattle.one_answer.specs.Settled.{said_in, HasNoTimer, IsSettled}
+use Rattle.even_meshes.specs.Worlds.{prefix_mesh}
+use Rattle.one_answer.specs.Settled.{said_in_all, HasNoTimer, IsSettled}
 use Rattle.one_answer.proofs.Held.{Held, held}
 use Rattle.one_answer.proofs.Joined.{all_in}
 use Rattle.even_inputs.specs.Announced.{updates_of, announced_by}
@@ -123,14 +123,14 @@ module _ (setup : Setup) (even : is_even setup ≡ true) where
         abbrev route : SessionRoute
         route = session_route setup r has.session prefix
 
-        brought_even : IfSome (meshes.brought (mesh_of setup w prefix) route) IsEvenly
+        brought_even : IfSome (meshes.session_brings (prefix_mesh setup w prefix) route) IsEvenly
         brought_even = of_route route (imported setup.home_as prefix route route.heard) (by_heard (finmap.get has.session.heard prefix) refl)
           where
             by_heard : (o : Option Attrs) → finmap.get has.session.heard prefix ≡ o
                 → IfSome (option_map (med_of setup.home_as prefix) (imported setup.home_as prefix route o)) IsFirst
             by_heard None e = tt
             by_heard (Some attrs) e = imported_first peering attrs
-                (heard_has peering (AreFirst peering) (said_in setup p peering) (announced_firsts p peering is)
+                (heard_has peering (AreFirst peering) (said_in_all setup p peering) (announced_firsts p peering is)
                 has.session.story (state has.session) has.reads.all.rest
                 (allowed_of (peering_of peering.config) has.session.story (state has.session) has.reads.legal) has.reads.all.is
                 prefix attrs (ap (λ t. finmap.get t prefix) (sym has.heard) ∙ e)) r l route
@@ -140,30 +140,30 @@ module _ (setup : Setup) (even : is_even setup ≡ true) where
         routes_at place = map (λ session. session_route setup r session prefix) (sessions_at place)
 
         -- the session is there, or none is
-        place_even : AllByRecursion (λ s. IfSome (meshes.brought (mesh_of setup w prefix) s) IsEvenly) (routes_at ((w.router r).places p))
+        place_even : AllByRecursion (λ s. IfSome (meshes.session_brings (prefix_mesh setup w prefix) s) IsEvenly) (routes_at ((w.router r).places p))
         place_even = by_place (cases_eq r (placement setup w.operator p)) where
           by_place : (r ≡ placement setup w.operator p) ⊎ (r ≢ placement setup w.operator p)
-              → AllByRecursion (λ s. IfSome (meshes.brought (mesh_of setup w prefix) s) IsEvenly) (routes_at ((w.router r).places p))
-          by_place (inl e) = subst (λ (place : Place). AllByRecursion (λ s. IfSome (meshes.brought (mesh_of setup w prefix) s) IsEvenly) (routes_at place))
+              → AllByRecursion (λ s. IfSome (meshes.session_brings (prefix_mesh setup w prefix) s) IsEvenly) (routes_at ((w.router r).places p))
+          by_place (inl e) = subst (λ (place : Place). AllByRecursion (λ s. IfSome (meshes.session_brings (prefix_mesh setup w prefix) s) IsEvenly) (routes_at place))
               (sym (ap (λ (q : ℕ). (w.router q).places p) e ∙ has.here)) (brought_even, tt)
-          by_place (inr ne) = subst (λ (place : Place). AllByRecursion (λ s. IfSome (meshes.brought (mesh_of setup w prefix) s) IsEvenly) (routes_at place))
+          by_place (inr ne) = subst (λ (place : Place). AllByRecursion (λ s. IfSome (meshes.session_brings (prefix_mesh setup w prefix) s) IsEvenly) (routes_at place))
               (sym (has.elsewhere r l ne)) tt
 
       at_each : (r : ℕ) → r < routers_in setup → (p : ℕ) → p < peerings_in setup
-          → AllByRecursion (λ s. IfSome (meshes.brought (mesh_of setup w prefix) s) IsEvenly)
+          → AllByRecursion (λ s. IfSome (meshes.session_brings (prefix_mesh setup w prefix) s) IsEvenly)
           (map (λ session. session_route setup r session prefix) (sessions_at ((w.router r).places p)))
       at_each r l p m = let some = some_peering setup p m in place_even p some.0 m some.1 r l
 
       sessions_even : (r : ℕ) → r < routers_in setup
-          → AllByRecursion IsEvenly (filter_map (meshes.brought (mesh_of setup w prefix)) (session_routes setup w r prefix))
-      sessions_even r l = given_all IsEvenly (meshes.brought (mesh_of setup w prefix)) (session_routes setup w r prefix)
+          → AllByRecursion IsEvenly (filter_map (meshes.session_brings (prefix_mesh setup w prefix)) (session_routes setup w r prefix))
+      sessions_even r l = given_all IsEvenly (meshes.session_brings (prefix_mesh setup w prefix)) (session_routes setup w r prefix)
           (flat_all _ _ (peering_numbers setup) (all_in _ 0 (peerings_in setup) (λ p m. at_each r l p (omega (arith, m)))))
 
-      pub base_even : (r : ℕ) → r < routers_in setup → AllByRecursion IsEvenly (meshes.base (mesh_of setup w prefix) r)
+      pub base_even : (r : ℕ) → r < routers_in setup → AllByRecursion IsEvenly (meshes.candidates_alone (prefix_mesh setup w prefix) r)
       base_even r l = all_join IsEvenly (own_candidates setup.home_as (has_network setup r prefix)) _
           (own_even r (has_network setup r prefix) refl) (sessions_even r l)
 
-      pub even_then : meshes.IsEven (mesh_of setup w prefix)
+      pub even_then : meshes.IsEven (prefix_mesh setup w prefix)
       even_then = record {
         med = λ neighbour. first_med (meds_in setup) prefix neighbour;
         each = all_in _ 0 (routers_in setup) (λ r l. base_even r (omega (arith, l)));

@@ -128,7 +128,8 @@ module _ (Q : PrefixValue × Attrs → Type 0) where
   abbrev pub Announces : Expected → List ℕ → Type 0
   Announces e frame = IfSome (update_in (message_of e frame)) (λ u. AllByRecursion Q (announced_by u))
 
-  hears_in : (e : Expected) (routes : Routes) (lines : List Line) → HasIn routes → AllByRecursion (Announces e) (gots lines) → HasIn (fold (hear e) routes lines)
+  hears_in : (e : Expected) (routes : Routes) (lines : List Line) → HasIn routes → AllByRecursion (Announces e) (gots lines)
+      → HasIn (fold (hear e) routes lines)
   hears_in e routes [] all new = all
   hears_in e routes (Put _ ∷ lines) all new = hears_in e routes lines all new
   hears_in e routes (Got bytes ∷ lines) all new =

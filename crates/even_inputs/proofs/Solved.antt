@@ -23,12 +23,12 @@ use Rattle.graft_laws.specs.Keeps.{Reached}
 use Rattle.graft_laws.proofs.QuietSolves.{quiet_solves_is}
 use Rattle.even_meshes.specs.Meshes as meshes
 use Rattle.even_meshes.proofs.Solutions.{one_solution}
-use Rattle.one_answer.specs.Settled.{said_in, HasNoTimer, IsSettled}
+use Rattle.one_answer.specs.Settled.{said_in_all, HasNoTimer, IsSettled}
 use Rattle.one_answer.proofs.Held.{Held, held}
 use Rattle.one_answer.proofs.Joined.{all_in, route_by}
 use Rattle.even_inputs.specs.Evenness.{meds_in, first_med, is_even}
 use Rattle.even_inputs.specs.Readings.{Reading}
-use Rattle.even_inputs.specs.Solutions.{reading_in, read_route, mesh_placed, solution_of, HasRead, IsTheSolution}
+use Rattle.even_inputs.specs.Solutions.{reading_in, read_route, mesh_placed, solution_of, IsLiveAsRead, IsTheSolution}
 use Rattle.even_inputs.proofs.Lists.{at_below, flat_by_number}
 use Rattle.even_inputs.proofs.AllRead.{told_by, reads_all}
 use Rattle.even_inputs.proofs.Joined.{base_even}
@@ -49,9 +49,9 @@ module _ (setup : Setup) (w : World) (ok : IsSetup setup) (timer : HasNoTimer se
         in_list (x ∷ xs) (suc n) e = let l = in_list xs n e in omega (arith, l)
 
     read : reading_in setup (p, peering) ≡ told_by peering has.session.story (state has.session)
-    read = reads_all peering (said_in setup p peering) has.session.story (state has.session) has.reads
+    read = reads_all peering (said_in_all setup p peering) has.session.story (state has.session) has.reads
 
-    has_read : HasRead setup w (placed p) p peering
+    has_read : IsLiveAsRead setup w (placed p) p peering
     has_read = record {
       session = has.session;
       here = has.here;
@@ -85,7 +85,7 @@ module _ (setup : Setup) (w : World) (ok : IsSetup setup) (timer : HasNoTimer se
   -- ---- tables
 
   module _ (even : is_even setup ≡ true) (prefix : PrefixValue) where
-    abbrev mesh : meshes.Mesh
+    abbrev mesh : meshes.PrefixMesh
     mesh = mesh_placed setup placed prefix
 
     -- what sessions bring in is what the script gives for their places
@@ -102,9 +102,9 @@ module _ (setup : Setup) (w : World) (ok : IsSetup setup) (timer : HasNoTimer se
       each = all_in _ 0 (routers_in setup) (λ r l. at_router r (omega (arith, l)));
     }
       where
-        at_router : (r : ℕ) → r < routers_in setup → AllByRecursion IsEvenly (meshes.base mesh r)
+        at_router : (r : ℕ) → r < routers_in setup → AllByRecursion IsEvenly (meshes.candidates_alone mesh r)
         at_router r l = subst (λ (sessions : List SessionRoute). AllByRecursion IsEvenly
-            (own_candidates setup.home_as (has_network setup r prefix) ++ filter_map (meshes.brought mesh) sessions)) (routes_placed r l)
+            (own_candidates setup.home_as (has_network setup r prefix) ++ filter_map (meshes.session_brings mesh) sessions)) (routes_placed r l)
             (base_even setup even prefix w ok timer reached settled r l)
 
     abbrev best : ℕ → Option Best
@@ -113,7 +113,7 @@ module _ (setup : Setup) (w : World) (ok : IsSetup setup) (timer : HasNoTimer se
     solves : claims.Solves setup w
     solves = quiet_solves_is setup w ok reached settled.quiet
 
-    solves_placed : meshes.Solves mesh best
+    solves_placed : meshes.SolvesMesh mesh best
     solves_placed = all_in _ 0 (routers_in setup) (λ r l. at_router r (omega (arith, l)))
       where
         at_router : (r : ℕ) → r < routers_in setup → best r ≡ meshes.decided mesh (λ q. tell_in (best q)) r

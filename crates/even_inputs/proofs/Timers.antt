@@ -11,8 +11,8 @@ use Rattle.bgp_types.specs.Header.{frame_at, header_fault}
 use Rattle.bgp_types.proofs.FrameLaws.{front_frame}
 use Rattle.bgp_story.specs.Legal.{IsGot, open_in}
 use Rattle.graft_model.specs.Setups.{Setup, PeeringSetup, beat_of}
-use Rattle.one_answer.specs.Settled.{said_in, HasNoTimer}
-use Rattle.even_inputs.specs.Announced.{opened_by}
+use Rattle.one_answer.specs.Settled.{said_in_all, HasNoTimer}
+use Rattle.even_inputs.specs.Announced.{open_at_front}
 use Rattle.even_inputs.specs.Timers.{hold_offered, has_no_timer_on, has_no_timer}
 use Rattle.even_inputs.proofs.Lists.{both, all_true, at_number}
 
@@ -40,19 +40,19 @@ module _ (peering : PeeringSetup) where
   offers_first : (said front rest : List ℕ) (opened : open_type.OpenMsg) → said ≡ front ++ rest → IsGot front
       → open_in (message_of at_first front) ≡ Some opened → hold_offered peering said ≡ opened.hold
   offers_first said front rest opened is (inl whole) e =
-      ap (λ (o : Option (List ℕ × List ℕ)). hold_in (opened_by peering o)) (ap frame_at is ∙ (front_frame front (front, []) whole).1 rest)
+      ap (λ (o : Option (List ℕ × List ℕ)). hold_in (open_at_front peering o)) (ap frame_at is ∙ (front_frame front (front, []) whole).1 rest)
       ∙ ap hold_in e
   offers_first said front rest opened is (inr fault) e = absurd (none_is_some opened (sym (no_open at_first front fault.1) ∙ e))
 
 module _ (setup : Setup) (none : has_no_timer setup ≡ true) where
   on : (p : ℕ) (peering : PeeringSetup) → slice_get setup.peerings p ≡ Some peering
-      → ((min peering.config.home_hold (hold_offered peering (said_in setup p peering)) == 0) ≡ true) × ((beat_of peering == 0) ≡ true)
+      → ((min peering.config.home_hold (hold_offered peering (said_in_all setup p peering)) == 0) ≡ true) × ((beat_of peering == 0) ≡ true)
   on p peering is = both _ _ (at_number (λ (x : ℕ × PeeringSetup). has_no_timer_on setup x ≡ true) setup.peerings p peering (all_true _ _ none) is)
 
   pub no_timer : HasNoTimer setup
   no_timer = record {
     holds = λ p peering front rest opened is said got opens.
-        ap (λ (h : ℕ). min peering.config.home_hold h) (sym (offers_first peering (said_in setup p peering) front rest opened said got opens))
+        ap (λ (h : ℕ). min peering.config.home_hold h) (sym (offers_first peering (said_in_all setup p peering) front rest opened said got opens))
         ∙ eqb-true _ _ (on p peering is).0;
     beats = λ p peering is. eqb-true _ _ (on p peering is).1;
   }

@@ -14,12 +14,12 @@ use Rattle.bgp_story.specs.Legal.{open_in, both_offer}
 use Rattle.bgp_story.specs.Readings.{update_in}
 use Rattle.session_value.specs.Sessions.{peering_of}
 use Rattle.graft_model.specs.Setups.{Setup, PeeringSetup}
-use Rattle.one_answer.specs.Settled.{said_in}
+use Rattle.one_answer.specs.Settled.{said_in_all}
 
 -- the OPEN at the front of what a remote says, where a sound one stands there
-abbrev pub opened_by : PeeringSetup → Option (List ℕ × List ℕ) → Option open_type.OpenMsg
-opened_by peering None = None
-opened_by peering (Some front) =
+abbrev pub open_at_front : PeeringSetup → Option (List ℕ × List ℕ) → Option open_type.OpenMsg
+open_at_front peering None = None
+open_at_front peering (Some front) =
     open_in (message_of (record { state = OpenSent; remote_as = peering.config.remote_as; offered = peering.config.offered; wide = false }) front.0)
 
 -- As what the messages of a remote that says these bytes are read, once its session is established: with AS numbers of four octets where the OPENs of
@@ -29,7 +29,7 @@ established peering said = record {
   state = Established;
   remote_as = peering.config.remote_as;
   offered = peering.config.offered;
-  wide = both_offer (peering_of peering.config).first (opened_by peering (frame_at said));
+  wide = both_offer (peering_of peering.config).first (open_at_front peering (frame_at said));
 }
 
 -- the UPDATEs among the messages in these bytes, up to a faulty header
@@ -38,7 +38,7 @@ updates_in peering said = filter_map (λ frame. update_in (message_of (establish
 
 -- the UPDATEs among all that a remote says over the script
 abbrev pub updates_of : Setup → ℕ → PeeringSetup → List Update
-updates_of setup p peering = updates_in peering (said_in setup p peering)
+updates_of setup p peering = updates_in peering (said_in_all setup p peering)
 
 abbrev pub with_attrs : List PrefixValue → Option Attrs → List (PrefixValue × Attrs)
 with_attrs prefixes None = []

@@ -6,7 +6,7 @@ use Rattle.graft_model.specs.Parts.{World}
 use Rattle.graft_model.specs.OperatorRows.{placement}
 use Rattle.graft_laws.specs.Keeps.{Reached}
 use Rattle.even_meshes.specs.Meshes as meshes
-use Rattle.even_meshes.specs.Worlds.{mesh_of}
+use Rattle.even_meshes.specs.Worlds.{prefix_mesh}
 use Rattle.one_answer.specs.Settled.{IsSettled, HaveOneLog}
 use Rattle.even_inputs.specs.Evenness.{is_even}
 use Rattle.even_inputs.specs.Timers.{has_no_timer}
@@ -15,7 +15,7 @@ use Rattle.even_inputs.specs.Solutions.{IsTheSolution}
 -- Where no session has a timer, what the routers have by themselves when all is settled is even for each prefix.
 abbrev pub EvenLaboratoriesSettleEvenly : Type 0
 EvenLaboratoriesSettleEvenly = (setup : Setup) (w : World) (prefix : PrefixValue) → IsSetup setup → has_no_timer setup ≡ true → is_even setup ≡ true
-    → Reached setup w → IsSettled setup w → meshes.IsEven (mesh_of setup w prefix)
+    → Reached setup w → IsSettled setup w → meshes.IsEven (prefix_mesh setup w prefix)
 
 -- What became of the grafts tells where the sessions belong: in whatever other settled run in which the same became of each, they belong at the same routers.
 -- Where no session has a timer, and routes of one neighbour AS have one MED for each prefix, the tables and sessions are then those of the solution,

@@ -22,8 +22,8 @@ pub record Reading : Type 0 where
   pub heard : Routes
 
 -- a session that put its OPEN and got nothing
-abbrev pub unread : Reading
-unread = record { state = OpenSent; opened = None; heard = map.empty }
+abbrev pub nothing_read : Reading
+nothing_read = record { state = OpenSent; opened = None; heard = map.empty }
 
 -- as what its next message is read
 abbrev pub expected_by : PeeringSetup → Reading → Expected
@@ -68,4 +68,4 @@ fronts_in said = (many frame_at said).0 ++ faulty_front (many frame_at said).1
 
 -- Message by message, up to the end of the session.
 abbrev pub reading_of : PeeringSetup → List ℕ → Reading
-reading_of peering said = fold (read_next peering) unread (fronts_in said)
+reading_of peering said = fold (read_next peering) nothing_read (fronts_in said)

@@ -9,13 +9,13 @@ use Rattle.session_value.specs.Sessions.{SessionValue, state}
 use Rattle.graft_model.specs.Setups.{Setup, PeeringSetup, router_numbers, routers_in, identifier_of, cost_between, has_network, rules_for}
 use Rattle.graft_model.specs.Parts.{Live, World}
 use Rattle.graft_model.specs.OperatorRows.{placement}
-use Rattle.even_meshes.specs.Meshes.{Mesh, solution}
-use Rattle.one_answer.specs.Settled.{said_in}
+use Rattle.even_meshes.specs.Meshes.{PrefixMesh, solution}
+use Rattle.one_answer.specs.Settled.{said_in_all}
 use Rattle.even_inputs.specs.Readings.{Reading, reading_of}
 
 -- what a peering's session makes of all that its remote says over the script
 abbrev pub reading_in : Setup → ℕ × PeeringSetup → Reading
-reading_in setup p = reading_of p.1 (said_in setup p.0 p.1)
+reading_in setup p = reading_of p.1 (said_in_all setup p.0 p.1)
 
 -- what that session brings in at a router for a prefix
 abbrev pub read_route : Setup → ℕ → PrefixValue → ℕ × PeeringSetup → SessionRoute
@@ -29,7 +29,7 @@ read_route setup r prefix p = record {
 }
 
 -- The home routers and what they have by themselves for a prefix, where each peering's session is placed so.
-abbrev pub mesh_placed : Setup → (placed : ℕ → ℕ) → PrefixValue → Mesh
+abbrev pub mesh_placed : Setup → (placed : ℕ → ℕ) → PrefixValue → PrefixMesh
 mesh_placed setup placed prefix = record {
   home_as = setup.home_as;
   prefix = prefix;
@@ -45,7 +45,7 @@ abbrev pub solution_of : Setup → (placed : ℕ → ℕ) → (r : ℕ) → Pref
 solution_of setup placed r prefix = solution (mesh_placed setup placed prefix) r
 
 -- A peering's session is live at this router, in the state and with the routes that the reading of all that its remote says has.
-pub record HasRead (setup : Setup) (w : World) (r p : ℕ) (peering : PeeringSetup) : Type 0 where
+pub record IsLiveAsRead (setup : Setup) (w : World) (r p : ℕ) (peering : PeeringSetup) : Type 0 where
   pub session : SessionValue
   pub here : (w.router r).places p ≡ Live session None
   pub state_is : state session ≡ (reading_in setup (p, peering)).state
@@ -55,4 +55,4 @@ pub record HasRead (setup : Setup) (w : World) (r p : ℕ) (peering : PeeringSet
 pub record IsTheSolution (setup : Setup) (w : World) : Type 0 where
   pub best : (r : ℕ) (prefix : PrefixValue) → r < routers_in setup
       → finmap.get (w.router r).best prefix ≡ solution_of setup (placement setup w.operator) r prefix
-  pub sessions : (p : ℕ) (peering : PeeringSetup) → slice_get setup.peerings p ≡ Some peering → HasRead setup w (placement setup w.operator p) p peering
+  pub sessions : (p : ℕ) (peering : PeeringSetup) → slice_get setup.peerings p ≡ Some peering → IsLiveAsRead setup w (placement setup w.operator p) p peering

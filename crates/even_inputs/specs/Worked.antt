@@ -3,6 +3,7 @@ use Rattle.std.specs.Prelude.{ℕ, List, [], ◌∷◌, ◌++◌, Some, None, fa
 use Rattle.bgp_types.specs.Spelling.{framed}
 use Rattle.bgp_story.specs.WorkedSessions.{open_bytes, keepalive_bytes}
 use Rattle.route_policy.specs.declared.rule.Rule.{Rule}
+use Rattle.graft_model.specs.SmallWorlds.{config}
 use Rattle.graft_model.specs.Setups.{Setup, RouterSetup, PeeringSetup, SayStep, SettleStep}
 
 -- "in"
@@ -21,21 +22,7 @@ router identifier rules = record {
 abbrev pub peering : (number : ℕ) → PeeringSetup
 peering number = record {
   start = number;
-  config = record {
-    peering = record { 0 = number };
-    home_as = 65000;
-    identifier = 0x0AFF0001;
-    remote_as = 65001;
-    offered = false;
-    unicast = false;
-    home_hold = 0;
-    remote_address = 0xC0000201;
-    local_address = 0xC0000202;
-    send_first = record { 0 = 0 };
-    receive_first = record { 0 = 0 };
-    import = Some policy_name;
-    export = None;
-  };
+  config = record config { peering = record { 0 = number }; import = Some policy_name };
   opening = open_bytes ++ keepalive_bytes;
   hold = 180;
   beats = false;
@@ -63,8 +50,8 @@ abbrev pub of_eleven : (med : ℕ) → List ℕ
 of_eleven med = announces 0x0B 0xE9 med
 
 -- the laboratory in which the two remotes say these, under these rules
-abbrev pub laboratory : (first second : List ℕ) → List Rule → Setup
-laboratory first second rules = record {
+abbrev pub even_laboratory : (first second : List ℕ) → List Rule → Setup
+even_laboratory first second rules = record {
   home_as = 65000;
   routers = router 0x0AFF0001 rules ∷ router 0x0AFF0002 rules ∷ [];
   peerings = peering 0 ∷ peering 1 ∷ [];

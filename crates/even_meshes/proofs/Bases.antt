@@ -8,7 +8,7 @@ use Rattle.bgp_types.specs.declared.rank.Rank.{Rank}
 use Rattle.decision_core.specs.Search.{leads, in_turn, is_nearer}
 use Rattle.route_policy.specs.Candidates.{SessionRoute, RouterRoute, Candidate, own_candidates, router_candidate, imported, rank_of}
 use Rattle.route_policy.specs.Telling.{inside}
-use Rattle.even_meshes.specs.Meshes.{Mesh, brought, base, teller, rank_anywhere, beats, is_own_source}
+use Rattle.even_meshes.specs.Meshes.{PrefixMesh, session_brings, candidates_alone, teller, rank_anywhere, beats_before_med, is_own_source}
 use Rattle.even_meshes.proofs.Folds.{all_append}
 use Rattle.even_meshes.proofs.Choices.{better}
 
@@ -28,43 +28,44 @@ own_is_base home_as true =
     (record { outer = refl; own = refl; near = inl refl; pref = refl; path = grind arith; origin = refl; neighbour = refl; med = refl }, tt)
 own_is_base home_as false = tt
 
-one_more : (m : Mesh) (s : SessionRoute) (sessions : List SessionRoute) (o : Option Route) → imported m.home_as m.prefix s s.heard ≡ o
-    → AllByRecursion (IsBase m.home_as) (filter_map (brought m) sessions) → AllByRecursion (IsBase m.home_as) (filter_map (brought m) (s ∷ sessions))
+one_more : (m : PrefixMesh) (s : SessionRoute) (sessions : List SessionRoute) (o : Option Route) → imported m.home_as m.prefix s s.heard ≡ o
+    → AllByRecursion (IsBase m.home_as) (filter_map (session_brings m) sessions)
+    → AllByRecursion (IsBase m.home_as) (filter_map (session_brings m) (s ∷ sessions))
 one_more m s sessions None e rest = rw e rest
 one_more m s sessions (Some route) e rest =
     rw e (record { outer = refl; own = refl; near = inr refl; pref = refl; path = refl; origin = refl; neighbour = refl; med = refl }, rest)
 
-sessions_are_base : (m : Mesh) (sessions : List SessionRoute) → AllByRecursion (IsBase m.home_as) (filter_map (brought m) sessions)
+sessions_are_base : (m : PrefixMesh) (sessions : List SessionRoute) → AllByRecursion (IsBase m.home_as) (filter_map (session_brings m) sessions)
 sessions_are_base m [] = tt
 sessions_are_base m (s ∷ sessions) = one_more m s sessions (imported m.home_as m.prefix s s.heard) refl (sessions_are_base m sessions)
 
-pub all_base : (m : Mesh) (r : ℕ) → AllByRecursion (IsBase m.home_as) (base m r)
-all_base m r = all_append (IsBase m.home_as) (own_candidates m.home_as (m.has_network r)) (filter_map (brought m) (m.sessions r))
+pub all_base : (m : PrefixMesh) (r : ℕ) → AllByRecursion (IsBase m.home_as) (candidates_alone m r)
+all_base m r = all_append (IsBase m.home_as) (own_candidates m.home_as (m.has_network r)) (filter_map (session_brings m) (m.sessions r))
     (own_is_base m.home_as (m.has_network r)) (sessions_are_base m (m.sessions r))
 
 -- ---- what is heard
 
 -- the candidate of a route that router q tells router r
-abbrev pub told_by : Mesh → ℕ → ℕ → Route → Candidate
+abbrev pub told_by : PrefixMesh → ℕ → ℕ → Route → Candidate
 told_by m r q route =
     (record { from = Router (record { 0 = q }); route = route }, rank_of m.home_as false (m.cost r q) (m.identifier q) (m.identifier q) route)
 
 -- the candidates that tellers make
-abbrev pub from_tellers : Mesh → List RouterRoute → List Candidate
+abbrev pub from_tellers : PrefixMesh → List RouterRoute → List Candidate
 from_tellers m ts = filter_map (λ t. router_candidate m.home_as t t.told) ts
 
 -- those of these routers that aren't r, as tellers
-abbrev pub others : Mesh → (ℕ → Option Route) → ℕ → List ℕ → List RouterRoute
+abbrev pub others : PrefixMesh → (ℕ → Option Route) → ℕ → List ℕ → List RouterRoute
 others m told r qs = map (teller m told r) (filter (λ q. not (q == r)) qs)
 
 -- one more of them, if it isn't r
-abbrev and_other : Mesh → (ℕ → Option Route) → ℕ → ℕ → List ℕ → Bool → List RouterRoute
+abbrev and_other : PrefixMesh → (ℕ → Option Route) → ℕ → ℕ → List ℕ → Bool → List RouterRoute
 and_other m told r q qs b = map (teller m told r) (cond b (q ∷ filter (λ q. not (q == r)) qs) (filter (λ q. not (q == r)) qs))
 
-abbrev pub heard : Mesh → (ℕ → Option Route) → ℕ → List ℕ → List Candidate
+abbrev pub heard : PrefixMesh → (ℕ → Option Route) → ℕ → List ℕ → List Candidate
 heard m told r qs = from_tellers m (others m told r qs)
 
-module _ (P : Candidate → Type 0) (m : Mesh) (told : ℕ → Option Route) (r : ℕ) where
+module _ (P : Candidate → Type 0) (m : PrefixMesh) (told : ℕ → Option Route) (r : ℕ) where
   -- this holds of what a router tells, if anything
   abbrev pub OfTold : ℕ → Type 0
   OfTold q = (route : Route) → told q ≡ Some route → P (told_by m r q route)
@@ -84,11 +85,11 @@ module _ (P : Candidate → Type 0) (m : Mesh) (told : ℕ → Option Route) (r 
   heard_all (q ∷ qs) h = heard_more q qs (not (q == r)) h.0 (heard_all qs h.1)
 
 -- whether what is told passes a test
-abbrev pub hits : (Candidate → Bool) → Mesh → ℕ → ℕ → Option Route → Bool
+abbrev pub hits : (Candidate → Bool) → PrefixMesh → ℕ → ℕ → Option Route → Bool
 hits p m r q None = false
 hits p m r q (Some route) = p (told_by m r q route)
 
-module _ (p : Candidate → Bool) (m : Mesh) (told : ℕ → Option Route) (r : ℕ) where
+module _ (p : Candidate → Bool) (m : PrefixMesh) (told : ℕ → Option Route) (r : ℕ) where
   -- whether what a router tells r passes it
   abbrev pub hit : ℕ → Bool
   hit q = not (q == r) && hits p m r q (told q)
@@ -108,7 +109,7 @@ module _ (p : Candidate → Bool) (m : Mesh) (told : ℕ → Option Route) (r : 
   heard_any (q ∷ qs) = any_cond q qs (not (q == r)) ∙ ap (λ b. hit q || b) (heard_any qs)
 
 -- only what routers tell counts
-module _ (m : Mesh) (told other : ℕ → Option Route) (r : ℕ) where
+module _ (m : PrefixMesh) (told other : ℕ → Option Route) (r : ℕ) where
   same_more : (q : ℕ) (qs : List ℕ) (b : Bool) → told q ≡ other q → others m told r qs ≡ others m other r qs
       → and_other m told r q qs b ≡ and_other m other r q qs b
   same_more q qs true e k =
@@ -133,15 +134,15 @@ near_wins : (y x : Rank) → y.external ≡ false → x.external ≡ true → in
 near_wins y x h k = grind (arith, h, k)
 
 -- A told route is better than one that a router has by itself exactly where that isn't own, and is beaten.
-pub better_told : (m : Mesh) (r q : ℕ) (route : Route) (x : Candidate) → IsBase m.home_as x
-    → better (told_by m r q route) x ≡ (not x.1.own && beats m.home_as route x.0.route)
+pub better_told : (m : PrefixMesh) (r q : ℕ) (route : Route) (x : Candidate) → IsBase m.home_as x
+    → better (told_by m r q route) x ≡ (not x.1.own && beats_before_med m.home_as route x.0.route)
 better_told m r q route x b = by_own x.1.own refl
   where
-    by_own : (own : Bool) → x.1.own ≡ own → better (told_by m r q route) x ≡ (not x.1.own && beats m.home_as route x.0.route)
-    by_own true e = own_wins (told_by m r q route).1 x.1 refl e ∙ ap (λ t. not t && beats m.home_as route x.0.route) (sym e)
+    by_own : (own : Bool) → x.1.own ≡ own → better (told_by m r q route) x ≡ (not x.1.own && beats_before_med m.home_as route x.0.route)
+    by_own true e = own_wins (told_by m r q route).1 x.1 refl e ∙ ap (λ t. not t && beats_before_med m.home_as route x.0.route) (sym e)
     by_own false e =
         let external : x.1.external ≡ true = elim b.near [ inl h ↦ absurd (let z : true ≡ false = sym h ∙ e in cc) | inr h ↦ h ] in
         near_wins (told_by m r q route).1 x.1 refl external
         ∙ leads_as (told_by m r q route).1 x.1 (rank_anywhere m.home_as route) (rank_anywhere m.home_as x.0.route)
         refl refl refl refl e b.pref b.path b.origin
-        ∙ ap (λ t. not t && beats m.home_as route x.0.route) (sym e)
+        ∙ ap (λ t. not t && beats_before_med m.home_as route x.0.route) (sym e)

@@ -3,7 +3,7 @@ use Rattle.std.proofs.Common.{◌≡◌, ◌≢◌, ℕ, refl, sym, ap, ◌∙�
 use Rattle.std.specs.Prelude.{Option, Some, None, unwrap_or}
 use Rattle.decision_core.specs.Choice.{choice, left_of, keep}
 use Rattle.route_policy.specs.declared.best.Best.{Best}
-use Rattle.even_meshes.specs.Meshes.{Solves, IsEven}
+use Rattle.even_meshes.specs.Meshes.{SolvesMesh, IsEven}
 use Rattle.even_meshes.specs.Worked.{crossed, one_way, other_way}
 
 -- the routes of AS 1 have MED 0 at one router, and MED 1 at the other
@@ -14,11 +14,11 @@ crossed_uneven even =
     let same : ◌≡◌ {A = ℕ} 0 1 = at_first ∙ sym at_second in
     absurd cc
 
-pub one_solves : Solves crossed one_way
+pub one_solves : SolvesMesh crossed one_way
 unfolding choice left_of keep
 one_solves = (refl, (refl, tt))
 
-pub other_solves : Solves crossed other_way
+pub other_solves : SolvesMesh crossed other_way
 unfolding choice left_of keep
 other_solves = (refl, (refl, tt))
 

@@ -12,8 +12,8 @@ use Rattle.route_policy.specs.Telling.{tell_in}
 use Rattle.graft_model.specs.Setups.{Setup, routers_in, router_numbers}
 use Rattle.graft_model.specs.Parts.{World}
 use Rattle.graft_model.specs.Claims as claims
-use Rattle.even_meshes.specs.Meshes.{tellers, decided, Solves, IsEven, solution}
-use Rattle.even_meshes.specs.Worlds.{mesh_of}
+use Rattle.even_meshes.specs.Meshes.{tellers, decided, SolvesMesh, IsEven, solution}
+use Rattle.even_meshes.specs.Worlds.{prefix_mesh}
 use Rattle.even_meshes.proofs.Solutions.{one_solution}
 
 -- what holds of each number of a range holds by recursion, and back
@@ -41,26 +41,26 @@ module _ (setup : Setup) (prefix : PrefixValue) where
   abbrev told_in : World → ℕ → Option Route
   told_in w r = tell_in (best_in w r)
 
-  pub settled : (w : World) (r : ℕ) → r < routers_in setup → claims.Solves setup w → IsEven (mesh_of setup w prefix)
-      → best_in w r ≡ solution (mesh_of setup w prefix) r
-  settled w r l s even = at_router setup (λ q. best_in w q ≡ solution (mesh_of setup w prefix) q) r
-      (one_solution (mesh_of setup w prefix) (best_in w) even
-      (all_routers setup (λ q. best_in w q ≡ decided (mesh_of setup w prefix) (told_in w) q) (λ q m. s.best q prefix m))) l
+  pub settled : (w : World) (r : ℕ) → r < routers_in setup → claims.Solves setup w → IsEven (prefix_mesh setup w prefix)
+      → best_in w r ≡ solution (prefix_mesh setup w prefix) r
+  settled w r l s even = at_router setup (λ q. best_in w q ≡ solution (prefix_mesh setup w prefix) q) r
+      (one_solution (prefix_mesh setup w prefix) (best_in w) even
+      (all_routers setup (λ q. best_in w q ≡ decided (prefix_mesh setup w prefix) (told_in w) q) (λ q m. s.best q prefix m))) l
 
   -- the tables of one world solve the mesh of another one that has the same sessions
   solves_other : (w v : World) → claims.Solves setup v
-      → ((r : ℕ) → r < routers_in setup → (mesh_of setup v prefix).sessions r ≡ (mesh_of setup w prefix).sessions r)
-      → Solves (mesh_of setup w prefix) (best_in v)
-  solves_other w v s same = all_routers setup (λ q. best_in v q ≡ decided (mesh_of setup w prefix) (told_in v) q) (λ q l. s.best q prefix l ∙ moved q l)
+      → ((r : ℕ) → r < routers_in setup → (prefix_mesh setup v prefix).sessions r ≡ (prefix_mesh setup w prefix).sessions r)
+      → SolvesMesh (prefix_mesh setup w prefix) (best_in v)
+  solves_other w v s same = all_routers setup (λ q. best_in v q ≡ decided (prefix_mesh setup w prefix) (told_in v) q) (λ q l. s.best q prefix l ∙ moved q l)
     where
-      moved : (q : ℕ) → q < routers_in setup → decided (mesh_of setup v prefix) (told_in v) q ≡ decided (mesh_of setup w prefix) (told_in v) q
-      moved q l = ap (λ sessions. choice (candidates setup.home_as prefix ((mesh_of setup w prefix).has_network q) sessions
-          (tellers (mesh_of setup w prefix) (told_in v) q))) (same q l)
+      moved : (q : ℕ) → q < routers_in setup → decided (prefix_mesh setup v prefix) (told_in v) q ≡ decided (prefix_mesh setup w prefix) (told_in v) q
+      moved q l = ap (λ sessions. choice (candidates setup.home_as prefix ((prefix_mesh setup w prefix).has_network q) sessions
+          (tellers (prefix_mesh setup w prefix) (told_in v) q))) (same q l)
 
-  pub equal_tables : (w v : World) → claims.Solves setup w → claims.Solves setup v → IsEven (mesh_of setup w prefix)
-      → ((r : ℕ) → r < routers_in setup → (mesh_of setup v prefix).sessions r ≡ (mesh_of setup w prefix).sessions r)
+  pub equal_tables : (w v : World) → claims.Solves setup w → claims.Solves setup v → IsEven (prefix_mesh setup w prefix)
+      → ((r : ℕ) → r < routers_in setup → (prefix_mesh setup v prefix).sessions r ≡ (prefix_mesh setup w prefix).sessions r)
       → (r : ℕ) → r < routers_in setup → best_in v r ≡ best_in w r
   equal_tables w v s t even same r l =
-      at_router setup (λ q. best_in v q ≡ solution (mesh_of setup w prefix) q) r
-      (one_solution (mesh_of setup w prefix) (best_in v) even (solves_other w v t same)) l
+      at_router setup (λ q. best_in v q ≡ solution (prefix_mesh setup w prefix) q) r
+      (one_solution (prefix_mesh setup w prefix) (best_in v) even (solves_other w v t same)) l
       ∙ sym (settled w r l s even)

@@ -7,14 +7,14 @@ use Rattle.decision_core.specs.Choice.{choice}
 use Rattle.route_policy.specs.declared.best.Best.{Best}
 use Rattle.route_policy.specs.Candidates.{candidates}
 use Rattle.route_policy.specs.Telling.{inside, tell_in}
-use Rattle.even_meshes.specs.Meshes.{Mesh, base, decided, is_own_source, is_leader, first_of, leader_route, solution, IsEven, Solves}
+use Rattle.even_meshes.specs.Meshes.{PrefixMesh, candidates_alone, decided, is_own_source, is_leader, choice_alone, leader_route, solution, IsEven, SolvesMesh}
 use Rattle.even_meshes.proofs.Folds.{IfAny, all_append, all_imply, all_each, all_both}
 use Rattle.even_meshes.proofs.Choices.{choice_all}
 use Rattle.even_meshes.proofs.Bases.{IsBase, all_base, OfTold, heard_all, tellers_same}
 use Rattle.even_meshes.proofs.Leaders.{none_some, same_some, lead_first, beaten, HasEvenBase, IsEvenRoute, IsFirst, even_base, hears}
 use Rattle.even_meshes.proofs.Leaders.{Decides, TellsEven, TellsFirst, TellsLeast, first_or_nothing, least_told, tells_as_leader}
 
-module _ (m : Mesh) (even : IsEven m) where
+module _ (m : PrefixMesh) (even : IsEven m) where
   -- what a router chooses depends on the others only through what they tell
   decided_same : (told other : ℕ → Option Route) → AllByRecursion (λ q. told q ≡ other q) m.routers → (r : ℕ) → decided m told r ≡ decided m other r
   decided_same told other h r =
@@ -22,7 +22,7 @@ module _ (m : Mesh) (even : IsEven m) where
 
   -- ---- best routes that solve
 
-  module _ (best : ℕ → Option Best) (solves : Solves m best) where
+  module _ (best : ℕ → Option Best) (solves : SolvesMesh m best) where
     abbrev told : ℕ → Option Route
     told q = tell_in (best q)
 
@@ -39,9 +39,9 @@ module _ (m : Mesh) (even : IsEven m) where
     would_be : (b : Best) → inside b.from b.route ≡ Some b.route → IsEvenRoute m even b.route → WouldBeEven b
     would_be b outer e route d = subst (IsEvenRoute m even) (same_some b.route route (sym outer ∙ d)) e
 
-    base_would : (q : ℕ) → HasEvenBase m even q → AllByRecursion (λ c. WouldBeEven c.0) (base m q)
-    base_would q h = all_imply (λ c. IsBase m.home_as c × IsEvenRoute m even c.0.route) (λ c. WouldBeEven c.0) (λ c k. would_be c.0 k.0.outer k.1) (base m q)
-        (all_both (IsBase m.home_as) (λ c. IsEvenRoute m even c.0.route) (base m q) (all_base m q) (even_base m even (base m q) (all_base m q) h))
+    base_would : (q : ℕ) → HasEvenBase m even q → AllByRecursion (λ c. WouldBeEven c.0) (candidates_alone m q)
+    base_would q h = all_imply (λ c. IsBase m.home_as c × IsEvenRoute m even c.0.route) (λ c. WouldBeEven c.0) (λ c k. would_be c.0 k.0.outer k.1) (candidates_alone m q)
+        (all_both (IsBase m.home_as) (λ c. IsEvenRoute m even c.0.route) (candidates_alone m q) (all_base m q) (even_base m even (candidates_alone m q) (all_base m q) h))
 
     hears_would : (q : ℕ) → AllByRecursion (λ c. WouldBeEven c.0) (hears m even told best q)
     hears_would q = heard_all (λ c. WouldBeEven c.0) m told q m.routers
@@ -51,8 +51,8 @@ module _ (m : Mesh) (even : IsEven m) where
     tells_even q s route e = at_best (best q) refl
       where
         chosen : IfAny WouldBeEven (best q)
-        chosen = subst (IfAny WouldBeEven) (sym s.1) (choice_all WouldBeEven (base m q ++ hears m even told best q)
-            (all_append (λ c. WouldBeEven c.0) (base m q) (hears m even told best q) (base_would q s.0) (hears_would q)))
+        chosen = subst (IfAny WouldBeEven) (sym s.1) (choice_all WouldBeEven (candidates_alone m q ++ hears m even told best q)
+            (all_append (λ c. WouldBeEven c.0) (candidates_alone m q) (hears m even told best q) (base_would q s.0) (hears_would q)))
 
         at_best : (o : Option Best) → best q ≡ o → IsEvenRoute m even route
         at_best None b = absurd (none_some route (ap tell_in (sym b) ∙ e))
@@ -67,23 +67,23 @@ module _ (m : Mesh) (even : IsEven m) where
     least : AllByRecursion (TellsLeast m even told best) m.routers
     least = all_imply Sound (TellsLeast m even told best) (least_told m even told best evenly firsts) m.routers sound
 
-    tell_as_leaders : AllByRecursion (λ r. tell_in (best r) ≡ leader_route m (first_of m r)) m.routers
-    tell_as_leaders = all_imply Sound (λ r. tell_in (best r) ≡ leader_route m (first_of m r))
+    tell_as_leaders : AllByRecursion (λ r. tell_in (best r) ≡ leader_route m (choice_alone m r)) m.routers
+    tell_as_leaders = all_imply Sound (λ r. tell_in (best r) ≡ leader_route m (choice_alone m r))
         (tells_as_leader m even told best evenly firsts least) m.routers sound
 
     are_solution : AllByRecursion (λ r. best r ≡ solution m r) m.routers
     are_solution = all_imply Sound (λ r. best r ≡ solution m r)
-        (λ r s. s.1 ∙ decided_same told (λ q. leader_route m (first_of m q)) tell_as_leaders r) m.routers sound
+        (λ r s. s.1 ∙ decided_same told (λ q. leader_route m (choice_alone m q)) tell_as_leaders r) m.routers sound
 
   -- ---- the solution solves
 
   abbrev lead : ℕ → Option Route
-  lead q = leader_route m (first_of m q)
+  lead q = leader_route m (choice_alone m q)
 
   lead_first_route : (q : ℕ) → TellsFirst m even lead (solution m) q
-  lead_first_route q route e = by_first (first_of m q) refl
+  lead_first_route q route e = by_first (choice_alone m q) refl
     where
-      by_first : (o : Option Best) → first_of m q ≡ o → IsFirst m even q route
+      by_first : (o : Option Best) → choice_alone m q ≡ o → IsFirst m even q route
       by_first None f = absurd (none_some route (ap (leader_route m) (sym f) ∙ e))
       by_first (Some b) f = by_lead (is_leader m b) (ap (leader_route m) (sym f) ∙ e)
         where
@@ -91,9 +91,9 @@ module _ (m : Mesh) (even : IsEven m) where
           by_lead true d = (b, f, same_some route b.route (sym d))
           by_lead false d = absurd (none_some route d)
 
-  first_even : (q : ℕ) → HasEvenBase m even q → (b : Best) → first_of m q ≡ Some b → IsEvenRoute m even b.route
+  first_even : (q : ℕ) → HasEvenBase m even q → (b : Best) → choice_alone m q ≡ Some b → IsEvenRoute m even b.route
   first_even q h b e = subst (IfAny (λ (x : Best). IsEvenRoute m even x.route)) e
-      (choice_all (λ x. IsEvenRoute m even x.route) (base m q) (even_base m even (base m q) (all_base m q) h))
+      (choice_all (λ x. IsEvenRoute m even x.route) (candidates_alone m q) (even_base m even (candidates_alone m q) (all_base m q) h))
 
   lead_even : (q : ℕ) → HasEvenBase m even q → TellsEven m even lead (solution m) q
   lead_even q h route e = let f = lead_first_route q route e in subst (IsEvenRoute m even) (sym f.2) (first_even q h f.0 f.1)
@@ -101,22 +101,22 @@ module _ (m : Mesh) (even : IsEven m) where
   lead_least : (q : ℕ) → TellsLeast m even lead (solution m) q
   lead_least q b e h = ap (leader_route m) e ∙ lead_first (is_own_source b.from) (beaten m even b.route) b.route h
 
-  solution_tells : AllByRecursion (λ q. leader_route m (first_of m q) ≡ tell_in (solution m q)) m.routers
+  solution_tells : AllByRecursion (λ q. leader_route m (choice_alone m q) ≡ tell_in (solution m q)) m.routers
   solution_tells = all_imply (HasEvenBase m even) (λ q. lead q ≡ tell_in (solution m q))
       (λ q h. sym (tells_as_leader m even lead (solution m) (all_imply (HasEvenBase m even) (TellsEven m even lead (solution m)) lead_even m.routers even.each)
       (all_each (TellsFirst m even lead (solution m)) lead_first_route m.routers) (all_each (TellsLeast m even lead (solution m)) lead_least m.routers)
       q (h, refl))) m.routers even.each
 
-  solution_solves : Solves m (solution m)
+  solution_solves : SolvesMesh m (solution m)
   solution_solves = all_each (λ r. solution m r ≡ decided m (λ q. tell_in (solution m q)) r)
       (decided_same lead (λ q. tell_in (solution m q)) solution_tells) m.routers
 
-pub one_solution : (m : Mesh) (best : ℕ → Option Best) → IsEven m → Solves m best → AllByRecursion (λ r. best r ≡ solution m r) m.routers
+pub one_solution : (m : PrefixMesh) (best : ℕ → Option Best) → IsEven m → SolvesMesh m best → AllByRecursion (λ r. best r ≡ solution m r) m.routers
 one_solution m best even solves = are_solution m even best solves
 
-pub leaders_tell : (m : Mesh) (best : ℕ → Option Best) → IsEven m → Solves m best
-    → AllByRecursion (λ r. tell_in (best r) ≡ leader_route m (first_of m r)) m.routers
+pub leaders_tell : (m : PrefixMesh) (best : ℕ → Option Best) → IsEven m → SolvesMesh m best
+    → AllByRecursion (λ r. tell_in (best r) ≡ leader_route m (choice_alone m r)) m.routers
 leaders_tell m best even solves = tell_as_leaders m even best solves
 
-pub there_is_one : (m : Mesh) → IsEven m → Solves m (solution m)
+pub there_is_one : (m : PrefixMesh) → IsEven m → SolvesMesh m (solution m)
 there_is_one m even = solution_solves m even

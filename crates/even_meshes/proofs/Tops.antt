@@ -8,10 +8,10 @@ use Rattle.decision_core.specs.Search.{leads}
 use Rattle.decision_core.proofs.Filters.{IsStrictWeakOrder-on, irreflexive}
 use Rattle.decision_core.proofs.NineRules.{leads_order}
 use Rattle.route_policy.specs.declared.best.Best.{Best}
-use Rattle.even_meshes.specs.Meshes.{rank_anywhere, beats, beats_as}
+use Rattle.even_meshes.specs.Meshes.{rank_anywhere, beats_before_med, beats_as}
 use Rattle.even_meshes.proofs.Folds.{all_each, neither, none_where}
 
-beats_order : (home_as : ℕ) → IsStrictWeakOrder (beats home_as)
+beats_order : (home_as : ℕ) → IsStrictWeakOrder (beats_before_med home_as)
 beats_order home_as = IsStrictWeakOrder-on (λ (route : Route). rank_anywhere home_as route) leads leads_order
 
 or_left : (a b : Bool) → a ≡ true → (a || b) ≡ true
@@ -33,11 +33,11 @@ module _ (home_as : ℕ) (First : ℕ → Option Best) where
   NoFirst qs = (route : Route) → is_beaten route qs ≡ false
 
   -- what isn't beaten by a route isn't by one that this one doesn't trail
-  pub not_past : (a b : Route) → beats home_as a b ≡ false → (o : Option Best) → beats_as home_as o a ≡ false → beats_as home_as o b ≡ false
+  pub not_past : (a b : Route) → beats_before_med home_as a b ≡ false → (o : Option Best) → beats_as home_as o a ≡ false → beats_as home_as o b ≡ false
   not_past a b h None k = refl
   not_past a b h (Some z) k = (beats_order home_as).chain z.route a b k h
 
-  pub none_past : (a b : Route) (qs : List ℕ) → beats home_as a b ≡ false → is_beaten a qs ≡ false → is_beaten b qs ≡ false
+  pub none_past : (a b : Route) (qs : List ℕ) → beats_before_med home_as a b ≡ false → is_beaten a qs ≡ false → is_beaten b qs ≡ false
   none_past a b qs h k = none_where (is_beaten_by a) (is_beaten_by b) qs
       (all_each (λ q. is_beaten_by a q ≡ false → is_beaten_by b q ≡ false) (λ q. not_past a b h (First q)) qs) k
 
@@ -71,11 +71,11 @@ module _ (home_as : ℕ) (First : ℕ → Option Best) where
       is = e;
       holds = r;
       least = neither (is_beaten_by b.route q) (is_beaten b.route qs)
-          (ap (λ o. beats_as home_as o b.route) e ∙ irreflexive (beats home_as) (beats_order home_as) b.route) h;
+          (ap (λ o. beats_as home_as o b.route) e ∙ irreflexive (beats_before_med home_as) (beats_order home_as) b.route) h;
       there = λ s e. or_left (s q) (list_any s qs) e;
     }
 
-    by_beats : (q : ℕ) (qs : List ℕ) (b : Best) → First q ≡ Some b → R q → (t : Top qs) → (c : Bool) → beats home_as b.route t.best.route ≡ c
+    by_beats : (q : ℕ) (qs : List ℕ) (b : Best) → First q ≡ Some b → R q → (t : Top qs) → (c : Bool) → beats_before_med home_as b.route t.best.route ≡ c
         → Top (q ∷ qs)
     by_beats q qs b e r t false k = old_top q qs t (ap (λ o. beats_as home_as o t.best.route) e ∙ k)
     by_beats q qs b e r t true k = new_top q qs b e r
@@ -85,7 +85,7 @@ module _ (home_as : ℕ) (First : ℕ → Option Best) where
     by_first q qs None e r (inl h) = inl (more_none q qs e h)
     by_first q qs None e r (inr t) = inr (old_top q qs t (ap (λ o. beats_as home_as o t.best.route) e))
     by_first q qs (Some b) e r (inl h) = inr (new_top q qs b e r (h b.route))
-    by_first q qs (Some b) e r (inr t) = inr (by_beats q qs b e r t (beats home_as b.route t.best.route) refl)
+    by_first q qs (Some b) e r (inr t) = inr (by_beats q qs b e r t (beats_before_med home_as b.route t.best.route) refl)
 
     pub top_of : (qs : List ℕ) → AllByRecursion R qs → NoFirst qs ⊎ Top qs
     top_of [] h = inl (λ route. refl)

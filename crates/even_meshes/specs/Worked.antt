@@ -10,7 +10,7 @@ use Rattle.bgp_types.specs.declared.path.PathPart.TheVariants.{Sequence}
 use Rattle.bgp_types.specs.declared.rank.From.TheVariants.{Peering}
 use Rattle.route_policy.specs.declared.best.Best.{Best}
 use Rattle.route_policy.specs.Candidates.{SessionRoute}
-use Rattle.even_meshes.specs.Meshes.{Mesh}
+use Rattle.even_meshes.specs.Meshes.{PrefixMesh}
 
 -- a route of one AS with this MED; otherwise all are alike
 abbrev pub with_med : (as_number med : ℕ) → Attrs
@@ -36,7 +36,7 @@ from_remote p as_number med identifier = record {
 }
 
 -- peerings 0 and 1 are of AS 1 and AS 2 at router 0, and peerings 2 and 3 of AS 1 and AS 2 at router 1
-abbrev pub crossed : Mesh
+abbrev pub crossed : PrefixMesh
 crossed = record {
   home_as = 9;
   prefix = record { address = 0; len = 0 };

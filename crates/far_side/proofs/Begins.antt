@@ -9,9 +9,9 @@ use Rattle.graft_actors.specs.Items.{home_first, remote_first}
 use Rattle.graft_actors.specs.declared.known.Known.{Known}
 use Rattle.far_side.specs.Remotes.{RemoteValue}
 use Rattle.far_side.specs.Links.{LinkValue}
-use Rattle.far_side.specs.Says.{bytes_of, bytes_at}
-use Rattle.far_side.specs.Parts.{Keeps}
-use Rattle.far_side.specs.Fars.{IsConfigOf}
+use Rattle.far_side.specs.Says.{bytes_to_say, bytes_at}
+use Rattle.far_side.specs.Parts.{FarSideInvariant}
+use Rattle.far_side.specs.Fars.{IsFarConfigOf}
 use Rattle.far_side.specs.declared.config.FarConfig.{FarConfig}
 use Rattle.far_side.specs.declared.fields.Fields.{Fields}
 use Rattle.far_side.specs.declared.says.SayTable.{SayTable}
@@ -36,18 +36,20 @@ begun known config table r home remote = record {
   last_beat = 0;
 }
 
-module _ (known : Known) (config : FarConfig) (table : SayTable) (r : RemoteValue) (home remote : LinkValue) (is : IsConfigOf known.setup config)
-    (says : (step : ℕ) → bytes_at table step ≡ bytes_of config.says step)
+module _ (known : Known) (config : FarConfig) (table : SayTable) (r : RemoteValue) (home remote : LinkValue) (is : IsFarConfigOf known.setup config)
+    (says : (step : ℕ) → bytes_at table step ≡ bytes_to_say config.says step)
     (r_is : r ≡ record { end = record fresh_endpoint { stream = config.opening }; at_turn = 0; peering = config.peering.0; send_first = config.send_first.0; receive_first = config.receive_first.0 })
     (home_is : home ≡ record { way = Home; peering = config.peering.0; seq_first = config.send_first.0; ack_first = config.receive_first.0; segments = []; plans = []; put = 0 })
     (remote_is : remote ≡ record { way = Remote; peering = config.peering.0; seq_first = config.receive_first.0; ack_first = config.send_first.0; segments = []; plans = []; put = 0 }) where
   sends : config.send_first.0 ≡ remote_first known.setup config.peering.0
-  sends = ap (λ s. s.0) is.sends ∙ sym (ap (λ (o : Option PeeringSetup). unwrap_or (option_map (λ c. c.receive_first.0) (option_map (λ q. q.config) o)) 0) is.is)
+  sends = ap (λ s. s.0) is.sends
+      ∙ sym (ap (λ (o : Option PeeringSetup). unwrap_or (option_map (λ c. c.receive_first.0) (option_map (λ q. q.config) o)) 0) is.is)
 
   receives : config.receive_first.0 ≡ home_first known.setup config.peering.0
-  receives = ap (λ s. s.0) is.receives ∙ sym (ap (λ (o : Option PeeringSetup). unwrap_or (option_map (λ c. c.send_first.0) (option_map (λ q. q.config) o)) 0) is.is)
+  receives = ap (λ s. s.0) is.receives
+      ∙ sym (ap (λ (o : Option PeeringSetup). unwrap_or (option_map (λ c. c.send_first.0) (option_map (λ q. q.config) o)) 0) is.is)
 
-  pub begun_keeps : Keeps (begun known config table r home remote)
+  pub begun_keeps : FarSideInvariant (begun known config table r home remote)
   begun_keeps = record {
     routers = is.routers;
     few = is.few;

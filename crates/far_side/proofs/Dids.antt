@@ -12,27 +12,24 @@ use Rattle.graft_model.specs.Parts.{FarPart}
 use Rattle.graft_model.specs.Codes.{far_code}
 use Rattle.graft_model.specs.declared.event.FarEvent.{FarEvent}
 use Rattle.graft_model.specs.Steps.{far_row}
-use Rattle.graft_runs.specs.Actors.{FarSide, FarIs}
+use Rattle.graft_actors.specs.Actors.{FarSide, FarIs}
 use Rattle.graft_actors.specs.Acts.{acts}
 use Rattle.graft_actors.specs.Emissions.{Tally}
 use Rattle.graft_actors.specs.Notes.{deed_of, WroteOne}
 use Rattle.far_side.specs.Parts.{far_part, own_part}
-use Rattle.far_side.specs.Turns.{CarefulFar, far_tally, FarRound, AreOf, Did}
+use Rattle.far_side.specs.Turns.{CarefulFar, far_tally, FarRound, DidAsFar}
 use Rattle.far_side.specs.declared.fields.Fields.{Fields}
+use Rattle.graft_actors.proofs.Deeds.{are_deeds-append}
 
-rounds_append : (setup : Setup) (p : ℕ) (a b c : FarPart) (t u w : Tally) (es fs : List FarEvent) → FarRound setup p a t es b u → FarRound setup p b u fs c w → FarRound setup p a t (es ++ fs) c w
+rounds_append : (setup : Setup) (p : ℕ) (a b c : FarPart) (t u w : Tally) (es fs : List FarEvent) → FarRound setup p a t es b u
+    → FarRound setup p b u fs c w → FarRound setup p a t (es ++ fs) c w
 rounds_append setup p a b c t u w [] fs h k = subst (λ (x : FarPart). FarRound setup p x t fs c w) h.0 (subst (λ (x : Tally). FarRound setup p b x fs c w) h.1 k)
 rounds_append setup p a b c t u w (e ∷ es) fs (taken, sent, m, row, careful, rest) k = (taken, sent, m, row, careful, rounds_append setup p m b c (far_tally a e t) u w es fs rest k)
 
-are_of-append : {I : Type 0} (es fs : List FarEvent) (ds gs : List (Deed I)) → AreOf es ds → AreOf fs gs → AreOf (es ++ fs) (ds ++ gs)
-are_of-append [] fs [] gs h k = k
-are_of-append [] fs (d ∷ ds) gs h k = absurd h
-are_of-append (e ∷ es) fs [] gs h k = absurd h
-are_of-append (e ∷ es) fs (d ∷ ds) gs h k = (h.0, are_of-append es fs ds gs h.1 k)
-
 module _ {C : Type 0} (session : C → SessionValue) where
   -- nothing that the model sees changes
-  pub did_same : (f g : Fields) (p : Post (Item C)) (t : Tally) → g.known.setup ≡ f.known.setup → g.peering ≡ f.peering → far_part g ≡ far_part f → Did session f p t [] g p t
+  pub did_same : (f g : Fields) (p : Post (Item C)) (t : Tally) → g.known.setup ≡ f.known.setup → g.peering ≡ f.peering → far_part g ≡ far_part f
+      → DidAsFar session f p t [] g p t
   did_same f g p t setup peering part = record {
     setup = setup;
     peering = peering;
@@ -44,23 +41,25 @@ module _ {C : Type 0} (session : C → SessionValue) where
     round = (part, refl);
   }
 
-  pub did_then : (a b c : Fields) (p q r : Post (Item C)) (t u w : Tally) (es fs : List FarEvent) → Did session a p t es b q u → Did session b q u fs c r w → Did session a p t (es ++ fs) c r w
+  pub did_then : (a b c : Fields) (p q r : Post (Item C)) (t u w : Tally) (es fs : List FarEvent) → DidAsFar session a p t es b q u
+      → DidAsFar session b q u fs c r w → DidAsFar session a p t (es ++ fs) c r w
   did_then a b c p q r t u w es fs x y = record {
     setup = y.setup ∙ x.setup;
     peering = y.peering ∙ x.peering;
     deeds = x.deeds ++ y.deeds;
     wrote = wrote_then p q r x.deeds y.deeds x.wrote y.wrote;
     none = all-append TakesNone x.deeds y.deeds x.none y.none;
-    coded = are_of-append es fs x.deeds y.deeds x.coded y.coded;
+    coded = are_deeds-append far_code es fs x.deeds y.deeds x.coded y.coded;
     replay = replay-append (acts session) (actor_of p) (own_part a) (own_part b) (own_part c) x.deeds y.deeds x.replay (subst (λ (n : ℕ). Replay (acts session) n (own_part b) y.deeds (own_part c)) x.wrote.actor y.replay);
     round = rounds_append a.known.setup a.peering.0 (far_part a) (far_part b) (far_part c) t u w es fs x.round
         (subst (λ (s : Setup). FarRound s a.peering.0 (far_part b) u fs (far_part c) w) x.setup (subst (λ (n : ℕ). FarRound b.known.setup n (far_part b) u fs (far_part c) w) (ap (λ k. k.0) x.peering) y.round));
   }
 
   -- one event that takes and sends nothing
-  pub did_one : (f g : Fields) (p q : Post (Item C)) (t : Tally) (event : FarEvent) → g.known.setup ≡ f.known.setup → g.peering ≡ f.peering → WroteOne p (far_code event) [] q
+  pub did_one : (f g : Fields) (p q : Post (Item C)) (t : Tally) (event : FarEvent) → g.known.setup ≡ f.known.setup → g.peering ≡ f.peering
+      → WroteOne p (far_code event) [] q
       → far_row f.known.setup f.peering.0 event (far_part f) None [] (far_part g) → CarefulFar (far_part f) event
-      → Did session f p t (event ∷ []) g q (far_tally (far_part f) event t)
+      → DidAsFar session f p t (event ∷ []) g q (far_tally (far_part f) event t)
   did_one f g p q t event setup peering wrote row careful = record {
     setup = setup;
     peering = peering;

@@ -5,24 +5,18 @@ use Rattle.std.specs.List.{AllByRecursion}
 use Rattle.tcp_seq.specs.declared.segment.Way.{Way}
 use Rattle.graft_model.specs.FarRows.{without}
 use Rattle.graft_model.specs.Setups.{routers_in}
-use Rattle.tcp_seq.specs.Endpoint.{IsInStreams}
-use Rattle.tcp_seq.specs.Placed.{placed}
-use Rattle.tcp_seq.specs.declared.segment.Segment.{Segment}
-use Rattle.far_side.specs.Remotes.{RemoteValue, IsFor}
-use Rattle.far_side.specs.Links.{LinkValue, IsOn, act_in, is_gone, older}
-use Rattle.far_side.specs.Parts.{Leads, Keeps}
+use Rattle.far_side.specs.Remotes.{RemoteValue}
+use Rattle.far_side.specs.Links.{LinkValue, act_in, is_gone, older}
+use Rattle.far_side.specs.Parts.{LinkLeads, FarSideInvariant}
 use Rattle.far_side.specs.Passes.{SameLink, plans_after}
 use Rattle.far_side.specs.declared.fields.Fields.{Fields}
 use Rattle.far_side.specs.declared.link.InLink.{InLink}
 use Rattle.far_side.proofs.PassLists.{without_is}
 
-leads_on : (old new : LinkValue) (way : Way) (p s a : ℕ) → SameLink old new → Leads old way p s a → Leads new way p s a
+leads_on : (old new : LinkValue) (way : Way) (p s a : ℕ) → SameLink old new → LinkLeads old way p s a → LinkLeads new way p s a
 leads_on old new way p s a same leads = record { way = same.way ∙ leads.way; peering = same.peering ∙ leads.peering; seq_first = same.seq_first ∙ leads.seq_first; ack_first = same.ack_first ∙ leads.ack_first }
 
 -- ---- the routers that the link pointed at
-
-PointsBelow : ℕ → InLink → Type 0
-PointsBelow n x = x.pointed.0 < n
 
 all_cut : (P : InLink → Type 0) (place : ℕ) (xs : List InLink) → AllByRecursion P xs → AllByRecursion P (take place xs ++ drop (suc place) xs)
 all_cut P zero [] h = h
@@ -30,7 +24,8 @@ all_cut P zero (x ∷ xs) h = h.1
 all_cut P (suc place) [] h = h
 all_cut P (suc place) (x ∷ xs) h = (h.0, all_cut P place xs h.1)
 
-all_set : (P : InLink → Type 0) (place : ℕ) (xs : List InLink) (x y : InLink) → slice_get xs place ≡ Some x → (P x → P y) → AllByRecursion P xs → AllByRecursion P (slice_set xs place y)
+all_set : (P : InLink → Type 0) (place : ℕ) (xs : List InLink) (x y : InLink) → slice_get xs place ≡ Some x → (P x → P y) → AllByRecursion P xs
+    → AllByRecursion P (slice_set xs place y)
 all_set P zero [] x y is so h = h
 all_set P zero (z ∷ zs) x y is so h = let e : z ≡ x = cc in (so (subst P e h.0), h.1)
 all_set P (suc place) [] x y is so h = h
@@ -42,7 +37,8 @@ all_at P zero (z ∷ zs) x is h = let e : z ≡ x = cc in subst P e h.0
 all_at P (suc place) [] x is h = absurd (let e : ⊥ = cc in e)
 all_at P (suc place) (z ∷ zs) x is h = all_at P place zs x is h.1
 
-pub all_after : (P : InLink → Type 0) (place : ℕ) (xs : List InLink) (x : InLink) → slice_get xs place ≡ Some x → (P x → P (older x)) → AllByRecursion P xs → AllByRecursion P (plans_after place x xs)
+pub all_after : (P : InLink → Type 0) (place : ℕ) (xs : List InLink) (x : InLink) → slice_get xs place ≡ Some x → (P x → P (older x))
+    → AllByRecursion P xs → AllByRecursion P (plans_after place x xs)
 all_after P place xs x is so h = by_test (is_gone (act_in x))
   where
     by_test : (b : Bool) → AllByRecursion P (if b then without place xs else slice_set xs place (older x))
@@ -55,7 +51,8 @@ all_push P (y ∷ ys) x h p = (h.0, all_push P ys x h.1 p)
 
 -- ---- a link, or the remote, becomes another
 
-pub keeps_home : (f : Fields) (link : LinkValue) → Keeps f → SameLink f.homeward link → AllByRecursion (λ x. x.pointed.0 < routers_in f.known.setup) link.plans → Keeps (record f { homeward = link })
+pub keeps_home : (f : Fields) (link : LinkValue) → FarSideInvariant f → SameLink f.homeward link
+    → AllByRecursion (λ x. x.pointed.0 < routers_in f.known.setup) link.plans → FarSideInvariant (record f { homeward = link })
 keeps_home f link k same points = record {
   routers = k.routers;
   few = k.few;
@@ -72,7 +69,7 @@ keeps_home f link k same points = record {
   pointed = points;
 }
 
-pub keeps_remoteward : (f : Fields) (link : LinkValue) → Keeps f → SameLink f.remoteward link → Keeps (record f { remoteward = link })
+pub keeps_remoteward : (f : Fields) (link : LinkValue) → FarSideInvariant f → SameLink f.remoteward link → FarSideInvariant (record f { remoteward = link })
 keeps_remoteward f link k same = record {
   routers = k.routers;
   few = k.few;
@@ -89,7 +86,8 @@ keeps_remoteward f link k same = record {
   pointed = k.pointed;
 }
 
-pub keeps_remote : (f : Fields) (r : RemoteValue) → Keeps f → r.peering ≡ f.remote.peering → r.send_first ≡ f.remote.send_first → r.receive_first ≡ f.remote.receive_first → Keeps (record f { remote = r })
+pub keeps_remote : (f : Fields) (r : RemoteValue) → FarSideInvariant f → r.peering ≡ f.remote.peering → r.send_first ≡ f.remote.send_first
+    → r.receive_first ≡ f.remote.receive_first → FarSideInvariant (record f { remote = r })
 keeps_remote f r k p s a = record {
   routers = k.routers;
   few = k.few;
@@ -106,7 +104,8 @@ keeps_remote f r k p s a = record {
   pointed = k.pointed;
 }
 
-pub keeps_pointer : (f g : Fields) → Keeps f → g.pointer.0 < routers_in f.known.setup → Keeps (record f { pointer = g.pointer; followed = g.followed })
+pub keeps_pointer : (f g : Fields) → FarSideInvariant f → g.pointer.0 < routers_in f.known.setup
+    → FarSideInvariant (record f { pointer = g.pointer; followed = g.followed })
 keeps_pointer f g k below = record {
   routers = k.routers;
   few = k.few;
@@ -123,18 +122,8 @@ keeps_pointer f g k below = record {
   pointed = k.pointed;
 }
 
--- a segment of the link to the remote is for it
-pub on_for : (f : Fields) (g : Segment) → Keeps f → IsOn f.remoteward g → IsFor f.remote g
-on_for f g k on = record {
-  peering = on.peering ∙ k.remoteward.peering ∙ sym k.remote;
-  way = on.way ∙ k.remoteward.way;
-  in_streams = subst (λ (n : ℕ). IsInStreams (placed n f.remote.send_first g)) (k.remoteward.seq_first ∙ sym k.receives)
-      (subst (λ (n : ℕ). IsInStreams (placed f.remoteward.seq_first n g)) (k.remoteward.ack_first ∙ sym k.sends) on.in_streams);
-  short = on.short;
-}
-
 -- the counts of turns and beats are nothing that it keeps
-pub keeps_counts : (f g : Fields) → Keeps f → Keeps (record f { turns = g.turns; beats = g.beats; last_beat = g.last_beat })
+pub keeps_counts : (f g : Fields) → FarSideInvariant f → FarSideInvariant (record f { turns = g.turns; beats = g.beats; last_beat = g.last_beat })
 keeps_counts f g k = record {
   routers = k.routers;
   few = k.few;

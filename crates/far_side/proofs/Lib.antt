@@ -5,8 +5,7 @@ pub mod PassLists
 pub mod Kept
 pub mod Sessions
 pub mod Dids
-pub mod HomeSteps
-pub mod ReachSteps
+pub mod PassSteps
 pub mod EmitSteps
 pub mod BeatSteps
 pub mod Begins

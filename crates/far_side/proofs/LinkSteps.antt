@@ -10,7 +10,7 @@ use Rattle.tcp_seq.specs.Placed.{placed}
 use Rattle.tcp_seq.specs.declared.segment.Segment.{Segment}
 use Rattle.graft_model.specs.FarRows.{without}
 use Rattle.far_side.specs.Links.{LinkValue, IsOn}
-use Rattle.far_side.specs.LinkInner.{link_of, Keeps}
+use Rattle.far_side.specs.LinkInner.{link_of, LinkInvariant}
 use Rattle.far_side.specs.declared.link.InLink.{InLink}
 use Rattle.far_side.specs.declared.link.Link.TheInside.{Inside}
 
@@ -35,19 +35,22 @@ all_at P (suc place) [] x is h = absurd (let e : ⊥ = cc in e)
 all_at P (suc place) (z ∷ zs) x is h = all_at P place zs x is h.1
 
 -- the segment at a place is one of the link
-pub on_at : (l : Inside) (place : ℕ) (g : Segment) → Keeps l → slice_get l.bag place ≡ Some g → IsOn (link_of l) g
+pub on_at : (l : Inside) (place : ℕ) (g : Segment) → LinkInvariant l → slice_get l.bag place ≡ Some g → IsOn (link_of l) g
 on_at l place g keeps is = all_at (IsOn (link_of l)) place l.bag g is (recursion_from_All (IsOn (link_of l)) l.bag keeps.own)
 
 -- its places are those that the link is seen with
-pub seen_at : (l : Inside) (place : ℕ) (g : Segment) → slice_get l.bag place ≡ Some g → slice_get (link_of l).segments place ≡ Some (placed (link_of l).seq_first (link_of l).ack_first g)
-seen_at l place g is = slice_get-map (placed l.seq_first.0 l.ack_first.0) l.bag place ∙ ap (λ (o : Option Segment). option_map (placed l.seq_first.0 l.ack_first.0) o) is
+pub seen_at : (l : Inside) (place : ℕ) (g : Segment) → slice_get l.bag place ≡ Some g
+    → slice_get (link_of l).segments place ≡ Some (placed (link_of l).seq_first (link_of l).ack_first g)
+seen_at l place g is = slice_get-map (placed l.seq_first.0 l.ack_first.0) l.bag place
+    ∙ ap (λ (o : Option Segment). option_map (placed l.seq_first.0 l.ack_first.0) o) is
 
 -- the other segments stay ones of the link
-pub own_others : (l : Inside) (place : ℕ) → Keeps l → All (IsOn (link_of l)) (remove l.bag place)
+pub own_others : (l : Inside) (place : ℕ) → LinkInvariant l → All (IsOn (link_of l)) (remove l.bag place)
 own_others l place keeps = All-from_recursion (IsOn (link_of l)) (remove l.bag place) (all_removed (IsOn (link_of l)) place l.bag (recursion_from_All (IsOn (link_of l)) l.bag keeps.own))
 
 -- a segment more
-put_seen : (l : Inside) (bag : List Segment) (plans : List InLink) (number : ℕ) (g : Segment) (x : InLink) → bag ≡ l.bag ++ g ∷ [] → plans ≡ l.plans.items ++ x ∷ [] → number ≡ l.put + 1
+put_seen : (l : Inside) (bag : List Segment) (plans : List InLink) (number : ℕ) (g : Segment) (x : InLink) → bag ≡ l.bag ++ g ∷ []
+    → plans ≡ l.plans.items ++ x ∷ [] → number ≡ l.put + 1
     → let v : LinkValue = record (link_of l) { segments = map (placed l.seq_first.0 l.ack_first.0) bag; plans = plans; put = number } in
     v ≡ record (link_of l) { segments = (link_of l).segments ++ placed l.seq_first.0 l.ack_first.0 g ∷ []; plans = (link_of l).plans ++ x ∷ []; put = (link_of l).put + 1 }
 put_seen l bag plans number g x is more next = λ i. record {
@@ -61,7 +64,8 @@ put_seen l bag plans number g x is more next = λ i. record {
 }
 
 -- the link as it is seen after one was put
-pub put_then : (l : Inside) (v : LinkValue) (bag : List Segment) (plans : List InLink) (number : ℕ) (g : Segment) (x y : InLink) → link_of l ≡ v → bag ≡ l.bag ++ g ∷ [] → plans ≡ l.plans.items ++ x ∷ [] → number ≡ l.put + 1 → x ≡ y
+pub put_then : (l : Inside) (v : LinkValue) (bag : List Segment) (plans : List InLink) (number : ℕ) (g : Segment) (x y : InLink) → link_of l ≡ v
+    → bag ≡ l.bag ++ g ∷ [] → plans ≡ l.plans.items ++ x ∷ [] → number ≡ l.put + 1 → x ≡ y
     → let w : LinkValue = record (link_of l) { segments = map (placed l.seq_first.0 l.ack_first.0) bag; plans = plans; put = number } in
     w ≡ record v { segments = v.segments ++ placed v.seq_first v.ack_first g ∷ []; plans = v.plans ++ y ∷ []; put = v.put + 1 }
 put_then l v bag plans number g x y seen is more next same =
@@ -69,7 +73,8 @@ put_then l v bag plans number g x y seen is more next same =
     (put_seen l bag plans number g y is (more ∙ ap (λ (z : InLink). l.plans.items ++ z ∷ []) same) next)
 
 -- the link as it is seen without the segment at a place
-pub removed_then : (l : Inside) (v : LinkValue) (bag : List Segment) (plans : List InLink) (place : ℕ) → link_of l ≡ v → bag ≡ remove l.bag place → plans ≡ remove l.plans.items place
+pub removed_then : (l : Inside) (v : LinkValue) (bag : List Segment) (plans : List InLink) (place : ℕ) → link_of l ≡ v → bag ≡ remove l.bag place
+    → plans ≡ remove l.plans.items place
     → let w : LinkValue = record (link_of l) { segments = map (placed l.seq_first.0 l.ack_first.0) bag; plans = plans } in
     w ≡ record v { segments = without place v.segments; plans = without place v.plans }
 removed_then l v bag plans place seen is less =
@@ -90,11 +95,14 @@ length_removed (x ∷ xs) zero below = let e : length xs + 1 ≡ suc (length xs)
 length_removed (x ∷ xs) (suc place) below = let h : length (remove xs place) + 1 ≡ length xs = length_removed xs place (omega (arith, below)) in omega (arith, h)
 
 -- what its fields keep
-pub keeps_removed : (l l' : Inside) (place : ℕ) → Keeps l → place < length l.bag → l'.bag ≡ remove l.bag place → l'.plans.items ≡ remove l.plans.items place → l'.way ≡ l.way → l'.peering ≡ l.peering → l'.seq_first ≡ l.seq_first → l'.ack_first ≡ l.ack_first → Keeps l'
+pub keeps_removed : (l l' : Inside) (place : ℕ) → LinkInvariant l → place < length l.bag → l'.bag ≡ remove l.bag place
+    → l'.plans.items ≡ remove l.plans.items place → l'.way ≡ l.way → l'.peering ≡ l.peering → l'.seq_first ≡ l.seq_first → l'.ack_first ≡ l.ack_first
+    → LinkInvariant l'
 keeps_removed l l' place keeps below bag plans way peering first other = record {
   own = subst (λ (gs : List Segment). All (IsOn (link_of l')) gs) (sym bag) (All-from_recursion (IsOn (link_of l')) (remove l.bag place)
       (all_same (remove l.bag place) (recursion_from_All (IsOn (link_of l)) (remove l.bag place) (own_others l place keeps))));
-  planned = ap length plans ∙ (let e : length (remove l.plans.items place) ≡ length (remove l.bag place) = omega (arith, length_removed l.plans.items place (omega (arith, keeps.planned, below)), length_removed l.bag place below, keeps.planned) in e) ∙ sym (ap length bag);
+  planned = ap length plans
+      ∙ (let e : length (remove l.plans.items place) ≡ length (remove l.bag place) = omega (arith, length_removed l.plans.items place (omega (arith, keeps.planned, below)), length_removed l.bag place below, keeps.planned) in e) ∙ sym (ap length bag);
   few = omega (arith, ap length bag, length_removed l.bag place below, keeps.few);
 }
   where

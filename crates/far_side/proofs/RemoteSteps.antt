@@ -1,22 +1,19 @@
 -- What calls leave of a remote.
-use Rattle.std.proofs.Common.{◌≡◌, ℕ, ◌+◌, ◌^◌, ◌<◌, ◌≤◌, List, [], ◌++◌, length, take, drop, Option, Some, None, refl, sym, ap, subst, ◌∙◌, arith, inl, inr}
-use Rattle.std.proofs.lemmas.List.{length-take}
-use Rattle.graft_edge.specs.declared.ids.PeeringId.{PeeringId}
+use Rattle.std.proofs.Common.{◌≡◌, ℕ, ◌+◌, ◌^◌, ◌<◌, ◌≤◌, List, [], length, take, refl, sym, ap, subst, ◌∙◌, arith, inl, inr}
 use Rattle.tcp_seq.specs.Numbers.{number, offset_from}
-use Rattle.tcp_seq.specs.Endpoint.{Endpoint, PlacedSegment, SendsBytes, EmitsNext, EmitsAgain, EmitsAnswer, TakesSegment, IsInStreams, received_bytes, slice_at, next_length, again_length}
+use Rattle.tcp_seq.specs.Endpoint.{Endpoint, PlacedSegment, TakesSegment, IsInStreams, received_bytes, slice_at}
 use Rattle.tcp_seq.specs.Placed.{placed}
 use Rattle.tcp_seq.specs.declared.seq.Seq.{Seq}
 use Rattle.tcp_seq.specs.declared.segment.Segment.{Segment}
 use Rattle.tcp_seq.specs.declared.state.EndState.{EndState}
-use Rattle.tcp_end.specs.Arriving.{Leaves}
-use Rattle.tcp_end.specs.Standing.{EndStands, Numbered, Becomes, StepsBy, EmitsBy, TakesBy, BecomesEmitting}
+use Rattle.tcp_end.specs.Arriving.{ChangesByArrival}
+use Rattle.tcp_end.specs.Standing.{EndStands, Numbered, Becomes, TakesBy}
 use Rattle.tcp_end.specs.Whole.{endpoint_of}
 use Rattle.tcp_end.specs.declared.arrival.Arrival.{Arrival}
 use Rattle.tcp_end.specs.declared.arrival.Arrival.TheVariants.{Outside, Ahead, Duplicate, Accepted}
-use Rattle.tcp_end.proofs.Steps.{received_is, stream_is}
+use Rattle.tcp_end.proofs.Steps.{stream_is}
 use Rattle.tcp_end.proofs.Wholes.{endpoint_is}
-use Rattle.far_side.specs.Remotes.{EmitsOf}
-use Rattle.far_side.specs.RemoteInner.{remote_of, Keeps}
+use Rattle.far_side.specs.RemoteInner.{RemoteInvariant}
 use Rattle.far_side.specs.declared.remote.Remote.TheInside.{Inside}
 
 -- an endpoint that a state stands for, of this stream and with nothing read
@@ -32,14 +29,14 @@ pub record SameOthers (s t : EndState) : Type 0 where
   pub taken : t.taken ≡ s.taken
 
 -- a remote whose end becomes another state, for which an endpoint of this stream stands
-module _ (r : Inside) (s : EndState) (said : List ℕ) (e : Endpoint) (keeps : Keeps r) (same : SameOthers r.end s) (stands : EndStands s e) (stream : e.stream ≡ said) where
+module _ (r : Inside) (s : EndState) (said : List ℕ) (e : Endpoint) (keeps : RemoteInvariant r) (same : SameOthers r.end s) (stands : EndStands s e) (stream : e.stream ≡ said) where
   read_none : e.read ≡ 0
   read_none = stands.read ∙ same.taken ∙ keeps.unread
 
   is : e ≡ endpoint_of said [] s
   is = unread_is s e said stands stream read_none
 
-  pub keeps_then : Keeps (record r { said = said; end = s })
+  pub keeps_then : RemoteInvariant (record r { said = said; end = s })
   keeps_then = record {
     stands = subst (EndStands s) is stands;
     unread = same.taken ∙ keeps.unread;
@@ -50,12 +47,9 @@ module _ (r : Inside) (s : EndState) (said : List ℕ) (e : Endpoint) (keeps : K
     receive_fits = keeps.receive_fits;
   }
 
-  -- what it is seen as then
-  pub seen_then : remote_of (record r { said = said; end = s }) ≡ record (remote_of r) { end = e; at_turn = s.acked_at_turn }
-  seen_then = λ i. record { end = sym is i; at_turn = s.acked_at_turn; peering = (same.peering i).0; send_first = r.send_first.0; receive_first = r.receive_first.0 }
-
 -- what a segment leaves
-leaves_same : (arrival : Arrival) (s : EndState) (g : Segment) (t : EndState) → Leaves arrival s g t → SameOthers s t × (t.acked_at_turn ≡ s.acked_at_turn)
+leaves_same : (arrival : Arrival) (s : EndState) (g : Segment) (t : EndState) → ChangesByArrival arrival s g t
+    → SameOthers s t × (t.acked_at_turn ≡ s.acked_at_turn)
 leaves_same Outside s g t is = (record { peering = ap (λ (u : EndState). u.peering) is; way = ap (λ (u : EndState). u.way) is; send_first = ap (λ (u : EndState). u.send_first) is; receive_first = ap (λ (u : EndState). u.receive_first) is; taken = ap (λ (u : EndState). u.taken) is }, ap (λ (u : EndState). u.acked_at_turn) is)
 leaves_same (Ahead ack) s g t is = (record { peering = ap (λ (u : EndState). u.peering) is; way = ap (λ (u : EndState). u.way) is; send_first = ap (λ (u : EndState). u.send_first) is; receive_first = ap (λ (u : EndState). u.receive_first) is; taken = ap (λ (u : EndState). u.taken) is }, ap (λ (u : EndState). u.acked_at_turn) is)
 leaves_same Duplicate s g t is = (record { peering = ap (λ (u : EndState). u.peering) is; way = ap (λ (u : EndState). u.way) is; send_first = ap (λ (u : EndState). u.send_first) is; receive_first = ap (λ (u : EndState). u.receive_first) is; taken = ap (λ (u : EndState). u.taken) is }, ap (λ (u : EndState). u.acked_at_turn) is)
@@ -72,13 +66,6 @@ placed_is f a g p fits fits' numbered streams = λ i. record {
   ack = (ap (λ (n : ℕ). offset_from n a) numbered.ack ∙ number_back a p.ack fits' streams.ack) i;
 }
 
--- a slice of the stream stands in streams
-slice_in : (s : EndState) (e : Endpoint) (place len : ℕ) → EndStands s e → place + len ≤ length e.stream → length e.stream ≤ 2 ^ 20 → IsInStreams (slice_at e place len)
-slice_in s e place len stands within fits = record {
-  end = omega (arith, length-take len (drop place e.stream), within, fits);
-  ack = omega (arith, received_is s e stands, stands.sound.received);
-}
-
 -- what a step emits: a slice of the stream with at most 1,024 bytes, and the stream stays
 pub record IsSlice (e : Endpoint) (p : PlacedSegment) (f : Endpoint) : Type 0 where
   pub place : ℕ
@@ -88,74 +75,13 @@ pub record IsSlice (e : Endpoint) (p : PlacedSegment) (f : Endpoint) : Type 0 wh
   pub short : len ≤ 1024
   pub stream : f.stream ≡ e.stream
 
-abbrev pub EmitsSlices : (Endpoint → PlacedSegment → Endpoint → Type 0) → EndState → Type 0
-EmitsSlices Step s = (e f : Endpoint) (p : PlacedSegment) → EndStands s e → Step e p f → IsSlice e p f
-
-pub next_slices : (s : EndState) → EmitsSlices EmitsNext s
-next_slices s e f p stands step = record {
-  place = e.emitted;
-  len = next_length e;
-  is = step.slice;
-  within = omega (arith, step.some);
-  short = omega arith;
-  stream = ap (λ (g : Endpoint). g.stream) step.rises;
-}
-
-pub again_slices : (s : EndState) → EmitsSlices EmitsAgain s
-again_slices s e f p stands step = record {
-  place = e.acked;
-  len = again_length e;
-  is = step.slice;
-  within = omega (arith, stream_is s e stands, stands.sound.sending.emitted, stands.emitted, step.some);
-  short = omega arith;
-  stream = ap (λ (g : Endpoint). g.stream) step.stays;
-}
-
-pub answer_slices : (s : EndState) → EmitsSlices EmitsAnswer s
-answer_slices s e f p stands step = record {
-  place = e.emitted;
-  len = 0;
-  is = step.answer.empty;
-  within = omega (arith, stream_is s e stands, stands.sound.sending.emitted, stands.emitted);
-  short = omega arith;
-  stream = ap (λ (g : Endpoint). g.stream) step.answer.given;
-}
-
 -- a segment that a state emits
 pub record OfState (s : EndState) (g : Segment) : Type 0 where
   pub peering : g.peering ≡ s.peering
   pub way : g.way ≡ s.way
 
-abbrev pub AnswerOf : EndState → Option Segment → Type 0
-AnswerOf s None = Unit {0}
-AnswerOf s (Some g) = OfState s g
-
 stream_fits : (s : EndState) (e : Endpoint) → EndStands s e → length e.stream ≤ 2 ^ 20
 stream_fits s e stands = omega (arith, stream_is s e stands, stands.sound.sending.stream)
-
--- what a call that emits leaves of a remote
-pub emits_of : (Step : Endpoint → PlacedSegment → Endpoint → Type 0) (r : Inside) (s : EndState) (answer : Option Segment) → Keeps r → SameOthers r.end s → EmitsSlices Step r.end → AnswerOf r.end answer → EmitsBy Step r.end answer s
-    → EmitsOf Step (remote_of r) answer (endpoint_of r.said [] s) × Keeps (record r { end = s })
-emits_of Step r s None keeps same slices of_state by =
-    let e : Endpoint = endpoint_of r.said [] r.end in
-    let stands : EndStands s e = by.becomes e keeps.stands in
-    (sym (unread_is s e r.said stands refl (stands.read ∙ same.taken ∙ keeps.unread)), keeps_then r s r.said e keeps same stands refl)
-emits_of Step r s (Some g) keeps same slices of_state by =
-    let e : Endpoint = endpoint_of r.said [] r.end in
-    let becomes : BecomesEmitting Step r.end e g s = by.becomes e keeps.stands in
-    let p : PlacedSegment = becomes.segment in
-    let slice : IsSlice e p becomes.end = slices e becomes.end p keeps.stands becomes.step in
-    let streams : IsInStreams p = subst IsInStreams (sym slice.is) (slice_in r.end e slice.place slice.len keeps.stands slice.within (stream_fits r.end e keeps.stands)) in
-    let numbered : Numbered r.send_first.0 r.receive_first.0 g p = subst (λ (n : Seq). Numbered n.0 r.receive_first.0 g p) keeps.sends (subst (λ (n : Seq). Numbered r.end.send_first.0 n.0 g p) keeps.receives becomes.numbered) in
-    let at : placed r.send_first.0 r.receive_first.0 g ≡ p = placed_is r.send_first.0 r.receive_first.0 g p keeps.send_fits keeps.receive_fits numbered streams in
-    let end_is : becomes.end ≡ endpoint_of r.said [] s = unread_is s becomes.end r.said becomes.stands slice.stream (becomes.stands.read ∙ same.taken ∙ keeps.unread) in
-    let short : length g.bytes ≤ 1024 = omega (arith, ap (λ (xs : List ℕ). length xs) numbered.bytes, ap (λ (q : PlacedSegment). length q.bytes) slice.is, length-take slice.len (drop slice.place e.stream), slice.short) in (
-      (
-        record { peering = ap (λ (k : PeeringId). k.0) of_state.peering; way = of_state.way ∙ keeps.way; in_streams = subst IsInStreams (sym at) streams; short = short },
-        subst (λ (q : PlacedSegment). Step e q (endpoint_of r.said [] s)) (sym at) (subst (Step e p) end_is becomes.step),
-      ),
-      keeps_then r s r.said becomes.end keeps same becomes.stands slice.stream,
-    )
 
 -- ---- a segment arrives
 
@@ -171,8 +97,8 @@ taken_stays e f p (inl drops) = (ap (λ (x : Endpoint). x.stream) drops.stays, a
 taken_stays e f p (inr accepts) = (ap (λ (x : Endpoint). x.stream) accepts.changed, ap (λ (x : Endpoint). x.read) accepts.changed)
 
 -- what a segment that arrives leaves of a remote
-module _ (r : Inside) (s : EndState) (arrival : Arrival) (g : Segment) (keeps : Keeps r) (streams : IsInStreams (placed r.receive_first.0 r.send_first.0 g)) (seq : g.seq.0 < 2 ^ 32) (ack : g.ack.0 < 2 ^ 32)
-    (leaves : Leaves arrival r.end g s) (by : TakesBy r.end g s) where
+module _ (r : Inside) (s : EndState) (arrival : Arrival) (g : Segment) (keeps : RemoteInvariant r) (streams : IsInStreams (placed r.receive_first.0 r.send_first.0 g)) (seq : g.seq.0 < 2 ^ 32) (ack : g.ack.0 < 2 ^ 32)
+    (leaves : ChangesByArrival arrival r.end g s) (by : TakesBy r.end g s) where
   becomes : Becomes (λ e f. TakesSegment e (placed r.receive_first.0 r.send_first.0 g) f) (endpoint_of r.said [] r.end) s
   becomes = by.becomes (endpoint_of r.said [] r.end) (placed r.receive_first.0 r.send_first.0 g) keeps.stands
       (subst (λ (n : Seq). Numbered n.0 r.end.send_first.0 g (placed r.receive_first.0 r.send_first.0 g)) (sym keeps.receives)
@@ -181,19 +107,10 @@ module _ (r : Inside) (s : EndState) (arrival : Arrival) (g : Segment) (keeps : 
   others : SameOthers r.end s
   others = (leaves_same arrival r.end g s leaves).0
 
-  pub keeps_arrived : Keeps (record r { end = s })
+  pub keeps_arrived : RemoteInvariant (record r { end = s })
   keeps_arrived = keeps_then r s r.said becomes.end keeps others becomes.stands (taken_stays (endpoint_of r.said [] r.end) becomes.end (placed r.receive_first.0 r.send_first.0 g) becomes.step).0
 
   pub takes_arrived : TakesSegment (endpoint_of r.said [] r.end) (placed r.receive_first.0 r.send_first.0 g) (endpoint_of r.said [] s)
   takes_arrived = subst (TakesSegment (endpoint_of r.said [] r.end) (placed r.receive_first.0 r.send_first.0 g))
       (unread_is s becomes.end r.said becomes.stands (taken_stays (endpoint_of r.said [] r.end) becomes.end (placed r.receive_first.0 r.send_first.0 g) becomes.step).0
       (becomes.stands.read ∙ others.taken ∙ keeps.unread)) becomes.step
-
--- more is said
-pub keeps_said : (r : Inside) (s : EndState) (bytes : List ℕ) → Keeps r → s ≡ record r.end { waiting = r.end.waiting ++ bytes } → StepsBy (λ e f. SendsBytes e bytes f) r.end s → Keeps (record r { said = r.said ++ bytes; end = s })
-keeps_said r s bytes keeps is by =
-    let e : Endpoint = endpoint_of r.said [] r.end in
-    let becomes : Becomes (λ x f. SendsBytes x bytes f) e s = by.becomes e keeps.stands in
-    keeps_then r s (r.said ++ bytes) becomes.end keeps
-    (record { peering = ap (λ (u : EndState). u.peering) is; way = ap (λ (u : EndState). u.way) is; send_first = ap (λ (u : EndState). u.send_first) is; receive_first = ap (λ (u : EndState). u.receive_first) is; taken = ap (λ (u : EndState). u.taken) is })
-    becomes.stands (ap (λ (x : Endpoint). x.stream) becomes.step.sent)

@@ -3,7 +3,7 @@ use Rattle.std.specs.Prelude.{[], None, false}
 use Rattle.std.specs.FinMap as map
 use Rattle.tcp_seq.specs.Endpoint.{fresh_endpoint}
 use Rattle.session_value.specs.Sessions.{SessionValue}
-use Rattle.far_side.specs.Parts.{Keeps, ForEach}
+use Rattle.far_side.specs.Parts.{FarSideInvariant, ForEach}
 use Rattle.far_side.specs.declared.fields.Fields.{Fields}
 
 pub some_session : SessionValue
@@ -29,7 +29,8 @@ some_session = record {
   end = fresh_endpoint;
 }
 
-pub for_each : {C : Type 0} (P : (C → SessionValue) → Type 0) (far : Fields) → ((session : C → SessionValue) → P session) → ((session : C → SessionValue) → P session → Keeps far) → ForEach P far
+pub for_each : {C : Type 0} (P : (C → SessionValue) → Type 0) (far : Fields) → ((session : C → SessionValue) → P session)
+    → ((session : C → SessionValue) → P session → FarSideInvariant far) → ForEach P far
 for_each P far each keeps = record { keeps = keeps (λ x. some_session) (each (λ x. some_session)); each = each }
 
 pub at_one : {C : Type 0} (P : (C → SessionValue) → Type 0) (far : Fields) → ForEach P far → P (λ x. some_session)

@@ -5,12 +5,12 @@ use Rattle.graft_steps.specs.declared.item.Item.{Item}
 use Rattle.graft_model.specs.Setups.{Setup, PeeringSetup, beat_of, routers_in, peerings_in}
 use Rattle.graft_model.specs.Parts.{FarPart}
 use Rattle.graft_model.specs.First.{first_far}
-use Rattle.graft_runs.specs.Actors.{FarSide, FarIs}
+use Rattle.graft_actors.specs.Actors.{FarSide, FarIs}
 use Rattle.graft_actors.specs.Acts.{OwnPart}
-use Rattle.far_side.specs.Says.{bytes_of}
+use Rattle.far_side.specs.Says.{bytes_to_say}
 use Rattle.far_side.specs.Parts.{far_part, own_part, say_by, HasLinks}
-use Rattle.far_side.specs.Takes.{Took}
-use Rattle.far_side.specs.Turned.{Turned}
+use Rattle.far_side.specs.Takes.{TookAsFar}
+use Rattle.far_side.specs.Turned.{FarTurned}
 use Rattle.far_side.specs.declared.config.FarConfig.{FarConfig}
 use Rattle.far_side.specs.declared.far.Far.{Far}
 
@@ -19,14 +19,14 @@ abbrev pub peering_in : Far → ℕ
 peering_in f = f.fields.peering.0
 
 -- a far side's part of the world, by itself and as an actor
-abbrev pub part_in : Far → FarPart
-part_in f = far_part f.fields
+abbrev pub part_of_far : Far → FarPart
+part_of_far f = far_part f.fields
 
-abbrev pub own : Far → OwnPart
-own f = own_part f.fields
+abbrev pub far_own_part : Far → OwnPart
+far_own_part f = own_part f.fields
 
 -- A configuration is that of a peering of a laboratory.
-pub record IsConfigOf (setup : Setup) (config : FarConfig) : Type 0 where
+pub record IsFarConfigOf (setup : Setup) (config : FarConfig) : Type 0 where
   pub peering : PeeringSetup
   pub is : slice_get setup.peerings config.peering.0 ≡ Some peering
   pub routers : config.routers ≡ routers_in setup
@@ -38,12 +38,12 @@ pub record IsConfigOf (setup : Setup) (config : FarConfig) : Type 0 where
   pub receives : config.receive_first ≡ peering.config.send_first
   pub opening : config.opening ≡ peering.opening
   pub short : length config.opening ≤ 4096
-  pub says : (step : ℕ) → bytes_of config.says step ≡ say_by config.peering.0 (slice_get setup.steps step)
+  pub says : (step : ℕ) → bytes_to_say config.says step ≡ say_by config.peering.0 (slice_get setup.steps step)
   pub beat : config.beat ≡ beat_of peering
 
 -- The far side is that of its peering in the first world, with empty links and before its first turn.
-pub record IsNew (setup : Setup) (config : FarConfig) (far : Far) : Type 0 where
-  pub is : own far ≡ record { setup = setup; name = FarSide config.peering.0; part = FarIs (first_far (slice_get setup.peerings config.peering.0)) }
+pub record IsNewFar (setup : Setup) (config : FarConfig) (far : Far) : Type 0 where
+  pub is : far_own_part far ≡ record { setup = setup; name = FarSide config.peering.0; part = FarIs (first_far (slice_get setup.peerings config.peering.0)) }
   pub at_turn : far.fields.remote.at_turn ≡ 0
   pub links : HasLinks far.fields
   pub homeward : (far.fields.homeward.plans ≡ []) × (far.fields.homeward.put ≡ 0)
@@ -53,8 +53,8 @@ pub record IsNew (setup : Setup) (config : FarConfig) (far : Far) : Type 0 where
   pub plan : far.fields.plan ≡ config.plan
 
 -- what a take and a turn promise beside their events
-abbrev pub took : {C : Type 0} → Far → ℕ → Item C → List (Deed (Item C)) → Far → Type 0
-took old from item deeds new = Took old.fields from item deeds new.fields
+abbrev pub took_by_far : {C : Type 0} → Far → ℕ → Item C → List (Deed (Item C)) → Far → Type 0
+took_by_far old from item deeds new = TookAsFar old.fields from item deeds new.fields
 
-abbrev pub turned : {C : Type 0} → Far → List (Deed (Item C)) → Far → Type 0
-turned old deeds new = Turned old.fields deeds new.fields
+abbrev pub turned_by_far : {C : Type 0} → Far → List (Deed (Item C)) → Far → Type 0
+turned_by_far old deeds new = FarTurned old.fields deeds new.fields

@@ -2,8 +2,8 @@
 use Rattle.std.specs.Prelude.{◌≡◌, false, Bool}
 use Rattle.std.specs.List.{AllByRecursion-prop}
 use Rattle.std.proofs.Props.{props}
-use Rattle.far_side.specs.Parts.{Keeps}
+use Rattle.far_side.specs.Parts.{FarSideInvariant}
 use Rattle.far_side.specs.declared.fields.Fields.{Fields}
 
-pub Keeps-prop-if : (b : Bool) (f : Fields) → IsProp (b ≡ false → Keeps f)
-Keeps-prop-if b f = hlevel (props, AllByRecursion-prop)
+pub FarSideInvariant-prop-if : (b : Bool) (f : Fields) → IsProp (b ≡ false → FarSideInvariant f)
+FarSideInvariant-prop-if b f = hlevel (props, AllByRecursion-prop)

@@ -16,7 +16,7 @@ link_of l = record {
 }
 
 -- each segment is one of the link, and has a plan
-pub record Keeps (l : Inside) : Type 0 where
+pub record LinkInvariant (l : Inside) : Type 0 where
   pub own : All (IsOn (link_of l)) l.bag
   pub planned : length l.plans.items ≡ length l.bag
   pub few : length l.bag < 2 ^ 32

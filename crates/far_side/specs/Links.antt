@@ -1,5 +1,5 @@
 -- What a plan does to the segments in a link, turn by turn.
-use Rattle.std.specs.Prelude.{ℕ, ◌≡◌, ◌<◌, ◌+◌, ◌==◌, ◌^◌, nat_le, not, if◌then◌else◌, Bool, true, false, List, [], ◌∷◌, ◌++◌, length, map, filter}
+use Rattle.std.specs.Prelude.{ℕ, ◌≡◌, ◌<◌, ◌+◌, ◌==◌, ◌^◌, nat_le, not, if◌then◌else◌, Bool, true, false, List, [], ◌∷◌, ◌++◌, length, map, filter, slice_set}
 use Rattle.link_bag.specs.declared.plan.Fate.{Fate}
 use Rattle.link_bag.specs.declared.plan.Fate.TheVariants.{Pass, Lose, Repeat, Hold, Stray}
 use Rattle.tcp_seq.specs.Endpoint.{PlacedSegment, IsInStreams}
@@ -7,6 +7,7 @@ use Rattle.tcp_seq.specs.Placed.{placed}
 use Rattle.tcp_seq.specs.declared.segment.Way.{Way}
 use Rattle.tcp_seq.specs.declared.segment.Segment.{Segment}
 use Rattle.tcp_seq.specs.declared.segment.Way.TheVariants.{Home, Remote}
+use Rattle.graft_model.specs.FarRows.{without}
 use Rattle.graft_model.specs.declared.event.FarEvent.TheVariants as events
 use Rattle.graft_model.specs.declared.event.FarEvent.{FarEvent}
 use Rattle.far_side.specs.declared.link.InLink.{InLink}
@@ -52,8 +53,8 @@ put_now fate router = record { fate = fate; turns = 0; pointed = record { 0 = ro
 -- ---- one turn over a link
 
 -- the segments left in the link after it
-abbrev pub left_of : List InLink → List InLink
-left_of xs = map older (filter (λ x. not (is_gone (act_in x))) xs)
+abbrev pub left_in_link : List InLink → List InLink
+left_in_link xs = map older (filter (λ x. not (is_gone (act_in x))) xs)
 
 -- the event of a segment that goes home, at its place in the link, while the link points at this router
 abbrev pub home_act : (pointer index : ℕ) → InLink → Act → List FarEvent
@@ -74,6 +75,14 @@ remote_act index Lost = events.Lose Remote index ∷ []
 
 abbrev pub remote_event : ℕ → InLink → List FarEvent
 remote_event index x = remote_act index (act_in x)
+
+-- the event of a segment that goes to one side
+abbrev pub link_act : Way → (pointer index : ℕ) → InLink → Act → List FarEvent
+link_act Home pointer index x act = home_act pointer index x act
+link_act Remote pointer index x act = remote_act index act
+
+abbrev pub link_event : Way → (pointer : ℕ) → ℕ → InLink → List FarEvent
+link_event way pointer index x = link_act way pointer index x (act_in x)
 
 -- the place of the next segment, where a place counts the segments that are still in the link
 abbrev pub next_place : ℕ → InLink → ℕ
@@ -102,6 +111,18 @@ pub record LinkValue : Type 0 where
   pub segments : List PlacedSegment
   pub plans : List InLink
   pub put : ℕ
+
+-- the segment at a place stays one turn longer
+abbrev pub aged : (place : ℕ) → InLink → LinkValue → LinkValue
+aged place x link = record link { plans = slice_set link.plans place (older x) }
+
+-- the segment at a place leaves the link
+abbrev pub removed : (place : ℕ) → LinkValue → LinkValue
+removed place link = record link { segments = without place link.segments; plans = without place link.plans }
+
+-- the segment at a place is delivered, and leaves the link unless it is kept
+abbrev pub given : Bool → (place : ℕ) → LinkValue → LinkValue
+given keep place link = if keep then link else removed place link
 
 -- a segment that this link may carry
 pub record IsOn (link : LinkValue) (g : Segment) : Type 0 where

@@ -9,19 +9,21 @@ use Rattle.link_bag.specs.Planned.{fate_in}
 use Rattle.tcp_seq.specs.Placed.{placed}
 use Rattle.tcp_seq.specs.Endpoint.{Endpoint, PlacedSegment, TakesSegment, next_length, again_length}
 use Rattle.tcp_seq.specs.declared.segment.Segment.{Segment}
+use Rattle.tcp_seq.specs.declared.segment.Way.{Way}
+use Rattle.tcp_seq.specs.declared.segment.Way.TheVariants.{Home, Remote}
 use Rattle.session_value.specs.Sessions.{SessionValue}
 use Rattle.graft_model.specs.FarRows.{without}
 use Rattle.graft_model.specs.declared.event.FarEvent.{FarEvent}
-use Rattle.graft_model.specs.declared.event.FarEvent.TheVariants.{Send, Beat, Pass}
+use Rattle.graft_model.specs.declared.event.FarEvent.TheVariants.{Send, Beat, Pass, Reach}
 use Rattle.session_value.specs.Cases.{sending}
 use Rattle.bgp_types.specs.declared.message.Message.TheVariants.{KeepaliveMsg}
 use Rattle.bgp_types.specs.Spelling.{spell}
 use Rattle.graft_actors.specs.Emissions.{reach_of, Tally}
-use Rattle.far_side.specs.Remotes.{RemoteValue, IsSound}
-use Rattle.far_side.specs.Links.{LinkValue, IsOn, act_in, is_gone, older, next_place, home_event, home_events, remote_event, remote_events, left_of, put_now}
+use Rattle.far_side.specs.Remotes.{RemoteValue, SendingInvariant}
+use Rattle.far_side.specs.Links.{LinkValue, IsOn, act_in, is_gone, older, next_place, link_event, pass_events, left_in_link, put_now}
 use Rattle.graft_actors.specs.Notes.{WroteOne}
-use Rattle.far_side.specs.Parts.{Keeps}
-use Rattle.far_side.specs.Turns.{Did}
+use Rattle.far_side.specs.Parts.{FarSideInvariant, link_to, with_link}
+use Rattle.far_side.specs.Turns.{DidAsFar}
 use Rattle.far_side.specs.declared.link.InLink.{InLink}
 use Rattle.far_side.specs.declared.fields.Fields.{Fields}
 use Rattle.graft_model.specs.Codes.{far_code}
@@ -33,39 +35,12 @@ pub record SendsHome {C : Type 0} (link : LinkValue) (place : ℕ) (keep : Bool)
   pub is : slice_get link.segments place ≡ Some (placed link.seq_first link.ack_first segment)
   pub wrote : WroteOne before (far_code (Pass place keep router)) ((router, items.Seg segment) ∷ []) after
 
--- the plans that a link keeps after the turn of the segment at a place
-abbrev pub plans_after : ℕ → InLink → List InLink → List InLink
-plans_after place x plans = if is_gone (act_in x) then without place plans else slice_set plans place (older x)
-
 -- the other fields of a link stay the same
 pub record SameLink (old new : LinkValue) : Type 0 where
   pub way : new.way ≡ old.way
   pub peering : new.peering ≡ old.peering
   pub seq_first : new.seq_first ≡ old.seq_first
   pub ack_first : new.ack_first ≡ old.ack_first
-
--- the segment at a place of the link to home has its turn
-pub record HomeStep {C : Type 0} (session : C → SessionValue) (old : Fields) (place : ℕ) (before : Post (Item C)) (new : Fields) (next : ℕ) (after : Post (Item C)) : Type 0 where
-  pub plan : InLink
-  pub is : slice_get old.homeward.plans place ≡ Some plan
-  pub did : (t : Tally) → Did session old before t (home_event old.pointer.0 place plan) new after t
-  pub next_is : next ≡ next_place place plan
-  pub plans : new.homeward.plans ≡ plans_after place plan old.homeward.plans
-  pub link : SameLink old.homeward new.homeward
-  pub put : new.homeward.put ≡ old.homeward.put
-  pub same : new ≡ record old { homeward = new.homeward }
-  pub keeps : Keeps new
-
--- all segments of the link to home have their turns
-pub record HomePass {C : Type 0} (session : C → SessionValue) (old : Fields) (before : Post (Item C)) (new : Fields) (after : Post (Item C)) : Type 0 where
-  pub did : (t : Tally) → Did session old before t (home_events old.pointer.0 old.homeward.plans) new after t
-  pub plans : new.homeward.plans ≡ left_of old.homeward.plans
-  pub link : SameLink old.homeward new.homeward
-  pub put : new.homeward.put ≡ old.homeward.put
-  pub same : new ≡ record old { homeward = new.homeward }
-  pub keeps : Keeps new
-
--- ---- the link to the remote
 
 -- what arriving segments don't change of a remote: it has emitted as much as before, and at least as much is acknowledged
 pub record SameRemote (old new : RemoteValue) : Type 0 where
@@ -74,33 +49,52 @@ pub record SameRemote (old new : RemoteValue) : Type 0 where
   pub emitted : new.end.emitted ≡ old.end.emitted
   pub acked : old.end.acked ≤ new.end.acked
 
--- the segment at a place of a link arrives at the remote
+-- The segment at a place of a link arrives at the remote.
 pub record Arrives (link : LinkValue) (place : ℕ) (old new : RemoteValue) : Type 0 where
   pub segment : PlacedSegment
   pub is : slice_get link.segments place ≡ Some segment
   pub takes : TakesSegment old.end segment new.end
   pub same : new ≡ record old { end = new.end }
 
-pub record RemoteStep {C : Type 0} (session : C → SessionValue) (old : Fields) (place : ℕ) (before : Post (Item C)) (new : Fields) (next : ℕ) (after : Post (Item C)) : Type 0 where
-  pub plan : InLink
-  pub is : slice_get old.remoteward.plans place ≡ Some plan
-  pub did : (t : Tally) → Did session old before t (remote_event place plan) new after t
-  pub next_is : next ≡ next_place place plan
-  pub plans : new.remoteward.plans ≡ plans_after place plan old.remoteward.plans
-  pub link : SameLink old.remoteward new.remoteward
-  pub put : new.remoteward.put ≡ old.remoteward.put
-  pub remote : SameRemote old.remote new.remote
-  pub same : new ≡ record old { remote = new.remote; remoteward = new.remoteward }
-  pub keeps : Keeps new
+-- The segment at a place of a link is delivered: home to a router, or to the remote.
+abbrev pub Hands : {C : Type 0} → Way → LinkValue → (place : ℕ) → (keep : Bool) → (router : ℕ) → RemoteValue → Post (Item C) → RemoteValue
+    → Post (Item C) → Type 0
+Hands Home link place keep router old before new after = SendsHome link place keep router before after × (new ≡ old)
+Hands Remote link place keep router old before new after = WroteOne before (far_code (Reach place keep)) [] after × Arrives link place old new
 
-pub record RemotePass {C : Type 0} (session : C → SessionValue) (old : Fields) (before : Post (Item C)) (new : Fields) (after : Post (Item C)) : Type 0 where
-  pub did : (t : Tally) → Did session old before t (remote_events old.remoteward.plans) new after t
-  pub plans : new.remoteward.plans ≡ left_of old.remoteward.plans
-  pub link : SameLink old.remoteward new.remoteward
-  pub put : new.remoteward.put ≡ old.remoteward.put
-  pub remote : SameRemote old.remote new.remote
-  pub same : new ≡ record old { remote = new.remote; remoteward = new.remoteward }
-  pub keeps : Keeps new
+-- what the turns of a link's segments change of the remote: nothing on the way home
+abbrev pub HandedTo : Way → RemoteValue → RemoteValue → Type 0
+HandedTo Home old new = new ≡ old
+HandedTo Remote old new = SameRemote old new
+
+-- the plans of a link after the turn of the segment at a place, and the whole link
+abbrev pub plans_after : (place : ℕ) → InLink → List InLink → List InLink
+plans_after place x plans = if is_gone (act_in x) then without place plans else slice_set plans place (older x)
+
+abbrev pub link_after : (place : ℕ) → InLink → LinkValue → LinkValue
+link_after place x link = record link {
+  segments = if is_gone (act_in x) then without place link.segments else link.segments;
+  plans = plans_after place x link.plans;
+}
+
+-- The segment at a place of a link has its turn.
+pub record LinkStep {C : Type 0} (session : C → SessionValue) (way : Way) (old : Fields) (place : ℕ) (before : Post (Item C)) (new : Fields) (next : ℕ) (after : Post (Item C)) : Type 0 where
+  pub plan : InLink
+  pub is : slice_get (link_to old way).plans place ≡ Some plan
+  pub did : (t : Tally) → DidAsFar session old before t (link_event way old.pointer.0 place plan) new after t
+  pub next_is : next ≡ next_place place plan
+  pub remote : HandedTo way old.remote new.remote
+  pub same : new ≡ with_link (record old { remote = new.remote }) way (link_after place plan (link_to old way))
+  pub keeps : FarSideInvariant new
+
+-- All segments of a link have their turns.
+pub record LinkPass {C : Type 0} (session : C → SessionValue) (way : Way) (old : Fields) (before : Post (Item C)) (new : Fields) (after : Post (Item C)) : Type 0 where
+  pub did : (t : Tally) → DidAsFar session old before t (pass_events (link_event way old.pointer.0) 0 (link_to old way).plans) new after t
+  pub plans : (link_to new way).plans ≡ left_in_link (link_to old way).plans
+  pub link : link_to new way ≡ record (link_to old way) { segments = (link_to new way).segments; plans = (link_to new way).plans }
+  pub remote : HandedTo way old.remote new.remote
+  pub same : new ≡ with_link (record old { remote = new.remote }) way (link_to new way)
+  pub keeps : FarSideInvariant new
 
 -- ---- what the remote sends
 
@@ -123,13 +117,13 @@ plans_put fate router from (suc n) = put_now (fate (from + 1)) router ∷ plans_
 
 -- The far side sent segments by these events. As many segments went into the link to home, and the endpoint is this one now.
 pub record Sent {C : Type 0} (session : C → SessionValue) (old : Fields) (before : Post (Item C)) (t : Tally) (events : List FarEvent) (new : Fields) (after : Post (Item C)) (u : Tally) : Type 0 where
-  pub did : Did session old before t events new after u
+  pub did : DidAsFar session old before t events new after u
   pub plans : new.homeward.plans ≡ old.homeward.plans ++ plans_put (fates_in old.plan old.homeward) old.pointer.0 old.homeward.put (length events)
   pub put : new.homeward.put ≡ old.homeward.put + length events
   pub link : new.homeward ≡ record old.homeward { segments = new.homeward.segments; plans = new.homeward.plans; put = new.homeward.put }
   pub remote : new.remote ≡ record old.remote { end = new.remote.end; at_turn = new.remote.at_turn }
   pub same : new ≡ record old { remote = new.remote; homeward = new.homeward }
-  pub keeps : Keeps new
+  pub keeps : FarSideInvariant new
 
 -- the first outstanding slice, if it is to be sent again
 abbrev pub again_events : RemoteValue → List FarEvent
@@ -155,7 +149,7 @@ pub record IsDue (f : Fields) : Type 0 where
 pub record SentAgain {C : Type 0} (session : C → SessionValue) (old : Fields) (before : Post (Item C)) (new : Fields) (after : Post (Item C)) : Type 0 where
   pub sent : (t : Tally) → Sent session old before t (again_events old.remote) new after (record t { again = t.again + length (again_events old.remote) })
   pub remote : new.remote ≡ record old.remote { at_turn = old.remote.end.acked }
-  pub sound : IsSound old.remote.end
+  pub sound : SendingInvariant old.remote.end
 
 -- all new slices, after which all that may be emitted is emitted
 pub record SentFresh {C : Type 0} (session : C → SessionValue) (old : Fields) (before : Post (Item C)) (new : Fields) (after : Post (Item C)) : Type 0 where
@@ -167,7 +161,8 @@ pub record SentFresh {C : Type 0} (session : C → SessionValue) (old : Fields) 
 
 -- the owed acknowledgement
 pub record SentAnswer {C : Type 0} (session : C → SessionValue) (old : Fields) (before : Post (Item C)) (new : Fields) (after : Post (Item C)) : Type 0 where
-  pub sent : (t : Tally) → Sent session old before t (answer_events old.remote.end) new after (record t { answers = t.answers + length (answer_events old.remote.end) })
+  pub sent : (t : Tally)
+      → Sent session old before t (answer_events old.remote.end) new after (record t { answers = t.answers + length (answer_events old.remote.end) })
   pub remote : new.remote ≡ record old.remote { end = record old.remote.end { owed = false } }
 
 -- A KEEPALIVE is said if it is due; otherwise nothing happens.
@@ -178,6 +173,6 @@ Beats old events new =
 
 pub record Beaten {C : Type 0} (session : C → SessionValue) (old : Fields) (before : Post (Item C)) (new : Fields) (after : Post (Item C)) : Type 0 where
   pub events : List FarEvent
-  pub did : (t : Tally) → Did session old before t events new after t
+  pub did : (t : Tally) → DidAsFar session old before t events new after t
   pub beats : Beats old events new
-  pub keeps : Keeps new
+  pub keeps : FarSideInvariant new

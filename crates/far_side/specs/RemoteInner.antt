@@ -16,7 +16,7 @@ remote_of r = record {
   receive_first = r.receive_first.0;
 }
 
-pub record Keeps (r : Inside) : Type 0 where
+pub record RemoteInvariant (r : Inside) : Type 0 where
   pub stands : EndStands r.end (endpoint_of r.said [] r.end)
   pub unread : r.end.taken ≡ 0
   pub way : r.end.way ≡ Home

@@ -49,7 +49,7 @@ pub record IsFor (r : RemoteValue) (g : Segment) : Type 0 where
 
 -- The invariant of what an endpoint sends: no more is acknowledged than was emitted, and no more is emitted than the stream and the flight of 15,360
 -- allow.
-pub record IsSound (e : Endpoint) : Type 0 where
+pub record SendingInvariant (e : Endpoint) : Type 0 where
   pub acked : e.acked ≤ e.emitted
   pub emitted : e.emitted ≤ length e.stream
   pub flight : e.emitted ≤ e.acked + 15360

@@ -13,9 +13,9 @@ use Rattle.graft_model.specs.Codes.{far_code}
 use Rattle.graft_model.specs.declared.event.FarEvent.{FarEvent}
 use Rattle.graft_model.specs.declared.event.FarEvent.TheVariants.{Send}
 use Rattle.graft_model.specs.Steps.{far_row}
-use Rattle.graft_runs.specs.Makes.{HasCode}
+use Rattle.graft_actors.specs.Makes.{HasCode, AreDeeds}
 use Rattle.graft_actors.specs.Acts.{acts}
-use Rattle.graft_actors.specs.Emissions.{IsOld, IsNew, IsCareful, Tally, counted}
+use Rattle.graft_actors.specs.Emissions.{IsOld, IsNewSlice, IsCareful, Tally, tallied}
 use Rattle.far_side.specs.Parts.{far_part, own_part}
 use Rattle.far_side.specs.declared.fields.Fields.{Fields}
 
@@ -26,7 +26,7 @@ CarefulFar part (Send from len) = IsCareful part.end from len
 CarefulFar part event = Unit {0}
 
 abbrev pub far_tally : FarPart → FarEvent → Tally → Tally
-far_tally part (Send from len) t = counted part.end from len t
+far_tally part (Send from len) t = tallied part.end from len t
 far_tally part event t = t
 
 -- The events lead from one part to another, each by its row; each segment that is sent is an old slice, a new one or an owed acknowledgement; and the
@@ -40,13 +40,13 @@ FarRound setup p before t (event ∷ events) after u =
 -- ---- what is sent at one stage of a turn
 
 -- the first outstanding slice
-abbrev pub SendsOld : FarPart → FarEvent → Type 0
-SendsOld part (Send from len) = IsOld part.end from len
-SendsOld part event = ⊥
+abbrev pub FarRetransmits : FarPart → FarEvent → Type 0
+FarRetransmits part (Send from len) = IsOld part.end from len
+FarRetransmits part event = ⊥
 
 -- a slice that was never sent
 abbrev pub SendsNew : FarPart → FarEvent → Type 0
-SendsNew part (Send from (suc n)) = IsNew part.end from (suc n)
+SendsNew part (Send from (suc n)) = IsNewSlice part.end from (suc n)
 SendsNew part event = ⊥
 
 -- an acknowledgement that is owed: a segment without bytes
@@ -65,19 +65,13 @@ FarGoes setup p Allowed before [] after = after ≡ before
 FarGoes setup p Allowed before (event ∷ events) after =
     (taken : Option FarTaken) × (sent : List FarSent) × (mid : FarPart) × far_row setup p event before taken sent mid × Allowed before event × FarGoes setup p Allowed mid events after
 
--- the entries of what was done are those of these events
-abbrev pub AreOf : {I : Type 0} → List FarEvent → List (Deed I) → Type 0
-AreOf [] [] = Unit {0}
-AreOf (event ∷ events) (deed ∷ deeds) = HasCode (far_code event) deed.entry × AreOf events deeds
-AreOf events deeds = ⊥
-
 -- What a part of a call that takes no item does: the events that it made and wrote.
-pub record Did {C : Type 0} (session : C → SessionValue) (old : Fields) (before : Post (Item C)) (t : Tally) (events : List FarEvent) (new : Fields) (after : Post (Item C)) (u : Tally) : Type 0 where
+pub record DidAsFar {C : Type 0} (session : C → SessionValue) (old : Fields) (before : Post (Item C)) (t : Tally) (events : List FarEvent) (new : Fields) (after : Post (Item C)) (u : Tally) : Type 0 where
   pub setup : new.known.setup ≡ old.known.setup
   pub peering : new.peering ≡ old.peering
   pub deeds : List (Deed (Item C))
   pub wrote : Wrote before deeds after
   pub none : AllByRecursion TakesNone deeds
-  pub coded : AreOf events deeds
+  pub coded : AreDeeds far_code events deeds
   pub replay : Replay (acts session) (actor_of before) (own_part old) deeds (own_part new)
   pub round : FarRound old.known.setup old.peering.0 (far_part old) t events (far_part new) u

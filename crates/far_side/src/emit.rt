@@ -11,7 +11,7 @@ ghost use Rattle.far_side.specs.Remotes.{IsFrom};
 ghost use Rattle.graft_actors.specs.Notes.{WroteOne};
 ghost use Rattle.graft_model.specs.Codes.{far_code};
 ghost use Rattle.graft_model.specs.declared.event.FarEvent.TheVariants.{Send};
-ghost use Rattle.far_side.specs.Parts.{Keeps, ForEach};
+ghost use Rattle.far_side.specs.Parts.{FarSideInvariant, ForEach};
 ghost use Rattle.far_side.specs.Passes.{put_in, SentAgain, SentFresh, SentAnswer, Beaten, IsDue};
 
 use crate::fields::Fields;
@@ -37,7 +37,7 @@ fn send<C: Drop>(
     segment: Segment,
     post: &mut Post<Item<C>>,
 ) -> Result<(), NoMemory>
-    requires keeps { Keeps far.old }
+    requires keeps { FarSideInvariant far.old }
     requires own { IsFrom far.old.remote segment }
     ensures edges { SameEdges post.old post.new }
     ensures sent { OnOk result (WroteOne post.old (far_code (Send from (length segment.bytes))) [] post.new × (far.new ≡ record far.old { homeward = put_in far.old.homeward far.old (placed far.old.remote.send_first far.old.remote.receive_first segment) })) }
@@ -52,7 +52,7 @@ pub(crate) fn send_again<C: Drop>(
     far: &mut Fields,
     post: &mut Post<Item<C>>,
 ) -> Result<(), NoMemory>
-    requires { Keeps far.old }
+    requires { FarSideInvariant far.old }
     ensures edges { SameEdges post.old post.new }
     ensures sent { OnOk result (ForEach (λ (session : C → SessionValue). SentAgain session far.old post.old far.new post.new) far.new) }
 {
@@ -68,7 +68,7 @@ pub(crate) fn send_fresh<C: Drop>(
     far: &mut Fields,
     post: &mut Post<Item<C>>,
 ) -> Result<(), NoMemory>
-    requires { Keeps far.old }
+    requires { FarSideInvariant far.old }
     ensures edges { SameEdges post.old post.new }
     ensures sent { OnOk result (ForEach (λ (session : C → SessionValue). SentFresh session far.old post.old far.new post.new) far.new) }
 {
@@ -86,7 +86,7 @@ pub(crate) fn send_answer<C: Drop>(
     far: &mut Fields,
     post: &mut Post<Item<C>>,
 ) -> Result<(), NoMemory>
-    requires { Keeps far.old }
+    requires { FarSideInvariant far.old }
     ensures edges { SameEdges post.old post.new }
     ensures sent { OnOk result (ForEach (λ (session : C → SessionValue). SentAnswer session far.old post.old far.new post.new) far.new) }
 {
@@ -110,7 +110,7 @@ fn is_due(far: &Fields) -> bool
 
 /// Says a KEEPALIVE if one is due.
 pub(crate) fn beat<C: Drop>(far: &mut Fields, post: &mut Post<Item<C>>) -> Result<(), NoMemory>
-    requires { Keeps far.old }
+    requires { FarSideInvariant far.old }
     ensures edges { SameEdges post.old post.new }
     ensures beaten { OnOk result (ForEach (λ (session : C → SessionValue). Beaten session far.old post.old far.new post.new) far.new) }
 {

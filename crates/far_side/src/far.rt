@@ -1,8 +1,8 @@
 //! The far side of a peering.
 
 ghost use Rattle.std.specs.Prelude.{◌≡◌, false};
-ghost use Rattle.far_side.specs.Parts.{Keeps};
-ghost use Rattle.far_side.specs.FieldProps.{Keeps-prop-if};
+ghost use Rattle.far_side.specs.Parts.{FarSideInvariant};
+ghost use Rattle.far_side.specs.FieldProps.{FarSideInvariant-prop-if};
 
 use crate::config::FarConfig;
 use crate::fields::Fields;
@@ -24,7 +24,7 @@ pub struct Far {
     fields: Fields,
     // Whether memory ran out. From then on no call does anything.
     has_failed: bool,
-    ghost sound: { has_failed ≡ false → Keeps fields } by { Keeps-prop-if has_failed fields },
+    ghost sound: { has_failed ≡ false → FarSideInvariant fields } by { FarSideInvariant-prop-if has_failed fields },
 }
 
 impl Far {
@@ -34,13 +34,13 @@ impl Far {
     ghost use Rattle.session_value.specs.Sessions.{SessionValue};
     ghost use Rattle.settled_check.specs.Rests.{IsFarRest};
     ghost use Rattle.graft_actors.specs.Acts.{acts};
-    ghost use Rattle.far_side.specs.Fars.{own, part_in, peering_in, IsConfigOf, IsNew, took, turned};
+    ghost use Rattle.far_side.specs.Fars.{far_own_part, part_of_far, peering_in, IsFarConfigOf, IsNewFar, took_by_far, turned_by_far};
 
     /// Returns a far side that begins with this configuration, in its laboratory. The remote has said its opening, and
     /// both links are empty.
     pub fn new(alloc: Global, known: Known, config: FarConfig) -> Result<Far, NoMemory>
-        requires { IsConfigOf known.setup config }
-        ensures { IfOk result (IsNew known.setup config) }
+        requires { IsFarConfigOf known.setup config }
+        ensures { IfOk result (IsNewFar known.setup config) }
     {
         let FarConfig {
             routers,
@@ -88,7 +88,7 @@ impl Far {
         item: Item<C>,
         post: &mut Post<Item<C>>,
     ) -> Result<(), NoMemory>
-        ensures took { OnOk result ((session : C → SessionValue) → TookItem own (acts session) took from item self.old post.old self.new post.new) }
+        ensures took { OnOk result ((session : C → SessionValue) → TookItem far_own_part (acts session) took_by_far from item self.old post.old self.new post.new) }
         ensures edges { SameEdges post.old post.new }
     {
         if self.has_failed {
@@ -103,7 +103,7 @@ impl Far {
     /// all new slices, and sends the acknowledgement that is owed. Once memory ran out, every take and turn returns
     /// `NoMemory`.
     pub fn turn<C: Drop>(&mut self, post: &mut Post<Item<C>>) -> Result<(), NoMemory>
-        ensures turned { OnOk result ((session : C → SessionValue) → Moved own (acts session) turned self.old post.old self.new post.new) }
+        ensures turned { OnOk result ((session : C → SessionValue) → Moved far_own_part (acts session) turned_by_far self.old post.old self.new post.new) }
         ensures edges { SameEdges post.old post.new }
     {
         if self.has_failed {
@@ -124,28 +124,28 @@ impl Far {
 
     /// Returns all bytes that the remote said.
     pub fn said(&self) -> &[u8]
-        ensures { result.now ≡ (part_in self.now).end.stream }
+        ensures { result.now ≡ (part_of_far self.now).end.stream }
     {
         self.fields.remote.said()
     }
 
     /// Returns all bytes that the remote received in order.
     pub fn received(&self) -> &[u8]
-        ensures { result.now ≡ received_bytes (part_in self.now).end }
+        ensures { result.now ≡ received_bytes (part_of_far self.now).end }
     {
         self.fields.remote.received()
     }
 
     /// Returns the router that the link points at.
     pub fn pointer(&self) -> RouterId
-        ensures { result.0 ≡ (part_in self.now).pointer }
+        ensures { result.0 ≡ (part_of_far self.now).pointer }
     {
         self.fields.pointer
     }
 
     /// Returns what is left to do.
     pub fn rest(&self) -> FarRest
-        ensures { IsFarRest (peering_in self.now) (part_in self.now) result }
+        ensures { IsFarRest (peering_in self.now) (part_of_far self.now) result }
     {
         FarRest {
             peering: self.fields.peering,

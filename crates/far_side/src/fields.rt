@@ -4,8 +4,9 @@ use crate::link::Link;
 use crate::remote::Remote;
 use crate::says::SayTable;
 use graft_actors::Known;
-use graft_edge::{PeeringId, RouterId};
+use graft_edge::{NoMemory, PeeringId, RouterId};
 use link_bag::Plan;
+use tcp_seq::{Segment, Way};
 
 /// The fields of a far side.
 #[derive(Drop)]
@@ -30,4 +31,45 @@ pub struct Fields {
     /// The number of KEEPALIVEs said at the interval, and the turn of the last one.
     pub(crate) beats: u32,
     pub(crate) last_beat: u32,
+}
+
+impl Fields {
+    ghost use Rattle.std.specs.Prelude.{◌≡◌, ◌<◌, ◌+◌, length, Some, IfOk, OnOk, slice_get};
+    ghost use Rattle.far_side.specs.declared.link.InLink.{InLink};
+    ghost use Rattle.far_side.specs.Links.{aged, removed};
+    ghost use Rattle.far_side.specs.Parts.{link_to, with_link};
+
+    /// Returns the link to one side.
+    pub(crate) fn link(&self, way: Way) -> &Link
+        ensures { result.now ≡ link_to self.now way }
+    {
+        match way {
+            Way::Home => &self.homeward,
+            Way::Remote => &self.remoteward,
+        }
+    }
+
+    /// Keeps the segment at a place of the link to one side for another turn. Returns the place of the next segment.
+    pub(crate) fn keep(&mut self, way: Way, place: u32) -> Result<u32, NoMemory>
+        requires { place < length (link_to self.old way).plans }
+        ensures next { IfOk result (λ next. next ≡ place + 1) }
+        ensures kept { OnOk result ((x : InLink) → slice_get (link_to self.old way).plans place ≡ Some x → self.new ≡ with_link self.old way (aged place x (link_to self.old way))) }
+    {
+        match way {
+            Way::Home => self.homeward.keep(place),
+            Way::Remote => self.remoteward.keep(place),
+        }
+    }
+
+    /// Removes the segment at a place of the link to one side, and returns it.
+    pub(crate) fn remove(&mut self, way: Way, place: u32) -> Segment
+        requires { place < length (link_to self.old way).plans }
+        ensures there { place < length (link_to self.old way).segments }
+        ensures removed { self.new ≡ with_link self.old way (removed place (link_to self.old way)) }
+    {
+        match way {
+            Way::Home => self.homeward.remove(place),
+            Way::Remote => self.remoteward.remove(place),
+        }
+    }
 }

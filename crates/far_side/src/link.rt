@@ -1,9 +1,8 @@
 //! A link in one direction: the segments that it holds, and what the plan does to each of them.
 
-ghost use Rattle.std.specs.Prelude.{ℕ, ◌≡◌, ◌<◌, ◌+◌, ◌++◌, ◌∷◌, [], true, false, length, Some, IfOk, OnOk, slice_get, slice_set};
+ghost use Rattle.std.specs.Prelude.{ℕ, ◌≡◌, ◌<◌, ◌+◌, ◌++◌, ◌∷◌, [], true, false, length, Some, IfOk, OnOk, slice_get};
 ghost use Rattle.link_bag.specs.Planned.{fate_in};
 ghost use Rattle.tcp_seq.specs.Placed.{placed};
-ghost use Rattle.graft_model.specs.FarRows.{without};
 
 use graft_edge::{NoMemory, PeeringId, RouterId};
 use link_bag::{Bag, Fate, Plan};
@@ -108,17 +107,17 @@ impl Model for Link {
 
     ghost Value = { LinkValue };
 
-    ghost use Rattle.far_side.specs.LinkInner.{link_of, Keeps};
+    ghost use Rattle.far_side.specs.LinkInner.{link_of, LinkInvariant};
 
     ghost view = { link_of };
 
-    ghost invariant = { Keeps };
+    ghost invariant = { LinkInvariant };
 }
 
 impl Link {
     ghost use Rattle.std.specs.Prelude.{ℕ, ◌≡◌, ◌<◌, ◌+◌, ◌^◌, ◌++◌, ◌∷◌, [], false, length, Some, IfOk, OnOk, IfSome, slice_get};
     ghost use Rattle.far_side.specs.declared.link.InLink.{InLink};
-    ghost use Rattle.far_side.specs.Links.{IsOn, put_now, older};
+    ghost use Rattle.far_side.specs.Links.{IsOn, put_now, aged, given, removed};
 
     /// Returns an empty link. Its segments carry the stream with initial sequence number `seq_first`, and acknowledge
     /// the one with initial sequence number `ack_first`.
@@ -185,45 +184,51 @@ impl Link {
     }
 
     /// Returns what the plan does to the segment at a place, which must be below the number of segments.
-    pub fn plan(&self, place: usize) -> InLink
+    pub fn plan(&self, place: u32) -> InLink
         requires { place < length self.now.plans }
         ensures { slice_get self.now.plans place ≡ Some result }
     {
-        self.plans[place]
+        self.plans[place as usize]
     }
 
-    /// Keeps the segment at a place for another turn. The place must be below the number of segments. Returns
-    /// `NoMemory` after 2^32 - 1 turns.
-    pub fn keep(&mut self, place: usize) -> Result<(), NoMemory>
+    /// Keeps the segment at a place for another turn. The place must be below the number of segments. Returns the place
+    /// of the next segment, or `NoMemory` after 2^32 - 1 turns.
+    pub fn keep(&mut self, place: u32) -> Result<u32, NoMemory>
         requires { place < length self.old.plans }
-        ensures { OnOk result ((x : InLink) → slice_get self.old.plans place ≡ Some x → self.new ≡ record self.old { plans = slice_set self.old.plans place (older x) }) }
+        ensures next { IfOk result (λ next. next ≡ place + 1) }
+        ensures kept { OnOk result ((x : InLink) → slice_get self.old.plans place ≡ Some x → self.new ≡ aged place x self.old) }
     {
-        let plan = self.plans[place];
+        let plan = self.plans[place as usize];
         let Some(older) = plan.older() else {
             return Err(NoMemory);
         };
-        self.plans[place] = older;
-        Ok(())
+        self.plans[place as usize] = older;
+        Ok(place + 1)
     }
 
-    /// Returns a copy of the segment at a place, which must be below the number of segments. The link doesn't change.
-    pub fn deliver(&mut self, place: usize) -> Result<Segment, NoMemory>
+    /// Returns the segment at a place, which must be below the number of segments. If it is kept, a copy is returned,
+    /// and otherwise it leaves the link.
+    pub fn give(&mut self, place: u32, keep: bool) -> Result<Segment, NoMemory>
         requires { place < length self.old.plans }
-        ensures copy { IfOk result (λ g. slice_get self.old.segments place ≡ Some (placed self.old.seq_first self.old.ack_first g)) }
-        ensures own { IfOk result (λ g. IsOn self.old g) }
-        ensures kept { self.new ≡ self.old }
+        ensures segment { IfOk result (λ g. slice_get self.old.segments place ≡ Some (placed self.old.seq_first self.old.ack_first g)) }
+        ensures own { IfOk result (IsOn self.old) }
+        ensures left { OnOk result (self.new ≡ given keep place self.old) }
     {
-        self.bag.deliver(place)
+        if keep {
+            self.bag.deliver(place as usize)
+        } else {
+            Ok(self.remove(place))
+        }
     }
 
     /// Removes and returns the segment at a place, which must be below the number of segments.
-    pub fn remove(&mut self, place: usize) -> Segment
+    pub fn remove(&mut self, place: u32) -> Segment
         requires { place < length self.old.plans }
         ensures segment { slice_get self.old.segments place ≡ Some (placed self.old.seq_first self.old.ack_first result) }
         ensures own { IsOn self.old result }
-        ensures others { self.new ≡ record self.old { segments = without place self.old.segments; plans = without place self.old.plans } }
+        ensures others { self.new ≡ removed place self.old }
     {
-        self.plans.remove(place);
-        self.bag.remove(place)
+        self.plans.remove(place as usize);
+        self.bag.remove(place as usize)
     }
 }

@@ -5,7 +5,7 @@ ghost use Rattle.tcp_seq.specs.Endpoint.{EmitsNext, EmitsAgain, EmitsAnswer, Tak
 ghost use Rattle.tcp_seq.specs.Placed.{placed};
 ghost use Rattle.session_value.specs.Cases.{sending};
 ghost use Rattle.graft_actors.specs.Emissions.{reach_of};
-ghost use Rattle.far_side.specs.Remotes.{IsFor, IsSound, EmitsOf};
+ghost use Rattle.far_side.specs.Remotes.{IsFor, SendingInvariant, EmitsOf};
 
 use graft_edge::{ByteQueue, NoMemory, Octets, PeeringId};
 use std::alloc::Global;
@@ -37,11 +37,11 @@ impl Model for Remote {
 
     ghost coded = { remote_code };
 
-    ghost use Rattle.far_side.specs.RemoteInner.{remote_of, Keeps};
+    ghost use Rattle.far_side.specs.RemoteInner.{remote_of, RemoteInvariant};
 
     ghost view = { remote_of };
 
-    ghost invariant = { Keeps };
+    ghost invariant = { RemoteInvariant };
 }
 
 impl Remote {
@@ -110,24 +110,12 @@ impl Remote {
     }
 
     /// Takes an arriving segment, which must be for the remote.
-    pub fn arrive(&mut self, segment: &Segment) -> Result<(), NoMemory>
-        requires { IsFor self.old segment.now }
-        ensures arrives { OnOk result (TakesSegment self.old.end (placed self.old.receive_first self.old.send_first segment.now) self.new.end) }
+    pub fn arrive(&mut self, segment: Segment) -> Result<(), NoMemory>
+        requires { IsFor self.old segment }
+        ensures arrives { OnOk result (TakesSegment self.old.end (placed self.old.receive_first self.old.send_first segment) self.new.end) }
         ensures same { OnOk result (self.new ≡ record self.old { end = self.new.end }) }
     {
-        self.arrive_numbered(segment, segment.seq.0, segment.ack.0)
-    }
-
-    /// Takes an arriving segment, given its sequence and acknowledgement numbers as 32-bit numbers.
-    fn arrive_numbered(&mut self, segment: &Segment, seq: u32, ack: u32) -> Result<(), NoMemory>
-        requires own { IsFor self.old segment.now }
-        requires seq { seq ≡ segment.now.seq.0 }
-        requires ack { ack ≡ segment.now.ack.0 }
-        ensures arrives { OnOk result (TakesSegment self.old.end (placed self.old.receive_first self.old.send_first segment.now) self.new.end) }
-        ensures same { OnOk result (self.new ≡ record self.old { end = self.new.end }) }
-    {
-        let _ = (seq, ack);
-        self.end.arrive(segment)?;
+        self.end.arrive(&segment)?;
         Ok(())
     }
 
@@ -137,7 +125,7 @@ impl Remote {
         ensures none { IfOk result (λ answer. IsNone answer ↔ ((again_length self.old.end ≡ 0) ⊎ (self.old.at_turn < self.old.end.acked))) }
         ensures emits { IfOk result (λ answer. EmitsOf EmitsAgain self.old answer self.new.end) }
         ensures same { OnOk result (self.new ≡ record self.old { end = self.new.end; at_turn = self.old.end.acked }) }
-        ensures sound { IsSound self.old.end }
+        ensures sound { SendingInvariant self.old.end }
     {
         self.end.turn()
     }
@@ -145,7 +133,7 @@ impl Remote {
     /// Emits the next slice that was never emitted.
     pub fn next(&mut self) -> Result<Option<Segment>, NoMemory>
         ensures none { IfOk result (λ answer. IsNone answer ↔ (next_length self.old.end ≡ 0)) }
-        ensures sound { IsSound self.old.end }
+        ensures sound { SendingInvariant self.old.end }
         ensures all { IfOk result (λ answer. IfNone answer (self.old.end.emitted ≡ reach_of self.old.end)) }
         ensures emits { IfOk result (λ answer. EmitsOf EmitsNext self.old answer self.new.end) }
         ensures same { OnOk result (self.new ≡ record self.old { end = self.new.end }) }
@@ -156,7 +144,7 @@ impl Remote {
     /// Emits the acknowledgement that is owed.
     pub fn answer(&mut self) -> Option<Segment>
         ensures none { IsNone result ↔ (self.old.end.owed ≡ false) }
-        ensures sound { IsSound self.old.end }
+        ensures sound { SendingInvariant self.old.end }
         ensures emits { EmitsOf EmitsAnswer self.old result self.new.end }
         ensures same { self.new ≡ record self.old { end = self.new.end } }
     {

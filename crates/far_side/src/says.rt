@@ -23,11 +23,11 @@ pub struct SayTable {
 impl SayTable {
     ghost use Rattle.std.specs.Prelude.{ℕ, ◌≡◌, IfOk};
     ghost use Rattle.std.specs.Option.{option_copied};
-    ghost use Rattle.far_side.specs.Says.{bytes_of, bytes_at};
+    ghost use Rattle.far_side.specs.Says.{bytes_to_say, bytes_at};
 
     /// Returns the table of a list. If a step occurs twice, the first occurrence counts.
     pub fn new(alloc: Global, says: Says) -> Result<SayTable, NoMemory>
-        ensures { IfOk result (λ table. (step : ℕ) → bytes_at table step ≡ bytes_of says step) }
+        ensures { IfOk result (λ table. (step : ℕ) → bytes_at table step ≡ bytes_to_say says step) }
     {
         let mut left = says.into_vec();
         let mut table = HashMap::new(alloc);

@@ -5,8 +5,8 @@ ghost use Rattle.ring_net.specs.Posts.{SameEdges, TookItem};
 ghost use Rattle.graft_steps.specs.declared.item.Item.TheVariants as items;
 ghost use Rattle.session_value.specs.Sessions.{SessionValue};
 ghost use Rattle.graft_actors.specs.Acts.{acts};
-ghost use Rattle.far_side.specs.Parts.{Keeps, ForEach};
-ghost use Rattle.far_side.specs.Takes.{TakesIt, IsOther};
+ghost use Rattle.far_side.specs.Parts.{FarSideInvariant, ForEach};
+ghost use Rattle.far_side.specs.Takes.{FarTakesIt};
 
 use crate::fields::Fields;
 use graft_actors::{note_dropped, note_far};
@@ -24,9 +24,9 @@ fn take_segment<C: Drop>(
     segment: Segment,
     post: &mut Post<Item<C>>,
 ) -> Result<(), NoMemory>
-    requires { Keeps far.old }
+    requires { FarSideInvariant far.old }
     ensures edges { SameEdges post.old post.new }
-    ensures took { OnOk result (ForEach (λ (session : C → SessionValue). TakesIt session from (items.Seg segment) far.old post.old far.new post.new) far.new) }
+    ensures took { OnOk result (ForEach (λ (session : C → SessionValue). FarTakesIt session from (items.Seg segment) far.old post.old far.new post.new) far.new) }
 {
     if from >= far.routers as usize {
         return note_dropped(post);
@@ -47,9 +47,9 @@ fn take_word<C: Drop>(
     graft: u32,
     post: &mut Post<Item<C>>,
 ) -> Result<(), NoMemory>
-    requires { Keeps far.old }
+    requires { FarSideInvariant far.old }
     ensures edges { SameEdges post.old post.new }
-    ensures took { OnOk result (ForEach (λ (session : C → SessionValue). TakesIt session from (items.PointAt graft) far.old post.old far.new post.new) far.new) }
+    ensures took { OnOk result (ForEach (λ (session : C → SessionValue). FarTakesIt session from (items.PointAt graft) far.old post.old far.new post.new) far.new) }
 {
     if from >= far.routers as usize {
         return note_dropped(post);
@@ -72,9 +72,9 @@ fn take_order<C: Drop>(
     step: u32,
     post: &mut Post<Item<C>>,
 ) -> Result<(), NoMemory>
-    requires { Keeps far.old }
+    requires { FarSideInvariant far.old }
     ensures edges { SameEdges post.old post.new }
-    ensures took { OnOk result (ForEach (λ (session : C → SessionValue). TakesIt session from (items.SayOrder step) far.old post.old far.new post.new) far.new) }
+    ensures took { OnOk result (ForEach (λ (session : C → SessionValue). FarTakesIt session from (items.SayOrder step) far.old post.old far.new post.new) far.new) }
 {
     if from != far.routers as usize + far.peerings as usize {
         return note_dropped(post);
@@ -89,21 +89,6 @@ fn take_order<C: Drop>(
     far.remote.say(bytes.as_slice())
 }
 
-/// Drops an item that no far side takes.
-fn drop_other<C: Drop>(
-    far: &mut Fields,
-    from: usize,
-    item: Item<C>,
-    post: &mut Post<Item<C>>,
-) -> Result<(), NoMemory>
-    requires keeps { Keeps far.old }
-    requires other { IsOther item }
-    ensures edges { SameEdges post.old post.new }
-    ensures took { OnOk result (ForEach (λ (session : C → SessionValue). TakesIt session from item far.old post.old far.new post.new) far.new) }
-{
-    note_dropped(post)
-}
-
 /// Takes an item that the actor `from` sent.
 pub(crate) fn take<C: Drop>(
     far: &mut Fields,
@@ -111,14 +96,14 @@ pub(crate) fn take<C: Drop>(
     item: Item<C>,
     post: &mut Post<Item<C>>,
 ) -> Result<(), NoMemory>
-    requires { Keeps far.old }
+    requires { FarSideInvariant far.old }
     ensures edges { SameEdges post.old post.new }
-    ensures took { OnOk result (ForEach (λ (session : C → SessionValue). TakesIt session from item far.old post.old far.new post.new) far.new) }
+    ensures took { OnOk result (ForEach (λ (session : C → SessionValue). FarTakesIt session from item far.old post.old far.new post.new) far.new) }
 {
     match item {
         Item::Seg(segment) => take_segment(far, from, segment, post),
         Item::PointAt { graft } => take_word(far, from, graft, post),
         Item::SayOrder { step } => take_order(far, from, step, post),
-        other => drop_other(far, from, other, post),
+        _ => note_dropped(post),
     }
 }

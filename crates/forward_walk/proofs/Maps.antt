@@ -9,15 +9,12 @@ use Rattle.bgp_types.specs.declared.rank.From.{From}
 use Rattle.graft_edge.specs.declared.ids.RouterId.{RouterId}
 use Rattle.prefix_trie.specs.Table.{TableValue}
 use Rattle.forward_walk.specs.declared.entry.ForwardEntry.{ForwardEntry}
-use Rattle.forward_walk.specs.Tables.{map_of, table_of, tables_in}
-use Rattle.forward_walk.specs.Walks.{HasNone}
-
--- with one entry more before them
-pub map_of_more : (set : List ForwardEntry) (e : ForwardEntry) → map_of (reverse (set ++ e ∷ [])) ≡ insert (map_of (reverse set)) e.prefix e.from
-map_of_more set e = ap map_of (reverse-append set (e ∷ []))
+use Rattle.forward_walk.specs.Tables.{map_of, forward_map_of, tables_in}
+use Rattle.forward_walk.specs.Walks.{HasNoEntryFor}
 
 -- a router beyond the last table has no entry
-pub none_past : (tries : List (TableValue From)) (at : RouterId) (address : ℕ) → length tries ≤ at.0 → HasNone (table_of (tables_in tries) at) address
+pub none_past : (tries : List (TableValue From)) (at : RouterId) (address : ℕ) → length tries ≤ at.0
+    → HasNoEntryFor (forward_map_of (tables_in tries) at) address
 none_past tries at address past = record { none = λ p has _. let k = subst IsSome (nothing p) has in absurd cc } where
-  nothing : (p : PrefixValue) → get (table_of (tables_in tries) at) p ≡ None
+  nothing : (p : PrefixValue) → get (forward_map_of (tables_in tries) at) p ≡ None
   nothing p = ap (λ t. get t p) (get_or_past (tables_in tries) at.0 empty (rw length-map past)) ∙ get-empty prefix_cmp p

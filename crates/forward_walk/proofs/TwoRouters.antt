@@ -10,7 +10,7 @@ use Rattle.bgp_types.specs.declared.rank.From.{From}
 use Rattle.bgp_types.specs.declared.rank.From.TheVariants.{Own, Peering, Router}
 use Rattle.graft_edge.specs.declared.ids.RouterId.{RouterId}
 use Rattle.forward_walk.specs.declared.walk.Walk.{Walk}
-use Rattle.forward_walk.specs.Tables.{ForwardMap, table_of, from_at}
+use Rattle.forward_walk.specs.Tables.{ForwardMap, forward_map_of, from_at}
 use Rattle.forward_walk.specs.Walks.{HasEntry, LongestFor, WalksTo}
 use Rattle.forward_walk.specs.Walks.WalksTo.{MetAgain, NoEntry, FromOwn, FromPeering, FromRouter}
 use Rattle.forward_walk.specs.Solved.{IsExit, AreSolved, EndsAs, TwoRoutersAtMost}
@@ -40,7 +40,8 @@ module _ (tables : List ForwardMap) (address : ℕ) (solved : AreSolved tables) 
     by_entry (Some (Router s)) is _ = solved.heard s r p (solved.told q s p is) lt
 
   -- the second router's entry for the address is for the same prefix, and from no router
-  second : (r q : RouterId) (p : PrefixValue) → r.0 < length tables → HasEntry (table_of tables r) address p (Router q) → LongestFor (table_of tables q) address (Some p)
+  second : (r q : RouterId) (p : PrefixValue) → r.0 < length tables → HasEntry (forward_map_of tables r) address p (Router q)
+      → LongestFor (forward_map_of tables q) address (Some p)
   second r q p lt e =
       let q_in = in_range tables q p (solved.told r q p e.entry) in
       record {
@@ -53,9 +54,10 @@ module _ (tables : List ForwardMap) (address : ℕ) (solved : AreSolved tables) 
       ap_some is = subst (λ (o : Option From). IsSome o) (sym is) (some (Router q))
 
   -- an entry from a router for the longest prefix isn't one by which the router sends packets out itself
-  no_exit : (q r : RouterId) (p x : PrefixValue) → LongestFor (table_of tables q) address (Some p) → IsExit (from_at tables q p) → HasEntry (table_of tables q) address x (Router r) → ⊥
+  no_exit : (q r : RouterId) (p x : PrefixValue) → LongestFor (forward_map_of tables q) address (Some p) → IsExit (from_at tables q p)
+      → HasEntry (forward_map_of tables q) address x (Router r) → ⊥
   no_exit q r p x longest exit e =
-      let one : x ≡ p = one_longest (table_of tables q) address x p e.longest longest in
+      let one : x ≡ p = one_longest (forward_map_of tables q) address x p e.longest longest in
       subst IsExit (subst (λ (y : PrefixValue). from_at tables q y ≡ Some (Router r)) one e.entry) exit
 
   not_back : (r q : RouterId) (p : PrefixValue) → from_at tables r p ≡ Some (Router q) → Contains (r ∷ []) q → ⊥
@@ -64,7 +66,8 @@ module _ (tables : List ForwardMap) (address : ℕ) (solved : AreSolved tables) 
       subst IsExit (subst (λ (s : RouterId). from_at tables s p ≡ Some (Router q)) one is) (solved.told r q p is)
 
   module _ (from : RouterId) (lt : from.0 < length tables) where
-    second_ends : {met : List RouterId} {q : RouterId} {walk : Walk} (p : PrefixValue) → LongestFor (table_of tables q) address (Some p) → IsExit (from_at tables q p) → ¬ (Contains met q) →
+    second_ends : {met : List RouterId} {q : RouterId} {walk : Walk} (p : PrefixValue) → LongestFor (forward_map_of tables q) address (Some p)
+        → IsExit (from_at tables q p) → ¬ (Contains met q) →
         WalksTo tables address met q walk → EndsAs tables address from walk
     second_ends p longest exit anew (MetAgain m) = absurd (anew m)
     second_ends p longest exit anew (NoEntry _ none) = absurd (none.none p longest.there longest.covers)

@@ -11,8 +11,8 @@ use Rattle.graft_edge.specs.declared.ids.RouterId.{RouterId}
 use Rattle.graft_edge.specs.declared.ids.PeeringId.{PeeringId}
 use Rattle.forward_walk.specs.declared.walk.Walk.{Walk}
 use Rattle.forward_walk.specs.declared.walk.Walk.TheVariants.{Leaves, Local, NoRoute, Loop}
-use Rattle.forward_walk.specs.Tables.{ForwardMap, table_of}
-use Rattle.forward_walk.specs.Walks.{HasEntry, HasNone, WalksTo}
+use Rattle.forward_walk.specs.Tables.{ForwardMap, forward_map_of}
+use Rattle.forward_walk.specs.Walks.{HasEntry, HasNoEntryFor, WalksTo}
 use Rattle.forward_walk.specs.Walks.WalksTo.{MetAgain, NoEntry, FromOwn, FromPeering, FromRouter}
 use Rattle.forward_walk.proofs.OneWalk.{Answer, answer}
 
@@ -44,14 +44,16 @@ sets_out tables address from = record {
 first : (at : RouterId) (met : List RouterId) → Contains (at ∷ met) at
 first at met = (0, omega arith, refl)
 
-marked_there : (marks : List Bool) (met : List RouterId) (at : RouterId) → at.0 < length marks → Marks marks met → (r : RouterId) → r.0 ≡ at.0 → slice_index_or (slice_set marks at.0 true) r.0 false ≡ true
+marked_there : (marks : List Bool) (met : List RouterId) (at : RouterId) → at.0 < length marks → Marks marks met → (r : RouterId) → r.0 ≡ at.0
+    → slice_index_or (slice_set marks at.0 true) r.0 false ≡ true
 marked_there marks met at lt m r same = rw same (get_or-set_same marks at.0 true false lt)
 
 pub alone : (at r : RouterId) (k : ℕ) → k < 1 → slice_index_or (at ∷ []) k r ≡ r → at ≡ r
 alone at r zero h e = e
 alone at r (suc k) h e = absurd (omega arith)
 
-pub marked_more : (marks : List Bool) (met : List RouterId) (at : RouterId) → at.0 < length marks → Marks marks met → Marks (slice_set marks at.0 true) (at ∷ met)
+pub marked_more : (marks : List Bool) (met : List RouterId) (at : RouterId) → at.0 < length marks → Marks marks met
+    → Marks (slice_set marks at.0 true) (at ∷ met)
 marked_more marks met at lt m r =
     elim (cases_eq r.0 at.0) [
       | inl same ↦
@@ -79,13 +81,13 @@ module _ (tables : List ForwardMap) (address : ℕ) (from : RouterId) (marks : L
   pub ends_again : slice_index_or marks place false ≡ true → Answer tables address from (Loop at)
   ends_again t = answer tables address from (Loop at) (goes.rest (Loop at) (MetAgain (again t)))
 
-  module _ (new : slice_index_or marks place false ≡ false) (table : ForwardMap) (is : table ≡ table_of tables at) where
-    pub ends_without : HasNone table address → Answer tables address from (NoRoute at)
-    ends_without none = answer tables address from (NoRoute at) (goes.rest (NoRoute at) (NoEntry (anew new) (subst (λ (t : ForwardMap). HasNone t address) is none)))
+  module _ (new : slice_index_or marks place false ≡ false) (table : ForwardMap) (is : table ≡ forward_map_of tables at) where
+    pub ends_without : HasNoEntryFor table address → Answer tables address from (NoRoute at)
+    ends_without none = answer tables address from (NoRoute at) (goes.rest (NoRoute at) (NoEntry (anew new) (subst (λ (t : ForwardMap). HasNoEntryFor t address) is none)))
 
     module _ (p : PrefixValue) (by : From) (entry : HasEntry table address p by) where
-      entry_at : (other : From) → by ≡ other → HasEntry (table_of tables at) address p other
-      entry_at other same = subst (λ (f : From). HasEntry (table_of tables at) address p f) same (subst (λ (t : ForwardMap). HasEntry t address p by) is entry)
+      entry_at : (other : From) → by ≡ other → HasEntry (forward_map_of tables at) address p other
+      entry_at other same = subst (λ (f : From). HasEntry (forward_map_of tables at) address p f) same (subst (λ (t : ForwardMap). HasEntry t address p by) is entry)
 
       pub ends_own : by ≡ Own → Answer tables address from (Local at p)
       ends_own same = answer tables address from (Local at p) (goes.rest (Local at p) (FromOwn (anew new) (entry_at Own same)))

@@ -6,8 +6,8 @@ use Rattle.bgp_types.specs.declared.rank.From.TheVariants.{Own, Peering, Router}
 use Rattle.graft_edge.specs.declared.ids.RouterId.{RouterId}
 use Rattle.forward_walk.specs.declared.walk.Walk.{Walk}
 use Rattle.forward_walk.specs.declared.walk.Walk.TheVariants.{Leaves, Local, NoRoute, Loop}
-use Rattle.forward_walk.specs.Tables.{ForwardMap, table_of, from_at}
-use Rattle.forward_walk.specs.Walks.{HasEntry, HasNone}
+use Rattle.forward_walk.specs.Tables.{ForwardMap, forward_map_of, from_at}
+use Rattle.forward_walk.specs.Walks.{HasEntry, HasNoEntryFor}
 
 -- there is an entry, and its source is the router's own network or a remote
 abbrev pub IsExit : Option From → Type 0
@@ -26,15 +26,15 @@ pub record AreSolved (tables : List ForwardMap) : Type 0 where
 
 -- a router forwards packets to the address to another router
 abbrev pub PassesTo : List ForwardMap → ℕ → RouterId → RouterId → Type 0
-PassesTo tables address r q = (p : PrefixValue) × HasEntry (table_of tables r) address p (Router q)
+PassesTo tables address r q = (p : PrefixValue) × HasEntry (forward_map_of tables r) address p (Router q)
 
 -- what the end of a walk that began at `from` implies in a solved network
 abbrev pub EndsAs : List ForwardMap → ℕ → RouterId → Walk → Type 0
 -- it leaves, or is local, by the last router's own entry for the address
-EndsAs tables address from (Leaves r peering p) = HasEntry (table_of tables r) address p (Peering peering)
-EndsAs tables address from (Local r p) = HasEntry (table_of tables r) address p Own
+EndsAs tables address from (Leaves r peering p) = HasEntry (forward_map_of tables r) address p (Peering peering)
+EndsAs tables address from (Local r p) = HasEntry (forward_map_of tables r) address p Own
 -- it finds no route only at the first router, and only if no router has one
-EndsAs tables address from (NoRoute r) = (r ≡ from) × ((q : RouterId) → HasNone (table_of tables q) address)
+EndsAs tables address from (NoRoute r) = (r ≡ from) × ((q : RouterId) → HasNoEntryFor (forward_map_of tables q) address)
 -- it doesn't reach a router again
 EndsAs tables address from (Loop r) = ⊥
 
@@ -45,4 +45,4 @@ pub record TwoRoutersAtMost (tables : List ForwardMap) (address : ℕ) (from : R
   pub two : (q r : RouterId) → PassesTo tables address from q → ¬ (PassesTo tables address q r)
   pub ends : EndsAs tables address from walk
   -- it finds no route if no router has one
-  pub no_route : ((q : RouterId) → HasNone (table_of tables q) address) → walk ≡ NoRoute from
+  pub no_route : ((q : RouterId) → HasNoEntryFor (forward_map_of tables q) address) → walk ≡ NoRoute from

@@ -20,9 +20,9 @@ abbrev pub tables_in : List (TableValue From) → List ForwardMap
 tables_in tries = map (λ trie. trie.contents) tries
 
 -- a router's table, which is empty if there is no such router
-abbrev pub table_of : List ForwardMap → RouterId → ForwardMap
-table_of tables r = slice_index_or tables r.0 empty
+abbrev pub forward_map_of : List ForwardMap → RouterId → ForwardMap
+forward_map_of tables r = slice_index_or tables r.0 empty
 
 -- the source of a router's best route to a prefix
 abbrev pub from_at : List ForwardMap → RouterId → PrefixValue → Option From
-from_at tables r p = get (table_of tables r) p
+from_at tables r p = get (forward_map_of tables r) p

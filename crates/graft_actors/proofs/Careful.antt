@@ -5,19 +5,21 @@ use Rattle.std.proofs.lemmas.List.{length-take, length-drop}
 use Rattle.std.proofs.lemmas.Bool.{cases_lt, lt-ltb, le-ltb}
 use Rattle.tcp_seq.specs.Endpoint.{Endpoint, PlacedSegment, EmitsNext, EmitsAgain, EmitsAnswer, EmitsSlice, next_length, again_length}
 use Rattle.graft_model.specs.Slices.{EmitsAt}
-use Rattle.graft_actors.specs.Emissions.{reach_of, IsCareful, Tally, counted}
+use Rattle.graft_actors.specs.Emissions.{reach_of, IsCareful, Tally, tallied}
 
 pub at_next : (e f : Endpoint) (p : PlacedSegment) → EmitsSlice e p f → EmitsNext e p f → EmitsAt e.emitted (next_length e) e p f
 at_next e f p slice step = record {
   place = ap (λ (q : PlacedSegment). q.place) step.slice;
-  size = ap (λ (q : PlacedSegment). length q.bytes) step.slice ∙ (let n : length (take (next_length e) (drop e.emitted e.stream)) ≡ next_length e = omega (arith, step.some, length-take (next_length e) (drop e.emitted e.stream), length-drop e.emitted e.stream) in n);
+  size = ap (λ (q : PlacedSegment). length q.bytes) step.slice
+      ∙ (let n : length (take (next_length e) (drop e.emitted e.stream)) ≡ next_length e = omega (arith, step.some, length-take (next_length e) (drop e.emitted e.stream), length-drop e.emitted e.stream) in n);
   emits = inl slice;
 }
 
 pub at_again : (e f : Endpoint) (p : PlacedSegment) → e.emitted ≤ length e.stream → EmitsSlice e p f → EmitsAgain e p f → EmitsAt e.acked (again_length e) e p f
 at_again e f p within slice step = record {
   place = ap (λ (q : PlacedSegment). q.place) step.slice;
-  size = ap (λ (q : PlacedSegment). length q.bytes) step.slice ∙ (let n : length (take (again_length e) (drop e.acked e.stream)) ≡ again_length e = omega (arith, step.some, within, length-take (again_length e) (drop e.acked e.stream), length-drop e.acked e.stream) in n);
+  size = ap (λ (q : PlacedSegment). length q.bytes) step.slice
+      ∙ (let n : length (take (again_length e) (drop e.acked e.stream)) ≡ again_length e = omega (arith, step.some, within, length-take (again_length e) (drop e.acked e.stream), length-drop e.acked e.stream) in n);
   emits = inl slice;
 }
 
@@ -47,10 +49,10 @@ careful_again e some = by_length (again_length e) refl some
     by_length (suc n) is some = inl (record { first = refl; out = omega (arith, is); all = sym is })
 
 -- how a tally counts them
-pub counted_next : (e : Endpoint) (n : ℕ) (t : Tally) → 0 < n → counted e e.emitted n t ≡ t
+pub counted_next : (e : Endpoint) (n : ℕ) (t : Tally) → 0 < n → tallied e e.emitted n t ≡ t
 counted_next e zero t some = absurd (omega (arith, some))
 counted_next e (suc n) t some = ap (λ (b : Bool). let u : Tally = if b then record t { again = t.again + 1 } else t in u) (le-ltb e.emitted e.emitted (omega arith))
 
-pub counted_again : (e : Endpoint) (n : ℕ) (t : Tally) → 0 < n → e.acked < e.emitted → counted e e.acked n t ≡ record t { again = t.again + 1 }
+pub counted_again : (e : Endpoint) (n : ℕ) (t : Tally) → 0 < n → e.acked < e.emitted → tallied e e.acked n t ≡ record t { again = t.again + 1 }
 counted_again e zero t some out = absurd (omega (arith, some))
 counted_again e (suc n) t some out = ap (λ (b : Bool). let u : Tally = if b then record t { again = t.again + 1 } else t in u) (lt-ltb e.acked e.emitted out)

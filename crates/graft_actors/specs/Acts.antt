@@ -10,8 +10,8 @@ use Rattle.graft_model.specs.Taking.{RouterMayTake, FarMayTake, OperatorMayTake}
 use Rattle.graft_model.specs.RouterRows.{RouterTaken}
 use Rattle.graft_model.specs.FarRows.{FarTaken}
 use Rattle.graft_model.specs.OperatorRows.{OperatorTaken}
-use Rattle.graft_runs.specs.Actors.{ActorPart, RouterIs, FarIs, OperatorIs, Thing, ActorName, Router, FarSide, Operator, actor_at}
-use Rattle.graft_runs.specs.Makes.{makes_as, taken_by_router, taken_by_far, taken_by_operator}
+use Rattle.graft_actors.specs.Actors.{ActorPart, RouterIs, FarIs, OperatorIs, Thing, ActorName, Router, FarSide, Operator, actor_at}
+use Rattle.graft_actors.specs.Makes.{makes_as, taken_by_router, taken_by_far, taken_by_operator}
 use Rattle.graft_actors.specs.Items.{thing_of, MayGo}
 
 -- an actor's part, with its laboratory and its name there: the part that a type of actors has

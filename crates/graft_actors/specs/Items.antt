@@ -12,7 +12,7 @@ use Rattle.bgp_types.specs.declared.message.SessionState.TheVariants.{Establishe
 use Rattle.session_value.specs.Sessions.{SessionValue, state}
 use Rattle.graft_model.specs.Setups.{Setup, config_of}
 use Rattle.graft_model.specs.Parts.{Told, Moved, Back, Asked, Answered, Done, Seg, PointAt}
-use Rattle.graft_runs.specs.Actors.{Thing, MeshItem, OutwardItem, SegmentItem, OrderItem, ReportItem, StepItem, ActorName, Router, FarSide, Operator}
+use Rattle.graft_actors.specs.Actors.{Thing, MeshItem, OutwardItem, SegmentItem, OrderItem, ReportItem, StepItem, ActorName, Router, FarSide, Operator}
 
 -- the initial sequence number of a peering's home side, and that of its remote
 abbrev pub home_first : Setup → ℕ → ℕ

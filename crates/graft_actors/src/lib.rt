@@ -8,7 +8,9 @@ mod notes;
 
 pub use known::Known;
 pub use laws::{
-    acts_are_events, far_sides_take_what_comes, routers_take_what_comes,
+    a_journal_is_a_run, a_net_is_one_world, actors_have_their_numbers, actors_keep_their_setup,
+    acts_are_events, an_entry_is_of_one_event, an_event_is_a_step, far_sides_take_what_comes,
+    parts_begin_as_the_first_world, routers_take_what_comes, rows_are_made,
     the_operator_takes_what_comes,
 };
 pub use notes::{

@@ -6,7 +6,8 @@ use Rattle.std.proofs.Math.Seq.{take-add}
 use Rattle.graft_edge.specs.Outside.{Took, Appended}
 
 -- one piece and then another are their bytes joined
-pub Took-append : (before between after : Option (List ℕ)) (front back : List ℕ) → Took before between front → Took between after back → Took before after (front ++ back)
+pub Took-append : (before between after : Option (List ℕ)) (front back : List ℕ) → Took before between front → Took between after back
+    → Took before after (front ++ back)
 Took-append before between None front back first second = rw (first, second) refl
 Took-append before between (Some rest) front back first second = rw (first, second) (ap Some (sym (append_assoc front back rest)))
 
@@ -23,11 +24,13 @@ none_left step room at bytes steps rooms none =
     let short : length bytes ≤ at + 0 = omega (arith, length-drop at bytes) in
     drop_of_length-le bytes short
 
-pub Appended-append : (before between after : Option (List ℕ)) (front back : List ℕ) → Appended before between front → Appended between after back → Appended before after (front ++ back)
+pub Appended-append : (before between after : Option (List ℕ)) (front back : List ℕ) → Appended before between front → Appended between after back
+    → Appended before after (front ++ back)
 Appended-append None between after front back first second = rw (second, first) refl
 Appended-append (Some written) between after front back first second = rw (second, first) (ap Some (append_assoc written front back))
 
 -- a further piece of a list that is appended from the front on
-pub Appended-take : (before between after : Option (List ℕ)) (bytes : List ℕ) (at n : ℕ) → Appended before between (take at bytes) → Appended between after (take n (drop at bytes)) → Appended before after (take (at + n) bytes)
+pub Appended-take : (before between after : Option (List ℕ)) (bytes : List ℕ) (at n : ℕ) → Appended before between (take at bytes)
+    → Appended between after (take n (drop at bytes)) → Appended before after (take (at + n) bytes)
 Appended-take before between after bytes at n first second =
     rw (take-add at n bytes) (Appended-append before between after (take at bytes) (take n (drop at bytes)) first second)

@@ -43,7 +43,8 @@ use Rattle.graft_laws.proofs.ToldNone.{told_none}
 -- ---- lists of prefixes
 
 -- a prefix that is among others is in the list, and has what all of them have
-among_step : (P : PrefixValue → Type 0) (y : PrefixValue) (ys : List PrefixValue) (x : PrefixValue) (t : Bool) → same_prefix x y ≡ t → (t || list_any (same_prefix x) ys) ≡ true → P y
+among_step : (P : PrefixValue → Type 0) (y : PrefixValue) (ys : List PrefixValue) (x : PrefixValue) (t : Bool) → same_prefix x y ≡ t
+    → (t || list_any (same_prefix x) ys) ≡ true → P y
     → (list_any (same_prefix x) ys ≡ true → Contains ys x × P x) → Contains (y ∷ ys) x × P x
 among_step P y ys x true f g here later = let is : x ≡ y = is_same x y f in ((zero, omega arith, sym is), subst P (sym is) here)
 among_step P y ys x false f g here later = let rest = later g in ((suc rest.0.0, omega (arith, rest.0.1), rest.0.2), rest.1)
@@ -74,10 +75,6 @@ not_other None (Some b) nn = absurd (nn (λ e. cc))
 not_other (Some a) None nn = absurd (nn (λ e. cc))
 not_other (Some a) (Some b) nn = ap (λ (x : Attrs). Some x) (stable _ (a ≡ b) (attrs_equal a b) (λ other. nn (λ e. other (Rattle.std.proofs.lemmas.Option.same_Some a b e))))
 
-none_unless_closed : (s : SessionState) (x : PrefixValue) → map.get (unless_closed s map.empty) x ≡ None
-none_unless_closed OpenSent x = map.get-empty prefix_cmp x
-none_unless_closed _ x = map.get-empty prefix_cmp x
-
 -- ---- what is due as a session changes by itself
 
 due_cases : (a b : SessionState) (best : BestRoutes) (old new : Prefixes) → DueThen a b best old new → b ≡ Established → a ≢ OpenSent → a ≢ Closed
@@ -97,21 +94,21 @@ same_session s t o u e = cc
 abbrev tells_of : Setup → ℕ → BestRoutes → SessionConfig → PrefixValue → Option Attrs
 tells_of setup r best config x = Rattle.route_policy.specs.Telling.tell_out setup.home_as (out_side setup r config) x (map.get best x)
 
-not_live : (place : Place) (s : SessionValue) (o : Option Errand) → place ≡ Live s o → (place ≡ Vacant → ⊥)
-not_live place s o e f = let g : Live s o ≡ Vacant = sym e ∙ f in cc
-
 module _ (setup : Setup) (r : ℕ) (before after : RouterPart) (d : Answered setup r before) where
   -- what was told on this session there, of these best routes
   abbrev Told : SessionValue → Prefixes → Type 0
-  Told session due = state session ≡ Established → (x : PrefixValue) → has due x ≡ false → map.get session.told x ≡ tells_of setup r before.best session.config x
+  Told session due = state session ≡ Established → (x : PrefixValue) → has due x ≡ false
+      → map.get session.told x ≡ tells_of setup r before.best session.config x
 
   -- one place changes
-  at_place : (p : ℕ) → OnePeering p before after → ((s : SessionValue) (o : Option Errand) → after.places p ≡ Live s o → Told s (after.due_out p)) → Answered setup r after
+  at_place : (p : ℕ) → OnePeering p before after → ((s : SessionValue) (o : Option Errand) → after.places p ≡ Live s o → Told s (after.due_out p))
+      → Answered setup r after
   at_place p one own = record { told = λ n s o live up x clean. by_number n s o live up x clean (cases_eq n p) } where
     now : (s : SessionValue) (x : PrefixValue) → tells_of setup r before.best s.config x ≡ to_tell setup r after s x
     now s x = ap (λ (b : BestRoutes). tells_of setup r b s.config x) (sym one.best)
 
-    by_number : (n : ℕ) (s : SessionValue) (o : Option Errand) → after.places n ≡ Live s o → state s ≡ Established → (x : PrefixValue) → has (after.due_out n) x ≡ false → (n ≡ p) ⊎ (n ≢ p) → map.get s.told x ≡ to_tell setup r after s x
+    by_number : (n : ℕ) (s : SessionValue) (o : Option Errand) → after.places n ≡ Live s o → state s ≡ Established → (x : PrefixValue)
+        → has (after.due_out n) x ≡ false → (n ≡ p) ⊎ (n ≢ p) → map.get s.told x ≡ to_tell setup r after s x
     by_number n s o live up x clean (inl is) =
         own s o (ap after.places (sym is) ∙ live) up x (ap (λ (m : ℕ). has (after.due_out m) x) (sym is) ∙ clean) ∙ now s x
     by_number n s o live up x clean (inr other) =
@@ -126,11 +123,13 @@ module _ (setup : Setup) (r : ℕ) (before after : RouterPart) (d : Answered set
   }
 
   -- this session is live there now
-  live_becomes : (p : ℕ) (next : SessionValue) (errand : Option Errand) → OnePeering p before after → after.places p ≡ Live next errand → Told next (after.due_out p) → Answered setup r after
+  live_becomes : (p : ℕ) (next : SessionValue) (errand : Option Errand) → OnePeering p before after → after.places p ≡ Live next errand
+      → Told next (after.due_out p) → Answered setup r after
   live_becomes p next errand one now own = at_place p one (λ s o live. subst (λ (z : SessionValue). Told z (after.due_out p)) (same_session next s errand o (sym now ∙ live)) own)
 
   -- the same session as before, with another errand or end
-  same_told : (p : ℕ) (s next : SessionValue) (o : Option Errand) → before.places p ≡ Live s o → next.told ≡ s.told → next.config ≡ s.config → (state next ≡ Established → state s ≡ Established) → (due : Prefixes) → due ≡ before.due_out p → Told next due
+  same_told : (p : ℕ) (s next : SessionValue) (o : Option Errand) → before.places p ≡ Live s o → next.told ≡ s.told → next.config ≡ s.config
+      → (state next ≡ Established → state s ≡ Established) → (due : Prefixes) → due ≡ before.due_out p → Told next due
   same_told p s next o live told_is config up due is established x clean =
       ap (λ (t : Routes). map.get t x) told_is ∙ d.told p s o live (up established) x (ap (λ (xs : Prefixes). has xs x) (sym is) ∙ clean)
       ∙ ap (λ (c : SessionConfig). tells_of setup r before.best c x) (sym config)
@@ -143,7 +142,9 @@ module _ (setup : Setup) (r : ℕ) (before after : RouterPart) (d : Answered set
       ∙ sym (ap (λ (b : Option _). Rattle.route_policy.specs.Telling.tell_out setup.home_as (out_side setup r s.config) x b) (none_there (map.get before.best x) both.1))
 
   -- a session changes by itself
-  follows : (p : ℕ) (s next : SessionValue) (o : Option Errand) → OnePeering p before after → after.places p ≡ Live next o → Follows setup r p before s next o after → before.places p ≡ Live s o → IsOfStory s → state s ≢ Closed → (state next ≡ Established → state s ≢ OpenSent)
+  follows : (p : ℕ) (s next : SessionValue) (o : Option Errand) → OnePeering p before after → after.places p ≡ Live next o
+      → Follows setup r p before s next o after → before.places p ≡ Live s o → IsOfStory s → state s ≢ Closed
+      → (state next ≡ Established → state s ≢ OpenSent)
       → (state next ≡ Established → next.told ≡ s.told) → next.config ≡ s.config → Answered setup r after
   follows p s next o one now row live story open_yet sent told_is config =
       live_becomes p next o one now
@@ -158,7 +159,8 @@ module _ (setup : Setup) (r : ℕ) (before after : RouterPart) (d : Answered set
           ∙ sym (ap (λ (b : Option _). Rattle.route_policy.specs.Telling.tell_out setup.home_as (out_side setup r next.config) x b) (none_there (map.get before.best x) (sym (first.1 x) ∙ clean)))
       by_due up x clean (inr later) = same_told p s next o live (told_is up) config (λ e. later.0) (after.due_out p) later.1 up x clean
 
-  gets_row : (p : ℕ) (s next : SessionValue) (o : Option Errand) (bytes : List ℕ) → OnePeering p before after → after.places p ≡ Live next o → before.places p ≡ Live s o → IsOfStory s → GetsFrame s bytes next → Follows setup r p before s next o after → Answered setup r after
+  gets_row : (p : ℕ) (s next : SessionValue) (o : Option Errand) (bytes : List ℕ) → OnePeering p before after → after.places p ≡ Live next o
+      → before.places p ≡ Live s o → IsOfStory s → GetsFrame s bytes next → Follows setup r p before s next o after → Answered setup r after
   gets_row p s next o bytes one now live story g row =
       let after_is : state next ≡ g.next = ap state g.effect ∙ gets.state_next (peering_of s.config) s.story bytes g.answer g.next g.unclosed g.got g.reply story.tied.allowed in
       follows p s next o one now row live story g.unclosed
@@ -166,7 +168,8 @@ module _ (setup : Setup) (r : ℕ) (before after : RouterPart) (d : Answered set
       (λ up. ap (λ (v : SessionValue). v.told) g.effect ∙ ap (λ (n : SessionState). unless_closed n s.told) (sym after_is ∙ up))
       (ap (λ (v : SessionValue). v.config) g.effect)
 
-  ticks_row : (p : ℕ) (s next : SessionValue) (o : Option Errand) (round : ℕ) → OnePeering p before after → after.places p ≡ Live next o → before.places p ≡ Live s o → IsOfStory s → PassesRound s round next → Follows setup r p before s next o after → Answered setup r after
+  ticks_row : (p : ℕ) (s next : SessionValue) (o : Option Errand) (round : ℕ) → OnePeering p before after → after.places p ≡ Live next o
+      → before.places p ≡ Live s o → IsOfStory s → PassesRound s round next → Follows setup r p before s next o after → Answered setup r after
   ticks_row p s next o round one now live story g row =
       let after_is : state next ≡ g.next = ap state g.effect ∙ rounds.state_next (peering_of s.config) s.story round g.answer g.next g.up g.runs g.later g.reply story.tied.allowed in
       follows p s next o one now row live story (Rattle.session_value.proofs.Replies.up_open (state s) g.up)
@@ -175,13 +178,15 @@ module _ (setup : Setup) (r : ℕ) (before after : RouterPart) (d : Answered set
       (ap (λ (v : SessionValue). v.config) g.effect)
 
   -- what is due was told as it is to be
-  nothing_row : (p : ℕ) (taken : Option RouterTaken) (sent : List RouterSent) → OnePeering p before after → PutsNothing setup r p before taken sent after → Answered setup r after
+  nothing_row : (p : ℕ) (taken : Option RouterTaken) (sent : List RouterSent) → OnePeering p before after
+      → PutsNothing setup r p before taken sent after → Answered setup r after
   nothing_row p taken sent one row =
       at_place p one
       (λ s o live. let was : before.places p ≡ Live s o = sym (ap (λ (u : RouterPart). u.places p) row.effect) ∙ live in
       subst (λ (z : SessionValue). Told z (after.due_out p)) (same_session row.session s row.errand o (sym row.live.is ∙ was)) (λ up x clean. by_due up x (has (before.due_out p) x) (has before.dirty x) refl refl (sym (row.due.members x) ∙ clean)))
     where
-      by_due : state row.session ≡ Established → (x : PrefixValue) (t u : Bool) → has (before.due_out p) x ≡ t → has before.dirty x ≡ u → (has (before.due_out p) x && not (not (has before.dirty x))) ≡ false
+      by_due : state row.session ≡ Established → (x : PrefixValue) (t u : Bool) → has (before.due_out p) x ≡ t → has before.dirty x ≡ u
+          → (has (before.due_out p) x && not (not (has before.dirty x))) ≡ false
           → map.get row.session.told x ≡ tells_of setup r before.best row.session.config x
       by_due up x false u e f g = d.told p row.session row.errand row.live.is up x e
       by_due up x true false e f g = not_other (map.get row.session.told x) (to_tell setup r before row.session x) (λ differs. row.nothing x ((e, f), differs))
@@ -190,7 +195,8 @@ module _ (setup : Setup) (r : ℕ) (before after : RouterPart) (d : Answered set
           let k : true ≡ false = sym h ∙ g in absurd cc
 
   -- some prefixes are put in an UPDATE
-  some_row : (p n : ℕ) (taken : Option RouterTaken) (sent : List RouterSent) (row : PutsSome setup r p n before taken sent after) → OnePeering p before after → after.places p ≡ Live row.next row.errand → IsOfStory row.session → Answered setup r after
+  some_row : (p n : ℕ) (taken : Option RouterTaken) (sent : List RouterSent) (row : PutsSome setup r p n before taken sent after)
+      → OnePeering p before after → after.places p ≡ Live row.next row.errand → IsOfStory row.session → Answered setup r after
   some_row p n taken sent row one now story =
       live_becomes p row.next row.errand one now
       (λ up x clean. config_is x (by_among x (list_any (same_prefix x) row.prefixes) refl (sym (row.due.members x) ∙ clean)))
@@ -216,7 +222,8 @@ module _ (setup : Setup) (r : ℕ) (before after : RouterPart) (d : Answered set
           ap (λ (v : SessionValue). map.get v.told x) row.puts.effect ∙ ap (λ (z : Routes). map.get (apply z u) x) story.told
           ∙ sym (ap (λ (z : Routes). map.get z x) (updates.told_then (peering_of s.config) s.story u row.puts.established row.puts.one_way story.tied.allowed))
 
-      config_is : (x : PrefixValue) → map.get row.next.told x ≡ tells_of setup r before.best s.config x → map.get row.next.told x ≡ tells_of setup r before.best row.next.config x
+      config_is : (x : PrefixValue) → map.get row.next.told x ≡ tells_of setup r before.best s.config x
+          → map.get row.next.told x ≡ tells_of setup r before.best row.next.config x
       config_is x e = e ∙ ap (λ (c : SessionConfig). tells_of setup r before.best c x) (sym (ap (λ (v : SessionValue). v.config) row.puts.effect))
 
       each : AllByRecursion (λ x. to_tell setup r before s x ≡ row.attrs) row.prefixes
@@ -224,17 +231,22 @@ module _ (setup : Setup) (r : ℕ) (before after : RouterPart) (d : Answered set
           (all_front (λ x. Rattle.graft_model.specs.RouterRows.IsToTell setup r before p s x × (to_tell setup r before s x ≡ row.attrs)) row.prefixes row.later
           (recursion_from_All (λ x. Rattle.graft_model.specs.RouterRows.IsToTell setup r before p s x × (to_tell setup r before s x ≡ row.attrs)) (row.prefixes ++ row.later) row.alike.each))
 
-      told_of : (attrs : Option Attrs) (x : PrefixValue) → row.attrs ≡ attrs → Contains row.prefixes x → map.get (told (s.story ++ updates.more (peering_of s.config) s.story u row.puts.established)) x ≡ attrs
+      told_of : (attrs : Option Attrs) (x : PrefixValue) → row.attrs ≡ attrs → Contains row.prefixes x
+          → map.get (told (s.story ++ updates.more (peering_of s.config) s.story u row.puts.established)) x ≡ attrs
       told_of None x e here =
           told_withdrawn (peering_of s.config) s.story u x put (subst (λ (a : Option Attrs). Contains (update_for a row.prefixes).withdrawn x) (sym e) here)
       told_of (Some a) x e here =
-          told_announced (peering_of s.config) s.story u x put (subst (λ (b : Option Attrs). Contains (update_for b row.prefixes).nlri x) (sym e) here) ∙ ap (λ (b : Option Attrs). (update_for b row.prefixes).attrs) e
+          told_announced (peering_of s.config) s.story u x put (subst (λ (b : Option Attrs). Contains (update_for b row.prefixes).nlri x) (sym e) here)
+          ∙ ap (λ (b : Option Attrs). (update_for b row.prefixes).attrs) e
 
-      in_update : (attrs : Option Attrs) (x : PrefixValue) → Contains ((update_for attrs row.prefixes).withdrawn ++ (update_for attrs row.prefixes).nlri) x → Contains row.prefixes x
+      in_update : (attrs : Option Attrs) (x : PrefixValue)
+          → Contains ((update_for attrs row.prefixes).withdrawn ++ (update_for attrs row.prefixes).nlri) x → Contains row.prefixes x
       in_update None x here = subst (λ (xs : List PrefixValue). Contains xs x) (Rattle.std.proofs.lemmas.List.append-nil row.prefixes) here
       in_update (Some a) x here = here
 
-      by_among : (x : PrefixValue) (t : Bool) → list_any (same_prefix x) row.prefixes ≡ t → (has (before.due_out p) x && not (list_any (same_prefix x) row.prefixes)) ≡ false → map.get row.next.told x ≡ tells_of setup r before.best s.config x
+      by_among : (x : PrefixValue) (t : Bool) → list_any (same_prefix x) row.prefixes ≡ t
+          → (has (before.due_out p) x && not (list_any (same_prefix x) row.prefixes)) ≡ false
+          → map.get row.next.told x ≡ tells_of setup r before.best s.config x
       by_among x true e clean =
           let here = among (λ y. to_tell setup r before s y ≡ row.attrs) row.prefixes x e each in
           now_told x ∙ told_of row.attrs x refl here.0 ∙ sym here.1
@@ -249,14 +261,17 @@ module _ (setup : Setup) (r : ℕ) (before after : RouterPart) (d : Answered set
           not_due false f = refl
 
   -- a prefix is decided
-  decide_row : (prefix : PrefixValue) (taken : Option RouterTaken) (sent : List RouterSent) → Decides setup r prefix before taken sent after → Answered setup r after
+  decide_row : (prefix : PrefixValue) (taken : Option RouterTaken) (sent : List RouterSent) → Decides setup r prefix before taken sent after
+      → Answered setup r after
   decide_row prefix taken sent row = record {
     told = λ n s o live up x clean. by_due n s o (sym (ap (λ (v : RouterPart). v.places n) row.effect) ∙ live) up x clean row.due;
   } where
-    now : (s : SessionValue) (x : PrefixValue) → (same_prefix prefix x ≡ false) ⊎ (chosen setup r before prefix ≡ map.get before.best prefix) → tells_of setup r before.best s.config x ≡ to_tell setup r after s x
+    now : (s : SessionValue) (x : PrefixValue) → (same_prefix prefix x ≡ false) ⊎ (chosen setup r before prefix ≡ map.get before.best prefix)
+        → tells_of setup r before.best s.config x ≡ to_tell setup r after s x
     now s x which = ap (λ (b : Option _). Rattle.route_policy.specs.Telling.tell_out setup.home_as (out_side setup r s.config) x b) (sym (best_stays setup r prefix before after taken sent row x which))
 
-    by_due : (n : ℕ) (s : SessionValue) (o : Option Errand) → before.places n ≡ Live s o → state s ≡ Established → (x : PrefixValue) → has (after.due_out n) x ≡ false
+    by_due : (n : ℕ) (s : SessionValue) (o : Option Errand) → before.places n ≡ Live s o → state s ≡ Established → (x : PrefixValue)
+        → has (after.due_out n) x ≡ false
         → ((chosen setup r before prefix ≡ map.get before.best prefix) × (after.due_in ≡ before.due_in) × (after.due_out ≡ before.due_out)) ⊎ ((chosen setup r before prefix ≢ map.get before.best prefix) × DueEverywhere setup r prefix before after)
         → map.get s.told x ≡ to_tell setup r after s x
     by_due n s o live up x clean (inl stays) = d.told n s o live up x (ap (λ (f : ℕ → Prefixes). has (f n) x) (sym stays.2) ∙ clean) ∙ now s x (inr stays.0)
@@ -271,7 +286,8 @@ module _ (setup : Setup) (r : ℕ) (before after : RouterPart) (d : Answered set
         not_it true e = e
         not_it false e = refl
 
-  pub answered_row : (event : RouterEvent) (taken : Option RouterTaken) (sent : List RouterSent) → ((p : ℕ) (s : SessionValue) (o : Option Errand) → before.places p ≡ Live s o → IsOfStory s)
+  pub answered_row : (event : RouterEvent) (taken : Option RouterTaken) (sent : List RouterSent)
+      → ((p : ℕ) (s : SessionValue) (o : Option Errand) → before.places p ≡ Live s o → IsOfStory s)
       → router_row setup r event before taken sent after → Answered setup r after
   answered_row event taken sent story row = by_print (footprint setup r before after taken sent event row) where
     by_change : (p : ℕ) → OnePeering p before after → PeeringChange setup r p before taken sent after → Answered setup r after

@@ -12,8 +12,8 @@ use Rattle.graft_model.specs.Parts.{Errand, Live, Moved, Back, World}
 use Rattle.graft_model.specs.Steps.{Heads}
 use Rattle.graft_laws.specs.Phases.{Halted, Moving, Returning, Phase, Busy, place_by}
 use Rattle.graft_laws.specs.Life.{Acts, Change, Freezes, Lands, Returns, Clears, GraftMove, Grafts}
-use Rattle.graft_laws.specs.Keeps.{Reached, Keeps, Has}
-use Rattle.graft_laws.specs.Owned.{is_on, mesh_of}
+use Rattle.graft_laws.specs.Keeps.{Reached, IsInvariant, Has}
+use Rattle.graft_laws.specs.Owned.{is_on, mesh_items_on}
 use Rattle.graft_laws.proofs.Deeds.{known_mesh}
 use Rattle.graft_laws.proofs.Following.{own_head}
 use Rattle.graft_laws.proofs.Grafts.{equal}
@@ -59,7 +59,7 @@ up_then setup w v p _ _ s _ _ up = up
 abbrev IsUpAway : World → ℕ → Phase → SessionValue → Type 0
 IsUpAway w p phase s = UpAway phase s
 
-keeps_up : (setup : Setup) → Keeps setup IsUpAway
+keeps_up : (setup : Setup) → IsInvariant setup IsUpAway
 keeps_up setup = record {
   first = λ p config is. tt;
   step = λ before after p phase next s t reached below stands then change up. up_then setup before after p phase next s t change up;
@@ -73,11 +73,11 @@ module _ (setup : Setup) (w : World) (sound : IsSetup setup) (reached : Reached 
   pub moved_up : (a b k p : ℕ) (s : SessionValue) → Heads (w.mesh a b) (Moved k p s) → state s ≡ Established
   moved_up a b k p s h =
       let has : Has setup IsUpAway w p = here p (known_mesh setup w (always_owned setup sound w reached) a b p (Moved k p s) h (equal p)) in
-      let e = moved_in has.phase p has.session s a b k (mesh_of p h.rest) (own_head (is_on p) (w.mesh a b) h.rest (Moved k p s) h.is (equal p) ∙ has.stands.mesh a b) in
+      let e = moved_in has.phase p has.session s a b k (mesh_items_on p h.rest) (own_head (is_on p) (w.mesh a b) h.rest (Moved k p s) h.is (equal p) ∙ has.stands.mesh a b) in
       ap state e.1 ∙ subst (λ (x : Phase). UpAway x has.session) e.0 has.more
 
   pub back_up : (a b k p : ℕ) (s : SessionValue) (refusal : Refusal) → Heads (w.mesh a b) (Back k p s refusal) → state s ≡ Established
   back_up a b k p s refusal h =
       let has : Has setup IsUpAway w p = here p (known_mesh setup w (always_owned setup sound w reached) a b p (Back k p s refusal) h (equal p)) in
-      let e = back_in has.phase p has.session s refusal a b k (mesh_of p h.rest) (own_head (is_on p) (w.mesh a b) h.rest (Back k p s refusal) h.is (equal p) ∙ has.stands.mesh a b) in
+      let e = back_in has.phase p has.session s refusal a b k (mesh_items_on p h.rest) (own_head (is_on p) (w.mesh a b) h.rest (Back k p s refusal) h.is (equal p) ∙ has.stands.mesh a b) in
       ap state e.1 ∙ subst (λ (x : Phase). UpAway x has.session) e.0 has.more

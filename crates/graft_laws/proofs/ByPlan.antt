@@ -25,14 +25,16 @@ use Rattle.graft_laws.proofs.GroupGifts.{always_operator, go_gives, first_gives}
 
 -- ---- what a graft of an evacuate step is given
 
-pub given_to : (setup : Setup) (operator : OperatorPart) (g : ScriptGraft) (e t : ℕ) → slice_get setup.steps g.step ≡ Some (EvacuateStep e) → target_in setup operator g ≡ Some t → operator.given g.graft ≡ To t
+pub given_to : (setup : Setup) (operator : OperatorPart) (g : ScriptGraft) (e t : ℕ) → slice_get setup.steps g.step ≡ Some (EvacuateStep e)
+    → target_in setup operator g ≡ Some t → operator.given g.graft ≡ To t
 given_to setup operator g e t there aims = by_gift (operator.given g.graft) refl (sym (ap (λ (s : Option ScriptStep). target_by s (operator.given g.graft)) there) ∙ aims) where
   by_gift : (gift : Gift) → operator.given g.graft ≡ gift → target_given gift ≡ Some t → operator.given g.graft ≡ To t
   by_gift Unmade is e = absurd cc
   by_gift (To target) is e = is ∙ ap To (same_Some target t e)
   by_gift (Stays router) is e = absurd cc
 
-pub target_of_gift : (setup : Setup) (operator : OperatorPart) (g : ScriptGraft) (e t : ℕ) → slice_get setup.steps g.step ≡ Some (EvacuateStep e) → operator.given g.graft ≡ To t → target_in setup operator g ≡ Some t
+pub target_of_gift : (setup : Setup) (operator : OperatorPart) (g : ScriptGraft) (e t : ℕ) → slice_get setup.steps g.step ≡ Some (EvacuateStep e)
+    → operator.given g.graft ≡ To t → target_in setup operator g ≡ Some t
 target_of_gift setup operator g e t there given = ap (λ (s : Option ScriptStep). target_by s (operator.given g.graft)) there ∙ ap target_given given
 
 -- ---- where sessions belong meanwhile
@@ -48,7 +50,8 @@ abbrev pub FollowPlans : Setup → OperatorPart → Type 0
 FollowPlans setup operator = (n e : ℕ) → slice_get setup.steps n ≡ Some (EvacuateStep e) → group_of setup n ≡ operator.group → FollowsPlan setup operator n e
 
 -- A graft that is under way while a step that empties a router is at work is the step's, and goes where that has given the session.
-pub goes_by_plan : (setup : Setup) (w : World) (p q k t n e : ℕ) (stage : Stage) (s : SessionValue) → EmptyAlone setup → slice_get setup.steps n ≡ Some (EvacuateStep e) → group_of setup n ≡ w.operator.group
+pub goes_by_plan : (setup : Setup) (w : World) (p q k t n e : ℕ) (stage : Stage) (s : SessionValue) → EmptyAlone setup
+    → slice_get setup.steps n ≡ Some (EvacuateStep e) → group_of setup n ≡ w.operator.group
     → (plan : FollowsPlan setup w.operator n e) → Stands setup w p (Busy q k t stage) s → gift_to setup plan.placed e p ≡ To t
 goes_by_plan setup w p q k t n e stage s alone there group plan b =
     let on = b.log.goes_on in
@@ -64,11 +67,13 @@ record HasCleared (phase next : Phase) : Type 0 where
   was : phase ≡ Busy source graft target Cleared
   is : next ≡ Idle target
 
-move_stays : {setup : Setup} {w : World} {phase next : Phase} {s : SessionValue} → GraftMove setup w phase s next → (source_of next ≡ source_of phase) ⊎ HasCleared phase next
+move_stays : {setup : Setup} {w : World} {phase next : Phase} {s : SessionValue} → GraftMove setup w phase s next
+    → (source_of next ≡ source_of phase) ⊎ HasCleared phase next
 move_stays (NotesSuccess {q = q} {k = k} {t = t}) = inr (record { source = q; graft = k; target = t; was = refl; is = refl })
 move_stays _ = inl refl
 
-source_stays : {setup : Setup} {w v : World} {p : ℕ} {phase next : Phase} {s t : SessionValue} → Change setup w v p phase s next t → (source_of next ≡ source_of phase) ⊎ HasCleared phase next
+source_stays : {setup : Setup} {w v : World} {p : ℕ} {phase next : Phase} {s t : SessionValue} → Change setup w v p phase s next t
+    → (source_of next ≡ source_of phase) ⊎ HasCleared phase next
 source_stays (Grafts move line entries) = move_stays move
 source_stays _ = inl refl
 
@@ -83,7 +88,8 @@ module _ (setup : Setup) (ok : IsSetup setup) (alone : EmptyAlone setup) where
     part : after.operator ≡ x.part
     part = (operator_moves setup event before after x).operator
 
-    belongs_then : (n e : ℕ) → slice_get setup.steps n ≡ Some (EvacuateStep e) → group_of setup n ≡ before.operator.group → (plan : FollowsPlan setup before.operator n e) → (p : ℕ) → p < peerings_in setup
+    belongs_then : (n e : ℕ) → slice_get setup.steps n ≡ Some (EvacuateStep e) → group_of setup n ≡ before.operator.group
+        → (plan : FollowsPlan setup before.operator n e) → (p : ℕ) → p < peerings_in setup
         → (placement setup after.operator p ≡ plan.placed p) ⊎ (gift_to setup plan.placed e p ≡ To (placement setup after.operator p))
     belongs_then n e there at_work plan p l = by_source (source_stays f.change) where
       f : Followed setup before after p (owned.peerings p l).phase (owned.peerings p l).session
@@ -119,7 +125,8 @@ module _ (setup : Setup) (ok : IsSetup setup) (alone : EmptyAlone setup) where
         ∙ placement_same setup p before.operator (with_gifts setup (record before.operator { group = before.operator.group + 1 })) (begun_log setup p before.operator) held.phase held.stands.log);
   }
 
-  plans_keep : (event : OperatorEvent) (before after : World) → Reached setup before → OperatorStep setup event before after → FollowPlans setup before.operator → FollowPlans setup after.operator
+  plans_keep : (event : OperatorEvent) (before after : World) → Reached setup before → OperatorStep setup event before after
+      → FollowPlans setup before.operator → FollowPlans setup after.operator
   plans_keep (Order n number) before after reached x plans = elim x.row [
     | inl row ↦ plans_still (Order n number) before after reached x (ap (λ (o : OperatorPart). o.group) row.effect) (ap (λ (o : OperatorPart). o.given) row.effect) plans
     | inr row ↦ plans_still (Order n number) before after reached x (ap (λ (o : OperatorPart). o.group) row.effect) (ap (λ (o : OperatorPart). o.given) row.effect) plans

@@ -32,7 +32,8 @@ filter_map_same f g [] same_at = refl
 filter_map_same f g (x ∷ xs) same_at =
     ap (λ (o : Option _). cons_option o (filter_map f xs)) (same_at x) ∙ ap (cons_option (g x)) (filter_map_same f g xs same_at)
 
-pub chosen_same : (setup : Setup) (r : ℕ) (a b : RouterPart) (x : PrefixValue) → ((p : ℕ) → map.get (a.entries p) x ≡ map.get (b.entries p) x) → ((q : ℕ) → map.get (a.tellings q) x ≡ map.get (b.tellings q) x)
+pub chosen_same : (setup : Setup) (r : ℕ) (a b : RouterPart) (x : PrefixValue) → ((p : ℕ) → map.get (a.entries p) x ≡ map.get (b.entries p) x)
+    → ((q : ℕ) → map.get (a.tellings q) x ≡ map.get (b.tellings q) x)
     → chosen setup r a x ≡ chosen setup r b x
 chosen_same setup r a b x entries tellings =
     let own : List Candidate = own_candidates setup.home_as (has_network setup r x) in
@@ -44,26 +45,32 @@ chosen_same setup r a b x entries tellings =
     (filter_map_same (λ q. telling_candidate setup r q (map.get (a.tellings q) x)) (λ q. telling_candidate setup r q (map.get (b.tellings q) x)) (router_numbers setup) (λ q. ap (telling_candidate setup r q) (tellings q)))
 
 -- a table changes at one place, and not for this prefix
-at_get : {A : Type 0} (f : ℕ → map.FinMap prefix_cmp A) (j n : ℕ) (t : map.FinMap prefix_cmp A) (x : PrefixValue) → map.get t x ≡ map.get (f j) x → map.get (at f j t n) x ≡ map.get (f n) x
+at_get : {A : Type 0} (f : ℕ → map.FinMap prefix_cmp A) (j n : ℕ) (t : map.FinMap prefix_cmp A) (x : PrefixValue) → map.get t x ≡ map.get (f j) x
+    → map.get (at f j t n) x ≡ map.get (f n) x
 at_get f j n t x e = elim (cases_eq n j) [
-  | inl is ↦ ap (λ (m : ℕ). map.get (at f j t m) x) is ∙ ap (λ (u : map.FinMap prefix_cmp _). map.get u x) (at_same f j t) ∙ e ∙ ap (λ (m : ℕ). map.get (f m) x) (sym is)
+  | inl is ↦ ap (λ (m : ℕ). map.get (at f j t m) x) is ∙ ap (λ (u : map.FinMap prefix_cmp _). map.get u x) (at_same f j t) ∙ e
+      ∙ ap (λ (m : ℕ). map.get (f m) x) (sym is)
   | inr other ↦ ap (λ (u : map.FinMap prefix_cmp _). map.get u x) (at_apart f j n t other)
 ]
 
 -- where a prefix is decided, the best route to each other one stays, and to all where the choice is what it was
-pub best_stays : (setup : Setup) (r : ℕ) (prefix : PrefixValue) (before after : RouterPart) (taken : Option RouterTaken) (sent : List RouterSent) → Decides setup r prefix before taken sent after
-    → (x : PrefixValue) → (same_prefix prefix x ≡ false) ⊎ (chosen setup r before prefix ≡ map.get before.best prefix) → map.get after.best x ≡ map.get before.best x
+pub best_stays : (setup : Setup) (r : ℕ) (prefix : PrefixValue) (before after : RouterPart) (taken : Option RouterTaken) (sent : List RouterSent)
+    → Decides setup r prefix before taken sent after
+    → (x : PrefixValue) → (same_prefix prefix x ≡ false) ⊎ (chosen setup r before prefix ≡ map.get before.best prefix)
+    → map.get after.best x ≡ map.get before.best x
 best_stays setup r prefix before after taken sent row x which =
     ap (λ (v : RouterPart). map.get v.best x) row.effect ∙ get_with before.best prefix (chosen setup r before prefix) x ∙ by_prefix which (one_or_not x prefix)
   where
-    by_prefix : (same_prefix prefix x ≡ false) ⊎ (chosen setup r before prefix ≡ map.get before.best prefix) → (x ≡ prefix) ⊎ ((same x prefix ≡ false) × (same_prefix x prefix ≡ false))
+    by_prefix : (same_prefix prefix x ≡ false) ⊎ (chosen setup r before prefix ≡ map.get before.best prefix)
+        → (x ≡ prefix) ⊎ ((same x prefix ≡ false) × (same_prefix x prefix ≡ false))
         → cond (same x prefix) (chosen setup r before prefix) (map.get before.best x) ≡ map.get before.best x
     by_prefix which (inr apart) = ap (λ (t : Bool). cond t (chosen setup r before prefix) (map.get before.best x)) apart.0
     by_prefix (inl other) (inl is) =
         let t : same_prefix prefix x ≡ true = ap (same_prefix prefix) is ∙ same_itself prefix in
         let f : true ≡ false = sym t ∙ other in absurd cc
     by_prefix (inr stays) (inl is) =
-        ap (λ (t : Bool). cond t (chosen setup r before prefix) (map.get before.best x)) (ap (λ (y : PrefixValue). same y prefix) is ∙ same_self prefix) ∙ stays ∙ ap (map.get before.best) (sym is)
+        ap (λ (t : Bool). cond t (chosen setup r before prefix) (map.get before.best x)) (ap (λ (y : PrefixValue). same y prefix) is ∙ same_self prefix)
+        ∙ stays ∙ ap (map.get before.best) (sym is)
 
 -- ---- the rows
 
@@ -78,7 +85,8 @@ module _ (setup : Setup) (r : ℕ) (before after : RouterPart) (d : Decided setu
     by_number x clean n (inl is) = subst (λ (m : ℕ). map.get (after.entries m) x ≡ map.get (before.entries m) x) (sym is) (one.dirty.others x clean).1
     by_number x clean n (inr other) = ap (λ (es : Entries). map.get es x) (one.entries n other)
 
-  decides : (prefix : PrefixValue) (taken : Option RouterTaken) (sent : List RouterSent) → Decides setup r prefix before taken sent after → Decided setup r after
+  decides : (prefix : PrefixValue) (taken : Option RouterTaken) (sent : List RouterSent) → Decides setup r prefix before taken sent after
+      → Decided setup r after
   decides prefix taken sent row = record { best = λ x clean. by_prefix x clean (one_or_not x prefix) } where
     best_is : (x : PrefixValue) → map.get after.best x ≡ cond (same x prefix) (chosen setup r before prefix) (map.get before.best x)
     best_is x = ap (λ (v : RouterPart). map.get v.best x) row.effect ∙ get_with before.best prefix (chosen setup r before prefix) x
@@ -86,9 +94,11 @@ module _ (setup : Setup) (r : ℕ) (before after : RouterPart) (d : Decided setu
     choice_is : (x : PrefixValue) → chosen setup r before x ≡ chosen setup r after x
     choice_is x = chosen_same setup r before after x (λ p. ap (λ (v : RouterPart). map.get (v.entries p) x) (sym row.effect)) (λ q. ap (λ (v : RouterPart). map.get (v.tellings q) x) (sym row.effect))
 
-    by_prefix : (x : PrefixValue) → has after.dirty x ≡ false → (x ≡ prefix) ⊎ ((same x prefix ≡ false) × (same_prefix x prefix ≡ false)) → map.get after.best x ≡ chosen setup r after x
+    by_prefix : (x : PrefixValue) → has after.dirty x ≡ false → (x ≡ prefix) ⊎ ((same x prefix ≡ false) × (same_prefix x prefix ≡ false))
+        → map.get after.best x ≡ chosen setup r after x
     by_prefix x clean (inl is) =
-        best_is x ∙ ap (λ (t : Bool). cond t (chosen setup r before prefix) (map.get before.best x)) (ap (λ (y : PrefixValue). same y prefix) is ∙ same_self prefix)
+        best_is x
+        ∙ ap (λ (t : Bool). cond t (chosen setup r before prefix) (map.get before.best x)) (ap (λ (y : PrefixValue). same y prefix) is ∙ same_self prefix)
         ∙ ap (chosen setup r before) (sym is) ∙ choice_is x
     by_prefix x clean (inr apart) =
         let was : has before.dirty x ≡ false = sym (ap (λ (v : RouterPart). has v.dirty x) row.effect ∙ has_removed before.dirty prefix x ∙ ap (λ (t : Bool). cond t false (has before.dirty x)) apart.0) ∙ clean in
@@ -101,7 +111,8 @@ module _ (setup : Setup) (r : ℕ) (before after : RouterPart) (d : Decided setu
         ∙ sym (chosen_same setup r after before x (λ p. ap (λ (v : RouterPart). map.get (v.entries p) x) row.effect)
         (λ n. ap (λ (v : RouterPart). map.get (v.tellings n) x) row.effect ∙ at_get before.tellings q n (with_telling (before.tellings q) row.prefix row.route) x u.1));
   } where
-    told_same : (x : PrefixValue) (t : Bool) → same x row.prefix ≡ t → row.route ≡ map.get (before.tellings q) row.prefix → cond t row.route (map.get (before.tellings q) x) ≡ map.get (before.tellings q) x
+    told_same : (x : PrefixValue) (t : Bool) → same x row.prefix ≡ t → row.route ≡ map.get (before.tellings q) row.prefix
+        → cond t row.route (map.get (before.tellings q) x) ≡ map.get (before.tellings q) x
     told_same x true e is = is ∙ ap (λ (y : PrefixValue). map.get (before.tellings q) y) (sym (same_is x row.prefix e))
     told_same x false e is = refl
 
@@ -117,7 +128,8 @@ module _ (setup : Setup) (r : ℕ) (before after : RouterPart) (d : Decided setu
         let both = none_of (same x row.prefix) (has before.dirty x) (sym (ap (λ (s : Prefixes). has s x) other.1 ∙ has_put before.dirty row.prefix x) ∙ clean) in
         (both.1, get_telling (before.tellings q) row.prefix row.route x ∙ ap (λ (t : Bool). cond t row.route (map.get (before.tellings q) x)) both.0)
 
-  pub decided_row : (event : RouterEvent) (taken : Option RouterTaken) (sent : List RouterSent) → router_row setup r event before taken sent after → Decided setup r after
+  pub decided_row : (event : RouterEvent) (taken : Option RouterTaken) (sent : List RouterSent) → router_row setup r event before taken sent after
+      → Decided setup r after
   decided_row event taken sent row = by_print (footprint setup r before after taken sent event row) where
     by_print : Footprint setup r event before taken sent after → Decided setup r after
     by_print (Deciding prefix row) = decides prefix taken sent row
@@ -131,7 +143,8 @@ module _ (setup : Setup) (r : ℕ) (before after : RouterPart) (d : Decided setu
 
 -- ---- the first world
 
-all_dirty : (networks : List PrefixValue) (s : Prefixes) (x : PrefixValue) → has (fold (λ prefixes network. map.insert prefixes network tt) s networks) x ≡ false
+all_dirty : (networks : List PrefixValue) (s : Prefixes) (x : PrefixValue)
+    → has (fold (λ prefixes network. map.insert prefixes network tt) s networks) x ≡ false
     → (has s x ≡ false) × (list_any (same_prefix x) networks ≡ false)
 all_dirty [] s x clean = (clean, refl)
 all_dirty (y ∷ ys) s x clean =
@@ -139,7 +152,8 @@ all_dirty (y ∷ ys) s x clean =
     let both = none_of (same x y) (has s x) (sym (has_put s y x) ∙ rest.0) in
     (both.1, by_prefix rest.1 both.0 (one_or_not x y))
   where
-    by_prefix : list_any (same_prefix x) ys ≡ false → same x y ≡ false → (x ≡ y) ⊎ ((same x y ≡ false) × (same_prefix x y ≡ false)) → list_any (same_prefix x) (y ∷ ys) ≡ false
+    by_prefix : list_any (same_prefix x) ys ≡ false → same x y ≡ false → (x ≡ y) ⊎ ((same x y ≡ false) × (same_prefix x y ≡ false))
+        → list_any (same_prefix x) (y ∷ ys) ≡ false
     by_prefix later not (inl is) = let t : same x y ≡ true = ap (same x) (sym is) ∙ same_self x in absurd cc
     by_prefix later not (inr apart) = ap (λ (t : Bool). t || list_any (same_prefix x) ys) apart.1 ∙ later
 

@@ -13,7 +13,8 @@ use Rattle.graft_laws.proofs.OneGraft.{router_may, operator_may}
 use Rattle.graft_laws.proofs.StreamLaws.{says_are_orders, say_has_room}
 use Rattle.graft_laws.proofs.Runs.{always_owned}
 
-far_may : (setup : Setup) (w : World) (p : ℕ) (taken : FarTaken) → IsSetup setup → Reached setup w → p < peerings_in setup → FarHeads w p (Some taken) → FarMayTake setup p (w.far p) taken
+far_may : (setup : Setup) (w : World) (p : ℕ) (taken : FarTaken) → IsSetup setup → Reached setup w → p < peerings_in setup
+    → FarHeads w p (Some taken) → FarMayTake setup p (w.far p) taken
 far_may setup w p (OutwardIn r item) ok reached l h = tt
 far_may setup w p (SayIn step) ok reached l h =
     let own : IsSayOf setup p step = all_head (IsSayOf setup p) (w.says p) h.rest step h.is (says_are_orders setup p w ok reached l) in

@@ -35,7 +35,8 @@ use Rattle.graft_laws.proofs.ToldNone.{before_open, Rounds, round_is}
 
 -- ---- an established session stays so until it closes
 
-got_up : (s next : SessionValue) (bytes : List ℕ) → IsOfStory s → GetsFrame s bytes next → state s ≡ Established → state next ≢ Closed → state next ≡ Established
+got_up : (s next : SessionValue) (bytes : List ℕ) → IsOfStory s → GetsFrame s bytes next → state s ≡ Established → state next ≢ Closed
+    → state next ≡ Established
 got_up s next bytes story g up unclosed = by_state (state next) refl where
   after_is : state next ≡ g.next
   after_is = ap state g.effect ∙ gets.state_next (peering_of s.config) s.story bytes g.answer g.next g.unclosed g.got g.reply story.tied.allowed
@@ -103,7 +104,8 @@ one_or_last false false c e = absurd cc
 
 module _ (setup : Setup) (r : ℕ) (before after : RouterPart) (d : DueIsHeld before) where
   -- one place changes
-  at_place : (p : ℕ) → OnePeering p before after → ((x : PrefixValue) → has (after.due_out p) x ≡ true → holds_established (after.places p) ≡ true) → DueIsHeld after
+  at_place : (p : ℕ) → OnePeering p before after → ((x : PrefixValue) → has (after.due_out p) x ≡ true → holds_established (after.places p) ≡ true)
+      → DueIsHeld after
   at_place p one own = record {
     held = λ n x there. elim (cases_eq n p) [
       | inl is ↦ subst (λ (m : ℕ). has (after.due_out m) x ≡ true → holds_established (after.places m) ≡ true) (sym is) (own x) there
@@ -117,7 +119,8 @@ module _ (setup : Setup) (r : ℕ) (before after : RouterPart) (d : DueIsHeld be
   }
 
   -- a session changes by itself
-  follows : (p : ℕ) (s next : SessionValue) (o : Option Errand) → OnePeering p before after → before.places p ≡ Live s o → after.places p ≡ Live next o → Follows setup r p before s next o after
+  follows : (p : ℕ) (s next : SessionValue) (o : Option Errand) → OnePeering p before after → before.places p ≡ Live s o
+      → after.places p ≡ Live next o → Follows setup r p before s next o after
       → (state s ≡ Established → state next ≢ Closed → state next ≡ Established) → DueIsHeld after
   follows p s next o one live now row goes = at_place p one (λ x there. ap holds_established now
       ∙ ap is_established (due_up (state s) (state next) before.best (before.due_out p) (after.due_out p) x row.due there (λ e. established_of (state s) (sym (ap holds_established live) ∙ d.held p x e)) goes))
@@ -133,8 +136,10 @@ module _ (setup : Setup) (r : ℕ) (before after : RouterPart) (d : DueIsHeld be
       | inr holds ↦ holds
     ]
 
-  pub due_row : (event : RouterEvent) (taken : Option RouterTaken) (sent : List RouterSent) → ((p : ℕ) (s : SessionValue) (o : Option Errand) → before.places p ≡ Live s o → IsOfStory s)
-      → ((q : ℕ) (item : Mesh) (s : SessionValue) → taken ≡ Some (MeshIn q item) → Carries item s → state s ≡ Established) → router_row setup r event before taken sent after → DueIsHeld after
+  pub due_row : (event : RouterEvent) (taken : Option RouterTaken) (sent : List RouterSent)
+      → ((p : ℕ) (s : SessionValue) (o : Option Errand) → before.places p ≡ Live s o → IsOfStory s)
+      → ((q : ℕ) (item : Mesh) (s : SessionValue) → taken ≡ Some (MeshIn q item) → Carries item s → state s ≡ Established)
+      → router_row setup r event before taken sent after → DueIsHeld after
   due_row event taken sent story brought row = by_print (footprint setup r before after taken sent event row) where
     by_change : (p : ℕ) → OnePeering p before after → PeeringChange setup r p before taken sent after → DueIsHeld after
     by_change p one (Keeping session errand end live holds entries due) =
@@ -160,7 +165,8 @@ module _ (setup : Setup) (r : ℕ) (before after : RouterPart) (d : DueIsHeld be
 -- ---- runs
 
 -- a session that comes with the next item is established
-carried_up : (setup : Setup) (w : World) → IsSetup setup → Reached setup w → (a q : ℕ) (item : Mesh) (s : SessionValue) → Heads (w.mesh a q) item → Carries item s → state s ≡ Established
+carried_up : (setup : Setup) (w : World) → IsSetup setup → Reached setup w → (a q : ℕ) (item : Mesh) (s : SessionValue) → Heads (w.mesh a q) item
+    → Carries item s → state s ≡ Established
 carried_up setup w sound reached a q (Told x route) s h carries = absurd carries
 carried_up setup w sound reached a q (Moved k p t) s h carries = ap state (sym carries) ∙ moved_up setup w sound reached a q k p t h
 carried_up setup w sound reached a q (Back k p t refusal) s h carries = ap state (sym carries) ∙ back_up setup w sound reached a q k p t refusal h

@@ -25,7 +25,8 @@ gives_by_plan setup events = record {
 }
 
 -- where no later graft of the peering was accepted, the session belongs at the graft's target
-placed_there : (setup : Setup) (operator : OperatorPart) (g : ScriptGraft) (t : ℕ) → graft_at setup g.graft ≡ Some g → target_in setup operator g ≡ Some t → operator.outcome g.graft ≡ Some Accepted → IsLastAccepted setup operator g
+placed_there : (setup : Setup) (operator : OperatorPart) (g : ScriptGraft) (t : ℕ) → graft_at setup g.graft ≡ Some g
+    → target_in setup operator g ≡ Some t → operator.outcome g.graft ≡ Some Accepted → IsLastAccepted setup operator g
     → placement setup operator g.peering ≡ t
 placed_there setup operator g t known aims accepted last =
     let p : ℕ = g.peering in
@@ -38,7 +39,8 @@ placed_there setup operator g t known aims accepted last =
     placed_last setup operator p t a.front a.back g a.is (ap is_accepted accepted) none aims
 
 -- a graft that an evacuate step made has its outcome, once nothing is left to do
-has_outcome : (setup : Setup) (w : World) (g : ScriptGraft) (t : ℕ) → Reached setup w → Quiet setup w → graft_at setup g.graft ≡ Some g → group_of setup g.step ≤ w.operator.group → target_in setup w.operator g ≡ Some t
+has_outcome : (setup : Setup) (w : World) (g : ScriptGraft) (t : ℕ) → Reached setup w → Quiet setup w → graft_at setup g.graft ≡ Some g
+    → group_of setup g.step ≤ w.operator.group → target_in setup w.operator g ≡ Some t
     → (outcome : Outcome) × (w.operator.outcome g.graft ≡ Some outcome)
 has_outcome setup w g t reached quiet known begun aims = by_value (w.operator.outcome g.graft) refl where
   made : target_in setup w.operator g ≢ None

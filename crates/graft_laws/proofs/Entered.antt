@@ -59,7 +59,8 @@ puts_same s t u puts = record {
 
 -- ---- where a session is live
 
-live_has : (phase : Phase) (s : SessionValue) (o : Option Errand) (r : ℕ) → place_by phase s r ≡ Live s o → (has_entries phase r ≡ true) × ((n : ℕ) → n ≢ r → has_entries phase n ≡ false)
+live_has : (phase : Phase) (s : SessionValue) (o : Option Errand) (r : ℕ) → place_by phase s r ≡ Live s o
+    → (has_entries phase r ≡ true) × ((n : ℕ) → n ≢ r → has_entries phase n ≡ false)
 live_has (Busy q k t Halted) s o r e = absurd (grind (arith, nat_tests))
 live_has (Busy q k t Moving) s o r e = absurd (grind (arith, nat_tests))
 live_has (Busy q k t (Returning refusal)) s o r e = absurd (grind (arith, nat_tests))
@@ -87,11 +88,13 @@ up_unclosed s up closed = let u : is_up Closed ≡ true = ap is_up (sym closed) 
 -- ---- changes
 
 -- who has entries, and whose are late, changes only as a session lands or its shadow ends
-same_holder : {setup : Setup} {w : World} {phase next : Phase} {s : SessionValue} → GraftMove setup w phase s next → (r : ℕ) → has_entries next r ≡ has_entries phase r
+same_holder : {setup : Setup} {w : World} {phase next : Phase} {s : SessionValue} → GraftMove setup w phase s next → (r : ℕ)
+    → has_entries next r ≡ has_entries phase r
 same_holder Begins r = refl
 same_holder _ r = refl
 
-same_late : {setup : Setup} {w : World} {phase next : Phase} {s : SessionValue} → GraftMove setup w phase s next → (r : ℕ) → is_late next r ≡ false → is_late phase r ≡ false
+same_late : {setup : Setup} {w : World} {phase next : Phase} {s : SessionValue} → GraftMove setup w phase s next → (r : ℕ) → is_late next r ≡ false
+    → is_late phase r ≡ false
 same_late Begins r early = early
 same_late _ r early = early
 
@@ -100,7 +103,8 @@ module _ (setup : Setup) (w v : World) (p : ℕ) where
   entries_in u r = (u.router r).entries p
 
   -- the entries and the session stay, and the phase changes nothing for them
-  stays : (phase next : Phase) (s t : SessionValue) → ((r : ℕ) → has_entries next r ≡ has_entries phase r) → ((r : ℕ) → is_late next r ≡ false → is_late phase r ≡ false)
+  stays : (phase next : Phase) (s t : SessionValue) → ((r : ℕ) → has_entries next r ≡ has_entries phase r)
+      → ((r : ℕ) → is_late next r ≡ false → is_late phase r ≡ false)
       → BringSame s t → SameEntries p w v → Entered setup w p phase s → Entered setup v p next t
   stays phase next s t has late same entries is = record {
     here = λ r there x. ap (λ (es : Entries). map.get es x) (entries.same r) ∙ is.here r (sym (has r) ∙ there) x ∙ sym (same_entry setup r s t x same);
@@ -111,7 +115,8 @@ module _ (setup : Setup) (w v : World) (p : ℕ) where
   rests phase s entries is = stays phase phase s s (λ r. refl) (λ r e. e) (record { config = refl; heard = refl; got = refl }) entries is
 
   -- a live session changes by itself
-  follows : (phase : Phase) (s next : SessionValue) (o : Option Errand) (r : ℕ) → place_by phase s r ≡ Live s o → IsOfStory s → state s ≢ Closed → GoesOn s next → EntersHeard setup p r s next w v
+  follows : (phase : Phase) (s next : SessionValue) (o : Option Errand) (r : ℕ) → place_by phase s r ≡ Live s o → IsOfStory s → state s ≢ Closed
+      → GoesOn s next → EntersHeard setup p r s next w v
       → Entered setup w p phase s → Entered setup v p phase next
   follows phase s next o r live story unclosed on enters is =
       let l = live_has phase s o r live in
@@ -120,7 +125,8 @@ module _ (setup : Setup) (w v : World) (p : ℕ) where
         elsewhere = λ n none early. enters.others n (λ e. let t : has_entries phase n ≡ true = ap (has_entries phase) e ∙ l.0 in let f : true ≡ false = sym t ∙ none in absurd cc) ∙ is.elsewhere n none early;
       }
     where
-      by_prefix : (x : PrefixValue) → FollowsHeard setup r s next ((w.router r).entries p) ((v.router r).entries p) x → map.get ((v.router r).entries p) x ≡ entry_of setup r next x
+      by_prefix : (x : PrefixValue) → FollowsHeard setup r s next ((w.router r).entries p) ((v.router r).entries p) x
+          → map.get ((v.router r).entries p) x ≡ entry_of setup r next x
       by_prefix x (inl same) = same.1 ∙ is.here r (live_has phase s o r live).0 x ∙ sym (entry_stays setup r s next x story unclosed on same.0)
       by_prefix x (inr other) = other.1
 
@@ -128,7 +134,8 @@ module _ (setup : Setup) (w v : World) (p : ℕ) where
       by_number n there (inl e) = subst (λ (m : ℕ). BringsIn setup m next ((v.router m).entries p)) (sym e) (λ x. by_prefix x (enters.here x))
       by_number n there (inr other) = let f : true ≡ false = sym there ∙ (live_has phase s o r live).1 n other in absurd cc
 
-  changes : (phase next : Phase) (s t : SessionValue) → InBounds setup phase → IsOfStory s → Change setup w v p phase s next t → Entered setup w p phase s → Entered setup v p next t
+  changes : (phase next : Phase) (s t : SessionValue) → InBounds setup phase → IsOfStory s → Change setup w v p phase s next t
+      → Entered setup w p phase s → Entered setup v p next t
   changes phase _ s _ bounds story (Rests line entries) is = rests phase s entries is
   changes phase next s _ bounds story (Grafts move line entries) is = stays phase next s s (same_holder move) (same_late move) (record { config = refl; heard = refl; got = refl }) entries is
   changes _ _ s _ bounds story (Lands {q = q} {k = k} {t = t} admitted line enters) is = record {
@@ -166,9 +173,11 @@ nothing_yet setup r config x =
     (λ route. record { route = route; identifier = remote_identifier (begun config); address = config.remote_address })
     (imported setup.home_as x (session_route setup r (begun config) x) o)) (map.get-empty prefix_cmp x))
 
-pub first_entered : (setup : Setup) (p : ℕ) (config : SessionConfig) → config_of setup p ≡ Some config → Entered setup (first_world setup) p (Idle (start_of setup p)) (begun config)
+pub first_entered : (setup : Setup) (p : ℕ) (config : SessionConfig) → config_of setup p ≡ Some config
+    → Entered setup (first_world setup) p (Idle (start_of setup p)) (begun config)
 first_entered setup p config is = record { here = λ r there. nothing_yet setup r config; elsewhere = λ r none early. refl }
 
-pub entered_then : (setup : Setup) (before after : World) (p : ℕ) (phase next : Phase) (s t : SessionValue) → InBounds setup phase → IsOfStory s → Change setup before after p phase s next t
+pub entered_then : (setup : Setup) (before after : World) (p : ℕ) (phase next : Phase) (s t : SessionValue) → InBounds setup phase → IsOfStory s
+    → Change setup before after p phase s next t
     → Entered setup before p phase s → Entered setup after p next t
 entered_then setup before after p phase next s t bounds story change is = changes setup before after p phase next s t bounds story change is

@@ -50,7 +50,8 @@ sent_home p r end (item ∷ sent) all =
 pub at_here : (f : ℕ → FarPart) (p : ℕ) (part : FarPart) → at f p part p ≡ part
 at_here f p part = grind (arith, nat_tests)
 
-far_fits : (w v : World) (p : ℕ) (x : Endpoint) (taken : Option FarTaken) (sent : List FarSent) (part : FarPart) → Streams w p x → FarMoves p taken sent part w v
+far_fits : (w v : World) (p : ℕ) (x : Endpoint) (taken : Option FarTaken) (sent : List FarSent) (part : FarPart) → Streams w p x
+    → FarMoves p taken sent part w v
     → Fits (w.far p) x part → AreHis part.end sent → Streams v p x
 far_fits w v p x taken sent part s moves fits his =
     let here : v.far p ≡ part = ap (λ (f : ℕ → FarPart). f p) moves.far ∙ at_here w.far p part in
@@ -67,7 +68,8 @@ far_fits w v p x taken sent part s moves fits his =
     }
 
 -- what comes from a router is the session's
-took_out : (p r : ℕ) (item : Outward) (taken : Option FarTaken) (now was : List Outward) → taken ≡ Some (OutwardIn r item) → outward_taken p taken r p ++ now ≡ was → item ∷ now ≡ was
+took_out : (p r : ℕ) (item : Outward) (taken : Option FarTaken) (now was : List Outward) → taken ≡ Some (OutwardIn r item)
+    → outward_taken p taken r p ++ now ≡ was → item ∷ now ≡ was
 took_out p r item taken now was is e =
     let one : only2 r p item r p ≡ item ∷ [] = grind (arith, nat_tests) in
     ap (λ (xs : List Outward). xs ++ now) (sym one) ∙ ap (λ (t : Option FarTaken). outward_taken p t r p ++ now) (sym is) ∙ e
@@ -85,7 +87,8 @@ module _ (w : World) (p : ℕ) (x : Endpoint) (s : Streams w p x) where
   back = turned x far.end s.linked
 
   -- the endpoint changes alone
-  end_fits : (end : Endpoint) (part : FarPart) → StaysLinked far.end end x → part.end ≡ end → part.homeward ≡ far.homeward → AllByRecursion (IsEmittedBy x) part.remoteward → Fits far x part
+  end_fits : (end : Endpoint) (part : FarPart) → StaysLinked far.end end x → part.end ≡ end → part.homeward ≡ far.homeward
+      → AllByRecursion (IsEmittedBy x) part.remoteward → Fits far x part
   end_fits end part stays is same remoteward =
       let mine : StaysLinked far.end part.end x = subst (λ (e : Endpoint). StaysLinked far.end e x) (sym is) stays in
       record {
@@ -95,7 +98,8 @@ module _ (w : World) (p : ℕ) (x : Endpoint) (s : Streams w p x) where
       }
 
   -- the endpoint stays
-  link_fits : (part : FarPart) → part.end ≡ far.end → AllByRecursion (IsEmittedBy x) part.remoteward → AllByRecursion (IsEmittedBy far.end) part.homeward → Fits far x part
+  link_fits : (part : FarPart) → part.end ≡ far.end → AllByRecursion (IsEmittedBy x) part.remoteward
+      → AllByRecursion (IsEmittedBy far.end) part.homeward → Fits far x part
   link_fits part is remoteward homeward = record {
     stays = subst (λ (e : Endpoint). StaysLinked far.end e x) (sym is) (unmoved far.end x back);
     remoteward = remoteward;
@@ -105,11 +109,13 @@ module _ (w : World) (p : ℕ) (x : Endpoint) (s : Streams w p x) where
   more_said : (bytes : List ℕ) → length far.end.stream + length bytes ≤ 2 ^ 20 → StaysLinked far.end (sending bytes far.end) x
   more_said bytes room = sends_linked far.end (sending bytes far.end) x bytes back (record { fits = room; sent = refl })
 
-  says_fits : (setup : Setup) (step : ℕ) (taken : Option FarTaken) (sent : List FarSent) (part : FarPart) → Says setup p step far taken sent part → Fits far x part
+  says_fits : (setup : Setup) (step : ℕ) (taken : Option FarTaken) (sent : List FarSent) (part : FarPart) → Says setup p step far taken sent part
+      → Fits far x part
   says_fits setup step taken sent part row =
       subst (Fits far x) (sym row.effect) (end_fits (sending row.bytes far.end) (record far { end = sending row.bytes far.end }) (more_said row.bytes row.room) refl refl s.remoteward)
 
-  beats_fits : (setup : Setup) (round : ℕ) (taken : Option FarTaken) (sent : List FarSent) (part : FarPart) → length far.end.stream + length (spell KeepaliveMsg false) ≤ 2 ^ 20
+  beats_fits : (setup : Setup) (round : ℕ) (taken : Option FarTaken) (sent : List FarSent) (part : FarPart)
+      → length far.end.stream + length (spell KeepaliveMsg false) ≤ 2 ^ 20
       → Beats setup p round far taken sent part → Fits far x part
   beats_fits setup round taken sent part room row =
       subst (Fits far x) (sym row.effect) (end_fits (sending (spell KeepaliveMsg false) far.end)
@@ -124,24 +130,28 @@ module _ (w : World) (p : ℕ) (x : Endpoint) (s : Streams w p x) where
         homeward = all_join (IsEmittedBy row.end) far.homeward (row.segment ∷ []) (all_map (IsEmittedBy far.end) (IsEmittedBy row.end) far.homeward next.0.still s.homeward) (next.1, tt);
       })
 
-  takes_fits : (router : ℕ) (taken : Option FarTaken) (sent : List FarSent) (part : FarPart) (now : List Outward) → outward_taken p taken router p ++ now ≡ w.outward router p
+  takes_fits : (router : ℕ) (taken : Option FarTaken) (sent : List FarSent) (part : FarPart) (now : List Outward)
+      → outward_taken p taken router p ++ now ≡ w.outward router p
       → TakesIn router far taken sent part → Fits far x part
   takes_fits router taken sent part now e row =
       let all : AllByRecursion (IsOutwardOf x) (Seg row.segment ∷ now) = all_is (IsOutwardOf x) (w.outward router p) (Seg row.segment ∷ now) (took_out p router (Seg row.segment) taken now (w.outward router p) row.takes e) (s.outward router) in
       subst (Fits far x) (sym row.effect) (link_fits (record far { remoteward = far.remoteward ++ row.segment ∷ [] }) refl
       (all_join (IsEmittedBy x) far.remoteward (row.segment ∷ []) s.remoteward (all.0, tt)) s.homeward)
 
-  passes_fits : (setup : Setup) (index : ℕ) (keep : Bool) (router : ℕ) (taken : Option FarTaken) (sent : List FarSent) (part : FarPart) → Passes setup index keep router far taken sent part → Fits far x part
+  passes_fits : (setup : Setup) (index : ℕ) (keep : Bool) (router : ℕ) (taken : Option FarTaken) (sent : List FarSent) (part : FarPart)
+      → Passes setup index keep router far taken sent part → Fits far x part
   passes_fits setup index keep router taken sent part row =
       subst (Fits far x) (sym row.effect) (link_fits (record far { homeward = left_by keep index far.homeward }) refl s.remoteward
       (all_left_by (IsEmittedBy far.end) keep index far.homeward s.homeward))
 
-  passes_his : (setup : Setup) (index : ℕ) (keep : Bool) (router : ℕ) (taken : Option FarTaken) (sent : List FarSent) (part : FarPart) → Passes setup index keep router far taken sent part → AreHis part.end sent
+  passes_his : (setup : Setup) (index : ℕ) (keep : Bool) (router : ℕ) (taken : Option FarTaken) (sent : List FarSent) (part : FarPart)
+      → Passes setup index keep router far taken sent part → AreHis part.end sent
   passes_his setup index keep router taken sent part row =
       subst (λ (xs : List FarSent). AreHis part.end xs) (sym row.sends)
       (subst (λ (f : FarPart). IsEmittedBy f.end row.segment) (sym row.effect) (all_get (IsEmittedBy far.end) far.homeward index row.segment row.there s.homeward), tt)
 
-  reaches_fits : (index : ℕ) (keep : Bool) (taken : Option FarTaken) (sent : List FarSent) (part : FarPart) → Reaches index keep far taken sent part → Fits far x part
+  reaches_fits : (index : ℕ) (keep : Bool) (taken : Option FarTaken) (sent : List FarSent) (part : FarPart) → Reaches index keep far taken sent part
+      → Fits far x part
   reaches_fits index keep taken sent part row =
       let his : IsEmittedBy x row.segment = all_get (IsEmittedBy x) far.remoteward index row.segment row.there s.remoteward in
       subst (Fits far x) (sym row.effect) (end_fits row.end (record far { end = row.end; remoteward = left_by keep index far.remoteward })

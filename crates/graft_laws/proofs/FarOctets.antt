@@ -45,7 +45,8 @@ module _ (setup : Setup) (ranges : IsInRange setup) where
   same : (before part : FarPart) → part.end.stream ≡ before.end.stream → AreOctets before.end.stream → AreOctets part.end.stream
   same before part is octets = subst AreOctets (sym is) octets
 
-  row_keeps : (p : ℕ) (event : FarEvent) (before : FarPart) (taken : Option FarTaken) (sent : List FarSent) (part : FarPart) → far_row setup p event before taken sent part → AreOctets before.end.stream → AreOctets part.end.stream
+  row_keeps : (p : ℕ) (event : FarEvent) (before : FarPart) (taken : Option FarTaken) (sent : List FarSent) (part : FarPart)
+      → far_row setup p event before taken sent part → AreOctets before.end.stream → AreOctets part.end.stream
   row_keeps p (Say step) before taken sent part row octets =
       subst AreOctets (sym (ap (λ (f : FarPart). f.end.stream) row.effect)) (AreOctets-append before.end.stream row.bytes octets (ranges.says step p row.bytes row.is))
   row_keeps p (Beat round) before taken sent part row octets =
@@ -78,7 +79,8 @@ module _ (setup : Setup) (ranges : IsInRange setup) where
   always_octets w reached = carried setup AllSayOctets (λ p. first_octets p (slice_get setup.peerings p) refl) then_octets w reached
 
   -- what a live session hasn't got yet are octets
-  pub unread_octets : (w : World) → IsSetup setup → Reached setup w → (r p : ℕ) (s : SessionValue) (o : Option Errand) → (w.router r).places p ≡ Live s o → AreOctets (unread s)
+  pub unread_octets : (w : World) → IsSetup setup → Reached setup w → (r p : ℕ) (s : SessionValue) (o : Option Errand)
+      → (w.router r).places p ≡ Live s o → AreOctets (unread s)
   unread_octets w sound reached r p s o live =
       let below : p < peerings_in setup = known_place setup w (always_owned setup sound w reached) r p (Live s o) live (λ e. cc) in
       let has : Has setup (IsUnbroken setup) w p = always_unbroken setup w p sound reached below in

@@ -40,7 +40,8 @@ module _ {K : Type 0} (P : K → Type 0) where
   unfolding keep
   kept better cs all = filter_all (λ c. P c.0) _ cs all
 
-  left : (rules : List Rule) (cs : List (K × Rank)) → AllByRecursion (λ c. P c.0) cs → AllByRecursion (λ c. P c.0) (fold (λ rest better. keep (λ c d. better c.1 d.1) rest) cs rules)
+  left : (rules : List Rule) (cs : List (K × Rank)) → AllByRecursion (λ c. P c.0) cs
+      → AllByRecursion (λ c. P c.0) (fold (λ rest better. keep (λ c d. better c.1 d.1) rest) cs rules)
   left [] cs all = all
   left (rule ∷ rules) cs all = left rules (keep (λ c d. rule c.1 d.1) cs) (kept (λ c d. rule c.1 d.1) cs all)
 
@@ -142,11 +143,13 @@ all_of_some P f (x ∷ xs) each = by_option (f x) refl (all_of_some P f xs each)
   by_option (Some y) is rest = (each x y is, rest)
 
 module _ (setup : Setup) (ranges : IsInRange setup) (r : ℕ) (before after : RouterPart) (fine : IsFinePart before) where
-  entry_fine : (p : ℕ) (o : Option Entry) (c : Candidate) → ((e : Entry) → o ≡ Some e → IsSendable e.route.attrs) → entry_candidate setup.home_as p o ≡ Some c → IsSendable c.0.route.attrs
+  entry_fine : (p : ℕ) (o : Option Entry) (c : Candidate) → ((e : Entry) → o ≡ Some e → IsSendable e.route.attrs)
+      → entry_candidate setup.home_as p o ≡ Some c → IsSendable c.0.route.attrs
   entry_fine p None c each f = absurd cc
   entry_fine p (Some e) c each f = subst (λ (d : Candidate). IsSendable d.0.route.attrs) (same_Some _ c f) (each e refl)
 
-  telling_fine : (q : ℕ) (o : Option Route) (c : Candidate) → ((t : Route) → o ≡ Some t → IsSendable t.attrs) → telling_candidate setup r q o ≡ Some c → IsSendable c.0.route.attrs
+  telling_fine : (q : ℕ) (o : Option Route) (c : Candidate) → ((t : Route) → o ≡ Some t → IsSendable t.attrs)
+      → telling_candidate setup r q o ≡ Some c → IsSendable c.0.route.attrs
   telling_fine q None c each f = absurd cc
   telling_fine q (Some t) c each f = subst (λ (d : Candidate). IsSendable d.0.route.attrs) (same_Some _ c f) (each t refl)
 
@@ -236,7 +239,8 @@ module _ (setup : Setup) (ranges : IsInRange setup) (r : ℕ) (before after : Ro
   itself_fine s next (ByFrame bytes gets) octets own = gets_fine s next bytes octets gets own
   itself_fine s next (ByRound round passes) octets own = passes_fine s next round passes own
 
-  pub fine_row : (event : RouterEvent) (taken : Option RouterTaken) (sent : List RouterSent) → ((p : ℕ) (s : SessionValue) (o : Option Errand) → before.places p ≡ Live s o → AreOctets (unread s))
+  pub fine_row : (event : RouterEvent) (taken : Option RouterTaken) (sent : List RouterSent)
+      → ((p : ℕ) (s : SessionValue) (o : Option Errand) → before.places p ≡ Live s o → AreOctets (unread s))
       → IsFineTaken taken → router_row setup r event before taken sent after → Finely after sent
   fine_row event taken sent octets come row = by_print (footprint setup r before after taken sent event row) where
     by_change : (p : ℕ) → OnePeering p before after → PeeringChange setup r p before taken sent after → IsFinePart after

@@ -17,7 +17,7 @@ use Rattle.graft_model.specs.Parts.{Errand, Vacant, Live, RouterPart, Mesh, Worl
 use Rattle.graft_model.specs.RouterRows.{RouterTaken, OrderIn, SegmentIn, MeshIn, RouterSent, MeshTo, OutwardTo, ReportOut}
 use Rattle.graft_model.specs.Setups.{Setup, PeeringSetup, IsSetup, peerings_in}
 use Rattle.graft_model.specs.Steps.{Event, ByRouter, ByFar, ByOperator, Step}
-use Rattle.graft_laws.specs.Configs.{IsOwn}
+use Rattle.graft_laws.specs.Configs.{HasOwnConfig}
 use Rattle.graft_laws.specs.Keeps.{Reached, Has}
 use Rattle.graft_laws.specs.Moves.{RouterHeads, mesh_taken, mesh_sent}
 use Rattle.graft_laws.specs.Phases.{only2}
@@ -103,16 +103,18 @@ module _ (setup : Setup) (sound : IsSetup setup) (ranges : IsInRange setup) wher
   always_fine w reached = carried setup AreFine first_fine fine_then w reached
 
   -- the address of a session is a host's
-  host : (w : World) → Reached setup w → (r p : ℕ) (s : SessionValue) (o : Option Errand) → (w.router r).places p ≡ Live s o → is_no_host s.config.local_address ≡ false
+  host : (w : World) → Reached setup w → (r p : ℕ) (s : SessionValue) (o : Option Errand) → (w.router r).places p ≡ Live s o
+      → is_no_host s.config.local_address ≡ false
   host w reached r p s o live =
       let below : p < peerings_in setup = known_place setup w (always_owned setup sound w reached) r p (Live s o) live (λ e. cc) in
-      let has : Has setup (IsOwn setup) w p = always_own setup sound w reached p below in
+      let has : Has setup (HasOwnConfig setup) w p = always_own setup sound w reached p below in
       let is : s ≡ has.session = live_session has.phase has.session s o r (sym live ∙ has.stands.places r) in
       let some = some_peering setup p below in
       let config : some.0.config ≡ has.session.config = same_Some some.0.config has.session.config (sym (ap (option_map (λ (x : PeeringSetup). x.config)) some.1) ∙ has.more.config) in
       subst (λ (c : SessionConfig). is_no_host c.local_address ≡ false) (config ∙ ap (λ (v : SessionValue). v.config) (sym is)) (sound.peerings p some.0 some.1).next_hop
 
-pub always_written : (setup : Setup) (w : World) (r p : ℕ) (s : SessionValue) (o : Option Errand) (x : PrefixValue) (attrs : Attrs) → IsSetup setup → IsInRange setup → Reached setup w
+pub always_written : (setup : Setup) (w : World) (r p : ℕ) (s : SessionValue) (o : Option Errand) (x : PrefixValue) (attrs : Attrs) → IsSetup setup
+    → IsInRange setup → Reached setup w
     → (w.router r).places p ≡ Live s o → to_tell setup r (w.router r) s x ≡ Some attrs → IsWritableAttrs attrs
 always_written setup w r p s o x attrs sound ranges reached live e =
     tells_writable setup.home_as (out_side setup r s.config) x (map.get (w.router r).best x) attrs ranges.home_as (host setup sound ranges w reached r p s o live) (rules_in_range setup ranges r s.config.export)

@@ -10,7 +10,7 @@ use Rattle.graft_model.specs.Parts.{Vacant, Live, Unmade, To, OperatorPart}
 use Rattle.graft_model.specs.First.{place_in, first_router, first_operator, first_world}
 use Rattle.graft_model.specs.GraftRows.{is_taken, taken_in}
 use Rattle.graft_laws.specs.Phases.{Idle, place_by}
-use Rattle.graft_laws.specs.Log.{grafts_of, Waits, LogSays}
+use Rattle.graft_laws.specs.Log.{grafts_of, AwaitsOrder, LogSays}
 use Rattle.graft_laws.specs.Owned.{Stands, Owned}
 use Rattle.graft_laws.proofs.Lists.{all_of}
 use Rattle.graft_laws.proofs.Placements.{placed_first}
@@ -26,18 +26,20 @@ first_log setup p = record {
   grafts = refl;
   are_behind = tt;
   goes_on = refl;
-  wait = all_of (Waits (first_operator setup)) (grafts_of setup p) (λ g. record { unordered = refl; unended = refl });
+  wait = all_of (AwaitsOrder (first_operator setup)) (grafts_of setup p) (λ g. record { unordered = refl; unended = refl });
   placed = placed_first setup (first_operator setup) p (λ k. refl);
 }
 
 -- ---- the places
 
-first_place : (o : Option PeeringSetup) (peering : PeeringSetup) (r start : ℕ) → o ≡ Some peering → start ≡ peering.start → place_in r o ≡ place_by (Idle start) (begun peering.config) r
+first_place : (o : Option PeeringSetup) (peering : PeeringSetup) (r start : ℕ) → o ≡ Some peering → start ≡ peering.start
+    → place_in r o ≡ place_by (Idle start) (begun peering.config) r
 first_place o peering r start e is = ap (place_in r) e ∙ turned (peering.start == r) (r == start) (grind (arith, nat_tests)) where
   turned : (a b : Bool) → a ≡ b → cond a (Live (begun peering.config) None) Vacant ≡ cond b (Live (begun peering.config) None) Vacant
   turned a b e = ap (λ (x : Bool). cond x (Live (begun peering.config) None) Vacant) e
 
-pub first_stands : (setup : Setup) (p : ℕ) (peering : PeeringSetup) → IsSetup setup → slice_get setup.peerings p ≡ Some peering → Stands setup (first_world setup) p (Idle (start_of setup p)) (begun peering.config)
+pub first_stands : (setup : Setup) (p : ℕ) (peering : PeeringSetup) → IsSetup setup → slice_get setup.peerings p ≡ Some peering
+    → Stands setup (first_world setup) p (Idle (start_of setup p)) (begun peering.config)
 first_stands setup p peering ok is =
     let start : start_of setup p ≡ peering.start = ap (λ (o : Option PeeringSetup). unwrap_or (option_map (λ (x : PeeringSetup). x.start) o) 0) is in
     record {
@@ -59,7 +61,8 @@ count_step r a n peering peerings here is rest = same (is_taken (place_in r (her
   taken true = refl
   taken false = refl
 
-  same : (u v : Bool) → u ≡ v → length (cond u (a ∷ filter (λ p. is_taken (place_in r (here p))) (range_with_len (a + 1) n)) (filter (λ p. is_taken (place_in r (here p))) (range_with_len (a + 1) n)))
+  same : (u v : Bool) → u ≡ v
+      → length (cond u (a ∷ filter (λ p. is_taken (place_in r (here p))) (range_with_len (a + 1) n)) (filter (λ p. is_taken (place_in r (here p))) (range_with_len (a + 1) n)))
       ≡ length (cond v (peering ∷ filter (λ (x : PeeringSetup). x.start == r) peerings) (filter (λ (x : PeeringSetup). x.start == r) peerings))
   same true true e = ap suc rest
   same true false e = absurd cc

@@ -5,7 +5,7 @@ use Rattle.std.specs.List.{AllByRecursion, find}
 use Rattle.std.proofs.lemmas.List.{length-map}
 use Rattle.std.proofs.lemmas.List.FromFn.{length-range_with_len}
 use Rattle.graft_edge.specs.declared.ids.RouterId.{RouterId}
-use Rattle.evacuation.specs.Plans.{TargetList, Plan, Done, Given, NotGiven, one_more}
+use Rattle.evacuation.specs.Plans.{TargetList, Plan, Done, Given, NotGiven, one_more_load}
 use Rattle.evacuation.proofs.Loads.{length-one_more}
 use Rattle.graft_model.specs.Setups.{Setup, ScriptStep, SayStep, MoveStep, EvacuateStep, SettleStep, ScriptGraft, routers_in, router_numbers, group_of, graft_at}
 use Rattle.graft_model.specs.Parts.{Gift, Unmade, To, Stays, OperatorPart}
@@ -24,11 +24,12 @@ abbrev IsBelow : ℕ → Option RouterId → Type 0
 IsBelow n None = Unit {0}
 IsBelow n (Some r) = r.0 < n
 
-plan_below : (rooms : List ℕ) (from n : ℕ) (loads : List ℕ) (count : ℕ) (targets : TargetList) → Plan rooms from loads count targets → length loads ≡ n → AllByRecursion (IsBelow n) targets
+plan_below : (rooms : List ℕ) (from n : ℕ) (loads : List ℕ) (count : ℕ) (targets : TargetList) → Plan rooms from loads count targets
+    → length loads ≡ n → AllByRecursion (IsBelow n) targets
 plan_below rooms from n loads count targets Done e = tt
 plan_below rooms from n loads count targets (Given r least rest) e =
     let below = least.free.in_range in
-    (omega (arith, below, e), plan_below rooms from n (one_more loads r.0) _ _ rest (length-one_more loads r.0 ∙ e))
+    (omega (arith, below, e), plan_below rooms from n (one_more_load loads r.0) _ _ rest (length-one_more loads r.0 ∙ e))
 plan_below rooms from n loads count targets (NotGiven full rest) e = (tt, plan_below rooms from n loads _ _ rest e)
 
 targets_below : (setup : Setup) (placed : ℕ → ℕ) (r : ℕ) → AllByRecursion (IsBelow (routers_in setup)) (targets_from setup placed r)
@@ -107,7 +108,8 @@ gifts_to_routers setup operator known k target e =
 
 -- ---- events
 
-pub row_gives : (setup : Setup) (event : OperatorEvent) (before after : OperatorPart) (taken : Option OperatorTaken) (sent : List OperatorSent) → operator_row setup event before taken sent after → GivesToRouters setup before
+pub row_gives : (setup : Setup) (event : OperatorEvent) (before after : OperatorPart) (taken : Option OperatorTaken) (sent : List OperatorSent)
+    → operator_row setup event before taken sent after → GivesToRouters setup before
     → GivesToRouters setup after
 row_gives setup (Order n number) before after taken sent (inl row) known = subst (GivesToRouters setup) (sym row.effect) known
 row_gives setup (Order n number) before after taken sent (inr row) known = subst (GivesToRouters setup) (sym row.effect) known

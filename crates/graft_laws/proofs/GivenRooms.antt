@@ -24,19 +24,22 @@ fewer_by_one f g a (suc n) q from within fails passes each = by_place (cases_eq 
   rest : List ℕ
   rest = range_with_len (a + 1) n
 
-  here : f a ≡ false → g a ≡ true → length (filter f rest) ≤ length (filter g rest) → length (cond (f a) (a ∷ filter f rest) (filter f rest)) < length (cond (g a) (a ∷ filter g rest) (filter g rest))
+  here : f a ≡ false → g a ≡ true → length (filter f rest) ≤ length (filter g rest)
+      → length (cond (f a) (a ∷ filter f rest) (filter f rest)) < length (cond (g a) (a ∷ filter g rest) (filter g rest))
   here e h le =
       let left : length (cond (f a) (a ∷ filter f rest) (filter f rest)) ≡ length (filter f rest) = ap (λ b. length (cond b (a ∷ filter f rest) (filter f rest))) e in
       let right : length (cond (g a) (a ∷ filter g rest) (filter g rest)) ≡ suc (length (filter g rest)) = ap (λ b. length (cond b (a ∷ filter g rest) (filter g rest))) h in
       omega (arith, left, right, le)
 
-  later : (u v : Bool) → (u ≡ true → v ≡ true) → length (filter f rest) < length (filter g rest) → length (cond u (a ∷ filter f rest) (filter f rest)) < length (cond v (a ∷ filter g rest) (filter g rest))
+  later : (u v : Bool) → (u ≡ true → v ≡ true) → length (filter f rest) < length (filter g rest)
+      → length (cond u (a ∷ filter f rest) (filter f rest)) < length (cond v (a ∷ filter g rest) (filter g rest))
   later true true h less = omega (arith, less)
   later true false h less = let e : false ≡ true = h refl in absurd cc
   later false true h less = omega (arith, less)
   later false false h less = less
 
-  by_place : (q ≡ a) ⊎ (q ≢ a) → (a + 1 ≤ q → length (filter f rest) < length (filter g rest)) → length (filter f (range_with_len a (suc n))) < length (filter g (range_with_len a (suc n)))
+  by_place : (q ≡ a) ⊎ (q ≢ a) → (a + 1 ≤ q → length (filter f rest) < length (filter g rest))
+      → length (filter f (range_with_len a (suc n))) < length (filter g (range_with_len a (suc n)))
   by_place (inl is) less = here (sym (ap f is) ∙ fails) (sym (ap g is) ∙ passes) (fewer f g rest each)
   by_place (inr ne) less = later (f a) (g a) (each a) (less (omega (arith, from)))
 
@@ -47,7 +50,8 @@ either_or f g (x ∷ xs) = by_tests (f x) (g x) (either_or f g xs) where
   both : List ℕ
   both = filter (λ y. f y || g y) xs
 
-  by_tests : (u v : Bool) → length both ≤ length (filter f xs) + length (filter g xs) → length (cond (u || v) (x ∷ both) both) ≤ length (cond u (x ∷ filter f xs) (filter f xs)) + length (cond v (x ∷ filter g xs) (filter g xs))
+  by_tests : (u v : Bool) → length both ≤ length (filter f xs) + length (filter g xs)
+      → length (cond (u || v) (x ∷ both) both) ≤ length (cond u (x ∷ filter f xs) (filter f xs)) + length (cond v (x ∷ filter g xs) (filter g xs))
   by_tests true true le = omega (arith, le)
   by_tests true false le = omega (arith, le)
   by_tests false true le = omega (arith, le)
@@ -79,19 +83,23 @@ few_given e r a n [] ts = omega (arith, none_goes e r a n)
 few_given e r a n (x ∷ xs) [] = omega (arith, none_goes e r a n)
 few_given e r a n (x ∷ xs) (t ∷ ts) = by_target t (few_given e r a n xs ts) where
   -- where the first entry isn't for the router
-  others : (u : Option RouterId) → is_to r (gift_in e u) ≡ false → length (filter (goes_to e r ((x, u) ∷ zip xs ts)) (range_with_len a n)) ≤ length (filter (goes_to e r (zip xs ts)) (range_with_len a n))
+  others : (u : Option RouterId) → is_to r (gift_in e u) ≡ false
+      → length (filter (goes_to e r ((x, u) ∷ zip xs ts)) (range_with_len a n)) ≤ length (filter (goes_to e r (zip xs ts)) (range_with_len a n))
   others u fails = fewer (goes_to e r ((x, u) ∷ zip xs ts)) (goes_to e r (zip xs ts)) (range_with_len a n) (λ p goes. by_place p goes (cases_eq x p)) where
     by_place : (p : ℕ) → goes_to e r ((x, u) ∷ zip xs ts) p ≡ true → (x ≡ p) ⊎ (x ≢ p) → goes_to e r (zip xs ts) p ≡ true
     by_place p goes (inl same) = let f : true ≡ false = sym goes ∙ (goes_first e r x p u (zip xs ts) same ∙ fails) in absurd cc
     by_place p goes (inr ne) = sym (goes_later e r x p u (zip xs ts) ne) ∙ goes
 
-  more : (u : Option RouterId) → length (filter (goes_to e r ((x, u) ∷ zip xs ts)) (range_with_len a n)) ≤ length (filter (goes_to e r (zip xs ts)) (range_with_len a n)) + 1
+  more : (u : Option RouterId)
+      → length (filter (goes_to e r ((x, u) ∷ zip xs ts)) (range_with_len a n)) ≤ length (filter (goes_to e r (zip xs ts)) (range_with_len a n)) + 1
   more u = one_more (goes_to e r ((x, u) ∷ zip xs ts)) (goes_to e r (zip xs ts)) a n x (λ p ne goes. sym (goes_later e r x p u (zip xs ts) (λ same. ne (sym same))) ∙ goes)
 
-  by_target : (u : Option RouterId) → length (filter (goes_to e r (zip xs ts)) (range_with_len a n)) ≤ times_given r ts → length (filter (goes_to e r ((x, u) ∷ zip xs ts)) (range_with_len a n)) ≤ times_given r (u ∷ ts)
+  by_target : (u : Option RouterId) → length (filter (goes_to e r (zip xs ts)) (range_with_len a n)) ≤ times_given r ts
+      → length (filter (goes_to e r ((x, u) ∷ zip xs ts)) (range_with_len a n)) ≤ times_given r (u ∷ ts)
   by_target None rest = let le = others None refl in omega (arith, le, rest, times_given-none r ts)
   by_target (Some target) rest = by_router (cases_eq r target.0) where
-    by_router : (r ≡ target.0) ⊎ (r ≢ target.0) → length (filter (goes_to e r ((x, Some target) ∷ zip xs ts)) (range_with_len a n)) ≤ times_given r (Some target ∷ ts)
+    by_router : (r ≡ target.0) ⊎ (r ≢ target.0)
+        → length (filter (goes_to e r ((x, Some target) ∷ zip xs ts)) (range_with_len a n)) ≤ times_given r (Some target ∷ ts)
     by_router (inl same) = let le = more (Some target) in omega (arith, le, rest, times_given-same r target ts same)
     by_router (inr ne) =
         let le = others (Some target) (ne_eqb target.0 r (λ same. ne (sym same))) in
@@ -99,7 +107,8 @@ few_given e r a n (x ∷ xs) (t ∷ ts) = by_target t (few_given e r a n xs ts) 
 
 -- ---- rooms and loads
 
-room_at : (routers : List RouterSetup) (r : ℕ) → slice_index (map (λ router. router.room) routers) r ≡ unwrap_or (option_map (λ router. router.room) (slice_get routers r)) 0
+room_at : (routers : List RouterSetup) (r : ℕ)
+    → slice_index (map (λ router. router.room) routers) r ≡ unwrap_or (option_map (λ router. router.room) (slice_get routers r)) 0
 room_at [] r = refl
 room_at (x ∷ routers) zero = refl
 room_at (x ∷ routers) (suc r) = room_at routers r
@@ -112,7 +121,8 @@ abbrev pub comes_to : Setup → (ℕ → ℕ) → ℕ → ℕ → ℕ → Bool
 comes_to setup placed e r p = (placed p == r) || is_to r (gift_to setup placed e p)
 
 -- A router to which an evacuate step gives a peering has room for all that are placed there or given there.
-pub room_for_all : (setup : Setup) (placed : ℕ → ℕ) (e r p : ℕ) → p < peerings_in setup → gift_to setup placed e p ≡ To r → length (filter (comes_to setup placed e r) (peering_numbers setup)) ≤ room_of setup r
+pub room_for_all : (setup : Setup) (placed : ℕ → ℕ) (e r p : ℕ) → p < peerings_in setup → gift_to setup placed e p ≡ To r
+    → length (filter (comes_to setup placed e r) (peering_numbers setup)) ≤ room_of setup r
 room_for_all setup placed e r p l given =
     let targets : TargetList = targets_from setup placed e in
     let gives : ℕ → Bool = λ q. is_to r (gift_to setup placed e q) in

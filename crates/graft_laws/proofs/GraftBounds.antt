@@ -21,7 +21,8 @@ moved_within setup SettleStep place p ok e = absurd cc
 pub graft_within : (setup : Setup) (k : ℕ) (g : ScriptGraft) → IsSetup setup → graft_at setup k ≡ Some g → g.peering < peerings_in setup
 graft_within setup k g ok known = let s = step_of_graft setup k g known in moved_within setup s.step s.place g.peering (step_is setup g.step s.step ok s.there) s.moved
 
-pub target_within : (setup : Setup) (operator : OperatorPart) (g : ScriptGraft) (t : ℕ) → IsSetup setup → GivesToRouters setup operator → target_in setup operator g ≡ Some t → t < routers_in setup
+pub target_within : (setup : Setup) (operator : OperatorPart) (g : ScriptGraft) (t : ℕ) → IsSetup setup → GivesToRouters setup operator
+    → target_in setup operator g ≡ Some t → t < routers_in setup
 target_within setup operator g t ok known is = by_step (slice_get setup.steps g.step) refl is where
   by_gift : (gift : Gift) → operator.given g.graft ≡ gift → target_given gift ≡ Some t → t < routers_in setup
   by_gift Unmade e f = absurd cc

@@ -16,8 +16,8 @@ use Rattle.graft_model.specs.Parts.{Order, Errand, Leaving, Owing, Asking as ToA
 use Rattle.graft_model.specs.RouterRows.{RouterTaken, OrderIn, MeshIn, RouterSent, MeshTo, OutwardTo, ReportOut, BringsIn}
 use Rattle.graft_model.specs.GraftRows.{Admits, Refuses, Freezes, Leaves, Lands, TurnsBack, Returns, Asks, Answers, Counts, Ignores, Confirms, Clears, is_taken, taken_in, refusal_of}
 use Rattle.graft_model.specs.Steps.{Heads}
-use Rattle.graft_laws.specs.Phases.{Ordered, Stored, Halted, Moving, Landed, Asking, Confirmed, Returning, Phase, Busy, only}
-use Rattle.graft_laws.specs.Log.{is_of}
+use Rattle.graft_laws.specs.Phases.{Ordered, Stored, Halted, Moving, Landed, Asking, Confirmed, Returning, Phase, Busy, only_at}
+use Rattle.graft_laws.specs.Log.{is_graft_on}
 use Rattle.graft_laws.specs.Owned.{is_on, Stands, Owned}
 use Rattle.graft_laws.specs.Moves.{inward_taken, outward_sent, reports_sent, RouterMoves}
 use Rattle.graft_laws.proofs.Phases.{live_session, stored_at, halted_at, owing_at, asking_at, moved_in, back_in, done_in, order_in}
@@ -35,14 +35,16 @@ abbrev word_of : ℕ → ℕ → ℕ → Errand
 word_of k q n = Owing (record { graft = k; source = q; next = n })
 
 -- the deed of an event whose items are known
-pub deed_as : (setup : Setup) (w v : World) (r : ℕ) (taken known : Option RouterTaken) (sent items : List RouterSent) (part : RouterPart) → taken ≡ known → sent ≡ items
+pub deed_as : (setup : Setup) (w v : World) (r : ℕ) (taken known : Option RouterTaken) (sent items : List RouterSent) (part : RouterPart)
+    → taken ≡ known → sent ≡ items
     → (RouterMoves r known items part w v → Deed setup w v r known items part) → RouterMoves r taken sent part w v → Deed setup w v r taken sent part
 deed_as setup w v r taken known sent items part e f deed =
     subst (λ (x : Option RouterTaken). RouterMoves r x sent part w v → Deed setup w v r x sent part) (sym e)
     (subst (λ (x : List RouterSent). RouterMoves r known x part w v → Deed setup w v r known x part) (sym f) deed)
 
 -- the reports of one event are of a graft that is known
-pub one_report : (setup : Setup) (r a : ℕ) (report : Report) → IsSome (graft_at setup report.graft) → AllByRecursion (λ (o : Report). IsSome (graft_at setup o.graft)) (only r report a ++ [])
+pub one_report : (setup : Setup) (r a : ℕ) (report : Report) → IsSome (graft_at setup report.graft)
+    → AllByRecursion (λ (o : Report). IsSome (graft_at setup o.graft)) (only_at r report a ++ [])
 one_report setup r a report known = by_test (a == r) where
   by_test : (b : Bool) → AllByRecursion (λ (o : Report). IsSome (graft_at setup o.graft)) (cond b (report ∷ []) [] ++ [])
   by_test true = (known, tt)
@@ -74,7 +76,8 @@ other_answer setup p r q k n = record { mesh_taken = other_taken setup p r q (An
 
 -- the part stays, and what is taken and sent is in no count
 unmoved_deed : (setup : Setup) (w v : World) (r : ℕ) (taken : Option RouterTaken) (sent : List RouterSent) (part : RouterPart) → part ≡ w.router r
-    → ((p : ℕ) → AreOthers setup p r taken sent) → ((a p : ℕ) → outward_sent r sent a p ≡ []) → ((p b : ℕ) → inward_taken r taken p b ≡ []) → ((a : ℕ) → reports_sent r sent a ≡ [])
+    → ((p : ℕ) → AreOthers setup p r taken sent) → ((a p : ℕ) → outward_sent r sent a p ≡ []) → ((p b : ℕ) → inward_taken r taken p b ≡ [])
+    → ((a : ℕ) → reports_sent r sent a ≡ [])
     → RouterMoves r taken sent part w v → Deed setup w v r taken sent part
 unmoved_deed setup w v r taken sent part stays items none_out none_in no_report m = record {
   each = all_apart setup w v r taken sent part m (λ p. record {
@@ -89,7 +92,8 @@ unmoved_deed setup w v r taken sent part stays items none_out none_in no_report 
 }
 
 -- a router that is asked answers
-pub answer_deed : (setup : Setup) (w v : World) (r q : ℕ) (taken : Option RouterTaken) (sent : List RouterSent) (part : RouterPart) → Answers q (w.router r) taken sent part
+pub answer_deed : (setup : Setup) (w v : World) (r q : ℕ) (taken : Option RouterTaken) (sent : List RouterSent) (part : RouterPart)
+    → Answers q (w.router r) taken sent part
     → RouterMoves r taken sent part w v → Deed setup w v r taken sent part
 answer_deed setup w v r q taken sent part row =
     deed_as setup w v r taken (Some (MeshIn q (Asked row.graft row.peering))) sent (MeshTo q (Answered row.graft row.peering) ∷ []) part row.takes row.sends
@@ -101,21 +105,21 @@ module _ (setup : Setup) (w v : World) (r : ℕ) (owned : Owned setup w) where
   before = w.router r
 
   -- the graft for which a session is stored, comes back or has landed is its peering's own
-  stored_own : (q k t : ℕ) (s : SessionValue) → before.places q ≡ Live s (Some (Leaving (order_of k t))) → q < peerings_in setup → is_of setup q k ≡ true
+  stored_own : (q k t : ℕ) (s : SessionValue) → before.places q ≡ Live s (Some (Leaving (order_of k t))) → q < peerings_in setup → is_graft_on setup q k ≡ true
   stored_own q k t s is known =
       let h = owned.peerings q known in
       let e : h.phase ≡ Busy r k t Stored = (stored_at h.phase h.session s r k t (sym is ∙ h.stands.places r)).0 in
       let b : Stands setup w q (Busy r k t Stored) h.session = subst (λ (x : Phase). Stands setup w q x h.session) e h.stands in
       own_known setup q k b.log.goes_on.known
 
-  back_own : (a q k : ℕ) (s : SessionValue) (refusal : Refusal) → Heads (w.mesh a r) (Back k q s refusal) → q < peerings_in setup → is_of setup q k ≡ true
+  back_own : (a q k : ℕ) (s : SessionValue) (refusal : Refusal) → Heads (w.mesh a r) (Back k q s refusal) → q < peerings_in setup → is_graft_on setup q k ≡ true
   back_own a q k s refusal head known =
       let h = owned.peerings q known in
       let e : h.phase ≡ Busy r k a (Returning refusal) = (back_in h.phase q h.session s refusal a r k _ (own_head (is_on q) (w.mesh a r) head.rest (Back k q s refusal) head.is (equal q) ∙ h.stands.mesh a r)).0 in
       let b : Stands setup w q (Busy r k a (Returning refusal)) h.session = subst (λ (x : Phase). Stands setup w q x h.session) e h.stands in
       own_known setup q k b.log.goes_on.known
 
-  done_own : (a q k : ℕ) → Heads (w.mesh a r) (Done k q) → q < peerings_in setup → is_of setup q k ≡ true
+  done_own : (a q k : ℕ) → Heads (w.mesh a r) (Done k q) → q < peerings_in setup → is_graft_on setup q k ≡ true
   done_own a q k head known =
       let h = owned.peerings q known in
       let e : h.phase ≡ Busy r k a Confirmed = done_in h.phase q h.session a r k _ (own_head (is_on q) (w.mesh a r) head.rest (Done k q) head.is (equal q) ∙ h.stands.mesh a r) in
@@ -124,7 +128,8 @@ module _ (setup : Setup) (w v : World) (r : ℕ) (owned : Owned setup w) where
 
   -- ---- at the source
 
-  pub admit_deed : (k : ℕ) (taken : Option RouterTaken) (sent : List RouterSent) (part : RouterPart) → Admits setup k before taken sent part → RouterMoves r taken sent part w v → Deed setup w v r taken sent part
+  pub admit_deed : (k : ℕ) (taken : Option RouterTaken) (sent : List RouterSent) (part : RouterPart) → Admits setup k before taken sent part
+      → RouterMoves r taken sent part w v → Deed setup w v r taken sent part
   admit_deed k taken sent part row = deed_as setup w v r taken (Some (OrderIn (record { graft = k; peering = row.peering; target = row.target }))) sent [] part row.takes row.sends (λ m.
       let q : ℕ = row.peering in
       let o : GraftOrder = record { graft = k; peering = q; target = row.target } in
@@ -147,12 +152,13 @@ module _ (setup : Setup) (w v : World) (r : ℕ) (owned : Owned setup w) where
         room = λ l. le_trans _ _ _ (no_more_taken setup before part q _ places (ap is_taken row.live.is)) l;
       })
 
-  pub refuse_deed : (k : ℕ) (taken : Option RouterTaken) (sent : List RouterSent) (part : RouterPart) → Refuses r k before taken sent part → RouterMoves r taken sent part w v → Deed setup w v r taken sent part
+  pub refuse_deed : (k : ℕ) (taken : Option RouterTaken) (sent : List RouterSent) (part : RouterPart) → Refuses r k before taken sent part
+      → RouterMoves r taken sent part w v → Deed setup w v r taken sent part
   refuse_deed k taken sent part row = deed_as setup w v r taken None sent (ReportOut (record { graft = k; outcome = Refused row.refusal }) ∷ []) part row.takes row.sends (λ m.
       let q : ℕ = row.peering in
       let places : part.places ≡ at before.places q (Live row.session None) = ap (λ (x : RouterPart). x.places) row.effect in
       let known : q < peerings_in setup = known_place setup w owned r q _ row.live.is (λ e. absurd cc) in
-      let own : is_of setup q k ≡ true = stored_own q k row.target row.session row.live.is known in
+      let own : is_graft_on setup q k ≡ true = stored_own q k row.target row.session row.live.is known in
       record {
         each = own_or_apart setup w v r q None (ReportOut (record { graft = k; outcome = Refused row.refusal }) ∷ []) part m known
             (λ p ne. record {
@@ -171,7 +177,8 @@ module _ (setup : Setup) (w v : World) (r : ℕ) (owned : Owned setup w) where
         room = λ l. le_trans _ _ _ (no_more_taken setup before part q _ places (ap is_taken row.live.is)) l;
       })
 
-  pub freeze_deed : (k : ℕ) (taken : Option RouterTaken) (sent : List RouterSent) (part : RouterPart) → Freezes r k before taken sent part → RouterMoves r taken sent part w v → Deed setup w v r taken sent part
+  pub freeze_deed : (k : ℕ) (taken : Option RouterTaken) (sent : List RouterSent) (part : RouterPart) → Freezes r k before taken sent part
+      → RouterMoves r taken sent part w v → Deed setup w v r taken sent part
   freeze_deed k taken sent part row = deed_as setup w v r taken None sent [] part row.alone.0 row.alone.1 (λ m.
       let q : ℕ = row.peering in
       let places : part.places ≡ at before.places q (Frozen row.session (order_of k row.target)) = ap (λ (x : RouterPart). x.places) row.effect in
@@ -194,7 +201,8 @@ module _ (setup : Setup) (w v : World) (r : ℕ) (owned : Owned setup w) where
         room = λ l. le_trans _ _ _ (no_more_taken setup before part q _ places (ap is_taken row.live.is)) l;
       })
 
-  pub leave_deed : (k : ℕ) (taken : Option RouterTaken) (sent : List RouterSent) (part : RouterPart) → Leaves k before taken sent part → RouterMoves r taken sent part w v → Deed setup w v r taken sent part
+  pub leave_deed : (k : ℕ) (taken : Option RouterTaken) (sent : List RouterSent) (part : RouterPart) → Leaves k before taken sent part
+      → RouterMoves r taken sent part w v → Deed setup w v r taken sent part
   leave_deed k taken sent part row = deed_as setup w v r taken None sent (MeshTo row.target (Moved k row.peering row.session) ∷ []) part row.takes row.sends (λ m.
       let q : ℕ = row.peering in
       let places : part.places ≡ at before.places q (Shadow k) = ap (λ (x : RouterPart). x.places) row.effect in
@@ -217,7 +225,8 @@ module _ (setup : Setup) (w v : World) (r : ℕ) (owned : Owned setup w) where
 
   -- ---- at the target
 
-  pub land_deed : (q : ℕ) (taken : Option RouterTaken) (sent : List RouterSent) (part : RouterPart) → Lands setup r q before taken sent part → RouterMoves r taken sent part w v → Deed setup w v r taken sent part
+  pub land_deed : (q : ℕ) (taken : Option RouterTaken) (sent : List RouterSent) (part : RouterPart) → Lands setup r q before taken sent part
+      → RouterMoves r taken sent part w v → Deed setup w v r taken sent part
   land_deed q taken sent part row = deed_as setup w v r taken (Some (MeshIn q (Moved row.comes.graft row.comes.peering row.comes.session))) sent
       (OutwardTo row.comes.peering (PointAt row.comes.graft) ∷ []) part row.comes.takes row.sends (λ m.
       let k : ℕ = row.comes.graft in
@@ -244,7 +253,8 @@ module _ (setup : Setup) (w v : World) (r : ℕ) (owned : Owned setup w) where
         room = λ l. le_trans _ _ _ (one_more_taken setup before part n _ places) (above _ _ (room_left setup r before row.comes.session row.admitted));
       })
 
-  pub ask_deed : (k q : ℕ) (taken : Option RouterTaken) (sent : List RouterSent) (part : RouterPart) → Asks setup r k q before taken sent part → RouterMoves r taken sent part w v → Deed setup w v r taken sent part
+  pub ask_deed : (k q : ℕ) (taken : Option RouterTaken) (sent : List RouterSent) (part : RouterPart) → Asks setup r k q before taken sent part
+      → RouterMoves r taken sent part w v → Deed setup w v r taken sent part
   ask_deed k q taken sent part row = deed_as setup w v r taken None sent (MeshTo q (Asked k row.peering) ∷ []) part row.takes row.sends (λ m.
       let n : ℕ = row.peering in
       let asking : Errand = ToAnswer (record { graft = k; source = row.source; next = q }) in
@@ -266,7 +276,8 @@ module _ (setup : Setup) (w v : World) (r : ℕ) (owned : Owned setup w) where
         room = λ l. le_trans _ _ _ (no_more_taken setup before part n _ places (ap is_taken row.live.is)) l;
       })
 
-  count_deed : (q : ℕ) (taken : Option RouterTaken) (sent : List RouterSent) (part : RouterPart) → Counts q before taken sent part → RouterMoves r taken sent part w v → Deed setup w v r taken sent part
+  count_deed : (q : ℕ) (taken : Option RouterTaken) (sent : List RouterSent) (part : RouterPart) → Counts q before taken sent part
+      → RouterMoves r taken sent part w v → Deed setup w v r taken sent part
   count_deed q taken sent part row = deed_as setup w v r taken (Some (MeshIn q (Answered row.graft row.peering))) sent [] part row.takes row.sends (λ m.
       let k : ℕ = row.graft in
       let n : ℕ = row.peering in
@@ -289,13 +300,15 @@ module _ (setup : Setup) (w v : World) (r : ℕ) (owned : Owned setup w) where
         room = λ l. le_trans _ _ _ (no_more_taken setup before part n _ places (ap is_taken row.live.is)) l;
       })
 
-  pub collect_deed : (q : ℕ) (taken : Option RouterTaken) (sent : List RouterSent) (part : RouterPart) → Counts q before taken sent part ⊎ Ignores q before taken sent part
+  pub collect_deed : (q : ℕ) (taken : Option RouterTaken) (sent : List RouterSent) (part : RouterPart)
+      → Counts q before taken sent part ⊎ Ignores q before taken sent part
       → RouterMoves r taken sent part w v → Deed setup w v r taken sent part
   collect_deed q taken sent part (inl row) = count_deed q taken sent part row
   collect_deed q taken sent part (inr row) = deed_as setup w v r taken (Some (MeshIn q (Answered row.graft row.peering))) sent [] part row.takes row.sends
       (unmoved_deed setup w v r (Some (MeshIn q (Answered row.graft row.peering))) [] part row.stays (λ p. other_answer setup p r q row.graft row.peering) (λ a p. refl) (λ p b. refl) (λ a. refl))
 
-  pub confirm_deed : (k : ℕ) (taken : Option RouterTaken) (sent : List RouterSent) (part : RouterPart) → Confirms setup r k before taken sent part → RouterMoves r taken sent part w v → Deed setup w v r taken sent part
+  pub confirm_deed : (k : ℕ) (taken : Option RouterTaken) (sent : List RouterSent) (part : RouterPart) → Confirms setup r k before taken sent part
+      → RouterMoves r taken sent part w v → Deed setup w v r taken sent part
   confirm_deed k taken sent part row = deed_as setup w v r taken None sent (MeshTo row.source (Done k row.peering) ∷ []) part row.takes row.sends (λ m.
       let n : ℕ = row.peering in
       let places : part.places ≡ at before.places n (Live row.session None) = ap (λ (x : RouterPart). x.places) row.effect in
@@ -316,7 +329,8 @@ module _ (setup : Setup) (w v : World) (r : ℕ) (owned : Owned setup w) where
         room = λ l. le_trans _ _ _ (no_more_taken setup before part n _ places (ap is_taken row.live.is)) l;
       })
 
-  pub turn_back_deed : (q : ℕ) (taken : Option RouterTaken) (sent : List RouterSent) (part : RouterPart) → TurnsBack setup r q before taken sent part → RouterMoves r taken sent part w v → Deed setup w v r taken sent part
+  pub turn_back_deed : (q : ℕ) (taken : Option RouterTaken) (sent : List RouterSent) (part : RouterPart) → TurnsBack setup r q before taken sent part
+      → RouterMoves r taken sent part w v → Deed setup w v r taken sent part
   turn_back_deed q taken sent part row = deed_as setup w v r taken (Some (MeshIn q (Moved row.comes.graft row.comes.peering row.comes.session))) sent
       (MeshTo q (Back row.comes.graft row.comes.peering row.comes.session row.refusal) ∷ []) part row.comes.takes row.sends (λ m.
       let k : ℕ = row.comes.graft in
@@ -344,7 +358,8 @@ module _ (setup : Setup) (w v : World) (r : ℕ) (owned : Owned setup w) where
 
   -- ---- at the source again
 
-  pub return_deed : (q : ℕ) (taken : Option RouterTaken) (sent : List RouterSent) (part : RouterPart) → Returns q before taken sent part → RouterMoves r taken sent part w v → Deed setup w v r taken sent part
+  pub return_deed : (q : ℕ) (taken : Option RouterTaken) (sent : List RouterSent) (part : RouterPart) → Returns q before taken sent part
+      → RouterMoves r taken sent part w v → Deed setup w v r taken sent part
   return_deed q taken sent part row = deed_as setup w v r taken (Some (MeshIn q (Back row.graft row.peering row.session row.refusal))) sent
       (ReportOut (record { graft = row.graft; outcome = Refused row.refusal }) ∷ []) part row.takes row.sends (λ m.
       let k : ℕ = row.graft in
@@ -353,7 +368,7 @@ module _ (setup : Setup) (w v : World) (r : ℕ) (owned : Owned setup w) where
       let report : Report = record { graft = k; outcome = Refused row.refusal } in
       let places : part.places ≡ at before.places n (Live row.session None) = ap (λ (x : RouterPart). x.places) row.effect in
       let known : n < peerings_in setup = known_place setup w owned r n _ row.shadow (λ e. absurd cc) in
-      let own : is_of setup n k ≡ true = back_own q n k row.session row.refusal m.heads known in
+      let own : is_graft_on setup n k ≡ true = back_own q n k row.session row.refusal m.heads known in
       record {
         each = own_or_apart setup w v r n (Some (MeshIn q item)) (ReportOut report ∷ []) part m known
             (λ p ne. record {
@@ -373,7 +388,8 @@ module _ (setup : Setup) (w v : World) (r : ℕ) (owned : Owned setup w) where
         room = λ l. le_trans _ _ _ (no_more_taken setup before part n _ places (ap is_taken row.shadow)) l;
       })
 
-  pub clear_deed : (q : ℕ) (taken : Option RouterTaken) (sent : List RouterSent) (part : RouterPart) → Clears q before taken sent part → RouterMoves r taken sent part w v → Deed setup w v r taken sent part
+  pub clear_deed : (q : ℕ) (taken : Option RouterTaken) (sent : List RouterSent) (part : RouterPart) → Clears q before taken sent part
+      → RouterMoves r taken sent part w v → Deed setup w v r taken sent part
   clear_deed q taken sent part row = deed_as setup w v r taken (Some (MeshIn q (Done row.graft row.peering))) sent
       (ReportOut (record { graft = row.graft; outcome = Accepted }) ∷ []) part row.takes row.sends (λ m.
       let k : ℕ = row.graft in
@@ -382,7 +398,7 @@ module _ (setup : Setup) (w v : World) (r : ℕ) (owned : Owned setup w) where
       let report : Report = record { graft = k; outcome = Accepted } in
       let places : part.places ≡ at before.places n Vacant = ap (λ (x : RouterPart). x.places) row.effect in
       let known : n < peerings_in setup = known_place setup w owned r n _ row.shadow (λ e. absurd cc) in
-      let own : is_of setup n k ≡ true = done_own q n k m.heads known in
+      let own : is_graft_on setup n k ≡ true = done_own q n k m.heads known in
       record {
         each = own_or_apart setup w v r n (Some (MeshIn q item)) (ReportOut report ∷ []) part m known
             (λ p ne. record {

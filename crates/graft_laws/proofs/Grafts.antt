@@ -12,9 +12,9 @@ use Rattle.graft_model.specs.Setups.{Setup}
 use Rattle.graft_model.specs.Parts.{Place, Vacant, Live, Frozen, Shadow, Leaving, Owing, Asking as ToAnswer, RouterPart, Mesh, Moved, Back, Asked, Answered, Done, PointAt, GraftOrder, Report, World}
 use Rattle.graft_model.specs.RouterRows.{OrderIn, MeshIn, MeshTo, OutwardTo, ReportOut, BringsIn}
 use Rattle.graft_model.specs.GraftRows.{refusal_of}
-use Rattle.graft_laws.specs.Phases.{Ordered, Stored, Halted, Moving, Landed, Asking, Confirmed, Returning, Declined, Cleared, Busy, only, only2, place_by}
-use Rattle.graft_laws.specs.Log.{is_of}
-use Rattle.graft_laws.specs.Owned.{is_on, mesh_of, Stands}
+use Rattle.graft_laws.specs.Phases.{Ordered, Stored, Halted, Moving, Landed, Asking, Confirmed, Returning, Declined, Cleared, Busy, only_at, only2, place_by}
+use Rattle.graft_laws.specs.Log.{is_graft_on}
+use Rattle.graft_laws.specs.Owned.{is_on, mesh_items_on, Stands}
 use Rattle.graft_laws.specs.Moves.{RouterMoves}
 use Rattle.graft_laws.specs.Life.{Grafts, Admits, Refuses, Freezes, Leaves, Lands, TurnsBack, Returns, Asks, Counts, Confirms, Clears}
 use Rattle.graft_laws.proofs.Logs.{log_on, own_known}
@@ -30,19 +30,22 @@ place_now r x part_place place other e = by_test (x == r) where
   by_test true = e
   by_test false = refl
 
-own_sent : (p j k a b : ℕ) (item : Mesh) → is_on p item ≡ true → mesh_of p (only2 j k item a b ++ []) ≡ only2 j k item a b
-own_sent p j k a b item e = ap (mesh_of p) (append-nil (only2 j k item a b)) ∙ own_only2 (is_on p) item j k a b e
+own_sent : (p j k a b : ℕ) (item : Mesh) → is_on p item ≡ true → mesh_items_on p (only2 j k item a b ++ []) ≡ only2 j k item a b
+own_sent p j k a b item e = ap (mesh_items_on p) (append-nil (only2 j k item a b)) ∙ own_only2 (is_on p) item j k a b e
 
 -- an item that no phase tracks
-untracked_sent : (p j k a b : ℕ) (item : Mesh) → is_on p item ≡ false → mesh_of p (only2 j k item a b ++ []) ≡ []
-untracked_sent p j k a b item e = ap (mesh_of p) (append-nil (only2 j k item a b)) ∙ none_only2 (is_on p) item j k a b e
+untracked_sent : (p j k a b : ℕ) (item : Mesh) → is_on p item ≡ false → mesh_items_on p (only2 j k item a b ++ []) ≡ []
+untracked_sent p j k a b item e = ap (mesh_items_on p) (append-nil (only2 j k item a b)) ∙ none_only2 (is_on p) item j k a b e
 
-own_report : (setup : Setup) (p r a : ℕ) (o : Report) → is_of setup p o.graft ≡ true → filter (λ (x : Report). is_of setup p x.graft) (only r o a ++ []) ≡ only r o a
-own_report setup p r a o e = ap (filter (λ (x : Report). is_of setup p x.graft)) (append-nil (only r o a)) ∙ own_only (λ (x : Report). is_of setup p x.graft) o r a e
+own_report : (setup : Setup) (p r a : ℕ) (o : Report) → is_graft_on setup p o.graft ≡ true
+    → filter (λ (x : Report). is_graft_on setup p x.graft) (only_at r o a ++ []) ≡ only_at r o a
+own_report setup p r a o e = ap (filter (λ (x : Report). is_graft_on setup p x.graft)) (append-nil (only_at r o a))
+    ∙ own_only (λ (x : Report). is_graft_on setup p x.graft) o r a e
 
 module _ (setup : Setup) (w v : World) (p q k t : ℕ) (s : SessionValue) (part : RouterPart) where
   -- the order is stored
-  pub admit_own : RouterMoves q (Some (OrderIn (record { graft = k; peering = p; target = t }))) [] part w v → part.places p ≡ Live s (Some (Leaving (record { graft = k; target = t }))) → part.entries p ≡ (w.router q).entries p
+  pub admit_own : RouterMoves q (Some (OrderIn (record { graft = k; peering = p; target = t }))) [] part w v
+      → part.places p ≡ Live s (Some (Leaving (record { graft = k; target = t }))) → part.entries p ≡ (w.router q).entries p
       → Stands setup w p (Busy q k t Ordered) s → Followed setup w v p (Busy q k t Ordered) s
   admit_own m place entries b = record {
     next = Busy q k t Stored;
@@ -61,7 +64,8 @@ module _ (setup : Setup) (w v : World) (p q k t : ℕ) (s : SessionValue) (part 
   }
 
   -- the source refuses
-  pub refuse_own : (refusal : Refusal) → RouterMoves q None (ReportOut (record { graft = k; outcome = Refused refusal }) ∷ []) part w v → part.places p ≡ Live s None → part.entries p ≡ (w.router q).entries p
+  pub refuse_own : (refusal : Refusal) → RouterMoves q None (ReportOut (record { graft = k; outcome = Refused refusal }) ∷ []) part w v
+      → part.places p ≡ Live s None → part.entries p ≡ (w.router q).entries p
       → freeze_refusal (record { 0 = q }) (record { 0 = t }) (state s) (hold_time s) ≡ Some refusal
       → Stands setup w p (Busy q k t Stored) s → Followed setup w v p (Busy q k t Stored) s
   refuse_own refusal m place entries cause b = record {
@@ -126,7 +130,8 @@ module _ (setup : Setup) (w v : World) (p q k t : ℕ) (s : SessionValue) (part 
   asking n = Live s (Some (ToAnswer (record { graft = k; source = q; next = n })))
 
   -- the session lands
-  pub land_own : RouterMoves t (Some (MeshIn q (Moved k p s))) (OutwardTo p (PointAt k) ∷ []) part w v → part.places p ≡ owing 0 → BringsIn setup t s (part.entries p)
+  pub land_own : RouterMoves t (Some (MeshIn q (Moved k p s))) (OutwardTo p (PointAt k) ∷ []) part w v → part.places p ≡ owing 0
+      → BringsIn setup t s (part.entries p)
       → refusal_of setup t (w.router t) s ≡ None → Stands setup w p (Busy q k t Moving) s → Followed setup w v p (Busy q k t Moving) s
   land_own m place brings admitted b = record {
     next = Busy q k t (Landed 0);
@@ -141,7 +146,7 @@ module _ (setup : Setup) (w v : World) (p q k t : ℕ) (s : SessionValue) (part 
           no_report = λ x. refl;
           reports_sent = λ x. refl;
         }) b (log_on setup w.operator p q k t Moving (Landed 0) b.log) b.bounds;
-    change = Lands admitted (line_gets w v p t _ _ part (PointAt k) m (λ a. (let e : only2 t p (PointAt k) a p ≡ only t (PointAt k) a = ap (λ c. cond (a == t) (cond c (PointAt k ∷ []) []) []) (equal p) in append-nil (only2 t p (PointAt k) a p) ∙ e)) (λ a. refl))
+    change = Lands admitted (line_gets w v p t _ _ part (PointAt k) m (λ a. (let e : only2 t p (PointAt k) a p ≡ only_at t (PointAt k) a = ap (λ c. cond (a == t) (cond c (PointAt k ∷ []) []) []) (equal p) in append-nil (only2 t p (PointAt k) a p) ∙ e)) (λ a. refl))
         (enters setup w v p t s part m.router brings);
   }
 
@@ -213,7 +218,8 @@ module _ (setup : Setup) (w v : World) (p q k t : ℕ) (s : SessionValue) (part 
   turned_place x here apart e = grind (arith, nat_tests)
 
   -- the target turns it back
-  pub turn_back_own : (refusal : Refusal) → RouterMoves t (Some (MeshIn q (Moved k p s))) (MeshTo q (Back k p s refusal) ∷ []) part w v → part.places p ≡ Vacant → part.entries p ≡ (w.router t).entries p
+  pub turn_back_own : (refusal : Refusal) → RouterMoves t (Some (MeshIn q (Moved k p s))) (MeshTo q (Back k p s refusal) ∷ []) part w v
+      → part.places p ≡ Vacant → part.entries p ≡ (w.router t).entries p
       → refusal_of setup t (w.router t) s ≡ Some refusal → Stands setup w p (Busy q k t Moving) s → Followed setup w v p (Busy q k t Moving) s
   turn_back_own refusal m place entries cause b = record {
     next = Busy q k t (Returning refusal);
@@ -232,7 +238,9 @@ module _ (setup : Setup) (w v : World) (p q k t : ℕ) (s : SessionValue) (part 
   }
 
   -- it is back at the source
-  pub return_own : (refusal : Refusal) → RouterMoves q (Some (MeshIn t (Back k p s refusal))) (ReportOut (record { graft = k; outcome = Refused refusal }) ∷ []) part w v → part.places p ≡ Live s None
+  pub return_own : (refusal : Refusal)
+      → RouterMoves q (Some (MeshIn t (Back k p s refusal))) (ReportOut (record { graft = k; outcome = Refused refusal }) ∷ []) part w v
+      → part.places p ≡ Live s None
       → part.entries p ≡ (w.router q).entries p → Stands setup w p (Busy q k t (Returning refusal)) s → Followed setup w v p (Busy q k t (Returning refusal)) s
   return_own refusal m place entries b = record {
     next = Busy q k t (Declined refusal);
@@ -250,11 +258,13 @@ module _ (setup : Setup) (w v : World) (p q k t : ℕ) (s : SessionValue) (part 
     change = Grafts Returns (line_by_router w v p q _ _ part m (λ a. refl) (λ a. refl)) (same_entries w v p q part m.router entries);
   }
 
-  cleared_place : (x : ℕ) (here : Place) → t ≢ q → here ≡ Vacant → cond (x == q) here (cond (x == t) (Live s None) (cond (x == q) (Shadow k) Vacant)) ≡ cond (x == t) (Live s None) Vacant
+  cleared_place : (x : ℕ) (here : Place) → t ≢ q → here ≡ Vacant
+      → cond (x == q) here (cond (x == t) (Live s None) (cond (x == q) (Shadow k) Vacant)) ≡ cond (x == t) (Live s None) Vacant
   cleared_place x here apart e = grind (arith, nat_tests)
 
   -- the source clears its shadow
-  pub clear_own : RouterMoves q (Some (MeshIn t (Done k p))) (ReportOut (record { graft = k; outcome = Accepted }) ∷ []) part w v → part.places p ≡ Vacant → part.entries p ≡ map.empty
+  pub clear_own : RouterMoves q (Some (MeshIn t (Done k p))) (ReportOut (record { graft = k; outcome = Accepted }) ∷ []) part w v
+      → part.places p ≡ Vacant → part.entries p ≡ map.empty
       → Stands setup w p (Busy q k t Confirmed) s → Followed setup w v p (Busy q k t Confirmed) s
   clear_own m place none b = record {
     next = Busy q k t Cleared;

@@ -23,7 +23,8 @@ use Rattle.graft_laws.proofs.Runs.{carried}
 
 -- A property of the operator that each of its events keeps holds along every run.
 pub always_operator : (setup : Setup) (P : OperatorPart → Type 0) → P (first_operator setup)
-    → ((event : OperatorEvent) (before after : World) → Reached setup before → OperatorStep setup event before after → P before.operator → P after.operator) → (w : World) → Reached setup w → P w.operator
+    → ((event : OperatorEvent) (before after : World) → Reached setup before → OperatorStep setup event before after → P before.operator → P after.operator)
+    → (w : World) → Reached setup w → P w.operator
 always_operator setup P first keeps = carried setup (λ w. P w.operator) first each where
   each : (event : Event) (before after : World) → Reached setup before → Step setup event before after → P before.operator → P after.operator
   each (ByRouter r event) before after reached x was = subst P (sym (router_moves setup r event before after x).operator) was
@@ -35,13 +36,15 @@ always_operator setup P first keeps = carried setup (λ w. P w.operator) first e
 abbrev LaterUngiven : Setup → OperatorPart → Type 0
 LaterUngiven setup operator = (g : ScriptGraft) → graft_at setup g.graft ≡ Some g → operator.group < group_of setup g.step → operator.given g.graft ≡ Unmade
 
-later_still : (setup : Setup) (event : OperatorEvent) (before after : OperatorPart) (taken : Option OperatorTaken) (sent : List OperatorSent) → operator_row setup event before taken sent after
+later_still : (setup : Setup) (event : OperatorEvent) (before after : OperatorPart) (taken : Option OperatorTaken) (sent : List OperatorSent)
+    → operator_row setup event before taken sent after
     → LaterUngiven setup before → LaterUngiven setup after
 later_still setup (Order n number) before after taken sent (inl row) was = subst (LaterUngiven setup) (sym row.effect) was
 later_still setup (Order n number) before after taken sent (inr row) was = subst (LaterUngiven setup) (sym row.effect) was
 later_still setup (Note r) before after taken sent row was = subst (LaterUngiven setup) (sym row.effect) was
 later_still setup Go before after taken sent row was = subst (LaterUngiven setup) (sym row.effect) (λ g known later.
-    given_stays setup (record before { group = before.group + 1 }) g known (λ (same : group_of setup g.step ≡ before.group + 1). omega arith) ∙ was g known (omega arith))
+    given_stays setup (record before { group = before.group + 1 }) g known (λ (same : group_of setup g.step ≡ before.group + 1). omega arith)
+    ∙ was g known (omega arith))
 
 pub later_ungiven : (setup : Setup) (w : World) → Reached setup w → LaterUngiven setup w.operator
 later_ungiven setup = always_operator setup (LaterUngiven setup)
@@ -50,7 +53,8 @@ later_ungiven setup = always_operator setup (LaterUngiven setup)
 
 -- ---- as a group begins
 
-pub go_gives : (setup : Setup) (before after : World) (step router : ℕ) → Reached setup before → Step setup (ByOperator Go) before after → slice_get setup.steps step ≡ Some (EvacuateStep router)
+pub go_gives : (setup : Setup) (before after : World) (step router : ℕ) → Reached setup before → Step setup (ByOperator Go) before after
+    → slice_get setup.steps step ≡ Some (EvacuateStep router)
     → group_of setup step ≡ after.operator.group → GivesByPlan setup before.operator after.operator step router
 go_gives setup before after step router reached x there group = record {
   given = λ g known by.
@@ -65,7 +69,8 @@ go_gives setup before after step router reached x there group = record {
   is : after.operator ≡ with_gifts setup next
   is = gives_as setup before after x
 
-pub first_gives : (setup : Setup) (step router : ℕ) → slice_get setup.steps step ≡ Some (EvacuateStep router) → group_of setup step ≡ 0 → GivesByPlan setup (first_operator setup) (first_operator setup) step router
+pub first_gives : (setup : Setup) (step router : ℕ) → slice_get setup.steps step ≡ Some (EvacuateStep router) → group_of setup step ≡ 0
+    → GivesByPlan setup (first_operator setup) (first_operator setup) step router
 first_gives setup step router there group = record {
   given = λ g known by.
       given_by_step setup ungiven g router known (ap (group_of setup) by ∙ group) (ap (slice_get setup.steps) by ∙ there) refl
@@ -77,9 +82,11 @@ first_gives setup step router there group = record {
 
 -- Each graft with a target has its outcome, where its group is over.
 abbrev OverEnded : Setup → OperatorPart → Type 0
-OverEnded setup operator = (g : ScriptGraft) → graft_at setup g.graft ≡ Some g → group_of setup g.step < operator.group → target_in setup operator g ≢ None → operator.outcome g.graft ≢ None
+OverEnded setup operator = (g : ScriptGraft) → graft_at setup g.graft ≡ Some g → group_of setup g.step < operator.group
+    → target_in setup operator g ≢ None → operator.outcome g.graft ≢ None
 
-over_still : (setup : Setup) (event : OperatorEvent) (before after : World) (x : OperatorStep setup event before after) → OverEnded setup before.operator → OverEnded setup x.part
+over_still : (setup : Setup) (event : OperatorEvent) (before after : World) (x : OperatorStep setup event before after)
+    → OverEnded setup before.operator → OverEnded setup x.part
 over_still setup event before after x was = by_row event x.may x.row where
   grows : (event : OperatorEvent) → operator_row setup event before.operator x.taken x.sent x.part → LogGrows before.operator x.part
   grows event row = row_grows setup event before.operator x.part x.taken x.sent row
@@ -93,7 +100,8 @@ over_still setup event before after x was = by_row event x.may x.row where
   begins quiet g known over made = by_group (cases_eq (group_of setup g.step) before.operator.group) where
     same : target_in setup before.operator g ≢ None
     same none = made (ap (λ (gift : Gift). target_by (slice_get setup.steps g.step) gift)
-        (given_stays setup (record before.operator { group = before.operator.group + 1 }) g known (λ (e : group_of setup g.step ≡ before.operator.group + 1). omega arith)) ∙ none)
+        (given_stays setup (record before.operator { group = before.operator.group + 1 }) g known (λ (e : group_of setup g.step ≡ before.operator.group + 1). omega arith))
+        ∙ none)
 
     by_group : (group_of setup g.step ≡ before.operator.group) ⊎ (group_of setup g.step ≢ before.operator.group) → before.operator.outcome g.graft ≢ None
     by_group (inl at_work) = quiet.ended g known at_work same

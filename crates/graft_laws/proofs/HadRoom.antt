@@ -25,7 +25,7 @@ use Rattle.graft_model.specs.declared.event.OperatorEvent.{OperatorEvent}
 use Rattle.graft_model.specs.declared.event.OperatorEvent.TheVariants.{Order, Note, Go}
 use Rattle.graft_model.specs.Steps.{OperatorStep}
 use Rattle.graft_laws.specs.Phases.{Ordered, Stored, Halted, Moving, Landed, Asking, Confirmed, Returning, Declined, Cleared, Phase, Idle, Busy, source_of, place_by}
-use Rattle.graft_laws.specs.Log.{is_peering, is_of}
+use Rattle.graft_laws.specs.Log.{is_peering, is_graft_on}
 use Rattle.graft_laws.specs.Owned.{reports_of, Stands, Owned}
 use Rattle.graft_laws.specs.Moves.{OperatorHeads, OperatorMoves}
 use Rattle.graft_laws.specs.Life.{GraftMove, Begins, Admits, Refuses, Freezes, Leaves, TurnsBack, Returns, Asks, Counts, Confirms, NotesRefusal, NotesSuccess, Change, Rests, Grafts, Lands, Clears, Acts, Strays, IsToSay, FarActs}
@@ -128,7 +128,8 @@ module _ (setup : Setup) (w : World) (alone : EmptyAlone setup) (owned : Owned s
 
 -- the refusal of a graft of an evacuate step isn't for want of room
 abbrev IsNotFull : Setup → ℕ → Refusal → Type 0
-IsNotFull setup k refusal = (g : ScriptGraft) (e room : ℕ) → graft_at setup k ≡ Some g → slice_get setup.steps g.step ≡ Some (EvacuateStep e) → refusal ≢ RouterFull room
+IsNotFull setup k refusal = (g : ScriptGraft) (e room : ℕ) → graft_at setup k ≡ Some g → slice_get setup.steps g.step ≡ Some (EvacuateStep e)
+    → refusal ≢ RouterFull room
 
 not_at_freeze : (source target : RouterId) (now : SessionState) (hold room : ℕ) → freeze_refusal source target now hold ≡ Some (RouterFull room) → ⊥
 not_at_freeze source target now hold room is = by_test (target.0 == source.0) is where
@@ -164,7 +165,8 @@ HasRoom setup w p phase s = Unit {0}
 
 module _ (setup : Setup) (ok : IsSetup setup) (alone : EmptyAlone setup) where
   -- a session that arrives is turned back for another reason
-  turned_back : (w : World) (p q k t : ℕ) (s : SessionValue) (refusal : Refusal) → Reached setup w → p < peerings_in setup → Stands setup w p (Busy q k t Moving) s → refusal_of setup t (w.router t) s ≡ Some refusal
+  turned_back : (w : World) (p q k t : ℕ) (s : SessionValue) (refusal : Refusal) → Reached setup w → p < peerings_in setup
+      → Stands setup w p (Busy q k t Moving) s → refusal_of setup t (w.router t) s ≡ Some refusal
       → IsNotFull setup k refusal
   turned_back w p q k t s refusal reached l b why g e room known there full =
       let on = b.log.goes_on in
@@ -175,7 +177,8 @@ module _ (setup : Setup) (ok : IsSetup setup) (alone : EmptyAlone setup) where
       let none = full_at_target (taken_in setup (w.router t)) (room_of setup t) room (missing_policy setup t s.config) (why ∙ ap Some full) in
       omega (arith, fits, none)
 
-  moves_keep : (w v : World) (p : ℕ) (phase next : Phase) (s : SessionValue) → Reached setup w → p < peerings_in setup → Stands setup w p phase s → GraftMove setup w phase s next → HasRoom setup w p phase s → HasRoom setup v p next s
+  moves_keep : (w v : World) (p : ℕ) (phase next : Phase) (s : SessionValue) → Reached setup w → p < peerings_in setup → Stands setup w p phase s
+      → GraftMove setup w phase s next → HasRoom setup w p phase s → HasRoom setup v p next s
   moves_keep w v p _ _ s reached l b Begins room = tt
   moves_keep w v p _ _ s reached l b Admits room = tt
   moves_keep w v p _ _ s reached l b (Refuses {q = q} {t = t} why) room = λ g e named known there full. not_at_freeze (record { 0 = q }) (record { 0 = t }) (state s) (hold_time s) named (why ∙ ap Some full)
@@ -202,7 +205,8 @@ module _ (setup : Setup) (ok : IsSetup setup) (alone : EmptyAlone setup) where
   same_phase w v p (Busy q k u (Declined refusal)) s t room = room
   same_phase w v p (Busy q k u Cleared) s t room = tt
 
-  changes_keep : (w v : World) (p : ℕ) (phase next : Phase) (s t : SessionValue) → Reached setup w → p < peerings_in setup → Stands setup w p phase s → Change setup w v p phase s next t → HasRoom setup w p phase s
+  changes_keep : (w v : World) (p : ℕ) (phase next : Phase) (s t : SessionValue) → Reached setup w → p < peerings_in setup → Stands setup w p phase s
+      → Change setup w v p phase s next t → HasRoom setup w p phase s
       → HasRoom setup v p next t
   changes_keep w v p phase next s _ reached l b (Grafts move line entries) room = moves_keep w v p phase next s reached l b move room
   changes_keep w v p _ _ _ _ reached l b (Lands admitted line entries) room = tt
@@ -223,24 +227,29 @@ module _ (setup : Setup) (ok : IsSetup setup) (alone : EmptyAlone setup) where
 
   -- no graft of an evacuate step has that it was refused for want of room
   abbrev NoneFull : OperatorPart → Type 0
-  NoneFull operator = (g : ScriptGraft) (e room : ℕ) → graft_at setup g.graft ≡ Some g → slice_get setup.steps g.step ≡ Some (EvacuateStep e) → operator.outcome g.graft ≢ Some (Refused (RouterFull room))
+  NoneFull operator = (g : ScriptGraft) (e room : ℕ) → graft_at setup g.graft ≡ Some g → slice_get setup.steps g.step ≡ Some (EvacuateStep e)
+      → operator.outcome g.graft ≢ Some (Refused (RouterFull room))
 
   -- a report that the next item of a router's channel is
-  reported : (w : World) (r k p : ℕ) (refusal : Refusal) → Reached setup w → p < peerings_in setup → is_of setup p k ≡ true → OperatorHeads w (Some (ReportIn r (record { graft = k; outcome = Refused refusal })))
+  reported : (w : World) (r k p : ℕ) (refusal : Refusal) → Reached setup w → p < peerings_in setup → is_graft_on setup p k ≡ true
+      → OperatorHeads w (Some (ReportIn r (record { graft = k; outcome = Refused refusal })))
       → IsNotFull setup k refusal
   reported w r k p refusal reached l own h =
       let has = always_room w reached p l in
-      let found = refusal_in has.phase r k refusal (reports_of setup p h.rest) (own_head (λ (o : Report). is_of setup p o.graft) (w.reports r) h.rest (record { graft = k; outcome = Refused refusal }) h.is own ∙ has.stands.reports r) in
+      let found = refusal_in has.phase r k refusal (reports_of setup p h.rest) (own_head (λ (o : Report). is_graft_on setup p o.graft) (w.reports r) h.rest (record { graft = k; outcome = Refused refusal }) h.is own ∙ has.stands.reports r) in
       subst (λ (phase : Phase). HasRoom setup w p phase has.session) found.1 has.more
 
-  notes_keep : (w : World) (r : ℕ) (report : Report) → Reached setup w → OperatorHeads w (Some (ReportIn r report)) → NoneFull w.operator → NoneFull (record w.operator { outcome = at w.operator.outcome report.graft (Some report.outcome) })
+  notes_keep : (w : World) (r : ℕ) (report : Report) → Reached setup w → OperatorHeads w (Some (ReportIn r report)) → NoneFull w.operator
+      → NoneFull (record w.operator { outcome = at w.operator.outcome report.graft (Some report.outcome) })
   notes_keep w r report reached h was g e room known there full = by_test (g.graft == report.graft) refl full where
-    by_outcome : (outcome : Outcome) → g.graft ≡ report.graft → OperatorHeads w (Some (ReportIn r (record { graft = report.graft; outcome = outcome }))) → Some outcome ≡ Some (Refused (RouterFull room)) → ⊥
+    by_outcome : (outcome : Outcome) → g.graft ≡ report.graft
+        → OperatorHeads w (Some (ReportIn r (record { graft = report.graft; outcome = outcome }))) → Some outcome ≡ Some (Refused (RouterFull room))
+        → ⊥
     by_outcome Accepted same head f = cc
     by_outcome (Refused refusal) same head f =
         let l : g.peering < peerings_in setup = graft_within setup g.graft g ok known in
         let mine : graft_at setup report.graft ≡ Some g = ap (graft_at setup) (sym same) ∙ known in
-        let own : is_of setup g.peering report.graft ≡ true = ap (is_peering g.peering) mine ∙ eq-eqb g.peering g.peering refl in
+        let own : is_graft_on setup g.peering report.graft ≡ true = ap (is_peering g.peering) mine ∙ eq-eqb g.peering g.peering refl in
         let cause : refusal ≡ RouterFull room = cc in
         reported w r report.graft g.peering refusal reached l own head g e room mine there cause
 
@@ -248,7 +257,8 @@ module _ (setup : Setup) (ok : IsSetup setup) (alone : EmptyAlone setup) where
     by_test true is f = by_outcome report.outcome (grind (arith, nat_tests)) h f
     by_test false is f = was g e room known there f
 
-  rows_keep : (event : OperatorEvent) (before after : World) → Reached setup before → (x : OperatorStep setup event before after) → NoneFull before.operator → NoneFull x.part
+  rows_keep : (event : OperatorEvent) (before after : World) → Reached setup before → (x : OperatorStep setup event before after)
+      → NoneFull before.operator → NoneFull x.part
   rows_keep (Order n number) before after reached x was = elim x.row [
     | inl row ↦ subst NoneFull (sym row.effect) was
     | inr row ↦ subst NoneFull (sym row.effect) was

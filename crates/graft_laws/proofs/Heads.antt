@@ -12,9 +12,9 @@ use Rattle.graft_model.specs.Parts.{Place, Vacant, Live, Frozen, Shadow, Leaving
 use Rattle.graft_model.specs.Placements.{target_in}
 use Rattle.graft_model.specs.Claims.{sessions_at, sessions_on}
 use Rattle.graft_model.specs.Steps.{Heads}
-use Rattle.graft_laws.specs.Phases.{Stage, Ordered, Stored, Halted, Moving, Landed, Asking, Confirmed, Returning, Declined, Cleared, Phase, Idle, Busy, only, only2, place_by, mesh_by}
-use Rattle.graft_laws.specs.Log.{GoesOn}
-use Rattle.graft_laws.specs.Owned.{is_on, mesh_of, orders_of, Stands, Owned}
+use Rattle.graft_laws.specs.Phases.{Stage, Ordered, Stored, Halted, Moving, Landed, Asking, Confirmed, Returning, Declined, Cleared, Phase, Idle, Busy, only_at, only2, place_by, mesh_by}
+use Rattle.graft_laws.specs.Log.{IsGraftUnderWay}
+use Rattle.graft_laws.specs.Owned.{is_on, mesh_items_on, orders_of, Stands, Owned}
 use Rattle.graft_laws.specs.Facts.{IsNowhereElse}
 use Rattle.graft_model.specs.RouterRows.{OrderIn}
 use Rattle.graft_model.specs.Taking.{RouterMayTake}
@@ -26,7 +26,7 @@ use Rattle.graft_laws.proofs.Holders.{one_session, items_of}
 
 -- ---- one phase
 
-pub only_here : {A : Type 0} (m : ℕ) (x : A) → only m x m ≡ x ∷ []
+pub only_here : {A : Type 0} (m : ℕ) (x : A) → only_at m x m ≡ x ∷ []
 only_here m x = ap (λ b. cond b (x ∷ []) []) (equal m)
 
 pub only2_here : {A : Type 0} (j k : ℕ) (x : A) → only2 j k x j k ≡ x ∷ []
@@ -39,7 +39,8 @@ pub landed_here : (t : ℕ) (place other : Place) → cond (t == t) place other 
 landed_here t place other = ap (λ b. cond b place other) (equal t)
 
 -- a graft has one target
-same_target : (setup : Setup) (operator : OperatorPart) (p q k t u : ℕ) (now other : List ScriptGraft) → GoesOn setup operator p q k t now → GoesOn setup operator p q k u other → u ≡ t
+same_target : (setup : Setup) (operator : OperatorPart) (p q k t u : ℕ) (now other : List ScriptGraft) → IsGraftUnderWay setup operator p q k t now
+    → IsGraftUnderWay setup operator p q k u other → u ≡ t
 same_target setup operator p q k t u now other one two =
     let same = same_Some _ _ (sym one.known ∙ two.known) in
     same_Some u t (sym two.aims ∙ (ap (target_in setup operator) (sym same) ∙ one.aims))
@@ -72,7 +73,8 @@ module _ (setup : Setup) (w : World) (p q k t : ℕ) (s : SessionValue) (next : 
       by_target Cleared found.0 b found.1
 
 -- A peering stands in one phase, with one session.
-pub one_phase : (setup : Setup) (w : World) (p : ℕ) (phase next : Phase) (s u : SessionValue) → Stands setup w p phase s → Stands setup w p next u → phase ≡ next
+pub one_phase : (setup : Setup) (w : World) (p : ℕ) (phase next : Phase) (s u : SessionValue) → Stands setup w p phase s → Stands setup w p next u
+    → phase ≡ next
 one_phase setup w p (Busy q k t stage) next s u b o = sym (busy_same setup w p q k t s next u o stage b)
 one_phase setup w p (Idle q) (Busy r k t stage) s u b o = busy_same setup w p r k t u (Idle q) s b stage o
 one_phase setup w p (Idle q) (Idle r) s u b o = ap Idle (sym b.log.placed ∙ o.log.placed)
@@ -96,7 +98,8 @@ no_other (Busy q k t Confirmed) p s r some = (λ x ne. grind (arith, nat_tests),
 no_other (Busy q k t (Returning refusal)) p s r some = absurd (some (grind (arith, nat_tests)))
 no_other _ p s r some = (λ x ne. grind (arith, nat_tests), λ a b. refl)
 
-pub nowhere_else : (setup : Setup) (w : World) (p r : ℕ) (phase : Phase) (s : SessionValue) → Stands setup w p phase s → sessions_at ((w.router r).places p) ≢ [] → IsNowhereElse w p r
+pub nowhere_else : (setup : Setup) (w : World) (p r : ℕ) (phase : Phase) (s : SessionValue) → Stands setup w p phase s
+    → sessions_at ((w.router r).places p) ≢ [] → IsNowhereElse w p r
 nowhere_else setup w p r phase s b some =
     let none : NoOther phase p s r = no_other phase p s r (λ (e : sessions_at (place_by phase s r) ≡ []). some (ap sessions_at (b.places r) ∙ e)) in
     record {
@@ -120,7 +123,7 @@ module _ (setup : Setup) (w : World) (owned : Owned setup w) where
   vacant_at q r k p s h =
       let l : p < peerings_in setup = known_mesh setup w owned q r p (Moved k p s) h (equal p) in
       let held = owned.peerings p l in
-      let e = moved_in held.phase p held.session s q r k (mesh_of p h.rest) (own_head (is_on p) (w.mesh q r) h.rest (Moved k p s) h.is (equal p) ∙ held.stands.mesh q r) in
+      let e = moved_in held.phase p held.session s q r k (mesh_items_on p h.rest) (own_head (is_on p) (w.mesh q r) h.rest (Moved k p s) h.is (equal p) ∙ held.stands.mesh q r) in
       let b : Stands setup w p (Busy q k r Moving) held.session = subst (λ (x : Phase). Stands setup w p x held.session) e.0 held.stands in
       (l, b.places r ∙ vacant r q k b.bounds.2)
     where
@@ -131,7 +134,7 @@ module _ (setup : Setup) (w : World) (owned : Owned setup w) where
   shadow_back q r k p s refusal h =
       let l : p < peerings_in setup = known_mesh setup w owned q r p (Back k p s refusal) h (equal p) in
       let held = owned.peerings p l in
-      let e = back_in held.phase p held.session s refusal q r k (mesh_of p h.rest) (own_head (is_on p) (w.mesh q r) h.rest (Back k p s refusal) h.is (equal p) ∙ held.stands.mesh q r) in
+      let e = back_in held.phase p held.session s refusal q r k (mesh_items_on p h.rest) (own_head (is_on p) (w.mesh q r) h.rest (Back k p s refusal) h.is (equal p) ∙ held.stands.mesh q r) in
       let b : Stands setup w p (Busy r k q (Returning refusal)) held.session = subst (λ (x : Phase). Stands setup w p x held.session) e.0 held.stands in
       b.places r ∙ placed_here r (Shadow k)
 
@@ -139,7 +142,7 @@ module _ (setup : Setup) (w : World) (owned : Owned setup w) where
   shadow_done q r k p h =
       let l : p < peerings_in setup = known_mesh setup w owned q r p (Done k p) h (equal p) in
       let held = owned.peerings p l in
-      let e = done_in held.phase p held.session q r k (mesh_of p h.rest) (own_head (is_on p) (w.mesh q r) h.rest (Done k p) h.is (equal p) ∙ held.stands.mesh q r) in
+      let e = done_in held.phase p held.session q r k (mesh_items_on p h.rest) (own_head (is_on p) (w.mesh q r) h.rest (Done k p) h.is (equal p) ∙ held.stands.mesh q r) in
       let b : Stands setup w p (Busy r k q Confirmed) held.session = subst (λ (x : Phase). Stands setup w p x held.session) e held.stands in
       b.places r ∙ shadow r q k held.session b.bounds.2
     where

@@ -73,20 +73,23 @@ pub record GoesOn (s next : SessionValue) : Type 0 where
   pub more : List Line
   pub story : next.story ≡ s.story ++ more
 
-open_same : (s next : SessionValue) → IsOfStory s → GoesOn s next → is_up (state s) ≡ true → got_open (peering_of next.config) next.story ≡ got_open (peering_of s.config) s.story
+open_same : (s next : SessionValue) → IsOfStory s → GoesOn s next → is_up (state s) ≡ true
+    → got_open (peering_of next.config) next.story ≡ got_open (peering_of s.config) s.story
 open_same s next is on up =
     ap (λ (c : SessionConfig). got_open (peering_of c) next.story) on.config
     ∙ ap (got_open (peering_of s.config)) on.story
     ∙ open_stays (peering_of s.config) s.story on.more (state s) is.tied.allowed up
 
-brings_same : (setup : Setup) (r : ℕ) (s next : SessionValue) (x : PrefixValue) → GoesOn s next → got_open (peering_of next.config) next.story ≡ got_open (peering_of s.config) s.story
+brings_same : (setup : Setup) (r : ℕ) (s next : SessionValue) (x : PrefixValue) → GoesOn s next
+    → got_open (peering_of next.config) next.story ≡ got_open (peering_of s.config) s.story
     → map.get next.heard x ≡ map.get s.heard x → entry_of setup r next x ≡ entry_of setup r s x
 brings_same setup r s next x on opening same =
     ap (λ (c : SessionConfig). part_brings setup r c (got_open (peering_of next.config) next.story) (map.get next.heard x) x) on.config
     ∙ ap (λ (o : Option open_type.OpenMsg). part_brings setup r s.config o (map.get next.heard x) x) opening
     ∙ ap (λ (h : Option Attrs). part_brings setup r s.config (got_open (peering_of s.config) s.story) h x) same
 
-pub entry_stays : (setup : Setup) (r : ℕ) (s next : SessionValue) (x : PrefixValue) → IsOfStory s → state s ≢ Closed → GoesOn s next → map.get next.heard x ≡ map.get s.heard x
+pub entry_stays : (setup : Setup) (r : ℕ) (s next : SessionValue) (x : PrefixValue) → IsOfStory s → state s ≢ Closed → GoesOn s next
+    → map.get next.heard x ≡ map.get s.heard x
     → entry_of setup r next x ≡ entry_of setup r s x
 entry_stays setup r s next x is unclosed on same = by_state (state s) refl where
   by_state : (now : SessionState) → state s ≡ now → entry_of setup r next x ≡ entry_of setup r s x

@@ -14,7 +14,7 @@ use Rattle.bgp_types.specs.FirstFault.{message_of}
 use Rattle.bgp_types.specs.OctetLists.{AreOctets}
 use Rattle.bgp_types.specs.Prefixes.{PrefixValue}
 use Rattle.bgp_types.specs.Reads.{Reads, ReadsUpdate}
-use Rattle.bgp_types.specs.Spelling.{counted, framed, kind_of}
+use Rattle.bgp_types.specs.Spelling.{length_prefixed, framed, kind_of}
 use Rattle.bgp_types.specs.Writable.{HasAttrsFor}
 use Rattle.bgp_types.proofs.AttrLaws.{AreOctets-drop}
 use Rattle.bgp_types.proofs.MessageLaws.{message_read}
@@ -40,23 +40,25 @@ pub record IsFine (s : SessionValue) : Type 0 where
 
 attrs_of : (wide : Bool) (body : List ℕ) (u : Update) → AreOctets body → ReadsUpdate wide body u → HasAttrsFor u.attrs u.nlri
 attrs_of wide body u octets r =
-    let all : AreOctets (counted r.withdrawn ++ (counted r.attrs ++ r.nlri)) = subst AreOctets r.fields octets in
-    let rest : AreOctets (counted r.attrs ++ r.nlri) = AreOctets-back (counted r.withdrawn) (counted r.attrs ++ r.nlri) all in
-    let attrs : AreOctets r.attrs = AreOctets-back (to_be_bytes w16 (length r.attrs)) r.attrs (AreOctets-front (counted r.attrs) r.nlri rest) in
+    let all : AreOctets (length_prefixed r.withdrawn ++ (length_prefixed r.attrs ++ r.nlri)) = subst AreOctets r.fields octets in
+    let rest : AreOctets (length_prefixed r.attrs ++ r.nlri) = AreOctets-back (length_prefixed r.withdrawn) (length_prefixed r.attrs ++ r.nlri) all in
+    let attrs : AreOctets r.attrs = AreOctets-back (to_be_bytes w16 (length r.attrs)) r.attrs (AreOctets-front (length_prefixed r.attrs) r.nlri rest) in
     attrs_for r.found u.attrs u.nlri (read_good wide r.attrs r.found attrs r.reads_attrs) r.announced
 
 attrs_can : (attrs : Option Attrs) (nlri : List PrefixValue) → HasAttrsFor attrs nlri → (a : Attrs) → attrs ≡ Some a → IsSendable a
 attrs_can None nlri has a e = absurd cc
 attrs_can (Some b) nlri has a e = subst IsSendable (same_Some b a e) (sendable_of b has.1)
 
-update_can : (e : Expected) (bytes : List ℕ) (u : Update) → IsGot bytes → AreOctets bytes → message_of e bytes ≡ Ok (UpdateMsg u) → (a : Attrs) → u.attrs ≡ Some a → IsSendable a
+update_can : (e : Expected) (bytes : List ℕ) (u : Update) → IsGot bytes → AreOctets bytes → message_of e bytes ≡ Ok (UpdateMsg u) → (a : Attrs)
+    → u.attrs ≡ Some a → IsSendable a
 update_can e bytes u (inl whole) octets g =
     let r : Reads bytes (UpdateMsg u) e.wide = (message_read e bytes (UpdateMsg u) octets whole g).0 in
     let body : AreOctets r.body = AreOctets-drop 19 (framed (kind_of (UpdateMsg u)) r.body) (subst AreOctets r.octets octets) in
     attrs_can u.attrs u.nlri (attrs_of e.wide r.body u body r.says)
 update_can e bytes u (inr faulty) octets g = let sound = (read_of e bytes (UpdateMsg u) g).sound in absurd cc
 
-applied : (e : Expected) (bytes : List ℕ) (routes : Routes) (m : Result Message Notice) → IsGot bytes → AreOctets bytes → message_of e bytes ≡ m → AreSendable routes → AreSendable (apply_if routes (update_in m))
+applied : (e : Expected) (bytes : List ℕ) (routes : Routes) (m : Result Message Notice) → IsGot bytes → AreOctets bytes → message_of e bytes ≡ m
+    → AreSendable routes → AreSendable (apply_if routes (update_in m))
 applied e bytes routes (Ok (OpenMsg o)) got octets g all = all
 applied e bytes routes (Ok (UpdateMsg u)) got octets g all = announces IsSendable u.attrs (update_can e bytes u got octets g) u.nlri (fold map.remove routes u.withdrawn) (removes IsSendable u.withdrawn routes all)
 applied e bytes routes (Ok (NoticeMsg n)) got octets g all = all

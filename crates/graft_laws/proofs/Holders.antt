@@ -9,7 +9,7 @@ use Rattle.graft_model.specs.Setups.{Setup, routers_in, router_numbers}
 use Rattle.graft_model.specs.Parts.{Mesh, Told, Moved, Back, Asked, Answered, Done, World}
 use Rattle.graft_model.specs.Claims.{sessions_at, sessions_on, sessions_of}
 use Rattle.graft_laws.specs.Phases.{Ordered, Stored, Halted, Moving, Landed, Asking, Confirmed, Returning, Declined, Cleared, Phase, Idle, Busy, place_by, mesh_by, InBounds}
-use Rattle.graft_laws.specs.Owned.{mesh_of, Stands}
+use Rattle.graft_laws.specs.Owned.{mesh_items_on, Stands}
 
 -- ---- lists joined over numbers
 
@@ -23,10 +23,12 @@ flat_none f (x ∷ xs) h = ap (λ (y : List _). y ++ flat_map f xs) (h x) ∙ fl
 
 flat_past : {A : Type 0} (f : ℕ → List A) (a n q : ℕ) → q < a → ((k : ℕ) → k ≢ q → f k ≡ []) → flat_map f (range_with_len a n) ≡ []
 flat_past f a zero q l h = refl
-flat_past f a (suc n) q l h = ap (λ (y : List _). y ++ flat_map f (range_with_len (a + 1) n)) (h a (λ is. omega arith)) ∙ flat_past f (a + 1) n q (omega arith) h
+flat_past f a (suc n) q l h = ap (λ (y : List _). y ++ flat_map f (range_with_len (a + 1) n)) (h a (λ is. omega arith))
+    ∙ flat_past f (a + 1) n q (omega arith) h
 
 -- one number has all
-flat_one : {A : Type 0} (f : ℕ → List A) (a n q : ℕ) (c : List A) → a ≤ q → q < a + n → f q ≡ c → ((k : ℕ) → k ≢ q → f k ≡ []) → flat_map f (range_with_len a n) ≡ c
+flat_one : {A : Type 0} (f : ℕ → List A) (a n q : ℕ) (c : List A) → a ≤ q → q < a + n → f q ≡ c → ((k : ℕ) → k ≢ q → f k ≡ [])
+    → flat_map f (range_with_len a n) ≡ c
 flat_one f a zero q c l m here none = absurd (omega arith)
 flat_one f a (suc n) q c l m here none = by_test (a == q) refl (λ below. flat_one f (a + 1) n q c (omega arith) (omega arith) here none) where
   by_test : (b : Bool) → (a == q) ≡ b → (a < q → flat_map f (range_with_len (a + 1) n) ≡ c) → f a ++ flat_map f (range_with_len (a + 1) n) ≡ c
@@ -40,7 +42,8 @@ flat_one f a (suc n) q c l m here none = by_test (a == q) refl (λ below. flat_o
 flat2_none : {A : Type 0} (f : ℕ → ℕ → List A) (xs : List ℕ) → ((a b : ℕ) → f a b ≡ []) → flat_map (λ a. flat_map (f a) xs) xs ≡ []
 flat2_none f xs h = flat_none (λ a. flat_map (f a) xs) xs (λ a. flat_none (f a) xs (h a))
 
-flat2_one : {A : Type 0} (f : ℕ → ℕ → List A) (n j k : ℕ) (c : List A) → j < n → k < n → f j k ≡ c → ((a b : ℕ) → a ≢ j → f a b ≡ []) → ((a b : ℕ) → b ≢ k → f a b ≡ [])
+flat2_one : {A : Type 0} (f : ℕ → ℕ → List A) (n j k : ℕ) (c : List A) → j < n → k < n → f j k ≡ c → ((a b : ℕ) → a ≢ j → f a b ≡ [])
+    → ((a b : ℕ) → b ≢ k → f a b ≡ [])
     → flat_map (λ a. flat_map (f a) (range_with_len 0 n)) (range_with_len 0 n) ≡ c
 flat2_one f n j k c jl kl here rows columns =
     flat_one (λ a. flat_map (f a) (range_with_len 0 n)) 0 n j c (omega arith) (omega arith) (flat_one (f j) 0 n k c (omega arith) (omega arith) here (λ b ne. columns j b ne))
@@ -48,25 +51,28 @@ flat2_one f n j k c jl kl here rows columns =
 
 -- ---- sessions among items
 
-item_step : (p : ℕ) (x : Mesh) (items : List Mesh) → flat_map (sessions_on p) items ≡ flat_map (sessions_on p) (mesh_of p items) → flat_map (sessions_on p) (x ∷ items) ≡ flat_map (sessions_on p) (mesh_of p (x ∷ items))
+item_step : (p : ℕ) (x : Mesh) (items : List Mesh) → flat_map (sessions_on p) items ≡ flat_map (sessions_on p) (mesh_items_on p items)
+    → flat_map (sessions_on p) (x ∷ items) ≡ flat_map (sessions_on p) (mesh_items_on p (x ∷ items))
 item_step p (Told prefix route) items h = h
 item_step p (Moved k q s) items h = by_test (q == p) refl where
-  by_test : (b : Bool) → (q == p) ≡ b → cond b (s ∷ []) [] ++ flat_map (sessions_on p) items ≡ flat_map (sessions_on p) (cond b (Moved k q s ∷ mesh_of p items) (mesh_of p items))
+  by_test : (b : Bool) → (q == p) ≡ b
+      → cond b (s ∷ []) [] ++ flat_map (sessions_on p) items ≡ flat_map (sessions_on p) (cond b (Moved k q s ∷ mesh_items_on p items) (mesh_items_on p items))
   by_test true is = cc (ap (λ b. cond b (s ∷ []) []) is, h)
   by_test false is = h
 item_step p (Back k q s refusal) items h = by_test (q == p) refl where
-  by_test : (b : Bool) → (q == p) ≡ b → cond b (s ∷ []) [] ++ flat_map (sessions_on p) items ≡ flat_map (sessions_on p) (cond b (Back k q s refusal ∷ mesh_of p items) (mesh_of p items))
+  by_test : (b : Bool) → (q == p) ≡ b
+      → cond b (s ∷ []) [] ++ flat_map (sessions_on p) items ≡ flat_map (sessions_on p) (cond b (Back k q s refusal ∷ mesh_items_on p items) (mesh_items_on p items))
   by_test true is = cc (ap (λ b. cond b (s ∷ []) []) is, h)
   by_test false is = h
 item_step p (Asked k q) items h = h
 item_step p (Answered k q) items h = h
 item_step p (Done k q) items h = by_test (q == p) where
-  by_test : (b : Bool) → flat_map (sessions_on p) items ≡ flat_map (sessions_on p) (cond b (Done k q ∷ mesh_of p items) (mesh_of p items))
+  by_test : (b : Bool) → flat_map (sessions_on p) items ≡ flat_map (sessions_on p) (cond b (Done k q ∷ mesh_items_on p items) (mesh_items_on p items))
   by_test true = h
   by_test false = h
 
 -- the sessions of a peering are those of its own items
-pub items_of : (p : ℕ) (items : List Mesh) → flat_map (sessions_on p) items ≡ flat_map (sessions_on p) (mesh_of p items)
+pub items_of : (p : ℕ) (items : List Mesh) → flat_map (sessions_on p) items ≡ flat_map (sessions_on p) (mesh_items_on p items)
 items_of p [] = refl
 items_of p (x ∷ items) = item_step p x items (items_of p items)
 
@@ -82,7 +88,8 @@ abbrev all_by : ℕ → Phase → ℕ → SessionValue → List SessionValue
 all_by n phase p s = flat_map (held_by phase s) (range_with_len 0 n) ++ flat_map (λ a. flat_map (moves_by phase p s a) (range_with_len 0 n)) (range_with_len 0 n)
 
 -- it is held at one router
-at_router : (n : ℕ) (phase : Phase) (p q : ℕ) (s : SessionValue) → q < n → held_by phase s q ≡ s ∷ [] → ((k : ℕ) → k ≢ q → held_by phase s k ≡ []) → ((a b : ℕ) → moves_by phase p s a b ≡ []) → all_by n phase p s ≡ s ∷ []
+at_router : (n : ℕ) (phase : Phase) (p q : ℕ) (s : SessionValue) → q < n → held_by phase s q ≡ s ∷ [] → ((k : ℕ) → k ≢ q → held_by phase s k ≡ [])
+    → ((a b : ℕ) → moves_by phase p s a b ≡ []) → all_by n phase p s ≡ s ∷ []
 at_router n phase p q s below here none moves = cc (flat_one (held_by phase s) 0 n q (s ∷ []) (omega arith) (omega arith) here none, flat2_none (moves_by phase p s) (range_with_len 0 n) moves)
 
 -- it is on its way from one router to another

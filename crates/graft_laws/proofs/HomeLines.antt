@@ -6,7 +6,7 @@ use Rattle.tcp_seq.specs.Endpoint.{Endpoint, PlacedSegment}
 use Rattle.tcp_seq.specs.Connection.{IsEmittedBy, AreLinked, StaysLinked}
 use Rattle.graft_model.specs.Parts.{FarPart, Outward, World}
 use Rattle.graft_laws.specs.Life.{SameLine, LineGets, LineGives, LineSays}
-use Rattle.graft_laws.specs.Phases.{only}
+use Rattle.graft_laws.specs.Phases.{only_at}
 use Rattle.graft_laws.specs.Streams.{IsOutwardOf, Streams}
 use Rattle.graft_laws.proofs.Lists.{all_map, all_join}
 use Rattle.graft_laws.proofs.Segments.{all_is, all_left, all_only, outward_still}
@@ -40,16 +40,18 @@ same_line w v p x x' line stays s =
     (λ r. all_is (IsEmittedBy (w.far p).end) (w.inward p r) (v.inward p r) (line.inward r) (s.inward r))
 
 -- an item goes out
-pub line_gets : (w v : World) (p r : ℕ) (item : Outward) (x x' : Endpoint) → LineGets p r item w v → StaysLinked x x' (w.far p).end → IsOutwardOf x' item → Streams w p x → Streams v p x'
+pub line_gets : (w v : World) (p r : ℕ) (item : Outward) (x x' : Endpoint) → LineGets p r item w v → StaysLinked x x' (w.far p).end
+    → IsOutwardOf x' item → Streams w p x → Streams v p x'
 line_gets w v p r item x x' line stays is s =
-    home_acts w v p x x' s stays line.far (λ n. only r item n) line.outward (λ n. all_only (IsOutwardOf x') r n item is)
+    home_acts w v p x x' s stays line.far (λ n. only_at r item n) line.outward (λ n. all_only (IsOutwardOf x') r n item is)
     (λ n. all_is (IsEmittedBy (w.far p).end) (w.inward p n) (v.inward p n) (line.inward n) (s.inward n))
 
 -- a segment comes in
-pub line_gives : (w v : World) (p r : ℕ) (segment : PlacedSegment) (x x' : Endpoint) → LineGives p r segment w v → StaysLinked x x' (w.far p).end → Streams w p x → Streams v p x'
+pub line_gives : (w v : World) (p r : ℕ) (segment : PlacedSegment) (x x' : Endpoint) → LineGives p r segment w v → StaysLinked x x' (w.far p).end
+    → Streams w p x → Streams v p x'
 line_gives w v p r segment x x' line stays s =
     home_acts w v p x x' s stays line.far (λ n. []) (λ n. line.outward n ∙ sym (append-nil (w.outward n p))) (λ n. tt)
-    (λ n. all_left (IsEmittedBy (w.far p).end) (only r segment n) (v.inward p n) (w.inward p n) (line.inward n) (s.inward n))
+    (λ n. all_left (IsEmittedBy (w.far p).end) (only_at r segment n) (v.inward p n) (w.inward p n) (line.inward n) (s.inward n))
 
 -- what comes in is the remote's
 pub comes_in : (w v : World) (p r : ℕ) (segment : PlacedSegment) (x : Endpoint) → LineGives p r segment w v → Streams w p x → IsEmittedBy (w.far p).end segment

@@ -46,7 +46,8 @@ last_append x (Done k p ∷ xs) ys d = last_append x xs ys d
 abbrev Skips : Mesh → Type 0
 Skips item = (x : PrefixValue) (ys : List Mesh) (d : Option Route) → last_told x (item ∷ ys) d ≡ last_told x ys d
 
-skip : (item : Mesh) → Skips item → (j k a b : ℕ) (x : PrefixValue) (ys : List Mesh) (d : Option Route) → last_told x (only2 j k item a b ++ ys) d ≡ last_told x ys d
+skip : (item : Mesh) → Skips item → (j k a b : ℕ) (x : PrefixValue) (ys : List Mesh) (d : Option Route)
+    → last_told x (only2 j k item a b ++ ys) d ≡ last_told x ys d
 skip item skips j k a b x ys d = by_tests (a == j) (b == k) where
   by_tests : (t u : Bool) → last_told x ((if t then (if u then item ∷ [] else []) else []) ++ ys) d ≡ last_told x ys d
   by_tests true true = skips x ys d
@@ -70,12 +71,14 @@ Mute r sent = (b : ℕ) (x : PrefixValue) (d : Option Route) → last_told x (me
 
 -- It takes no telling.
 abbrev Deaf : ℕ → Option RouterTaken → Type 0
-Deaf r taken = (a : ℕ) (x : PrefixValue) (rest was : List Mesh) (d : Option Route) → mesh_taken r taken a r ++ rest ≡ was → last_told x rest d ≡ last_told x was d
+Deaf r taken = (a : ℕ) (x : PrefixValue) (rest was : List Mesh) (d : Option Route) → mesh_taken r taken a r ++ rest ≡ was
+    → last_told x rest d ≡ last_told x was d
 
 mute_none : (r : ℕ) (sent : List RouterSent) → sent ≡ [] → Mute r sent
 mute_none r sent is b x d = ap (λ (s : List RouterSent). last_told x (mesh_sent r s r b) d) is
 
-mute : (setup : Setup) (event : RouterEvent) (before : RouterPart) (taken : Option RouterTaken) (after : RouterPart) (r : ℕ) (sent : List RouterSent) → SendsNoTelling setup r event before taken after sent → Mute r sent
+mute : (setup : Setup) (event : RouterEvent) (before : RouterPart) (taken : Option RouterTaken) (after : RouterPart) (r : ℕ) (sent : List RouterSent)
+    → SendsNoTelling setup r event before taken after sent → Mute r sent
 mute setup event before taken after r [] none b x d = refl
 mute setup event before taken after r (MeshTo q (Told y route) ∷ []) none b x d = absurd none
 mute setup event before taken after r (MeshTo q (Moved k p s) ∷ []) none b x d = skip (Moved k p s) (λ y ys e. refl) r q r b x [] d
@@ -104,12 +107,15 @@ deaf setup before r (Some (MeshIn q (Done k p))) none a x rest was d e = deaf_it
 pub record Says (setup : Setup) (r : ℕ) (before : RouterPart) (taken : Option RouterTaken) (sent : List RouterSent) (after : RouterPart) : Type 0 where
   pub sends : (b : ℕ) → b ≢ r → b < routers_in setup → (x : PrefixValue) → has (after.due_in b) x ≡ false → (d : Option Route)
       → (has (before.due_in b) x ≡ false → d ≡ tell_in (map.get before.best x)) → last_told x (mesh_sent r sent r b) d ≡ tell_in (map.get after.best x)
-  pub hears : (a : ℕ) (x : PrefixValue) (rest was : List Mesh) → mesh_taken r taken a r ++ rest ≡ was → last_told x rest (map.get (after.tellings a) x) ≡ last_told x was (map.get (before.tellings a) x)
-  pub itself : ((x : PrefixValue) → has (before.due_in r) x ≡ false) → (x : PrefixValue) → (has (after.due_in r) x ≡ false) × (last_told x (mesh_sent r sent r r) None ≡ None)
+  pub hears : (a : ℕ) (x : PrefixValue) (rest was : List Mesh) → mesh_taken r taken a r ++ rest ≡ was
+      → last_told x rest (map.get (after.tellings a) x) ≡ last_told x was (map.get (before.tellings a) x)
+  pub itself : ((x : PrefixValue) → has (before.due_in r) x ≡ false) → (x : PrefixValue)
+      → (has (after.due_in r) x ≡ false) × (last_told x (mesh_sent r sent r r) None ≡ None)
 
 module _ (setup : Setup) (r : ℕ) (before : RouterPart) (taken : Option RouterTaken) (sent : List RouterSent) (after : RouterPart) where
   -- neither tells nor hears, and nothing of this changes
-  quiet : Mute r sent → Deaf r taken → after.due_in ≡ before.due_in → after.best ≡ before.best → after.tellings ≡ before.tellings → Says setup r before taken sent after
+  quiet : Mute r sent → Deaf r taken → after.due_in ≡ before.due_in → after.best ≡ before.best → after.tellings ≡ before.tellings
+      → Says setup r before taken sent after
   quiet no_sent no_heard due best tellings = record {
     sends = λ b other below x clean d is.
         no_sent b x d ∙ is (ap (λ (f : ℕ → Prefixes). has (f b) x) (sym due) ∙ clean) ∙ ap (λ (t : BestRoutes). tell_in (map.get t x)) (sym best);
@@ -124,7 +130,8 @@ module _ (setup : Setup) (r : ℕ) (before : RouterPart) (taken : Option RouterT
   decides : (prefix : PrefixValue) → Decides setup r prefix before taken sent after → Says setup r before taken sent after
   decides prefix row = record {
     sends = λ b other below x clean d is. mute_none r sent row.alone.1 b x d ∙ by_due b other below x clean d is row.due;
-    hears = λ a x rest was e. ap (λ (u : RouterPart). last_told x rest (map.get (u.tellings a) x)) row.effect ∙ no_taken row.alone.0 a x rest was (map.get (before.tellings a) x) e;
+    hears = λ a x rest was e. ap (λ (u : RouterPart). last_told x rest (map.get (u.tellings a) x)) row.effect
+        ∙ no_taken row.alone.0 a x rest was (map.get (before.tellings a) x) e;
     itself = λ none x. (
       itself_due x row.due ∙ none x,
       mute_none r sent row.alone.1 r x None,
@@ -138,14 +145,17 @@ module _ (setup : Setup) (r : ℕ) (before : RouterPart) (taken : Option RouterT
     itself_due x (inl stays) = ap (λ (f : ℕ → Prefixes). has (f r) x) stays.1
     itself_due x (inr due) =
         let test : (nat_lt r (routers_in setup) && not (r == r)) ≡ false = grind (arith, nat_tests) in
-        (due.1.routers r).members x ∙ ap (λ (t : Bool). has (before.due_in r) x || (same_prefix prefix x && t)) test ∙ no_more (has (before.due_in r) x) (same_prefix prefix x)
+        (due.1.routers r).members x ∙ ap (λ (t : Bool). has (before.due_in r) x || (same_prefix prefix x && t)) test
+        ∙ no_more (has (before.due_in r) x) (same_prefix prefix x)
 
-    by_due : (b : ℕ) → b ≢ r → b < routers_in setup → (x : PrefixValue) → has (after.due_in b) x ≡ false → (d : Option Route) → (has (before.due_in b) x ≡ false → d ≡ tell_in (map.get before.best x))
+    by_due : (b : ℕ) → b ≢ r → b < routers_in setup → (x : PrefixValue) → has (after.due_in b) x ≡ false → (d : Option Route)
+        → (has (before.due_in b) x ≡ false → d ≡ tell_in (map.get before.best x))
         → ((chosen setup r before prefix ≡ map.get before.best prefix) × (after.due_in ≡ before.due_in) × (after.due_out ≡ before.due_out))
         ⊎ ((chosen setup r before prefix ≢ map.get before.best prefix) × DueEverywhere setup r prefix before after)
         → d ≡ tell_in (map.get after.best x)
     by_due b other below x clean d is (inl stays) =
-        is (ap (λ (f : ℕ → Prefixes). has (f b) x) (sym stays.1) ∙ clean) ∙ ap tell_in (sym (best_stays setup r prefix before after taken sent row x (inr stays.0)))
+        is (ap (λ (f : ℕ → Prefixes). has (f b) x) (sym stays.1) ∙ clean)
+        ∙ ap tell_in (sym (best_stays setup r prefix before after taken sent row x (inr stays.0)))
     by_due b other below x clean d is (inr due) =
         let tests : (nat_lt b (routers_in setup) && not (b == r)) ≡ true = grind (arith, nat_tests) in
         let member : has (after.due_in b) x ≡ (has (before.due_in b) x || (same_prefix prefix x && true)) =
@@ -156,11 +166,14 @@ module _ (setup : Setup) (r : ℕ) (before : RouterPart) (taken : Option RouterT
   -- a router is told
   tells : (q : ℕ) (prefix : PrefixValue) → Tells q prefix before taken sent after → Says setup r before taken sent after
   tells q prefix row = record {
-    sends = λ b other below x clean d is. ap (λ (s : List RouterSent). last_told x (mesh_sent r s r b) d) row.sends ∙ by_number b x clean d is (cases_eq b q) ∙ ap (λ (u : RouterPart). tell_in (map.get u.best x)) (sym row.effect);
-    hears = λ a x rest was e. ap (λ (u : RouterPart). last_told x rest (map.get (u.tellings a) x)) row.effect ∙ no_taken row.takes a x rest was (map.get (before.tellings a) x) e;
+    sends = λ b other below x clean d is. ap (λ (s : List RouterSent). last_told x (mesh_sent r s r b) d) row.sends
+        ∙ by_number b x clean d is (cases_eq b q) ∙ ap (λ (u : RouterPart). tell_in (map.get u.best x)) (sym row.effect);
+    hears = λ a x rest was e. ap (λ (u : RouterPart). last_told x rest (map.get (u.tellings a) x)) row.effect
+        ∙ no_taken row.takes a x rest was (map.get (before.tellings a) x) e;
     itself = λ none x.
         let apart : r ≢ q = λ e. (let f : has (before.due_in r) prefix ≡ true = ap (λ (n : ℕ). has (before.due_in n) prefix) e ∙ row.due in let g : true ≡ false = sym f ∙ none prefix in cc) in (
-          ap (λ (u : RouterPart). has (u.due_in r) x) row.effect ∙ ap (λ (s : Prefixes). has s x) (at_apart before.due_in q r (map.remove (before.due_in q) prefix) apart) ∙ none x,
+          ap (λ (u : RouterPart). has (u.due_in r) x) row.effect
+              ∙ ap (λ (s : Prefixes). has s x) (at_apart before.due_in q r (map.remove (before.due_in q) prefix) apart) ∙ none x,
           ap (λ (s : List RouterSent). last_told x (mesh_sent r s r r) None) row.sends
               ∙ ap (λ (t : Bool). last_told x ((if (r == r) then (if t then item ∷ [] else []) else []) ++ []) None) (let f : (r == q) ≡ false = grind (arith, nat_tests) in f)
               ∙ empty_if (r == r) x,
@@ -179,13 +192,16 @@ module _ (setup : Setup) (r : ℕ) (before : RouterPart) (taken : Option RouterT
     none_else : (b : ℕ) → b ≢ q → only2 r q item r b ≡ []
     none_else b other = grind (arith, nat_tests)
 
-    by_prefix : (x : PrefixValue) (d : Option Route) → (same_prefix x prefix ≡ false → d ≡ tell_in (map.get before.best x)) → (x ≡ prefix) ⊎ ((same x prefix ≡ false) × (same_prefix x prefix ≡ false))
+    by_prefix : (x : PrefixValue) (d : Option Route) → (same_prefix x prefix ≡ false → d ≡ tell_in (map.get before.best x))
+        → (x ≡ prefix) ⊎ ((same x prefix ≡ false) × (same_prefix x prefix ≡ false))
         → (if same_prefix x prefix then tell_in (map.get before.best prefix) else d) ≡ tell_in (map.get before.best x)
     by_prefix x d is (inl e) =
-        ap (λ (t : Bool). if t then tell_in (map.get before.best prefix) else d) (ap (λ (y : PrefixValue). same_prefix y prefix) e ∙ same_itself prefix) ∙ ap (λ (y : PrefixValue). tell_in (map.get before.best y)) (sym e)
+        ap (λ (t : Bool). if t then tell_in (map.get before.best prefix) else d) (ap (λ (y : PrefixValue). same_prefix y prefix) e ∙ same_itself prefix)
+        ∙ ap (λ (y : PrefixValue). tell_in (map.get before.best y)) (sym e)
     by_prefix x d is (inr apart) = ap (λ (t : Bool). if t then tell_in (map.get before.best prefix) else d) apart.1 ∙ is apart.1
 
-    by_number : (b : ℕ) (x : PrefixValue) → has (after.due_in b) x ≡ false → (d : Option Route) → (has (before.due_in b) x ≡ false → d ≡ tell_in (map.get before.best x)) → (b ≡ q) ⊎ (b ≢ q)
+    by_number : (b : ℕ) (x : PrefixValue) → has (after.due_in b) x ≡ false → (d : Option Route)
+        → (has (before.due_in b) x ≡ false → d ≡ tell_in (map.get before.best x)) → (b ≡ q) ⊎ (b ≢ q)
         → last_told x (only2 r q item r b ++ []) d ≡ tell_in (map.get before.best x)
     by_number b x clean d is (inl e) =
         let removed : has (after.due_in b) x ≡ cond (same x prefix) false (has (before.due_in q) x) =
@@ -194,7 +210,8 @@ module _ (setup : Setup) (r : ℕ) (before : RouterPart) (taken : Option RouterT
         ap (λ (n : ℕ). last_told x (only2 r q item r n ++ []) d) e ∙ ap (λ (xs : List Mesh). last_told x (xs ++ []) d) one
         ∙ by_prefix x d (λ apart. is (ap (λ (n : ℕ). has (before.due_in n) x) e ∙ still x apart (sym removed ∙ clean) (one_or_not x prefix))) (one_or_not x prefix)
       where
-        still : (x : PrefixValue) → same_prefix x prefix ≡ false → cond (same x prefix) false (has (before.due_in q) x) ≡ false → (x ≡ prefix) ⊎ ((same x prefix ≡ false) × (same_prefix x prefix ≡ false)) → has (before.due_in q) x ≡ false
+        still : (x : PrefixValue) → same_prefix x prefix ≡ false → cond (same x prefix) false (has (before.due_in q) x) ≡ false
+            → (x ≡ prefix) ⊎ ((same x prefix ≡ false) × (same_prefix x prefix ≡ false)) → has (before.due_in q) x ≡ false
         still x apart e (inl is) = let t : same_prefix x prefix ≡ true = ap (λ (y : PrefixValue). same_prefix y prefix) is ∙ same_itself prefix in let f : true ≡ false = sym t ∙ apart in absurd cc
         still x apart e (inr other) = sym (ap (λ (t : Bool). cond t false (has (before.due_in q) x)) other.0) ∙ e
     by_number b x clean d is (inr other) =
@@ -205,7 +222,8 @@ module _ (setup : Setup) (r : ℕ) (before : RouterPart) (taken : Option RouterT
   hears : (q : ℕ) → Hears q before taken sent after → Says setup r before taken sent after
   hears q row = record {
     sends = λ b other below x clean d is.
-        mute_none r sent row.sends b x d ∙ is (ap (λ (u : RouterPart). has (u.due_in b) x) (sym row.effect) ∙ clean) ∙ ap (λ (u : RouterPart). tell_in (map.get u.best x)) (sym row.effect);
+        mute_none r sent row.sends b x d ∙ is (ap (λ (u : RouterPart). has (u.due_in b) x) (sym row.effect) ∙ clean)
+        ∙ ap (λ (u : RouterPart). tell_in (map.get u.best x)) (sym row.effect);
     hears = λ a x rest was e.
         ap (λ (u : RouterPart). last_told x rest (map.get (u.tellings a) x)) row.effect
         ∙ by_number a x rest was (ap (λ (t : Option RouterTaken). mesh_taken r t a r ++ rest) (sym row.takes) ∙ e) (cases_eq a q);
@@ -229,9 +247,11 @@ module _ (setup : Setup) (r : ℕ) (before : RouterPart) (taken : Option RouterT
         ap (λ (t : Bool). cond t row.route (map.get (before.tellings q) x)) (ap (λ (y : PrefixValue). same y row.prefix) e ∙ same_self row.prefix)
         ∙ sym (ap (λ (t : Bool). if t then row.route else map.get (before.tellings q) x) (ap (λ (y : PrefixValue). same_prefix y row.prefix) e ∙ same_itself row.prefix))
     by_prefix x (inr apart) =
-        ap (λ (t : Bool). cond t row.route (map.get (before.tellings q) x)) apart.0 ∙ sym (ap (λ (t : Bool). if t then row.route else map.get (before.tellings q) x) apart.1)
+        ap (λ (t : Bool). cond t row.route (map.get (before.tellings q) x)) apart.0
+        ∙ sym (ap (λ (t : Bool). if t then row.route else map.get (before.tellings q) x) apart.1)
 
-    by_number : (a : ℕ) (x : PrefixValue) (rest was : List Mesh) → only2 q r item a r ++ rest ≡ was → (a ≡ q) ⊎ (a ≢ q) → last_told x rest (map.get (at before.tellings q new a) x) ≡ last_told x was (map.get (before.tellings a) x)
+    by_number : (a : ℕ) (x : PrefixValue) (rest was : List Mesh) → only2 q r item a r ++ rest ≡ was → (a ≡ q) ⊎ (a ≢ q)
+        → last_told x rest (map.get (at before.tellings q new a) x) ≡ last_told x was (map.get (before.tellings a) x)
     by_number a x rest was e (inl is) =
         ap (λ (n : ℕ). last_told x rest (map.get (at before.tellings q new n) x)) is
         ∙ ap (λ (t : Tellings). last_told x rest (map.get t x)) (at_same before.tellings q new)
@@ -297,7 +317,9 @@ module _ (setup : Setup) (w v : World) (r : ℕ) (taken : Option RouterTaken) (s
   by_sender : (a b : ℕ) → (a ≡ r) ⊎ (a ≢ r) → Informed setup a b w → Informed setup a b v
   by_sender a b (inr other) is = record {
     others = λ apart below x clean.
-        heard_not_sent a b x other (cases_eq b r) ∙ is.others apart below x (ap (λ (u : RouterPart). has (u.due_in b) x) (sym (there a other)) ∙ clean) ∙ ap (λ (u : RouterPart). tell_in (map.get u.best x)) (sym (there a other));
+        heard_not_sent a b x other (cases_eq b r)
+        ∙ is.others apart below x (ap (λ (u : RouterPart). has (u.due_in b) x) (sym (there a other)) ∙ clean)
+        ∙ ap (λ (u : RouterPart). tell_in (map.get u.best x)) (sym (there a other));
     itself = λ same_one x. (
       ap (λ (u : RouterPart). has (u.due_in a) x) (there a other) ∙ (is.itself same_one x).0,
       heard_not_sent a a x other (inr other) ∙ (is.itself same_one x).1,

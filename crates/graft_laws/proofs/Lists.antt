@@ -33,7 +33,8 @@ all_join P (x ∷ xs) ys a b = (a.0, all_join P xs ys a.1 b)
 -- ---- channels: what was taken and what is left are what was there and what was sent
 
 -- a property of all items of a channel is kept where what is sent has it
-pub all_moves : {A : Type 0} (P : A → Type 0) (taken left was sent : List A) → taken ++ left ≡ was ++ sent → AllByRecursion P was → AllByRecursion P sent → AllByRecursion P left
+pub all_moves : {A : Type 0} (P : A → Type 0) (taken left was sent : List A) → taken ++ left ≡ was ++ sent → AllByRecursion P was
+    → AllByRecursion P sent → AllByRecursion P left
 all_moves P taken left was sent e a b = all_back P taken left (subst (λ (x : List _). AllByRecursion P x) (sym e) (all_join P was sent a b))
 
 -- the head of a channel has the property that all its items have
@@ -53,7 +54,8 @@ find_all P test (y ∷ xs) x all e = find_all_step P y x (test y) (find test xs)
 
 -- ---- filters
 
-filter_all_step : {A : Type 0} (P : A → Type 0) (test : A → Bool) (x : A) (b : Bool) (rest : List A) → P x → AllByRecursion P rest → AllByRecursion P (cond b (x ∷ rest) rest)
+filter_all_step : {A : Type 0} (P : A → Type 0) (test : A → Bool) (x : A) (b : Bool) (rest : List A) → P x → AllByRecursion P rest
+    → AllByRecursion P (cond b (x ∷ rest) rest)
 filter_all_step P test x true rest here all = (here, all)
 filter_all_step P test x false rest here all = all
 
@@ -61,7 +63,8 @@ pub filter_all : {A : Type 0} (P : A → Type 0) (test : A → Bool) (xs : List 
 filter_all P test [] all = tt
 filter_all P test (x ∷ xs) all = filter_all_step P test x (test x) (filter test xs) all.0 (filter_all P test xs all.1)
 
-filter_tests_step : {A : Type 0} (test : A → Bool) (x : A) (b : Bool) (rest : List A) → test x ≡ b → AllByRecursion (λ y. test y ≡ true) rest → AllByRecursion (λ y. test y ≡ true) (cond b (x ∷ rest) rest)
+filter_tests_step : {A : Type 0} (test : A → Bool) (x : A) (b : Bool) (rest : List A) → test x ≡ b → AllByRecursion (λ y. test y ≡ true) rest
+    → AllByRecursion (λ y. test y ≡ true) (cond b (x ∷ rest) rest)
 filter_tests_step test x true rest is all = (is, all)
 filter_tests_step test x false rest is all = all
 
@@ -78,7 +81,8 @@ pub filter_same : {A : Type 0} (f g : A → Bool) (xs : List A) → AllByRecursi
 filter_same f g [] all = refl
 filter_same f g (x ∷ xs) all = filter_same_step f g x xs all.0 (filter_same f g xs all.1)
 
-filter_twice_step : {A : Type 0} (f g : A → Bool) (x : A) (xs : List A) → filter (λ y. f y && g y) xs ≡ filter g (filter f xs) → filter (λ y. f y && g y) (x ∷ xs) ≡ filter g (filter f (x ∷ xs))
+filter_twice_step : {A : Type 0} (f g : A → Bool) (x : A) (xs : List A) → filter (λ y. f y && g y) xs ≡ filter g (filter f xs)
+    → filter (λ y. f y && g y) (x ∷ xs) ≡ filter g (filter f (x ∷ xs))
 filter_twice_step f g x xs h = grind arith
 
 pub filter_twice : {A : Type 0} (f g : A → Bool) (xs : List A) → filter (λ x. f x && g x) xs ≡ filter g (filter f xs)

@@ -11,7 +11,7 @@ use Rattle.graft_model.specs.Setups.{Setup, ScriptGraft}
 use Rattle.graft_model.specs.Parts.{OperatorPart}
 use Rattle.graft_model.specs.Placements.{is_accepted, target_in, placement}
 use Rattle.graft_laws.specs.Phases.{Stage, Idle, Busy}
-use Rattle.graft_laws.specs.Log.{grafts_of, is_of, HasEnded, Waits, IsBehind, LogSays}
+use Rattle.graft_laws.specs.Log.{grafts_of, is_graft_on, HasEnded, AwaitsOrder, IsBehind, LogSays}
 use Rattle.graft_laws.proofs.Lists.{all_of, all_map, all_join}
 use Rattle.graft_laws.proofs.Placements.{accepts, CountsAlike, placed_alike, placed_last}
 use Rattle.graft_laws.proofs.Others.{SameLog, same_if}
@@ -22,21 +22,22 @@ module _ (setup : Setup) (before : OperatorPart) (p k : ℕ) (outcome : Outcome)
   with_outcome = record before { outcome = at before.outcome k (Some outcome) }
 
   -- what the note does to the log of another peering
-  pub note_others : is_of setup p k ≡ false → SameLog setup p before with_outcome
+  pub note_others : is_graft_on setup p k ≡ false → SameLog setup p before with_outcome
   note_others not_own = same_if setup p before with_outcome refl refl (λ j own. refl) (λ j own.
-      let differs : j ≢ k = (λ (is : j ≡ k). (let e : is_of setup p k ≡ true = subst (λ (x : ℕ). is_of setup p x ≡ true) is own in absurd cc)) in grind (arith, nat_tests))
+      let differs : j ≢ k = (λ (is : j ≡ k). (let e : is_graft_on setup p k ≡ true = subst (λ (x : ℕ). is_graft_on setup p x ≡ true) is own in absurd cc)) in grind (arith, nat_tests))
 
   ended_then : (g : ScriptGraft) → HasEnded before g → HasEnded with_outcome g
   ended_then g was = record { ordered = was.ordered; ended = λ none. was.ended (grind (arith, nat_tests)) }
 
-  waits_then : (q : ℕ) (g : ScriptGraft) → before.source k ≡ Some q → Waits before g → Waits with_outcome g
+  waits_then : (q : ℕ) (g : ScriptGraft) → before.source k ≡ Some q → AwaitsOrder before g → AwaitsOrder with_outcome g
   waits_then q g ordered was =
       let differs : g.graft ≢ k = (λ (is : g.graft ≡ k). (let e : Some q ≡ None = sym ordered ∙ (ap before.source (sym is) ∙ was.unordered) in absurd cc)) in
       record { unordered = was.unordered; unended = grind (arith, nat_tests, was.unended) }
 
   behind_then : (q : ℕ) (g : ScriptGraft) → before.source k ≡ Some q → IsBehind setup before g → IsBehind setup with_outcome g
   behind_then q g ordered was = record { begun = was.begun; over = over was.over } where
-    over : HasEnded before g ⊎ (Waits before g × (target_in setup before g ≡ None)) → HasEnded with_outcome g ⊎ (Waits with_outcome g × (target_in setup with_outcome g ≡ None))
+    over : HasEnded before g ⊎ (AwaitsOrder before g × (target_in setup before g ≡ None))
+        → HasEnded with_outcome g ⊎ (AwaitsOrder with_outcome g × (target_in setup with_outcome g ≡ None))
     over (inl ended) = inl (ended_then g ended)
     over (inr (waits, none)) = inr (waits_then q g ordered waits, none)
 
@@ -47,11 +48,11 @@ module _ (setup : Setup) (before : OperatorPart) (p q k t : ℕ) (stage : Stage)
   abbrev then : OperatorPart
   then = with_outcome setup before p k outcome
 
-  wait_then : AllByRecursion (Waits then) log.later
-  wait_then = all_map (Waits before) (Waits then) log.later (λ x. waits_then setup before p k outcome q x log.goes_on.ordered) log.wait
+  wait_then : AllByRecursion (AwaitsOrder then) log.later
+  wait_then = all_map (AwaitsOrder before) (AwaitsOrder then) log.later (λ x. waits_then setup before p k outcome q x log.goes_on.ordered) log.wait
 
   none_later : AllByRecursion (λ (x : ScriptGraft). accepts then x ≡ false) log.later
-  none_later = all_map (Waits then) (λ (x : ScriptGraft). accepts then x ≡ false) log.later (λ x w. ap is_accepted w.unended) wait_then
+  none_later = all_map (AwaitsOrder then) (λ (x : ScriptGraft). accepts then x ≡ false) log.later (λ x w. ap is_accepted w.unended) wait_then
 
   ended_here : HasEnded then g
   ended_here = record {

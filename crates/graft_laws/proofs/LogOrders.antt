@@ -8,7 +8,7 @@ use Rattle.graft_model.specs.Setups.{Setup, ScriptGraft, group_of, graft_at}
 use Rattle.graft_model.specs.Parts.{OperatorPart}
 use Rattle.graft_model.specs.Placements.{target_in, placement}
 use Rattle.graft_laws.specs.Phases.{Ordered, Phase, Idle, Busy, source_of}
-use Rattle.graft_laws.specs.Log.{is_of, HasEnded, Waits, IsBehind, GoesOnIn, LogSays}
+use Rattle.graft_laws.specs.Log.{is_graft_on, HasEnded, AwaitsOrder, IsBehind, GoesOnIn, LogSays}
 use Rattle.graft_laws.proofs.Lists.{all_both, all_front, all_back, all_join, StandsIn, stands_in}
 use Rattle.graft_model.proofs.Numbers.{steps_rise, groups_rise}
 use Rattle.graft_laws.proofs.Numbers.{found_in, before_below, behind_above, IsGraftOf, all_of_peering, is_own, one_peering, StandsAmong, among}
@@ -20,19 +20,20 @@ module _ (setup : Setup) (before : OperatorPart) (g : ScriptGraft) (q : ℕ) whe
   abbrev pub with_order : OperatorPart
   with_order = record before { source = at before.source g.graft (Some q) }
 
-  waits_with : (x : ScriptGraft) → x.graft ≢ g.graft → Waits before x → Waits with_order x
+  waits_with : (x : ScriptGraft) → x.graft ≢ g.graft → AwaitsOrder before x → AwaitsOrder with_order x
   waits_with x ne was = record { unordered = grind (arith, nat_tests, was.unordered); unended = was.unended }
 
   behind_with : (x : ScriptGraft) → x.graft < g.graft → IsBehind setup before x → IsBehind setup with_order x
   behind_with x less was = record { begun = was.begun; over = over was.over } where
-    over : HasEnded before x ⊎ (Waits before x × (target_in setup before x ≡ None)) → HasEnded with_order x ⊎ (Waits with_order x × (target_in setup with_order x ≡ None))
+    over : HasEnded before x ⊎ (AwaitsOrder before x × (target_in setup before x ≡ None))
+        → HasEnded with_order x ⊎ (AwaitsOrder with_order x × (target_in setup with_order x ≡ None))
     over (inl ended) = inl (record { ordered = λ none. ended.ordered (grind (arith, nat_tests)); ended = ended.ended })
     over (inr (waits, none)) = inr (waits_with x (λ (same : x.graft ≡ g.graft). omega arith) waits, none)
 
   -- what the order does to the log of another peering
   pub order_others : (other : ℕ) → graft_at setup g.graft ≡ Some g → other ≢ g.peering → SameLog setup other before with_order
   order_others other known ne = same_if setup other before with_order refl refl (λ k own.
-      let differs : k ≢ g.graft = (λ (is : k ≡ g.graft). ne (one_peering setup other g.peering g.graft (subst (λ (x : ℕ). is_of setup other x ≡ true) is own) (is_own setup g.peering g (known, refl)))) in
+      let differs : k ≢ g.graft = (λ (is : k ≡ g.graft). ne (one_peering setup other g.peering g.graft (subst (λ (x : ℕ). is_graft_on setup other x ≡ true) is own) (is_own setup g.peering g (known, refl)))) in
       grind (arith, nat_tests))
       (λ k own. refl)
 
@@ -79,7 +80,8 @@ pub record MayOrder (setup : Setup) (before : OperatorPart) (g : ScriptGraft) (t
   pub is : target_in setup before g ≡ Some t
   pub unordered : before.source g.graft ≡ None
   pub unended : before.outcome g.graft ≡ None
-  pub earlier : (other : ScriptGraft) → graft_at setup other.graft ≡ Some other → other.peering ≡ g.peering → other.graft < g.graft → target_in setup before other ≢ None → before.outcome other.graft ≢ None
+  pub earlier : (other : ScriptGraft) → graft_at setup other.graft ≡ Some other → other.peering ≡ g.peering → other.graft < g.graft
+      → target_in setup before other ≢ None → before.outcome other.graft ≢ None
 
 module _ (setup : Setup) (before : OperatorPart) (g : ScriptGraft) (t : ℕ) (may : MayOrder setup before g t) where
   abbrev p : ℕ
@@ -103,7 +105,7 @@ module _ (setup : Setup) (before : OperatorPart) (g : ScriptGraft) (t : ℕ) (ma
   -- the graft isn't behind, nor is it under way
   not_behind : IsBehind setup before g → ⊥
   not_behind b = over b.over where
-    over : HasEnded before g ⊎ (Waits before g × (target_in setup before g ≡ None)) → ⊥
+    over : HasEnded before g ⊎ (AwaitsOrder before g × (target_in setup before g ≡ None)) → ⊥
     over (inl ended) = ended.ordered may.unordered
     over (inr (waits, none)) = some_not (target_in setup before g) t may.is none
 
@@ -123,13 +125,15 @@ module _ (setup : Setup) (before : OperatorPart) (g : ScriptGraft) (t : ℕ) (ma
   heads : (x y : ScriptGraft) (xs ys : List ScriptGraft) → x ∷ xs ≡ y ∷ ys → x ≡ y
   heads x y xs ys e = cc
 
-  open_before : (x : ScriptGraft) (later ws : List ScriptGraft) → IsOpen setup before p x → x ∷ later ≡ ws ++ g ∷ place.back → AllByRecursion (λ (y : ScriptGraft). y.graft < g.graft) ws → ⊥
+  open_before : (x : ScriptGraft) (later ws : List ScriptGraft) → IsOpen setup before p x → x ∷ later ≡ ws ++ g ∷ place.back
+      → AllByRecursion (λ (y : ScriptGraft). y.graft < g.graft) ws → ⊥
   open_before x later [] is e less = not_open x is (heads x g later place.back e)
   open_before x later (y ∷ ws) is e less = not_before x is (subst (λ (z : ScriptGraft). z.graft < g.graft) (sym (heads x y later (ws ++ g ∷ place.back) e)) less.0)
 
   is_next : (phase : Phase) (log : LogSays setup before p phase) → IsNext phase log
   is_next phase log = of (stands_in log.past (log.now ++ log.later) place.front place.back g (sym log.grafts ∙ place.is)) where
-    by_now : (ws : List ScriptGraft) → place.front ≡ log.past ++ ws → log.now ++ log.later ≡ ws ++ g ∷ place.back → ((log.now ≡ []) × (phase ≡ Idle (source_of phase))) ⊎ HasOpen setup before p log.now → IsNext phase log
+    by_now : (ws : List ScriptGraft) → place.front ≡ log.past ++ ws → log.now ++ log.later ≡ ws ++ g ∷ place.back
+        → ((log.now ≡ []) × (phase ≡ Idle (source_of phase))) ⊎ HasOpen setup before p log.now → IsNext phase log
     by_now ws e f (inl (none, idle)) = record { idle = idle; mid = ws; front = e; later = ap (λ (x : List ScriptGraft). x ++ log.later) (sym none) ∙ f }
     by_now ws e f (inr x) = absurd (open_before x.graft log.later ws x.open_is (ap (λ (y : List ScriptGraft). y ++ log.later) (sym x.is) ∙ f)
         (all_back (λ (y : ScriptGraft). y.graft < g.graft) log.past ws (subst (λ (y : List ScriptGraft). AllByRecursion (λ (z : ScriptGraft). z.graft < g.graft) y) e below)))
@@ -139,7 +143,7 @@ module _ (setup : Setup) (before : OperatorPart) (g : ScriptGraft) (t : ℕ) (ma
     of (inr (ws, e, f)) = by_now ws e f (has_open setup before p phase log.now log.goes_on)
 
   -- a graft that waits before it is behind: its group has begun, and it isn't made
-  passed : (x : ScriptGraft) → (IsGraftOf setup p x) × (x.graft < g.graft) → Waits before x → IsBehind setup before x
+  passed : (x : ScriptGraft) → (IsGraftOf setup p x) × (x.graft < g.graft) → AwaitsOrder before x → IsBehind setup before x
   passed x here waits = record { begun = begun; over = inr (waits, by_target (target_in setup before x) refl) } where
     begun : group_of setup x.step ≤ before.group
     begun =
@@ -156,13 +160,13 @@ module _ (setup : Setup) (before : OperatorPart) (g : ScriptGraft) (t : ℕ) (ma
       let Here : ScriptGraft → Type 0 = λ x. (IsGraftOf setup p x) × (x.graft < g.graft) in
       let here : AllByRecursion Here place.front = all_both (IsGraftOf setup p) (λ (x : ScriptGraft). x.graft < g.graft) Here place.front (λ x own less. (own, less)) front_own below in
       let here_mid : AllByRecursion Here next.mid = all_back Here log.past next.mid (subst (λ (x : List ScriptGraft). AllByRecursion Here x) next.front here) in
-      let wait_mid : AllByRecursion (Waits before) next.mid = all_front (Waits before) next.mid (g ∷ place.back) (subst (λ (x : List ScriptGraft). AllByRecursion (Waits before) x) next.later log.wait) in
+      let wait_mid : AllByRecursion (AwaitsOrder before) next.mid = all_front (AwaitsOrder before) next.mid (g ∷ place.back) (subst (λ (x : List ScriptGraft). AllByRecursion (AwaitsOrder before) x) next.later log.wait) in
       subst (λ (x : List ScriptGraft). AllByRecursion (IsBehind setup before) x) (sym next.front)
-      (all_join (IsBehind setup before) log.past next.mid log.are_behind (all_both Here (Waits before) (IsBehind setup before) next.mid passed here_mid wait_mid))
+      (all_join (IsBehind setup before) log.past next.mid log.are_behind (all_both Here (AwaitsOrder before) (IsBehind setup before) next.mid passed here_mid wait_mid))
 
   log_with : (phase : Phase) (log : LogSays setup before p phase) → IsNext phase log → LogSays setup ordered p (Busy source g.graft t Ordered)
   log_with phase log next =
-      let wait_back : AllByRecursion (Waits before) (g ∷ place.back) = all_back (Waits before) next.mid (g ∷ place.back) (subst (λ (x : List ScriptGraft). AllByRecursion (Waits before) x) next.later log.wait) in
+      let wait_back : AllByRecursion (AwaitsOrder before) (g ∷ place.back) = all_back (AwaitsOrder before) next.mid (g ∷ place.back) (subst (λ (x : List ScriptGraft). AllByRecursion (AwaitsOrder before) x) next.later log.wait) in
       record {
         past = place.front;
         now = g ∷ [];
@@ -178,7 +182,7 @@ module _ (setup : Setup) (before : OperatorPart) (g : ScriptGraft) (t : ℕ) (ma
           ordered = grind (arith, nat_tests);
           unended = may.unended;
         };
-        wait = all_both (λ (x : ScriptGraft). g.graft < x.graft) (Waits before) (Waits ordered) place.back (λ x above. waits_with setup before g source x (λ (same : x.graft ≡ g.graft). omega arith))
+        wait = all_both (λ (x : ScriptGraft). g.graft < x.graft) (AwaitsOrder before) (AwaitsOrder ordered) place.back (λ x above. waits_with setup before g source x (λ (same : x.graft ≡ g.graft). omega arith))
             (behind_above setup p place.front place.back g place.is) wait_back.1;
         placed = refl;
       }

@@ -6,7 +6,7 @@ use Rattle.graft_model.specs.Setups.{Setup, ScriptGraft, group_of, graft_at}
 use Rattle.graft_model.specs.Parts.{Gift, OperatorPart}
 use Rattle.graft_model.specs.Placements.{is_accepted, target_by, target_in, placement}
 use Rattle.graft_laws.specs.Phases.{Stage, Phase, Idle, Busy}
-use Rattle.graft_laws.specs.Log.{grafts_of, is_of, HasEnded, Waits, IsBehind, GoesOnIn, LogSays}
+use Rattle.graft_laws.specs.Log.{grafts_of, is_graft_on, HasEnded, AwaitsOrder, IsBehind, GoesOnIn, LogSays}
 use Rattle.graft_laws.proofs.Lists.{all_map, all_both, all_front, all_back, all_join}
 use Rattle.graft_laws.proofs.Numbers.{IsGraftOf, all_of_peering, is_own}
 use Rattle.graft_laws.proofs.Placements.{CountsAlike, placed_alike}
@@ -14,11 +14,12 @@ use Rattle.graft_laws.proofs.Others.{KeepsLog, SameLog}
 
 -- ---- whose the grafts are
 
-pub own_known : (setup : Setup) (p k : ℕ) {step : ℕ} → graft_at setup k ≡ Some (record { graft = k; peering = p; step = step }) → is_of setup p k ≡ true
+pub own_known : (setup : Setup) (p k : ℕ) {step : ℕ} → graft_at setup k ≡ Some (record { graft = k; peering = p; step = step }) → is_graft_on setup p k ≡ true
 own_known setup p k {step = step} known = is_own setup p (record { graft = k; peering = p; step = step }) (known, refl)
 
 -- the grafts of the log's three parts are the peering's own
-log_own : (setup : Setup) (operator : OperatorPart) (p : ℕ) (phase : Phase) (log : LogSays setup operator p phase) → AllByRecursion (IsGraftOf setup p) (log.past ++ (log.now ++ log.later))
+log_own : (setup : Setup) (operator : OperatorPart) (p : ℕ) (phase : Phase) (log : LogSays setup operator p phase)
+    → AllByRecursion (IsGraftOf setup p) (log.past ++ (log.now ++ log.later))
 log_own setup operator p phase log = subst (λ (x : List ScriptGraft). AllByRecursion (IsGraftOf setup p) x) log.grafts (all_of_peering setup p)
 
 -- the graft that is under way stands between those behind it and those that wait
@@ -32,21 +33,23 @@ grafts_are setup operator p q k t stage log = log.grafts ∙ ap (λ (x : List Sc
 abbrev HasBegun : Setup → OperatorPart → ScriptGraft → Type 0
 HasBegun setup operator g = group_of setup g.step ≤ operator.group
 
-all_begun : (setup : Setup) (operator : OperatorPart) (p : ℕ) (phase : Phase) (now : List ScriptGraft) → GoesOnIn setup operator p phase now → AllByRecursion (HasBegun setup operator) now
+all_begun : (setup : Setup) (operator : OperatorPart) (p : ℕ) (phase : Phase) (now : List ScriptGraft) → GoesOnIn setup operator p phase now
+    → AllByRecursion (HasBegun setup operator) now
 all_begun setup operator p (Idle q) now none = subst (λ (x : List ScriptGraft). AllByRecursion (HasBegun setup operator) x) (sym none) tt
 all_begun setup operator p (Busy q k t stage) now on = subst (λ (x : List ScriptGraft). AllByRecursion (HasBegun setup operator) x) (sym on.is) ((let at_work = on.begun in omega (arith, at_work)), tt)
 
 abbrev BegunOrWaits : Setup → OperatorPart → ScriptGraft → Type 0
-BegunOrWaits setup operator g = HasBegun setup operator g ⊎ Waits operator g
+BegunOrWaits setup operator g = HasBegun setup operator g ⊎ AwaitsOrder operator g
 
 -- each graft of a peering is of a group that has begun, or waits
-begun_or_waits : (setup : Setup) (operator : OperatorPart) (p : ℕ) (phase : Phase) → LogSays setup operator p phase → AllByRecursion (BegunOrWaits setup operator) (grafts_of setup p)
+begun_or_waits : (setup : Setup) (operator : OperatorPart) (p : ℕ) (phase : Phase) → LogSays setup operator p phase
+    → AllByRecursion (BegunOrWaits setup operator) (grafts_of setup p)
 begun_or_waits setup operator p phase log =
     let Either : ScriptGraft → Type 0 = BegunOrWaits setup operator in
     subst (λ (x : List ScriptGraft). AllByRecursion Either x) (sym log.grafts)
     (all_join Either log.past (log.now ++ log.later) (all_map (IsBehind setup operator) Either log.past (λ g b. inl b.begun) log.are_behind)
     (all_join Either log.now log.later (all_map (HasBegun setup operator) Either log.now (λ g b. inl b) (all_begun setup operator p phase log.now log.goes_on))
-    (all_map (Waits operator) Either log.later (λ g x. inr x) log.wait)))
+    (all_map (AwaitsOrder operator) Either log.later (λ g x. inr x) log.wait)))
 
 -- ---- nothing of the peering changes
 
@@ -68,12 +71,13 @@ module _ (setup : Setup) (p : ℕ) (before after : OperatorPart) (same : KeepsLo
     ended = λ none. was.ended (sym (same.outcome g.graft (is_own setup p g own)) ∙ none);
   }
 
-  waits_still : (g : ScriptGraft) → IsGraftOf setup p g → Waits before g → Waits after g
+  waits_still : (g : ScriptGraft) → IsGraftOf setup p g → AwaitsOrder before g → AwaitsOrder after g
   waits_still g own was = record { unordered = same.source g.graft (is_own setup p g own) ∙ was.unordered; unended = same.outcome g.graft (is_own setup p g own) ∙ was.unended }
 
   behind_still : (g : ScriptGraft) → IsGraftOf setup p g → IsBehind setup before g → IsBehind setup after g
   behind_still g own was = record { begun = begun_still g was.begun; over = over was.over } where
-    over : HasEnded before g ⊎ (Waits before g × (target_in setup before g ≡ None)) → HasEnded after g ⊎ (Waits after g × (target_in setup after g ≡ None))
+    over : HasEnded before g ⊎ (AwaitsOrder before g × (target_in setup before g ≡ None))
+        → HasEnded after g ⊎ (AwaitsOrder after g × (target_in setup after g ≡ None))
     over (inl ended) = inl (ended_still g own ended)
     over (inr (waits, none)) = inr (waits_still g own waits, target_still g own was.begun ∙ none)
 
@@ -81,7 +85,7 @@ module _ (setup : Setup) (p : ℕ) (before after : OperatorPart) (same : KeepsLo
   goes_on_still (Idle q) now group none = none
   goes_on_still (Busy q k t stage) now group was =
       let g : ScriptGraft = record { graft = k; peering = p; step = was.step } in
-      let mine : is_of setup p k ≡ true = own_known setup p k was.known in
+      let mine : is_graft_on setup p k ≡ true = own_known setup p k was.known in
       let at_work = was.begun in
       record {
         step = was.step;
@@ -93,7 +97,7 @@ module _ (setup : Setup) (p : ℕ) (before after : OperatorPart) (same : KeepsLo
         unended = same.outcome k mine ∙ was.unended;
       }
 
-  alike : (g : ScriptGraft) → IsGraftOf setup p g → HasBegun setup before g ⊎ Waits before g → CountsAlike setup before after g
+  alike : (g : ScriptGraft) → IsGraftOf setup p g → HasBegun setup before g ⊎ AwaitsOrder before g → CountsAlike setup before after g
   alike g own (inl begun) = record { accepted = ap is_accepted (same.outcome g.graft (is_own setup p g own)); target = λ accepted. target_still g own begun }
   alike g own (inr waits) = record {
     accepted = ap is_accepted (same.outcome g.graft (is_own setup p g own));
@@ -115,16 +119,18 @@ module _ (setup : Setup) (p : ℕ) (before after : OperatorPart) (same : KeepsLo
         grafts = log.grafts;
         are_behind = all_both (IsGraftOf setup p) (IsBehind setup before) (IsBehind setup after) log.past behind_still (all_front (IsGraftOf setup p) log.past (log.now ++ log.later) own) log.are_behind;
         goes_on = goes_on_still phase log.now group log.goes_on;
-        wait = all_both (IsGraftOf setup p) (Waits before) (Waits after) log.later waits_still own_later log.wait;
+        wait = all_both (IsGraftOf setup p) (AwaitsOrder before) (AwaitsOrder after) log.later waits_still own_later log.wait;
         placed = placement_same phase log ∙ log.placed;
       }
 
-pub log_still : (setup : Setup) (p : ℕ) (before after : OperatorPart) (phase : Phase) → SameLog setup p before after → LogSays setup before p phase → LogSays setup after p phase
+pub log_still : (setup : Setup) (p : ℕ) (before after : OperatorPart) (phase : Phase) → SameLog setup p before after → LogSays setup before p phase
+    → LogSays setup after p phase
 log_still setup p before after phase same = log_kept setup p before after same.kept phase (by_phase phase) where
   by_phase : (x : Phase) → SameGroup x before after
   by_phase (Idle q) = tt
   by_phase (Busy q k t stage) = same.group
 
 -- the phase moves on, and the graft stays the same
-pub log_on : (setup : Setup) (operator : OperatorPart) (p q k t : ℕ) (stage next : Stage) → LogSays setup operator p (Busy q k t stage) → LogSays setup operator p (Busy q k t next)
+pub log_on : (setup : Setup) (operator : OperatorPart) (p q k t : ℕ) (stage next : Stage) → LogSays setup operator p (Busy q k t stage)
+    → LogSays setup operator p (Busy q k t next)
 log_on setup operator p q k t stage next log = record { past = log.past; now = log.now; later = log.later; grafts = log.grafts; are_behind = log.are_behind; goes_on = log.goes_on; wait = log.wait; placed = log.placed }

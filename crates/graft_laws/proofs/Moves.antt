@@ -14,20 +14,20 @@ use Rattle.graft_model.specs.declared.event.RouterEvent.{RouterEvent}
 use Rattle.graft_model.specs.declared.event.FarEvent.{FarEvent}
 use Rattle.graft_model.specs.declared.event.OperatorEvent.{OperatorEvent}
 use Rattle.graft_model.specs.Steps.{RouterTook, FarTook, OperatorTook, router_sends, far_sends, operator_sends, RouterStep, FarStep, OperatorStep}
-use Rattle.graft_laws.specs.Phases.{only, only2}
+use Rattle.graft_laws.specs.Phases.{only_at, only2}
 use Rattle.graft_laws.specs.Moves.{mesh_taken, inward_taken, orders_taken, mesh_sent, outward_sent, reports_sent, RouterHeads, RouterMoves, outward_taken, says_taken, inward_sent, FarHeads, FarMoves, orders_sent, says_sent, OperatorMoves}
 
 -- ---- one channel, of any kind of item
 
 -- one item more at the end of a channel
-put1 : {A : Type 0} (f : ℕ → List A) (j n : ℕ) (x : A) → at f j (f j ++ x ∷ []) n ≡ f n ++ only j x n
+put1 : {A : Type 0} (f : ℕ → List A) (j n : ℕ) (x : A) → at f j (f j ++ x ∷ []) n ≡ f n ++ only_at j x n
 put1 f j n x = grind (arith, nat_tests, append-nil)
 
 put2 : {A : Type 0} (f : ℕ → ℕ → List A) (j k a b : ℕ) (x : A) → at2 f j k (f j k ++ x ∷ []) a b ≡ f a b ++ only2 j k x a b
 put2 f j k a b x = grind (arith, nat_tests, append-nil)
 
 -- the head of a channel is taken
-cut1 : {A : Type 0} (f : ℕ → List A) (j n : ℕ) (x : A) (rest : List A) → f j ≡ x ∷ rest → only j x n ++ at f j rest n ≡ f n
+cut1 : {A : Type 0} (f : ℕ → List A) (j n : ℕ) (x : A) (rest : List A) → f j ≡ x ∷ rest → only_at j x n ++ at f j rest n ≡ f n
 cut1 f j n x rest e = grind (arith, nat_tests)
 
 cut2 : {A : Type 0} (f : ℕ → ℕ → List A) (j k a b : ℕ) (x : A) (rest : List A) → f j k ≡ x ∷ rest → only2 j k x a b ++ at2 f j k rest a b ≡ f a b
@@ -81,7 +81,7 @@ sends_more r (ReportOut report) sent w v s = record {
   outward = s.outward;
   inward = s.inward;
   orders = s.orders;
-  reports = λ a. then_others (w.reports a) (only r report a) (reports_sent r sent a) (v.reports a) _ (put1 w.reports r a report) (s.reports a);
+  reports = λ a. then_others (w.reports a) (only_at r report a) (reports_sent r sent a) (v.reports a) _ (put1 w.reports r a report) (s.reports a);
   says = s.says;
 }
 
@@ -279,7 +279,7 @@ operator_more (OrderTo r order) sent w v s = record {
   mesh = s.mesh;
   outward = s.outward;
   inward = s.inward;
-  orders = λ b. then_others (w.orders b) (only r order b) (orders_sent sent b) (v.orders b) _ (put1 w.orders r b order) (s.orders b);
+  orders = λ b. then_others (w.orders b) (only_at r order b) (orders_sent sent b) (v.orders b) _ (put1 w.orders r b order) (s.orders b);
   reports = s.reports;
   says = s.says;
 }
@@ -292,7 +292,7 @@ operator_more (SayTo p step) sent w v s = record {
   inward = s.inward;
   orders = s.orders;
   reports = s.reports;
-  says = λ q. then_others (w.says q) (only p step q) (says_sent sent q) (v.says q) _ (put1 w.says p q step) (s.says q);
+  says = λ q. then_others (w.says q) (only_at p step q) (says_sent sent q) (v.says q) _ (put1 w.says p q step) (s.says q);
 }
 
 operator_sent : (sent : List OperatorSent) (w v : World) → v ≡ fold operator_sends w sent → OperatorSends sent w v
@@ -301,7 +301,8 @@ operator_sent (item ∷ sent) w v is = operator_more item sent w v (operator_sen
 
 pub operator_moves : (setup : Setup) (event : OperatorEvent) (w v : World) (x : OperatorStep setup event w v) → OperatorMoves x.taken x.sent x.part w v
 operator_moves setup event w v x = by_taken x.taken x.without x.took (operator_sent x.sent (record x.without { operator = x.part }) v x.is) where
-  by_taken : (taken : Option OperatorTaken) (u : World) → OperatorTook w taken u → OperatorSends x.sent (record u { operator = x.part }) v → OperatorMoves taken x.sent x.part w v
+  by_taken : (taken : Option OperatorTaken) (u : World) → OperatorTook w taken u → OperatorSends x.sent (record u { operator = x.part }) v
+      → OperatorMoves taken x.sent x.part w v
   by_taken None u is s = record {
     heads = tt;
     router = s.router ∙ ap (λ (y : World). y.router) is;
@@ -323,6 +324,7 @@ operator_moves setup event w v x = by_taken x.taken x.without x.took (operator_s
     outward = s.outward ∙ ap (λ (y : World). y.outward) is;
     inward = s.inward ∙ ap (λ (y : World). y.inward) is;
     orders = λ b. s.orders b ∙ ap (λ (y : World). y.orders b ++ orders_sent x.sent b) is;
-    reports = λ a. ap (λ (f : ℕ → List Report). only r report a ++ f a) (s.reports ∙ ap (λ (y : World). y.reports) is) ∙ cut1 w.reports r a report h.rest h.is;
+    reports = λ a. ap (λ (f : ℕ → List Report). only_at r report a ++ f a) (s.reports ∙ ap (λ (y : World). y.reports) is)
+        ∙ cut1 w.reports r a report h.rest h.is;
     says = λ q. s.says q ∙ ap (λ (y : World). y.says q ++ says_sent x.sent q) is;
   }

@@ -7,7 +7,7 @@ use Rattle.std.specs.Prelude.{filter, slice_get}
 use Rattle.std.specs.List.{AllByRecursion}
 use Rattle.graft_model.specs.Setups.{Setup, ScriptGraft, grafts_in, graft_at}
 use Rattle.graft_model.proofs.Numbers.{number_of_place, graft_by_place, place_of_graft, number_is, graft_is_known}
-use Rattle.graft_laws.specs.Log.{grafts_of, is_peering, is_of}
+use Rattle.graft_laws.specs.Log.{grafts_of, is_peering, is_graft_on}
 use Rattle.graft_laws.proofs.Lists.{all_both, filter_all, filter_tests}
 
 -- ---- items of a list by their places
@@ -40,7 +40,8 @@ all_rise k (g ∷ gs) numbers =
       all_rise (k + 1) gs (λ i x e. let n = numbers (suc i) x e in omega (arith, n)),
     )
 
-rises_step : (b : Bool) (g : ScriptGraft) (gs : List ScriptGraft) → AllByRecursion (λ (x : ScriptGraft). g.graft < x.graft) gs → Rises gs → Rises (cond b (g ∷ gs) gs)
+rises_step : (b : Bool) (g : ScriptGraft) (gs : List ScriptGraft) → AllByRecursion (λ (x : ScriptGraft). g.graft < x.graft) gs → Rises gs
+    → Rises (cond b (g ∷ gs) gs)
 rises_step true g gs all rise = (all, rise)
 rises_step false g gs all rise = rise
 
@@ -60,10 +61,12 @@ back_above [] hs g rise = rise.0
 back_above (y ∷ gs) hs g rise = back_above gs hs g rise.1
 
 -- of a peering's grafts those before one have lower numbers, and those behind it higher ones
-pub before_below : (setup : Setup) (p : ℕ) (gs hs : List ScriptGraft) (g : ScriptGraft) → grafts_of setup p ≡ gs ++ g ∷ hs → AllByRecursion (λ (x : ScriptGraft). x.graft < g.graft) gs
+pub before_below : (setup : Setup) (p : ℕ) (gs hs : List ScriptGraft) (g : ScriptGraft) → grafts_of setup p ≡ gs ++ g ∷ hs
+    → AllByRecursion (λ (x : ScriptGraft). x.graft < g.graft) gs
 before_below setup p gs hs g is = front_below gs hs g (subst Rises is (grafts_rise setup p))
 
-pub behind_above : (setup : Setup) (p : ℕ) (gs hs : List ScriptGraft) (g : ScriptGraft) → grafts_of setup p ≡ gs ++ g ∷ hs → AllByRecursion (λ (x : ScriptGraft). g.graft < x.graft) hs
+pub behind_above : (setup : Setup) (p : ℕ) (gs hs : List ScriptGraft) (g : ScriptGraft) → grafts_of setup p ≡ gs ++ g ∷ hs
+    → AllByRecursion (λ (x : ScriptGraft). g.graft < x.graft) hs
 behind_above setup p gs hs g is = back_above gs hs g (subst Rises is (grafts_rise setup p))
 
 -- ---- whose a graft is
@@ -83,18 +86,18 @@ all_of_peering setup p = all_both (λ (g : ScriptGraft). graft_at setup g.graft 
     (λ g known own. (known, grind (arith, nat_tests)))
     (filter_all (λ (g : ScriptGraft). graft_at setup g.graft ≡ Some g) (λ g. g.peering == p) (grafts_in setup) (all_known setup)) (filter_tests (λ g. g.peering == p) (grafts_in setup))
 
-pub is_own : (setup : Setup) (p : ℕ) (g : ScriptGraft) → IsGraftOf setup p g → is_of setup p g.graft ≡ true
+pub is_own : (setup : Setup) (p : ℕ) (g : ScriptGraft) → IsGraftOf setup p g → is_graft_on setup p g.graft ≡ true
 is_own setup p g own = ap (is_peering p) own.0 ∙ (let is : g.peering ≡ p = own.1 in grind (arith, nat_tests))
 
 -- the peering's graft of a number
-pub own_graft : (setup : Setup) (p k : ℕ) → is_of setup p k ≡ true → (g : ScriptGraft) × (g.graft ≡ k) × IsGraftOf setup p g
+pub own_graft : (setup : Setup) (p k : ℕ) → is_graft_on setup p k ≡ true → (g : ScriptGraft) × (g.graft ≡ k) × IsGraftOf setup p g
 own_graft setup p k own = by_value (graft_at setup k) refl own where
   by_value : (o : Option ScriptGraft) → graft_at setup k ≡ o → is_peering p o ≡ true → (g : ScriptGraft) × (g.graft ≡ k) × IsGraftOf setup p g
   by_value None e is = absurd cc
   by_value (Some g) e is = (g, number_is setup k g e, (graft_is_known setup k g e, grind (arith, nat_tests)))
 
 -- a number is of one peering alone
-pub one_peering : (setup : Setup) (p q k : ℕ) → is_of setup p k ≡ true → is_of setup q k ≡ true → p ≡ q
+pub one_peering : (setup : Setup) (p q k : ℕ) → is_graft_on setup p k ≡ true → is_graft_on setup q k ≡ true → p ≡ q
 one_peering setup p q k a b = by_value (graft_at setup k) a b where
   by_value : (o : Option ScriptGraft) → is_peering p o ≡ true → is_peering q o ≡ true → p ≡ q
   by_value None a b = absurd cc
@@ -102,7 +105,8 @@ one_peering setup p q k a b = by_value (graft_at setup k) a b where
 
 -- ---- where a graft stands among those of its peering
 
-own_first : (p : ℕ) (g : ScriptGraft) (gs : List ScriptGraft) → g.peering ≡ p → filter (λ (x : ScriptGraft). x.peering == p) (g ∷ gs) ≡ g ∷ filter (λ (x : ScriptGraft). x.peering == p) gs
+own_first : (p : ℕ) (g : ScriptGraft) (gs : List ScriptGraft) → g.peering ≡ p
+    → filter (λ (x : ScriptGraft). x.peering == p) (g ∷ gs) ≡ g ∷ filter (λ (x : ScriptGraft). x.peering == p) gs
 own_first p g gs is = grind (arith, nat_tests)
 
 pub record StandsAmong (setup : Setup) (p : ℕ) (g : ScriptGraft) : Type 0 where
@@ -128,5 +132,6 @@ of_all setup p g P own all =
     found_in a.front a.back g P (subst (λ (x : List ScriptGraft). AllByRecursion P x) a.is all)
 
 -- and of the one that has a number
-pub at_number : (setup : Setup) (p k : ℕ) (P : ScriptGraft → Type 0) → AllByRecursion P (grafts_of setup p) → is_of setup p k ≡ true → (g : ScriptGraft) × (g.graft ≡ k) × P g
+pub at_number : (setup : Setup) (p k : ℕ) (P : ScriptGraft → Type 0) → AllByRecursion P (grafts_of setup p) → is_graft_on setup p k ≡ true
+    → (g : ScriptGraft) × (g.graft ≡ k) × P g
 at_number setup p k P all own = let f = own_graft setup p k own in (f.0, f.1, of_all setup p f.0 P f.2 all)

@@ -17,7 +17,8 @@ accepts operator g = is_accepted (operator.outcome g.graft)
 abbrev pub by_last : Setup → OperatorPart → ℕ → List ScriptGraft → ℕ
 by_last setup operator p gs = unwrap_or (option_and_then (target_in setup operator) (last_or None gs)) (start_of setup p)
 
-pub placed_by : (setup : Setup) (operator : OperatorPart) (p : ℕ) → placement setup operator p ≡ by_last setup operator p (filter (accepts operator) (grafts_of setup p))
+pub placed_by : (setup : Setup) (operator : OperatorPart) (p : ℕ)
+    → placement setup operator p ≡ by_last setup operator p (filter (accepts operator) (grafts_of setup p))
 placed_by setup operator p = ap (by_last setup operator p) (filter_twice (λ g. g.peering == p) (accepts operator) (grafts_in setup))
 
 -- A graft counts alike for two logs: both have it accepted or neither, and it has one target in both if so.
@@ -31,7 +32,8 @@ last_alike f h d [] e all = e
 last_alike f h d (x ∷ xs) e all = last_alike f h (Some x) xs all.0 all.1
 
 -- Where all grafts of a peering count alike, its session belongs at one place.
-pub placed_alike : (setup : Setup) (before after : OperatorPart) (p : ℕ) → AllByRecursion (CountsAlike setup before after) (grafts_of setup p) → placement setup after p ≡ placement setup before p
+pub placed_alike : (setup : Setup) (before after : OperatorPart) (p : ℕ) → AllByRecursion (CountsAlike setup before after) (grafts_of setup p)
+    → placement setup after p ≡ placement setup before p
 placed_alike setup before after p all =
     let gs : List ScriptGraft = grafts_of setup p in
     let left : List ScriptGraft = filter (accepts before) gs in
@@ -52,7 +54,8 @@ placed_first setup operator p none =
     ∙ ap (by_last setup operator p) (filter_none (accepts operator) (grafts_of setup p) (all_of (λ (g : ScriptGraft). accepts operator g ≡ false) (grafts_of setup p) (λ g. ap is_accepted (none g.graft))))
 
 -- A session belongs at the target of an accepted graft, where none of its peering behind that one was accepted.
-pub placed_last : (setup : Setup) (operator : OperatorPart) (p t : ℕ) (gs hs : List ScriptGraft) (g : ScriptGraft) → grafts_of setup p ≡ gs ++ g ∷ hs → accepts operator g ≡ true
+pub placed_last : (setup : Setup) (operator : OperatorPart) (p t : ℕ) (gs hs : List ScriptGraft) (g : ScriptGraft) → grafts_of setup p ≡ gs ++ g ∷ hs
+    → accepts operator g ≡ true
     → AllByRecursion (λ (x : ScriptGraft). accepts operator x ≡ false) hs → target_in setup operator g ≡ Some t → placement setup operator p ≡ t
 placed_last setup operator p t gs hs g is accepted none aims =
     let test : ScriptGraft → Bool = accepts operator in

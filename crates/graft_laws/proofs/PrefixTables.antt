@@ -52,15 +52,12 @@ has_removed xs y x = ap is_some (map.get-remove prefix_total xs y x) ∙ some_un
 pub has_none : (x : PrefixValue) → has map.empty x ≡ false
 has_none x = ap is_some (map.get-empty {X = Unit {0}} prefix_cmp x)
 
--- a set without members has none of them
-pub not_in : (xs : Prefixes) → xs ≡ map.empty → (x : PrefixValue) → has xs x ≡ false
-not_in xs e x = ap (λ (s : Prefixes). has s x) e ∙ has_none x
-
 pub get_with : (best : BestRoutes) (y : PrefixValue) (c : Option Best) (x : PrefixValue) → map.get (with_best best y c) x ≡ cond (same x y) c (map.get best x)
 get_with best y None x = map.get-remove prefix_total best y x
 get_with best y (Some route) x = map.get-insert prefix_total best y route x
 
-pub get_telling : (tellings : Tellings) (y : PrefixValue) (c : Option Route) (x : PrefixValue) → map.get (with_telling tellings y c) x ≡ cond (same x y) c (map.get tellings x)
+pub get_telling : (tellings : Tellings) (y : PrefixValue) (c : Option Route) (x : PrefixValue)
+    → map.get (with_telling tellings y c) x ≡ cond (same x y) c (map.get tellings x)
 get_telling tellings y None x = map.get-remove prefix_total tellings y x
 get_telling tellings y (Some route) x = map.get-insert prefix_total tellings y route x
 

@@ -11,7 +11,7 @@ use Rattle.graft_model.specs.OperatorRows.{placement}
 use Rattle.graft_model.specs.Quiet.{HasRead, AllAcked, IsIdle, Quiet}
 use Rattle.graft_laws.specs.Phases.{Ordered, Stored, Halted, Moving, Landed, Asking, Confirmed, Returning, Declined, Cleared, Phase, Idle, Busy, source_of}
 use Rattle.graft_laws.specs.Owned.{is_on, Stands}
-use Rattle.graft_laws.specs.Log.{is_of}
+use Rattle.graft_laws.specs.Log.{is_graft_on}
 use Rattle.graft_laws.proofs.Heads.{only_here, only2_here, placed_here, landed_here}
 
 -- an empty channel has nothing of a peering
@@ -24,7 +24,8 @@ not_idle remote place s errand idle is = subst (IsIdle remote) is idle
 not_frozen : (remote : Endpoint) (place : Place) (s : SessionValue) (order : Order) → IsIdle remote place → place ≡ Frozen s order → ⊥
 not_frozen remote place s order idle is = subst (IsIdle remote) is idle
 
-pub quiet_idle : (setup : Setup) (w : World) (p : ℕ) (phase : Phase) (s : SessionValue) → Quiet setup w → Stands setup w p phase s → phase ≡ Idle (source_of phase)
+pub quiet_idle : (setup : Setup) (w : World) (p : ℕ) (phase : Phase) (s : SessionValue) → Quiet setup w → Stands setup w p phase s
+    → phase ≡ Idle (source_of phase)
 quiet_idle setup w p (Idle q) s quiet b = refl
 quiet_idle setup w p (Busy q k t Ordered) s quiet b = absurd (nothing_in (λ (o : GraftOrder). o.peering == p) (w.orders q) (record { graft = k; peering = p; target = t }) (quiet.orders q) (b.orders q ∙ only_here q (record { graft = k; peering = p; target = t })))
 quiet_idle setup w p (Busy q k t Stored) s quiet b = absurd (not_idle (w.far p).end ((w.router q).places p) s (Leaving (record { graft = k; target = t })) (quiet.places q p) (b.places q ∙ placed_here q (Live s (Some (Leaving (record { graft = k; target = t }))))))
@@ -39,11 +40,12 @@ quiet_idle setup w p (Busy q k t (Asking n)) s quiet b =
 quiet_idle setup w p (Busy q k t Confirmed) s quiet b = absurd (nothing_in (is_on p) (w.mesh t q) (Done k p) (quiet.mesh t q) (b.mesh t q ∙ only2_here t q (Done k p)))
 quiet_idle setup w p (Busy q k t (Returning refusal)) s quiet b = absurd (nothing_in (is_on p) (w.mesh t q) (Back k p s refusal) (quiet.mesh t q) (b.mesh t q ∙ only2_here t q (Back k p s refusal)))
 quiet_idle setup w p (Busy q k t (Declined refusal)) s quiet b =
-    absurd (nothing_in (λ (o : Report). is_of setup p o.graft) (w.reports q) (record { graft = k; outcome = Refused refusal }) (quiet.reports q) (b.reports q ∙ only_here q (record { graft = k; outcome = Refused refusal })))
+    absurd (nothing_in (λ (o : Report). is_graft_on setup p o.graft) (w.reports q) (record { graft = k; outcome = Refused refusal }) (quiet.reports q) (b.reports q ∙ only_here q (record { graft = k; outcome = Refused refusal })))
 quiet_idle setup w p (Busy q k t Cleared) s quiet b =
-    absurd (nothing_in (λ (o : Report). is_of setup p o.graft) (w.reports q) (record { graft = k; outcome = Accepted }) (quiet.reports q) (b.reports q ∙ only_here q (record { graft = k; outcome = Accepted })))
+    absurd (nothing_in (λ (o : Report). is_graft_on setup p o.graft) (w.reports q) (record { graft = k; outcome = Accepted }) (quiet.reports q) (b.reports q ∙ only_here q (record { graft = k; outcome = Accepted })))
 
-pub quiet_phase : (setup : Setup) (w : World) (p : ℕ) (phase : Phase) (s : SessionValue) → Quiet setup w → Stands setup w p phase s → phase ≡ Idle (placement setup w.operator p)
+pub quiet_phase : (setup : Setup) (w : World) (p : ℕ) (phase : Phase) (s : SessionValue) → Quiet setup w → Stands setup w p phase s
+    → phase ≡ Idle (placement setup w.operator p)
 quiet_phase setup w p phase s quiet b = quiet_idle setup w p phase s quiet b ∙ ap Idle (sym b.log.placed)
 
 -- ---- the places

@@ -12,7 +12,8 @@ use Rattle.graft_model.specs.Setups.{Setup, peerings_in, peering_numbers, room_o
 use Rattle.graft_model.specs.Parts.{Place, RouterPart}
 use Rattle.graft_model.specs.GraftRows.{is_taken, taken_in, refusal_of}
 
-fewer_step : {A : Type 0} (f g : A → Bool) (x : A) (xs : List A) → (f x ≡ true → g x ≡ true) → length (filter f xs) ≤ length (filter g xs) → length (filter f (x ∷ xs)) ≤ length (filter g (x ∷ xs))
+fewer_step : {A : Type 0} (f g : A → Bool) (x : A) (xs : List A) → (f x ≡ true → g x ≡ true) → length (filter f xs) ≤ length (filter g xs)
+    → length (filter f (x ∷ xs)) ≤ length (filter g (x ∷ xs))
 fewer_step f g x xs here rest = by_tests (f x) (g x) here where
   by_tests : (u v : Bool) → (u ≡ true → v ≡ true) → length (cond u (x ∷ filter f xs) (filter f xs)) ≤ length (cond v (x ∷ filter g xs) (filter g xs))
   by_tests true true h = omega arith
@@ -26,11 +27,13 @@ fewer f g [] h = omega arith
 fewer f g (x ∷ xs) h = fewer_step f g x xs (h x) (fewer f g xs h)
 
 -- a test that passes one number more leaves at most one more
-none_of : (f g : ℕ → Bool) (a n q : ℕ) → q < a → ((x : ℕ) → x ≢ q → f x ≡ true → g x ≡ true) → length (filter f (range_with_len a n)) ≤ length (filter g (range_with_len a n))
+none_of : (f g : ℕ → Bool) (a n q : ℕ) → q < a → ((x : ℕ) → x ≢ q → f x ≡ true → g x ≡ true)
+    → length (filter f (range_with_len a n)) ≤ length (filter g (range_with_len a n))
 none_of f g a zero q l h = omega arith
 none_of f g a (suc n) q l h = fewer_step f g a (range_with_len (a + 1) n) (h a (λ is. omega arith)) (none_of f g (a + 1) n q (omega arith) h)
 
-one_more_step : (f g : ℕ → Bool) (a : ℕ) (xs : List ℕ) → length (filter f xs) ≤ length (filter g xs) → length (filter f (a ∷ xs)) ≤ length (filter g (a ∷ xs)) + 1
+one_more_step : (f g : ℕ → Bool) (a : ℕ) (xs : List ℕ) → length (filter f xs) ≤ length (filter g xs)
+    → length (filter f (a ∷ xs)) ≤ length (filter g (a ∷ xs)) + 1
 one_more_step f g a xs rest = by_tests (f a) (g a) where
   by_tests : (u v : Bool) → length (cond u (a ∷ filter f xs) (filter f xs)) ≤ length (cond v (a ∷ filter g xs) (filter g xs)) + 1
   by_tests true true = omega arith
@@ -38,7 +41,8 @@ one_more_step f g a xs rest = by_tests (f a) (g a) where
   by_tests false true = omega arith
   by_tests false false = omega arith
 
-one_later_step : (f g : ℕ → Bool) (a : ℕ) (xs : List ℕ) → (f a ≡ true → g a ≡ true) → length (filter f xs) ≤ length (filter g xs) + 1 → length (filter f (a ∷ xs)) ≤ length (filter g (a ∷ xs)) + 1
+one_later_step : (f g : ℕ → Bool) (a : ℕ) (xs : List ℕ) → (f a ≡ true → g a ≡ true) → length (filter f xs) ≤ length (filter g xs) + 1
+    → length (filter f (a ∷ xs)) ≤ length (filter g (a ∷ xs)) + 1
 one_later_step f g a xs here rest = by_tests (f a) (g a) here where
   by_tests : (u v : Bool) → (u ≡ true → v ≡ true) → length (cond u (a ∷ filter f xs) (filter f xs)) ≤ length (cond v (a ∷ filter g xs) (filter g xs)) + 1
   by_tests true true h = omega arith
@@ -46,7 +50,8 @@ one_later_step f g a xs here rest = by_tests (f a) (g a) here where
   by_tests false true h = omega arith
   by_tests false false h = rest
 
-pub one_more : (f g : ℕ → Bool) (a n q : ℕ) → ((x : ℕ) → x ≢ q → f x ≡ true → g x ≡ true) → length (filter f (range_with_len a n)) ≤ length (filter g (range_with_len a n)) + 1
+pub one_more : (f g : ℕ → Bool) (a n q : ℕ) → ((x : ℕ) → x ≢ q → f x ≡ true → g x ≡ true)
+    → length (filter f (range_with_len a n)) ≤ length (filter g (range_with_len a n)) + 1
 one_more f g a zero q h = omega arith
 one_more f g a (suc n) q h = by_test (a == q) refl (one_more f g (a + 1) n q h) where
   by_test : (b : Bool) → (a == q) ≡ b → length (filter f (range_with_len (a + 1) n)) ≤ length (filter g (range_with_len (a + 1) n)) + 1

@@ -15,7 +15,7 @@ use Rattle.graft_laws.specs.Phases.{Phase, Idle}
 use Rattle.graft_laws.specs.Owned.{Stands, Owned}
 use Rattle.graft_laws.specs.Moves.{reports_sent, RouterMoves, reports_taken, OperatorMoves, FarMoves}
 use Rattle.graft_laws.specs.Life.{Change}
-use Rattle.graft_laws.specs.Keeps.{Reached, Keeps, Has}
+use Rattle.graft_laws.specs.Keeps.{Reached, IsInvariant, Has}
 use Rattle.graft_laws.proofs.Lists.{all_join, all_back}
 use Rattle.graft_laws.proofs.Moves.{router_moves, far_moves, operator_moves}
 use Rattle.graft_laws.proofs.Gifts.{GivesToRouters, row_gives}
@@ -33,7 +33,8 @@ each_of setup w v (ByFar p event) ok owned x = far_each setup w v p event x.take
 each_of setup w v (ByOperator event) ok owned x = operator_each setup w v event x.taken x.sent x.part ok owned.given x.may x.row (operator_moves setup event w v x)
 
 -- where a peering of the setup stands after an event, and what the event did to it
-pub followed : (setup : Setup) (w v : World) (event : Event) (p : ℕ) (phase : Phase) (s : SessionValue) → IsSetup setup → Owned setup w → Step setup event w v → p < peerings_in setup → Stands setup w p phase s
+pub followed : (setup : Setup) (w v : World) (event : Event) (p : ℕ) (phase : Phase) (s : SessionValue) → IsSetup setup → Owned setup w
+    → Step setup event w v → p < peerings_in setup → Stands setup w p phase s
     → Followed setup w v p phase s
 followed setup w v event p phase s ok owned step l b = (each_of setup w v event ok owned step).known p l phase s b
 
@@ -43,7 +44,8 @@ HasRoom setup r part = taken_in setup part ≤ room_of setup r
 abbrev AreKnown : Setup → List Report → Type 0
 AreKnown setup reports = AllByRecursion (λ (o : Report). IsSome (graft_at setup o.graft)) reports
 
-room_at : (setup : Setup) (f : ℕ → RouterPart) (r x : ℕ) (part : RouterPart) → HasRoom setup x (f x) → (HasRoom setup r (f r) → HasRoom setup r part) → HasRoom setup x (at f r part x)
+room_at : (setup : Setup) (f : ℕ → RouterPart) (r x : ℕ) (part : RouterPart) → HasRoom setup x (f x) → (HasRoom setup r (f r) → HasRoom setup r part)
+    → HasRoom setup x (at f r part x)
 room_at setup f r x part was keeps = by_test (x == r) refl where
   by_test : (b : Bool) → (x == r) ≡ b → HasRoom setup x (cond b part (f x))
   by_test true is = let same : x ≡ r = grind (arith, nat_tests) in subst (λ (y : ℕ). HasRoom setup y (f y) → HasRoom setup y part) (sym same) keeps was
@@ -87,7 +89,8 @@ owned_then setup w v event ok owned step =
 
 -- ---- runs
 
-pub run_more : (setup : Setup) (events : List Event) (event : Event) (w u v : World) → Run setup w events u → Step setup event u v → Run setup w (events ++ event ∷ []) v
+pub run_more : (setup : Setup) (events : List Event) (event : Event) (w u v : World) → Run setup w events u → Step setup event u v
+    → Run setup w (events ++ event ∷ []) v
 run_more setup [] event w u v is step = (v, subst (λ (x : World). Step setup event x v) is step, refl)
 run_more setup (e ∷ events) event w u v (next, first, run) step = (next, first, run_more setup events event next u v run step)
 
@@ -117,11 +120,13 @@ pub reached_run : (setup : Setup) (events : List Event) (w v : World) → Reache
 reached_run setup [] w v reached is = subst (Reached setup) (sym is) reached
 reached_run setup (event ∷ events) w v reached (u, step, run) = reached_run setup events u v (reached_more setup event w u reached step) run
 
-pub carried_from : (setup : Setup) (I : World → Type 0) → ((event : Event) (before after : World) → Reached setup before → Step setup event before after → I before → I after)
+pub carried_from : (setup : Setup) (I : World → Type 0)
+    → ((event : Event) (before after : World) → Reached setup before → Step setup event before after → I before → I after)
     → (events : List Event) (w v : World) → Reached setup w → Run setup w events v → I w → I v
 carried_from setup I keeps events w v reached run i = along setup I keeps events w v reached run i
 
-pub carried : (setup : Setup) (I : World → Type 0) → I (first_world setup) → ((event : Event) (before after : World) → Reached setup before → Step setup event before after → I before → I after)
+pub carried : (setup : Setup) (I : World → Type 0) → I (first_world setup)
+    → ((event : Event) (before after : World) → Reached setup before → Step setup event before after → I before → I after)
     → (w : World) → Reached setup w → I w
 carried setup I first keeps w reached = along setup I keeps reached.events (first_world setup) w (reached_first setup) reached.run first
 
@@ -134,7 +139,8 @@ abbrev HaveAll : Setup → (World → ℕ → Phase → SessionValue → Type 0)
 HaveAll setup I w = (p : ℕ) → p < peerings_in setup → Has setup I w p
 
 has_first : (setup : Setup) (I : World → ℕ → Phase → SessionValue → Type 0) → IsSetup setup
-    → ((p : ℕ) (config : SessionConfig) → config_of setup p ≡ Some config → I (first_world setup) p (Idle (start_of setup p)) (begun config)) → HaveAll setup I (first_world setup)
+    → ((p : ℕ) (config : SessionConfig) → config_of setup p ≡ Some config → I (first_world setup) p (Idle (start_of setup p)) (begun config))
+    → HaveAll setup I (first_world setup)
 has_first setup I ok first p l =
     let some = some_peering setup p l in
     record {
@@ -146,10 +152,12 @@ has_first setup I ok first p l =
 
 -- what each event keeps of a peering
 abbrev IsKept : Setup → (World → ℕ → Phase → SessionValue → Type 0) → Type 0
-IsKept setup I = (event : Event) (before after : World) (p : ℕ) (phase next : Phase) (s t : SessionValue) → Reached setup before → Step setup event before after → p < peerings_in setup
+IsKept setup I = (event : Event) (before after : World) (p : ℕ) (phase next : Phase) (s t : SessionValue) → Reached setup before
+    → Step setup event before after → p < peerings_in setup
     → Stands setup before p phase s → Stands setup after p next t → Change setup before after p phase s next t → I before p phase s → I after p next t
 
-has_then : (setup : Setup) (I : World → ℕ → Phase → SessionValue → Type 0) → IsSetup setup → IsKept setup I → (event : Event) (before after : World) → Reached setup before → Step setup event before after
+has_then : (setup : Setup) (I : World → ℕ → Phase → SessionValue → Type 0) → IsSetup setup → IsKept setup I → (event : Event) (before after : World)
+    → Reached setup before → Step setup event before after
     → HaveAll setup I before → HaveAll setup I after
 has_then setup I ok kept event before after reached step have p l =
     let h = have p l in
@@ -162,6 +170,7 @@ pub always_has_along : (setup : Setup) (I : World → ℕ → Phase → SessionV
     → (w : World) → Reached setup w → (p : ℕ) → p < peerings_in setup → Has setup I w p
 always_has_along setup I ok first kept = carried setup (HaveAll setup I) (has_first setup I ok first) (has_then setup I ok kept)
 
-pub always_has : (setup : Setup) (I : World → ℕ → Phase → SessionValue → Type 0) → IsSetup setup → Keeps setup I → (w : World) → Reached setup w → (p : ℕ) → p < peerings_in setup → Has setup I w p
+pub always_has : (setup : Setup) (I : World → ℕ → Phase → SessionValue → Type 0) → IsSetup setup → IsInvariant setup I → (w : World)
+    → Reached setup w → (p : ℕ) → p < peerings_in setup → Has setup I w p
 always_has setup I ok keeps = always_has_along setup I ok keeps.first
     (λ event before after p phase next s t reached step l stands then change i. keeps.step before after p phase next s t reached l stands then change i)

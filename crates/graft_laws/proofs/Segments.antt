@@ -8,7 +8,7 @@ use Rattle.tcp_seq.specs.Endpoint.{Endpoint, PlacedSegment}
 use Rattle.tcp_seq.specs.Connection.{IsEmittedBy}
 use Rattle.graft_model.specs.Parts.{Outward, Seg, PointAt}
 use Rattle.graft_model.specs.FarRows.{without, left_by}
-use Rattle.graft_laws.specs.Phases.{only, only2}
+use Rattle.graft_laws.specs.Phases.{only_at, only2}
 use Rattle.graft_laws.specs.Streams.{IsOutwardOf}
 use Rattle.graft_laws.proofs.Lists.{all_front, all_back, all_join}
 
@@ -20,7 +20,7 @@ module _ {A : Type 0} (P : A → Type 0) where
   pub all_left : (taken left was : List A) → taken ++ left ≡ was → AllByRecursion P was → AllByRecursion P left
   all_left taken left was is all = all_back P taken left (all_is was (taken ++ left) is all)
 
-  pub all_only : (m n : ℕ) (x : A) → P x → AllByRecursion P (only m x n)
+  pub all_only : (m n : ℕ) (x : A) → P x → AllByRecursion P (only_at m x n)
   all_only m n x is = by_test (n == m) where
     by_test : (t : Bool) → AllByRecursion P (if t then x ∷ [] else [])
     by_test true = (is, tt)
@@ -45,13 +45,11 @@ all_left_by P true n xs all = all
 all_left_by P false n xs all = all_without P n xs all
 
 -- the item that stands first in its own channel
-pub only_here : {A : Type 0} (m : ℕ) (x : A) → only m x m ≡ x ∷ []
+pub only_here : {A : Type 0} (m : ℕ) (x : A) → only_at m x m ≡ x ∷ []
 only_here m x = grind (arith, nat_tests)
 
-pub only_here2 : {A : Type 0} (m k n : ℕ) (x : A) → only2 m k x n k ≡ only m x n
-only_here2 m k n x = grind (arith, nat_tests)
-
 -- what an endpoint's segments are, and still are
-pub outward_still : (x x' : Endpoint) → ((segment : PlacedSegment) → IsEmittedBy x segment → IsEmittedBy x' segment) → (item : Outward) → IsOutwardOf x item → IsOutwardOf x' item
+pub outward_still : (x x' : Endpoint) → ((segment : PlacedSegment) → IsEmittedBy x segment → IsEmittedBy x' segment) → (item : Outward)
+    → IsOutwardOf x item → IsOutwardOf x' item
 outward_still x x' still (Seg segment) is = still segment is
 outward_still x x' still (PointAt graft) is = tt

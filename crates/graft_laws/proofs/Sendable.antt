@@ -54,7 +54,8 @@ prepend_all as_number below (Sequence ases ∷ parts) all = by_room (nat_lt (len
   each : AllByRecursion IsPart (Sequence ases ∷ parts)
   each = recursion_from_All IsPart (Sequence ases ∷ parts) all
 
-  by_room : (t : Bool) → nat_lt (length ases) 255 ≡ t → All IsPart (cond t (Sequence (as_number ∷ ases) ∷ parts) (Sequence (as_number ∷ []) ∷ (Sequence ases ∷ parts)))
+  by_room : (t : Bool) → nat_lt (length ases) 255 ≡ t
+      → All IsPart (cond t (Sequence (as_number ∷ ases) ∷ parts) (Sequence (as_number ∷ []) ∷ (Sequence ases ∷ parts)))
   by_room true e = All-cons IsPart (Sequence (as_number ∷ ases)) parts (more_part as_number ases below (let room : length ases < 255 = grind (arith, nat_tests) in room) each.0) (All-from_recursion IsPart parts each.1)
   by_room false e = All-cons IsPart (Sequence (as_number ∷ [])) (Sequence ases ∷ parts) (one_part as_number below) all
 
@@ -68,7 +69,8 @@ some_or : (P : ℕ → Type 0) (a b : Option ℕ) → IfSome a P → IfSome b P 
 some_or P None b one other = other
 some_or P (Some x) b one other = one
 
-changed_sendable : (rule : Rule) (as_number : ℕ) (route : Route) → as_number < 2 ^ 32 → HasMedInRange rule → IsSendable route.attrs → IsSendable (changed rule as_number route).attrs
+changed_sendable : (rule : Rule) (as_number : ℕ) (route : Route) → as_number < 2 ^ 32 → HasMedInRange rule → IsSendable route.attrs
+    → IsSendable (changed rule as_number route).attrs
 changed_sendable rule as_number route below med can hop host =
     let w : IsWritableAttrs (record route.attrs { next_hop = hop }) = can hop host in
     record {
@@ -80,7 +82,8 @@ changed_sendable rule as_number route below med can hop host =
       rising = w.rising;
     }
 
-policy_sendable : (rules : List Rule) (prefix : PrefixValue) (as_number : ℕ) (route out : Route) → as_number < 2 ^ 32 → AllByRecursion HasMedInRange rules → IsSendable route.attrs
+policy_sendable : (rules : List Rule) (prefix : PrefixValue) (as_number : ℕ) (route out : Route) → as_number < 2 ^ 32
+    → AllByRecursion HasMedInRange rules → IsSendable route.attrs
     → policy rules prefix as_number route ≡ Some out → IsSendable out.attrs
 policy_sendable [] prefix as_number route out below meds can e = subst (λ (v : Route). IsSendable v.attrs) (same_Some route out e) can
 policy_sendable (rule ∷ rules) prefix as_number route out below meds can e = by_match (matches rule prefix route) (λ f. policy_sendable rules prefix as_number route out below meds.1 can f) e where
@@ -88,11 +91,13 @@ policy_sendable (rule ∷ rules) prefix as_number route out below meds can e = b
   by_deny true f = absurd cc
   by_deny false f = subst (λ (v : Route). IsSendable v.attrs) (same_Some (changed rule as_number route) out f) (changed_sendable rule as_number route below meds.0 can)
 
-  by_match : (t : Bool) → (policy rules prefix as_number route ≡ Some out → IsSendable out.attrs) → cond t (decision rule as_number route) (policy rules prefix as_number route) ≡ Some out → IsSendable out.attrs
+  by_match : (t : Bool) → (policy rules prefix as_number route ≡ Some out → IsSendable out.attrs)
+      → cond t (decision rule as_number route) (policy rules prefix as_number route) ≡ Some out → IsSendable out.attrs
   by_match true later f = by_deny rule.deny f
   by_match false later f = later f
 
-unwrapped : (rules : Option (List Rule)) → ((some : List Rule) → rules ≡ Some some → AllByRecursion HasMedInRange some) → AllByRecursion HasMedInRange (unwrap_or rules [])
+unwrapped : (rules : Option (List Rule)) → ((some : List Rule) → rules ≡ Some some → AllByRecursion HasMedInRange some)
+    → AllByRecursion HasMedInRange (unwrap_or rules [])
 unwrapped None each = tt
 unwrapped (Some some) each = each some refl
 
@@ -102,20 +107,25 @@ rules_in_range setup ranges r (Some name) = unwrapped (rules_named setup r name)
 
 -- ---- entries
 
-pub entry_sendable : (setup : Setup) → IsInRange setup → (r : ℕ) (s : SessionValue) (x : PrefixValue) (entry : Entry) → s.config.remote_as < 2 ^ 32 → ((a : Attrs) → finmap.get s.heard x ≡ Some a → IsSendable a)
+pub entry_sendable : (setup : Setup) → IsInRange setup → (r : ℕ) (s : SessionValue) (x : PrefixValue) (entry : Entry) → s.config.remote_as < 2 ^ 32
+    → ((a : Attrs) → finmap.get s.heard x ≡ Some a → IsSendable a)
     → entry_of setup r s x ≡ Some entry → IsSendable entry.route.attrs
 entry_sendable setup ranges r s x entry below heard e = by_heard (finmap.get s.heard x) refl e where
-  by_route : (o : Option Route) → ((route : Route) → o ≡ Some route → IsSendable route.attrs) → option_map (λ route. record { route = route; identifier = remote_identifier s; address = s.config.remote_address }) o ≡ Some entry → IsSendable entry.route.attrs
+  by_route : (o : Option Route) → ((route : Route) → o ≡ Some route → IsSendable route.attrs)
+      → option_map (λ route. record { route = route; identifier = remote_identifier s; address = s.config.remote_address }) o ≡ Some entry
+      → IsSendable entry.route.attrs
   by_route None each f = absurd cc
   by_route (Some route) each f = subst (λ (v : Entry). IsSendable v.route.attrs) (same_Some (record { route = route; identifier = remote_identifier s; address = s.config.remote_address }) entry f) (each route refl)
 
   by_loop : (a : Attrs) → finmap.get s.heard x ≡ Some a → (t : Bool) (route : Route)
-      → cond t None (policy (unwrap_or (rules_for setup r s.config.import) []) x s.config.remote_as (record { attrs = a; pref = 100 })) ≡ Some route → IsSendable route.attrs
+      → cond t None (policy (unwrap_or (rules_for setup r s.config.import) []) x s.config.remote_as (record { attrs = a; pref = 100 })) ≡ Some route
+      → IsSendable route.attrs
   by_loop a is true route f = absurd cc
   by_loop a is false route f = policy_sendable (unwrap_or (rules_for setup r s.config.import) []) x s.config.remote_as (record { attrs = a; pref = 100 }) route below (rules_in_range setup ranges r s.config.import) (heard a is) f
 
   by_heard : (h : Option Attrs) → finmap.get s.heard x ≡ h
-      → option_map (λ route. record { route = route; identifier = remote_identifier s; address = s.config.remote_address }) (imported setup.home_as x (session_route setup r s x) h) ≡ Some entry → IsSendable entry.route.attrs
+      → option_map (λ route. record { route = route; identifier = remote_identifier s; address = s.config.remote_address }) (imported setup.home_as x (session_route setup r s x) h) ≡ Some entry
+      → IsSendable entry.route.attrs
   by_heard None is f = absurd cc
   by_heard (Some a) is f = by_route (imported setup.home_as x (session_route setup r s x) (Some a)) (λ route g. by_loop a is (holds_as a.path setup.home_as) route g) f
 
@@ -133,7 +143,8 @@ rising : (xs : List RawAttr) → IsRising other_kind xs → IsRising other_kind 
 rising [] r = tt
 rising (x ∷ xs) r = (lower (other_kind x) xs r.0, rising xs r.1)
 
-told_is : (home_as : ℕ) (out : OutSide) (route : Route) → home_as < 2 ^ 32 → is_no_host out.local_address ≡ false → IsSendable route.attrs → IsWritableAttrs (told_attrs home_as out route)
+told_is : (home_as : ℕ) (out : OutSide) (route : Route) → home_as < 2 ^ 32 → is_no_host out.local_address ≡ false → IsSendable route.attrs
+    → IsWritableAttrs (told_attrs home_as out route)
 told_is home_as out route below host can =
     let w : IsWritableAttrs (record route.attrs { next_hop = out.local_address }) = can out.local_address host in
     record {
@@ -148,7 +159,8 @@ told_is home_as out route below host can =
 unset : (route : Route) → IsSendable route.attrs → IsSendable (without_med route).attrs
 unset route can hop host = let w : IsWritableAttrs (record route.attrs { next_hop = hop }) = can hop host in record { path = w.path; next_hop = host; med = tt; aggregator = w.aggregator; unknown = w.unknown; rising = w.rising }
 
-pub tells_writable : (home_as : ℕ) (out : OutSide) (x : PrefixValue) (best : Option Best) (attrs : Attrs) → home_as < 2 ^ 32 → is_no_host out.local_address ≡ false → AllByRecursion HasMedInRange (unwrap_or out.export_rules [])
+pub tells_writable : (home_as : ℕ) (out : OutSide) (x : PrefixValue) (best : Option Best) (attrs : Attrs) → home_as < 2 ^ 32
+    → is_no_host out.local_address ≡ false → AllByRecursion HasMedInRange (unwrap_or out.export_rules [])
     → ((b : Best) → best ≡ Some b → IsSendable b.route.attrs) → tell_out home_as out x best ≡ Some attrs → IsWritableAttrs attrs
 tells_writable home_as out x None attrs below host meds can e = absurd cc
 tells_writable home_as out x (Some b) attrs below host meds can e = by_kept (is_kept_back out b) e where

@@ -17,7 +17,7 @@ use Rattle.graft_model.specs.Parts.{Errand, Place, Live, RouterPart, Entries, To
 use Rattle.graft_model.specs.RouterRows.{RouterTaken, SegmentIn, MeshIn, RouterSent, MeshTo, OutwardTo, PutsNothing, PutsSome, Emits, Arrives, Strays, GetsNext, Ticks, Follows, update_for}
 use Rattle.graft_model.specs.TableRows.{Decides, Tells, Hears}
 use Rattle.graft_model.specs.GraftRows.{is_taken, taken_in}
-use Rattle.graft_laws.specs.Phases.{Phase, only, only2, place_by}
+use Rattle.graft_laws.specs.Phases.{Phase, only_at, only2, place_by}
 use Rattle.graft_laws.specs.Owned.{Stands, Owned}
 use Rattle.graft_laws.specs.Moves.{inward_taken, outward_sent, reports_sent, RouterMoves}
 use Rattle.graft_model.specs.declared.event.RouterEvent.{RouterEvent}
@@ -40,10 +40,10 @@ takes_segment : (setup : Setup) (p r q : ℕ) (segment : PlacedSegment) → AreO
 takes_segment setup p r q segment = record { mesh_taken = λ i j. refl; mesh_sent = λ i j. refl; orders_taken = λ i. refl; reports_sent = λ i. refl }
 
 -- an item to the peering's own far side, and one from it
-own_outward : {A : Type 0} (r p a : ℕ) (item : A) → only2 r p item a p ++ [] ≡ only r item a
+own_outward : {A : Type 0} (r p a : ℕ) (item : A) → only2 r p item a p ++ [] ≡ only_at r item a
 own_outward r p a item = append-nil (only2 r p item a p) ∙ ap (λ c. cond (a == r) (cond c (item ∷ []) []) []) (equal p)
 
-own_inward : {A : Type 0} (r p b : ℕ) (item : A) → only2 p r item p b ≡ only r item b
+own_inward : {A : Type 0} (r p b : ℕ) (item : A) → only2 p r item p b ≡ only_at r item b
 own_inward r p b item = ap (λ c. cond c (cond (b == r) (item ∷ []) []) []) (equal p)
 
 module _ (setup : Setup) (w v : World) (r : ℕ) (owned : Owned setup w) where
@@ -51,7 +51,8 @@ module _ (setup : Setup) (w v : World) (r : ℕ) (owned : Owned setup w) where
   before = w.router r
 
   -- where a session is live in its phase, it is the peering's session
-  there : (p : ℕ) (phase : Phase) (s t : SessionValue) (o : Option Errand) → before.places p ≡ Live t o → Stands setup w p phase s → (t ≡ s) × (place_by phase s r ≡ Live s o)
+  there : (p : ℕ) (phase : Phase) (s t : SessionValue) (o : Option Errand) → before.places p ≡ Live t o → Stands setup w p phase s
+      → (t ≡ s) × (place_by phase s r ≡ Live s o)
   there p phase s t o is b =
       let same : t ≡ s = live_session phase s t o r (sym is ∙ b.places r) in
       (same, sym (b.places r) ∙ (is ∙ ap (λ (x : SessionValue). Live x o) same))
@@ -62,7 +63,8 @@ module _ (setup : Setup) (w v : World) (r : ℕ) (owned : Owned setup w) where
   for_attrs None prefixes = refl
   for_attrs (Some a) prefixes = refl
 
-  pub put_deed : (p n : ℕ) (taken : Option RouterTaken) (sent : List RouterSent) (part : RouterPart) → PutsSome setup r p n before taken sent part → RouterMoves r taken sent part w v → Deed setup w v r taken sent part
+  pub put_deed : (p n : ℕ) (taken : Option RouterTaken) (sent : List RouterSent) (part : RouterPart) → PutsSome setup r p n before taken sent part
+      → RouterMoves r taken sent part w v → Deed setup w v r taken sent part
   put_deed p n taken sent part row = deed_as setup w v r taken None sent [] part row.alone.0 row.alone.1 (λ m.
       let places : part.places ≡ at before.places p (Live row.next row.errand) = ap (λ (x : RouterPart). x.places) row.effect in
       record {
@@ -84,7 +86,8 @@ module _ (setup : Setup) (w v : World) (r : ℕ) (owned : Owned setup w) where
 
   -- ---- emitted and arrived
 
-  pub emit_deed : (p from len : ℕ) (taken : Option RouterTaken) (sent : List RouterSent) (part : RouterPart) → Emits p from len before taken sent part → RouterMoves r taken sent part w v → Deed setup w v r taken sent part
+  pub emit_deed : (p from len : ℕ) (taken : Option RouterTaken) (sent : List RouterSent) (part : RouterPart)
+      → Emits p from len before taken sent part → RouterMoves r taken sent part w v → Deed setup w v r taken sent part
   emit_deed p from len taken sent part row = deed_as setup w v r taken None sent (OutwardTo p (Seg row.segment) ∷ []) part row.takes row.sends (λ m.
       let next : SessionValue = record row.session { end = row.end } in
       let places : part.places ≡ at before.places p (Live next row.errand) = ap (λ (x : RouterPart). x.places) row.effect in
@@ -106,7 +109,8 @@ module _ (setup : Setup) (w v : World) (r : ℕ) (owned : Owned setup w) where
         room = λ l. le_trans _ _ _ (no_more_taken setup before part p _ places (ap is_taken row.live.is)) l;
       })
 
-  pub arrive_deed : (p : ℕ) (taken : Option RouterTaken) (sent : List RouterSent) (part : RouterPart) → Arrives p before taken sent part → RouterMoves r taken sent part w v → Deed setup w v r taken sent part
+  pub arrive_deed : (p : ℕ) (taken : Option RouterTaken) (sent : List RouterSent) (part : RouterPart) → Arrives p before taken sent part
+      → RouterMoves r taken sent part w v → Deed setup w v r taken sent part
   arrive_deed p taken sent part row = deed_as setup w v r taken (Some (SegmentIn p row.segment)) sent [] part row.takes row.sends (λ m.
       let next : SessionValue = record row.session { end = row.end } in
       let places : part.places ≡ at before.places p (Live next row.errand) = ap (λ (x : RouterPart). x.places) row.effect in
@@ -129,7 +133,8 @@ module _ (setup : Setup) (w v : World) (r : ℕ) (owned : Owned setup w) where
       })
 
   -- a segment that finds no live session
-  pub stray_deed : (p : ℕ) (taken : Option RouterTaken) (sent : List RouterSent) (part : RouterPart) → Strays p before taken sent part → RouterMoves r taken sent part w v → Deed setup w v r taken sent part
+  pub stray_deed : (p : ℕ) (taken : Option RouterTaken) (sent : List RouterSent) (part : RouterPart) → Strays p before taken sent part
+      → RouterMoves r taken sent part w v → Deed setup w v r taken sent part
   stray_deed p taken sent part row = deed_as setup w v r taken (Some (SegmentIn p row.segment)) sent [] part row.takes row.sends (λ m.
       let same : (q : ℕ) → Untouched setup q w v = λ q. untouched_by_items setup q r (Some (SegmentIn p row.segment)) [] part w v m (ap (λ (x : RouterPart). x.places q) row.stays) (takes_segment setup q r p row.segment) in
       let entries : (q : ℕ) → SameEntries q w v = λ q. same_entries w v q r part m.router (ap (λ (x : RouterPart). x.entries q) row.stays) in
@@ -141,7 +146,7 @@ module _ (setup : Setup) (w v : World) (r : ℕ) (owned : Owned setup w) where
             session = s;
             stands = stands_still setup w v q phase s (same q) b;
             change = elim (equal_or_not q p) [
-              | inl e ↦ ToStray r row.segment (line_gives w v q r _ part row.segment m (λ a. subst (λ (x : ℕ). only2 p r row.segment x a ≡ only r row.segment a) (sym e) (own_inward r p a row.segment))) (entries q)
+              | inl e ↦ ToStray r row.segment (line_gives w v q r _ part row.segment m (λ a. subst (λ (x : ℕ). only2 p r row.segment x a ≡ only_at r row.segment a) (sym e) (own_inward r p a row.segment))) (entries q)
               | inr ne ↦ Rests (line_by_router w v q r _ [] part m (λ a. refl) (λ b. no_inward r p q b row.segment ne)) (entries q)
             ];
           };
@@ -153,7 +158,8 @@ module _ (setup : Setup) (w v : World) (r : ℕ) (owned : Owned setup w) where
   -- ---- got, and rounds
 
   -- a session that changed by itself, as its entries follow
-  follow_deed : (p : ℕ) (session next : SessionValue) (errand : Option Errand) (part : RouterPart) → before.places p ≡ Live session errand → Follows setup r p before session next errand part
+  follow_deed : (p : ℕ) (session next : SessionValue) (errand : Option Errand) (part : RouterPart) → before.places p ≡ Live session errand
+      → Follows setup r p before session next errand part
       → ((phase : Phase) (s : SessionValue) → s ≡ session → place_by phase s r ≡ Live s errand → SameLine p w v → EntersHeard setup p r s next w v → Change setup w v p phase s phase next)
       → RouterMoves r None [] part w v → Deed setup w v r None [] part
   follow_deed p session next errand part is row change m =
@@ -179,12 +185,14 @@ module _ (setup : Setup) (w v : World) (r : ℕ) (owned : Owned setup w) where
         room = λ l. le_trans _ _ _ (no_more_taken setup before part p _ places (ap is_taken is)) l;
       }
 
-  pub get_deed : (p : ℕ) (taken : Option RouterTaken) (sent : List RouterSent) (part : RouterPart) → GetsNext setup r p before taken sent part → RouterMoves r taken sent part w v → Deed setup w v r taken sent part
+  pub get_deed : (p : ℕ) (taken : Option RouterTaken) (sent : List RouterSent) (part : RouterPart) → GetsNext setup r p before taken sent part
+      → RouterMoves r taken sent part w v → Deed setup w v r taken sent part
   get_deed p taken sent part row = deed_as setup w v r taken None sent [] part row.alone.0 row.alone.1
       (follow_deed p row.session row.next row.errand part row.live.is row.follows
       (λ phase s e place line entries. Acts r row.errand place (Gets row.bytes (subst (λ (x : SessionValue). GetsFrame x row.bytes row.next) (sym e) row.gets) line entries)))
 
-  pub tick_deed : (p round : ℕ) (taken : Option RouterTaken) (sent : List RouterSent) (part : RouterPart) → Ticks setup r p round before taken sent part → RouterMoves r taken sent part w v → Deed setup w v r taken sent part
+  pub tick_deed : (p round : ℕ) (taken : Option RouterTaken) (sent : List RouterSent) (part : RouterPart)
+      → Ticks setup r p round before taken sent part → RouterMoves r taken sent part w v → Deed setup w v r taken sent part
   tick_deed p round taken sent part row = deed_as setup w v r taken None sent [] part row.alone.0 row.alone.1
       (follow_deed p row.session row.next row.errand part row.live.is row.follows
       (λ phase s e place line entries. Acts r row.errand place (ToTick round (subst (λ (x : SessionValue). PassesRound x round row.next) (sym e) row.passes) line entries)))
@@ -192,7 +200,8 @@ module _ (setup : Setup) (w v : World) (r : ℕ) (owned : Owned setup w) where
   -- ---- tables alone
 
   tables_deed : (taken : Option RouterTaken) (sent : List RouterSent) (part : RouterPart) → part.places ≡ before.places → part.entries ≡ before.entries
-      → ((p : ℕ) → AreOthers setup p r taken sent) → ((p a : ℕ) → outward_sent r sent a p ≡ []) → ((p b : ℕ) → inward_taken r taken p b ≡ []) → ((a : ℕ) → reports_sent r sent a ≡ [])
+      → ((p : ℕ) → AreOthers setup p r taken sent) → ((p a : ℕ) → outward_sent r sent a p ≡ []) → ((p b : ℕ) → inward_taken r taken p b ≡ [])
+      → ((a : ℕ) → reports_sent r sent a ≡ [])
       → RouterMoves r taken sent part w v → Deed setup w v r taken sent part
   tables_deed taken sent part places entries items none_out none_in no_report m = record {
     each = all_apart setup w v r taken sent part m (λ p. record { places = ap (λ (f : ℕ → Place). f p) places; entries = ap (λ (f : ℕ → Entries). f p) entries; items = items p; outward_sent = none_out p; inward_taken = none_in p });
@@ -200,20 +209,24 @@ module _ (setup : Setup) (w v : World) (r : ℕ) (owned : Owned setup w) where
     room = λ l. subst (λ (x : ℕ → Place). length (filter (λ p. is_taken (x p)) (peering_numbers setup)) ≤ room_of setup r) (sym places) l;
   }
 
-  pub put_none_deed : (p : ℕ) (taken : Option RouterTaken) (sent : List RouterSent) (part : RouterPart) → PutsNothing setup r p before taken sent part → RouterMoves r taken sent part w v → Deed setup w v r taken sent part
+  pub put_none_deed : (p : ℕ) (taken : Option RouterTaken) (sent : List RouterSent) (part : RouterPart)
+      → PutsNothing setup r p before taken sent part → RouterMoves r taken sent part w v → Deed setup w v r taken sent part
   put_none_deed p taken sent part row = deed_as setup w v r taken None sent [] part row.alone.0 row.alone.1
       (tables_deed None [] part (ap (λ (x : RouterPart). x.places) row.effect) (ap (λ (x : RouterPart). x.entries) row.effect) (λ q. no_items setup q r) (λ q a. refl) (λ q b. refl) (λ a. refl))
 
-  pub decide_deed : (prefix : PrefixValue) (taken : Option RouterTaken) (sent : List RouterSent) (part : RouterPart) → Decides setup r prefix before taken sent part → RouterMoves r taken sent part w v → Deed setup w v r taken sent part
+  pub decide_deed : (prefix : PrefixValue) (taken : Option RouterTaken) (sent : List RouterSent) (part : RouterPart)
+      → Decides setup r prefix before taken sent part → RouterMoves r taken sent part w v → Deed setup w v r taken sent part
   decide_deed prefix taken sent part row = deed_as setup w v r taken None sent [] part row.alone.0 row.alone.1
       (tables_deed None [] part (ap (λ (x : RouterPart). x.places) row.effect) (ap (λ (x : RouterPart). x.entries) row.effect) (λ q. no_items setup q r) (λ q a. refl) (λ q b. refl) (λ a. refl))
 
-  pub tell_deed : (q : ℕ) (prefix : PrefixValue) (taken : Option RouterTaken) (sent : List RouterSent) (part : RouterPart) → Tells q prefix before taken sent part → RouterMoves r taken sent part w v → Deed setup w v r taken sent part
+  pub tell_deed : (q : ℕ) (prefix : PrefixValue) (taken : Option RouterTaken) (sent : List RouterSent) (part : RouterPart)
+      → Tells q prefix before taken sent part → RouterMoves r taken sent part w v → Deed setup w v r taken sent part
   tell_deed q prefix taken sent part row = deed_as setup w v r taken None sent (MeshTo q (Told prefix (tell_in (map.get before.best prefix))) ∷ []) part row.takes row.sends
       (tables_deed None (MeshTo q (Told prefix (tell_in (map.get before.best prefix))) ∷ []) part (ap (λ (x : RouterPart). x.places) row.effect) (ap (λ (x : RouterPart). x.entries) row.effect)
       (λ p. other_sent setup p r q (Told prefix (tell_in (map.get before.best prefix))) refl) (λ p a. refl) (λ p b. refl) (λ a. refl))
 
-  pub hear_deed : (q : ℕ) (taken : Option RouterTaken) (sent : List RouterSent) (part : RouterPart) → Hears q before taken sent part → RouterMoves r taken sent part w v → Deed setup w v r taken sent part
+  pub hear_deed : (q : ℕ) (taken : Option RouterTaken) (sent : List RouterSent) (part : RouterPart) → Hears q before taken sent part
+      → RouterMoves r taken sent part w v → Deed setup w v r taken sent part
   hear_deed q taken sent part row = deed_as setup w v r taken (Some (MeshIn q (Told row.prefix row.route))) sent [] part row.takes row.sends
       (tables_deed (Some (MeshIn q (Told row.prefix row.route))) [] part (ap (λ (x : RouterPart). x.places) row.effect) (ap (λ (x : RouterPart). x.entries) row.effect)
       (λ p. record { mesh_taken = other_taken setup p r q (Told row.prefix row.route) refl; mesh_sent = λ i j. refl; orders_taken = λ i. refl; reports_sent = λ i. refl }) (λ p a. refl) (λ p b. refl) (λ a. refl))

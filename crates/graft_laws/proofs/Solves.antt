@@ -23,7 +23,8 @@ use Rattle.graft_laws.proofs.SolvesOn.{solves_on}
 use Rattle.graft_laws.proofs.SolvesBest.{GivesSame, own_number, entries_routes, heard_quiet, best_is}
 
 -- what holds of a peering holds of it where it is known to stand
-pub has_at : (setup : Setup) (I : World → ℕ → Phase → SessionValue → Type 0) (w : World) (p : ℕ) (phase : Phase) (s : SessionValue) → Has setup I w p → Stands setup w p phase s → I w p phase s
+pub has_at : (setup : Setup) (I : World → ℕ → Phase → SessionValue → Type 0) (w : World) (p : ℕ) (phase : Phase) (s : SessionValue) → Has setup I w p
+    → Stands setup w p phase s → I w p phase s
 has_at setup I w p phase s h b =
     subst (λ (x : SessionValue). I w p phase x) (same_session setup w p h.phase phase h.session s h.stands b)
     (subst (λ (x : Phase). I w p x h.session) (one_phase setup w p h.phase phase h.session s h.stands b) h.more)

@@ -40,12 +40,15 @@ cons_listed : {A : Type 0} (o : Option A) (xs : List A) → cons_option o xs ≡
 cons_listed None xs = refl
 cons_listed (Some x) xs = refl
 
-joined_step : {A B : Type 0} (f : ℕ → Option B) (g : A → Option B) (h : ℕ → List A) (k : ℕ) (ks : List ℕ) → listed (f k) ≡ filter_map g (h k) → filter_map f ks ≡ filter_map g (flat_map h ks)
+joined_step : {A B : Type 0} (f : ℕ → Option B) (g : A → Option B) (h : ℕ → List A) (k : ℕ) (ks : List ℕ) → listed (f k) ≡ filter_map g (h k)
+    → filter_map f ks ≡ filter_map g (flat_map h ks)
     → filter_map f (k ∷ ks) ≡ filter_map g (flat_map h (k ∷ ks))
-joined_step f g h k ks e rest = cons_listed (f k) (filter_map f ks) ∙ (ap (λ (x : List _). x ++ filter_map f ks) e ∙ (ap (λ (x : List _). filter_map g (h k) ++ x) rest ∙ sym (filter_map-append g (h k) (flat_map h ks))))
+joined_step f g h k ks e rest = cons_listed (f k) (filter_map f ks)
+    ∙ (ap (λ (x : List _). x ++ filter_map f ks) e ∙ (ap (λ (x : List _). filter_map g (h k) ++ x) rest ∙ sym (filter_map-append g (h k) (flat_map h ks))))
 
 -- where each number gives the same, all do
-joined_same : {A B : Type 0} (f : ℕ → Option B) (g : A → Option B) (h : ℕ → List A) (ks : List ℕ) → AllByRecursion (λ (k : ℕ). listed (f k) ≡ filter_map g (h k)) ks → filter_map f ks ≡ filter_map g (flat_map h ks)
+joined_same : {A B : Type 0} (f : ℕ → Option B) (g : A → Option B) (h : ℕ → List A) (ks : List ℕ)
+    → AllByRecursion (λ (k : ℕ). listed (f k) ≡ filter_map g (h k)) ks → filter_map f ks ≡ filter_map g (flat_map h ks)
 joined_same f g h [] all = refl
 joined_same f g h (k ∷ ks) all = joined_step f g h k ks all.0 (joined_same f g h ks all.1)
 
@@ -61,7 +64,8 @@ candidate_of setup x session = session_candidate setup.home_as session (imported
 same_id : (id : PeeringId) (p : ℕ) → id.0 ≡ p → id ≡ record { 0 = p }
 same_id id p e = ap (λ (n : ℕ). (let x : PeeringId = record { 0 = n } in x)) e
 
-pub own_number : (setup : Setup) (p : ℕ) (peering : PeeringSetup) (config : SessionConfig) → IsSetup setup → slice_get setup.peerings p ≡ Some peering → config_of setup p ≡ Some config → config.peering ≡ record { 0 = p }
+pub own_number : (setup : Setup) (p : ℕ) (peering : PeeringSetup) (config : SessionConfig) → IsSetup setup
+    → slice_get setup.peerings p ≡ Some peering → config_of setup p ≡ Some config → config.peering ≡ record { 0 = p }
 own_number setup p peering config ok is own =
     let same : peering.config ≡ config = some_same peering.config config (sym (ap (option_map (λ (x : PeeringSetup). x.config)) is) ∙ own) in
     ap (λ (c : SessionConfig). c.peering) (sym same) ∙ same_id peering.config.peering p ((ok.peerings p peering is).number)
@@ -80,14 +84,12 @@ entry_session : (setup : Setup) (r p : ℕ) (x : PrefixValue) (s : SessionValue)
 entry_session setup r p x s None own = refl
 entry_session setup r p x s (Some route) own = ap (λ (id : PeeringId). session_candidate setup.home_as (record (session_route setup r s x) { peering = id }) (Some route)) (sym own)
 
-one_listed : {A B : Type 0} (g : A → Option B) (a : A) → listed (g a) ≡ filter_map g (a ∷ [])
-one_listed g a = refl
-
 module _ (setup : Setup) (w : World) (r p q : ℕ) (x : PrefixValue) (s : SessionValue) (b : Stands setup w p (Idle q) s) (entered : Entered setup w p (Idle q) s) (own : s.config.peering ≡ record { 0 = p }) where
   abbrev routes_at : Place → List SessionRoute
   routes_at place = map (λ session. session_route setup r session x) (sessions_at place)
 
-  entries_here : r ≡ q → listed (entry_candidate setup.home_as p (map.get ((w.router r).entries p) x)) ≡ filter_map (candidate_of setup x) (routes_at ((w.router r).places p))
+  entries_here : r ≡ q
+      → listed (entry_candidate setup.home_as p (map.get ((w.router r).entries p) x)) ≡ filter_map (candidate_of setup x) (routes_at ((w.router r).places p))
   entries_here is =
       let here : map.get ((w.router r).entries p) x ≡ entry_of setup r s x = entered.here r (let e : (r == q) ≡ true = grind (arith, nat_tests) in e) x in
       let place = ap (λ (n : ℕ). (w.router n).places p) is ∙ placed_there setup w p q s b in
@@ -95,7 +97,8 @@ module _ (setup : Setup) (w : World) (r p q : ℕ) (x : PrefixValue) (s : Sessio
       ∙ (ap (λ (o : Option Candidate). listed o) (entry_session setup r p x s (imported setup.home_as x (session_route setup r s x) (map.get s.heard x)) own)
       ∙ ap (λ (y : Place). filter_map (candidate_of setup x) (routes_at y)) (sym place))
 
-  entries_there : r ≢ q → listed (entry_candidate setup.home_as p (map.get ((w.router r).entries p) x)) ≡ filter_map (candidate_of setup x) (routes_at ((w.router r).places p))
+  entries_there : r ≢ q
+      → listed (entry_candidate setup.home_as p (map.get ((w.router r).entries p) x)) ≡ filter_map (candidate_of setup x) (routes_at ((w.router r).places p))
   entries_there ne =
       let none : (w.router r).entries p ≡ map.empty = entered.elsewhere r (let e : (r == q) ≡ false = grind (arith, nat_tests) in e) refl in
       ap (λ (m : Entries). listed (entry_candidate setup.home_as p (map.get m x))) none
@@ -104,35 +107,43 @@ module _ (setup : Setup) (w : World) (r p q : ℕ) (x : PrefixValue) (s : Sessio
 
   pub entries_routes : GivesSame setup w r x p
   entries_routes = by_place (equal_or_not r q) where
-    by_place : (r ≡ q) ⊎ (r ≢ q) → listed (entry_candidate setup.home_as p (map.get ((w.router r).entries p) x)) ≡ filter_map (candidate_of setup x) (routes_at ((w.router r).places p))
+    by_place : (r ≡ q) ⊎ (r ≢ q)
+        → listed (entry_candidate setup.home_as p (map.get ((w.router r).entries p) x)) ≡ filter_map (candidate_of setup x) (routes_at ((w.router r).places p))
     by_place (inl is) = entries_here is
     by_place (inr ne) = entries_there ne
 
 -- ---- what other routers tell
 
-tellers_step : (f : ℕ → Option Candidate) (g : RouterRoute → Option Candidate) (told : ℕ → RouterRoute) (r k : ℕ) (ks : List ℕ) → (k ≡ r → f k ≡ None) → (k ≢ r → f k ≡ g (told k)) → filter_map f ks ≡ filter_map g (map told (filter (λ q. not (q == r)) ks))
+tellers_step : (f : ℕ → Option Candidate) (g : RouterRoute → Option Candidate) (told : ℕ → RouterRoute) (r k : ℕ) (ks : List ℕ)
+    → (k ≡ r → f k ≡ None) → (k ≢ r → f k ≡ g (told k)) → filter_map f ks ≡ filter_map g (map told (filter (λ q. not (q == r)) ks))
     → filter_map f (k ∷ ks) ≡ filter_map g (map told (filter (λ q. not (q == r)) (k ∷ ks)))
 tellers_step f g told r k ks itself others rest = by_test (k == r) refl where
-  by_test : (b : Bool) → (k == r) ≡ b → cons_option (f k) (filter_map f ks) ≡ filter_map g (map told (cond (not b) (k ∷ filter (λ q. not (q == r)) ks) (filter (λ q. not (q == r)) ks)))
+  by_test : (b : Bool) → (k == r) ≡ b
+      → cons_option (f k) (filter_map f ks) ≡ filter_map g (map told (cond (not b) (k ∷ filter (λ q. not (q == r)) ks) (filter (λ q. not (q == r)) ks)))
   by_test true is = ap (λ (o : Option Candidate). cons_option o (filter_map f ks)) (itself (grind (arith, nat_tests))) ∙ rest
-  by_test false is = ap (λ (o : Option Candidate). cons_option o (filter_map f ks)) (others (grind (arith, nat_tests))) ∙ ap (λ (l : List Candidate). cons_option (g (told k)) l) rest
+  by_test false is = ap (λ (o : Option Candidate). cons_option o (filter_map f ks)) (others (grind (arith, nat_tests)))
+      ∙ ap (λ (l : List Candidate). cons_option (g (told k)) l) rest
 
-tellers_same : (f : ℕ → Option Candidate) (g : RouterRoute → Option Candidate) (told : ℕ → RouterRoute) (r : ℕ) (ks : List ℕ) → ((k : ℕ) → k ≡ r → f k ≡ None) → ((k : ℕ) → k ≢ r → f k ≡ g (told k))
+tellers_same : (f : ℕ → Option Candidate) (g : RouterRoute → Option Candidate) (told : ℕ → RouterRoute) (r : ℕ) (ks : List ℕ)
+    → ((k : ℕ) → k ≡ r → f k ≡ None) → ((k : ℕ) → k ≢ r → f k ≡ g (told k))
     → filter_map f ks ≡ filter_map g (map told (filter (λ q. not (q == r)) ks))
 tellers_same f g told r [] itself others = refl
 tellers_same f g told r (k ∷ ks) itself others = tellers_step f g told r k ks (itself k) (others k) (tellers_same f g told r ks itself others)
 
 -- what is heard of another router in a quiet world, and of itself
-pub heard_quiet : (setup : Setup) (w : World) (a b : ℕ) (x : PrefixValue) → Quiet setup w → Informed setup a b w → a ≢ b → b < routers_in setup → map.get ((w.router b).tellings a) x ≡ tell_in (map.get (w.router a).best x)
+pub heard_quiet : (setup : Setup) (w : World) (a b : ℕ) (x : PrefixValue) → Quiet setup w → Informed setup a b w → a ≢ b → b < routers_in setup
+    → map.get ((w.router b).tellings a) x ≡ tell_in (map.get (w.router a).best x)
 heard_quiet setup w a b x quiet informed ne l =
     subst (λ (items : List _). last_told x items (map.get ((w.router b).tellings a) x) ≡ tell_in (map.get (w.router a).best x)) (quiet.mesh a b) (informed.others ne l x (none_there ((w.router a).due_in b) x (quiet.told_in a b)))
 
-heard_itself : (setup : Setup) (w : World) (r k : ℕ) (x : PrefixValue) → Quiet setup w → Informed setup k r w → k ≡ r → map.get ((w.router r).tellings k) x ≡ None
+heard_itself : (setup : Setup) (w : World) (r k : ℕ) (x : PrefixValue) → Quiet setup w → Informed setup k r w → k ≡ r
+    → map.get ((w.router r).tellings k) x ≡ None
 heard_itself setup w r k x quiet informed is =
     subst (λ (n : ℕ). map.get ((w.router n).tellings k) x ≡ None) is
     (subst (λ (items : List _). last_told x items (map.get ((w.router k).tellings k) x) ≡ None) (quiet.mesh k k) ((informed.itself is x).1))
 
-telling_router : (setup : Setup) (r q : ℕ) (o : Option Route) → telling_candidate setup r q o ≡ router_candidate setup.home_as (record { router = record { 0 = q }; identifier = identifier_of setup q; cost = cost_between setup r q; told = o }) o
+telling_router : (setup : Setup) (r q : ℕ) (o : Option Route)
+    → telling_candidate setup r q o ≡ router_candidate setup.home_as (record { router = record { 0 = q }; identifier = identifier_of setup q; cost = cost_between setup r q; told = o }) o
 telling_router setup r q None = refl
 telling_router setup r q (Some route) = refl
 

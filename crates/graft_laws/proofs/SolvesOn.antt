@@ -66,8 +66,10 @@ module _ (setup : Setup) (w : World) (p q : ℕ) (s : SessionValue) (b : Stands 
     by_state OpenConfirm now = none (λ (up : state s ≡ Established). (let e : OpenConfirm ≡ Established = sym now ∙ up in absurd cc))
     by_state Closed now = none (λ (up : state s ≡ Established). (let e : Closed ≡ Established = sym now ∙ up in absurd cc))
 
-pub solves_on : (setup : Setup) (w : World) (p : ℕ) (s : SessionValue) → Quiet setup w → Stands setup w p (Idle (placement setup w.operator p)) s → IsUnbroken setup w p (Idle (placement setup w.operator p)) s
-    → Points setup w p (Idle (placement setup w.operator p)) s → Entered setup w p (Idle (placement setup w.operator p)) s → Answered setup (placement setup w.operator p) (w.router (placement setup w.operator p)) → SolvesOn setup w p
+pub solves_on : (setup : Setup) (w : World) (p : ℕ) (s : SessionValue) → Quiet setup w → Stands setup w p (Idle (placement setup w.operator p)) s
+    → IsUnbroken setup w p (Idle (placement setup w.operator p)) s
+    → Points setup w p (Idle (placement setup w.operator p)) s → Entered setup w p (Idle (placement setup w.operator p)) s
+    → Answered setup (placement setup w.operator p) (w.router (placement setup w.operator p)) → SolvesOn setup w p
 solves_on setup w p s quiet b unbroken points entered answered =
     let q : ℕ = placement setup w.operator p in
     record {

@@ -9,7 +9,7 @@ use Rattle.graft_model.specs.FarRows.{FarTaken, FarSent, Beats}
 use Rattle.graft_model.specs.Claims.{Transparent}
 use Rattle.graft_model.specs.Parts.{FarPart, World}
 use Rattle.graft_model.specs.Setups.{Setup, PeeringSetup, SayStep, IsSetup, beat_of, peerings_in}
-use Rattle.graft_laws.specs.Keeps.{Reached, Keeps, Has}
+use Rattle.graft_laws.specs.Keeps.{Reached, IsInvariant, Has}
 use Rattle.graft_laws.specs.Said.{Said, IsSayOf}
 use Rattle.graft_laws.specs.Streams.{IsUnbroken, ArePlaced}
 use Rattle.graft_laws.proofs.First.{some_peering}
@@ -20,11 +20,13 @@ use Rattle.graft_laws.proofs.SaidSteps.{first_said, steps_keep, beat_fits, say_f
 use Rattle.graft_laws.proofs.Transparent.{transparent_is}
 use Rattle.graft_laws.proofs.Unbroken.{first_unbroken, unbroken_then}
 
-pub said_is : (setup : Setup) (p : ℕ) (peering : PeeringSetup) (w : World) → slice_get setup.peerings p ≡ Some peering → Reached setup w → Said setup p peering w
+pub said_is : (setup : Setup) (p : ℕ) (peering : PeeringSetup) (w : World) → slice_get setup.peerings p ≡ Some peering → Reached setup w
+    → Said setup p peering w
 said_is setup p peering w known reached =
     carried setup (Said setup p peering) (first_said setup p peering known) (λ event before after reach step is. steps_keep setup p peering before after event known step is) w reached
 
-pub says_are_orders : (setup : Setup) (p : ℕ) (w : World) → IsSetup setup → Reached setup w → p < peerings_in setup → AllByRecursion (IsSayOf setup p) (w.says p)
+pub says_are_orders : (setup : Setup) (p : ℕ) (w : World) → IsSetup setup → Reached setup w → p < peerings_in setup
+    → AllByRecursion (IsSayOf setup p) (w.says p)
 says_are_orders setup p w sound reached below = let some = some_peering setup p below in (said_is setup p some.0 w some.1 reached).orders
 
 pub say_has_room : (setup : Setup) (p step : ℕ) (rest bytes : List ℕ) (w : World) → IsSetup setup → Reached setup w → p < peerings_in setup
@@ -33,16 +35,18 @@ say_has_room setup p step rest bytes w sound reached below head there =
     let some = some_peering setup p below in
     say_fits setup p some.0 w step rest bytes (sound.peerings p some.0 some.1) (said_is setup p some.0 w some.1 reached) head there
 
-beat_has_room : (setup : Setup) (p round : ℕ) (w : World) (taken : Option FarTaken) (sent : List FarSent) (part : FarPart) → IsSetup setup → Reached setup w → Beats setup p round (w.far p) taken sent part
+beat_has_room : (setup : Setup) (p round : ℕ) (w : World) (taken : Option FarTaken) (sent : List FarSent) (part : FarPart) → IsSetup setup
+    → Reached setup w → Beats setup p round (w.far p) taken sent part
     → length (w.far p).end.stream + length (spell KeepaliveMsg false) ≤ 2 ^ 20
 beat_has_room setup p round w taken sent part sound reached row = by_peering (slice_get setup.peerings p) refl row.is where
-  by_peering : (o : Option PeeringSetup) → slice_get setup.peerings p ≡ o → option_map beat_of o ≡ Some row.beat → length (w.far p).end.stream + length (spell KeepaliveMsg false) ≤ 2 ^ 20
+  by_peering : (o : Option PeeringSetup) → slice_get setup.peerings p ≡ o → option_map beat_of o ≡ Some row.beat
+      → length (w.far p).end.stream + length (spell KeepaliveMsg false) ≤ 2 ^ 20
   by_peering None known e = absurd cc
   by_peering (Some peering) known e =
       beat_fits setup p peering w (sound.peerings p peering known) (said_is setup p peering w known reached)
       (subst (λ (n : ℕ). 0 < n) (sym (same_Some (beat_of peering) row.beat e)) row.some) row.few
 
-pub keeps_unbroken : (setup : Setup) → IsSetup setup → Keeps setup (IsUnbroken setup)
+pub keeps_unbroken : (setup : Setup) → IsSetup setup → IsInvariant setup (IsUnbroken setup)
 keeps_unbroken setup sound = record {
   first = λ p config is. first_unbroken setup p config sound is;
   step = λ before after p phase next s t reached below stands stands' change is.

@@ -4,7 +4,7 @@ use Rattle.session_value.specs.Sessions.{SessionValue}
 use Rattle.session_value.specs.Ties.{IsOfStory}
 use Rattle.graft_model.specs.Parts.{Errand, Live, World}
 use Rattle.graft_model.specs.Setups.{Setup, IsSetup, peerings_in}
-use Rattle.graft_laws.specs.Keeps.{Reached, Keeps, Has}
+use Rattle.graft_laws.specs.Keeps.{Reached, IsInvariant, Has}
 use Rattle.graft_laws.specs.Streams.{IsUnbroken}
 use Rattle.graft_laws.specs.Tables.{Decided, Informed, Answered, IsWhole}
 use Rattle.graft_laws.proofs.Answered.{first_answered, answered_row}
@@ -25,7 +25,8 @@ pub always_informed : (setup : Setup) (w : World) → Reached setup w → (a b :
 always_informed setup w reached a b = informed setup a b w reached
 
 -- a live session is what its story tells
-pub live_story : (setup : Setup) (w : World) → IsSetup setup → Reached setup w → (r p : ℕ) (s : SessionValue) (o : Option Errand) → (w.router r).places p ≡ Live s o → IsOfStory s
+pub live_story : (setup : Setup) (w : World) → IsSetup setup → Reached setup w → (r p : ℕ) (s : SessionValue) (o : Option Errand)
+    → (w.router r).places p ≡ Live s o → IsOfStory s
 live_story setup w sound reached r p s o live =
     let below : p < peerings_in setup = known_place setup w (always_owned setup sound w reached) r p (Live s o) live (λ e. cc) in
     let has : Has setup (IsUnbroken setup) w p = always_unbroken setup w p sound reached below in
@@ -38,9 +39,9 @@ always_answered setup w sound reached r =
     (λ q event u taken sent part reach row is. answered_row setup q (u.router q) part is event taken sent (λ p s o live. live_story setup u sound reach q p s o live) row)
     (first_answered setup) w reached r
 
-keeps_whole : (setup : Setup) → IsSetup setup → Keeps setup (IsWhole setup)
+keeps_whole : (setup : Setup) → IsSetup setup → IsInvariant setup (IsWhole setup)
 keeps_whole setup sound =
-    let a : Keeps setup (IsUnbroken setup) = keeps_unbroken setup sound in
+    let a : IsInvariant setup (IsUnbroken setup) = keeps_unbroken setup sound in
     record {
       first = λ p config is. record { unbroken = a.first p config is; entered = first_entered setup p config is };
       step = λ before after p phase next s t reached below stands stands' change is. record {

@@ -31,7 +31,8 @@ in_open_sent Established e = absurd cc
 in_open_sent Closed e = absurd cc
 
 -- a message that leaves the session unestablished and open is an OPEN, which is taken in OpenSent alone
-pub before_open : (e : Expected) (bytes : List ℕ) (r : Result Message Notice) (answer : List Line) (next : SessionState) → message_of e bytes ≡ r → reply_to r ≡ (answer, next) → next ≢ Established → next ≢ Closed → e.state ≡ OpenSent
+pub before_open : (e : Expected) (bytes : List ℕ) (r : Result Message Notice) (answer : List Line) (next : SessionState) → message_of e bytes ≡ r
+    → reply_to r ≡ (answer, next) → next ≢ Established → next ≢ Closed → e.state ≡ OpenSent
 before_open e bytes (Ok (OpenMsg o)) answer next g f up closed = in_open_sent e.state ((read_of e bytes (OpenMsg o) g).in_state)
 before_open e bytes (Ok (UpdateMsg u)) answer next g f up closed = absurd (up (sym (ap (λ (x : List Line × SessionState). x.1) f)))
 before_open e bytes (Ok KeepaliveMsg) answer next g f up closed = absurd (up (sym (ap (λ (x : List Line × SessionState). x.1) f)))
@@ -43,18 +44,21 @@ pub record Rounds (state next : SessionState) (answer : List Line) : Type 0 wher
   pub none : AllByRecursion PutsNoUpdate answer
 
 pub round_is : (a b : Bool) (now next : SessionState) (answer : List Line)
-    → ◌≡◌ {A = List Line × SessionState} (cond a (Put (NoticeMsg hold_expired) ∷ [], Closed) (cond b (Put KeepaliveMsg ∷ [], now) ([], now))) (answer, next) → next ≢ Closed → Rounds now next answer
+    → ◌≡◌ {A = List Line × SessionState} (cond a (Put (NoticeMsg hold_expired) ∷ [], Closed) (cond b (Put KeepaliveMsg ∷ [], now) ([], now))) (answer, next)
+    → next ≢ Closed → Rounds now next answer
 round_is true b now next answer e closed = absurd (closed (sym (ap (λ (x : List Line × SessionState). x.1) e)))
 round_is false true now next answer e closed = record { same = sym (ap (λ (x : List Line × SessionState). x.1) e); none = subst (λ (x : List Line). AllByRecursion PutsNoUpdate x) (ap (λ (x : List Line × SessionState). x.0) e) (tt, tt) }
 round_is false false now next answer e closed = record { same = sym (ap (λ (x : List Line × SessionState). x.1) e); none = subst (λ (x : List Line). AllByRecursion PutsNoUpdate x) (ap (λ (x : List Line × SessionState). x.0) e) tt }
 
-joined : (before more lines : List Line) → lines ≡ before ++ more → AllByRecursion PutsNoUpdate before → AllByRecursion PutsNoUpdate more → AllByRecursion PutsNoUpdate lines
+joined : (before more lines : List Line) → lines ≡ before ++ more → AllByRecursion PutsNoUpdate before → AllByRecursion PutsNoUpdate more
+    → AllByRecursion PutsNoUpdate lines
 joined before more lines e a b = subst (λ (x : List Line). AllByRecursion PutsNoUpdate x) (sym e) (all_join PutsNoUpdate before more a b)
 
 is_not : (state next : SessionState) → state ≡ OpenSent → (state ≢ Established) × (state ≢ Closed)
 is_not state next e = ((λ (f : state ≡ Established). (let g : OpenSent ≡ Established = sym e ∙ f in absurd cc)), (λ (f : state ≡ Closed). (let g : OpenSent ≡ Closed = sym e ∙ f in absurd cc)))
 
-no_updates : (p : Peering) (lines : List Line) (state : SessionState) → Allowed p lines state → state ≢ Established → state ≢ Closed → AllByRecursion PutsNoUpdate lines
+no_updates : (p : Peering) (lines : List Line) (state : SessionState) → Allowed p lines state → state ≢ Established → state ≢ Closed
+    → AllByRecursion PutsNoUpdate lines
 no_updates p _ _ (opened lines h e) up closed = subst (λ (x : List Line). AllByRecursion PutsNoUpdate x) (sym e) (tt, tt)
 no_updates p _ _ (got before state bytes answer next lines l unclosed w r e) up closed =
     let is : state ≡ OpenSent = before_open (expected_next p before state) bytes (message_of (expected_next p before state) bytes) answer next refl r up closed in
@@ -79,7 +83,8 @@ folds_none : (routes : Routes) (lines : List Line) → AllByRecursion PutsNoUpda
 folds_none routes [] a = refl
 folds_none routes (line ∷ lines) a = ap (λ (x : Routes). fold tell x lines) (tells_none routes line a.0) ∙ folds_none routes lines a.1
 
-open_none : (p : Peering) (lines : List Line) (now : SessionState) → state_of lines ≡ now → Allowed p lines (state_of lines) → now ≢ Established → told lines ≡ map.empty
+open_none : (p : Peering) (lines : List Line) (now : SessionState) → state_of lines ≡ now → Allowed p lines (state_of lines) → now ≢ Established
+    → told lines ≡ map.empty
 open_none p lines Closed is allowed up = none_told lines is
 open_none p lines Established is allowed up = absurd (up refl)
 open_none p lines OpenSent is allowed up = ap (λ (x : SessionState). unless_closed x (fold tell map.empty lines)) is

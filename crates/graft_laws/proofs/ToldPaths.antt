@@ -10,7 +10,7 @@ use Rattle.graft_model.specs.Decisions.{out_side}
 use Rattle.graft_model.specs.Setups.{Setup, IsSetup, peerings_in}
 use Rattle.graft_model.specs.Parts.{World}
 use Rattle.graft_laws.specs.Avoiding.{AvoidsRemote}
-use Rattle.graft_laws.specs.Keeps.{Reached, Keeps, Has}
+use Rattle.graft_laws.specs.Keeps.{Reached, IsInvariant, Has}
 use Rattle.graft_laws.specs.Life.{Acts, Change, Puts, Gets, Ticks}
 use Rattle.graft_laws.specs.Phases.{Phase}
 use Rattle.graft_laws.proofs.AllRoutes.{AllRoutes, all_of_none, removes, announces, unclosed}
@@ -38,7 +38,7 @@ avoids_then {setup = setup} {s = s} (Acts r errand there (Ticks round passes lin
     subst (AllAvoid setup) (sym passes.effect) (λ differ. unclosed (Avoids s.config.remote_as) passes.next s.told (all differ))
 avoids_then _ all = all
 
-keeps_avoiding : (setup : Setup) → Keeps setup (AvoidsRemote setup)
+keeps_avoiding : (setup : Setup) → IsInvariant setup (AvoidsRemote setup)
 keeps_avoiding setup = record {
   first = λ p config is. record { avoids = λ differ. all_of_none (Avoids config.remote_as) };
   step = λ before after p phase next s t reached l stands then change is. record { avoids = avoids_then change is.avoids };

@@ -13,14 +13,16 @@ use Rattle.graft_laws.specs.Phases.{Phase}
 use Rattle.graft_laws.specs.Streams.{IsUnbroken}
 
 -- what the remote received are the first bytes of what was put
-remote_received : (setup : Setup) (w : World) (p : ℕ) (phase : Phase) (s : SessionValue) → IsUnbroken setup w p phase s → AreFirst (received_bytes (w.far p).end) (put_bytes (peering_of s.config) s.story)
+remote_received : (setup : Setup) (w : World) (p : ℕ) (phase : Phase) (s : SessionValue) → IsUnbroken setup w p phase s
+    → AreFirst (received_bytes (w.far p).end) (put_bytes (peering_of s.config) s.story)
 remote_received setup w p phase s is = record {
   rest = drop (received (w.far p).end) s.end.stream;
   is = sym is.story.tied.put ∙ front_rest (received (w.far p).end) s.end.stream (received_bytes (w.far p).end) (sym is.streams.linked.there.bytes);
 }
 
 -- what was got are the first bytes that the remote said
-remote_said : (setup : Setup) (w : World) (p : ℕ) (phase : Phase) (s : SessionValue) → IsUnbroken setup w p phase s → AreFirst (got_bytes s.story) (w.far p).end.stream
+remote_said : (setup : Setup) (w : World) (p : ℕ) (phase : Phase) (s : SessionValue) → IsUnbroken setup w p phase s
+    → AreFirst (got_bytes s.story) (w.far p).end.stream
 remote_said setup w p phase s is =
     let more : List ℕ = drop (received s.end) (w.far p).end.stream in
     record {
@@ -30,7 +32,8 @@ remote_said setup w p phase s is =
           ∙ append_assoc (got_bytes s.story) (unread s) more;
     }
 
-pub transparent_is : (setup : Setup) (w : World) (p : ℕ) (phase : Phase) (s : SessionValue) → sessions_of setup w p ≡ s ∷ [] → IsUnbroken setup w p phase s → Transparent setup w p
+pub transparent_is : (setup : Setup) (w : World) (p : ℕ) (phase : Phase) (s : SessionValue) → sessions_of setup w p ≡ s ∷ []
+    → IsUnbroken setup w p phase s → Transparent setup w p
 transparent_is setup w p phase s one is = record {
   session = s;
   one = one;

@@ -37,11 +37,13 @@ record Known (setup : Setup) (p : ℕ) (config : SessionConfig) : Type 0 where
 
 known : (setup : Setup) (p : ℕ) (config : SessionConfig) → config_of setup p ≡ Some config → Known setup p config
 known setup p config is = by_peering (slice_get setup.peerings p) refl is where
-  by_peering : (o : Option PeeringSetup) → slice_get setup.peerings p ≡ o → option_map (λ (peering : PeeringSetup). peering.config) o ≡ Some config → Known setup p config
+  by_peering : (o : Option PeeringSetup) → slice_get setup.peerings p ≡ o → option_map (λ (peering : PeeringSetup). peering.config) o ≡ Some config
+      → Known setup p config
   by_peering None there e = absurd cc
   by_peering (Some peering) there e = record { peering = peering; there = there; same = same_Some peering.config config e }
 
-linked_first : (put said : List ℕ) → length put ≤ 2 ^ 20 → length said ≤ 2 ^ 20 → AreLinked (record fresh_endpoint { stream = put }) (record fresh_endpoint { stream = said })
+linked_first : (put said : List ℕ) → length put ≤ 2 ^ 20 → length said ≤ 2 ^ 20
+    → AreLinked (record fresh_endpoint { stream = put }) (record fresh_endpoint { stream = said })
 linked_first put said fits fits' =
     let home : Endpoint = record fresh_endpoint { stream = put } in
     let far : Endpoint = record fresh_endpoint { stream = said } in
@@ -49,7 +51,8 @@ linked_first put said fits fits' =
     let two : StaysLinked fresh_endpoint far home = sends_linked fresh_endpoint far home said (turned home fresh_endpoint one.linked) (record { fits = omega (arith, fits'); sent = refl }) in
     turned far home two.linked
 
-first_streams : (setup : Setup) (p : ℕ) (put : List ℕ) (peering : PeeringSetup) → slice_get setup.peerings p ≡ Some peering → length put ≤ 2 ^ 20 → length peering.opening ≤ 4096
+first_streams : (setup : Setup) (p : ℕ) (put : List ℕ) (peering : PeeringSetup) → slice_get setup.peerings p ≡ Some peering → length put ≤ 2 ^ 20
+    → length peering.opening ≤ 4096
     → Streams (first_world setup) p (record fresh_endpoint { stream = put })
 first_streams setup p put peering there fits opening =
     let far : first_far (slice_get setup.peerings p) ≡ first_far (Some peering) = ap first_far there in
@@ -61,7 +64,8 @@ first_streams setup p put peering there fits opening =
       homeward = subst (λ (f : FarPart). Rattle.std.specs.List.AllByRecursion (Rattle.tcp_seq.specs.Connection.IsEmittedBy f.end) f.homeward) (sym far) tt;
     }
 
-pub first_unbroken : (setup : Setup) (p : ℕ) (config : SessionConfig) → IsSetup setup → config_of setup p ≡ Some config → IsUnbroken setup (first_world setup) p (Idle (start_of setup p)) (begun config)
+pub first_unbroken : (setup : Setup) (p : ℕ) (config : SessionConfig) → IsSetup setup → config_of setup p ≡ Some config
+    → IsUnbroken setup (first_world setup) p (Idle (start_of setup p)) (begun config)
 first_unbroken setup p config sound is =
     let k : Known setup p config = known setup p config is in
     let it : IsPeeringSetup setup p k.peering = sound.peerings p k.peering k.there in

@@ -6,5 +6,5 @@ use Rattle.graft_model.specs.Parts.{World}
 use Rattle.graft_laws.specs.Phases.{Phase}
 
 -- it has the configuration with which the session of its peering begins
-pub record IsOwn (setup : Setup) (w : World) (p : ℕ) (phase : Phase) (session : SessionValue) : Type 0 where
+pub record HasOwnConfig (setup : Setup) (w : World) (p : ℕ) (phase : Phase) (session : SessionValue) : Type 0 where
   pub config : config_of setup p ≡ Some session.config

@@ -31,7 +31,8 @@ EmptyAlone setup = (step router : ℕ) (g : ScriptGraft) → slice_get setup.ste
 -- no later graft of the peering was accepted
 abbrev pub IsLastAccepted : Setup → OperatorPart → ScriptGraft → Type 0
 IsLastAccepted setup operator g =
-    (other : ScriptGraft) → graft_at setup other.graft ≡ Some other → other.peering ≡ g.peering → g.graft < other.graft → is_accepted (operator.outcome other.graft) ≡ false
+    (other : ScriptGraft) → graft_at setup other.graft ≡ Some other → other.peering ≡ g.peering → g.graft < other.graft
+    → is_accepted (operator.outcome other.graft) ≡ false
 
 -- How a graft that an evacuate step gave to a target has ended. It isn't refused for lack of room, and if it was accepted and no later one was, the
 -- session belongs at the target.

@@ -35,4 +35,5 @@ pub record IsUnderWay (setup : Setup) (w : World) (p source graft target : ℕ) 
   pub stage : Stage
   pub session : SessionValue
   pub stands : Stands setup w p (Busy source graft target stage) session
-  pub one : (x q t : ℕ) (other : Stage) (s : SessionValue) → Stands setup w x (Busy q graft t other) s → (x ≡ p) × (Busy q graft t other ≡ Busy source graft target stage)
+  pub one : (x q t : ℕ) (other : Stage) (s : SessionValue) → Stands setup w x (Busy q graft t other) s
+      → (x ≡ p) × (Busy q graft t other ≡ Busy source graft target stage)

@@ -16,7 +16,7 @@ pub record Reached (setup : Setup) (w : World) : Type 0 where
   pub run : Run setup (first_world setup) events w
 
 -- A property of a peering, its phase and its session that is an invariant: it holds at the start, and each change keeps it.
-pub record Keeps (setup : Setup) (I : World → ℕ → Phase → SessionValue → Type 0) : Type 0 where
+pub record IsInvariant (setup : Setup) (I : World → ℕ → Phase → SessionValue → Type 0) : Type 0 where
   pub first : (p : ℕ) (config : SessionConfig) → config_of setup p ≡ Some config → I (first_world setup) p (Idle (start_of setup p)) (begun config)
   pub step : (before after : World) (p : ℕ) (phase next : Phase) (s t : SessionValue) → Reached setup before → p < peerings_in setup
       → Stands setup before p phase s → Stands setup after p next t → Change setup before after p phase s next t → I before p phase s → I after p next t

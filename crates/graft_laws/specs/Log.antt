@@ -15,8 +15,8 @@ is_peering p None = false
 is_peering p (Some g) = g.peering == p
 
 -- the graft of this number is one of the peering p
-abbrev pub is_of : Setup → ℕ → ℕ → Bool
-is_of setup p k = is_peering p (graft_at setup k)
+abbrev pub is_graft_on : Setup → ℕ → ℕ → Bool
+is_graft_on setup p k = is_peering p (graft_at setup k)
 
 -- a graft was ordered and has its outcome
 pub record HasEnded (operator : OperatorPart) (g : ScriptGraft) : Type 0 where
@@ -24,17 +24,17 @@ pub record HasEnded (operator : OperatorPart) (g : ScriptGraft) : Type 0 where
   pub ended : operator.outcome g.graft ≢ None
 
 -- a graft wasn't ordered
-pub record Waits (operator : OperatorPart) (g : ScriptGraft) : Type 0 where
+pub record AwaitsOrder (operator : OperatorPart) (g : ScriptGraft) : Type 0 where
   pub unordered : operator.source g.graft ≡ None
   pub unended : operator.outcome g.graft ≡ None
 
 -- A graft is of a group that has begun. It has ended, or doesn't exist.
 pub record IsBehind (setup : Setup) (operator : OperatorPart) (g : ScriptGraft) : Type 0 where
   pub begun : group_of setup g.step ≤ operator.group
-  pub over : HasEnded operator g ⊎ (Waits operator g × (target_in setup operator g ≡ None))
+  pub over : HasEnded operator g ⊎ (AwaitsOrder operator g × (target_in setup operator g ≡ None))
 
 -- The graft that is under way is the script's, in the current group. It was ordered at its source, and has no outcome.
-pub record GoesOn (setup : Setup) (operator : OperatorPart) (p source graft target : ℕ) (now : List ScriptGraft) : Type 0 where
+pub record IsGraftUnderWay (setup : Setup) (operator : OperatorPart) (p source graft target : ℕ) (now : List ScriptGraft) : Type 0 where
   pub step : ℕ
   pub is : now ≡ record { graft = graft; peering = p; step = step } ∷ []
   pub known : graft_at setup graft ≡ Some (record { graft = graft; peering = p; step = step })
@@ -45,7 +45,7 @@ pub record GoesOn (setup : Setup) (operator : OperatorPart) (p source graft targ
 
 abbrev pub GoesOnIn : Setup → OperatorPart → ℕ → Phase → List ScriptGraft → Type 0
 GoesOnIn setup operator p (Idle q) now = now ≡ []
-GoesOnIn setup operator p (Busy q k t stage) now = GoesOn setup operator p q k t now
+GoesOnIn setup operator p (Busy q k t stage) now = IsGraftUnderWay setup operator p q k t now
 
 -- The script's grafts of the peering are those that are over, the one that is under way, and those that wait, in this order. The session belongs at
 -- the source of the one that is under way.
@@ -56,5 +56,5 @@ pub record LogSays (setup : Setup) (operator : OperatorPart) (p : ℕ) (phase : 
   pub grafts : grafts_of setup p ≡ past ++ (now ++ later)
   pub are_behind : AllByRecursion (IsBehind setup operator) past
   pub goes_on : GoesOnIn setup operator p phase now
-  pub wait : AllByRecursion (Waits operator) later
+  pub wait : AllByRecursion (AwaitsOrder operator) later
   pub placed : placement setup operator p ≡ source_of phase

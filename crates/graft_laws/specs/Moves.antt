@@ -7,7 +7,7 @@ use Rattle.graft_model.specs.RouterRows.{RouterTaken, OrderIn, SegmentIn, MeshIn
 use Rattle.graft_model.specs.FarRows.{FarTaken, OutwardIn, SayIn, FarSent}
 use Rattle.graft_model.specs.OperatorRows.{OperatorTaken, ReportIn, OperatorSent, OrderTo, SayTo}
 use Rattle.graft_model.specs.Steps.{Heads}
-use Rattle.graft_laws.specs.Phases.{only, only2}
+use Rattle.graft_laws.specs.Phases.{only_at, only2}
 
 -- ---- what a router takes and sends, by channels
 
@@ -20,7 +20,7 @@ inward_taken r (Some (SegmentIn p segment)) q b = only2 p r segment q b
 inward_taken r taken q b = []
 
 abbrev pub orders_taken : ℕ → Option RouterTaken → ℕ → List GraftOrder
-orders_taken r (Some (OrderIn order)) b = only r order b
+orders_taken r (Some (OrderIn order)) b = only_at r order b
 orders_taken r taken b = []
 
 abbrev pub mesh_sent : ℕ → List RouterSent → ℕ → ℕ → List Mesh
@@ -39,7 +39,7 @@ abbrev pub reports_sent : ℕ → List RouterSent → ℕ → List Report
 reports_sent r [] a = []
 reports_sent r (MeshTo q item ∷ sent) a = reports_sent r sent a
 reports_sent r (OutwardTo p item ∷ sent) a = reports_sent r sent a
-reports_sent r (ReportOut report ∷ sent) a = only r report a ++ reports_sent r sent a
+reports_sent r (ReportOut report ∷ sent) a = only_at r report a ++ reports_sent r sent a
 
 -- what is taken is at the head of its channel
 abbrev pub RouterHeads : World → ℕ → Option RouterTaken → Type 0
@@ -68,7 +68,7 @@ outward_taken p (Some (OutwardIn r item)) a q = only2 r p item a q
 outward_taken p taken a q = []
 
 abbrev pub says_taken : ℕ → Option FarTaken → ℕ → List ℕ
-says_taken p (Some (SayIn step)) q = only p step q
+says_taken p (Some (SayIn step)) q = only_at p step q
 says_taken p taken q = []
 
 abbrev pub inward_sent : ℕ → List FarSent → ℕ → ℕ → List PlacedSegment
@@ -96,17 +96,17 @@ pub record FarMoves (p : ℕ) (taken : Option FarTaken) (sent : List FarSent) (p
 
 abbrev pub reports_taken : Option OperatorTaken → ℕ → List Report
 reports_taken None a = []
-reports_taken (Some (ReportIn r report)) a = only r report a
+reports_taken (Some (ReportIn r report)) a = only_at r report a
 
 abbrev pub orders_sent : List OperatorSent → ℕ → List GraftOrder
 orders_sent [] b = []
-orders_sent (OrderTo r order ∷ sent) b = only r order b ++ orders_sent sent b
+orders_sent (OrderTo r order ∷ sent) b = only_at r order b ++ orders_sent sent b
 orders_sent (SayTo p step ∷ sent) b = orders_sent sent b
 
 abbrev pub says_sent : List OperatorSent → ℕ → List ℕ
 says_sent [] q = []
 says_sent (OrderTo r order ∷ sent) q = says_sent sent q
-says_sent (SayTo p step ∷ sent) q = only p step q ++ says_sent sent q
+says_sent (SayTo p step ∷ sent) q = only_at p step q ++ says_sent sent q
 
 abbrev pub OperatorHeads : World → Option OperatorTaken → Type 0
 OperatorHeads w None = Unit {0}

@@ -5,7 +5,7 @@ use Rattle.session_value.specs.Sessions.{SessionValue}
 use Rattle.graft_model.specs.Setups.{Setup}
 use Rattle.graft_model.specs.Parts.{FarPart, Outward, Seg, PointAt, World}
 use Rattle.graft_laws.specs.Phases.{Landed, Asking, Confirmed, Cleared, Phase, Idle, Busy}
-use Rattle.graft_laws.specs.Log.{is_of}
+use Rattle.graft_laws.specs.Log.{is_graft_on}
 
 -- the router where the session began, or landed last
 abbrev pub home_of : Phase → ℕ
@@ -21,9 +21,9 @@ abbrev pub IsUpTo : ℕ → Outward → Type 0
 IsUpTo last (Seg segment) = Unit {0}
 IsUpTo last (PointAt k) = k ≤ last
 
-abbrev pub IsBelow : ℕ → Outward → Type 0
-IsBelow last (Seg segment) = Unit {0}
-IsBelow last (PointAt k) = k < last
+abbrev pub IsBelowLast : ℕ → Outward → Type 0
+IsBelowLast last (Seg segment) = Unit {0}
+IsBelowLast last (PointAt k) = k < last
 
 abbrev pub is_word_of : ℕ → Outward → Bool
 is_word_of last (Seg segment) = false
@@ -31,7 +31,7 @@ is_word_of last (PointAt k) = k == last
 
 -- a graft of the peering that has its outcome, or 0
 abbrev pub IsPast : Setup → World → ℕ → ℕ → Type 0
-IsPast setup w p last = (last ≡ 0) ⊎ ((is_of setup p last ≡ true) × (w.operator.outcome last ≢ None))
+IsPast setup w p last = (last ≡ 0) ⊎ ((is_graft_on setup p last ≡ true) × (w.operator.outcome last ≢ None))
 
 -- The last graft that landed: the one under way, if it has landed; otherwise an earlier one, or 0 if there is none.
 abbrev pub HasLandedLast : Setup → World → ℕ → Phase → ℕ → Type 0
@@ -51,7 +51,7 @@ WordOf last home far items =
 -- Every word of a landing is of the last graft that landed or of an earlier one, and from all routers but one it is of an earlier one.
 pub record Words (w : World) (p home last : ℕ) : Type 0 where
   pub all : (r : ℕ) → AllByRecursion (IsUpTo last) (w.outward r p)
-  pub elsewhere : (r : ℕ) → r ≢ home → AllByRecursion (IsBelow last) (w.outward r p)
+  pub elsewhere : (r : ℕ) → r ≢ home → AllByRecursion (IsBelowLast last) (w.outward r p)
   pub word : WordOf last home (w.far p) (w.outward home p)
 
 -- the link of a peering follows its landings

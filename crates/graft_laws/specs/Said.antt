@@ -5,18 +5,18 @@ use Rattle.graft_model.specs.Setups.{Setup, PeeringSetup, ScriptStep, SayStep, b
 use Rattle.graft_model.specs.Parts.{World}
 
 -- the bytes that a step has a remote say, if there is one
-abbrev pub said_in : ℕ → Option ScriptStep → List ℕ
-said_in p None = []
-said_in p (Some step) = said_by p step
+abbrev pub said_by_step : ℕ → Option ScriptStep → List ℕ
+said_by_step p None = []
+said_by_step p (Some step) = said_by p step
 
 -- how many bytes the step of a number has a remote say
 abbrev pub size_at : Setup → ℕ → ℕ → ℕ
-size_at setup p n = length (said_in p (slice_get setup.steps n))
+size_at setup p n = length (said_by_step p (slice_get setup.steps n))
 
 -- how many bytes are said by the steps that weren't issued; the first step has the number n
-abbrev pub unissued : (ℕ → Bool) → ℕ → ℕ → List ScriptStep → ℕ
-unissued issued p n [] = 0
-unissued issued p n (step ∷ steps) = (if issued n then 0 else length (said_by p step)) + unissued issued p (n + 1) steps
+abbrev pub unissued_octets : (ℕ → Bool) → ℕ → ℕ → List ScriptStep → ℕ
+unissued_octets issued p n [] = 0
+unissued_octets issued p n (step ∷ steps) = (if issued n then 0 else length (said_by p step)) + unissued_octets issued p (n + 1) steps
 
 -- the step of a number has the remote say something
 pub record IsSayOf (setup : Setup) (p n : ℕ) : Type 0 where
@@ -26,7 +26,7 @@ pub record IsSayOf (setup : Setup) (p n : ℕ) : Type 0 where
 -- What a remote has said, is ordered to say, and says in steps that weren't issued has the length of its opening, what it says over the script, and a
 -- KEEPALIVE of 19 bytes for each time that its timer ran. Each step number that it is sent is that of a step in which it says something.
 pub record Said (setup : Setup) (p : ℕ) (peering : PeeringSetup) (w : World) : Type 0 where
-  pub sum : length (w.far p).end.stream + sum_by (size_at setup p) (w.says p) + unissued w.operator.issued p 0 setup.steps ≡ said_length setup p peering + 19 * (w.far p).beats
+  pub sum : length (w.far p).end.stream + sum_by (size_at setup p) (w.says p) + unissued_octets w.operator.issued p 0 setup.steps ≡ said_length setup p peering + 19 * (w.far p).beats
   pub orders : AllByRecursion (IsSayOf setup p) (w.says p)
   pub few : (w.far p).beats ≤ 27594
   pub beats : 0 < (w.far p).beats → 0 < beat_of peering

@@ -7,7 +7,7 @@ use Rattle.session_value.specs.Sessions.{SessionValue}
 use Rattle.session_value.specs.Ties.{IsOfStory}
 use Rattle.graft_model.specs.Setups.{Setup}
 use Rattle.graft_model.specs.Parts.{Outward, Seg, PointAt, World}
-use Rattle.graft_laws.specs.Configs.{IsOwn}
+use Rattle.graft_laws.specs.Configs.{HasOwnConfig}
 use Rattle.graft_laws.specs.Phases.{Phase}
 
 -- an item that a router sent a far side: a segment that this endpoint emitted, or word of a landing
@@ -26,7 +26,7 @@ pub record Streams (w : World) (p : ℕ) (home : Endpoint) : Type 0 where
 
 -- One unbroken session: it belongs to the peering, it is what its story tells, and its streams are linked with its remote's.
 pub record IsUnbroken (setup : Setup) (w : World) (p : ℕ) (phase : Phase) (session : SessionValue) : Type 0 where
-  pub own : IsOwn setup w p phase session
+  pub own : HasOwnConfig setup w p phase session
   pub story : IsOfStory session
   pub streams : Streams w p session.end
 

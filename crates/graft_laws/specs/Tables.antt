@@ -63,7 +63,8 @@ heard_then w a b x = last_told x (w.mesh a b) (map.get ((w.router b).tellings a)
 
 -- For each prefix that isn't due from a to b, b has, or will have, what a tells of its best route. A router has heard nothing from itself.
 pub record Informed (setup : Setup) (a b : ℕ) (w : World) : Type 0 where
-  pub others : a ≢ b → b < routers_in setup → (x : PrefixValue) → has ((w.router a).due_in b) x ≡ false → heard_then w a b x ≡ tell_in (map.get (w.router a).best x)
+  pub others : a ≢ b → b < routers_in setup → (x : PrefixValue) → has ((w.router a).due_in b) x ≡ false
+      → heard_then w a b x ≡ tell_in (map.get (w.router a).best x)
   pub itself : a ≡ b → (x : PrefixValue) → (has ((w.router a).due_in a) x ≡ false) × (heard_then w a a x ≡ None)
 
 -- ---- on sessions

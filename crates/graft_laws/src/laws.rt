@@ -21,7 +21,7 @@ ghost use Rattle.graft_model.specs.Quiet.{Quiet};
 ghost use Rattle.graft_laws.specs.Phases.{Stage, Phase, Busy};
 ghost use Rattle.graft_laws.specs.Owned.{Owned, Stands};
 ghost use Rattle.graft_laws.specs.Keeps.{Reached, Has};
-ghost use Rattle.graft_laws.specs.Configs.{IsOwn};
+ghost use Rattle.graft_laws.specs.Configs.{HasOwnConfig};
 ghost use Rattle.graft_laws.specs.Moves.{RouterMoves, FarMoves, OperatorMoves};
 ghost use Rattle.graft_laws.specs.Facts.{NothingIsDropped, IsNowhereElse, IsUnderWay};
 ghost use Rattle.graft_laws.specs.Streams.{IsUnbroken, ArePlaced};
@@ -80,7 +80,7 @@ pub fn runs_lead_to_one_world()
 
 /// The session of a peering keeps its configuration.
 pub fn sessions_keep_their_config()
-    ensures { (setup : Setup) (w : World) (p : ℕ) → IsSetup setup → Reached setup w → p < peerings_in setup → Has setup (IsOwn setup) w p }
+    ensures { (setup : Setup) (w : World) (p : ℕ) → IsSetup setup → Reached setup w → p < peerings_in setup → Has setup (HasOwnConfig setup) w p }
 {}
 
 /// Every word of a landing that is on its way to a far side, and the last one that it followed, are of the last graft

@@ -23,7 +23,8 @@ hear_dirties q prefix route before after sent row differs =
     let e = told_is q prefix row.prefix route row.route row.takes in
     elim row.dirty [
       | inl same ↦ absurd (differs (e.1 ∙ (same.0 ∙ ap (λ (x : PrefixValue). map.get (before.tellings q) x) (sym e.0))))
-      | inr other ↦ ap (λ (d : Prefixes). has d prefix) other.1 ∙ (ap (λ (x : PrefixValue). has (map.insert before.dirty x tt) prefix) (sym e.0) ∙ has_inserted before.dirty prefix)
+      | inr other ↦ ap (λ (d : Prefixes). has d prefix) other.1
+          ∙ (ap (λ (x : PrefixValue). has (map.insert before.dirty x tt) prefix) (sym e.0) ∙ has_inserted before.dirty prefix)
     ]
 
 pub clear_dirties : (q k p : ℕ) (x : PrefixValue) (before after : RouterPart) (sent : List RouterSent)

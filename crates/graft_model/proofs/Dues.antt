@@ -19,7 +19,7 @@ use Rattle.graft_model.specs.Setups.{Setup, routers_in}
 use Rattle.graft_model.specs.Parts.{Place, Vacant, Live, Frozen, Shadow, RouterPart}
 use Rattle.graft_model.specs.Decisions.{chosen}
 use Rattle.graft_model.specs.RouterRows.{RouterTaken, RouterSent}
-use Rattle.graft_model.specs.TableRows.{Decides, is_established, holds_established, only}
+use Rattle.graft_model.specs.TableRows.{Decides, is_established, holds_established, only_prefix}
 use Rattle.graft_model.specs.Conditions.{HasEstablished}
 use Rattle.graft_model.proofs.Same.{same_set}
 
@@ -30,7 +30,7 @@ no_more true s t e = refl
 no_more false true t e = e
 no_more false false t e = refl
 
-adds_none : (before after : Prefixes) (prefix : PrefixValue) (t : Bool) → Adds before (only prefix t) after → t ≡ false → after ≡ before
+adds_none : (before after : Prefixes) (prefix : PrefixValue) (t : Bool) → Adds before (only_prefix prefix t) after → t ≡ false → after ≡ before
 adds_none before after prefix t adds none = same_set after before (λ x. adds.members x ∙ no_more (has before x) (same_prefix prefix x) t none)
 
 no_other : (a s t : Bool) → s ≡ false → (a || (s && t)) ≡ a
@@ -44,7 +44,7 @@ apart x prefix other = by_test (same_prefix prefix x) refl where
   by_test false e = refl
   by_test true e = absurd (other (sym (is_same prefix x e)))
 
-adds_at : (before after : Prefixes) (prefix x : PrefixValue) (t : Bool) → Adds before (only prefix t) after → x ≢ prefix → has after x ≡ has before x
+adds_at : (before after : Prefixes) (prefix x : PrefixValue) (t : Bool) → Adds before (only_prefix prefix t) after → x ≢ prefix → has after x ≡ has before x
 adds_at before after prefix x t adds other = adds.members x ∙ no_other (has before x) (same_prefix prefix x) t (apart x prefix other)
 
 -- ---- which test it is
@@ -70,8 +70,10 @@ key_apart x prefix other = by_test (eq_by_cmp prefix_cmp x prefix) refl where
   by_test true e = absurd (other (tied x prefix e))
 
 best_stays : (routes : BestRoutes) (prefix x : PrefixValue) (best : Option Best) → x ≢ prefix → map.get (with_best routes prefix best) x ≡ map.get routes x
-best_stays routes prefix x None other = map.get-remove prefix_total routes prefix x ∙ ap (λ (b : Bool). cond b None (map.get routes x)) (key_apart x prefix other)
-best_stays routes prefix x (Some best) other = map.get-insert prefix_total routes prefix best x ∙ ap (λ (b : Bool). cond b (Some best) (map.get routes x)) (key_apart x prefix other)
+best_stays routes prefix x None other = map.get-remove prefix_total routes prefix x
+    ∙ ap (λ (b : Bool). cond b None (map.get routes x)) (key_apart x prefix other)
+best_stays routes prefix x (Some best) other = map.get-insert prefix_total routes prefix best x
+    ∙ ap (λ (b : Bool). cond b (Some best) (map.get routes x)) (key_apart x prefix other)
 
 -- ---- the row
 

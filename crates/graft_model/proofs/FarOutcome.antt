@@ -49,7 +49,8 @@ module _ (setup : Setup) (p : ℕ) (before a b : FarPart) (taken : Option FarTak
       let g : y.segment ≡ x.segment = seg_in router y.segment x.segment (sym y.takes ∙ x.takes) in
       (y.sends ∙ sym x.sends, y.effect ∙ (ap (λ (z : PlacedSegment). let v : FarPart = record before { remoteward = before.remoteward ++ z ∷ [] } in v) g ∙ sym x.effect))
 
-  one_passes : (index : ℕ) (keep : Bool) (router : ℕ) → Passes setup index keep router before taken sent a → Passes setup index keep router before taken items b → Same
+  one_passes : (index : ℕ) (keep : Bool) (router : ℕ) → Passes setup index keep router before taken sent a
+      → Passes setup index keep router before taken items b → Same
   one_passes index keep router x y =
       let g : y.segment ≡ x.segment = same_some y.segment x.segment (sym y.there ∙ x.there) in
       (y.sends ∙ (ap (λ (z : PlacedSegment). let v : List FarSent = record { router = router; segment = z } ∷ [] in v) g ∙ sym x.sends), y.effect ∙ sym x.effect)

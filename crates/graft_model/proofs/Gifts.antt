@@ -30,7 +30,8 @@ gives_as setup before after step =
     ∙ (ap (λ (sent : List OperatorSent). (fold operator_sends (record step.without { operator = step.part }) sent).operator) step.row.sends ∙ step.row.effect)
 
 pub given_by_step : (setup : Setup) (part : OperatorPart) (g : ScriptGraft) (router : ℕ) → graft_at setup g.graft ≡ Some g → group_of setup g.step ≡ part.group
-    → slice_get setup.steps g.step ≡ Some (EvacuateStep router) → part.given g.graft ≡ Unmade → (with_gifts setup part).given g.graft ≡ gift_to setup (placement setup part) router g.peering
+    → slice_get setup.steps g.step ≡ Some (EvacuateStep router) → part.given g.graft ≡ Unmade
+    → (with_gifts setup part).given g.graft ≡ gift_to setup (placement setup part) router g.peering
 given_by_step setup part g router known group step unmade =
     ap (λ (o : Option ScriptGraft). gift_or (gift_in_group setup part.group (placement setup part) o) (part.given g.graft)) known
     ∙ (ap (λ (b : Bool). gift_or (cond b (gift_by setup (placement setup part) (slice_get setup.steps g.step) g.peering) Unmade) (part.given g.graft)) (eq-eqb _ _ group)

@@ -14,7 +14,8 @@ told_is q x y s t e = (cc, cc)
 pub moved_is : (q k l p m : ℕ) (s t : SessionValue) → Some (MeshIn q (Moved k p s)) ≡ Some (MeshIn q (Moved l m t)) → (k ≡ l) × (p ≡ m) × (s ≡ t)
 moved_is q k l p m s t e = (cc, cc, cc)
 
-pub back_is : (q k l p m : ℕ) (s t : SessionValue) (f g : Refusal) → Some (MeshIn q (Back k p s f)) ≡ Some (MeshIn q (Back l m t g)) → (k ≡ l) × (p ≡ m) × (s ≡ t) × (f ≡ g)
+pub back_is : (q k l p m : ℕ) (s t : SessionValue) (f g : Refusal) → Some (MeshIn q (Back k p s f)) ≡ Some (MeshIn q (Back l m t g))
+    → (k ≡ l) × (p ≡ m) × (s ≡ t) × (f ≡ g)
 back_is q k l p m s t f g e = (cc, cc, cc, cc)
 
 pub done_is : (q k l p m : ℕ) → Some (MeshIn q (Done k p)) ≡ Some (MeshIn q (Done l m)) → (k ≡ l) × (p ≡ m)

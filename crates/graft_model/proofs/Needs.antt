@@ -37,8 +37,10 @@ pub still_due : (setup : Setup) (r p n : ℕ) (x : PrefixValue) (before after : 
 still_due setup r p zero x before after taken sent row dirty due =
     row.due.members x ∙ (ap (λ (z : Bool). z && not (not (has before.dirty x))) due ∙ ap (λ (z : Bool). not (not z)) dirty)
 still_due setup r p (suc n) x before after taken sent row dirty due =
-    row.due.members x ∙ (ap (λ (z : Bool). z && not (list_any (same_prefix x) row.prefixes)) due ∙ ap not (unput (list_any (same_prefix x) row.prefixes) refl)) where
-      told : (y : PrefixValue) → Contains (row.prefixes ++ row.later) y → IsToTell setup r before p row.session y × (to_tell setup r before row.session y ≡ row.attrs)
+    row.due.members x
+    ∙ (ap (λ (z : Bool). z && not (list_any (same_prefix x) row.prefixes)) due ∙ ap not (unput (list_any (same_prefix x) row.prefixes) refl)) where
+      told : (y : PrefixValue) → Contains (row.prefixes ++ row.later) y
+          → IsToTell setup r before p row.session y × (to_tell setup r before row.session y ≡ row.attrs)
       told y there = All-contains (λ z. IsToTell setup r before p row.session z × (to_tell setup r before row.session z ≡ row.attrs)) (row.prefixes ++ row.later) y row.alike.each there
 
       unput : (t : Bool) → list_any (same_prefix x) row.prefixes ≡ t → t ≡ false
@@ -47,10 +49,12 @@ still_due setup r p (suc n) x before after taken sent row dirty due =
 
 -- ---- orders and freezes
 
-ordered_is : (k p t : ℕ) (o : GraftOrder) → Some (OrderIn o) ≡ Some (OrderIn (record { graft = k; peering = p; target = t })) → o ≡ record { graft = k; peering = p; target = t }
+ordered_is : (k p t : ℕ) (o : GraftOrder) → Some (OrderIn o) ≡ Some (OrderIn (record { graft = k; peering = p; target = t }))
+    → o ≡ record { graft = k; peering = p; target = t }
 ordered_is k p t o e = cc
 
-pub admits : (setup : Setup) (r k : ℕ) (order : GraftOrder) (before after : RouterPart) (sent : List RouterSent) → Admits setup k before (Some (OrderIn order)) sent after
+pub admits : (setup : Setup) (r k : ℕ) (order : GraftOrder) (before after : RouterPart) (sent : List RouterSent)
+    → Admits setup k before (Some (OrderIn order)) sent after
     → (order.graft ≡ k) × (order.target < routers_in setup) × (session : SessionValue) × (before.places order.peering ≡ Live session None)
 admits setup r k order before after sent row =
     let e = sym (ordered_is k row.peering row.target order row.takes) in
@@ -65,7 +69,8 @@ no_cause r t OpenConfirm h e = absurd (grind (arith, nat_tests))
 no_cause r t Closed h e = absurd (grind (arith, nat_tests))
 no_cause r t Established h e = (refl, grind (arith, nat_tests), grind (arith, nat_tests))
 
-pub freezes : (r k : ℕ) (before after : RouterPart) (taken : Option RouterTaken) (sent : List RouterSent) → Freezes r k before taken sent after → MayFreeze r k before
+pub freezes : (r k : ℕ) (before after : RouterPart) (taken : Option RouterTaken) (sent : List RouterSent) → Freezes r k before taken sent after
+    → MayFreeze r k before
 freezes r k before after taken sent row =
     let may = no_cause r row.target (state row.session) (hold_time row.session) row.no_cause in
     record { peering = row.peering; target = row.target; session = row.session; live = row.live.is; established = may.0; elsewhere = may.1; long = may.2 }
@@ -89,7 +94,8 @@ of_session r t Established h refusal other e = by_test (is_too_short h) refl e w
   by_test true is f = inr (inr (other, refl, grind (arith, nat_tests), grind (arith, nat_tests), same_refusal (HoldTooShort h) refusal f))
   by_test false is f = absurd cc
 
-cause : (r t : ℕ) (s : SessionState) (h : ℕ) (refusal : Refusal) → freeze_refusal (record { 0 = r }) (record { 0 = t }) s h ≡ Some refusal → WhyStays r t s h refusal
+cause : (r t : ℕ) (s : SessionState) (h : ℕ) (refusal : Refusal) → freeze_refusal (record { 0 = r }) (record { 0 = t }) s h ≡ Some refusal
+    → WhyStays r t s h refusal
 cause r t s h refusal e = by_test (t == r) refl e where
   by_test : (b : Bool) → (t == r) ≡ b → cond b (Some SameRouter) (session_refusal s h) ≡ Some refusal → WhyStays r t s h refusal
   by_test true is f = inl (grind (arith, nat_tests), same_refusal SameRouter refusal f)
@@ -105,12 +111,14 @@ pub leaves : (k : ℕ) (before after : RouterPart) (taken : Option RouterTaken) 
     → (p : ℕ) × (session : SessionValue) × (target : ℕ) × (before.places p ≡ Frozen session (record { graft = k; target = target })) × (sent ≡ MeshTo target (Moved k p session) ∷ [])
 leaves k before after taken sent row = (row.peering, row.session, row.target, row.frozen, row.sends)
 
-pub asks : (setup : Setup) (r k q : ℕ) (before after : RouterPart) (taken : Option RouterTaken) (sent : List RouterSent) → Asks setup r k q before taken sent after
+pub asks : (setup : Setup) (r k q : ℕ) (before after : RouterPart) (taken : Option RouterTaken) (sent : List RouterSent)
+    → Asks setup r k q before taken sent after
     → (p : ℕ) × (session : SessionValue) × (source : ℕ) × (next : ℕ) × (before.places p ≡ Live session (Some (Owing (record { graft = k; source = source; next = next }))))
     × IsNextToAsk source r (routers_in setup) next q × (sent ≡ MeshTo q (Asked k p) ∷ [])
 asks setup r k q before after taken sent row = (row.peering, row.session, row.source, row.next, row.live.is, row.asked, row.sends)
 
-pub confirms : (setup : Setup) (r k : ℕ) (before after : RouterPart) (taken : Option RouterTaken) (sent : List RouterSent) → Confirms setup r k before taken sent after
+pub confirms : (setup : Setup) (r k : ℕ) (before after : RouterPart) (taken : Option RouterTaken) (sent : List RouterSent)
+    → Confirms setup r k before taken sent after
     → (p : ℕ) × (session : SessionValue) × (source : ℕ) × (next : ℕ) × (before.places p ≡ Live session (Some (Owing (record { graft = k; source = source; next = next }))))
     × AreAllAsked source r (routers_in setup) next × (sent ≡ MeshTo source (Done k p) ∷ [])
 confirms setup r k before after taken sent row = (row.peering, row.session, row.source, row.next, row.live.is, row.answered, row.sends)
@@ -160,11 +168,13 @@ module _ (setup : Setup) (r q k p : ℕ) (session : SessionValue) (before after 
   Why came refusal = ((room_of setup r ≤ taken_in setup before) × (refusal ≡ RouterFull (room_of setup r)))
       ⊎ ((taken_in setup before < room_of setup r) × (name : List ℕ) × (missing_policy setup r came.config ≡ Some name) × (refusal ≡ PolicyMissing name))
 
-  why_not : (came : SessionValue) (refusal : Refusal) → Why came refusal → taken_in setup before + vacant_in setup before ≡ peerings_in setup → session ≡ came → IsWhyNot setup r before session refusal
+  why_not : (came : SessionValue) (refusal : Refusal) → Why came refusal → taken_in setup before + vacant_in setup before ≡ peerings_in setup
+      → session ≡ came → IsWhyNot setup r before session refusal
   why_not came refusal (inl full) n e = inl ((λ (has : HasRoom setup r before). let f = full.0 in absurd (omega arith)), full.1)
   why_not came refusal (inr missing) n e = let f = missing.0 in inr (omega arith, missing.1, ap (λ (z : SessionValue). missing_policy setup r z.config) e ∙ missing.2, missing.3)
 
-  sent_back : (l m : ℕ) (came : SessionValue) (refusal : Refusal) → k ≡ l → p ≡ m → session ≡ came → MeshTo q (Back l m came refusal) ∷ [] ≡ MeshTo q (Back k p session refusal) ∷ []
+  sent_back : (l m : ℕ) (came : SessionValue) (refusal : Refusal) → k ≡ l → p ≡ m → session ≡ came
+      → MeshTo q (Back l m came refusal) ∷ [] ≡ MeshTo q (Back k p session refusal) ∷ []
   sent_back l m came refusal e f g = cc
 
   pub turns_back : TurnsBack setup r q before (Some (MeshIn q (Moved k p session))) sent after

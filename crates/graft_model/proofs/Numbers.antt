@@ -7,7 +7,7 @@ use Rattle.std.proofs.lemmas.List.FromFn.{length-range_with_len}
 use Rattle.std.proofs.lemmas.Bool.{cases_lt}
 use Rattle.std.proofs.lemmas.Option.{same_Some, slice_get_within}
 use Rattle.tcp_seq.proofs.Lookups.{get-append_left, get-append_right}
-use Rattle.graft_model.specs.Setups.{Setup, ScriptStep, SayStep, MoveStep, EvacuateStep, SettleStep, ScriptGraft, peerings_in, peering_numbers, is_settle, group_of, moved_by, numbered, grafts_after, grafts_in, grafts_before, graft_at}
+use Rattle.graft_model.specs.Setups.{Setup, ScriptStep, SayStep, MoveStep, EvacuateStep, SettleStep, ScriptGraft, peerings_in, peering_numbers, is_settle, group_of, moved_by, grafts_numbered, grafts_after, grafts_in, grafts_before, graft_at}
 use Rattle.graft_model.specs.OperatorRows.{number_by}
 
 -- ---- a list whose numbers rise by one
@@ -46,16 +46,17 @@ both_numbered k n (x ∷ one) other e is others = (is.0, both_numbered (k + 1) n
 
 -- ---- the grafts of one step
 
-length-numbered : (k n : ℕ) (peerings : List ℕ) → length (numbered k n peerings) ≡ length peerings
+length-numbered : (k n : ℕ) (peerings : List ℕ) → length (grafts_numbered k n peerings) ≡ length peerings
 length-numbered k n [] = refl
 length-numbered k n (p ∷ peerings) = ap suc (length-numbered (k + 1) n peerings)
 
-numbered_is : (k n : ℕ) (peerings : List ℕ) → IsNumbered k (numbered k n peerings)
+numbered_is : (k n : ℕ) (peerings : List ℕ) → IsNumbered k (grafts_numbered k n peerings)
 numbered_is k n [] = tt
 numbered_is k n (p ∷ peerings) = (refl, numbered_is (k + 1) n peerings)
 
 -- what stands at a place of the grafts of a step
-numbered_at : (k n : ℕ) (peerings : List ℕ) (i : ℕ) (g : ScriptGraft) → slice_get (numbered k n peerings) i ≡ Some g → (slice_get peerings i ≡ Some g.peering) × (g.step ≡ n)
+numbered_at : (k n : ℕ) (peerings : List ℕ) (i : ℕ) (g : ScriptGraft) → slice_get (grafts_numbered k n peerings) i ≡ Some g
+    → (slice_get peerings i ≡ Some g.peering) × (g.step ≡ n)
 numbered_at k n [] i g e = absurd cc
 numbered_at k n (p ∷ peerings) zero g e =
     let is = same_Some _ g e in
@@ -63,7 +64,7 @@ numbered_at k n (p ∷ peerings) zero g e =
 numbered_at k n (p ∷ peerings) (suc i) g e = numbered_at (k + 1) n peerings i g e
 
 has_number : (k n : ℕ) (peerings : List ℕ) (i p : ℕ) (graft : ℕ) → slice_get peerings i ≡ Some p → graft ≡ k + i + 1
-    → slice_get (numbered k n peerings) i ≡ Some (record { graft = graft; peering = p; step = n })
+    → slice_get (grafts_numbered k n peerings) i ≡ Some (record { graft = graft; peering = p; step = n })
 has_number k n [] i p graft e is = absurd cc
 has_number k n (q ∷ peerings) zero p graft e is =
     let same : q ≡ p = same_Some q p e in
@@ -75,8 +76,8 @@ has_number k n (q ∷ peerings) (suc i) p graft e is = has_number (k + 1) n peer
 after_is : (setup : Setup) (k n : ℕ) (steps : List ScriptStep) → IsNumbered k (grafts_after setup k n steps)
 after_is setup k n [] = tt
 after_is setup k n (s ∷ steps) =
-    let t : k + length (moved_by setup s) ≡ k + length (numbered k n (moved_by setup s)) = ap (λ (z : ℕ). k + z) (sym (length-numbered k n (moved_by setup s))) in
-    both_numbered k _ (numbered k n (moved_by setup s)) _ t (numbered_is k n (moved_by setup s)) (after_is setup (k + length (moved_by setup s)) (n + 1) steps)
+    let t : k + length (moved_by setup s) ≡ k + length (grafts_numbered k n (moved_by setup s)) = ap (λ (z : ℕ). k + z) (sym (length-numbered k n (moved_by setup s))) in
+    both_numbered k _ (grafts_numbered k n (moved_by setup s)) _ t (numbered_is k n (moved_by setup s)) (after_is setup (k + length (moved_by setup s)) (n + 1) steps)
 
 -- how many grafts the first of some steps have
 abbrev first_grafts : Setup → ℕ → ℕ → ℕ → List ScriptStep → ℕ
@@ -85,7 +86,8 @@ first_grafts setup k n m steps = length (grafts_after setup k n (take m steps))
 first_more : (setup : Setup) (k n m : ℕ) (s : ScriptStep) (steps : List ScriptStep)
     → first_grafts setup k n (suc m) (s ∷ steps) ≡ length (moved_by setup s) + first_grafts setup (k + length (moved_by setup s)) (n + 1) m steps
 first_more setup k n m s steps =
-    length-append (numbered k n (moved_by setup s)) _ ∙ ap (λ (z : ℕ). z + first_grafts setup (k + length (moved_by setup s)) (n + 1) m steps) (length-numbered k n (moved_by setup s))
+    length-append (grafts_numbered k n (moved_by setup s)) _
+    ∙ ap (λ (z : ℕ). z + first_grafts setup (k + length (moved_by setup s)) (n + 1) m steps) (length-numbered k n (moved_by setup s))
 
 -- Where a graft at a place of the grafts of steps comes from: from the step that stands behind so many steps, as the one at this place of its grafts.
 record ComesFrom (setup : Setup) (k n : ℕ) (steps : List ScriptStep) (i : ℕ) (g : ScriptGraft) : Type 0 where
@@ -109,21 +111,23 @@ from_later setup k n s steps i j g e from = record {
   is = let t = first_more setup k n from.behind s steps in omega (arith, t, e, from.is);
 }
 
-comes_from : (setup : Setup) (k n : ℕ) (steps : List ScriptStep) (i : ℕ) (g : ScriptGraft) → slice_get (grafts_after setup k n steps) i ≡ Some g → ComesFrom setup k n steps i g
+comes_from : (setup : Setup) (k n : ℕ) (steps : List ScriptStep) (i : ℕ) (g : ScriptGraft) → slice_get (grafts_after setup k n steps) i ≡ Some g
+    → ComesFrom setup k n steps i g
 comes_from setup k n [] i g e = absurd cc
 comes_from setup k n (s ∷ steps) i g e = elim (cases_lt i (length (moved_by setup s))) [
   | inl below ↦
-      let t = numbered_at k n (moved_by setup s) i g (sym (get-append_left (numbered k n (moved_by setup s)) _ i (omega (arith, length-numbered k n (moved_by setup s), below))) ∙ e) in
+      let t = numbered_at k n (moved_by setup s) i g (sym (get-append_left (grafts_numbered k n (moved_by setup s)) _ i (omega (arith, length-numbered k n (moved_by setup s), below))) ∙ e) in
       record { behind = 0; step = s; place = i; there = refl; moved = t.0; by = omega (arith, t.1); is = omega arith }
   | inr above ↦
       let is : i ≡ length (moved_by setup s) + (i - length (moved_by setup s)) = omega (arith, above) in
       let at : slice_get (grafts_after setup (k + length (moved_by setup s)) (n + 1) steps) (i - length (moved_by setup s)) ≡ Some g =
-      sym (get-append_right (numbered k n (moved_by setup s)) _ i _ (omega (arith, length-numbered k n (moved_by setup s), above))) ∙ e in
+      sym (get-append_right (grafts_numbered k n (moved_by setup s)) _ i _ (omega (arith, length-numbered k n (moved_by setup s), above))) ∙ e in
       from_later setup k n s steps i _ g is (comes_from setup (k + length (moved_by setup s)) (n + 1) steps _ g at)
 ]
 
 -- A graft of a step stands at its place.
-has_graft : (setup : Setup) (k n : ℕ) (steps : List ScriptStep) (m j p : ℕ) (s : ScriptStep) (i graft step : ℕ) → slice_get steps m ≡ Some s → slice_get (moved_by setup s) j ≡ Some p
+has_graft : (setup : Setup) (k n : ℕ) (steps : List ScriptStep) (m j p : ℕ) (s : ScriptStep) (i graft step : ℕ) → slice_get steps m ≡ Some s
+    → slice_get (moved_by setup s) j ≡ Some p
     → i ≡ first_grafts setup k n m steps + j → graft ≡ k + i + 1 → step ≡ n + m
     → slice_get (grafts_after setup k n steps) i ≡ Some (record { graft = graft; peering = p; step = step })
 has_graft setup k n [] m j p s i graft step there moved at number by = absurd cc
@@ -135,13 +139,13 @@ has_graft setup k n (x ∷ steps) zero j p s i graft step there moved at number 
     let len = length-numbered k n (moved_by setup x) in
     let below = slice_get_within (moved_by setup x) i p moves_here in
     let is : n ≡ step = omega (arith, by) in
-    get-append_left (numbered k n (moved_by setup x)) _ i (omega (arith, len, below))
+    get-append_left (grafts_numbered k n (moved_by setup x)) _ i (omega (arith, len, below))
     ∙ (has_number k n (moved_by setup x) i p graft moves_here number ∙ ap (λ (z : ℕ). let v : Option ScriptGraft = Some (record { graft = graft; peering = p; step = z }) in v) is)
 has_graft setup k n (x ∷ steps) (suc m) j p s i graft step there moved at number by =
     let t = first_more setup k n m x steps in
     let len = length-numbered k n (moved_by setup x) in
     let rest : ℕ = first_grafts setup (k + length (moved_by setup x)) (n + 1) m steps + j in
-    get-append_right (numbered k n (moved_by setup x)) _ i rest (omega (arith, t, at, len))
+    get-append_right (grafts_numbered k n (moved_by setup x)) _ i rest (omega (arith, t, at, len))
     ∙ has_graft setup (k + length (moved_by setup x)) (n + 1) steps m j p s rest graft step there moved refl (omega (arith, t, at, number)) (omega (arith, by))
 
 -- The grafts of a step stand before those of a later one.

@@ -95,8 +95,10 @@ module _ (setup : Setup) (r : ℕ) (before a b : RouterPart) (taken : Option Rou
       let l = live_here before p y.session x.session y.errand x.errand y.live x.live in
       let s : y.session ≡ x.session = same_session y.session x.session y.errand x.errand l in
       let e : EmitsAt from len x.session.end y.segment y.end = subst (λ (z : SessionValue). EmitsAt from len z.end y.segment y.end) s y.emits in (
-        y.sends ∙ (ap (λ (g : PlacedSegment). OutwardTo p (Seg g) ∷ []) (same_segment from len x.session.end y.end x.end y.segment x.segment e x.emits) ∙ sym x.sends),
-        y.effect ∙ (same_end_part p y.session x.session y.errand x.errand y.end x.end l (same_end from len x.session.end y.end x.end y.segment x.segment e x.emits) ∙ sym x.effect),
+        y.sends
+            ∙ (ap (λ (g : PlacedSegment). OutwardTo p (Seg g) ∷ []) (same_segment from len x.session.end y.end x.end y.segment x.segment e x.emits) ∙ sym x.sends),
+        y.effect
+            ∙ (same_end_part p y.session x.session y.errand x.errand y.end x.end l (same_end from len x.session.end y.end x.end y.segment x.segment e x.emits) ∙ sym x.effect),
       )
 
   same_seg : (p : ℕ) (g h : PlacedSegment) → Some (SegmentIn p g) ≡ Some (SegmentIn p h) → g ≡ h
@@ -109,7 +111,8 @@ module _ (setup : Setup) (r : ℕ) (before a b : RouterPart) (taken : Option Rou
       let g : y.segment ≡ x.segment = same_seg p y.segment x.segment (sym y.takes ∙ x.takes) in
       let t : TakesSegment x.session.end x.segment y.end = subst (λ (z : PlacedSegment). TakesSegment x.session.end z y.end) g (subst (λ (z : SessionValue). TakesSegment z.end y.segment y.end) s y.arrives) in (
         y.sends ∙ sym x.sends,
-        y.effect ∙ (same_end_part p y.session x.session y.errand x.errand y.end x.end l (leaves_one x.session.end y.end x.end x.segment t x.arrives) ∙ sym x.effect),
+        y.effect
+            ∙ (same_end_part p y.session x.session y.errand x.errand y.end x.end l (leaves_one x.session.end y.end x.end x.segment t x.arrives) ∙ sym x.effect),
       )
 
   one_strays : (p : ℕ) → Strays p before taken sent a → Strays p before taken items b → Same
@@ -120,7 +123,8 @@ module _ (setup : Setup) (r : ℕ) (before a b : RouterPart) (taken : Option Rou
   abbrev followed : ℕ → SessionValue → Option Errand → Entries → Prefixes → Prefixes → RouterPart
   followed p s o entries dirty due = record before { places = at before.places p (Live s o); entries = at before.entries p entries; dirty = dirty; due_out = at before.due_out p due }
 
-  one_entry : (p : ℕ) (s n : SessionValue) (x : PrefixValue) → FollowsHeard setup r s n (before.entries p) (a.entries p) x → FollowsHeard setup r s n (before.entries p) (b.entries p) x → map.get (b.entries p) x ≡ map.get (a.entries p) x
+  one_entry : (p : ℕ) (s n : SessionValue) (x : PrefixValue) → FollowsHeard setup r s n (before.entries p) (a.entries p) x
+      → FollowsHeard setup r s n (before.entries p) (b.entries p) x → map.get (b.entries p) x ≡ map.get (a.entries p) x
   one_entry p s n x (inl y) (inl z) = z.1 ∙ sym y.1
   one_entry p s n x (inl y) (inr z) = absurd (z.0 y.0)
   one_entry p s n x (inr y) (inl z) = absurd (y.0 z.0)
@@ -131,9 +135,11 @@ module _ (setup : Setup) (r : ℕ) (before a b : RouterPart) (taken : Option Rou
       let e : b.entries p ≡ a.entries p = same_table (b.entries p) (a.entries p) (λ q. one_entry p s n q (x.entries q) (y.entries q)) in
       let d : b.dirty ≡ a.dirty = same_marks before.dirty b.dirty a.dirty (before.entries p) (a.entries p) (subst (λ (z : Entries). Marks before.dirty (before.entries p) z b.dirty) e y.dirty) x.dirty in
       let u : b.due_out p ≡ a.due_out p = same_due (state s) (state n) before.best (before.due_out p) (b.due_out p) (a.due_out p) y.due x.due in
-      y.effect ∙ (ap (λ (z : Entries). followed p n o z b.dirty (b.due_out p)) e ∙ (ap (λ (z : Prefixes). followed p n o (a.entries p) z (b.due_out p)) d ∙ (ap (λ (z : Prefixes). followed p n o (a.entries p) a.dirty z) u ∙ sym x.effect)))
+      y.effect
+      ∙ (ap (λ (z : Entries). followed p n o z b.dirty (b.due_out p)) e ∙ (ap (λ (z : Prefixes). followed p n o (a.entries p) z (b.due_out p)) d ∙ (ap (λ (z : Prefixes). followed p n o (a.entries p) a.dirty z) u ∙ sym x.effect)))
 
-  moved_follows : (p : ℕ) (s t n m : SessionValue) (o u : Option Errand) → s ≡ t → n ≡ m → o ≡ u → Follows setup r p before s n o b → Follows setup r p before t m u b
+  moved_follows : (p : ℕ) (s t n m : SessionValue) (o u : Option Errand) → s ≡ t → n ≡ m → o ≡ u → Follows setup r p before s n o b
+      → Follows setup r p before t m u b
   moved_follows p s t n m o u e f g x =
       subst (λ (z : SessionValue). Follows setup r p before z m u b) e
       (subst (λ (z : SessionValue). Follows setup r p before s z u b) f
@@ -203,7 +209,8 @@ module _ (setup : Setup) (r : ℕ) (before a b : RouterPart) (taken : Option Rou
       let o : y.route ≡ x.route = (told_is q y.prefix x.prefix y.route x.route t).1 in
       let d : DirtyIf q x.prefix x.route b = subst (λ (z : PrefixValue). DirtyIf q z x.route b) p (subst (λ (z : Option Route). DirtyIf q y.prefix z b) o y.dirty) in (
         y.sends ∙ sym x.sends,
-        y.effect ∙ (ap (λ (z : PrefixValue). heard_with q z y.route b.dirty) p ∙ (ap (λ (z : Option Route). heard_with q x.prefix z b.dirty) o ∙ (ap (λ (z : Prefixes). heard_with q x.prefix x.route z) (same_dirty q x.prefix x.route d x.dirty) ∙ sym x.effect))),
+        y.effect
+            ∙ (ap (λ (z : PrefixValue). heard_with q z y.route b.dirty) p ∙ (ap (λ (z : Option Route). heard_with q x.prefix z b.dirty) o ∙ (ap (λ (z : Prefixes). heard_with q x.prefix x.route z) (same_dirty q x.prefix x.route d x.dirty) ∙ sym x.effect))),
       )
 
   -- ---- grafts
@@ -216,7 +223,9 @@ module _ (setup : Setup) (r : ℕ) (before a b : RouterPart) (taken : Option Rou
   target_in (Some (OrderIn o)) = o.target
   target_in x = 0
 
-  same_ordered : (k p q s t : ℕ) → Some (OrderIn (record { graft = k; peering = p; target = s })) ≡ Some (OrderIn (record { graft = k; peering = q; target = t })) → (p ≡ q) × (s ≡ t)
+  same_ordered : (k p q s t : ℕ)
+      → Some (OrderIn (record { graft = k; peering = p; target = s })) ≡ Some (OrderIn (record { graft = k; peering = q; target = t }))
+      → (p ≡ q) × (s ≡ t)
   same_ordered k p q s t e = (ap (λ (x : Option RouterTaken). peering_in x) e, ap (λ (x : Option RouterTaken). target_in x) e)
 
   abbrev with_order : ℕ → ℕ → ℕ → SessionValue → RouterPart
@@ -228,7 +237,8 @@ module _ (setup : Setup) (r : ℕ) (before a b : RouterPart) (taken : Option Rou
       let l = subst (λ (z : ℕ). before.places z ≡ Live y.session None) t.0 y.live.is in
       let s : y.session ≡ x.session = same_session y.session x.session None None (sym l ∙ x.live.is) in (
         y.sends ∙ sym x.sends,
-        y.effect ∙ (ap (λ (z : ℕ). with_order k z y.target y.session) t.0 ∙ (ap (λ (z : ℕ). with_order k x.peering z y.session) t.1 ∙ (ap (λ (z : SessionValue). with_order k x.peering x.target z) s ∙ sym x.effect))),
+        y.effect
+            ∙ (ap (λ (z : ℕ). with_order k z y.target y.session) t.0 ∙ (ap (λ (z : ℕ). with_order k x.peering z y.session) t.1 ∙ (ap (λ (z : SessionValue). with_order k x.peering x.target z) s ∙ sym x.effect))),
       )
 
   has_live : (k p t : ℕ) (s : SessionValue) → before.places p ≡ Live s (Some (Leaving (record { graft = k; target = t }))) → HasGraft k (before.places p)
@@ -242,7 +252,8 @@ module _ (setup : Setup) (r : ℕ) (before a b : RouterPart) (taken : Option Rou
   target_of (Some (Leaving o)) = o.target
   target_of (Some errand) = 0
 
-  order_target : (k t u : ℕ) (s v : SessionValue) → Live s (Some (Leaving (record { graft = k; target = t }))) ≡ Live v (Some (Leaving (record { graft = k; target = u }))) → t ≡ u
+  order_target : (k t u : ℕ) (s v : SessionValue)
+      → Live s (Some (Leaving (record { graft = k; target = t }))) ≡ Live v (Some (Leaving (record { graft = k; target = u }))) → t ≡ u
   order_target k t u s v e = ap (λ (x : Option Errand). target_of x) (same_order s v (Some (Leaving (record { graft = k; target = t }))) (Some (Leaving (record { graft = k; target = u }))) e)
 
   abbrev session_in : SessionValue → Place → SessionValue
@@ -253,7 +264,8 @@ module _ (setup : Setup) (r : ℕ) (before a b : RouterPart) (taken : Option Rou
   frozen_target (Frozen z o) = o.target
   frozen_target x = 0
 
-  frozen_session : (k t u : ℕ) (s v : SessionValue) → Frozen s (record { graft = k; target = t }) ≡ Frozen v (record { graft = k; target = u }) → (s ≡ v) × (t ≡ u)
+  frozen_session : (k t u : ℕ) (s v : SessionValue) → Frozen s (record { graft = k; target = t }) ≡ Frozen v (record { graft = k; target = u })
+      → (s ≡ v) × (t ≡ u)
   frozen_session k t u s v e = (ap (λ (x : Place). session_in s x) e, ap (λ (x : Place). frozen_target x) e)
 
   same_refusal : (x y : Refusal) → Some x ≡ Some y → x ≡ y
@@ -287,15 +299,18 @@ module _ (setup : Setup) (r : ℕ) (before a b : RouterPart) (taken : Option Rou
       let s : y.session ≡ x.session = same_session y.session x.session (Some (Leaving (record { graft = k; target = y.target }))) (Some (Leaving (record { graft = k; target = x.target }))) l in
       let t : y.target ≡ x.target = order_target k y.target x.target y.session x.session l in (
         y.alone.1 ∙ sym x.alone.1,
-        y.effect ∙ (ap (λ (z : ℕ). frozen_at k z y.session y.target) p ∙ (ap (λ (z : SessionValue). frozen_at k x.peering z y.target) s ∙ (ap (λ (z : ℕ). frozen_at k x.peering x.session z) t ∙ sym x.effect))),
+        y.effect
+            ∙ (ap (λ (z : ℕ). frozen_at k z y.session y.target) p ∙ (ap (λ (z : SessionValue). frozen_at k x.peering z y.target) s ∙ (ap (λ (z : ℕ). frozen_at k x.peering x.session z) t ∙ sym x.effect))),
       )
 
   one_leaves : (k : ℕ) → HasOnce k before → Leaves k before taken sent a → Leaves k before taken items b → Same
   one_leaves k once x y =
       let p : y.peering ≡ x.peering = once y.peering x.peering (has_frozen k y.peering y.target y.session y.frozen) (has_frozen k x.peering x.target x.session x.frozen) in
       let f = frozen_session k y.target x.target y.session x.session (sym (subst (λ (z : ℕ). before.places z ≡ Frozen y.session (record { graft = k; target = y.target })) p y.frozen) ∙ x.frozen) in (
-        y.sends ∙ (ap (λ (z : ℕ). MeshTo y.target (Moved k z y.session) ∷ []) p ∙ (ap (λ (z : SessionValue). MeshTo y.target (Moved k x.peering z) ∷ []) f.0 ∙ (ap (λ (z : ℕ). MeshTo z (Moved k x.peering x.session) ∷ []) f.1 ∙ sym x.sends))),
-        y.effect ∙ (ap (λ (z : ℕ). let v : RouterPart = record before { places = at before.places z (Shadow k); due_out = at before.due_out z map.empty } in v) p ∙ sym x.effect),
+        y.sends
+            ∙ (ap (λ (z : ℕ). MeshTo y.target (Moved k z y.session) ∷ []) p ∙ (ap (λ (z : SessionValue). MeshTo y.target (Moved k x.peering z) ∷ []) f.0 ∙ (ap (λ (z : ℕ). MeshTo z (Moved k x.peering x.session) ∷ []) f.1 ∙ sym x.sends))),
+        y.effect
+            ∙ (ap (λ (z : ℕ). let v : RouterPart = record before { places = at before.places z (Shadow k); due_out = at before.due_out z map.empty } in v) p ∙ sym x.effect),
       )
 
   -- ---- word of a landing
@@ -318,12 +333,14 @@ module _ (setup : Setup) (r : ℕ) (before a b : RouterPart) (taken : Option Rou
   abbrev SameWord : ℕ → ℕ → SessionValue → SessionValue → Type 0
   SameWord q u s v = (s ≡ v) × (q ≡ u)
 
-  owed_once : (k p o q u n m : ℕ) (s v : SessionValue) → p ≡ o → before.places p ≡ Live s (Some (Owing (word k q n))) → before.places o ≡ Live v (Some (Owing (word k u m))) → SameWord q u s v
+  owed_once : (k p o q u n m : ℕ) (s v : SessionValue) → p ≡ o → before.places p ≡ Live s (Some (Owing (word k q n)))
+      → before.places o ≡ Live v (Some (Owing (word k u m))) → SameWord q u s v
   owed_once k p o q u n m s v e f g =
       let both = same_word s v (Owing (word k q n)) (Owing (word k u m)) (sym f ∙ (ap before.places e ∙ g)) in
       (both.0, ap (λ (w : Word). w.source) both.1)
 
-  awaited_once : (k l p o q u n m : ℕ) (s v : SessionValue) → p ≡ o → before.places p ≡ Live s (Some (Asking (word k q n))) → before.places o ≡ Live v (Some (Asking (word l u m))) → SameWord q u s v
+  awaited_once : (k l p o q u n m : ℕ) (s v : SessionValue) → p ≡ o → before.places p ≡ Live s (Some (Asking (word k q n)))
+      → before.places o ≡ Live v (Some (Asking (word l u m))) → SameWord q u s v
   awaited_once k l p o q u n m s v e f g =
       let both = same_word s v (Asking (word k q n)) (Asking (word l u m)) (sym f ∙ (ap before.places e ∙ g)) in
       (both.0, ap (λ (w : Word). w.source) both.1)
@@ -397,7 +414,8 @@ module _ (setup : Setup) (r : ℕ) (before a b : RouterPart) (taken : Option Rou
       let e : b.entries p ≡ a.entries p = same_table (b.entries p) (a.entries p) (λ z. y.entries z ∙ sym (x.entries z)) in
       let d : b.dirty ≡ a.dirty = same_marks before.dirty b.dirty a.dirty (before.entries p) (a.entries p) (subst (λ (z : Entries). Marks before.dirty (before.entries p) z b.dirty) e y.dirty) x.dirty in
       let u : b.due_out p ≡ a.due_out p = same_set (b.due_out p) (a.due_out p) (λ z. y.due.members z ∙ sym (x.due.members z)) in
-      y.effect ∙ (ap (λ (z : Entries). landed_at q k p s z b.dirty (b.due_out p)) e ∙ (ap (λ (z : Prefixes). landed_at q k p s (a.entries p) z (b.due_out p)) d ∙ (ap (λ (z : Prefixes). landed_at q k p s (a.entries p) a.dirty z) u ∙ sym x.effect)))
+      y.effect
+      ∙ (ap (λ (z : Entries). landed_at q k p s z b.dirty (b.due_out p)) e ∙ (ap (λ (z : Prefixes). landed_at q k p s (a.entries p) z (b.due_out p)) d ∙ (ap (λ (z : Prefixes). landed_at q k p s (a.entries p) a.dirty z) u ∙ sym x.effect)))
 
   abbrev landing_items : ℕ → ℕ → List RouterSent
   landing_items k p = OutwardTo p (PointAt k) ∷ []
@@ -416,7 +434,8 @@ module _ (setup : Setup) (r : ℕ) (before a b : RouterPart) (taken : Option Rou
   one_turns_back q x y =
       let t = moved_is q y.comes.graft x.comes.graft y.comes.peering x.comes.peering y.comes.session x.comes.session (sym y.comes.takes ∙ x.comes.takes) in
       let f : y.refusal ≡ x.refusal = same_refusal y.refusal x.refusal (sym y.cause ∙ (ap (λ (s : SessionValue). refusal_of setup r before s) t.2 ∙ x.cause)) in (
-        y.sends ∙ (ap (λ (k : ℕ). MeshTo q (Back k y.comes.peering y.comes.session y.refusal) ∷ []) t.0 ∙ (ap (λ (p : ℕ). MeshTo q (Back x.comes.graft p y.comes.session y.refusal) ∷ []) t.1 ∙ (ap (λ (s : SessionValue). MeshTo q (Back x.comes.graft x.comes.peering s y.refusal) ∷ []) t.2 ∙ (ap (λ (z : Refusal). MeshTo q (Back x.comes.graft x.comes.peering x.comes.session z) ∷ []) f ∙ sym x.sends)))),
+        y.sends
+            ∙ (ap (λ (k : ℕ). MeshTo q (Back k y.comes.peering y.comes.session y.refusal) ∷ []) t.0 ∙ (ap (λ (p : ℕ). MeshTo q (Back x.comes.graft p y.comes.session y.refusal) ∷ []) t.1 ∙ (ap (λ (s : SessionValue). MeshTo q (Back x.comes.graft x.comes.peering s y.refusal) ∷ []) t.2 ∙ (ap (λ (z : Refusal). MeshTo q (Back x.comes.graft x.comes.peering x.comes.session z) ∷ []) f ∙ sym x.sends)))),
         y.stays ∙ sym x.stays,
       )
 
@@ -428,8 +447,10 @@ module _ (setup : Setup) (r : ℕ) (before a b : RouterPart) (taken : Option Rou
       let t = back_is q y.graft x.graft y.peering x.peering y.session x.session y.refusal x.refusal (sym y.takes ∙ x.takes) in
       let here : DueAgain before x.session (b.due_out x.peering) = subst (λ (z : SessionValue). DueAgain before z (b.due_out x.peering)) t.2 (subst (λ (z : ℕ). DueAgain before y.session (b.due_out z)) t.1 y.due) in
       let u : b.due_out x.peering ≡ a.due_out x.peering = same_set (b.due_out x.peering) (a.due_out x.peering) (λ q. here.members q ∙ sym (x.due.members q)) in (
-        y.sends ∙ (ap (λ (k : ℕ). ReportOut (record { graft = k; outcome = Refused y.refusal }) ∷ []) t.0 ∙ (ap (λ (z : Refusal). ReportOut (record { graft = x.graft; outcome = Refused z }) ∷ []) t.3 ∙ sym x.sends)),
-        y.effect ∙ (ap (λ (p : ℕ). back_at p y.session (b.due_out p)) t.1 ∙ (ap (λ (s : SessionValue). back_at x.peering s (b.due_out x.peering)) t.2 ∙ (ap (λ (z : Prefixes). back_at x.peering x.session z) u ∙ sym x.effect))),
+        y.sends
+            ∙ (ap (λ (k : ℕ). ReportOut (record { graft = k; outcome = Refused y.refusal }) ∷ []) t.0 ∙ (ap (λ (z : Refusal). ReportOut (record { graft = x.graft; outcome = Refused z }) ∷ []) t.3 ∙ sym x.sends)),
+        y.effect
+            ∙ (ap (λ (p : ℕ). back_at p y.session (b.due_out p)) t.1 ∙ (ap (λ (s : SessionValue). back_at x.peering s (b.due_out x.peering)) t.2 ∙ (ap (λ (z : Prefixes). back_at x.peering x.session z) u ∙ sym x.effect))),
       )
 
   abbrev cleared_at : ℕ → Prefixes → RouterPart

@@ -28,7 +28,8 @@ module _ (setup : Setup) (before a b : OperatorPart) (taken : Option OperatorTak
       (y.sends ∙ (ap (λ (q : ℕ). let v : List OperatorSent = SayTo q step ∷ [] in v) p ∙ sym x.sends), y.effect ∙ sym x.effect)
 
   -- a step that says something makes no graft
-  no_graft : (step number : ℕ) {some : List OperatorSent} {part : OperatorPart} (peering : ℕ) (bytes : List ℕ) → slice_get setup.steps step ≡ Some (SayStep peering bytes)
+  no_graft : (step number : ℕ) {some : List OperatorSent} {part : OperatorPart} (peering : ℕ) (bytes : List ℕ)
+      → slice_get setup.steps step ≡ Some (SayStep peering bytes)
       → OrdersGraft setup step number before taken some part → ⊥
   no_graft step number peering bytes is row =
       let there : slice_get setup.steps row.graft.step ≡ Some (SayStep peering bytes) = ap (slice_get setup.steps) row.by_step ∙ is in

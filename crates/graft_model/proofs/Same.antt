@@ -18,7 +18,7 @@ use Rattle.bgp_story.specs.Readings.{apply_if, unless_closed, update_in}
 use Rattle.bgp_types.specs.FirstFault.{message_of}
 use Rattle.tcp_seq.specs.Endpoint.{Endpoint, PlacedSegment, EmitsSlice, EmitsEmpty, slice_at}
 use Rattle.session_value.specs.Sessions.{SessionValue, peering_of, state}
-use Rattle.session_value.specs.Cases.{GetsFrame, PassesRound, put_by, reading, sending}
+use Rattle.session_value.specs.Cases.{GetsFrame, PassesRound, put_by, having_read, sending}
 use Rattle.session_value.specs.Sets.{BestRoutes, Prefixes, has, Marks}
 use Rattle.graft_model.specs.Slices.{EmitsAt}
 use Rattle.graft_model.specs.Parts.{Errand, Live, RouterPart}
@@ -38,13 +38,15 @@ both_there (Some a) (Some b) e = refl
 pub same_set : (m n : Prefixes) → ((x : PrefixValue) → has m x ≡ has n x) → m ≡ n
 same_set m n is = same_table m n (λ x. both_there (map.get m x) (map.get n x) (is x))
 
-marked_alike : {A : Type 0} (before after other : Prefixes) (old new : map.FinMap prefix_cmp A) (x : PrefixValue) (s t : Bool) → Marks before old new after → Marks before old new other → has after x ≡ s → has other x ≡ t → s ≡ t
+marked_alike : {A : Type 0} (before after other : Prefixes) (old new : map.FinMap prefix_cmp A) (x : PrefixValue) (s t : Bool)
+    → Marks before old new after → Marks before old new other → has after x ≡ s → has other x ≡ t → s ≡ t
 marked_alike before after other old new x true true m n a o = refl
 marked_alike before after other old new x false false m n a o = refl
 marked_alike before after other old new x true false m n a o = elim (m.marked x a) [ inl was ↦ let e = (n.others x o).0 in absurd cc | inr differs ↦ absurd (differs ((n.others x o).1)) ]
 marked_alike before after other old new x false true m n a o = elim (n.marked x o) [ inl was ↦ let e = (m.others x a).0 in absurd cc | inr differs ↦ absurd (differs ((m.others x a).1)) ]
 
-pub same_marks : {A : Type 0} (before after other : Prefixes) (old new : map.FinMap prefix_cmp A) → Marks before old new after → Marks before old new other → after ≡ other
+pub same_marks : {A : Type 0} (before after other : Prefixes) (old new : map.FinMap prefix_cmp A) → Marks before old new after
+    → Marks before old new other → after ≡ other
 same_marks before after other old new m n = same_set after other (λ x. marked_alike before after other old new x (has after x) (has other x) m n refl refl)
 
 -- ---- places
@@ -60,11 +62,14 @@ live_here part p s t o u a b = sym a.is ∙ b.is
 
 -- ---- what is emitted
 
-slice_is : (from len : ℕ) (e : Endpoint) (g : PlacedSegment) → g.place ≡ from → length g.bytes ≡ len → g ≡ slice_at e g.place (length g.bytes) → g ≡ slice_at e from len
+slice_is : (from len : ℕ) (e : Endpoint) (g : PlacedSegment) → g.place ≡ from → length g.bytes ≡ len → g ≡ slice_at e g.place (length g.bytes)
+    → g ≡ slice_at e from len
 slice_is from len e g place size slice = slice ∙ (ap (λ (n : ℕ). slice_at e n (length g.bytes)) place ∙ ap (λ (n : ℕ). slice_at e from n) size)
 
-rise_is : (from len : ℕ) (e a : Endpoint) (g : PlacedSegment) → g.place ≡ from → length g.bytes ≡ len → EmitsSlice e g a → a ≡ record e { emitted = max e.emitted (from + len) }
-rise_is from len e a g place size emits = emits.rises ∙ (ap (λ (n : ℕ). let x : Endpoint = record e { emitted = max e.emitted (n + length g.bytes) } in x) place ∙ ap (λ (n : ℕ). let x : Endpoint = record e { emitted = max e.emitted (from + n) } in x) size)
+rise_is : (from len : ℕ) (e a : Endpoint) (g : PlacedSegment) → g.place ≡ from → length g.bytes ≡ len → EmitsSlice e g a
+    → a ≡ record e { emitted = max e.emitted (from + len) }
+rise_is from len e a g place size emits = emits.rises
+    ∙ (ap (λ (n : ℕ). let x : Endpoint = record e { emitted = max e.emitted (n + length g.bytes) } in x) place ∙ ap (λ (n : ℕ). let x : Endpoint = record e { emitted = max e.emitted (from + n) } in x) size)
 
 none_in : (e : Endpoint) (g : PlacedSegment) → g ≡ slice_at e e.emitted 0 → length g.bytes ≡ 0
 none_in e g is = ap (λ (x : PlacedSegment). length x.bytes) is
@@ -123,7 +128,7 @@ got_with s bytes x = record s {
   story = s.story ++ Got bytes ∷ x.0;
   heard = unless_closed x.1 (apply_if s.heard (update_in (message_of (expected_next (peering_of s.config) s.story (state s)) bytes)));
   told = unless_closed x.1 s.told;
-  end = sending (put_by s (s.story ++ Got bytes ∷ x.0) x.0) (reading (length bytes) s.end);
+  end = sending (put_by s (s.story ++ Got bytes ∷ x.0) x.0) (having_read (length bytes) s.end);
 }
 
 abbrev round_with : SessionValue → ℕ → List Line × SessionState → SessionValue

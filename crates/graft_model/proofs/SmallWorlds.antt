@@ -16,7 +16,7 @@ use Rattle.session_value.specs.Sessions.{SessionValue, peering_of, state}
 use Rattle.graft_model.specs.Claims.{Transparent, Solves, SolvesOn}
 use Rattle.graft_model.specs.Parts.{Live}
 use Rattle.graft_model.specs.Quiet.{Quiet}
-use Rattle.graft_model.specs.SmallWorlds.{pair, config, open_octets, remote_with, one_route, route, opened_twice, hearing, session, with_session, with_session_lost, with_octet_received, with_link_elsewhere, with_nothing_received, with_shadow_left, with_route_kept, with_word}
+use Rattle.graft_model.specs.SmallWorlds.{pair, config, small_open_octets, remote_with, one_route, route, opened_twice, hearing, session, with_session, with_session_lost, with_octet_received, with_link_elsewhere, with_nothing_received, with_shadow_left, with_route_kept, with_word}
 
 same : (s t : SessionValue) → ◌≡◌ {A = List SessionValue} (s ∷ []) (t ∷ []) → s ≡ t
 same s t e = cc
@@ -56,7 +56,7 @@ pub opens_twice : Transparent pair (with_session opened_twice) 0 → ⊥
 opens_twice t = once_only (subst (λ (s : SessionValue). IsLegal (peering_of s.config) s.story (state s)) (sym (same opened_twice t.session t.one)) t.legal)
 
 -- the first octet of a marker
-marked : take 1 open_octets ≡ 255 ∷ []
+marked : take 1 small_open_octets ≡ 255 ∷ []
 unfolding spell
 marked = refl
 

@@ -37,7 +37,8 @@ far_takes setup w u p (SayIn step) quiet took = empty_heads (w.says p) step took
 operator_takes : (setup : Setup) (w u : World) (taken : OperatorTaken) → Quiet setup w → OperatorTook w (Some taken) u → ⊥
 operator_takes setup w u (ReportIn r report) quiet took = empty_heads (w.reports r) report took.0.rest (quiet.reports r) took.0.is
 
-router_had : (setup : Setup) (w u : World) (r : ℕ) (taken : Option RouterTaken) (item : RouterTaken) → Quiet setup w → RouterTook w r taken u → taken ≡ Some item → ⊥
+router_had : (setup : Setup) (w u : World) (r : ℕ) (taken : Option RouterTaken) (item : RouterTaken) → Quiet setup w → RouterTook w r taken u
+    → taken ≡ Some item → ⊥
 router_had setup w u r None item quiet took is = absurd cc
 router_had setup w u r (Some other) item quiet took is = router_takes setup w u r other quiet took
 
@@ -45,7 +46,8 @@ far_had : (setup : Setup) (w u : World) (p : ℕ) (taken : Option FarTaken) (ite
 far_had setup w u p None item quiet took is = absurd cc
 far_had setup w u p (Some other) item quiet took is = far_takes setup w u p other quiet took
 
-operator_had : (setup : Setup) (w u : World) (taken : Option OperatorTaken) (item : OperatorTaken) → Quiet setup w → OperatorTook w taken u → taken ≡ Some item → ⊥
+operator_had : (setup : Setup) (w u : World) (taken : Option OperatorTaken) (item : OperatorTaken) → Quiet setup w → OperatorTook w taken u
+    → taken ≡ Some item → ⊥
 operator_had setup w u None item quiet took is = absurd cc
 operator_had setup w u (Some other) item quiet took is = operator_takes setup w u other quiet took
 
@@ -56,7 +58,8 @@ has_none prefixes prefix none there =
     let e : has prefixes prefix ≡ false = ap (λ (s : Prefixes). has s prefix) none ∙ ap is_some (map.get-empty prefix_cmp prefix) in
     absurd cc
 
-gets_none : (end : Endpoint) (session next : SessionValue) (order : Option Errand) (bytes : List ℕ) → IsIdle end (Live session order) → GetsFrame session bytes next → ⊥
+gets_none : (end : Endpoint) (session next : SessionValue) (order : Option Errand) (bytes : List ℕ) → IsIdle end (Live session order)
+    → GetsFrame session bytes next → ⊥
 gets_none end session next None bytes idle gets = elim idle.0 [ inl closed ↦ gets.unclosed closed | inr nothing ↦ nothing bytes gets.rest gets.front gets.got ]
 gets_none end session next (Some order) bytes idle gets = idle
 
@@ -117,10 +120,12 @@ by_far setup p (Beat round) w v quiet s = tt
 both_ways : (b : Bool) → b ≡ true → b ≡ false → ⊥
 both_ways b is is_not = absurd cc
 
-orders_say : (setup : Setup) (step number : ℕ) (w : World) {taken : Option OperatorTaken} {sent : List _} {part : _} → Quiet setup w → OrdersSay setup step number w.operator taken sent part → ⊥
+orders_say : (setup : Setup) (step number : ℕ) (w : World) {taken : Option OperatorTaken} {sent : List _} {part : _} → Quiet setup w
+    → OrdersSay setup step number w.operator taken sent part → ⊥
 orders_say setup step number w quiet row = both_ways (w.operator.issued step) (quiet.issued step row.peering row.bytes row.is row.group) row.unissued
 
-orders_graft : (setup : Setup) (step number : ℕ) (w : World) {taken : Option OperatorTaken} {sent : List _} {part : _} → Quiet setup w → OrdersGraft setup step number w.operator taken sent part → ⊥
+orders_graft : (setup : Setup) (step number : ℕ) (w : World) {taken : Option OperatorTaken} {sent : List _} {part : _} → Quiet setup w
+    → OrdersGraft setup step number w.operator taken sent part → ⊥
 orders_graft setup step number w quiet row =
     quiet.ended row.graft row.known (ap (group_of setup) row.by_step ∙ row.group) (λ none. (let f : Some row.target ≡ None = sym row.is ∙ none in absurd cc)) row.unended
 

@@ -79,7 +79,7 @@ actor_code (OfFar event) = far_code event
 actor_code (OfOperator event) = operator_code event
 
 -- the same of any actor's event
-abbrev pub IsSound : ActorEvent → Type 0
-IsSound (OfRouter event) = HasPrefix event
-IsSound (OfFar event) = Unit {0}
-IsSound (OfOperator event) = Unit {0}
+abbrev pub EventHasPrefix : ActorEvent → Type 0
+EventHasPrefix (OfRouter event) = HasPrefix event
+EventHasPrefix (OfFar event) = Unit {0}
+EventHasPrefix (OfOperator event) = Unit {0}

@@ -64,5 +64,6 @@ with_gifts setup part = record part { given = λ k. gift_or (gift_in_group setup
 -- An evacuate step gives each session of its router what the plan has for it, by where sessions belonged before the group began, and these are given
 -- in the best way.
 pub record GivesByPlan (setup : Setup) (before after : OperatorPart) (step router : ℕ) : Type 0 where
-  pub given : (g : ScriptGraft) → graft_at setup g.graft ≡ Some g → g.step ≡ step → after.given g.graft ≡ gift_to setup (placement setup before) router g.peering
+  pub given : (g : ScriptGraft) → graft_at setup g.graft ≡ Some g → g.step ≡ step
+      → after.given g.graft ≡ gift_to setup (placement setup before) router g.peering
   pub well : AreGivenWell setup (placement setup before) router

@@ -142,7 +142,8 @@ pub record Ignores (q : ℕ) (before : RouterPart) (taken : Option RouterTaken) 
   pub peering : ℕ
   pub takes : taken ≡ Some (MeshIn q (Answered graft peering))
   pub sends : sent ≡ []
-  pub unawaited : (source : ℕ) (session : SessionValue) → IsLive before peering session (Some (Asking (record { graft = graft; source = source; next = q }))) → ⊥
+  pub unawaited : (source : ℕ) (session : SessionValue)
+      → IsLive before peering session (Some (Asking (record { graft = graft; source = source; next = q }))) → ⊥
   pub stays : after ≡ before
 
 -- The source is told that its session has landed here. It is told once all other routers have answered, no prefix is dirty here and nothing is due to

@@ -25,7 +25,8 @@ pub record OrdersSay (setup : Setup) (step number : ℕ) (before : OperatorPart)
   pub peering : ℕ
   pub bytes : List ℕ
   pub is : slice_get setup.steps step ≡ Some (SayStep peering bytes)
-  pub earlier : (m : ℕ) (other : List ℕ) → m < step → group_of setup m ≡ before.group → slice_get setup.steps m ≡ Some (SayStep peering other) → before.issued m ≡ true
+  pub earlier : (m : ℕ) (other : List ℕ) → m < step → group_of setup m ≡ before.group → slice_get setup.steps m ≡ Some (SayStep peering other)
+      → before.issued m ≡ true
   pub takes : taken ≡ None
   pub sends : sent ≡ SayTo peering step ∷ []
   pub effect : after ≡ record before { issued = at before.issued step true }

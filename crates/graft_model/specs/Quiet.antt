@@ -40,4 +40,5 @@ pub record Quiet (setup : Setup) (w : World) : Type 0 where
   pub told_out : (r p : ℕ) → (w.router r).due_out p ≡ map.empty
   pub places : (r p : ℕ) → IsIdle (w.far p).end ((w.router r).places p)
   pub issued : (n p : ℕ) (bytes : List ℕ) → slice_get setup.steps n ≡ Some (SayStep p bytes) → group_of setup n ≡ w.operator.group → w.operator.issued n ≡ true
-  pub ended : (g : ScriptGraft) → graft_at setup g.graft ≡ Some g → group_of setup g.step ≡ w.operator.group → target_in setup w.operator g ≢ None → w.operator.outcome g.graft ≢ None
+  pub ended : (g : ScriptGraft) → graft_at setup g.graft ≡ Some g → group_of setup g.step ≡ w.operator.group → target_in setup w.operator g ≢ None
+      → w.operator.outcome g.graft ≢ None

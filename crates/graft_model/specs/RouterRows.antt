@@ -44,12 +44,12 @@ pub record IsLive (part : RouterPart) (p : ℕ) (session : SessionValue) (errand
 -- ---- what is put
 
 -- a prefix is due on the peering, and not dirty
-abbrev pub Waits : RouterPart → ℕ → PrefixValue → Type 0
-Waits part p prefix = (has (part.due_out p) prefix ≡ true) × (has part.dirty prefix ≡ false)
+abbrev pub WaitsOnPeering : RouterPart → ℕ → PrefixValue → Type 0
+WaitsOnPeering part p prefix = (has (part.due_out p) prefix ≡ true) × (has part.dirty prefix ≡ false)
 
 -- it is due and not dirty, and what was told of it isn't what is to be told now
 abbrev pub IsToTell : Setup → ℕ → RouterPart → ℕ → SessionValue → PrefixValue → Type 0
-IsToTell setup r part p session prefix = Waits part p prefix × (map.get session.told prefix ≢ to_tell setup r part session prefix)
+IsToTell setup r part p session prefix = WaitsOnPeering part p prefix × (map.get session.told prefix ≢ to_tell setup r part session prefix)
 
 -- Everything that is due and not dirty was told as it is to be; it is no longer due.
 pub record PutsNothing (setup : Setup) (r p : ℕ) (before : RouterPart) (taken : Option RouterTaken) (sent : List RouterSent) (after : RouterPart) : Type 0 where
@@ -59,7 +59,7 @@ pub record PutsNothing (setup : Setup) (r p : ℕ) (before : RouterPart) (taken 
   pub live : IsLive before p session errand
   pub established : state session ≡ Established
   pub prefix : PrefixValue
-  pub waits : Waits before p prefix
+  pub waits : WaitsOnPeering before p prefix
   pub nothing : (x : PrefixValue) → IsToTell setup r before p session x → ⊥
   pub due : Drops (before.due_out p) (λ x. not (has before.dirty x)) (after.due_out p)
   pub effect : after ≡ record before { due_out = at before.due_out p (after.due_out p) }

@@ -91,17 +91,17 @@ rules_for setup r None = None
 rules_for setup r (Some name) = rules_named setup r name
 
 -- a name for which the router has no policy
-abbrev pub unknown : Setup → ℕ → Option (List ℕ) → Option (List ℕ)
-unknown setup r None = None
-unknown setup r (Some name) = if is_none (rules_named setup r name) then Some name else None
+abbrev pub unknown_policy : Setup → ℕ → Option (List ℕ) → Option (List ℕ)
+unknown_policy setup r None = None
+unknown_policy setup r (Some name) = if is_none (rules_named setup r name) then Some name else None
 
-abbrev pub first_of : Option (List ℕ) → Option (List ℕ) → Option (List ℕ)
-first_of None other = other
-first_of (Some name) other = Some name
+abbrev pub first_name : Option (List ℕ) → Option (List ℕ) → Option (List ℕ)
+first_name None other = other
+first_name (Some name) other = Some name
 
 -- the first policy that a session names and a router doesn't have: the import policy before the export policy
 abbrev pub missing_policy : Setup → ℕ → SessionConfig → Option (List ℕ)
-missing_policy setup r config = first_of (unknown setup r config.import) (unknown setup r config.export)
+missing_policy setup r config = first_name (unknown_policy setup r config.import) (unknown_policy setup r config.export)
 
 -- the configuration with which the session of a peering begins
 abbrev pub config_of : Setup → ℕ → Option SessionConfig
@@ -140,14 +140,14 @@ moved_by setup (EvacuateStep router) = peering_numbers setup
 moved_by setup SettleStep = []
 
 -- a graft of each of these peerings, by a step, numbered from k + 1 on
-abbrev pub numbered : ℕ → ℕ → List ℕ → List ScriptGraft
-numbered k step [] = []
-numbered k step (p ∷ peerings) = record { graft = k + 1; peering = p; step = step } ∷ numbered (k + 1) step peerings
+abbrev pub grafts_numbered : ℕ → ℕ → List ℕ → List ScriptGraft
+grafts_numbered k step [] = []
+grafts_numbered k step (p ∷ peerings) = record { graft = k + 1; peering = p; step = step } ∷ grafts_numbered (k + 1) step peerings
 
 -- the grafts of steps, the first of which is step n, numbered from k + 1 on
 abbrev pub grafts_after : Setup → ℕ → ℕ → List ScriptStep → List ScriptGraft
 grafts_after setup k n [] = []
-grafts_after setup k n (step ∷ steps) = numbered k n (moved_by setup step) ++ grafts_after setup (k + length (moved_by setup step)) (n + 1) steps
+grafts_after setup k n (step ∷ steps) = grafts_numbered k n (moved_by setup step) ++ grafts_after setup (k + length (moved_by setup step)) (n + 1) steps
 
 -- the grafts of the script, numbered from 1
 abbrev pub grafts_in : Setup → List ScriptGraft

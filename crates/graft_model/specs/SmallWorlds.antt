@@ -47,19 +47,19 @@ pair = record {
 -- ---- nothing is left to do
 
 -- the octets of the OPEN
-abbrev pub open_octets : List ℕ
-open_octets = put_bytes (peering_of config) (begun config).story
+abbrev pub small_open_octets : List ℕ
+small_open_octets = put_bytes (peering_of config) (begun config).story
 
 -- The session has put its OPEN, and knows that the remote has it.
 abbrev pub session : SessionValue
-session = record (begun config) { end = record fresh_endpoint { stream = open_octets; emitted = length open_octets; acked = length open_octets } }
+session = record (begun config) { end = record fresh_endpoint { stream = small_open_octets; emitted = length small_open_octets; acked = length small_open_octets } }
 
 -- what the remote has received
 abbrev pub remote_with : List ℕ → Endpoint
 remote_with bytes = record fresh_endpoint { arrived = map.from_sorted (enumerate_from 0 bytes) }
 
 abbrev pub far : FarPart
-far = record (first_far None) { end = remote_with open_octets }
+far = record (first_far None) { end = remote_with small_open_octets }
 
 abbrev pub holding : Place → RouterPart
 holding place = record (first_router pair 0) { places = at (λ p. Vacant) 0 place }

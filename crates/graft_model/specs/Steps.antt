@@ -25,12 +25,12 @@ pub data Event : Type 0 where
 
 -- ---- the row of each
 
-abbrev pub puts : Setup → ℕ → ℕ → ℕ → RouterPart → Option RouterTaken → List RouterSent → RouterPart → Type 0
-puts setup r p zero before taken sent after = PutsNothing setup r p before taken sent after
-puts setup r p (suc n) before taken sent after = PutsSome setup r p (suc n) before taken sent after
+abbrev pub put_row : Setup → ℕ → ℕ → ℕ → RouterPart → Option RouterTaken → List RouterSent → RouterPart → Type 0
+put_row setup r p zero before taken sent after = PutsNothing setup r p before taken sent after
+put_row setup r p (suc n) before taken sent after = PutsSome setup r p (suc n) before taken sent after
 
 abbrev pub router_row : Setup → ℕ → RouterEvent → RouterPart → Option RouterTaken → List RouterSent → RouterPart → Type 0
-router_row setup r (Put p n) before taken sent after = puts setup r p n before taken sent after
+router_row setup r (Put p n) before taken sent after = put_row setup r p n before taken sent after
 router_row setup r (Emit p from len) before taken sent after = Emits p from len before taken sent after
 router_row setup r (Arrive p) before taken sent after = Arrives p before taken sent after
 router_row setup r (Stray p) before taken sent after = Strays p before taken sent after

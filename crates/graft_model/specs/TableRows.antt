@@ -30,13 +30,13 @@ holds_established (Frozen session order) = is_established (state session)
 holds_established (Shadow graft) = false
 
 -- the test that only one prefix passes, and only if the flag is true
-abbrev pub only : PrefixValue → Bool → PrefixValue → Bool
-only prefix holds x = same_prefix prefix x && holds
+abbrev pub only_prefix : PrefixValue → Bool → PrefixValue → Bool
+only_prefix prefix holds x = same_prefix prefix x && holds
 
 -- A new best route is due to each other router and on each established session that is held.
 pub record DueEverywhere (setup : Setup) (r : ℕ) (prefix : PrefixValue) (before after : RouterPart) : Type 0 where
-  pub routers : (q : ℕ) → Adds (before.due_in q) (only prefix (nat_lt q (routers_in setup) && not (q == r))) (after.due_in q)
-  pub peerings : (p : ℕ) → Adds (before.due_out p) (only prefix (holds_established (before.places p))) (after.due_out p)
+  pub routers : (q : ℕ) → Adds (before.due_in q) (only_prefix prefix (nat_lt q (routers_in setup) && not (q == r))) (after.due_in q)
+  pub peerings : (p : ℕ) → Adds (before.due_out p) (only_prefix prefix (holds_established (before.places p))) (after.due_out p)
 
 -- A dirty prefix gets the chosen route. If that is a different one, it is due to be told.
 pub record Decides (setup : Setup) (r : ℕ) (prefix : PrefixValue) (before : RouterPart) (taken : Option RouterTaken) (sent : List RouterSent) (after : RouterPart) : Type 0 where

@@ -3,7 +3,7 @@
 ghost use Rattle.std.specs.Prelude.{◌≡◌, ◌≢◌, Bool, IfSome, IfNone};
 ghost use Rattle.tcp_seq.specs.declared.segment.Way.{Way};
 ghost use Rattle.graft_model.specs.declared.event.ActorEvent.{ActorEvent};
-ghost use Rattle.graft_model.specs.Codes.{flag as flag_lem, way_number as way_number_lem, prefix_of_args, router_code, far_code, operator_code, actor_code, HasPrefix, IsSound};
+ghost use Rattle.graft_model.specs.Codes.{flag as flag_lem, way_number as way_number_lem, prefix_of_args, router_code, far_code, operator_code, actor_code, HasPrefix, EventHasPrefix};
 
 use crate::event::{ActorEvent, FarEvent, OperatorEvent, RouterEvent};
 use bgp_types::Prefix;
@@ -287,8 +287,8 @@ fn operator_event(code: Code) -> Option<OperatorEvent>
 /// Returns the event with this code, or `None` exactly if no event has it. The entry of a dropped item, which has kind
 /// 0, belongs to no event.
 pub fn event_of(code: Code) -> Option<ActorEvent>
-    ensures some { IfSome result (λ event. (actor_code event ≡ code) × IsSound event) }
-    ensures none { IfNone result ((event : ActorEvent) → IsSound event → actor_code event ≢ code) }
+    ensures some { IfSome result (λ event. (actor_code event ≡ code) × EventHasPrefix event) }
+    ensures none { IfNone result ((event : ActorEvent) → EventHasPrefix event → actor_code event ≢ code) }
 {
     if let Some(event) = router_event(code) {
         return Some(ActorEvent::OfRouter(event));

@@ -23,13 +23,14 @@ use Rattle.route_policy.specs.Candidates.{candidates}
 use Rattle.route_policy.specs.Telling.{tell_in}
 use Rattle.graft_model.specs.Setups.{identifier_of, cost_between, has_network}
 use Rattle.graft_model.specs.Decisions.{to_tell}
-use Rattle.graft_worked.specs.Base.{base, config}
+use Rattle.graft_model.specs.SmallWorlds.{config}
+use Rattle.graft_worked.specs.Base.{base}
 use Rattle.graft_worked.specs.First.{home_open_bytes}
 use Rattle.graft_worked.specs.Graft.{put_all, said_all, over_router, session, a_after, b_after, after_graft}
 use Rattle.graft_model.specs.Parts.{Vacant, Live, FarPart, World}
 use Rattle.graft_model.specs.OperatorRows.{placement}
 use Rattle.graft_worked.proofs.Setup.{below_two, below_one}
-use Rattle.graft_worked.specs.Alone.{Field, One, Linked, Tellings, TransparentBut, SolvesBut, Own, Legal, Received, Got, Heard, Told, Placed, Elsewhere, Best}
+use Rattle.graft_worked.specs.Alone.{AloneField, One, Linked, Tellings, TransparentBut, SolvesBut, Own, Legal, Received, Got, Heard, Told, Placed, Elsewhere, Best}
 use Rattle.graft_worked.specs.Puts.{with_link_at_source}
 use Rattle.graft_worked.specs.Wrong.{with_session_kept, with_telling_on_its_way}
 use Rattle.graft_worked.specs.Weaker.{with_far, with_session, interrupted, with_empty_line, addressed, opened_twice, unhearing, telling, with_other_address, with_second_open, with_octet_received, with_update_unsaid, with_route_unheard, with_route_told, with_word_owed, with_keepalive_missing, with_keepalive_said, with_shadow_left, with_best_missing}
@@ -85,7 +86,7 @@ legal_alone = record {
 }
 
 -- of the last world with another far side
-far_transparent : (but : Field) (far : FarPart)
+far_transparent : (but : AloneField) (far : FarPart)
     → (but ≢ Received → AreFirst (received_bytes far.end) (put_bytes (peering_of config) (heard_lines 0))) → (but ≢ Got → AreFirst said_all far.end.stream)
     → TransparentBut but (with_far far) session
 far_transparent but far received got = record {
@@ -105,7 +106,7 @@ pub got_alone : TransparentBut Got with_update_unsaid session
 got_alone = far_transparent Got (with_update_unsaid.far 0) (λ other. received_after) (λ other. absurd (other refl))
 
 -- of the last world with other tables of the session's
-tables_transparent : (but : Field) (heard_in told_out : Routes)
+tables_transparent : (but : AloneField) (heard_in told_out : Routes)
     → (but ≢ Heard → heard_in ≡ heard (peering_of config) (heard_lines 0)) → (but ≢ Told → told_out ≡ told (heard_lines 0))
     → TransparentBut but (with_session (record session { heard = heard_in; told = told_out })) (record session { heard = heard_in; told = told_out })
 tables_transparent but heard_in told_out heard_is told_is = record {
@@ -136,7 +137,7 @@ transparent_of w s b = record {
   told = b.told (λ e. cc);
 }
 
-pub of_transparent : (but : Field) (w : World) (t : Transparent base w 0) → TransparentBut but w t.session
+pub of_transparent : (but : AloneField) (w : World) (t : Transparent base w 0) → TransparentBut but w t.session
 of_transparent but w t = record {
   one = λ other. t.one;
   own = λ other. t.own;
@@ -168,7 +169,7 @@ to_a_still : (prefix : PrefixValue) → map.get (a_after.tellings 1) prefix ≡ 
 to_a_still prefix = solves_after.tellings 1 0 prefix (lit< tt) (lit< tt) (λ e. cc)
 
 -- the fields that speak of routes
-abbrev Routed : Field → World → Type 0
+abbrev Routed : AloneField → World → Type 0
 Routed but w =
     (but ≢ Best → (prefix : PrefixValue) → map.get (w.router 0).best prefix
     ≡ choice (candidates 65000 prefix (has_network base 0 prefix) (session_routes base w 0 prefix) (router_routes base w 0 prefix)))
@@ -177,11 +178,11 @@ Routed but w =
     × ((but ≢ Tellings → (prefix : PrefixValue) → map.get ((w.router 1).tellings 0) prefix ≡ tell_in (map.get (w.router 0).best prefix))
     × ((prefix : PrefixValue) → map.get ((w.router 0).tellings 1) prefix ≡ tell_in (map.get (w.router 1).best prefix))))
 
-routed : (but : Field) → Routed but after_graft
+routed : (but : AloneField) → Routed but after_graft
 routed but = (λ other prefix. solves_after.best 0 prefix (lit< tt), (λ prefix. solves_after.best 1 prefix (lit< tt), (λ other. to_b_still, to_a_still)))
 
 -- of any world: what is said of its routes, and then each other field
-solved_but : (but : Field) (w : World) (s : SessionValue) → placement base w.operator 0 ≡ 1 → Routed but w
+solved_but : (but : AloneField) (w : World) (s : SessionValue) → placement base w.operator 0 ≡ 1 → Routed but w
     → (but ≢ Placed → (w.router 1).places 0 ≡ Live s None)
     → (but ≢ Linked → (w.far 0).pointer ≡ 1)
     → (but ≢ Told → (prefix : PrefixValue) → map.get s.told prefix ≡ while_established (state s) (to_tell base 1 (w.router 1) s prefix))
@@ -204,7 +205,7 @@ solved_but but w s logged routes placed linked told received got elsewhere = rec
 }
 
 -- of the last world with another far side
-far_solves : (but : Field) (far : FarPart) → (but ≢ Linked → far.pointer ≡ 1)
+far_solves : (but : AloneField) (far : FarPart) → (but ≢ Linked → far.pointer ≡ 1)
     → (but ≢ Received → received_bytes far.end ≡ put_bytes (peering_of config) (heard_lines 0)) → (but ≢ Got → GotAll session far.end.stream)
     → SolvesBut but (with_far far) session
 far_solves but far linked received got = solved_but but (with_far far) session refl (routed but)

@@ -47,7 +47,8 @@ found n (x ∷ xs) k = (λ i. cond (unsigned_tied k n i) (Some x) (found (n + 1)
 got_byte : (bytes : List ℕ) → T (map.is_sorted nat_cmp (enumerate_from 0 bytes)) → (k : ℕ) → map.get (from_zero bytes) k ≡ byte_from 0 bytes k
 got_byte bytes sorted k = map.get-from_sorted nat_cmp (enumerate_from 0 bytes) k sorted ∙ found 0 bytes k
 
-in_window : (bytes : List ℕ) (n k : ℕ) (t : Bool) → n ≡ 0 → length bytes ≤ 16384 → (nat_le n k && nat_lt k (n + 16384)) ≡ t → byte_from 0 bytes k ≡ cond t (byte_from 0 bytes k) None
+in_window : (bytes : List ℕ) (n k : ℕ) (t : Bool) → n ≡ 0 → length bytes ≤ 16384 → (nat_le n k && nat_lt k (n + 16384)) ≡ t
+    → byte_from 0 bytes k ≡ cond t (byte_from 0 bytes k) None
 in_window bytes n k true z short e = refl
 in_window bytes n k false z short e = let far : 16384 ≤ k = grind (arith, nat_tests) in byte_past 0 bytes k (omega arith)
 
@@ -59,7 +60,8 @@ brings_all e bytes ack is sorted short k =
     ∙ (in_window bytes (received e) k (nat_le (received e) k && nat_lt k (received e + 16384)) (ap (λ m. length (bytes_in_order m)) is ∙ ap length received_none) short refl
     ∙ ap (λ o. option_or o (byte_brought e (record { place = 0; bytes = bytes; ack = ack }) k)) (sym (ap (λ (m : Bytes). map.get m k) is ∙ map.get-empty nat_cmp k)))
 
-brings_nothing : (e : Endpoint) (place ack k : ℕ) → map.get e.arrived k ≡ option_or (map.get e.arrived k) (byte_brought e (record { place = place; bytes = []; ack = ack }) k)
+brings_nothing : (e : Endpoint) (place ack k : ℕ)
+    → map.get e.arrived k ≡ option_or (map.get e.arrived k) (byte_brought e (record { place = place; bytes = []; ack = ack }) k)
 brings_nothing e place ack k = sym (ap (option_or (map.get e.arrived k)) (ap (λ o. cond (nat_le (received e) k && nat_lt k (received e + 16384)) o None) (same_cond (nat_lt k place) None) ∙ same_cond (nat_le (received e) k && nat_lt k (received e + 16384)) None) ∙ or_none (map.get e.arrived k))
 
 -- at a received length of n

@@ -6,7 +6,7 @@ use Rattle.graft_model.specs.Parts.{Place, Vacant, Live, Errand, Owing, Asking, 
 use Rattle.graft_model.specs.RouterRows.{RouterTaken, MeshIn, RouterSent, MeshTo}
 use Rattle.graft_model.specs.GraftRows.{Asks, Answers, Counts, Ignores, Confirms}
 use Rattle.graft_model.proofs.Footprints.{at_apart}
-use Rattle.graft_worked.specs.Asked.{three, word_to, landed, asking, answered, confirmed}
+use Rattle.graft_worked.specs.Asked.{three, word_to, landed, asking, b_asked, confirmed}
 use Rattle.graft_worked.specs.Graft.{session}
 use Rattle.graft_worked.specs.Places.{idle_router}
 use Rattle.graft_worked.proofs.Points.{at-at}
@@ -39,7 +39,7 @@ asks = record {
 pub answers : Answers 1 idle_router (Some (MeshIn 1 (Asked 1 0))) (MeshTo 1 (Answered 1 0) ∷ []) idle_router
 answers = record { graft = 1; peering = 0; takes = refl; sends = refl; stays = refl }
 
-pub counts : Counts 2 asking (Some (MeshIn 2 (Answered 1 0))) [] answered
+pub counts : Counts 2 asking (Some (MeshIn 2 (Answered 1 0))) [] b_asked
 counts = record {
   graft = 1;
   peering = 0;
@@ -48,16 +48,17 @@ counts = record {
   source = 0;
   session = session;
   live = record { is = refl };
-  effect = λ i. record answered { places = sym (at-at vacant 0 (Live session (Some (Asking (word_to 2)))) (Live session (Some (Owing (word_to 3))))) i };
+  effect = λ i. record b_asked { places = sym (at-at vacant 0 (Live session (Some (Asking (word_to 2)))) (Live session (Some (Owing (word_to 3))))) i };
 }
 
-not_awaited : (source : ℕ) (s : SessionValue) → Live session (Some (Owing (word_to 3))) ≡ Live s (Some (Asking (record { graft = 1; source = source; next = 2 }))) → ⊥
+not_awaited : (source : ℕ) (s : SessionValue)
+    → Live session (Some (Owing (word_to 3))) ≡ Live s (Some (Asking (record { graft = 1; source = source; next = 2 }))) → ⊥
 not_awaited source s e = absurd cc
 
-pub ignores : Ignores 2 answered (Some (MeshIn 2 (Answered 1 0))) [] answered
+pub ignores : Ignores 2 b_asked (Some (MeshIn 2 (Answered 1 0))) [] b_asked
 ignores = record { graft = 1; peering = 0; takes = refl; sends = refl; unawaited = λ source s live. not_awaited source s live.is; stays = refl }
 
-pub confirms : Confirms three 1 1 answered None (MeshTo 0 (Done 1 0) ∷ []) confirmed
+pub confirms : Confirms three 1 1 b_asked None (MeshTo 0 (Done 1 0) ∷ []) confirmed
 confirms = record {
   peering = 0;
   source = 0;
@@ -88,7 +89,8 @@ unasked source next first of all = elim (all 2 (omega arith) (omega arith)) [ in
 vacant_is_none : (s : SessionValue) (errand : Option Errand) → Vacant ≡ Live s errand → ⊥
 vacant_is_none s errand e = cc
 
-only_there : (p : ℕ) (s : SessionValue) (source next : ℕ) → landed.places p ≡ Live s (Some (Owing (record { graft = 1; source = source; next = next }))) → (0 ≡ next) × (0 ≡ source)
+only_there : (p : ℕ) (s : SessionValue) (source next : ℕ)
+    → landed.places p ≡ Live s (Some (Owing (record { graft = 1; source = source; next = next }))) → (0 ≡ next) × (0 ≡ source)
 only_there zero s source next e = (ap owed_at e, ap source_at e)
 only_there (suc p) s source next e = absurd (vacant_is_none s (Some (Owing (record { graft = 1; source = source; next = next })))
     (sym (at_apart vacant 0 (suc p) (Live session (Some (Owing (word_to 0)))) (λ same. absurd (omega arith))) ∙ e))

@@ -94,8 +94,10 @@ no_order setup part router k graft taken sent after step known none row = elim r
       absurd cc
 ]
 
-pub unmade : (taken : Option OperatorTaken) (sent : List OperatorSent) (after : OperatorPart) → ¬ operator_row (emptying 4) (Order 0 4) with_room taken sent after
+pub unmade : (taken : Option OperatorTaken) (sent : List OperatorSent) (after : OperatorPart)
+    → ¬ operator_row (emptying 4) (Order 0 4) with_room taken sent after
 unmade taken sent after = no_order (emptying 4) with_room 0 4 (record { graft = 4; peering = 3; step = 0 }) taken sent after refl refl refl
 
-pub stays : (taken : Option OperatorTaken) (sent : List OperatorSent) (after : OperatorPart) → ¬ operator_row (emptying 1) (Order 0 2) without_room taken sent after
+pub stays : (taken : Option OperatorTaken) (sent : List OperatorSent) (after : OperatorPart)
+    → ¬ operator_row (emptying 1) (Order 0 2) without_room taken sent after
 stays taken sent after = no_order (emptying 1) without_room 0 2 (record { graft = 2; peering = 1; step = 0 }) taken sent after refl refl refl

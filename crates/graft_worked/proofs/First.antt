@@ -9,7 +9,7 @@ use Rattle.graft_model.specs.Points.{at}
 use Rattle.graft_model.specs.Parts.{Vacant, Live}
 use Rattle.graft_worked.specs.Base.{base, peering_c}
 use Rattle.graft_worked.specs.Places.{two, idle_router, idle_far}
-use Rattle.graft_worked.specs.First.{session_first, a_first, far_first, operator_first, first}
+use Rattle.graft_worked.specs.First.{session_first, a_first, far_first, operator_first, first_worked}
 use Rattle.graft_worked.proofs.Ungiven.{empties, nothing_given}
 use Rattle.graft_worked.proofs.Points.{empty_at, empty_two, empty_one}
 
@@ -54,7 +54,7 @@ base_empties (suc (suc zero)) = refl
 base_empties (suc (suc (suc zero))) = refl
 base_empties (suc (suc (suc (suc n)))) = refl
 
-pub first_is : first_world base ≡ first
+pub first_is : first_world base ≡ first_worked
 first_is = λ i. record {
   router = λ r. router_at r i;
   far = λ p. far_at p i;

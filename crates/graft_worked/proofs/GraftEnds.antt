@@ -15,7 +15,7 @@ use Rattle.bgp_types.specs.Prefixes.{PrefixValue}
 use Rattle.bgp_types.specs.Spelling.{spell, spell_attrs, attrs_written}
 use Rattle.bgp_types.specs.Tables.{prefix_cmp}
 use Rattle.bgp_story.specs.Readings.{IsLegal, put_bytes, told}
-use Rattle.bgp_story.specs.WorkedSessions.{ten, heard_lines}
+use Rattle.bgp_story.specs.WorkedSessions.{ten, heard_lines, heard_attrs}
 use Rattle.bgp_story.proofs.WorkedStories.{heard_all, heard_routes, peering_is}
 use Rattle.decision_core.specs.Choice.{keep, left_of, choice}
 use Rattle.route_policy.specs.declared.best.Best.{Best}
@@ -31,9 +31,10 @@ use Rattle.graft_model.specs.Placements.{target_in}
 use Rattle.graft_model.specs.Decisions.{to_tell, remote_identifier}
 use Rattle.graft_model.specs.Quiet.{Quiet, IsIdle, HasRead, AllAcked}
 use Rattle.graft_model.specs.Claims.{Transparent, Solves, SolvesOn, GotAll, session_routes, router_routes}
-use Rattle.graft_worked.specs.Base.{base, config}
-use Rattle.graft_worked.specs.Places.{idle_router, idle_far, nothing, world_of}
-use Rattle.graft_worked.specs.Graft.{put_all, said_all, home_end, remote_end, heard_attrs, route, entry, over_peering, over_router, session, a_before, b_before, far_before, operator_before, a_after, b_after, far_after, operator_after, before_graft, after_graft, with_entry_kept}
+use Rattle.graft_model.specs.SmallWorlds.{config}
+use Rattle.graft_worked.specs.Base.{base}
+use Rattle.graft_worked.specs.Places.{idle_router, idle_far, nothing_on_the_way, world_of}
+use Rattle.graft_worked.specs.Graft.{put_all, said_all, home_end, remote_end, route, entry, over_peering, over_router, session, a_before, b_before, far_before, operator_before, a_after, b_after, far_after, operator_after, before_graft, after_graft, with_entry_kept}
 use Rattle.graft_model.proofs.Numbers.{place_of_graft}
 use Rattle.graft_worked.proofs.Points.{two_all, at_all, empty_at, empty_two, empty_one}
 use Rattle.graft_worked.proofs.Setup.{below_two, below_one}
@@ -86,7 +87,8 @@ Issued o = (n p : ℕ) (bytes : List ℕ) → slice_get base.steps n ≡ Some (S
 abbrev Ended : OperatorPart → Type 0
 Ended o = (g : ScriptGraft) → graft_at base g.graft ≡ Some g → group_of base g.step ≡ o.group → target_in base o g ≢ None → o.outcome g.graft ≢ None
 
-calm_world : (a b : RouterPart) (far : FarPart) (o : OperatorPart) → Calm far a → Calm far b → far.homeward ≡ [] → far.remoteward ≡ [] → Issued o → Ended o → Quiet base (world_of a b far o nothing)
+calm_world : (a b : RouterPart) (far : FarPart) (o : OperatorPart) → Calm far a → Calm far b → far.homeward ≡ [] → far.remoteward ≡ [] → Issued o
+    → Ended o → Quiet base (world_of a b far o nothing_on_the_way)
 calm_world a b far o x y home remote issued ended = record {
   mesh = empty_two 1 0;
   outward = empty_two 0 0;
@@ -200,16 +202,19 @@ unfolding from_b choice left_of keep
 from_b_is prefix true = refl
 from_b_is prefix false = refl
 
-from_both_is : (prefix : PrefixValue) (t : Bool) → from_both prefix (cond t (Some heard_attrs) None) (cond t (Some (over_router 1)) None) ≡ cond t (Some over_peering) None
+from_both_is : (prefix : PrefixValue) (t : Bool)
+    → from_both prefix (cond t (Some heard_attrs) None) (cond t (Some (over_router 1)) None) ≡ cond t (Some over_peering) None
 unfolding from_both choice left_of keep message_of header_fault frame_at body_of open_of many many_within cap_at caps_of params_of
 from_both_is prefix true = refl
 from_both_is prefix false = refl
 
-routes_at_a : (prefix : PrefixValue) → choice (candidates 65000 prefix (has_network base 0 prefix) (session_routes base after_graft 0 prefix) (router_routes base after_graft 0 prefix)) ≡ from_b prefix (map.get b_after.best prefix)
+routes_at_a : (prefix : PrefixValue)
+    → choice (candidates 65000 prefix (has_network base 0 prefix) (session_routes base after_graft 0 prefix) (router_routes base after_graft 0 prefix)) ≡ from_b prefix (map.get b_after.best prefix)
 unfolding from_b
 routes_at_a prefix = refl
 
-routes_at_b : (prefix : PrefixValue) → choice (candidates 65000 prefix (has_network base 1 prefix) (session_routes base after_graft 1 prefix) (router_routes base after_graft 1 prefix)) ≡ from_both prefix (map.get session.heard prefix) (map.get a_after.best prefix)
+routes_at_b : (prefix : PrefixValue)
+    → choice (candidates 65000 prefix (has_network base 1 prefix) (session_routes base after_graft 1 prefix) (router_routes base after_graft 1 prefix)) ≡ from_both prefix (map.get session.heard prefix) (map.get a_after.best prefix)
 unfolding from_both
 routes_at_b prefix = refl
 
@@ -217,7 +222,8 @@ best_at_a : (prefix : PrefixValue) → map.get a_after.best prefix ≡ from_b pr
 best_at_a prefix = got_ten (over_router 1) prefix ∙ sym (ap (from_b prefix) (got_ten over_peering prefix) ∙ from_b_is prefix (is_ten prefix))
 
 best_at_b : (prefix : PrefixValue) → map.get b_after.best prefix ≡ from_both prefix (map.get session.heard prefix) (map.get a_after.best prefix)
-best_at_b prefix = got_ten over_peering prefix ∙ sym ((λ i. from_both prefix (got_ten heard_attrs prefix i) (got_ten (over_router 1) prefix i)) ∙ from_both_is prefix (is_ten prefix))
+best_at_b prefix = got_ten over_peering prefix
+    ∙ sym ((λ i. from_both prefix (got_ten heard_attrs prefix i) (got_ten (over_router 1) prefix i)) ∙ from_both_is prefix (is_ten prefix))
 
 pub told_to_b : (t : Bool) → None ≡ tell_in (cond t (Some (over_router 1)) None)
 told_to_b true = refl

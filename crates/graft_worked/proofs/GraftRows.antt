@@ -18,7 +18,7 @@ use Rattle.route_policy.specs.declared.best.Best.{Best}
 use Rattle.route_policy.specs.Candidates.{imported}
 use Rattle.route_policy.specs.Telling.{tell_in, tell_out}
 use Rattle.graft_steps.specs.declared.refusal.Outcome.TheVariants.{Accepted}
-use Rattle.bgp_story.specs.WorkedSessions.{ten}
+use Rattle.bgp_story.specs.WorkedSessions.{ten, heard_attrs}
 use Rattle.loc_rib.specs.Values.{with_best}
 use Rattle.graft_steps.specs.Refusals.{freeze_refusal, session_refusal}
 use Rattle.tcp_seq.specs.Endpoint.{Endpoint}
@@ -34,9 +34,10 @@ use Rattle.graft_model.specs.TableRows.{Decides, Tells, Hears, DueEverywhere, ho
 use Rattle.graft_model.specs.GraftRows.{Admits, Freezes, Leaves, Lands, Confirms, Clears}
 use Rattle.graft_model.specs.FarRows.{OutwardIn, TurnsLink}
 use Rattle.graft_model.specs.OperatorRows.{ReportIn, number_by, target_in, OrderTo, OrdersGraft, Notes, BeginsGroup}
-use Rattle.graft_worked.specs.Base.{base, config}
+use Rattle.graft_model.specs.SmallWorlds.{config}
+use Rattle.graft_worked.specs.Base.{base}
 use Rattle.graft_worked.specs.Places.{holding}
-use Rattle.graft_worked.specs.Graft.{at_ten, ten_alone, heard_attrs, route, entry, over_peering, over_router, session, b_before, far_before, operator_before, to_b, a_left, a_cleared, a_decided, a_after, b_landed, b_decided, b_put, b_told, b_heard, b_after, far_after, operator_begun, operator_ordered, operator_after, a_heard, a_kept, to_a, b_confirmed}
+use Rattle.graft_worked.specs.Graft.{at_ten, ten_alone, route, entry, over_peering, over_router, session, b_before, far_before, operator_before, to_b, a_left, a_cleared, a_decided, a_after, b_landed, b_decided, b_put, b_told, b_heard, b_after, far_after, operator_begun, operator_ordered, operator_after, a_heard, a_kept, to_a, b_confirmed}
 use Rattle.graft_worked.proofs.Points.{at-at, at-back, other_of_0, other_of_1}
 use Rattle.graft_worked.proofs.Ungiven.{nothing_given, none_before}
 use Rattle.graft_worked.proofs.First.{base_empties}
@@ -122,7 +123,8 @@ freezes r target part s no_cause = record {
   effect = λ i. record part { places = sym (at-at vacant 0 (Live s (Some (Leaving (record { graft = 1; target = target })))) (Frozen s (record { graft = 1; target = target }))) i };
 }
 
-pub leaves : (part : RouterPart) (s : SessionValue) → at part.due_out 0 map.empty ≡ part.due_out → Leaves 1 (holding part (Frozen s to_b)) None (MeshTo 1 (Moved 1 0 s) ∷ []) (holding part (Shadow 1))
+pub leaves : (part : RouterPart) (s : SessionValue) → at part.due_out 0 map.empty ≡ part.due_out
+    → Leaves 1 (holding part (Frozen s to_b)) None (MeshTo 1 (Moved 1 0 s) ∷ []) (holding part (Shadow 1))
 leaves part s nothing_due = record {
   peering = 0;
   target = 1;
@@ -140,7 +142,8 @@ may_freeze = refl
 brought : (r : ℕ) → PrefixValue → Option Attrs → Option Entry
 brought r x attrs = option_map (λ route. record { route = route; identifier = remote_identifier session; address = session.config.remote_address }) (imported base.home_as x (session_route base r session x) attrs)
 
-map_cond : {A B : Type 0} (F : Option A → Option B) (t : Bool) (v : A) (w : B) → F (Some v) ≡ Some w → F None ≡ None → F (cond t (Some v) None) ≡ cond t (Some w) None
+map_cond : {A B : Type 0} (F : Option A → Option B) (t : Bool) (v : A) (w : B) → F (Some v) ≡ Some w → F None ≡ None
+    → F (cond t (Some v) None) ≡ cond t (Some w) None
 map_cond F true v w e n = e
 map_cond F false v w e n = n
 
@@ -153,7 +156,8 @@ pub due_again : (best : Best) (x : PrefixValue) → has ten_alone x ≡ (is_some
 due_again best x = some_at_ten tt x ∙ (sym (some_at_ten best x) ∙ ap (λ told. told || is_some (map.get (at_ten best) x)) (sym (some_in_none _ x)))
 
 -- with any endpoint
-pub lands : (end : Endpoint) → Lands base 1 0 b_before (Some (MeshIn 0 (Moved 1 0 (record session { end = end })))) (OutwardTo 0 (PointAt 1) ∷ []) (holding b_landed (Live (record session { end = end }) (Some (Owing to_a))))
+pub lands : (end : Endpoint)
+    → Lands base 1 0 b_before (Some (MeshIn 0 (Moved 1 0 (record session { end = end })))) (OutwardTo 0 (PointAt 1) ∷ []) (holding b_landed (Live (record session { end = end }) (Some (Owing to_a))))
 lands end = record {
   comes = record { graft = 1; peering = 0; session = record session { end = end }; takes = refl; known = lit< tt; vacant = refl };
   admitted = refl;
@@ -207,11 +211,13 @@ chosen_from r entry one two = choice (
     filter_map (λ p. entry_candidate 65000 p entry) (0 ∷ [])
     ++ filter_map (λ q. telling_candidate base r q (cond (q == 0) one two)) (0 ∷ 1 ∷ []))
 
-pub at_a : (part : RouterPart) → chosen base 0 part ten ≡ chosen_from 0 (map.get (part.entries 0) ten) (map.get (part.tellings 0) ten) (map.get (part.tellings 1) ten)
+pub at_a : (part : RouterPart)
+    → chosen base 0 part ten ≡ chosen_from 0 (map.get (part.entries 0) ten) (map.get (part.tellings 0) ten) (map.get (part.tellings 1) ten)
 unfolding chosen_from
 at_a part = refl
 
-pub at_b : (part : RouterPart) → chosen base 1 part ten ≡ chosen_from 1 (map.get (part.entries 0) ten) (map.get (part.tellings 0) ten) (map.get (part.tellings 1) ten)
+pub at_b : (part : RouterPart)
+    → chosen base 1 part ten ≡ chosen_from 1 (map.get (part.entries 0) ten) (map.get (part.tellings 0) ten) (map.get (part.tellings 1) ten)
 unfolding chosen_from
 at_b part = refl
 
@@ -258,7 +264,8 @@ from_peering (Some best) = is_peering best.from
 differs : {a b : Option Best} → from_peering a ≡ true → from_peering b ≡ false → a ≢ b
 differs p q e = let apart : ◌≡◌ {A = Bool} true false = sym p ∙ (ap from_peering e ∙ q) in cc
 
-held_at_b : (t : Bool) (x : PrefixValue) → has (cond t ten_alone empty) x ≡ (has (cond t ten_alone empty) x || (same_prefix ten x && holds_established (cond t (Live session (Some (Owing to_a))) Vacant)))
+held_at_b : (t : Bool) (x : PrefixValue)
+    → has (cond t ten_alone empty) x ≡ (has (cond t ten_alone empty) x || (same_prefix ten x && holds_established (cond t (Live session (Some (Owing to_a))) Vacant)))
 unfolding header_fault
 held_at_b true x = keeps_ten x
 held_at_b false x = keeps_none x

@@ -26,7 +26,8 @@ base_small = record { a = lit< tt; b = lit< tt; c = lit< tt }
 module _ (setup : Setup) (small : IsSmall setup) (a b : RouterPart) (far : FarPart) (o : OperatorPart) (way : OnTheWay) where
   -- ---- router a
 
-  pub a_alone : (event : RouterEvent) (a' : RouterPart) → router_row setup 0 event a None [] a' → Step setup (ByRouter 0 event) (world_of a b far o way) (world_of a' b far o way)
+  pub a_alone : (event : RouterEvent) (a' : RouterPart) → router_row setup 0 event a None [] a'
+      → Step setup (ByRouter 0 event) (world_of a b far o way) (world_of a' b far o way)
   a_alone event a' row = record {
     known = small.a;
     taken = None;
@@ -51,7 +52,8 @@ module _ (setup : Setup) (small : IsSmall setup) (a b : RouterPart) (far : FarPa
     is = λ i. record (world_of a b far o way) { router = sym (two-0 idle_router a b a') i; mesh = sym (two2-0 [] 1 0 way.to_b way.to_a (way.to_b ++ item ∷ [])) i };
   }
 
-  pub a_ordered_by : (event : RouterEvent) (a' : RouterPart) (order : GraftOrder) (rest : List GraftOrder) → router_row setup 0 event a (Some (OrderIn order)) [] a'
+  pub a_ordered_by : (event : RouterEvent) (a' : RouterPart) (order : GraftOrder) (rest : List GraftOrder)
+      → router_row setup 0 event a (Some (OrderIn order)) [] a'
       → Step setup (ByRouter 0 event) (world_of a b far o (record way { ordered = order ∷ rest })) (world_of a' b far o (record way { ordered = rest }))
   a_ordered_by event a' order rest row = record {
     known = small.a;
@@ -77,7 +79,8 @@ module _ (setup : Setup) (small : IsSmall setup) (a b : RouterPart) (far : FarPa
     is = λ i. record (world_of a b far o (record way { to_a = rest })) { router = sym (two-0 idle_router a b a') i };
   }
 
-  pub a_ends : (event : RouterEvent) (a' : RouterPart) (item : Mesh) (rest : List Mesh) (report : Report) → router_row setup 0 event a (Some (MeshIn 1 item)) (ReportOut report ∷ []) a'
+  pub a_ends : (event : RouterEvent) (a' : RouterPart) (item : Mesh) (rest : List Mesh) (report : Report)
+      → router_row setup 0 event a (Some (MeshIn 1 item)) (ReportOut report ∷ []) a'
       → Step setup (ByRouter 0 event) (world_of a b far o (record way { to_a = item ∷ rest })) (world_of a' b far o (record way { to_a = rest; reported = way.reported ++ report ∷ [] }))
   a_ends event a' item rest report row = record {
     known = small.a;
@@ -92,7 +95,8 @@ module _ (setup : Setup) (small : IsSmall setup) (a b : RouterPart) (far : FarPa
 
   -- ---- router b
 
-  pub b_alone : (event : RouterEvent) (b' : RouterPart) → router_row setup 1 event b None [] b' → Step setup (ByRouter 1 event) (world_of a b far o way) (world_of a b' far o way)
+  pub b_alone : (event : RouterEvent) (b' : RouterPart) → router_row setup 1 event b None [] b'
+      → Step setup (ByRouter 1 event) (world_of a b far o way) (world_of a b' far o way)
   b_alone event b' row = record {
     known = small.b;
     taken = None;
@@ -130,7 +134,8 @@ module _ (setup : Setup) (small : IsSmall setup) (a b : RouterPart) (far : FarPa
     is = λ i. record (world_of a b far o (record way { to_b = rest })) { router = sym (two-1 idle_router a b b') i };
   }
 
-  pub b_takes_in : (event : RouterEvent) (b' : RouterPart) (item : Mesh) (rest : List Mesh) (out : Outward) → router_row setup 1 event b (Some (MeshIn 0 item)) (OutwardTo 0 out ∷ []) b'
+  pub b_takes_in : (event : RouterEvent) (b' : RouterPart) (item : Mesh) (rest : List Mesh) (out : Outward)
+      → router_row setup 1 event b (Some (MeshIn 0 item)) (OutwardTo 0 out ∷ []) b'
       → Step setup (ByRouter 1 event) (world_of a b far o (record way { to_b = item ∷ rest })) (world_of a b' far o (record way { to_b = rest; out_b = way.out_b ++ out ∷ [] }))
   b_takes_in event b' item rest out row = record {
     known = small.b;
@@ -146,7 +151,8 @@ module _ (setup : Setup) (small : IsSmall setup) (a b : RouterPart) (far : FarPa
     };
   }
 
-  pub b_sends_back : (event : RouterEvent) (b' : RouterPart) (item back : Mesh) (rest : List Mesh) → router_row setup 1 event b (Some (MeshIn 0 item)) (MeshTo 0 back ∷ []) b'
+  pub b_sends_back : (event : RouterEvent) (b' : RouterPart) (item back : Mesh) (rest : List Mesh)
+      → router_row setup 1 event b (Some (MeshIn 0 item)) (MeshTo 0 back ∷ []) b'
       → Step setup (ByRouter 1 event) (world_of a b far o (record way { to_b = item ∷ rest })) (world_of a b' far o (record way { to_b = rest; to_a = way.to_a ++ back ∷ [] }))
   b_sends_back event b' item back rest row = record {
     known = small.b;
@@ -178,7 +184,8 @@ module _ (setup : Setup) (small : IsSmall setup) (a b : RouterPart) (far : FarPa
       → Step setup (ByOperator event) (world_of a b far o way) (world_of a b far o' way)
   operator_alone event o' may row = record { may = may; taken = None; sent = []; part = o'; row = row; without = world_of a b far o way; took = refl; is = refl }
 
-  pub operator_orders : (event : OperatorEvent) (o' : OperatorPart) (order : GraftOrder) → MayMake setup event (world_of a b far o way) → operator_row setup event o None (OrderTo 0 order ∷ []) o'
+  pub operator_orders : (event : OperatorEvent) (o' : OperatorPart) (order : GraftOrder) → MayMake setup event (world_of a b far o way)
+      → operator_row setup event o None (OrderTo 0 order ∷ []) o'
       → Step setup (ByOperator event) (world_of a b far o way) (world_of a b far o' (record way { ordered = way.ordered ++ order ∷ [] }))
   operator_orders event o' order may row = record {
     may = may;
@@ -191,7 +198,9 @@ module _ (setup : Setup) (small : IsSmall setup) (a b : RouterPart) (far : FarPa
     is = λ i. record (world_of a b far o' way) { orders = sym (at-at (λ r. []) 0 way.ordered (way.ordered ++ order ∷ [])) i };
   }
 
-  pub operator_notes : (event : OperatorEvent) (o' : OperatorPart) (report : Report) (rest : List Report) → MayMake setup event (world_of a b far o (record way { reported = report ∷ rest })) → operator_row setup event o (Some (ReportIn 0 report)) [] o'
+  pub operator_notes : (event : OperatorEvent) (o' : OperatorPart) (report : Report) (rest : List Report)
+      → MayMake setup event (world_of a b far o (record way { reported = report ∷ rest }))
+      → operator_row setup event o (Some (ReportIn 0 report)) [] o'
       → Step setup (ByOperator event) (world_of a b far o (record way { reported = report ∷ rest })) (world_of a b far o' (record way { reported = rest }))
   operator_notes event o' report rest may row = record {
     may = may;
@@ -232,7 +241,8 @@ module _ (setup : Setup) (small : IsSmall setup) (a b : RouterPart) (far : FarPa
     is = λ i. record (world_of a b far o way) { router = sym (two-0 idle_router a b a') i; outward = sym (two2-0 [] 0 0 way.out_a way.out_b (way.out_a ++ out ∷ [])) i };
   }
 
-  pub a_from_far : (event : RouterEvent) (a' : RouterPart) (segment : PlacedSegment) (rest : List PlacedSegment) → router_row setup 0 event a (Some (SegmentIn 0 segment)) [] a'
+  pub a_from_far : (event : RouterEvent) (a' : RouterPart) (segment : PlacedSegment) (rest : List PlacedSegment)
+      → router_row setup 0 event a (Some (SegmentIn 0 segment)) [] a'
       → Step setup (ByRouter 0 event) (world_of a b far o (record way { in_a = segment ∷ rest })) (world_of a' b far o (record way { in_a = rest }))
   a_from_far event a' segment rest row = record {
     known = small.a;
@@ -245,7 +255,8 @@ module _ (setup : Setup) (small : IsSmall setup) (a b : RouterPart) (far : FarPa
     is = λ i. record (world_of a b far o (record way { in_a = rest })) { router = sym (two-0 idle_router a b a') i };
   }
 
-  pub far_alone : (event : FarEvent) (far' : FarPart) → far_row setup 0 event far None [] far' → Step setup (ByFar 0 event) (world_of a b far o way) (world_of a b far' o way)
+  pub far_alone : (event : FarEvent) (far' : FarPart) → far_row setup 0 event far None [] far'
+      → Step setup (ByFar 0 event) (world_of a b far o way) (world_of a b far' o way)
   far_alone event far' row = record {
     known = small.c;
     taken = None;
@@ -283,7 +294,8 @@ module _ (setup : Setup) (small : IsSmall setup) (a b : RouterPart) (far : FarPa
     is = λ i. record (world_of a b far o (record way { out_a = rest })) { far = sym (at-at (λ p. idle_far) 0 far far') i };
   }
 
-  pub far_to_a : (event : FarEvent) (far' : FarPart) (segment : PlacedSegment) → far_row setup 0 event far None (record { router = 0; segment = segment } ∷ []) far'
+  pub far_to_a : (event : FarEvent) (far' : FarPart) (segment : PlacedSegment)
+      → far_row setup 0 event far None (record { router = 0; segment = segment } ∷ []) far'
       → Step setup (ByFar 0 event) (world_of a b far o way) (world_of a b far' o (record way { in_a = way.in_a ++ segment ∷ [] }))
   far_to_a event far' segment row = record {
     known = small.c;
@@ -296,7 +308,8 @@ module _ (setup : Setup) (small : IsSmall setup) (a b : RouterPart) (far : FarPa
     is = λ i. record (world_of a b far o way) { far = sym (at-at (λ p. idle_far) 0 far far') i; inward = sym (one2 [] way.in_a (way.in_a ++ segment ∷ [])) i };
   }
 
-  pub operator_says : (event : OperatorEvent) (o' : OperatorPart) (step : ℕ) → MayMake setup event (world_of a b far o way) → operator_row setup event o None (SayTo 0 step ∷ []) o'
+  pub operator_says : (event : OperatorEvent) (o' : OperatorPart) (step : ℕ) → MayMake setup event (world_of a b far o way)
+      → operator_row setup event o None (SayTo 0 step ∷ []) o'
       → Step setup (ByOperator event) (world_of a b far o way) (world_of a b far o' (record way { said = way.said ++ step ∷ [] }))
   operator_says event o' step may row = record {
     may = may;

@@ -27,7 +27,8 @@ use Rattle.graft_model.specs.Sets.{Lists}
 use Rattle.graft_model.specs.Setups.{Setup}
 use Rattle.graft_model.specs.Parts.{Vacant, Live, RouterPart}
 use Rattle.graft_model.specs.RouterRows.{RouterTaken, RouterSent, IsToTell, PutsSome}
-use Rattle.graft_worked.specs.Base.{base, config}
+use Rattle.graft_model.specs.SmallWorlds.{config}
+use Rattle.graft_worked.specs.Base.{base}
 use Rattle.graft_worked.specs.Graft.{at_ten, ten_alone}
 use Rattle.graft_worked.specs.Next.{Condition, Least, ToldFirst, Size, Whole, PutsSomeBut, nine, nine_alone, nine_and_ten, longer_at_b, a_two_due, a_second_put}
 use Rattle.graft_worked.specs.Puts.{own_at_b, a_to_put, a_has_put, session_told}

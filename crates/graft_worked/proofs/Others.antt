@@ -26,7 +26,7 @@ use Rattle.graft_model.specs.declared.event.FarEvent.TheVariants.{Lose, Beat}
 use Rattle.graft_model.specs.declared.event.OperatorEvent.TheVariants.{Go}
 use Rattle.graft_model.specs.Steps.{Event, ByRouter, ByFar, ByOperator, Step}
 use Rattle.graft_worked.specs.Base.{base}
-use Rattle.graft_worked.specs.Places.{nothing, idle_router}
+use Rattle.graft_worked.specs.Places.{nothing_on_the_way, idle_router}
 use Rattle.graft_worked.specs.First.{a_first}
 use Rattle.graft_worked.specs.Graft.{session, a_before, b_before, far_before, operator_before, a_after, b_after, far_after, operator_after, before_graft, after_graft, said_all, remote_end}
 use Rattle.graft_worked.specs.Start.{a_with, ack_segment, far_sent, far_emitted}
@@ -45,13 +45,13 @@ strays = record {
 }
 
 pub may_stray : Step base (ByRouter 0 (Stray 0)) with_stray without_stray
-may_stray = a_from_far base base_small a_after b_after far_after operator_after nothing (Stray 0) a_after ack_segment [] strays
+may_stray = a_from_far base base_small a_after b_after far_after operator_after nothing_on_the_way (Stray 0) a_after ack_segment [] strays
 
 loses : Loses Home 0 far_sent None [] far_emitted
 loses = record { there = lit< tt; takes = refl; sends = refl; effect = refl }
 
 pub may_lose : Step base (ByFar 0 (Lose Home 0)) with_segment without_segment
-may_lose = far_alone base base_small a_first idle_router far_sent operator_before nothing (Lose Home 0) far_emitted loses
+may_lose = far_alone base base_small a_first idle_router far_sent operator_before nothing_on_the_way (Lose Home 0) far_emitted loses
 
 -- ---- at the end no group is left, and the remote doesn't beat
 
@@ -91,7 +91,7 @@ unfolding spell
 beats = record { beat = 30; is = refl; some = lit< tt; multiple = refl; later = lit< tt; few = lit< tt; takes = refl; sends = refl; effect = refl }
 
 pub may_beat : Step beating (ByFar 0 (Beat 30)) before_graft with_beat
-may_beat = far_alone beating beating_small a_before b_before far_before operator_before nothing (Beat 30) (record far_before { end = record remote_end { stream = said_all ++ keepalive_bytes }; beats = 1; last_beat = 30 }) beats
+may_beat = far_alone beating beating_small a_before b_before far_before operator_before nothing_on_the_way (Beat 30) (record far_before { end = record remote_end { stream = said_all ++ keepalive_bytes }; beats = 1; last_beat = 30 }) beats
 
 round_passes : PassesRound session_timed 1 session_ticked
 unfolding message_of header_fault frame_at body_of open_of many many_within cap_at caps_of params_of
@@ -124,4 +124,4 @@ ticks = record {
 }
 
 pub may_tick : Step beating (ByRouter 0 (Tick 0 1)) with_round_due with_round
-may_tick = a_alone beating beating_small (a_with session_timed) idle_router far_before operator_before nothing (Tick 0 1) (a_with session_ticked) ticks
+may_tick = a_alone beating beating_small (a_with session_timed) idle_router far_before operator_before nothing_on_the_way (Tick 0 1) (a_with session_ticked) ticks

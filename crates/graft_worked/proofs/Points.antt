@@ -38,13 +38,16 @@ two-1 none a b b' = λ i n. swapped (n == 0) (n == 1) a b b' none (apart n) i
 
 module _ {A : Type 0} (none : A) (k j : ℕ) (x y : A) where
   pub two2-0 : (x' : A) → at2 (two (λ r. none) (at (λ r. none) k x) (at (λ r. none) j y)) 0 k x' ≡ two (λ r. none) (at (λ r. none) k x') (at (λ r. none) j y)
-  two2-0 x' = ap (at (two (λ r. none) (at (λ r. none) k x) (at (λ r. none) j y)) 0) (at-at (λ r. none) k x x') ∙ two-0 (λ r. none) (at (λ r. none) k x) (at (λ r. none) j y) (at (λ r. none) k x')
+  two2-0 x' = ap (at (two (λ r. none) (at (λ r. none) k x) (at (λ r. none) j y)) 0) (at-at (λ r. none) k x x')
+      ∙ two-0 (λ r. none) (at (λ r. none) k x) (at (λ r. none) j y) (at (λ r. none) k x')
 
   pub two2-1 : (y' : A) → at2 (two (λ r. none) (at (λ r. none) k x) (at (λ r. none) j y)) 1 j y' ≡ two (λ r. none) (at (λ r. none) k x) (at (λ r. none) j y')
-  two2-1 y' = ap (at (two (λ r. none) (at (λ r. none) k x) (at (λ r. none) j y)) 1) (at-at (λ r. none) j y y') ∙ two-1 (λ r. none) (at (λ r. none) k x) (at (λ r. none) j y) (at (λ r. none) j y')
+  two2-1 y' = ap (at (two (λ r. none) (at (λ r. none) k x) (at (λ r. none) j y)) 1) (at-at (λ r. none) j y y')
+      ∙ two-1 (λ r. none) (at (λ r. none) k x) (at (λ r. none) j y) (at (λ r. none) j y')
 
 pub one2 : {A : Type 0} (none x x' : A) → at2 (at (λ r q. none) 0 (at (λ q. none) 0 x)) 0 0 x' ≡ at (λ r q. none) 0 (at (λ q. none) 0 x')
-one2 none x x' = ap (at (at (λ r q. none) 0 (at (λ q. none) 0 x)) 0) (at-at (λ q. none) 0 x x') ∙ at-at (λ r q. none) 0 (at (λ q. none) 0 x) (at (λ q. none) 0 x')
+one2 none x x' = ap (at (at (λ r q. none) 0 (at (λ q. none) 0 x)) 0) (at-at (λ q. none) 0 x x')
+    ∙ at-at (λ r q. none) 0 (at (λ q. none) 0 x) (at (λ q. none) 0 x')
 
 each : {A : Type 0} (P : A → Type 0) (s t : Bool) (none a b : A) → P none → P a → P b → P (cond s a (cond t b none))
 each P true t none a b x y z = y

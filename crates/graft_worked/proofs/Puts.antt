@@ -30,8 +30,9 @@ use Rattle.graft_model.specs.Decisions.{to_tell, out_side}
 use Rattle.graft_model.specs.RouterRows.{IsToTell, PutsSome}
 use Rattle.graft_model.specs.declared.event.RouterEvent.TheVariants.{Put}
 use Rattle.graft_model.specs.Steps.{ByRouter, Step}
-use Rattle.graft_worked.specs.Base.{base, config}
-use Rattle.graft_worked.specs.Places.{idle_router, nothing}
+use Rattle.graft_model.specs.SmallWorlds.{config}
+use Rattle.graft_worked.specs.Base.{base}
+use Rattle.graft_worked.specs.Places.{idle_router, nothing_on_the_way}
 use Rattle.graft_worked.specs.Graft.{ten_alone, at_ten, far_before, operator_before}
 use Rattle.graft_worked.specs.Start.{session_joined}
 use Rattle.graft_worked.specs.Puts.{own_at_b, a_to_put, session_told, a_has_put, with_route_due, with_route_put}
@@ -138,4 +139,4 @@ puts_some = record {
 }
 
 pub may_put : Step base (ByRouter 0 (Put 0 1)) with_route_due with_route_put
-may_put = a_alone base base_small a_to_put idle_router far_before operator_before nothing (Put 0 1) a_has_put puts_some
+may_put = a_alone base base_small a_to_put idle_router far_before operator_before nothing_on_the_way (Put 0 1) a_has_put puts_some

@@ -25,8 +25,8 @@ use Rattle.graft_model.specs.declared.event.RouterEvent.TheVariants.{Admit, Refu
 use Rattle.graft_model.specs.declared.event.OperatorEvent.TheVariants.{Order}
 use Rattle.graft_model.specs.Steps.{Event, ByRouter, ByOperator, Step, Run}
 use Rattle.graft_worked.specs.Base.{base}
-use Rattle.graft_worked.specs.Places.{idle_router, holding, nothing, world_of}
-use Rattle.graft_worked.specs.First.{session_first, a_first, far_first, operator_first, first}
+use Rattle.graft_worked.specs.Places.{idle_router, holding, nothing_on_the_way, world_of}
+use Rattle.graft_worked.specs.First.{session_first, a_first, far_first, operator_first, first_worked}
 use Rattle.graft_worked.specs.Graft.{to_b, operator_before}
 use Rattle.graft_worked.specs.Start.{a_with, session_joined, far_emitted, joined_world, joining_events}
 use Rattle.graft_worked.specs.Refused.{refusing, operator_moved, refusal_report, refused_events, with_refusal, returned_events, with_returned}
@@ -68,7 +68,7 @@ refusing_empties (suc (suc (suc n))) = refl
 same_operator : first_operator refusing ≡ first_operator base
 same_operator = nothing_given refusing operator_first refusing_empties ∙ sym (nothing_given base operator_first base_empties)
 
-begins : first_world refusing ≡ first
+begins : first_world refusing ≡ first_worked
 begins = (λ i. record (first_world base) { router = λ r. same_router r i; operator = same_operator i }) ∙ first_is
 
 -- ---- the order
@@ -97,16 +97,16 @@ refuses = record {
   effect = λ i. record a_first { places = sym (at-at (λ p. Vacant) 0 (Live session_first (Some (Leaving to_b))) (Live session_first None)) i };
 }
 
-refused : Run refusing first refused_events with_refusal
+refused : Run refusing first_worked refused_events with_refusal
 refused = (
   _,
-  operator_orders refusing small a_first idle_router far_first operator_first nothing (Order 1 0) (operator_moved (λ n. false)) (record { graft = 1; peering = 0; target = 1 }) tt (inr (orders (λ n. false))),
+  operator_orders refusing small a_first idle_router far_first operator_first nothing_on_the_way (Order 1 0) (operator_moved (λ n. false)) (record { graft = 1; peering = 0; target = 1 }) tt (inr (orders (λ n. false))),
   (
     _,
-    a_ordered_by refusing small a_first idle_router far_first (operator_moved (λ n. false)) nothing (Admit 1) (holding idle_router (Live session_first (Some (Leaving to_b)))) (record { graft = 1; peering = 0; target = 1 }) [] (admits refusing (lit< tt) idle_router session_first),
+    a_ordered_by refusing small a_first idle_router far_first (operator_moved (λ n. false)) nothing_on_the_way (Admit 1) (holding idle_router (Live session_first (Some (Leaving to_b)))) (record { graft = 1; peering = 0; target = 1 }) [] (admits refusing (lit< tt) idle_router session_first),
     (
       _,
-      a_reports refusing small (holding idle_router (Live session_first (Some (Leaving to_b)))) idle_router far_first (operator_moved (λ n. false)) nothing (Refuse 1) a_first (refusal_report (NotEstablished OpenSent)) refuses,
+      a_reports refusing small (holding idle_router (Live session_first (Some (Leaving to_b)))) idle_router far_first (operator_moved (λ n. false)) nothing_on_the_way (Refuse 1) a_first (refusal_report (NotEstablished OpenSent)) refuses,
       refl,
     ),
   ),
@@ -158,44 +158,44 @@ abbrev pub away : List Event
 away = ByRouter 0 (Leave 1) ∷ ByRouter 1 (TurnBack 0) ∷ []
 
 abbrev pub with_order : World
-with_order = world_of (holding idle_router (Live session_joined (Some (Leaving to_b)))) idle_router far_emitted moved nothing
+with_order = world_of (holding idle_router (Live session_joined (Some (Leaving to_b)))) idle_router far_emitted moved nothing_on_the_way
 
 abbrev pub with_freeze : World
-with_freeze = world_of (holding idle_router (Frozen session_joined to_b)) idle_router far_emitted moved nothing
+with_freeze = world_of (holding idle_router (Frozen session_joined to_b)) idle_router far_emitted moved nothing_on_the_way
 
 abbrev pub with_session_back : World
-with_session_back = world_of (holding idle_router (Shadow 1)) idle_router far_emitted moved (record nothing { to_a = Back 1 0 session_joined (RouterFull 0) ∷ [] })
+with_session_back = world_of (holding idle_router (Shadow 1)) idle_router far_emitted moved (record nothing_on_the_way { to_a = Back 1 0 session_joined (RouterFull 0) ∷ [] })
 
 ordered : Run refusing joined_world ordering_events with_order
 ordered = (
   _,
-  operator_orders refusing small (a_with session_joined) idle_router far_emitted operator_before nothing (Order 1 0) moved (record { graft = 1; peering = 0; target = 1 }) tt (inr (orders (at (λ n. false) 0 true))),
+  operator_orders refusing small (a_with session_joined) idle_router far_emitted operator_before nothing_on_the_way (Order 1 0) moved (record { graft = 1; peering = 0; target = 1 }) tt (inr (orders (at (λ n. false) 0 true))),
   (
     _,
-    a_ordered_by refusing small (a_with session_joined) idle_router far_emitted moved nothing (Admit 1) (holding idle_router (Live session_joined (Some (Leaving to_b)))) (record { graft = 1; peering = 0; target = 1 }) [] (admits refusing (lit< tt) idle_router session_joined),
+    a_ordered_by refusing small (a_with session_joined) idle_router far_emitted moved nothing_on_the_way (Admit 1) (holding idle_router (Live session_joined (Some (Leaving to_b)))) (record { graft = 1; peering = 0; target = 1 }) [] (admits refusing (lit< tt) idle_router session_joined),
     refl,
   ),
 )
 
 pub ordered_from_first : Run refusing (first_world refusing) (joining_events ++ ordering_events) with_order
-ordered_from_first = subst (λ (w : World). Run refusing w (joining_events ++ ordering_events) with_order) (sym begins) (joined refusing first joined_world with_order joining_events ordering_events (joins refusing small refl) ordered)
+ordered_from_first = subst (λ (w : World). Run refusing w (joining_events ++ ordering_events) with_order) (sym begins) (joined refusing first_worked joined_world with_order joining_events ordering_events (joins refusing small refl) ordered)
 
 pub frozen : Step refusing (ByRouter 0 (Freeze 1)) with_order with_freeze
-frozen = a_alone refusing small (holding idle_router (Live session_joined (Some (Leaving to_b)))) idle_router far_emitted moved nothing (Freeze 1) (holding idle_router (Frozen session_joined to_b)) (freezes 0 1 idle_router session_joined may_freeze)
+frozen = a_alone refusing small (holding idle_router (Live session_joined (Some (Leaving to_b)))) idle_router far_emitted moved nothing_on_the_way (Freeze 1) (holding idle_router (Frozen session_joined to_b)) (freezes 0 1 idle_router session_joined may_freeze)
 
 pub goes_away : Run refusing with_freeze away with_session_back
 goes_away = (
   _,
-  a_to_b refusing small (holding idle_router (Frozen session_joined to_b)) idle_router far_emitted moved nothing (Leave 1) (holding idle_router (Shadow 1)) (Moved 1 0 session_joined) (leaves idle_router session_joined (at-same empty 0)),
+  a_to_b refusing small (holding idle_router (Frozen session_joined to_b)) idle_router far_emitted moved nothing_on_the_way (Leave 1) (holding idle_router (Shadow 1)) (Moved 1 0 session_joined) (leaves idle_router session_joined (at-same empty 0)),
   (
     _,
-    b_sends_back refusing small (holding idle_router (Shadow 1)) idle_router far_emitted moved nothing (TurnBack 0) idle_router (Moved 1 0 session_joined) (Back 1 0 session_joined (RouterFull 0)) [] turns_back,
+    b_sends_back refusing small (holding idle_router (Shadow 1)) idle_router far_emitted moved nothing_on_the_way (TurnBack 0) idle_router (Moved 1 0 session_joined) (Back 1 0 session_joined (RouterFull 0)) [] turns_back,
     refl,
   ),
 )
 
 pub comes_back : Step refusing (ByRouter 0 (Return 1)) with_session_back with_returned
-comes_back = a_ends refusing small (holding idle_router (Shadow 1)) idle_router far_emitted moved nothing (Return 1) (a_with session_joined) (Back 1 0 session_joined (RouterFull 0)) [] (refusal_report (RouterFull 0)) returns
+comes_back = a_ends refusing small (holding idle_router (Shadow 1)) idle_router far_emitted moved nothing_on_the_way (Return 1) (a_with session_joined) (Back 1 0 session_joined (RouterFull 0)) [] (refusal_report (RouterFull 0)) returns
 
 pub returned_from_first : Run refusing (first_world refusing) returned_events with_returned
 returned_from_first = joined refusing (first_world refusing) with_order with_returned (joining_events ++ ordering_events) (ByRouter 0 (Freeze 1) ∷ (away ++ ByRouter 0 (Return 1) ∷ [])) ordered_from_first

@@ -20,7 +20,7 @@ use Rattle.bgp_types.specs.Spelling.{spell}
 use Rattle.bgp_types.specs.UpdateBody.{fields_of, all_known, update_of}
 use Rattle.bgp_types.specs.WireAttrs.{attr_at}
 use Rattle.bgp_story.specs.declared.line.Line.TheVariants.{Put}
-use Rattle.bgp_story.specs.WorkedSessions.{open_bytes, keepalive_bytes, update_bytes}
+use Rattle.bgp_story.specs.WorkedSessions.{open_bytes, keepalive_bytes, update_bytes, heard_attrs}
 use Rattle.route_policy.specs.Candidates.{imported}
 use Rattle.tcp_seq.specs.Endpoint.{Bytes, bytes_in_order, run_from}
 use Rattle.session_value.specs.Sessions.{SessionValue}
@@ -35,7 +35,7 @@ use Rattle.graft_model.specs.FarRows.{OutwardIn, SayIn, Says, SendsSegment, Take
 use Rattle.graft_model.specs.OperatorRows.{SayTo, OrdersSay}
 use Rattle.graft_worked.specs.Base.{base}
 use Rattle.graft_worked.specs.First.{far_first, operator_first}
-use Rattle.graft_worked.specs.Graft.{put_all, said_all, from_zero, at_ten, heard_attrs, entry, session, remote_end, operator_before, far_before}
+use Rattle.graft_worked.specs.Graft.{put_all, said_all, from_zero, at_ten, entry, session, remote_end, operator_before, far_before}
 use Rattle.graft_worked.specs.Start.{said_segment, put_segment, ack_segment, far_said, far_emitted, far_sent, far_taken, far_reached, far_answered, session_arrived, session_confirmed, session_joined, session_heard, session_emitted, a_with, a_got}
 use Rattle.graft_worked.proofs.Points.{at-at, at-same}
 use Rattle.graft_worked.proofs.Tens.{empty, got_none, got_ten, is_ten, some_at_ten, some_in_none, marks_new}
@@ -60,7 +60,8 @@ received_put = ap (run_from 0) (map.entries-from_sorted nat_cmp (enumerate_from 
 
 -- ---- the operator and the remote
 
-pub orders_say : (setup : Setup) → slice_get setup.steps 0 ≡ Some (SayStep 0 update_bytes) → OrdersSay setup 0 0 operator_first None (SayTo 0 0 ∷ []) operator_before
+pub orders_say : (setup : Setup) → slice_get setup.steps 0 ≡ Some (SayStep 0 update_bytes)
+    → OrdersSay setup 0 0 operator_first None (SayTo 0 0 ∷ []) operator_before
 orders_say setup says_first = record {
   alone = refl;
   group = refl;
@@ -220,7 +221,8 @@ got_keepalive_row setup = record {
   };
 }
 
-map_cond : {A B : Type 0} (F : Option A → Option B) (t : Bool) (v : A) (w : B) → F (Some v) ≡ Some w → F None ≡ None → F (cond t (Some v) None) ≡ cond t (Some w) None
+map_cond : {A B : Type 0} (F : Option A → Option B) (t : Bool) (v : A) (w : B) → F (Some v) ≡ Some w → F None ≡ None
+    → F (cond t (Some v) None) ≡ cond t (Some w) None
 map_cond F true v w e n = e
 map_cond F false v w e n = n
 

@@ -12,7 +12,8 @@ use Rattle.graft_model.specs.Parts.{Vacant, Live, Told}
 use Rattle.graft_model.specs.Decisions.{chosen, to_tell, out_side}
 use Rattle.graft_model.specs.RouterRows.{MeshIn, MeshTo, PutsNothing}
 use Rattle.graft_model.specs.TableRows.{Decides, Tells, Hears, DueEverywhere, holds_established}
-use Rattle.graft_worked.specs.Base.{base, config}
+use Rattle.graft_model.specs.SmallWorlds.{config}
+use Rattle.graft_worked.specs.Base.{base}
 use Rattle.graft_worked.specs.Places.{idle_router}
 use Rattle.graft_worked.specs.Graft.{ten_alone, route, entry, over_peering, over_router, session, a_before, b_before}
 use Rattle.graft_worked.specs.Start.{a_got, a_chosen, a_put, b_dirty, b_chosen}
@@ -37,7 +38,8 @@ b_chooses = at_b b_dirty ∙ (by_parts 1 (got_none ten) (got_it route) (got_none
 some_apart : {A : Type 0} {a b : Option A} → is_some a ≡ true → is_some b ≡ false → a ≢ b
 some_apart p q e = let apart : ◌≡◌ {A = Bool} true false = sym p ∙ (ap is_some e ∙ q) in cc
 
-held_at_a : (t : Bool) (x : PrefixValue) → has (cond t ten_alone empty) x ≡ (has empty x || (same_prefix ten x && holds_established (cond t (Live session None) Vacant)))
+held_at_a : (t : Bool) (x : PrefixValue)
+    → has (cond t ten_alone empty) x ≡ (has empty x || (same_prefix ten x && holds_established (cond t (Live session None) Vacant)))
 unfolding header_fault
 held_at_a true x = adds_ten true x
 held_at_a false x = adds_ten false x

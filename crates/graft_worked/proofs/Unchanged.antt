@@ -16,11 +16,11 @@ use Rattle.graft_model.specs.declared.event.RouterEvent.{RouterEvent}
 use Rattle.graft_model.specs.declared.event.RouterEvent.TheVariants.{Freeze, Leave, Land, Return}
 use Rattle.graft_model.specs.Steps.{Event, ByRouter, Step, Run}
 use Rattle.graft_worked.specs.Base.{base}
-use Rattle.graft_worked.specs.Places.{OnTheWay, holding, nothing}
+use Rattle.graft_worked.specs.Places.{OnTheWay, holding, nothing_on_the_way}
 use Rattle.graft_worked.specs.Graft.{ten_alone, over_peering, session, home_end, a_before, b_before, far_before, operator_ordered, to_a, a_ordered, a_frozen, a_left, b_landed}
 use Rattle.graft_worked.specs.Refused.{refusal_report}
 use Rattle.graft_worked.specs.Start.{session_emitted}
-use Rattle.graft_worked.specs.Unchanged.{Field, Returned, Landed, Refused, UnchangedBut, before_freeze, leaving_for, landing_events, returning_events, straying_events, with_another_moved, with_another_target, with_another_back, with_another_source}
+use Rattle.graft_worked.specs.Unchanged.{UnchangedField, Returned, Landed, Refused, UnchangedBut, before_freeze, leaving_for, landing_events, returning_events, straying_events, with_another_moved, with_another_target, with_another_back, with_another_source}
 use Rattle.graft_worked.proofs.Points.{at-at, at-same}
 use Rattle.graft_worked.proofs.Tens.{empty}
 use Rattle.graft_worked.proofs.Moves.{base_small, a_alone, a_to_b, a_ends, b_alone, b_takes_in}
@@ -55,7 +55,7 @@ taking P setup first after events r k p target s q found event item f all =
 -- ---- the fields
 
 -- where no session comes back, or none lands, but for a field that may be false
-still_but : (but : Field) (setup : Setup) (first : World) (events : List Event)
+still_but : (but : UnchangedField) (setup : Setup) (first : World) (events : List Event)
     → (but ≢ Returned → AllByRecursion IsNoReturn events) → (but ≢ Landed → AllByRecursion IsNoLanding events) → UnchangedBut but setup first events
 still_but but setup first events no_return no_landing = record {
   returned = λ other r k p target s q found session refusal after f.
@@ -65,7 +65,8 @@ still_but but setup first events no_return no_landing = record {
   refused = λ other begun rest r k p w v among run step. (sessions_stay setup w v r k p step, places_stay setup w v r k p step);
 }
 
-pub of_unchanged : (but : Field) (setup : Setup) (first : World) (events : List Event) → Unchanged setup first events → UnchangedBut but setup first events
+pub of_unchanged : (but : UnchangedField) (setup : Setup) (first : World) (events : List Event) → Unchanged setup first events
+    → UnchangedBut but setup first events
 of_unchanged but setup first events u = record { returned = λ other. u.returned; landed = λ other. u.landed; refused = λ other. u.refused }
 
 -- what is refused at its source needn't be said
@@ -120,7 +121,7 @@ back end = Back 1 0 (with_end end) (RouterFull 0)
 -- ---- landed
 
 abbrev moving : Endpoint → OnTheWay
-moving end = record nothing { to_b = moved end ∷ [] }
+moving end = record nothing_on_the_way { to_b = moved end ∷ [] }
 
 abbrev landed_with : Endpoint → RouterPart
 landed_with end = holding b_landed (Live (with_end end) (Some (Owing to_a)))
@@ -128,7 +129,7 @@ landed_with end = holding b_landed (Live (with_end end) (Some (Owing to_a)))
 -- frozen for this target, and landed at b with this endpoint
 lands_there : (target : ℕ) (end : Endpoint) → freeze_refusal (record { 0 = 0 }) (record { 0 = target }) (state session) (hold_time session) ≡ None
     → FrozenBefore base (before_freeze (holding a_before (leaving_for target)) b_before (moving end)) landing_events 0 1 0 target session 1 0 (Land 0) (moved end)
-    (before_freeze (frozen_for a_before target) (landed_with end) (record nothing { out_b = PointAt 1 ∷ [] }))
+    (before_freeze (frozen_for a_before target) (landed_with end) (record nothing_on_the_way { out_b = PointAt 1 ∷ [] }))
 lands_there target end may = taken_later base _ (before_freeze (frozen_for a_before target) b_before (moving end)) _ _ [] 0 1 0 target 1 0 session (Land 0) (moved end)
     refl
     (
@@ -138,7 +139,7 @@ lands_there target end may = taken_later base _ (before_freeze (frozen_for a_bef
     refl
     refl
     (
-    b_takes_in base base_small (frozen_for a_before target) b_before far_before operator_ordered nothing
+    b_takes_in base base_small (frozen_for a_before target) b_before far_before operator_ordered nothing_on_the_way
     (Land 0) (landed_with end) (moved end) [] (PointAt 1) (lands end)
     )
 
@@ -160,10 +161,10 @@ target_alone = still_but Landed base with_another_target landing_events (λ othe
 
 -- on its way: what goes to b, and what comes back to a
 abbrev coming : List Mesh → Endpoint → OnTheWay
-coming to_b end = record nothing { to_b = to_b; to_a = back end ∷ [] }
+coming to_b end = record nothing_on_the_way { to_b = to_b; to_a = back end ∷ [] }
 
 abbrev reported : List Mesh → OnTheWay
-reported to_b = record nothing { to_b = to_b; reported = refusal_report (RouterFull 0) ∷ [] }
+reported to_b = record nothing_on_the_way { to_b = to_b; reported = refusal_report (RouterFull 0) ∷ [] }
 
 -- router a, with the session back
 abbrev returned_with : Endpoint → RouterPart
@@ -185,7 +186,7 @@ comes_back end = record {
 returns_here : (b : RouterPart) (end : Endpoint) (to_b : List Mesh)
     → Step base (ByRouter 0 (Return 1)) (before_freeze a_left b (coming to_b end)) (before_freeze (returned_with end) b (reported to_b))
 returns_here b end to_b =
-    a_ends base base_small a_left b far_before operator_ordered (record nothing { to_b = to_b })
+    a_ends base base_small a_left b far_before operator_ordered (record nothing_on_the_way { to_b = to_b })
     (Return 1) (returned_with end) (back end) [] (refusal_report (RouterFull 0)) (comes_back end)
 
 abbrev other_end : Endpoint

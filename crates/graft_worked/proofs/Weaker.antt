@@ -9,7 +9,7 @@ use Rattle.bgp_types.specs.Tables.{prefix_cmp}
 use Rattle.bgp_story.specs.Laws.{PutsNoOpen, IsGotLine}
 use Rattle.bgp_story.specs.Legal.{IsGot}
 use Rattle.bgp_story.specs.Readings.{IsLegal, put_bytes, got_bytes, heard, told}
-use Rattle.bgp_story.specs.WorkedSessions.{ten, open_bytes, keepalive_bytes, update_bytes, sent_lines, heard_lines, attrs_over}
+use Rattle.bgp_story.specs.WorkedSessions.{ten, open_bytes, keepalive_bytes, update_bytes, sent_lines, heard_lines, attrs_over, heard_attrs}
 use Rattle.bgp_story.proofs.Shapes.{allowed_of, opens_once_is}
 use Rattle.bgp_story.proofs.WorkedStories.{heard_routes}
 use Rattle.tcp_seq.specs.Endpoint.{Endpoint, received_bytes, run_from}
@@ -19,9 +19,10 @@ use Rattle.graft_model.specs.Claims.{Transparent, Solves, SolvesOn}
 use Rattle.graft_model.specs.Decisions.{to_tell}
 use Rattle.graft_model.specs.Parts.{Live, Errand, World}
 use Rattle.graft_model.specs.Quiet.{Quiet}
-use Rattle.graft_worked.specs.Base.{base, config}
+use Rattle.graft_model.specs.SmallWorlds.{config}
+use Rattle.graft_worked.specs.Base.{base}
 use Rattle.graft_worked.specs.First.{home_open_bytes}
-use Rattle.graft_worked.specs.Graft.{put_all, from_zero, home_end, remote_end, at_ten, heard_attrs, over_router, session, b_after}
+use Rattle.graft_worked.specs.Graft.{put_all, from_zero, home_end, remote_end, at_ten, over_router, session, b_after}
 use Rattle.graft_worked.specs.Weaker.{interrupted, with_empty_line, addressed, opened_twice, unhearing, telling, with_other_address, with_second_open, with_octet_received, with_update_unsaid, with_route_unheard, with_route_told, with_word_owed, with_keepalive_missing, with_keepalive_said, with_shadow_left, with_best_missing, with_word_on_its_way, with_segment_outward, with_segment_inward, with_order_on_its_way, with_report_on_its_way, with_say_on_its_way, with_segment_homeward, with_segment_remoteward, with_prefix_dirty, with_prefix_due_in, with_prefix_due_out, with_update_unread, with_update_missing, with_remote_unanswered, with_session_unanswered, with_say_unordered, with_outcome_unknown}
 use Rattle.graft_worked.proofs.Tens.{empty, got_none, got_it}
 use Rattle.graft_worked.proofs.GraftRows.{state_is}
@@ -48,9 +49,6 @@ empty_or_ten {A} v e = not_both v (sym (got_none ten) ∙ (ap (λ (m : map.FinMa
 
 not_empty : {A : Type 0} (x : A) (xs : List A) → x ∷ xs ≡ [] → ⊥
 not_empty x xs e = cc
-
-received_from_zero : (bytes : List ℕ) → (e : Endpoint) → e.arrived ≡ from_zero bytes → received_bytes e ≡ run_from 0 (map.entries (from_zero bytes))
-received_from_zero bytes e is = ap (λ (b : map.FinMap nat_cmp ℕ). run_from 0 (map.entries b)) is
 
 -- ---- not transparent
 

@@ -8,7 +8,8 @@ use Rattle.route_policy.specs.Telling.{tell_in}
 use Rattle.tcp_seq.specs.Endpoint.{received_bytes}
 use Rattle.session_value.specs.Sessions.{SessionValue, peering_of}
 use Rattle.graft_model.specs.Claims.{Transparent, Solves}
-use Rattle.graft_worked.specs.Base.{base, config}
+use Rattle.graft_model.specs.SmallWorlds.{config}
+use Rattle.graft_worked.specs.Base.{base}
 use Rattle.graft_worked.specs.First.{session_first}
 use Rattle.graft_worked.specs.Graft.{route, over_router, a_after, b_put, remote_end}
 use Rattle.graft_worked.specs.Wrong.{with_session_kept, with_session_begun_again, with_telling_on_its_way}

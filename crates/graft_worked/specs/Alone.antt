@@ -17,22 +17,22 @@ use Rattle.graft_model.specs.Setups.{config_of, has_network}
 use Rattle.graft_worked.specs.Base.{base}
 
 -- the fields that may be false
-pub data Field : Type 0 where
-  One : Field
-  Own : Field
-  Legal : Field
-  Received : Field
-  Got : Field
-  Heard : Field
-  Told : Field
-  Placed : Field
-  Linked : Field
-  Elsewhere : Field
-  Best : Field
-  Tellings : Field
+pub data AloneField : Type 0 where
+  One : AloneField
+  Own : AloneField
+  Legal : AloneField
+  Received : AloneField
+  Got : AloneField
+  Heard : AloneField
+  Told : AloneField
+  Placed : AloneField
+  Linked : AloneField
+  Elsewhere : AloneField
+  Best : AloneField
+  Tellings : AloneField
 
 -- `Transparent`, of this session
-pub record TransparentBut (but : Field) (w : World) (s : SessionValue) : Type 0 where
+pub record TransparentBut (but : AloneField) (w : World) (s : SessionValue) : Type 0 where
   pub one : but ≢ One → sessions_of base w 0 ≡ s ∷ []
   pub own : but ≢ Own → config_of base 0 ≡ Some s.config
   pub legal : but ≢ Legal → IsLegal (peering_of s.config) s.story (state s)
@@ -42,7 +42,7 @@ pub record TransparentBut (but : Field) (w : World) (s : SessionValue) : Type 0 
   pub told : but ≢ Told → s.told ≡ told s.story
 
 -- `Solves`, of routers a and b and of this session
-pub record SolvesBut (but : Field) (w : World) (s : SessionValue) : Type 0 where
+pub record SolvesBut (but : AloneField) (w : World) (s : SessionValue) : Type 0 where
   pub best_at_a : but ≢ Best → (prefix : PrefixValue) → map.get (w.router 0).best prefix
       ≡ choice (candidates base.home_as prefix (has_network base 0 prefix) (session_routes base w 0 prefix) (router_routes base w 0 prefix))
   pub best_at_b : (prefix : PrefixValue) → map.get (w.router 1).best prefix

@@ -24,8 +24,8 @@ landed = target_with (Owing (word_to 0))
 abbrev pub asking : RouterPart
 asking = target_with (Asking (word_to 2))
 
-abbrev pub answered : RouterPart
-answered = target_with (Owing (word_to 3))
+abbrev pub b_asked : RouterPart
+b_asked = target_with (Owing (word_to 3))
 
 abbrev pub confirmed : RouterPart
 confirmed = record idle_router { places = at (λ p. Vacant) 0 (Live session None) }

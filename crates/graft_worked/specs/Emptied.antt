@@ -5,7 +5,8 @@ use Rattle.graft_model.specs.First.{first_operator}
 use Rattle.graft_model.specs.Points.{at}
 use Rattle.graft_model.specs.Setups.{Setup, RouterSetup, PeeringSetup, EvacuateStep, SettleStep}
 use Rattle.graft_model.specs.Parts.{OperatorPart, GraftOrder}
-use Rattle.graft_worked.specs.Base.{config, peering_c}
+use Rattle.graft_model.specs.SmallWorlds.{config}
+use Rattle.graft_worked.specs.Base.{peering_c}
 
 -- a router with this identifier and room, and an interior cost of 1 to each other router
 abbrev pub router_with : (identifier room : ℕ) → RouterSetup

@@ -7,8 +7,8 @@ use Rattle.bgp_story.specs.WorkedSessions.{open_bytes, keepalive_bytes, sent_lin
 use Rattle.session_value.specs.Sessions.{SessionValue}
 use Rattle.graft_model.specs.Points.{at}
 use Rattle.graft_model.specs.Parts.{Vacant, Live, Unmade, RouterPart, FarPart, OperatorPart, World}
-use Rattle.graft_worked.specs.Base.{config}
-use Rattle.graft_worked.specs.Places.{idle_router, idle_far, nothing, world_of}
+use Rattle.graft_model.specs.SmallWorlds.{config}
+use Rattle.graft_worked.specs.Places.{idle_router, idle_far, nothing_on_the_way, world_of}
 
 -- the OPEN of the home side: AS 65000, hold time 0, 10.255.0.1, no parameters
 abbrev pub home_open_bytes : List ℕ
@@ -30,5 +30,5 @@ abbrev pub operator_first : OperatorPart
 operator_first = record { group = 0; issued = λ n. false; given = λ k. Unmade; source = λ k. None; outcome = λ k. None }
 
 -- Router b has nothing, and all channels are empty.
-abbrev pub first : World
-first = world_of a_first idle_router far_first operator_first nothing
+abbrev pub first_worked : World
+first_worked = world_of a_first idle_router far_first operator_first nothing_on_the_way

@@ -12,7 +12,7 @@ use Rattle.bgp_types.specs.Tables.{prefix_cmp}
 use Rattle.route_policy.specs.declared.best.Best.{Best}
 use Rattle.tcp_seq.specs.Endpoint.{Bytes, Endpoint}
 use Rattle.graft_steps.specs.declared.refusal.Outcome.TheVariants.{Accepted}
-use Rattle.bgp_story.specs.WorkedSessions.{ten, open_bytes, keepalive_bytes, update_bytes, heard_lines}
+use Rattle.bgp_story.specs.WorkedSessions.{ten, open_bytes, keepalive_bytes, update_bytes, heard_lines, heard_attrs}
 use Rattle.session_value.specs.Sessions.{SessionValue}
 use Rattle.session_value.specs.Sets.{Prefixes}
 use Rattle.graft_model.specs.Points.{at}
@@ -21,8 +21,8 @@ use Rattle.graft_model.specs.declared.event.RouterEvent.TheVariants.{Admit, Free
 use Rattle.graft_model.specs.declared.event.FarEvent.TheVariants.{Point}
 use Rattle.graft_model.specs.declared.event.OperatorEvent.TheVariants.{Go, Order, Note}
 use Rattle.graft_model.specs.Steps.{Event, ByRouter, ByFar, ByOperator}
-use Rattle.graft_worked.specs.Base.{config}
-use Rattle.graft_worked.specs.Places.{holding, nothing, world_of}
+use Rattle.graft_model.specs.SmallWorlds.{config}
+use Rattle.graft_worked.specs.Places.{holding, nothing_on_the_way, world_of}
 
 -- ---- what both sides said
 
@@ -52,10 +52,6 @@ at_ten value = map.insert map.empty ten value
 
 abbrev pub ten_alone : Prefixes
 ten_alone = at_ten tt
-
--- the attributes that the remote said: ORIGIN IGP, path 65001, next hop 192.0.2.1
-abbrev pub heard_attrs : Attrs
-heard_attrs = record { origin = Igp; path = Sequence (65001 ∷ []) ∷ []; next_hop = 0xC0000201; med = None; atomic = false; aggregator = None; unknown = [] }
 
 abbrev pub route : Route
 route = record { attrs = heard_attrs; pref = 100 }
@@ -107,7 +103,7 @@ abbrev pub operator_before : OperatorPart
 operator_before = record { group = 0; issued = at (λ n. false) 0 true; given = λ k. Unmade; source = λ k. None; outcome = λ k. None }
 
 abbrev pub before_graft : World
-before_graft = world_of a_before b_before far_before operator_before nothing
+before_graft = world_of a_before b_before far_before operator_before nothing_on_the_way
 
 -- the graft: number 1, to router b
 abbrev pub to_b : StoredOrder
@@ -181,7 +177,7 @@ abbrev pub operator_after : OperatorPart
 operator_after = record operator_ordered { outcome = at (λ k. None) 1 (Some Accepted) }
 
 abbrev pub after_graft : World
-after_graft = world_of a_after b_after far_after operator_after nothing
+after_graft = world_of a_after b_after far_after operator_after nothing_on_the_way
 
 -- ---- the events
 
@@ -210,4 +206,4 @@ graft_events =
 
 -- the last world, with the source's entry kept: the shadow's routes were never removed
 abbrev pub with_entry_kept : World
-with_entry_kept = world_of (record a_after { entries = at (λ p. map.empty) 0 (at_ten entry) }) b_after far_after operator_after nothing
+with_entry_kept = world_of (record a_after { entries = at (λ p. map.empty) 0 (at_ten entry) }) b_after far_after operator_after nothing_on_the_way

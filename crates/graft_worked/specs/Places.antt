@@ -41,8 +41,8 @@ pub record OnTheWay : Type 0 where
   pub reported : List Report
   pub said : List ℕ
 
-abbrev pub nothing : OnTheWay
-nothing = record { to_b = []; to_a = []; out_a = []; out_b = []; in_a = []; ordered = []; reported = []; said = [] }
+abbrev pub nothing_on_the_way : OnTheWay
+nothing_on_the_way = record { to_b = []; to_a = []; out_a = []; out_b = []; in_a = []; ordered = []; reported = []; said = [] }
 
 -- the world of these two routers, this far side and this operator
 abbrev pub world_of : RouterPart → RouterPart → FarPart → OperatorPart → OnTheWay → World

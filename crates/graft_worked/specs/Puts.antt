@@ -9,7 +9,7 @@ use Rattle.route_policy.specs.declared.best.Best.{Best}
 use Rattle.session_value.specs.Sessions.{SessionValue}
 use Rattle.graft_model.specs.Points.{at}
 use Rattle.graft_model.specs.Parts.{Vacant, Live, RouterPart, World}
-use Rattle.graft_worked.specs.Places.{idle_router, nothing, world_of}
+use Rattle.graft_worked.specs.Places.{idle_router, nothing_on_the_way, world_of}
 use Rattle.graft_worked.specs.Graft.{put_all, at_ten, ten_alone, far_before, far_after, operator_before, operator_after, a_after, b_after}
 use Rattle.graft_worked.specs.Start.{end_with, session_joined}
 
@@ -35,11 +35,11 @@ abbrev pub a_has_put : RouterPart
 a_has_put = record a_to_put { places = at (λ p. Vacant) 0 (Live session_told None); due_out = λ p. map.empty }
 
 abbrev pub with_route_due : World
-with_route_due = world_of a_to_put idle_router far_before operator_before nothing
+with_route_due = world_of a_to_put idle_router far_before operator_before nothing_on_the_way
 
 abbrev pub with_route_put : World
-with_route_put = world_of a_has_put idle_router far_before operator_before nothing
+with_route_put = world_of a_has_put idle_router far_before operator_before nothing_on_the_way
 
 -- the last world of the graft, with the link still pointing at the source
 abbrev pub with_link_at_source : World
-with_link_at_source = world_of a_after b_after (record far_after { pointer = 0 }) operator_after nothing
+with_link_at_source = world_of a_after b_after (record far_after { pointer = 0 }) operator_after nothing_on_the_way

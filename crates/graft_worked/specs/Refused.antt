@@ -14,7 +14,7 @@ use Rattle.graft_model.specs.declared.event.RouterEvent.TheVariants.{Admit, Refu
 use Rattle.graft_model.specs.declared.event.OperatorEvent.TheVariants.{Order}
 use Rattle.graft_model.specs.Steps.{Event, ByRouter, ByOperator}
 use Rattle.graft_worked.specs.Base.{router_a, router_b, base}
-use Rattle.graft_worked.specs.Places.{idle_router, nothing, world_of}
+use Rattle.graft_worked.specs.Places.{idle_router, nothing_on_the_way, world_of}
 use Rattle.graft_worked.specs.First.{a_first, far_first}
 use Rattle.graft_worked.specs.Start.{a_with, session_joined, far_emitted, joining_events}
 
@@ -34,7 +34,7 @@ abbrev pub refused_events : List Event
 refused_events = ByOperator (Order 1 0) ∷ ByRouter 0 (Admit 1) ∷ ByRouter 0 (Refuse 1) ∷ []
 
 abbrev pub with_refusal : World
-with_refusal = world_of a_first idle_router far_first (operator_moved (λ n. false)) (record nothing { reported = refusal_report (NotEstablished OpenSent) ∷ [] })
+with_refusal = world_of a_first idle_router far_first (operator_moved (λ n. false)) (record nothing_on_the_way { reported = refusal_report (NotEstablished OpenSent) ∷ [] })
 
 -- ---- at the target
 
@@ -45,4 +45,4 @@ abbrev pub returned_events : List Event
 returned_events = joining_events ++ away_events
 
 abbrev pub with_returned : World
-with_returned = world_of (a_with session_joined) idle_router far_emitted (operator_moved (at (λ n. false) 0 true)) (record nothing { reported = refusal_report (RouterFull 0) ∷ [] })
+with_returned = world_of (a_with session_joined) idle_router far_emitted (operator_moved (at (λ n. false) 0 true)) (record nothing_on_the_way { reported = refusal_report (RouterFull 0) ∷ [] })

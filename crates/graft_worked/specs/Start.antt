@@ -10,7 +10,7 @@ use Rattle.graft_model.specs.declared.event.RouterEvent.TheVariants.{Arrive, Got
 use Rattle.graft_model.specs.declared.event.FarEvent.TheVariants.{Say, Send, Pass, Take, Reach}
 use Rattle.graft_model.specs.declared.event.OperatorEvent.TheVariants.{Order}
 use Rattle.graft_model.specs.Steps.{Event, ByRouter, ByFar, ByOperator}
-use Rattle.graft_worked.specs.Places.{idle_router, holding, idle_far, nothing, world_of}
+use Rattle.graft_worked.specs.Places.{idle_router, holding, idle_far, nothing_on_the_way, world_of}
 use Rattle.graft_worked.specs.First.{home_open_bytes, session_first}
 use Rattle.graft_worked.specs.Graft.{put_all, said_all, from_zero, at_ten, ten_alone, entry, route, session, home_end, remote_end, a_before, b_before, far_before, operator_before}
 
@@ -89,7 +89,7 @@ b_chosen = record b_before { due_in = at (λ q. map.empty) 0 ten_alone }
 -- ---- the world in which the session is established, and none of the UPDATE was got
 
 abbrev pub joined_world : World
-joined_world = world_of (a_with session_joined) idle_router far_emitted operator_before nothing
+joined_world = world_of (a_with session_joined) idle_router far_emitted operator_before nothing_on_the_way
 
 -- ---- the events
 

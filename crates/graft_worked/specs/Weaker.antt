@@ -8,21 +8,21 @@ use Rattle.graft_steps.specs.declared.refusal.Outcome.TheVariants.{Accepted}
 use Rattle.tcp_seq.specs.Endpoint.{PlacedSegment, Endpoint}
 use Rattle.session_value.specs.Sessions.{SessionValue}
 use Rattle.graft_model.specs.Parts.{Live, Shadow, Owing, Done, Seg, RouterPart, FarPart, World}
-use Rattle.graft_worked.specs.Base.{config}
+use Rattle.graft_model.specs.SmallWorlds.{config}
 use Rattle.graft_worked.specs.First.{home_open_bytes}
-use Rattle.graft_worked.specs.Places.{OnTheWay, holding, nothing, world_of}
+use Rattle.graft_worked.specs.Places.{OnTheWay, holding, nothing_on_the_way, world_of}
 use Rattle.graft_worked.specs.Graft.{put_all, said_all, from_zero, home_end, remote_end, at_ten, ten_alone, session, a_before, b_before, far_before, operator_before, a_after, b_after, far_after, operator_ordered, operator_after, to_a}
 
 -- ---- the last world, with another part
 
 abbrev pub with_a : RouterPart → World
-with_a a = world_of a b_after far_after operator_after nothing
+with_a a = world_of a b_after far_after operator_after nothing_on_the_way
 
 abbrev pub with_b : RouterPart → World
-with_b b = world_of a_after b far_after operator_after nothing
+with_b b = world_of a_after b far_after operator_after nothing_on_the_way
 
 abbrev pub with_far : FarPart → World
-with_far far = world_of a_after b_after far operator_after nothing
+with_far far = world_of a_after b_after far operator_after nothing_on_the_way
 
 abbrev pub with_on_the_way : OnTheWay → World
 with_on_the_way way = world_of a_after b_after far_after operator_after way
@@ -104,30 +104,30 @@ with_best_missing = with_a (record a_after { best = map.empty })
 
 -- mesh: word of the landing is on its way
 abbrev pub with_word_on_its_way : World
-with_word_on_its_way = with_on_the_way (record nothing { to_a = Done 1 0 ∷ [] })
+with_word_on_its_way = with_on_the_way (record nothing_on_the_way { to_a = Done 1 0 ∷ [] })
 
 abbrev pub empty_segment : PlacedSegment
 empty_segment = record { place = 0; bytes = []; ack = 0 }
 
 -- outward: a segment is on its way to the far side
 abbrev pub with_segment_outward : World
-with_segment_outward = with_on_the_way (record nothing { out_b = Seg empty_segment ∷ [] })
+with_segment_outward = with_on_the_way (record nothing_on_the_way { out_b = Seg empty_segment ∷ [] })
 
 -- inward: one is on its way to a router
 abbrev pub with_segment_inward : World
-with_segment_inward = with_on_the_way (record nothing { in_a = empty_segment ∷ [] })
+with_segment_inward = with_on_the_way (record nothing_on_the_way { in_a = empty_segment ∷ [] })
 
 -- orders: a graft is ordered
 abbrev pub with_order_on_its_way : World
-with_order_on_its_way = with_on_the_way (record nothing { ordered = record { graft = 1; peering = 0; target = 1 } ∷ [] })
+with_order_on_its_way = with_on_the_way (record nothing_on_the_way { ordered = record { graft = 1; peering = 0; target = 1 } ∷ [] })
 
 -- reports: its outcome is reported
 abbrev pub with_report_on_its_way : World
-with_report_on_its_way = with_on_the_way (record nothing { reported = record { graft = 1; outcome = Accepted } ∷ [] })
+with_report_on_its_way = with_on_the_way (record nothing_on_the_way { reported = record { graft = 1; outcome = Accepted } ∷ [] })
 
 -- says: the remote is to announce
 abbrev pub with_say_on_its_way : World
-with_say_on_its_way = with_on_the_way (record nothing { said = 0 ∷ [] })
+with_say_on_its_way = with_on_the_way (record nothing_on_the_way { said = 0 ∷ [] })
 
 -- homeward, remoteward: the link holds a segment
 abbrev pub with_segment_homeward : World
@@ -161,8 +161,8 @@ with_session_unanswered = with_session (record session { end = record home_end {
 
 -- issued: before the graft, where the first step wasn't ordered
 abbrev pub with_say_unordered : World
-with_say_unordered = world_of a_before b_before far_before (record operator_before { issued = λ n. false }) nothing
+with_say_unordered = world_of a_before b_before far_before (record operator_before { issued = λ n. false }) nothing_on_the_way
 
 -- ended: the outcome isn't noted
 abbrev pub with_outcome_unknown : World
-with_outcome_unknown = world_of a_after b_after far_after operator_ordered nothing
+with_outcome_unknown = world_of a_after b_after far_after operator_ordered nothing_on_the_way

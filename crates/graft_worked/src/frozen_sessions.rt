@@ -37,7 +37,7 @@ pub fn a_frozen_session_returns()
 /// field, that a graft which the source refuses changes no session, holds for all events of all worlds
 /// (`a_refusal_at_the_source_changes_no_session`), so the claim is the same without it.
 pub fn each_field_of_unchanged_can_be_false()
-    ensures none_lost { (field : unchanged.Field) (setup : Setup) (start : World) (events : List Event)
+    ensures none_lost { (field : unchanged.UnchangedField) (setup : Setup) (start : World) (events : List Event)
         → Unchanged setup start events → unchanged.UnchangedBut field setup start events }
     ensures refused { (setup : Setup) (start : World) (events : List Event)
         → unchanged.UnchangedBut unchanged.Refused setup start events → Unchanged setup start events }

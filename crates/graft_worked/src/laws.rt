@@ -25,13 +25,13 @@ ghost use Rattle.tcp_seq.specs.declared.segment.Way.TheVariants.{Home};
 ghost use Rattle.graft_model.specs.Parts.{RouterPart, OperatorPart, World, Asked, Answered, Done, Unmade, To, Stays};
 ghost use Rattle.graft_model.specs.RouterRows.{RouterTaken, MeshIn, RouterSent, MeshTo};
 ghost use Rattle.graft_model.specs.OperatorRows.{OperatorTaken, OperatorSent, OrderTo};
-ghost use Rattle.graft_worked.specs.Asked.{three, landed, asking, answered, confirmed};
+ghost use Rattle.graft_worked.specs.Asked.{three, landed, asking, b_asked, confirmed};
 ghost use Rattle.graft_worked.specs.Emptied.{emptying, with_room, without_room, order_of_c2, with_order};
 ghost use Rattle.graft_worked.specs.Places.{idle_router};
 ghost use Rattle.graft_worked.specs.Others as others;
 ghost use Rattle.graft_worked.specs.Puts.{with_route_due, with_route_put, with_link_at_source};
 ghost use Rattle.graft_worked.specs.Base.{base};
-ghost use Rattle.graft_worked.specs.First.{first};
+ghost use Rattle.graft_worked.specs.First.{first_worked};
 ghost use Rattle.graft_worked.specs.Graft.{session, before_graft, graft_events, after_graft, with_entry_kept};
 ghost use Rattle.graft_worked.specs.Refused.{refusing, refused_events, with_refusal, returned_events, with_returned};
 ghost use Rattle.graft_worked.specs.Start.{start_events};
@@ -47,7 +47,7 @@ pub fn base_is_a_setup()
 /// The worked setup begins with its session at router a, with its OPEN put and not emitted. The remote has said its
 /// OPEN and a KEEPALIVE, the link points at a, and nothing is dirty, due or on its way.
 pub fn base_begins()
-    ensures world { first_world base ≡ first }
+    ensures world { first_world base ≡ first_worked }
 {}
 
 /// The worked graft, from one quiet world to another. The last world is transparent and solves, and it doesn't solve if
@@ -88,9 +88,9 @@ pub fn other_events_may_happen()
 pub fn every_router_is_asked()
     ensures asked { router_row three 1 (Ask 1 2) landed None (MeshTo 2 (Asked 1 0) ∷ []) asking }
     ensures answered { router_row three 2 (Answer 1) idle_router (Some (MeshIn 1 (Asked 1 0))) (MeshTo 1 (Answered 1 0) ∷ []) idle_router }
-    ensures counted { router_row three 1 (Collect 2) asking (Some (MeshIn 2 (Answered 1 0))) [] answered }
-    ensures again { router_row three 1 (Collect 2) answered (Some (MeshIn 2 (Answered 1 0))) [] answered }
-    ensures confirmed { router_row three 1 (Confirm 1) answered None (MeshTo 0 (Done 1 0) ∷ []) confirmed }
+    ensures counted { router_row three 1 (Collect 2) asking (Some (MeshIn 2 (Answered 1 0))) [] b_asked }
+    ensures again { router_row three 1 (Collect 2) b_asked (Some (MeshIn 2 (Answered 1 0))) [] b_asked }
+    ensures confirmed { router_row three 1 (Confirm 1) b_asked None (MeshTo 0 (Done 1 0) ∷ []) confirmed }
     ensures not_before { (taken : Option RouterTaken) (sent : List RouterSent) (after : RouterPart) → ¬ router_row three 1 (Confirm 1) landed taken sent after }
 {}
 
@@ -175,7 +175,7 @@ pub fn each_field_of_a_claim_can_be_false()
 pub fn fields_are_false_alone()
     ensures transparent { (w : World) (s : SessionValue) → alone.TransparentBut alone.Best w s → Transparent base w 0 }
     ensures solves { (w : World) (s : SessionValue) → alone.SolvesBut alone.Own w s → Solves base w }
-    ensures none_lost { (field : alone.Field) (w : World) (t : Transparent base w 0) → alone.TransparentBut field w t.session }
+    ensures none_lost { (field : alone.AloneField) (w : World) (t : Transparent base w 0) → alone.TransparentBut field w t.session }
     ensures one { alone.TransparentBut alone.One with_session_kept session }
     ensures own { alone.TransparentBut alone.Own weaker.with_other_address weaker.addressed }
     ensures legal { alone.TransparentBut alone.Legal weaker.with_second_open weaker.opened_twice }

@@ -7,21 +7,14 @@ use Rattle.ring_net.proofs.Takes.{deeds_both}
 use Rattle.journal_merge.specs.Growth.{ClockedOver}
 
 module _ {I : Type 0} where
-  -- the same clocks before, and the same events
-  pub over_from : (n : ℕ) (b c : ℕ → ℕ) (ls : List ℕ) (ns : ℕ → List (Noted I)) (d : ℕ → ℕ) → ((k : ℕ) → k < n → b k ≡ c k) → ClockedOver n c ls ns d → ClockedOver n b ls ns d
-  over_from n b c [] ns d e h = λ k k_in. subst (λ x. Clocked x (ns k) (d k)) (sym (e k k_in)) (h k k_in)
-  over_from n b c (l ∷ ls) ns d e h = (
-    h.0,
-    record { first = h.1.first; after = h.1.after; split = h.1.split; clocked = λ k k_in. subst (λ x. Clocked x (h.1.first k) (h.1.after k)) (sym (e k k_in)) (h.1.clocked k k_in); greatest = h.1.greatest },
-    h.2,
-  )
-
-  pub over_notes : (n : ℕ) (c : ℕ → ℕ) (ls : List ℕ) (ns ms : ℕ → List (Noted I)) (d : ℕ → ℕ) → ((k : ℕ) → ms k ≡ ns k) → ClockedOver n c ls ns d → ClockedOver n c ls ms d
+  pub over_notes : (n : ℕ) (c : ℕ → ℕ) (ls : List ℕ) (ns ms : ℕ → List (Noted I)) (d : ℕ → ℕ) → ((k : ℕ) → ms k ≡ ns k) → ClockedOver n c ls ns d
+      → ClockedOver n c ls ms d
   over_notes n c [] ns ms d e h = λ k k_in. subst (λ xs. Clocked (c k) xs (d k)) (sym (e k)) (h k k_in)
   over_notes n c (l ∷ ls) ns ms d e h = (h.0, record { first = h.1.first; after = h.1.after; split = λ k. e k ∙ h.1.split k; clocked = h.1.clocked; greatest = h.1.greatest }, h.2)
 
   -- one piece after another
-  pub over-append : (n : ℕ) (c : ℕ → ℕ) (ls : List ℕ) (ns : ℕ → List (Noted I)) (d : ℕ → ℕ) (ms : List ℕ) (ps : ℕ → List (Noted I)) (e : ℕ → ℕ) → ClockedOver n c ls ns d → ClockedOver n d ms ps e
+  pub over-append : (n : ℕ) (c : ℕ → ℕ) (ls : List ℕ) (ns : ℕ → List (Noted I)) (d : ℕ → ℕ) (ms : List ℕ) (ps : ℕ → List (Noted I)) (e : ℕ → ℕ)
+      → ClockedOver n c ls ns d → ClockedOver n d ms ps e
       → ClockedOver n c (ls ++ ms) (λ k. ns k ++ ps k) e
   over-append n c [] ns d [] ps e h g = λ k k_in. clocked-append (c k) (d k) (e k) (ns k) (ps k) (h k k_in) (g k k_in)
   over-append n c [] ns d (m ∷ ms) ps e h g = (
@@ -48,11 +41,13 @@ module _ {I : Type 0} where
   )
 
   -- clocks rise over levels too, and are above stamps
-  pub over_rises : (n : ℕ) (c : ℕ → ℕ) (ls : List ℕ) (ns : ℕ → List (Noted I)) (d : ℕ → ℕ) (k : ℕ) → k < n → ClockedOver n c ls ns d → Rising (c k) (deeds (ns k)) (d k)
+  pub over_rises : (n : ℕ) (c : ℕ → ℕ) (ls : List ℕ) (ns : ℕ → List (Noted I)) (d : ℕ → ℕ) (k : ℕ) → k < n → ClockedOver n c ls ns d
+      → Rising (c k) (deeds (ns k)) (d k)
   over_rises n c [] ns d k k_in h = clocked_rises (c k) (d k) (ns k) (h k k_in)
   over_rises n c (l ∷ ls) ns d k k_in h = rw (h.1.split k, deeds_both (h.1.first k) (h.0 k))
       (rising-append (c k) (h.1.after k) l (d k) (deeds (h.1.first k)) (deeds (h.0 k)) (clocked_rises (c k) (h.1.after k) (h.1.first k) (h.1.clocked k k_in)) (h.1.greatest.bound k k_in) (over_rises n (λ j. l) ls h.0 d k k_in h.2))
 
-  pub over_later : (n : ℕ) (c : ℕ → ℕ) (ls : List ℕ) (ns : ℕ → List (Noted I)) (d : ℕ → ℕ) (k : ℕ) → k < n → ClockedOver n c ls ns d → AllByRecursion IsLater (ns k)
+  pub over_later : (n : ℕ) (c : ℕ → ℕ) (ls : List ℕ) (ns : ℕ → List (Noted I)) (d : ℕ → ℕ) (k : ℕ) → k < n → ClockedOver n c ls ns d
+      → AllByRecursion IsLater (ns k)
   over_later n c [] ns d k k_in h = clocked_later (c k) (d k) (ns k) (h k k_in)
   over_later n c (l ∷ ls) ns d k k_in h = rw (h.1.split k) (all-append IsLater (h.1.first k) (h.0 k) (clocked_later (c k) (h.1.after k) (h.1.first k) (h.1.clocked k k_in)) (over_later n (λ j. l) ls h.0 d k k_in h.2))

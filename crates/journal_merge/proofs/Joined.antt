@@ -49,7 +49,8 @@ in_parts (x ∷ xs) ys e (inr h) = elim (in_parts xs ys e h) [ inl k ↦ inl (in
 
 -- ---- sorted lists with the same entries
 
-same_members : (xs ys : List JournalEntry) → AreSorted xs → AreSorted ys → ((e : JournalEntry) → In e xs → In e ys) → ((e : JournalEntry) → In e ys → In e xs) → xs ≡ ys
+same_members : (xs ys : List JournalEntry) → AreSorted xs → AreSorted ys → ((e : JournalEntry) → In e xs → In e ys)
+    → ((e : JournalEntry) → In e ys → In e xs) → xs ≡ ys
 same_members [] [] p q h k = refl
 same_members [] (y ∷ ys) p q h k = absurd (k y (inl refl))
 same_members (x ∷ xs) [] p q h k = absurd (h x (inl refl))
@@ -121,7 +122,8 @@ joined_in [] k e h = absurd h
 joined_in (j ∷ journals) zero e h = in_left j (joined journals) e h
 joined_in (j ∷ journals) (suc k) e h = in_right j (joined journals) e (joined_in journals k e h)
 
-pub merged_each : (journals : List (List JournalEntry)) (merged : List JournalEntry) → AreJournals journals → IsMerged journals merged → Interleaves (λ k. get_or journals k []) merged
+pub merged_each : (journals : List (List JournalEntry)) (merged : List JournalEntry) → AreJournals journals → IsMerged journals merged
+    → Interleaves (λ k. get_or journals k []) merged
 merged_each journals merged own h = record {
   each = λ k. same_members (entries_by k merged) (get_or journals k []) (sorted_by k merged h.sorted) (journal_sorted (get_or journals k []) (own k).rising) (λ e i. there k e i) (λ e i. back k e i);
   sorted = h.sorted;
@@ -140,13 +142,15 @@ merged_each journals merged own h = record {
 -- ---- and back: a list that has each journal has all their entries
 
 -- one entry is taken off a journal
-taken_off : (journals : List (List JournalEntry)) (k : ℕ) (e : JournalEntry) (rest : List JournalEntry) → get_or journals k [] ≡ e ∷ rest → IsPermutation (joined journals) (e ∷ joined (set journals k rest))
+taken_off : (journals : List (List JournalEntry)) (k : ℕ) (e : JournalEntry) (rest : List JournalEntry) → get_or journals k [] ≡ e ∷ rest
+    → IsPermutation (joined journals) (e ∷ joined (set journals k rest))
 taken_off [] k e rest h = absurd cc
 taken_off (j ∷ journals) zero e rest h = subst (λ xs. IsPermutation (xs ++ joined journals) (e ∷ (rest ++ joined journals))) (sym h) (IsPermutation-refl (e ∷ (rest ++ joined journals)))
 taken_off (j ∷ journals) (suc k) e rest h = IsPermutation-trans (j ++ joined journals) (j ++ e ∷ joined (set journals k rest)) (e ∷ (j ++ joined (set journals k rest)))
     (IsPermutation-append_right j (joined journals) (e ∷ joined (set journals k rest)) (taken_off journals k e rest h)) (IsPermutation-middle j e (joined (set journals k rest)))
 
-set_here : (journals : List (List JournalEntry)) (k : ℕ) (e : JournalEntry) (rest : List JournalEntry) → get_or journals k [] ≡ e ∷ rest → get_or (set journals k rest) k [] ≡ rest
+set_here : (journals : List (List JournalEntry)) (k : ℕ) (e : JournalEntry) (rest : List JournalEntry) → get_or journals k [] ≡ e ∷ rest
+    → get_or (set journals k rest) k [] ≡ rest
 set_here [] k e rest h = absurd cc
 set_here (j ∷ journals) zero e rest h = refl
 set_here (j ∷ journals) (suc k) e rest h = set_here journals k e rest h
@@ -162,7 +166,8 @@ nothing_joined : (journals : List (List JournalEntry)) → ((k : ℕ) → [] ≡
 nothing_joined [] h = refl
 nothing_joined (j ∷ journals) h = ap (λ xs. xs ++ joined journals) (sym (h 0)) ∙ nothing_joined journals (λ k. h (suc k))
 
-all_joined : (journals : List (List JournalEntry)) (merged : List JournalEntry) → ((k : ℕ) → entries_by k merged ≡ get_or journals k []) → IsPermutation (joined journals) merged
+all_joined : (journals : List (List JournalEntry)) (merged : List JournalEntry) → ((k : ℕ) → entries_by k merged ≡ get_or journals k [])
+    → IsPermutation (joined journals) merged
 all_joined journals [] h = rw (nothing_joined journals h) (IsPermutation-refl [])
 all_joined journals (e ∷ es) h =
     let head : get_or journals e.actor [] ≡ e ∷ entries_by e.actor es = sym (h e.actor) ∙ by_here e.actor e es refl in
@@ -260,7 +265,8 @@ pub are_sorted : (es : List JournalEntry) → NoneBefore es → ((x : JournalEnt
 are_sorted [] h c = tt
 are_sorted (e ∷ es) h c = (strictly e es h.0 (omega (arith, c e, one_self e)), are_sorted es h.1 (λ x. omega (arith, c x)))
 
-pub is_merged : (journals : List (List JournalEntry)) (es : List JournalEntry) → AreJournals journals → IsPermutation (joined journals) es → NoneBefore es → IsMerged journals es
+pub is_merged : (journals : List (List JournalEntry)) (es : List JournalEntry) → AreJournals journals → IsPermutation (joined journals) es
+    → NoneBefore es → IsMerged journals es
 is_merged journals es own all h = record {
   all = all;
   sorted = are_sorted es h (λ x. rw (count_permutation x (joined journals) es all) (count_joined x 0 journals (λ k. subst (λ n. IsJournal n (get_or journals k [])) (omega arith) (own k))));

@@ -4,3 +4,4 @@ pub mod Clocks
 pub mod Pieces
 pub mod Joined
 pub mod TwoRuns
+pub mod Growths

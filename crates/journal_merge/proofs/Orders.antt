@@ -41,7 +41,8 @@ same_tail m ms ns k h = elim (equal_or_not m.actor k) [
 ]
 
 -- one of another actor at the head stands before it
-head_before : (m n : JournalEntry) (ms ns : List JournalEntry) → AllByRecursion (IsBefore n) ns → n.actor ≢ m.actor → entries_by m.actor (m ∷ ms) ≡ entries_by m.actor (n ∷ ns) → IsBefore n m
+head_before : (m n : JournalEntry) (ms ns : List JournalEntry) → AllByRecursion (IsBefore n) ns → n.actor ≢ m.actor
+    → entries_by m.actor (m ∷ ms) ≡ entries_by m.actor (n ∷ ns) → IsBefore n m
 head_before m n ms ns above ne h =
     let k : entries_by m.actor ns ≡ m ∷ entries_by m.actor ms = sym (by_else m.actor n ns ne) ∙ sym h ∙ by_here m.actor m ms refl in
     (subst (λ (xs : List JournalEntry). AllByRecursion (IsBefore n) xs) k (each_by (IsBefore n) m.actor ns above)).0
@@ -49,7 +50,8 @@ head_before m n ms ns above ne h =
 pub apart : (m n : JournalEntry) → IsBefore m n → IsBefore n m → ⊥
 apart m n h k = grind arith
 
-same_head : (m n : JournalEntry) (ms ns : List JournalEntry) → AllByRecursion (IsBefore m) ms → AllByRecursion (IsBefore n) ns → ((k : ℕ) → entries_by k (m ∷ ms) ≡ entries_by k (n ∷ ns)) → m ≡ n
+same_head : (m n : JournalEntry) (ms ns : List JournalEntry) → AllByRecursion (IsBefore m) ms → AllByRecursion (IsBefore n) ns
+    → ((k : ℕ) → entries_by k (m ∷ ms) ≡ entries_by k (n ∷ ns)) → m ≡ n
 same_head m n ms ns above above' h = elim (equal_or_not n.actor m.actor) [
   | inl e ↦ (let k : m ∷ entries_by m.actor ms ≡ n ∷ entries_by m.actor ns = sym (by_here m.actor m ms refl) ∙ h m.actor ∙ by_here m.actor n ns e in cc)
   | inr ne ↦ absurd (apart m n (head_before n m ns ms above (λ e. ne (sym e)) (sym (h n.actor))) (head_before m n ms ns above' ne (h m.actor)))
@@ -109,7 +111,8 @@ by_upto : (m : ℕ → ℕ) (es : List JournalEntry) (k : ℕ) → entries_by k 
 by_upto m [] k = sym (take_nil (m k))
 by_upto m (e ∷ es) k = upto_step m e es k (equal_or_not (m e.actor) 0) (equal_or_not e.actor k) (by_upto m es k) (by_upto (less_at m e.actor) es k)
 
-pub merged_upto : (journals : ℕ → List JournalEntry) (merged : List JournalEntry) (m : ℕ → ℕ) → Interleaves journals merged → Interleaves (λ k. take (m k) (journals k)) (upto m merged)
+pub merged_upto : (journals : ℕ → List JournalEntry) (merged : List JournalEntry) (m : ℕ → ℕ) → Interleaves journals merged
+    → Interleaves (λ k. take (m k) (journals k)) (upto m merged)
 merged_upto journals merged m h = record { each = λ k. by_upto m merged k ∙ ap (λ xs. take (m k) xs) (h.each k); sorted = sorted_upto m merged h.sorted }
 
 -- ---- what stands before a clock
@@ -160,7 +163,8 @@ halves c [] h = record { low = []; high = []; whole = refl; lows = tt; highs = t
 halves c (e ∷ es) h = halves_step c e es h (low_or_high e.clock c) (halves c es h.1)
 
 -- a list is cut at a clock in one way
-one_cut : (c : ℕ) (us bs xs ys : List JournalEntry) → AllByRecursion (IsLow c) us → AllByRecursion (IsHigh c) bs → AllByRecursion (IsLow c) xs → AllByRecursion (IsHigh c) ys → us ++ bs ≡ xs ++ ys → (us ≡ xs) × (bs ≡ ys)
+one_cut : (c : ℕ) (us bs xs ys : List JournalEntry) → AllByRecursion (IsLow c) us → AllByRecursion (IsHigh c) bs → AllByRecursion (IsLow c) xs
+    → AllByRecursion (IsHigh c) ys → us ++ bs ≡ xs ++ ys → (us ≡ xs) × (bs ≡ ys)
 one_cut c [] bs [] ys la hb lx hy e = (refl, e)
 one_cut c [] [] (x ∷ xs) ys la hb lx hy e = absurd cc
 one_cut c [] (b ∷ bs) (x ∷ xs) ys la hb lx hy e = absurd (let s : b ≡ x = cc in omega (arith, hb.0, lx.0, ap (λ (n : JournalEntry). n.clock) s))
@@ -172,7 +176,8 @@ one_cut c (a ∷ us) bs (x ∷ xs) ys la hb lx hy e =
     let r : (us ≡ xs) × (bs ≡ ys) = one_cut c us bs xs ys la.1 hb lx.1 hy t in
     (cc (s, r.0), r.1)
 
-pub merged_cut : (c : ℕ) (j x y : ℕ → List JournalEntry) (merged : List JournalEntry) → Interleaves j merged → ((k : ℕ) → j k ≡ x k ++ y k) → ((k : ℕ) → AllByRecursion (IsLow c) (x k)) → ((k : ℕ) → AllByRecursion (IsHigh c) (y k)) → IsCut x y merged
+pub merged_cut : (c : ℕ) (j x y : ℕ → List JournalEntry) (merged : List JournalEntry) → Interleaves j merged → ((k : ℕ) → j k ≡ x k ++ y k)
+    → ((k : ℕ) → AllByRecursion (IsLow c) (x k)) → ((k : ℕ) → AllByRecursion (IsHigh c) (y k)) → IsCut x y merged
 merged_cut c j x y merged h split lows highs =
     let o : Halves c merged = halves c merged h.sorted in
     let parts : (k : ℕ) → (entries_by k o.low ≡ x k) × (entries_by k o.high ≡ y k) = λ k. one_cut c (entries_by k o.low) (entries_by k o.high) (x k) (y k) (each_by (IsLow c) k o.low o.lows) (each_by (IsHigh c) k o.high o.highs) (lows k) (highs k)

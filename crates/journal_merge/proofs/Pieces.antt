@@ -8,10 +8,10 @@ use Rattle.std.proofs.lemmas.List.Concat.{flat_map-append}
 use Rattle.std.proofs.lemmas.Option.{slice_get-get_or, slice_get_past}
 use Rattle.ring_net.specs.declared.entry.JournalEntry.{JournalEntry}
 use Rattle.ring_net.specs.declared.entry.Stamped.{Stamped}
-use Rattle.ring_net.specs.Deeds.{Deed, Noted, Makes, Replay, IsOwn, IsLater, Clocked, Rising, stamped, puts, gets, sent_to, taken_from, deeds, noted, entries_of}
-use Rattle.ring_net.specs.Phases.{View, InOrder, AllAt, Levelled, Phase, Between}
+use Rattle.ring_net.specs.Deeds.{Deed, Noted, Makes, Replay, IsDeedOf, IsLater, Clocked, Rising, stamped, puts, gets, sent_to, taken_from, deeds, noted, entries_of}
+use Rattle.ring_net.specs.Phases.{View, InOrder, AllAt, Levelled, NetPhase, Between}
 use Rattle.journal_merge.specs.Merges.{AreSorted, Interleaves, IsCut}
-use Rattle.journal_merge.specs.Worlds.{World}
+use Rattle.journal_merge.specs.Worlds.{DeedWorld}
 use Rattle.ring_net.proofs.Replays.{all-append, deeds_noted, entries_noted, sent_noted, none_taken, clocked_none, rising_counted, replay-append}
 use Rattle.ring_net.proofs.Order.{rising_ends}
 use Rattle.ring_net.proofs.Takes.{deeds_both}
@@ -38,7 +38,8 @@ module _ {I : Type 0} where
 -- ---- the events at a mark
 
 -- by cases on whether it is this number, for a function with a value there alone
-at_place : {I : Type 0} (k : ℕ) (ds : List (Deed I)) (n : ℕ) (Q : ℕ → List (Noted I) → Type 0) → Q k (noted 0 ds) → (n ≢ k → Q n []) → Q n (if n == k then noted 0 ds else [])
+at_place : {I : Type 0} (k : ℕ) (ds : List (Deed I)) (n : ℕ) (Q : ℕ → List (Noted I) → Type 0) → Q k (noted 0 ds) → (n ≢ k → Q n [])
+    → Q n (if n == k then noted 0 ds else [])
 at_place {I} k ds n Q h f = elim (equal_or_not n k) [
   | inl e ↦ subst (λ m. Q m (if m == k then noted 0 ds else [])) (sym e) (rw (yes k) h)
   | inr ne ↦ rw (no n ne) (f ne)
@@ -53,7 +54,8 @@ at_place {I} k ds n Q h f = elim (equal_or_not n k) [
 module _ {A P I : Type 0} (part : A → P) (makes : Makes P I) where
   -- ---- pieces
 
-  pub phase_grows : (took : A → ℕ → I → List (Deed I) → A → Type 0) (turned : A → List (Deed I) → A → Type 0) (u v : View A I) (p : Phase part makes took turned u v) → Grew part makes u v [] p.notes
+  pub phase_grows : (took : A → ℕ → I → List (Deed I) → A → Type 0) (turned : A → List (Deed I) → A → Type 0) (u v : View A I) (p : NetPhase part makes took turned u v)
+      → Grew part makes u v [] p.notes
   phase_grows took turned u v p = record {
     size = p.size;
     replays = λ k d k_in. (p.actors k d k_in).replay;
@@ -83,16 +85,18 @@ module _ {A P I : Type 0} (part : A → P) (makes : Makes P I) where
     apart = λ a b e. refl;
   }
 
-  pub between_grows : (paused : A → List (Deed I) → A → Type 0) (u v : View A I) (k : ℕ) (answer : Bool) → k < length u.actors → (p : Between part makes paused k u v answer) → Grew part makes u v (p.from ∷ p.to ∷ []) (at_mark part makes k p.deeds)
+  pub between_grows : (paused : A → List (Deed I) → A → Type 0) (u v : View A I) (k : ℕ) (answer : Bool) → k < length u.actors
+      → (p : Between part makes paused k u v answer) → Grew part makes u v (p.from ∷ p.to ∷ []) (at_mark part makes k p.deeds)
   between_grows paused u v k answer k_in p = record {
     size = p.size;
     replays = λ j d j_in. at_place k ds j (λ n ns. Replay makes n (part (get_or u.actors n d)) (deeds ns) (part (get_or v.actors n d))) (rw (deeds_noted 0 ds) (p.replay d)) (λ ne. ap part (p.others j d ne));
     none = λ j past. at_place k ds j (λ n ns. length u.actors ≤ n → ns ≡ []) (λ h. absurd (omega (arith, h, k_in))) (λ ne h. refl) past;
-    own = λ j. at_place k ds j (λ n ns. AllByRecursion (IsOwn n) (deeds ns)) (rw (deeds_noted 0 ds) p.own) (λ ne. tt);
+    own = λ j. at_place k ds j (λ n ns. AllByRecursion (IsDeedOf n) (deeds ns)) (rw (deeds_noted 0 ds) p.own) (λ ne. tt);
     clocks = (at_mark part makes k ds, to_first, (λ j. [], to_second, λ j j_in. p.level j (omega (arith, j_in, p.size))));
     journals = λ j. at_place k ds j (λ n ns. v.journal n ≡ u.journal n ++ entries_of ns) (rw (entries_noted 0 ds) p.journal) (λ ne. p.journals j ne ∙ sym (append-nil (u.journal j)));
     edges = p.edges;
-    carries = λ a b e. ap (λ xs. u.channel a b ++ xs) refl ∙ at_place k ds a (λ n ns. u.edge n b ≡ true → u.channel n b ++ sent_to b ns ≡ v.channel n b) (λ h. rw (sent_noted b 0 ds) (sym (p.channel b h))) (λ ne h. append-nil (u.channel a b) ∙ sym (p.channels a b ne)) e
+    carries = λ a b e. ap (λ xs. u.channel a b ++ xs) refl
+        ∙ at_place k ds a (λ n ns. u.edge n b ≡ true → u.channel n b ++ sent_to b ns ≡ v.channel n b) (λ h. rw (sent_noted b 0 ds) (sym (p.channel b h))) (λ ne h. append-nil (u.channel a b) ∙ sym (p.channels a b ne)) e
         ∙ ap (λ xs. xs ++ v.channel a b) (sym (nothing a b));
     apart = λ a b e. nothing a b;
   }
@@ -133,14 +137,17 @@ module _ {A P I : Type 0} (part : A → P) (makes : Makes P I) where
       nothing a b = at_place k p.deeds b (λ n ns. taken_from a ns ≡ []) (none_taken a 0 p.deeds p.none) (λ ne. refl)
 
   -- one piece after another
-  pub grows_on : (u v t : View A I) (ls ms : List ℕ) (m n : ℕ → List (Noted I)) → Grew part makes u v ls m → Grew part makes v t ms n → Grew part makes u t (ls ++ ms) (λ k. m k ++ n k)
+  pub grows_on : (u v t : View A I) (ls ms : List ℕ) (m n : ℕ → List (Noted I)) → Grew part makes u v ls m → Grew part makes v t ms n
+      → Grew part makes u t (ls ++ ms) (λ k. m k ++ n k)
   grows_on u v t ls ms m n g h = record {
     size = h.size ∙ g.size;
     replays = λ k d k_in. rw (deeds_both (m k) (n k)) (replay-append makes k (part (get_or u.actors k d)) (part (get_or v.actors k d)) (part (get_or t.actors k d)) (deeds (m k)) (deeds (n k)) (g.replays k d k_in) (h.replays k d (omega (arith, k_in, g.size))));
     none = λ k past. rw (g.none k past, h.none k (omega (arith, past, g.size))) refl;
-    own = λ k. rw (deeds_both (m k) (n k)) (all-append (IsOwn k) (deeds (m k)) (deeds (n k)) (g.own k) (h.own k));
+    own = λ k. rw (deeds_both (m k) (n k)) (all-append (IsDeedOf k) (deeds (m k)) (deeds (n k)) (g.own k) (h.own k));
     clocks = over-append (length u.actors) u.clock ls m v.clock ms n t.clock g.clocks (subst (λ c. ClockedOver c v.clock ms n t.clock) g.size h.clocks);
-    journals = λ k. h.journals k ∙ ap (λ xs. xs ++ entries_of (n k)) (g.journals k) ∙ append_assoc (u.journal k) (entries_of (m k)) (entries_of (n k)) ∙ ap (λ xs. u.journal k ++ xs) (sym (map-append (λ (x : Noted I). x.deed.entry) (m k) (n k)));
+    journals = λ k. h.journals k ∙ ap (λ xs. xs ++ entries_of (n k)) (g.journals k)
+        ∙ append_assoc (u.journal k) (entries_of (m k)) (entries_of (n k))
+        ∙ ap (λ xs. u.journal k ++ xs) (sym (map-append (λ (x : Noted I). x.deed.entry) (m k) (n k)));
     edges = λ a b. h.edges a b ∙ g.edges a b;
     carries = λ a b e. joined (u.channel a b) (sent_to b (m a)) (sent_to b (n a)) (taken_from a (m b)) (taken_from a (n b)) (v.channel a b) (t.channel a b)
         (sent_to b (m a ++ n a)) (taken_from a (m b ++ n b)) (flat_map-append (puts b) (m a) (n a)) (flat_map-append (gets a) (m b) (n b)) (g.carries a b e) (h.carries a b (g.edges a b ∙ e));
@@ -148,10 +155,12 @@ module _ {A P I : Type 0} (part : A → P) (makes : Makes P I) where
   }
     where
       joined : (c s s' t t' d e ss tt' : List (Stamped I)) → ss ≡ s ++ s' → tt' ≡ t ++ t' → c ++ s ≡ t ++ d → d ++ s' ≡ t' ++ e → c ++ ss ≡ tt' ++ e
-      joined c s s' t t' d e ss tt' f g h k = ap (λ x. c ++ x) f ∙ sym (append_assoc c s s') ∙ ap (λ x. x ++ s') h ∙ append_assoc t d s' ∙ ap (λ x. t ++ x) k ∙ sym (append_assoc t t' e) ∙ ap (λ x. x ++ e) (sym g)
+      joined c s s' t t' d e ss tt' f g h k = ap (λ x. c ++ x) f ∙ sym (append_assoc c s s') ∙ ap (λ x. x ++ s') h ∙ append_assoc t d s'
+          ∙ ap (λ x. t ++ x) k ∙ sym (append_assoc t t' e) ∙ ap (λ x. x ++ e) (sym g)
 
   -- where all clocks are level, the merged list is cut
-  pub cuts_at_level : (u v : View A I) (levels : List ℕ) (notes : ℕ → List (Noted I)) (clock : ℕ) (merged : List JournalEntry) → InOrder u → AllAt u clock → Grew part makes u v levels notes → Interleaves v.journal merged → IsCut u.journal (λ k. entries_of (notes k)) merged
+  pub cuts_at_level : (u v : View A I) (levels : List ℕ) (notes : ℕ → List (Noted I)) (clock : ℕ) (merged : List JournalEntry) → InOrder u
+      → AllAt u clock → Grew part makes u v levels notes → Interleaves v.journal merged → IsCut u.journal (λ k. entries_of (notes k)) merged
   cuts_at_level u v levels notes clock merged o level g h = merged_cut clock v.journal u.journal (λ k. entries_of (notes k)) merged h g.journals lows highs
     where
       lows : (k : ℕ) → AllByRecursion (IsLow clock) (u.journal k)
@@ -172,7 +181,9 @@ module _ {A P I : Type 0} (part : A → P) (makes : Makes P I) where
   part_or None p = p
   part_or (Some a) p = part a
 
-  pub merge_runs : (u v : View A I) (levels : List ℕ) (notes : ℕ → List (Noted I)) (merged : List JournalEntry) (w : World P I) → Grew part makes u v levels notes → Interleaves (λ k. entries_of (notes k)) merged → IsWorldOf part u w → RunsTo part makes u w levels notes merged v
+  pub merge_runs : (u v : View A I) (levels : List ℕ) (notes : ℕ → List (Noted I)) (merged : List JournalEntry) (w : DeedWorld P I)
+      → Grew part makes u v levels notes → Interleaves (λ k. entries_of (notes k)) merged → IsWorldOf part u w
+      → RunsTo part makes u w levels notes merged v
   unfolding part_or
   merge_runs u v levels notes merged w g h is = record {
     events = o.notes;
@@ -186,7 +197,8 @@ module _ {A P I : Type 0} (part : A → P) (makes : Makes P I) where
       parts = λ k d k_in. e.parts k ∙ ap (λ x. part_or x (w.part k)) (slice_get-get_or v.actors k d k_in);
       channels = λ a b there. e.channels a b ∙ ap (λ t. map (λ (x : Stamped I). x.item) (after t a b)) (sym (g.edges a b) ∙ there);
     };
-    dropped = λ a b off. e.channels a b ∙ ap (λ t. map (λ (x : Stamped I). x.item) (after t a b)) off ∙ map-append (λ (x : Stamped I). x.item) (stamped 0 (w.channel a b)) (sent_to b (notes a))
+    dropped = λ a b off. e.channels a b ∙ ap (λ t. map (λ (x : Stamped I). x.item) (after t a b)) off
+        ∙ map-append (λ (x : Stamped I). x.item) (stamped 0 (w.channel a b)) (sent_to b (notes a))
         ∙ ap (λ xs. xs ++ map (λ (x : Stamped I). x.item) (sent_to b (notes a))) (items_stamped (w.channel a b))
         ∙ ap (λ xs. w.channel a b ++ map (λ (x : Stamped I). x.item) (sent_to b xs)) (sym (o.all a));
   }
@@ -215,7 +227,8 @@ module _ {A P I : Type 0} (part : A → P) (makes : Makes P I) where
       channels a b true there = is.channels a b there
       channels a b false off = sym (items_stamped (w.channel a b))
 
-      replays : (k : ℕ) → (k < length u.actors) ⊎ (length u.actors ≤ k) → Replay makes k (w.part k) (deeds (noted_by k o.notes)) (part_or (slice_get v.actors k) (w.part k))
+      replays : (k : ℕ) → (k < length u.actors) ⊎ (length u.actors ≤ k)
+          → Replay makes k (w.part k) (deeds (noted_by k o.notes)) (part_or (slice_get v.actors k) (w.part k))
       replays k (inl k_in) =
           let d : A = some_of u.actors k k_in in
           rw (o.all k, is.parts k d k_in, slice_get-get_or v.actors k d (omega (arith, k_in, g.size))) (g.replays k d k_in)

@@ -25,19 +25,14 @@ pub merged_nil : (xs : List JournalEntry) → merged xs [] ≡ xs
 merged_nil [] = refl
 merged_nil (x ∷ xs) = refl
 
-pub takes_second : (x y : JournalEntry) (xs ys : List JournalEntry) → by_clock y x ≡ true → merged (x ∷ xs) (y ∷ ys) ≡ y ∷ merged (x ∷ xs) ys
-takes_second x y xs ys h = rw h refl
-
-pub takes_first : (x y : JournalEntry) (xs ys : List JournalEntry) → by_clock y x ≡ false → merged (x ∷ xs) (y ∷ ys) ≡ x ∷ merged xs (y ∷ ys)
-takes_first x y xs ys h = rw h refl
-
 one_of : {A : Type 0} (Q : A → Type 0) (t : Bool) (u v : A) → (t ≡ true → Q u) → (t ≡ false → Q v) → Q (if t then u else v)
 one_of Q true u v h k = h refl
 one_of Q false u v h k = k refl
 
 -- ---- all entries
 
-all_step : (x : JournalEntry) (xs : List JournalEntry) (on : List JournalEntry → List JournalEntry) → ((ys : List JournalEntry) → IsPermutation (xs ++ ys) (on ys)) → (ys : List JournalEntry) → IsPermutation ((x ∷ xs) ++ ys) (step x xs on ys)
+all_step : (x : JournalEntry) (xs : List JournalEntry) (on : List JournalEntry → List JournalEntry)
+    → ((ys : List JournalEntry) → IsPermutation (xs ++ ys) (on ys)) → (ys : List JournalEntry) → IsPermutation ((x ∷ xs) ++ ys) (step x xs on ys)
 all_step x xs on f [] = subst (λ zs. IsPermutation zs (x ∷ xs)) (sym (append-nil (x ∷ xs))) (IsPermutation-refl (x ∷ xs))
 all_step x xs on f (y ∷ ys) =
     let rest = all_step x xs on f ys in
@@ -51,7 +46,8 @@ merged_all (x ∷ xs) ys = all_step x xs (merged xs) (λ zs. merged_all xs zs) y
 
 -- ---- order
 
-each_step : (Q : JournalEntry → Type 0) (x : JournalEntry) (xs : List JournalEntry) (on : List JournalEntry → List JournalEntry) → Q x → AllByRecursion Q xs → ((ys : List JournalEntry) → AllByRecursion Q ys → AllByRecursion Q (on ys))
+each_step : (Q : JournalEntry → Type 0) (x : JournalEntry) (xs : List JournalEntry) (on : List JournalEntry → List JournalEntry) → Q x
+    → AllByRecursion Q xs → ((ys : List JournalEntry) → AllByRecursion Q ys → AllByRecursion Q (on ys))
     → (ys : List JournalEntry) → AllByRecursion Q ys → AllByRecursion Q (step x xs on ys)
 each_step Q x xs on h hs f [] k = (h, hs)
 each_step Q x xs on h hs f (y ∷ ys) k =
@@ -73,15 +69,18 @@ between x y f h k = grind (arith, nat_tests)
 above : (x y f : JournalEntry) → by_clock y x ≡ false → by_clock f y ≡ false → by_clock f x ≡ false
 above x y f h k = grind (arith, nat_tests)
 
-all_between : (x y : JournalEntry) (fs : List JournalEntry) → by_clock y x ≡ true → AllByRecursion (λ f. by_clock f x ≡ false) fs → AllByRecursion (λ f. by_clock f y ≡ false) fs
+all_between : (x y : JournalEntry) (fs : List JournalEntry) → by_clock y x ≡ true → AllByRecursion (λ f. by_clock f x ≡ false) fs
+    → AllByRecursion (λ f. by_clock f y ≡ false) fs
 all_between x y [] h k = tt
 all_between x y (f ∷ fs) h k = (between x y f h k.0, all_between x y fs h k.1)
 
-all_above : (x y : JournalEntry) (fs : List JournalEntry) → by_clock y x ≡ false → AllByRecursion (λ f. by_clock f y ≡ false) fs → AllByRecursion (λ f. by_clock f x ≡ false) fs
+all_above : (x y : JournalEntry) (fs : List JournalEntry) → by_clock y x ≡ false → AllByRecursion (λ f. by_clock f y ≡ false) fs
+    → AllByRecursion (λ f. by_clock f x ≡ false) fs
 all_above x y [] h k = tt
 all_above x y (f ∷ fs) h k = (above x y f h k.0, all_above x y fs h k.1)
 
-order_step : (x : JournalEntry) (xs : List JournalEntry) (on : List JournalEntry → List JournalEntry) → NoneBefore (x ∷ xs) → ((Q : JournalEntry → Type 0) (ys : List JournalEntry) → AllByRecursion Q xs → AllByRecursion Q ys → AllByRecursion Q (on ys))
+order_step : (x : JournalEntry) (xs : List JournalEntry) (on : List JournalEntry → List JournalEntry) → NoneBefore (x ∷ xs)
+    → ((Q : JournalEntry → Type 0) (ys : List JournalEntry) → AllByRecursion Q xs → AllByRecursion Q ys → AllByRecursion Q (on ys))
     → ((ys : List JournalEntry) → NoneBefore ys → NoneBefore (on ys)) → (ys : List JournalEntry) → NoneBefore ys → NoneBefore (step x xs on ys)
 order_step x xs on h each f [] k = h
 order_step x xs on h each f (y ∷ ys) k =
@@ -100,22 +99,6 @@ merged_order (x ∷ xs) ys h k = order_step x xs (merged xs) h (λ Q zs. each_me
 abbrev pub Merging : (first second : List JournalEntry) (i j : ℕ) → List JournalEntry → Type 0
 Merging first second i j so_far = so_far ++ merged (drop i first) (drop j second) ≡ merged first second
 
-pub merging_second : (first second : List JournalEntry) (i j : ℕ) (x y : JournalEntry) (so_far : List JournalEntry) → i < length first → j < length second → x ≡ get_or first i x → y ≡ get_or second j y → by_clock y x ≡ true
-    → Merging first second i j so_far → Merging first second i (j + 1) (so_far ++ y ∷ [])
-merging_second first second i j x y so_far i_in j_in is_x is_y lt h =
-    let xs : drop i first ≡ x ∷ drop (i + 1) first = rw add-one (drop-cons first i x i_in ∙ ap (λ z. z ∷ drop (suc i) first) (sym is_x)) in
-    let ys : drop j second ≡ y ∷ drop (j + 1) second = rw add-one (drop-cons second j y j_in ∙ ap (λ z. z ∷ drop (suc j) second) (sym is_y)) in
-    append_assoc so_far (y ∷ []) (merged (drop i first) (drop (j + 1) second)) ∙ ap (λ zs. so_far ++ zs) (ap (λ us. y ∷ merged us (drop (j + 1) second)) xs ∙ sym (takes_second x y (drop (i + 1) first) (drop (j + 1) second) lt)
-    ∙ ap (λ us. merged us (y ∷ drop (j + 1) second)) (sym xs) ∙ ap (λ vs. merged (drop i first) vs) (sym ys)) ∙ h
-
-pub merging_first : (first second : List JournalEntry) (i j : ℕ) (x y : JournalEntry) (so_far : List JournalEntry) → i < length first → j < length second → x ≡ get_or first i x → y ≡ get_or second j y → by_clock y x ≡ false
-    → Merging first second i j so_far → Merging first second (i + 1) j (so_far ++ x ∷ [])
-merging_first first second i j x y so_far i_in j_in is_x is_y lt h =
-    let xs : drop i first ≡ x ∷ drop (i + 1) first = rw add-one (drop-cons first i x i_in ∙ ap (λ z. z ∷ drop (suc i) first) (sym is_x)) in
-    let ys : drop j second ≡ y ∷ drop (j + 1) second = rw add-one (drop-cons second j y j_in ∙ ap (λ z. z ∷ drop (suc j) second) (sym is_y)) in
-    append_assoc so_far (x ∷ []) (merged (drop (i + 1) first) (drop j second)) ∙ ap (λ zs. so_far ++ zs) (ap (λ vs. x ∷ merged (drop (i + 1) first) vs) ys ∙ sym (takes_first x y (drop (i + 1) first) (drop (j + 1) second) lt)
-    ∙ ap (λ us. merged us (y ∷ drop (j + 1) second)) (sym xs) ∙ ap (λ vs. merged (drop i first) vs) (sym ys)) ∙ h
-
 over : {X : Type 0} (i : ℕ) (xs : List X) → length xs ≤ i → drop i xs ≡ []
 over zero [] h = refl
 over zero (x ∷ xs) h = absurd (omega arith)
@@ -126,15 +109,19 @@ pub all_left : {X : Type 0} (i : ℕ) (xs : List X) → take (length xs - i) (dr
 all_left i xs = take_all (length xs - i) (drop i xs) (omega (arith, length-drop i xs))
 
 -- one of the lists has ended
-pub merging_done : (first second : List JournalEntry) (i j : ℕ) (so_far : List JournalEntry) → (length first ≤ i) ⊎ (length second ≤ j) → Merging first second i j so_far → (so_far ++ drop i first) ++ drop j second ≡ merged first second
-merging_done first second i j so_far (inl l) h = ap (λ zs. (so_far ++ zs) ++ drop j second) (over i first l) ∙ ap (λ zs. zs ++ drop j second) (append-nil so_far) ∙ ap (λ us. so_far ++ merged us (drop j second)) (sym (over i first l)) ∙ h
-merging_done first second i j so_far (inr l) h = ap (λ zs. (so_far ++ drop i first) ++ zs) (over j second l) ∙ append-nil (so_far ++ drop i first) ∙ ap (λ zs. so_far ++ zs) (sym (merged_nil (drop i first))) ∙ ap (λ vs. so_far ++ merged (drop i first) vs) (sym (over j second l)) ∙ h
+pub merging_done : (first second : List JournalEntry) (i j : ℕ) (so_far : List JournalEntry) → (length first ≤ i) ⊎ (length second ≤ j)
+    → Merging first second i j so_far → (so_far ++ drop i first) ++ drop j second ≡ merged first second
+merging_done first second i j so_far (inl l) h = ap (λ zs. (so_far ++ zs) ++ drop j second) (over i first l)
+    ∙ ap (λ zs. zs ++ drop j second) (append-nil so_far) ∙ ap (λ us. so_far ++ merged us (drop j second)) (sym (over i first l)) ∙ h
+merging_done first second i j so_far (inr l) h = ap (λ zs. (so_far ++ drop i first) ++ zs) (over j second l) ∙ append-nil (so_far ++ drop i first)
+    ∙ ap (λ zs. so_far ++ zs) (sym (merged_nil (drop i first))) ∙ ap (λ vs. so_far ++ merged (drop i first) vs) (sym (over j second l)) ∙ h
 
 -- ---- the loop over many
 
 -- two lists of the queue are one at its end
 -- a list that is merged of two of many stands behind the others
-pub joined_more : (xs : List JournalEntry) (x y m : List JournalEntry) (two one rest : List (List JournalEntry)) → IsPermutation (joined two) (x ++ joined one) → IsPermutation (joined one) (y ++ joined rest)
+pub joined_more : (xs : List JournalEntry) (x y m : List JournalEntry) (two one rest : List (List JournalEntry))
+    → IsPermutation (joined two) (x ++ joined one) → IsPermutation (joined one) (y ++ joined rest)
     → IsPermutation (x ++ y) m → IsPermutation xs (joined two) → IsPermutation xs (joined (rest ++ m ∷ []))
 joined_more xs x y m two one rest first second both all = rw (joined-append rest m)
     (IsPermutation-trans xs (joined two) (joined rest ++ m) all
@@ -148,7 +135,8 @@ joined_more xs x y m two one rest first second both all = rw (joined-append rest
     joined-append (j ∷ js) m = ap (λ xs. j ++ xs) (joined-append js m) ∙ sym (append_assoc j (joined js) m)
 
 -- one of many lists is taken out
-pub pulled : (runs : List (List JournalEntry)) (i : ℕ) (x : List JournalEntry) → i < length runs → x ≡ get_or runs i x → IsPermutation (joined runs) (x ++ joined (remove runs i))
+pub pulled : (runs : List (List JournalEntry)) (i : ℕ) (x : List JournalEntry) → i < length runs → x ≡ get_or runs i x
+    → IsPermutation (joined runs) (x ++ joined (remove runs i))
 pulled [] i x h is = absurd (omega (arith, h))
 pulled (r ∷ runs) zero x h is = subst (λ (y : List JournalEntry). IsPermutation (r ++ joined runs) (y ++ joined runs)) (sym is) (IsPermutation-refl (r ++ joined runs))
 pulled (r ∷ runs) (suc i) x h is =
@@ -157,18 +145,14 @@ pulled (r ∷ runs) (suc i) x h is =
     (subst (λ (ys : List JournalEntry). IsPermutation ys (x ++ (r ++ rest))) (append_assoc r x rest)
     (subst (λ (ys : List JournalEntry). IsPermutation ((r ++ x) ++ rest) ys) (append_assoc x r rest) (IsPermutation-append_left rest (r ++ x) (x ++ r) (IsPermutation-append_comm r x))))
 
-pub ordered_pulled : (runs : List (List JournalEntry)) (i : ℕ) (x : List JournalEntry) → i < length runs → x ≡ get_or runs i x → AllOrdered runs → NoneBefore x × AllOrdered (remove runs i)
-ordered_pulled [] i x h is order = absurd (omega (arith, h))
-ordered_pulled (r ∷ runs) zero x h is order = (subst (λ (y : List JournalEntry). NoneBefore y) (sym is) order.0, order.1)
-ordered_pulled (r ∷ runs) (suc i) x h is order = let rest = ordered_pulled runs i x (omega (arith, h)) is order.1 in (rest.0, (order.0, rest.1))
-
 pub ordered_more : (runs : List (List JournalEntry)) (m : List JournalEntry) → AllOrdered runs → NoneBefore m → AllOrdered (runs ++ m ∷ [])
 ordered_more [] m h k = (k, tt)
 ordered_more (r ∷ runs) m h k = (h.0, ordered_more runs m h.1 k)
 
 -- ---- journals are in order
 
-later_after : (e : JournalEntry) (es : List JournalEntry) → AllByRecursion (λ (f : JournalEntry). e.clock < f.clock) es → AllByRecursion (λ f. by_clock f e ≡ false) es
+later_after : (e : JournalEntry) (es : List JournalEntry) → AllByRecursion (λ (f : JournalEntry). e.clock < f.clock) es
+    → AllByRecursion (λ f. by_clock f e ≡ false) es
 later_after e [] h = tt
 later_after e (f ∷ es) h = (one e f h.0, later_after e es h.1)
   where

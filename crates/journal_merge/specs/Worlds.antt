@@ -3,12 +3,12 @@ use Rattle.std.specs.Prelude.{ℕ, ◌≡◌, ◌≢◌, ◌==◌, if◌then◌e
 use Rattle.ring_net.specs.Deeds.{Deed, Makes, items_for}
 
 -- The part of the world that each actor is, and the items in flight from one actor to another.
-pub record World (P I : Type 0) : Type 0 where
+pub record DeedWorld (P I : Type 0) : Type 0 where
   pub part : ℕ → P
   pub channel : ℕ → ℕ → List I
 
 -- the same part of each actor, and the same items in flight
-pub record SameWorld {P I : Type 0} (w v : World P I) : Type 0 where
+pub record SameWorld {P I : Type 0} (w v : DeedWorld P I) : Type 0 where
   pub parts : (k : ℕ) → v.part k ≡ w.part k
   pub channels : (a b : ℕ) → v.channel a b ≡ w.channel a b
 
@@ -28,7 +28,7 @@ module _ {I : Type 0} where
 module _ {P I : Type 0} (makes : Makes P I) where
   -- One event. Its actor makes it on its own part; what it takes is the head of a channel, and then what it sends is appended to channels. All else
   -- is unchanged.
-  pub record Step (w : World P I) (d : Deed I) (v : World P I) : Type 0 where
+  pub record DeedStep (w : DeedWorld P I) (d : Deed I) (v : DeedWorld P I) : Type 0 where
     pub made : makes d.entry.actor (w.part d.entry.actor) d.entry d.taken d.sent (v.part d.entry.actor)
     pub others : (k : ℕ) → k ≢ d.entry.actor → v.part k ≡ w.part k
     pub rest : ℕ → ℕ → List I
@@ -36,6 +36,6 @@ module _ {P I : Type 0} (makes : Makes P I) where
     pub sends : (a b : ℕ) → v.channel a b ≡ rest a b ++ sends_on d a b
 
   -- the events of the list, one after another
-  abbrev pub Run : World P I → List (Deed I) → World P I → Type 0
-  Run w [] v = SameWorld w v
-  Run w (d ∷ ds) v = (m : World P I) × Step w d m × Run m ds v
+  abbrev pub DeedRun : DeedWorld P I → List (Deed I) → DeedWorld P I → Type 0
+  DeedRun w [] v = SameWorld w v
+  DeedRun w (d ∷ ds) v = (m : DeedWorld P I) × DeedStep w d m × DeedRun m ds v

@@ -8,19 +8,20 @@ use Rattle.link_bag.specs.declared.plan.Fault.{Fault}
 use Rattle.link_bag.specs.declared.plan.Plan.{Plan}
 use Rattle.link_bag.specs.Planned.{fate_in, fate_of}
 use Rattle.graft_model.specs.Setups.{Setup, beat_of}
-use Rattle.graft_runs.specs.Actors.{ActorName, Router, FarSide, Operator}
+use Rattle.graft_actors.specs.Actors.{ActorName, Router, FarSide, Operator}
 use Rattle.graft_actors.specs.Acts.{OwnPart}
 use Rattle.router_core.specs.Routers as routers
 use Rattle.router_core.specs.declared.config.RouterConfig.{RouterConfig}
 use Rattle.router_core.specs.declared.router as made_routers
-use Rattle.far_side.specs.Fars.{own, IsConfigOf, IsNew}
+use Rattle.far_side.specs.Fars.{far_own_part, IsFarConfigOf, IsNewFar}
 use Rattle.far_side.specs.declared.config.FarConfig.{FarConfig}
 use Rattle.far_side.specs.declared.far as made_fars
 use Rattle.world_nodes.specs.declared.node.Node.TheVariants as nodes
-use Rattle.lab_actors.specs.Firsts.{first_own, IsFirst}
+use Rattle.lab_actors.specs.Firsts.{first_own, IsFirstNode}
 
-pub router_first : (setup : Setup) (faults : List Fault) (number : RouterId) (config : RouterConfig) (router : made_routers.Router.Router) → config.number ≡ number → routers.IsNew setup config router
-    → IsFirst setup faults (Router number.0) (nodes.Router router)
+pub router_first : (setup : Setup) (faults : List Fault) (number : RouterId) (config : RouterConfig) (router : made_routers.Router.Router)
+    → config.number ≡ number → routers.IsNewRouter setup config router
+    → IsFirstNode setup faults (Router number.0) (nodes.Router router)
 router_first setup faults number config router its new = record {
   is = new.0.is ∙ ap (λ (n : RouterId). first_own setup (Router n.0)) its;
   works = new.1;
@@ -36,8 +37,8 @@ peering_of Operator = 0
 same_id : (p q : PeeringId) → p.0 ≡ q.0 → p ≡ q
 same_id p q e = ap (λ (n : ℕ). (let x : PeeringId = record { 0 = n } in x)) e
 
-module _ (setup : Setup) (faults : List Fault) (peering : PeeringId) (config : FarConfig) (far : made_fars.Far.Far) (of : IsConfigOf setup config) (its : config.peering ≡ peering) (new : IsNew setup config far) where
-  own_is : own far ≡ first_own setup (FarSide peering.0)
+module _ (setup : Setup) (faults : List Fault) (peering : PeeringId) (config : FarConfig) (far : made_fars.Far.Far) (of : IsFarConfigOf setup config) (its : config.peering ≡ peering) (new : IsNewFar setup config far) where
+  own_is : far_own_part far ≡ first_own setup (FarSide peering.0)
   own_is = new.is ∙ ap (λ (p : PeeringId). first_own setup (FarSide p.0)) its
 
   number_is : far.fields.peering ≡ peering
@@ -49,7 +50,8 @@ module _ (setup : Setup) (faults : List Fault) (peering : PeeringId) (config : F
       ∙ ap (option_map beat_of) of.is ∙ ap Some (sym of.beat) ∙ ap Some (sym new.beat)
 
   -- with the plan of these faults it is the first far side of its peering
-  pub far_first : ((way : Way) (segment : ℕ) → fate_in config.plan peering way segment ≡ fate_of faults peering way segment) → IsFirst setup faults (FarSide peering.0) (nodes.Far far)
+  pub far_first : ((way : Way) (segment : ℕ) → fate_in config.plan peering way segment ≡ fate_of faults peering way segment)
+      → IsFirstNode setup faults (FarSide peering.0) (nodes.Far far)
   far_first planned = record {
     is = own_is;
     works = tt;

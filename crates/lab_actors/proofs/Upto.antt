@@ -6,23 +6,20 @@ use Rattle.std.proofs.lemmas.List.{length-append, get_or_append_left, get_or-app
 use Rattle.link_bag.specs.declared.plan.Fault.{Fault}
 use Rattle.graft_model.specs.Setups.{Setup, routers_in, peerings_in}
 use Rattle.graft_model.specs.First.{first_far}
-use Rattle.graft_runs.specs.Actors.{ActorName, Router, FarSide, Operator, FarIs, actor_at}
-use Rattle.graft_runs.proofs.Numbers.{there}
-use Rattle.world_runs.specs.Labs.{AreFirst, actors_in}
+use Rattle.graft_actors.specs.Actors.{ActorName, Router, FarSide, Operator, FarIs, actor_at}
+use Rattle.graft_actors.proofs.Numbers.{some_same, there}
+use Rattle.world_runs.specs.Labs.{AreFirstActors, actors_in}
 use Rattle.world_nodes.specs.Fresh.{IsFresh}
 use Rattle.world_nodes.specs.Nodes.{own, Works}
 use Rattle.world_nodes.specs.declared.node.Node.{Node}
 use Rattle.lab_setup.proofs.Lists.{all_append, get_below}
-use Rattle.lab_actors.specs.Firsts.{first_own, IsFirst, AreFirstUpTo}
-
-same_name : (x y : ActorName) → Some x ≡ Some y → x ≡ y
-same_name x y e = ap (λ o. unwrap_or o x) e
+use Rattle.lab_actors.specs.Firsts.{first_own, IsFirstNode, AreFirstUpTo}
 
 pub none_yet : (setup : Setup) (faults : List Fault) → AreFirstUpTo setup faults 0 []
 none_yet setup faults = record { size = refl; each = λ k d x below is. absurd (omega arith); works = tt; fresh = tt }
 
 module _ (setup : Setup) (faults : List Fault) (n : ℕ) (actors : List Node) (name : ActorName) (node : Node) (so_far : AreFirstUpTo setup faults n actors) (at : actor_at setup n ≡ Some name)
-    (first : IsFirst setup faults name node) where
+    (first : IsFirstNode setup faults name node) where
   longer : length (actors ++ node ∷ []) ≡ n + 1
   longer = let h = length-append actors (node ∷ []) in let size = so_far.size in omega arith
 
@@ -40,7 +37,7 @@ module _ (setup : Setup) (faults : List Fault) (n : ℕ) (actors : List Node) (n
     | inr more ↦
         let same : k ≡ n = omega arith in
         ap (λ i. own (get_or (actors ++ node ∷ []) i d)) same ∙ ap own (last_is d) ∙ first.is
-        ∙ ap (first_own setup) (same_name name x (sym at ∙ ap (actor_at setup) (sym same) ∙ is))
+        ∙ ap (first_own setup) (some_same name x (sym at ∙ ap (actor_at setup) (sym same) ∙ is))
   ]
 
   pub one_more : AreFirstUpTo setup faults (n + 1) (actors ++ node ∷ [])
@@ -52,7 +49,8 @@ module _ (setup : Setup) (faults : List Fault) (n : ℕ) (actors : List Node) (n
   }
 
 -- all of them
-pub are_first : (setup : Setup) (faults : List Fault) (actors : List Node) → AreFirstUpTo setup faults (actors_in setup) actors → AreFirst own setup actors
+pub are_first : (setup : Setup) (faults : List Fault) (actors : List Node) → AreFirstUpTo setup faults (actors_in setup) actors
+    → AreFirstActors own setup actors
 are_first setup faults actors all = record {
   all = all.size;
   routers = λ r d less. all.each r d (Router r) (omega arith) (there setup (Router r) less);

@@ -4,7 +4,7 @@ use Rattle.std.specs.List.{AllByRecursion}
 use Rattle.link_bag.specs.declared.plan.Fault.{Fault}
 use Rattle.graft_model.specs.Setups.{Setup}
 use Rattle.graft_model.specs.First.{first_router, first_far, first_world}
-use Rattle.graft_runs.specs.Actors.{ActorName, Router, FarSide, Operator, ActorPart, RouterIs, FarIs, OperatorIs, actor_at}
+use Rattle.graft_actors.specs.Actors.{ActorName, Router, FarSide, Operator, ActorPart, RouterIs, FarIs, OperatorIs, actor_at}
 use Rattle.graft_actors.specs.Acts.{OwnPart}
 use Rattle.world_nodes.specs.Fresh.{IsFresh}
 use Rattle.world_nodes.specs.Nodes.{own, Works}
@@ -20,7 +20,7 @@ abbrev pub first_own : Setup → ActorName → OwnPart
 first_own setup name = record { setup = setup; name = name; part = first_part setup name }
 
 -- The actor of this name in a laboratory, as it begins, with the fates that these faults give to segments.
-pub record IsFirst (setup : Setup) (faults : List Fault) (name : ActorName) (node : Node) : Type 0 where
+pub record IsFirstNode (setup : Setup) (faults : List Fault) (name : ActorName) (node : Node) : Type 0 where
   pub is : own node ≡ first_own setup name
   pub works : Works node
   pub fresh : IsFresh setup faults node

@@ -3,13 +3,13 @@
 ghost use Rattle.std.specs.Prelude.{◌≡◌, ◌+◌, ◌<◌, length, IfOk};
 ghost use Rattle.std.specs.List.{AllByRecursion};
 ghost use Rattle.graft_model.specs.Setups.{Setup};
-ghost use Rattle.graft_runs.specs.Actors.{Router as RouterName, FarSide, Operator as TheOperator};
+ghost use Rattle.graft_actors.specs.Actors.{Router as RouterName, FarSide, Operator as TheOperator};
 ghost use Rattle.lab_setup.specs.Setups.{setup_of};
-ghost use Rattle.world_runs.specs.Labs.{AreFirst};
+ghost use Rattle.world_runs.specs.Labs.{AreFirstActors};
 ghost use Rattle.world_nodes.specs.Fresh.{IsFresh};
 ghost use Rattle.world_nodes.specs.Nodes.{own, Works};
 ghost use Rattle.node_configs.specs.Accepted.{IsAccepted};
-ghost use Rattle.lab_actors.specs.Firsts.{IsFirst, AreFirstUpTo};
+ghost use Rattle.lab_actors.specs.Firsts.{IsFirstNode, AreFirstUpTo};
 
 use far_side::Far;
 use graft_actors::Known;
@@ -34,7 +34,7 @@ fn known_for(_input: &LabInput) -> Known
 fn router_of(alloc: Global, input: &LabInput, number: RouterId) -> Result<Node, NoMemory>
     requires accepted { IsAccepted input.now }
     requires there { number.0 < length input.now.routers }
-    ensures { IfOk result (IsFirst (setup_of input.now) input.now.faults (RouterName number.0)) }
+    ensures { IfOk result (IsFirstNode (setup_of input.now) input.now.faults (RouterName number.0)) }
 {
     let config = router_config(alloc, input, number)?;
     let known = known_for(input);
@@ -46,7 +46,7 @@ fn router_of(alloc: Global, input: &LabInput, number: RouterId) -> Result<Node, 
 fn far_of(alloc: Global, input: &LabInput, peering: PeeringId) -> Result<Node, NoMemory>
     requires accepted { IsAccepted input.now }
     requires there { peering.0 < length input.now.peerings }
-    ensures { IfOk result (IsFirst (setup_of input.now) input.now.faults (FarSide peering.0)) }
+    ensures { IfOk result (IsFirstNode (setup_of input.now) input.now.faults (FarSide peering.0)) }
 {
     let config = far_config(alloc, input, peering)?;
     let known = known_for(input);
@@ -57,7 +57,7 @@ fn far_of(alloc: Global, input: &LabInput, peering: PeeringId) -> Result<Node, N
 /// Returns the operator, as it begins.
 fn operator_of(alloc: Global, input: &LabInput) -> Result<Node, NoMemory>
     requires { IsAccepted input.now }
-    ensures { IfOk result (IsFirst (setup_of input.now) input.now.faults TheOperator) }
+    ensures { IfOk result (IsFirstNode (setup_of input.now) input.now.faults TheOperator) }
 {
     let script = operator_script(alloc, input)?;
     let known = known_for(input);
@@ -100,7 +100,7 @@ fn with_far_sides(
 /// order of their peerings, and the operator. The input must be one that was accepted.
 pub fn actors_of(alloc: Global, input: &LabInput) -> Result<Actors<Node>, NoMemory>
     requires { IsAccepted input.now }
-    ensures first { IfOk result (AreFirst own (setup_of input.now)) }
+    ensures first { IfOk result (AreFirstActors own (setup_of input.now)) }
     ensures size { IfOk result (λ actors. length actors ≡ length input.now.routers + length input.now.peerings + 1) }
     ensures works { IfOk result (AllByRecursion Works) }
     ensures fresh { IfOk result (AllByRecursion (IsFresh (setup_of input.now) input.now.faults)) }

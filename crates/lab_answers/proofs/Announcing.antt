@@ -12,7 +12,8 @@ use Rattle.even_inputs.specs.Announced.{announced_by, with_attrs}
 use Rattle.lab_answers.specs.Imports.{meds_of, meds_of_route}
 
 -- the same route to each of its prefixes
-pub announced_meds : (imports : Imports) (u : Update) (attrs : Attrs) (route : Route) (nlri : List PrefixValue) → u.attrs ≡ Some attrs → route ≡ announced_route attrs → nlri ≡ u.nlri
+pub announced_meds : (imports : Imports) (u : Update) (attrs : Attrs) (route : Route) (nlri : List PrefixValue) → u.attrs ≡ Some attrs
+    → route ≡ announced_route attrs → nlri ≡ u.nlri
     → flat_map (λ prefix. meds_of_route imports prefix route) nlri ≡ flat_map (meds_of imports) (announced_by u)
 announced_meds imports u attrs route nlri there is same =
     ap (λ (r : Route). flat_map (λ prefix. meds_of_route imports prefix r) nlri) is

@@ -37,7 +37,8 @@ same_parts prefix neighbour m e =
     let parts = both (same_prefix m.prefix prefix) (m.neighbour == neighbour) e in
     (is_same m.prefix prefix parts.0, equal m.neighbour neighbour parts.1)
 
-or_by : (o : Option Med) (b : Bool) (x : Med) → option_map (λ (m : Med). m.med) (option_or o (cond b (Some x) None)) ≡ option_or (option_map (λ (m : Med). m.med) o) (given b x.med)
+or_by : (o : Option Med) (b : Bool) (x : Med)
+    → option_map (λ (m : Med). m.med) (option_or o (cond b (Some x) None)) ≡ option_or (option_map (λ (m : Med). m.med) o) (given b x.med)
 or_by (Some m) b x = refl
 or_by None true x = refl
 or_by None false x = refl
@@ -70,7 +71,8 @@ some_mapped (Some m) e = refl
 some_mapped None e = absurd (false≢true e)
 
 -- what is first of a route's own kind stays so
-first_stays : (front rest : List Med) (m x : Med) → first_med ((front ++ m ∷ rest) ++ x ∷ []) m.prefix m.neighbour ≡ first_med (front ++ m ∷ rest) m.prefix m.neighbour
+first_stays : (front rest : List Med) (m x : Med)
+    → first_med ((front ++ m ∷ rest) ++ x ∷ []) m.prefix m.neighbour ≡ first_med (front ++ m ∷ rest) m.prefix m.neighbour
 first_stays front rest m x =
     ap (λ (o : Option ℕ). unwrap_or o 0) (first_more (front ++ m ∷ rest) x m.prefix m.neighbour)
     ∙ kept_by (first_of (front ++ m ∷ rest) m.prefix m.neighbour) (given (is_between m.prefix m.neighbour x) x.med)

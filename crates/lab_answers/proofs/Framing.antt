@@ -21,8 +21,8 @@ use Rattle.even_inputs.specs.Announced.{announced_by}
 use Rattle.even_inputs.specs.Evenness.{Med}
 use Rattle.lab_answers.specs.declared.imports.Imports.{Imports}
 use Rattle.lab_answers.specs.declared.meds.Meds.{Meds}
-use Rattle.lab_answers.specs.Imports.{meds_of, meds_of_updates, update_of}
-use Rattle.lab_answers.specs.Noted.{Adds}
+use Rattle.lab_answers.specs.Imports.{meds_of, meds_of_updates, update_in_frame}
+use Rattle.lab_answers.specs.Noted.{NotesMeds}
 use Rattle.lab_answers.proofs.Adding.{adds_none, adds_both, adds_same}
 
 -- a message with a fault is no UPDATE
@@ -52,33 +52,33 @@ one_update imports u = ap (flat_map (meds_of imports)) (sym (append-nil (announc
 
 module _ (imports : Imports) (expected : Expected) where
   abbrev pub noted_in : List ℕ → List Med
-  noted_in bytes = meds_of_updates imports (filter_map (update_of expected) (many frame_at bytes).0)
+  noted_in bytes = meds_of_updates imports (filter_map (update_in_frame expected) (many frame_at bytes).0)
 
   cons_is : {A : Type 0} (o : Option A) (rest : List A) → cons_option o rest ≡ cons_option o [] ++ rest
   cons_is None rest = refl
   cons_is (Some x) rest = refl
 
   front_then : (frame rest : List ℕ) (bytes : List ℕ) → frame_at bytes ≡ Some (frame, rest)
-      → meds_of_updates imports (cons_option (update_of expected frame) []) ++ noted_in rest ≡ noted_in bytes
+      → meds_of_updates imports (cons_option (update_in_frame expected frame) []) ++ noted_in rest ≡ noted_in bytes
   front_then frame rest bytes e =
-      let here : List Update = cons_option (update_of expected frame) [] in
-      let after : List Update = filter_map (update_of expected) (many frame_at rest).0 in
-      sym (ap (λ (x : List (List ℕ) × List ℕ). meds_of_updates imports (filter_map (update_of expected) x.0)) (many_some frame_at frame_shortens bytes (frame, rest) e)
-      ∙ ap (meds_of_updates imports) (cons_is (update_of expected frame) after)
+      let here : List Update = cons_option (update_in_frame expected frame) [] in
+      let after : List Update = filter_map (update_in_frame expected) (many frame_at rest).0 in
+      sym (ap (λ (x : List (List ℕ) × List ℕ). meds_of_updates imports (filter_map (update_in_frame expected) x.0)) (many_some frame_at frame_shortens bytes (frame, rest) e)
+      ∙ ap (meds_of_updates imports) (cons_is (update_in_frame expected frame) after)
       ∙ ap (flat_map (meds_of imports)) (flat_map-append announced_by here after)
       ∙ flat_map-append (meds_of imports) (flat_map announced_by here) (flat_map announced_by after))
 
   -- a frame is noted: with the bytes behind it, all are
   pub one_frame : (frame rest bytes said : List ℕ) (first old middle : Meds) → frame_at bytes ≡ Some (frame, rest)
-      → ((new : Meds) → Adds (noted_in bytes) old new → Adds (noted_in said) first new)
-      → Adds (meds_of_updates imports (cons_option (update_of expected frame) [])) old middle
-      → (new : Meds) → Adds (noted_in rest) middle new → Adds (noted_in said) first new
+      → ((new : Meds) → NotesMeds (noted_in bytes) old new → NotesMeds (noted_in said) first new)
+      → NotesMeds (meds_of_updates imports (cons_option (update_in_frame expected frame) [])) old middle
+      → (new : Meds) → NotesMeds (noted_in rest) middle new → NotesMeds (noted_in said) first new
   one_frame frame rest bytes said first old middle e before this new after =
-      before new (adds_same (meds_of_updates imports (cons_option (update_of expected frame) []) ++ noted_in rest) (noted_in bytes) old new (front_then frame rest bytes e)
-      (adds_both (meds_of_updates imports (cons_option (update_of expected frame) [])) (noted_in rest) old middle new this after))
+      before new (adds_same (meds_of_updates imports (cons_option (update_in_frame expected frame) []) ++ noted_in rest) (noted_in bytes) old new (front_then frame rest bytes e)
+      (adds_both (meds_of_updates imports (cons_option (update_in_frame expected frame) [])) (noted_in rest) old middle new this after))
 
   -- at the end no frame is left
   pub last_frame : (bytes said : List ℕ) (first old : Meds) → frame_at bytes ≡ None
-      → ((new : Meds) → Adds (noted_in bytes) old new → Adds (noted_in said) first new) → Adds (noted_in said) first old
+      → ((new : Meds) → NotesMeds (noted_in bytes) old new → NotesMeds (noted_in said) first new) → NotesMeds (noted_in said) first old
   last_frame bytes said first old e before =
-      before old (adds_same [] (noted_in bytes) old old (sym (ap (λ (x : List (List ℕ) × List ℕ). meds_of_updates imports (filter_map (update_of expected) x.0)) (many_none frame_at bytes e))) (adds_none old))
+      before old (adds_same [] (noted_in bytes) old old (sym (ap (λ (x : List (List ℕ) × List ℕ). meds_of_updates imports (filter_map (update_in_frame expected) x.0)) (many_none frame_at bytes e))) (adds_none old))

@@ -17,12 +17,12 @@ use Rattle.lab_tables.specs.declared.input.LabInput.{LabInput}
 use Rattle.lab_tables.specs.declared.input.PeeringInput.{PeeringInput}
 use Rattle.lab_tables.specs.declared.input.RouterInput.{RouterInput}
 use Rattle.lab_setup.specs.Setups.{setup_of, router_setup, peering_setup}
-use Rattle.one_answer.specs.Settled.{said_in}
+use Rattle.one_answer.specs.Settled.{said_in_all}
 use Rattle.even_inputs.specs.Announced.{established, announced_by}
 use Rattle.even_inputs.specs.Evenness.{Med, med_of, own_meds, announced_route, meds_from, meds_by, let_in}
 use Rattle.lab_answers.specs.Noted.{own_med}
 use Rattle.lab_answers.specs.declared.imports.Imports.{Imports}
-use Rattle.lab_answers.specs.Imports.{meds_of, meds_of_updates, update_of}
+use Rattle.lab_answers.specs.Imports.{meds_of, meds_of_updates, update_in_frame}
 use Rattle.lab_answers.specs.Policies.{imports_of}
 use Rattle.lab_answers.proofs.PolicyLists.{fused, rules_over}
 
@@ -31,9 +31,11 @@ same_flat f g each [] = refl
 same_flat {X} {Y} f g each (x ∷ xs) = ap (λ (l : List Y). l ++ flat_map f xs) (each x) ∙ ap (λ (l : List Y). g x ++ l) (same_flat f g each xs)
 
 -- the numbers don't matter
-unnumbered : {X Y : Type 0} (f : ℕ × X → List Y) (g : X → List Y) → ((n : ℕ) (x : X) → f (n, x) ≡ g x) → (n : ℕ) (xs : List X) → flat_map f (enumerate_from n xs) ≡ flat_map g xs
+unnumbered : {X Y : Type 0} (f : ℕ × X → List Y) (g : X → List Y) → ((n : ℕ) (x : X) → f (n, x) ≡ g x) → (n : ℕ) (xs : List X)
+    → flat_map f (enumerate_from n xs) ≡ flat_map g xs
 unnumbered f g each n [] = refl
-unnumbered {X} {Y} f g each n (x ∷ xs) = ap (λ (l : List Y). l ++ flat_map f (enumerate_from (n + 1) xs)) (each n x) ∙ ap (λ (l : List Y). g x ++ l) (unnumbered f g each (n + 1) xs)
+unnumbered {X} {Y} f g each n (x ∷ xs) = ap (λ (l : List Y). l ++ flat_map f (enumerate_from (n + 1) xs)) (each n x)
+    ∙ ap (λ (l : List Y). g x ++ l) (unnumbered f g each (n + 1) xs)
 
 -- elements that are made with their numbers keep them
 renumbered : {X Y Z : Type 0} (f : ℕ × Y → List Z) (made : ℕ × X → Y) (n : ℕ) (xs : List X)
@@ -80,16 +82,16 @@ module _ (input : LabInput) where
         ∷ filter_map (λ r. option_map (med_of home_as announced.0) (let_in (setup_of input) config announced r)) numbers) (sym home_is)
 
     -- all that a remote announces
-    pub announced_over : (said : List ℕ) (expected : Expected) (imports : Imports) → said ≡ said_in (setup_of input) p (peering_setup input (p, x))
+    pub announced_over : (said : List ℕ) (expected : Expected) (imports : Imports) → said ≡ said_in_all (setup_of input) p (peering_setup input (p, x))
         → expected ≡ established (peering_setup input (p, x)) said → imports ≡ imports_of input x
-        → meds_of_updates imports (filter_map (update_of expected) (many frame_at said).0) ≡ meds_by (setup_of input) (p, peering_setup input (p, x))
+        → meds_of_updates imports (filter_map (update_in_frame expected) (many frame_at said).0) ≡ meds_by (setup_of input) (p, peering_setup input (p, x))
     announced_over said expected imports is as_read let_in_by =
-        ap (λ (i : Imports). meds_of_updates i (filter_map (update_of expected) (many frame_at said).0)) let_in_by
-        ∙ ap (λ (e : Expected). meds_of_updates (imports_of input x) (filter_map (update_of e) (many frame_at said).0)) as_read
-        ∙ ap (λ (s : List ℕ). meds_of_updates (imports_of input x) (filter_map (update_of (established (peering_setup input (p, x)) s)) (many frame_at s).0)) is
+        ap (λ (i : Imports). meds_of_updates i (filter_map (update_in_frame expected) (many frame_at said).0)) let_in_by
+        ∙ ap (λ (e : Expected). meds_of_updates (imports_of input x) (filter_map (update_in_frame e) (many frame_at said).0)) as_read
+        ∙ ap (λ (s : List ℕ). meds_of_updates (imports_of input x) (filter_map (update_in_frame (established (peering_setup input (p, x)) s)) (many frame_at s).0)) is
         ∙ same_flat (meds_of (imports_of input x)) (meds_from (setup_of input) config) let_in_so
-        (flat_map announced_by (filter_map (update_of (established (peering_setup input (p, x)) (said_in (setup_of input) p (peering_setup input (p, x)))))
-        (many frame_at (said_in (setup_of input) p (peering_setup input (p, x)))).0))
+        (flat_map announced_by (filter_map (update_in_frame (established (peering_setup input (p, x)) (said_in_all (setup_of input) p (peering_setup input (p, x)))))
+        (many frame_at (said_in_all (setup_of input) p (peering_setup input (p, x)))).0))
 
   -- over all peerings
   pub peerings_over : flat_map (λ q. meds_by (setup_of input) (q.0, peering_setup input q)) (enumerate_from 0 input.peerings)

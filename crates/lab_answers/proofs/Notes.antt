@@ -8,20 +8,18 @@ use Rattle.even_inputs.specs.Evenness.{Med, is_between, first_med, are_even}
 use Rattle.lab_answers.specs.declared.meds.Between.{Between}
 use Rattle.lab_answers.specs.declared.meds.Meds.{Meds}
 use Rattle.lab_answers.specs.contracts.meds.BetweenPartialEq.TheImpl as between_eq
-use Rattle.lab_answers.specs.Noted.{first_in, Keeps}
+use Rattle.lab_answers.specs.Noted.{kept_med, KeepsFirstMeds}
 use Rattle.lab_answers.proofs.Evens.{first_of, given, is_itself, same_parts, first_more, even_more}
 
 abbrev pub between : PrefixValue → ℕ → Between
 between prefix neighbour = record { prefix = prefix; neighbour = neighbour }
 
-same_between : (x : Med) (prefix : PrefixValue) (neighbour : ℕ) → (between_eq.ghosts).eq (between x.prefix x.neighbour) (between prefix neighbour) ≡ is_between prefix neighbour x
-same_between x prefix neighbour = refl
-
-module _ (before : List Med) (x : Med) (kept : Meds) (is : Keeps before kept) where
+module _ (before : List Med) (x : Med) (kept : Meds) (is : KeepsFirstMeds before kept) where
   own : Option ℕ
   own = first_of before x.prefix x.neighbour
 
-  own_is : (prefix : PrefixValue) (neighbour : ℕ) → is_between prefix neighbour x ≡ true → first_of before prefix neighbour ≡ first_of before x.prefix x.neighbour
+  own_is : (prefix : PrefixValue) (neighbour : ℕ) → is_between prefix neighbour x ≡ true
+      → first_of before prefix neighbour ≡ first_of before x.prefix x.neighbour
   own_is prefix neighbour e =
       let parts = same_parts prefix neighbour x e in
       ap (λ (p : PrefixValue). first_of before p neighbour) (sym parts.0) ∙ ap (first_of before x.prefix) (sym parts.1)
@@ -36,10 +34,11 @@ module _ (before : List Med) (x : Med) (kept : Meds) (is : Keeps before kept) wh
       ∙ ap (λ (o : Option ℕ). kept.even && (x.med == unwrap_or o 0)) (own_more ∙ e)
 
   -- where there was one between which it is compared, that one stays the first
-  pub there : (v : ℕ) → first_in kept x.prefix x.neighbour ≡ Some v → (even : Bool) → even ≡ (kept.even && (x.med == v))
-      → Keeps (before ++ x ∷ []) (record { first = kept.first; even = even })
+  pub there : (v : ℕ) → kept_med kept x.prefix x.neighbour ≡ Some v → (even : Bool) → even ≡ (kept.even && (x.med == v))
+      → KeepsFirstMeds (before ++ x ∷ []) (record { first = kept.first; even = even })
   there v e even made = record {
-    first = λ prefix neighbour. is.first prefix neighbour ∙ sym (first_more before x prefix neighbour ∙ stays prefix neighbour (is_between prefix neighbour x) refl (first_of before prefix neighbour) refl);
+    first = λ prefix neighbour. is.first prefix neighbour
+        ∙ sym (first_more before x prefix neighbour ∙ stays prefix neighbour (is_between prefix neighbour x) refl (first_of before prefix neighbour) refl);
     even = made ∙ sym (even_with v (ap (λ (o : Option ℕ). option_or o (Some x.med)) own_some));
   }
     where
@@ -53,9 +52,9 @@ module _ (before : List Med) (x : Med) (kept : Meds) (is : Keeps before kept) wh
       stays prefix neighbour true t None f = (let none : ◌≡◌ {A = Option ℕ} None (Some v) = sym f ∙ own_is prefix neighbour t ∙ own_some in absurd cc)
 
   -- where there was none, it is the first
-  pub absent : first_in kept x.prefix x.neighbour ≡ None → (new : Meds) → new.even ≡ kept.even
-      → ((prefix : PrefixValue) (neighbour : ℕ) → first_in new prefix neighbour ≡ cond (is_between prefix neighbour x) (Some x.med) (first_in kept prefix neighbour))
-      → Keeps (before ++ x ∷ []) new
+  pub absent : kept_med kept x.prefix x.neighbour ≡ None → (new : Meds) → new.even ≡ kept.even
+      → ((prefix : PrefixValue) (neighbour : ℕ) → kept_med new prefix neighbour ≡ cond (is_between prefix neighbour x) (Some x.med) (kept_med kept prefix neighbour))
+      → KeepsFirstMeds (before ++ x ∷ []) new
   absent e new same updates = record {
     first = λ prefix neighbour. updates prefix neighbour
         ∙ ap (λ (o : Option ℕ). cond (is_between prefix neighbour x) (Some x.med) o) (is.first prefix neighbour)

@@ -12,6 +12,7 @@ found steps p None = refl
 found steps p (Some peering) = refl
 
 -- A peering that isn't there isn't plain.
-pub plain_at : (steps : List Step) (peerings : List PeeringInput) (p : ℕ) → unwrap_or (slice_get (plain_in steps peerings) p) false ≡ is_plain steps p (slice_get peerings p)
+pub plain_at : (steps : List Step) (peerings : List PeeringInput) (p : ℕ)
+    → unwrap_or (slice_get (plain_in steps peerings) p) false ≡ is_plain steps p (slice_get peerings p)
 plain_at steps peerings p =
     ap (λ o. unwrap_or o false) (get_numbered (λ x. is_plain steps x.0 (Some x.1)) peerings p) ∙ found steps p (slice_get peerings p)

@@ -15,7 +15,8 @@ use Rattle.lab_answers.proofs.Adding.{one_more}
 
 -- ---- in the loop
 
-pub filtered_more : {X Y : Type 0} (f : X → Option Y) (xs : List X) (i : ℕ) (x : X) (before after : List Y) (o : Option Y) → i < length xs → x ≡ slice_index_or xs i x
+pub filtered_more : {X Y : Type 0} (f : X → Option Y) (xs : List X) (i : ℕ) (x : X) (before after : List Y) (o : Option Y) → i < length xs
+    → x ≡ slice_index_or xs i x
     → before ≡ filter_map f (take i xs) → o ≡ f x → after ≡ before ++ cons_option o [] → after ≡ filter_map f (take (i + 1) xs)
 filtered_more {X} {Y} f xs i x before after o below is so_far here put =
     put ∙ ap (λ (l : List Y). l ++ cons_option o []) so_far ∙ ap (λ (p : Option Y). filter_map f (take i xs) ++ cons_option p []) here
@@ -69,7 +70,8 @@ module _ (input : LabInput) where
       ∙ same_rules name x.policies
 
   -- the rules for a session's name, router by router
-  pub rules_over : (name : Option (List ℕ)) → filter_map (λ r. rules_for (setup_of input) r name) (router_numbers (setup_of input)) ≡ filter_map (rules_of name) input.routers
+  pub rules_over : (name : Option (List ℕ))
+      → filter_map (λ r. rules_for (setup_of input) r name) (router_numbers (setup_of input)) ≡ filter_map (rules_of name) input.routers
   rules_over name =
       ap (λ n. filter_map (λ r. rules_for (setup_of input) r name) (range_with_len 0 n)) (as_many_routers input)
       ∙ by_number (λ r. rules_for (setup_of input) r name) (rules_of name) 0 input.routers (λ k x e.

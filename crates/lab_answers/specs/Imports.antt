@@ -32,8 +32,8 @@ abbrev pub meds_of_updates : Imports → List Update → List Med
 meds_of_updates imports updates = flat_map (meds_of imports) (flat_map announced_by updates)
 
 -- the UPDATE that bytes are read as
-abbrev pub update_of : Expected → List ℕ → Option Update
-update_of expected frame = update_in (message_of expected frame)
+abbrev pub update_in_frame : Expected → List ℕ → Option Update
+update_in_frame expected frame = update_in (message_of expected frame)
 
 -- the message at the front of bytes has this length; none where no whole one with a sound header stands there
 abbrev pub IsFront : Option ℕ → List ℕ → Type 0

@@ -11,14 +11,14 @@ abbrev pub own_med : ℕ → PrefixValue → Med
 own_med home_as prefix = record { prefix = prefix; neighbour = home_as; med = 0 }
 
 -- the first MED that is kept of a prefix and a neighbour AS
-abbrev pub first_in : Meds → PrefixValue → ℕ → Option ℕ
-first_in kept prefix neighbour = get (between_eq.ghosts).eq kept.first (record { prefix = prefix; neighbour = neighbour })
+abbrev pub kept_med : Meds → PrefixValue → ℕ → Option ℕ
+kept_med kept prefix neighbour = get (between_eq.ghosts).eq kept.first (record { prefix = prefix; neighbour = neighbour })
 
 -- The first MED of each prefix and neighbour AS among these routes is kept, and whether they are even.
-pub record Keeps (meds : List Med) (kept : Meds) : Type 0 where
-  pub first : (prefix : PrefixValue) (neighbour : ℕ) → first_in kept prefix neighbour ≡ option_map (λ m. m.med) (find (is_between prefix neighbour) meds)
+pub record KeepsFirstMeds (meds : List Med) (kept : Meds) : Type 0 where
+  pub first : (prefix : PrefixValue) (neighbour : ℕ) → kept_med kept prefix neighbour ≡ option_map (λ m. m.med) (find (is_between prefix neighbour) meds)
   pub even : kept.even ≡ are_even meds
 
 -- After these routes are noted, what is kept is of them too.
-abbrev pub Adds : List Med → Meds → Meds → Type 0
-Adds meds old new = (before : List Med) → Keeps before old → Keeps (before ++ meds) new
+abbrev pub NotesMeds : List Med → Meds → Meds → Type 0
+NotesMeds meds old new = (before : List Med) → KeepsFirstMeds before old → KeepsFirstMeds (before ++ meds) new

@@ -9,13 +9,13 @@ use Rattle.lab_tables.specs.declared.input.RouterInput.{RouterInput}
 use Rattle.lab_answers.specs.declared.imports.Imports.{Imports}
 
 -- the rules of a router's policy of this name
-abbrev pub rules_at : List ℕ → RouterInput → Option (List Rule)
-rules_at name router = option_map (λ policy. policy.rules) (find (λ policy. bytes_eq name policy.name) router.policies)
+abbrev pub policy_rules : List ℕ → RouterInput → Option (List Rule)
+policy_rules name router = option_map (λ policy. policy.rules) (find (λ policy. bytes_eq name policy.name) router.policies)
 
 -- the rules that a router has for a session's name
 abbrev pub rules_of : Option (List ℕ) → RouterInput → Option (List Rule)
 rules_of None router = None
-rules_of (Some name) router = rules_at name router
+rules_of (Some name) router = policy_rules name router
 
 -- how the routers let in what the remote of a peering announces
 abbrev pub imports_of : LabInput → PeeringInput → Imports

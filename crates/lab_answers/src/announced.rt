@@ -5,8 +5,8 @@ ghost use Rattle.std.specs.List.{cons_option, filter_map};
 ghost use Rattle.bgp_types.specs.Header.{frame_at};
 ghost use Rattle.bgp_types.specs.Many.{many};
 ghost use Rattle.bgp_story.specs.Readings.{update_in as update_in_lem};
-ghost use Rattle.lab_answers.specs.Imports.{IsFront, meds_of_updates, update_of};
-ghost use Rattle.lab_answers.specs.Noted.{Adds};
+ghost use Rattle.lab_answers.specs.Imports.{IsFront, meds_of_updates, update_in_frame};
+ghost use Rattle.lab_answers.specs.Noted.{NotesMeds};
 
 use crate::imports::Imports;
 use crate::meds::Meds;
@@ -39,7 +39,7 @@ fn update_in(message: Message) -> Option<Update>
 /// The UPDATE that a whole frame with a sound header is read as, if it is one without a fault.
 fn read_update(alloc: Global, frame: &[u8], expected: &Expected) -> Result<Option<Update>, NoMemory>
     requires { frame_at frame.now ≡ Some (frame.now, []) }
-    ensures { IfOk result (λ update. update ≡ update_of expected.now frame.now) }
+    ensures { IfOk result (λ update. update ≡ update_in_frame expected.now frame.now) }
 {
     match read_message(alloc, frame, expected) {
         Ok(message) => Ok(update_in(message)),
@@ -51,7 +51,7 @@ fn read_update(alloc: Global, frame: &[u8], expected: &Expected) -> Result<Optio
 impl Imports {
     /// Notes the routes that an UPDATE announces, if there is one.
     fn note_if_update(&self, meds: &mut Meds, update: &Option<Update>) -> Result<(), NoMemory>
-        ensures { OnOk result (Adds (meds_of_updates self.now (cons_option update.now [])) meds.old meds.new) }
+        ensures { OnOk result (NotesMeds (meds_of_updates self.now (cons_option update.now [])) meds.old meds.new) }
     {
         match update {
             Some(update) => self.note_update(meds, update),
@@ -67,7 +67,7 @@ impl Imports {
         said: &[u8],
         expected: &Expected,
     ) -> Result<(), NoMemory>
-        ensures { OnOk result (Adds (meds_of_updates self.now (filter_map (update_of expected.now) (many frame_at said.now).0)) meds.old meds.new) }
+        ensures { OnOk result (NotesMeds (meds_of_updates self.now (filter_map (update_in_frame expected.now) (many frame_at said.now).0)) meds.old meds.new) }
     {
         let mut left = said;
         while let Some(len) = front_len(left) {

@@ -1,45 +1,28 @@
 //! Whether routes of one neighbour AS never differ in MED.
 
-ghost use Rattle.std.specs.Prelude.{ℕ, ◌≡◌, ◌≤◌, Some, map, is_some, length, slice_get, IfOk, OnOk};
+ghost use Rattle.std.specs.Prelude.{ℕ, ◌≡◌, ◌≤◌, Some, map, length, slice_get, IfOk, OnOk};
 ghost use Rattle.std.specs.List.{flat_map, enumerate_from};
-ghost use Rattle.bgp_types.specs.OpenBody.{as_said};
 ghost use Rattle.lab_setup.specs.Accepted.{IsAccepted};
 ghost use Rattle.lab_setup.specs.Setups.{setup_of, peering_setup};
 ghost use Rattle.even_inputs.specs.Announced.{established as established_lem};
 ghost use Rattle.even_inputs.specs.Evenness.{own_meds, meds_by, is_even};
-ghost use Rattle.lab_answers.specs.Noted.{own_med, Adds};
+ghost use Rattle.lab_answers.specs.Noted.{own_med, NotesMeds};
 
 use crate::meds::Meds;
 use crate::policies::imports_of;
 use crate::said::{opened_by, said_over};
-use bgp_types::{Cap, Expected, Prefix, SessionState};
+use bgp_types::{Expected, Prefix, SessionState};
+use bgp_wire::as_said;
 use graft_edge::{NoMemory, PeeringId};
 use lab_tables::{LabInput, PeeringInput};
 use std::alloc::Global;
-
-/// The code of the capability of four-octet AS numbers, and its length (RFC 6793, section 3).
-const FOUR_OCTET_AS: u8 = 65;
-
-const FOUR_OCTETS: usize = 4;
-
-/// Whether the capabilities of an OPEN offer AS numbers of four octets.
-fn offers(caps: &[Cap]) -> bool
-    ensures { result ≡ is_some (as_said caps.now) }
-{
-    for cap in caps {
-        if cap.code == FOUR_OCTET_AS && cap.bytes.len() == FOUR_OCTETS {
-            return true;
-        }
-    }
-    false
-}
 
 /// How the messages of a remote that says these bytes are read, once its session is established.
 fn established(alloc: Global, peering: &PeeringInput, said: &[u8]) -> Result<Expected, NoMemory>
     ensures { (input : LabInput) (p : ℕ) → IfOk result (λ expected. expected ≡ established_lem (peering_setup input (p, peering.now)) said.now) }
 {
     let wide = match opened_by(alloc, peering, said)? {
-        Some(opened) => peering.as4 && offers(&opened.caps),
+        Some(opened) => peering.as4 && as_said(&opened.caps).is_some(),
         None => false,
     };
     Ok(Expected {
@@ -52,7 +35,7 @@ fn established(alloc: Global, peering: &PeeringInput, said: &[u8]) -> Result<Exp
 
 /// Notes the networks of a router.
 fn note_networks(meds: &mut Meds, home_as: u32, networks: &[Prefix]) -> Result<(), NoMemory>
-    ensures { OnOk result (Adds (map (own_med home_as) networks.now) meds.old meds.new) }
+    ensures { OnOk result (NotesMeds (map (own_med home_as) networks.now) meds.old meds.new) }
 {
     for prefix in networks {
         meds.note_own(home_as, *prefix)?;
@@ -62,7 +45,7 @@ fn note_networks(meds: &mut Meds, home_as: u32, networks: &[Prefix]) -> Result<(
 
 /// Notes the networks of all routers.
 fn note_routers(meds: &mut Meds, input: &LabInput) -> Result<(), NoMemory>
-    ensures { OnOk result (Adds (flat_map (own_meds (setup_of input.now)) (setup_of input.now).routers) meds.old meds.new) }
+    ensures { OnOk result (NotesMeds (flat_map (own_meds (setup_of input.now)) (setup_of input.now).routers) meds.old meds.new) }
 {
     for router in input.routers.iter() {
         note_networks(meds, input.home_as, &router.networks)?;
@@ -81,7 +64,7 @@ fn note_peering(
 ) -> Result<(), NoMemory>
     requires accepted { IsAccepted input.now }
     requires there { slice_get input.now.peerings number.0 ≡ Some peering.now }
-    ensures { OnOk result (Adds (meds_by (setup_of input.now) (number.0, peering_setup input.now (number.0, peering.now))) meds.old meds.new) }
+    ensures { OnOk result (NotesMeds (meds_by (setup_of input.now) (number.0, peering_setup input.now (number.0, peering.now))) meds.old meds.new) }
 {
     let said = said_over(alloc, input, number)?;
     let expected = established(alloc, peering, &said)?;
@@ -93,7 +76,7 @@ fn note_peering(
 fn note_peerings(alloc: Global, meds: &mut Meds, input: &LabInput) -> Result<(), NoMemory>
     requires accepted { IsAccepted input.now }
     requires few { length input.now.peerings ≤ 256 }
-    ensures { OnOk result (Adds (flat_map (meds_by (setup_of input.now)) (enumerate_from 0 (setup_of input.now).peerings)) meds.old meds.new) }
+    ensures { OnOk result (NotesMeds (flat_map (meds_by (setup_of input.now)) (enumerate_from 0 (setup_of input.now).peerings)) meds.old meds.new) }
 {
     for (i, peering) in input.peerings.iter().enumerate() {
         note_peering(alloc, meds, input, PeeringId(i as u8), peering)?;

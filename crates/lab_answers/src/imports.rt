@@ -5,7 +5,7 @@ ghost use Rattle.std.specs.List.{cons_option, filter_map, flat_map};
 ghost use Rattle.even_inputs.specs.Announced.{announced_by};
 ghost use Rattle.even_inputs.specs.Evenness.{med_of, announced_route};
 ghost use Rattle.lab_answers.specs.Imports.{let_in_by, meds_of_route, meds_of};
-ghost use Rattle.lab_answers.specs.Noted.{Adds};
+ghost use Rattle.lab_answers.specs.Noted.{NotesMeds};
 
 use crate::meds::Meds;
 use bgp_types::{Attrs, Items, NoMemory, Prefix, Route, TryCopy, Update};
@@ -40,7 +40,7 @@ impl Imports {
         prefix: Prefix,
         route: &Option<Route>,
     ) -> Result<(), NoMemory>
-        ensures { OnOk result (Adds (cons_option (option_map (med_of self.now.home_as prefix) route.now) []) meds.old meds.new) }
+        ensures { OnOk result (NotesMeds (cons_option (option_map (med_of self.now.home_as prefix) route.now) []) meds.old meds.new) }
     {
         match route {
             Some(route) => meds.note_route(self.home_as, prefix, route),
@@ -50,7 +50,7 @@ impl Imports {
 
     /// Notes what each policy makes of a route.
     fn note_let_in(&self, meds: &mut Meds, prefix: Prefix, route: &Route) -> Result<(), NoMemory>
-        ensures { OnOk result (Adds (filter_map (let_in_by self.now prefix route.now) self.now.policies) meds.old meds.new) }
+        ensures { OnOk result (NotesMeds (filter_map (let_in_by self.now prefix route.now) self.now.policies) meds.old meds.new) }
     {
         for policy in self.policies.iter() {
             let answer = policy.apply(prefix, route.copy()?, self.remote_as)?;
@@ -66,7 +66,7 @@ impl Imports {
         prefixes: &[Prefix],
         route: &Route,
     ) -> Result<(), NoMemory>
-        ensures { OnOk result (Adds (flat_map (λ prefix. meds_of_route self.now prefix route.now) prefixes.now) meds.old meds.new) }
+        ensures { OnOk result (NotesMeds (flat_map (λ prefix. meds_of_route self.now prefix route.now) prefixes.now) meds.old meds.new) }
     {
         for prefix in prefixes {
             meds.note_route(self.home_as, *prefix, route)?;
@@ -77,7 +77,7 @@ impl Imports {
 
     /// Notes the routes that an UPDATE announces.
     pub fn note_update(&self, meds: &mut Meds, update: &Update) -> Result<(), NoMemory>
-        ensures { OnOk result (Adds (flat_map (meds_of self.now) (announced_by update.now)) meds.old meds.new) }
+        ensures { OnOk result (NotesMeds (flat_map (meds_of self.now) (announced_by update.now)) meds.old meds.new) }
     {
         match &update.attrs {
             Some(attrs) => self.note_prefixes(meds, &update.nlri, &announced(attrs)?),

@@ -2,7 +2,7 @@
 
 ghost use Rattle.std.specs.Prelude.{ℕ, ◌≡◌, [], ◌∷◌, OnOk};
 ghost use Rattle.even_inputs.specs.Evenness.{med_of};
-ghost use Rattle.lab_answers.specs.Noted.{own_med, Keeps, Adds};
+ghost use Rattle.lab_answers.specs.Noted.{own_med, KeepsFirstMeds, NotesMeds};
 
 use bgp_types::{NoMemory, Prefix, Route, neighbour};
 use std::alloc::Global;
@@ -26,7 +26,7 @@ pub(crate) struct Meds {
 impl Meds {
     /// No route is noted yet.
     pub fn new(alloc: Global) -> Meds
-        ensures { Keeps [] result }
+        ensures { KeepsFirstMeds [] result }
     {
         Meds {
             first: HashMap::new(alloc),
@@ -36,7 +36,7 @@ impl Meds {
 
     /// Notes a route to a prefix from a neighbour AS with this MED.
     fn note(&mut self, prefix: Prefix, neighbour: u32, med: u32) -> Result<(), NoMemory>
-        ensures { OnOk result (Adds (record { prefix = prefix; neighbour = neighbour; med = med } ∷ []) self.old self.new) }
+        ensures { OnOk result (NotesMeds (record { prefix = prefix; neighbour = neighbour; med = med } ∷ []) self.old self.new) }
     {
         let between = Between { prefix, neighbour };
         if let Some(first) = self.first.get(&between) {
@@ -49,7 +49,7 @@ impl Meds {
 
     /// Notes a network of a home router.
     pub fn note_own(&mut self, home_as: u32, prefix: Prefix) -> Result<(), NoMemory>
-        ensures { OnOk result (Adds (own_med home_as prefix ∷ []) self.old self.new) }
+        ensures { OnOk result (NotesMeds (own_med home_as prefix ∷ []) self.old self.new) }
     {
         self.note(prefix, home_as, 0)
     }
@@ -61,7 +61,7 @@ impl Meds {
         prefix: Prefix,
         route: &Route,
     ) -> Result<(), NoMemory>
-        ensures { OnOk result (Adds (med_of home_as prefix route.now ∷ []) self.old self.new) }
+        ensures { OnOk result (NotesMeds (med_of home_as prefix route.now ∷ []) self.old self.new) }
     {
         let from = neighbour(&route.attrs.path, home_as);
         self.note(prefix, from, route.attrs.med.unwrap_or(0))

@@ -3,7 +3,7 @@
 ghost use Rattle.std.specs.Prelude.{◌≡◌, ◌++◌, [], find, option_map, option_copied, IfOk, OnOk};
 ghost use Rattle.std.specs.List.{cons_option, filter_map};
 ghost use Rattle.std.specs.Str.{bytes_eq};
-ghost use Rattle.lab_answers.specs.Policies.{rules_at, rules_of, imports_of as imports_of_lem};
+ghost use Rattle.lab_answers.specs.Policies.{policy_rules, rules_of, imports_of as imports_of_lem};
 
 use crate::imports::Imports;
 use graft_edge::{Items, Name, NoMemory, TryCopy};
@@ -27,7 +27,7 @@ fn policy_called<'p>(policies: &'p [PolicyInput], name: &str) -> Option<&'p Poli
 
 /// A router's policy of this name.
 fn policy_at(router: &RouterInput, name: &str) -> Result<Option<Policy>, NoMemory>
-    ensures { IfOk result (λ policy. policy ≡ rules_at name.now router.now) }
+    ensures { IfOk result (λ policy. policy ≡ policy_rules name.now router.now) }
 {
     match policy_called(&router.policies, name) {
         Some(policy) => Ok(Some(Policy::new(policy.rules.copy()?))),
@@ -51,7 +51,7 @@ fn policies_called(
     routers: &[RouterInput],
     name: &str,
 ) -> Result<Items<Policy>, NoMemory>
-    ensures { IfOk result (λ policies. policies ≡ filter_map (rules_at name.now) routers.now) }
+    ensures { IfOk result (λ policies. policies ≡ filter_map (policy_rules name.now) routers.now) }
 {
     let mut policies = Items::new(alloc);
     for router in routers {

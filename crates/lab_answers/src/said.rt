@@ -8,12 +8,12 @@ ghost use Rattle.bgp_types.specs.Writable.{IsWritable};
 ghost use Rattle.bgp_story.specs.Legal.{open_in};
 ghost use Rattle.lab_tables.specs.declared.input.LabInput.{LabInput};
 ghost use Rattle.lab_tables.specs.declared.input.PeeringInput.{PeeringInput};
-ghost use Rattle.lab_input.specs.Said.{update_of};
+ghost use Rattle.lab_input.specs.Said.{step_update};
 ghost use Rattle.lab_setup.specs.Accepted.{IsAccepted};
 ghost use Rattle.lab_setup.specs.Said.{said_over as said_over_lem};
 ghost use Rattle.lab_setup.specs.Setups.{setup_of, peering_setup};
-ghost use Rattle.one_answer.specs.Settled.{said_in};
-ghost use Rattle.even_inputs.specs.Announced.{opened_by as opened_by_lem};
+ghost use Rattle.one_answer.specs.Settled.{said_in_all};
+ghost use Rattle.even_inputs.specs.Announced.{open_at_front};
 
 use bgp_frame::first_frame;
 use bgp_types::{Expected, Message, OpenMsg, SessionState};
@@ -41,7 +41,7 @@ fn with_steps(
     peering: PeeringId,
     steps: &[Step],
 ) -> Result<Octets, NoMemory>
-    requires { All (λ step. IsWritable (UpdateMsg (update_of step)) wide) steps.now }
+    requires { All (λ step. IsWritable (UpdateMsg (step_update step)) wide) steps.now }
     ensures { IfOk result (λ said. said ≡ opening ++ said_over_lem wide peering.0 steps.now) }
 {
     let mut said = opening;
@@ -62,7 +62,7 @@ pub(crate) fn said_over(
     requires accepted { IsAccepted input.now }
     requires there { peering.0 < length input.now.peerings }
     ensures { (p : PeeringInput) → slice_get input.now.peerings peering.0 ≡ Some p
-        → IfOk result (λ said. said ≡ said_in (setup_of input.now) peering.0 (peering_setup input.now (peering.0, p))) }
+        → IfOk result (λ said. said ≡ said_in_all (setup_of input.now) peering.0 (peering_setup input.now (peering.0, p))) }
 {
     let there = &input.peerings[usize::from(peering.0)];
     let wide = is_wide(there);
@@ -90,7 +90,7 @@ pub(crate) fn opened_by(
     peering: &PeeringInput,
     said: &[u8],
 ) -> Result<Option<OpenMsg>, NoMemory>
-    ensures { (input : LabInput) (p : ℕ) → IfOk result (λ opened. opened ≡ opened_by_lem (peering_setup input (p, peering.now)) (frame_at said.now)) }
+    ensures { (input : LabInput) (p : ℕ) → IfOk result (λ opened. opened ≡ open_at_front (peering_setup input (p, peering.now)) (frame_at said.now)) }
 {
     let expected = Expected {
         state: SessionState::OpenSent,

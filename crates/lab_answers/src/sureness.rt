@@ -5,10 +5,11 @@ ghost use Rattle.std.specs.List.{enumerate_from, list_any, list_all};
 ghost use Rattle.graft_model.specs.Setups.{beat_of as beat_of_lem};
 ghost use Rattle.lab_tables.specs.declared.input.LabInput.{LabInput};
 ghost use Rattle.lab_tables.specs.declared.input.PeeringInput.{PeeringInput};
+ghost use Rattle.lab_tables.specs.Scripts.{is_settle_step};
 ghost use Rattle.lab_setup.specs.Accepted.{IsAccepted};
 ghost use Rattle.lab_setup.specs.Setups.{setup_of, peering_setup};
 ghost use Rattle.even_inputs.specs.Timers.{has_no_timer as has_no_timer_lem, has_no_timer_on as has_no_timer_on_lem, hold_offered as hold_offered_lem};
-ghost use Rattle.sure_inputs.specs.Sure.{has_room_for, is_settle as is_settle_lem, is_raw_of as is_raw_of_lem, has_default_opening as has_default_opening_lem, is_plain as is_plain_lem, is_sure_step as is_sure_step_lem, is_sure as is_sure_lem};
+ghost use Rattle.sure_inputs.specs.Sure.{has_room_for, is_raw_step, has_default_opening as has_default_opening_lem, is_plain as is_plain_lem, is_sure_step as is_sure_step_lem, is_sure as is_sure_lem};
 ghost use Rattle.lab_answers.specs.PlainPeerings.{plain_in};
 
 use crate::said::{opened_by, said_over};
@@ -80,7 +81,7 @@ fn has_no_timer(alloc: Global, input: &LabInput) -> Result<bool, NoMemory>
 
 /// Whether a step has the remote of this peering say octets that it names.
 fn is_raw_of(peering: PeeringId, step: &Step) -> bool
-    ensures { result ≡ is_raw_of_lem peering.0 step.now }
+    ensures { result ≡ is_raw_step peering.0 step.now }
 {
     match step {
         Step::Raw { peering: of, .. } => *of == peering,
@@ -90,7 +91,7 @@ fn is_raw_of(peering: PeeringId, step: &Step) -> bool
 
 /// Whether some step has the remote of this peering say octets that it names.
 fn any_raw(peering: PeeringId, steps: &[Step]) -> bool
-    ensures { result ≡ list_any (is_raw_of_lem peering.0) steps.now }
+    ensures { result ≡ list_any (is_raw_step peering.0) steps.now }
 {
     steps.iter().any(|step| is_raw_of(peering, step))
 }
@@ -139,13 +140,6 @@ fn plain_peerings(
     Ok(plain)
 }
 
-/// Whether a step is a settle.
-fn is_settle(step: &Step) -> bool
-    ensures { result ≡ is_settle_lem step.now }
-{
-    matches!(step, Step::Settle { .. })
-}
-
 /// Whether the peering of this number is among those that are plain.
 fn is_plain(plain: &[bool], peering: PeeringId) -> bool
     ensures { result ≡ unwrap_or (slice_get plain.now peering.0) false }
@@ -158,7 +152,7 @@ fn is_plain(plain: &[bool], peering: PeeringId) -> bool
 
 /// Whether a step is sure, where `plain` tells which peerings are plain, and `settled` whether a settle stands before the step.
 fn is_sure_step(plain: &[bool], settled: bool, step: &Step) -> bool
-    ensures { (input : LabInput) (n : ℕ) → plain.now ≡ plain_in input.steps input.peerings → settled ≡ list_any is_settle_lem (take n input.steps)
+    ensures { (input : LabInput) (n : ℕ) → plain.now ≡ plain_in input.steps input.peerings → settled ≡ list_any is_settle_step (take n input.steps)
         → result ≡ is_sure_step_lem input n step.now }
 {
     match step {
@@ -178,7 +172,7 @@ fn all_sure(plain: &[bool], steps: &[Step]) -> bool
         if !is_sure_step(plain, settled, step) {
             return false;
         }
-        settled = settled || is_settle(step);
+        settled = settled || step.is_settle();
     }
     true
 }

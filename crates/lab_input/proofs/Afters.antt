@@ -23,7 +23,8 @@ module _ {A B : Type 0} (bad : List B → B → Option BadInput) (f : A → B) (
       ∙ ap (λ o. option_or o (each_after bad (map f (take i xs) ++ f x ∷ []) (map f (drop (i + 1) xs)))) none
       ∙ sym (ap (each_after bad (map f (take i xs))) from_here) ∙ so_far
 
-  pub after_stops : (found : BadInput) (whole : Option BadInput) → each_after bad (map f (take i xs)) (map f (drop i xs)) ≡ whole → Some found ≡ bad (map f (take i xs)) (f x) → Some found ≡ whole
+  pub after_stops : (found : BadInput) (whole : Option BadInput) → each_after bad (map f (take i xs)) (map f (drop i xs)) ≡ whole
+      → Some found ≡ bad (map f (take i xs)) (f x) → Some found ≡ whole
   after_stops found whole so_far some =
       ap (λ o. option_or o (each_after bad (map f (take i xs) ++ f x ∷ []) (map f (drop (i + 1) xs)))) some
       ∙ sym (ap (each_after bad (map f (take i xs))) from_here) ∙ so_far
@@ -36,13 +37,15 @@ module _ {B : Type 0} (bad : List B → B → Option BadInput) (xs : List B) (i 
   plain_here : drop i xs ≡ x ∷ drop (i + 1) xs
   plain_here = drop_more xs i x within ∙ ap (λ y. y ∷ drop (i + 1) xs) (sym is)
 
-  pub plain_goes_on : (whole : Option BadInput) → each_after bad (take i xs) (drop i xs) ≡ whole → None ≡ bad (take i xs) x → each_after bad (take (i + 1) xs) (drop (i + 1) xs) ≡ whole
+  pub plain_goes_on : (whole : Option BadInput) → each_after bad (take i xs) (drop i xs) ≡ whole → None ≡ bad (take i xs) x
+      → each_after bad (take (i + 1) xs) (drop (i + 1) xs) ≡ whole
   plain_goes_on whole so_far none =
       ap (λ ys. each_after bad ys (drop (i + 1) xs)) plain_next
       ∙ ap (λ o. option_or o (each_after bad (take i xs ++ x ∷ []) (drop (i + 1) xs))) none
       ∙ sym (ap (each_after bad (take i xs)) plain_here) ∙ so_far
 
-  pub plain_stops : (found : BadInput) (whole : Option BadInput) → each_after bad (take i xs) (drop i xs) ≡ whole → Some found ≡ bad (take i xs) x → Some found ≡ whole
+  pub plain_stops : (found : BadInput) (whole : Option BadInput) → each_after bad (take i xs) (drop i xs) ≡ whole → Some found ≡ bad (take i xs) x
+      → Some found ≡ whole
   plain_stops found whole so_far some =
       ap (λ o. option_or o (each_after bad (take i xs ++ x ∷ []) (drop (i + 1) xs))) some
       ∙ sym (ap (each_after bad (take i xs)) plain_here) ∙ so_far

@@ -6,7 +6,7 @@ use Rattle.tcp_seq.specs.declared.segment.Way.{Way}
 use Rattle.tcp_seq.specs.declared.segment.Way.TheVariants.{Home, Remote}
 use Rattle.graft_edge.specs.declared.ids.PeeringId.{PeeringId}
 use Rattle.link_bag.specs.declared.plan.Fault.{Fault}
-use Rattle.link_bag.specs.Planned.{is_of, is_same_way}
+use Rattle.link_bag.specs.Planned.{is_fault_for, is_same_way}
 use Rattle.lab_tables.specs.Peerings.{cost_of, fault_of}
 use Rattle.lab_input.specs.declared.named.Ends.{Ends}
 use Rattle.lab_input.specs.declared.faults.SegmentKey.{SegmentKey}
@@ -28,7 +28,7 @@ segment_key f = record { peering = f.peering; way = f.way; segment = f.segment }
 
 -- a fault of this segment
 abbrev pub has_segment : List (List ℕ) → SegmentKey → Members → Bool
-has_segment peerings key t = is_of key.peering key.way key.segment (fault_of peerings t)
+has_segment peerings key t = is_fault_for key.peering key.way key.segment (fault_of peerings t)
 
 same_by_way : (p : PeeringId) (v : Way) (m : ℕ) (q : PeeringId) (w : Way) (n : ℕ)
     → (key_eq.ghosts).eq (record { peering = p; way = v; segment = m }) (record { peering = q; way = w; segment = n }) ≡ ((p.0 == q.0) && (is_same_way v w && (m == n)))
@@ -37,5 +37,5 @@ same_by_way p Home m q Remote n = refl
 same_by_way p Remote m q Home n = refl
 same_by_way p Remote m q Remote n = refl
 
-pub same_key : (f : Fault) (key : SegmentKey) → (key_eq.ghosts).eq (segment_key f) key ≡ is_of key.peering key.way key.segment f
+pub same_key : (f : Fault) (key : SegmentKey) → (key_eq.ghosts).eq (segment_key f) key ≡ is_fault_for key.peering key.way key.segment f
 same_key f key = same_by_way f.peering f.way f.segment key.peering key.way key.segment

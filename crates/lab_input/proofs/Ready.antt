@@ -13,10 +13,10 @@ use Rattle.bgp_types.specs.declared.message.Message.TheVariants.{UpdateMsg}
 use Rattle.bgp_types.specs.declared.message.Update.{Update}
 use Rattle.bgp_types.specs.Lengths.{prefix_size}
 use Rattle.bgp_types.specs.Prefixes.{PrefixValue, IsPrefix, same_prefix}
-use Rattle.bgp_types.specs.Spelling.{spell, spell_some_attrs, spell_update}
+use Rattle.bgp_types.specs.Spelling.{spell, spell_some_attrs}
 use Rattle.bgp_types.specs.Values.{is_no_host}
 use Rattle.bgp_types.specs.Writable.{IsWritableUpdate, IsWritable}
-use Rattle.bgp_types.proofs.Lengths.{update_size, framed_size}
+use Rattle.bgp_types.proofs.Lengths.{update_size}
 use Rattle.lab_keys.specs.declared.flaw.Flaw.{Flaw}
 use Rattle.lab_keys.specs.declared.flaw.Flaw.TheVariants.{Shape}
 use Rattle.lab_keys.specs.Places.{place}
@@ -25,7 +25,7 @@ use Rattle.lab_keys.specs.declared.key.Words.TheVariants.{Origins}
 use Rattle.lab_keys.specs.declared.table_at.TableAt.TheVariants as tables
 use Rattle.lab_keys.specs.Kinds.{flaw_if}
 use Rattle.lab_keys.specs.Keys.{required, optional, required_array, optional_array, key_flaw, keys_flaw, tables_flaw}
-use Rattle.lab_keys.specs.Values.{has, number_or, address_or, prefixes_at, numbers_at, tables_at, items_at}
+use Rattle.lab_keys.specs.Values.{has_member, number_or, address_or, prefixes_at, numbers_at, tables_at, items_at}
 use Rattle.lab_keys.proofs.NoFlaws.{none_left, none_right, IsWithin, number_within, host_required, host_optional, prefixes_within, numbers_few, tables_all}
 use Rattle.lab_tables.specs.declared.input.LabInput.{LabInput}
 use Rattle.lab_tables.specs.declared.input.PeeringInput.{PeeringInput}
@@ -34,15 +34,15 @@ use Rattle.lab_tables.specs.declared.input.Step.TheVariants.{Announce, Withdraw}
 use Rattle.lab_tables.specs.declared.words.StepWord.{StepWord}
 use Rattle.lab_tables.specs.declared.words.StepWord.TheVariants.{Announces, Withdraws, SaysRaw, Grafts, Settles, Evacuates, Other}
 use Rattle.lab_tables.specs.Peerings.{peering_ends, peering_rest, peering_flaw}
-use Rattle.lab_tables.specs.Scripts.{word_at, announce_keys, withdraw_keys, do_keys, is_crowded, worded_flaw, grouped_flaw, step_flaw, ases_of, said_prefixes, said_attrs, peering_number, worded_step, step_of}
+use Rattle.lab_tables.specs.Scripts.{word_at, announce_keys, withdraw_keys, do_keys, is_crowded, worded_flaw, grouped_flaw, step_flaw, step_ases, said_prefixes, said_attrs, peering_number, worded_step, step_of}
 use Rattle.lab_tables.specs.Documents.{shaped, lab_of}
 use Rattle.lab_input.specs.declared.bad.BadInput.{BadInput}
 use Rattle.lab_input.specs.declared.bad.BadInput.TheVariants.{NotToml}
 use Rattle.lab_input.specs.Bytes.{document_of}
 use Rattle.lab_input.specs.Names.{named}
-use Rattle.lab_input.specs.Counts.{counted}
-use Rattle.lab_input.specs.Labs.{bad_of, bad_in, unless, input_in, most_bytes, too_long, input_of}
-use Rattle.lab_input.specs.Said.{update_of}
+use Rattle.lab_input.specs.Counts.{count_fault}
+use Rattle.lab_input.specs.Labs.{bad_of, bad_in, input_unless, input_in, most_bytes, too_long, input_of}
+use Rattle.lab_input.specs.Said.{step_update}
 use Rattle.lab_input.proofs.SaidAttrs.{AreSaidAttrs, attrs_said}
 use Rattle.lab_input.proofs.SaidPrefixes.{AreSaid, prefixes_said, prefixes_small}
 
@@ -55,9 +55,7 @@ record IsSmall (wide : Bool) (u : Update) : Type 0 where
   nlri : sum_by prefix_size u.nlri ≤ 1000
 
 small_spelled : (wide : Bool) (u : Update) → IsSmall wide u → length (spell (UpdateMsg u) wide) ≤ 4096
-unfolding spell
 small_spelled wide u small =
-    let framed : length (spell (UpdateMsg u) wide) ≡ 19 + length (spell_update wide u) = framed_size 2 (spell_update wide u) in
     let size = update_size wide u in
     let withdrawn = small.withdrawn in
     let attrs = small.attrs in
@@ -69,16 +67,18 @@ few_small ps said = let h = prefixes_small ps in let few = said.few in omega ari
 
 -- the UPDATE of the step can be written with AS numbers of two octets and of four
 abbrev pub Says : Step → Type 0
-Says step = (wide : Bool) → IsWritable (UpdateMsg (update_of step)) wide
+Says step = (wide : Bool) → IsWritable (UpdateMsg (step_update step)) wide
 
-announced : (prefixes : List PrefixValue) (a : Attrs) → AreSaid prefixes → AreSaidAttrs a → (wide : Bool) → IsWritable (UpdateMsg (record { withdrawn = []; attrs = Some a; nlri = prefixes })) wide
+announced : (prefixes : List PrefixValue) (a : Attrs) → AreSaid prefixes → AreSaidAttrs a → (wide : Bool)
+    → IsWritable (UpdateMsg (record { withdrawn = []; attrs = Some a; nlri = prefixes })) wide
 announced prefixes a said attrs wide =
     let u : Update = record { withdrawn = []; attrs = Some a; nlri = prefixes } in
     let some : prefixes ≢ [] = λ (e : prefixes ≡ []). (let none : length prefixes ≡ 0 = ap length e in let h = said.some in omega arith) in
     let body : IsWritableUpdate u = record { withdrawn = All-nil IsPrefix; nlri = said.formed; once = said.once; attrs = (some, attrs.writable) } in
     record { body = body; size = small_spelled wide u (record { withdrawn = omega arith; attrs = attrs.small wide; nlri = few_small prefixes said }) }
 
-withdrawn : (prefixes : List PrefixValue) → AreSaid prefixes → (wide : Bool) → IsWritable (UpdateMsg (record { withdrawn = prefixes; attrs = None; nlri = [] })) wide
+withdrawn : (prefixes : List PrefixValue) → AreSaid prefixes → (wide : Bool)
+    → IsWritable (UpdateMsg (record { withdrawn = prefixes; attrs = None; nlri = [] })) wide
 withdrawn prefixes said wide =
     let u : Update = record { withdrawn = prefixes; attrs = None; nlri = [] } in
     let once : IsDistinct same_prefix (prefixes ++ []) = subst (IsDistinct same_prefix) (sym (append-nil prefixes)) said.once in
@@ -132,8 +132,8 @@ withdraw_kept i t none =
     let prefixes = none_left (key_flaw at t (required_array (codes "prefixes") 1 200 Prefix)) _ a in
     prefixes_within at t (codes "prefixes") 1 200 prefixes
 
-ases_few : (remote_as : ℕ) (t : Members) → length (numbers_at (codes "path") t) ≤ 64 → length (ases_of remote_as t) ≤ 64
-ases_few remote_as t few = by_test (has (codes "path") t) where
+ases_few : (remote_as : ℕ) (t : Members) → length (numbers_at (codes "path") t) ≤ 64 → length (step_ases remote_as t) ≤ 64
+ases_few remote_as t few = by_test (has_member (codes "path") t) where
   by_test : (b : Bool) → length (cond b (numbers_at (codes "path") t) (remote_as ∷ [])) ≤ 64
   by_test true = few
   by_test false = omega arith
@@ -156,7 +156,8 @@ says_update (Withdraw peering prefixes) = true
 says_update _ = false
 
 -- A step without a flaw, of a peering that is known: an UPDATE of it can be written.
-worded_said : (word : StepWord) (routers : List (List ℕ)) (ps : List PeeringInput) (i : ℕ) (t : Members) → (says_update (worded_step word routers ps t) ≡ true → IsRemoteOf (slice_get ps (peering_number ps t)))
+worded_said : (word : StepWord) (routers : List (List ℕ)) (ps : List PeeringInput) (i : ℕ) (t : Members)
+    → (says_update (worded_step word routers ps t) ≡ true → IsRemoteOf (slice_get ps (peering_number ps t)))
     → worded_flaw word i t ≡ None → says_update (worded_step word routers ps t) ≡ true → Says (worded_step word routers ps t)
 worded_said Announces routers ps i t of none says =
     let keys = none_left (keys_flaw (tables.Step i) announce_keys t) _ none in
@@ -170,9 +171,11 @@ worded_said Evacuates routers ps i t of none says = absurd (false≢true says)
 worded_said Other routers ps i t of none says = absurd (false≢true says)
 
 abbrev pub SaysWell : List (List ℕ) → List PeeringInput → Members → Type 0
-SaysWell routers ps t = (says_update (step_of routers ps t) ≡ true → IsRemoteOf (slice_get ps (peering_number ps t))) → says_update (step_of routers ps t) ≡ true → Says (step_of routers ps t)
+SaysWell routers ps t = (says_update (step_of routers ps t) ≡ true → IsRemoteOf (slice_get ps (peering_number ps t)))
+    → says_update (step_of routers ps t) ≡ true → Says (step_of routers ps t)
 
-step_said : (routers : List (List ℕ)) (ps : List PeeringInput) (before whole : Bool) (i : ℕ) (t : Members) → grouped_flaw before whole i t ≡ None → SaysWell routers ps t
+step_said : (routers : List (List ℕ)) (ps : List PeeringInput) (before whole : Bool) (i : ℕ) (t : Members) → grouped_flaw before whole i t ≡ None
+    → SaysWell routers ps t
 step_said routers ps before whole i t none of says =
     let crowded = flaw_if (is_crowded before whole (word_at t)) (Shape (place (tables.Step i) (codes "do"))) in
     let last = option_or (worded_flaw (word_at t) i t) None in
@@ -181,7 +184,8 @@ step_said routers ps before whole i t none of says =
     worded_said (word_at t) routers ps i t of worded says
 
 -- the tables of the steps of a document without a flaw
-pub steps_well : (doc : Members) (routers : List (List ℕ)) (ps : List PeeringInput) → tables_flaw tables.Top (codes "step") false 0 4096 (step_flaw (items_at (codes "step") doc)) doc ≡ None
+pub steps_well : (doc : Members) (routers : List (List ℕ)) (ps : List PeeringInput)
+    → tables_flaw tables.Top (codes "step") false 0 4096 (step_flaw (items_at (codes "step") doc)) doc ≡ None
     → AllByRecursion (SaysWell routers ps) (tables_at (codes "step") doc)
 steps_well doc routers ps none =
     tables_all tables.Top doc (codes "step") false 0 4096 (step_flaw (items_at (codes "step") doc)) (SaysWell routers ps) (λ i t none. step_said routers ps _ _ i t none) none
@@ -191,7 +195,7 @@ steps_well doc routers ps none =
 not_err : (bad : BadInput) (input : LabInput) → Err bad ≡ Ok input → ⊥
 not_err bad input e = let r : Result LabInput BadInput = Err bad in let same : r ≡ Ok input = e in cc
 
-ok_of : (o : Option BadInput) (lab input : LabInput) → unless o lab ≡ Ok input → (o ≡ None) × (lab ≡ input)
+ok_of : (o : Option BadInput) (lab input : LabInput) → input_unless o lab ≡ Ok input → (o ≡ None) × (lab ≡ input)
 ok_of None lab input e = let none : Option BadInput = None in let first : none ≡ None = refl in (first, ap (λ (r : Result LabInput BadInput). result_unwrap_or r lab) e)
 ok_of (Some bad) lab input e = absurd (not_err bad input e)
 
@@ -205,7 +209,7 @@ pub record IsAccepted (input : LabInput) : Type 0 where
   pub is : lab_of doc ≡ input
   pub no_flaw : shaped doc ≡ None
   pub no_name : named doc ≡ None
-  pub no_count : counted (lab_of doc) ≡ None
+  pub no_count : count_fault (lab_of doc) ≡ None
 
 doc_accepted : (o : Option Members) (input : LabInput) → input_in o ≡ Ok input → IsAccepted input
 doc_accepted None input e = absurd (not_err NotToml input e)
@@ -213,14 +217,14 @@ doc_accepted (Some doc) input e =
     let lab : LabInput = lab_of doc in
     let found = ok_of (bad_in doc) lab input e in
     let shape = option_map bad_of (shaped doc) in
-    let last = option_or (counted lab) None in
+    let last = option_or (count_fault lab) None in
     let behind = none_right shape (option_or (named doc) last) found.0 in
     record {
       doc = doc;
       is = found.1;
       no_flaw = none_mapped (shaped doc) (none_left shape (option_or (named doc) last) found.0);
       no_name = none_left (named doc) last behind;
-      no_count = none_left (counted lab) None (none_right (named doc) last behind);
+      no_count = none_left (count_fault lab) None (none_right (named doc) last behind);
     }
 
 pub accepted : (bytes : List ℕ) (input : LabInput) → input_of bytes ≡ Ok input → IsAccepted input

@@ -14,9 +14,9 @@ use Rattle.bgp_types.specs.Spelling.{med_written, atomic_written, aggregator_wri
 use Rattle.bgp_types.specs.Values.{is_no_host}
 use Rattle.bgp_types.specs.Writable.{IsPart, IsOther, IsWritableAttrs}
 use Rattle.bgp_types.proofs.Lengths.{part_size_is, as4_path_size, spelled_attrs_size}
-use Rattle.lab_keys.specs.Values.{number_in, has, items_at, numbers_at}
+use Rattle.lab_keys.specs.Values.{number_in, has_member, items_at, numbers_at}
 use Rattle.lab_keys.proofs.NoFlaws.{number_fits, maybe_fits}
-use Rattle.lab_tables.specs.Scripts.{path_of, ases_of, attrs_of}
+use Rattle.lab_tables.specs.Scripts.{sequence_path, step_ases, attrs_of}
 
 -- ---- the path
 
@@ -31,13 +31,13 @@ numbers_fit : (ds : List Data) → AllByRecursion IsNumber (filter_map (number_i
 numbers_fit [] = tt
 numbers_fit (d ∷ ds) = added (number_in 32 d) (filter_map (number_in 32) ds) (number_fits 32 d) (numbers_fit ds)
 
-ases_fit : (remote_as : ℕ) (t : Members) → remote_as < 2 ^ 32 → AllByRecursion IsNumber (ases_of remote_as t)
-ases_fit remote_as t fits = by_test (has (codes "path") t) where
+ases_fit : (remote_as : ℕ) (t : Members) → remote_as < 2 ^ 32 → AllByRecursion IsNumber (step_ases remote_as t)
+ases_fit remote_as t fits = by_test (has_member (codes "path") t) where
   by_test : (b : Bool) → AllByRecursion IsNumber (cond b (numbers_at (codes "path") t) (remote_as ∷ []))
   by_test true = numbers_fit (items_at (codes "path") t)
   by_test false = (fits, tt)
 
-parts_written : (ases : List ℕ) → AllByRecursion IsNumber ases → length ases ≤ 64 → All IsPart (path_of ases)
+parts_written : (ases : List ℕ) → AllByRecursion IsNumber ases → length ases ≤ 64 → All IsPart (sequence_path ases)
 parts_written [] each few = All-nil IsPart
 parts_written (a ∷ ases) each few =
     let part : IsPart (Sequence (a ∷ ases)) = record {
@@ -47,7 +47,7 @@ parts_written (a ∷ ases) each few =
     } in
     All-cons IsPart (Sequence (a ∷ ases)) [] part (All-nil IsPart)
 
-path_small : (wide : Bool) (ases : List ℕ) → length ases ≤ 64 → sum_by (part_size wide) (path_of ases) ≤ 258
+path_small : (wide : Bool) (ases : List ℕ) → length ases ≤ 64 → sum_by (part_size wide) (sequence_path ases) ≤ 258
 path_small wide [] few = omega arith
 path_small false (a ∷ ases) few = let size : part_size false (Sequence (a ∷ ases)) ≡ length (a ∷ ases) * 2 + 2 = part_size_is false (Sequence (a ∷ ases)) in omega arith
 path_small true (a ∷ ases) few = let size : part_size true (Sequence (a ∷ ases)) ≡ length (a ∷ ases) * 4 + 2 = part_size_is true (Sequence (a ∷ ases)) in omega arith
@@ -66,7 +66,8 @@ med_small None = omega arith
 med_small (Some med) = omega arith
 
 -- ORIGIN, AS_PATH, NEXT_HOP, MULTI_EXIT_DISC and AS4_PATH
-attrs_small : (wide : Bool) (a : Attrs) (ases : List ℕ) → a.path ≡ path_of ases → a.atomic ≡ false → a.aggregator ≡ None → a.unknown ≡ [] → length ases ≤ 64 → length (spell_attrs wide a) ≤ 600
+attrs_small : (wide : Bool) (a : Attrs) (ases : List ℕ) → a.path ≡ sequence_path ases → a.atomic ≡ false → a.aggregator ≡ None → a.unknown ≡ []
+    → length ases ≤ 64 → length (spell_attrs wide a) ≤ 600
 attrs_small wide a ases path_is no_atomic no_aggregator no_unknown few =
     let size = spelled_attrs_size wide a in
     let med = med_small a.med in
@@ -87,11 +88,12 @@ pub record AreSaidAttrs (a : Attrs) : Type 0 where
   pub writable : IsWritableAttrs a
   pub small : (wide : Bool) → length (spell_attrs wide a) ≤ 600
 
-pub attrs_said : (remote_as remote_address : ℕ) (t : Members) → remote_as < 2 ^ 32 → is_no_host (attrs_of remote_as remote_address t).next_hop ≡ false → length (ases_of remote_as t) ≤ 64
+pub attrs_said : (remote_as remote_address : ℕ) (t : Members) → remote_as < 2 ^ 32
+    → is_no_host (attrs_of remote_as remote_address t).next_hop ≡ false → length (step_ases remote_as t) ≤ 64
     → AreSaidAttrs (attrs_of remote_as remote_address t)
 attrs_said remote_as remote_address t fits host few =
     let a : Attrs = attrs_of remote_as remote_address t in
-    let ases : List ℕ = ases_of remote_as t in
+    let ases : List ℕ = step_ases remote_as t in
     let writable : IsWritableAttrs a = record {
       path = parts_written ases (ases_fit remote_as t fits) few;
       next_hop = host;

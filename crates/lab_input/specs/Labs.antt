@@ -3,7 +3,7 @@ use Rattle.std.specs.Prelude.{◌≡◌, ℕ, ◌+◌, nat_lt, List, [], ◌∷�
 use Rattle.toml.specs.Data.{Members}
 use Rattle.lab_keys.specs.declared.flaw.Flaw.{Flaw}
 use Rattle.lab_keys.specs.declared.flaw.Flaw.TheVariants as flaws
-use Rattle.lab_keys.specs.Places.{path_text}
+use Rattle.lab_keys.specs.Places.{key_place_text}
 use Rattle.lab_keys.specs.Kinds.{first_of}
 use Rattle.lab_tables.specs.declared.input.LabInput.{LabInput}
 use Rattle.lab_input.specs.declared.bad.LabStop.{LabStop}
@@ -13,26 +13,26 @@ use Rattle.lab_input.specs.declared.bad.BadInput.TheVariants.{NotToml, Shape, Li
 use Rattle.lab_input.specs.Bytes.{document_of}
 use Rattle.lab_tables.specs.Documents.{shaped, lab_of}
 use Rattle.lab_input.specs.Names.{named}
-use Rattle.lab_input.specs.Counts.{counted}
+use Rattle.lab_input.specs.Counts.{count_fault}
 
 abbrev pub bad_of : Flaw → BadInput
-bad_of (flaws.Shape at) = Shape (path_text at)
-bad_of (flaws.Limit at n) = Limit (path_text at) n
+bad_of (flaws.Shape at) = Shape (key_place_text at)
+bad_of (flaws.Limit at n) = Limit (key_place_text at) n
 
 -- ---- the rules in their order
 
 -- the first rule that a document doesn't meet: 3, shapes and limits; 4, names; 5, counts
 abbrev pub bad_in : Members → Option BadInput
-bad_in doc = first_of (option_map bad_of (shaped doc) ∷ named doc ∷ counted (lab_of doc) ∷ [])
+bad_in doc = first_of (option_map bad_of (shaped doc) ∷ named doc ∷ count_fault (lab_of doc) ∷ [])
 
-abbrev pub unless : Option BadInput → LabInput → Result LabInput BadInput
-unless None input = Ok input
-unless (Some bad) input = Err bad
+abbrev pub input_unless : Option BadInput → LabInput → Result LabInput BadInput
+input_unless None input = Ok input
+input_unless (Some bad) input = Err bad
 
 -- rule 2: the bytes are a TOML document
 abbrev pub input_in : Option Members → Result LabInput BadInput
 input_in None = Err NotToml
-input_in (Some doc) = unless (bad_in doc) (lab_of doc)
+input_in (Some doc) = input_unless (bad_in doc) (lab_of doc)
 
 -- the limit of bytes of an input
 abbrev pub most_bytes : ℕ
@@ -50,7 +50,7 @@ abbrev pub InputOf : List ℕ → LabInput → Type 0
 InputOf bytes input = input_of bytes ≡ Ok input
 
 -- What a reader answers: the value, or its fault, or that memory ran out.
-abbrev pub Answers : Result LabInput BadInput → Result LabInput LabStop → Type 0
-Answers answer (Ok input) = answer ≡ Ok input
-Answers answer (Err (Bad bad)) = answer ≡ Err bad
-Answers answer (Err NoMemory) = Unit {0}
+abbrev pub ReaderAnswers : Result LabInput BadInput → Result LabInput LabStop → Type 0
+ReaderAnswers answer (Ok input) = answer ≡ Ok input
+ReaderAnswers answer (Err (Bad bad)) = answer ≡ Err bad
+ReaderAnswers answer (Err NoMemory) = Unit {0}

@@ -14,7 +14,7 @@ use Rattle.lab_tables.specs.declared.input.RouterInput.{RouterInput}
 use Rattle.lab_tables.specs.declared.input.PolicyInput.{PolicyInput}
 use Rattle.lab_tables.specs.declared.input.CostInput.{CostInput}
 use Rattle.link_bag.specs.declared.plan.Fault.{Fault}
-use Rattle.link_bag.specs.Planned.{is_of}
+use Rattle.link_bag.specs.Planned.{is_fault_for}
 use Rattle.lab_tables.specs.Documents.{routers_of, router_names_of, peering_names_of}
 use Rattle.lab_tables.specs.Peerings.{cost_of, fault_of}
 use Rattle.lab_tables.specs.declared.words.StepWord.{StepWord}
@@ -67,37 +67,37 @@ cost_named routers before t = first_of (
 
 -- ---- peerings
 
-abbrev pub remote_of : Members → ℕ
-remote_of t = address_or 0 (codes "remote_address") t
+abbrev pub remote_address_of : Members → ℕ
+remote_address_of t = address_or 0 (codes "remote_address") t
 
 -- the names of the policies of the router of this name
 abbrev pub policies_at : List RouterInput → List ℕ → List (List ℕ)
 policies_at routers name = option_map_or (λ r. map (λ p. p.name) r.policies) (find (λ r. bytes_eq name r.name) routers) []
 
 -- given whether earlier peerings have its name and its remote's address
-abbrev pub peering_flaw : List RouterInput → (again_name again_remote : Bool) → Members → Option BadInput
-peering_flaw routers again_name again_remote t =
+abbrev pub peering_fault : List RouterInput → (again_name again_remote : Bool) → Members → Option BadInput
+peering_fault routers again_name again_remote t =
     let policies = policies_at routers (text_at (codes "at") t) in
     first_of (
     repeated_if again_name (text_at (codes "name") t)
     ∷ unknown (map (λ r. r.name) routers) (text_at (codes "at") t)
-    ∷ repeated_if again_remote (address_text (remote_of t))
+    ∷ repeated_if again_remote (address_text (remote_address_of t))
     ∷ unknown_at policies (maybe_text (codes "import") t)
     ∷ unknown_at policies (maybe_text (codes "export") t)
     ∷ [])
 
 abbrev pub peering_named : List RouterInput → List Members → Members → Option BadInput
 peering_named routers before t =
-    peering_flaw routers
+    peering_fault routers
     (list_any (λ u. bytes_eq (text_at (codes "name") u) (text_at (codes "name") t)) before)
-    (list_any (λ u. remote_of u == remote_of t) before)
+    (list_any (λ u. remote_address_of u == remote_address_of t) before)
     t
 
 -- ---- faults
 
 -- two faults are of the same segment
 abbrev pub same_segment : Fault → Fault → Bool
-same_segment fault other = is_of other.peering other.way other.segment fault
+same_segment fault other = is_fault_for other.peering other.way other.segment fault
 
 abbrev pub fault_named : List (List ℕ) → List Members → Members → Option BadInput
 fault_named peerings before t = first_of (

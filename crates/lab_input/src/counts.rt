@@ -1,16 +1,17 @@
 //! Counts over a whole input.
 
-ghost use Rattle.std.specs.Prelude.{◌≡◌, ◌==◌, ◌&&◌, ◌++◌, length, sum_by, count_by, IfOk};
+ghost use Rattle.std.specs.Prelude.{◌≡◌, ◌==◌, ◌&&◌, ◌++◌, List, length, map, sum_by, count_by, option_copied, IfOk};
 ghost use Rattle.std.specs.List.{flat_map};
 ghost use Rattle.bgp_types.specs.declared.message.Message.TheVariants.{UpdateMsg};
 ghost use Rattle.bgp_types.specs.Spelling.{spell};
 ghost use Rattle.lab_keys.specs.Kinds.{first_of, each_from};
-ghost use Rattle.lab_input.specs.Said.{update_of as update_of_lem};
-ghost use Rattle.lab_input.specs.Counts.{grafts_of as grafts_of_lem, settles_of as settles_of_lem, added_settle as added_settle_lem, prefixes_of as prefixes_of_lem, prefixes_named as prefixes_named_lem, peerings_at as peerings_at_lem, room_flaw as room_flaw_lem, is_wide as is_wide_lem, said_by as said_by_lem, said_on as said_on_lem, most_said as most_said_lem, said_flaw as said_flaw_lem, over as over_lem, counted as counted_lem};
+ghost use Rattle.lab_tables.specs.declared.input.Step.{Step as StepOf};
+ghost use Rattle.lab_input.specs.Said.{step_update};
+ghost use Rattle.lab_input.specs.Counts.{step_grafts, settles_of as settles_of_lem, added_settle as added_settle_lem, step_prefixes, prefixes_named as prefixes_named_lem, peering_count_at, room_flaw as room_flaw_lem, is_wide as is_wide_lem, octets_said, speaker as speaker_lem, AreSaid, most_said as most_said_lem, said_flaw as said_flaw_lem, over_limit, count_fault};
 
 use crate::bad::BadInput;
 use crate::told::{first, over};
-use bgp_types::{Items, Message, NoMemory, PrefixList, TryCopy, Update, message_len};
+use bgp_types::{Attrs, Items, NoMemory, Prefix, PrefixList, TryCopy, Update, update_len};
 use lab_tables::{LabInput, PeeringInput, RouterInput, Step, each_once};
 use std::alloc::Global;
 
@@ -31,7 +32,7 @@ const MOST_SAID_BEATING: u64 = 524_288;
 
 /// Returns how many grafts a step makes at most, given the number of peerings.
 fn grafts_of(peerings: u64, step: &Step) -> u64
-    ensures { result ≡ grafts_of_lem peerings step.now }
+    ensures { result ≡ step_grafts peerings step.now }
 {
     match step {
         Step::Graft { .. } => 1,
@@ -42,7 +43,7 @@ fn grafts_of(peerings: u64, step: &Step) -> u64
 
 /// Returns how many grafts steps make at most. No steps that fit in memory have a sum above 64 bits.
 fn grafts_in(peerings: u64, steps: &[Step]) -> Result<u64, NoMemory>
-    ensures { IfOk result (λ n. n ≡ sum_by (grafts_of_lem peerings) steps.now) }
+    ensures { IfOk result (λ n. n ≡ sum_by (step_grafts peerings) steps.now) }
 {
     let mut grafts = 0u64;
     for step in steps {
@@ -85,7 +86,7 @@ fn settles_in(steps: &[Step]) -> Result<u64, NoMemory>
 
 /// Adds the prefixes of a step.
 fn add_prefixes(all: &mut PrefixList, step: &Step) -> Result<(), NoMemory>
-    ensures { OnOk result (all.new ≡ all.old ++ prefixes_of_lem step.now) }
+    ensures { OnOk result (all.new ≡ all.old ++ step_prefixes step.now) }
 {
     match step {
         Step::Announce { prefixes, .. } => all.extend(prefixes),
@@ -107,7 +108,7 @@ fn networks_of(alloc: Global, routers: &[RouterInput]) -> Result<PrefixList, NoM
 
 /// Returns a list with the prefixes of steps added.
 fn add_all(all: PrefixList, steps: &[Step]) -> Result<PrefixList, NoMemory>
-    ensures { IfOk result (λ whole. whole ≡ all ++ flat_map prefixes_of_lem steps.now) }
+    ensures { IfOk result (λ whole. whole ≡ all ++ flat_map step_prefixes steps.now) }
 {
     let mut all = all;
     for step in steps {
@@ -127,7 +128,7 @@ fn prefixes_in(alloc: Global, input: &LabInput) -> Result<u64, NoMemory>
 
 /// Returns the number of peerings that start at a router.
 fn peerings_at(peerings: &[PeeringInput], router: u64) -> u64
-    ensures { result ≡ peerings_at_lem peerings.now router }
+    ensures { result ≡ peering_count_at peerings.now router }
 {
     peerings
         .iter()
@@ -176,7 +177,7 @@ fn is_wide(peering: &PeeringInput) -> bool
 
 /// Returns the UPDATE that a step says.
 pub fn update_of(alloc: Global, step: &Step) -> Result<Update, NoMemory>
-    ensures { IfOk result (λ update. update ≡ update_of_lem step.now) }
+    ensures { IfOk result (λ update. update ≡ step_update step.now) }
 {
     match step {
         Step::Announce {
@@ -201,11 +202,16 @@ pub fn update_of(alloc: Global, step: &Step) -> Result<Update, NoMemory>
     }
 }
 
-/// Returns the number of octets of a step's UPDATE.
-fn update_len(alloc: Global, wide: bool, step: &Step) -> Result<u64, NoMemory>
-    ensures { IfOk result (λ n. n ≡ length (spell (UpdateMsg (update_of_lem step.now)) wide)) }
+/// Returns the number of octets of the UPDATE with these fields.
+fn octets_of(
+    wide: bool,
+    withdrawn: &[Prefix],
+    attrs: Option<&Attrs>,
+    nlri: &[Prefix],
+) -> Result<u64, NoMemory>
+    ensures { IfOk result (λ n. n ≡ length (spell (UpdateMsg (record { withdrawn = withdrawn.now; attrs = option_copied attrs.entry; nlri = nlri.now })) wide)) }
 {
-    let len = message_len(&Message::UpdateMsg(update_of(alloc, step)?), wide);
+    let len = update_len(withdrawn, attrs, nlri, wide);
     if len == usize::MAX {
         return Err(NoMemory);
     }
@@ -213,36 +219,66 @@ fn update_len(alloc: Global, wide: bool, step: &Step) -> Result<u64, NoMemory>
 }
 
 /// Returns the number of octets that a step says on a peering.
-fn said_by(alloc: Global, wide: bool, number: u64, step: &Step) -> Result<u64, NoMemory>
-    ensures { IfOk result (λ n. n ≡ said_by_lem wide number step.now) }
+fn said_by(wide: bool, number: u64, step: &Step) -> Result<u64, NoMemory>
+    ensures { IfOk result (λ n. n ≡ octets_said wide number step.now) }
 {
     match step {
-        Step::Announce { peering, .. } if peering.0 as u64 == number => {
-            update_len(alloc, wide, step)
-        }
-        Step::Withdraw { peering, .. } if peering.0 as u64 == number => {
-            update_len(alloc, wide, step)
+        Step::Announce {
+            peering,
+            prefixes,
+            attrs,
+        } if peering.0 as u64 == number => octets_of(wide, &[], Some(attrs), prefixes),
+        Step::Withdraw { peering, prefixes } if peering.0 as u64 == number => {
+            octets_of(wide, prefixes, None, &[])
         }
         Step::Raw { peering, bytes } if peering.0 as u64 == number => Ok(bytes.len() as u64),
         _ => Ok(0),
     }
 }
 
-/// Returns the number of octets that the remote of a peering says.
-fn said_on(
-    alloc: Global,
-    steps: &[Step],
-    number: u64,
-    peering: &PeeringInput,
-) -> Result<u64, NoMemory>
-    ensures { IfOk result (λ n. n ≡ said_on_lem steps.now number peering.now) }
+/// Returns the index of the peering whose remote says something in a step, or 0 if none does.
+fn speaker(step: &Step) -> usize
+    ensures { result ≡ speaker_lem step.now }
 {
-    let wide = is_wide(peering);
-    let mut said = peering.opening.len() as u64;
+    match step {
+        Step::Announce { peering, .. } => usize::from(peering.0),
+        Step::Withdraw { peering, .. } => usize::from(peering.0),
+        Step::Raw { peering, .. } => usize::from(peering.0),
+        _ => 0,
+    }
+}
+
+/// Returns the number of octets that the remote of each peering says at first.
+fn openings(alloc: Global, peerings: &[PeeringInput]) -> Result<Vec<u64>, NoMemory>
+    ensures { IfOk result (λ said. said.items ≡ map (λ p. length p.opening) peerings.now) }
+{
+    let mut said = Vec::with_capacity(alloc, peerings.len())?;
+    for peering in peerings {
+        said.push(peering.opening.len() as u64)?;
+    }
+    Ok(said)
+}
+
+/// Adds the octets that a step says to those of its peering.
+fn add_said(peerings: &[PeeringInput], said: &mut Vec<u64>, step: &Step) -> Result<(), NoMemory>
+    requires { length said.old.items ≡ length peerings.now }
+    ensures { OnOk result ((steps : List StepOf) → AreSaid steps peerings.now said.old.items → AreSaid (steps ++ step.now ∷ []) peerings.now said.new.items) }
+{
+    let number = speaker(step);
+    if let Some(peering) = peerings.get(number) {
+        let more = said_by(is_wide(peering), number as u64, step)?;
+        said[number] = said[number].checked_add(more).ok_or(NoMemory)?;
+    }
+    Ok(())
+}
+
+/// Returns the number of octets that the remote of each peering says.
+fn all_said(alloc: Global, steps: &[Step], peerings: &[PeeringInput]) -> Result<Vec<u64>, NoMemory>
+    ensures { IfOk result (λ said. AreSaid steps.now peerings.now said.items) }
+{
+    let mut said = openings(alloc, peerings)?;
     for step in steps {
-        said = said
-            .checked_add(said_by(alloc, wide, number, step)?)
-            .ok_or(NoMemory)?;
+        add_said(peerings, &mut said, step)?;
     }
     Ok(said)
 }
@@ -259,20 +295,6 @@ fn most_said(peering: &PeeringInput) -> u64
     }
 }
 
-/// Returns the fault of a remote that says too much.
-fn peering_said(
-    alloc: Global,
-    steps: &[Step],
-    number: u64,
-    peering: &PeeringInput,
-) -> Result<Option<BadInput>, NoMemory>
-    ensures { IfOk result (λ bad. bad ≡ said_flaw_lem steps.now number peering.now) }
-{
-    let said = said_on(alloc, steps, number, peering)?;
-    let bad = over(alloc, "said", most_said(peering), said)?;
-    Ok(bad)
-}
-
 /// Returns the fault of the first peering whose remote says too much.
 fn said_flaw(
     alloc: Global,
@@ -281,8 +303,9 @@ fn said_flaw(
 ) -> Result<Option<BadInput>, NoMemory>
     ensures { IfOk result (λ bad. bad ≡ each_from (said_flaw_lem steps.now) 0 peerings.now) }
 {
+    let said = all_said(alloc, steps, peerings)?;
     for (i, peering) in peerings.iter().enumerate() {
-        let found = peering_said(alloc, steps, i as u64, peering)?;
+        let found = over(alloc, "said", most_said(peering), said[i])?;
         match found {
             Some(bad) => return Ok(Some(bad)),
             None => {}
@@ -293,7 +316,7 @@ fn said_flaw(
 
 /// Returns the fault of more grafts than a script may have.
 fn grafts_flaw(alloc: Global, input: &LabInput) -> Result<Option<BadInput>, NoMemory>
-    ensures { IfOk result (λ bad. bad ≡ over_lem (codes "grafts") 256 (sum_by (grafts_of_lem (length input.now.peerings)) input.now.steps)) }
+    ensures { IfOk result (λ bad. bad ≡ over_limit (codes "grafts") 256 (sum_by (step_grafts (length input.now.peerings)) input.now.steps)) }
 {
     let grafts = grafts_in(input.peerings.len() as u64, &input.steps)?;
     let bad = over(alloc, "grafts", MOST_GRAFTS, grafts)?;
@@ -302,7 +325,7 @@ fn grafts_flaw(alloc: Global, input: &LabInput) -> Result<Option<BadInput>, NoMe
 
 /// Returns the fault of more settles than a script may have.
 fn settles_flaw(alloc: Global, input: &LabInput) -> Result<Option<BadInput>, NoMemory>
-    ensures { IfOk result (λ bad. bad ≡ over_lem (codes "settles") 64 (sum_by settles_of_lem input.now.steps + added_settle_lem input.now.steps)) }
+    ensures { IfOk result (λ bad. bad ≡ over_limit (codes "settles") 64 (sum_by settles_of_lem input.now.steps + added_settle_lem input.now.steps)) }
 {
     let settles = settles_in(&input.steps)?;
     let bad = over(alloc, "settles", MOST_SETTLES, settles)?;
@@ -311,7 +334,7 @@ fn settles_flaw(alloc: Global, input: &LabInput) -> Result<Option<BadInput>, NoM
 
 /// Returns the fault of more distinct prefixes than an input may name.
 fn prefixes_flaw(alloc: Global, input: &LabInput) -> Result<Option<BadInput>, NoMemory>
-    ensures { IfOk result (λ bad. bad ≡ over_lem (codes "prefixes") 4096 (length (once_after [] (prefixes_named_lem input.now)))) }
+    ensures { IfOk result (λ bad. bad ≡ over_limit (codes "prefixes") 4096 (length (once_after [] (prefixes_named_lem input.now)))) }
 {
     let prefixes = prefixes_in(alloc, input)?;
     let bad = over(alloc, "prefixes", MOST_PREFIXES, prefixes)?;
@@ -320,9 +343,9 @@ fn prefixes_flaw(alloc: Global, input: &LabInput) -> Result<Option<BadInput>, No
 
 /// Returns the fault of the first count of a whole input that is above its limit.
 fn whole_flaw(alloc: Global, input: &LabInput) -> Result<Option<BadInput>, NoMemory>
-    ensures { IfOk result (λ bad. bad ≡ first_of (over_lem (codes "grafts") 256 (sum_by (grafts_of_lem (length input.now.peerings)) input.now.steps)
-        ∷ over_lem (codes "settles") 64 (sum_by settles_of_lem input.now.steps + added_settle_lem input.now.steps)
-        ∷ over_lem (codes "prefixes") 4096 (length (once_after [] (prefixes_named_lem input.now))) ∷ [])) }
+    ensures { IfOk result (λ bad. bad ≡ first_of (over_limit (codes "grafts") 256 (sum_by (step_grafts (length input.now.peerings)) input.now.steps)
+        ∷ over_limit (codes "settles") 64 (sum_by settles_of_lem input.now.steps + added_settle_lem input.now.steps)
+        ∷ over_limit (codes "prefixes") 4096 (length (once_after [] (prefixes_named_lem input.now))) ∷ [])) }
 {
     let grafts = grafts_flaw(alloc, input)?;
     let settles = settles_flaw(alloc, input)?;
@@ -341,7 +364,7 @@ fn part_flaw(alloc: Global, input: &LabInput) -> Result<Option<BadInput>, NoMemo
 
 /// Returns the fault of the first count of an input that is above its limit.
 pub(crate) fn counted(alloc: Global, input: &LabInput) -> Result<Option<BadInput>, NoMemory>
-    ensures { IfOk result (λ bad. bad ≡ counted_lem input.now) }
+    ensures { IfOk result (λ bad. bad ≡ count_fault input.now) }
 {
     let whole = whole_flaw(alloc, input)?;
     let part = part_flaw(alloc, input)?;

@@ -8,7 +8,7 @@ ghost use Rattle.lab_keys.specs.Kinds.{first_of};
 ghost use Rattle.lab_keys.specs.Values.{text_at as text_at_lem, maybe_text};
 ghost use Rattle.bgp_types.specs.Texts.{address_text};
 ghost use Rattle.lab_tables.specs.Peerings.{cost_of};
-ghost use Rattle.lab_input.specs.Names.{each_after, cost_named as cost_named_lem, remote_of as remote_of_lem, policies_at as policies_at_lem, peering_flaw, peering_named as peering_named_lem, worded_named as worded_named_lem, step_named as step_named_lem};
+ghost use Rattle.lab_input.specs.Names.{each_after, cost_named as cost_named_lem, remote_address_of, policies_at as policies_at_lem, peering_fault, peering_named as peering_named_lem, worded_named as worded_named_lem, step_named as step_named_lem};
 
 use crate::bad::BadInput;
 use crate::names::{repeated_address, unknown, unknown_at};
@@ -87,7 +87,7 @@ struct Again {
 
 /// Returns the remote's address.
 fn remote_of(table: &Table) -> u32
-    ensures { result ≡ remote_of_lem (table_view table.now) }
+    ensures { result ≡ remote_address_of (table_view table.now) }
 {
     address_or(0, "remote_address", table)
 }
@@ -145,7 +145,7 @@ fn place_named(
 ) -> Result<Option<BadInput>, NoMemory>
     ensures { IfOk result (λ bad. bad ≡ first_of (repeated_if_lem again.name (text_at_lem (codes "name") (table_view table.now))
         ∷ unknown_lem names.now (text_at_lem (codes "at") (table_view table.now))
-        ∷ repeated_if_lem again.remote (address_text (remote_of_lem (table_view table.now))) ∷ [])) }
+        ∷ repeated_if_lem again.remote (address_text (remote_address_of (table_view table.now))) ∷ [])) }
 {
     let name = repeated_if(alloc, again.name, text_at("name", table))?;
     let at = unknown(alloc, names, text_at("at", table))?;
@@ -178,7 +178,7 @@ fn peering_named(
     table: &Table,
 ) -> Result<Option<BadInput>, NoMemory>
     requires { names.now ≡ map (λ r. r.name) routers.now }
-    ensures { IfOk result (λ bad. bad ≡ peering_flaw routers.now again.name again.remote (table_view table.now)) }
+    ensures { IfOk result (λ bad. bad ≡ peering_fault routers.now again.name again.remote (table_view table.now)) }
 {
     let place = place_named(alloc, names, again, table)?;
     let policy = policy_named(alloc, routers, table)?;

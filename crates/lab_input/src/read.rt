@@ -2,7 +2,7 @@
 
 ghost use Rattle.std.specs.Prelude.{◌≡◌, Some, IfOk};
 ghost use Rattle.toml.specs.View.{table_view};
-ghost use Rattle.lab_input.specs.Labs.{input_in, input_of, Answers};
+ghost use Rattle.lab_input.specs.Labs.{input_in, input_of, ReaderAnswers};
 
 use crate::bad::{BadInput, LabStop};
 use crate::counts::counted;
@@ -20,7 +20,7 @@ pub const MOST_BYTES: usize = 4_194_304;
 /// Returns the first rule on names and counts that a document and its value don't meet.
 fn later_bad(alloc: Global, doc: &Table, lab: &LabInput) -> Result<Option<BadInput>, NoMemory>
     requires { lab.now ≡ lab_of_lem (table_view doc.now) }
-    ensures { IfOk result (λ bad. bad ≡ option_or (named_lem (table_view doc.now)) (option_or (counted_lem lab.now) None)) }
+    ensures { IfOk result (λ bad. bad ≡ option_or (named_lem (table_view doc.now)) (option_or (count_fault lab.now) None)) }
 {
     let name = named(alloc, doc, lab)?;
     let count = counted(alloc, lab)?;
@@ -29,7 +29,7 @@ fn later_bad(alloc: Global, doc: &Table, lab: &LabInput) -> Result<Option<BadInp
 
 /// Returns the input that a document stands for, whose shapes must be right.
 fn read_shaped(alloc: Global, doc: &Table) -> Result<LabInput, LabStop>
-    ensures { Answers (unless (option_or (named_lem (table_view doc.now)) (option_or (counted_lem (lab_of_lem (table_view doc.now))) None)) (lab_of_lem (table_view doc.now))) result }
+    ensures { ReaderAnswers (input_unless (option_or (named_lem (table_view doc.now)) (option_or (count_fault (lab_of_lem (table_view doc.now))) None)) (lab_of_lem (table_view doc.now))) result }
 {
     let lab = lab_of(alloc, doc)?;
     let found = later_bad(alloc, doc, &lab)?;
@@ -41,7 +41,7 @@ fn read_shaped(alloc: Global, doc: &Table) -> Result<LabInput, LabStop>
 
 /// Returns the input that a document stands for.
 fn read_document(alloc: Global, doc: &Table) -> Result<LabInput, LabStop>
-    ensures { Answers (input_in (Some (table_view doc.now))) result }
+    ensures { ReaderAnswers (input_in (Some (table_view doc.now))) result }
 {
     let shape = shape_of(alloc, doc)?;
     match shape {
@@ -61,7 +61,7 @@ pub fn too_long(alloc: Global) -> Result<BadInput, NoMemory>
 /// Reads the input from its bytes. `Bad` has the first rule that they don't meet: at most 4 MiB; a TOML document;
 /// shapes and limits of its keys; names; and counts over the whole.
 pub fn read_lab(alloc: Global, bytes: &[u8]) -> Result<LabInput, LabStop>
-    ensures { Answers (input_of bytes.now) result }
+    ensures { ReaderAnswers (input_of bytes.now) result }
 {
     if bytes.len() > MOST_BYTES {
         return Err(LabStop::Bad(too_long(alloc)?));
@@ -86,5 +86,5 @@ ghost use Rattle.std.specs.Prelude.{None};
 ghost use Rattle.std.specs.Option.{option_or};
 ghost use Rattle.lab_tables.specs.Documents.{lab_of as lab_of_lem};
 ghost use Rattle.lab_input.specs.Names.{named as named_lem};
-ghost use Rattle.lab_input.specs.Counts.{counted as counted_lem};
-ghost use Rattle.lab_input.specs.Labs.{unless, too_long as too_long_bad};
+ghost use Rattle.lab_input.specs.Counts.{count_fault};
+ghost use Rattle.lab_input.specs.Labs.{input_unless, too_long as too_long_bad};

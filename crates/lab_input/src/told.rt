@@ -2,7 +2,7 @@
 
 ghost use Rattle.std.specs.Prelude.{◌≡◌, IfOk};
 ghost use Rattle.lab_input.specs.Names.{repeated_if as repeated_if_lem};
-ghost use Rattle.lab_input.specs.Counts.{over as over_lem};
+ghost use Rattle.lab_input.specs.Counts.{over_limit};
 
 use crate::bad::BadInput;
 use bgp_types::{Name, NoMemory};
@@ -29,7 +29,7 @@ pub(crate) fn over(
     most: u64,
     n: u64,
 ) -> Result<Option<BadInput>, NoMemory>
-    ensures { IfOk result (λ bad. bad ≡ over_lem name.now most n) }
+    ensures { IfOk result (λ bad. bad ≡ over_limit name.now most n) }
 {
     if n <= most {
         return Ok(None);

@@ -15,9 +15,9 @@ use Rattle.lab_keys.specs.declared.flaw.Flaw.{Flaw}
 use Rattle.lab_keys.specs.declared.flaw.Flaw.TheVariants.{Shape, Limit}
 use Rattle.lab_keys.specs.declared.key.Kind.TheVariants.{Number, Host, Prefix}
 use Rattle.lab_keys.specs.declared.table_at.TableAt.{TableAt}
-use Rattle.lab_keys.specs.Places.{Place, place, member_of}
-use Rattle.lab_keys.specs.Texts.{host_if, address_in, host_in, prefix_in}
-use Rattle.lab_keys.specs.Kinds.{each_from, flaw_if, beyond, number_flaw, text_flaw, kind_flaw, list_of, counted, array_flaw, table_flaw}
+use Rattle.lab_keys.specs.Places.{KeyPlace, place, member_of}
+use Rattle.lab_keys.specs.Texts.{host_if, address_in, host_address_in, prefix_in}
+use Rattle.lab_keys.specs.Kinds.{each_from, flaw_if, beyond, number_flaw, text_flaw, kind_flaw, list_of, bounded_array_flaw, array_flaw, table_flaw}
 use Rattle.lab_keys.specs.KeyRows.{KeyRow}
 use Rattle.lab_keys.specs.Keys.{required, optional, required_array, optional_array, present, key_flaw, tables_flaw}
 use Rattle.lab_keys.specs.Values.{number_in, maybe_number, number_or, maybe_text, address_or, items_in, items_at, prefix_of_data, prefixes_at, numbers_at, tables_at}
@@ -60,7 +60,7 @@ pub record IsWithin (low high n : ℕ) : Type 0 where
   pub enough : low ≤ n
   pub few : n ≤ high
 
-within : (at : Place) (low high n : ℕ) → beyond at low high n ≡ None → IsWithin low high n
+within : (at : KeyPlace) (low high n : ℕ) → beyond at low high n ≡ None → IsWithin low high n
 within at low high n none =
     let test : (nat_lt n low || nat_lt high n) ≡ false = if_none (nat_lt n low || nat_lt high n) (Limit at n) none in
     record { enough = not_less n low (or_left (nat_lt n low) (nat_lt high n) test); few = not_less high n (or_right (nat_lt n low) (nat_lt high n) test) }
@@ -70,7 +70,7 @@ record IsNumber (low high : ℕ) (d : Data) : Type 0 where
   is : d ≡ integer (pos n)
   within : IsWithin low high n
 
-number_there : (at : Place) (low high : ℕ) (d : Data) → number_flaw at low high d ≡ None → IsNumber low high d
+number_there : (at : KeyPlace) (low high : ℕ) (d : Data) → number_flaw at low high d ≡ None → IsNumber low high d
 number_there at low high (integer (pos n)) none = record { n = n; is = refl; within = within at low high n none }
 number_there at low high (integer (negsuc n)) none = absurd (none_some (Limit at 0) none)
 number_there at low high (string _) none = absurd (none_some (Shape at) none)
@@ -86,7 +86,7 @@ record IsThere (flaw : Data → Option Flaw) (o : Option Data) : Type 0 where
   is : o ≡ Some d
   none : flaw d ≡ None
 
-there : (at : Place) (flaw : Data → Option Flaw) (o : Option Data) → present at true flaw o ≡ None → IsThere flaw o
+there : (at : KeyPlace) (flaw : Data → Option Flaw) (o : Option Data) → present at true flaw o ≡ None → IsThere flaw o
 there at flaw None none = absurd (none_some (Shape at) none)
 there at flaw (Some d) none = record { d = d; is = refl; none = none }
 
@@ -96,7 +96,8 @@ number_of bits default n o is fits =
     ∙ ap (λ (t : Bool). unwrap_or (cond t (Some n) None) default) (less n (2 ^ bits) fits)
 
 -- the number at a key that has to be there
-pub number_within : (at : TableAt) (t : Members) (key : List ℕ) (bits default low high : ℕ) → high < 2 ^ bits → key_flaw at t (required key (Number low high)) ≡ None
+pub number_within : (at : TableAt) (t : Members) (key : List ℕ) (bits default low high : ℕ) → high < 2 ^ bits
+    → key_flaw at t (required key (Number low high)) ≡ None
     → IsWithin low high (number_or bits default key t)
 number_within at t key bits default low high fits none =
     let here = there (place at key) (kind_flaw (Number low high) (place at key)) (get_member key t) none in
@@ -135,14 +136,15 @@ record IsHostText (d : Data) : Type 0 where
   reads : address_in text ≡ Some address
   host : is_no_host address ≡ false
 
-host_of : (at : Place) (text : List ℕ) (o : Option ℕ) → address_in text ≡ o → flaw_if (not (is_some (option_and_then host_if o))) (Shape at) ≡ None → IsHostText (string text)
+host_of : (at : KeyPlace) (text : List ℕ) (o : Option ℕ) → address_in text ≡ o
+    → flaw_if (not (is_some (option_and_then host_if o))) (Shape at) ≡ None → IsHostText (string text)
 host_of at text None e none = absurd (none_some (Shape at) none)
 host_of at text (Some address) e none = by_test (is_no_host address) refl none where
   by_test : (t : Bool) → is_no_host address ≡ t → flaw_if (not (is_some (cond t None (Some address)))) (Shape at) ≡ None → IsHostText (string text)
   by_test true is none = absurd (none_some (Shape at) none)
   by_test false is none = record { text = text; address = address; is = refl; reads = e; host = is }
 
-host_there : (at : Place) (d : Data) → kind_flaw Host at d ≡ None → IsHostText d
+host_there : (at : KeyPlace) (d : Data) → kind_flaw Host at d ≡ None → IsHostText d
 host_there at (string text) none = host_of at text (address_in text) refl none
 host_there at (integer _) none = absurd (none_some (Shape at) none)
 host_there at (float _) none = absurd (none_some (Shape at) none)
@@ -151,35 +153,40 @@ host_there at (datetime _) none = absurd (none_some (Shape at) none)
 host_there at (array _) none = absurd (none_some (Shape at) none)
 host_there at (table _) none = absurd (none_some (Shape at) none)
 
-address_of : (default : ℕ) (o : Option Data) (d : Data) → o ≡ Some d → (is : IsHostText d) → unwrap_or (option_and_then address_in (option_and_then as_str o)) default ≡ is.address
+address_of : (default : ℕ) (o : Option Data) (d : Data) → o ≡ Some d → (is : IsHostText d)
+    → unwrap_or (option_and_then address_in (option_and_then as_str o)) default ≡ is.address
 address_of default o d there is =
     ap (λ x. unwrap_or (option_and_then address_in (option_and_then as_str x)) default) (there ∙ ap Some is.is) ∙ ap (λ x. unwrap_or x default) is.reads
 
-host_at : (default : ℕ) (o : Option Data) (d : Data) → o ≡ Some d → IsHostText d → is_no_host (unwrap_or (option_and_then address_in (option_and_then as_str o)) default) ≡ false
+host_at : (default : ℕ) (o : Option Data) (d : Data) → o ≡ Some d → IsHostText d
+    → is_no_host (unwrap_or (option_and_then address_in (option_and_then as_str o)) default) ≡ false
 host_at default o d there is = ap is_no_host (address_of default o d there is) ∙ is.host
 
 -- the address at a key that has to be there
-pub host_required : (at : TableAt) (t : Members) (key : List ℕ) (default : ℕ) → key_flaw at t (required key Host) ≡ None → is_no_host (address_or default key t) ≡ false
+pub host_required : (at : TableAt) (t : Members) (key : List ℕ) (default : ℕ) → key_flaw at t (required key Host) ≡ None
+    → is_no_host (address_or default key t) ≡ false
 host_required at t key default none =
     let here = there (place at key) (kind_flaw Host (place at key)) (get_member key t) none in
     host_at default (get_member key t) here.d here.is (host_there (place at key) here.d here.none)
 
 -- the address at a key that may be left out
-pub host_optional : (at : TableAt) (t : Members) (key : List ℕ) (default : ℕ) → key_flaw at t (optional key Host) ≡ None → is_no_host default ≡ false → is_no_host (address_or default key t) ≡ false
+pub host_optional : (at : TableAt) (t : Members) (key : List ℕ) (default : ℕ) → key_flaw at t (optional key Host) ≡ None → is_no_host default ≡ false
+    → is_no_host (address_or default key t) ≡ false
 host_optional at t key default none host = by_value (get_member key t) none where
-  by_value : (o : Option Data) → present (place at key) false (kind_flaw Host (place at key)) o ≡ None → is_no_host (unwrap_or (option_and_then address_in (option_and_then as_str o)) default) ≡ false
+  by_value : (o : Option Data) → present (place at key) false (kind_flaw Host (place at key)) o ≡ None
+      → is_no_host (unwrap_or (option_and_then address_in (option_and_then as_str o)) default) ≡ false
   by_value None none = host
   by_value (Some d) none = host_at default (Some d) d refl (host_there (place at key) d none)
 
 -- ---- arrays
 
-record IsArray (at : Place) (low high : ℕ) (flaw : ℕ → Data → Option Flaw) (d : Data) : Type 0 where
+record IsArray (at : KeyPlace) (low high : ℕ) (flaw : ℕ → Data → Option Flaw) (d : Data) : Type 0 where
   items : Items
   is : d ≡ array items
   count : IsWithin low high (length (list_of items))
   each : each_from flaw 0 (list_of items) ≡ None
 
-array_there : (at : Place) (low high : ℕ) (flaw : ℕ → Data → Option Flaw) (d : Data) → array_flaw at low high flaw d ≡ None → IsArray at low high flaw d
+array_there : (at : KeyPlace) (low high : ℕ) (flaw : ℕ → Data → Option Flaw) (d : Data) → array_flaw at low high flaw d ≡ None → IsArray at low high flaw d
 array_there at low high flaw (array items) none =
     let count = none_left (beyond at low high (length (list_of items))) (each_from flaw 0 (list_of items)) none in
     let each = none_right (beyond at low high (length (list_of items))) (each_from flaw 0 (list_of items)) none in
@@ -199,7 +206,7 @@ kept_few h (x ∷ xs) = by_value (h x) (kept_few h xs) where
   by_value (Some y) few = omega arith
 
 -- where an array may be left out, few of it are kept
-optional_few : {B : Type 0} (h : Data → Option B) (at : Place) (high : ℕ) (flaw : ℕ → Data → Option Flaw) (needed : Bool) (o : Option Data)
+optional_few : {B : Type 0} (h : Data → Option B) (at : KeyPlace) (high : ℕ) (flaw : ℕ → Data → Option Flaw) (needed : Bool) (o : Option Data)
     → present at needed (array_flaw at 0 high flaw) o ≡ None → length (filter_map h (items_in o)) ≤ high
 optional_few h at high flaw needed None none = omega arith
 optional_few h at high flaw needed (Some d) none =
@@ -208,16 +215,18 @@ optional_few h at high flaw needed (Some d) none =
     let few = is.count.few in
     subst (λ x. length (filter_map h (items_in (Some x))) ≤ high) (sym is.is) (omega arith)
 
-pub numbers_few : (at : TableAt) (t : Members) (key : List ℕ) (low high high' : ℕ) → key_flaw at t (optional_array key 0 high (Number low high')) ≡ None → length (numbers_at key t) ≤ high
+pub numbers_few : (at : TableAt) (t : Members) (key : List ℕ) (low high high' : ℕ)
+    → key_flaw at t (optional_array key 0 high (Number low high')) ≡ None → length (numbers_at key t) ≤ high
 numbers_few at t key low high high' none =
     optional_few (number_in 32) (place at key) high (λ i. kind_flaw (Number low high') (member_of (place at key) i)) false (get_member key t) none
 
-pub tables_few : (at : TableAt) (t : Members) (key : List ℕ) (high : ℕ) (flaw : ℕ → Members → Option Flaw) → tables_flaw at key false 0 high flaw t ≡ None → length (tables_at key t) ≤ high
+pub tables_few : (at : TableAt) (t : Members) (key : List ℕ) (high : ℕ) (flaw : ℕ → Members → Option Flaw)
+    → tables_flaw at key false 0 high flaw t ≡ None → length (tables_at key t) ≤ high
 tables_few at t key high flaw none = optional_few as_table (place at key) high (λ i. table_flaw (member_of (place at key) i) (flaw i)) false (get_member key t) none
 
 -- ---- prefixes
 
-prefix_there : (at : Place) (d : Data) → kind_flaw Prefix at d ≡ None → (p : PrefixValue) × (prefix_of_data d ≡ Some p)
+prefix_there : (at : KeyPlace) (d : Data) → kind_flaw Prefix at d ≡ None → (p : PrefixValue) × (prefix_of_data d ≡ Some p)
 prefix_there at (string text) none = by_value (prefix_in text) none where
   by_value : (o : Option PrefixValue) → flaw_if (not (is_some o)) (Shape at) ≡ None → (p : PrefixValue) × (o ≡ Some p)
   by_value None none = absurd (none_some (Shape at) none)
@@ -229,15 +238,18 @@ prefix_there at (datetime _) none = absurd (none_some (Shape at) none)
 prefix_there at (array _) none = absurd (none_some (Shape at) none)
 prefix_there at (table _) none = absurd (none_some (Shape at) none)
 
-prefixes_kept : (at : Place) (i : ℕ) (ds : List Data) → each_from (λ i. kind_flaw Prefix (member_of at i)) i ds ≡ None → length (filter_map prefix_of_data ds) ≡ length ds
+prefixes_kept : (at : KeyPlace) (i : ℕ) (ds : List Data) → each_from (λ i. kind_flaw Prefix (member_of at i)) i ds ≡ None
+    → length (filter_map prefix_of_data ds) ≡ length ds
 prefixes_kept at i [] none = refl
 prefixes_kept at i (d ∷ ds) none =
     let rest = each_from (λ i. kind_flaw Prefix (member_of at i)) (i + 1) ds in
     let here = prefix_there (member_of at i) d (none_left (kind_flaw Prefix (member_of at i) d) rest none) in
-    ap (λ o. length (cons_option o (filter_map prefix_of_data ds))) here.1 ∙ ap suc (prefixes_kept at (i + 1) ds (none_right (kind_flaw Prefix (member_of at i) d) rest none))
+    ap (λ o. length (cons_option o (filter_map prefix_of_data ds))) here.1
+    ∙ ap suc (prefixes_kept at (i + 1) ds (none_right (kind_flaw Prefix (member_of at i) d) rest none))
 
 -- how many prefixes there are at a key that has to be there
-pub prefixes_within : (at : TableAt) (t : Members) (key : List ℕ) (low high : ℕ) → key_flaw at t (required_array key low high Prefix) ≡ None → IsWithin low high (length (prefixes_at key t))
+pub prefixes_within : (at : TableAt) (t : Members) (key : List ℕ) (low high : ℕ) → key_flaw at t (required_array key low high Prefix) ≡ None
+    → IsWithin low high (length (prefixes_at key t))
 prefixes_within at t key low high none =
     let flaw : ℕ → Data → Option Flaw = λ i. kind_flaw Prefix (member_of (place at key) i) in
     let here = there (place at key) (array_flaw (place at key) low high flaw) (get_member key t) none in
@@ -246,7 +258,8 @@ prefixes_within at t key low high none =
     let items : items_at key t ≡ list_of is.items = ap items_in (here.is ∙ ap Some is.is) in
     subst (IsWithin low high) (sym (ap (λ ds. length (filter_map prefix_of_data ds)) items ∙ kept)) is.count
 
-formed : (o : Option PrefixValue) (text : List ℕ) → Finds (IsPrefixText text) o → (ps : List PrefixValue) → AllByRecursion IsPrefix ps → AllByRecursion IsPrefix (cons_option o ps)
+formed : (o : Option PrefixValue) (text : List ℕ) → Finds (IsPrefixText text) o → (ps : List PrefixValue) → AllByRecursion IsPrefix ps
+    → AllByRecursion IsPrefix (cons_option o ps)
 formed None text none ps all = all
 formed (Some p) text is ps all = (subst IsPrefix (sym is.prefix) (IsPrefix-prefix_of p.len is.address is.short is.fits), all)
 
@@ -263,7 +276,8 @@ prefixes_formed (table _ ∷ ds) = prefixes_formed ds
 
 -- ---- tables
 
-each_table : (at : Place) (flaw : ℕ → Members → Option Flaw) (P : Members → Type 0) → ((i : ℕ) (t : Members) → flaw i t ≡ None → P t) → (i : ℕ) (ds : List Data)
+each_table : (at : KeyPlace) (flaw : ℕ → Members → Option Flaw) (P : Members → Type 0) → ((i : ℕ) (t : Members) → flaw i t ≡ None → P t)
+    → (i : ℕ) (ds : List Data)
     → each_from (λ i. table_flaw (member_of at i) (flaw i)) i ds ≡ None → AllByRecursion P (filter_map as_table ds)
 each_table at flaw P kept i [] none = tt
 each_table at flaw P kept i (d ∷ ds) none =
@@ -271,7 +285,8 @@ each_table at flaw P kept i (d ∷ ds) none =
     let rest : Option Flaw = each_from (λ i. table_flaw (member_of at i) (flaw i)) (i + 1) ds in
     by_kind d (none_left here rest none) (each_table at flaw P kept (i + 1) ds (none_right here rest none))
   where
-    by_kind : (d : Data) → table_flaw (member_of at i) (flaw i) d ≡ None → AllByRecursion P (filter_map as_table ds) → AllByRecursion P (filter_map as_table (d ∷ ds))
+    by_kind : (d : Data) → table_flaw (member_of at i) (flaw i) d ≡ None → AllByRecursion P (filter_map as_table ds)
+        → AllByRecursion P (filter_map as_table (d ∷ ds))
     by_kind (table t) none all = (kept i t none, all)
     by_kind (string _) none all = all
     by_kind (integer _) none all = all
@@ -284,7 +299,8 @@ each_table at flaw P kept i (d ∷ ds) none =
 pub tables_all : (at : TableAt) (t : Members) (key : List ℕ) (needed : Bool) (low high : ℕ) (flaw : ℕ → Members → Option Flaw) (P : Members → Type 0)
     → ((i : ℕ) (t : Members) → flaw i t ≡ None → P t) → tables_flaw at key needed low high flaw t ≡ None → AllByRecursion P (tables_at key t)
 tables_all at t key needed low high flaw P kept none = by_value (get_member key t) none where
-  by_value : (o : Option Data) → present (place at key) needed (array_flaw (place at key) low high (λ i. table_flaw (member_of (place at key) i) (flaw i))) o ≡ None
+  by_value : (o : Option Data)
+      → present (place at key) needed (array_flaw (place at key) low high (λ i. table_flaw (member_of (place at key) i) (flaw i))) o ≡ None
       → AllByRecursion P (filter_map as_table (items_in o))
   by_value None none = tt
   by_value (Some d) none =

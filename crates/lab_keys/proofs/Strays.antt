@@ -21,11 +21,7 @@ stray_found known (e ∷ es) =
     ap (λ (t : Bool). option_map string_bytes (cond (not t) (Some e.0) (find (λ k. not (list_any (λ w. bytes_eq (string_bytes k) w.now) known)) (keys_of es)))) (known_same (string_bytes e.0) known)
     ∙ by_test (is_one_of (map (λ k. k.now) known) (string_bytes e.0)) (find (λ k. not (list_any (λ w. bytes_eq (string_bytes k) w.now) known)) (keys_of es)) (stray_in (map (λ k. k.now) known) (members_view es)) (stray_found known es)
   where
-    by_test : (t : Bool) (o : Option (String Global)) (r : Option (List ℕ)) → option_map string_bytes o ≡ r → option_map string_bytes (cond (not t) (Some e.0) o) ≡ cond t r (Some (string_bytes e.0))
+    by_test : (t : Bool) (o : Option (String Global)) (r : Option (List ℕ)) → option_map string_bytes o ≡ r
+        → option_map string_bytes (cond (not t) (Some e.0) o) ≡ cond t r (Some (string_bytes e.0))
     by_test true o r rest = rest
     by_test false o r rest = refl
-
--- the text of a key that was found
-pub stray_text : (o : Option (Bor (String Global))) (r : Option (List ℕ)) (found : Option (String Global)) → option_map (λ k. k.now) o ≡ found → option_map string_bytes found ≡ r → option_map (λ k. string_bytes k.now) o ≡ r
-stray_text None r found same is = ap (option_map string_bytes) same ∙ is
-stray_text (Some k) r found same is = ap (option_map string_bytes) same ∙ is

@@ -102,14 +102,16 @@ Slash c = eqb c 47
 slash_there : (xs : List ℕ) → 0 < length (after_first Slash xs) → position_or_len Slash xs < length xs
 slash_there xs some = let h = length-drop (position_or_len Slash xs + 1) xs in omega arith
 
-prefix_sound : (text : List ℕ) (address len : ℕ) → IsAddressText (before_first Slash text) address → IsLengthText (after_first Slash text) len → IsPrefixText text (prefix_of len address)
+prefix_sound : (text : List ℕ) (address len : ℕ) → IsAddressText (before_first Slash text) address → IsLengthText (after_first Slash text) len
+    → IsPrefixText text (prefix_of len address)
 prefix_sound text address len front back =
     let there : position_or_len Slash text < length text = slash_there text (BeginsPlainly-length (after_first Slash text) len back).some in
     let c : ℕ = get_or text (position_or_len Slash text) 0 in
     let slash : c ≡ 47 = eqb-true c 47 (passes_at_first Slash text 0 there) in
     let whole : text ≡ before_first Slash text ++ c ∷ after_first Slash text = split_at_first Slash text 0 there in
     let joined : text ≡ address_text address ++ 47 ∷ decimal len =
-    whole ∙ ap (λ d. before_first Slash text ++ d ∷ after_first Slash text) slash ∙ ap (λ t. t ++ 47 ∷ after_first Slash text) front.text ∙ ap (λ t. address_text address ++ 47 ∷ t) back.1 in
+    whole ∙ ap (λ d. before_first Slash text ++ d ∷ after_first Slash text) slash ∙ ap (λ t. t ++ 47 ∷ after_first Slash text) front.text
+    ∙ ap (λ t. address_text address ++ 47 ∷ t) back.1 in
     record {
       address = address;
       fits = front.fits;
@@ -149,7 +151,8 @@ parts_of text p is =
     let back : after_first Slash text ≡ decimal p.len = ap (λ n. drop n text) next ∙ ap (drop (suc (length a))) joined ∙ drop_front a 47 (decimal p.len) in
     record { address = is.address; front = record { fits = is.fits; text = front }; back = (is.short, back); prefix = is.prefix }
 
-prefix_found : (text : List ℕ) (o : Option ℕ) (n : Option ℕ) → Finds (IsAddressText (before_first Slash text)) o → Finds (IsLengthText (after_first Slash text)) n
+prefix_found : (text : List ℕ) (o : Option ℕ) (n : Option ℕ) → Finds (IsAddressText (before_first Slash text)) o
+    → Finds (IsLengthText (after_first Slash text)) n
     → Finds (IsPrefixText text) (prefix_from o n)
 prefix_found text (Some address) (Some len) front back = prefix_sound text address len front back
 prefix_found text (Some address) None front none = λ p is. let parts = parts_of text p is in none p.len parts.back

@@ -9,8 +9,8 @@ use Rattle.toml.specs.Data.{Data, string, integer, float, boolean, datetime, arr
 use Rattle.toml.specs.declared.value.Value.{Value}
 use Rattle.toml.specs.View.{view, items_of, items_view}
 use Rattle.lab_keys.specs.declared.flaw.Flaw.{Flaw}
-use Rattle.lab_keys.specs.Places.{Place}
-use Rattle.lab_keys.specs.Kinds.{each_from, first_of, list_of, beyond, counted, array_flaw}
+use Rattle.lab_keys.specs.Places.{KeyPlace}
+use Rattle.lab_keys.specs.Kinds.{each_from, first_of, list_of, beyond, bounded_array_flaw, array_flaw}
 use Rattle.lab_keys.specs.Values.{items_in}
 
 pub list_of-items_of : (ds : List Data) → list_of (items_of ds) ≡ ds
@@ -35,22 +35,7 @@ pub each_goes_on : {A B E : Type 0} (flaw : ℕ → B → Option E) (f : A → B
 each_goes_on flaw f xs i x whole within is so_far none =
     ap (λ o. option_or o (each_from flaw (i + 1) (map f (drop (i + 1) xs)))) none ∙ sym (ap (each_from flaw i) (map_step f xs i x within is)) ∙ so_far
 
--- the first that has one
-pub each_stops : {A B E : Type 0} (flaw : ℕ → B → Option E) (f : A → B) (xs : List A) (i : ℕ) (x : A) (found : E) (whole : Option E) → i < length xs → x ≡ get_or xs i x
-    → each_from flaw i (map f (drop i xs)) ≡ whole → Some found ≡ flaw i (f x) → Some found ≡ whole
-each_stops flaw f xs i x found whole within is so_far some =
-    ap (λ o. option_or o (each_from flaw (i + 1) (map f (drop (i + 1) xs)))) some ∙ sym (ap (each_from flaw i) (map_step f xs i x within is)) ∙ so_far
-
-pub each_ends : {A B E : Type 0} (flaw : ℕ → B → Option E) (f : A → B) (xs : List A) (i : ℕ) (whole : Option E) → length xs ≤ i
-    → each_from flaw i (map f (drop i xs)) ≡ whole → None ≡ whole
-each_ends flaw f xs i whole past so_far = sym (ap (each_from flaw i) (map_end f xs i past)) ∙ so_far
-
 -- ---- the same of the first of several flaws
-
-pub first_goes_on : {A E : Type 0} (f : A → Option E) (xs : List A) (i : ℕ) (x : A) (whole : Option E) → i < length xs → x ≡ get_or xs i x
-    → first_of (map f (drop i xs)) ≡ whole → None ≡ f x → first_of (map f (drop (i + 1) xs)) ≡ whole
-first_goes_on f xs i x whole within is so_far none =
-    ap (λ o. option_or o (first_of (map f (drop (i + 1) xs)))) none ∙ sym (ap first_of (map_step f xs i x within is)) ∙ so_far
 
 pub first_stops : {A E : Type 0} (f : A → Option E) (xs : List A) (i : ℕ) (x : A) (found : E) (whole : Option E) → i < length xs → x ≡ get_or xs i x
     → first_of (map f (drop i xs)) ≡ whole → Some found ≡ f x → Some found ≡ whole
@@ -79,9 +64,9 @@ seen_items : (items : Items) (vs : List Value) → Some (items_view vs) ≡ Some
 seen_items items vs same = let is : items ≡ items_view vs = cc in ap list_of is ∙ list_of-items_of (map view vs)
 
 -- the flaw of the values of an array is that of the array
-pub array_seen : (at : Place) (low high : ℕ) (flaw : ℕ → Data → Option Flaw) (d : Data) (vs : List Value) → Some (items_view vs) ≡ as_array d
-    → counted at low high flaw (map view vs) ≡ array_flaw at low high flaw d
-array_seen at low high flaw (array items) vs same = ap (counted at low high flaw) (sym (seen_items items vs same))
+pub array_seen : (at : KeyPlace) (low high : ℕ) (flaw : ℕ → Data → Option Flaw) (d : Data) (vs : List Value) → Some (items_view vs) ≡ as_array d
+    → bounded_array_flaw at low high flaw (map view vs) ≡ array_flaw at low high flaw d
+array_seen at low high flaw (array items) vs same = ap (bounded_array_flaw at low high flaw) (sym (seen_items items vs same))
 array_seen at low high flaw (string _) vs same = cc
 array_seen at low high flaw (integer _) vs same = cc
 array_seen at low high flaw (float _) vs same = cc
@@ -89,13 +74,15 @@ array_seen at low high flaw (boolean _) vs same = cc
 array_seen at low high flaw (datetime _) vs same = cc
 array_seen at low high flaw (table _) vs same = cc
 
-pub counted_stops : {A : Type 0} (at : Place) (low high : ℕ) (flaw : ℕ → Data → Option Flaw) (f : A → Data) (vs : List A) (found : Flaw) → Some found ≡ beyond at low high (length vs)
-    → Some found ≡ counted at low high flaw (map f vs)
+pub counted_stops : {A : Type 0} (at : KeyPlace) (low high : ℕ) (flaw : ℕ → Data → Option Flaw) (f : A → Data) (vs : List A) (found : Flaw)
+    → Some found ≡ beyond at low high (length vs)
+    → Some found ≡ bounded_array_flaw at low high flaw (map f vs)
 counted_stops at low high flaw f vs found some =
     ap (λ o. option_or o (each_from flaw 0 (map f vs))) (some ∙ ap (beyond at low high) (sym (length-map vs f)))
 
-pub counted_goes_on : {A : Type 0} (at : Place) (low high : ℕ) (flaw : ℕ → Data → Option Flaw) (f : A → Data) (vs : List A) → None ≡ beyond at low high (length vs)
-    → each_from flaw 0 (map f vs) ≡ counted at low high flaw (map f vs)
+pub counted_goes_on : {A : Type 0} (at : KeyPlace) (low high : ℕ) (flaw : ℕ → Data → Option Flaw) (f : A → Data) (vs : List A)
+    → None ≡ beyond at low high (length vs)
+    → each_from flaw 0 (map f vs) ≡ bounded_array_flaw at low high flaw (map f vs)
 counted_goes_on at low high flaw f vs none =
     ap (λ o. option_or o (each_from flaw 0 (map f vs))) (none ∙ ap (beyond at low high) (sym (length-map vs f)))
 

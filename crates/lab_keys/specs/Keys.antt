@@ -7,7 +7,7 @@ use Rattle.lab_keys.specs.declared.flaw.Flaw.TheVariants.{Shape}
 use Rattle.lab_keys.specs.declared.key.Kind.{Kind}
 use Rattle.lab_keys.specs.declared.key.Counts.{Counts}
 use Rattle.lab_keys.specs.declared.table_at.TableAt.{TableAt}
-use Rattle.lab_keys.specs.Places.{Place, place, member_of}
+use Rattle.lab_keys.specs.Places.{KeyPlace, place, member_of}
 use Rattle.lab_keys.specs.Kinds.{first_of, each_from, flaw_if, is_one_of, kind_flaw, array_flaw, table_flaw}
 use Rattle.lab_keys.specs.KeyRows.{KeyRow}
 
@@ -31,12 +31,12 @@ names_of keys = map (λ key. key.name) keys
 
 -- ---- the flaws of a table
 
-abbrev pub value_flaw : Option Counts → Kind → Place → Data → Option Flaw
+abbrev pub value_flaw : Option Counts → Kind → KeyPlace → Data → Option Flaw
 value_flaw None kind at d = kind_flaw kind at d
 value_flaw (Some counts) kind at d = array_flaw at counts.low counts.high (λ i. kind_flaw kind (member_of at i)) d
 
 -- a missing value has a wrong shape if it is required
-abbrev pub present : Place → Bool → (Data → Option Flaw) → Option Data → Option Flaw
+abbrev pub present : KeyPlace → Bool → (Data → Option Flaw) → Option Data → Option Flaw
 present at needed flaw None = flaw_if needed (Shape at)
 present at needed flaw (Some d) = flaw d
 

@@ -36,8 +36,8 @@ abbrev pub host_if : ℕ → Option ℕ
 host_if address = if is_no_host address then None else Some address
 
 -- the address written by a text, if it is that of a host
-abbrev pub host_in : List ℕ → Option ℕ
-host_in text = option_and_then host_if (address_in text)
+abbrev pub host_address_in : List ℕ → Option ℕ
+host_address_in text = option_and_then host_if (address_in text)
 
 -- ---- prefixes
 

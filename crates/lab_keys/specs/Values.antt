@@ -4,15 +4,15 @@ use Rattle.std.specs.List.{filter_map}
 use Rattle.toml.specs.Data.{Data, string, integer, boolean, array, table, Items, Members, get_member, as_str, as_bool, as_table}
 use Rattle.bgp_types.specs.Prefixes.{PrefixValue}
 use Rattle.lab_keys.specs.Kinds.{list_of}
-use Rattle.lab_keys.specs.Texts.{address_in, host_in, prefix_in, octets_in}
+use Rattle.lab_keys.specs.Texts.{address_in, host_address_in, prefix_in, octets_in}
 
 -- a number that fits in n bits
 abbrev pub number_in : ℕ → Data → Option ℕ
 number_in bits (integer (pos n)) = if nat_lt n (2 ^ bits) then Some n else None
 number_in bits _ = None
 
-abbrev pub has : List ℕ → Members → Bool
-has key t = is_some (get_member key t)
+abbrev pub has_member : List ℕ → Members → Bool
+has_member key t = is_some (get_member key t)
 
 abbrev pub maybe_number : ℕ → List ℕ → Members → Option ℕ
 maybe_number bits key t = option_and_then (number_in bits) (get_member key t)

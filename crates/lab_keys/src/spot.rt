@@ -15,9 +15,9 @@ pub struct Spot<'a> {
 }
 
 impl<'a> Model for Spot<'a> {
-    ghost use Rattle.lab_keys.specs.Places.{Place};
+    ghost use Rattle.lab_keys.specs.Places.{KeyPlace};
 
-    ghost Value = { Place };
+    ghost Value = { KeyPlace };
 
     ghost view = { λ s. record { table = s.table; key = s.key.now; member = s.member } };
 }

@@ -2,7 +2,7 @@
 
 ghost use Rattle.std.specs.Prelude.{◌≡◌};
 ghost use Rattle.std.specs.List.{list_all};
-ghost use Rattle.lab_keys.specs.Texts.{is_name_char as is_name_char_lem, is_name as is_name_lem, address_in as address_in_lem, host_in as host_in_lem, prefix_in as prefix_in_lem, is_hex as is_hex_lem};
+ghost use Rattle.lab_keys.specs.Texts.{is_name_char as is_name_char_lem, is_name as is_name_lem, address_in as address_in_lem, host_address_in, prefix_in as prefix_in_lem, is_hex as is_hex_lem};
 ghost use Rattle.hex.specs.Hex.{is_hex_digit};
 
 use bgp_types::{Prefix, is_no_host, read_address, read_prefix};
@@ -39,7 +39,7 @@ pub fn address_in(text: &str) -> Option<u32>
 
 /// Returns the address written by a text, if it is that of a host.
 pub fn host_in(text: &str) -> Option<u32>
-    ensures { result ≡ host_in_lem text.now }
+    ensures { result ≡ host_address_in text.now }
 {
     let address = address_in(text)?;
     if is_no_host(address) {

@@ -7,32 +7,32 @@ unfoldable pub each_below : (ℕ → List ℕ) → ℕ → List ℕ
 each_below text n = flat_map text (range_with_len 0 n)
 
 -- a number between two texts
-unfoldable pub numbered : (before : List ℕ) → ℕ → (after : List ℕ) → List ℕ
-numbered before n after = before ++ decimal n ++ after
+unfoldable pub number_between : (before : List ℕ) → ℕ → (after : List ℕ) → List ℕ
+number_between before n after = before ++ decimal n ++ after
 
 -- ---- tables
 
 abbrev pub router_table : ℕ → List ℕ
-router_table r = numbered (codes "[[router]]\nname = \"r") r (codes "\"\n") ++ numbered (codes "id = \"10.255.0.") (r + 1) (codes "\"\nsessions = 12\n\n")
+router_table r = number_between (codes "[[router]]\nname = \"r") r (codes "\"\n") ++ number_between (codes "id = \"10.255.0.") (r + 1) (codes "\"\nsessions = 12\n\n")
 
 -- a peering begins at the routers in turn, and its sequence numbers a little below 2^32
 abbrev pub peering_head : ℕ → List ℕ
-peering_head j = numbered (codes "[[peering]]\nname = \"p") j (codes "\"\n") ++ numbered (codes "at = \"r") (j % 4) (codes "\"\n") ++ numbered (codes "remote_as = ") (64601 + j) (codes "\n")
+peering_head j = number_between (codes "[[peering]]\nname = \"p") j (codes "\"\n") ++ number_between (codes "at = \"r") (j % 4) (codes "\"\n") ++ number_between (codes "remote_as = ") (64601 + j) (codes "\n")
 
 abbrev pub peering_addresses : ℕ → List ℕ
-peering_addresses j = numbered (codes "remote_address = \"192.0.2.") (2 * j + 1) (codes "\"\n") ++ numbered (codes "local_address = \"192.0.2.") (2 * j + 2) (codes "\"\n")
+peering_addresses j = number_between (codes "remote_address = \"192.0.2.") (2 * j + 1) (codes "\"\n") ++ number_between (codes "local_address = \"192.0.2.") (2 * j + 2) (codes "\"\n")
 
 abbrev pub peering_streams : ℕ → List ℕ
-peering_streams j = numbered (codes "home_seq = ") (4294960000 + 600 * j) (codes "\n") ++ numbered (codes "remote_seq = ") (4294960000 + 600 * j) (codes "\n\n")
+peering_streams j = number_between (codes "home_seq = ") (4294960000 + 600 * j) (codes "\n") ++ number_between (codes "remote_seq = ") (4294960000 + 600 * j) (codes "\n\n")
 
 abbrev pub peering_table : ℕ → List ℕ
 peering_table j = peering_head j ++ peering_addresses j ++ peering_streams j
 
 abbrev pub lose_table : ℕ → List ℕ
-lose_table j = numbered (codes "[[fault]]\npeering = \"p") j (codes "\"\nway = \"home\"\nsegment = 2\nkind = \"lose\"\n\n")
+lose_table j = number_between (codes "[[fault]]\npeering = \"p") j (codes "\"\nway = \"home\"\nsegment = 2\nkind = \"lose\"\n\n")
 
 abbrev pub repeat_table : ℕ → List ℕ
-repeat_table j = numbered (codes "[[fault]]\npeering = \"p") j (codes "\"\nway = \"remote\"\nsegment = 3\nkind = \"repeat\"\nafter = 2\n\n")
+repeat_table j = number_between (codes "[[fault]]\npeering = \"p") j (codes "\"\nway = \"remote\"\nsegment = 3\nkind = \"repeat\"\nafter = 2\n\n")
 
 abbrev pub fault_tables : ℕ → List ℕ
 fault_tables j = lose_table j ++ repeat_table j
@@ -40,25 +40,25 @@ fault_tables j = lose_table j ++ repeat_table j
 -- ---- steps
 
 -- prefix i of 2,000: `10.{i div 256}.{i mod 256}.0/24`, in quotes
-abbrev pub prefix_text : ℕ → List ℕ
-prefix_text i = numbered (codes "\"10.") (i / 256) (codes ".") ++ numbered [] (i % 256) (codes ".0/24\"")
+abbrev pub quoted_prefix : ℕ → List ℕ
+quoted_prefix i = number_between (codes "\"10.") (i / 256) (codes ".") ++ number_between [] (i % 256) (codes ".0/24\"")
 
 -- the numbers i below n for which i + shift is j modulo 12
 unfoldable pub prefixes_below : (n shift j : ℕ) → List ℕ
 prefixes_below n shift j = filter (λ i. (i + shift) % 12 == j) (range_with_len 0 n)
 
-abbrev pub prefixes_of : (shift j : ℕ) → List ℕ
-prefixes_of shift j = prefixes_below 2000 shift j
+abbrev pub shifted_prefixes : (shift j : ℕ) → List ℕ
+shifted_prefixes shift j = prefixes_below 2000 shift j
 
 abbrev pub announce_head : ℕ → List ℕ
-announce_head j = numbered (codes "[[step]]\ndo = \"announce\"\npeering = \"p") j (codes "\"\nprefixes = [")
+announce_head j = number_between (codes "[[step]]\ndo = \"announce\"\npeering = \"p") j (codes "\"\nprefixes = [")
 
 abbrev pub announce_path : List ℕ → ℕ → List ℕ
-announce_path further j = numbered (codes "]\npath = [") (64601 + j) further ++ codes "]\n\n"
+announce_path further j = number_between (codes "]\npath = [") (64601 + j) further ++ codes "]\n\n"
 
 -- peering j announces its prefixes, with a path of its AS followed by these
 abbrev pub announce_step : ℕ → List ℕ → ℕ → List ℕ
-announce_step shift further j = announce_head j ++ join_by prefix_text (codes ", ") (prefixes_of shift j) ++ announce_path further j
+announce_step shift further j = announce_head j ++ join_by quoted_prefix (codes ", ") (shifted_prefixes shift j) ++ announce_path further j
 
 abbrev pub first_step : ℕ → ℕ → List ℕ
 first_step seed j = announce_step seed [] j
@@ -70,19 +70,19 @@ abbrev pub settle_step : List ℕ
 settle_step = codes "[[step]]\ndo = \"settle\"\n\n"
 
 -- the peering that graft g moves
-abbrev pub moved_by : (seed g : ℕ) → ℕ
-moved_by seed g = (5 * g + seed) % 12
+abbrev pub moved_peering : (seed g : ℕ) → ℕ
+moved_peering seed g = (5 * g + seed) % 12
 
 -- how many of the grafts before graft g move a peering
 unfoldable pub moves_before : (seed peering g : ℕ) → ℕ
-moves_before seed peering g = count_by (λ h. moved_by seed h == peering) (range_with_len 0 g)
+moves_before seed peering g = count_by (λ h. moved_peering seed h == peering) (range_with_len 0 g)
 
 -- the router to which graft g moves its peering: the one after the current one; every graft before has moved it by one
 abbrev pub target_of : (seed g : ℕ) → ℕ
-target_of seed g = (moved_by seed g + moves_before seed (moved_by seed g) g + 1) % 4
+target_of seed g = (moved_peering seed g + moves_before seed (moved_peering seed g) g + 1) % 4
 
 abbrev pub graft_step : (seed g : ℕ) → List ℕ
-graft_step seed g = numbered (codes "[[step]]\ndo = \"graft\"\npeering = \"p") (moved_by seed g) (codes "\"\n") ++ numbered (codes "to = \"r") (target_of seed g) (codes "\"\n\n")
+graft_step seed g = number_between (codes "[[step]]\ndo = \"graft\"\npeering = \"p") (moved_peering seed g) (codes "\"\n") ++ number_between (codes "to = \"r") (target_of seed g) (codes "\"\n\n")
 
 -- after each of the first twelve grafts the peering of its number announces with a longer path
 abbrev pub later_step : (seed g : ℕ) → List ℕ

@@ -2,7 +2,7 @@
 
 ghost use Rattle.std.specs.Prelude.{◌≡◌, ◌==◌, ◌+◌, ◌%◌, [], ◌∷◌, ◌++◌, ◌<◌, ◌≤◌, if◌then◌else◌, OnOk, IfOk, codes, string_bytes};
 ghost use Rattle.std.specs.List.{flat_map, join_by};
-ghost use Rattle.lab_make.specs.Made.{prefixes_of, prefix_text, announce_head, announce_path, announce_step};
+ghost use Rattle.lab_make.specs.Made.{shifted_prefixes, quoted_prefix, announce_head, announce_path, announce_step};
 
 use crate::numbered::push_numbered;
 use graft_edge::{Items, NoMemory};
@@ -24,7 +24,7 @@ fn push_own(prefixes: &mut Items<u32>, i: u32, shift: u32, j: u32) -> Result<(),
 /// Returns the numbers of the prefixes of peering `j`.
 fn prefixes_of(alloc: Global, shift: u32, j: u32) -> Result<Items<u32>, NoMemory>
     requires { shift ≤ 10004 }
-    ensures { IfOk result (λ prefixes. prefixes ≡ prefixes_of shift j) }
+    ensures { IfOk result (λ prefixes. prefixes ≡ shifted_prefixes shift j) }
 {
     let mut prefixes = Items::new(alloc);
     for i in 0..2000u32 {
@@ -35,7 +35,7 @@ fn prefixes_of(alloc: Global, shift: u32, j: u32) -> Result<Items<u32>, NoMemory
 
 /// Appends a prefix in quotes.
 fn push_prefix(text: &mut String, i: u32) -> Result<(), NoMemory>
-    ensures { OnOk result (string_bytes text.new ≡ string_bytes text.old ++ prefix_text i) }
+    ensures { OnOk result (string_bytes text.new ≡ string_bytes text.old ++ quoted_prefix i) }
 {
     push_numbered(text, "\"10.", i / 256, ".")?;
     push_numbered(text, "", i % 256, ".0/24\"")
@@ -43,7 +43,7 @@ fn push_prefix(text: &mut String, i: u32) -> Result<(), NoMemory>
 
 /// Appends further prefixes, each after a comma.
 fn push_further(text: &mut String, prefixes: &[u32]) -> Result<(), NoMemory>
-    ensures { OnOk result (string_bytes text.new ≡ string_bytes text.old ++ flat_map (λ i. codes ", " ++ prefix_text i) prefixes.now) }
+    ensures { OnOk result (string_bytes text.new ≡ string_bytes text.old ++ flat_map (λ i. codes ", " ++ quoted_prefix i) prefixes.now) }
 {
     for i in prefixes {
         text.push_str(", ")?;
@@ -54,7 +54,7 @@ fn push_further(text: &mut String, prefixes: &[u32]) -> Result<(), NoMemory>
 
 /// Appends prefixes with commas between them.
 fn push_prefixes(text: &mut String, prefixes: &Items<u32>) -> Result<(), NoMemory>
-    ensures { OnOk result (string_bytes text.new ≡ string_bytes text.old ++ join_by prefix_text (codes ", ") prefixes.now) }
+    ensures { OnOk result (string_bytes text.new ≡ string_bytes text.old ++ join_by quoted_prefix (codes ", ") prefixes.now) }
 {
     let Some((first, further)) = prefixes.split_first() else {
         return Ok(());

@@ -1,7 +1,7 @@
 //! The steps.
 
 ghost use Rattle.std.specs.Prelude.{◌≡◌, ◌==◌, ◌++◌, ◌<◌, ◌≤◌, if◌then◌else◌, OnOk, string_bytes};
-ghost use Rattle.lab_make.specs.Made.{each_below, moved_by, moves_before, target_of, first_step, later_step, settle_step, graft_step, graft_round, script_text};
+ghost use Rattle.lab_make.specs.Made.{each_below, moved_peering, moves_before, target_of, first_step, later_step, settle_step, graft_step, graft_round, script_text};
 
 use crate::announce::push_announce;
 use crate::numbered::push_numbered;
@@ -23,7 +23,7 @@ fn push_announcements(text: &mut String, alloc: Global, seed: u32) -> Result<(),
 fn moved_by(seed: u32, g: u32) -> u32
     requires seed { seed ≤ 9999 }
     requires graft { g < 20 }
-    ensures { result ≡ moved_by seed g }
+    ensures { result ≡ moved_peering seed g }
 {
     (5 * g + seed) % 12
 }
@@ -32,7 +32,7 @@ fn moved_by(seed: u32, g: u32) -> u32
 fn moves_by(seed: u32, g: u32, peering: u32) -> u32
     requires seed { seed ≤ 9999 }
     requires graft { g < 20 }
-    ensures counted { result ≡ (if moved_by seed g == peering then 1 else 0) }
+    ensures counted { result ≡ (if moved_peering seed g == peering then 1 else 0) }
     ensures few { result ≤ 1 }
 {
     if moved_by(seed, g) == peering { 1 } else { 0 }

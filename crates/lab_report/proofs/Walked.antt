@@ -40,7 +40,8 @@ module _ (input : LabInput) (maps : List ForwardMap) where
       (s.0, s.1, s.2 ++ lines, ap (λ l. l ++ lines) s.3 ∙ append_assoc s.0 s.2 lines, one_address_more addresses address s.2 lines s.4 t)
 
   -- the walk from one router further
-  pub walked_more : (address : ℕ) (routers : List RouterInput) (i : ℕ) (router : RouterInput) (walk : Walk) → i < length routers → router ≡ slice_index_or routers i router
+  pub walked_more : (address : ℕ) (routers : List RouterInput) (i : ℕ) (router : RouterInput) (walk : Walk) → i < length routers
+      → router ≡ slice_index_or routers i router
       → WalksTo maps address [] (record { 0 = i }) walk → (before so_far after : List ℕ)
       → Appends (TracesFrom input maps address (enumerate_from 0 (take i routers))) before so_far → after ≡ so_far ++ trace_line input address router.name walk
       → Appends (TracesFrom input maps address (enumerate_from 0 (take (i + 1) routers))) before after
@@ -54,7 +55,8 @@ module _ (input : LabInput) (maps : List ForwardMap) where
 
   -- the walks to one address further
   pub traced_more : (addresses : List ℕ) (i : ℕ) → i < length addresses → (before so_far after : List ℕ)
-      → Appends (Traces input maps (take i addresses)) before so_far → Appends (TracesFrom input maps (slice_index addresses i) (numbered_routers input)) so_far after
+      → Appends (Traces input maps (take i addresses)) before so_far
+      → Appends (TracesFrom input maps (slice_index addresses i) (numbered_routers input)) so_far after
       → Appends (Traces input maps (take (i + 1) addresses)) before after
   traced_more addresses i lt before so_far after a b =
       let address = slice_index addresses i in

@@ -19,13 +19,13 @@ use Rattle.lab_report.specs.Report.{end_line, line_end, place_text, place_words}
 
 -- ---- counts
 
-abbrev pub announced_by : Step → List PrefixValue
-announced_by (Announce peering prefixes attrs) = prefixes
-announced_by step = []
+abbrev pub announced_in_step : Step → List PrefixValue
+announced_in_step (Announce peering prefixes attrs) = prefixes
+announced_in_step step = []
 
 -- the prefixes that remotes announce by the script, each once
-abbrev pub prefixes_in : LabInput → List PrefixValue
-prefixes_in input = once_after [] (flat_map announced_by input.steps)
+abbrev pub prefixes_announced : LabInput → List PrefixValue
+prefixes_announced input = once_after [] (flat_map announced_in_step input.steps)
 
 abbrev pub is_accepted : GraftStage → Bool
 is_accepted (Ended Accepted) = true
@@ -43,7 +43,7 @@ was_refused entry = is_refused entry.stage
 
 abbrev pub counts_line : Lab → List ℕ
 counts_line lab = codes "routers " ++ decimal (length lab.input.routers) ++ codes " peerings " ++ decimal (length lab.input.peerings)
-    ++ codes " prefixes " ++ decimal (length (prefixes_in lab.input)) ++ codes " grafts " ++ decimal (length lab.log) ++ line_end
+    ++ codes " prefixes " ++ decimal (length (prefixes_announced lab.input)) ++ codes " grafts " ++ decimal (length lab.log) ++ line_end
 
 abbrev pub outcomes_line : List GraftEntry → List ℕ
 outcomes_line log = codes "accepted " ++ decimal (count_by was_accepted log) ++ codes " refused " ++ decimal (count_by was_refused log) ++ line_end

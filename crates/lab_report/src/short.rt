@@ -3,7 +3,7 @@
 ghost use Rattle.std.specs.Prelude.{◌≡◌, ◌++◌, IfOk, OnOk, string_bytes, length, count_by, slice_get};
 ghost use Rattle.std.specs.List.{flat_map, enumerate_from};
 ghost use Rattle.lab_report.specs.Report.{place_words, place_text};
-ghost use Rattle.lab_report.specs.Summary.{announced_by, prefixes_in, was_accepted, was_refused, counts_line, outcomes_line, sizes_words, short_peering_line, best_count, short_router_line, summary_text};
+ghost use Rattle.lab_report.specs.Summary.{announced_in_step, prefixes_announced, was_accepted, was_refused, counts_line, outcomes_line, sizes_words, short_peering_line, best_count, short_router_line, summary_text};
 
 use crate::lab::{Lab, Place, RouterTable, SessionView};
 use crate::texts::{place_at, push_end, push_place};
@@ -16,7 +16,7 @@ use std::fmt::Write;
 
 /// Adds the prefixes that a step announces.
 fn push_announced(prefixes: &mut PrefixList, step: &Step) -> Result<(), NoMemory>
-    ensures { OnOk result (prefixes.new ≡ prefixes.old ++ announced_by step.now) }
+    ensures { OnOk result (prefixes.new ≡ prefixes.old ++ announced_in_step step.now) }
 {
     match step {
         Step::Announce {
@@ -29,7 +29,7 @@ fn push_announced(prefixes: &mut PrefixList, step: &Step) -> Result<(), NoMemory
 
 /// The prefixes that steps announce, each as often as it is announced.
 fn announced_in(alloc: Global, steps: &[Step]) -> Result<PrefixList, NoMemory>
-    ensures { IfOk result (λ prefixes. prefixes ≡ flat_map announced_by steps.now) }
+    ensures { IfOk result (λ prefixes. prefixes ≡ flat_map announced_in_step steps.now) }
 {
     let mut prefixes = PrefixList::new(alloc);
     for step in steps {
@@ -40,7 +40,7 @@ fn announced_in(alloc: Global, steps: &[Step]) -> Result<PrefixList, NoMemory>
 
 /// How many prefixes remotes announce by the script, each counted once.
 fn prefix_count(alloc: Global, input: &LabInput) -> Result<usize, NoMemory>
-    ensures { IfOk result (λ count. count ≡ length (prefixes_in input.now)) }
+    ensures { IfOk result (λ count. count ≡ length (prefixes_announced input.now)) }
 {
     let announced = announced_in(alloc, &input.steps)?;
     let once = each_once(alloc, &announced)?;

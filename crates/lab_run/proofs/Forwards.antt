@@ -26,7 +26,7 @@ use Rattle.lab_report.specs.Traces.{forwards_of, forward_maps_of}
 use Rattle.lab_report.specs.declared.lab.BestEntry.{BestEntry}
 use Rattle.lab_report.specs.declared.lab.Lab.{Lab}
 use Rattle.lab_report.specs.declared.lab.RouterTable.{RouterTable}
-use Rattle.lab_seen.specs.Seen.{Observed, best_entry, table_of}
+use Rattle.lab_seen.specs.Seen.{Observed, best_entry, router_table_of}
 use Rattle.lab_run.specs.Forwards.{Forwards}
 
 -- ---- the maps
@@ -49,10 +49,10 @@ froms_are best = same_map prefix_total exact_prefixes _ _ (λ q.
     ∙ sym (each_get (λ (b : Best). b.from) best q))))
 
 module _ (setup : Setup) (w : World) where
-  shown : (numbers : List ℕ) → map forwards_of (map (λ r. table_of setup (w.router r)) numbers) ≡ map (λ r. froms_of (w.router r).best) numbers
+  shown : (numbers : List ℕ) → map forwards_of (map (λ r. router_table_of setup (w.router r)) numbers) ≡ map (λ r. froms_of (w.router r).best) numbers
   shown [] = refl
   shown (r ∷ numbers) =
-      ap (λ (m : ForwardMap). m ∷ map forwards_of (map (λ n. table_of setup (w.router n)) numbers)) (froms_are (w.router r).best)
+      ap (λ (m : ForwardMap). m ∷ map forwards_of (map (λ n. router_table_of setup (w.router n)) numbers)) (froms_are (w.router r).best)
       ∙ ap (λ (ms : List ForwardMap). froms_of (w.router r).best ∷ ms) (shown numbers)
 
   pub maps_are : (lab : Lab) → Observed setup w lab → forward_maps_of lab ≡ forward_maps setup w
@@ -69,7 +69,8 @@ WalksLeaveThere = (setup : Setup) (w : World) (address : ℕ) (from r : RouterId
     → IsSetup setup → Solves setup w → AllTransparent setup w → from.0 < routers_in setup
     → WalksTo (forward_maps setup w) address [] from (Leaves r p prefix) → r.0 ≡ placement setup w.operator p.0
 
-pub forwards_as_solved : WalksAreShort → WalksLeaveThere → (setup : Setup) (w : World) (lab : Lab) → IsSetup setup → Solves setup w → AllTransparent setup w → Observed setup w lab → Forwards lab setup w
+pub forwards_as_solved : WalksAreShort → WalksLeaveThere → (setup : Setup) (w : World) (lab : Lab) → IsSetup setup → Solves setup w
+    → AllTransparent setup w → Observed setup w lab → Forwards lab setup w
 forwards_as_solved short leave setup w lab sound solves transparent observed address from walk there walks = record {
   two = subst (λ (ms : List ForwardMap). TwoRoutersAtMost ms address from walk) (sym same) (short setup w address from walk sound solves there here);
   leaves = λ r p prefix is. leave setup w address from r p prefix sound solves transparent there (subst (λ (end : Walk). WalksTo (forward_maps setup w) address [] from end) is here);

@@ -4,7 +4,7 @@ use Rattle.ring_net.specs.declared.entry.JournalEntry.{JournalEntry}
 use Rattle.graft_model.specs.Setups.{Setup}
 use Rattle.graft_model.specs.Parts.{World}
 use Rattle.lab_report.specs.declared.lab.RunEnd.{RunEnd}
-use Rattle.lab_budgets.specs.declared.budget.Budget.{Budget}
+use Rattle.node_configs.specs.declared.budget.Budget.{Budget}
 use Rattle.lab_run.specs.Ends.{NoneIsStuck, MarksName, HasMarks}
 
 more_left : (next : List ℕ) (marks : List (List ℕ)) → next ∷ marks ≡ [] → ⊥
@@ -18,7 +18,8 @@ module _ (setup : Setup) (journal : List JournalEntry) (world : ℕ → World) w
   later n i free = let same : n + 1 + i ≡ n + suc i = omega arith in subst (λ k. NoneIsStuck setup (world k)) same free
 
   -- at each mark before another one
-  free_from : (n step rounds : ℕ) (budgets : List Budget) (marks : List (List ℕ)) (made : List ℕ) (end : RunEnd) → MarksName setup journal world n step rounds budgets marks made end
+  free_from : (n step rounds : ℕ) (budgets : List Budget) (marks : List (List ℕ)) (made : List ℕ) (end : RunEnd)
+      → MarksName setup journal world n step rounds budgets marks made end
       → (i : ℕ) → i + 1 < length marks → NoneIsStuck setup (world (n + i))
   free_from n step rounds budgets [] made end names i more = absurd (omega arith)
   free_from n step rounds budgets (mark ∷ []) made end names i more = absurd (omega arith)

@@ -30,13 +30,13 @@ use Rattle.one_answer.specs.Laws.{SettledRunsHaveOneAnswer}
 use Rattle.even_inputs.specs.Laws.{SettledWorldsAreTheSolution}
 use Rattle.sure_results.specs.Laws.{SureLaboratoriesHaveResults}
 use Rattle.one_answer.specs.Settled.{IsSettled}
-use Rattle.graft_runs.specs.Laws.{AreEntriesOf}
-use Rattle.run_marks.specs.Marks.{before, IsWorldAtMark}
+use Rattle.graft_actors.specs.Laws.{AreEntriesOf}
+use Rattle.world_runs.specs.Marks.{before, IsWorldAtMark}
 use Rattle.lab_setup.specs.Setups.{setup_of}
 use Rattle.lab_report.specs.declared.lab.RunEnd.{RunEnd}
 use Rattle.lab_report.specs.declared.lab.RunEnd.TheVariants.{Settled}
-use Rattle.lab_budgets.specs.Budgets.{budgets_in}
-use Rattle.lab_budgets.proofs.Groups.{each_has_one}
+use Rattle.node_configs.specs.Budgets.{budgets_in}
+use Rattle.node_configs.proofs.Groups.{each_has_one}
 use Rattle.lab_seen.specs.Seen.{Observed}
 use Rattle.lab_run.specs.Ends.{HasMarks}
 use Rattle.lab_run.specs.Stories.{RunGoes}
@@ -57,7 +57,8 @@ abbrev pub QuietSolves : Type 0
 QuietSolves = (setup : Setup) (events : List Event) (w : World) → IsSetup setup → Run setup (first_world setup) events w → Quiet setup w → Solves setup w
 
 abbrev pub AlwaysTransparent : Type 0
-AlwaysTransparent = (setup : Setup) (events : List Event) (w : World) (p : ℕ) → IsSetup setup → Run setup (first_world setup) events w → p < peerings_in setup → Transparent setup w p
+AlwaysTransparent = (setup : Setup) (events : List Event) (w : World) (p : ℕ) → IsSetup setup → Run setup (first_world setup) events w
+    → p < peerings_in setup → Transparent setup w p
 
 abbrev pub EvacuationsGoByPlan : Type 0
 EvacuationsGoByPlan = (setup : Setup) (events : List Event) → IsSetup setup → GiveByPlan setup events
@@ -66,7 +67,8 @@ abbrev pub EmptiedAreLeft : Type 0
 EmptiedAreLeft = (setup : Setup) (w : World) → IsSetup setup → EmptyAlone setup → Reached setup w → Quiet setup w → AreEmptied setup w.operator
 
 abbrev pub OneAtEachMark : Type 0
-OneAtEachMark = (setup : Setup) (journal : List JournalEntry) (mark : List ℕ) (u v : World) → IsSetup setup → IsWorldAtMark setup journal mark u → IsWorldAtMark setup journal mark v → v ≡ u
+OneAtEachMark = (setup : Setup) (journal : List JournalEntry) (mark : List ℕ) (u v : World) → IsSetup setup → IsWorldAtMark setup journal mark u
+    → IsWorldAtMark setup journal mark v → v ≡ u
 
 -- Before a mark that has the length of each actor's entries all entries stand.
 all_before : (mark : ℕ → ℕ) (es : List JournalEntry) → AreSorted es → ((k : ℕ) → mark k ≡ length (entries_by k es)) → upto mark es ≡ es
@@ -89,7 +91,8 @@ holds_along transparent unchanged made by_plan setup events w sound run = record
   emptied = by_plan setup events sound;
 }
 
-pub labs_tell : WayRan → RunsAreTransparent → AlwaysUnchanged → AlwaysMadeBefore → QuietSolves → AlwaysTransparent → WalksAreShort → WalksLeaveThere → EvacuationsGoByPlan → EmptiedAreLeft
+pub labs_tell : WayRan → RunsAreTransparent → AlwaysUnchanged → AlwaysMadeBefore → QuietSolves → AlwaysTransparent → WalksAreShort → WalksLeaveThere
+    → EvacuationsGoByPlan → EmptiedAreLeft
     → OneAtEachMark → RoundsAreReal → WaysAreClocked → SilentWorldsAreQuiet → MovesAreBounded → SettledWorldsAreTheSolution → SettledRunsHaveOneAnswer
     → SureLaboratoriesHaveResults → LabsTellOfRuns
 labs_tell way_ran transparent unchanged made_before solves always short leave by_plan left one rounds clocked silent bounded answer same result lab a z sound alone ranged soon sure tells = record {

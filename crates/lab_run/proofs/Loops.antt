@@ -5,15 +5,15 @@ use Rattle.std.proofs.lemmas.List.{take_more, drop_more, get_or_default}
 use Rattle.graft_model.specs.Setups.{Setup}
 use Rattle.graft_model.specs.Parts.{World}
 use Rattle.operator_core.specs.Turns.{IsHeldUp}
-use Rattle.run_marks.specs.Marks.{operator_in}
+use Rattle.world_runs.specs.Marks.{operator_number}
 use Rattle.world_nodes.specs.Edges.{HasCounts}
 use Rattle.world_nodes.specs.Looks.{IsWorldAt}
 use Rattle.world_nodes.specs.Ways.{Stand, Pause}
 use Rattle.lab_report.specs.declared.lab.RunEnd.{RunEnd}
-use Rattle.lab_budgets.specs.declared.budget.Budget.{Budget}
+use Rattle.node_configs.specs.declared.budget.Budget.{Budget}
 use Rattle.lab_run.specs.declared.end.Verdict.{Verdict}
 use Rattle.lab_run.specs.declared.end.Verdict.TheVariants.{GoesOn}
-use Rattle.lab_run.specs.Stories.{RoundNames, Goes, OneMore, GroupGoes, Passes, PassAnswers, GroupAnswers, GroupsGo, NextGroup, RunGoes, verdict_of}
+use Rattle.lab_run.specs.Stories.{RoundNames, MakesRounds, OneMore, GroupGoes, PassesPause, PassAnswers, GroupAnswers, GroupsGo, NextGroup, RunGoes, verdict_of}
 
 -- ---- small facts
 
@@ -27,9 +27,9 @@ none_found (Some end) none = absurd (none end refl)
 
 -- ---- the rounds of a group
 
-module _ (setup : Setup) (budget : Budget) (step : ℕ) (a b c : Stand) (n : ℕ) (goes : Goes setup budget step a n b) (found : Verdict) (names : RoundNames setup budget step (n + 1) b c found) where
+module _ (setup : Setup) (budget : Budget) (step : ℕ) (a b c : Stand) (n : ℕ) (goes : MakesRounds setup budget step a n b) (found : Verdict) (names : RoundNames setup budget step (n + 1) b c found) where
   -- one round more
-  pub round_more : found ≡ GoesOn → Goes setup budget step a (n + 1) c
+  pub round_more : found ≡ GoesOn → MakesRounds setup budget step a (n + 1) c
   round_more is = OneMore n goes (subst (λ (v : Verdict). RoundNames setup budget step (n + 1) b c v) is names)
 
   -- the round at whose mark the group ends
@@ -40,13 +40,13 @@ module _ (setup : Setup) (budget : Budget) (step : ℕ) (a b c : Stand) (n : ℕ
 
 -- the next group begins, or it doesn't
 pub passes : (setup : Setup) (n : ℕ × ℕ) (a b : Stand) (found answer : Bool) → HasCounts setup n → found ≡ answer → Pause (n.0 + n.1) a b found
-    → ((w : World) → IsWorldAt setup a w → (found ≡ false) ↔ IsHeldUp setup w.operator) → Passes setup a b answer
+    → ((w : World) → IsWorldAt setup a w → (found ≡ false) ↔ IsHeldUp setup w.operator) → PassesPause setup a b answer
 passes setup n a b found answer has is pause held = record {
   pause = subst (λ (k : ℕ). Pause k a b answer) (sym last) (subst (λ (x : Bool). Pause (n.0 + n.1) a b x) is pause);
   held = λ w at. subst (λ (x : Bool). (x ≡ false) ↔ IsHeldUp setup w.operator) is (held w at);
 }
   where
-    last : operator_in setup ≡ n.0 + n.1
+    last : operator_number setup ≡ n.0 + n.1
     last = λ i. has.routers i + has.peerings i
 
 module _ (setup : Setup) (budget : Budget) (step : ℕ) (a b : Stand) (rounds : ℕ) (limit : Option RunEnd) (group : GroupGoes setup budget step a rounds (verdict_of limit) b) where
@@ -72,7 +72,8 @@ module _ (setup : Setup) (a : Stand) (budgets : List Budget) (place : ℕ) (ther
   past_more = take_more budgets place budget there ∙ ap (λ (x : Budget). take place budgets ++ x ∷ []) itself
 
   whole : budgets ≡ take place budgets ++ budget ∷ drop (place + 1) budgets
-  whole = sym (take-append-drop place budgets) ∙ ap (λ (xs : List Budget). take place budgets ++ xs) (drop_more budgets place budget there ∙ ap (λ (x : Budget). x ∷ drop (place + 1) budgets) itself)
+  whole = sym (take-append-drop place budgets)
+      ∙ ap (λ (xs : List Budget). take place budgets ++ xs) (drop_more budgets place budget there ∙ ap (λ (x : Budget). x ∷ drop (place + 1) budgets) itself)
 
   at_step : (end : Option RunEnd) → found ≡ end → GroupAnswers setup budget (length (take place budgets) + 1) b rounds end d
   at_step end e = subst (λ (n : ℕ). GroupAnswers setup budget n b rounds end d) (number ∙ ap (λ (n : ℕ). n + 1) (sym past_count)) (subst (λ (o : Option RunEnd). GroupAnswers setup budget step b rounds o d) e answers)

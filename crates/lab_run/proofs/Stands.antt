@@ -14,19 +14,19 @@ use Rattle.journal_merge.proofs.Orders.{equal_or_not}
 use Rattle.graft_model.specs.Setups.{Setup}
 use Rattle.graft_model.specs.Parts.{World}
 use Rattle.settled_check.specs.Left.{HasUnissued}
-use Rattle.graft_runs.specs.Actors.{ActorPart, OperatorIs, ActorName, Operator}
-use Rattle.graft_runs.specs.Laws.{IsGo}
-use Rattle.graft_runs.proofs.Numbers.{at_operator}
+use Rattle.graft_actors.specs.Actors.{ActorPart, OperatorIs, ActorName, Operator}
+use Rattle.graft_actors.specs.Laws.{IsGo}
+use Rattle.graft_actors.proofs.Numbers.{at_operator}
 use Rattle.graft_actors.specs.Acts.{OwnPart, ActsAs, acts}
 use Rattle.router_core.specs.Parts.{carried}
 use Rattle.world_runs.specs.Labs.{actors_in}
 use Rattle.world_runs.specs.Runs.{IsSeenAs}
 use Rattle.world_runs.specs.Laws.{IsNoGo}
-use Rattle.run_marks.specs.Marks.{before, IsMarkOf, operator_in, is_go, BeginsNone, BeginsWithGo, GoFollows, NoGoFollows}
-use Rattle.run_marks.proofs.Seen.{group_seen, act_goes}
+use Rattle.world_runs.specs.Marks.{before, IsMarkOf, operator_number, is_go, BeginsNone, BeginsWithGo, GoFollows, NoGoFollows}
+use Rattle.world_runs.proofs.Seen.{group_seen, act_goes}
 use Rattle.world_nodes.specs.Edges.{has_channel}
 use Rattle.world_nodes.specs.Nodes.{Mail, own}
-use Rattle.world_nodes.specs.Ways.{Stand, Begins, Round, Pause}
+use Rattle.world_nodes.specs.Ways.{Stand, IsFirstStand, Round, Pause}
 use Rattle.world_nodes.specs.declared.node.Node.{Node}
 use Rattle.world_nodes.proofs.WayRuns.{round_no_go, pause_few}
 
@@ -46,8 +46,10 @@ then_on u v t first second k =
 pub round_on : (b c : Stand) → Round b c → GoesOnTo b.view c.view
 round_on b c round k = (entries_of (round.phase.notes k), round.phase.journals k)
 
-pub pause_journal : (n : ℕ) (b c : Stand) (answer : Bool) (pause : Pause n b c answer) → c.view.journal n ≡ b.view.journal n ++ map (λ (d : Deed Mail). d.entry) pause.between.deeds
-pause_journal n b c answer pause = pause.between.journal ∙ ap (λ (xs : List JournalEntry). xs ++ map (λ (d : Deed Mail). d.entry) pause.between.deeds) (pause.levelled.only.journals n)
+pub pause_journal : (n : ℕ) (b c : Stand) (answer : Bool) (pause : Pause n b c answer)
+    → c.view.journal n ≡ b.view.journal n ++ map (λ (d : Deed Mail). d.entry) pause.between.deeds
+pause_journal n b c answer pause = pause.between.journal
+    ∙ ap (λ (xs : List JournalEntry). xs ++ map (λ (d : Deed Mail). d.entry) pause.between.deeds) (pause.levelled.only.journals n)
 
 pub pause_others : (n : ℕ) (b c : Stand) (answer : Bool) → Pause n b c answer → (k : ℕ) → k ≢ n → c.view.journal k ≡ b.view.journal k
 pause_others n b c answer pause k other = pause.between.journals k other ∙ pause.levelled.only.journals k
@@ -66,7 +68,7 @@ pub record IsWhole (setup : Setup) (c : Stand) : Type 0 where
   pub none : (k : ℕ) → length c.view.actors ≤ k → c.view.journal k ≡ []
   pub edges : (m n : ℕ) → c.view.edge m n ≡ has_channel setup m n
 
-pub whole_first : (setup : Setup) (a : Stand) → Begins setup a → IsWhole setup a
+pub whole_first : (setup : Setup) (a : Stand) → IsFirstStand setup a → IsWhole setup a
 whole_first setup a begins = record { size = ap (λ (xs : List Node). length xs) begins.new.all ∙ begins.first.all; none = λ k past. begins.new.journals k; edges = λ m n. begins.new.edge m n ∙ begins.are_edges.each m n }
 
 pub whole_round : (setup : Setup) (b c : Stand) → IsWhole setup b → Round b c → IsWhole setup c
@@ -77,22 +79,23 @@ whole_round setup b c is round = record {
   edges = λ m n. round.phase.edges m n ∙ is.edges m n;
 }
 
-operator_within : (setup : Setup) (b : Stand) → IsWhole setup b → operator_in setup < length b.view.actors
+operator_within : (setup : Setup) (b : Stand) → IsWhole setup b → operator_number setup < length b.view.actors
 operator_within setup b is = omega (arith, is.size)
 
 pause_size : (n : ℕ) (b c : Stand) (answer : Bool) → Pause n b c answer → length c.view.actors ≡ length b.view.actors
 pause_size n b c answer pause = pause.between.size ∙ ap (λ (xs : List Node). length xs) pause.levelled.only.actors
 
-pub whole_pause : (setup : Setup) (b c : Stand) (answer : Bool) → IsWhole setup b → Pause (operator_in setup) b c answer → IsWhole setup c
+pub whole_pause : (setup : Setup) (b c : Stand) (answer : Bool) → IsWhole setup b → Pause (operator_number setup) b c answer → IsWhole setup c
 whole_pause setup b c answer is pause = record {
-  size = pause_size (operator_in setup) b c answer pause ∙ is.size;
-  none = λ k past. (let far : length b.view.actors ≤ k = omega (arith, past, pause_size (operator_in setup) b c answer pause) in
-      pause_others (operator_in setup) b c answer pause k (λ e. absurd (omega (arith, e, far, operator_within setup b is))) ∙ is.none k far);
+  size = pause_size (operator_number setup) b c answer pause ∙ is.size;
+  none = λ k past. (let far : length b.view.actors ≤ k = omega (arith, past, pause_size (operator_number setup) b c answer pause) in
+      pause_others (operator_number setup) b c answer pause k (λ e. absurd (omega (arith, e, far, operator_within setup b is))) ∙ is.none k far);
   edges = λ m n. pause.between.edges m n ∙ pause.levelled.only.edges m n ∙ is.edges m n;
 }
 
 -- the mark that a stand got has the length of each journal
-pub mark_of : (setup : Setup) (c z : Stand) (old : List (List ℕ)) (marked : Marked c.view old c.marks) → IsWhole setup c → GoesOnTo c.view z.view → IsMarkOf c.view z.view marked.mark
+pub mark_of : (setup : Setup) (c z : Stand) (old : List (List ℕ)) (marked : Marked c.view old c.marks) → IsWhole setup c → GoesOnTo c.view z.view
+    → IsMarkOf c.view z.view marked.mark
 mark_of setup c z old marked is on = record { lengths = λ k. by_number k (below_or_past k (length c.view.actors)); later = on } where
   below_or_past : (m n : ℕ) → (m < n) ⊎ (n ≤ m)
   below_or_past m n = grind arith
@@ -115,47 +118,52 @@ some_node : (xs : List Node) (k : ℕ) → k < length xs → Node
 some_node [] k there = absurd (omega arith)
 some_node (x ∷ xs) k there = x
 
-pub round_without_go : (setup : Setup) (b c : Stand) → IsWhole setup b → (round : Round b c) → AllByRecursion IsNoGo (deeds (round.phase.notes (operator_in setup)))
-round_without_go setup b c is round = no_go_in (operator_in setup) b c (some_node b.view.actors (operator_in setup) (operator_within setup b is)) round (operator_within setup b is)
+pub round_without_go : (setup : Setup) (b c : Stand) → IsWhole setup b → (round : Round b c)
+    → AllByRecursion IsNoGo (deeds (round.phase.notes (operator_number setup)))
+round_without_go setup b c is round = no_go_in (operator_number setup) b c (some_node b.view.actors (operator_number setup) (operator_within setup b is)) round (operator_within setup b is)
 
 -- what is seen of groups between two marks is so of what the operator notes between them
-pub between_marks : (setup : Setup) (z b c : Stand) (journal : List JournalEntry) (mark next : List ℕ) (new : List JournalEntry) → Interleaves z.view.journal journal → IsMarkOf b.view z.view mark → IsMarkOf c.view z.view next
-    → c.view.journal (operator_in setup) ≡ b.view.journal (operator_in setup) ++ new → (GoFollows setup journal mark next ↔ BeginsWithGo new) × (NoGoFollows setup journal mark next ↔ BeginsNone new)
+pub between_marks : (setup : Setup) (z b c : Stand) (journal : List JournalEntry) (mark next : List ℕ) (new : List JournalEntry)
+    → Interleaves z.view.journal journal → IsMarkOf b.view z.view mark → IsMarkOf c.view z.view next
+    → c.view.journal (operator_number setup) ≡ b.view.journal (operator_number setup) ++ new
+    → (GoFollows setup journal mark next ↔ BeginsWithGo new) × (NoGoFollows setup journal mark next ↔ BeginsNone new)
 between_marks setup z b c journal mark next new merge at_b at_c grew =
-    let op : ℕ = operator_in setup in
+    let op : ℕ = operator_number setup in
     group_seen setup journal mark next (b.view.journal op) new (at_c.later op).0 (merge.each op ∙ (at_c.later op).1 ∙ ap (λ (xs : List JournalEntry). xs ++ (at_c.later op).0) grew) (at_b.lengths op) (at_c.lengths op ∙ ap (λ (xs : List JournalEntry). length xs) grew)
 
-own_path : (part : OwnPart) (setup : Setup) (name : ActorName) (actor : ActorPart) → part.setup ≡ setup → part.name ≡ name → part.part ≡ actor → part ≡ record { setup = setup; name = name; part = actor }
+own_path : (part : OwnPart) (setup : Setup) (name : ActorName) (actor : ActorPart) → part.setup ≡ setup → part.name ≡ name → part.part ≡ actor
+    → part ≡ record { setup = setup; name = name; part = actor }
 own_path part setup name actor a b c = λ i. record { setup = a i; name = b i; part = c i }
 
 -- the operator as it is in the world as which a stand is seen
 pub operator_is : (setup : Setup) (b : Stand) (w : World) (d : Node) → IsWhole setup b → IsSeenAs own carried setup b.view w
-    → own (get_or b.view.actors (operator_in setup) d) ≡ record { setup = setup; name = Operator; part = OperatorIs w.operator }
+    → own (get_or b.view.actors (operator_number setup) d) ≡ record { setup = setup; name = Operator; part = OperatorIs w.operator }
 operator_is setup b w d is seen =
-    let op : ℕ = operator_in setup in
+    let op : ℕ = operator_number setup in
     sym (seen.is.parts op d (operator_within setup b is))
     ∙ own_path (seen.lab.part op) setup Operator (OperatorIs w.operator) (seen.sees.setups op Operator (at_operator setup)) (seen.sees.names op Operator (at_operator setup)) (seen.sees.sees.parts op Operator (at_operator setup))
 
 -- what it does at a mark, where no step is left, begins a group, and is one event
-pub pause_goes : (setup : Setup) (b c : Stand) (w : World) → IsWhole setup b → IsSeenAs own carried setup b.view w → ¬ HasUnissued setup w.operator → (pause : Pause (operator_in setup) b c true)
+pub pause_goes : (setup : Setup) (b c : Stand) (w : World) → IsWhole setup b → IsSeenAs own carried setup b.view w → ¬ HasUnissued setup w.operator
+    → (pause : Pause (operator_number setup) b c true)
     → BeginsWithGo (map (λ (d : Deed Mail). d.entry) pause.between.deeds)
 pause_goes setup b c w is seen none pause = by_deeds pause.between.deeds refl where
   op : ℕ
-  op = operator_in setup
+  op = operator_number setup
 
   node : Node
-  node = some_node b.view.actors (operator_in setup) (operator_within setup b is)
+  node = some_node b.view.actors (operator_number setup) (operator_within setup b is)
 
-  was : own (get_or pause.level.actors (operator_in setup) node) ≡ record { setup = setup; name = Operator; part = OperatorIs w.operator }
-  was = ap (λ (xs : List Node). own (get_or xs (operator_in setup) node)) pause.levelled.only.actors ∙ operator_is setup b w node is seen
+  was : own (get_or pause.level.actors (operator_number setup) node) ≡ record { setup = setup; name = Operator; part = OperatorIs w.operator }
+  was = ap (λ (xs : List Node). own (get_or xs (operator_number setup) node)) pause.levelled.only.actors ∙ operator_is setup b w node is seen
 
   by_deeds : (ds : List (Deed Mail)) → pause.between.deeds ≡ ds → BeginsWithGo (map (λ (d : Deed Mail). d.entry) ds)
   by_deeds [] e = let f : true ≡ false = pause.between.answer.1 e in absurd cc
   by_deeds (d ∷ more ∷ ds) e =
-      let few = pause_few (get_or pause.level.actors (operator_in setup) node) (get_or c.view.actors (operator_in setup) node) pause.between.deeds (pause.between.paused node) in
+      let few = pause_few (get_or pause.level.actors (operator_number setup) node) (get_or c.view.actors (operator_number setup) node) pause.between.deeds (pause.between.paused node) in
       absurd (omega (arith, few, ap (λ (xs : List (Deed Mail)). length xs) e))
   by_deeds (d ∷ []) e =
-      let replay = subst (λ (xs : List (Deed Mail)). Replay (acts carried) (operator_in setup) (own (get_or pause.level.actors (operator_in setup) node)) xs (own (get_or c.view.actors (operator_in setup) node))) e (pause.between.replay node) in
+      let replay = subst (λ (xs : List (Deed Mail)). Replay (acts carried) (operator_number setup) (own (get_or pause.level.actors (operator_number setup) node)) xs (own (get_or c.view.actors (operator_number setup) node))) e (pause.between.replay node) in
       let none_taken = subst (λ (xs : List (Deed Mail)). AllByRecursion TakesNone xs) e pause.between.none in (
         act_goes carried setup w.operator d.entry d.sent replay.0 none
             (subst (λ (taken : Option (ℕ × Mail)). ActsAs carried (record { setup = setup; name = Operator; part = OperatorIs w.operator }) d.entry taken d.sent replay.0) none_taken.0
@@ -166,7 +174,7 @@ pause_goes setup b c w is seen none pause = by_deeds pause.between.deeds refl wh
 -- ---- how many groups have begun
 
 abbrev pub groups_at : Setup → Stand → ℕ
-groups_at setup c = length (filter is_go (c.view.journal (operator_in setup)))
+groups_at setup c = length (filter is_go (c.view.journal (operator_number setup)))
 
 counted_behind : (had new : List JournalEntry) → length (filter is_go (had ++ new)) ≡ length (filter is_go had) + length (filter is_go new)
 counted_behind had new = ap (λ (xs : List JournalEntry). length xs) (filter-append is_go had new) ∙ length-append (filter is_go had) (filter is_go new)
@@ -179,7 +187,7 @@ none_counted (e ∷ es) none = left_out e es none.0 (none_counted es none.1) whe
 
 pub groups_stay : (setup : Setup) (b c : Stand) → IsWhole setup b → Round b c → groups_at setup c ≡ groups_at setup b
 groups_stay setup b c is round =
-    let op : ℕ = operator_in setup in
+    let op : ℕ = operator_number setup in
     let more = counted_behind (b.view.journal op) (entries_of (round.phase.notes op)) in
     let none = none_counted (entries_of (round.phase.notes op)) (without_go (round.phase.notes op) (round_without_go setup b c is round)) in
     ap (λ (xs : List JournalEntry). length (filter is_go xs)) (round.phase.journals op) ∙ omega (arith, more, none)
@@ -190,9 +198,10 @@ one_counted (e ∷ es) go = put_in e es go.0 (none_counted es go.1) where
   put_in : (e : JournalEntry) (es : List JournalEntry) → IsGo e → length (filter is_go es) ≡ 0 → length (filter is_go (e ∷ es)) ≡ 1
   put_in e es go zero = grind (arith, nat_tests)
 
-pub groups_more : (setup : Setup) (b c : Stand) (w : World) → IsWhole setup b → IsSeenAs own carried setup b.view w → ¬ HasUnissued setup w.operator → (pause : Pause (operator_in setup) b c true) → groups_at setup c ≡ groups_at setup b + 1
+pub groups_more : (setup : Setup) (b c : Stand) (w : World) → IsWhole setup b → IsSeenAs own carried setup b.view w → ¬ HasUnissued setup w.operator
+    → (pause : Pause (operator_number setup) b c true) → groups_at setup c ≡ groups_at setup b + 1
 groups_more setup b c w is seen none pause =
-    let op : ℕ = operator_in setup in
+    let op : ℕ = operator_number setup in
     let more = counted_behind (b.view.journal op) (map (λ (d : Deed Mail). d.entry) pause.between.deeds) in
     let one = one_counted (map (λ (d : Deed Mail). d.entry) pause.between.deeds) (pause_goes setup b c w is seen none pause) in
     ap (λ (xs : List JournalEntry). length (filter is_go xs)) (pause_journal op b c true pause) ∙ omega (arith, more, one)
@@ -242,7 +251,8 @@ pause_same k b c pause = record { size = pause_size k b c false pause; parts = p
   channels : (m n : ℕ) → b.view.edge m n ≡ true → c.view.channel m n ≡ b.view.channel m n
   channels m n there = elim (equal_or_not m k) [
     | inl e ↦ (let edge : pause.level.edge k n ≡ true = ap (λ (x : ℕ). pause.level.edge x n) (sym e) ∙ pause.levelled.only.edges m n ∙ there in
-        ap (λ (x : ℕ). c.view.channel x n) e ∙ pause.between.channel n edge ∙ ap (λ (ds : List (Deed Mail)). pause.level.channel k n ++ sent_by n ds) none ∙ append-nil (pause.level.channel k n)
+        ap (λ (x : ℕ). c.view.channel x n) e ∙ pause.between.channel n edge
+        ∙ ap (λ (ds : List (Deed Mail)). pause.level.channel k n ++ sent_by n ds) none ∙ append-nil (pause.level.channel k n)
         ∙ pause.levelled.only.channels k n ∙ ap (λ (x : ℕ). b.view.channel x n) (sym e))
     | inr ne ↦ pause.between.channels m n ne ∙ pause.levelled.only.channels m n
   ]

@@ -12,45 +12,47 @@ use Rattle.graft_model.specs.Quiet.{Quiet}
 use Rattle.graft_laws.specs.Keeps.{Reached}
 use Rattle.router_core.specs.Parts.{carried}
 use Rattle.world_runs.specs.Runs.{IsSeenAs, RanAs, Ran}
-use Rattle.run_marks.specs.Marks.{operator_in, is_go}
-use Rattle.run_marks.proofs.Groups.{groups_counted}
-use Rattle.run_marks.proofs.Seen.{nothing_open}
+use Rattle.world_runs.specs.Marks.{operator_number, is_go}
+use Rattle.world_runs.proofs.Groups.{groups_counted}
+use Rattle.world_runs.proofs.Seen.{nothing_open}
 use Rattle.world_nodes.specs.Nodes.{Mail, own}
-use Rattle.world_nodes.specs.Ways.{Stand, Begins, Pause, Way, Here, Rounds, Groups}
+use Rattle.world_nodes.specs.Ways.{Stand, IsFirstStand, Pause, Way, Here, Rounds, Groups}
 use Rattle.lab_report.specs.declared.lab.RunEnd.{RunEnd}
 use Rattle.lab_report.specs.declared.lab.RunEnd.TheVariants.{Settled}
-use Rattle.lab_budgets.specs.declared.budget.Budget.{Budget}
+use Rattle.node_configs.specs.declared.budget.Budget.{Budget}
 use Rattle.lab_run.specs.declared.end.Verdict.{Verdict}
 use Rattle.lab_run.specs.declared.end.Verdict.TheVariants.{IsQuiet, Ends}
 use Rattle.lab_run.specs.Ends.{HasMarks, MarksName}
-use Rattle.lab_run.specs.Stories.{Goes, NoRound, OneMore, GroupGoes, Passes, GroupsGo, NoGroup, NextGroup, RunGoes}
+use Rattle.lab_run.specs.Stories.{MakesRounds, NoRound, OneMore, GroupGoes, PassesPause, GroupsGo, NoGroup, NextGroup, RunGoes}
 use Rattle.lab_run.proofs.Stands.{GoesOnTo, stays, then_on, round_on, pause_on, pause_journal, pause_others, IsWhole, whole_first, whole_round, whole_pause, mark_of, groups_at, groups_stay, groups_more, same_back, same_seen, pause_same}
 use Rattle.lab_run.proofs.Behind.{WorldsStand, Behind, world_behind, behind_on, behind_round, behind_end, behind_settled, behind_group, none_begins, quiet_there, groups_behind}
 
 abbrev pub WayRan : Type 0
-WayRan = (setup : Setup) (a b : Stand) (rounds : List ℕ) → IsSetup setup → Begins setup a → Way setup a rounds b → Ran own carried setup b.view
+WayRan = (setup : Setup) (a b : Stand) (rounds : List ℕ) → IsSetup setup → IsFirstStand setup a → Way setup a rounds b → Ran own carried setup b.view
 
 -- ---- rounds of a group
 
 module _ (setup : Setup) (budget : Budget) (step : ℕ) (b : Stand) where
-  goes_whole : (n : ℕ) (c : Stand) → IsWhole setup b → Goes setup budget step b n c → IsWhole setup c
+  goes_whole : (n : ℕ) (c : Stand) → IsWhole setup b → MakesRounds setup budget step b n c → IsWhole setup c
   goes_whole n c is NoRound = is
   goes_whole n c is (OneMore m {b = d} goes names) = whole_round setup d c (goes_whole m d is goes) names.round
 
-  goes_on : (n : ℕ) (c : Stand) → Goes setup budget step b n c → GoesOnTo b.view c.view
+  goes_on : (n : ℕ) (c : Stand) → MakesRounds setup budget step b n c → GoesOnTo b.view c.view
   goes_on n c NoRound = stays b.view b.view (λ k. refl)
   goes_on n c (OneMore m {b = d} goes names) = then_on b.view d.view c.view (goes_on m d goes) (round_on d c names.round)
 
-  goes_count : (n : ℕ) (c : Stand) → IsWhole setup b → Goes setup budget step b n c → groups_at setup c ≡ groups_at setup b
+  goes_count : (n : ℕ) (c : Stand) → IsWhole setup b → MakesRounds setup budget step b n c → groups_at setup c ≡ groups_at setup b
   goes_count n c is NoRound = refl
   goes_count n c is (OneMore m {b = d} goes names) = groups_stay setup d c (goes_whole m d is goes) names.round ∙ goes_count m d is goes
 
-  goes_way : (a : Stand) (past : List ℕ) (n : ℕ) (c : Stand) → Way setup a (past ++ 0 ∷ []) b → Goes setup budget step b n c → Way setup a (past ++ n ∷ []) c
+  goes_way : (a : Stand) (past : List ℕ) (n : ℕ) (c : Stand) → Way setup a (past ++ 0 ∷ []) b → MakesRounds setup budget step b n c
+      → Way setup a (past ++ n ∷ []) c
   goes_way a past n c way NoRound = way
   goes_way a past n c way (OneMore m {b = d} goes names) = Rounds past m (goes_way a past m d way goes) names.round
 
-module _ (way_ran : WayRan) (setup : Setup) (sound : IsSetup setup) (a : Stand) (begins : Begins setup a) (z : Stand) (journal : List JournalEntry) (merge : Interleaves z.view.journal journal) where
-  goes_back : (budget : Budget) (step : ℕ) (budgets : List Budget) (made : List ℕ) (end : RunEnd) (b : Stand) (past : List ℕ) → Way setup a (past ++ 0 ∷ []) b → IsWhole setup b → (n : ℕ) (c : Stand) → Goes setup budget step b n c
+module _ (way_ran : WayRan) (setup : Setup) (sound : IsSetup setup) (a : Stand) (begins : IsFirstStand setup a) (z : Stand) (journal : List JournalEntry) (merge : Interleaves z.view.journal journal) where
+  goes_back : (budget : Budget) (step : ℕ) (budgets : List Budget) (made : List ℕ) (end : RunEnd) (b : Stand) (past : List ℕ)
+      → Way setup a (past ++ 0 ∷ []) b → IsWhole setup b → (n : ℕ) (c : Stand) → MakesRounds setup budget step b n c
       → Behind setup z journal merge step n (budget ∷ budgets) c made end → Behind setup z journal merge step 0 (budget ∷ budgets) b made end
   goes_back budget step budgets made end b past way is n c NoRound behind = behind
   goes_back budget step budgets made end b past way is n c (OneMore m {b = d} goes names) behind =
@@ -81,9 +83,11 @@ module _ (way_ran : WayRan) (setup : Setup) (sound : IsSetup setup) (a : Stand) 
     group_on = then_on b.view group.before.view c.view (goes_on setup budget step b group.past group.before group.goes) (round_on group.before c group.last.round)
 
     group_count : groups_at setup c ≡ length past
-    group_count = groups_stay setup group.before c (goes_whole setup budget step b group.past group.before opens.is group.goes) group.last.round ∙ goes_count setup budget step b group.past group.before opens.is group.goes ∙ opens.count
+    group_count = groups_stay setup group.before c (goes_whole setup budget step b group.past group.before opens.is group.goes) group.last.round
+        ∙ goes_count setup budget step b group.past group.before opens.is group.goes ∙ opens.count
 
-    group_back : (budgets : List Budget) (made : List ℕ) (end : RunEnd) → Behind setup z journal merge step group.past (budget ∷ budgets) group.before ((group.past + 1) ∷ made) end
+    group_back : (budgets : List Budget) (made : List ℕ) (end : RunEnd)
+        → Behind setup z journal merge step group.past (budget ∷ budgets) group.before ((group.past + 1) ∷ made) end
         → Behind setup z journal merge step 0 (budget ∷ budgets) b (rounds ∷ made) end
     group_back budgets made end behind = subst (λ (n : ℕ). Behind setup z journal merge step 0 (budget ∷ budgets) b (n ∷ made) end) (sym group.rounds_is)
         (goes_back budget step budgets ((group.past + 1) ∷ made) end b opens.rounds opens.way opens.is group.past group.before group.goes behind)
@@ -91,36 +95,39 @@ module _ (way_ran : WayRan) (setup : Setup) (sound : IsSetup setup) (a : Stand) 
   -- ---- groups
 
   opens_first : Opens [] a
-  opens_first = record { rounds = []; way = Here; is = whole_first setup a begins; count = ap (λ (xs : List JournalEntry). length (filter is_go xs)) (begins.new.journals (operator_in setup)) }
+  opens_first = record { rounds = []; way = Here; is = whole_first setup a begins; count = ap (λ (xs : List JournalEntry). length (filter is_go xs)) (begins.new.journals (operator_number setup)) }
 
-  opens_next : (past : List Budget) (b : Stand) (opens : Opens past b) (budget : Budget) (rounds : ℕ) (c d : Stand) → GroupGoes setup budget (length past + 1) b rounds IsQuiet c → Passes setup c d true → GoesOnTo d.view z.view
+  opens_next : (past : List Budget) (b : Stand) (opens : Opens past b) (budget : Budget) (rounds : ℕ) (c d : Stand)
+      → GroupGoes setup budget (length past + 1) b rounds IsQuiet c → PassesPause setup c d true → GoesOnTo d.view z.view
       → Opens (past ++ budget ∷ []) d
   opens_next past b opens budget rounds c d group passes on =
       let step : ℕ = length past + 1 in
       let is : IsWhole setup c = group_whole past b opens budget step rounds IsQuiet c group in
       let ran : Ran own carried setup c.view = group_ran past b opens budget step rounds IsQuiet c group in
-      let w = quiet_there setup z journal merge step group.past budget group.before c is ran group.last (then_on c.view d.view z.view (pause_on (operator_in setup) c d true passes.pause) on) in
+      let w = quiet_there setup z journal merge step group.past budget group.before c is ran group.last (then_on c.view d.view z.view (pause_on (operator_number setup) c d true passes.pause) on) in
       record {
         rounds = opens.rounds ++ (group.past + 1) ∷ [];
         way = Groups (opens.rounds ++ (group.past + 1) ∷ []) (group_way past b opens budget step rounds IsQuiet c group) (λ v seen reached. (group.last.names v (seen, reached)).1.quiet) passes.pause;
         is = whole_pause setup c d true is passes.pause;
-        count = groups_more setup c d w.0 is w.1 w.2 passes.pause ∙ ap (λ (n : ℕ). n + 1) (group_count past b opens budget step rounds IsQuiet c group) ∙ sym (length-append past (budget ∷ []));
+        count = groups_more setup c d w.0 is w.1 w.2 passes.pause
+            ∙ ap (λ (n : ℕ). n + 1) (group_count past b opens budget step rounds IsQuiet c group) ∙ sym (length-append past (budget ∷ []));
       }
 
   groups_open : (past : List Budget) (made : List ℕ) (b : Stand) → GroupsGo setup a past made b → GoesOnTo b.view z.view → Opens past b
   groups_open past made b NoGroup on = opens_first
   groups_open past made d (NextGroup budgets budget earlier rounds {b = b} {c = c} groups group passes) on =
-      let on_c : GoesOnTo c.view z.view = then_on c.view d.view z.view (pause_on (operator_in setup) c d true passes.pause) on in
+      let on_c : GoesOnTo c.view z.view = then_on c.view d.view z.view (pause_on (operator_number setup) c d true passes.pause) on in
       let on_b : GoesOnTo b.view z.view = then_on b.view c.view z.view (then_on b.view group.before.view c.view (goes_on setup budget (length budgets + 1) b group.past group.before group.goes) (round_on group.before c group.last.round)) on_c in
       opens_next budgets b (groups_open budgets earlier b groups on_b) budget rounds c d group passes on
 
-  groups_back : (past : List Budget) (made : List ℕ) (b : Stand) → GroupsGo setup a past made b → (next : Budget) (left : List Budget) (more : List ℕ) (end : RunEnd)
+  groups_back : (past : List Budget) (made : List ℕ) (b : Stand) → GroupsGo setup a past made b
+      → (next : Budget) (left : List Budget) (more : List ℕ) (end : RunEnd)
       → Behind setup z journal merge (length past + 1) 0 (next ∷ left) b more end → Behind setup z journal merge 1 0 (past ++ next ∷ left) a (made ++ more) end
   groups_back past made b NoGroup next left more end behind = behind
   groups_back past made d (NextGroup budgets budget earlier rounds {b = b} {c = c} groups group passes) next left more end behind =
       let step : ℕ = length budgets + 1 in
       let on_d : GoesOnTo d.view z.view = behind_on setup z journal merge (length past + 1) 0 (next ∷ left) d more end behind in
-      let on_c : GoesOnTo c.view z.view = then_on c.view d.view z.view (pause_on (operator_in setup) c d true passes.pause) on_d in
+      let on_c : GoesOnTo c.view z.view = then_on c.view d.view z.view (pause_on (operator_number setup) c d true passes.pause) on_d in
       let on_b : GoesOnTo b.view z.view = then_on b.view c.view z.view (then_on b.view group.before.view c.view (goes_on setup budget step b group.past group.before group.goes) (round_on group.before c group.last.round)) on_c in
       let opens : Opens budgets b = groups_open budgets earlier b groups on_b in
       let same_step : length past + 1 ≡ step + 1 = ap (λ (n : ℕ). n + 1) (length-append budgets (budget ∷ [])) in
@@ -135,11 +142,11 @@ module _ (way_ran : WayRan) (setup : Setup) (sound : IsSetup setup) (a : Stand) 
   -- ---- the end
 
   -- where the operator did nothing at a mark, the journals are as they were
-  nothing_noted : (c : Stand) (pause : Pause (operator_in setup) c z false) (k : ℕ) → z.view.journal k ≡ c.view.journal k
-  nothing_noted c pause k = elim (equal_or_not k (operator_in setup)) [
+  nothing_noted : (c : Stand) (pause : Pause (operator_number setup) c z false) (k : ℕ) → z.view.journal k ≡ c.view.journal k
+  nothing_noted c pause k = elim (equal_or_not k (operator_number setup)) [
     | inl e ↦ subst (λ (n : ℕ). z.view.journal n ≡ c.view.journal n) (sym e)
-        (pause_journal (operator_in setup) c z false pause ∙ ap (λ (ds : List (Deed Mail)). c.view.journal (operator_in setup) ++ map (λ (d : Deed Mail). d.entry) ds) (pause.between.answer.0 refl) ∙ append-nil (c.view.journal (operator_in setup)))
-    | inr ne ↦ pause_others (operator_in setup) c z false pause k ne
+        (pause_journal (operator_number setup) c z false pause ∙ ap (λ (ds : List (Deed Mail)). c.view.journal (operator_number setup) ++ map (λ (d : Deed Mail). d.entry) ds) (pause.between.answer.0 refl) ∙ append-nil (c.view.journal (operator_number setup)))
+    | inr ne ↦ pause_others (operator_number setup) c z false pause k ne
   ]
 
   no_more : (n : ℕ) (later : List Budget) → n + 1 + length later ≤ n + 1 → later ≡ []
@@ -148,7 +155,8 @@ module _ (way_ran : WayRan) (setup : Setup) (sound : IsSetup setup) (a : Stand) 
 
   module _ (past : List Budget) (rounds : List ℕ) (begun : Stand) (groups : GroupsGo setup a past rounds begun) (budget : Budget) (last : ℕ) (marked : Stand) where
     -- where a run ends by a limit
-    ends_behind : (later : List Budget) (end : RunEnd) → GroupGoes setup budget (length past + 1) begun last (Ends end) marked → z ≡ marked → Behind setup z journal merge 1 0 (past ++ budget ∷ later) a (rounds ++ last ∷ []) end
+    ends_behind : (later : List Budget) (end : RunEnd) → GroupGoes setup budget (length past + 1) begun last (Ends end) marked → z ≡ marked
+        → Behind setup z journal merge 1 0 (past ++ budget ∷ later) a (rounds ++ last ∷ []) end
     ends_behind later end group same =
         let step : ℕ = length past + 1 in
         let on : GoesOnTo marked.view z.view = stays marked.view z.view (λ k. ap (λ (c : Stand). c.view.journal k) same) in
@@ -158,9 +166,9 @@ module _ (way_ran : WayRan) (setup : Setup) (sound : IsSetup setup) (a : Stand) 
         (group_back past begun opens budget step last (Ends end) marked group later [] end
         (behind_end setup z journal merge step group.past budget group.before marked (group_whole past begun opens budget step last (Ends end) marked group) (group_ran past begun opens budget step last (Ends end) marked group) later end group.last same))
 
-    module _ (group : GroupGoes setup budget (length past + 1) begun last IsQuiet marked) (passes : Passes setup marked z false) where
+    module _ (group : GroupGoes setup budget (length past + 1) begun last IsQuiet marked) (passes : PassesPause setup marked z false) where
       settled_on : GoesOnTo marked.view z.view
-      settled_on = pause_on (operator_in setup) marked z false passes.pause
+      settled_on = pause_on (operator_number setup) marked z false passes.pause
 
       settled_opens : Opens past begun
       settled_opens = groups_open past rounds begun groups
@@ -191,7 +199,8 @@ module _ (way_ran : WayRan) (setup : Setup) (sound : IsSetup setup) (a : Stand) 
           (group_back past begun settled_opens budget (length past + 1) last IsQuiet marked group [] [] Settled
           (behind_settled setup z journal merge (length past + 1) group.past budget group.before marked settled_whole settled_ran group.last passes.pause.marks (nothing_noted marked passes.pause)))
 
-  pub run_behind : (budgets : List Budget) (made : List ℕ) (end : RunEnd) → length budgets ≡ groups_in setup → RunGoes setup a budgets made end z → Behind setup z journal merge 1 0 budgets a made end
+  pub run_behind : (budgets : List Budget) (made : List ℕ) (end : RunEnd) → length budgets ≡ groups_in setup → RunGoes setup a budgets made end z
+      → Behind setup z journal merge 1 0 budgets a made end
   run_behind budgets made end as_many run = elim run.ends [
     | inl limit ↦ arranged end run.first.0 run.first.1 (ends_behind run.past run.rounds run.begun run.groups run.budget run.last run.marked run.first.0 end
         (subst (λ (v : Verdict). GroupGoes setup run.budget (length run.past + 1) run.begun run.last v run.marked) limit.0 run.group) limit.1)
@@ -202,7 +211,9 @@ module _ (way_ran : WayRan) (setup : Setup) (sound : IsSetup setup) (a : Stand) 
         (arranged Settled [] (run.first.1 ∙ ap (λ (xs : List Budget). run.past ++ run.budget ∷ xs) none) (settled_behind run.past run.rounds run.begun run.groups run.budget run.last run.marked group settled.2)))
   ]
     where
-      arranged : (e : RunEnd) (later : List Budget) → budgets ≡ run.past ++ run.budget ∷ later → Behind setup z journal merge 1 0 (run.past ++ run.budget ∷ later) a (run.rounds ++ run.last ∷ []) e → Behind setup z journal merge 1 0 budgets a made e
+      arranged : (e : RunEnd) (later : List Budget) → budgets ≡ run.past ++ run.budget ∷ later
+          → Behind setup z journal merge 1 0 (run.past ++ run.budget ∷ later) a (run.rounds ++ run.last ∷ []) e
+          → Behind setup z journal merge 1 0 budgets a made e
       arranged e later all behind = subst (λ (xs : List Budget). Behind setup z journal merge 1 0 xs a made e) (sym all)
           (subst (λ (ns : List ℕ). Behind setup z journal merge 1 0 (run.past ++ run.budget ∷ later) a ns e) (sym run.made_is) behind)
 
@@ -249,19 +260,19 @@ module _ (way_ran : WayRan) (setup : Setup) (sound : IsSetup setup) (a : Stand) 
     pub run_whole : IsWhole setup z
     run_whole = elim run.ends [
       | inl limit ↦ subst (λ (c : Stand). IsWhole setup c) (sym limit.1) (marked_whole (limit_on limit.1))
-      | inr settled ↦ whole_pause setup run.marked z false (marked_whole (pause_on (operator_in setup) run.marked z false settled.2.pause)) settled.2.pause
+      | inr settled ↦ whole_pause setup run.marked z false (marked_whole (pause_on (operator_number setup) run.marked z false settled.2.pause)) settled.2.pause
     ]
 
-    after_pause : (c : Stand) (pause : Pause (operator_in setup) c z false) → Ran own carried setup c.view → Ran own carried setup z.view
+    after_pause : (c : Stand) (pause : Pause (operator_number setup) c z false) → Ran own carried setup c.view → Ran own carried setup z.view
     after_pause c pause ran merged inter =
         let r : RanAs own carried setup merged c.view = ran merged (record { each = λ k. inter.each k ∙ nothing_noted c pause k; sorted = inter.sorted }) in
-        record { events = r.events; entries_of = r.entries_of; world = r.world; run = r.run; seen = same_seen setup c z r.world (pause_same (operator_in setup) c z pause) r.seen }
+        record { events = r.events; entries_of = r.entries_of; world = r.world; run = r.run; seen = same_seen setup c z r.world (pause_same (operator_number setup) c z pause) r.seen }
 
     -- the journal of the whole run is that of a run of the world
     pub run_ran : Ran own carried setup z.view
     run_ran = elim run.ends [
       | inl limit ↦ subst (λ (c : Stand). Ran own carried setup c.view) (sym limit.1) (marked_ran (limit_on limit.1))
-      | inr settled ↦ after_pause run.marked settled.2.pause (marked_ran (pause_on (operator_in setup) run.marked z false settled.2.pause))
+      | inr settled ↦ after_pause run.marked settled.2.pause (marked_ran (pause_on (operator_number setup) run.marked z false settled.2.pause))
     ]
 
     -- behind the last mark nothing was noted
@@ -275,12 +286,12 @@ module _ (way_ran : WayRan) (setup : Setup) (sound : IsSetup setup) (a : Stand) 
     same_merge merged inter = record { each = λ k. inter.each k ∙ same_journals k; sorted = inter.sorted }
 
     marked_on : GoesOnTo run.marked.view z.view
-    marked_on = elim run.ends [ inl limit ↦ limit_on limit.1 | inr settled ↦ pause_on (operator_in setup) run.marked z false settled.2.pause ]
+    marked_on = elim run.ends [ inl limit ↦ limit_on limit.1 | inr settled ↦ pause_on (operator_number setup) run.marked z false settled.2.pause ]
 
     -- as many groups have begun as came to their end before the last one
     groups_at_end : groups_at setup z ≡ length run.past
     groups_at_end =
-        ap (λ (xs : List JournalEntry). length (filter is_go xs)) (same_journals (operator_in setup))
+        ap (λ (xs : List JournalEntry). length (filter is_go xs)) (same_journals (operator_number setup))
         ∙ group_count run.past run.begun (last_opens marked_on) run.budget (length run.past + 1) run.last run.verdict run.marked run.group
 
     -- the way to the last mark
@@ -293,14 +304,16 @@ module _ (way_ran : WayRan) (setup : Setup) (sound : IsSetup setup) (a : Stand) 
 
   -- ---- a settled run
 
-  pub settled_quiet : (budgets : List Budget) (made : List ℕ) → RunGoes setup a budgets made Settled z → (w : World) → IsSeenAs own carried setup z.view w → Reached setup w → Quiet setup w
+  pub settled_quiet : (budgets : List Budget) (made : List ℕ) → RunGoes setup a budgets made Settled z → (w : World)
+      → IsSeenAs own carried setup z.view w → Reached setup w → Quiet setup w
   settled_quiet budgets made run w seen reached = elim run.ends [
     | inl limit ↦ absurd ((subst (λ (v : Verdict). GroupGoes setup run.budget (length run.past + 1) run.begun run.last v run.marked) limit.0 run.group).last.names w (subst (λ (c : Stand). IsSeenAs own carried setup c.view w) limit.1 seen, reached))
-    | inr settled ↦ ((subst (λ (v : Verdict). GroupGoes setup run.budget (length run.past + 1) run.begun run.last v run.marked) settled.0 run.group).last.names w (same_seen setup z run.marked w (same_back run.marked z (pause_same (operator_in setup) run.marked z settled.2.pause)) seen, reached)).1.quiet
+    | inr settled ↦ ((subst (λ (v : Verdict). GroupGoes setup run.budget (length run.past + 1) run.begun run.last v run.marked) settled.0 run.group).last.names w (same_seen setup z run.marked w (same_back run.marked z (pause_same (operator_number setup) run.marked z settled.2.pause)) seen, reached)).1.quiet
   ]
 
   -- the group at its end is the last one
-  pub settled_last : (budgets : List Budget) (made : List ℕ) → length budgets ≡ groups_in setup → RunGoes setup a budgets made Settled z → (ran : RanAs own carried setup journal z.view)
+  pub settled_last : (budgets : List Budget) (made : List ℕ) → length budgets ≡ groups_in setup → RunGoes setup a budgets made Settled z
+      → (ran : RanAs own carried setup journal z.view)
       → ran.world.operator.group + 1 ≡ groups_in setup
   settled_last budgets made as_many run ran = elim run.ends [
     | inl limit ↦ absurd ((subst (λ (v : Verdict). GroupGoes setup run.budget (length run.past + 1) run.begun run.last v run.marked) limit.0 run.group).last.names ran.world
@@ -310,7 +323,8 @@ module _ (way_ran : WayRan) (setup : Setup) (sound : IsSetup setup) (a : Stand) 
         let all : length budgets ≡ length run.past + (1 + length run.first.0) =
         ap (λ (xs : List Budget). length xs) run.first.1 ∙ length-append run.past (run.budget ∷ run.first.0) ∙ omega arith in
         let here : ran.world.operator.group ≡ length run.past =
-        groups_counted setup ran.events journal ran.world ran.entries_of ran.run ∙ ap (λ (xs : List JournalEntry). length (filter is_go xs)) (merge.each (operator_in setup))
+        groups_counted setup ran.events journal ran.world ran.entries_of ran.run
+        ∙ ap (λ (xs : List JournalEntry). length (filter is_go xs)) (merge.each (operator_number setup))
         ∙ groups_at_end budgets made Settled run in
         omega (arith, few, as_many, all, here))
   ]

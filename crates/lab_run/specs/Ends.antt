@@ -8,18 +8,18 @@ use Rattle.graft_model.specs.Setups.{Setup}
 use Rattle.graft_model.specs.Parts.{World}
 use Rattle.graft_model.specs.Quiet.{Quiet}
 use Rattle.graft_steps.specs.declared.rest.Pending.{Pending}
-use Rattle.run_marks.specs.Marks.{before, GoFollows, NoGoFollows}
+use Rattle.world_runs.specs.Marks.{before, GoFollows, NoGoFollows}
 use Rattle.world_nodes.specs.Looks.{IsLowest, IsStuckIn, IsPending}
 use Rattle.lab_report.specs.declared.lab.RunEnd.{RunEnd}
 use Rattle.lab_report.specs.declared.lab.RunEnd.TheVariants.{Settled, Unsettled, StreamFull, JournalFull}
-use Rattle.lab_budgets.specs.declared.budget.Budget.{Budget}
+use Rattle.node_configs.specs.declared.budget.Budget.{Budget}
 use Rattle.lab_run.specs.declared.end.Verdict.{Verdict}
 use Rattle.lab_run.specs.declared.end.Verdict.TheVariants.{GoesOn, IsQuiet, Ends}
 
 -- ---- one mark
 
 -- what is counted at a mark: the entries of all journals, the number of the settle at work, from 1, and how many rounds it has made
-pub record Counted : Type 0 where
+pub record MarkCounts : Type 0 where
   pub events : ℕ
   pub step : ℕ
   pub rounds : ℕ
@@ -28,17 +28,17 @@ abbrev pub NoneIsStuck : Setup → World → Type 0
 NoneIsStuck setup w = IsLowest (IsStuckIn setup w) None
 
 -- no session is stuck, and no journal is full
-pub record IsBelowLimits (setup : Setup) (w : World) (c : Counted) : Type 0 where
+pub record IsBelowLimits (setup : Setup) (w : World) (c : MarkCounts) : Type 0 where
   pub free : NoneIsStuck setup w
   pub room : c.events < 4194304
 
 -- nothing is left to do, and the settle has made the rounds that it makes at least
-pub record MayEnd (setup : Setup) (w : World) (budget : Budget) (c : Counted) : Type 0 where
+pub record MayEnd (setup : Setup) (w : World) (budget : Budget) (c : MarkCounts) : Type 0 where
   pub quiet : Quiet setup w
   pub enough : budget.least ≤ c.rounds
 
 -- the budget is made, and this is the first thing that is left to do
-pub record IsUnsettled (setup : Setup) (w : World) (budget : Budget) (c : Counted) (step rounds : ℕ) (answer : Option Pending) : Type 0 where
+pub record IsUnsettled (setup : Setup) (w : World) (budget : Budget) (c : MarkCounts) (step rounds : ℕ) (answer : Option Pending) : Type 0 where
   pub below : IsBelowLimits setup w c
   pub made : budget.rounds ≤ c.rounds
   pub first : IsPending setup w answer
@@ -53,7 +53,7 @@ pub record IsStreamFull (setup : Setup) (w : World) (peering length : ℕ) : Typ
 
 -- A mark names, in this order: the lowest session that is stuck; full journals, with their entries up to the end of a count of 64 bits; that the group
 -- is at its end; that its budget is made; else another round.
-abbrev pub Names : Setup → World → Budget → Counted → Verdict → Type 0
+abbrev pub Names : Setup → World → Budget → MarkCounts → Verdict → Type 0
 Names setup w budget c (Ends (StreamFull peering length)) = IsStreamFull setup w peering.0 length
 Names setup w budget c (Ends (JournalFull events)) = NoneIsStuck setup w × (4194304 ≤ c.events) × (events ≡ min c.events (2 ^ 64 - 1))
 Names setup w budget c (Ends (Unsettled step rounds pending)) = IsUnsettled setup w budget c step rounds (Some pending)
@@ -62,7 +62,7 @@ Names setup w budget c IsQuiet = IsBelowLimits setup w c × MayEnd setup w budge
 Names setup w budget c GoesOn = IsBelowLimits setup w c × (¬ MayEnd setup w budget c) × (c.rounds < budget.rounds)
 
 -- what the limits of a whole run name, which come first
-abbrev pub LimitNames : Setup → World → Budget → Counted → Option RunEnd → Type 0
+abbrev pub LimitNames : Setup → World → Budget → MarkCounts → Option RunEnd → Type 0
 LimitNames setup w budget c None = IsBelowLimits setup w c
 LimitNames setup w budget c (Some end) = Names setup w budget c (Ends end)
 

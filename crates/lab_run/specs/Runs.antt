@@ -10,14 +10,14 @@ use Rattle.graft_model.specs.Steps.{Event, Run}
 use Rattle.graft_model.specs.Claims.{Unchanged, MadeBeforeBroken, Solves}
 use Rattle.graft_model.specs.Quiet.{Quiet}
 use Rattle.graft_laws.specs.Emptied.{GiveByPlan, EmptyAlone, AreEmptied}
-use Rattle.graft_runs.specs.Laws.{AreEntriesOf}
-use Rattle.run_marks.specs.Marks.{IsWorldAtMark}
+use Rattle.graft_actors.specs.Laws.{AreEntriesOf}
+use Rattle.world_runs.specs.Marks.{IsWorldAtMark}
 use Rattle.world_runs.specs.Labs.{actors_in}
 use Rattle.world_runs.specs.Runs.{TransparentThroughout}
 use Rattle.world_nodes.specs.Edges.{has_channel}
 use Rattle.world_nodes.specs.Fresh.{IsFresh}
 use Rattle.world_nodes.specs.Looks.{IsWorldAt}
-use Rattle.world_nodes.specs.Ways.{Stand, Begins}
+use Rattle.world_nodes.specs.Ways.{Stand, IsFirstStand}
 use Rattle.run_clocks.specs.Clocks.{AreClocked, clocked_in}
 use Rattle.real_rounds.specs.Whole.{RealRounds, round_by_round}
 use Rattle.graft_laws.specs.Ranges.{IsInRange}
@@ -30,7 +30,7 @@ use Rattle.silent_rounds.specs.Silence.{AreSilent, AreShort}
 use Rattle.lab_setup.specs.Setups.{setup_of}
 use Rattle.lab_report.specs.declared.lab.Lab.{Lab}
 use Rattle.lab_report.specs.declared.lab.RunEnd.TheVariants.{Settled}
-use Rattle.lab_budgets.specs.Budgets.{budgets_in}
+use Rattle.node_configs.specs.Budgets.{budgets_in}
 use Rattle.lab_seen.specs.Seen.{Observed}
 use Rattle.lab_run.specs.Ends.{HasMarks}
 use Rattle.lab_run.specs.Forwards.{Forwards}
@@ -89,7 +89,7 @@ RanLab lab = RanIn (setup_of lab.input) lab
 
 -- the net stands at its beginning, with actors that have done nothing and a plan of these faults
 pub record BeginsFresh (setup : Setup) (faults : List Fault) (a : Stand) : Type 0 where
-  pub begins : Begins setup a
+  pub begins : IsFirstStand setup a
   pub fresh : AllByRecursion (IsFresh setup faults) begins.actors
 
 -- the net stands at this world of a run, with all actors and channels of the laboratory
@@ -100,7 +100,7 @@ pub record IsNetOf (setup : Setup) (z : Stand) (w : World) : Type 0 where
 
 -- The net of an input's laboratory went from its beginning to its end, and the lab tells of that end.
 pub record TellsOf (lab : Lab) (a z : Stand) : Type 0 where
-  pub begins : Begins (setup_of lab.input) a
+  pub begins : IsFirstStand (setup_of lab.input) a
   pub fresh : AllByRecursion (IsFresh (setup_of lab.input) lab.input.faults) begins.actors
   pub goes : RunGoes (setup_of lab.input) a (budgets_in lab.input) lab.rounds lab.end z
   pub marks : lab.marks ≡ z.marks

@@ -3,12 +3,12 @@ use Rattle.std.specs.Prelude.{ℕ, ◌≡◌, ◌≢◌, ◌+◌, ◌⊎◌, ◌
 use Rattle.graft_model.specs.Setups.{Setup}
 use Rattle.graft_model.specs.Parts.{World}
 use Rattle.operator_core.specs.Turns.{IsHeldUp}
-use Rattle.run_marks.specs.Marks.{operator_in}
+use Rattle.world_runs.specs.Marks.{operator_number}
 use Rattle.world_nodes.specs.Looks.{IsWorldAt}
 use Rattle.world_nodes.specs.Ways.{Stand, Round, Pause}
 use Rattle.lab_report.specs.declared.lab.RunEnd.{RunEnd}
 use Rattle.lab_report.specs.declared.lab.RunEnd.TheVariants.{Settled}
-use Rattle.lab_budgets.specs.declared.budget.Budget.{Budget}
+use Rattle.node_configs.specs.declared.budget.Budget.{Budget}
 use Rattle.lab_run.specs.declared.end.Verdict.{Verdict}
 use Rattle.lab_run.specs.declared.end.Verdict.TheVariants.{GoesOn, IsQuiet, Ends}
 use Rattle.lab_run.specs.Ends.{Names}
@@ -24,27 +24,28 @@ verdict_of None = IsQuiet
 verdict_of (Some end) = Ends end
 
 -- so many rounds of a group, each of whose marks names another round
-pub data Goes (setup : Setup) (budget : Budget) (step : ℕ) (a : Stand) : ℕ → Stand → Type 0 where
-  NoRound : Goes setup budget step a 0 a
-  OneMore : (n : ℕ) {b c : Stand} → Goes setup budget step a n b → RoundNames setup budget step (n + 1) b c GoesOn → Goes setup budget step a (n + 1) c
+pub data MakesRounds (setup : Setup) (budget : Budget) (step : ℕ) (a : Stand) : ℕ → Stand → Type 0 where
+  NoRound : MakesRounds setup budget step a 0 a
+  OneMore : (n : ℕ) {b c : Stand} → MakesRounds setup budget step a n b → RoundNames setup budget step (n + 1) b c GoesOn
+      → MakesRounds setup budget step a (n + 1) c
 
 -- the rounds of a group up to the mark that names something else
 pub record GroupGoes (setup : Setup) (budget : Budget) (step : ℕ) (a : Stand) (rounds : ℕ) (verdict : Verdict) (b : Stand) : Type 0 where
   pub past : ℕ
   pub before : Stand
-  pub goes : Goes setup budget step a past before
+  pub goes : MakesRounds setup budget step a past before
   pub last : RoundNames setup budget step (past + 1) before b verdict
   pub rounds_is : rounds ≡ past + 1
 
 -- the next group begins, or it doesn't, exactly where it may not
-pub record Passes (setup : Setup) (a b : Stand) (answer : Bool) : Type 0 where
-  pub pause : Pause (operator_in setup) a b answer
+pub record PassesPause (setup : Setup) (a b : Stand) (answer : Bool) : Type 0 where
+  pub pause : Pause (operator_number setup) a b answer
   pub held : (w : World) → IsWorldAt setup a w → (answer ≡ false) ↔ IsHeldUp setup w.operator
 
 -- the same, as the end of a group answers it: another group begins, or the run is settled
 abbrev pub PassAnswers : Setup → Stand → Stand → Option RunEnd → Type 0
-PassAnswers setup a b None = Passes setup a b true
-PassAnswers setup a b (Some end) = (end ≡ Settled) × Passes setup a b false
+PassAnswers setup a b None = PassesPause setup a b true
+PassAnswers setup a b (Some end) = (end ≡ Settled) × PassesPause setup a b false
 
 -- A group from its beginning to the beginning of the next one, or to how the run ends: by a limit, or settled.
 pub record GroupAnswers (setup : Setup) (budget : Budget) (step : ℕ) (a : Stand) (rounds : ℕ) (end : Option RunEnd) (b : Stand) : Type 0 where
@@ -56,8 +57,9 @@ pub record GroupAnswers (setup : Setup) (budget : Budget) (step : ℕ) (a : Stan
 -- groups that came to their end, each with its budget and its rounds, and behind each the next one began
 pub data GroupsGo (setup : Setup) (a : Stand) : List Budget → List ℕ → Stand → Type 0 where
   NoGroup : GroupsGo setup a [] [] a
-  NextGroup : (budgets : List Budget) (budget : Budget) (made : List ℕ) (rounds : ℕ) {b c d : Stand} → GroupsGo setup a budgets made b → GroupGoes setup budget (length budgets + 1) b rounds IsQuiet c
-      → Passes setup c d true → GroupsGo setup a (budgets ++ budget ∷ []) (made ++ rounds ∷ []) d
+  NextGroup : (budgets : List Budget) (budget : Budget) (made : List ℕ) (rounds : ℕ) {b c d : Stand} → GroupsGo setup a budgets made b
+      → GroupGoes setup budget (length budgets + 1) b rounds IsQuiet c
+      → PassesPause setup c d true → GroupsGo setup a (budgets ++ budget ∷ []) (made ++ rounds ∷ []) d
 
 -- The last group ends the run by a limit, or it comes to its end and no other one may begin. These are the budgets and rounds of all groups that have begun.
 pub record RunGoes (setup : Setup) (a : Stand) (budgets : List Budget) (made : List ℕ) (end : RunEnd) (b : Stand) : Type 0 where
@@ -72,4 +74,4 @@ pub record RunGoes (setup : Setup) (a : Stand) (budgets : List Budget) (made : L
   pub group : GroupGoes setup budget (length past + 1) begun last verdict marked
   pub made_is : made ≡ rounds ++ last ∷ []
   pub first : (later : List Budget) × (budgets ≡ past ++ budget ∷ later)
-  pub ends : ((verdict ≡ Ends end) × (b ≡ marked)) ⊎ ((verdict ≡ IsQuiet) × (end ≡ Settled) × Passes setup marked b false)
+  pub ends : ((verdict ≡ Ends end) × (b ≡ marked)) ⊎ ((verdict ≡ IsQuiet) × (end ≡ Settled) × PassesPause setup marked b false)

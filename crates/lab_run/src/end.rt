@@ -4,15 +4,15 @@ ghost use Rattle.std.specs.Prelude.{ℕ, ◌≡◌, ◌≤◌, ◌^◌, ◌-◌,
 ghost use Rattle.graft_model.specs.Setups.{Setup, IsSetup};
 ghost use Rattle.graft_model.specs.Parts.{World};
 ghost use Rattle.world_nodes.specs.Edges.{HasCounts};
-ghost use Rattle.world_nodes.specs.Courses.{stand, counts, AllWork};
+ghost use Rattle.world_nodes.specs.RunningLabs.{stand, counts, AllWork};
 ghost use Rattle.world_nodes.specs.Looks.{IsWorldAt};
-ghost use Rattle.lab_budgets.specs.declared.budget.Budget.{Budget};
-ghost use Rattle.lab_run.specs.Ends.{Counted, CountsTo, IsBelowLimits, Names, LimitNames, NoneIsStuck};
+ghost use Rattle.node_configs.specs.declared.budget.Budget.{Budget};
+ghost use Rattle.lab_run.specs.Ends.{MarkCounts, CountsTo, IsBelowLimits, Names, LimitNames, NoneIsStuck};
 
 use graft_edge::NoMemory;
-use lab_budgets::Budget;
 use lab_report::RunEnd;
-use world_nodes::Course;
+use node_configs::Budget;
+use world_nodes::RunningLab;
 
 /// From so many events on a journal is full.
 const MOST_EVENTS: u64 = 4_194_304;
@@ -37,7 +37,7 @@ fn short(length: usize) -> u32
 
 /// A journal that is full.
 fn full(events: u64) -> Option<RunEnd>
-    ensures { (setup : Setup) (w : World) (budget : Budget) (c : Counted) → NoneIsStuck setup w → events ≡ min c.events (2 ^ 64 - 1) → LimitNames setup w budget c result }
+    ensures { (setup : Setup) (w : World) (budget : Budget) (c : MarkCounts) → NoneIsStuck setup w → events ≡ min c.events (2 ^ 64 - 1) → LimitNames setup w budget c result }
 {
     if events >= MOST_EVENTS {
         return Some(RunEnd::JournalFull { events });
@@ -46,28 +46,28 @@ fn full(events: u64) -> Option<RunEnd>
 }
 
 /// The session that is stuck, or else a journal that is full.
-fn limit(course: &Course) -> Result<Option<RunEnd>, NoMemory>
-    requires works { AllWork course.now }
-    ensures { IfOk result (λ found. (setup : Setup) (w : World) (budget : Budget) (c : Counted) → HasCounts setup (counts course.now) → IsWorldAt setup (stand course.now) w
-        → CountsTo (stand course.now).view c.events → LimitNames setup w budget c found) }
+fn limit(running: &RunningLab) -> Result<Option<RunEnd>, NoMemory>
+    requires works { AllWork running.now }
+    ensures { IfOk result (λ found. (setup : Setup) (w : World) (budget : Budget) (c : MarkCounts) → HasCounts setup (counts running.now) → IsWorldAt setup (stand running.now) w
+        → CountsTo (stand running.now).view c.events → LimitNames setup w budget c found) }
 {
-    match course.stuck()? {
+    match running.stuck()? {
         Some((peering, length)) => Ok(Some(RunEnd::StreamFull {
             peering,
             length: short(length),
         })),
-        None => Ok(full(course.events())),
+        None => Ok(full(running.events())),
     }
 }
 
 /// Where no limit of the whole run is met: whether the world is quiet, or the budget is made.
-fn rest(course: &Course, budget: Budget, step: u32, rounds: u32) -> Verdict
-    requires works { AllWork course.now }
+fn rest(running: &RunningLab, budget: Budget, step: u32, rounds: u32) -> Verdict
+    requires works { AllWork running.now }
     requires sound { budget.least ≤ budget.rounds }
-    ensures { (setup : Setup) (w : World) (c : Counted) → IsSetup setup → HasCounts setup (counts course.now) → IsWorldAt setup (stand course.now) w → c.step ≡ step → c.rounds ≡ rounds
+    ensures { (setup : Setup) (w : World) (c : MarkCounts) → IsSetup setup → HasCounts setup (counts running.now) → IsWorldAt setup (stand running.now) w → c.step ≡ step → c.rounds ≡ rounds
         → IsBelowLimits setup w c → Names setup w budget c result }
 {
-    match course.pending() {
+    match running.pending() {
         None => {
             if budget.least <= rounds {
                 Verdict::IsQuiet
@@ -91,18 +91,18 @@ fn rest(course: &Course, budget: Budget, step: u32, rounds: u32) -> Verdict
 
 /// What the mark names behind a round, when the settle of number `step` has made so many rounds.
 pub(crate) fn mark_names(
-    course: &Course,
+    running: &RunningLab,
     budget: Budget,
     step: u32,
     rounds: u32,
 ) -> Result<Verdict, NoMemory>
-    requires works { AllWork course.now }
+    requires works { AllWork running.now }
     requires sound { budget.least ≤ budget.rounds }
-    ensures { IfOk result (λ verdict. (setup : Setup) (w : World) (c : Counted) → IsSetup setup → HasCounts setup (counts course.now) → IsWorldAt setup (stand course.now) w → c.step ≡ step
-        → c.rounds ≡ rounds → CountsTo (stand course.now).view c.events → Names setup w budget c verdict) }
+    ensures { IfOk result (λ verdict. (setup : Setup) (w : World) (c : MarkCounts) → IsSetup setup → HasCounts setup (counts running.now) → IsWorldAt setup (stand running.now) w → c.step ≡ step
+        → c.rounds ≡ rounds → CountsTo (stand running.now).view c.events → Names setup w budget c verdict) }
 {
-    match limit(course)? {
+    match limit(running)? {
         Some(end) => Ok(Verdict::Ends(end)),
-        None => Ok(rest(course, budget, step, rounds)),
+        None => Ok(rest(running, budget, step, rounds)),
     }
 }

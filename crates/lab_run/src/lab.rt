@@ -1,7 +1,7 @@
 //! The run of an input.
 
 ghost use Rattle.std.specs.Prelude.{◌≡◌, ◌≤◌, IfOk};
-ghost use Rattle.world_nodes.specs.Courses.{stand, counts, AllWork};
+ghost use Rattle.world_nodes.specs.RunningLabs.{stand, counts, AllWork};
 ghost use Rattle.world_nodes.specs.Edges.{HasCounts};
 ghost use Rattle.lab_setup.specs.Setups.{setup_of};
 ghost use Rattle.node_configs.specs.Accepted.{IsAccepted};
@@ -11,25 +11,25 @@ use crate::laws::labs_tell_of_runs;
 use crate::run::run_groups;
 use graft_edge::{Gate, Items, NoMemory};
 use lab_actors::actors_of;
-use lab_budgets::budgets_of;
 use lab_report::Lab;
 use lab_seen::lab_of;
 use lab_tables::LabInput;
+use node_configs::budgets_of;
 use std::alloc::Global;
 use std::thread::Threads;
-use world_nodes::Course;
+use world_nodes::RunningLab;
 
 /// The net of the laboratory that an input describes, at its beginning.
-fn begin(alloc: Global, input: &LabInput) -> Result<Course, NoMemory>
+fn begin(alloc: Global, input: &LabInput) -> Result<RunningLab, NoMemory>
     requires { IsAccepted input.now }
-    ensures begins { IfOk result (λ course. BeginsFresh (setup_of input.now) input.now.faults (stand course)) }
+    ensures begins { IfOk result (λ running. BeginsFresh (setup_of input.now) input.now.faults (stand running)) }
     ensures works { IfOk result AllWork }
-    ensures counts { IfOk result (λ course. HasCounts (setup_of input.now) (counts course)) }
+    ensures counts { IfOk result (λ running. HasCounts (setup_of input.now) (counts running)) }
 {
     let actors = actors_of(alloc, input)?;
     let routers = input.routers.len() as u16;
     let peerings = input.peerings.len() as u16;
-    Course::begin(alloc, actors, routers, peerings)
+    RunningLab::begin(alloc, actors, routers, peerings)
 }
 
 /// Runs the laboratory of an input by 1 to 8 workers, until nothing is left to do after the last group of its script, or a limit is met. Each actor passes
@@ -50,15 +50,15 @@ pub fn run_lab<R: Threads + Sync, G: Gate>(
 {
     labs_tell_of_runs();
     let budgets = budgets_of(alloc, &input)?;
-    let mut course = begin(alloc, &input)?;
+    let mut running = begin(alloc, &input)?;
     let mut rounds = Items::new(alloc);
     let end = run_groups(
         rt,
-        &mut course,
+        &mut running,
         budgets.as_slice(),
         &mut rounds,
         workers,
         gate,
     )?;
-    lab_of(alloc, input, end, course.finish()?, rounds)
+    lab_of(alloc, input, end, running.finish()?, rounds)
 }

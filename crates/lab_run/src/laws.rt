@@ -12,11 +12,10 @@ use graft_laws::{
 use one_answer::settled_runs_have_one_answer;
 use real_rounds::rounds_are_real;
 use run_clocks::journals_are_clocked;
-use run_marks::marks_stand_for_one_world;
 use silent_rounds::silent_worlds_are_quiet;
 use sure_results::sure_laboratories_have_results;
 use world_nodes::the_way_is_a_run;
-use world_runs::runs_are_transparent;
+use world_runs::{marks_stand_for_one_world, runs_are_transparent};
 
 /// Whatever way the net of an accepted input's laboratory went to its end: a lab that tells of that end has the journal of a run of the world, and is
 /// what is seen of the run's last world. In the journal each clock is one above the greater of its actor's last one and the stamp of what is taken, and

@@ -3,17 +3,17 @@
 ghost use Rattle.std.specs.Prelude.{ℕ, ◌≡◌, ◌≤◌, ◌+◌, ◌++◌, ◌∷◌, [], List, IfOk, OnOk};
 ghost use Rattle.graft_model.specs.Setups.{Setup, IsSetup};
 ghost use Rattle.world_nodes.specs.Edges.{HasCounts};
-ghost use Rattle.world_nodes.specs.Courses.{stand, counts, AllWork};
+ghost use Rattle.world_nodes.specs.RunningLabs.{stand, counts, AllWork};
 ghost use Rattle.std.specs.List.{AllByRecursion};
-ghost use Rattle.lab_budgets.specs.Budgets.{IsSoundBudget};
+ghost use Rattle.node_configs.specs.Budgets.{IsSoundBudget};
 ghost use Rattle.lab_run.specs.Stories.{RoundNames, GroupGoes, GroupAnswers, PassAnswers, RunGoes, verdict_of};
 
 use crate::end::{Verdict, mark_names};
 use graft_edge::{Gate, Items, NoMemory};
-use lab_budgets::Budget;
 use lab_report::RunEnd;
+use node_configs::Budget;
 use std::thread::Threads;
-use world_nodes::Course;
+use world_nodes::RunningLab;
 
 /// How a group ended: quiet, or by a limit, and how many rounds it made.
 #[derive(Drop)]
@@ -25,7 +25,7 @@ pub(crate) struct GroupEnd {
 /// Makes a round, which is the one of this number in its group, and tells what its mark names.
 fn run_round<R: Threads + Sync, G: Gate>(
     rt: &R,
-    course: &mut Course,
+    running: &mut RunningLab,
     budget: Budget,
     step: u32,
     rounds: u32,
@@ -33,36 +33,36 @@ fn run_round<R: Threads + Sync, G: Gate>(
     gate: &G,
 ) -> Result<Verdict, NoMemory>
     requires workers { (1 ≤ workers) × (workers ≤ 8) }
-    requires works { AllWork course.old }
+    requires works { AllWork running.old }
     requires sound { budget.least ≤ budget.rounds }
-    ensures names { IfOk result (λ verdict. (setup : Setup) → IsSetup setup → HasCounts setup (counts course.old)
-        → RoundNames setup budget step rounds (stand course.old) (stand course.new) verdict) }
-    ensures works { OnOk result (AllWork course.new) }
-    ensures counts { counts course.new ≡ counts course.old }
+    ensures names { IfOk result (λ verdict. (setup : Setup) → IsSetup setup → HasCounts setup (counts running.old)
+        → RoundNames setup budget step rounds (stand running.old) (stand running.new) verdict) }
+    ensures works { OnOk result (AllWork running.new) }
+    ensures counts { counts running.new ≡ counts running.old }
 {
-    course.round(rt, workers, gate)?;
-    mark_names(course, budget, step, rounds)
+    running.round(rt, workers, gate)?;
+    mark_names(running, budget, step, rounds)
 }
 
 /// Runs rounds until the world is quiet or a limit is met.
 pub(crate) fn run_group<R: Threads + Sync, G: Gate>(
     rt: &R,
-    course: &mut Course,
+    running: &mut RunningLab,
     budget: Budget,
     step: u32,
     workers: usize,
     gate: &G,
 ) -> Result<GroupEnd, NoMemory>
     requires workers { (1 ≤ workers) × (workers ≤ 8) }
-    requires works { AllWork course.old }
+    requires works { AllWork running.old }
     requires sound { budget.least ≤ budget.rounds }
-    ensures goes { IfOk result (λ end. (setup : Setup) → IsSetup setup → HasCounts setup (counts course.old)
-        → GroupGoes setup budget step (stand course.old) end.rounds (verdict_of end.limit) (stand course.new)) }
-    ensures works { OnOk result (AllWork course.new) }
-    ensures counts { counts course.new ≡ counts course.old }
+    ensures goes { IfOk result (λ end. (setup : Setup) → IsSetup setup → HasCounts setup (counts running.old)
+        → GroupGoes setup budget step (stand running.old) end.rounds (verdict_of end.limit) (stand running.new)) }
+    ensures works { OnOk result (AllWork running.new) }
+    ensures counts { counts running.new ≡ counts running.old }
 {
     for made in 0..budget.rounds {
-        match run_round(rt, course, budget, step, made + 1, workers, gate)? {
+        match run_round(rt, running, budget, step, made + 1, workers, gate)? {
             Verdict::GoesOn => {}
             Verdict::IsQuiet => {
                 return Ok(GroupEnd {
@@ -83,13 +83,13 @@ pub(crate) fn run_group<R: Threads + Sync, G: Gate>(
 }
 
 /// Begins the next group, or tells that the run is settled.
-fn pass(course: &mut Course) -> Result<Option<RunEnd>, NoMemory>
-    requires works { AllWork course.old }
-    ensures passes { IfOk result (λ end. (setup : Setup) → HasCounts setup (counts course.old) → PassAnswers setup (stand course.old) (stand course.new) end) }
-    ensures works { OnOk result (AllWork course.new) }
-    ensures counts { counts course.new ≡ counts course.old }
+fn pass(running: &mut RunningLab) -> Result<Option<RunEnd>, NoMemory>
+    requires works { AllWork running.old }
+    ensures passes { IfOk result (λ end. (setup : Setup) → HasCounts setup (counts running.old) → PassAnswers setup (stand running.old) (stand running.new) end) }
+    ensures works { OnOk result (AllWork running.new) }
+    ensures counts { counts running.new ≡ counts running.old }
 {
-    if course.go()? {
+    if running.go()? {
         Ok(None)
     } else {
         Ok(Some(RunEnd::Settled))
@@ -99,7 +99,7 @@ fn pass(course: &mut Course) -> Result<Option<RunEnd>, NoMemory>
 /// Runs one group, and begins the next one where it comes to its end. It answers how the run ends, if it does, and adds the rounds that the group made.
 fn run_one<R: Threads + Sync, G: Gate>(
     rt: &R,
-    course: &mut Course,
+    running: &mut RunningLab,
     budget: Budget,
     step: u32,
     made: &mut Items<u32>,
@@ -107,18 +107,18 @@ fn run_one<R: Threads + Sync, G: Gate>(
     gate: &G,
 ) -> Result<Option<RunEnd>, NoMemory>
     requires workers { (1 ≤ workers) × (workers ≤ 8) }
-    requires works { AllWork course.old }
+    requires works { AllWork running.old }
     requires sound { budget.least ≤ budget.rounds }
-    ensures goes { IfOk result (λ end. (setup : Setup) → IsSetup setup → HasCounts setup (counts course.old)
-        → (rounds : ℕ) × (made.new ≡ made.old ++ rounds ∷ []) × GroupAnswers setup budget step (stand course.old) rounds end (stand course.new)) }
-    ensures works { OnOk result (AllWork course.new) }
-    ensures counts { counts course.new ≡ counts course.old }
+    ensures goes { IfOk result (λ end. (setup : Setup) → IsSetup setup → HasCounts setup (counts running.old)
+        → (rounds : ℕ) × (made.new ≡ made.old ++ rounds ∷ []) × GroupAnswers setup budget step (stand running.old) rounds end (stand running.new)) }
+    ensures works { OnOk result (AllWork running.new) }
+    ensures counts { counts running.new ≡ counts running.old }
 {
-    let end = run_group(rt, course, budget, step, workers, gate)?;
+    let end = run_group(rt, running, budget, step, workers, gate)?;
     made.push(end.rounds)?;
     match end.limit {
         Some(limit) => Ok(Some(limit)),
-        None => pass(course),
+        None => pass(running),
     }
 }
 
@@ -136,23 +136,23 @@ fn number(place: usize) -> Result<u32, NoMemory>
 /// Runs the groups of a script, one behind the other, and adds the rounds that each made.
 pub(crate) fn run_groups<R: Threads + Sync, G: Gate>(
     rt: &R,
-    course: &mut Course,
+    running: &mut RunningLab,
     budgets: &[Budget],
     made: &mut Items<u32>,
     workers: usize,
     gate: &G,
 ) -> Result<RunEnd, NoMemory>
     requires workers { (1 ≤ workers) × (workers ≤ 8) }
-    requires works { AllWork course.old }
+    requires works { AllWork running.old }
     requires sound { AllByRecursion IsSoundBudget budgets.now }
     requires none { made.old ≡ [] }
-    ensures goes { IfOk result (λ end. (setup : Setup) → IsSetup setup → HasCounts setup (counts course.old)
-        → RunGoes setup (stand course.old) budgets.now made.new end (stand course.new)) }
-    ensures counts { counts course.new ≡ counts course.old }
+    ensures goes { IfOk result (λ end. (setup : Setup) → IsSetup setup → HasCounts setup (counts running.old)
+        → RunGoes setup (stand running.old) budgets.now made.new end (stand running.new)) }
+    ensures counts { counts running.new ≡ counts running.old }
 {
     for place in 0..budgets.len() {
         let step = number(place)?;
-        if let Some(end) = run_one(rt, course, budgets[place], step, made, workers, gate)? {
+        if let Some(end) = run_one(rt, running, budgets[place], step, made, workers, gate)? {
             return Ok(end);
         }
     }

@@ -10,8 +10,8 @@ use Rattle.tcp_seq.specs.declared.segment.Way.TheVariants.{Home, Remote}
 use Rattle.graft_steps.specs.declared.item.Item.TheVariants as items
 use Rattle.graft_model.specs.Setups.{Setup}
 use Rattle.graft_model.specs.Parts.{World}
-use Rattle.graft_runs.specs.Actors.{Thing, MeshItem, OutwardItem, SegmentItem, OrderItem, ReportItem, StepItem, ActorName, Router, FarSide, Operator}
-use Rattle.graft_runs.specs.Seen.{channel_of}
+use Rattle.graft_actors.specs.Actors.{Thing, MeshItem, OutwardItem, SegmentItem, OrderItem, ReportItem, StepItem, ActorName, Router, FarSide, Operator}
+use Rattle.graft_actors.specs.Seen.{channel_of}
 use Rattle.graft_actors.specs.Items.{thing_of, segment_of, segment_thing}
 use Rattle.router_core.specs.Parts.{carried}
 use Rattle.world_nodes.specs.Nodes.{Mail}
@@ -34,7 +34,8 @@ module _ (P : Found → Type 0) where
   no_session Home segment = tt
 
   -- what holds of each session that is found in a channel, holds of each that its things carry
-  pub found_to_things : (setup : Setup) (xs : List Mail) → AllByRecursion P (flat_map carried_by xs) → AllByRecursion (OnThing P) (map (thing_of carried setup) xs)
+  pub found_to_things : (setup : Setup) (xs : List Mail) → AllByRecursion P (flat_map carried_by xs)
+      → AllByRecursion (OnThing P) (map (thing_of carried setup) xs)
   found_to_things setup [] all = tt
   found_to_things setup (items.Seg g ∷ xs) all = (no_session g.way (segment_of setup g), found_to_things setup xs all)
   found_to_things setup (items.PointAt k ∷ xs) all = (tt, found_to_things setup xs all)
@@ -49,7 +50,8 @@ module _ (P : Found → Type 0) where
   found_to_things setup (items.SayOrder step ∷ xs) all = (tt, found_to_things setup xs all)
 
   -- and the other way
-  pub things_to_found : (setup : Setup) (xs : List Mail) → AllByRecursion (OnThing P) (map (thing_of carried setup) xs) → AllByRecursion P (flat_map carried_by xs)
+  pub things_to_found : (setup : Setup) (xs : List Mail) → AllByRecursion (OnThing P) (map (thing_of carried setup) xs)
+      → AllByRecursion P (flat_map carried_by xs)
   things_to_found setup [] all = tt
   things_to_found setup (items.Seg g ∷ xs) all = things_to_found setup xs all.1
   things_to_found setup (items.PointAt k ∷ xs) all = things_to_found setup xs all.1
@@ -72,7 +74,8 @@ module _ (P : Found → Type 0) where
   made f each (x ∷ xs) = (each x, made f each xs)
 
   -- what holds of each item between routers, holds in each channel
-  pub on_channels : (w : World) → ((a b : ℕ) → AllByRecursion (OnMesh P) (w.mesh a b)) → (from to : Option ActorName) → AllByRecursion (OnThing P) (channel_of w from to)
+  pub on_channels : (w : World) → ((a b : ℕ) → AllByRecursion (OnMesh P) (w.mesh a b)) → (from to : Option ActorName)
+      → AllByRecursion (OnThing P) (channel_of w from to)
   on_channels w each None to = tt
   on_channels w each (Some (Router q)) None = tt
   on_channels w each (Some (FarSide q)) None = tt

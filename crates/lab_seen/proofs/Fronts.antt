@@ -9,7 +9,8 @@ module _ {A : Type 0} where
     pub element : next ≡ slice_get xs n
     pub left : rest ≡ drop (n + 1) xs
 
-  pub walked : (xs : List A) (n : ℕ) (next : Option A) (rest : List A) → drop n xs ≡ option_to_list next ++ rest → (next ≡ None → drop n xs ≡ []) → IsNext xs n next rest
+  pub walked : (xs : List A) (n : ℕ) (next : Option A) (rest : List A) → drop n xs ≡ option_to_list next ++ rest → (next ≡ None → drop n xs ≡ [])
+      → IsNext xs n next rest
   walked [] zero None rest e none = record { element = refl; left = sym e }
   walked [] zero (Some x) rest e none = absurd cc
   walked [] (suc n) None rest e none = record { element = refl; left = rw add-one (sym e) }

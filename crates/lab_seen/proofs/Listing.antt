@@ -27,7 +27,8 @@ module _ {X A : Type 0} (f : PrefixValue × X → A) (es : List (PrefixValue × 
   named i p d lt is = is ∙ get_or-map (λ (e : PrefixValue × X). e.0) es i d p (within i lt)
 
   -- one more is listed
-  pub one_more : (whole done : List A) (i : ℕ) (p : PrefixValue) (value : X) → i < length prefixes → p ≡ get_or prefixes i p → table.find prefix_cmp p es ≡ Some value → done ≡ whole ++ map f (take i es) → done ++ f (p, value) ∷ [] ≡ whole ++ map f (take (i + 1) es)
+  pub one_more : (whole done : List A) (i : ℕ) (p : PrefixValue) (value : X) → i < length prefixes → p ≡ get_or prefixes i p
+      → table.find prefix_cmp p es ≡ Some value → done ≡ whole ++ map f (take i es) → done ++ f (p, value) ∷ [] ≡ whole ++ map f (take (i + 1) es)
   one_more whole done i p value lt is found so_far =
       let d : PrefixValue × X = (p, value) in
       let here : p ≡ (get_or es i d).0 = named i p d lt is in
@@ -46,4 +47,5 @@ module _ {X A : Type 0} (f : PrefixValue × X → A) (es : List (PrefixValue × 
 
   -- at last all are listed
   pub all_listed : (whole done : List A) (i : ℕ) → length prefixes ≤ i → done ≡ whole ++ map f (take i es) → done ≡ whole ++ map f es
-  all_listed whole done i le so_far = so_far ∙ ap (λ (xs : List (PrefixValue × X)). whole ++ map f xs) (take_all i es (omega (arith, le, length-map es (λ (e : PrefixValue × X). e.0))))
+  all_listed whole done i le so_far = so_far
+      ∙ ap (λ (xs : List (PrefixValue × X)). whole ++ map f xs) (take_all i es (omega (arith, le, length-map es (λ (e : PrefixValue × X). e.0))))

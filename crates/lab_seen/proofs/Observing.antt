@@ -15,8 +15,8 @@ use Rattle.lab_report.specs.declared.lab.Place.{Place}
 use Rattle.lab_report.specs.declared.lab.RouterTable.{RouterTable}
 use Rattle.lab_report.specs.declared.lab.SessionView.{SessionView}
 use Rattle.lab_seen.specs.Finished.{IsFinished}
-use Rattle.lab_seen.specs.Found.{router_in, far_in, operator_in, tables_of, fars_of, log_in, held_by, carried_in, first_on, places_in, views_in}
-use Rattle.lab_seen.specs.Seen.{Observed, SeesSession, view_of}
+use Rattle.lab_seen.specs.Found.{router_in, far_in, operator_in, router_tables_of, fars_of, log_in, held_by, carried_in, first_on, places_in, views_in}
+use Rattle.lab_seen.specs.Seen.{Observed, SeesSession, session_view}
 use Rattle.lab_seen.specs.declared.found.Found.{Found}
 use Rattle.lab_seen.proofs.Nodes.{tables_are, fars_are, log_is}
 use Rattle.lab_seen.proofs.Phases.{place_in}
@@ -31,7 +31,7 @@ found_in actors left routers = flat_map (λ r. held_by r (slice_get actors r)) (
 pub record IsMade (setup : Setup) (actors : List Node) (left : List (Left Mail)) (routers peerings : ℕ) (log : List GraftEntry) (far : List FarView) (tables : List RouterTable) (placement : List Place) (sessions : List SessionView) : Type 0 where
   pub log_is : log ≡ log_in (operator_in (slice_get actors (routers + peerings)))
   pub far_is : far ≡ flat_map (λ p. fars_of (far_in (slice_get actors (routers + p)))) (range_with_len 0 peerings)
-  pub tables_is : tables ≡ flat_map (λ r. tables_of setup (router_in (slice_get actors r))) (range_with_len 0 routers)
+  pub tables_is : tables ≡ flat_map (λ r. router_tables_of setup (router_in (slice_get actors r))) (range_with_len 0 routers)
   pub placement_is : placement ≡ flat_map (λ p. places_in (first_on (found_in actors left routers) p)) (range_with_len 0 peerings)
   pub sessions_is : sessions ≡ flat_map (λ p. views_in (first_on (found_in actors left routers) p)) (range_with_len 0 peerings)
 
@@ -47,9 +47,10 @@ module _ (setup : Setup) (w : World) (actors : List Node) (left : List (Left Mai
   one_view : (p : ℕ) → p < peerings_in setup → IsOne (λ p. views_in (first_on found p)) p
   one_view p below =
       let k = known setup w actors left done sound p below in
-      record { x = view_of k.session; is = ap (λ (o : Option Found). views_in o) (is_found setup w actors left done sound p k) }
+      record { x = session_view k.session; is = ap (λ (o : Option Found). views_in o) (is_found setup w actors left done sound p k) }
 
-  sees : (lab : Lab) → lab.placement ≡ flat_map (λ p. places_in (first_on found p)) (range_with_len 0 (peerings_in setup)) → lab.sessions ≡ flat_map (λ p. views_in (first_on found p)) (range_with_len 0 (peerings_in setup))
+  sees : (lab : Lab) → lab.placement ≡ flat_map (λ p. places_in (first_on found p)) (range_with_len 0 (peerings_in setup))
+      → lab.sessions ≡ flat_map (λ p. views_in (first_on found p)) (range_with_len 0 (peerings_in setup))
       → (p : ℕ) → p < peerings_in setup → SeesSession setup w lab p
   sees lab places views p below =
       let k = known setup w actors left done sound p below in
@@ -57,13 +58,16 @@ module _ (setup : Setup) (w : World) (actors : List Node) (left : List (Left Mai
       record {
         session = k.session;
         one = one_session setup w p k.phase k.session k.stands;
-        view = ap (λ (xs : List SessionView). slice_get xs p) views ∙ one_of (λ p. views_in (first_on found p)) (peerings_in setup) p (view_of k.session) one_view below (ap (λ (o : Option Found). views_in o) there);
+        view = ap (λ (xs : List SessionView). slice_get xs p) views
+            ∙ one_of (λ p. views_in (first_on found p)) (peerings_in setup) p (session_view k.session) one_view below (ap (λ (o : Option Found). views_in o) there);
         place = place_in k.phase;
-        placed = ap (λ (xs : List Place). slice_get xs p) places ∙ one_of (λ p. places_in (first_on found p)) (peerings_in setup) p (place_in k.phase) one_place below (ap (λ (o : Option Found). places_in o) there);
+        placed = ap (λ (xs : List Place). slice_get xs p) places
+            ∙ one_of (λ p. places_in (first_on found p)) (peerings_in setup) p (place_in k.phase) one_place below (ap (λ (o : Option Found). places_in o) there);
         is = is_placed setup w actors left done sound p k;
       }
 
-  by_setup : (lab : Lab) → IsMade setup actors left (routers_in setup) (peerings_in setup) lab.log lab.far lab.tables lab.placement lab.sessions → Observed setup w lab
+  by_setup : (lab : Lab) → IsMade setup actors left (routers_in setup) (peerings_in setup) lab.log lab.far lab.tables lab.placement lab.sessions
+      → Observed setup w lab
   by_setup lab made = record {
     log = made.log_is ∙ log_is setup w actors left done;
     placed = ap (λ (xs : List Place). length xs) made.placement_is ∙ as_many (λ p. places_in (first_on found p)) (peerings_in setup) one_place;
@@ -74,7 +78,8 @@ module _ (setup : Setup) (w : World) (actors : List Node) (left : List (Left Mai
   }
 
   -- what is made of so many routers and peerings as the setup has
-  pub observed : (lab : Lab) (routers peerings : ℕ) → routers_in setup ≡ routers → peerings_in setup ≡ peerings → IsMade setup actors left routers peerings lab.log lab.far lab.tables lab.placement lab.sessions → Observed setup w lab
+  pub observed : (lab : Lab) (routers peerings : ℕ) → routers_in setup ≡ routers → peerings_in setup ≡ peerings
+      → IsMade setup actors left routers peerings lab.log lab.far lab.tables lab.placement lab.sessions → Observed setup w lab
   observed lab routers peerings many_routers many_peerings made = by_setup lab
       (subst (λ n. IsMade setup actors left n (peerings_in setup) lab.log lab.far lab.tables lab.placement lab.sessions) (sym many_routers)
       (subst (λ n. IsMade setup actors left routers n lab.log lab.far lab.tables lab.placement lab.sessions) (sym many_peerings) made))

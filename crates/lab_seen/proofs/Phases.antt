@@ -7,11 +7,11 @@ use Rattle.session_value.specs.Sessions.{SessionValue}
 use Rattle.graft_model.specs.Setups.{Setup, routers_in}
 use Rattle.graft_model.specs.Parts.{Place, Vacant, Live, Frozen, Shadow, Order, Errand, Mesh, Told, Moved, Back, Asked, Answered, Done, Leaving, Owing, Asking as AskingOf}
 use Rattle.graft_model.specs.Claims.{sessions_at}
-use Rattle.graft_laws.specs.Owned.{mesh_of}
+use Rattle.graft_laws.specs.Owned.{mesh_items_on}
 use Rattle.graft_laws.specs.Phases.{Ordered, Stored, Halted, Moving, Landed, Asking, Confirmed, Returning, Declined, Cleared, Phase, Idle, Busy, place_by, placed_at, mesh_by, only2, InBounds}
 use Rattle.lab_report.specs.declared.lab.Place.{Place as LabPlace}
 use Rattle.lab_report.specs.declared.lab.Place.TheVariants as labs
-use Rattle.lab_seen.specs.Seen.{view_of}
+use Rattle.lab_seen.specs.Seen.{session_view}
 use Rattle.lab_seen.specs.declared.found.Found.{Found}
 
 -- the router that holds the session, or that it is on its way
@@ -60,7 +60,8 @@ no_shadow k x o e = cc
 no_frozen : (s : SessionValue) (order : Order) (x : SessionValue) (o : Option Errand) → Frozen s order ≡ Live x o → ⊥
 no_frozen s order x o e = cc
 
-landed_is : (q r t k : ℕ) (s x : SessionValue) (o o' : Option Errand) → cond (r == t) (Live s o') (placed_at q (Shadow k) r) ≡ Live x o → (x ≡ s) × (held_at r ≡ held_at t)
+landed_is : (q r t k : ℕ) (s x : SessionValue) (o o' : Option Errand) → cond (r == t) (Live s o') (placed_at q (Shadow k) r) ≡ Live x o
+    → (x ≡ s) × (held_at r ≡ held_at t)
 landed_is q r t k s x o o' e = elim (eqb_tells r t) [
   | inl same ↦ (let f : Live s o' ≡ Live x o = sym (rw (same.0) refl) ∙ e in (cc, ap held_at same.1))
   | inr apart ↦ absurd (no_live q r (Shadow k) x o (no_shadow k x o) (sym (rw (apart.0) refl) ∙ e))
@@ -84,7 +85,7 @@ live_by (Busy q k t Cleared) s r x o e = let h = live_is t r s x None o e in rec
 
 -- a session that is on its way, as it is found
 abbrev pub moving : SessionValue → Found
-moving x = record { peering = x.config.peering; place = labs.Moving; view = view_of x }
+moving x = record { peering = x.config.peering; place = labs.Moving; view = session_view x }
 
 -- this holds of the session that an item carries, where it carries that of its peering
 abbrev pub OnMesh : (Found → Type 0) → Mesh → Type 0
@@ -128,37 +129,44 @@ moved_by p (Busy q k t (Declined refusal)) s a b = tt
 moved_by p (Busy q k t Cleared) s a b = tt
 
 -- so do all items of a channel, where those of the peering do
-carries_all : (p : ℕ) (phase : Phase) (s : SessionValue) (items : List Mesh) → AllByRecursion (CarriesOnly p phase s) (mesh_of p items) → AllByRecursion (CarriesOnly p phase s) items
+carries_all : (p : ℕ) (phase : Phase) (s : SessionValue) (items : List Mesh) → AllByRecursion (CarriesOnly p phase s) (mesh_items_on p items)
+    → AllByRecursion (CarriesOnly p phase s) items
 carries_all p phase s [] all = tt
 carries_all p phase s (Told prefix route ∷ items) all = (tt, carries_all p phase s items all)
 carries_all p phase s (Moved k q x ∷ items) all = by_test (q == p) refl (carries_all p phase s items) all where
-  by_test : (b : Bool) → (q == p) ≡ b → (AllByRecursion (CarriesOnly p phase s) (mesh_of p items) → AllByRecursion (CarriesOnly p phase s) items)
-      → AllByRecursion (CarriesOnly p phase s) (cond b (Moved k q x ∷ mesh_of p items) (mesh_of p items)) → AllByRecursion (CarriesOnly p phase s) (Moved k q x ∷ items)
+  by_test : (b : Bool) → (q == p) ≡ b → (AllByRecursion (CarriesOnly p phase s) (mesh_items_on p items) → AllByRecursion (CarriesOnly p phase s) items)
+      → AllByRecursion (CarriesOnly p phase s) (cond b (Moved k q x ∷ mesh_items_on p items) (mesh_items_on p items))
+      → AllByRecursion (CarriesOnly p phase s) (Moved k q x ∷ items)
   by_test true e rest all = (all.0, rest all.1)
   by_test false e rest all = (λ same. absurd (differs q p e same), rest all)
 carries_all p phase s (Back k q x refusal ∷ items) all = by_test (q == p) refl (carries_all p phase s items) all where
-  by_test : (b : Bool) → (q == p) ≡ b → (AllByRecursion (CarriesOnly p phase s) (mesh_of p items) → AllByRecursion (CarriesOnly p phase s) items)
-      → AllByRecursion (CarriesOnly p phase s) (cond b (Back k q x refusal ∷ mesh_of p items) (mesh_of p items)) → AllByRecursion (CarriesOnly p phase s) (Back k q x refusal ∷ items)
+  by_test : (b : Bool) → (q == p) ≡ b → (AllByRecursion (CarriesOnly p phase s) (mesh_items_on p items) → AllByRecursion (CarriesOnly p phase s) items)
+      → AllByRecursion (CarriesOnly p phase s) (cond b (Back k q x refusal ∷ mesh_items_on p items) (mesh_items_on p items))
+      → AllByRecursion (CarriesOnly p phase s) (Back k q x refusal ∷ items)
   by_test true e rest all = (all.0, rest all.1)
   by_test false e rest all = (λ same. absurd (differs q p e same), rest all)
 carries_all p phase s (Asked k q ∷ items) all = (tt, carries_all p phase s items all)
 carries_all p phase s (Answered k q ∷ items) all = (tt, carries_all p phase s items all)
 carries_all p phase s (Done k q ∷ items) all = by_test (q == p) (carries_all p phase s items) all where
-  by_test : (b : Bool) → (AllByRecursion (CarriesOnly p phase s) (mesh_of p items) → AllByRecursion (CarriesOnly p phase s) items)
-      → AllByRecursion (CarriesOnly p phase s) (cond b (Done k q ∷ mesh_of p items) (mesh_of p items)) → AllByRecursion (CarriesOnly p phase s) (Done k q ∷ items)
+  by_test : (b : Bool) → (AllByRecursion (CarriesOnly p phase s) (mesh_items_on p items) → AllByRecursion (CarriesOnly p phase s) items)
+      → AllByRecursion (CarriesOnly p phase s) (cond b (Done k q ∷ mesh_items_on p items) (mesh_items_on p items))
+      → AllByRecursion (CarriesOnly p phase s) (Done k q ∷ items)
   by_test true rest all = (tt, rest all.1)
   by_test false rest all = (tt, rest all)
 
-pub moved_only : (p : ℕ) (phase : Phase) (s : SessionValue) (a b : ℕ) (items : List Mesh) → mesh_of p items ≡ mesh_by phase p s a b → AllByRecursion (CarriesOnly p phase s) items
+pub moved_only : (p : ℕ) (phase : Phase) (s : SessionValue) (a b : ℕ) (items : List Mesh) → mesh_items_on p items ≡ mesh_by phase p s a b
+    → AllByRecursion (CarriesOnly p phase s) items
 moved_only p phase s a b items is = carries_all p phase s items (subst (λ (xs : List Mesh). AllByRecursion (CarriesOnly p phase s) xs) (sym is) (moved_by p phase s a b))
 
 -- ---- somewhere
 
 -- The session is live at a router, or frozen there; or an item that carries it is on its way between two routers, and no router has it.
 pub data Whereabouts (setup : Setup) (p : ℕ) (phase : Phase) (s : SessionValue) : Type 0 where
-  AtRouter : (r : ℕ) (order : Option Errand) → r < routers_in setup → place_by phase s r ≡ Live s order → place_in phase ≡ held_at r → Whereabouts setup p phase s
+  AtRouter : (r : ℕ) (order : Option Errand) → r < routers_in setup → place_by phase s r ≡ Live s order → place_in phase ≡ held_at r
+      → Whereabouts setup p phase s
   Halts : (r : ℕ) (order : Order) → r < routers_in setup → place_by phase s r ≡ Frozen s order → place_in phase ≡ held_at r → Whereabouts setup p phase s
-  OnWay : (a b : ℕ) (item : Mesh) → a < routers_in setup → b < routers_in setup → a ≢ b → mesh_by phase p s a b ≡ item ∷ [] → (OnMesh (IsNotOn p) item → s.config.peering.0 ≡ p → ⊥)
+  OnWay : (a b : ℕ) (item : Mesh) → a < routers_in setup → b < routers_in setup → a ≢ b → mesh_by phase p s a b ≡ item ∷ []
+      → (OnMesh (IsNotOn p) item → s.config.peering.0 ≡ p → ⊥)
       → place_in phase ≡ labs.Moving → ((r : ℕ) → sessions_at (place_by phase s r) ≡ []) → Whereabouts setup p phase s
 
 placed : (q : ℕ) (place : Place) → placed_at q place q ≡ place

@@ -30,7 +30,8 @@ module _ {A : Type 0} where
     pub x : A
     pub is : f k ≡ x ∷ []
 
-  one_in : (f : ℕ → List A) (a n k : ℕ) (x : A) → ((j : ℕ) → j < a + n → IsOne f j) → k < n → f (a + k) ≡ x ∷ [] → slice_get (flat_map f (range_with_len a n)) k ≡ Some x
+  one_in : (f : ℕ → List A) (a n k : ℕ) (x : A) → ((j : ℕ) → j < a + n → IsOne f j) → k < n → f (a + k) ≡ x ∷ []
+      → slice_get (flat_map f (range_with_len a n)) k ≡ Some x
   one_in f a zero k x h below is = absurd (omega (arith, below))
   one_in f a (suc n) zero x h below is =
       let same : a + zero ≡ a = omega arith in
@@ -41,7 +42,8 @@ module _ {A : Type 0} where
       ∙ one_in f (a + 1) n k x (λ j l. h j (omega (arith, l))) (omega (arith, below)) (ap f same ∙ is)
 
   -- the element that a number makes
-  pub one_of : (f : ℕ → List A) (n k : ℕ) (x : A) → ((j : ℕ) → j < n → IsOne f j) → k < n → f k ≡ x ∷ [] → slice_get (flat_map f (range_with_len 0 n)) k ≡ Some x
+  pub one_of : (f : ℕ → List A) (n k : ℕ) (x : A) → ((j : ℕ) → j < n → IsOne f j) → k < n → f k ≡ x ∷ []
+      → slice_get (flat_map f (range_with_len 0 n)) k ≡ Some x
   one_of f n k x h below is = let same : 0 + k ≡ k = omega arith in one_in f 0 n k x (λ j l. h j (omega (arith, l))) below (ap f same ∙ is)
 
   as_many_in : (f : ℕ → List A) (a n : ℕ) → ((j : ℕ) → j < a + n → IsOne f j) → length (flat_map f (range_with_len a n)) ≡ n

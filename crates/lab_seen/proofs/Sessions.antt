@@ -19,11 +19,11 @@ use Rattle.graft_laws.specs.Owned.{Stands, is_on}
 use Rattle.graft_laws.specs.Phases.{Phase, place_by, mesh_by}
 use Rattle.graft_laws.proofs.Configs.{always_own}
 use Rattle.graft_laws.proofs.Runs.{always_owned}
-use Rattle.graft_runs.specs.Actors.{Thing, MeshItem}
-use Rattle.graft_runs.specs.Actors as names
-use Rattle.graft_runs.specs.Seen.{channel_of}
-use Rattle.graft_runs.specs.Actors.{actor_at}
-use Rattle.graft_runs.proofs.Numbers.{there}
+use Rattle.graft_actors.specs.Actors.{Thing, MeshItem}
+use Rattle.graft_actors.specs.Actors as names
+use Rattle.graft_actors.specs.Seen.{channel_of}
+use Rattle.graft_actors.specs.Actors.{actor_at}
+use Rattle.graft_actors.proofs.Numbers.{there}
 use Rattle.graft_actors.specs.Items.{thing_of}
 use Rattle.router_core.specs.declared.place.Place.{Place}
 use Rattle.router_core.specs.declared.place.Place.TheVariants.{Live, Shadow}
@@ -36,7 +36,7 @@ use Rattle.lab_report.specs.declared.lab.Place.TheVariants as labs
 use Rattle.lab_setup.proofs.Lists.{all_mapped, all_append}
 use Rattle.lab_seen.specs.Finished.{IsFinished}
 use Rattle.lab_seen.specs.Found.{found_at, held_by, carried_by, carried_in, first_on}
-use Rattle.lab_seen.specs.Seen.{view_of, IsPlace}
+use Rattle.lab_seen.specs.Seen.{session_view, IsSessionPlace}
 use Rattle.lab_seen.specs.declared.found.Found.{Found}
 use Rattle.lab_seen.proofs.Channels.{OnThing, found_to_things, things_to_found, on_channels, all_edges, edge_of_all}
 use Rattle.lab_seen.proofs.Nodes.{HasRouter, router_at}
@@ -46,13 +46,15 @@ use Rattle.lab_seen.proofs.Ranges.{all_left, all_right, all_unmapped, all_joined
 -- ---- places
 
 -- what holds of the session at each place holds of all sessions of the places
-places_to_sessions : (P : RunningSession → Type 0) (places : List (Option Place)) → ((q : ℕ) (x : RunningSession) (o : Option Errand) → place_at places q ≡ Some (Live x o) → P x) → AllByRecursion P (sessions_in places)
+places_to_sessions : (P : RunningSession → Type 0) (places : List (Option Place))
+    → ((q : ℕ) (x : RunningSession) (o : Option Errand) → place_at places q ≡ Some (Live x o) → P x) → AllByRecursion P (sessions_in places)
 places_to_sessions P [] each = tt
 places_to_sessions P (None ∷ places) each = places_to_sessions P places (λ q x o e. each (suc q) x o e)
 places_to_sessions P (Some (Live x o) ∷ places) each = (each 0 x o refl, places_to_sessions P places (λ q y n e. each (suc q) y n e))
 places_to_sessions P (Some (Shadow away) ∷ places) each = places_to_sessions P places (λ q x o e. each (suc q) x o e)
 
-sessions_to_places : (P : RunningSession → Type 0) (places : List (Option Place)) (q : ℕ) (x : RunningSession) (o : Option Errand) → place_at places q ≡ Some (Live x o) → AllByRecursion P (sessions_in places) → P x
+sessions_to_places : (P : RunningSession → Type 0) (places : List (Option Place)) (q : ℕ) (x : RunningSession) (o : Option Errand)
+    → place_at places q ≡ Some (Live x o) → AllByRecursion P (sessions_in places) → P x
 sessions_to_places P [] q x o e all = absurd cc
 sessions_to_places P (None ∷ places) zero x o e all = absurd cc
 sessions_to_places P (None ∷ places) (suc q) x o e all = sessions_to_places P places q x o e all
@@ -81,7 +83,8 @@ never_frozen (Some (Shadow away)) s order e = cc
 -- ---- what is found first
 
 -- each session of the peering that was found is this one, and there is one
-pub found_one : (found : List Found) (p : ℕ) (one : Found) → AllByRecursion (λ x. x.peering.0 ≡ p → x ≡ one) found → (AllByRecursion (IsNotOn p) found → ⊥) → first_on found p ≡ Some one
+pub found_one : (found : List Found) (p : ℕ) (one : Found) → AllByRecursion (λ x. x.peering.0 ≡ p → x ≡ one) found
+    → (AllByRecursion (IsNotOn p) found → ⊥) → first_on found p ≡ Some one
 found_one [] p one all some = absurd (some tt)
 found_one (x ∷ found) p one all some = elim (eqb_tells x.peering.0 p) [
   | inl same ↦ rw (same.0) (ap (λ (y : Found). Some y) (all.0 same.1))
@@ -103,9 +106,11 @@ module _ (setup : Setup) (w : World) (actors : List Node) (left : List (Left Mai
       let has = always_own setup sound w done.world.1 p below in
       record { phase = has.phase; session = has.session; stands = has.stands; number = number_is has.session.config (slice_get setup.peerings p) refl has.more.config }
     where
-      number_is : (config : SessionConfig) (o : Option PeeringSetup) → slice_get setup.peerings p ≡ o → option_map (λ peering. peering.config) o ≡ Some config → config.peering.0 ≡ p
+      number_is : (config : SessionConfig) (o : Option PeeringSetup) → slice_get setup.peerings p ≡ o
+          → option_map (λ peering. peering.config) o ≡ Some config → config.peering.0 ≡ p
       number_is config None e is = absurd cc
-      number_is config (Some peering) e is = ap (λ (c : SessionConfig). c.peering.0) (sym (same_Some peering.config config is)) ∙ (sound.peerings p peering e).number
+      number_is config (Some peering) e is = ap (λ (c : SessionConfig). c.peering.0) (sym (same_Some peering.config config is))
+          ∙ (sound.peerings p peering e).number
 
   place_is : (r q : ℕ) (here : HasRouter setup w actors left done r) → place_of (place_at here.router.fields.places.places q) ≡ (w.router r).places q
   place_is r q here = ap (λ (part : model.RouterPart). part.places q) here.part_is
@@ -114,7 +119,8 @@ module _ (setup : Setup) (w : World) (actors : List Node) (left : List (Left Mai
   below_or_past k n = grind arith
 
   -- a session at a router has the number of its place
-  number_at : (r q : ℕ) (here : HasRouter setup w actors left done r) (x : RunningSession) (o : Option Errand) → place_at here.router.fields.places.places q ≡ Some (Live x o) → x.session.config.peering.0 ≡ q
+  number_at : (r q : ℕ) (here : HasRouter setup w actors left done r) (x : RunningSession) (o : Option Errand)
+      → place_at here.router.fields.places.places q ≡ Some (Live x o) → x.session.config.peering.0 ≡ q
   number_at r q here x o e = elim (below_or_past q (peerings_in setup)) [
     | inl below ↦
         let k = known q below in
@@ -136,13 +142,15 @@ module _ (setup : Setup) (w : World) (actors : List Node) (left : List (Left Mai
   module _ (p : ℕ) (k : Known p) where
     -- as the session of the peering is found
     abbrev pub one : Found
-    one = record { peering = k.session.config.peering; place = place_in k.phase; view = view_of k.session }
+    one = record { peering = k.session.config.peering; place = place_in k.phase; view = session_view k.session }
 
     abbrev IsOnly : Found → Type 0
     IsOnly x = x.peering.0 ≡ p → x ≡ one
 
-    same_one : (x : SessionValue) (place : _) → x ≡ k.session → place ≡ place_in k.phase → record { peering = x.config.peering; place = place; view = view_of x } ≡ one
-    same_one x place same at = ap (λ (y : SessionValue). record { peering = y.config.peering; place = place; view = view_of y }) same ∙ ap (λ at. record { peering = k.session.config.peering; place = at; view = view_of k.session }) at
+    same_one : (x : SessionValue) (place : _) → x ≡ k.session → place ≡ place_in k.phase
+        → record { peering = x.config.peering; place = place; view = session_view x } ≡ one
+    same_one x place same at = ap (λ (y : SessionValue). record { peering = y.config.peering; place = place; view = session_view y }) same
+        ∙ ap (λ at. record { peering = k.session.config.peering; place = at; view = session_view k.session }) at
 
     -- ---- no other is found
 
@@ -153,7 +161,8 @@ module _ (setup : Setup) (w : World) (actors : List Node) (left : List (Left Mai
         subst (λ (o : Option Node). AllByRecursion IsOnly (held_by r o)) (sym here.is)
         (all_mapped (found_at (held_at r)) (λ x. IsOnly (found_at (held_at r) x)) IsOnly (λ x only. only) (sessions_in places) (places_to_sessions (λ x. IsOnly (found_at (held_at r) x)) places (each here)))
       where
-        each : (here : HasRouter setup w actors left done r) (q : ℕ) (x : RunningSession) (o : Option Errand) → place_at here.router.fields.places.places q ≡ Some (Live x o) → IsOnly (found_at (held_at r) x)
+        each : (here : HasRouter setup w actors left done r) (q : ℕ) (x : RunningSession) (o : Option Errand)
+            → place_at here.router.fields.places.places q ≡ Some (Live x o) → IsOnly (found_at (held_at r) x)
         each here q x o e on =
             let same : q ≡ p = sym (number_at r q here x o e) ∙ on in
             let it = live_by k.phase k.session r x.session (option_map errand_of o) (sym (k.stands.places r) ∙ sym (place_is r p here) ∙ ap (λ n. place_of (place_at here.router.fields.places.places n)) (sym same) ∙ ap place_of e) in
@@ -184,7 +193,8 @@ module _ (setup : Setup) (w : World) (actors : List Node) (left : List (Left Mai
 
     -- ---- it is found
 
-    held_some : (r : ℕ) (order : Option model.Errand) → r < routers_in setup → place_by k.phase k.session r ≡ model.Live k.session order → AllByRecursion (IsNotOn p) (held_by r (slice_get actors r)) → ⊥
+    held_some : (r : ℕ) (order : Option model.Errand) → r < routers_in setup → place_by k.phase k.session r ≡ model.Live k.session order
+        → AllByRecursion (IsNotOn p) (held_by r (slice_get actors r)) → ⊥
     held_some r order below is none =
         let here = router_at setup w actors left done r below in
         let places = here.router.fields.places.places in
@@ -198,7 +208,8 @@ module _ (setup : Setup) (w : World) (actors : List Node) (left : List (Left Mai
         let here = router_at setup w actors left done r below in
         never_frozen (place_at here.router.fields.places.places p) k.session order (place_is r p here ∙ k.stands.places r ∙ is)
 
-    moves : (a b : ℕ) (item : Mesh) → a < routers_in setup → b < routers_in setup → a ≢ b → mesh_by k.phase p k.session a b ≡ item ∷ [] → AllByRecursion (IsNotOn p) (flat_map carried_in left) → OnMesh (IsNotOn p) item
+    moves : (a b : ℕ) (item : Mesh) → a < routers_in setup → b < routers_in setup → a ≢ b → mesh_by k.phase p k.session a b ≡ item ∷ []
+        → AllByRecursion (IsNotOn p) (flat_map carried_in left) → OnMesh (IsNotOn p) item
     moves a b item a_in b_in apart is none =
         let channel : ℕ → ℕ → List Mail = λ x y. map (λ (z : Stamped Mail). z.item) (done.stand.view.channel x y) in
         let from : actor_at setup a ≡ Some (names.Router a) = there setup (names.Router a) a_in in
@@ -229,11 +240,11 @@ module _ (setup : Setup) (w : World) (actors : List Node) (left : List (Left Mai
 
     -- ---- its place
 
-    pub is_placed : IsPlace w p (place_in k.phase)
+    pub is_placed : IsSessionPlace w p (place_in k.phase)
     is_placed = elim (whereabouts setup p k.phase k.session k.stands.bounds) [
-      | AtRouter r order below is at ↦ subst (λ place. IsPlace w p place) (sym at) (there_is r (ap sessions_at (k.stands.places r ∙ is)))
-      | Halts r order below is at ↦ subst (λ place. IsPlace w p place) (sym at) (there_is r (ap sessions_at (k.stands.places r ∙ is)))
-      | OnWay a b item a_in b_in apart is carries at nowhere ↦ subst (λ place. IsPlace w p place) (sym at) (λ r. ap sessions_at (k.stands.places r) ∙ nowhere r)
+      | AtRouter r order below is at ↦ subst (λ place. IsSessionPlace w p place) (sym at) (there_is r (ap sessions_at (k.stands.places r ∙ is)))
+      | Halts r order below is at ↦ subst (λ place. IsSessionPlace w p place) (sym at) (there_is r (ap sessions_at (k.stands.places r ∙ is)))
+      | OnWay a b item a_in b_in apart is carries at nowhere ↦ subst (λ place. IsSessionPlace w p place) (sym at) (λ r. ap sessions_at (k.stands.places r) ∙ nowhere r)
     ]
       where
         there_is : (r : ℕ) → sessions_at ((w.router r).places p) ≡ k.session ∷ [] → sessions_at ((w.router r).places p) ≢ []

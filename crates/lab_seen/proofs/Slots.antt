@@ -27,7 +27,8 @@ itself : (p : ℕ) → (p == p) ≡ true
 itself p = grind (arith, nat_tests)
 
 -- what a slot has
-slot_is : (found : List Found) (slots : List (Option Found)) (n k : ℕ) (d : Option Found) → slots ≡ map (first_on found) (range_with_len 0 n) → k < n → get_or slots k d ≡ first_on found k
+slot_is : (found : List Found) (slots : List (Option Found)) (n k : ℕ) (d : Option Found) → slots ≡ map (first_on found) (range_with_len 0 n) → k < n
+    → get_or slots k d ≡ first_on found k
 slot_is found slots n k d is below =
     let place : 0 + k ≡ k = omega arith in
     ap (λ (xs : List (Option Found)). get_or xs k d) is ∙ get_or-map-range_with_len (first_on found) 0 n k k d below place
@@ -46,14 +47,16 @@ module _ (found : List Found) (one : Found) where
   ]
 
   here : first_on found one.peering.0 ≡ None → first_on (found ++ one ∷ []) one.peering.0 ≡ Some one
-  here none = added one.peering.0 ∙ ap (λ (o : Option Found). option_or o (cond (one.peering.0 == one.peering.0) (Some one) None)) none ∙ ap (λ t. cond t (Some one) None) (itself one.peering.0)
+  here none = added one.peering.0 ∙ ap (λ (o : Option Found). option_or o (cond (one.peering.0 == one.peering.0) (Some one) None)) none
+      ∙ ap (λ t. cond t (Some one) None) (itself one.peering.0)
 
   stays : (y : Found) → first_on found one.peering.0 ≡ Some y → first_on (found ++ one ∷ []) one.peering.0 ≡ first_on found one.peering.0
   stays y some = added one.peering.0 ∙ ap (λ (o : Option Found). option_or o (cond (one.peering.0 == one.peering.0) (Some one) None)) some ∙ sym some
 
   module _ (slots : List (Option Found)) (n : ℕ) (is : slots ≡ map (first_on found) (range_with_len 0 n)) where
     -- it is put into its slot
-    pub put_in : (p : ℕ) (x : Option Found) → p ≡ one.peering.0 → p < n → is_some (get_or slots p x) ≡ false → set slots p (Some one) ≡ map (first_on (found ++ one ∷ [])) (range_with_len 0 n)
+    pub put_in : (p : ℕ) (x : Option Found) → p ≡ one.peering.0 → p < n → is_some (get_or slots p x) ≡ false
+        → set slots p (Some one) ≡ map (first_on (found ++ one ∷ [])) (range_with_len 0 n)
     put_in p x same below none = same_lists (set slots p (Some one)) (map (first_on (found ++ one ∷ [])) (range_with_len 0 n))
         (length-set slots p (Some one) ∙ slots_in found slots n is ∙ sym (length-map-range_with_len (first_on (found ++ one ∷ [])) 0 n)) each
       where
@@ -63,7 +66,8 @@ module _ (found : List Found) (one : Found) where
         is_new : (k : ℕ) → p ≡ k → first_on (found ++ one ∷ []) k ≡ Some one
         is_new k e = ap (first_on (found ++ one ∷ [])) (sym e ∙ same) ∙ here empty
 
-        each : (k : ℕ) (d : Option Found) → k < length (set slots p (Some one)) → get_or (set slots p (Some one)) k d ≡ get_or (map (first_on (found ++ one ∷ [])) (range_with_len 0 n)) k d
+        each : (k : ℕ) (d : Option Found) → k < length (set slots p (Some one))
+            → get_or (set slots p (Some one)) k d ≡ get_or (map (first_on (found ++ one ∷ [])) (range_with_len 0 n)) k d
         each k d within =
             let count = length-set slots p (Some one) ∙ slots_in found slots n is in
             let l : k < n = omega arith in
@@ -80,7 +84,8 @@ module _ (found : List Found) (one : Found) where
     pub left_out : (p : ℕ) → p ≡ one.peering.0 → (p < n → IsFull slots p) → slots ≡ map (first_on (found ++ one ∷ [])) (range_with_len 0 n)
     left_out p same full = same_lists slots (map (first_on (found ++ one ∷ [])) (range_with_len 0 n)) (slots_in found slots n is ∙ sym (length-map-range_with_len (first_on (found ++ one ∷ [])) 0 n)) each
       where
-        kept : one.peering.0 < n → (o : Option Found) → first_on found one.peering.0 ≡ o → first_on (found ++ one ∷ []) one.peering.0 ≡ first_on found one.peering.0
+        kept : one.peering.0 < n → (o : Option Found) → first_on found one.peering.0 ≡ o
+            → first_on (found ++ one ∷ []) one.peering.0 ≡ first_on found one.peering.0
         kept below None e =
             let p_in : p < n = omega (arith, below, same) in
             let there = full p_in in
@@ -95,6 +100,7 @@ module _ (found : List Found) (one : Found) where
             let right = get_or-map-range_with_len (first_on (found ++ one ∷ [])) 0 n k k d l place in
             elim (eqb_tells one.peering.0 k) [
               | inl e ↦ (let below : one.peering.0 < n = omega (arith, l, e.1) in
-                  slot_is found slots n k d is l ∙ ap (first_on found) (sym e.1) ∙ sym (kept below (first_on found one.peering.0) refl) ∙ ap (first_on (found ++ one ∷ [])) e.1 ∙ sym right)
+                  slot_is found slots n k d is l ∙ ap (first_on found) (sym e.1) ∙ sym (kept below (first_on found one.peering.0) refl)
+                  ∙ ap (first_on (found ++ one ∷ [])) e.1 ∙ sym right)
               | inr ne ↦ slot_is found slots n k d is l ∙ sym (others k ne.1) ∙ sym right
             ]

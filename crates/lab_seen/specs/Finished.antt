@@ -1,7 +1,7 @@
 -- The end of a laboratory's net.
 use Rattle.std.specs.Prelude.{ℕ, ◌≡◌, List, length}
 use Rattle.ring_net.specs.declared.parts.Left.{Left}
-use Rattle.ring_net.specs.Left.{left_of}
+use Rattle.ring_net.specs.Left.{items_left}
 use Rattle.graft_model.specs.Setups.{Setup}
 use Rattle.graft_model.specs.Parts.{World}
 use Rattle.world_runs.specs.Labs.{actors_in}
@@ -21,4 +21,4 @@ pub record IsFinished (setup : Setup) (w : World) (actors : List Node) (left : L
   pub all : length actors ≡ actors_in setup
   pub edges : List (ℕ × ℕ)
   pub edges_are : AreEdgesOf setup edges
-  pub left_is : left ≡ left_of stand.view edges
+  pub left_is : left ≡ items_left stand.view edges

@@ -12,7 +12,7 @@ use Rattle.router_core.specs.declared.router as router_types
 use Rattle.far_side.specs.Fars as fars
 use Rattle.far_side.specs.declared.far.Far.{Far as TheFar}
 use Rattle.operator_core.specs.Grafts.{log_of}
-use Rattle.operator_core.specs.Operators.{setup_of, operator_part}
+use Rattle.operator_core.specs.Operators.{operator_setup, operator_part}
 use Rattle.operator_core.specs.declared.operator.Operator.{Operator as TheOperator}
 use Rattle.lab_report.specs.declared.lab.FarView.{FarView}
 use Rattle.lab_report.specs.declared.lab.Place.{Place}
@@ -22,7 +22,7 @@ use Rattle.lab_report.specs.declared.lab.SessionView.{SessionView}
 use Rattle.world_nodes.specs.declared.node.Node.{Node}
 use Rattle.world_nodes.specs.declared.node.Node.TheVariants.{Router, Far, Operator}
 use Rattle.world_nodes.specs.Nodes.{Mail}
-use Rattle.lab_seen.specs.Seen.{view_of, far_view, table_of}
+use Rattle.lab_seen.specs.Seen.{session_view, far_view, router_table_of}
 use Rattle.lab_seen.specs.declared.found.Found.{Found}
 
 -- ---- actors
@@ -41,31 +41,31 @@ operator_in (Some (Operator operator)) = Some operator
 operator_in _ = None
 
 -- what is seen of it
-abbrev pub tables_of : Setup → Option router_types.Router.Router → List RouterTable
-tables_of setup None = []
-tables_of setup (Some router) = table_of setup (routers.part_in router) ∷ []
+abbrev pub router_tables_of : Setup → Option router_types.Router.Router → List RouterTable
+router_tables_of setup None = []
+router_tables_of setup (Some router) = router_table_of setup (routers.part_of_router router) ∷ []
 
 abbrev pub fars_of : Option TheFar → List FarView
 fars_of None = []
-fars_of (Some far) = far_view (fars.part_in far) ∷ []
+fars_of (Some far) = far_view (fars.part_of_far far) ∷ []
 
 abbrev pub log_in : Option TheOperator → List GraftEntry
 log_in None = []
-log_in (Some operator) = log_of (setup_of operator) (operator_part operator)
+log_in (Some operator) = log_of (operator_setup operator) (operator_part operator)
 
 -- ---- sessions
 
 -- a session at its place, as it is seen
 abbrev pub found_at : Place → RunningSession → Found
-found_at place running = record { peering = running.session.config.peering; place = place; view = view_of running.session }
+found_at place running = record { peering = running.session.config.peering; place = place; view = session_view running.session }
 
-abbrev pub sessions_of : Option router_types.Router.Router → List RunningSession
-sessions_of None = []
-sessions_of (Some router) = sessions_in router.fields.places.places
+abbrev pub running_sessions : Option router_types.Router.Router → List RunningSession
+running_sessions None = []
+running_sessions (Some router) = sessions_in router.fields.places.places
 
 -- the sessions that the actor of this number holds
 abbrev pub held_by : ℕ → Option Node → List Found
-held_by r node = map (found_at (Held (record { 0 = r }))) (sessions_of (router_in node))
+held_by r node = map (found_at (Held (record { 0 = r }))) (running_sessions (router_in node))
 
 -- the session that an item carries
 abbrev pub carried_by : Mail → List Found

@@ -23,22 +23,22 @@ use Rattle.lab_report.specs.declared.lab.ToldEntry.{ToldEntry}
 -- ---- sessions
 
 -- a session's story, and the sizes of its tables
-abbrev pub view_of : SessionValue → SessionView
-view_of s = record { story = record { lines = s.story; remote_as = s.config.remote_as }; heard = table.len s.heard; told = table.len s.told }
+abbrev pub session_view : SessionValue → SessionView
+session_view s = record { story = record { lines = s.story; remote_as = s.config.remote_as }; heard = table.len s.heard; told = table.len s.told }
 
 -- where the session of a peering is: held by that router, or by none
-abbrev pub IsPlace : World → ℕ → Place → Type 0
-IsPlace w p (Held router) = sessions_at ((w.router router.0).places p) ≢ []
-IsPlace w p Moving = (r : ℕ) → sessions_at ((w.router r).places p) ≡ []
+abbrev pub IsSessionPlace : World → ℕ → Place → Type 0
+IsSessionPlace w p (Held router) = sessions_at ((w.router router.0).places p) ≢ []
+IsSessionPlace w p Moving = (r : ℕ) → sessions_at ((w.router r).places p) ≡ []
 
 -- A peering's session is where the `Lab` says, and has the view that it says.
 pub record SeesSession (setup : Setup) (w : World) (lab : Lab) (p : ℕ) : Type 0 where
   pub session : SessionValue
   pub one : sessions_of setup w p ≡ session ∷ []
-  pub view : slice_get lab.sessions p ≡ Some (view_of session)
+  pub view : slice_get lab.sessions p ≡ Some (session_view session)
   pub place : Place
   pub placed : slice_get lab.placement p ≡ Some place
-  pub is : IsPlace w p place
+  pub is : IsSessionPlace w p place
 
 -- ---- remotes and routers
 
@@ -52,8 +52,8 @@ abbrev pub told_entry : ℕ → PrefixValue × Route → ToldEntry
 told_entry q e = record { router = record { 0 = q }; prefix = e.0; route = e.1 }
 
 -- the best routes in ascending order of prefix, and what the other routers told in ascending order of router and prefix
-abbrev pub table_of : Setup → RouterPart → RouterTable
-table_of setup part = record {
+abbrev pub router_table_of : Setup → RouterPart → RouterTable
+router_table_of setup part = record {
   best = map best_entry (table.entries part.best);
   heard = flat_map (λ q. map (told_entry q) (table.entries (part.tellings q))) (router_numbers setup);
 }
@@ -66,4 +66,4 @@ pub record Observed (setup : Setup) (w : World) (lab : Lab) : Type 0 where
   pub viewed : length lab.sessions ≡ peerings_in setup
   pub sessions : (p : ℕ) → p < peerings_in setup → SeesSession setup w lab p
   pub far : lab.far ≡ map (λ p. far_view (w.far p)) (peering_numbers setup)
-  pub tables : lab.tables ≡ map (λ r. table_of setup (w.router r)) (router_numbers setup)
+  pub tables : lab.tables ≡ map (λ r. router_table_of setup (w.router r)) (router_numbers setup)

@@ -4,7 +4,7 @@ ghost use Rattle.std.specs.Prelude.{◌≡◌, ◌≤◌, ◌++◌, List, [], �
 ghost use Rattle.std.specs.List.{flat_map, range_with_len};
 ghost use Rattle.lab_report.specs.declared.lab.Place.TheVariants.{Held};
 ghost use Rattle.lab_seen.specs.declared.found.Found.{Found};
-ghost use Rattle.lab_seen.specs.Found.{found_at as found_at_lem, router_in, sessions_of as sessions_of_lem, held_by, carried_by, carried_in, first_on, places_in, views_in};
+ghost use Rattle.lab_seen.specs.Found.{found_at as found_at_lem, router_in, running_sessions, held_by, carried_by, carried_in, first_on, places_in, views_in};
 
 use crate::views::view_of;
 use bgp_session::{Capsule, Session};
@@ -36,7 +36,7 @@ fn found_at(place: Place, session: Session) -> Found
 
 /// Returns the sessions that an actor holds, if it is a router.
 fn sessions_at(alloc: Global, node: Option<Node>) -> Result<Items<Session>, NoMemory>
-    ensures { IfOk result (λ sessions. sessions ≡ sessions_of_lem (router_in node)) }
+    ensures { IfOk result (λ sessions. sessions ≡ running_sessions (router_in node)) }
 {
     match node {
         Some(Node::Router(router)) => router.into_sessions(alloc),

@@ -8,7 +8,7 @@ ghost use Rattle.journal_merge.specs.Merges.{Interleaves};
 ghost use Rattle.lab_setup.specs.Setups.{setup_of};
 ghost use Rattle.node_configs.specs.Accepted.{IsAccepted};
 ghost use Rattle.lab_seen.specs.Finished.{IsFinished};
-ghost use Rattle.lab_seen.specs.Found.{router_in, far_in, operator_in, tables_of as tables_of_lem, fars_of as fars_of_lem, log_in};
+ghost use Rattle.lab_seen.specs.Found.{router_in, far_in, operator_in, router_tables_of, fars_of as fars_of_lem, log_in};
 ghost use Rattle.lab_seen.specs.Seen.{Observed};
 
 use crate::found::{by_peering, sessions_of};
@@ -48,7 +48,7 @@ fn far_at(actors: &[Node], number: usize) -> Option<&Far>
 /// Returns the tables of the routers, which are the first actors.
 fn tables_of(alloc: Global, actors: &[Node], routers: usize) -> Result<Items<RouterTable>, NoMemory>
     requires { routers ≤ 256 }
-    ensures { IfOk result (λ tables. (setup : Setup) → routers_in setup ≡ routers → tables ≡ flat_map (λ r. tables_of_lem setup (router_in (slice_get actors.now r))) (range_with_len 0 routers)) }
+    ensures { IfOk result (λ tables. (setup : Setup) → routers_in setup ≡ routers → tables ≡ flat_map (λ r. router_tables_of setup (router_in (slice_get actors.now r))) (range_with_len 0 routers)) }
 {
     let mut tables = Items::new(alloc);
     for number in 0..routers {

@@ -19,7 +19,7 @@ use Rattle.lab_keys.specs.declared.flaw.Flaw.{Flaw}
 use Rattle.lab_keys.specs.declared.flaw.Flaw.TheVariants.{Shape, Limit}
 use Rattle.lab_keys.specs.declared.table_at.TableAt.{TableAt}
 use Rattle.lab_keys.specs.declared.table_at.TableAt.TheVariants as tables
-use Rattle.lab_keys.specs.Places.{Place, place, member_of}
+use Rattle.lab_keys.specs.Places.{KeyPlace, place, member_of}
 use Rattle.lab_keys.specs.Kinds.{each_from, flaw_if, beyond, list_of, array_flaw, table_flaw}
 use Rattle.lab_keys.specs.Keys.{present, keys_flaw, stray_flaw, tables_flaw}
 use Rattle.lab_keys.specs.Values.{text_at, items_at, tables_at}
@@ -30,13 +30,13 @@ use Rattle.lab_tables.specs.declared.input.Step.{Step}
 use Rattle.lab_tables.specs.declared.input.Step.TheVariants.{Announce, Withdraw, Raw, Graft, Settle, Evacuate}
 use Rattle.lab_tables.specs.declared.words.StepWord.{StepWord}
 use Rattle.lab_tables.specs.declared.words.StepWord.TheVariants.{Announces, Withdraws, SaysRaw, Grafts, Settles, Evacuates, Other}
-use Rattle.lab_tables.specs.Meanings.{number_of}
+use Rattle.lab_tables.specs.Meanings.{index_of_name}
 use Rattle.lab_tables.specs.Routers.{router_flaw, router_of}
-use Rattle.lab_tables.specs.Peerings.{cost_flaw, peering_flaw, peering_of, fault_flaw}
+use Rattle.lab_tables.specs.Peerings.{cost_flaw, peering_flaw, peering_input, fault_flaw}
 use Rattle.lab_tables.specs.Scripts.{word_at, step_flaw, peering_number, worded_step, step_of}
 use Rattle.lab_tables.specs.Documents.{home_keys, top_names, trace_keys, shaped, router_names_of, peerings_of, peering_names_of, lab_of}
 use Rattle.lab_input.specs.Names.{unknown, worded_named, step_named}
-use Rattle.lab_input.specs.Said.{update_of}
+use Rattle.lab_input.specs.Said.{step_update}
 use Rattle.lab_input.proofs.Ready.{accepted, IsRemote, IsRemoteOf, remote_kept, says_update, Says, SaysWell, steps_well}
 use Rattle.lab_setup.specs.Setups.{setup_of}
 use Rattle.lab_setup.proofs.Lists.{none_of, all_mapped, all_at, below_get}
@@ -60,14 +60,15 @@ none_both None b e f = f
 none_both (Some x) b e f = absurd (none_some x e)
 
 -- a count that isn't beyond its limits isn't beyond the upper one
-not_above : (at : Place) (low high n : ℕ) → beyond at low high n ≡ None → beyond at 0 high n ≡ None
+not_above : (at : KeyPlace) (low high n : ℕ) → beyond at low high n ≡ None → beyond at 0 high n ≡ None
 not_above at low high n none = by_tests (nat_lt n low) (nat_lt high n) (nat_lt n 0) none refl where
   by_tests : (a b c : Bool) → flaw_if (a || b) (Limit at n) ≡ None → nat_lt n 0 ≡ c → flaw_if (c || b) (Limit at n) ≡ None
   by_tests a b true none e = absurd (let f : nat_lt n 0 ≡ false = grind (arith, nat_tests) in false≢true (sym f ∙ e))
   by_tests true b false none e = absurd (none_some (Limit at n) none)
   by_tests false b false none e = none
 
-array_not_above : (at : Place) (low high : ℕ) (flaw : ℕ → Data → Option Flaw) (d : Data) → array_flaw at low high flaw d ≡ None → array_flaw at 0 high flaw d ≡ None
+array_not_above : (at : KeyPlace) (low high : ℕ) (flaw : ℕ → Data → Option Flaw) (d : Data) → array_flaw at low high flaw d ≡ None
+    → array_flaw at 0 high flaw d ≡ None
 array_not_above at low high flaw (array items) none =
     let count = beyond at low high (length (list_of items)) in
     let each = each_from flaw 0 (list_of items) in
@@ -79,12 +80,14 @@ array_not_above at low high flaw (boolean _) none = absurd (none_some (Shape at)
 array_not_above at low high flaw (datetime _) none = absurd (none_some (Shape at) none)
 array_not_above at low high flaw (table _) none = absurd (none_some (Shape at) none)
 
-few_of : (at : TableAt) (t : Members) (key : List ℕ) (needed : Bool) (low high : ℕ) (flaw : ℕ → Members → Option Flaw) → tables_flaw at key needed low high flaw t ≡ None → length (tables_at key t) ≤ high
+few_of : (at : TableAt) (t : Members) (key : List ℕ) (needed : Bool) (low high : ℕ) (flaw : ℕ → Members → Option Flaw)
+    → tables_flaw at key needed low high flaw t ≡ None → length (tables_at key t) ≤ high
 few_of at t key needed low high flaw none = tables_few at t key high flaw (by_value (get_member key t) none) where
   flaws : ℕ → Data → Option Flaw
   flaws i = table_flaw (member_of (place at key) i) (flaw i)
 
-  by_value : (o : Option Data) → present (place at key) needed (array_flaw (place at key) low high flaws) o ≡ None → present (place at key) false (array_flaw (place at key) 0 high flaws) o ≡ None
+  by_value : (o : Option Data) → present (place at key) needed (array_flaw (place at key) low high flaws) o ≡ None
+      → present (place at key) false (array_flaw (place at key) 0 high flaws) o ≡ None
   by_value None none = refl
   by_value (Some d) none = array_not_above (place at key) low high flaws d none
 
@@ -125,7 +128,7 @@ tables_kept doc none =
 lab_few : (doc : Members) → HasTables doc → HasFew (lab_of doc)
 lab_few doc kept =
     let routers = length-map (tables_at (codes "router") doc) router_of in
-    let peerings = length-map (tables_at (codes "peering") doc) (peering_of doc (router_names_of doc)) in
+    let peerings = length-map (tables_at (codes "peering") doc) (peering_input doc (router_names_of doc)) in
     let steps = length-map (tables_at (codes "step") doc) (step_of (router_names_of doc) (peerings_of doc)) in
     let a = kept.routers in
     let b = kept.peerings in
@@ -171,14 +174,14 @@ module _ (doc : Members) (kept : HasTables doc) where
   Speaks p = (p.remote_as < 2 ^ 32) × (is_no_host p.remote_address ≡ false)
 
   all_speak : AllByRecursion Speaks peerings
-  all_speak = all_mapped (peering_of doc routers) IsRemote Speaks (λ t is. (let few = is.remote_as.few in omega arith, is.address)) (tables_at (codes "peering") doc) kept.remotes
+  all_speak = all_mapped (peering_input doc routers) IsRemote Speaks (λ t is. (let few = is.remote_as.few in omega arith, is.address)) (tables_at (codes "peering") doc) kept.remotes
 
-  speaks : (text : List ℕ) → unknown (peering_names_of doc) text ≡ None → IsRemoteOf (slice_get peerings (number_of (peering_names_of doc) text))
+  speaks : (text : List ℕ) → unknown (peering_names_of doc) text ≡ None → IsRemoteOf (slice_get peerings (index_of_name (peering_names_of doc) text))
   speaks text none =
       let as_many = length-map peerings (λ (p : PeeringInput). p.name) in
       let below = number_below (peering_names_of doc) text (known (peering_names_of doc) text none) in
-      let there = below_get peerings (number_of (peering_names_of doc) text) (omega arith) in
-      subst IsRemoteOf (sym there.is) (all_at Speaks peerings (number_of (peering_names_of doc) text) there.x all_speak there.is)
+      let there = below_get peerings (index_of_name (peering_names_of doc) text) (omega arith) in
+      subst IsRemoteOf (sym there.is) (all_at Speaks peerings (index_of_name (peering_names_of doc) text) there.x all_speak there.is)
 
   named : (word : StepWord) (t : Members) → worded_named word routers (peering_names_of doc) t ≡ None → says_update (worded_step word routers peerings t) ≡ true
       → IsRemoteOf (slice_get peerings (peering_number peerings t))
@@ -196,19 +199,20 @@ module _ (doc : Members) (kept : HasTables doc) where
     by_test true e = well (named (word_at t) t none) e
     by_test false e = not_said (step_of routers peerings t) e
 
-  all_said : (ts : List Members) → AllByRecursion (SaysWell routers peerings) ts → AllByRecursion (λ t. step_named routers (peering_names_of doc) t ≡ None) ts → AllByRecursion Says (map (step_of routers peerings) ts)
+  all_said : (ts : List Members) → AllByRecursion (SaysWell routers peerings) ts
+      → AllByRecursion (λ t. step_named routers (peering_names_of doc) t ≡ None) ts → AllByRecursion Says (map (step_of routers peerings) ts)
   all_said [] wells nones = tt
   all_said (t ∷ ts) wells nones = (said_well t wells.0 nones.0, all_said ts wells.1 nones.1)
 
-in_width : (wide : Bool) (steps : List Step) → AllByRecursion Says steps → AllByRecursion (λ step. IsWritable (UpdateMsg (update_of step)) wide) steps
+in_width : (wide : Bool) (steps : List Step) → AllByRecursion Says steps → AllByRecursion (λ step. IsWritable (UpdateMsg (step_update step)) wide) steps
 in_width wide [] all = tt
 in_width wide (step ∷ steps) all = (all.0 wide, in_width wide steps all.1)
 
 -- the UPDATE of each step can be written with AS numbers of two octets and of four
-pub writable : (input : LabInput) → IsAccepted input → (wide : Bool) → All (λ step. IsWritable (UpdateMsg (update_of step)) wide) input.steps
+pub writable : (input : LabInput) → IsAccepted input → (wide : Bool) → All (λ step. IsWritable (UpdateMsg (step_update step)) wide) input.steps
 writable input from wide =
     let a = accepted from.bytes input from.is in
     let kept : HasTables a.doc = tables_kept a.doc a.no_flaw in
     let said : AllByRecursion Says (lab_of a.doc).steps = all_said a.doc kept (tables_at (codes "step") a.doc) kept.said (names_kept a.doc a.no_name).steps in
-    All-from_recursion (λ (step : Step). IsWritable (UpdateMsg (update_of step)) wide) input.steps
+    All-from_recursion (λ (step : Step). IsWritable (UpdateMsg (step_update step)) wide) input.steps
     (in_width wide input.steps (subst (λ (i : LabInput). AllByRecursion Says i.steps) a.is said))

@@ -24,7 +24,7 @@ use Rattle.lab_tables.specs.declared.input.PeeringInput.{PeeringInput}
 use Rattle.lab_tables.specs.declared.input.Step.{Step}
 use Rattle.lab_tables.specs.declared.words.StepWord.{StepWord}
 use Rattle.lab_tables.specs.declared.words.StepWord.TheVariants.{Announces, Withdraws, SaysRaw, Grafts, Settles, Evacuates, Other}
-use Rattle.lab_tables.specs.Scripts.{word_at, is_word, is_settle, is_evacuate, is_crowded, do_keys, worded_flaw, step_flaw, worded_step, step_of}
+use Rattle.lab_tables.specs.Scripts.{word_at, is_word, is_settle_word, is_evacuate, is_crowded, do_keys, worded_flaw, step_flaw, worded_step, step_of}
 use Rattle.lab_tables.specs.Documents.{router_names_of, peerings_of, lab_of}
 use Rattle.lab_input.specs.Labs.{InputOf}
 use Rattle.lab_input.proofs.Ready.{accepted}
@@ -50,7 +50,7 @@ module _ (setup : Setup) (called : List (List ℕ)) (ps : List PeeringInput) whe
   abbrev made : StepWord → Members → ScriptStep
   made word t = script_step ps (worded_step word called ps t)
 
-  ends_as : (word : StepWord) (t : Members) → ends_group (made word t) ≡ is_settle word
+  ends_as : (word : StepWord) (t : Members) → ends_group (made word t) ≡ is_settle_word word
   ends_as Announces t = refl
   ends_as Withdraws t = refl
   ends_as SaysRaw t = refl
@@ -68,7 +68,8 @@ module _ (setup : Setup) (called : List (List ℕ)) (ps : List PeeringInput) whe
   evacuates_by Evacuates t known router e = refl
   evacuates_by Other t known router e = absurd (known refl)
 
-  moves_by : (word : StepWord) (t : Members) → (word ≡ Other → ⊥) → (i p : ℕ) → slice_get (moved_by setup (made word t)) i ≡ Some p → (word ≡ Grafts) ⊎ (word ≡ Evacuates)
+  moves_by : (word : StepWord) (t : Members) → (word ≡ Other → ⊥) → (i p : ℕ) → slice_get (moved_by setup (made word t)) i ≡ Some p
+      → (word ≡ Grafts) ⊎ (word ≡ Evacuates)
   moves_by Announces t known i p e = absurd (none_is p e)
   moves_by Withdraws t known i p e = absurd (none_is p e)
   moves_by SaysRaw t known i p e = absurd (none_is p e)
@@ -162,8 +163,8 @@ module _ (doc : Members) (tables : StepsAreTables doc) (words : AllByRecursion I
       ap (λ ss. length (filter ends_group (take n ss))) script_is
       ∙ ap (λ ss. length (filter ends_group ss)) (take-append-le n script (ended_by (last_or None script)) few)
       ∙ ap (λ ss. length (filter ends_group (take n ss))) (map_twice (script_step ps) of ts)
-      ∙ same_counts (λ t. script_step ps (of t)) table ends_group (is_word is_settle) (λ t. ends_as setup called ps (word_at t) t) ts n
-      ∙ sym (ap (λ ds. length (filter (is_word is_settle) (take n ds))) tables.whole)
+      ∙ same_counts (λ t. script_step ps (of t)) table ends_group (is_word is_settle_word) (λ t. ends_as setup called ps (word_at t) t) ts n
+      ∙ sym (ap (λ ds. length (filter (is_word is_settle_word) (take n ds))) tables.whole)
 
   -- ---- two steps of one group
 
@@ -178,7 +179,7 @@ module _ (doc : Members) (tables : StepsAreTables doc) (words : AllByRecursion I
     is_evac = ap is_evacuate empties
 
     whole_there : whole steps n ≡ true
-    whole_there = evacuates_whole steps n (table t) (item n t at) is_evac (ap is_settle empties)
+    whole_there = evacuates_whole steps n (table t) (item n t at) is_evac (ap is_settle_word empties)
 
     crowded : (k : ℕ) (v : Members) → slice_get ts k ≡ Some v → is_crowded (before steps k) (whole steps k) (word_at v) ≡ false
     crowded k v there = uncrowded steps k v (tables.each k v there)
@@ -214,7 +215,8 @@ module _ (doc : Members) (tables : StepsAreTables doc) (words : AllByRecursion I
   moves_none i p e = none_is p e
 
   -- a step of the group of an evacuate step that moves a session is that step
-  pub only_one : (n router m i p : ℕ) (s : ScriptStep) → slice_get setup.steps n ≡ Some (EvacuateStep router) → slice_get setup.steps m ≡ Some s → slice_get (moved_by setup s) i ≡ Some p
+  pub only_one : (n router m i p : ℕ) (s : ScriptStep) → slice_get setup.steps n ≡ Some (EvacuateStep router) → slice_get setup.steps m ≡ Some s
+      → slice_get (moved_by setup s) i ≡ Some p
       → group_of setup m ≡ group_of setup n → m ≡ n
   only_one n router m i p s at too moved group =
       let here = step_from n (EvacuateStep router) at (λ e. cc) in

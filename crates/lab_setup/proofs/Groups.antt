@@ -7,12 +7,12 @@ use Rattle.std.proofs.lemmas.Option.{unwrap_or-slice_get}
 use Rattle.toml.specs.Data.{Data, string, integer, float, boolean, datetime, array, table, as_table, Members, get_member}
 use Rattle.lab_keys.specs.declared.flaw.Flaw.{Flaw}
 use Rattle.lab_keys.specs.declared.table_at.TableAt.TheVariants as tables
-use Rattle.lab_keys.specs.Places.{Place, place, member_of}
+use Rattle.lab_keys.specs.Places.{KeyPlace, place, member_of}
 use Rattle.lab_keys.specs.Kinds.{each_from, list_of, array_flaw, table_flaw}
 use Rattle.lab_keys.specs.Keys.{present, tables_flaw}
 use Rattle.lab_keys.specs.Values.{items_in, items_at}
 use Rattle.lab_keys.proofs.NoFlaws.{none_left, none_right}
-use Rattle.lab_tables.specs.Scripts.{is_word, is_settle, is_evacuate, evacuates, group_from, group_before, step_flaw}
+use Rattle.lab_tables.specs.Scripts.{is_word, is_settle_word, is_evacuate, evacuates, group_from, group_before, step_flaw}
 use Rattle.lab_tables.proofs.Groups.{IsGrouped, group_next}
 use Rattle.lab_setup.proofs.Lists.{below_get, get_below, some_is, none_is}
 
@@ -25,7 +25,7 @@ or_true false = refl
 module _ (xs : List Data) where
   -- how many groups end before a step, whether a step before it in its group evacuates, and whether any step of its group does
   abbrev pub ends : ℕ → ℕ
-  ends i = length (filter (is_word is_settle) (take i xs))
+  ends i = length (filter (is_word is_settle_word) (take i xs))
 
   abbrev pub before : ℕ → Bool
   before i = evacuates (group_before xs i)
@@ -37,21 +37,21 @@ module _ (xs : List Data) where
   read i x at = sym (ap (λ o. unwrap_or o x) at) ∙ unwrap_or-slice_get xs i x
 
   grouped : (i : ℕ) (x : Data) → slice_get xs i ≡ Some x
-      → IsGrouped xs (i + 1) (cond (is_word is_settle x) false (is_word is_evacuate x || before i)) (cond (is_word is_settle x) (evacuates (group_from xs (i + 1))) (whole i))
+      → IsGrouped xs (i + 1) (cond (is_word is_settle_word x) false (is_word is_evacuate x || before i)) (cond (is_word is_settle_word x) (evacuates (group_from xs (i + 1))) (whole i))
   grouped i x at = group_next xs i x (before i) (whole i) _ _ (get_below xs i x at) (read i x at) (record { before_is = refl; whole_is = refl }) refl refl
 
-  next_before : (i : ℕ) (x : Data) → slice_get xs i ≡ Some x → is_word is_settle x ≡ false → before (i + 1) ≡ (is_word is_evacuate x || before i)
+  next_before : (i : ℕ) (x : Data) → slice_get xs i ≡ Some x → is_word is_settle_word x ≡ false → before (i + 1) ≡ (is_word is_evacuate x || before i)
   next_before i x at goes_on = sym (grouped i x at).before_is ∙ ap (λ t. cond t false (is_word is_evacuate x || before i)) goes_on
 
-  next_whole : (i : ℕ) (x : Data) → slice_get xs i ≡ Some x → is_word is_settle x ≡ false → whole (i + 1) ≡ whole i
+  next_whole : (i : ℕ) (x : Data) → slice_get xs i ≡ Some x → is_word is_settle_word x ≡ false → whole (i + 1) ≡ whole i
   next_whole i x at goes_on = sym (grouped i x at).whole_is ∙ ap (λ t. cond t (evacuates (group_from xs (i + 1))) (whole i)) goes_on
 
   -- ---- in one group
 
-  one_more : (i : ℕ) (x : Data) → slice_get xs i ≡ Some x → ends (i + 1) ≡ ends i + cond (is_word is_settle x) 1 0
+  one_more : (i : ℕ) (x : Data) → slice_get xs i ≡ Some x → ends (i + 1) ≡ ends i + cond (is_word is_settle_word x) 1 0
   one_more i x at =
-      length-filter_more (is_word is_settle) xs i x (get_below xs i x at)
-      ∙ ap (λ y. ends i + cond (is_word is_settle y) 1 0) (sym (read i x at))
+      length-filter_more (is_word is_settle_word) xs i x (get_below xs i x at)
+      ∙ ap (λ y. ends i + cond (is_word is_settle_word y) 1 0) (sym (read i x at))
 
   rises : (n j m : ℕ) → m ≡ n + j → m ≤ length xs → ends n ≤ ends m
   rises n zero m is within = let same : ends m ≡ ends n = ap ends (let e : m ≡ n = omega arith in e) in omega arith
@@ -65,7 +65,7 @@ module _ (xs : List Data) where
   record IsOneMore (n j : ℕ) : Type 0 where
     x : Data
     is : slice_get xs (n + j) ≡ Some x
-    goes_on : is_word is_settle x ≡ false
+    goes_on : is_word is_settle_word x ≡ false
     same : ends (n + j) ≡ ends n
 
   no_end : (t : Bool) (a b c : ℕ) → a ≤ b → c ≡ b + cond t 1 0 → c ≡ a → (t ≡ false) × (b ≡ a)
@@ -75,7 +75,7 @@ module _ (xs : List Data) where
   last_one : (n j : ℕ) → n + j + 1 ≤ length xs → ends (n + j + 1) ≡ ends n → IsOneMore n j
   last_one n j within same =
       let here = below_get xs (n + j) (omega arith) in
-      let not_ended = no_end (is_word is_settle here.x) (ends n) (ends (n + j)) (ends (n + j + 1)) (rises n j (n + j) refl (omega arith)) (one_more (n + j) here.x here.is) same in
+      let not_ended = no_end (is_word is_settle_word here.x) (ends n) (ends (n + j)) (ends (n + j + 1)) (rises n j (n + j) refl (omega arith)) (one_more (n + j) here.x here.is) same in
       record { x = here.x; is = here.is; goes_on = not_ended.0; same = not_ended.1 }
 
   pub one_group : (n j m : ℕ) → m ≡ n + j → m ≤ length xs → ends m ≡ ends n → whole m ≡ whole n
@@ -93,7 +93,8 @@ module _ (xs : List Data) where
         next_before (n + 0) last.x last.is last.goes_on ∙ ap (λ y. is_word is_evacuate y || before (n + 0)) is_x ∙ ap (λ t. t || before (n + 0)) empties
 
     further : (j : ℕ) (last : IsOneMore n j) → before (n + j) ≡ true → before (n + j + 1) ≡ true
-    further j last past = next_before (n + j) last.x last.is last.goes_on ∙ ap (λ t. is_word is_evacuate last.x || t) past ∙ or_true (is_word is_evacuate last.x)
+    further j last past = next_before (n + j) last.x last.is last.goes_on ∙ ap (λ t. is_word is_evacuate last.x || t) past
+        ∙ or_true (is_word is_evacuate last.x)
 
     pub evacuates_before : (j m : ℕ) → m ≡ n + j + 1 → m ≤ length xs → ends m ≡ ends n → before m ≡ true
     evacuates_before zero m is within same = ap before is ∙ behind_it (last_one n 0 (omega arith) (sym (ap ends is) ∙ same))
@@ -101,7 +102,7 @@ module _ (xs : List Data) where
         let last = last_one n (suc j) (omega arith) (sym (ap ends is) ∙ same) in
         ap before is ∙ further (suc j) last (evacuates_before j (n + suc j) (omega arith) (omega arith) last.same)
 
-    pub evacuates_whole : is_word is_settle x ≡ false → whole n ≡ true
+    pub evacuates_whole : is_word is_settle_word x ≡ false → whole n ≡ true
     evacuates_whole goes_on =
         let here : before (n + 1) ≡ true = next_before n x at goes_on ∙ ap (λ t. t || before n) empties in
         sym (next_whole n x at goes_on) ∙ ap (λ t. t || evacuates (group_from xs (n + 1))) here
@@ -115,7 +116,7 @@ pub record AreTables (flaw : ℕ → Members → Option Flaw) (ds : List Data) :
 none_some : {A : Type 0} (x : A) → Some x ≡ None → ⊥
 none_some x e = cc
 
-module _ (at : Place) (flaw : ℕ → Members → Option Flaw) where
+module _ (at : KeyPlace) (flaw : ℕ → Members → Option Flaw) where
   abbrev flaws : ℕ → Data → Option Flaw
   flaws i = table_flaw (member_of at i) (flaw i)
 
@@ -157,12 +158,13 @@ module _ (at : Place) (flaw : ℕ → Members → Option Flaw) where
 abbrev pub StepsAreTables : Members → Type 0
 StepsAreTables doc = AreTables (step_flaw (items_at (codes "step") doc)) (items_at (codes "step") doc)
 
-pub steps_tables : (doc : Members) → tables_flaw tables.Top (codes "step") false 0 4096 (step_flaw (items_at (codes "step") doc)) doc ≡ None → StepsAreTables doc
+pub steps_tables : (doc : Members) → tables_flaw tables.Top (codes "step") false 0 4096 (step_flaw (items_at (codes "step") doc)) doc ≡ None
+    → StepsAreTables doc
 steps_tables doc none = by_value (get_member (codes "step") doc) none where
   flaw : ℕ → Members → Option Flaw
   flaw = step_flaw (items_at (codes "step") doc)
 
-  at : Place
+  at : KeyPlace
   at = place tables.Top (codes "step")
 
   by_value : (o : Option Data) → present at false (array_flaw at 0 4096 (flaws at flaw)) o ≡ None → AreTables flaw (items_in o)

@@ -13,7 +13,7 @@ use Rattle.session_value.specs.declared.config.SessionConfig.{SessionConfig}
 use Rattle.graft_model.specs.Setups.{RouterSetup, PeeringSetup, NamedRules, ScriptStep, SayStep, MoveStep, EvacuateStep, SettleStep, of_router, rules_named}
 use Rattle.graft_model.specs.Setups.{config_of as config_in_model}
 use Rattle.graft_laws.specs.Ranges.{HasMedInRange, IsInRange}
-use Rattle.lab_keys.specs.Values.{has, number_or, text_at, tables_at}
+use Rattle.lab_keys.specs.Values.{has_member, number_or, text_at, tables_at}
 use Rattle.lab_keys.proofs.NoFlaws.{maybe_fits}
 use Rattle.lab_tables.specs.declared.input.LabInput.{LabInput}
 use Rattle.lab_tables.specs.declared.input.PeeringInput.{PeeringInput}
@@ -22,14 +22,14 @@ use Rattle.lab_tables.specs.declared.input.Step.{Step}
 use Rattle.lab_tables.specs.declared.input.Step.TheVariants.{Announce, Withdraw}
 use Rattle.lab_tables.specs.declared.words.StepWord.{StepWord}
 use Rattle.lab_tables.specs.declared.words.StepWord.TheVariants.{Announces, Withdraws, SaysRaw, Grafts, Settles, Evacuates, Other}
-use Rattle.lab_tables.specs.Meanings.{number_of}
+use Rattle.lab_tables.specs.Meanings.{index_of_name}
 use Rattle.lab_tables.specs.Routers.{rule_of, policy_of, router_of}
-use Rattle.lab_tables.specs.Peerings.{remote_id_of, remote_as4_of, peering_of}
+use Rattle.lab_tables.specs.Peerings.{remote_id_of, remote_as4_of, peering_input}
 use Rattle.lab_tables.specs.Scripts.{word_at, said_prefixes, said_attrs, peering_number, worded_step, step_of}
 use Rattle.lab_tables.specs.Documents.{routers_of, router_names_of, peerings_of, peering_names_of, lab_of}
 use Rattle.lab_input.specs.Labs.{InputOf}
 use Rattle.lab_input.specs.Names.{unknown, worded_named, step_named}
-use Rattle.lab_input.specs.Said.{update_of}
+use Rattle.lab_input.specs.Said.{step_update}
 use Rattle.lab_input.proofs.Ready.{accepted, Says, says_update, SaysWell, IsRemoteOf}
 use Rattle.lab_setup.specs.Setups.{named_rules, router_setup, peering_setup, is_wide_at, script_step, setup_of}
 use Rattle.lab_setup.proofs.Kept.{IsPeeringTable, HasTables, tables_kept, number_below}
@@ -62,12 +62,12 @@ record HasRange (peering : PeeringInput) : Type 0 where
   remote_as : peering.remote_as < 2 ^ 32
   opening : AreOctets peering.opening
 
-peerings_ranged : (doc : Members) (routers : List (List ℕ)) (ts : List Members) → AllByRecursion HasRange (map (peering_of doc routers) ts)
+peerings_ranged : (doc : Members) (routers : List (List ℕ)) (ts : List Members) → AllByRecursion HasRange (map (peering_input doc routers) ts)
 peerings_ranged doc routers [] = tt
 peerings_ranged doc routers (t ∷ ts) =
-    let here : HasRange (peering_of doc routers t) = record {
+    let here : HasRange (peering_input doc routers t) = record {
       remote_as = number_below 32 0 (codes "remote_as") t (omega arith);
-      opening = opening_octets (has (codes "opening") t) (text_at (codes "opening") t) (number_or 32 0 (codes "remote_as") t) (number_or 16 180 (codes "hold") t) (remote_id_of t) (remote_as4_of t);
+      opening = opening_octets (has_member (codes "opening") t) (text_at (codes "opening") t) (number_or 32 0 (codes "remote_as") t) (number_or 16 180 (codes "hold") t) (remote_id_of t) (remote_as4_of t);
     } in
     (here, peerings_ranged doc routers ts)
 
@@ -83,16 +83,17 @@ none_unknown : (o : Option PeeringInput) (t : Members) → (said_attrs o t).unkn
 none_unknown None t = refl
 none_unknown (Some p) t = refl
 
-step_octets : (word : StepWord) (routers : List (List ℕ)) (ps : List PeeringInput) (t : Members) → (says_update (worded_step word routers ps t) ≡ true → Says (worded_step word routers ps t))
+step_octets : (word : StepWord) (routers : List (List ℕ)) (ps : List PeeringInput) (t : Members)
+    → (says_update (worded_step word routers ps t) ≡ true → Says (worded_step word routers ps t))
     → SaysOctets (script_step ps (worded_step word routers ps t))
 step_octets Announces routers ps t says =
     let body = (says refl false).body in
     let o : Option PeeringInput = slice_get ps (peering_number ps t) in
-    update_octets (is_wide_at ps (peering_number ps t)) (update_of (Announce (record { 0 = peering_number ps t }) (said_prefixes t) (said_attrs o t))) body.withdrawn body.nlri
+    update_octets (is_wide_at ps (peering_number ps t)) (step_update (Announce (record { 0 = peering_number ps t }) (said_prefixes t) (said_attrs o t))) body.withdrawn body.nlri
     (record { path = body.attrs.1.path; unknown = none_unknown o t })
 step_octets Withdraws routers ps t says =
     let body = (says refl false).body in
-    update_octets (is_wide_at ps (peering_number ps t)) (update_of (Withdraw (record { 0 = peering_number ps t }) (said_prefixes t))) body.withdrawn body.nlri tt
+    update_octets (is_wide_at ps (peering_number ps t)) (step_update (Withdraw (record { 0 = peering_number ps t }) (said_prefixes t))) body.withdrawn body.nlri tt
 step_octets SaysRaw routers ps t says = hex_octets (text_at (codes "hex") t)
 step_octets Grafts routers ps t says = tt
 step_octets Settles routers ps t says = tt
@@ -115,18 +116,20 @@ module _ (doc : Members) (tables : HasTables doc) (names : HasNames doc) where
   IsRemote p = (p.remote_as < 2 ^ 32) × (is_no_host p.remote_address ≡ false)
 
   are_remotes : AllByRecursion IsRemote (peerings_of doc)
-  are_remotes = all_mapped (peering_of doc called) IsPeeringTable IsRemote (λ t is. (number_below 32 0 (codes "remote_as") t (omega arith), is.address)) (tables_at (codes "peering") doc) tables.peerings
+  are_remotes = all_mapped (peering_input doc called) IsPeeringTable IsRemote (λ t is. (number_below 32 0 (codes "remote_as") t (omega arith), is.address)) (tables_at (codes "peering") doc) tables.peerings
 
   -- what a step of a known peering names is a remote
-  remote_at : (t : Members) → unknown remotes (text_at (codes "peering") t) ≡ None → IsRemoteOf (slice_get (peerings_of doc) (peering_number (peerings_of doc) t))
+  remote_at : (t : Members) → unknown remotes (text_at (codes "peering") t) ≡ None
+      → IsRemoteOf (slice_get (peerings_of doc) (peering_number (peerings_of doc) t))
   remote_at t none =
       let text = text_at (codes "peering") t in
       let as_many = length-map (peerings_of doc) (λ (q : PeeringInput). q.name) in
-      let below : number_of remotes text < length remotes = place_below remotes text (known remotes text none) in
-      let here : IsIn (peerings_of doc) (number_of remotes text) = below_get (peerings_of doc) (number_of remotes text) (omega arith) in
-      subst IsRemoteOf (sym here.is) (all_at IsRemote (peerings_of doc) (number_of remotes text) here.x are_remotes here.is)
+      let below : index_of_name remotes text < length remotes = place_below remotes text (known remotes text none) in
+      let here : IsIn (peerings_of doc) (index_of_name remotes text) = below_get (peerings_of doc) (index_of_name remotes text) (omega arith) in
+      subst IsRemoteOf (sym here.is) (all_at IsRemote (peerings_of doc) (index_of_name remotes text) here.x are_remotes here.is)
 
-  remote_of_step : (word : StepWord) (t : Members) → worded_named word called remotes t ≡ None → says_update (worded_step word called (peerings_of doc) t) ≡ true
+  remote_of_step : (word : StepWord) (t : Members) → worded_named word called remotes t ≡ None
+      → says_update (worded_step word called (peerings_of doc) t) ≡ true
       → IsRemoteOf (slice_get (peerings_of doc) (peering_number (peerings_of doc) t))
   remote_of_step Announces t none says = remote_at t none
   remote_of_step Withdraws t none says = remote_at t none
@@ -136,7 +139,8 @@ module _ (doc : Members) (tables : HasTables doc) (names : HasNames doc) where
   remote_of_step Evacuates t none says = absurd (false≢true says)
   remote_of_step Other t none says = absurd (false≢true says)
 
-  step_ranged : (t : Members) → step_named called remotes t ≡ None → SaysWell called (peerings_of doc) t → SaysOctets (script_step (peerings_of doc) (step_of called (peerings_of doc) t))
+  step_ranged : (t : Members) → step_named called remotes t ≡ None → SaysWell called (peerings_of doc) t
+      → SaysOctets (script_step (peerings_of doc) (step_of called (peerings_of doc) t))
   step_ranged t none well = step_octets (word_at t) called (peerings_of doc) t (λ says. well (remote_of_step (word_at t) t none) says)
 
   steps_ranged : AllByRecursion SaysOctets (setup_of input).steps
@@ -163,7 +167,8 @@ module _ (doc : Members) (tables : HasTables doc) (names : HasNames doc) where
   routers_in_model = all_numbered (router_setup input) (λ (r : RouterInput). AllByRecursion HasMeds (map named_rules r.policies)) (λ (router : RouterSetup). AllByRecursion HasMeds router.policies)
       (λ n r is. is) (routers_of doc) 0 (routers_ranged (tables_at (codes "router") doc))
 
-  policies_at_router : (r : ℕ) (o : Option RouterSetup) → slice_get (setup_of input).routers r ≡ o → AllByRecursion HasMeds (unwrap_or (option_map (λ (router : RouterSetup). router.policies) o) [])
+  policies_at_router : (r : ℕ) (o : Option RouterSetup) → slice_get (setup_of input).routers r ≡ o
+      → AllByRecursion HasMeds (unwrap_or (option_map (λ (router : RouterSetup). router.policies) o) [])
   policies_at_router r None e = tt
   policies_at_router r (Some router) e = all_at (λ (x : RouterSetup). AllByRecursion HasMeds x.policies) (setup_of input).routers r router routers_in_model e
 

@@ -19,7 +19,8 @@ get_mapped f [] k = refl
 get_mapped f (x ∷ xs) zero = refl
 get_mapped f (x ∷ xs) (suc k) = get_mapped f xs k
 
-get_numbered_from : {A B : Type 0} (f : ℕ × A → B) (xs : List A) (i k : ℕ) → slice_get (map f (enumerate_from i xs)) k ≡ option_map (λ x. f (i + k, x)) (slice_get xs k)
+get_numbered_from : {A B : Type 0} (f : ℕ × A → B) (xs : List A) (i k : ℕ)
+    → slice_get (map f (enumerate_from i xs)) k ≡ option_map (λ x. f (i + k, x)) (slice_get xs k)
 get_numbered_from f [] i k = refl
 get_numbered_from f (x ∷ xs) i zero = let same : i ≡ i + zero = omega arith in ap (λ n. Some (f (n, x))) same
 get_numbered_from f (x ∷ xs) i (suc k) =
@@ -27,7 +28,8 @@ get_numbered_from f (x ∷ xs) i (suc k) =
     get_numbered_from f xs (i + 1) k ∙ ap (λ n. option_map (λ y. f (n, y)) (slice_get xs k)) same
 
 -- what is made from each element and its place
-pub get_numbered : {A B : Type 0} (f : ℕ × A → B) (xs : List A) (k : ℕ) → slice_get (map f (enumerate_from 0 xs)) k ≡ option_map (λ x. f (k, x)) (slice_get xs k)
+pub get_numbered : {A B : Type 0} (f : ℕ × A → B) (xs : List A) (k : ℕ)
+    → slice_get (map f (enumerate_from 0 xs)) k ≡ option_map (λ x. f (k, x)) (slice_get xs k)
 get_numbered f xs k =
     let same : 0 + k ≡ k = omega arith in
     get_numbered_from f xs 0 k ∙ ap (λ n. option_map (λ y. f (n, y)) (slice_get xs k)) same
@@ -80,11 +82,13 @@ all_at P [] k x all e = absurd (none_is x e)
 all_at P (y ∷ xs) zero x all e = subst P (some_is y x e) all.0
 all_at P (y ∷ xs) (suc k) x all e = all_at P xs k x all.1 e
 
-pub all_mapped : {A B : Type 0} (f : A → B) (P : A → Type 0) (Q : B → Type 0) → ((x : A) → P x → Q (f x)) → (xs : List A) → AllByRecursion P xs → AllByRecursion Q (map f xs)
+pub all_mapped : {A B : Type 0} (f : A → B) (P : A → Type 0) (Q : B → Type 0) → ((x : A) → P x → Q (f x)) → (xs : List A) → AllByRecursion P xs
+    → AllByRecursion Q (map f xs)
 all_mapped f P Q each [] ps = tt
 all_mapped f P Q each (x ∷ xs) ps = (each x ps.0, all_mapped f P Q each xs ps.1)
 
-pub all_numbered : {A B : Type 0} (f : ℕ × A → B) (P : A → Type 0) (Q : B → Type 0) → ((n : ℕ) (x : A) → P x → Q (f (n, x))) → (xs : List A) (i : ℕ) → AllByRecursion P xs
+pub all_numbered : {A B : Type 0} (f : ℕ × A → B) (P : A → Type 0) (Q : B → Type 0) → ((n : ℕ) (x : A) → P x → Q (f (n, x))) → (xs : List A) (i : ℕ)
+    → AllByRecursion P xs
     → AllByRecursion Q (map f (enumerate_from i xs))
 all_numbered f P Q each [] i ps = tt
 all_numbered f P Q each (x ∷ xs) i ps = (each i x ps.0, all_numbered f P Q each xs (i + 1) ps.1)
@@ -105,7 +109,8 @@ none_of [] k o none e = absurd (none_is o e)
 none_of (f ∷ fs) zero o none e = subst (λ x. x ≡ None) (some_is f o e) (none_left f (first_of fs) none)
 none_of (f ∷ fs) (suc k) o none e = none_of fs k o (none_right f (first_of fs) none) e
 
-none_at : {A E : Type 0} (flaw : ℕ → A → Option E) (xs : List A) (i k : ℕ) (x : A) → each_from flaw i xs ≡ None → slice_get xs k ≡ Some x → flaw (i + k) x ≡ None
+none_at : {A E : Type 0} (flaw : ℕ → A → Option E) (xs : List A) (i k : ℕ) (x : A) → each_from flaw i xs ≡ None → slice_get xs k ≡ Some x
+    → flaw (i + k) x ≡ None
 none_at flaw [] i k x none e = absurd (none_is x e)
 none_at flaw (y ∷ xs) i zero x none e =
     let same : i ≡ i + zero = omega arith in
@@ -119,7 +124,8 @@ none_here flaw xs k x none e =
     let same : 0 + k ≡ k = omega arith in
     subst (λ n. flaw n x ≡ None) same (none_at flaw xs 0 k x none e)
 
-pub none_after : {A : Type 0} (bad : List A → A → Option BadInput) (P : A → Type 0) → ((before : List A) (x : A) → bad before x ≡ None → P x) → (before xs : List A) → each_after bad before xs ≡ None
+pub none_after : {A : Type 0} (bad : List A → A → Option BadInput) (P : A → Type 0) → ((before : List A) (x : A) → bad before x ≡ None → P x)
+    → (before xs : List A) → each_after bad before xs ≡ None
     → AllByRecursion P xs
 none_after bad P each before [] none = tt
 none_after bad P each before (x ∷ xs) none =
@@ -135,7 +141,8 @@ none_mapped f (x ∷ xs) none = (none_left (f x) (first_of (map f xs)) none, non
 pub first_below : {A : Type 0} (test : A → Bool) (xs : List A) → list_any test xs ≡ true → position_or_len test xs < length xs
 first_below test [] any = absurd (false≢true any)
 first_below test (x ∷ xs) any = by_test (test x) any (first_below test xs) where
-  by_test : (t : Bool) → (t || list_any test xs) ≡ true → (list_any test xs ≡ true → position_or_len test xs < length xs) → cond (not t) (1 + position_or_len test xs) 0 < length (x ∷ xs)
+  by_test : (t : Bool) → (t || list_any test xs) ≡ true → (list_any test xs ≡ true → position_or_len test xs < length xs)
+      → cond (not t) (1 + position_or_len test xs) 0 < length (x ∷ xs)
   by_test true any rest = omega arith
   by_test false any rest = let here = rest any in omega arith
 
@@ -160,7 +167,8 @@ place_of test xs any = ap (λ (t : Bool). unwrap_or (cond t (Some (position_or_l
   less a b lt = grind (arith, nat_tests)
 
 -- what stands at the place of a text among texts of things is the first thing of that text
-pub first_of_text : {A B : Type 0} (test : B → Bool) (f : A → B) (xs : List A) → list_any test (map f xs) ≡ true → slice_get xs (unwrap_or (position test (map f xs)) 0) ≡ find (λ x. test (f x)) xs
+pub first_of_text : {A B : Type 0} (test : B → Bool) (f : A → B) (xs : List A) → list_any test (map f xs) ≡ true
+    → slice_get xs (unwrap_or (position test (map f xs)) 0) ≡ find (λ x. test (f x)) xs
 first_of_text test f xs any =
     ap (slice_get xs) (place_of test (map f xs) any ∙ first_mapped test f xs) ∙ first_there (λ x. test (f x)) xs (any_of_mapped test f xs ∙ any)
 

@@ -9,11 +9,11 @@ use Rattle.bgp_types.specs.Texts.{address_text}
 use Rattle.lab_keys.specs.Kinds.{first_of}
 use Rattle.lab_keys.specs.Values.{text_at, maybe_text, tables_at}
 use Rattle.lab_tables.specs.declared.input.RouterInput.{RouterInput}
-use Rattle.lab_tables.specs.Meanings.{number_of}
+use Rattle.lab_tables.specs.Meanings.{index_of_name}
 use Rattle.lab_tables.specs.Documents.{routers_of, router_names_of, peering_names_of}
 use Rattle.lab_input.specs.declared.bad.BadInput.{BadInput}
 use Rattle.lab_input.specs.declared.bad.BadInput.TheVariants.{Unknown}
-use Rattle.lab_input.specs.Names.{each_after, repeated_if, unknown, unknown_at, router_again, cost_named, policies_at, remote_of, peering_named, fault_named, step_named, named}
+use Rattle.lab_input.specs.Names.{each_after, repeated_if, unknown, unknown_at, router_again, cost_named, policies_at, remote_address_of, peering_named, fault_named, step_named, named}
 use Rattle.lab_setup.proofs.Lists.{none_of, none_after, none_mapped, first_below, place_of}
 
 some_bad : (bad : BadInput) → Some bad ≡ None → ⊥
@@ -30,9 +30,9 @@ known names text none = by_test (list_any (bytes_eq text) names) none where
   by_test true none = refl
   by_test false none = absurd (some_bad (Unknown text) none)
 
-pub number_below : (names : List (List ℕ)) (text : List ℕ) → IsKnown names text → number_of names text < length names
+pub number_below : (names : List (List ℕ)) (text : List ℕ) → IsKnown names text → index_of_name names text < length names
 number_below names text known =
-    let place : number_of names text ≡ position_or_len (bytes_eq text) names = place_of (bytes_eq text) names known in
+    let place : index_of_name names text ≡ position_or_len (bytes_eq text) names = place_of (bytes_eq text) names known in
     subst (λ n. n < length names) (sym place) (first_below (bytes_eq text) names known)
 
 -- ---- tables whose names are known
@@ -47,10 +47,10 @@ peering_is_named routers before t none =
     let names = map (λ r. r.name) routers in
     let policies = policies_at routers (text_at (codes "at") t) in
     let again_name = list_any (λ u. bytes_eq (text_at (codes "name") u) (text_at (codes "name") t)) before in
-    let again_remote = list_any (λ u. eqb (remote_of u) (remote_of t)) before in
+    let again_remote = list_any (λ u. eqb (remote_address_of u) (remote_address_of t)) before in
     let flaws : List (Option BadInput) = repeated_if again_name (text_at (codes "name") t)
     ∷ unknown names (text_at (codes "at") t)
-    ∷ repeated_if again_remote (address_text (remote_of t))
+    ∷ repeated_if again_remote (address_text (remote_address_of t))
     ∷ unknown_at policies (maybe_text (codes "import") t)
     ∷ unknown_at policies (maybe_text (codes "export") t)
     ∷ [] in

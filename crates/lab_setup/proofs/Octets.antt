@@ -26,7 +26,7 @@ use Rattle.bgp_types.specs.PathOctets.{as_width, part_octets, path_octets, path_
 use Rattle.bgp_types.specs.Paths.{ases_of}
 use Rattle.bgp_types.specs.Prefixes.{PrefixValue, IsPrefix, octets_for, prefix_octets}
 use Rattle.bgp_types.specs.Rising.{in_rising}
-use Rattle.bgp_types.specs.Spelling.{origin_written, med_written, atomic_written, passed_flags, aggregator_octets, aggregator_written, as4_path_written, as4_aggregator_written, other_written, attrs_written, spell_attrs, counted, spell_prefixes, spell_some_attrs, spell_update, marker, framed, spell}
+use Rattle.bgp_types.specs.Spelling.{origin_written, med_written, atomic_written, passed_flags, aggregator_octets, aggregator_written, as4_path_written, as4_aggregator_written, other_written, attrs_written, spell_attrs, length_prefixed, spell_prefixes, spell_some_attrs, spell_update, marker, framed, spell}
 use Rattle.bgp_types.specs.WireAttrs.{WireAttr, wire_kind, size_width, attr_octets, written}
 use Rattle.bgp_types.specs.Writable.{IsPart}
 use Rattle.bgp_types.proofs.OrderLaws.{all_rising}
@@ -232,7 +232,7 @@ some_each : (wide : Bool) (o : Option Attrs) → HaveOctets o → Each (spell_so
 some_each wide None has = tt
 some_each wide (Some a) has = attrs_each wide a has
 
-counted_each : (octets : List ℕ) → Each octets → Each (counted octets)
+counted_each : (octets : List ℕ) → Each octets → Each (length_prefixed octets)
 counted_each octets each = joined (to_be_bytes w16 (length octets)) octets (number_each w16 (length octets)) each
 
 pub update_octets : (wide : Bool) (u : Update) → All IsPrefix u.withdrawn → All IsPrefix u.nlri → HaveOctets u.attrs → AreOctets (spell (UpdateMsg u) wide)
@@ -243,8 +243,8 @@ update_octets wide u withdrawn nlri has =
     let come = spell_prefixes u.nlri in
     let body = spell_update wide u in
     let body_each : Each body =
-    joined (counted gone) (counted attrs ++ come) (counted_each gone (prefixes_each u.withdrawn withdrawn))
-    (joined (counted attrs) come (counted_each attrs (some_each wide u.attrs has)) (prefixes_each u.nlri nlri)) in
+    joined (length_prefixed gone) (length_prefixed attrs ++ come) (counted_each gone (prefixes_each u.withdrawn withdrawn))
+    (joined (length_prefixed attrs) come (counted_each attrs (some_each wide u.attrs has)) (prefixes_each u.nlri nlri)) in
     let len = to_be_bytes w16 (19 + length body) in
     octets_are (framed 2 body) (joined marker (len ++ 2 ∷ body) (tested marker refl) (joined len (2 ∷ body) (number_each w16 (19 + length body)) (omega arith, body_each)))
 
@@ -291,6 +291,7 @@ hex_octets text = by_odd (length text % 2 == 1) where
   by_odd true = none_octets
   by_odd false = by_result (decode_pairs 0 text) refl
 
-pub opening_octets : (has : Bool) (text : List ℕ) (as_number hold identifier : ℕ) (as4 : Bool) → AreOctets (cond has (octets_in text) (default_opening as_number hold identifier as4))
+pub opening_octets : (has : Bool) (text : List ℕ) (as_number hold identifier : ℕ) (as4 : Bool)
+    → AreOctets (cond has (octets_in text) (default_opening as_number hold identifier as4))
 opening_octets true text a h i as4 = hex_octets text
 opening_octets false text a h i as4 = default_octets a h i as4

@@ -13,7 +13,7 @@ use Rattle.toml.specs.Data.{Members}
 use Rattle.bgp_types.specs.Prefixes.{IsPrefix, once_after}
 use Rattle.bgp_types.specs.Values.{is_no_host}
 use Rattle.bgp_story.specs.Opens.{IsAsNumber}
-use Rattle.graft_model.specs.Setups.{RouterSetup, PeeringSetup, NamedRules, ScriptStep, routers_in, peerings_in, identifier_of, room_of, of_router, rules_named, unknown as unknown_rules, first_of as first_missing, said_length, starting_at, IsPeeringSetup, IsStep, IsSetup}
+use Rattle.graft_model.specs.Setups.{RouterSetup, PeeringSetup, NamedRules, ScriptStep, routers_in, peerings_in, identifier_of, room_of, of_router, rules_named, unknown_policy, first_name, said_length, starting_at, IsPeeringSetup, IsStep, IsSetup}
 use Rattle.lab_keys.specs.Values.{text_at, maybe_text, prefixes_at, items_at, tables_at}
 use Rattle.lab_keys.specs.Kinds.{each_from}
 use Rattle.lab_keys.proofs.NoFlaws.{none_left, none_right, IsWithin, prefixes_formed}
@@ -24,16 +24,16 @@ use Rattle.lab_tables.specs.declared.input.RouterInput.{RouterInput}
 use Rattle.lab_tables.specs.declared.input.Step.{Step}
 use Rattle.lab_tables.specs.declared.words.StepWord.{StepWord}
 use Rattle.lab_tables.specs.declared.words.StepWord.TheVariants.{Announces, Withdraws, SaysRaw, Grafts, Settles, Evacuates, Other}
-use Rattle.lab_tables.specs.Meanings.{number_of}
+use Rattle.lab_tables.specs.Meanings.{index_of_name}
 use Rattle.lab_tables.specs.Routers.{router_of}
-use Rattle.lab_tables.specs.Peerings.{peering_of}
+use Rattle.lab_tables.specs.Peerings.{peering_input}
 use Rattle.lab_tables.specs.Scripts.{word_at, worded_step, step_of}
 use Rattle.lab_tables.specs.Documents.{routers_of, router_names_of, peerings_of, peering_names_of, lab_of}
 use Rattle.lab_input.specs.declared.bad.BadInput.{BadInput}
 use Rattle.lab_input.specs.declared.bad.BadInput.TheVariants.{Limit}
 use Rattle.lab_input.specs.Labs.{InputOf}
 use Rattle.lab_input.specs.Names.{unknown, unknown_at, policies_at, worded_named, step_named}
-use Rattle.lab_input.specs.Counts.{over, grafts_of, settles_of, added_settle, prefixes_named, peerings_at, room_flaw, said_on, most_said, said_flaw, counted}
+use Rattle.lab_input.specs.Counts.{over_limit, step_grafts, settles_of, added_settle, prefixes_named, peering_count_at, room_flaw, said_on, most_said, said_flaw, count_fault}
 use Rattle.lab_setup.specs.Setups.{named_rules, router_setup, identifier_at, peering_setup, script_step, ended, setup_of}
 use Rattle.lab_input.proofs.Ready.{accepted}
 use Rattle.lab_setup.proofs.Kept.{IsPeeringTable, IsRouterTable, HasTables, IsWorded, tables_kept, number_below}
@@ -47,7 +47,7 @@ use Rattle.lab_setup.proofs.Said.{said_whole, ends_with_settle, all_ended}
 some_bad : (bad : BadInput) → Some bad ≡ None → ⊥
 some_bad bad e = false≢true (sym (ap is_some e))
 
-not_over : (name : List ℕ) (most n : ℕ) → over name most n ≡ None → n ≤ most
+not_over : (name : List ℕ) (most n : ℕ) → over_limit name most n ≡ None → n ≤ most
 not_over name most n none = by_test (nat_lt most n) refl none where
   by_test : (t : Bool) → nat_lt most n ≡ t → cond t (Some (Limit name n)) None ≡ None → n ≤ most
   by_test true e none = absurd (some_bad (Limit name n) none)
@@ -58,23 +58,23 @@ not_over name most n none = by_test (nat_lt most n) refl none where
 
 -- what is known of an input whose counts are within their limits
 pub record HasCounts (input : LabInput) : Type 0 where
-  room : (r : ℕ) (router : RouterInput) → slice_get input.routers r ≡ Some router → peerings_at input.peerings r ≤ router.sessions
+  room : (r : ℕ) (router : RouterInput) → slice_get input.routers r ≡ Some router → peering_count_at input.peerings r ≤ router.sessions
   said : (p : ℕ) (peering : PeeringInput) → slice_get input.peerings p ≡ Some peering → said_on input.steps p peering ≤ most_said peering
 
-counts_kept : (input : LabInput) → counted input ≡ None → HasCounts input
+counts_kept : (input : LabInput) → count_fault input ≡ None → HasCounts input
 counts_kept input none =
     let rooms = each_from (room_flaw input.peerings) 0 input.routers in
     let saids = each_from (said_flaw input.steps) 0 input.peerings in
-    let flaws : List (Option BadInput) = over (codes "grafts") 256 (sum_by (grafts_of (length input.peerings)) input.steps)
-    ∷ over (codes "settles") 64 (sum_by settles_of input.steps + added_settle input.steps)
-    ∷ over (codes "prefixes") 4096 (length (once_after [] (prefixes_named input)))
+    let flaws : List (Option BadInput) = over_limit (codes "grafts") 256 (sum_by (step_grafts (length input.peerings)) input.steps)
+    ∷ over_limit (codes "settles") 64 (sum_by settles_of input.steps + added_settle input.steps)
+    ∷ over_limit (codes "prefixes") 4096 (length (once_after [] (prefixes_named input)))
     ∷ rooms
     ∷ saids
     ∷ [] in
     let no_room : rooms ≡ None = none_of flaws 3 rooms none refl in
     let no_said : saids ≡ None = none_of flaws 4 saids none refl in
     record {
-      room = λ r router there. not_over (codes "sessions") router.sessions (peerings_at input.peerings r) (none_here (room_flaw input.peerings) input.routers r router no_room there);
+      room = λ r router there. not_over (codes "sessions") router.sessions (peering_count_at input.peerings r) (none_here (room_flaw input.peerings) input.routers r router no_room there);
       said = λ p peering there. not_over (codes "said") (most_said peering) (said_on input.steps p peering) (none_here (said_flaw input.steps) input.peerings p peering no_said there);
     }
 
@@ -90,7 +90,8 @@ most_is false = omega arith
 found : {A : Type 0} (test : A → Bool) (xs : List A) → list_any test xs ≡ true → is_none (find test xs) ≡ false
 found test [] any = absurd (false≢true any)
 found test (x ∷ xs) any = by_test (test x) any (found test xs) where
-  by_test : (t : Bool) → (t || list_any test xs) ≡ true → (list_any test xs ≡ true → is_none (find test xs) ≡ false) → is_none (cond t (Some x) (find test xs)) ≡ false
+  by_test : (t : Bool) → (t || list_any test xs) ≡ true → (list_any test xs ≡ true → is_none (find test xs) ≡ false)
+      → is_none (cond t (Some x) (find test xs)) ≡ false
   by_test true any rest = refl
   by_test false any rest = rest any
 
@@ -98,7 +99,8 @@ none_mapped : {A B : Type 0} (f : A → B) (o : Option A) → is_none (option_ma
 none_mapped f None = refl
 none_mapped f (Some x) = refl
 
-any_named : (name : List ℕ) (ps : List PolicyInput) → list_any (bytes_eq name) (map (λ p. p.name) ps) ≡ list_any (λ policy. bytes_eq name policy.name) (map named_rules ps)
+any_named : (name : List ℕ) (ps : List PolicyInput)
+    → list_any (bytes_eq name) (map (λ p. p.name) ps) ≡ list_any (λ policy. bytes_eq name policy.name) (map named_rules ps)
 any_named name [] = refl
 any_named name (p ∷ ps) = ap (λ t. bytes_eq name p.name || t) (any_named name ps)
 
@@ -123,13 +125,14 @@ module _ (input : LabInput) where
 
   identifier_is : (r : ℕ) (x : RouterInput) → slice_get input.routers r ≡ Some x → identifier_at input r ≡ identifier_of (setup_of input) r
   identifier_is r x e =
-      ap (λ o. unwrap_or (option_map (λ (y : RouterInput). y.id) o) 0) e ∙ sym (ap (λ o. unwrap_or (option_map (λ (y : RouterSetup). y.identifier) o) 0) (router_there r x e))
+      ap (λ o. unwrap_or (option_map (λ (y : RouterInput). y.id) o) 0) e
+      ∙ sym (ap (λ o. unwrap_or (option_map (λ (y : RouterSetup). y.identifier) o) 0) (router_there r x e))
 
   room_kept : HasCounts input → (r : ℕ) → r < routers_in (setup_of input) → starting_at (setup_of input) r ≤ room_of (setup_of input) r
   unfolding setup_of
   room_kept counts r below =
       let here = below_get input.routers r (subst (λ n. r < n) as_many_routers below) in
-      let starts : starting_at (setup_of input) r ≡ peerings_at input.peerings r =
+      let starts : starting_at (setup_of input) r ≡ peering_count_at input.peerings r =
       length-filter (λ peering. eqb peering.start r) (setup_of input).peerings
       ∙ count_numbered (λ peering. eqb peering.start r) (λ p. eqb p.at.0 r) (peering_setup input) (λ n x. refl) input.peerings 0 in
       let room : room_of (setup_of input) r ≡ here.x.sessions = ap (λ o. unwrap_or (option_map (λ (y : RouterSetup). y.room) o) 0) (router_there r here.x here.is) in
@@ -137,8 +140,9 @@ module _ (input : LabInput) where
       omega arith
 
   -- a name that the router at a place has a policy of
-  policy_there : (r : ℕ) (x : RouterInput) → slice_get input.routers r ≡ Some x → (name : List ℕ) → list_any (bytes_eq name) (map (λ p. p.name) x.policies) ≡ true
-      → unknown_rules (setup_of input) r (Some name) ≡ None
+  policy_there : (r : ℕ) (x : RouterInput) → slice_get input.routers r ≡ Some x → (name : List ℕ)
+      → list_any (bytes_eq name) (map (λ p. p.name) x.policies) ≡ true
+      → unknown_policy (setup_of input) r (Some name) ≡ None
   policy_there r x e name any =
       let policies : of_router (λ router. router.policies) [] (setup_of input) r ≡ map named_rules x.policies = ap (λ o. unwrap_or (option_map (λ (y : RouterSetup). y.policies) o) []) (router_there r x e) in
       let rules : is_none (rules_named (setup_of input) r name) ≡ false =
@@ -165,13 +169,13 @@ module _ (doc : Members) (tables : HasTables doc) (names : HasNames doc) (counts
 
   module _ (p : ℕ) (t : Members) (at : slice_get (tables_at (codes "peering") doc) p ≡ Some t) (table : IsPeeringTable t) (name : IsNamedPeering (routers_of doc) t) where
     abbrev x : PeeringInput
-    x = peering_of doc called t
+    x = peering_input doc called t
 
     there : slice_get (peerings_of doc) p ≡ Some x
-    there = get_mapped (peering_of doc called) (tables_at (codes "peering") doc) p ∙ ap (option_map (peering_of doc called)) at
+    there = get_mapped (peering_input doc called) (tables_at (codes "peering") doc) p ∙ ap (option_map (peering_input doc called)) at
 
     abbrev start : ℕ
-    start = number_of called (text_at (codes "at") t)
+    start = index_of_name called (text_at (codes "at") t)
 
     start_below : start < length (routers_of doc)
     start_below = let as_many = length-map (routers_of doc) (λ (r : RouterInput). r.name) in let below = place_below called (text_at (codes "at") t) name.at in omega arith
@@ -185,13 +189,15 @@ module _ (doc : Members) (tables : HasTables doc) (names : HasNames doc) (counts
     policies_are : policies_at (routers_of doc) (text_at (codes "at") t) ≡ map (λ (q : PolicyInput). q.name) router.x.policies
     policies_are = ap (λ o. option_map_or (λ (r : RouterInput). map (λ (q : PolicyInput). q.name) r.policies) o []) first_so
 
-    policy_known : (o : Option (List ℕ)) → unknown_at (policies_at (routers_of doc) (text_at (codes "at") t)) o ≡ None → unknown_rules (setup_of input) start o ≡ None
+    policy_known : (o : Option (List ℕ)) → unknown_at (policies_at (routers_of doc) (text_at (codes "at") t)) o ≡ None
+        → unknown_policy (setup_of input) start o ≡ None
     policy_known None none = refl
     policy_known (Some policy) none =
         policy_there input start router.x router.is policy (sym (ap (list_any (bytes_eq policy)) policies_are) ∙ known (policies_at (routers_of doc) (text_at (codes "at") t)) policy none)
 
     host : is_no_host (identifier_at input start) ≡ false
-    host = ap (λ o. is_no_host (unwrap_or (option_map (λ (r : RouterInput). r.id) o) 0)) router.is ∙ all_at (λ (r : RouterInput). is_no_host r.id ≡ false) (routers_of doc) start router.x hosts router.is
+    host = ap (λ o. is_no_host (unwrap_or (option_map (λ (r : RouterInput). r.id) o) 0)) router.is
+        ∙ all_at (λ (r : RouterInput). is_no_host r.id ≡ false) (routers_of doc) start router.x hosts router.is
 
     as_number : (n : ℕ) → IsWithin 1 4294967295 n → IsAsNumber n
     as_number n within = let some = within.enough in let few = within.few in record { some = some; fits = omega arith }
@@ -223,7 +229,8 @@ module _ (doc : Members) (tables : HasTables doc) (names : HasNames doc) (counts
             };
             remote_as = as_number x.remote_as table.remote_as;
           };
-          policies = ap (λ o. first_missing o (unknown_rules (setup_of input) start x.export)) (policy_known (maybe_text (codes "import") t) name.import) ∙ policy_known (maybe_text (codes "export") t) name.export;
+          policies = ap (λ o. first_name o (unknown_policy (setup_of input) start x.export)) (policy_known (maybe_text (codes "import") t) name.import)
+              ∙ policy_known (maybe_text (codes "export") t) name.export;
           next_hop = table.local;
           opening = table.opening;
           said = at_most _ _ _ said few most;
@@ -235,7 +242,7 @@ module _ (doc : Members) (tables : HasTables doc) (names : HasNames doc) (counts
   peerings_ready p peering e =
       let ts : List Members = tables_at (codes "peering") doc in
       let made = made_of (λ y. peering_setup input (p, y)) (slice_get (peerings_of doc) p) peering (sym (get_numbered (peering_setup input) (peerings_of doc) p) ∙ e) in
-      let from = made_of (peering_of doc called) (slice_get ts p) made.x (sym (get_mapped (peering_of doc called) ts p) ∙ made.there) in
+      let from = made_of (peering_input doc called) (slice_get ts p) made.x (sym (get_mapped (peering_input doc called) ts p) ∙ made.there) in
       let ready = peering_ready p from.x from.there (all_at IsPeeringTable ts p from.x tables.peerings from.there) (all_at (IsNamedPeering (routers_of doc)) ts p from.x names.peerings from.there) in
       subst (IsPeeringSetup (setup_of input) p) made.is (subst (λ y. IsPeeringSetup (setup_of input) p (peering_setup input (p, y))) from.is ready)
 
@@ -244,21 +251,22 @@ module _ (doc : Members) (tables : HasTables doc) (names : HasNames doc) (counts
   abbrev remotes : List (List ℕ)
   remotes = peering_names_of doc
 
-  peering_below : (text : List ℕ) → unknown remotes text ≡ None → number_of remotes text < peerings_in (setup_of input)
+  peering_below : (text : List ℕ) → unknown remotes text ≡ None → index_of_name remotes text < peerings_in (setup_of input)
   peering_below text none =
       let as_many = length-map (peerings_of doc) (λ (q : PeeringInput). q.name) in
       let below = place_below remotes text (known remotes text none) in
       let whole = as_many_peerings input in
       omega arith
 
-  router_below : (text : List ℕ) → unknown called text ≡ None → number_of called text < routers_in (setup_of input)
+  router_below : (text : List ℕ) → unknown called text ≡ None → index_of_name called text < routers_in (setup_of input)
   router_below text none =
       let as_many = length-map (routers_of doc) (λ (r : RouterInput). r.name) in
       let below = place_below called text (known called text none) in
       let whole = as_many_routers input in
       omega arith
 
-  step_ready : (word : StepWord) (t : Members) → (word ≡ Other → ⊥) → worded_named word called remotes t ≡ None → IsStep (setup_of input) (script_step (peerings_of doc) (worded_step word called (peerings_of doc) t))
+  step_ready : (word : StepWord) (t : Members) → (word ≡ Other → ⊥) → worded_named word called remotes t ≡ None
+      → IsStep (setup_of input) (script_step (peerings_of doc) (worded_step word called (peerings_of doc) t))
   step_ready Announces t known none = peering_below (text_at (codes "peering") t) none
   step_ready Withdraws t known none = peering_below (text_at (codes "peering") t) none
   step_ready SaysRaw t known none = peering_below (text_at (codes "peering") t) none

@@ -12,11 +12,11 @@ use Rattle.graft_model.specs.Setups.{said_by as said_in_model}
 use Rattle.lab_tables.specs.declared.input.PeeringInput.{PeeringInput}
 use Rattle.lab_tables.specs.declared.input.Step.{Step}
 use Rattle.lab_tables.specs.declared.input.Step.TheVariants.{Announce, Withdraw, Raw, Graft, Settle, Evacuate}
-use Rattle.lab_input.specs.Said.{update_of}
-use Rattle.lab_input.specs.Counts.{is_wide, octets_if, said_by}
+use Rattle.lab_input.specs.Said.{step_update}
+use Rattle.lab_input.specs.Counts.{is_wide, octets_if, octets_said}
 use Rattle.lab_tables.specs.declared.input.LabInput.{LabInput}
 use Rattle.lab_setup.specs.Said.{some_if, said_over}
-use Rattle.lab_setup.specs.Said.{said_by as bytes_by}
+use Rattle.lab_setup.specs.Said.{bytes_of_step}
 use Rattle.lab_setup.specs.Setups.{is_wide_at, script_step, ended_by, ended, setup_of}
 use Rattle.lab_setup.proofs.Lists.{all_append}
 use Rattle.lab_setup.proofs.Setups.{steps_are}
@@ -38,22 +38,22 @@ module _ (peerings : List PeeringInput) (p : ℕ) (peering : PeeringInput) (ther
     by_test true = refl
     by_test false = refl
 
-  said_step : (step : Step) → length (said_in_model p (script_step peerings step)) ≡ said_by (is_wide peering) p step
-  said_step (Announce q prefixes a) = said_as q.0 (λ wide. spell (UpdateMsg (update_of (Announce q prefixes a))) wide)
-  said_step (Withdraw q prefixes) = said_as q.0 (λ wide. spell (UpdateMsg (update_of (Withdraw q prefixes))) wide)
+  said_step : (step : Step) → length (said_in_model p (script_step peerings step)) ≡ octets_said (is_wide peering) p step
+  said_step (Announce q prefixes a) = said_as q.0 (λ wide. spell (UpdateMsg (step_update (Announce q prefixes a))) wide)
+  said_step (Withdraw q prefixes) = said_as q.0 (λ wide. spell (UpdateMsg (step_update (Withdraw q prefixes))) wide)
   said_step (Raw q bytes) = said_bytes q.0 bytes
   said_step (Graft q target) = refl
   said_step (Settle rounds least) = refl
   said_step (Evacuate router) = refl
 
   said_steps : (steps : List Step) (more : List ScriptStep) → length (flat_map (said_in_model p) more) ≡ 0
-      → length (flat_map (said_in_model p) (map (script_step peerings) steps ++ more)) ≡ sum_by (said_by (is_wide peering) p) steps
+      → length (flat_map (said_in_model p) (map (script_step peerings) steps ++ more)) ≡ sum_by (octets_said (is_wide peering) p) steps
   said_steps [] more nothing = nothing
   said_steps (step ∷ steps) more nothing =
       length-append (said_in_model p (script_step peerings step)) (flat_map (said_in_model p) (map (script_step peerings) steps ++ more))
       ∙ ap (λ n. n + length (flat_map (said_in_model p) (map (script_step peerings) steps ++ more))) (said_step step)
-      ∙ ap (λ n. said_by (is_wide peering) p step + n) (said_steps steps more nothing)
-      ∙ sym (sum_by-cons (said_by (is_wide peering) p) step steps)
+      ∙ ap (λ n. octets_said (is_wide peering) p step + n) (said_steps steps more nothing)
+      ∙ sym (sum_by-cons (octets_said (is_wide peering) p) step steps)
 
   nothing_more : (o : Option ScriptStep) → length (flat_map (said_in_model p) (ended_by o)) ≡ 0
   nothing_more None = refl
@@ -63,7 +63,8 @@ module _ (peerings : List PeeringInput) (p : ℕ) (peering : PeeringInput) (ther
   nothing_more (Some SettleStep) = refl
 
   -- what a remote says over the script has as many octets as over the steps of the input
-  pub said_whole : (steps : List Step) → length (flat_map (said_in_model p) (ended (map (script_step peerings) steps))) ≡ sum_by (said_by (is_wide peering) p) steps
+  pub said_whole : (steps : List Step)
+      → length (flat_map (said_in_model p) (ended (map (script_step peerings) steps))) ≡ sum_by (octets_said (is_wide peering) p) steps
   said_whole steps = said_steps steps (ended_by (last_or None (map (script_step peerings) steps))) (nothing_more (last_or None (map (script_step peerings) steps)))
 
   -- ---- the bytes themselves
@@ -80,9 +81,9 @@ module _ (peerings : List PeeringInput) (p : ℕ) (peering : PeeringInput) (ther
     by_test true = refl
     by_test false = refl
 
-  step_bytes : (step : Step) → said_in_model p (script_step peerings step) ≡ unwrap_or (bytes_by (is_wide peering) p step) []
-  step_bytes (Announce q prefixes a) = bytes_as q.0 (λ wide. spell (UpdateMsg (update_of (Announce q prefixes a))) wide)
-  step_bytes (Withdraw q prefixes) = bytes_as q.0 (λ wide. spell (UpdateMsg (update_of (Withdraw q prefixes))) wide)
+  step_bytes : (step : Step) → said_in_model p (script_step peerings step) ≡ unwrap_or (bytes_of_step (is_wide peering) p step) []
+  step_bytes (Announce q prefixes a) = bytes_as q.0 (λ wide. spell (UpdateMsg (step_update (Announce q prefixes a))) wide)
+  step_bytes (Withdraw q prefixes) = bytes_as q.0 (λ wide. spell (UpdateMsg (step_update (Withdraw q prefixes))) wide)
   step_bytes (Raw q bytes) = raw_bytes q.0 bytes
   step_bytes (Graft q target) = refl
   step_bytes (Settle rounds least) = refl
@@ -93,7 +94,7 @@ module _ (peerings : List PeeringInput) (p : ℕ) (peering : PeeringInput) (ther
   steps_bytes [] more nothing = nothing
   steps_bytes (step ∷ steps) more nothing =
       ap (λ bytes. bytes ++ flat_map (said_in_model p) (map (script_step peerings) steps ++ more)) (step_bytes step)
-      ∙ ap (λ bytes. unwrap_or (bytes_by (is_wide peering) p step) [] ++ bytes) (steps_bytes steps more nothing)
+      ∙ ap (λ bytes. unwrap_or (bytes_of_step (is_wide peering) p step) [] ++ bytes) (steps_bytes steps more nothing)
 
   silent_end : (o : Option ScriptStep) → flat_map (said_in_model p) (ended_by o) ≡ []
   silent_end None = refl

@@ -16,7 +16,8 @@ module _ (input : LabInput) where
   unfolding setup_of
   peering_at p = get_numbered (peering_setup input) input.peerings p
 
-  pub peering_there : (p : ℕ) (x : PeeringInput) → slice_get input.peerings p ≡ Some x → slice_get (setup_of input).peerings p ≡ Some (peering_setup input (p, x))
+  pub peering_there : (p : ℕ) (x : PeeringInput) → slice_get input.peerings p ≡ Some x
+      → slice_get (setup_of input).peerings p ≡ Some (peering_setup input (p, x))
   peering_there p x e = peering_at p ∙ ap (option_map (λ y. peering_setup input (p, y))) e
 
   pub steps_are : (setup_of input).steps ≡ ended (map (script_step input.peerings) input.steps)

@@ -12,7 +12,7 @@ use Rattle.lab_tables.specs.declared.input.PolicyInput.{PolicyInput}
 use Rattle.lab_tables.specs.declared.input.RouterInput.{RouterInput}
 use Rattle.lab_tables.specs.declared.input.Step.{Step}
 use Rattle.lab_tables.specs.declared.input.Step.TheVariants.{Announce, Withdraw, Raw, Graft, Settle, Evacuate}
-use Rattle.lab_input.specs.Said.{update_of}
+use Rattle.lab_input.specs.Said.{step_update}
 use Rattle.lab_input.specs.Counts.{is_wide}
 
 -- ---- routers
@@ -45,8 +45,8 @@ abbrev pub identifier_at : LabInput → ℕ → ℕ
 identifier_at input r = unwrap_or (option_map (λ router. router.id) (slice_get input.routers r)) 0
 
 -- what the session of a peering begins with; the peering stands with its number
-abbrev pub config_of : LabInput → ℕ × PeeringInput → SessionConfig
-config_of input p = record {
+abbrev pub peering_config : LabInput → ℕ × PeeringInput → SessionConfig
+peering_config input p = record {
   peering = record { 0 = p.0 };
   home_as = input.home_as;
   identifier = identifier_at input p.1.at.0;
@@ -65,7 +65,7 @@ config_of input p = record {
 abbrev pub peering_setup : LabInput → ℕ × PeeringInput → PeeringSetup
 peering_setup input p = record {
   start = p.1.at.0;
-  config = config_of input p;
+  config = peering_config input p;
   opening = p.1.opening;
   hold = p.1.hold;
   beats = p.1.beats;
@@ -79,8 +79,8 @@ is_wide_at peerings p = unwrap_or (option_map is_wide (slice_get peerings p)) fa
 
 -- What a step is in the script: a remote says an UPDATE or bytes, a session moves, the sessions of a router move, or a group ends.
 abbrev pub script_step : List PeeringInput → Step → ScriptStep
-script_step peerings (Announce peering prefixes a) = SayStep peering.0 (spell (UpdateMsg (update_of (Announce peering prefixes a))) (is_wide_at peerings peering.0))
-script_step peerings (Withdraw peering prefixes) = SayStep peering.0 (spell (UpdateMsg (update_of (Withdraw peering prefixes))) (is_wide_at peerings peering.0))
+script_step peerings (Announce peering prefixes a) = SayStep peering.0 (spell (UpdateMsg (step_update (Announce peering prefixes a))) (is_wide_at peerings peering.0))
+script_step peerings (Withdraw peering prefixes) = SayStep peering.0 (spell (UpdateMsg (step_update (Withdraw peering prefixes))) (is_wide_at peerings peering.0))
 script_step peerings (Raw peering bytes) = SayStep peering.0 bytes
 script_step peerings (Graft peering target) = MoveStep peering.0 target.0
 script_step peerings (Settle rounds least) = SettleStep

@@ -4,8 +4,8 @@ ghost use Rattle.std.specs.Prelude.{◌≡◌, IfOk};
 ghost use Rattle.bgp_types.specs.declared.message.Message.TheVariants.{UpdateMsg};
 ghost use Rattle.bgp_types.specs.Spelling.{spell};
 ghost use Rattle.bgp_types.specs.Writable.{IsWritable};
-ghost use Rattle.lab_input.specs.Said.{update_of as update_of_lem};
-ghost use Rattle.lab_setup.specs.Said.{said_by as said_by_lem};
+ghost use Rattle.lab_input.specs.Said.{step_update};
+ghost use Rattle.lab_setup.specs.Said.{bytes_of_step};
 
 use bgp_types::Message;
 use bgp_wire::write_message;
@@ -16,8 +16,8 @@ use std::alloc::Global;
 
 /// The UPDATE of a step, written with AS numbers of this width.
 fn update_bytes(alloc: Global, wide: bool, step: &Step) -> Result<Octets, NoMemory>
-    requires { IsWritable (UpdateMsg (update_of_lem step.now)) wide }
-    ensures { IfOk result (λ bytes. bytes ≡ spell (UpdateMsg (update_of_lem step.now)) wide) }
+    requires { IsWritable (UpdateMsg (step_update step.now)) wide }
+    ensures { IfOk result (λ bytes. bytes ≡ spell (UpdateMsg (step_update step.now)) wide) }
 {
     let update = update_of(alloc, step)?;
     write_message(alloc, &Message::UpdateMsg(update), wide)
@@ -31,8 +31,8 @@ pub fn said_by(
     peering: PeeringId,
     step: &Step,
 ) -> Result<Option<Octets>, NoMemory>
-    requires { IsWritable (UpdateMsg (update_of_lem step.now)) wide }
-    ensures { IfOk result (λ said. said ≡ said_by_lem wide peering.0 step.now) }
+    requires { IsWritable (UpdateMsg (step_update step.now)) wide }
+    ensures { IfOk result (λ said. said ≡ bytes_of_step wide peering.0 step.now) }
 {
     match step {
         Step::Announce { peering: of, .. } if *of == peering => {

@@ -4,7 +4,7 @@ use Rattle.std.specs.Prelude.{reverse}
 use Rattle.std.specs.List.{list_any, before_first, position_or_len, prefix_len}
 use Rattle.std.proofs.lemmas.List.{take_more, drop_more, take_all, reverse-append}
 use Rattle.toml.specs.Data.{Data}
-use Rattle.lab_tables.specs.Scripts.{is_word, is_settle, is_evacuate, evacuates, group_from, group_before}
+use Rattle.lab_tables.specs.Scripts.{is_word, is_settle_word, is_evacuate, evacuates, group_from, group_before}
 
 front_of : {A : Type 0} (q : A → Bool) (x : A) (xs : List A) → before_first q (x ∷ xs) ≡ cond (q x) [] (x ∷ before_first q xs)
 front_of q x xs = by_test (q x) where
@@ -17,10 +17,12 @@ any_if e true xs = refl
 any_if e false xs = refl
 
 -- whether some element passes e before the first that passes q
-any_front : {A : Type 0} (q e : A → Bool) (x : A) (xs : List A) → list_any e (before_first q (x ∷ xs)) ≡ cond (q x) false (e x || list_any e (before_first q xs))
+any_front : {A : Type 0} (q e : A → Bool) (x : A) (xs : List A)
+    → list_any e (before_first q (x ∷ xs)) ≡ cond (q x) false (e x || list_any e (before_first q xs))
 any_front q e x xs = ap (list_any e) (front_of q x xs) ∙ any_if e (q x) (x ∷ before_first q xs)
 
-pub any_mapped : {A B : Type 0} (q e : B → Bool) (f : A → B) (xs : List A) → list_any (λ x. e (f x)) (before_first (λ x. q (f x)) xs) ≡ list_any e (before_first q (map f xs))
+pub any_mapped : {A B : Type 0} (q e : B → Bool) (f : A → B) (xs : List A)
+    → list_any (λ x. e (f x)) (before_first (λ x. q (f x)) xs) ≡ list_any e (before_first q (map f xs))
 any_mapped q e f [] = refl
 any_mapped q e f (x ∷ xs) =
     any_front (λ y. q (f y)) (λ y. e (f y)) x xs
@@ -30,17 +32,19 @@ any_mapped q e f (x ∷ xs) =
 -- ---- one step more
 
 abbrev Ends : Data → Bool
-Ends = is_word is_settle
+Ends = is_word is_settle_word
 
 abbrev Evacuates : Data → Bool
 Evacuates = is_word is_evacuate
 
-ahead : (xs : List Data) (i : ℕ) (x : Data) → i < length xs → x ≡ get_or xs i x → evacuates (group_from xs i) ≡ cond (Ends x) false (Evacuates x || evacuates (group_from xs (i + 1)))
+ahead : (xs : List Data) (i : ℕ) (x : Data) → i < length xs → x ≡ get_or xs i x
+    → evacuates (group_from xs i) ≡ cond (Ends x) false (Evacuates x || evacuates (group_from xs (i + 1)))
 ahead xs i x within is =
     let next : drop i xs ≡ x ∷ drop (i + 1) xs = drop_more xs i x within ∙ ap (λ y. y ∷ drop (i + 1) xs) (sym is) in
     ap (λ ys. list_any Evacuates (before_first Ends ys)) next ∙ any_front Ends Evacuates x (drop (i + 1) xs)
 
-behind : (xs : List Data) (i : ℕ) (x : Data) → i < length xs → x ≡ get_or xs i x → evacuates (group_before xs (i + 1)) ≡ cond (Ends x) false (Evacuates x || evacuates (group_before xs i))
+behind : (xs : List Data) (i : ℕ) (x : Data) → i < length xs → x ≡ get_or xs i x
+    → evacuates (group_before xs (i + 1)) ≡ cond (Ends x) false (Evacuates x || evacuates (group_before xs i))
 behind xs i x within is =
     let next : take (i + 1) xs ≡ take i xs ++ x ∷ [] = take_more xs i x within ∙ ap (λ y. take i xs ++ y ∷ []) (sym is) in
     let back : reverse (take (i + 1) xs) ≡ x ∷ reverse (take i xs) = ap reverse next ∙ reverse-append (take i xs) (x ∷ []) in
@@ -63,14 +67,16 @@ whole_by false e b f whole next at is = is ∙ at ∙ one_side e b f
 
 -- a settle ends a group, and the next one begins; any other step is one more of its group
 pub group_next : (xs : List Data) (i : ℕ) (x : Data) (before whole before' whole' : Bool) → i < length xs → x ≡ get_or xs i x → IsGrouped xs i before whole
-    → before' ≡ cond (Ends x) false (Evacuates x || before) → whole' ≡ cond (Ends x) (evacuates (group_from xs (i + 1))) whole → IsGrouped xs (i + 1) before' whole'
+    → before' ≡ cond (Ends x) false (Evacuates x || before) → whole' ≡ cond (Ends x) (evacuates (group_from xs (i + 1))) whole
+    → IsGrouped xs (i + 1) before' whole'
 group_next xs i x before whole before' whole' within is at is_before is_whole =
     let b = evacuates (group_before xs i) in
     let f = evacuates (group_from xs (i + 1)) in
     let more : evacuates (group_before xs (i + 1)) ≡ cond (Ends x) false (Evacuates x || b) = behind xs i x within is in
     record {
       before_is = is_before ∙ ap (λ t. cond (Ends x) false (Evacuates x || t)) at.before_is ∙ sym more;
-      whole_is = whole_by (Ends x) (Evacuates x) b f whole whole' (at.whole_is ∙ ap (λ t. b || t) (ahead xs i x within is)) is_whole ∙ ap (λ t. t || f) (sym more);
+      whole_is = whole_by (Ends x) (Evacuates x) b f whole whole' (at.whole_is ∙ ap (λ t. b || t) (ahead xs i x within is)) is_whole
+          ∙ ap (λ t. t || f) (sym more);
     }
 
 -- ---- steps as the values of an array

@@ -12,7 +12,8 @@ once_push seen [] p = refl
 once_push seen (q ∷ ps) p = once_push (put_once seen q) ps p
 
 -- one more prefix
-pub once_more : (ps : List PrefixValue) (i : ℕ) (p : PrefixValue) (once : List PrefixValue) → i < length ps → p ≡ get_or ps i p → once ≡ once_after [] (take i ps)
+pub once_more : (ps : List PrefixValue) (i : ℕ) (p : PrefixValue) (once : List PrefixValue) → i < length ps → p ≡ get_or ps i p
+    → once ≡ once_after [] (take i ps)
     → put_once once p ≡ once_after [] (take (i + 1) ps)
 once_more ps i p once within is so_far =
     let longer : take (i + 1) ps ≡ take i ps ++ p ∷ [] = take_more ps i p within ∙ ap (λ q. take i ps ++ q ∷ []) (sym is) in
@@ -21,7 +22,8 @@ once_more ps i p once within is so_far =
 -- ---- a set of those that are there
 
 -- a prefix is put where it isn't there yet
-pub put_new : (once : List PrefixValue) (p : PrefixValue) (is_new : Bool) → is_new ≡ not (list_any (same_prefix p) once) → cond is_new (once ++ p ∷ []) once ≡ put_once once p
+pub put_new : (once : List PrefixValue) (p : PrefixValue) (is_new : Bool) → is_new ≡ not (list_any (same_prefix p) once)
+    → cond is_new (once ++ p ∷ []) once ≡ put_once once p
 put_new once p is_new e = ap (λ (t : Bool). cond t (once ++ p ∷ []) once) e ∙ by_test (list_any (same_prefix p) once) where
   by_test : (t : Bool) → cond (not t) (once ++ p ∷ []) once ≡ cond t once (once ++ p ∷ [])
   by_test true = refl
@@ -44,9 +46,11 @@ or_false true = refl
 or_false false = refl
 
 -- one more is there
-pub any_put : (q p : PrefixValue) (once : List PrefixValue) → cond (same_prefix p q) true (list_any (same_prefix q) once) ≡ list_any (same_prefix q) (put_once once p)
+pub any_put : (q p : PrefixValue) (once : List PrefixValue)
+    → cond (same_prefix p q) true (list_any (same_prefix q) once) ≡ list_any (same_prefix q) (put_once once p)
 any_put q p once = by_test (list_any (same_prefix p) once) refl (same_prefix p q) refl where
-  by_test : (t : Bool) → list_any (same_prefix p) once ≡ t → (s : Bool) → same_prefix p q ≡ s → cond s true (list_any (same_prefix q) once) ≡ list_any (same_prefix q) (cond t once (once ++ p ∷ []))
+  by_test : (t : Bool) → list_any (same_prefix p) once ≡ t → (s : Bool) → same_prefix p q ≡ s
+      → cond s true (list_any (same_prefix q) once) ≡ list_any (same_prefix q) (cond t once (once ++ p ∷ []))
   by_test true there true e = sym there ∙ ap (λ r. list_any (same_prefix r) once) (is_same p q e)
   by_test true there false e = refl
   by_test false there true e = sym (list_any-append (same_prefix q) once (p ∷ []) ∙ ap (λ t. list_any (same_prefix q) once || (t || false)) (sym (same_either p q) ∙ e) ∙ or_true (list_any (same_prefix q) once))

@@ -12,7 +12,7 @@ use Rattle.lab_tables.specs.declared.input.LabInput.{LabInput}
 use Rattle.lab_tables.specs.declared.input.PeeringInput.{PeeringInput}
 use Rattle.lab_tables.specs.declared.input.RouterInput.{RouterInput}
 use Rattle.lab_tables.specs.Routers.{router_flaw, router_of}
-use Rattle.lab_tables.specs.Peerings.{cost_flaw, cost_of, peering_flaw, peering_of, fault_flaw, fault_of}
+use Rattle.lab_tables.specs.Peerings.{cost_flaw, cost_of, peering_flaw, peering_input, fault_flaw, fault_of}
 use Rattle.lab_tables.specs.Scripts.{step_flaw, step_of}
 
 -- ---- shapes and limits of all tables, in the order of the input
@@ -47,7 +47,7 @@ abbrev pub router_names_of : Members → List (List ℕ)
 router_names_of doc = map (λ r. r.name) (routers_of doc)
 
 abbrev pub peerings_of : Members → List PeeringInput
-peerings_of doc = map (peering_of doc (router_names_of doc)) (tables_at (codes "peering") doc)
+peerings_of doc = map (peering_input doc (router_names_of doc)) (tables_at (codes "peering") doc)
 
 abbrev pub peering_names_of : Members → List (List ℕ)
 peering_names_of doc = map (λ p. p.name) (peerings_of doc)

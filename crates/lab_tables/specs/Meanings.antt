@@ -14,15 +14,15 @@ use Rattle.lab_tables.specs.declared.words.StepWord.TheVariants.{Announces, With
 use Rattle.lab_keys.specs.Values.{maybe_text, text_at}
 
 -- an origin by its name (RFC 4271, section 4.3)
-abbrev pub origin_of : List ℕ → Option Origin
-origin_of text =
+abbrev pub origin_named : List ℕ → Option Origin
+origin_named text =
     if bytes_eq text (codes "igp") then Some Igp
     else if bytes_eq text (codes "egp") then Some Egp
     else if bytes_eq text (codes "incomplete") then Some Incomplete
     else None
 
 abbrev pub origin_at : List ℕ → Members → Option Origin
-origin_at key t = option_and_then origin_of (maybe_text key t)
+origin_at key t = option_and_then origin_named (maybe_text key t)
 
 -- the side that a segment goes to
 abbrev pub way_of : List ℕ → Way
@@ -47,5 +47,5 @@ step_word_of text =
     else Other
 
 -- the index of a name among others
-abbrev pub number_of : List (List ℕ) → List ℕ → ℕ
-number_of names text = unwrap_or (position (bytes_eq text) names) 0
+abbrev pub index_of_name : List (List ℕ) → List ℕ → ℕ
+index_of_name names text = unwrap_or (position (bytes_eq text) names) 0

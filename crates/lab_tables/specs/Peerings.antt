@@ -18,10 +18,10 @@ use Rattle.lab_keys.specs.KeyRows.{KeyRow}
 use Rattle.lab_keys.specs.Places.{place}
 use Rattle.lab_keys.specs.Kinds.{first_of, flaw_if}
 use Rattle.lab_keys.specs.Keys.{required, optional, keys_flaw, stray_flaw, names_of}
-use Rattle.lab_keys.specs.Values.{has, text_at, maybe_text, number_or, flag_or, address_or, octets_at, items_at}
+use Rattle.lab_keys.specs.Values.{has_member, text_at, maybe_text, number_or, flag_or, address_or, octets_at, items_at}
 use Rattle.lab_tables.specs.declared.input.CostInput.{CostInput}
 use Rattle.lab_tables.specs.declared.input.PeeringInput.{PeeringInput}
-use Rattle.lab_tables.specs.Meanings.{number_of, way_of, fault_kind_of}
+use Rattle.lab_tables.specs.Meanings.{index_of_name, way_of, fault_kind_of}
 
 -- ---- costs
 
@@ -41,8 +41,8 @@ cost_flaw i t = first_of (
 
 abbrev pub cost_of : List (List ℕ) → Members → CostInput
 cost_of routers t = record {
-  from = record { 0 = number_of routers (text_at (codes "from") t) };
-  to = record { 0 = number_of routers (text_at (codes "to") t) };
+  from = record { 0 = index_of_name routers (text_at (codes "from") t) };
+  to = record { 0 = index_of_name routers (text_at (codes "to") t) };
   cost = number_or 32 0 (codes "cost") t;
 }
 
@@ -80,7 +80,7 @@ is_raw_of name _ = false
 abbrev pub may_beat : Members → Members → Bool
 may_beat doc t =
     nat_lt 0 (number_or 16 0 (codes "home_hold") t) && nat_lt 0 (number_or 16 180 (codes "hold") t)
-    && not (has (codes "opening") t) && not (list_any (is_raw_of (text_at (codes "name") t)) (items_at (codes "step") doc))
+    && not (has_member (codes "opening") t) && not (list_any (is_raw_of (text_at (codes "name") t)) (items_at (codes "step") doc))
 
 abbrev pub peering_flaw : Members → ℕ → Members → Option Flaw
 peering_flaw doc i t = first_of (
@@ -93,13 +93,13 @@ peering_flaw doc i t = first_of (
     ∷ [])
 
 -- capability 65, support for four-octet AS numbers (RFC 6793, section 3)
-abbrev pub caps_of : Bool → ℕ → List Cap
-caps_of offers as_number = if offers then record { code = 65; bytes = to_be_bytes w32 as_number } ∷ [] else []
+abbrev pub offered_caps : Bool → ℕ → List Cap
+offered_caps offers as_number = if offers then record { code = 65; bytes = to_be_bytes w32 as_number } ∷ [] else []
 
 -- an OPEN and a KEEPALIVE
 abbrev pub default_opening : (remote_as hold remote_id : ℕ) → (as4 : Bool) → List ℕ
 default_opening remote_as hold remote_id as4 =
-    spell (OpenMsg (record { as_number = narrow_as remote_as; hold = hold; identifier = remote_id; caps = caps_of as4 remote_as })) false
+    spell (OpenMsg (record { as_number = narrow_as remote_as; hold = hold; identifier = remote_id; caps = offered_caps as4 remote_as })) false
     ++ spell KeepaliveMsg false
 
 abbrev pub remote_id_of : Members → ℕ
@@ -110,13 +110,13 @@ remote_as4_of t = flag_or (flag_or false (codes "as4") t) (codes "remote_as4") t
 
 abbrev pub opening_of : Members → List ℕ
 opening_of t =
-    if has (codes "opening") t then octets_at (codes "opening") t
+    if has_member (codes "opening") t then octets_at (codes "opening") t
     else default_opening (number_or 32 0 (codes "remote_as") t) (number_or 16 180 (codes "hold") t) (remote_id_of t) (remote_as4_of t)
 
-abbrev pub peering_of : Members → List (List ℕ) → Members → PeeringInput
-peering_of doc routers t = record {
+abbrev pub peering_input : Members → List (List ℕ) → Members → PeeringInput
+peering_input doc routers t = record {
   name = text_at (codes "name") t;
-  at = record { 0 = number_of routers (text_at (codes "at") t) };
+  at = record { 0 = index_of_name routers (text_at (codes "at") t) };
   remote_as = number_or 32 0 (codes "remote_as") t;
   remote_address = address_or 0 (codes "remote_address") t;
   local_address = address_or 0 (codes "local_address") t;
@@ -160,7 +160,7 @@ fault_flaw i t =
 
 abbrev pub fault_of : List (List ℕ) → Members → Fault
 fault_of peerings t = record {
-  peering = record { 0 = number_of peerings (text_at (codes "peering") t) };
+  peering = record { 0 = index_of_name peerings (text_at (codes "peering") t) };
   way = way_of (text_at (codes "way") t);
   segment = number_or 32 0 (codes "segment") t;
   kind = fault_kind_of (text_at (codes "kind") t);

@@ -13,7 +13,7 @@ use Rattle.lab_keys.specs.declared.table_at.TableAt.TheVariants as tables
 use Rattle.lab_keys.specs.KeyRows.{KeyRow}
 use Rattle.lab_keys.specs.Kinds.{first_of}
 use Rattle.lab_keys.specs.Keys.{required, optional, optional_array, keys_flaw, tables_flaw, stray_flaw, names_of}
-use Rattle.lab_keys.specs.Values.{has, text_at, number_or, maybe_number, flag_or, address_or, maybe_prefix, prefixes_at, tables_at}
+use Rattle.lab_keys.specs.Values.{has_member, text_at, number_or, maybe_number, flag_or, address_or, maybe_prefix, prefixes_at, tables_at}
 use Rattle.lab_tables.specs.declared.input.RouterInput.{RouterInput}
 use Rattle.lab_tables.specs.declared.input.PolicyInput.{PolicyInput}
 use Rattle.lab_tables.specs.Meanings.{origin_at}
@@ -39,7 +39,7 @@ rule_keys ranged =
 
 abbrev pub rule_flaw : ℕ → ℕ → ℕ → Members → Option Flaw
 rule_flaw i j k t =
-    let keys = rule_keys (has (codes "prefix") t) in
+    let keys = rule_keys (has_member (codes "prefix") t) in
     first_of (
     keys_flaw (tables.Rule i j k) keys t
     ∷ stray_flaw (tables.Rule i j k) (names_of keys) t
@@ -51,7 +51,7 @@ abbrev pub range_of : Members → PrefixValue → PrefixRange
 range_of t p = record {
   prefix = p;
   ge = number_or 8 p.len (codes "ge") t;
-  le = number_or 8 (if has (codes "ge") t then 32 else p.len) (codes "le") t;
+  le = number_or 8 (if has_member (codes "ge") t then 32 else p.len) (codes "le") t;
 }
 
 abbrev pub rule_of : Members → Rule

@@ -16,13 +16,13 @@ use Rattle.lab_keys.specs.KeyRows.{KeyRow}
 use Rattle.lab_keys.specs.Places.{place}
 use Rattle.lab_keys.specs.Kinds.{first_of, flaw_if}
 use Rattle.lab_keys.specs.Keys.{required, optional, required_array, optional_array, keys_flaw, stray_flaw, names_of}
-use Rattle.lab_keys.specs.Values.{has, text_at, number_or, maybe_number, address_or, octets_at, prefixes_at, numbers_at}
+use Rattle.lab_keys.specs.Values.{has_member, text_at, number_or, maybe_number, address_or, octets_at, prefixes_at, numbers_at}
 use Rattle.lab_tables.specs.declared.input.PeeringInput.{PeeringInput}
 use Rattle.lab_tables.specs.declared.input.Step.{Step}
 use Rattle.lab_tables.specs.declared.input.Step.TheVariants.{Announce, Withdraw, Raw, Graft, Settle, Evacuate}
 use Rattle.lab_tables.specs.declared.words.StepWord.{StepWord}
 use Rattle.lab_tables.specs.declared.words.StepWord.TheVariants.{Announces, Withdraws, SaysRaw, Grafts, Settles, Evacuates}
-use Rattle.lab_tables.specs.Meanings.{number_of, origin_at, step_word_of}
+use Rattle.lab_tables.specs.Meanings.{index_of_name, origin_at, step_word_of}
 
 -- ---- the groups of a script, which settle steps end
 
@@ -34,9 +34,14 @@ abbrev pub is_word : (StepWord → Bool) → Data → Bool
 is_word test (table t) = test (word_at t)
 is_word test _ = false
 
-abbrev pub is_settle : StepWord → Bool
-is_settle Settles = true
-is_settle _ = false
+-- whether a step ends a group
+abbrev pub is_settle_step : Step → Bool
+is_settle_step (Settle rounds least) = true
+is_settle_step step = false
+
+abbrev pub is_settle_word : StepWord → Bool
+is_settle_word Settles = true
+is_settle_word _ = false
 
 abbrev pub is_evacuate : StepWord → Bool
 is_evacuate Evacuates = true
@@ -44,10 +49,10 @@ is_evacuate _ = false
 
 -- Each step belongs to one group. The steps of the group of step i: from i on up to the next settle, and backwards from i up to the previous one.
 abbrev pub group_from : List Data → ℕ → List Data
-group_from steps i = before_first (is_word is_settle) (drop i steps)
+group_from steps i = before_first (is_word is_settle_word) (drop i steps)
 
 abbrev pub group_before : List Data → ℕ → List Data
-group_before steps i = before_first (is_word is_settle) (reverse (take i steps))
+group_before steps i = before_first (is_word is_settle_word) (reverse (take i steps))
 
 abbrev pub evacuates : List Data → Bool
 evacuates steps = list_any (is_word is_evacuate) steps
@@ -126,18 +131,18 @@ step_flaw steps i t =
 -- ---- what a step says
 
 -- a path of one sequence, or none
-abbrev pub path_of : List ℕ → List PathPart
-path_of [] = []
-path_of (as_number ∷ ases) = Sequence (as_number ∷ ases) ∷ []
+abbrev pub sequence_path : List ℕ → List PathPart
+sequence_path [] = []
+sequence_path (as_number ∷ ases) = Sequence (as_number ∷ ases) ∷ []
 
-abbrev pub ases_of : ℕ → Members → List ℕ
-ases_of remote_as t = if has (codes "path") t then numbers_at (codes "path") t else remote_as ∷ []
+abbrev pub step_ases : ℕ → Members → List ℕ
+step_ases remote_as t = if has_member (codes "path") t then numbers_at (codes "path") t else remote_as ∷ []
 
 -- Defaults of what is left out: its own AS as path, ORIGIN IGP, no MULTI_EXIT_DISC, and its own address as next hop.
 abbrev pub attrs_of : (remote_as remote_address : ℕ) → Members → Attrs
 attrs_of remote_as remote_address t = record {
   origin = unwrap_or (origin_at (codes "origin") t) Igp;
-  path = path_of (ases_of remote_as t);
+  path = sequence_path (step_ases remote_as t);
   next_hop = address_or remote_address (codes "next_hop") t;
   med = maybe_number 32 (codes "med") t;
   atomic = false;
@@ -150,7 +155,7 @@ abbrev pub said_prefixes : Members → List PrefixValue
 said_prefixes t = once_after [] (prefixes_at (codes "prefixes") t)
 
 abbrev pub peering_number : List PeeringInput → Members → ℕ
-peering_number peerings t = number_of (map (λ p. p.name) peerings) (text_at (codes "peering") t)
+peering_number peerings t = index_of_name (map (λ p. p.name) peerings) (text_at (codes "peering") t)
 
 -- the attributes that a remote announces
 abbrev pub said_attrs : Option PeeringInput → Members → Attrs
@@ -162,9 +167,9 @@ worded_step Announces routers peerings t =
     Announce (record { 0 = peering_number peerings t }) (said_prefixes t) (said_attrs (slice_get peerings (peering_number peerings t)) t)
 worded_step Withdraws routers peerings t = Withdraw (record { 0 = peering_number peerings t }) (said_prefixes t)
 worded_step SaysRaw routers peerings t = Raw (record { 0 = peering_number peerings t }) (octets_at (codes "hex") t)
-worded_step Grafts routers peerings t = Graft (record { 0 = peering_number peerings t }) (record { 0 = number_of routers (text_at (codes "to") t) })
+worded_step Grafts routers peerings t = Graft (record { 0 = peering_number peerings t }) (record { 0 = index_of_name routers (text_at (codes "to") t) })
 worded_step Settles routers peerings t = Settle (maybe_number 32 (codes "rounds") t) (number_or 32 0 (codes "least") t)
-worded_step _ routers peerings t = Evacuate (record { 0 = number_of routers (text_at (codes "router") t) })
+worded_step _ routers peerings t = Evacuate (record { 0 = index_of_name routers (text_at (codes "router") t) })
 
 abbrev pub step_of : List (List ℕ) → List PeeringInput → Members → Step
 step_of routers peerings t = worded_step (word_at t) routers peerings t

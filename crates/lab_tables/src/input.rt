@@ -1,5 +1,8 @@
 //! The value of an input.
 
+ghost use Rattle.std.specs.Prelude.{◌≡◌};
+ghost use Rattle.lab_tables.specs.Scripts.{is_settle_step};
+
 use bgp_types::{Attrs, Items, Name, Octets, PeeringId, PrefixList, RouterId};
 use link_bag::Fault;
 use route_policy::Rules;
@@ -107,6 +110,15 @@ pub enum Step {
     Evacuate {
         router: RouterId,
     },
+}
+
+impl Step {
+    /// Returns whether the step ends a group.
+    pub fn is_settle(&self) -> bool
+        ensures { result ≡ is_settle_step self.now }
+    {
+        matches!(self, Step::Settle { .. })
+    }
 }
 
 pub type RouterInputs = Items<RouterInput>;

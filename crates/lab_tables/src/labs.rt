@@ -47,7 +47,7 @@ fn costs_of(alloc: Global, names: &Places, doc: &Table) -> Result<CostInputs, No
 
 /// Returns the peerings at these routers.
 fn peerings_of(alloc: Global, names: &Places, doc: &Table) -> Result<PeeringInputs, NoMemory>
-    ensures { IfOk result (λ peerings. peerings ≡ map (peering_of (table_view doc.now) names.now) (tables_at (codes "peering") (table_view doc.now))) }
+    ensures { IfOk result (λ peerings. peerings ≡ map (peering_input (table_view doc.now) names.now) (tables_at (codes "peering") (table_view doc.now))) }
 {
     let reader = PeeringReader {
         doc,
@@ -108,5 +108,5 @@ pub fn lab_of(alloc: Global, doc: &Table) -> Result<LabInput, NoMemory>
 
 ghost use Rattle.std.specs.Prelude.{codes};
 ghost use Rattle.lab_keys.specs.Values.{tables_at};
-ghost use Rattle.lab_tables.specs.Peerings.{cost_of, peering_of, fault_of};
+ghost use Rattle.lab_tables.specs.Peerings.{cost_of, peering_input, fault_of};
 ghost use Rattle.lab_tables.specs.Scripts.{step_of};

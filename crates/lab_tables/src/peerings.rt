@@ -5,7 +5,7 @@ ghost use Rattle.std.specs.List.{list_any};
 ghost use Rattle.toml.specs.View.{view, table_view};
 ghost use Rattle.lab_keys.specs.Keys.{keys_flaw as keys_flaw_lem};
 ghost use Rattle.lab_keys.specs.Values.{text_at as text_at_lem, maybe_text as maybe_text_lem, items_at as items_at_lem};
-ghost use Rattle.lab_tables.specs.Peerings.{peering_ends as peering_ends_lem, peering_rest as peering_rest_lem, peering_last as peering_last_lem, is_raw_of as is_raw_of_lem, may_beat as may_beat_lem, peering_flaw as peering_flaw_lem, remote_id_of as remote_id_of_lem, remote_as4_of as remote_as4_of_lem, opening_of as opening_of_lem, peering_of as peering_of_lem};
+ghost use Rattle.lab_tables.specs.Peerings.{peering_ends as peering_ends_lem, peering_rest as peering_rest_lem, peering_last as peering_last_lem, is_raw_of as is_raw_of_lem, may_beat as may_beat_lem, peering_flaw as peering_flaw_lem, remote_id_of as remote_id_of_lem, remote_as4_of as remote_as4_of_lem, opening_of as opening_of_lem, peering_input};
 
 use crate::input::PeeringInput;
 use crate::opening::default_opening;
@@ -237,7 +237,7 @@ fn peering_of(
     routers: &Places,
     table: &Table,
 ) -> Result<PeeringInput, NoMemory>
-    ensures { IfOk result (λ peering. peering ≡ peering_of_lem (table_view doc.now) routers.now (table_view table.now)) }
+    ensures { IfOk result (λ peering. peering ≡ peering_input (table_view doc.now) routers.now (table_view table.now)) }
 {
     Ok(PeeringInput {
         name: Name::from_text(alloc, text_at("name", table))?,
@@ -268,7 +268,7 @@ pub(crate) struct PeeringReader<'d> {
 }
 
 impl<'d> TableReader<PeeringInput> for PeeringReader<'d> {
-    ghost value_of = { λ r. peering_of_lem (table_view r.doc.now) r.routers.now };
+    ghost value_of = { λ r. peering_input (table_view r.doc.now) r.routers.now };
 
     fn value(&self, alloc: Global, table: &Table) -> Result<PeeringInput, NoMemory> {
         peering_of(alloc, self.doc, self.routers, table)

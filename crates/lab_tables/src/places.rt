@@ -3,7 +3,7 @@
 ghost use Rattle.std.specs.Prelude.{◌≡◌, IfOk};
 ghost use Rattle.std.specs.List.{list_any, position};
 ghost use Rattle.std.specs.Str.{bytes_eq};
-ghost use Rattle.lab_tables.specs.Meanings.{number_of as number_of_lem};
+ghost use Rattle.lab_tables.specs.Meanings.{index_of_name};
 
 use bgp_types::{Items, Name, NoMemory};
 use std::marker::Model;
@@ -59,7 +59,7 @@ impl Places {
 
     /// Returns the index of a name, or 0 if there is no such name.
     pub fn number_of(&self, text: &str) -> u8
-        ensures { result ≡ number_of_lem self.now text.now }
+        ensures { result ≡ index_of_name self.now text.now }
     {
         match place_in(text, &self.names) {
             Some(place) => place as u8,

@@ -3,7 +3,7 @@
 ghost use Rattle.std.specs.Prelude.{◌≡◌, IfOk, option_map};
 ghost use Rattle.toml.specs.View.{table_view};
 ghost use Rattle.lab_keys.specs.Keys.{keys_flaw as keys_flaw_lem};
-ghost use Rattle.lab_keys.specs.Values.{has as has_lem};
+ghost use Rattle.lab_keys.specs.Values.{has_member};
 ghost use Rattle.lab_tables.specs.Routers.{length_kind as length_kind_lem, rule_keys as rule_keys_lem, rule_flaw as rule_flaw_lem, range_of as range_of_lem, rule_of as rule_of_lem, policy_keys as policy_keys_lem, policy_flaw as policy_flaw_lem, policy_of as policy_of_lem};
 
 use crate::input::PolicyInput;
@@ -30,7 +30,7 @@ fn length_kind(ranged: bool) -> Kind
 
 /// Returns the first flaw of the keys of a rule.
 fn rule_keys_flaw<'a>(at: TableAt, table: &Table) -> Option<Flaw<'a>>
-    ensures { result ≡ keys_flaw_lem at (rule_keys_lem (has_lem (codes "prefix") (table_view table.now))) (table_view table.now) }
+    ensures { result ≡ keys_flaw_lem at (rule_keys_lem (has_member (codes "prefix") (table_view table.now))) (table_view table.now) }
 {
     let ranged = has("prefix", table);
     let any = Kind::Number {

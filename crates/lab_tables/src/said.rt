@@ -3,7 +3,7 @@
 ghost use Rattle.std.specs.Prelude.{◌≡◌, IfOk, Option, option_map, option_copied};
 ghost use Rattle.bgp_types.specs.Prefixes.{once_after};
 ghost use Rattle.toml.specs.View.{table_view};
-ghost use Rattle.lab_tables.specs.Scripts.{path_of as path_of_lem, ases_of as ases_of_lem, attrs_of as attrs_of_lem, said_prefixes as said_prefixes_lem, said_attrs as said_attrs_lem};
+ghost use Rattle.lab_tables.specs.Scripts.{sequence_path, step_ases, attrs_of as attrs_of_lem, said_prefixes as said_prefixes_lem, said_attrs as said_attrs_lem};
 
 use crate::input::PeeringInput;
 use crate::once::each_once;
@@ -15,7 +15,7 @@ use toml::Table;
 
 /// Returns the path of one sequence, or the empty path if there is no AS number.
 fn path_of(alloc: Global, ases: AsList) -> Result<AsPath, NoMemory>
-    ensures { IfOk result (λ path. path ≡ path_of_lem ases) }
+    ensures { IfOk result (λ path. path ≡ sequence_path ases) }
 {
     if ases.is_empty() {
         return Ok(AsPath::new(alloc));
@@ -25,7 +25,7 @@ fn path_of(alloc: Global, ases: AsList) -> Result<AsPath, NoMemory>
 
 /// Returns the AS numbers of the path, or only the remote's if none are given.
 fn ases_of(alloc: Global, remote_as: u32, table: &Table) -> Result<AsList, NoMemory>
-    ensures { IfOk result (λ ases. ases ≡ ases_of_lem remote_as (table_view table.now)) }
+    ensures { IfOk result (λ ases. ases ≡ step_ases remote_as (table_view table.now)) }
 {
     if has("path", table) {
         return numbers_at(alloc, "path", table);

@@ -2,7 +2,7 @@
 
 ghost use Rattle.std.specs.Prelude.{◌≡◌, map};
 ghost use Rattle.toml.specs.View.{table_view};
-ghost use Rattle.lab_tables.specs.Meanings.{origin_of as origin_of_lem, origin_at as origin_at_lem, way_of as way_of_lem, fault_kind_of as fault_kind_of_lem, step_word_of as step_word_of_lem};
+ghost use Rattle.lab_tables.specs.Meanings.{origin_named, origin_at as origin_at_lem, way_of as way_of_lem, fault_kind_of as fault_kind_of_lem, step_word_of as step_word_of_lem};
 
 use bgp_types::Origin;
 use lab_keys::maybe_text;
@@ -25,7 +25,7 @@ pub enum StepWord {
 
 /// Returns the origin of this name (RFC 4271, section 4.3).
 fn origin_of(text: &str) -> Option<Origin>
-    ensures { result ≡ origin_of_lem text.now }
+    ensures { result ≡ origin_named text.now }
 {
     match text {
         "igp" => Some(Origin::Igp),

@@ -67,7 +67,8 @@ pub source_against : (words : List (List ℕ)) (test : ℕ → Bool) → test 11
 source_against words test run journal (inl ask) is = against words (Run ask.0) test run ask.1 is
 source_against words test run journal (inr ask) is = against words (Journal ask.0) test journal ask.1 is
 
-pub lab_against : (words : List (List ℕ)) (test : ℕ → Bool) → test 114 ≡ false → test 106 ≡ false → test 100 ≡ false → AskForLab words → test (letter_in words) ≡ true → ⊥
+pub lab_against : (words : List (List ℕ)) (test : ℕ → Bool) → test 114 ≡ false → test 106 ≡ false → test 100 ≡ false → AskForLab words
+    → test (letter_in words) ≡ true → ⊥
 lab_against words test run journal drill (inl ask) is = source_against words test run journal ask is
 lab_against words test run journal drill (inr ask) is = against words (Drill ask.0 ask.1.0) test drill ask.1.1 is
 
@@ -111,9 +112,6 @@ drill_is_small words seed workers drill = small_text _ seed drill.1.1
 above_text : (number : Option (List ℕ)) (seed : ℕ) → IsSeed number seed → 1 ≤ seed
 above_text None seed is = absurd is
 above_text (Some text) seed is = let above = is.above in omega arith
-
-pub seed_is_above : (words : List (List ℕ)) (seed : ℕ) → Asks words (Make seed) → 1 ≤ seed
-seed_is_above words seed make = above_text _ seed make.1.1
 
 pub drill_is_above : (words : List (List ℕ)) (seed workers : ℕ) → Asks words (Drill seed workers) → 1 ≤ seed
 drill_is_above words seed workers drill = above_text _ seed drill.1.1

@@ -18,7 +18,7 @@ use Rattle.lab_top.specs.declared.finish.Finish.{Finish}
 use Rattle.lab_top.specs.declared.finish.InputStop.{InputStop}
 use Rattle.lab_top.specs.declared.finish.InputStop.TheVariants as stops
 use Rattle.lab_top.specs.Built.{is_built}
-use Rattle.lab_top.specs.Ends.{AreRefused, AskToRun, AskForJournal, RunsSource, AskToDrill, Reads, SaysWhy, Writes, end_status, not_built_text, verdict_text, verdict_status}
+use Rattle.lab_top.specs.Ends.{AreRefused, AskToRun, AskForJournal, RunsSource, AskToDrill, ReadsInput, SaysWhy, WritesText, end_status, not_built_text, verdict_text, verdict_status}
 
 -- what the source and the sink tell
 pub record Outside : Type 0 where
@@ -33,25 +33,25 @@ outside left read_faults written write_faults = record { left = left; read_fault
 -- ---- parts
 
 -- All bytes of a source were taken.
-pub record TookAll (before after : Option (List ℕ)) (bytes : List ℕ) : Type 0 where
+pub record TookWhole (before after : Option (List ℕ)) (bytes : List ℕ) : Type 0 where
   pub took : Took before after bytes
   pub end : IsAtEnd after
 
 -- Why a source gives no input: it has other bytes; or a read failed, or memory ran out.
-abbrev pub Stops : (before after : Option (List ℕ)) → (faults_before faults_after : ℕ) → InputStop → Type 0
-Stops before after faults_before faults_after (stops.Bad bad) = Reads before after (Err bad)
-Stops before after faults_before faults_after stops.Failed = FaultRose faults_before faults_after
-Stops before after faults_before faults_after stops.NoMemory = Unit {0}
+abbrev pub GivesNoInput : (before after : Option (List ℕ)) → (faults_before faults_after : ℕ) → InputStop → Type 0
+GivesNoInput before after faults_before faults_after (stops.Bad bad) = ReadsInput before after (Err bad)
+GivesNoInput before after faults_before faults_after stops.Failed = FaultRose faults_before faults_after
+GivesNoInput before after faults_before faults_after stops.NoMemory = Unit {0}
 
 -- All bytes of the source, which may be an input.
 abbrev pub BytesOrStops : (before after : Option (List ℕ)) → (faults_before faults_after : ℕ) → Result (List ℕ) InputStop → Type 0
-BytesOrStops before after faults_before faults_after (Ok bytes) = TookAll before after bytes
-BytesOrStops before after faults_before faults_after (Err stop) = Stops before after faults_before faults_after stop
+BytesOrStops before after faults_before faults_after (Ok bytes) = TookWhole before after bytes
+BytesOrStops before after faults_before faults_after (Err stop) = GivesNoInput before after faults_before faults_after stop
 
 -- The source is read as an input, or as none.
 abbrev pub ReadsOrStops : (before after : Option (List ℕ)) → (faults_before faults_after : ℕ) → Result LabInput InputStop → Type 0
-ReadsOrStops before after faults_before faults_after (Ok input) = Reads before after (Ok input)
-ReadsOrStops before after faults_before faults_after (Err stop) = Stops before after faults_before faults_after stop
+ReadsOrStops before after faults_before faults_after (Ok input) = ReadsInput before after (Ok input)
+ReadsOrStops before after faults_before faults_after (Err stop) = GivesNoInput before after faults_before faults_after stop
 
 -- Bytes are read as what they are; or memory ran out.
 abbrev pub AnswersOrStops : Result LabInput BadInput → Result LabInput InputStop → Type 0
@@ -62,7 +62,7 @@ AnswersOrStops answer (Err stops.NoMemory) = Unit {0}
 
 -- A text is written under its status, without a run; or memory ran out before.
 abbrev pub WritesOr : (text : List ℕ) → (planned : ℕ) → (faults_before faults_after : ℕ) → (before after : Option (List ℕ)) → Result Finish NoMemory → Type 0
-WritesOr text planned faults_before faults_after before after (Ok finish) = (finish.lab ≡ None) × Writes text planned faults_before faults_after before after finish.status
+WritesOr text planned faults_before faults_after before after (Ok finish) = (finish.lab ≡ None) × WritesText text planned faults_before faults_after before after finish.status
 WritesOr text planned faults_before faults_after before after (Err _) = after ≡ before
 
 abbrev pub FailsUnread : (before after : Option (List ℕ)) → Result Finish NoMemory → Type 0
@@ -81,11 +81,11 @@ BuiltOr input (Err _) = Unit {0}
 
 -- A text of a run is written under the status of its end.
 abbrev pub EndsRun : (text : List ℕ) → Lab → (faults_before faults_after : ℕ) → (before after : Option (List ℕ)) → Finish → Type 0
-EndsRun text lab faults_before faults_after before after finish = (finish.lab ≡ Some lab) × Writes text (end_status lab.end) faults_before faults_after before after finish.status
+EndsRun text lab faults_before faults_after before after finish = (finish.lab ≡ Some lab) × WritesText text (end_status lab.end) faults_before faults_after before after finish.status
 
 -- What can't be run yet is refused.
 abbrev pub EndsUnbuilt : (faults_before faults_after : ℕ) → (before after : Option (List ℕ)) → Finish → Type 0
-EndsUnbuilt faults_before faults_after before after finish = (finish.lab ≡ None) × Writes not_built_text 2 faults_before faults_after before after finish.status
+EndsUnbuilt faults_before faults_after before after finish = (finish.lab ≡ None) × WritesText not_built_text 2 faults_before faults_after before after finish.status
 
 -- A job ends whose source gave no input.
 abbrev pub StopsFor : InputStop → (faults_before faults_after : ℕ) → (before after : Option (List ℕ)) → Result Finish NoMemory → Type 0
@@ -97,26 +97,31 @@ StopsFor stops.NoMemory faults_before faults_after before after end = FindsNone 
 
 -- What was run, and which text of the run it is: the report of what was read, its journal behind the bytes that were read, or the summary of a seed's laboratory.
 pub data Shows (words : List (List ℕ)) (left_before left_after : Option (List ℕ)) (end : Lab) (text : List ℕ) : Type 0 where
-  shows_report : AskToRun words → Reads left_before left_after (Ok end.input) → IsReport end text → Shows words left_before left_after end text
-  shows_journal : AskForJournal words → (bytes : List ℕ) → TookAll left_before left_after bytes → InputOf bytes end.input → text ≡ journal_text bytes end.journal → Shows words left_before left_after end text
+  shows_report : AskToRun words → ReadsInput left_before left_after (Ok end.input) → IsReport end text → Shows words left_before left_after end text
+  shows_journal : AskForJournal words → (bytes : List ℕ) → TookWhole left_before left_after bytes → InputOf bytes end.input
+      → text ≡ journal_text bytes end.journal → Shows words left_before left_after end text
   shows_summary : (seed : ℕ) → AskToDrill words seed → InputOf (made seed) end.input → text ≡ summary_text end → Shows words left_before left_after end text
 
 -- The text that is written under a planned status, and its cause.
 pub data Cause (words : List (List ℕ)) (left_before left_after : Option (List ℕ)) (text : List ℕ) (planned : ℕ) (lab : Option Lab) : Type 0 where
   usage : AreRefused words → text ≡ usage_text → planned ≡ 1 → lab ≡ None → Cause words left_before left_after text planned lab
   makes : (seed : ℕ) → Asks words (Make seed) → text ≡ made seed → planned ≡ 0 → lab ≡ None → Cause words left_before left_after text planned lab
-  checks : (answer : Result LabInput BadInput) → Asks words Check → Reads left_before left_after answer → text ≡ verdict_text answer → planned ≡ verdict_status answer → lab ≡ None
+  checks : (answer : Result LabInput BadInput) → Asks words Check → ReadsInput left_before left_after answer → text ≡ verdict_text answer
+      → planned ≡ verdict_status answer → lab ≡ None
       → Cause words left_before left_after text planned lab
-  refuses : (answer : Result LabInput BadInput) → RunsSource words → Reads left_before left_after answer → SaysWhy answer text → planned ≡ 2 → lab ≡ None
+  refuses : (answer : Result LabInput BadInput) → RunsSource words → ReadsInput left_before left_after answer → SaysWhy answer text → planned ≡ 2 → lab ≡ None
       → Cause words left_before left_after text planned lab
-  drops : (seed : ℕ) → AskToDrill words seed → SaysWhy (input_of (made seed)) text → planned ≡ 2 → lab ≡ None → Cause words left_before left_after text planned lab
-  runs : (end : Lab) → Shows words left_before left_after end text → RanLab end → planned ≡ end_status end.end → lab ≡ Some end → Cause words left_before left_after text planned lab
+  drops : (seed : ℕ) → AskToDrill words seed → SaysWhy (input_of (made seed)) text → planned ≡ 2 → lab ≡ None
+      → Cause words left_before left_after text planned lab
+  runs : (end : Lab) → Shows words left_before left_after end text → RanLab end → planned ≡ end_status end.end → lab ≡ Some end
+      → Cause words left_before left_after text planned lab
 
 -- A text was written, whole or in part; or a read failed; or memory ran out.
 pub data Ended (words : List (List ℕ)) (before after : Outside) (status : ℕ) (lab : Option Lab) : Type 0 where
   wrote : (text : List ℕ) (planned : ℕ) → Cause words before.left after.left text planned lab
-      → Writes text planned before.write_faults after.write_faults before.written after.written status → Ended words before after status lab
-  unread : RunsSource words ⊎ Asks words Check → status ≡ 4 → FaultRose before.read_faults after.read_faults → after.written ≡ before.written → lab ≡ None → Ended words before after status lab
+      → WritesText text planned before.write_faults after.write_faults before.written after.written status → Ended words before after status lab
+  unread : RunsSource words ⊎ Asks words Check → status ≡ 4 → FaultRose before.read_faults after.read_faults → after.written ≡ before.written
+      → lab ≡ None → Ended words before after status lab
   no_memory : status ≡ 6 → after.written ≡ before.written → lab ≡ None → Ended words before after status lab
 
 -- The command ended; or memory ran out before anything was written.

@@ -57,7 +57,7 @@ AskUnread words = AreRefused words ⊎ AskToMake words ⊎ ((seed : ℕ) × AskT
 -- ---- the source
 
 -- Bytes were taken from a source, and this is what they are read as: all that there were, or more than 4 MiB, which is a fault.
-pub record Reads (before after : Option (List ℕ)) (answer : Result LabInput BadInput) : Type 0 where
+pub record ReadsInput (before after : Option (List ℕ)) (answer : Result LabInput BadInput) : Type 0 where
   pub bytes : List ℕ
   pub took : Took before after bytes
   pub enough : IsAtEnd after ⊎ ((4194304 < length bytes) × (answer ≡ Err too_long))
@@ -81,7 +81,7 @@ SaysWhy (Err bad) text = text ≡ bad_line bad
 -- What was taken from a source isn't run, for the reason that the text says.
 pub record TookBadInput (before after : Option (List ℕ)) (text : List ℕ) : Type 0 where
   pub answer : Result LabInput BadInput
-  pub read : Reads before after answer
+  pub read : ReadsInput before after answer
   pub why : SaysWhy answer text
 
 -- What is to be checked or run is none, for the reason that the text says: what was taken from a source, or the laboratory of a seed.
@@ -102,8 +102,8 @@ end_status (StreamFull peering length) = 7
 end_status (JournalFull events) = 7
 
 -- A text was appended whole under its status; or a write failed, which is status 5, and a front of the text was.
-abbrev pub Writes : (text : List ℕ) → (planned : ℕ) → (faults_before faults_after : ℕ) → (before after : Option (List ℕ)) → (status : ℕ) → Type 0
-Writes text planned faults_before faults_after before after status =
+abbrev pub WritesText : (text : List ℕ) → (planned : ℕ) → (faults_before faults_after : ℕ) → (before after : Option (List ℕ)) → (status : ℕ) → Type 0
+WritesText text planned faults_before faults_after before after status =
     ((status ≡ planned) × Appended before after text) ⊎ ((status ≡ 5) × FaultRose faults_before faults_after × AppendedFront before after text)
 
 -- what a check says of what it read, and under which status: of an input whether it is even and sure
@@ -118,14 +118,14 @@ verdict_status (Err bad) = 2
 -- What was read from the source was said in a line: that it is an input, or its first fault.
 pub record Checks (left_before left_after : Option (List ℕ)) (faults_before faults_after : ℕ) (before after : Option (List ℕ)) (status : ℕ) : Type 0 where
   pub answer : Result LabInput BadInput
-  pub read : Reads left_before left_after answer
-  pub wrote : Writes (verdict_text answer) (verdict_status answer) faults_before faults_after before after status
+  pub read : ReadsInput left_before left_after answer
+  pub wrote : WritesText (verdict_text answer) (verdict_status answer) faults_before faults_after before after status
 
 -- The report of a run was written under the status of its end: a text that says how the run ended and where packets go then.
 pub record WritesReport (lab : Lab) (faults_before faults_after : ℕ) (before after : Option (List ℕ)) (status : ℕ) : Type 0 where
   pub text : List ℕ
   pub report : IsReport lab text
-  pub wrote : Writes text (end_status lab.end) faults_before faults_after before after status
+  pub wrote : WritesText text (end_status lab.end) faults_before faults_after before after status
 
 -- All bytes of a source were taken, are the input that was run, and were written with the journal of the run behind them.
 pub record WritesJournal (left_before left_after : Option (List ℕ)) (lab : Lab) (faults_before faults_after : ℕ) (before after : Option (List ℕ)) (status : ℕ) : Type 0 where
@@ -133,4 +133,4 @@ pub record WritesJournal (left_before left_after : Option (List ℕ)) (lab : Lab
   pub took : Took left_before left_after bytes
   pub end : IsAtEnd left_after
   pub is : InputOf bytes lab.input
-  pub wrote : Writes (journal_text bytes lab.journal) (end_status lab.end) faults_before faults_after before after status
+  pub wrote : WritesText (journal_text bytes lab.journal) (end_status lab.end) faults_before faults_after before after status

@@ -1,7 +1,7 @@
 //! How a command ends.
 
 ghost use Rattle.std.specs.Prelude.{◌≡◌, ◌≤◌, None};
-ghost use Rattle.lab_top.specs.Ends.{Writes};
+ghost use Rattle.lab_top.specs.Ends.{WritesText};
 
 use graft_edge::{Sink, write_all};
 use lab_input::BadInput;
@@ -49,7 +49,7 @@ pub(crate) fn without_run(status: u8) -> Finish
 /// Writes a text and ends with a status, or with that of a write that failed.
 pub(crate) fn end_with<K: Sink>(sink: &mut K, text: &[u8], status: u8, lab: Option<Lab>) -> Finish
     ensures steady { K.faults sink.old ≤ K.faults sink.new }
-    ensures writes { Writes text.now status (K.faults sink.old) (K.faults sink.new) (K.written sink.old) (K.written sink.new) result.status }
+    ensures writes { WritesText text.now status (K.faults sink.old) (K.faults sink.new) (K.written sink.old) (K.written sink.new) result.status }
     ensures lab { result.lab ≡ lab }
 {
     match write_all(sink, text) {

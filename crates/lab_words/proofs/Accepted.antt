@@ -31,7 +31,8 @@ among_refused k [] rows h = absurd h
 among_refused k (x ∷ xs) rows h = refl
 
 -- a line that `clap` refuses, but for memory, is answered with the usage
-pub answer_of-refused : (a : App) (line : List Text) (e : Error) → a ≡ graft_command → HasKind (fault_of a line) e → (kind_of e ≡ OutOfMemory → ⊥) → answer_of line ≡ Err Usage
+pub answer_of-refused : (a : App) (line : List Text) (e : Error) → a ≡ graft_command → HasKind (fault_of a line) e → (kind_of e ≡ OutOfMemory → ⊥)
+    → answer_of line ≡ Err Usage
 unfolding faults_of
 answer_of-refused a line e same has other =
     elim has [

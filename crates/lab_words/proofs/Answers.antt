@@ -53,13 +53,15 @@ digits_found : (n : ℕ) (ds : List ℕ) → Finds (Reads n ds) (digits_after n 
 digits_found n [] = (tt, refl)
 digits_found n (d ∷ ds) = next_digit (nat_le 48 d && nat_le d 57) n d ds (in_range 48 57 d) (digits_found (n * 10 + (d - 48)) ds)
 
-above_found : (b : Bool) (text : Text) (n : ℕ) → Decides b (n ≡ 0) → 1 ≤ length text → length text ≤ 4 → Reads 0 text n → Finds (IsSeedText text) (if b then None else Some n)
+above_found : (b : Bool) (text : Text) (n : ℕ) → Decides b (n ≡ 0) → 1 ≤ length text → length text ≤ 4 → Reads 0 text n
+    → Finds (IsSeedText text) (if b then None else Some n)
 above_found true text n zero some short read = λ seed is. let e = zero.0 refl in let same : n ≡ seed = sym read.1 ∙ is.value in let above = is.above in absurd (omega arith)
 above_found false text n zero some short read =
     let ne : n ≡ 0 → ⊥ = λ e. false≢true (zero.1 e) in
     record { digits = (some, read.0); short = short; value = read.1; above = omega (arith, ne) }
 
-short_found : (b : Bool) (text : Text) (r : Option ℕ) → Decides b ((1 ≤ length text) × (length text ≤ 4)) → Finds (Reads 0 text) r → Finds (IsSeedText text) (if b then some_above_0 r else None)
+short_found : (b : Bool) (text : Text) (r : Option ℕ) → Decides b ((1 ≤ length text) × (length text ≤ 4)) → Finds (Reads 0 text) r
+    → Finds (IsSeedText text) (if b then some_above_0 r else None)
 short_found true text None is read = λ seed h. read seed (h.digits.1, h.value)
 short_found true text (Some n) is read = let range = is.0 refl in above_found (n == 0) text n (Decides-eqb n 0) range.0 range.1 read
 short_found false text r is read = λ seed h. absurd (false≢true (is.1 (h.digits.0, h.short)))
@@ -163,7 +165,8 @@ only_journal g is never (Make n) = no_other g (codes "journal") (Make n) is refl
 only_journal g is never (Drill n w) = no_other g (codes "journal") (Drill n w) is refl
 only_journal g is never (Journal w) = never w
 
-run_found : (job : Text) (number workers : Option Text) → job ≡ codes "run" → (r : Option ℕ) → Finds (AreWorkers workers) r → Answers (IsJob (given (Some job) number workers)) (if is_some number then Err Usage else run_of r)
+run_found : (job : Text) (number workers : Option Text) → job ≡ codes "run" → (r : Option ℕ) → Finds (AreWorkers workers) r
+    → Answers (IsJob (given (Some job) number workers)) (if is_some number then Err Usage else run_of r)
 run_found job (Some n) workers e r found = (refl, only_run (given (Some job) (Some n) workers) (ap Some e) (λ w h. no_none n h.1))
 run_found job None workers e (Some w) found = (ap Some e, refl, found)
 run_found job None workers e None found = (refl, only_run (given (Some job) None workers) (ap Some e) (λ w h. found w h.2))
@@ -173,17 +176,20 @@ check_found job (Some n) workers e = (refl, only_check (given (Some job) (Some n
 check_found job None (Some w) e = (refl, only_check (given (Some job) None (Some w)) (ap Some e) (λ h. no_none w h.2))
 check_found job None None e = (ap Some e, refl, refl)
 
-make_found : (job : Text) (number workers : Option Text) → job ≡ codes "make" → (r : Option ℕ) → Finds (IsSeed number) r → Answers (IsJob (given (Some job) number workers)) (if is_some workers then Err Usage else make_of r)
+make_found : (job : Text) (number workers : Option Text) → job ≡ codes "make" → (r : Option ℕ) → Finds (IsSeed number) r
+    → Answers (IsJob (given (Some job) number workers)) (if is_some workers then Err Usage else make_of r)
 make_found job number (Some t) e r found = (refl, only_make (given (Some job) number (Some t)) (ap Some e) (λ n h. no_none t h.2))
 make_found job number None e (Some n) found = (ap Some e, found, refl)
 make_found job number None e None found = (refl, only_make (given (Some job) number None) (ap Some e) (λ n h. found n h.1))
 
-drill_found : (job : Text) (number workers : Option Text) → job ≡ codes "drill" → (s r : Option ℕ) → Finds (IsSeed number) s → Finds (AreWorkers workers) r → Answers (IsJob (given (Some job) number workers)) (drill_of s r)
+drill_found : (job : Text) (number workers : Option Text) → job ≡ codes "drill" → (s r : Option ℕ) → Finds (IsSeed number) s
+    → Finds (AreWorkers workers) r → Answers (IsJob (given (Some job) number workers)) (drill_of s r)
 drill_found job number workers e (Some n) (Some w) seed found = (ap Some e, seed, found)
 drill_found job number workers e (Some n) None seed found = (refl, only_drill (given (Some job) number workers) (ap Some e) (λ k w h. found w h.2))
 drill_found job number workers e None r seed found = (refl, only_drill (given (Some job) number workers) (ap Some e) (λ k w h. seed k h.1))
 
-journal_found : (job : Text) (number workers : Option Text) → job ≡ codes "journal" → (r : Option ℕ) → Finds (AreWorkers workers) r → Answers (IsJob (given (Some job) number workers)) (if is_some number then Err Usage else journal_of r)
+journal_found : (job : Text) (number workers : Option Text) → job ≡ codes "journal" → (r : Option ℕ) → Finds (AreWorkers workers) r
+    → Answers (IsJob (given (Some job) number workers)) (if is_some number then Err Usage else journal_of r)
 journal_found job (Some n) workers e r found = (refl, only_journal (given (Some job) (Some n) workers) (ap Some e) (λ w h. no_none n h.1))
 journal_found job None workers e (Some w) found = (ap Some e, refl, found)
 journal_found job None workers e None found = (refl, only_journal (given (Some job) None workers) (ap Some e) (λ w h. found w h.2))
@@ -191,7 +197,9 @@ journal_found job None workers e None found = (refl, only_journal (given (Some j
 differs : (job name : Text) (b : Bool) → Decides b (job ≡ name) → b ≡ false → Some job ≡ Some name → ⊥
 differs job name b is f e = false≢true (sym f ∙ is.1 (some_is job name e))
 
-named : (job : Text) (number workers : Option Text) (run check make drill journal : Bool) → Decides run (job ≡ codes "run") → Decides check (job ≡ codes "check") → Decides make (job ≡ codes "make") → Decides drill (job ≡ codes "drill") → Decides journal (job ≡ codes "journal")
+named : (job : Text) (number workers : Option Text) (run check make drill journal : Bool) → Decides run (job ≡ codes "run")
+    → Decides check (job ≡ codes "check") → Decides make (job ≡ codes "make") → Decides drill (job ≡ codes "drill")
+    → Decides journal (job ≡ codes "journal")
     → Answers (IsJob (given (Some job) number workers)) (if run then run_with number workers else (if check then check_with number workers else (if make then make_with number workers
     else (if drill then drill_with number workers else (if journal then journal_with number workers else Err Usage)))))
 named job number workers true check make drill journal r c m d j = run_found job number workers (r.0 refl) (workers_in workers) (given_workers_found workers)
@@ -217,7 +225,8 @@ job_found (Some job) number workers = named job number workers (bytes_eq job (co
 
 -- ---- lines
 
-taken : (kinds : Kinds) (rows : List Row) (r : Result Job WordStop) → Answers (IsJob (given_in rows)) r → kinds ≡ [] → Answers (λ job. (kinds ≡ []) × IsJob (given_in rows) job) r
+taken : (kinds : Kinds) (rows : List Row) (r : Result Job WordStop) → Answers (IsJob (given_in rows)) r → kinds ≡ []
+    → Answers (λ job. (kinds ≡ []) × IsJob (given_in rows) job) r
 taken kinds rows (Ok job) is none = (none, is)
 taken kinds rows (Err e) is none = (is.0, λ job h. is.1 job h.1)
 
@@ -246,10 +255,12 @@ answer-asked words (Err e) is = tt
 answer-asked words (Ok job) (inl e) = absurd (memory_is_no_job _ job refl e)
 answer-asked words (Ok job) (inr e) = of_answer words _ job (asked words) (sym e)
 
-pub answer-refused : (words : List Text) (r : Result Job WordStop) → (r ≡ Err NoMemory) ⊎ (r ≡ answer_of (line_of words)) → r ≡ Err Usage → (job : Job) → ¬ (Asks words job)
+pub answer-refused : (words : List Text) (r : Result Job WordStop) → (r ≡ Err NoMemory) ⊎ (r ≡ answer_of (line_of words)) → r ≡ Err Usage
+    → (job : Job) → ¬ (Asks words job)
 answer-refused words r (inl e) refused = absurd (memory_is_no_usage r e refused)
 answer-refused words r (inr e) refused = (subst (Answers (Asks words)) (sym e ∙ refused) (asked words)).1
 
 -- the line that is read is that of the words
-pub read_is : (words line : List Text) (r : Result Job WordStop) → line ≡ line_of words → (r ≡ Err NoMemory) ⊎ (r ≡ answer_of line) → (r ≡ Err NoMemory) ⊎ (r ≡ answer_of (line_of words))
+pub read_is : (words line : List Text) (r : Result Job WordStop) → line ≡ line_of words → (r ≡ Err NoMemory) ⊎ (r ≡ answer_of line)
+    → (r ≡ Err NoMemory) ⊎ (r ≡ answer_of (line_of words))
 read_is words line r same is = elim is [ inl memory ↦ inl memory | inr answer ↦ inr (answer ∙ ap answer_of same) ]

@@ -17,4 +17,5 @@ pub line_more : {X A : Type 0} (now : X → A) (first : A) (items more : List X)
     → map now items ≡ first ∷ take k words → more ≡ items ++ x ∷ [] → w ≡ now x → slice_get words k ≡ Some w → map now more ≡ first ∷ take (k + 1) words
 line_more {X} {A} now first items more words k x w so_far is same get =
     ap (map now) is ∙ map-append now items (x ∷ []) ∙ ap (λ (l : List A). l ++ now x ∷ []) so_far
-    ∙ ap (λ (z : A). (first ∷ take k words) ++ z ∷ []) (sym same) ∙ ap (λ (l : List A). first ∷ l) (take_get k words w get ∙ ap (λ (n : ℕ). take n words) (sym (add-one k)))
+    ∙ ap (λ (z : A). (first ∷ take k words) ++ z ∷ []) (sym same)
+    ∙ ap (λ (l : List A). first ∷ l) (take_get k words w get ∙ ap (λ (n : ℕ). take n words) (sym (add-one k)))

@@ -17,12 +17,12 @@ is_same_way Remote Remote = true
 is_same_way _ _ = false
 
 -- whether a fault is for this segment
-abbrev pub is_of : PeeringId → Way → ℕ → Fault → Bool
-is_of peering way segment fault = (fault.peering.0 == peering.0) && (is_same_way fault.way way && (fault.segment == segment))
+abbrev pub is_fault_for : PeeringId → Way → ℕ → Fault → Bool
+is_fault_for peering way segment fault = (fault.peering.0 == peering.0) && (is_same_way fault.way way && (fault.segment == segment))
 
 -- the fate of a segment by a list of faults: that of the first fault for it; without one it passes
 abbrev pub fate_of : List Fault → PeeringId → Way → ℕ → Fate
-fate_of faults peering way segment = unwrap_or (option_map fate_by (find (is_of peering way segment) faults)) Pass
+fate_of faults peering way segment = unwrap_or (option_map fate_by (find (is_fault_for peering way segment) faults)) Pass
 
 -- the fate of a segment by a plan
 abbrev pub fate_in : Plan → PeeringId → Way → ℕ → Fate

@@ -2,6 +2,7 @@
 
 use crate::ends::{moved, stream, take, two_ends};
 use graft_edge::{NoMemory, TryCopy};
+use row_harness::Random;
 use std::alloc::Global;
 use std::process::Abort;
 use std::test::Fail;
@@ -10,20 +11,6 @@ use tcp_seq::Segment;
 
 /// The length of each stream.
 const LENGTH: u32 = 100_000;
-
-/// A linear congruential generator modulo 2^64.
-#[derive(Drop)]
-struct Random(u64);
-
-impl Random {
-    fn below(&mut self, n: u32) -> u32 {
-        self.0 = self
-            .0
-            .wrapping_mul(6_364_136_223_846_793_005)
-            .wrapping_add(1_442_695_040_888_963_407);
-        (self.0 >> 33) as u32 % n.max(1)
-    }
-}
 
 /// One side: its end, how much of the other side's stream it read, and the segments that it sent and that are still on
 /// the link.
@@ -191,7 +178,7 @@ fn go_through(
     there: &[u8],
     back: &[u8],
 ) -> Result<(), Fail> {
-    let mut random = Random(u64::from(seed));
+    let mut random = Random::new(seed);
     let (remote, home) = two_ends(rt.alloc(), 4_294_930_000, random.below(4_294_967_295))?;
     let mut far = sending(rt.alloc(), remote, there)?;
     let mut near = sending(rt.alloc(), home, back)?;

@@ -26,6 +26,6 @@ abbrev pub with_best : map.FinMap prefix_cmp Best → PrefixValue → Option Bes
 with_best = with_value
 
 -- whether two differ
-abbrev pub AreApart : {A : Type 0} → A → A → Bool → Type 0
-AreApart x y true = x ≢ y
-AreApart x y false = x ≡ y
+abbrev pub DifferIf : {A : Type 0} → A → A → Bool → Type 0
+DifferIf x y true = x ≢ y
+DifferIf x y false = x ≡ y

@@ -3,10 +3,10 @@
 ghost use Rattle.std.specs.Prelude.{◌≡◌, ◌≢◌, Some, None, option_copied, is_some, IsOk, IsSome, IfOk, OnOk, OnErr, MatchBool};
 ghost use Rattle.std.specs.FinMap as map;
 ghost use Rattle.bgp_types.specs.Tables.{first_above};
-ghost use Rattle.loc_rib.specs.Values.{with_best, AreApart};
+ghost use Rattle.loc_rib.specs.Values.{with_best, DifferIf};
 
 use bgp_types::{From, NoMemory, Prefix, PrefixList, Route, Table, TryCopy};
-use due_set::DueSet;
+use prefix_set::PrefixSet;
 use prefix_trie::TrieTable;
 use route_policy::Best;
 use std::alloc::Global;
@@ -16,7 +16,7 @@ use std::marker::Model;
 #[derive(Drop)]
 pub struct LocRib {
     best: TrieTable<Best>,
-    dirty: DueSet,
+    dirty: PrefixSet,
 }
 
 impl Model for LocRib {
@@ -33,7 +33,7 @@ impl Model for LocRib {
 /// Whether the two differ.
 #[tactic(auto, using(bgp_types::proofs::Equality::route_equal))]
 fn are_apart(a: Option<&Best>, b: Option<&Best>) -> bool
-    ensures { AreApart (option_copied a.entry) (option_copied b.entry) result }
+    ensures { DifferIf (option_copied a.entry) (option_copied b.entry) result }
 {
     match (a, b) {
         (None, None) => false,
@@ -60,7 +60,7 @@ impl LocRib {
     {
         LocRib {
             best: TrieTable::new(alloc),
-            dirty: DueSet::new(alloc),
+            dirty: PrefixSet::new(alloc),
         }
     }
 
@@ -74,7 +74,7 @@ impl LocRib {
     /// Sets the best route to a prefix, or removes it for `None`, and returns whether it changed. If
     /// memory runs out, nothing changes.
     pub fn set(&mut self, prefix: Prefix, best: Option<Best>) -> Result<bool, NoMemory>
-        ensures changed { IfOk result (λ changed. AreApart best (map.get self.old.best prefix) changed) }
+        ensures changed { IfOk result (λ changed. DifferIf best (map.get self.old.best prefix) changed) }
         ensures ok { OnOk result (self.new ≡ record self.old { best = with_best self.old.best prefix best }) }
         ensures err { OnErr result (self.new ≡ self.old) }
         // Neither removing a route nor replacing one needs memory.
@@ -96,9 +96,9 @@ impl LocRib {
 
     /// Sets a copy of this route as the best route to a prefix, unless it is that already, and returns
     /// whether it changed. If memory runs out, nothing changes.
-    #[tactic(auto, using(due_set::proofs::Sets::inserted_again))]
+    #[tactic(auto, using(prefix_set::proofs::Sets::inserted_again))]
     pub fn set_copy(&mut self, prefix: Prefix, from: From, route: &Route) -> Result<bool, NoMemory>
-        ensures changed { IfOk result (λ changed. AreApart (Some (record { from = from; route = route.now })) (map.get self.old.best prefix) changed) }
+        ensures changed { IfOk result (λ changed. DifferIf (Some (record { from = from; route = route.now })) (map.get self.old.best prefix) changed) }
         ensures ok { OnOk result (self.new ≡ record self.old { best = with_best self.old.best prefix (Some (record { from = from; route = route.now })) }) }
         ensures err { OnErr result (self.new ≡ self.old) }
     {

@@ -1,21 +1,29 @@
-//! Reads seeds, one a line, and prints the length and the SHA-256 of the laboratory of each one. The text is proved to
-//! be that of its definition; these digests are of a text that was made independently.
+//! Seeds, and the length and the SHA-256 of the laboratory that each one makes. The text is proved to be that of its
+//! definition; these digests are of a text that was made independently.
 #![tactic(auto)]
 
-use anyhow::Result;
+use anyhow::{Result, bail};
 use lab_make::make_lab;
+use row_harness::{Table, answer_rows, number};
 use sha2::{Digest, Sha256};
-use std::io;
+use std::alloc::Global;
+
+/// The laboratories of the rows' seeds.
+#[derive(Drop)]
+struct Seeds;
+
+impl Table for Seeds {
+    fn answer(&mut self, alloc: Global, words: &[&str]) -> Result<String> {
+        let seed = number(words, 1)?;
+        if seed == 0 || seed >= 10_000 {
+            bail!("a seed from 1 to 9999");
+        }
+        let lab = make_lab(alloc, seed)?;
+        let digest = hex::encode(alloc, Sha256::digest(lab.as_slice()))?;
+        Ok(format!(in alloc; "{} bytes, {digest}", lab.len())?)
+    }
+}
 
 fn main(rt: HostRuntime) -> Result<()> {
-    let text = io::read_to_string(rt.alloc(), rt.reader())?;
-    for line in text.lines() {
-        let seed = line.parse::<u32>()?;
-        if 0 < seed && seed < 10_000 {
-            let lab = make_lab(rt.alloc(), seed)?;
-            let digest = hex::encode(rt.alloc(), Sha256::digest(lab.as_slice()))?;
-            println!(rt; "make {seed}: {} bytes, {digest}", lab.len())?;
-        }
-    }
-    Ok(())
+    answer_rows(&rt, &mut Seeds)
 }

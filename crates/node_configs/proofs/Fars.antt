@@ -7,9 +7,9 @@ use Rattle.lab_tables.specs.declared.input.LabInput.{LabInput}
 use Rattle.lab_tables.specs.declared.input.PeeringInput.{PeeringInput}
 use Rattle.lab_input.specs.Counts.{is_wide}
 use Rattle.lab_setup.specs.Setups.{setup_of, peering_setup, is_wide_at}
-use Rattle.far_side.specs.Says.{bytes_of}
+use Rattle.far_side.specs.Says.{bytes_to_say}
 use Rattle.far_side.specs.Parts.{say_by}
-use Rattle.far_side.specs.Fars.{IsConfigOf}
+use Rattle.far_side.specs.Fars.{IsFarConfigOf}
 use Rattle.far_side.specs.declared.config.FarConfig.{FarConfig}
 use Rattle.node_configs.specs.Accepted.{IsAccepted}
 use Rattle.node_configs.specs.Says.{says_of}
@@ -25,8 +25,10 @@ module _ (input : LabInput) (accepted : IsAccepted input) (config : FarConfig) (
   abbrev p : ℕ
   p = config.peering.0
 
-  pub is_config : config.routers ≡ length input.routers → config.peerings ≡ length input.peerings → config.pointer ≡ x.at → config.send_first.0 ≡ x.remote_seq → config.receive_first.0 ≡ x.home_seq
-      → config.opening ≡ x.opening → config.says ≡ says_of (is_wide x) p input.steps → config.beat ≡ beat_of (peering_setup input (p, x)) → IsConfigOf (setup_of input) config
+  pub is_config : config.routers ≡ length input.routers → config.peerings ≡ length input.peerings → config.pointer ≡ x.at
+      → config.send_first.0 ≡ x.remote_seq → config.receive_first.0 ≡ x.home_seq
+      → config.opening ≡ x.opening → config.says ≡ says_of (is_wide x) p input.steps → config.beat ≡ beat_of (peering_setup input (p, x))
+      → IsFarConfigOf (setup_of input) config
   is_config routers peerings pointer sends receives opening said beat =
       let counts : HasFew input = few input accepted in
       let sound : IsPeeringSetup (setup_of input) p (peering_setup input (p, x)) = (is_setup input accepted).peerings p (peering_setup input (p, x)) (peering_there input p x there) in
@@ -42,8 +44,8 @@ module _ (input : LabInput) (accepted : IsAccepted input) (config : FarConfig) (
         receives = ap (λ n. record { 0 = n }) receives;
         opening = opening;
         short = subst (λ (bytes : List ℕ). length bytes ≤ 4096) (sym opening) sound.opening;
-        says = λ step. ap (λ ss. bytes_of ss step) said
-            ∙ ap (λ (w : Bool). bytes_of (says_of w p input.steps) step) (width input p x there)
+        says = λ step. ap (λ ss. bytes_to_say ss step) said
+            ∙ ap (λ (w : Bool). bytes_to_say (says_of w p input.steps) step) (width input p x there)
             ∙ says_are input.peerings p input.steps step
             ∙ sym (ap (λ ss. say_by p (slice_get ss step)) (steps_are input));
         beat = beat;

@@ -4,3 +4,6 @@ pub mod Said
 pub mod Fars
 pub mod Scripts
 pub mod Routers
+pub mod Groups
+pub mod Sound
+pub mod Faults

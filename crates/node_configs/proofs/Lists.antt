@@ -4,16 +4,19 @@ use Rattle.std.specs.Prelude.{Option, Some, None, option_map, slice_get}
 use Rattle.std.specs.List.{flat_map, enumerate_from, last_or}
 
 -- what is made from elements with their numbers, and then seen without them
-pub map_numbered : {X Y Z : Type 0} (f : ℕ × X → Y) (g : Y → Z) (h : X → Z) → ((n : ℕ) (x : X) → g (f (n, x)) ≡ h x) → (xs : List X) (n : ℕ) → map g (map f (enumerate_from n xs)) ≡ map h xs
+pub map_numbered : {X Y Z : Type 0} (f : ℕ × X → Y) (g : Y → Z) (h : X → Z) → ((n : ℕ) (x : X) → g (f (n, x)) ≡ h x) → (xs : List X) (n : ℕ)
+    → map g (map f (enumerate_from n xs)) ≡ map h xs
 map_numbered f g h same [] n = refl
-map_numbered f g h same (x ∷ xs) n = ap (λ z. z ∷ map g (map f (enumerate_from (n + 1) xs))) (same n x) ∙ ap (λ zs. h x ∷ zs) (map_numbered f g h same xs (n + 1))
+map_numbered f g h same (x ∷ xs) n = ap (λ z. z ∷ map g (map f (enumerate_from (n + 1) xs))) (same n x)
+    ∙ ap (λ zs. h x ∷ zs) (map_numbered f g h same xs (n + 1))
 
 -- those of what is made that pass a test
 pub filter_numbered : {X Y Z : Type 0} (f : ℕ × X → Y) (g : Y → Z) (test : Y → Bool) (xs : List X) (n : ℕ)
     → flat_map (λ x. cond (test (f x)) (g (f x) ∷ []) []) (enumerate_from n xs) ≡ map g (filter test (map f (enumerate_from n xs)))
 filter_numbered f g test [] n = refl
 filter_numbered f g test (x ∷ xs) n = by_test (test (f (n, x))) (filter_numbered f g test xs (n + 1)) where
-  by_test : (t : Bool) → flat_map (λ x. cond (test (f x)) (g (f x) ∷ []) []) (enumerate_from (n + 1) xs) ≡ map g (filter test (map f (enumerate_from (n + 1) xs)))
+  by_test : (t : Bool)
+      → flat_map (λ x. cond (test (f x)) (g (f x) ∷ []) []) (enumerate_from (n + 1) xs) ≡ map g (filter test (map f (enumerate_from (n + 1) xs)))
       → cond t (g (f (n, x)) ∷ []) [] ++ flat_map (λ x. cond (test (f x)) (g (f x) ∷ []) []) (enumerate_from (n + 1) xs)
       ≡ map g (cond t (f (n, x) ∷ filter test (map f (enumerate_from (n + 1) xs))) (filter test (map f (enumerate_from (n + 1) xs))))
   by_test true rest = ap (λ zs. g (f (n, x)) ∷ zs) rest

@@ -13,13 +13,13 @@ use Rattle.lab_tables.specs.declared.input.LabInput.{LabInput}
 use Rattle.lab_tables.specs.declared.input.PeeringInput.{PeeringInput}
 use Rattle.lab_tables.specs.declared.input.PolicyInput.{PolicyInput}
 use Rattle.lab_tables.specs.declared.input.RouterInput.{RouterInput}
-use Rattle.lab_setup.specs.Setups.{costs_from, named_rules, router_setup, config_of, peering_setup, setup_of}
+use Rattle.lab_setup.specs.Setups.{costs_from, named_rules, router_setup, peering_config, peering_setup, setup_of}
 use Rattle.router_core.specs.declared.config.Firsts.{Firsts}
 use Rattle.router_core.specs.declared.config.NamedPolicy.{NamedPolicy}
 use Rattle.router_core.specs.declared.config.RouterConfig.{RouterConfig}
-use Rattle.router_core.specs.Configs.{rules_at, ArePoliciesOf, firsts_at, AreFirstsOf, IsRibOf, starting_here, IsConfigOf}
+use Rattle.router_core.specs.Configs.{rules_at, ArePoliciesOf, firsts_at, AreFirstsOf, IsRibOf, starting_here, IsRouterConfigOf}
 use Rattle.node_configs.specs.Accepted.{IsAccepted}
-use Rattle.node_configs.specs.Tables.{named_policy, firsts_of, sessions_at}
+use Rattle.node_configs.specs.Tables.{named_policy, firsts_of, session_configs_at}
 use Rattle.node_configs.proofs.Accepted.{HasFew, few}
 use Rattle.node_configs.proofs.Lists.{filter_numbered}
 use Rattle.lab_setup.proofs.Ready.{as_many_routers, as_many_peerings, router_there}
@@ -27,10 +27,12 @@ use Rattle.lab_setup.proofs.Setups.{router_at, peering_at}
 
 -- ---- policies
 
-same_rules : (name : List ℕ) (ps : List PolicyInput) → rules_at (map named_policy ps) name ≡ option_map (λ (policy : NamedRules). policy.rules) (find (λ (policy : NamedRules). bytes_eq name policy.name) (map named_rules ps))
+same_rules : (name : List ℕ) (ps : List PolicyInput)
+    → rules_at (map named_policy ps) name ≡ option_map (λ (policy : NamedRules). policy.rules) (find (λ (policy : NamedRules). bytes_eq name policy.name) (map named_rules ps))
 same_rules name [] = refl
 same_rules name (p ∷ ps) = by_test (bytes_eq name p.name) (same_rules name ps) where
-  by_test : (t : Bool) → rules_at (map named_policy ps) name ≡ option_map (λ (policy : NamedRules). policy.rules) (find (λ (policy : NamedRules). bytes_eq name policy.name) (map named_rules ps))
+  by_test : (t : Bool)
+      → rules_at (map named_policy ps) name ≡ option_map (λ (policy : NamedRules). policy.rules) (find (λ (policy : NamedRules). bytes_eq name policy.name) (map named_rules ps))
       → option_map (λ (q : NamedPolicy). q.policy) (cond t (Some (named_policy p)) (find (λ (q : NamedPolicy). bytes_eq name q.name) (map named_policy ps)))
       ≡ option_map (λ (policy : NamedRules). policy.rules) (cond t (Some (named_rules p)) (find (λ (policy : NamedRules). bytes_eq name policy.name) (map named_rules ps)))
   by_test true rest = refl
@@ -45,10 +47,12 @@ numbers_in config = (config.send_first.0, config.receive_first.0)
 
 module _ (input : LabInput) where
   -- a field of a router
-  field_is : {A : Type 0} (field : RouterSetup → A) (none : A) (r : ℕ) (x : RouterInput) → slice_get input.routers r ≡ Some x → of_router field none (setup_of input) r ≡ field (router_setup input (r, x))
+  field_is : {A : Type 0} (field : RouterSetup → A) (none : A) (r : ℕ) (x : RouterInput) → slice_get input.routers r ≡ Some x
+      → of_router field none (setup_of input) r ≡ field (router_setup input (r, x))
   field_is field none r x there = ap (λ o. unwrap_or (option_map field o) none) (router_there input r x there)
 
-  are_policies : (r : ℕ) (x : RouterInput) → slice_get input.routers r ≡ Some x → (policies : List NamedPolicy) → policies ≡ map named_policy x.policies → ArePoliciesOf (setup_of input) r policies
+  are_policies : (r : ℕ) (x : RouterInput) → slice_get input.routers r ≡ Some x → (policies : List NamedPolicy)
+      → policies ≡ map named_policy x.policies → ArePoliciesOf (setup_of input) r policies
   are_policies r x there policies made = record {
     each = λ name. ap (λ ps. rules_at ps name) made ∙ same_rules name x.policies
         ∙ sym (ap (λ ps. option_map (λ (policy : NamedRules). policy.rules) (find (λ (policy : NamedRules). bytes_eq name policy.name) ps)) (field_is (λ router. router.policies) [] r x there));
@@ -76,13 +80,15 @@ module _ (input : LabInput) where
   are_firsts : (firsts : List Firsts) → firsts ≡ map firsts_of input.peerings → AreFirstsOf (setup_of input) firsts
   are_firsts firsts made = record {
     each = λ p below. firsts_are firsts made p ∙ pairs (model.config_of (setup_of input) p) (config p below).0 (config p below).1;
-    none = λ p past. firsts_are firsts made p ∙ ap (λ o. option_map numbers_in (option_map (λ (peering : PeeringSetup). peering.config) o)) (slice_get_past (setup_of input).peerings p past);
+    none = λ p past. firsts_are firsts made p
+        ∙ ap (λ o. option_map numbers_in (option_map (λ (peering : PeeringSetup). peering.config) o)) (slice_get_past (setup_of input).peerings p past);
   }
     where
       config : (p : ℕ) → p < peerings_in (setup_of input) → (c : SessionConfig) × (model.config_of (setup_of input) p ≡ Some c)
       config p below = by_peering (slice_get input.peerings p) (peering_at input p) where
-        by_peering : (o : Option PeeringInput) → slice_get (setup_of input).peerings p ≡ option_map (λ x. peering_setup input (p, x)) o → (c : SessionConfig) × (model.config_of (setup_of input) p ≡ Some c)
-        by_peering (Some x) e = (config_of input (p, x), ap (option_map (λ (peering : PeeringSetup). peering.config)) e)
+        by_peering : (o : Option PeeringInput) → slice_get (setup_of input).peerings p ≡ option_map (λ x. peering_setup input (p, x)) o
+            → (c : SessionConfig) × (model.config_of (setup_of input) p ≡ Some c)
+        by_peering (Some x) e = (peering_config input (p, x), ap (option_map (λ (peering : PeeringSetup). peering.config)) e)
         by_peering None e = absurd (past (setup_of input).peerings p below e)
           where
             past : (xs : List PeeringSetup) (k : ℕ) → k < length xs → slice_get xs k ≡ None → ⊥
@@ -92,11 +98,13 @@ module _ (input : LabInput) where
 
   -- ---- tables
 
-  identifier_by : (o : Option RouterInput) (q : ℕ) → unwrap_or (option_map (λ (router : RouterInput). router.id) o) 0 ≡ unwrap_or (option_map (λ (router : RouterSetup). router.identifier) (option_map (λ x. router_setup input (q, x)) o)) 0
+  identifier_by : (o : Option RouterInput) (q : ℕ)
+      → unwrap_or (option_map (λ (router : RouterInput). router.id) o) 0 ≡ unwrap_or (option_map (λ (router : RouterSetup). router.identifier) (option_map (λ x. router_setup input (q, x)) o)) 0
   identifier_by None q = refl
   identifier_by (Some x) q = refl
 
-  is_rib : (r : ℕ) (x : RouterInput) → slice_get input.routers r ≡ Some x → (rib : RibConfig) → rib.home_as ≡ input.home_as → rib.router.0 ≡ r → rib.identifiers ≡ map (λ (router : RouterInput). router.id) input.routers
+  is_rib : (r : ℕ) (x : RouterInput) → slice_get input.routers r ≡ Some x → (rib : RibConfig) → rib.home_as ≡ input.home_as → rib.router.0 ≡ r
+      → rib.identifiers ≡ map (λ (router : RouterInput). router.id) input.routers
       → rib.costs ≡ costs_from input r → rib.networks ≡ x.networks → IsRibOf (setup_of input) r rib
   unfolding setup_of
   is_rib r x there rib home number identifiers costs networks = record {
@@ -112,7 +120,7 @@ module _ (input : LabInput) where
 
   -- ---- sessions
 
-  sessions_are : (r : ℕ) → sessions_at input r ≡ starting_here (setup_of input) r
+  sessions_are : (r : ℕ) → session_configs_at input r ≡ starting_here (setup_of input) r
   unfolding setup_of
   sessions_are r = filter_numbered (peering_setup input) (λ (peering : PeeringSetup). peering.config) (λ (peering : PeeringSetup). peering.start == r) input.peerings 0
 
@@ -120,10 +128,11 @@ module _ (input : LabInput) where
 
   pub is_config : IsAccepted input → (config : RouterConfig) (x : RouterInput) → slice_get input.routers config.number.0 ≡ Some x
       → config.routers ≡ length input.routers → config.room ≡ x.sessions → config.policies ≡ map named_policy x.policies
-      → config.rib.home_as ≡ input.home_as → config.rib.router.0 ≡ config.number.0 → config.rib.identifiers ≡ map (λ (router : RouterInput). router.id) input.routers
+      → config.rib.home_as ≡ input.home_as → config.rib.router.0 ≡ config.number.0
+      → config.rib.identifiers ≡ map (λ (router : RouterInput). router.id) input.routers
       → config.rib.costs ≡ costs_from input config.number.0 → config.rib.networks ≡ x.networks
-      → config.firsts ≡ map firsts_of input.peerings → config.sessions ≡ sessions_at input config.number.0
-      → IsConfigOf (setup_of input) config
+      → config.firsts ≡ map firsts_of input.peerings → config.sessions ≡ session_configs_at input config.number.0
+      → IsRouterConfigOf (setup_of input) config
   is_config accepted config x there routers room policies home number identifiers costs networks firsts sessions =
       let counts : HasFew input = few input accepted in
       let most_routers = counts.routers in

@@ -16,7 +16,7 @@ use Rattle.operator_core.specs.declared.script.Script.{Script}
 use Rattle.operator_core.specs.declared.script.ScriptStep.TheVariants.{Settle}
 use Rattle.operator_core.specs.Scripts.{step_for, IsScriptOf, IsWorkableStep, IsWorkable}
 use Rattle.node_configs.specs.Accepted.{IsAccepted}
-use Rattle.node_configs.specs.Orders.{order_of, is_end, end_after, orders_of}
+use Rattle.node_configs.specs.Orders.{script_order, is_end, end_after, script_orders}
 use Rattle.node_configs.proofs.Accepted.{HasFew, few, is_setup}
 use Rattle.node_configs.proofs.Lists.{map_numbered, map_append, map_mapped, last_mapped, last_is}
 use Rattle.lab_setup.proofs.Ready.{as_many_routers, as_many_peerings}
@@ -24,7 +24,7 @@ use Rattle.lab_setup.proofs.Setups.{steps_are}
 
 -- ---- the script is that of the laboratory
 
-order_is : (peerings : List PeeringInput) (step : Step) → step_for (script_step peerings step) ≡ order_of step
+order_is : (peerings : List PeeringInput) (step : Step) → step_for (script_step peerings step) ≡ script_order step
 order_is peerings (steps.Announce q prefixes a) = refl
 order_is peerings (steps.Withdraw q prefixes) = refl
 order_is peerings (steps.Raw q bytes) = refl
@@ -45,10 +45,10 @@ end_too script =
     end_is (last_or None script)
     ∙ ap (λ o. cond (is_end o) [] (Settle ∷ [])) (sym (last_mapped step_for None script) ∙ sym (last_is (map step_for script)))
 
-orders_are : (peerings : List PeeringInput) (input : List Step) → orders_of input ≡ map step_for (ended (map (script_step peerings) input))
+orders_are : (peerings : List PeeringInput) (input : List Step) → script_orders input ≡ map step_for (ended (map (script_step peerings) input))
 orders_are peerings input =
     let script : List StepOf = map (script_step peerings) input in
-    let orders : map step_for script ≡ map order_of input = map_mapped (script_step peerings) step_for order_of (order_is peerings) input in
+    let orders : map step_for script ≡ map script_order input = map_mapped (script_step peerings) step_for script_order (order_is peerings) input in
     sym (map_append step_for script (ended_by (last_or None script))
     ∙ ap (λ ys. map step_for script ++ ys) (end_too script)
     ∙ ap (λ xs. xs ++ end_after xs) orders)
@@ -62,10 +62,11 @@ module _ (input : LabInput) where
   unfolding setup_of
   starts_are = map_numbered (peering_setup input) (λ (peering : PeeringSetup). record { 0 = peering.start }) (λ (p : PeeringInput). p.at) (λ n x. refl) input.peerings 0
 
-  orders_are_those : orders_of input.steps ≡ map step_for (setup_of input).steps
+  orders_are_those : script_orders input.steps ≡ map step_for (setup_of input).steps
   orders_are_those = orders_are input.peerings input.steps ∙ sym (ap (map step_for) (steps_are input))
 
-  pub is_script : (script : Script) → script.rooms ≡ map (λ (r : RouterInput). r.sessions) input.routers → script.starts ≡ map (λ (p : PeeringInput). p.at) input.peerings → script.steps ≡ orders_of input.steps
+  pub is_script : (script : Script) → script.rooms ≡ map (λ (r : RouterInput). r.sessions) input.routers
+      → script.starts ≡ map (λ (p : PeeringInput). p.at) input.peerings → script.steps ≡ script_orders input.steps
       → IsScriptOf (setup_of input) script
   is_script script rooms starts orders = record {
     rooms = rooms ∙ sym rooms_are;
@@ -75,7 +76,8 @@ module _ (input : LabInput) where
 
 -- ---- it can be worked through
 
-step_works : (setup : Setup) (script : Script) → length script.starts ≡ peerings_in setup → length script.rooms ≡ routers_in setup → (step : StepOf) → IsStep setup step → IsWorkableStep script (step_for step)
+step_works : (setup : Setup) (script : Script) → length script.starts ≡ peerings_in setup → length script.rooms ≡ routers_in setup → (step : StepOf)
+    → IsStep setup step → IsWorkableStep script (step_for step)
 step_works setup script starts rooms (SayStep p bytes) there = omega (arith, there)
 step_works setup script starts rooms (MoveStep p target) there = (omega (arith, there.0), omega (arith, there.1))
 step_works setup script starts rooms (EvacuateStep router) there = omega (arith, there)

@@ -2,3 +2,4 @@ pub mod Accepted
 pub mod Says
 pub mod Orders
 pub mod Tables
+pub mod Budgets

@@ -6,13 +6,13 @@ use Rattle.operator_core.specs.declared.script.ScriptStep.{ScriptStep}
 use Rattle.operator_core.specs.declared.script.ScriptStep.TheVariants.{Say, Graft, Evacuate, Settle}
 
 -- a step as the operator has it
-abbrev pub order_of : Step → ScriptStep
-order_of (steps.Announce peering prefixes a) = Say peering
-order_of (steps.Withdraw peering prefixes) = Say peering
-order_of (steps.Raw peering bytes) = Say peering
-order_of (steps.Graft peering target) = Graft peering target
-order_of (steps.Settle rounds least) = Settle
-order_of (steps.Evacuate router) = Evacuate router
+abbrev pub script_order : Step → ScriptStep
+script_order (steps.Announce peering prefixes a) = Say peering
+script_order (steps.Withdraw peering prefixes) = Say peering
+script_order (steps.Raw peering bytes) = Say peering
+script_order (steps.Graft peering target) = Graft peering target
+script_order (steps.Settle rounds least) = Settle
+script_order (steps.Evacuate router) = Evacuate router
 
 abbrev pub is_end : Option ScriptStep → Bool
 is_end None = false
@@ -25,5 +25,5 @@ is_end (Some Settle) = true
 abbrev pub end_after : List ScriptStep → List ScriptStep
 end_after orders = if is_end (slice_get orders (length orders - 1)) then [] else Settle ∷ []
 
-abbrev pub orders_of : List Step → List ScriptStep
-orders_of steps = map order_of steps ++ end_after (map order_of steps)
+abbrev pub script_orders : List Step → List ScriptStep
+script_orders steps = map script_order steps ++ end_after (map script_order steps)

@@ -2,7 +2,7 @@
 use Rattle.std.specs.Prelude.{ℕ, Bool, List, [], Option, option_map}
 use Rattle.std.specs.List.{enumerate_from, flat_map, cons_option}
 use Rattle.lab_tables.specs.declared.input.Step.{Step}
-use Rattle.lab_setup.specs.Said.{said_by}
+use Rattle.lab_setup.specs.Said.{bytes_of_step}
 use Rattle.far_side.specs.declared.says.Say.{Say}
 
 -- the say of the step of this number, where it has the remote say these bytes
@@ -11,4 +11,4 @@ say_if step said = cons_option (option_map (λ bytes. record { step = step; byte
 
 -- all that the remote says, by rising step
 abbrev pub says_of : Bool → ℕ → List Step → List Say
-says_of wide p steps = flat_map (λ x. say_if x.0 (said_by wide p x.1)) (enumerate_from 0 steps)
+says_of wide p steps = flat_map (λ x. say_if x.0 (bytes_of_step wide p x.1)) (enumerate_from 0 steps)

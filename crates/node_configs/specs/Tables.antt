@@ -5,7 +5,7 @@ use Rattle.lab_tables.specs.declared.input.LabInput.{LabInput}
 use Rattle.lab_tables.specs.declared.input.PeeringInput.{PeeringInput}
 use Rattle.lab_tables.specs.declared.input.PolicyInput.{PolicyInput}
 use Rattle.session_value.specs.declared.config.SessionConfig.{SessionConfig}
-use Rattle.lab_setup.specs.Setups.{config_of}
+use Rattle.lab_setup.specs.Setups.{peering_config}
 use Rattle.router_core.specs.declared.config.Firsts.{Firsts}
 use Rattle.router_core.specs.declared.config.NamedPolicy.{NamedPolicy}
 
@@ -18,8 +18,8 @@ firsts_of p = record { home = record { 0 = p.home_seq }; remote = record { 0 = p
 
 -- what the session of a peering begins with, where it starts at this router; the peering stands with its number
 abbrev pub session_if : LabInput → ℕ → ℕ × PeeringInput → List SessionConfig
-session_if input r p = if p.1.at.0 == r then config_of input p ∷ [] else []
+session_if input r p = if p.1.at.0 == r then peering_config input p ∷ [] else []
 
 -- what the sessions begin with that start at a router, by rising peering
-abbrev pub sessions_at : LabInput → ℕ → List SessionConfig
-sessions_at input r = flat_map (session_if input r) (enumerate_from 0 input.peerings)
+abbrev pub session_configs_at : LabInput → ℕ → List SessionConfig
+session_configs_at input r = flat_map (session_if input r) (enumerate_from 0 input.peerings)

@@ -4,7 +4,7 @@ ghost use Rattle.std.specs.Prelude.{ℕ, ◌≡◌, ◌<◌, length, IfOk};
 ghost use Rattle.tcp_seq.specs.declared.segment.Way.{Way};
 ghost use Rattle.link_bag.specs.Planned.{fate_of, fate_in};
 ghost use Rattle.lab_setup.specs.Setups.{setup_of, is_wide_at};
-ghost use Rattle.far_side.specs.Fars.{IsConfigOf};
+ghost use Rattle.far_side.specs.Fars.{IsFarConfigOf};
 ghost use Rattle.node_configs.specs.Accepted.{IsAccepted};
 
 use crate::counted::counts;
@@ -26,7 +26,7 @@ pub fn far_config(
 ) -> Result<FarConfig, NoMemory>
     requires accepted { IsAccepted input.now }
     requires there { peering.0 < length input.now.peerings }
-    ensures config { IfOk result (IsConfigOf (setup_of input.now)) }
+    ensures config { IfOk result (IsFarConfigOf (setup_of input.now)) }
     ensures peering { IfOk result (λ config. config.peering ≡ peering) }
     ensures wide { IfOk result (λ config. config.wide ≡ is_wide_at input.now.peerings peering.0) }
     ensures plan { IfOk result (λ config. (way : Way) (segment : ℕ)

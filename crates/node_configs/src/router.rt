@@ -2,7 +2,7 @@
 
 ghost use Rattle.std.specs.Prelude.{◌≡◌, ◌<◌, ◌≤◌, map, length, IfOk};
 ghost use Rattle.lab_setup.specs.Setups.{setup_of, cost_from as cost_from_lem, costs_from};
-ghost use Rattle.router_core.specs.Configs.{IsConfigOf};
+ghost use Rattle.router_core.specs.Configs.{IsRouterConfigOf};
 ghost use Rattle.node_configs.specs.Accepted.{IsAccepted};
 ghost use Rattle.node_configs.specs.Tables.{named_policy};
 
@@ -72,7 +72,7 @@ pub fn router_config(
 ) -> Result<RouterConfig, NoMemory>
     requires accepted { IsAccepted input.now }
     requires there { number.0 < length input.now.routers }
-    ensures config { IfOk result (IsConfigOf (setup_of input.now)) }
+    ensures config { IfOk result (IsRouterConfigOf (setup_of input.now)) }
     ensures number { IfOk result (λ config. config.number ≡ number) }
 {
     let (routers, _) = counts(input);

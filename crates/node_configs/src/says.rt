@@ -3,7 +3,7 @@
 ghost use Rattle.std.specs.Prelude.{◌≡◌, ◌<◌, ◌^◌, ◌++◌, All, length, IfOk, OnOk};
 ghost use Rattle.bgp_types.specs.declared.message.Message.TheVariants.{UpdateMsg};
 ghost use Rattle.bgp_types.specs.Writable.{IsWritable};
-ghost use Rattle.lab_input.specs.Said.{update_of as update_of_lem};
+ghost use Rattle.lab_input.specs.Said.{step_update};
 ghost use Rattle.node_configs.specs.Says.{say_if, says_of as says_of_lem};
 
 use far_side::{Say, Says};
@@ -30,7 +30,7 @@ pub fn says_of(
     peering: PeeringId,
 ) -> Result<Says, NoMemory>
     requires few { length steps.now < 2 ^ 32 }
-    requires writable { All (λ step. IsWritable (UpdateMsg (update_of_lem step)) wide) steps.now }
+    requires writable { All (λ step. IsWritable (UpdateMsg (step_update step)) wide) steps.now }
     ensures { IfOk result (λ says. says ≡ says_of_lem wide peering.0 steps.now) }
 {
     let mut says = Says::new(alloc);

@@ -4,7 +4,7 @@ ghost use Rattle.std.specs.Prelude.{◌≡◌, ◌++◌, map, IfOk, OnOk};
 ghost use Rattle.lab_setup.specs.Setups.{setup_of};
 ghost use Rattle.operator_core.specs.Scripts.{IsScriptOf, IsWorkable};
 ghost use Rattle.node_configs.specs.Accepted.{IsAccepted};
-ghost use Rattle.node_configs.specs.Orders.{order_of as order_of_lem, orders_of as orders_of_lem, is_end as is_end_lem, end_after};
+ghost use Rattle.node_configs.specs.Orders.{script_order, script_orders, is_end as is_end_lem, end_after};
 
 use graft_edge::NoMemory;
 use lab_tables::{LabInput, PeeringInput, RouterInput, Step};
@@ -34,7 +34,7 @@ fn starts_of(alloc: Global, peerings: &[PeeringInput]) -> Result<RouterIds, NoMe
 }
 
 fn order_of(step: &Step) -> ScriptStep
-    ensures { result ≡ order_of_lem step.now }
+    ensures { result ≡ script_order step.now }
 {
     match step {
         Step::Announce { peering, .. } => ScriptStep::Say { peering: *peering },
@@ -74,7 +74,7 @@ fn end(orders: &mut ScriptSteps) -> Result<(), NoMemory>
 }
 
 fn orders_of(alloc: Global, steps: &[Step]) -> Result<ScriptSteps, NoMemory>
-    ensures { IfOk result (λ orders. orders ≡ orders_of_lem steps.now) }
+    ensures { IfOk result (λ orders. orders ≡ script_orders steps.now) }
 {
     let mut orders = ScriptSteps::new(alloc);
     for step in steps {

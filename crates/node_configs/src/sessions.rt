@@ -1,8 +1,8 @@
 //! What the sessions begin with that start at a router.
 
 ghost use Rattle.std.specs.Prelude.{◌≡◌, ◌≤◌, ◌++◌, map, length, IfOk, OnOk};
-ghost use Rattle.lab_setup.specs.Setups.{config_of as config_of_lem, identifier_at as identifier_at_lem};
-ghost use Rattle.node_configs.specs.Tables.{firsts_of as firsts_of_lem, session_if, sessions_at as sessions_at_lem};
+ghost use Rattle.lab_setup.specs.Setups.{peering_config, identifier_at as identifier_at_lem};
+ghost use Rattle.node_configs.specs.Tables.{firsts_of as firsts_of_lem, session_if, session_configs_at};
 
 use graft_edge::{Items, Name, NoMemory, PeeringId, RouterId, TryCopy};
 use lab_tables::{LabInput, PeeringInput, RouterInput};
@@ -51,7 +51,7 @@ fn session_of(
     number: PeeringId,
     peering: &PeeringInput,
 ) -> Result<SessionConfig, NoMemory>
-    ensures { IfOk result (λ config. config ≡ config_of_lem input.now (number.0, peering.now)) }
+    ensures { IfOk result (λ config. config ≡ peering_config input.now (number.0, peering.now)) }
 {
     Ok(SessionConfig {
         peering: number,
@@ -93,7 +93,7 @@ pub fn sessions_at(
     router: RouterId,
 ) -> Result<Items<SessionConfig>, NoMemory>
     requires { length input.now.peerings ≤ 256 }
-    ensures { IfOk result (λ sessions. sessions ≡ sessions_at_lem input.now router.0) }
+    ensures { IfOk result (λ sessions. sessions ≡ session_configs_at input.now router.0) }
 {
     let mut sessions = Items::new(alloc);
     for (i, peering) in input.peerings.iter().enumerate() {

@@ -19,7 +19,7 @@ use Rattle.graft_model.proofs.Gifts.{given_stays}
 use Rattle.graft_model.proofs.Numbers.{step_of_graft}
 use Rattle.graft_laws.specs.Keeps.{Reached}
 use Rattle.graft_laws.specs.Owned.{Owned}
-use Rattle.graft_laws.specs.Log.{LogSays, HasEnded, IsBehind, Waits, GoesOnIn, grafts_of, is_peering}
+use Rattle.graft_laws.specs.Log.{LogSays, HasEnded, IsBehind, AwaitsOrder, GoesOnIn, grafts_of, is_peering}
 use Rattle.graft_laws.specs.Phases.{Phase, Idle, Busy}
 use Rattle.graft_laws.proofs.GroupGifts.{always_operator, go_gives, first_gives}
 use Rattle.graft_laws.proofs.Lists.{all_map, all_join}
@@ -41,7 +41,8 @@ is_before setup n (Some g) = ltb (group_of setup g.step) n
 abbrev up_to : Setup → ℕ → OperatorPart → OperatorPart
 up_to setup n operator = record operator { outcome = λ k. cond (is_before setup n (graft_at setup k)) (operator.outcome k) None }
 
-outcome_at : (setup : Setup) (n : ℕ) (operator : OperatorPart) (g : ScriptGraft) (b : Bool) → graft_at setup g.graft ≡ Some g → ltb (group_of setup g.step) n ≡ b
+outcome_at : (setup : Setup) (n : ℕ) (operator : OperatorPart) (g : ScriptGraft) (b : Bool) → graft_at setup g.graft ≡ Some g
+    → ltb (group_of setup g.step) n ≡ b
     → (up_to setup n operator).outcome g.graft ≡ cond b (operator.outcome g.graft) None
 outcome_at setup n operator g b known is =
     ap (λ (o : Option ScriptGraft). cond (is_before setup n o) (operator.outcome g.graft) None) known
@@ -80,7 +81,7 @@ module _ (setup : Setup) (ok : IsSetup setup) (w : World) (reached : Reached set
   owned = always_owned setup ok w reached
 
   -- what the log says of all grafts of a peering it says of each
-  module _ (P : ScriptGraft → Type 0) (behind : (g : ScriptGraft) → IsBehind setup w.operator g → P g) (waits : (g : ScriptGraft) → Waits w.operator g → P g)
+  module _ (P : ScriptGraft → Type 0) (behind : (g : ScriptGraft) → IsBehind setup w.operator g → P g) (waits : (g : ScriptGraft) → AwaitsOrder w.operator g → P g)
       (now : (g : ScriptGraft) → group_of setup g.step ≡ w.operator.group → P g) where
     at_work : (p : ℕ) (phase : Phase) (gs : List ScriptGraft) → GoesOnIn setup w.operator p phase gs → AllByRecursion P gs
     at_work p (Idle q) gs on = subst (λ (xs : List ScriptGraft). AllByRecursion P xs) (sym on) tt
@@ -89,7 +90,7 @@ module _ (setup : Setup) (ok : IsSetup setup) (w : World) (reached : Reached set
     by_log : (p : ℕ) (phase : Phase) → LogSays setup w.operator p phase → AllByRecursion P (grafts_of setup p)
     by_log p phase log = subst (λ (xs : List ScriptGraft). AllByRecursion P xs) (sym log.grafts)
         (all_join P log.past (log.now ++ log.later) (all_map (IsBehind setup w.operator) P log.past behind log.are_behind)
-        (all_join P log.now log.later (at_work p phase log.now log.goes_on) (all_map (Waits w.operator) P log.later waits log.wait)))
+        (all_join P log.now log.later (at_work p phase log.now log.goes_on) (all_map (AwaitsOrder w.operator) P log.later waits log.wait)))
 
     each : (g : ScriptGraft) → graft_at setup g.graft ≡ Some g → P g
     each g known =
@@ -106,7 +107,8 @@ module _ (setup : Setup) (ok : IsSetup setup) (w : World) (reached : Reached set
   under_way = each (λ g. w.operator.source g.graft ≢ None → w.operator.outcome g.graft ≡ None → group_of setup g.step ≡ w.operator.group)
       (λ g b ordered unended. absurd (over g b.over ordered unended)) (λ g b ordered unended. absurd (ordered b.unordered)) (λ g e ordered unended. e)
     where
-      over : (g : ScriptGraft) → HasEnded w.operator g ⊎ (Waits w.operator g × (target_in setup w.operator g ≡ None)) → w.operator.source g.graft ≢ None → w.operator.outcome g.graft ≡ None → ⊥
+      over : (g : ScriptGraft) → HasEnded w.operator g ⊎ (AwaitsOrder w.operator g × (target_in setup w.operator g ≡ None))
+          → w.operator.source g.graft ≢ None → w.operator.outcome g.graft ≡ None → ⊥
       over g (inl h) ordered unended = h.ended unended
       over g (inr h) ordered unended = ordered h.0.unordered
 
@@ -137,7 +139,8 @@ elsewhere : (f : ℕ → Option Outcome) (k n : ℕ) (x : Option Outcome) → k 
 elsewhere f k n x ne = grind (arith, nat_tests)
 
 module _ (setup : Setup) (ok : IsSetup setup) (before after : World) (reached : Reached setup before) where
-  begins : OperatorStep setup Go before after → Follow setup before.operator → Follow setup (with_gifts setup (record before.operator { group = before.operator.group + 1 }))
+  begins : OperatorStep setup Go before after → Follow setup before.operator
+      → Follow setup (with_gifts setup (record before.operator { group = before.operator.group + 1 }))
   begins x was g router known begun there = by_group (cases_eq (group_of setup g.step) (before.operator.group + 1)) where
     next : OperatorPart
     next = with_gifts setup (record before.operator { group = before.operator.group + 1 })
@@ -145,13 +148,15 @@ module _ (setup : Setup) (ok : IsSetup setup) (before after : World) (reached : 
     is : after.operator ≡ next
     is = (operator_moves setup Go before after x).operator ∙ x.row.effect
 
-    stays : (y : ScriptGraft) → graft_at setup y.graft ≡ Some y → group_of setup y.step < before.operator.group + 1 → next.given y.graft ≡ before.operator.given y.graft
+    stays : (y : ScriptGraft) → graft_at setup y.graft ≡ Some y → group_of setup y.step < before.operator.group + 1
+        → next.given y.graft ≡ before.operator.given y.graft
     stays y k l = given_stays setup (record before.operator { group = before.operator.group + 1 }) y k (λ (e : group_of setup y.step ≡ before.operator.group + 1). omega (arith, e, l))
 
     -- no graft of a later group has ended
     counts : (y : ScriptGraft) → graft_at setup y.graft ≡ Some y → CountsAlike setup before.operator (up_to setup (before.operator.group + 1) next) y
     counts y k = by_test (ltb (group_of setup y.step) (before.operator.group + 1)) refl where
-      by_test : (b : Bool) → ltb (group_of setup y.step) (before.operator.group + 1) ≡ b → CountsAlike setup before.operator (up_to setup (before.operator.group + 1) next) y
+      by_test : (b : Bool) → ltb (group_of setup y.step) (before.operator.group + 1) ≡ b
+          → CountsAlike setup before.operator (up_to setup (before.operator.group + 1) next) y
       by_test true e = record {
         accepted = ap is_accepted (outcome_at setup (before.operator.group + 1) next y true k e);
         target = λ _. ap (λ (gift : Gift). target_by (slice_get setup.steps y.step) gift) (stays y k (below _ _ e));
@@ -225,7 +230,8 @@ module _ (setup : Setup) (ok : IsSetup setup) where
     abbrev OneTarget : ℕ → Type 0
     OneTarget n = (g : ScriptGraft) → graft_at setup g.graft ≡ Some g → group_of setup g.step < n → target_in setup v.operator g ≡ target_in setup w.operator g
 
-    next_target : (n : ℕ) → OneTarget n → (g : ScriptGraft) → graft_at setup g.graft ≡ Some g → group_of setup g.step ≡ n → target_in setup v.operator g ≡ target_in setup w.operator g
+    next_target : (n : ℕ) → OneTarget n → (g : ScriptGraft) → graft_at setup g.graft ≡ Some g → group_of setup g.step ≡ n
+        → target_in setup v.operator g ≡ target_in setup w.operator g
     next_target n ones g known e = by_step (slice_get setup.steps g.step) refl where
       no_matter : (step : ScriptStep) → slice_get setup.steps g.step ≡ Some step → ((a b : Gift) → target_by (Some step) a ≡ target_by (Some step) b)
           → target_in setup v.operator g ≡ target_in setup w.operator g
@@ -244,12 +250,14 @@ module _ (setup : Setup) (ok : IsSetup setup) where
       by_step (Some (SayStep peering bytes)) there = no_matter (SayStep peering bytes) there (λ a b. refl)
       by_step (Some SettleStep) there = no_matter SettleStep there (λ a b. refl)
       by_step None there =
-          ap (λ (s : Option ScriptStep). target_by s (v.operator.given g.graft)) there ∙ sym (ap (λ (s : Option ScriptStep). target_by s (w.operator.given g.graft)) there)
+          ap (λ (s : Option ScriptStep). target_by s (v.operator.given g.graft)) there
+          ∙ sym (ap (λ (s : Option ScriptStep). target_by s (w.operator.given g.graft)) there)
 
     one_target : (n : ℕ) → OneTarget n
     one_target zero g known l = absurd (omega (arith, l))
     one_target (suc n) g known l = by_last (cases_eq (group_of setup g.step) n) (λ below_it. one_target n g known below_it) (one_target n) where
-      by_last : (group_of setup g.step ≡ n) ⊎ (group_of setup g.step ≢ n) → (group_of setup g.step < n → target_in setup v.operator g ≡ target_in setup w.operator g)
+      by_last : (group_of setup g.step ≡ n) ⊎ (group_of setup g.step ≢ n)
+          → (group_of setup g.step < n → target_in setup v.operator g ≡ target_in setup w.operator g)
           → OneTarget n → target_in setup v.operator g ≡ target_in setup w.operator g
       by_last (inl e) earlier ones = next_target n ones g known e
       by_last (inr ne) earlier ones = earlier (omega (arith, l, ne))

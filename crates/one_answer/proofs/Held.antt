@@ -24,8 +24,8 @@ use Rattle.graft_laws.proofs.Phases.{live_session}
 use Rattle.graft_laws.proofs.QuietPhases.{quiet_phase}
 use Rattle.graft_laws.proofs.QuietSolves.{quiet_solves_is}
 use Rattle.graft_laws.proofs.StreamLaws.{always_unbroken}
-use Rattle.story_readings.specs.Reads.{Reads}
-use Rattle.one_answer.specs.Settled.{said_in, HasNoTimer, IsSettled}
+use Rattle.story_readings.specs.Reads.{StoryReads}
+use Rattle.one_answer.specs.Settled.{said_in_all, HasNoTimer, IsSettled}
 use Rattle.one_answer.proofs.Timeless.{FirstGot, first_got, HasNoHold, timeless}
 use Rattle.one_answer.proofs.Words.{all_said}
 
@@ -37,7 +37,7 @@ pub record Held (setup : Setup) (w : World) (p : ℕ) (peering : PeeringSetup) :
   pub elsewhere : (r : ℕ) → r < routers_in setup → r ≢ placement setup w.operator p → (w.router r).places p ≡ Vacant
   pub config : session.config ≡ peering.config
   pub heard : session.heard ≡ heard (peering_of peering.config) session.story
-  pub reads : Reads (peering_of peering.config) (said_in setup p peering) session.story (state session)
+  pub reads : StoryReads (peering_of peering.config) (said_in_all setup p peering) session.story (state session)
   pub told : (prefix : PrefixValue) → map.get session.told prefix
       ≡ while_established (state session) (to_tell setup (placement setup w.operator p) (w.router (placement setup w.operator p)) session prefix)
 
@@ -67,7 +67,7 @@ module _ (setup : Setup) (ok : IsSetup setup) (timer : HasNoTimer setup) (w : Wo
   legal : IsLegal own session.story (state session)
   legal = subst (λ (c : SessionConfig). IsLegal (peering_of c) session.story (state session)) config unbroken.story.legal
 
-  said : said_in setup p peering ≡ (w.far p).end.stream
+  said : said_in_all setup p peering ≡ (w.far p).end.stream
   said = sym (all_said setup p peering ok is (timer.beats p peering is) w reached settled)
 
   no_hold : HasNoHold own session.story

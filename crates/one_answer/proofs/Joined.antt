@@ -24,11 +24,11 @@ use Rattle.graft_laws.specs.Keeps.{Reached}
 use Rattle.graft_laws.proofs.First.{some_peering}
 use Rattle.graft_laws.proofs.QuietSolves.{quiet_solves_is}
 use Rattle.even_meshes.specs.Meshes.{IsEven}
-use Rattle.even_meshes.specs.Worlds.{mesh_of}
+use Rattle.even_meshes.specs.Worlds.{prefix_mesh}
 use Rattle.even_meshes.proofs.Joined.{equal_tables}
 use Rattle.story_readings.specs.Reads.{AreAlike}
 use Rattle.story_readings.proofs.Reaching.{alike}
-use Rattle.one_answer.specs.Settled.{said_in, HasNoTimer, IsSettled, HaveOneLog, HaveOneSession, HaveOneAnswer}
+use Rattle.one_answer.specs.Settled.{said_in_all, HasNoTimer, IsSettled, HaveOneLog, HaveOneSession, HaveOneAnswer}
 use Rattle.one_answer.proofs.Gifts.{placed_same}
 use Rattle.one_answer.proofs.Held.{Held, held}
 
@@ -69,7 +69,7 @@ module _ (setup : Setup) (w v : World) (p : ℕ) (peering : PeeringSetup) (one :
 
   alike_there : AreAlike (peering_of peering.config) one.session.story other.session.story (state one.session) (state other.session)
   alike_there =
-      alike (peering_of peering.config) (said_in setup p peering) one.session.story other.session.story (state one.session) (state other.session)
+      alike (peering_of peering.config) (said_in_all setup p peering) one.session.story other.session.story (state one.session) (state other.session)
       one.reads other.reads
 
   same_heard : other.session.heard ≡ one.session.heard
@@ -125,7 +125,7 @@ module _ (setup : Setup) (w v : World) (p : ℕ) (peering : PeeringSetup) (one :
 
 module _ (setup : Setup) (w v : World) (ok : IsSetup setup) (timer : HasNoTimer setup) (reached : Reached setup w) (reached_other : Reached setup v)
     (settled : IsSettled setup w) (settled_other : IsSettled setup v) (log : HaveOneLog w v)
-    (even : (prefix : PrefixValue) → IsEven (mesh_of setup w prefix)) where
+    (even : (prefix : PrefixValue) → IsEven (prefix_mesh setup w prefix)) where
   solves : claims.Solves setup w
   solves = quiet_solves_is setup w ok reached settled.quiet
 

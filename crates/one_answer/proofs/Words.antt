@@ -25,14 +25,14 @@ use Rattle.graft_model.specs.declared.event.OperatorEvent.TheVariants.{Order, No
 use Rattle.graft_model.specs.Steps.{Event, ByRouter, ByFar, ByOperator, Step, RouterStep, FarStep, OperatorStep, MayMake, far_row, operator_row}
 use Rattle.graft_laws.specs.Keeps.{Reached}
 use Rattle.graft_laws.specs.Moves.{says_taken, says_sent, FarMoves, OperatorMoves}
-use Rattle.graft_laws.specs.Phases.{only}
+use Rattle.graft_laws.specs.Phases.{only_at}
 use Rattle.graft_laws.specs.Said as counts
 use Rattle.graft_laws.proofs.FarLines as lines
 use Rattle.graft_laws.proofs.Moves.{router_moves, far_moves, operator_moves}
 use Rattle.graft_laws.proofs.Runs.{carried}
 use Rattle.graft_laws.proofs.Segments.{only_here}
 use Rattle.graft_laws.proofs.Unissued.{said_by_itself}
-use Rattle.one_answer.specs.Settled.{said_in, IsSettled}
+use Rattle.one_answer.specs.Settled.{said_in_all, IsSettled}
 use Rattle.one_answer.proofs.Unsaid.{unsaid, unsaid_first, unsaid_none, unsaid_other, unsaid_at, ends_grow, in_ended}
 
 from_zero : (issued : ℕ → Bool) (n : ℕ) → issued n ≡ true → issued (0 + n) ≡ true
@@ -41,7 +41,7 @@ from_zero issued n e = subst (λ (k : ℕ). issued k ≡ true) (let z : n ≡ 0 
 module _ (setup : Setup) (p : ℕ) (peering : PeeringSetup) where
   -- the bytes of the step of a number
   abbrev bytes_at : ℕ → List ℕ
-  bytes_at n = counts.said_in p (slice_get setup.steps n)
+  bytes_at n = counts.said_by_step p (slice_get setup.steps n)
 
   -- what is said, what is ordered to be said, and what is still to be ordered
   abbrev whole : List ℕ → List ℕ → (ℕ → Bool) → List ℕ
@@ -49,7 +49,7 @@ module _ (setup : Setup) (p : ℕ) (peering : PeeringSetup) where
 
   -- They are the remote's words in the script's order; and in groups that have ended each of its steps was issued.
   record Words (w : World) : Type 0 where
-    words : whole (w.far p).end.stream (w.says p) w.operator.issued ≡ said_in setup p peering
+    words : whole (w.far p).end.stream (w.says p) w.operator.issued ≡ said_in_all setup p peering
     earlier : (n : ℕ) (bytes : List ℕ) → slice_get setup.steps n ≡ Some (SayStep p bytes) → group_of setup n < w.operator.group → w.operator.issued n ≡ true
 
   whole_same : (s t q r : List ℕ) (f g : ℕ → Bool) → t ≡ s → r ≡ q → g ≡ f → whole t r g ≡ whole s q f
@@ -89,10 +89,10 @@ module _ (setup : Setup) (p : ℕ) (peering : PeeringSetup) where
 
     says_said : (step : ℕ) → Says setup p step (w.far p) taken sent part → Words v
     says_said step row =
-        let one : only p step p ≡ step ∷ [] = only_here p step in
+        let one : only_at p step p ≡ step ∷ [] = only_here p step in
         let head : step ∷ v.says p ≡ w.says p = ap (λ (xs : List ℕ). xs ++ v.says p) (sym one)
         ∙ ap (λ (t : Option FarTaken). says_taken p t p ++ v.says p) (sym row.takes) ∙ m.says p in
-        let bytes : bytes_at step ≡ row.bytes = ap (counts.said_in p) row.is ∙ said_by_itself p row.bytes in
+        let bytes : bytes_at step ≡ row.bytes = ap (counts.said_by_step p) row.is ∙ said_by_itself p row.bytes in
         let stream : (v.far p).end.stream ≡ (w.far p).end.stream ++ row.bytes = ap (λ (f : FarPart). f.end.stream) (here ∙ row.effect) in
         let issued : v.operator.issued ≡ w.operator.issued = ap (λ (o : OperatorPart). o.issued) m.operator in
         let group : v.operator.group ≡ w.operator.group = ap (λ (o : OperatorPart). o.group) m.operator in
@@ -137,7 +137,7 @@ module _ (setup : Setup) (p : ℕ) (peering : PeeringSetup) where
       elsewhere : (f : ℕ → FarPart) (j n : ℕ) (x : FarPart) → j ≢ n → at f j x n ≡ f n
       elsewhere f j n x ne = grind (arith, nat_tests)
 
-      none : (step : ℕ) → only q step p ≡ []
+      none : (step : ℕ) → only_at q step p ≡ []
       none step = grind (arith, nat_tests)
 
       by_taken : (t : Option FarTaken) → says_taken q t p ++ v.says p ≡ w.says p → v.says p ≡ w.says p
@@ -178,9 +178,9 @@ module _ (setup : Setup) (p : ℕ) (peering : PeeringSetup) where
         by_test (inl e) = grind (arith, nat_tests)
         by_test (inr ne) = let same : at w.operator.issued step true n ≡ w.operator.issued n = grind (arith, nat_tests) in same ∙ e
 
-      says : v.says p ≡ w.says p ++ only row.peering step p
+      says : v.says p ≡ w.says p ++ only_at row.peering step p
       says = m.says p ∙ ap (λ (xs : List OperatorSent). w.says p ++ says_sent xs p) row.sends
-          ∙ ap (λ (xs : List ℕ). w.says p ++ xs) (append-nil (only row.peering step p))
+          ∙ ap (λ (xs : List ℕ). w.says p ++ xs) (append-nil (only_at row.peering step p))
 
       earlier_then : (n : ℕ) (bytes : List ℕ) → slice_get setup.steps n ≡ Some (SayStep p bytes) → group_of setup n < v.operator.group
           → v.operator.issued n ≡ true
@@ -188,7 +188,7 @@ module _ (setup : Setup) (p : ℕ) (peering : PeeringSetup) where
 
       other_says : row.peering ≢ p → Words v
       other_says other =
-          let none : only row.peering step p ≡ [] = grind (arith, nat_tests) in
+          let none : only_at row.peering step p ≡ [] = grind (arith, nat_tests) in
           record {
             words = whole_same (w.far p).end.stream (v.far p).end.stream (w.says p) (v.says p) (at w.operator.issued step true) v.operator.issued
                 stream (says ∙ ap (λ (xs : List ℕ). w.says p ++ xs) none ∙ append-nil (w.says p)) now
@@ -212,9 +212,9 @@ module _ (setup : Setup) (p : ℕ) (peering : PeeringSetup) where
 
       own_says : row.peering ≡ p → Words v
       own_says own =
-          let one : only row.peering step p ≡ step ∷ [] = ap (λ (n : ℕ). only n step p) own ∙ only_here p step in
+          let one : only_at row.peering step p ≡ step ∷ [] = ap (λ (n : ℕ). only_at n step p) own ∙ only_here p step in
           let there : slice_get setup.steps step ≡ Some (SayStep p row.bytes) = row.is ∙ ap (λ (n : ℕ). Some (SayStep n row.bytes)) own in
-          let bytes : bytes_at step ≡ row.bytes = ap (counts.said_in p) there ∙ said_by_itself p row.bytes in
+          let bytes : bytes_at step ≡ row.bytes = ap (counts.said_by_step p) there ∙ said_by_itself p row.bytes in
           let rest : List ℕ = unsaid p (at w.operator.issued step true) 0 setup.steps in
           let more : List ℕ = flat_map bytes_at (w.says p) in
           let split : flat_map bytes_at (w.says p ++ step ∷ []) ≡ more ++ row.bytes =
@@ -301,7 +301,7 @@ module _ (setup : Setup) (p : ℕ) (peering : PeeringSetup) where
 
   -- What the remote has said are the first of its words.
   pub begins_said : slice_get setup.peerings p ≡ Some peering → beat_of peering ≡ 0 → (w : World) → Reached setup w
-      → AreFirst (w.far p).end.stream (said_in setup p peering)
+      → AreFirst (w.far p).end.stream (said_in_all setup p peering)
   begins_said known still w reached = record {
     rest = flat_map bytes_at (w.says p) ++ unsaid p w.operator.issued 0 setup.steps;
     is = sym (always_words known still w reached).words;
@@ -309,7 +309,7 @@ module _ (setup : Setup) (p : ℕ) (peering : PeeringSetup) where
 
   -- In a settled world the remote has said all.
   pub all_said : IsSetup setup → slice_get setup.peerings p ≡ Some peering → beat_of peering ≡ 0 → (w : World) → Reached setup w → IsSettled setup w
-      → (w.far p).end.stream ≡ said_in setup p peering
+      → (w.far p).end.stream ≡ said_in_all setup p peering
   all_said ok known still w reached settled =
       let is = always_words known still w reached in
       let none : unsaid p w.operator.issued 0 setup.steps ≡ [] =

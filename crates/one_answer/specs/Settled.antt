@@ -14,14 +14,14 @@ use Rattle.graft_model.specs.OperatorRows.{placement}
 use Rattle.graft_model.specs.Quiet.{Quiet}
 
 -- all that a remote says by its opening and over the whole script
-abbrev pub said_in : Setup → ℕ → PeeringSetup → List ℕ
-said_in setup p peering = peering.opening ++ flat_map (said_by p) setup.steps
+abbrev pub said_in_all : Setup → ℕ → PeeringSetup → List ℕ
+said_in_all setup p peering = peering.opening ++ flat_map (said_by p) setup.steps
 
 -- No hold time runs on a session, and no remote says a KEEPALIVE by a timer: of the hold times that a home session and the OPEN with which the
 -- remote's bytes begin offer, one is 0 (RFC 4271, section 4.2).
 pub record HasNoTimer (setup : Setup) : Type 0 where
   pub holds : (p : ℕ) (peering : PeeringSetup) (front rest : List ℕ) (opened : open_type.OpenMsg) → slice_get setup.peerings p ≡ Some peering
-      → said_in setup p peering ≡ front ++ rest → IsGot front
+      → said_in_all setup p peering ≡ front ++ rest → IsGot front
       → open_in (message_of (record { state = OpenSent; remote_as = peering.config.remote_as; offered = peering.config.offered; wide = false }) front)
       ≡ Some opened
       → min peering.config.home_hold opened.hold ≡ 0

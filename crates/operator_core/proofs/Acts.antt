@@ -12,8 +12,8 @@ use Rattle.graft_model.specs.Parts.{OperatorPart}
 use Rattle.graft_model.specs.OperatorRows.{OrderTo, SayTo, ReportIn, OrdersSay, OrdersGraft, Notes, BeginsGroup}
 use Rattle.graft_model.specs.declared.event.OperatorEvent.TheVariants.{Order, Note, Go}
 use Rattle.graft_model.specs.Codes.{operator_code}
-use Rattle.graft_runs.specs.Actors.{OperatorIs, StepItem, Router, FarSide, Operator, actor_at}
-use Rattle.graft_runs.specs.Laws.{ActorsHaveNumbers}
+use Rattle.graft_actors.specs.Actors.{OperatorIs, StepItem, Router, FarSide, Operator, actor_at}
+use Rattle.graft_actors.specs.Laws.{ActorsHaveNumbers}
 use Rattle.graft_actors.specs.Acts.{OwnPart, ActsAs, IsWelcome}
 use Rattle.graft_actors.specs.Notes.{dropped}
 use Rattle.graft_model.specs.declared.code.Code.{Code}

@@ -18,11 +18,11 @@ use Rattle.operator_core.specs.declared.grafts.Slot.{Slot}
 use Rattle.operator_core.specs.declared.grafts.Slot.TheVariants.{Unmade, Stays, Made}
 use Rattle.operator_core.specs.declared.groups.Task.{Task}
 use Rattle.operator_core.specs.Grafts.{is_waiting, is_open}
-use Rattle.operator_core.specs.Slots.{slot_at, step_of, source_of, outcome_of, gift_of, given_of, source_in, outcome_in, given_in, waiting_entry}
+use Rattle.operator_core.specs.Slots.{slot_at, scripted_step, slot_source, outcome_of, slot_gift, given_of, source_in, outcome_in, given_in, waiting_entry}
 use Rattle.operator_core.specs.Tasks.{has_task}
 use Rattle.operator_core.specs.Evacuate.{slot_to, given_slot, give}
 use Rattle.operator_core.specs.States.{State}
-use Rattle.operator_core.specs.Keeps.{Keeps, with_slots, emptied_by, IsMade, IsSlotOf, IsSlot, slot_waits, is_unmade, is_first, InTurn, NoneIsOpen, IsSeat}
+use Rattle.operator_core.specs.Keeps.{OperatorInvariant, with_slots, emptied_by, IsMade, IsSlotOf, IsSlot, slot_waits, is_unmade, is_first, InTurn, NoneIsOpen, IsSeat}
 use Rattle.operator_core.proofs.Lists.{there_is, all_map}
 use Rattle.operator_core.proofs.Scripts.{groups_rise}
 use Rattle.operator_core.proofs.Placed.{placed_alike}
@@ -35,7 +35,7 @@ use Rattle.operator_core.proofs.GroupSpan.{group_in_span, in_span, span_ends}
 
 -- ---- the slot of a gift
 
-given_source : (k : ℕ) (p : PeeringId) (router : RouterId) (target : Option RouterId) → source_of (Some (slot_to k p router target)) ≡ None
+given_source : (k : ℕ) (p : PeeringId) (router : RouterId) (target : Option RouterId) → slot_source (Some (slot_to k p router target)) ≡ None
 given_source k p router None = refl
 given_source k p router (Some target) = refl
 
@@ -107,14 +107,15 @@ none_either : (b : Bool) (other : GiftOf) → gift_or (cond b NoGift NoGift) oth
 none_either true other = refl
 none_either false other = refl
 
-gift_over_unmade : (o : Option Gift) → gift_of (option_or (option_map given_slot o) (Some Unmade)) ≡ gift_of (option_map given_slot o)
+gift_over_unmade : (o : Option Gift) → slot_gift (option_or (option_map given_slot o) (Some Unmade)) ≡ slot_gift (option_map given_slot o)
 gift_over_unmade None = refl
 gift_over_unmade (Some gift) = refl
 
 -- ---- a graft's step
 
 -- the number of a graft of an evacuate step, and of a graft step
-evacuated_number : (setup : Setup) (k : ℕ) (g : ScriptGraft) (router : ℕ) → graft_at setup k ≡ Some g → slice_get setup.steps g.step ≡ Some (EvacuateStep router)
+evacuated_number : (setup : Setup) (k : ℕ) (g : ScriptGraft) (router : ℕ) → graft_at setup k ≡ Some g
+    → slice_get setup.steps g.step ≡ Some (EvacuateStep router)
     → g.graft ≡ grafts_before setup g.step + 1 + g.peering
 evacuated_number setup k g router known at =
     let of = step_of_graft setup k g known in
@@ -236,7 +237,8 @@ module _ (setup : Setup) (group from len : ℕ) (slots : List Slot) (seats : Lis
         })
 
   -- what becomes of the slot of a number
-  changes : (k : ℕ) → (slot_at begun_slots k ≡ slot_at slots k) ⊎ ((gift : Gift) × (slot_at begun_slots k ≡ Some (given_slot gift)) × (slot_at slots k ≡ Some Unmade))
+  changes : (k : ℕ)
+      → (slot_at begun_slots k ≡ slot_at slots k) ⊎ ((gift : Gift) × (slot_at begun_slots k ≡ Some (given_slot gift)) × (slot_at slots k ≡ Some Unmade))
   changes zero = inl refl
   changes (suc i) = by_graft (slice_get (grafts_in setup) i) refl where
     past : (xs : List Slot) → length xs ≡ length (grafts_in setup) → slice_get (grafts_in setup) i ≡ None → slice_get xs i ≡ None
@@ -258,8 +260,8 @@ module _ (setup : Setup) (group from len : ℕ) (slots : List Slot) (seats : Lis
 
   pub begun_source : (k : ℕ) → source_in begun_slots k ≡ source_in slots k
   begun_source k = elim (changes k) [
-    | inl same ↦ ap source_of same
-    | inr given ↦ ap source_of given.1 ∙ (given_source given.0.graft given.0.peering given.0.router given.0.target ∙ sym (ap source_of given.2))
+    | inl same ↦ ap slot_source same
+    | inr given ↦ ap slot_source given.1 ∙ (given_source given.0.graft given.0.peering given.0.router given.0.target ∙ sym (ap slot_source given.2))
   ]
 
   pub begun_outcome : (k : ℕ) → outcome_in begun_slots k ≡ outcome_in slots k
@@ -283,7 +285,8 @@ module _ (setup : Setup) (group from len : ℕ) (slots : List Slot) (seats : Lis
   abbrev GivesBy : ℕ → ScriptGraft → Option ScriptStep → Type 0
   GivesBy i g o = given_of o (slice_get begun_slots i) ≡ gift_or (cond (eqb (group_of setup g.step) group) (gift_by setup placed o g.peering) NoGift) (given_of o (slice_get slots i))
 
-  evacuate_gives : (i : ℕ) (g : ScriptGraft) (router : ℕ) → slice_get (grafts_in setup) i ≡ Some g → slice_get setup.steps g.step ≡ Some (EvacuateStep router) → GivesBy i g (Some (EvacuateStep router))
+  evacuate_gives : (i : ℕ) (g : ScriptGraft) (router : ℕ) → slice_get (grafts_in setup) i ≡ Some g
+      → slice_get setup.steps g.step ≡ Some (EvacuateStep router) → GivesBy i g (Some (EvacuateStep router))
   evacuate_gives i g router at step = elim (cases_eq (group_of setup g.step) group) [
     | inl is ↦
         let span = in_group i g at is in
@@ -292,17 +295,18 @@ module _ (setup : Setup) (group from len : ℕ) (slots : List Slot) (seats : Lis
         let k = graft_number i g at in
         let unmade = was_unmade i g router at is step in
         let gift : GiftOf = gift_to setup placed router g.peering in
-        ap gift_of (slot_begun i (has_old i g at))
-        ∙ (ap (λ (o : Option Slot). gift_of (option_or (option_map given_slot (number_given (suc i))) o)) unmade
+        ap slot_gift (slot_begun i (has_old i g at))
+        ∙ (ap (λ (o : Option Slot). slot_gift (option_or (option_map given_slot (number_given (suc i))) o)) unmade
         ∙ (gift_over_unmade (number_given (suc i))
-        ∙ (ap (λ (o : Option Gift). gift_of (option_map given_slot o)) (numbered_in_group setup seats ready.seated.all g (suc i) known from len span.0 span.1)
+        ∙ (ap (λ (o : Option Gift). slot_gift (option_map given_slot o)) (numbered_in_group setup seats ready.seated.all g (suc i) known from len span.0 span.1)
         ∙ (gift_by_slot setup seats placed are_placed ready.seated.all g.step router g.peering (suc i) step (omega (arith, number, k))
         ∙ (sym (or_none gift)
-        ∙ (ap (λ (o : Option Slot). gift_or gift (gift_of o)) (sym unmade)
-        ∙ ap (λ (b : Bool). gift_or (cond b gift NoGift) (gift_of (slice_get slots i))) (sym (eq-eqb (group_of setup g.step) group is))))))))
+        ∙ (ap (λ (o : Option Slot). gift_or gift (slot_gift o)) (sym unmade)
+        ∙ ap (λ (b : Bool). gift_or (cond b gift NoGift) (slot_gift (slice_get slots i))) (sym (eq-eqb (group_of setup g.step) group is))))))))
     | inr other ↦ elim (about i g at) [
       | inl given ↦ absurd (other given.group_is)
-      | inr kept ↦ ap gift_of kept.slot ∙ ap (λ (b : Bool). gift_or (cond b (gift_to setup placed router g.peering) NoGift) (gift_of (slice_get slots i))) (sym (ne_eqb (group_of setup g.step) group other))
+      | inr kept ↦ ap slot_gift kept.slot
+          ∙ ap (λ (b : Bool). gift_or (cond b (gift_to setup placed router g.peering) NoGift) (slot_gift (slice_get slots i))) (sym (ne_eqb (group_of setup g.step) group other))
     ]
   ]
 
@@ -313,7 +317,8 @@ module _ (setup : Setup) (group from len : ℕ) (slots : List Slot) (seats : Lis
   step_gives i g at (Some (EvacuateStep router)) e = evacuate_gives i g router at e
   step_gives i g at (Some SettleStep) e = sym (none_either (eqb (group_of setup g.step) group) NoGift)
 
-  pub begun_given : (k : ℕ) → given_in setup begun_slots k ≡ gift_or (gift_in_group setup group (placement setup (with_slots setup slots)) (graft_at setup k)) (given_in setup slots k)
+  pub begun_given : (k : ℕ)
+      → given_in setup begun_slots k ≡ gift_or (gift_in_group setup group (placement setup (with_slots setup slots)) (graft_at setup k)) (given_in setup slots k)
   begun_given zero = subst (λ (o : Option ScriptGraft). given_of (option_and_then (λ g. slice_get setup.steps g.step) o) None
       ≡ gift_or (gift_in_group setup group placed o) (given_of (option_and_then (λ g. slice_get setup.steps g.step) o) None)) (sym (no_graft_zero setup)) refl
   begun_given (suc i) = subst (Gives i) (sym (graft_by_place setup i)) (by_graft (slice_get (grafts_in setup) i) refl) where
@@ -326,7 +331,8 @@ module _ (setup : Setup) (group from len : ℕ) (slots : List Slot) (seats : Lis
   abbrev begun_tasks : List Task
   begun_tasks = group_tasks setup seats from len
 
-  given_stands : (i : ℕ) (g : ScriptGraft) → slice_get (grafts_in setup) i ≡ Some g → (given : IsGiven i g) → IsSlot setup group begun_tasks g (given_slot given.gift)
+  given_stands : (i : ℕ) (g : ScriptGraft) → slice_get (grafts_in setup) i ≡ Some g → (given : IsGiven i g)
+      → IsSlot setup group begun_tasks g (given_slot given.gift)
   given_stands i g at given =
       let span = in_group i g at given.group_is in
       let group_is = given.group_is in
@@ -359,7 +365,8 @@ module _ (setup : Setup) (group from len : ℕ) (slots : List Slot) (seats : Lis
       ∙ sym (has_gift_task setup seats g.step g.graft router from len e span.0 span.1))))
   kept_waits i g slot at none is (Some SettleStep) e first = absurd cc
 
-  begun_slot : (i : ℕ) (g : ScriptGraft) (slot : Slot) → slice_get (grafts_in setup) i ≡ Some g → slice_get begun_slots i ≡ Some slot → IsSlot setup group begun_tasks g slot
+  begun_slot : (i : ℕ) (g : ScriptGraft) (slot : Slot) → slice_get (grafts_in setup) i ≡ Some g → slice_get begun_slots i ≡ Some slot
+      → IsSlot setup group begun_tasks g slot
   begun_slot i g slot at is = elim (about i g at) [
     | inl given ↦ subst (IsSlot setup group begun_tasks g) (same_Some (given_slot given.gift) slot (sym given.slot ∙ is)) (given_stands i g at given)
     | inr kept ↦
@@ -422,7 +429,7 @@ module _ (setup : Setup) (group from len : ℕ) (slots : List Slot) (seats : Lis
 
   same_place : (p : ℕ) → placement setup (with_slots setup slots) p ≡ placement setup (with_slots setup begun_slots) p
   same_place p = placed_alike setup p (with_slots setup slots) (with_slots setup begun_slots) (λ j g there of_p. ap is_accepted (sym (begun_outcome g.graft)))
-      (λ j g there accepted. ap (λ (o : Option Slot). target_by (slice_get setup.steps g.step) (given_of (step_of setup g.graft) o)) (given_only_unmade g.graft accepted))
+      (λ j g there accepted. ap (λ (o : Option Slot). target_by (slice_get setup.steps g.step) (given_of (scripted_step setup g.graft) o)) (given_only_unmade g.graft accepted))
 
   none_opens : (p : ℕ) → NoneIsOpen slots p → NoneIsOpen begun_slots p
   none_opens p none i entry is of_p =
@@ -451,7 +458,7 @@ module _ (setup : Setup) (group from len : ℕ) (slots : List Slot) (seats : Lis
         still = (λ e. none_opens p (old.still.0 e), λ none. old.still.1 (none_was_open p none));
       }
 
-  pub begun_keeps : Keeps begun
+  pub begun_keeps : OperatorInvariant begun
   begun_keeps = record {
     sound = ready.sound;
     ends = span_ends setup group from len ready.begins ready.others ready.settle;

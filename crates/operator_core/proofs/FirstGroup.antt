@@ -9,7 +9,7 @@ use Rattle.std.proofs.lemmas.Option.{slice_get_within, slice_get-map}
 use Rattle.graft_edge.specs.declared.ids.RouterId.{RouterId}
 use Rattle.graft_steps.specs.declared.log.GraftEntry.{GraftEntry}
 use Rattle.graft_steps.specs.declared.log.GraftStage.TheVariants.{Waiting}
-use Rattle.graft_model.specs.Setups.{Setup, ScriptStep, SayStep, MoveStep, EvacuateStep, SettleStep, ScriptGraft, PeeringSetup, routers_in, peerings_in, peering_numbers, numbered, grafts_after, grafts_in, graft_at, start_of}
+use Rattle.graft_model.specs.Setups.{Setup, ScriptStep, SayStep, MoveStep, EvacuateStep, SettleStep, ScriptGraft, PeeringSetup, routers_in, peerings_in, peering_numbers, grafts_numbered, grafts_after, grafts_in, graft_at, start_of}
 use Rattle.graft_model.specs.Parts.{Unmade as NoGift, To}
 use Rattle.graft_model.specs.Placements.{target_by, placement}
 use Rattle.graft_model.specs.Evacuations.{gift_in_group, gift_or}
@@ -19,10 +19,10 @@ use Rattle.operator_core.specs.declared.grafts.Seat.{Seat}
 use Rattle.operator_core.specs.declared.grafts.Slot.{Slot}
 use Rattle.operator_core.specs.declared.grafts.Slot.TheVariants.{Unmade, Stays, Made}
 use Rattle.operator_core.specs.Grafts.{is_waiting, is_open, outcome_at, seat_at}
-use Rattle.operator_core.specs.Slots.{source_of, outcome_of, given_of, step_of, source_in, outcome_in, given_in, waiting_entry, unmade_slots, first_slots}
+use Rattle.operator_core.specs.Slots.{slot_source, outcome_of, given_of, scripted_step, source_in, outcome_in, given_in, waiting_entry, unmade_slots, first_slots}
 use Rattle.operator_core.specs.Scripts.{step_for}
 use Rattle.operator_core.specs.Tasks.{has_task}
-use Rattle.operator_core.specs.States.{State, is_say, issued_in, part_of}
+use Rattle.operator_core.specs.States.{State, is_say, issued_in, part_of_state}
 use Rattle.operator_core.specs.Keeps.{StepsAreSound, emptied_by, IsMade, slot_waits, is_first, IsSeat, SeatsStand, with_slots}
 use Rattle.operator_core.proofs.Lists.{compare, there_is, one_member}
 use Rattle.operator_core.proofs.SlotLaws.{own_step, same_entry}
@@ -59,7 +59,8 @@ module _ (all : List ScriptStep) where
   alike_length (g ∷ grafts) [] one = absurd one
   alike_length (g ∷ grafts) (slot ∷ slots) one = ap suc (alike_length grafts slots one.1)
 
-  alike_at : (grafts : List ScriptGraft) (slots : List Slot) → Alike grafts slots → (i : ℕ) (g : ScriptGraft) (slot : Slot) → slice_get grafts i ≡ Some g → slice_get slots i ≡ Some slot
+  alike_at : (grafts : List ScriptGraft) (slots : List Slot) → Alike grafts slots → (i : ℕ) (g : ScriptGraft) (slot : Slot)
+      → slice_get grafts i ≡ Some g → slice_get slots i ≡ Some slot
       → IsFirstOf (slice_get all g.step) g slot
   alike_at [] slots one i g slot e f = absurd cc
   alike_at (x ∷ grafts) [] one i g slot e f = absurd one
@@ -69,12 +70,14 @@ module _ (all : List ScriptStep) where
       subst (λ (z : ScriptGraft). IsFirstOf (slice_get all z.step) z slot) same (subst (IsFirstOf (slice_get all x.step) x) same_slot one.0)
   alike_at (x ∷ grafts) (y ∷ slots) one (suc i) g slot e f = alike_at grafts slots one.1 i g slot e f
 
-  unmade_alike : (k n router : ℕ) (peerings : List ℕ) → slice_get all n ≡ Some (EvacuateStep router) → Alike (numbered k n peerings) (unmade_slots (length peerings))
+  unmade_alike : (k n router : ℕ) (peerings : List ℕ) → slice_get all n ≡ Some (EvacuateStep router)
+      → Alike (grafts_numbered k n peerings) (unmade_slots (length peerings))
   unmade_alike k n router [] e = tt
   unmade_alike k n router (p ∷ peerings) e =
       (subst (λ (o : Option ScriptStep). IsFirstOf o (record { graft = k + 1; peering = p; step = n }) Unmade) (sym e) refl, unmade_alike (k + 1) n router peerings e)
 
-  first_alike : (setup : Setup) (k n : ℕ) (steps : List ScriptStep) → ((j : ℕ) → slice_get all (n + j) ≡ slice_get steps j) → Alike (grafts_after setup k n steps) (first_slots (peerings_in setup) k (map step_for steps))
+  first_alike : (setup : Setup) (k n : ℕ) (steps : List ScriptStep) → ((j : ℕ) → slice_get all (n + j) ≡ slice_get steps j)
+      → Alike (grafts_after setup k n steps) (first_slots (peerings_in setup) k (map step_for steps))
   first_alike setup k n [] there = tt
   first_alike setup k n (SayStep p bytes ∷ steps) there =
       let e : k + 0 ≡ k = omega arith in
@@ -94,13 +97,13 @@ module _ (all : List ScriptStep) where
     first_alike setup (k + 1) (n + 1) steps (λ j. let e : n + 1 + j ≡ n + suc j = omega arith in ap (slice_get all) e ∙ there (suc j)),
   )
   first_alike setup k n (EvacuateStep router ∷ steps) there =
-      let own : Alike (numbered k n (peering_numbers setup)) (unmade_slots (length (peering_numbers setup))) =
+      let own : Alike (grafts_numbered k n (peering_numbers setup)) (unmade_slots (length (peering_numbers setup))) =
       unmade_alike k n router (peering_numbers setup) (let e : n ≡ n + 0 = omega arith in ap (slice_get all) e ∙ there 0) in
       let rest : Alike (grafts_after setup (k + length (peering_numbers setup)) (n + 1) steps) (first_slots (peerings_in setup) (k + length (peering_numbers setup)) (map step_for steps)) =
       first_alike setup (k + length (peering_numbers setup)) (n + 1) steps (λ j. let e : n + 1 + j ≡ n + suc j = omega arith in ap (slice_get all) e ∙ there (suc j)) in
-      subst (λ (m : ℕ). Alike (numbered k n (peering_numbers setup) ++ grafts_after setup (k + length (peering_numbers setup)) (n + 1) steps) (unmade_slots m ++ first_slots (peerings_in setup) (k + m) (map step_for steps)))
+      subst (λ (m : ℕ). Alike (grafts_numbered k n (peering_numbers setup) ++ grafts_after setup (k + length (peering_numbers setup)) (n + 1) steps) (unmade_slots m ++ first_slots (peerings_in setup) (k + m) (map step_for steps)))
       (length-range_with_len 0 (peerings_in setup))
-      (alike_append (numbered k n (peering_numbers setup)) _ (unmade_slots (length (peering_numbers setup))) _ own rest)
+      (alike_append (grafts_numbered k n (peering_numbers setup)) _ (unmade_slots (length (peering_numbers setup))) _ own rest)
 
 given_none : (o : Option ScriptStep) → given_of o None ≡ NoGift
 given_none None = refl
@@ -126,7 +129,8 @@ first_entry (Some (MoveStep p target)) g entry is =
 first_entry (Some (EvacuateStep router)) g entry is = absurd (let e : Made entry ≡ Unmade = is in cc)
 first_entry (Some SettleStep) g entry is = absurd is
 
-first_ready_slot : (setup : Setup) → StepsAreSound setup → (g : ScriptGraft) (slot : Slot) (o : Option ScriptStep) → slice_get setup.steps g.step ≡ o → IsFirstOf o g slot → IsReadySlot setup 0 g slot
+first_ready_slot : (setup : Setup) → StepsAreSound setup → (g : ScriptGraft) (slot : Slot) (o : Option ScriptStep) → slice_get setup.steps g.step ≡ o
+    → IsFirstOf o g slot → IsReadySlot setup 0 g slot
 first_ready_slot setup sound g slot None e is = absurd is
 first_ready_slot setup sound g slot (Some (SayStep p bytes)) e is = absurd is
 first_ready_slot setup sound g slot (Some (MoveStep p target)) e is = record {
@@ -175,7 +179,8 @@ module _ (setup : Setup) (sound : StepsAreSound setup) (starts : (p : ℕ) (peer
   as_many = alike_length setup.steps (grafts_in setup) first_slots_of alike
 
   -- the graft of a slot
-  of_graft : (i : ℕ) (slot : Slot) → slice_get first_slots_of i ≡ Some slot → (g : ScriptGraft) × (slice_get (grafts_in setup) i ≡ Some g) × IsFirstOf (slice_get setup.steps g.step) g slot
+  of_graft : (i : ℕ) (slot : Slot) → slice_get first_slots_of i ≡ Some slot
+      → (g : ScriptGraft) × (slice_get (grafts_in setup) i ≡ Some g) × IsFirstOf (slice_get setup.steps g.step) g slot
   of_graft i slot e =
       let l : i < length first_slots_of = slice_get_within first_slots_of i slot e in
       let all : length first_slots_of ≡ length (grafts_in setup) = as_many in
@@ -189,11 +194,11 @@ module _ (setup : Setup) (sound : StepsAreSound setup) (starts : (p : ℕ) (peer
   no_source zero = refl
   no_source (suc k) = by_slot (slice_get first_slots_of k) refl
     where
-      by_slot : (o : Option Slot) → slice_get first_slots_of k ≡ o → source_of (slice_get first_slots_of k) ≡ None
-      by_slot None e = ap source_of e
-      by_slot (Some Unmade) e = ap source_of e
-      by_slot (Some (Stays n p router)) e = ap source_of e
-      by_slot (Some (Made entry)) e = ap source_of e ∙ ap (λ o. option_map (λ r. r.0) o) (waits k entry e).0
+      by_slot : (o : Option Slot) → slice_get first_slots_of k ≡ o → slot_source (slice_get first_slots_of k) ≡ None
+      by_slot None e = ap slot_source e
+      by_slot (Some Unmade) e = ap slot_source e
+      by_slot (Some (Stays n p router)) e = ap slot_source e
+      by_slot (Some (Made entry)) e = ap slot_source e ∙ ap (λ o. option_map (λ r. r.0) o) (waits k entry e).0
 
   no_outcome : (k : ℕ) → outcome_in first_slots_of k ≡ None
   no_outcome zero = refl
@@ -206,16 +211,16 @@ module _ (setup : Setup) (sound : StepsAreSound setup) (starts : (p : ℕ) (peer
       by_slot (Some (Made entry)) e = ap outcome_of e ∙ ap outcome_at (waits k entry e).1
 
   no_gift : (k : ℕ) → given_in setup first_slots_of k ≡ NoGift
-  no_gift zero = given_none (step_of setup 0)
+  no_gift zero = given_none (scripted_step setup 0)
   no_gift (suc k) = by_slot (slice_get first_slots_of k) refl
     where
-      by_slot : (o : Option Slot) → slice_get first_slots_of k ≡ o → given_of (step_of setup (suc k)) (slice_get first_slots_of k) ≡ NoGift
-      by_slot None e = ap (given_of (step_of setup (suc k))) e ∙ given_none (step_of setup (suc k))
+      by_slot : (o : Option Slot) → slice_get first_slots_of k ≡ o → given_of (scripted_step setup (suc k)) (slice_get first_slots_of k) ≡ NoGift
+      by_slot None e = ap (given_of (scripted_step setup (suc k))) e ∙ given_none (scripted_step setup (suc k))
       by_slot (Some slot) e =
           let own = of_graft k slot e in
           let number : own.0.graft ≡ suc k = omega (arith, number_of_place setup k own.0 own.1) in
-          ap (given_of (step_of setup (suc k))) e
-          ∙ ap (λ o. given_of o (Some slot)) (ap (step_of setup) (sym number) ∙ own_step setup first_slots_of k own.0 own.1)
+          ap (given_of (scripted_step setup (suc k))) e
+          ∙ ap (λ o. given_of o (Some slot)) (ap (scripted_step setup) (sym number) ∙ own_step setup first_slots_of k own.0 own.1)
           ∙ first_given (slice_get setup.steps own.0.step) own.0 slot own.2
 
   seats_stand : SeatsStand setup first_slots_of first_seats_of
@@ -278,7 +283,7 @@ module _ (setup : Setup) (sound : StepsAreSound setup) (starts : (p : ℕ) (peer
             ∙ ap (λ b. true && b && not (has_task (group_tasks setup first_seats_of 0 len) m 0)) f
       ]
 
-  pub first_part : part_of first ≡ first_operator setup
+  pub first_part : part_of_state first ≡ first_operator setup
   first_part = λ i. record {
     group = 0;
     issued = λ m. none_issued m i;
@@ -287,6 +292,7 @@ module _ (setup : Setup) (sound : StepsAreSound setup) (starts : (p : ℕ) (peer
     outcome = λ k. (begun_outcome setup 0 0 len first_slots_of first_seats_of first_ready k ∙ no_outcome k) i;
   }
     where
-      without : (k : ℕ) → gift_or (gift_in_group setup 0 (placement setup (with_slots setup first_slots_of)) (graft_at setup k)) (given_in setup first_slots_of k) ≡ (first_operator setup).given k
+      without : (k : ℕ)
+          → gift_or (gift_in_group setup 0 (placement setup (with_slots setup first_slots_of)) (graft_at setup k)) (given_in setup first_slots_of k) ≡ (first_operator setup).given k
       without k = λ i. gift_or
           (gift_in_group setup 0 (placement setup (record { group = 0; issued = λ n. false; given = λ j. no_gift j i; source = λ j. no_source j i; outcome = λ j. no_outcome j i })) (graft_at setup k)) (no_gift k i)

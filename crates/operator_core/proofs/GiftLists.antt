@@ -42,13 +42,15 @@ module _ {A : Type 0} where
   -- ---- of a range
 
   module _ (f : ℕ → List A) where
-    pub all_range : (P : A → Type 0) (from len : ℕ) → ((m : ℕ) → from ≤ m → m < from + len → AllByRecursion P (f m)) → AllByRecursion P (flat_map f (range_with_len from len))
+    pub all_range : (P : A → Type 0) (from len : ℕ) → ((m : ℕ) → from ≤ m → m < from + len → AllByRecursion P (f m))
+        → AllByRecursion P (flat_map f (range_with_len from len))
     all_range P from zero each = tt
     all_range P from (suc len) each =
         all_append P (f from) (flat_map f (range_with_len (from + 1) len)) (each from (omega arith) (omega arith))
         (all_range P (from + 1) len (λ m behind within. each m (omega (arith, behind)) (omega (arith, within))))
 
-    pub find_range_none : (test : A → Bool) (from len : ℕ) → ((m : ℕ) → from ≤ m → m < from + len → find test (f m) ≡ None) → find test (flat_map f (range_with_len from len)) ≡ None
+    pub find_range_none : (test : A → Bool) (from len : ℕ) → ((m : ℕ) → from ≤ m → m < from + len → find test (f m) ≡ None)
+        → find test (flat_map f (range_with_len from len)) ≡ None
     find_range_none test from zero none = refl
     find_range_none test from (suc len) none =
         find-append test (f from) (flat_map f (range_with_len (from + 1) len))
@@ -74,7 +76,8 @@ module _ {A : Type 0} where
         or_none None = refl
         or_none (Some x) = refl
 
-    pub any_range_none : (test : A → Bool) (from len : ℕ) → ((m : ℕ) → from ≤ m → m < from + len → list_any test (f m) ≡ false) → list_any test (flat_map f (range_with_len from len)) ≡ false
+    pub any_range_none : (test : A → Bool) (from len : ℕ) → ((m : ℕ) → from ≤ m → m < from + len → list_any test (f m) ≡ false)
+        → list_any test (flat_map f (range_with_len from len)) ≡ false
     any_range_none test from zero none = refl
     any_range_none test from (suc len) none =
         list_any-append test (f from) (flat_map f (range_with_len (from + 1) len))

@@ -16,7 +16,8 @@ use Rattle.operator_core.specs.Evacuate.{seated_from, gift_for, gifts_to}
 pub length-seated_from : (p : ℕ) (router : RouterId) (seats : List Seat) → length (seated_from p router seats) ≤ length seats
 length-seated_from p router [] = omega arith
 length-seated_from p router (seat ∷ seats) = by_test (seat.place.0 == router.0) (length-seated_from (p + 1) router seats) where
-  by_test : (b : Bool) → length (seated_from (p + 1) router seats) ≤ length seats → length (cond b (record { 0 = p } ∷ seated_from (p + 1) router seats) (seated_from (p + 1) router seats)) ≤ suc (length seats)
+  by_test : (b : Bool) → length (seated_from (p + 1) router seats) ≤ length seats
+      → length (cond b (record { 0 = p } ∷ seated_from (p + 1) router seats) (seated_from (p + 1) router seats)) ≤ suc (length seats)
   by_test true le = omega (arith, le)
   by_test false le = omega (arith, le)
 
@@ -43,10 +44,13 @@ module _ (first : ℕ) (router : RouterId) (left : Zip (Iter PeeringId) (Iter (O
 
     ends : (iter_rest (zip_first left) ≡ []) ⊎ (iter_rest (zip_second left) ≡ []) → gifts_left first router left ≡ []
     ends (inl e) = ap (λ (ps : List PeeringId). map (gift_for first router) (zip ps (iter_rest (zip_second left)))) e
-    ends (inr e) = ap (λ (ts : List (Option RouterId)). map (gift_for first router) (zip (iter_rest (zip_first left)) ts)) e ∙ no_second (iter_rest (zip_first left))
+    ends (inr e) = ap (λ (ts : List (Option RouterId)). map (gift_for first router) (zip (iter_rest (zip_first left)) ts)) e
+        ∙ no_second (iter_rest (zip_first left))
 
-pub all_gifts : (first : ℕ) (router : RouterId) (left : Zip (Iter PeeringId) (Iter (Option RouterId))) (seats : List Seat) (loads rooms : List ℕ) → iter_rest (zip_first left) ≡ seated_from 0 router seats
-    → iter_rest (zip_second left) ≡ plan_for rooms router.0 loads (length (seated_from 0 router seats)) → gifts_left first router left ≡ gifts_to first router seats loads rooms
+pub all_gifts : (first : ℕ) (router : RouterId) (left : Zip (Iter PeeringId) (Iter (Option RouterId))) (seats : List Seat) (loads rooms : List ℕ)
+    → iter_rest (zip_first left) ≡ seated_from 0 router seats
+    → iter_rest (zip_second left) ≡ plan_for rooms router.0 loads (length (seated_from 0 router seats))
+    → gifts_left first router left ≡ gifts_to first router seats loads rooms
 all_gifts first router left seats loads rooms peerings targets =
     ap (λ (ps : List PeeringId). map (gift_for first router) (zip ps (iter_rest (zip_second left)))) peerings
     ∙ ap (λ (ts : TargetList). map (gift_for first router) (zip (seated_from 0 router seats) ts)) targets

@@ -10,7 +10,7 @@ use Rattle.operator_core.specs.declared.evacuate.Gift.{Gift}
 use Rattle.operator_core.specs.declared.grafts.Seat.{Seat}
 use Rattle.operator_core.specs.declared.groups.Task.{Task}
 use Rattle.operator_core.specs.Tasks.{task_of, is_task, has_task, given_tasks}
-use Rattle.operator_core.specs.Keeps.{Precedes, Rises, Waits, IsGraftTask}
+use Rattle.operator_core.specs.Keeps.{Precedes, Rises, IsWaitingTask, IsGraftTask}
 use Rattle.operator_core.proofs.Lists.{none_passes, all_map}
 use Rattle.operator_core.proofs.TaskOrder.{is_that_task, is_other_step, is_other_graft}
 use Rattle.operator_core.proofs.GiftLists.{Sorted, all_range, any_range, sorted_range}
@@ -25,7 +25,8 @@ makes None = false
 makes (Some gift) = is_some gift.target
 
 module _ (m : ℕ) where
-  given_tasks_all : (P : Task → Type 0) (Q : Gift → Type 0) → ((gift : Gift) → Q gift → P (task_of m gift.graft)) → (gifts : List Gift) → AllByRecursion Q gifts → AllByRecursion P (given_tasks m gifts)
+  given_tasks_all : (P : Task → Type 0) (Q : Gift → Type 0) → ((gift : Gift) → Q gift → P (task_of m gift.graft)) → (gifts : List Gift)
+      → AllByRecursion Q gifts → AllByRecursion P (given_tasks m gifts)
   given_tasks_all P Q each [] all = tt
   given_tasks_all P Q each (gift ∷ gifts) all =
       let rest = given_tasks_all P Q each gifts all.1 in
@@ -103,9 +104,9 @@ module _ (setup : Setup) (seats : List Seat) where
   graft_task m k p known = ap (option_map (λ (g : ScriptGraft). g.step)) known
 
   module _ (group next : ℕ) (all : length seats ≡ peerings_in setup) (m : ℕ) (is : group_of setup m ≡ group) (before : m < next) where
-    tasks_wait : AllByRecursion (Waits setup group next) (tasks_at setup seats m)
+    tasks_wait : AllByRecursion (IsWaitingTask setup group next) (tasks_at setup seats m)
     tasks_wait = by_step (slice_get setup.steps m) refl where
-      given_waits : (gift : Gift) → IsGiftOf setup m gift → Waits setup group next (task_of m gift.graft)
+      given_waits : (gift : Gift) → IsGiftOf setup m gift → IsWaitingTask setup group next (task_of m gift.graft)
       given_waits gift of =
           let at : slice_get setup.steps m ≡ Some (EvacuateStep gift.router.0) = of.step in
           record {
@@ -117,7 +118,8 @@ module _ (setup : Setup) (seats : List Seat) where
             issuable = λ e. cc (at, e);
           }
 
-      by_step : (o : Option ScriptStep) → slice_get setup.steps m ≡ o → AllByRecursion (Waits setup group next) (tasks_of setup seats m (grafts_before setup m + 1) o)
+      by_step : (o : Option ScriptStep) → slice_get setup.steps m ≡ o
+          → AllByRecursion (IsWaitingTask setup group next) (tasks_of setup seats m (grafts_before setup m + 1) o)
       by_step None at = tt
       by_step (Some (SayStep q words)) at = (
         record {
@@ -143,14 +145,15 @@ module _ (setup : Setup) (seats : List Seat) where
         tt,
       )
       by_step (Some (EvacuateStep router)) at =
-          given_tasks_all m (Waits setup group next) (IsGiftOf setup m) given_waits (gifts_of setup seats (grafts_before setup m + 1) (Some (EvacuateStep router)))
+          given_tasks_all m (IsWaitingTask setup group next) (IsGiftOf setup m) given_waits (gifts_of setup seats (grafts_before setup m + 1) (Some (EvacuateStep router)))
           (subst (λ (o : Option ScriptStep). AllByRecursion (IsGiftOf setup m) (gifts_of setup seats (grafts_before setup m + 1) o)) at (gifts_are setup seats all m))
       by_step (Some SettleStep) at = tt
 
-  pub group_tasks_wait : (group next from len : ℕ) → length seats ≡ peerings_in setup → ((m : ℕ) → from ≤ m → m < from + len → group_of setup m ≡ group) → from + len ≤ next
-      → AllByRecursion (Waits setup group next) (group_tasks setup seats from len)
+  pub group_tasks_wait : (group next from len : ℕ) → length seats ≡ peerings_in setup
+      → ((m : ℕ) → from ≤ m → m < from + len → group_of setup m ≡ group) → from + len ≤ next
+      → AllByRecursion (IsWaitingTask setup group next) (group_tasks setup seats from len)
   group_tasks_wait group next from len all is ends =
-      all_range (tasks_at setup seats) (Waits setup group next) from len (λ m behind within. tasks_wait group next all m (is m behind within) (omega (arith, within, ends)))
+      all_range (tasks_at setup seats) (IsWaitingTask setup group next) from len (λ m behind within. tasks_wait group next all m (is m behind within) (omega (arith, within, ends)))
 
   -- ---- of which grafts there is a task
 
@@ -159,7 +162,8 @@ module _ (setup : Setup) (seats : List Seat) where
       (λ m other. none_passes (is_task n k) (tasks_at setup seats m) (all_map (λ task. task.step ≡ m) (λ task. is_task n k task ≡ false) (tasks_at setup seats m)
       (λ task is. is_other_step n k task (λ e. other (sym is ∙ e))) (tasks_of_step m (grafts_before setup m + 1) (slice_get setup.steps m)))) behind within
 
-  pub has_move_task : (n k p target from len : ℕ) → slice_get setup.steps n ≡ Some (MoveStep p target) → k ≡ grafts_before setup n + 1 → from ≤ n → n < from + len
+  pub has_move_task : (n k p target from len : ℕ) → slice_get setup.steps n ≡ Some (MoveStep p target) → k ≡ grafts_before setup n + 1 → from ≤ n
+      → n < from + len
       → has_task (group_tasks setup seats from len) n k ≡ true
   has_move_task n k p target from len at is behind within =
       has_of_step n k from len behind within

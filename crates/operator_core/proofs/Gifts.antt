@@ -10,7 +10,7 @@ use Rattle.std.proofs.lemmas.List.FromFn.{length-range_with_len}
 use Rattle.std.proofs.lemmas.List.Sums.{sum_by-cons}
 use Rattle.graft_edge.specs.declared.ids.PeeringId.{PeeringId}
 use Rattle.graft_edge.specs.declared.ids.RouterId.{RouterId}
-use Rattle.evacuation.specs.Plans.{TargetList, Plan, Done, Given, NotGiven, one_more, plan_for}
+use Rattle.evacuation.specs.Plans.{TargetList, Plan, Done, Given, NotGiven, one_more_load, plan_for}
 use Rattle.evacuation.proofs.Loads.{length-one_more}
 use Rattle.evacuation.proofs.ThePlan.{plan_for-plan}
 use Rattle.graft_model.specs.Setups.{Setup, ScriptStep, SayStep, MoveStep, EvacuateStep, SettleStep, ScriptGraft, routers_in, router_numbers, peerings_in, grafts_before, graft_at}
@@ -19,8 +19,8 @@ use Rattle.graft_model.proofs.Numbers.{graft_of_step, numbered_peering, numbers_
 use Rattle.operator_core.specs.declared.evacuate.Gift.{Gift}
 use Rattle.operator_core.specs.declared.grafts.Seat.{Seat}
 use Rattle.operator_core.specs.declared.grafts.Slot.{Slot}
-use Rattle.operator_core.specs.Slots.{gift_of}
-use Rattle.operator_core.specs.Evacuate.{load_of, loads_of, seated_from, gift_for, given_slot, give}
+use Rattle.operator_core.specs.Slots.{slot_gift}
+use Rattle.operator_core.specs.Evacuate.{load_of, seat_loads, seated_from, gift_for, given_slot, give}
 use Rattle.operator_core.proofs.Lists.{get_set_same, get_set_other, length_set, all_map}
 use Rattle.operator_core.proofs.GiftLists.{Sorted, none_found, all_range, find_range, sorted_range}
 use Rattle.operator_core.proofs.Ready.{gifts_of, gifts_at, group_gifts}
@@ -98,11 +98,12 @@ abbrev pub IsBelow : ℕ → Option RouterId → Type 0
 IsBelow n None = Unit {0}
 IsBelow n (Some r) = r.0 < n
 
-plan_below : (rooms : List ℕ) (from n : ℕ) (loads : List ℕ) (count : ℕ) (targets : TargetList) → Plan rooms from loads count targets → length loads ≡ n → AllByRecursion (IsBelow n) targets
+plan_below : (rooms : List ℕ) (from n : ℕ) (loads : List ℕ) (count : ℕ) (targets : TargetList) → Plan rooms from loads count targets
+    → length loads ≡ n → AllByRecursion (IsBelow n) targets
 plan_below rooms from n loads count targets Done e = tt
 plan_below rooms from n loads count targets (Given r least rest) e =
     let below = least.free.in_range in
-    (omega (arith, below, e), plan_below rooms from n (one_more loads r.0) _ _ rest (length-one_more loads r.0 ∙ e))
+    (omega (arith, below, e), plan_below rooms from n (one_more_load loads r.0) _ _ rest (length-one_more loads r.0 ∙ e))
 plan_below rooms from n loads count targets (NotGiven full rest) e = (tt, plan_below rooms from n loads _ _ rest e)
 
 -- ---- what one step gives
@@ -111,7 +112,8 @@ module _ (first : ℕ) (router : RouterId) where
   abbrev gifts_in : List PeeringId → TargetList → List Gift
   gifts_in ps ts = map (gift_for first router) (zip ps ts)
 
-  gifts_all : (P : Gift → Type 0) (Q : PeeringId → Type 0) (R : Option RouterId → Type 0) → ((p : PeeringId) (t : Option RouterId) → Q p → R t → P (gift_for first router (p, t)))
+  gifts_all : (P : Gift → Type 0) (Q : PeeringId → Type 0) (R : Option RouterId → Type 0)
+      → ((p : PeeringId) (t : Option RouterId) → Q p → R t → P (gift_for first router (p, t)))
       → (ps : List PeeringId) (ts : TargetList) → AllByRecursion Q ps → AllByRecursion R ts → AllByRecursion P (gifts_in ps ts)
   gifts_all P Q R each [] ts all others = tt
   gifts_all P Q R each (p ∷ ps) [] all others = tt
@@ -128,22 +130,22 @@ module _ (first : ℕ) (router : RouterId) where
       (gifts_all (IsEarlier (gift_for first router (p, t))) (IsLower p) (λ u. Unit {0}) (λ q u lower any. omega (arith, lower)) ps ts rises.0 (any_target ts), gifts_rise ps ts rises.1)
 
   slot_says : (k : ℕ) (p : PeeringId) (t : Option RouterId) (q : ℕ)
-      → gift_of (Some (given_slot (record { graft = k; peering = p; router = router; target = t }))) ≡ gift_from router.0 (Some (q, t))
+      → slot_gift (Some (given_slot (record { graft = k; peering = p; router = router; target = t }))) ≡ gift_from router.0 (Some (q, t))
   slot_says k p None q = refl
   slot_says k p (Some target) q = refl
 
   -- what a graft's slot says, and what stands beside its peering
   slot_of_found : (p k : ℕ) → k ≡ first + p → (ps : List PeeringId) (ts : TargetList)
-      → gift_of (option_map given_slot (gift_numbered k (gifts_in ps ts))) ≡ gift_from router.0 (find (λ e. eqb e.0 p) (zip (map (λ q. q.0) ps) ts))
+      → slot_gift (option_map given_slot (gift_numbered k (gifts_in ps ts))) ≡ gift_from router.0 (find (λ e. eqb e.0 p) (zip (map (λ q. q.0) ps) ts))
   slot_of_found p k is [] ts = refl
   slot_of_found p k is (q ∷ ps) [] = refl
   slot_of_found p k is (q ∷ ps) (t ∷ ts) = elim (cases_eq q.0 p) [
     | inl same ↦
-        ap (λ (b : Bool). gift_of (option_map given_slot (cond b (Some (gift_for first router (q, t))) (gift_numbered k (gifts_in ps ts))))) (eq-eqb (first + q.0) k (omega (arith, same, is)))
+        ap (λ (b : Bool). slot_gift (option_map given_slot (cond b (Some (gift_for first router (q, t))) (gift_numbered k (gifts_in ps ts))))) (eq-eqb (first + q.0) k (omega (arith, same, is)))
         ∙ (slot_says (first + q.0) q t q.0
         ∙ ap (λ (b : Bool). gift_from router.0 (cond b (Some (q.0, t)) (find (λ e. eqb e.0 p) (zip (map (λ q. q.0) ps) ts)))) (sym (eq-eqb q.0 p same)))
     | inr other ↦
-        ap (λ (b : Bool). gift_of (option_map given_slot (cond b (Some (gift_for first router (q, t))) (gift_numbered k (gifts_in ps ts))))) (ne_eqb (first + q.0) k (λ e. other (omega (arith, e, is))))
+        ap (λ (b : Bool). slot_gift (option_map given_slot (cond b (Some (gift_for first router (q, t))) (gift_numbered k (gifts_in ps ts))))) (ne_eqb (first + q.0) k (λ e. other (omega (arith, e, is))))
         ∙ (slot_of_found p k is ps ts
         ∙ ap (λ (b : Bool). gift_from router.0 (cond b (Some (q.0, t)) (find (λ e. eqb e.0 p) (zip (map (λ q. q.0) ps) ts)))) (sym (ne_eqb q.0 p other)))
   ]
@@ -172,7 +174,8 @@ module _ (placed : ℕ → ℕ) where
         | false ↦ rest
       ])
 
-  load_is : (r q : ℕ) (seats : List Seat) → ArePlaced placed q seats → load_of seats r ≡ length (filter (λ p. eqb (placed p) r) (range_with_len q (length seats)))
+  load_is : (r q : ℕ) (seats : List Seat) → ArePlaced placed q seats
+      → load_of seats r ≡ length (filter (λ p. eqb (placed p) r) (range_with_len q (length seats)))
   load_is r q [] are = refl
   load_is r q (seat ∷ seats) are =
       let rest = load_is r (q + 1) seats (others_placed q seat seats are) in
@@ -200,10 +203,11 @@ pub record IsGiftWithin (setup : Setup) (from len : ℕ) (gift : Gift) : Type 0 
   pub of : IsGiftOf setup place gift
 
 module _ (setup : Setup) (seats : List Seat) where
-  length-loads : length (loads_of seats (routers_in setup)) ≡ routers_in setup
+  length-loads : length (seat_loads seats (routers_in setup)) ≡ routers_in setup
   length-loads = length-map (range_with_len 0 (routers_in setup)) (load_of seats) ∙ length-range_with_len 0 (routers_in setup)
 
-  gift_is_of : (m : ℕ) (router : RouterId) (p : PeeringId) (t : Option RouterId) → slice_get setup.steps m ≡ Some (EvacuateStep router.0) → p.0 < peerings_in setup → IsBelow (routers_in setup) t
+  gift_is_of : (m : ℕ) (router : RouterId) (p : PeeringId) (t : Option RouterId) → slice_get setup.steps m ≡ Some (EvacuateStep router.0)
+      → p.0 < peerings_in setup → IsBelow (routers_in setup) t
       → IsGiftOf setup m (gift_for (grafts_before setup m + 1) router (p, t))
   gift_is_of m router p t at there below =
       let number : grafts_before setup m + p.0 + 1 ≡ grafts_before setup m + 1 + p.0 = omega arith in
@@ -223,11 +227,11 @@ module _ (setup : Setup) (seats : List Seat) where
     by_step (Some (EvacuateStep r)) e =
         let router : RouterId = record { 0 = r } in
         let ps : List PeeringId = seated_from 0 router seats in
-        let plan = plan_for-plan (rooms_of setup) r (loads_of seats (routers_in setup)) (length ps) in
+        let plan = plan_for-plan (rooms_of setup) r (seat_loads seats (routers_in setup)) (length ps) in
         gifts_all (grafts_before setup m + 1) router (IsGiftOf setup m) (λ p. p.0 < peerings_in setup) (IsBelow (routers_in setup)) (λ p t there below. gift_is_of m router p t e there below) ps
-        (plan_for (rooms_of setup) r (loads_of seats (routers_in setup)) (length ps))
+        (plan_for (rooms_of setup) r (seat_loads seats (routers_in setup)) (length ps))
         (all_map (λ p. (0 ≤ p.0) × (p.0 < 0 + length seats)) (λ p. p.0 < peerings_in setup) ps (λ p is. omega (arith, is.1, all)) (seated_within 0 router seats))
-        (plan_below (rooms_of setup) r (routers_in setup) (loads_of seats (routers_in setup)) (length ps) _ plan length-loads)
+        (plan_below (rooms_of setup) r (routers_in setup) (seat_loads seats (routers_in setup)) (length ps) _ plan length-loads)
 
   pub gifts_of_step_rise : (number : ℕ) (o : Option ScriptStep) → Sorted IsEarlier (gifts_of setup seats number o)
   gifts_of_step_rise number None = tt
@@ -247,7 +251,8 @@ module _ (setup : Setup) (seats : List Seat) where
       all_map (IsGiftOf setup m) (IsGiftWithin setup from len) (gifts_at setup seats m) (λ gift is. record { place = m; behind = behind; within = within; of = is }) (gifts_are all m))
 
   -- no step but a graft's own gives to it
-  given_by_own : length seats ≡ peerings_in setup → (g : ScriptGraft) (k : ℕ) → graft_at setup k ≡ Some g → (m : ℕ) → m ≢ g.step → gift_numbered k (gifts_at setup seats m) ≡ None
+  given_by_own : length seats ≡ peerings_in setup → (g : ScriptGraft) (k : ℕ) → graft_at setup k ≡ Some g → (m : ℕ) → m ≢ g.step
+      → gift_numbered k (gifts_at setup seats m) ≡ None
   given_by_own all g k known m other = none_found (has_number k) (gifts_at setup seats m) (all_map (IsGiftOf setup m) (λ gift. has_number k gift ≡ false) (gifts_at setup seats m)
       (λ gift is. ne_eqb gift.graft k (λ same. other (step_of gift is same))) (gifts_are all m))
     where
@@ -257,7 +262,8 @@ module _ (setup : Setup) (seats : List Seat) where
           let one : mine ≡ g = same_Some mine g (sym is.graft ∙ (ap (graft_at setup) same ∙ known)) in
           ap (λ (z : ScriptGraft). z.step) one
 
-  pub numbered_in_group : length seats ≡ peerings_in setup → (g : ScriptGraft) (k : ℕ) → graft_at setup k ≡ Some g → (from len : ℕ) → from ≤ g.step → g.step < from + len
+  pub numbered_in_group : length seats ≡ peerings_in setup → (g : ScriptGraft) (k : ℕ) → graft_at setup k ≡ Some g → (from len : ℕ) → from ≤ g.step
+      → g.step < from + len
       → gift_numbered k (group_gifts setup seats from len) ≡ gift_numbered k (gifts_at setup seats g.step)
   numbered_in_group all g k known from len behind within = find_range (gifts_at setup seats) (has_number k) g.step from len (given_by_own all g k known) behind within
 
@@ -270,23 +276,24 @@ module _ (setup : Setup) (seats : List Seat) where
     load_at : (r : ℕ) → load_of seats r ≡ length (peerings_at setup placed r)
     load_at r = load_is placed r 0 seats are ∙ ap (λ (n : ℕ). length (filter (λ p. eqb (placed p) r) (range_with_len 0 n))) all
 
-    loads_are : loads_of seats (routers_in setup) ≡ loads_by setup placed
+    loads_are : seat_loads seats (routers_in setup) ≡ loads_by setup placed
     loads_are = λ i. map (λ r. load_at r i) (router_numbers setup)
 
     how_many : (r : ℕ) → length (seated_from 0 (record { 0 = r }) seats) ≡ length (peerings_at setup placed r)
     how_many r = sym (length-map (seated_from 0 (record { 0 = r }) seats) (λ (p : PeeringId). p.0)) ∙ ap length (seats_at r)
 
-    targets_are : (r : ℕ) → plan_for (rooms_of setup) r (loads_of seats (routers_in setup)) (length (seated_from 0 (record { 0 = r }) seats)) ≡ targets_from setup placed r
+    targets_are : (r : ℕ)
+        → plan_for (rooms_of setup) r (seat_loads seats (routers_in setup)) (length (seated_from 0 (record { 0 = r }) seats)) ≡ targets_from setup placed r
     targets_are r = ap (λ (loads : List ℕ). plan_for (rooms_of setup) r loads (length (seated_from 0 (record { 0 = r }) seats))) loads_are
         ∙ ap (plan_for (rooms_of setup) r (loads_by setup placed)) (how_many r)
 
     -- what a slot says of a graft of an evacuate step is what the graft is given
     pub gift_by_slot : (m r p k : ℕ) → slice_get setup.steps m ≡ Some (EvacuateStep r) → k ≡ grafts_before setup m + 1 + p
-        → gift_of (option_map given_slot (gift_numbered k (gifts_at setup seats m))) ≡ gift_to setup placed r p
+        → slot_gift (option_map given_slot (gift_numbered k (gifts_at setup seats m))) ≡ gift_to setup placed r p
     gift_by_slot m r p k at is =
         let router : RouterId = record { 0 = r } in
         let ps : List PeeringId = seated_from 0 router seats in
-        ap (λ (o : Option ScriptStep). gift_of (option_map given_slot (gift_numbered k (gifts_of setup seats (grafts_before setup m + 1) o)))) at
+        ap (λ (o : Option ScriptStep). slot_gift (option_map given_slot (gift_numbered k (gifts_of setup seats (grafts_before setup m + 1) o)))) at
         ∙ (slot_of_found (grafts_before setup m + 1) router p k is ps _
         ∙ (ap (λ (ts : TargetList). gift_from r (find (λ e. eqb e.0 p) (zip (map (λ (q : PeeringId). q.0) ps) ts))) (targets_are r)
         ∙ ap (λ (qs : List ℕ). gift_from r (find (λ e. eqb e.0 p) (zip qs (targets_from setup placed r)))) (seats_at r)))

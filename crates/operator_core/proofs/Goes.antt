@@ -29,10 +29,10 @@ use Rattle.operator_core.specs.Slots.{first_slots}
 use Rattle.operator_core.specs.Evacuate.{give}
 use Rattle.operator_core.specs.Tasks.{unissued}
 use Rattle.operator_core.specs.Groups.{grafts_by, AreNumbers, NumbersFit, IsGroupFrom}
-use Rattle.operator_core.specs.States.{State, part_of}
-use Rattle.operator_core.specs.Keeps.{StepsAreSound, Keeps}
+use Rattle.operator_core.specs.States.{State, part_of_state}
+use Rattle.operator_core.specs.Keeps.{StepsAreSound, OperatorInvariant}
 use Rattle.operator_core.specs.Turns.{IsHeldUp}
-use Rattle.operator_core.specs.Progresses.{state, own_part_of, IsKnown, IsSound, AreEmptied, Goes, Begins}
+use Rattle.operator_core.specs.Progresses.{progress_state, own_part_of, IsKnown, ProgressInvariant, GivesEmptiedSessions, BeginsNextGroup, IsNewProgress}
 use Rattle.operator_core.proofs.Steps.{step_at, settle_there, settle_back, as_many_routers, as_many_peerings}
 use Rattle.operator_core.proofs.Tasks.{all_unissued}
 use Rattle.operator_core.proofs.Acts.{goes}
@@ -51,7 +51,8 @@ few_grafts peerings few (Graft p target) = omega arith
 few_grafts peerings few (Evacuate router) = few
 few_grafts peerings few Settle = omega arith
 
-pub numbers_fit : (peerings : ℕ) (steps : List ScriptStep) (numbers : List ℕ) → peerings ≤ 256 → length steps ≤ 4097 → AreNumbers peerings steps numbers → NumbersFit steps numbers
+pub numbers_fit : (peerings : ℕ) (steps : List ScriptStep) (numbers : List ℕ) → peerings ≤ 256 → length steps ≤ 4097
+    → AreNumbers peerings steps numbers → NumbersFit steps numbers
 numbers_fit peerings steps numbers few short are = record {
   all = are.all;
   each = λ n l. (
@@ -78,11 +79,12 @@ module _ (setup : Setup) (script : Script) (is : IsScriptOf setup script) (numbe
   gifts_are = begins.gifts ∙ same_gifts setup script is numbers are seats from begins.len within
 
   pub tasks_are : unissued group.tasks.items ≡ group_tasks setup seats from begins.len
-  tasks_are = ap unissued (begins.tasks ∙ same_tasks setup script is numbers are seats from begins.len within) ∙ all_unissued _ (group_tasks_unissued setup seats from begins.len)
+  tasks_are = ap unissued (begins.tasks ∙ same_tasks setup script is numbers are seats from begins.len within)
+      ∙ all_unissued _ (group_tasks_unissued setup seats from begins.len)
 
 -- ---- the next group
 
-module _ (old : Progress) (sound : IsSound old) (free : IsHeldUp old.known.setup (part_of (state old)) → ⊥) (group : Group)
+module _ (old : Progress) (sound : ProgressInvariant old) (free : IsHeldUp old.known.setup (part_of_state (progress_state old)) → ⊥) (group : Group)
     (begins : IsGroupFrom old.script old.numbers old.seats.items old.next group) where
   next_others : (n : ℕ) → old.next ≤ n → n < old.next + begins.len → slice_get old.known.setup.steps n ≢ Some SettleStep
   next_others = others old.known.setup old.script sound.known.script old.numbers sound.known.numbers old.seats.items old.next group begins
@@ -99,38 +101,40 @@ module _ (old : Progress) (sound : IsSound old) (free : IsHeldUp old.known.setup
   -- each gift has a slot
   pub next_gifts_fit : All (λ (gift : Gift). (1 ≤ gift.graft) × (gift.graft ≤ length old.slots.items)) group.gifts
   next_gifts_fit = subst (All (λ (gift : Gift). (1 ≤ gift.graft) × (gift.graft ≤ length old.slots.items))) (sym next_gifts)
-      (gifts_have_slots old.known.setup (old.group + 1) old.next begins.len old.slots.items old.seats.items (ready (state old) sound.keeps free begins.len next_others next_settle))
+      (gifts_have_slots old.known.setup (old.group + 1) old.next begins.len old.slots.items old.seats.items (ready (progress_state old) sound.keeps free begins.len next_others next_settle))
 
   abbrev then : State
-  then = next_state (state old) sound.keeps free begins.len next_others next_settle
+  then = next_state (progress_state old) sound.keeps free begins.len next_others next_settle
 
   module _ {C : Type 0} (new : Progress) (before after : Post (Item C)) where
     pub go_begins : IsKnown new → new.known ≡ old.known
-        → state new ≡ record (state old) { group = old.group + 1; next = group.next; waiting = unissued group.tasks.items; slots = give group.gifts old.slots.items }
-        → WroteOne before (operator_code Go) [] after → Goes old before new after true
+        → progress_state new ≡ record (progress_state old) { group = old.group + 1; next = group.next; waiting = unissued group.tasks.items; slots = give group.gifts old.slots.items }
+        → WroteOne before (operator_code Go) [] after → BeginsNextGroup old before new after true
     go_begins known same new_is wrote = record {
       deeds = deed_of before (operator_code Go) None [] ∷ [];
       does = record {
         wrote = wrote None;
         replay = λ session. (
           own_part_of then,
-          goes session old.known.setup (part_of (state old)) (part_of then) (clock_of before + 1) (actor_of before) (next_row (state old) sound.keeps free begins.len next_others next_settle),
+          goes session old.known.setup (part_of_state (progress_state old)) (part_of_state then) (clock_of before + 1) (actor_of before) (next_row (progress_state old) sound.keeps free begins.len next_others next_settle),
           ap own_part_of whole,
         );
         known = same;
-        sound = record { known = known; keeps = subst Keeps (sym whole) (next_keeps (state old) sound.keeps free begins.len next_others next_settle) };
+        sound = record { known = known; keeps = subst OperatorInvariant (sym whole) (next_keeps (progress_state old) sound.keeps free begins.len next_others next_settle) };
       };
       none = (refl, tt);
       made = (λ e. absurd cc, λ e. absurd cc);
       held = (λ e. absurd cc, λ h. absurd (free h));
       few = omega arith;
-      emptied = λ e. subst (λ (s : State). AreEmptied old.known.setup (part_of (state old)) (part_of s)) (sym whole) (next_emptied (state old) sound.keeps free begins.len next_others next_settle);
+      emptied = λ e. subst (λ (s : State). GivesEmptiedSessions old.known.setup (part_of_state (progress_state old)) (part_of_state s)) (sym whole) (next_emptied (progress_state old) sound.keeps free begins.len next_others next_settle);
     }
       where
-        whole : state new ≡ then
-        whole = new_is ∙ (λ i. record (state old) { group = old.group + 1; next = begins.next i; waiting = next_tasks i; slots = give (next_gifts i) old.slots.items })
+        whole : progress_state new ≡ then
+        whole = new_is
+            ∙ (λ i. record (progress_state old) { group = old.group + 1; next = begins.next i; waiting = next_tasks i; slots = give (next_gifts i) old.slots.items })
 
-pub go_held : {C : Type 0} (old : Progress) (before : Post (Item C)) → IsSound old → IsHeldUp old.known.setup (part_of (state old)) → Goes old before old before false
+pub go_held : {C : Type 0} (old : Progress) (before : Post (Item C)) → ProgressInvariant old
+    → IsHeldUp old.known.setup (part_of_state (progress_state old)) → BeginsNextGroup old before old before false
 go_held old before sound held = record {
   deeds = [];
   does = record { wrote = wrote_none before; replay = λ session. refl; known = refl; sound = sound };
@@ -207,10 +211,11 @@ module _ (setup : Setup) (script : Script) (is : IsScriptOf setup script) (worka
     abbrev first_state : State
     first_state = begun setup 0 0 begins.len slots_then seats_then (first_ready setup steps_are_sound starts_are_there begins.len first_others first_settle)
 
-    first_keeps : Keeps first_state
+    first_keeps : OperatorInvariant first_state
     first_keeps = begun_keeps setup 0 0 begins.len slots_then seats_then (first_ready setup steps_are_sound starts_are_there begins.len first_others first_settle)
 
-    first_is : (p : Progress) → p.known.setup ≡ setup → p.group ≡ 0 → p.next ≡ group.next → p.tasks.items ≡ group.tasks.items → p.slots.items ≡ give group.gifts slots → p.seats.items ≡ seats → state p ≡ first_state
+    first_is : (p : Progress) → p.known.setup ≡ setup → p.group ≡ 0 → p.next ≡ group.next → p.tasks.items ≡ group.tasks.items
+        → p.slots.items ≡ give group.gifts slots → p.seats.items ≡ seats → progress_state p ≡ first_state
     first_is p setup_is no_group next tasks slots_is seats_is = λ i. record {
       setup = setup_is i;
       group = no_group i;
@@ -220,9 +225,11 @@ module _ (setup : Setup) (script : Script) (is : IsScriptOf setup script) (worka
       seats = (seats_is ∙ same_seats) i;
     }
 
-pub begins_with : (known : Known) (p : Progress) → p.known ≡ known → (script : IsScriptOf known.setup p.script) → (workable : IsWorkable p.script) → (numbers : AreNumbers (length p.script.starts) p.script.steps p.numbers)
+pub begins_with : (known : Known) (p : Progress) → p.known ≡ known → (script : IsScriptOf known.setup p.script) → (workable : IsWorkable p.script)
+    → (numbers : AreNumbers (length p.script.starts) p.script.steps p.numbers)
     → p.group ≡ 0 → (group : Group) → IsGroupFrom p.script p.numbers p.seats.items 0 group → p.next ≡ group.next → p.tasks.items ≡ group.tasks.items
-    → (slots : List Slot) → slots ≡ first_slots (length p.script.starts) 0 p.script.steps → p.slots.items ≡ give group.gifts slots → p.seats.items ≡ map seat_at p.script.starts → Begins known p
+    → (slots : List Slot) → slots ≡ first_slots (length p.script.starts) 0 p.script.steps → p.slots.items ≡ give group.gifts slots
+    → p.seats.items ≡ map seat_at p.script.starts → IsNewProgress known p
 begins_with known p is_known script workable numbers no_group group begins next tasks slots slots_are slots_is seats_are = record {
   is_known = is_known;
   sound = record {
@@ -234,12 +241,13 @@ begins_with known p is_known script workable numbers no_group group begins next 
       short = workable.short;
       ended = workable.ended;
     };
-    keeps = subst Keeps (sym whole) (first_keeps known.setup p.script script workable p.numbers numbers p.seats.items seats_are slots slots_are group begins);
+    keeps = subst OperatorInvariant (sym whole) (first_keeps known.setup p.script script workable p.numbers numbers p.seats.items seats_are slots slots_are group begins);
   };
-  part = ap part_of whole ∙ first_part known.setup (steps_are_sound known.setup p.script script workable) (starts_are_there known.setup p.script script workable) begins.len
+  part = ap part_of_state whole
+      ∙ first_part known.setup (steps_are_sound known.setup p.script script workable) (starts_are_there known.setup p.script script workable) begins.len
       (first_others known.setup p.script script workable p.numbers numbers p.seats.items seats_are slots slots_are group begins)
       (first_settle known.setup p.script script workable p.numbers numbers p.seats.items seats_are slots slots_are group begins);
 }
   where
-    whole : state p ≡ first_state known.setup p.script script workable p.numbers numbers p.seats.items seats_are slots slots_are group begins
+    whole : progress_state p ≡ first_state known.setup p.script script workable p.numbers numbers p.seats.items seats_are slots slots_are group begins
     whole = first_is known.setup p.script script workable p.numbers numbers p.seats.items seats_are slots slots_are group begins p (ap (λ (k : Known). k.setup) is_known) no_group next tasks slots_is refl

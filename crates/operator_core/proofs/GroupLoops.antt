@@ -8,11 +8,11 @@ use Rattle.operator_core.specs.declared.evacuate.Gift.{Gift}
 use Rattle.operator_core.specs.declared.grafts.Seat.{Seat}
 use Rattle.operator_core.specs.declared.script.Script.{Script}
 use Rattle.operator_core.specs.declared.script.ScriptStep.{ScriptStep}
-use Rattle.operator_core.specs.Evacuate.{load_of, loads_of, gifts_by}
+use Rattle.operator_core.specs.Evacuate.{load_of, seat_loads, gifts_by}
 use Rattle.operator_core.specs.Tasks.{tasks_by}
 use Rattle.operator_core.specs.Groups.{gifts_of_step, tasks_of_step, gifts_at, tasks_at}
 
-pub length-loads_of : (seats : List Seat) (routers : ℕ) → length (loads_of seats routers) ≡ routers
+pub length-loads_of : (seats : List Seat) (routers : ℕ) → length (seat_loads seats routers) ≡ routers
 length-loads_of seats routers = length-map-range_with_len (load_of seats) 0 routers
 
 -- one more place of a range
@@ -23,7 +23,8 @@ flat_more f from (suc len) =
     ∙ sym (append_assoc (f from) (flat_map f (range_with_len (from + 1) len)) (f (from + 1 + len)))
     ∙ ap (λ n. (f from ++ flat_map f (range_with_len (from + 1) len)) ++ f n) (let e : from + 1 + len ≡ from + suc len = omega arith in e)
 
-pub more_of : {A : Type 0} (f : ℕ → List A) (from place : ℕ) (xs more ys : List A) → from ≤ place → xs ≡ flat_map f (range_with_len from (place - from)) → more ≡ f place → ys ≡ xs ++ more
+pub more_of : {A : Type 0} (f : ℕ → List A) (from place : ℕ) (xs more ys : List A) → from ≤ place
+    → xs ≡ flat_map f (range_with_len from (place - from)) → more ≡ f place → ys ≡ xs ++ more
     → ys ≡ flat_map f (range_with_len from (place + 1 - from))
 more_of f from place xs more ys behind before here is =
     let next : suc (place - from) ≡ place + 1 - from = omega arith in
@@ -32,10 +33,13 @@ more_of f from place xs more ys behind before here is =
     ∙ sym (flat_more f from (place - from)) ∙ ap (λ n. flat_map f (range_with_len from n)) next
 
 module _ (script : Script) (numbers : List ℕ) (seats : List Seat) (place : ℕ) (step : ScriptStep) (there : slice_get script.steps place ≡ Some step) where
-  pub gifts_here : (loads rooms : List ℕ) → loads ≡ loads_of seats (length script.rooms) → rooms ≡ script.rooms → gifts_by seats loads rooms (slice_index_or numbers place 0) step ≡ gifts_at script numbers seats place
+  pub gifts_here : (loads rooms : List ℕ) → loads ≡ seat_loads seats (length script.rooms) → rooms ≡ script.rooms
+      → gifts_by seats loads rooms (slice_index_or numbers place 0) step ≡ gifts_at script numbers seats place
   gifts_here loads rooms loads_are rooms_are =
       (λ i. gifts_by seats (loads_are i) (rooms_are i) (slice_index_or numbers place 0) step) ∙ sym (ap (gifts_of_step script numbers seats place) there)
 
-  pub tasks_here : (given : List Gift) → given ≡ gifts_at script numbers seats place → tasks_by place (slice_index_or numbers place 0) step given ≡ tasks_at script numbers seats place
+  pub tasks_here : (given : List Gift) → given ≡ gifts_at script numbers seats place
+      → tasks_by place (slice_index_or numbers place 0) step given ≡ tasks_at script numbers seats place
   tasks_here given is =
-      ap (tasks_by place (slice_index_or numbers place 0) step) (is ∙ ap (gifts_of_step script numbers seats place) there) ∙ sym (ap (tasks_of_step script numbers seats place) there)
+      ap (tasks_by place (slice_index_or numbers place 0) step) (is ∙ ap (gifts_of_step script numbers seats place) there)
+      ∙ sym (ap (tasks_of_step script numbers seats place) there)

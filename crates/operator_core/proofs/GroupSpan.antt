@@ -28,7 +28,8 @@ module _ (setup : Setup) where
     group_past_span = group_after_settle setup (from + len) settle ∙ ap (λ (k : ℕ). k + 1) (group_in_span (from + len) (omega arith) (omega arith))
 
     -- a step of the group, but for the one that ends it, is in the span
-    pub in_span : ((n : ℕ) → n < from → group_of setup n < group) → (n : ℕ) → group_of setup n ≡ group → slice_get setup.steps n ≢ Some SettleStep → (from ≤ n) × (n < from + len)
+    pub in_span : ((n : ℕ) → n < from → group_of setup n < group) → (n : ℕ) → group_of setup n ≡ group → slice_get setup.steps n ≢ Some SettleStep
+        → (from ≤ n) × (n < from + len)
     in_span before n is other = elim (cases_lt n from) [
       | inl early ↦ let less = before n early in absurd (omega (arith, less, is))
       | inr behind ↦ elim (cases_lt n (from + len)) [

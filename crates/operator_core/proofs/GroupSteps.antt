@@ -9,7 +9,7 @@ use Rattle.operator_core.specs.declared.grafts.Seat.{Seat}
 use Rattle.operator_core.specs.declared.groups.Task.{Task}
 use Rattle.operator_core.specs.declared.script.Script.{Script}
 use Rattle.operator_core.specs.Scripts.{step_for, IsScriptOf}
-use Rattle.operator_core.specs.Evacuate.{loads_of, gifts_to}
+use Rattle.operator_core.specs.Evacuate.{seat_loads, gifts_to}
 use Rattle.operator_core.specs.Tasks.{given_tasks}
 use Rattle.operator_core.specs.Groups as groups
 use Rattle.operator_core.specs.Groups.{AreNumbers}
@@ -17,7 +17,8 @@ use Rattle.operator_core.proofs.Steps.{step_at, as_many_routers, number_at}
 use Rattle.operator_core.proofs.Ready.{gifts_of, gifts_at, tasks_of, tasks_at, group_gifts, group_tasks}
 
 -- what agrees at each number of a range makes one list
-flat_alike : {A : Type 0} (f g : ℕ → List A) (from len : ℕ) → ((n : ℕ) → from ≤ n → n < from + len → f n ≡ g n) → flat_map f (range_with_len from len) ≡ flat_map g (range_with_len from len)
+flat_alike : {A : Type 0} (f g : ℕ → List A) (from len : ℕ) → ((n : ℕ) → from ≤ n → n < from + len → f n ≡ g n)
+    → flat_map f (range_with_len from len) ≡ flat_map g (range_with_len from len)
 flat_alike f g from zero same = refl
 flat_alike f g from (suc len) same =
     ap (λ xs. xs ++ flat_map f (range_with_len (from + 1) len)) (same from (omega arith) (omega arith))
@@ -27,17 +28,20 @@ module _ (setup : Setup) (script : Script) (is : IsScriptOf setup script) (numbe
   routers_are : length script.rooms ≡ routers_in setup
   routers_are = as_many_routers setup script is
 
-  to_alike : (one other router : ℕ) → one ≡ other → gifts_to one (record { 0 = router }) seats (loads_of seats (length script.rooms)) script.rooms ≡ gifts_to other (record { 0 = router }) seats (loads_of seats (routers_in setup)) (rooms_of setup)
-  to_alike one other router same = λ i. gifts_to (same i) (record { 0 = router }) seats (loads_of seats (routers_are i)) (is.rooms i)
+  to_alike : (one other router : ℕ) → one ≡ other
+      → gifts_to one (record { 0 = router }) seats (seat_loads seats (length script.rooms)) script.rooms ≡ gifts_to other (record { 0 = router }) seats (seat_loads seats (routers_in setup)) (rooms_of setup)
+  to_alike one other router same = λ i. gifts_to (same i) (record { 0 = router }) seats (seat_loads seats (routers_are i)) (is.rooms i)
 
-  gifts_by_step : (n : ℕ) → slice_index_or numbers n 0 ≡ grafts_before setup n + 1 → (o : Option StepOf) → groups.gifts_of_step script numbers seats n (option_map step_for o) ≡ gifts_of setup seats (grafts_before setup n + 1) o
+  gifts_by_step : (n : ℕ) → slice_index_or numbers n 0 ≡ grafts_before setup n + 1 → (o : Option StepOf)
+      → groups.gifts_of_step script numbers seats n (option_map step_for o) ≡ gifts_of setup seats (grafts_before setup n + 1) o
   gifts_by_step n number None = refl
   gifts_by_step n number (Some (SayStep p bytes)) = refl
   gifts_by_step n number (Some (MoveStep p target)) = refl
   gifts_by_step n number (Some (EvacuateStep router)) = to_alike (slice_index_or numbers n 0) (grafts_before setup n + 1) router number
   gifts_by_step n number (Some SettleStep) = refl
 
-  tasks_by_step : (n : ℕ) → slice_index_or numbers n 0 ≡ grafts_before setup n + 1 → (o : Option StepOf) → groups.tasks_of_step script numbers seats n (option_map step_for o) ≡ tasks_of setup seats n (grafts_before setup n + 1) o
+  tasks_by_step : (n : ℕ) → slice_index_or numbers n 0 ≡ grafts_before setup n + 1 → (o : Option StepOf)
+      → groups.tasks_of_step script numbers seats n (option_map step_for o) ≡ tasks_of setup seats n (grafts_before setup n + 1) o
   tasks_by_step n number None = refl
   tasks_by_step n number (Some (SayStep p bytes)) = refl
   tasks_by_step n number (Some (MoveStep p target)) = ap (λ k. let task : Task = record { step = n; graft = k; issued = false } in task ∷ []) number

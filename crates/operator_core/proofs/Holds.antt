@@ -7,8 +7,8 @@ use Rattle.graft_model.specs.Setups.{Setup, ScriptStep, SettleStep, is_settle, g
 use Rattle.operator_core.specs.declared.progress.Progress.{Progress}
 use Rattle.operator_core.specs.declared.script.ScriptStep.TheVariants.{Settle}
 use Rattle.operator_core.specs.Slots.{first_open}
-use Rattle.operator_core.specs.States.{State, part_of}
-use Rattle.operator_core.specs.Keeps.{Keeps}
+use Rattle.operator_core.specs.States.{State, part_of_state}
+use Rattle.operator_core.specs.Keeps.{OperatorInvariant}
 use Rattle.operator_core.specs.Turns.{IsHeldUp}
 use Rattle.operator_core.specs.Progresses.{IsKnown}
 use Rattle.operator_core.proofs.Lists.{compare}
@@ -21,32 +21,34 @@ pub group_of_all : (setup : Setup) → group_of setup (length setup.steps) ≡ g
 group_of_all setup = ap (λ (xs : List ScriptStep). length (filter is_settle xs)) (take-length setup.steps)
 
 -- the script has a last step, which ends a group
-pub last_settle : (p : Progress) → IsKnown p → (0 < length p.known.setup.steps) × (slice_get p.known.setup.steps (length p.known.setup.steps - 1) ≡ Some SettleStep)
+pub last_settle : (p : Progress) → IsKnown p
+    → (0 < length p.known.setup.steps) × (slice_get p.known.setup.steps (length p.known.setup.steps - 1) ≡ Some SettleStep)
 last_settle p known =
     let e : length p.script.steps ≡ length p.known.setup.steps = as_many_steps p.known.setup p.script known.script in
     let l : length p.script.steps - 1 < length p.script.steps = slice_get_within p.script.steps (length p.script.steps - 1) Settle known.ended in
     let settles : slice_get p.known.setup.steps (length p.script.steps - 1) ≡ Some SettleStep = settle_there p.known.setup p.script known.script (length p.script.steps - 1) known.ended in
     (omega (arith, e, l), ap (λ n. slice_get p.known.setup.steps (n - 1)) (sym e) ∙ settles)
 
-module _ (s : State) (keeps : Keeps s) where
-  pub held_by_tasks : s.waiting ≢ [] → IsHeldUp s.setup (part_of s)
+module _ (s : State) (keeps : OperatorInvariant s) where
+  pub held_by_tasks : s.waiting ≢ [] → IsHeldUp s.setup (part_of_state s)
   held_by_tasks some = inl (unissued_there s keeps some)
 
-  pub held_by_graft : (o : Option ℕ) → o ≡ first_open s.slots → is_some o ≡ true → IsHeldUp s.setup (part_of s)
+  pub held_by_graft : (o : Option ℕ) → o ≡ first_open s.slots → is_some o ≡ true → IsHeldUp s.setup (part_of_state s)
   held_by_graft None is some = absurd cc
   held_by_graft (Some k) is some =
       let r : IsFirstOpen s.slots k = first_is_open s.slots k (sym is) in
       inr (inl (r.place + 1, open_there s keeps r.place r.entry r.there r.open_is))
 
-  pub held_at_end : s.next ≡ length s.setup.steps → IsHeldUp s.setup (part_of s)
+  pub held_at_end : s.next ≡ length s.setup.steps → IsHeldUp s.setup (part_of_state s)
   held_at_end e =
       let begins = keeps.ends.begins in
       let all : group_of s.setup s.next ≡ groups_in s.setup = ap (group_of s.setup) e ∙ group_of_all s.setup in
       inr (inr (omega (arith, begins, all)))
 
   -- where no task waits and no graft is open, only the end of the script holds the operator up
-  pub only_the_end : s.waiting ≡ [] → (o : Option ℕ) → o ≡ first_open s.slots → is_some o ≡ false → 0 < length s.setup.steps → slice_get s.setup.steps (length s.setup.steps - 1) ≡ Some SettleStep
-      → IsHeldUp s.setup (part_of s) → s.next ≡ length s.setup.steps
+  pub only_the_end : s.waiting ≡ [] → (o : Option ℕ) → o ≡ first_open s.slots → is_some o ≡ false → 0 < length s.setup.steps
+      → slice_get s.setup.steps (length s.setup.steps - 1) ≡ Some SettleStep
+      → IsHeldUp s.setup (part_of_state s) → s.next ≡ length s.setup.steps
   only_the_end none_waits (Some k) is none some ended held = absurd cc
   only_the_end none_waits None is none some ended (inl u) = absurd (some_unissued s keeps u none_waits)
   only_the_end none_waits None is none some ended (inr (inl (k, o))) =

@@ -19,9 +19,9 @@ use Rattle.operator_core.specs.declared.groups.Task.{Task}
 use Rattle.operator_core.specs.Grafts.{is_waiting, outcome_at}
 use Rattle.operator_core.specs.Slots.{slot_at, move_of, source_in, outcome_in, given_in}
 use Rattle.operator_core.specs.Tasks.{is_task, has_task}
-use Rattle.operator_core.specs.States.{State, is_say, issued_in, part_of}
-use Rattle.operator_core.specs.Keeps.{Precedes, Rises, IsGraftTask, Waits, IsMade, IsSlot, slot_waits, InTurn, SlotsStand, IsSeat, SeatsStand, Keeps, with_slots}
-use Rattle.operator_core.specs.Issues.{IsHeld, waiting_are, issued_entry, moving_seat, graft_issued}
+use Rattle.operator_core.specs.States.{State, is_say, issued_in, part_of_state}
+use Rattle.operator_core.specs.Keeps.{Precedes, Rises, IsGraftTask, IsWaitingTask, IsMade, IsSlot, slot_waits, InTurn, SlotsStand, IsSeat, SeatsStand, OperatorInvariant, with_slots}
+use Rattle.operator_core.specs.Issues.{IsGraftHeldUp, waiting_are, issued_entry, moving_seat, graft_issued}
 use Rattle.operator_core.proofs.Lists.{by_test, compare, get_set_same, get_set_other, length_set, there_is, one_member, all_append, all_append_left, all_append_right, one_passes, any_about, any_here, any_without}
 use Rattle.operator_core.proofs.TaskOrder.{task_names, is_that_task, is_other_step, is_other_graft, follow, precede, once_in, rises_without}
 use Rattle.operator_core.proofs.SlotLaws.{slot_next, source_set, outcome_stays, given_stays, graft_there, number, own_source, own_outcome, own_target, IsOwned, owner, slot_there, same_entry, waiting_has_no_outcome, ordered_has_ended}
@@ -44,11 +44,12 @@ waits_unissued s m e = elim (by_test (is_say (slice_get s.setup.steps m) && nat_
 ]
 
 -- a task that is held up has a graft
-pub held_has_graft : (s : State) (task : Task) → IsHeld s task → task.graft ≢ 0
+pub held_has_graft : (s : State) (task : Task) → IsGraftHeldUp s task → task.graft ≢ 0
 held_has_graft s task h zero_is = let e : None ≡ Some (Made h.entry) = sym (ap (slot_at s.slots) zero_is) ∙ h.is in cc
 
 -- a task with a graft is for one of its step
-pub waits_for_graft : (s : State) (keeps : Keeps s) (task : Task) → Waits s.setup s.group s.next task → task.graft ≢ 0 → IsGraftTask s.setup task
+pub waits_for_graft : (s : State) (keeps : OperatorInvariant s) (task : Task) → IsWaitingTask s.setup s.group s.next task → task.graft ≢ 0
+    → IsGraftTask s.setup task
 waits_for_graft s keeps task w some = by_step found.0 found.1
   where
     found : (step : ScriptStep) × (slice_get s.setup.steps task.step ≡ Some step)
@@ -60,25 +61,26 @@ waits_for_graft s keeps task w some = by_step found.0 found.1
     by_step (EvacuateStep router) e = w.evacuates router e
     by_step SettleStep e = absurd (w.issuable e)
 
-module _ (s : State) (keeps : Keeps s) (kept rest : List Task) (task : Task) (waiting : s.waiting ≡ kept ++ task ∷ rest) (held : AllByRecursion (IsHeld s) kept) where
+module _ (s : State) (keeps : OperatorInvariant s) (kept rest : List Task) (task : Task) (waiting : s.waiting ≡ kept ++ task ∷ rest) (held : AllByRecursion (IsGraftHeldUp s) kept) where
   rising : Rises (kept ++ task ∷ rest)
   rising = subst Rises waiting keeps.rising
 
-  all_wait : AllByRecursion (Waits s.setup s.group s.next) (kept ++ task ∷ rest)
-  all_wait = subst (λ tasks. AllByRecursion (Waits s.setup s.group s.next) tasks) waiting keeps.waiting
+  all_wait : AllByRecursion (IsWaitingTask s.setup s.group s.next) (kept ++ task ∷ rest)
+  all_wait = subst (λ tasks. AllByRecursion (IsWaitingTask s.setup s.group s.next) tasks) waiting keeps.waiting
 
-  pub waits : Waits s.setup s.group s.next task
-  waits = (all_append_right (Waits s.setup s.group s.next) kept (task ∷ rest) all_wait).0
+  pub waits : IsWaitingTask s.setup s.group s.next task
+  waits = (all_append_right (IsWaitingTask s.setup s.group s.next) kept (task ∷ rest) all_wait).0
 
-  others_wait : AllByRecursion (Waits s.setup s.group s.next) (kept ++ rest)
-  others_wait = all_append (Waits s.setup s.group s.next) kept rest (all_append_left (Waits s.setup s.group s.next) kept (task ∷ rest) all_wait) (all_append_right (Waits s.setup s.group s.next) kept (task ∷ rest) all_wait).1
+  others_wait : AllByRecursion (IsWaitingTask s.setup s.group s.next) (kept ++ rest)
+  others_wait = all_append (IsWaitingTask s.setup s.group s.next) kept rest (all_append_left (IsWaitingTask s.setup s.group s.next) kept (task ∷ rest) all_wait) (all_append_right (IsWaitingTask s.setup s.group s.next) kept (task ∷ rest) all_wait).1
 
   others_rise : Rises (kept ++ rest)
   others_rise = rises_without kept task rest rising
 
   -- the task is there, and then it isn't
   pub task_waits : has_task s.waiting task.step task.graft ≡ true
-  task_waits = ap (λ tasks. has_task tasks task.step task.graft) waiting ∙ any_here (is_task task.step task.graft) kept task rest (is_that_task task.step task.graft task refl refl)
+  task_waits = ap (λ tasks. has_task tasks task.step task.graft) waiting
+      ∙ any_here (is_task task.step task.graft) kept task rest (is_that_task task.step task.graft task refl refl)
 
   task_is_out : has_task (kept ++ rest) task.step task.graft ≡ false
   task_is_out = once_in kept task rest rising
@@ -88,9 +90,10 @@ module _ (s : State) (keeps : Keeps s) (kept rest : List Task) (task : Task) (wa
   other_stays n k e = sym (any_without (is_task n k) kept task rest e) ∙ ap (λ tasks. has_task tasks n k) (sym waiting)
 
   -- a task that waits is held up, is this one, or stands behind it
-  about : (n k : ℕ) → has_task s.waiting n k ≡ true → ((other : Task) × (is_task n k other ≡ true) × IsHeld s other) ⊎ ((is_task n k task ≡ true) ⊎ ((other : Task) × (is_task n k other ≡ true) × Precedes task other))
+  about : (n k : ℕ) → has_task s.waiting n k ≡ true
+      → ((other : Task) × (is_task n k other ≡ true) × IsGraftHeldUp s other) ⊎ ((is_task n k task ≡ true) ⊎ ((other : Task) × (is_task n k other ≡ true) × Precedes task other))
   about n k e = elim (any_about (is_task n k) kept task rest (ap (λ tasks. has_task tasks n k) (sym waiting) ∙ e)) [
-    | inl before ↦ inl (one_passes (is_task n k) (IsHeld s) kept held before)
+    | inl before ↦ inl (one_passes (is_task n k) (IsGraftHeldUp s) kept held before)
     | inr (inl here) ↦ inr (inl here)
     | inr (inr behind) ↦ inr (inr (one_passes (is_task n k) (Precedes task) rest (follow kept task rest rising) behind))
   ]
@@ -135,7 +138,7 @@ module _ (s : State) (keeps : Keeps s) (kept rest : List Task) (task : Task) (wa
           ∙ sym (ap (λ b. if b then true else issued_in s m) e)
     ]
 
-    pub say_keeps : Keeps (waiting_are s (kept ++ rest))
+    pub say_keeps : OperatorInvariant (waiting_are s (kept ++ rest))
     say_keeps = record {
       sound = keeps.sound;
       ends = keeps.ends;
@@ -145,7 +148,7 @@ module _ (s : State) (keeps : Keeps s) (kept rest : List Task) (task : Task) (wa
       seats = keeps.seats;
     }
 
-    pub say_row : OrdersSay s.setup task.step 0 (part_of s) None (SayTo p task.step ∷ []) (part_of (waiting_are s (kept ++ rest)))
+    pub say_row : OrdersSay s.setup task.step 0 (part_of_state s) None (SayTo p task.step ∷ []) (part_of_state (waiting_are s (kept ++ rest)))
     say_row = record {
       alone = refl;
       group = waits.group_is;
@@ -165,7 +168,7 @@ module _ (s : State) (keeps : Keeps s) (kept rest : List Task) (task : Task) (wa
       ];
       takes = refl;
       sends = refl;
-      effect = ap (λ (f : ℕ → Bool). record (part_of s) { issued = f }) (λ i m. say_issued m i);
+      effect = ap (λ (f : ℕ → Bool). record (part_of_state s) { issued = f }) (λ i m. say_issued m i);
     }
 
   -- ---- a graft
@@ -175,11 +178,13 @@ module _ (s : State) (keeps : Keeps s) (kept rest : List Task) (task : Task) (wa
   made_there of_step = by_graft (graft_at s.setup task.graft) refl
     where
       by_slot : (i : ℕ) (g : ScriptGraft) → task.graft ≡ i + 1 → slice_get (grafts_in s.setup) i ≡ Some g → g.step ≡ task.step
-          → (slot : Slot) × (slice_get s.slots i ≡ Some slot) × IsSlot s.setup s.group s.waiting g slot → (moves : Move) × (move_of (slot_at s.slots task.graft) ≡ Some moves)
+          → (slot : Slot) × (slice_get s.slots i ≡ Some slot) × IsSlot s.setup s.group s.waiting g slot
+          → (moves : Move) × (move_of (slot_at s.slots task.graft) ≡ Some moves)
       by_slot i g is at_place step (slot, e, stands) = by_kind slot (ap (slot_at s.slots) is ∙ slot_next s.slots i ∙ e) (stands.now (ap (group_of s.setup) step ∙ waits.group_is)
           ∙ ap (has_task s.waiting g.step) (number s.setup s.slots i g at_place ∙ sym is) ∙ ap (λ n. has_task s.waiting n task.graft) step ∙ task_waits)
         where
-          by_kind : (slot : Slot) → slot_at s.slots task.graft ≡ Some slot → slot_waits slot ≡ true → (moves : Move) × (move_of (slot_at s.slots task.graft) ≡ Some moves)
+          by_kind : (slot : Slot) → slot_at s.slots task.graft ≡ Some slot → slot_waits slot ≡ true
+              → (moves : Move) × (move_of (slot_at s.slots task.graft) ≡ Some moves)
           by_kind Unmade f w = absurd cc
           by_kind (Stays k p router) f w = absurd cc
           by_kind (Made entry) f w = (record { peering = entry.peering; target = entry.target }, ap move_of f)
@@ -233,7 +238,8 @@ module _ (s : State) (keeps : Keeps s) (kept rest : List Task) (task : Task) (wa
     is_seat = keeps.seats.each entry.peering.0 seat seated
 
     -- the grafts of the peering before it have ended
-    earlier_ended : (i : ℕ) (one : GraftEntry) → i < place → slice_get s.slots i ≡ Some (Made one) → one.peering.0 ≡ entry.peering.0 → outcome_at one.stage ≢ None
+    earlier_ended : (i : ℕ) (one : GraftEntry) → i < place → slice_get s.slots i ≡ Some (Made one) → one.peering.0 ≡ entry.peering.0
+        → outcome_at one.stage ≢ None
     earlier_ended i one l e of_p = by_group (compare (group_of s.setup h.graft.step) s.group)
       where
         h : IsOwned s.setup s.group s.waiting i (Made one)
@@ -265,7 +271,8 @@ module _ (s : State) (keeps : Keeps s) (kept rest : List Task) (task : Task) (wa
               absurd (omega arith)
         ]
 
-        by_group : (group_of s.setup h.graft.step < s.group) ⊎ ((group_of s.setup h.graft.step ≡ s.group) ⊎ (s.group < group_of s.setup h.graft.step)) → outcome_at one.stage ≢ None
+        by_group : (group_of s.setup h.graft.step < s.group) ⊎ ((group_of s.setup h.graft.step ≡ s.group) ⊎ (s.group < group_of s.setup h.graft.step))
+            → outcome_at one.stage ≢ None
         by_group (inl less) = h.is.past less one refl
         by_group (inr (inl same)) = elim (by_test (is_waiting one.stage)) [
           | inl w ↦ absurd (no_task (sym (h.is.now same) ∙ w))
@@ -284,14 +291,16 @@ module _ (s : State) (keeps : Keeps s) (kept rest : List Task) (task : Task) (wa
     at_other i ne = get_set_other s.slots place i (Made new_entry) ne
 
     -- a slot is the new one, or one that stood there
-    which : (i : ℕ) (slot : Slot) → slice_get after.slots i ≡ Some slot → ((i ≡ place) × (slot ≡ Made new_entry)) ⊎ ((i ≢ place) × (slice_get s.slots i ≡ Some slot))
+    which : (i : ℕ) (slot : Slot) → slice_get after.slots i ≡ Some slot
+        → ((i ≡ place) × (slot ≡ Made new_entry)) ⊎ ((i ≢ place) × (slice_get s.slots i ≡ Some slot))
     which i slot e = elim (by_test (i == place)) [
       | inl f ↦ let is : i ≡ place = grind (arith, nat_tests) in inl (is, one_member (slice_get after.slots place) _ _ (sym (ap (slice_get after.slots) is) ∙ e) at_new)
       | inr f ↦ let ne : i ≢ place = λ same. grind (arith, nat_tests) in inr (ne, sym (at_other i ne) ∙ e)
     ]
 
     -- the same of entries
-    which_entry : (i : ℕ) (one : GraftEntry) → slice_get after.slots i ≡ Some (Made one) → ((i ≡ place) × (one ≡ new_entry)) ⊎ ((i ≢ place) × (slice_get s.slots i ≡ Some (Made one)))
+    which_entry : (i : ℕ) (one : GraftEntry) → slice_get after.slots i ≡ Some (Made one)
+        → ((i ≡ place) × (one ≡ new_entry)) ⊎ ((i ≢ place) × (slice_get s.slots i ≡ Some (Made one)))
     which_entry i one e = elim (which i (Made one) e) [ inl (is, new) ↦ inl (is, same_entry one new_entry (ap Some new)) | inr other ↦ inr other ]
 
     same_outcomes : outcome_in after.slots ≡ outcome_in s.slots
@@ -320,7 +329,8 @@ module _ (s : State) (keeps : Keeps s) (kept rest : List Task) (task : Task) (wa
       in_turn = in_turn;
     }
       where
-        each : (i : ℕ) (x : ScriptGraft) (slot : Slot) → slice_get (grafts_in s.setup) i ≡ Some x → slice_get after.slots i ≡ Some slot → IsSlot s.setup s.group (kept ++ rest) x slot
+        each : (i : ℕ) (x : ScriptGraft) (slot : Slot) → slice_get (grafts_in s.setup) i ≡ Some x → slice_get after.slots i ≡ Some slot
+            → IsSlot s.setup s.group (kept ++ rest) x slot
         each i x slot at_place e = elim (which i slot e) [
           | inl (is, new) ↦
               let same : g ≡ x = one_member (slice_get (grafts_in s.setup) place) _ _ own.place (sym (ap (slice_get (grafts_in s.setup)) is) ∙ at_place) in
@@ -392,11 +402,12 @@ module _ (s : State) (keeps : Keeps s) (kept rest : List Task) (task : Task) (wa
           );
         }
 
-    pub graft_keeps : Keeps after
+    pub graft_keeps : OperatorInvariant after
     graft_keeps = record { sound = keeps.sound; ends = keeps.ends; waiting = others_wait; rising = others_rise; slots = slots_stand; seats = seats_stand }
 
     -- a graft that is made and stands before it has ended
-    earlier : (other : ScriptGraft) → graft_at s.setup other.graft ≡ Some other → other.peering ≡ g.peering → other.graft < g.graft → target_in s.setup (part_of s) other ≢ None → outcome_in s.slots other.graft ≢ None
+    earlier : (other : ScriptGraft) → graft_at s.setup other.graft ≡ Some other → other.peering ≡ g.peering → other.graft < g.graft
+        → target_in s.setup (part_of_state s) other ≢ None → outcome_in s.slots other.graft ≢ None
     earlier other other_known of_p l made none = by_slot (slot_there s.setup s.group s.waiting s.slots keeps.slots at_i.0 other at_i.2)
       where
         at_i : (i : ℕ) × (other.graft ≡ i + 1) × (slice_get (grafts_in s.setup) i ≡ Some other)
@@ -409,7 +420,7 @@ module _ (s : State) (keeps : Keeps s) (kept rest : List Task) (task : Task) (wa
             ((is.fits.made one refl).peering ∙ of_p ∙ sym names.peering) (sym (own_outcome s.setup s.slots at_i.0 other at_i.2 one e) ∙ none)
 
     pub graft_row : (number : ℕ) → number ≡ number_by (slice_get s.setup.steps task.step) task.graft
-        → OrdersGraft s.setup task.step number (part_of s) None (OrderTo seat.place.0 (record { graft = task.graft; peering = entry.peering.0; target = entry.target.0 }) ∷ []) (part_of after)
+        → OrdersGraft s.setup task.step number (part_of_state s) None (OrderTo seat.place.0 (record { graft = task.graft; peering = entry.peering.0; target = entry.target.0 }) ∷ []) (part_of_state after)
     graft_row noted named = record {
       graft = g;
       known = known;
@@ -426,10 +437,10 @@ module _ (s : State) (keeps : Keeps s) (kept rest : List Task) (task : Task) (wa
       effect = λ i. record { group = s.group; issued = issued_is i; given = same_given i; source = sources i; outcome = same_outcomes i };
     }
       where
-        places : seat.place.0 ≡ placement s.setup (part_of s) g.peering
+        places : seat.place.0 ≡ placement s.setup (part_of_state s) g.peering
         places = is_seat.place ∙ ap (placement s.setup (with_slots s.setup s.slots)) names.peering
 
-        sources : source_in after.slots ≡ at (source_in s.slots) g.graft (Some (placement s.setup (part_of s) g.peering))
+        sources : source_in after.slots ≡ at (source_in s.slots) g.graft (Some (placement s.setup (part_of_state s) g.peering))
         sources = source_set s.slots place new_entry place_within ∙ (λ i. at (source_in s.slots) (sym number_is i) (Some (places i)))
 
         issued_is : issued_in after ≡ issued_in s
@@ -437,7 +448,7 @@ module _ (s : State) (keeps : Keeps s) (kept rest : List Task) (task : Task) (wa
             (other_stays m 0 (is_other_graft m 0 task (λ zero_is. let e : place + 1 ≡ task.graft = is_place in omega arith))) i
 
     -- what is held up stays so
-    pub held_still : (other : Task) → other.graft ≢ task.graft → IsHeld s other → IsHeld after other
+    pub held_still : (other : Task) → other.graft ≢ task.graft → IsGraftHeldUp s other → IsGraftHeldUp after other
     held_still other differs h = record {
       entry = h.entry;
       is = by_number other.graft refl;
@@ -453,10 +464,10 @@ module _ (s : State) (keeps : Keeps s) (kept rest : List Task) (task : Task) (wa
         by_number (suc k) e = ap (slot_at after.slots) e ∙ at_other k (λ same. differs (omega (arith, e, same, is_place))) ∙ sym (ap (slot_at s.slots) e) ∙ h.is
 
     -- the tasks before this one are of other grafts
-    pub held_others : AllByRecursion (IsHeld after) kept
-    held_others = each kept held (all_append_left (Waits s.setup s.group s.next) kept (task ∷ rest) all_wait) (precede kept task rest rising)
+    pub held_others : AllByRecursion (IsGraftHeldUp after) kept
+    held_others = each kept held (all_append_left (IsWaitingTask s.setup s.group s.next) kept (task ∷ rest) all_wait) (precede kept task rest rising)
       where
-        differs : (other : Task) → IsHeld s other → Waits s.setup s.group s.next other → Precedes other task → other.graft ≢ task.graft
+        differs : (other : Task) → IsGraftHeldUp s other → IsWaitingTask s.setup s.group s.next other → Precedes other task → other.graft ≢ task.graft
         differs other h w before same =
             let its_step : option_map (λ (x : ScriptGraft). x.step) (graft_at s.setup other.graft) ≡ Some other.step = waits_for_graft s keeps other w (held_has_graft s other h) in
             let steps : Some other.step ≡ Some task.step = sym its_step ∙ ap (λ k. option_map (λ (x : ScriptGraft). x.step) (graft_at s.setup k)) same ∙ of_step in
@@ -464,6 +475,7 @@ module _ (s : State) (keeps : Keeps s) (kept rest : List Task) (task : Task) (wa
             let l : other.graft < task.graft = before.graft step in
             absurd (omega arith)
 
-        each : (tasks : List Task) → AllByRecursion (IsHeld s) tasks → AllByRecursion (Waits s.setup s.group s.next) tasks → AllByRecursion (λ t. Precedes t task) tasks → AllByRecursion (IsHeld after) tasks
+        each : (tasks : List Task) → AllByRecursion (IsGraftHeldUp s) tasks → AllByRecursion (IsWaitingTask s.setup s.group s.next) tasks
+            → AllByRecursion (λ t. Precedes t task) tasks → AllByRecursion (IsGraftHeldUp after) tasks
         each [] helds all befores = tt
         each (t ∷ tasks) helds all befores = (held_still t (differs t helds.0 all.0 befores.0) helds.0, each tasks helds.1 all.1 befores.1)

@@ -80,7 +80,8 @@ module _ {A : Type 0} where
     none_passes (x ∷ xs) all = ap (λ b. b || list_any test xs) all.0 ∙ none_passes xs all.1
 
     -- one that passes, of a list with a member in its midst, stands before it, is it, or stands after it
-    pub any_about : (xs : List A) (x : A) (ys : List A) → list_any test (xs ++ x ∷ ys) ≡ true → (list_any test xs ≡ true) ⊎ ((test x ≡ true) ⊎ (list_any test ys ≡ true))
+    pub any_about : (xs : List A) (x : A) (ys : List A) → list_any test (xs ++ x ∷ ys) ≡ true
+        → (list_any test xs ≡ true) ⊎ ((test x ≡ true) ⊎ (list_any test ys ≡ true))
     any_about [] x ys e = elim (by_test (test x)) [ inl f ↦ inr (inl f) | inr f ↦ inr (inr (sym (ap (λ b. b || list_any test ys) f) ∙ e)) ]
     any_about (z ∷ xs) x ys e = elim (by_test (test z)) [
       | inl f ↦ inl (ap (λ b. b || list_any test xs) f)

@@ -16,10 +16,10 @@ use Rattle.operator_core.specs.declared.groups.Task.{Task}
 use Rattle.operator_core.specs.Grafts.{is_waiting, is_open}
 use Rattle.operator_core.specs.Slots.{given_of, given_in}
 use Rattle.operator_core.specs.Tasks.{is_task, has_task}
-use Rattle.operator_core.specs.States.{State, is_say, issued_in, part_of}
-use Rattle.operator_core.specs.Keeps.{Waits, IsOver, IsSlot, slot_waits, is_first, Keeps}
+use Rattle.operator_core.specs.States.{State, is_say, issued_in, part_of_state}
+use Rattle.operator_core.specs.Keeps.{IsWaitingTask, IsSlotOver, IsSlot, slot_waits, is_first, OperatorInvariant}
 use Rattle.operator_core.specs.Turns.{IsHeldUp}
-use Rattle.operator_core.specs.Progresses.{AreEmptied}
+use Rattle.operator_core.specs.Progresses.{GivesEmptiedSessions}
 use Rattle.operator_core.proofs.Lists.{by_test, compare, one_passes}
 use Rattle.operator_core.proofs.TaskOrder.{task_names}
 use Rattle.operator_core.proofs.SlotLaws.{own_given, slot_there, ordered_has_ended}
@@ -33,7 +33,7 @@ few_settles steps = omega (arith, length-filter is_settle steps, count_by-le-len
 
 -- ---- what is done where nothing holds the operator up
 
-module _ (s : State) (keeps : Keeps s) (free : IsHeldUp s.setup (part_of s) → ⊥) where
+module _ (s : State) (keeps : OperatorInvariant s) (free : IsHeldUp s.setup (part_of_state s) → ⊥) where
   pub nothing_waits : s.waiting ≡ []
   nothing_waits = none_there s.waiting (λ ne. free (inl (unissued_there s keeps ne)))
     where
@@ -58,12 +58,14 @@ module _ (s : State) (keeps : Keeps s) (free : IsHeldUp s.setup (part_of s) → 
   group_is_small = let m : s.group + 1 < groups_in s.setup = more_groups in let f : groups_in s.setup ≤ length s.setup.steps = few_settles s.setup.steps in omega arith
 
   -- each graft of the group at work is over
-  now_over : (i : ℕ) (g : ScriptGraft) (slot : Slot) → slice_get s.slots i ≡ Some slot → IsSlot s.setup s.group s.waiting g slot → group_of s.setup g.step ≡ s.group → IsOver slot
+  now_over : (i : ℕ) (g : ScriptGraft) (slot : Slot) → slice_get s.slots i ≡ Some slot → IsSlot s.setup s.group s.waiting g slot
+      → group_of s.setup g.step ≡ s.group → IsSlotOver slot
   now_over i g slot e is now entry made =
       let waits : is_waiting entry.stage ≡ false = sym (ap slot_waits made) ∙ is.now now ∙ ap (λ tasks. has_task tasks g.step g.graft) nothing_waits in
       ordered_has_ended entry.stage waits (nothing_open i entry (e ∙ ap Some made))
 
-  ready_slot : (i : ℕ) (g : ScriptGraft) (slot : Slot) → slice_get s.slots i ≡ Some slot → IsSlot s.setup s.group s.waiting g slot → IsReadySlot s.setup (s.group + 1) g slot
+  ready_slot : (i : ℕ) (g : ScriptGraft) (slot : Slot) → slice_get s.slots i ≡ Some slot → IsSlot s.setup s.group s.waiting g slot
+      → IsReadySlot s.setup (s.group + 1) g slot
   ready_slot i g slot e is = record {
     fits = is.fits;
     past = λ less. elim (compare (group_of s.setup g.step) s.group) [
@@ -91,7 +93,7 @@ module _ (s : State) (keeps : Keeps s) (free : IsHeldUp s.setup (part_of s) → 
     abbrev pub next_state : State
     next_state = begun s.setup (s.group + 1) s.next len s.slots s.seats ready
 
-    pub next_keeps : Keeps next_state
+    pub next_keeps : OperatorInvariant next_state
     next_keeps = begun_keeps s.setup (s.group + 1) s.next len s.slots s.seats ready
 
     abbrev tasks : List Task
@@ -113,16 +115,18 @@ module _ (s : State) (keeps : Keeps s) (free : IsHeldUp s.setup (part_of s) → 
         no_task : m < s.next → has_task tasks m 0 ≡ false
         no_task l = elim (by_test (has_task tasks m 0)) [
           | inl e ↦
-              let found = one_passes (is_task m 0) (Waits s.setup (s.group + 1) (s.next + len + 1)) tasks next_keeps.waiting e in
+              let found = one_passes (is_task m 0) (IsWaitingTask s.setup (s.group + 1) (s.next + len + 1)) tasks next_keeps.waiting e in
               let group : group_of s.setup m ≡ s.group + 1 = ap (group_of s.setup) (sym (task_names m 0 found.0 found.1).0) ∙ found.2.group_is in
               let h : group_of s.setup m ≤ s.group = keeps.ends.before m l in
               absurd (omega arith)
           | inr e ↦ e
         ]
 
-        known : (b c d : Bool) → is_say (slice_get s.setup.steps m) ≡ true → nat_lt m (s.next + len + 1) ≡ b → has_task tasks m 0 ≡ c → nat_lt m s.next ≡ d → (b && not c) ≡ (d && true) → issued_in next_state m ≡ issued_in s m
+        known : (b c d : Bool) → is_say (slice_get s.setup.steps m) ≡ true → nat_lt m (s.next + len + 1) ≡ b → has_task tasks m 0 ≡ c
+            → nat_lt m s.next ≡ d → (b && not c) ≡ (d && true) → issued_in next_state m ≡ issued_in s m
         known b c d say e f g same =
-            ap (λ x. x && nat_lt m (s.next + len + 1) && not (has_task tasks m 0)) say ∙ ap (λ x. true && x && not (has_task tasks m 0)) e ∙ ap (λ x. true && b && not x) f
+            ap (λ x. x && nat_lt m (s.next + len + 1) && not (has_task tasks m 0)) say ∙ ap (λ x. true && x && not (has_task tasks m 0)) e
+            ∙ ap (λ x. true && b && not x) f
             ∙ same
             ∙ sym (ap (λ x. x && nat_lt m s.next && not (has_task s.waiting m 0)) say ∙ ap (λ x. true && x && not (has_task s.waiting m 0)) g ∙ ap (λ x. true && d && not x) none_waits)
 
@@ -142,7 +146,7 @@ module _ (s : State) (keeps : Keeps s) (free : IsHeldUp s.setup (part_of s) → 
               ]
         ]
 
-    pub next_row : BeginsGroup s.setup (part_of s) None [] (part_of next_state)
+    pub next_row : BeginsGroup s.setup (part_of_state s) None [] (part_of_state next_state)
     next_row = record {
       further = more_groups;
       takes = refl;
@@ -157,7 +161,7 @@ module _ (s : State) (keeps : Keeps s) (free : IsHeldUp s.setup (part_of s) → 
     }
 
     -- what was given to the grafts of the group is what its evacuate steps give
-    pub next_emptied : AreEmptied s.setup (part_of s) (part_of next_state)
+    pub next_emptied : GivesEmptiedSessions s.setup (part_of_state s) (part_of_state next_state)
     next_emptied g router known_g step group =
         begun_given s.setup (s.group + 1) s.next len s.slots s.seats ready g.graft
         ∙ ap (λ o. gift_or (gift_in_group s.setup (s.group + 1) placed o) (given_in s.setup s.slots g.graft)) known_g
@@ -167,7 +171,7 @@ module _ (s : State) (keeps : Keeps s) (free : IsHeldUp s.setup (part_of s) → 
         ∙ or_none (gift_to s.setup placed router g.peering)
       where
         placed : ℕ → ℕ
-        placed = placement s.setup (part_of s)
+        placed = placement s.setup (part_of_state s)
 
         of_group : (group_of s.setup g.step == s.group + 1) ≡ true
         of_group = grind (arith, nat_tests)

@@ -17,14 +17,14 @@ use Rattle.operator_core.specs.declared.grafts.Slot.{Slot}
 use Rattle.operator_core.specs.declared.grafts.Slot.TheVariants.{Unmade, Stays, Made}
 use Rattle.operator_core.specs.Grafts.{is_waiting, is_open, outcome_at}
 use Rattle.operator_core.specs.Slots.{outcome_of, source_in, outcome_in, given_in}
-use Rattle.operator_core.specs.States.{State, issued_in, part_of}
-use Rattle.operator_core.specs.Keeps.{IsMade, IsSlot, is_first, InTurn, SlotsStand, NoneIsOpen, IsSeat, SeatsStand, Keeps, with_slots}
+use Rattle.operator_core.specs.States.{State, issued_in, part_of_state}
+use Rattle.operator_core.specs.Keeps.{IsMade, IsSlot, is_first, InTurn, SlotsStand, NoneIsOpen, IsSeat, SeatsStand, OperatorInvariant, with_slots}
 use Rattle.operator_core.specs.Notes.{ended_entry, place_after, still_seat, graft_noted}
 use Rattle.operator_core.proofs.Lists.{by_test, compare, get_set_same, get_set_other, length_set, one_member}
 use Rattle.operator_core.proofs.SlotLaws.{source_is, outcome_is, outcome_set, source_stays, given_stays, number, own_slot, own_outcome, own_target, IsOwned, owner, slot_there, same_entry, open_is_not_waiting, open_has_no_outcome, waiting_has_no_outcome}
 use Rattle.operator_core.proofs.Placed.{placed_at, placed_alike}
 
-module _ (s : State) (keeps : Keeps s) (k : ℕ) (old : GraftEntry) (old_is : slice_get s.slots k ≡ Some (Made old)) (open_is : is_open old.stage ≡ true) (outcome : Outcome)
+module _ (s : State) (keeps : OperatorInvariant s) (k : ℕ) (old : GraftEntry) (old_is : slice_get s.slots k ≡ Some (Made old)) (open_is : is_open old.stage ≡ true) (outcome : Outcome)
     (seat : Seat) (seated : slice_get s.seats old.peering.0 ≡ Some seat) where
   abbrev after : State
   after = graft_noted s k old outcome seat
@@ -53,7 +53,8 @@ module _ (s : State) (keeps : Keeps s) (k : ℕ) (old : GraftEntry) (old_is : sl
     | inr f ↦ let g : i ≢ k = λ same. grind (arith, nat_tests) in inr (g, sym (at_other i g) ∙ e)
   ]
 
-  which_entry : (i : ℕ) (one : GraftEntry) → slice_get after.slots i ≡ Some (Made one) → ((i ≡ k) × (one ≡ new_entry)) ⊎ ((i ≢ k) × (slice_get s.slots i ≡ Some (Made one)))
+  which_entry : (i : ℕ) (one : GraftEntry) → slice_get after.slots i ≡ Some (Made one)
+      → ((i ≡ k) × (one ≡ new_entry)) ⊎ ((i ≢ k) × (slice_get s.slots i ≡ Some (Made one)))
   which_entry i one e = elim (which i (Made one) e) [ inl (is, new) ↦ inl (is, same_entry one new_entry (ap Some new)) | inr other ↦ inr other ]
 
   own : IsOwned s.setup s.group s.waiting k (Made old)
@@ -140,10 +141,12 @@ module _ (s : State) (keeps : Keeps s) (k : ℕ) (old : GraftEntry) (old_is : sl
 
   -- the outcome of a graft of another number is as it was
   other_outcome : (n : ℕ) → n ≢ k + 1 → outcome_in after.slots n ≡ outcome_in s.slots n
-  other_outcome n ne = ap (λ (f : ℕ → Option Outcome). f n) outcome_is_set ∙ (let e : (n == k + 1) ≡ false = grind (arith, nat_tests) in ap (λ b. if b then Some outcome else outcome_in s.slots n) e)
+  other_outcome n ne = ap (λ (f : ℕ → Option Outcome). f n) outcome_is_set
+      ∙ (let e : (n == k + 1) ≡ false = grind (arith, nat_tests) in ap (λ b. if b then Some outcome else outcome_in s.slots n) e)
 
   this_outcome : outcome_in after.slots (k + 1) ≡ Some outcome
-  this_outcome = ap (λ (f : ℕ → Option Outcome). f (k + 1)) outcome_is_set ∙ (let e : (k + 1 == k + 1) ≡ true = grind (arith, nat_tests) in ap (λ b. if b then Some outcome else outcome_in s.slots (k + 1)) e)
+  this_outcome = ap (λ (f : ℕ → Option Outcome). f (k + 1)) outcome_is_set
+      ∙ (let e : (k + 1 == k + 1) ≡ true = grind (arith, nat_tests) in ap (λ b. if b then Some outcome else outcome_in s.slots (k + 1)) e)
 
   -- targets are as they were
   same_target : (x : ScriptGraft) → target_in s.setup (with_slots s.setup after.slots) x ≡ target_in s.setup (with_slots s.setup s.slots) x
@@ -171,10 +174,12 @@ module _ (s : State) (keeps : Keeps s) (k : ℕ) (old : GraftEntry) (old_is : sl
       (ap is_accepted (ap (outcome_in after.slots) (number s.setup s.slots k g own.place) ∙ this_outcome ∙ ap Some e)) later
       (own_target s.setup after.slots k g own.place (Made new_entry) at_new new_slot.fits))
     where
-      later : (j : ℕ) (x : ScriptGraft) → k < j → slice_get (grafts_in s.setup) j ≡ Some x → x.peering ≡ old.peering.0 → is_accepted (outcome_in after.slots x.graft) ≡ false
+      later : (j : ℕ) (x : ScriptGraft) → k < j → slice_get (grafts_in s.setup) j ≡ Some x → x.peering ≡ old.peering.0
+          → is_accepted (outcome_in after.slots x.graft) ≡ false
       later j x l there of_p = ap is_accepted (other_outcome x.graft (λ same. (let n : x.graft ≡ j + 1 = number s.setup s.slots j x there in omega arith))) ∙ by_slot (slot_there s.setup s.group s.waiting s.slots keeps.slots j x there)
         where
-          by_slot : (slot : Slot) × (slice_get s.slots j ≡ Some slot) × IsSlot s.setup s.group s.waiting x slot → is_accepted (outcome_in s.slots x.graft) ≡ false
+          by_slot : (slot : Slot) × (slice_get s.slots j ≡ Some slot) × IsSlot s.setup s.group s.waiting x slot
+              → is_accepted (outcome_in s.slots x.graft) ≡ false
           by_slot (Unmade, e', is) = ap (λ o. is_accepted (outcome_of o)) (own_slot s.setup s.slots j x there ∙ e')
           by_slot (Stays n p router, e', is) = ap (λ o. is_accepted (outcome_of o)) (own_slot s.setup s.slots j x there ∙ e')
           by_slot (Made one, e', is) =
@@ -236,7 +241,7 @@ module _ (s : State) (keeps : Keeps s) (k : ℕ) (old : GraftEntry) (old_is : sl
         );
       }
 
-  pub note_keeps : Keeps after
+  pub note_keeps : OperatorInvariant after
   note_keeps = record { sound = keeps.sound; ends = keeps.ends; waiting = keeps.waiting; rising = keeps.rising; slots = slots_stand; seats = seats_stand }
 
   pub note_ordered : source_in s.slots (k + 1) ≢ None
@@ -246,7 +251,7 @@ module _ (s : State) (keeps : Keeps s) (k : ℕ) (old : GraftEntry) (old_is : sl
       no_value None e' = refl
       no_value (Some r) e' = absurd cc
 
-  pub note_row : (router : ℕ) → Notes router (part_of s) (Some (ReportIn router (record { graft = k + 1; outcome = outcome }))) [] (part_of after)
+  pub note_row : (router : ℕ) → Notes router (part_of_state s) (Some (ReportIn router (record { graft = k + 1; outcome = outcome }))) [] (part_of_state after)
   note_row router = record {
     report = record { graft = k + 1; outcome = outcome };
     takes = refl;

@@ -10,13 +10,15 @@ use Rattle.graft_model.specs.Placements.{target_in, is_accepted, placement}
 use Rattle.operator_core.proofs.Lists.{by_test}
 
 -- where none passes, nothing is the last
-none_last : (o : Option ScriptGraft) (test : ScriptGraft → Bool) (grafts : List ScriptGraft) → ((j : ℕ) (g : ScriptGraft) → slice_get grafts j ≡ Some g → test g ≡ false)
+none_last : (o : Option ScriptGraft) (test : ScriptGraft → Bool) (grafts : List ScriptGraft)
+    → ((j : ℕ) (g : ScriptGraft) → slice_get grafts j ≡ Some g → test g ≡ false)
     → last_or o (filter test grafts) ≡ o
 none_last o test [] none = refl
 none_last o test (g ∷ grafts) none = let e : test g ≡ false = none 0 g refl in rw e (none_last o test grafts (λ j x. none (suc j) x))
 
 -- one that passes, with none after it that does, is the last
-one_last : (o : Option ScriptGraft) (test : ScriptGraft → Bool) (grafts : List ScriptGraft) (i : ℕ) (g : ScriptGraft) → slice_get grafts i ≡ Some g → test g ≡ true
+one_last : (o : Option ScriptGraft) (test : ScriptGraft → Bool) (grafts : List ScriptGraft) (i : ℕ) (g : ScriptGraft) → slice_get grafts i ≡ Some g
+    → test g ≡ true
     → ((j : ℕ) (x : ScriptGraft) → i < j → slice_get grafts j ≡ Some x → test x ≡ false) → last_or o (filter test grafts) ≡ Some g
 one_last o test [] i g e passes none = absurd cc
 one_last o test (x ∷ grafts) zero g e passes none =
@@ -29,7 +31,8 @@ one_last o test (x ∷ grafts) (suc i) g e passes none = elim (by_test (test x))
 ]
 
 -- tests that agree on all grafts choose the same
-same_last : (o : Option ScriptGraft) (test other : ScriptGraft → Bool) (grafts : List ScriptGraft) → ((j : ℕ) (g : ScriptGraft) → slice_get grafts j ≡ Some g → test g ≡ other g)
+same_last : (o : Option ScriptGraft) (test other : ScriptGraft → Bool) (grafts : List ScriptGraft)
+    → ((j : ℕ) (g : ScriptGraft) → slice_get grafts j ≡ Some g → test g ≡ other g)
     → last_or o (filter test grafts) ≡ last_or o (filter other grafts)
 same_last o test other [] same = refl
 same_last o test other (g ∷ grafts) same =
@@ -79,7 +82,8 @@ module _ (setup : Setup) (p : ℕ) where
   ]
 
   -- an accepted graft of the peering, with none accepted after it
-  pub placed_at : (part : OperatorPart) (i : ℕ) (g : ScriptGraft) (target : ℕ) → slice_get (grafts_in setup) i ≡ Some g → g.peering ≡ p → is_accepted (part.outcome g.graft) ≡ true
+  pub placed_at : (part : OperatorPart) (i : ℕ) (g : ScriptGraft) (target : ℕ) → slice_get (grafts_in setup) i ≡ Some g → g.peering ≡ p
+      → is_accepted (part.outcome g.graft) ≡ true
       → ((j : ℕ) (x : ScriptGraft) → i < j → slice_get (grafts_in setup) j ≡ Some x → x.peering ≡ p → is_accepted (part.outcome x.graft) ≡ false)
       → target_in setup part g ≡ Some target → placement setup part p ≡ target
   placed_at part i g target e of_p accepted none aims =

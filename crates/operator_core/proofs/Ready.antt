@@ -8,14 +8,14 @@ use Rattle.operator_core.specs.declared.evacuate.Gift.{Gift}
 use Rattle.operator_core.specs.declared.grafts.Seat.{Seat}
 use Rattle.operator_core.specs.declared.grafts.Slot.{Slot}
 use Rattle.operator_core.specs.declared.groups.Task.{Task}
-use Rattle.operator_core.specs.Evacuate.{loads_of, gifts_to}
+use Rattle.operator_core.specs.Evacuate.{seat_loads, gifts_to}
 use Rattle.operator_core.specs.Tasks.{task_of, given_tasks}
-use Rattle.operator_core.specs.Keeps.{StepsAreSound, IsSlotOf, IsOver, is_first, InTurn, SeatsStand}
+use Rattle.operator_core.specs.Keeps.{StepsAreSound, IsSlotOf, IsSlotOver, is_first, InTurn, SeatsStand}
 
 module _ (setup : Setup) (seats : List Seat) where
   -- what a step gives, whose first graft has this number
   abbrev pub gifts_of : ℕ → Option ScriptStep → List Gift
-  gifts_of number (Some (EvacuateStep router)) = gifts_to number (record { 0 = router }) seats (loads_of seats (routers_in setup)) (rooms_of setup)
+  gifts_of number (Some (EvacuateStep router)) = gifts_to number (record { 0 = router }) seats (seat_loads seats (routers_in setup)) (rooms_of setup)
   gifts_of number _ = []
 
   abbrev pub gifts_at : ℕ → List Gift
@@ -41,7 +41,7 @@ module _ (setup : Setup) (seats : List Seat) where
 -- A slot as the group begins: what is of an earlier group is over, and all else is as it was at first.
 pub record IsReadySlot (setup : Setup) (group : ℕ) (g : ScriptGraft) (slot : Slot) : Type 0 where
   pub fits : IsSlotOf setup g slot
-  pub past : group_of setup g.step < group → IsOver slot
+  pub past : group_of setup g.step < group → IsSlotOver slot
   pub later : group ≤ group_of setup g.step → is_first (slice_get setup.steps g.step) slot ≡ true
 
 -- A group of so many steps begins at a step.

@@ -19,9 +19,9 @@ use Rattle.operator_core.specs.declared.groups.Task.{Task}
 use Rattle.operator_core.specs.Grafts.{is_waiting, is_open, outcome_at}
 use Rattle.operator_core.specs.Slots.{slot_at, source_at, source_in, open_graft, first_open}
 use Rattle.operator_core.specs.Tasks.{unissued, is_task, has_task}
-use Rattle.operator_core.specs.States.{State, is_say, part_of}
-use Rattle.operator_core.specs.Keeps.{IsGraftTask, Waits, IsSlot, slot_waits, is_first, NoneIsOpen, Keeps}
-use Rattle.operator_core.specs.Issues.{IsHeld}
+use Rattle.operator_core.specs.States.{State, is_say, part_of_state}
+use Rattle.operator_core.specs.Keeps.{IsGraftTask, IsWaitingTask, IsSlot, slot_waits, is_first, NoneIsOpen, OperatorInvariant}
+use Rattle.operator_core.specs.Issues.{IsGraftHeldUp}
 use Rattle.operator_core.specs.Turns.{NothingToOrder}
 use Rattle.operator_core.proofs.Lists.{by_test, compare, there_is, one_passes}
 use Rattle.operator_core.proofs.Tasks.{any_unissued, none_unissued}
@@ -61,10 +61,12 @@ pub record IsFirstOpen (slots : List Slot) (k : ℕ) : Type 0 where
   pub open_is : is_open entry.stage ≡ true
   pub none_before : (i : ℕ) (one : GraftEntry) → i < place → slice_get slots i ≡ Some (Made one) → is_open one.stage ≡ false
 
-pub none_open : (slots : List Slot) → first_open slots ≡ None → (i : ℕ) (entry : GraftEntry) → slice_get slots i ≡ Some (Made entry) → is_open entry.stage ≡ false
+pub none_open : (slots : List Slot) → first_open slots ≡ None → (i : ℕ) (entry : GraftEntry) → slice_get slots i ≡ Some (Made entry)
+    → is_open entry.stage ≡ false
 none_open [] e i entry there = absurd cc
 none_open (slot ∷ slots) e i entry there = by_first (open_graft slot) refl e (λ f j at. none_open slots f j entry at) i there where
-  by_first : (o : Option ℕ) → open_graft slot ≡ o → option_or o (first_open slots) ≡ None → (first_open slots ≡ None → (j : ℕ) → slice_get slots j ≡ Some (Made entry) → is_open entry.stage ≡ false)
+  by_first : (o : Option ℕ) → open_graft slot ≡ o → option_or o (first_open slots) ≡ None
+      → (first_open slots ≡ None → (j : ℕ) → slice_get slots j ≡ Some (Made entry) → is_open entry.stage ≡ false)
       → (j : ℕ) → slice_get (slot ∷ slots) j ≡ Some (Made entry) → is_open entry.stage ≡ false
   by_first (Some k) is f rest j at = absurd cc
   by_first None is f rest zero at = not_open slot is entry (same_Some slot (Made entry) at)
@@ -73,11 +75,13 @@ none_open (slot ∷ slots) e i entry there = by_first (open_graft slot) refl e (
 pub first_is_open : (slots : List Slot) (k : ℕ) → first_open slots ≡ Some k → IsFirstOpen slots k
 first_is_open [] k e = absurd cc
 first_is_open (slot ∷ slots) k e = by_first (open_graft slot) refl e (λ f. first_is_open slots k f) where
-  later : open_graft slot ≡ None → (r : IsFirstOpen slots k) → (i : ℕ) (one : GraftEntry) → i < suc r.place → slice_get (slot ∷ slots) i ≡ Some (Made one) → is_open one.stage ≡ false
+  later : open_graft slot ≡ None → (r : IsFirstOpen slots k) → (i : ℕ) (one : GraftEntry) → i < suc r.place
+      → slice_get (slot ∷ slots) i ≡ Some (Made one) → is_open one.stage ≡ false
   later is r zero one l at = not_open slot is one (same_Some slot (Made one) at)
   later is r (suc i) one l at = r.none_before i one (omega (arith, l)) at
 
-  by_first : (o : Option ℕ) → open_graft slot ≡ o → option_or o (first_open slots) ≡ Some k → (first_open slots ≡ Some k → IsFirstOpen slots k) → IsFirstOpen (slot ∷ slots) k
+  by_first : (o : Option ℕ) → open_graft slot ≡ o → option_or o (first_open slots) ≡ Some k → (first_open slots ≡ Some k → IsFirstOpen slots k)
+      → IsFirstOpen (slot ∷ slots) k
   by_first (Some j) is f rest =
       let o : IsOpenSlot slot j = open_slot slot j is in
       record { place = 0; entry = o.entry; there = ap Some o.is; graft = o.graft ∙ same_Some j k f; open_is = o.open_is; none_before = λ i one l at. absurd (omega (arith, l)) }
@@ -88,7 +92,8 @@ first_is_open (slot ∷ slots) k e = by_first (open_graft slot) refl e (λ f. fi
 -- ---- tasks
 
 -- what holds exactly where some task waits
-pub some_or_none : (tasks : List Task) (some : Bool) (P : Type 0) → some ≡ list_any (λ task. not task.issued) tasks → (P → unissued tasks ≢ []) → (unissued tasks ≢ [] → P) → (some ≡ true) ↔ P
+pub some_or_none : (tasks : List Task) (some : Bool) (P : Type 0) → some ≡ list_any (λ task. not task.issued) tasks → (P → unissued tasks ≢ [])
+    → (unissued tasks ≢ [] → P) → (some ≡ true) ↔ P
 some_or_none tasks some P is has more = (λ e. more (any_unissued tasks (sym is ∙ e)), λ p. by_value some refl p)
   where
     by_value : (b : Bool) → some ≡ b → P → b ≡ true
@@ -103,7 +108,7 @@ no_source entry e = by_source entry.source refl e where
   by_source None is f = is
   by_source (Some r) is f = absurd cc
 
-module _ (s : State) (keeps : Keeps s) where
+module _ (s : State) (keeps : OperatorInvariant s) where
   -- a step of the group at work stands before the next group
   pub in_group_before : (n : ℕ) → group_of s.setup n ≡ s.group → n < s.next
   in_group_before n e = elim (compare n s.next) [
@@ -125,7 +130,7 @@ module _ (s : State) (keeps : Keeps s) where
     there : slice_get s.slots place ≡ Some (Made entry)
     is : IsSlot s.setup s.group s.waiting g (Made entry)
 
-  has_entry : (g : ScriptGraft) → graft_at s.setup g.graft ≡ Some g → target_in s.setup (part_of s) g ≢ None → HasEntry g
+  has_entry : (g : ScriptGraft) → graft_at s.setup g.graft ≡ Some g → target_in s.setup (part_of_state s) g ≢ None → HasEntry g
   has_entry g known made = by_slot found.0 found.1 found.2 where
     place : (i : ℕ) × (g.graft ≡ i + 1) × (slice_get (grafts_in s.setup) i ≡ Some g)
     place = place_of_graft s.setup g.graft g known
@@ -142,7 +147,8 @@ module _ (s : State) (keeps : Keeps s) where
     by_slot (Made entry) at is = record { place = place.0; at_place = place.2; entry = entry; there = at; is = is }
 
   -- the graft of an entry is made
-  entry_made : (i : ℕ) (g : ScriptGraft) (entry : GraftEntry) → slice_get (grafts_in s.setup) i ≡ Some g → slice_get s.slots i ≡ Some (Made entry) → IsSlot s.setup s.group s.waiting g (Made entry) → target_in s.setup (part_of s) g ≢ None
+  entry_made : (i : ℕ) (g : ScriptGraft) (entry : GraftEntry) → slice_get (grafts_in s.setup) i ≡ Some g → slice_get s.slots i ≡ Some (Made entry)
+      → IsSlot s.setup s.group s.waiting g (Made entry) → target_in s.setup (part_of_state s) g ≢ None
   entry_made i g entry at there is none = let e : Some entry.target.0 ≡ None = sym (own_target s.setup s.slots i g at (Made entry) there is.fits) ∙ none in cc
 
   -- an entry that wasn't ordered waits
@@ -150,7 +156,8 @@ module _ (s : State) (keeps : Keeps s) where
   unordered_waits g h none = (h.is.fits.made h.entry refl).source.0 (no_source h.entry (sym (own_source s.setup s.slots h.place g h.at_place h.entry h.there) ∙ none))
 
   -- a graft of the group at work that wasn't ordered has a task
-  has_its_task : (g : ScriptGraft) → group_of s.setup g.step ≡ s.group → (h : HasEntry g) → source_in s.slots g.graft ≡ None → has_task s.waiting g.step g.graft ≡ true
+  has_its_task : (g : ScriptGraft) → group_of s.setup g.step ≡ s.group → (h : HasEntry g) → source_in s.slots g.graft ≡ None
+      → has_task s.waiting g.step g.graft ≡ true
   has_its_task g group h none = sym (h.is.now group) ∙ unordered_waits g h none
 
   -- ---- what isn't issued
@@ -158,17 +165,18 @@ module _ (s : State) (keeps : Keeps s) where
   no_tasks : (n k : ℕ) → has_task s.waiting n k ≡ true → s.waiting ≢ []
   no_tasks n k w none = let e : false ≡ true = sym (ap (λ tasks. has_task tasks n k) none) ∙ w in cc
 
-  pub some_unissued : HasUnissued s.setup (part_of s) → s.waiting ≢ []
+  pub some_unissued : HasUnissued s.setup (part_of_state s) → s.waiting ≢ []
   some_unissued (inl (n, u)) = no_tasks n 0 (unissued_waits s n (ap is_say u.is) (in_group_before n u.group) u.unissued)
   some_unissued (inr (g, (u, unordered))) = no_tasks g.step g.graft (has_its_task g u.group (has_entry g u.known u.made) unordered)
 
   -- a task that waits
-  module _ (task : Task) (w : Waits s.setup s.group s.next task) (has : has_task s.waiting task.step task.graft ≡ true) where
+  module _ (task : Task) (w : IsWaitingTask s.setup s.group s.next task) (has : has_task s.waiting task.step task.graft ≡ true) where
     -- its graft, if it has one, is made and wasn't ordered
-    graft_waits : IsGraftTask s.setup task → HasUnissued s.setup (part_of s)
+    graft_waits : IsGraftTask s.setup task → HasUnissued s.setup (part_of_state s)
     graft_waits of_step = by_graft (graft_at s.setup task.graft) refl of_step where
-      by_slot : (g : ScriptGraft) (i : ℕ) → graft_at s.setup g.graft ≡ Some g → group_of s.setup g.step ≡ s.group → slice_get (grafts_in s.setup) i ≡ Some g → (slot : Slot) → slice_get s.slots i ≡ Some slot
-          → IsSlot s.setup s.group s.waiting g slot → slot_waits slot ≡ true → HasUnissued s.setup (part_of s)
+      by_slot : (g : ScriptGraft) (i : ℕ) → graft_at s.setup g.graft ≡ Some g → group_of s.setup g.step ≡ s.group
+          → slice_get (grafts_in s.setup) i ≡ Some g → (slot : Slot) → slice_get s.slots i ≡ Some slot
+          → IsSlot s.setup s.group s.waiting g slot → slot_waits slot ≡ true → HasUnissued s.setup (part_of_state s)
       by_slot g i known group at Unmade there is e = absurd cc
       by_slot g i known group at (Stays k p router) there is e = absurd cc
       by_slot g i known group at (Made entry) there is e =
@@ -181,7 +189,8 @@ module _ (s : State) (keeps : Keeps s) where
             ),
           ))
 
-      by_graft : (o : Option ScriptGraft) → graft_at s.setup task.graft ≡ o → option_map (λ (g : ScriptGraft). g.step) o ≡ Some task.step → HasUnissued s.setup (part_of s)
+      by_graft : (o : Option ScriptGraft) → graft_at s.setup task.graft ≡ o → option_map (λ (g : ScriptGraft). g.step) o ≡ Some task.step
+          → HasUnissued s.setup (part_of_state s)
       by_graft None at e = absurd cc
       by_graft (Some g) at e =
           let step : g.step ≡ task.step = same_Some g.step task.step e in
@@ -192,31 +201,32 @@ module _ (s : State) (keeps : Keeps s) where
           let found = slot_there s.setup s.group s.waiting s.slots keeps.slots place.0 g place.2 in
           by_slot g place.0 known group place.2 found.0 found.1 found.2 (found.2.now group ∙ ap (λ n. has_task s.waiting n g.graft) step ∙ ap (has_task s.waiting task.step) graft ∙ has)
 
-    task_unissued : HasUnissued s.setup (part_of s)
+    task_unissued : HasUnissued s.setup (part_of_state s)
     task_unissued =
         let found = there_is s.setup.steps task.step (let l = w.before in let m = keeps.ends.within in omega (arith, l, m)) in
         by_step found.0 found.1
       where
-        by_step : (step : ScriptStep) → slice_get s.setup.steps task.step ≡ Some step → HasUnissued s.setup (part_of s)
+        by_step : (step : ScriptStep) → slice_get s.setup.steps task.step ≡ Some step → HasUnissued s.setup (part_of_state s)
         by_step (SayStep p bytes) is = inl (task.step, record { peering = p; bytes = bytes; is = is; group = w.group_is; unissued = waits_unissued s task.step (sym (ap (has_task s.waiting task.step) (w.says p bytes is)) ∙ has) })
         by_step (MoveStep p target) is = graft_waits (w.moves p target is)
         by_step (EvacuateStep router) is = graft_waits (w.evacuates router is)
         by_step SettleStep is = absurd (w.issuable is)
 
-  pub unissued_there : s.waiting ≢ [] → HasUnissued s.setup (part_of s)
+  pub unissued_there : s.waiting ≢ [] → HasUnissued s.setup (part_of_state s)
   unissued_there ne = by_list s.waiting refl
     where
-      by_list : (tasks : List Task) → s.waiting ≡ tasks → HasUnissued s.setup (part_of s)
+      by_list : (tasks : List Task) → s.waiting ≡ tasks → HasUnissued s.setup (part_of_state s)
       by_list [] e = absurd (ne e)
       by_list (task ∷ tasks) e =
-          let all : AllByRecursion (Waits s.setup s.group s.next) (task ∷ tasks) = subst (λ xs. AllByRecursion (Waits s.setup s.group s.next) xs) e keeps.waiting in
+          let all : AllByRecursion (IsWaitingTask s.setup s.group s.next) (task ∷ tasks) = subst (λ xs. AllByRecursion (IsWaitingTask s.setup s.group s.next) xs) e keeps.waiting in
           let here : is_task task.step task.graft task ≡ true = is_that_task task.step task.graft task refl refl in
           task_unissued task all.0 (ap (λ xs. has_task xs task.step task.graft) e ∙ ap (λ b. b || has_task tasks task.step task.graft) here)
 
   -- ---- a graft that is open
 
   -- an open entry is that of a graft of the group at work
-  pub open_there : (i : ℕ) (entry : GraftEntry) → slice_get s.slots i ≡ Some (Made entry) → is_open entry.stage ≡ true → IsOpen s.setup (part_of s) (i + 1)
+  pub open_there : (i : ℕ) (entry : GraftEntry) → slice_get s.slots i ≡ Some (Made entry) → is_open entry.stage ≡ true
+      → IsOpen s.setup (part_of_state s) (i + 1)
   open_there i entry there open_is = (
     g,
     its_number,
@@ -249,7 +259,8 @@ module _ (s : State) (keeps : Keeps s) where
       no_later (Some (EvacuateStep router)) e = absurd cc
       no_later (Some SettleStep) e = absurd cc
 
-      by_group : (group_of s.setup g.step < s.group) ⊎ ((group_of s.setup g.step ≡ s.group) ⊎ (s.group < group_of s.setup g.step)) → group_of s.setup g.step ≡ s.group
+      by_group : (group_of s.setup g.step < s.group) ⊎ ((group_of s.setup g.step ≡ s.group) ⊎ (s.group < group_of s.setup g.step))
+          → group_of s.setup g.step ≡ s.group
       by_group (inl past) = absurd (own.is.past past entry refl (open_has_no_outcome entry.stage open_is))
       by_group (inr (inl now)) = now
       by_group (inr (inr later)) =
@@ -258,24 +269,26 @@ module _ (s : State) (keeps : Keeps s) where
           absurd cc
 
   -- the entry of an open graft is open
-  pub open_entry : (k : ℕ) → IsOpen s.setup (part_of s) k → (i : ℕ) × (entry : GraftEntry) × (slice_get s.slots i ≡ Some (Made entry)) × (is_open entry.stage ≡ true) × (i + 1 ≡ k)
+  pub open_entry : (k : ℕ) → IsOpen s.setup (part_of_state s) k
+      → (i : ℕ) × (entry : GraftEntry) × (slice_get s.slots i ≡ Some (Made entry)) × (is_open entry.stage ≡ true) × (i + 1 ≡ k)
   open_entry k (g, same, u, ordered) =
       let h : HasEntry g = has_entry g u.known u.made in
       let none : outcome_at h.entry.stage ≡ None = sym (own_outcome s.setup s.slots h.place g h.at_place h.entry h.there) ∙ u.unended in
       let its_number : h.place + 1 ≡ k = sym (number s.setup s.slots h.place g h.at_place) ∙ same in
       (h.place, h.entry, h.there, by_stage h none (by_test (is_open h.entry.stage)) (by_test (is_waiting h.entry.stage)), its_number)
     where
-      by_stage : (h : HasEntry g) → outcome_at h.entry.stage ≡ None → (is_open h.entry.stage ≡ true) ⊎ (is_open h.entry.stage ≡ false) → (is_waiting h.entry.stage ≡ true) ⊎ (is_waiting h.entry.stage ≡ false) → is_open h.entry.stage ≡ true
+      by_stage : (h : HasEntry g) → outcome_at h.entry.stage ≡ None → (is_open h.entry.stage ≡ true) ⊎ (is_open h.entry.stage ≡ false)
+          → (is_waiting h.entry.stage ≡ true) ⊎ (is_waiting h.entry.stage ≡ false) → is_open h.entry.stage ≡ true
       by_stage h none (inl f) waits = f
       by_stage h none (inr f) (inr over) = absurd (ordered_has_ended h.entry.stage over f none)
       by_stage h none (inr f) (inl waits) =
           let unsourced : h.entry.source ≡ None = (h.is.fits.made h.entry refl).source.1 waits in
           absurd (ordered (sym (ap (source_in s.slots) same) ∙ own_source s.setup s.slots h.place g h.at_place h.entry h.there ∙ ap (option_map (λ (r : RouterId). r.0)) unsourced))
 
-  pub lowest_open : IsLowestOf (IsOpen s.setup (part_of s)) (first_open s.slots)
+  pub lowest_open : IsLowestOf (IsOpen s.setup (part_of_state s)) (first_open s.slots)
   lowest_open = by_found (first_open s.slots) refl
     where
-      by_found : (o : Option ℕ) → first_open s.slots ≡ o → IsLowestOf (IsOpen s.setup (part_of s)) o
+      by_found : (o : Option ℕ) → first_open s.slots ≡ o → IsLowestOf (IsOpen s.setup (part_of_state s)) o
       by_found None e = λ k o. (
           let r = open_entry k o in
           let f : true ≡ false = sym r.3 ∙ none_open s.slots e r.0 r.1 r.2 in
@@ -284,7 +297,7 @@ module _ (s : State) (keeps : Keeps s) where
           let r : IsFirstOpen s.slots k = first_is_open s.slots k e in
           let own = owner s.setup s.group s.waiting s.slots keeps.slots r.place (Made r.entry) r.there in
           let at_number : r.place + 1 ≡ k = sym (number s.setup s.slots r.place own.graft own.place) ∙ sym (own.is.fits.made r.entry refl).graft ∙ r.graft in (
-            subst (IsOpen s.setup (part_of s)) at_number (open_there r.place r.entry r.there r.open_is),
+            subst (IsOpen s.setup (part_of_state s)) at_number (open_there r.place r.entry r.there r.open_is),
             λ j o. (
                 let q = open_entry j o in
                 elim (compare q.0 r.place) [
@@ -296,13 +309,13 @@ module _ (s : State) (keeps : Keeps s) where
 
   -- ---- nothing may be ordered
 
-  module _ (held : AllByRecursion (IsHeld s) s.waiting) where
-    no_say : (step named : ℕ) (sent : List OperatorSent) (after : OperatorPart) → OrdersSay s.setup step named (part_of s) None sent after → ⊥
+  module _ (held : AllByRecursion (IsGraftHeldUp s) s.waiting) where
+    no_say : (step named : ℕ) (sent : List OperatorSent) (after : OperatorPart) → OrdersSay s.setup step named (part_of_state s) None sent after → ⊥
     no_say step named sent after row =
-        let found = one_passes (is_task step 0) (IsHeld s) s.waiting held (unissued_waits s step (ap is_say row.is) (in_group_before step row.group) row.unissued) in
+        let found = one_passes (is_task step 0) (IsGraftHeldUp s) s.waiting held (unissued_waits s step (ap is_say row.is) (in_group_before step row.group) row.unissued) in
         held_has_graft s found.0 found.2 (task_names step 0 found.0 found.1).1
 
-    module _ (step named : ℕ) (sent : List OperatorSent) (after : OperatorPart) (row : OrdersGraft s.setup step named (part_of s) None sent after) where
+    module _ (step named : ℕ) (sent : List OperatorSent) (after : OperatorPart) (row : OrdersGraft s.setup step named (part_of_state s) None sent after) where
       abbrev g : ScriptGraft
       g = row.graft
 
@@ -341,14 +354,14 @@ module _ (s : State) (keeps : Keeps s) where
       no_graft : ⊥
       no_graft =
           let group : group_of s.setup g.step ≡ s.group = ap (group_of s.setup) row.by_step ∙ row.group in
-          let found = one_passes (is_task g.step g.graft) (IsHeld s) s.waiting held (has_its_task g group has_own row.unordered) in
-          let h : IsHeld s found.0 = found.2 in
+          let found = one_passes (is_task g.step g.graft) (IsGraftHeldUp s) s.waiting held (has_its_task g group has_own row.unordered) in
+          let h : IsGraftHeldUp s found.0 = found.2 in
           let graft : found.0.graft ≡ g.graft = (task_names g.step g.graft found.0 found.1).1 in
           let same : h.entry ≡ entry = same_entry h.entry entry (sym h.is ∙ (ap (slot_at s.slots) graft ∙ (own_slot s.setup s.slots has_own.place g has_own.at_place ∙ has_own.there))) in
           let still : h.seat.moving ≡ false = (keeps.seats.each h.entry.peering.0 h.seat h.seated).still.1 (subst (λ (x : GraftEntry). NoneIsOpen s.slots x.peering.0) (sym same) none_is_open) in
           let e : true ≡ false = sym h.moving ∙ still in
           cc
 
-    pub nothing_to_order : NothingToOrder s.setup (part_of s)
+    pub nothing_to_order : NothingToOrder s.setup (part_of_state s)
     nothing_to_order step named sent after (inl say) = no_say step named sent after say
     nothing_to_order step named sent after (inr graft) = no_graft step named sent after graft

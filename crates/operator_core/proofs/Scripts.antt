@@ -5,7 +5,8 @@ pub use Rattle.graft_model.proofs.Numbers.{groups_rise}
 use Rattle.graft_model.specs.Setups.{Setup, ScriptStep, SayStep, MoveStep, EvacuateStep, SettleStep, is_settle, group_of}
 
 -- how many groups end before a step: as many as before it, and one more where the one between them ends a group
-groups_up : (steps : List ScriptStep) (n : ℕ) (step : ScriptStep) → slice_get steps n ≡ Some step → length (filter is_settle (take (suc n) steps)) ≡ length (filter is_settle (take n steps)) + length (filter is_settle (step ∷ []))
+groups_up : (steps : List ScriptStep) (n : ℕ) (step : ScriptStep) → slice_get steps n ≡ Some step
+    → length (filter is_settle (take (suc n) steps)) ≡ length (filter is_settle (take n steps)) + length (filter is_settle (step ∷ []))
 groups_up [] n step e = absurd cc
 groups_up (s ∷ steps) zero step e = let f : s ≡ step = cc in subst (λ (x : ScriptStep). length (filter is_settle (s ∷ [])) ≡ 0 + length (filter is_settle (x ∷ []))) f (omega arith)
 groups_up (s ∷ steps) (suc n) step e =

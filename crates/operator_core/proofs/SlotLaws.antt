@@ -16,7 +16,7 @@ use Rattle.operator_core.specs.declared.grafts.Slot.{Slot}
 use Rattle.operator_core.specs.declared.grafts.Slot.TheVariants.{Unmade, Stays, Made}
 use Rattle.operator_core.specs.declared.groups.Task.{Task}
 use Rattle.operator_core.specs.Grafts.{is_waiting, is_open, outcome_at}
-use Rattle.operator_core.specs.Slots.{slot_at, source_at, source_of, outcome_of, given_of, source_in, outcome_in, given_in, step_of}
+use Rattle.operator_core.specs.Slots.{slot_at, source_at, slot_source, outcome_of, given_of, source_in, outcome_in, given_in, scripted_step}
 use Rattle.operator_core.specs.Keeps.{StepsAreSound, emptied_by, IsSlotOf, IsSlot, SlotsStand}
 use Rattle.operator_core.proofs.Lists.{by_test, get_set_same, get_set_other, there_is}
 
@@ -24,7 +24,7 @@ pub slot_next : (slots : List Slot) (k : ℕ) → slot_at slots (k + 1) ≡ slic
 slot_next slots k = let e : k + 1 ≡ suc k = omega arith in ap (slot_at slots) e
 
 pub source_is : (slots : List Slot) (k : ℕ) (entry : GraftEntry) → slice_get slots k ≡ Some (Made entry) → source_in slots (k + 1) ≡ source_at entry
-source_is slots k entry e = ap source_of (slot_next slots k ∙ e)
+source_is slots k entry e = ap slot_source (slot_next slots k ∙ e)
 
 pub outcome_is : (slots : List Slot) (k : ℕ) (entry : GraftEntry) → slice_get slots k ≡ Some (Made entry) → outcome_in slots (k + 1) ≡ outcome_at entry.stage
 outcome_is slots k entry e = ap outcome_of (slot_next slots k ∙ e)
@@ -48,21 +48,25 @@ module _ {A : Type 0} (of : ℕ → Option Slot → A) where
   ]
 
   -- where the value is as before, all are
-  pub value_stays : (slots : List Slot) (k : ℕ) (old slot : Slot) → slice_get slots k ≡ Some old → k < length slots → of (k + 1) (Some slot) ≡ of (k + 1) (Some old) → (n : ℕ)
+  pub value_stays : (slots : List Slot) (k : ℕ) (old slot : Slot) → slice_get slots k ≡ Some old → k < length slots
+      → of (k + 1) (Some slot) ≡ of (k + 1) (Some old) → (n : ℕ)
       → of n (slot_at (slice_set slots k slot) n) ≡ of n (slot_at slots n)
   value_stays slots k old slot is l same zero = refl
   value_stays slots k old slot is l same (suc n) = elim (by_test (n == k)) [
     | inl e ↦
         let f : n ≡ k = grind (arith, nat_tests) in
         let h : suc n ≡ k + 1 = omega arith in
-        ap (of (suc n)) (ap (slice_get (slice_set slots k slot)) f ∙ get_set_same slots k slot l) ∙ ap (λ m. of m (Some slot)) h ∙ same ∙ sym (ap (of (suc n)) (ap (slice_get slots) f ∙ is) ∙ ap (λ m. of m (Some old)) h)
+        ap (of (suc n)) (ap (slice_get (slice_set slots k slot)) f ∙ get_set_same slots k slot l) ∙ ap (λ m. of m (Some slot)) h ∙ same
+        ∙ sym (ap (of (suc n)) (ap (slice_get slots) f ∙ is) ∙ ap (λ m. of m (Some old)) h)
     | inr e ↦ ap (of (suc n)) (get_set_other slots k n slot (λ same. grind (arith, nat_tests)))
   ]
 
-pub source_set : (slots : List Slot) (k : ℕ) (entry : GraftEntry) → k < length slots → source_in (slice_set slots k (Made entry)) ≡ at (source_in slots) (k + 1) (source_at entry)
-source_set slots k entry l = λ i n. value_set (λ m. source_of) slots k (Made entry) l n i
+pub source_set : (slots : List Slot) (k : ℕ) (entry : GraftEntry) → k < length slots
+    → source_in (slice_set slots k (Made entry)) ≡ at (source_in slots) (k + 1) (source_at entry)
+source_set slots k entry l = λ i n. value_set (λ m. slot_source) slots k (Made entry) l n i
 
-pub outcome_set : (slots : List Slot) (k : ℕ) (entry : GraftEntry) → k < length slots → outcome_in (slice_set slots k (Made entry)) ≡ at (outcome_in slots) (k + 1) (outcome_at entry.stage)
+pub outcome_set : (slots : List Slot) (k : ℕ) (entry : GraftEntry) → k < length slots
+    → outcome_in (slice_set slots k (Made entry)) ≡ at (outcome_in slots) (k + 1) (outcome_at entry.stage)
 outcome_set slots k entry l = λ i n. value_set (λ m. outcome_of) slots k (Made entry) l n i
 
 module _ (slots : List Slot) (k : ℕ) (old entry : GraftEntry) (is : slice_get slots k ≡ Some (Made old)) where
@@ -70,13 +74,13 @@ module _ (slots : List Slot) (k : ℕ) (old entry : GraftEntry) (is : slice_get 
   within = slice_get_within slots k (Made old) is
 
   pub source_stays : source_at entry ≡ source_at old → source_in (slice_set slots k (Made entry)) ≡ source_in slots
-  source_stays same = λ i n. value_stays (λ m. source_of) slots k (Made old) (Made entry) is within same n i
+  source_stays same = λ i n. value_stays (λ m. slot_source) slots k (Made old) (Made entry) is within same n i
 
   pub outcome_stays : outcome_at entry.stage ≡ outcome_at old.stage → outcome_in (slice_set slots k (Made entry)) ≡ outcome_in slots
   outcome_stays same = λ i n. value_stays (λ m. outcome_of) slots k (Made old) (Made entry) is within same n i
 
   pub given_stays : (setup : Setup) → entry.target ≡ old.target → given_in setup (slice_set slots k (Made entry)) ≡ given_in setup slots
-  given_stays setup same = λ i n. value_stays (λ m. given_of (step_of setup m)) slots k (Made old) (Made entry) is within (by_step (step_of setup (k + 1))) n i
+  given_stays setup same = λ i n. value_stays (λ m. given_of (scripted_step setup m)) slots k (Made old) (Made entry) is within (by_step (scripted_step setup (k + 1))) n i
     where
       by_step : (o : Option ScriptStep) → given_of o (Some (Made entry)) ≡ given_of o (Some (Made old))
       by_step None = refl
@@ -96,7 +100,8 @@ target_at Unmade = None
 target_at (Stays k p router) = None
 target_at (Made entry) = Some entry.target.0
 
-made_target : (o : Option ScriptStep) (entry : GraftEntry) → target_by o (To entry.target.0) ≡ Some entry.target.0 → target_by o (given_of o (Some (Made entry))) ≡ Some entry.target.0
+made_target : (o : Option ScriptStep) (entry : GraftEntry) → target_by o (To entry.target.0) ≡ Some entry.target.0
+    → target_by o (given_of o (Some (Made entry))) ≡ Some entry.target.0
 made_target None entry e = absurd cc
 made_target (Some (SayStep p bytes)) entry e = absurd cc
 made_target (Some (MoveStep p target)) entry e = e
@@ -117,7 +122,8 @@ stays_target (Some (MoveStep q target)) k p router ne = absurd (ne refl)
 stays_target (Some (EvacuateStep r)) k p router ne = refl
 stays_target (Some SettleStep) k p router ne = absurd (ne refl)
 
-slot_target : (setup : Setup) (g : ScriptGraft) (slot : Slot) → IsSlotOf setup g slot → target_by (slice_get setup.steps g.step) (given_of (slice_get setup.steps g.step) (Some slot)) ≡ target_at slot
+slot_target : (setup : Setup) (g : ScriptGraft) (slot : Slot) → IsSlotOf setup g slot
+    → target_by (slice_get setup.steps g.step) (given_of (slice_get setup.steps g.step) (Some slot)) ≡ target_at slot
 slot_target setup g Unmade fits = unmade_target (slice_get setup.steps g.step) (fits.unmade refl)
 slot_target setup g (Stays k p router) fits =
     stays_target (slice_get setup.steps g.step) k p router (λ none. let e : Some router.0 ≡ None = sym (fits.stays k p router refl).emptied ∙ none in cc)
@@ -131,19 +137,20 @@ module _ (setup : Setup) (slots : List Slot) (i : ℕ) (g : ScriptGraft) (at_pla
   own_slot = ap (slot_at slots) number ∙ slot_next slots i
 
   pub own_source : (entry : GraftEntry) → slice_get slots i ≡ Some (Made entry) → source_in slots g.graft ≡ source_at entry
-  own_source entry e = ap source_of (own_slot ∙ e)
+  own_source entry e = ap slot_source (own_slot ∙ e)
 
   pub own_outcome : (entry : GraftEntry) → slice_get slots i ≡ Some (Made entry) → outcome_in slots g.graft ≡ outcome_at entry.stage
   own_outcome entry e = ap outcome_of (own_slot ∙ e)
 
-  pub own_step : step_of setup g.graft ≡ slice_get setup.steps g.step
+  pub own_step : scripted_step setup g.graft ≡ slice_get setup.steps g.step
   own_step = ap (λ o. option_and_then (λ (x : ScriptGraft). slice_get setup.steps x.step) o) (graft_there setup i g at_place)
 
   pub own_given : (slot : Slot) → slice_get slots i ≡ Some slot → given_in setup slots g.graft ≡ given_of (slice_get setup.steps g.step) (Some slot)
   own_given slot e = ap (λ o. given_of o (slot_at slots g.graft)) own_step ∙ ap (given_of (slice_get setup.steps g.step)) (own_slot ∙ e)
 
   -- the target of a graft is that of its slot
-  pub own_target : (slot : Slot) → slice_get slots i ≡ Some slot → IsSlotOf setup g slot → target_by (slice_get setup.steps g.step) (given_in setup slots g.graft) ≡ target_at slot
+  pub own_target : (slot : Slot) → slice_get slots i ≡ Some slot → IsSlotOf setup g slot
+      → target_by (slice_get setup.steps g.step) (given_in setup slots g.graft) ≡ target_at slot
   own_target slot e fits = ap (target_by (slice_get setup.steps g.step)) (own_given slot e) ∙ slot_target setup g slot fits
 
 -- a slot and the graft whose it is
@@ -161,7 +168,8 @@ module _ (setup : Setup) (group : ℕ) (tasks : List Task) (slots : List Slot) (
       record { graft = found.0; place = found.1; is = stand.each i found.0 slot found.1 e }
 
   -- the slot of a graft
-  pub slot_there : (i : ℕ) (g : ScriptGraft) → slice_get (grafts_in setup) i ≡ Some g → (slot : Slot) × (slice_get slots i ≡ Some slot) × IsSlot setup group tasks g slot
+  pub slot_there : (i : ℕ) (g : ScriptGraft) → slice_get (grafts_in setup) i ≡ Some g
+      → (slot : Slot) × (slice_get slots i ≡ Some slot) × IsSlot setup group tasks g slot
   slot_there i g e =
       let l : i < length (grafts_in setup) = slice_get_within (grafts_in setup) i g e in
       let all : length slots ≡ length (grafts_in setup) = stand.all in
@@ -175,7 +183,8 @@ peering_there setup sound g known = by_step of_step.step of_step.there of_step.m
     of_step : IsOfStep setup g
     of_step = step_of_graft setup g.graft g known
 
-    by_step : (step : ScriptStep) → slice_get setup.steps g.step ≡ Some step → slice_get (moved_by setup step) of_step.place ≡ Some g.peering → g.peering < peerings_in setup
+    by_step : (step : ScriptStep) → slice_get setup.steps g.step ≡ Some step → slice_get (moved_by setup step) of_step.place ≡ Some g.peering
+        → g.peering < peerings_in setup
     by_step (SayStep p bytes) e moved = absurd cc
     by_step (MoveStep p target) e moved = subst (λ (q : ℕ). q < peerings_in setup) (only p of_step.place moved) (sound.moves g.step p target e).0
       where

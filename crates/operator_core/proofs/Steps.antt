@@ -8,7 +8,7 @@ use Rattle.std.proofs.lemmas.List.Sums.{sum_by-cons}
 use Rattle.std.proofs.lemmas.Option.{slice_get-map}
 use Rattle.graft_edge.specs.declared.ids.PeeringId.{PeeringId}
 use Rattle.graft_edge.specs.declared.ids.RouterId.{RouterId}
-use Rattle.graft_model.specs.Setups.{Setup, ScriptStep as StepOf, SayStep, MoveStep, EvacuateStep, SettleStep, moved_by, numbered, grafts_after, grafts_before, routers_in, peerings_in}
+use Rattle.graft_model.specs.Setups.{Setup, ScriptStep as StepOf, SayStep, MoveStep, EvacuateStep, SettleStep, moved_by, grafts_numbered, grafts_after, grafts_before, routers_in, peerings_in}
 use Rattle.graft_model.specs.OperatorRows.{number_by}
 use Rattle.operator_core.specs.declared.groups.Task.{Task}
 use Rattle.operator_core.specs.declared.script.Script.{Script}
@@ -16,12 +16,12 @@ use Rattle.operator_core.specs.declared.script.ScriptStep.{ScriptStep}
 use Rattle.operator_core.specs.declared.script.ScriptStep.TheVariants.{Say, Settle}
 use Rattle.operator_core.specs.Scripts.{step_for, IsScriptOf}
 use Rattle.operator_core.specs.Groups.{grafts_by, AreNumbers}
-use Rattle.operator_core.specs.Keeps.{IsGraftTask, Waits}
+use Rattle.operator_core.specs.Keeps.{IsGraftTask, IsWaitingTask}
 use Rattle.operator_core.specs.Progresses.{IsNumberOf}
 
 -- ---- grafts are counted alike
 
-length-numbered : (k n : ℕ) (peerings : List ℕ) → length (numbered k n peerings) ≡ length peerings
+length-numbered : (k n : ℕ) (peerings : List ℕ) → length (grafts_numbered k n peerings) ≡ length peerings
 length-numbered k n [] = refl
 length-numbered k n (p ∷ peerings) = ap suc (length-numbered (k + 1) n peerings)
 
@@ -31,7 +31,8 @@ as_many setup (MoveStep p target) = refl
 as_many setup (EvacuateStep router) = length-range_with_len 0 (peerings_in setup)
 as_many setup SettleStep = refl
 
-counted : (setup : Setup) (k m : ℕ) (steps : List StepOf) (n : ℕ) → sum_by (grafts_by (peerings_in setup)) (take n (map step_for steps)) ≡ length (grafts_after setup k m (take n steps))
+counted : (setup : Setup) (k m : ℕ) (steps : List StepOf) (n : ℕ)
+    → sum_by (grafts_by (peerings_in setup)) (take n (map step_for steps)) ≡ length (grafts_after setup k m (take n steps))
 counted setup k m steps zero = refl
 counted setup k m [] (suc n) = refl
 counted setup k m (step ∷ steps) (suc n) =
@@ -39,7 +40,7 @@ counted setup k m (step ∷ steps) (suc n) =
     ∙ (let rest = counted setup (k + length (moved_by setup step)) (m + 1) steps n in
     let one = as_many setup step in
     let own = length-numbered k m (moved_by setup step) in
-    let both = length-append (numbered k m (moved_by setup step)) (grafts_after setup (k + length (moved_by setup step)) (m + 1) (take n steps)) in
+    let both = length-append (grafts_numbered k m (moved_by setup step)) (grafts_after setup (k + length (moved_by setup step)) (m + 1) (take n steps)) in
     omega (arith, rest, one, own, both))
 
 -- ---- which step it is
@@ -67,7 +68,8 @@ number_from (Some (EvacuateStep router)) task number is = is
 number_from (Some SettleStep) task number is = absurd is
 
 -- the graft of such a task is one of its step
-graft_from : (setup : Setup) (group next : ℕ) (task : Task) (number : ℕ) → Waits setup group next task → (o : Option StepOf) → slice_get setup.steps task.step ≡ o → IsNumberOf (option_map step_for o) task number → IsGraftTask setup task
+graft_from : (setup : Setup) (group next : ℕ) (task : Task) (number : ℕ) → IsWaitingTask setup group next task → (o : Option StepOf)
+    → slice_get setup.steps task.step ≡ o → IsNumberOf (option_map step_for o) task number → IsGraftTask setup task
 graft_from setup group next task number waits None e is = absurd is
 graft_from setup group next task number waits (Some (SayStep q bytes)) e is = absurd is
 graft_from setup group next task number waits (Some (MoveStep q t)) e is = waits.moves q t e
@@ -87,10 +89,12 @@ module _ (setup : Setup) (script : Script) (is : IsScriptOf setup script) where
   pub settle_back : (n : ℕ) → slice_get setup.steps n ≡ Some SettleStep → slice_get script.steps n ≡ Some Settle
   settle_back n e = step_at n ∙ ap (option_map step_for) e
 
-  pub number_there : (task : Task) (number : ℕ) → IsNumberOf (slice_get script.steps task.step) task number → number ≡ number_by (slice_get setup.steps task.step) task.graft
+  pub number_there : (task : Task) (number : ℕ) → IsNumberOf (slice_get script.steps task.step) task number
+      → number ≡ number_by (slice_get setup.steps task.step) task.graft
   number_there task number e = number_from (slice_get setup.steps task.step) task number (subst (λ (o : Option ScriptStep). IsNumberOf o task number) (step_at task.step) e)
 
-  pub graft_task : (group next : ℕ) (task : Task) (number : ℕ) → Waits setup group next task → IsNumberOf (slice_get script.steps task.step) task number → IsGraftTask setup task
+  pub graft_task : (group next : ℕ) (task : Task) (number : ℕ) → IsWaitingTask setup group next task
+      → IsNumberOf (slice_get script.steps task.step) task number → IsGraftTask setup task
   graft_task group next task number waits e =
       graft_from setup group next task number waits (slice_get setup.steps task.step) refl (subst (λ (o : Option ScriptStep). IsNumberOf o task number) (step_at task.step) e)
 
@@ -103,6 +107,7 @@ module _ (setup : Setup) (script : Script) (is : IsScriptOf setup script) where
   pub as_many_steps : length script.steps ≡ length setup.steps
   as_many_steps = ap length is.steps ∙ length-map setup.steps step_for
 
-  pub number_at : (numbers : List ℕ) → AreNumbers (length script.starts) script.steps numbers → (n : ℕ) → n < length script.steps → slice_index_or numbers n 0 ≡ grafts_before setup n + 1
+  pub number_at : (numbers : List ℕ) → AreNumbers (length script.starts) script.steps numbers → (n : ℕ) → n < length script.steps
+      → slice_index_or numbers n 0 ≡ grafts_before setup n + 1
   number_at numbers are n l = are.each n l ∙ ap (λ k. k + 1)
       (ap (λ k. sum_by (grafts_by k) (take n script.steps)) as_many_peerings ∙ ap (λ steps. sum_by (grafts_by (peerings_in setup)) (take n steps)) is.steps ∙ counted setup 0 0 setup.steps n)

@@ -16,19 +16,19 @@ use Rattle.graft_model.specs.Setups.{Setup, routers_in}
 use Rattle.graft_model.specs.Parts.{OperatorPart}
 use Rattle.graft_model.specs.OperatorRows.{ReportIn, Notes}
 use Rattle.graft_model.specs.declared.event.OperatorEvent.TheVariants.{Note}
-use Rattle.graft_runs.specs.Actors.{OperatorIs, Router, FarSide, Operator, ActorName, actor_at}
-use Rattle.graft_runs.specs.Laws.{ActorsHaveNumbers, NumbersAreOfActors}
+use Rattle.graft_actors.specs.Actors.{OperatorIs, Router, FarSide, Operator, ActorName, actor_at}
+use Rattle.graft_actors.specs.Laws.{ActorsHaveNumbers, NumbersAreOfActors}
 use Rattle.graft_actors.specs.Acts.{IsWelcome, MayComeFrom}
 use Rattle.graft_actors.specs.Notes.{deed_of, WroteOne, dropped}
 use Rattle.operator_core.specs.declared.grafts.Slot.{Slot}
 use Rattle.operator_core.specs.declared.grafts.Slot.TheVariants.{Unmade, Stays, Made}
 use Rattle.operator_core.specs.declared.progress.Progress.{Progress}
 use Rattle.operator_core.specs.Grafts.{is_waiting, is_open, outcome_at}
-use Rattle.operator_core.specs.Slots.{source_at, source_of, outcome_of, source_in, outcome_in}
-use Rattle.operator_core.specs.States.{part_of}
-use Rattle.operator_core.specs.Keeps.{Keeps}
+use Rattle.operator_core.specs.Slots.{source_at, slot_source, outcome_of, source_in, outcome_in}
+use Rattle.operator_core.specs.States.{part_of_state}
+use Rattle.operator_core.specs.Keeps.{OperatorInvariant}
 use Rattle.operator_core.specs.Notes.{graft_noted}
-use Rattle.operator_core.specs.Progresses.{state, own_part_of, IsKnown, IsSound, IsOpenPlace, Ends, Takes}
+use Rattle.operator_core.specs.Progresses.{progress_state, own_part_of, IsKnown, ProgressInvariant, IsOpenPlace, Ends, TakesItem}
 use Rattle.operator_core.proofs.SlotLaws.{owner, same_entry}
 use Rattle.operator_core.proofs.Steps.{as_many_routers}
 use Rattle.operator_core.proofs.Notes.{note_keeps, note_row, note_ordered, was_none}
@@ -42,12 +42,15 @@ TakesReports C = (session : C → SessionValue) (setup : Setup) (n k : ℕ) (par
     ↔ (((r : ℕ) × (actor_at setup n ≡ Some (Router r))) × (part.source k ≢ None) × (part.outcome k ≡ None))
 
 -- a graft with a source and without an outcome is open
-open_at : (slots : List Slot) (k : ℕ) → ((i : ℕ) (entry : GraftEntry) → slice_get slots i ≡ Some (Made entry) → (entry.source ≡ None) ↔ (is_waiting entry.stage ≡ true)) → source_in slots k ≢ None → outcome_in slots k ≡ None
+open_at : (slots : List Slot) (k : ℕ)
+    → ((i : ℕ) (entry : GraftEntry) → slice_get slots i ≡ Some (Made entry) → (entry.source ≡ None) ↔ (is_waiting entry.stage ≡ true))
+    → source_in slots k ≢ None → outcome_in slots k ≡ None
     → (place : ℕ) × (entry : GraftEntry) × (slice_get slots place ≡ Some (Made entry)) × (place + 1 ≡ k) × (is_open entry.stage ≡ true)
 open_at slots zero sources ordered unended = absurd (ordered refl)
 open_at slots (suc j) sources ordered unended = by_slot (slice_get slots j) refl
   where
-    opened : (entry : GraftEntry) → ((entry.source ≡ None) ↔ (is_waiting entry.stage ≡ true)) → source_at entry ≢ None → outcome_at entry.stage ≡ None → is_open entry.stage ≡ true
+    opened : (entry : GraftEntry) → ((entry.source ≡ None) ↔ (is_waiting entry.stage ≡ true)) → source_at entry ≢ None
+        → outcome_at entry.stage ≡ None → is_open entry.stage ≡ true
     opened entry source has none = by_stage entry.stage refl
       where
         by_stage : (stage : GraftStage) → entry.stage ≡ stage → is_open entry.stage ≡ true
@@ -55,21 +58,23 @@ open_at slots (suc j) sources ordered unended = by_slot (slice_get slots j) refl
         by_stage Issued e = ap is_open e
         by_stage (Ended outcome) e = absurd (let f : Some outcome ≡ None = sym (ap outcome_at e) ∙ none in cc)
 
-    by_slot : (o : Option Slot) → slice_get slots j ≡ o → (place : ℕ) × (entry : GraftEntry) × (slice_get slots place ≡ Some (Made entry)) × (place + 1 ≡ suc j) × (is_open entry.stage ≡ true)
-    by_slot None e = absurd (ordered (ap source_of e))
-    by_slot (Some Unmade) e = absurd (ordered (ap source_of e))
-    by_slot (Some (Stays k p router)) e = absurd (ordered (ap source_of e))
+    by_slot : (o : Option Slot) → slice_get slots j ≡ o
+        → (place : ℕ) × (entry : GraftEntry) × (slice_get slots place ≡ Some (Made entry)) × (place + 1 ≡ suc j) × (is_open entry.stage ≡ true)
+    by_slot None e = absurd (ordered (ap slot_source e))
+    by_slot (Some Unmade) e = absurd (ordered (ap slot_source e))
+    by_slot (Some (Stays k p router)) e = absurd (ordered (ap slot_source e))
     by_slot (Some (Made entry)) e = (
       j,
       entry,
       e,
       omega arith,
-      opened entry (sources j entry e) (λ none. ordered (ap source_of e ∙ none)) (sym (ap outcome_of e) ∙ unended),
+      opened entry (sources j entry e) (λ none. ordered (ap slot_source e ∙ none)) (sym (ap outcome_of e) ∙ unended),
     )
 
 module _ {C : Type 0} where
   -- nothing but a report may come to the operator
-  only_reports : (session : C → SessionValue) (setup : Setup) (o : Option ActorName) (item : Item C) → ((k : ℕ) (x : Outcome) → item ≡ items.Report k x → ⊥) → MayComeFrom session setup o Operator item → ⊥
+  only_reports : (session : C → SessionValue) (setup : Setup) (o : Option ActorName) (item : Item C)
+      → ((k : ℕ) (x : Outcome) → item ≡ items.Report k x → ⊥) → MayComeFrom session setup o Operator item → ⊥
   only_reports session setup None (items.Seg g) not_report comes = absurd comes
   only_reports session setup (Some (Router r)) (items.Seg g) not_report comes = absurd comes
   only_reports session setup (Some (FarSide p)) (items.Seg g) not_report comes = absurd comes
@@ -115,25 +120,28 @@ module _ {C : Type 0} where
   only_reports session setup (Some (FarSide p)) (items.SayOrder step) not_report comes = absurd comes
   only_reports session setup (Some Operator) (items.SayOrder step) not_report comes = absurd comes
 
-  pub take_drops : (p : Progress) (from : ℕ) (item : Item C) (before after : Post (Item C)) → ActorsHaveNumbers → IsSound p → WroteOne before dropped [] after
-      → ((session : C → SessionValue) → ¬ IsWelcome session (own_part_of (state p)) from item) → Takes from item p before p after
+  pub take_drops : (p : Progress) (from : ℕ) (item : Item C) (before after : Post (Item C)) → ActorsHaveNumbers → ProgressInvariant p
+      → WroteOne before dropped [] after
+      → ((session : C → SessionValue) → ¬ IsWelcome session (own_part_of (progress_state p)) from item) → TakesItem from item p before p after
   take_drops p from item before after numbers sound wrote unwelcome = record {
     deed = deed_of before dropped (Some (from, item)) [];
     does = record {
       wrote = wrote (Some (from, item));
-      replay = λ session. (own_part_of (state p), drops session p.known.setup (part_of (state p)) (part_of (state p)) (clock_of before + 1) (actor_of before) from item (unwelcome session) refl, refl);
+      replay = λ session. (own_part_of (progress_state p), drops session p.known.setup (part_of_state (progress_state p)) (part_of_state (progress_state p)) (clock_of before + 1) (actor_of before) from item (unwelcome session) refl, refl);
       known = refl;
       sound = sound;
     };
     takes = refl;
   }
 
-  pub other_unwelcome : (p : Progress) (from : ℕ) (item : Item C) (session : C → SessionValue) → ((k : ℕ) (x : Outcome) → item ≡ items.Report k x → ⊥) → ¬ IsWelcome session (own_part_of (state p)) from item
+  pub other_unwelcome : (p : Progress) (from : ℕ) (item : Item C) (session : C → SessionValue)
+      → ((k : ℕ) (x : Outcome) → item ≡ items.Report k x → ⊥) → ¬ IsWelcome session (own_part_of (progress_state p)) from item
   other_unwelcome p from item session other welcome = only_reports session p.known.setup (actor_at p.known.setup from) item other welcome.comes
 
-  pub stranger_unwelcome : (p : Progress) (from k : ℕ) (x : Outcome) (session : C → SessionValue) → TakesReports C → NumbersAreOfActors → IsKnown p → length p.script.rooms ≤ from → ¬ IsWelcome session (own_part_of (state p)) from (items.Report k x)
+  pub stranger_unwelcome : (p : Progress) (from k : ℕ) (x : Outcome) (session : C → SessionValue) → TakesReports C → NumbersAreOfActors → IsKnown p
+      → length p.script.rooms ≤ from → ¬ IsWelcome session (own_part_of (progress_state p)) from (items.Report k x)
   stranger_unwelcome p from k x session law actors known le welcome =
-      let h = (law session p.known.setup from k (part_of (state p)) x).0 welcome in
+      let h = (law session p.known.setup from k (part_of_state (progress_state p)) x).0 welcome in
       let r : ℕ = h.0.0 in
       let there = actors p.known.setup from (Router h.0.0) h.0.1 in
       let l : h.0.0 < routers_in p.known.setup = there.0 in
@@ -141,27 +149,29 @@ module _ {C : Type 0} where
       let f : length p.script.rooms ≡ routers_in p.known.setup = as_many_routers p.known.setup p.script known.script in
       absurd (omega arith)
 
-  pub closed_unwelcome : (p : Progress) (from k : ℕ) (x : Outcome) (session : C → SessionValue) → TakesReports C → IsSound p → IsOpenPlace p.slots.items k None → ¬ IsWelcome session (own_part_of (state p)) from (items.Report k x)
+  pub closed_unwelcome : (p : Progress) (from k : ℕ) (x : Outcome) (session : C → SessionValue) → TakesReports C → ProgressInvariant p
+      → IsOpenPlace p.slots.items k None → ¬ IsWelcome session (own_part_of (progress_state p)) from (items.Report k x)
   closed_unwelcome p from k x session law sound none welcome =
-      let h = (law session p.known.setup from k (part_of (state p)) x).0 welcome in
-      let found = open_at p.slots.items k (λ i entry e. ((owner p.known.setup p.group (state p).waiting p.slots.items sound.keeps.slots i (Made entry) e).is.fits.made entry refl).source) h.1 h.2 in
+      let h = (law session p.known.setup from k (part_of_state (progress_state p)) x).0 welcome in
+      let found = open_at p.slots.items k (λ i entry e. ((owner p.known.setup p.group (progress_state p).waiting p.slots.items sound.keeps.slots i (Made entry) e).is.fits.made entry refl).source) h.1 h.2 in
       let closed : is_open found.1.stage ≡ false = none found.0 found.1 found.2 found.3 in
       let opened : is_open found.1.stage ≡ true = found.4 in
       absurd cc
 
-  pub take_notes : (old new : Progress) (from k place : ℕ) (x : Outcome) (before after : Post (Item C)) → ActorsHaveNumbers → TakesReports C → IsSound old → from < length old.script.rooms → IsOpenPlace old.slots.items k (Some place)
-      → WroteOne before (operator_code (Note from)) [] after → Ends old place x new → Takes from (items.Report k x) old before new after
+  pub take_notes : (old new : Progress) (from k place : ℕ) (x : Outcome) (before after : Post (Item C)) → ActorsHaveNumbers → TakesReports C
+      → ProgressInvariant old → from < length old.script.rooms → IsOpenPlace old.slots.items k (Some place)
+      → WroteOne before (operator_code (Note from)) [] after → Ends old place x new → TakesItem from (items.Report k x) old before new after
   take_notes old new from k place x before after numbers law sound l is_place wrote ends = record {
     deed = deed_of before (operator_code (Note from)) (Some (from, items.Report k x)) [];
     does = record {
       wrote = wrote (Some (from, items.Report k x));
       replay = λ session. (
-        own_part_of (graft_noted (state old) place ends.entry x ends.seat),
-        notes session old.known.setup (part_of (state old)) (part_of (graft_noted (state old) place ends.entry x ends.seat)) (clock_of before + 1) (actor_of before) from k x there (welcome session) row,
+        own_part_of (graft_noted (progress_state old) place ends.entry x ends.seat),
+        notes session old.known.setup (part_of_state (progress_state old)) (part_of_state (graft_noted (progress_state old) place ends.entry x ends.seat)) (clock_of before + 1) (actor_of before) from k x there (welcome session) row,
         ap own_part_of ends.changes,
       );
       known = ends.same.known;
-      sound = record { known = known_still old new ends.same sound.known; keeps = subst Keeps (sym ends.changes) (note_keeps (state old) sound.keeps place ends.entry ends.there open_is x ends.seat ends.seated) };
+      sound = record { known = known_still old new ends.same sound.known; keeps = subst OperatorInvariant (sym ends.changes) (note_keeps (progress_state old) sound.keeps place ends.entry ends.there open_is x ends.seat ends.seated) };
     };
     takes = refl;
   }
@@ -175,15 +185,15 @@ module _ {C : Type 0} where
       open_is : is_open ends.entry.stage ≡ true
       open_is = sym (ap (λ (e : GraftEntry). is_open e.stage) entry_is) ∙ is_place.3
 
-      row : Notes from (part_of (state old)) (Some (ReportIn from (record { graft = k; outcome = x }))) [] (part_of (graft_noted (state old) place ends.entry x ends.seat))
-      row = subst (λ (j : ℕ). Notes from (part_of (state old)) (Some (ReportIn from (record { graft = j; outcome = x }))) [] (part_of (graft_noted (state old) place ends.entry x ends.seat))) is_place.2
-          (note_row (state old) sound.keeps place ends.entry ends.there open_is x ends.seat ends.seated from)
+      row : Notes from (part_of_state (progress_state old)) (Some (ReportIn from (record { graft = k; outcome = x }))) [] (part_of_state (graft_noted (progress_state old) place ends.entry x ends.seat))
+      row = subst (λ (j : ℕ). Notes from (part_of_state (progress_state old)) (Some (ReportIn from (record { graft = j; outcome = x }))) [] (part_of_state (graft_noted (progress_state old) place ends.entry x ends.seat))) is_place.2
+          (note_row (progress_state old) sound.keeps place ends.entry ends.there open_is x ends.seat ends.seated from)
 
-      welcome : (session : C → SessionValue) → IsWelcome session (own_part_of (state old)) from (items.Report k x)
-      welcome session = (law session old.known.setup from k (part_of (state old)) x).1 (
+      welcome : (session : C → SessionValue) → IsWelcome session (own_part_of (progress_state old)) from (items.Report k x)
+      welcome session = (law session old.known.setup from k (part_of_state (progress_state old)) x).1 (
         (from, numbers old.known.setup (Router from) there),
-        subst (λ (j : ℕ). source_in old.slots.items j ≢ None) is_place.2 (note_ordered (state old) sound.keeps place ends.entry ends.there open_is x ends.seat ends.seated),
-        subst (λ (j : ℕ). outcome_in old.slots.items j ≡ None) is_place.2 (was_none (state old) sound.keeps place ends.entry ends.there open_is x ends.seat ends.seated),
+        subst (λ (j : ℕ). source_in old.slots.items j ≢ None) is_place.2 (note_ordered (progress_state old) sound.keeps place ends.entry ends.there open_is x ends.seat ends.seated),
+        subst (λ (j : ℕ). outcome_in old.slots.items j ≡ None) is_place.2 (was_none (progress_state old) sound.keeps place ends.entry ends.there open_is x ends.seat ends.seated),
       )
 
 pub not_open : (slots : List Slot) (k : ℕ) (o : Option ℕ) → ((place : ℕ) → o ≡ Some place → ⊥) → IsOpenPlace slots k o → IsOpenPlace slots k None

@@ -3,7 +3,7 @@ use Rattle.std.proofs.Common.{◌≡◌, ℕ, zero, suc, true, false, cond, ◌|
 use Rattle.std.specs.Prelude.{◌≢◌, slice_get, slice_set, not, if◌then◌else◌}
 use Rattle.std.specs.List.{list_any, AllByRecursion}
 use Rattle.operator_core.specs.declared.groups.Task.{Task}
-use Rattle.operator_core.specs.Tasks.{done, unissued}
+use Rattle.operator_core.specs.Tasks.{task_issued, unissued}
 use Rattle.operator_core.proofs.Lists.{by_test}
 
 skips : (task : Task) (tasks : List Task) → task.issued ≡ true → unissued (task ∷ tasks) ≡ unissued tasks
@@ -25,31 +25,36 @@ alike_too task one other e = elim (by_test task.issued) [
   | inr f ↦ keeps task one f ∙ ap (λ ts. task ∷ ts) e ∙ sym (keeps task other f)
 ]
 
-pub split_at : (tasks : List Task) (i : ℕ) (task : Task) → slice_get tasks i ≡ Some task → task.issued ≡ false → unissued tasks ≡ unissued (take i tasks) ++ task ∷ unissued (drop (suc i) tasks)
+pub split_at : (tasks : List Task) (i : ℕ) (task : Task) → slice_get tasks i ≡ Some task → task.issued ≡ false
+    → unissued tasks ≡ unissued (take i tasks) ++ task ∷ unissued (drop (suc i) tasks)
 split_at [] i task e waits = absurd cc
 split_at (t ∷ tasks) zero task e waits =
     let same : t ≡ task = cc in
     keeps t tasks (ap (λ (x : Task). x.issued) same ∙ waits) ∙ ap (λ (x : Task). x ∷ unissued tasks) same
 split_at (t ∷ tasks) (suc i) task e waits = alike t tasks (take i tasks) (task ∷ unissued (drop (suc i) tasks)) (split_at tasks i task e waits)
 
-pub split_done : (tasks : List Task) (i : ℕ) (task : Task) → slice_get tasks i ≡ Some task → unissued (slice_set tasks i (done task)) ≡ unissued (take i tasks) ++ unissued (drop (suc i) tasks)
+pub split_done : (tasks : List Task) (i : ℕ) (task : Task) → slice_get tasks i ≡ Some task
+    → unissued (slice_set tasks i (task_issued task)) ≡ unissued (take i tasks) ++ unissued (drop (suc i) tasks)
 split_done [] i task e = absurd cc
 split_done (t ∷ tasks) zero task e = refl
-split_done (t ∷ tasks) (suc i) task e = alike t (slice_set tasks i (done task)) (take i tasks) (unissued (drop (suc i) tasks)) (split_done tasks i task e)
+split_done (t ∷ tasks) (suc i) task e = alike t (slice_set tasks i (task_issued task)) (take i tasks) (unissued (drop (suc i) tasks)) (split_done tasks i task e)
 
-pub before_done : (tasks : List Task) (i : ℕ) (task : Task) → slice_get tasks i ≡ Some task → unissued (take (suc i) (slice_set tasks i (done task))) ≡ unissued (take i tasks)
+pub before_done : (tasks : List Task) (i : ℕ) (task : Task) → slice_get tasks i ≡ Some task
+    → unissued (take (suc i) (slice_set tasks i (task_issued task))) ≡ unissued (take i tasks)
 before_done [] i task e = absurd cc
 before_done (t ∷ tasks) zero task e = refl
-before_done (t ∷ tasks) (suc i) task e = alike_too t (take (suc i) (slice_set tasks i (done task))) (take i tasks) (before_done tasks i task e)
+before_done (t ∷ tasks) (suc i) task e = alike_too t (take (suc i) (slice_set tasks i (task_issued task))) (take i tasks) (before_done tasks i task e)
 
-pub before_more : (tasks : List Task) (i : ℕ) (task : Task) → slice_get tasks i ≡ Some task → task.issued ≡ false → unissued (take (suc i) tasks) ≡ unissued (take i tasks) ++ task ∷ []
+pub before_more : (tasks : List Task) (i : ℕ) (task : Task) → slice_get tasks i ≡ Some task → task.issued ≡ false
+    → unissued (take (suc i) tasks) ≡ unissued (take i tasks) ++ task ∷ []
 before_more [] i task e waits = absurd cc
 before_more (t ∷ tasks) zero task e waits =
     let same : t ≡ task = cc in
     keeps t [] (ap (λ (x : Task). x.issued) same ∙ waits) ∙ ap (λ (x : Task). x ∷ []) same
 before_more (t ∷ tasks) (suc i) task e waits = alike t (take (suc i) tasks) (take i tasks) (task ∷ []) (before_more tasks i task e waits)
 
-pub before_same : (tasks : List Task) (i : ℕ) (task : Task) → slice_get tasks i ≡ Some task → task.issued ≡ true → unissued (take (suc i) tasks) ≡ unissued (take i tasks)
+pub before_same : (tasks : List Task) (i : ℕ) (task : Task) → slice_get tasks i ≡ Some task → task.issued ≡ true
+    → unissued (take (suc i) tasks) ≡ unissued (take i tasks)
 before_same [] i task e done_is = absurd cc
 before_same (t ∷ tasks) zero task e done_is = let same : t ≡ task = cc in skips t [] (ap (λ (x : Task). x.issued) same ∙ done_is)
 before_same (t ∷ tasks) (suc i) task e done_is = alike_too t (take (suc i) tasks) (take i tasks) (before_same tasks i task e done_is)
@@ -63,7 +68,8 @@ all_taken (t ∷ tasks) (suc n) e = alike_too t (take n tasks) tasks (all_taken 
 pub kept_alike : (tasks : List Task) → unissued (filter (λ task. not task.issued) tasks) ≡ unissued tasks
 kept_alike [] = refl
 kept_alike (t ∷ tasks) = elim (by_test t.issued) [
-  | inl f ↦ ap (λ b. unissued (cond (not b) (t ∷ filter (λ task. not task.issued) tasks) (filter (λ task. not task.issued) tasks))) f ∙ kept_alike tasks ∙ sym (skips t tasks f)
+  | inl f ↦ ap (λ b. unissued (cond (not b) (t ∷ filter (λ task. not task.issued) tasks) (filter (λ task. not task.issued) tasks))) f
+      ∙ kept_alike tasks ∙ sym (skips t tasks f)
   | inr f ↦ ap (λ b. unissued (cond (not b) (t ∷ filter (λ task. not task.issued) tasks) (filter (λ task. not task.issued) tasks))) f
       ∙ alike_too t (filter (λ task. not task.issued) tasks) tasks (kept_alike tasks)
 ]

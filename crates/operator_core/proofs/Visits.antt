@@ -11,7 +11,7 @@ use Rattle.graft_steps.specs.declared.item.Item.TheVariants.{SayOrder, GraftOrde
 use Rattle.graft_steps.specs.declared.log.GraftEntry.{GraftEntry}
 use Rattle.graft_model.specs.declared.event.OperatorEvent.TheVariants.{Go, Order}
 use Rattle.graft_model.specs.Codes.{operator_code}
-use Rattle.graft_runs.specs.Laws.{ActorsHaveNumbers}
+use Rattle.graft_actors.specs.Laws.{ActorsHaveNumbers}
 use Rattle.graft_actors.specs.Notes.{deed_of}
 use Rattle.operator_core.specs.declared.grafts.Move.{Move}
 use Rattle.operator_core.specs.declared.grafts.Seat.{Seat}
@@ -21,11 +21,11 @@ use Rattle.operator_core.specs.declared.groups.Task.{Task}
 use Rattle.operator_core.specs.declared.progress.Progress.{Progress}
 use Rattle.operator_core.specs.declared.script.ScriptStep.TheVariants.{Say, Settle}
 use Rattle.operator_core.specs.Slots.{slot_at, move_of}
-use Rattle.operator_core.specs.Tasks.{done, unissued}
-use Rattle.operator_core.specs.States.{State, part_of}
-use Rattle.operator_core.specs.Keeps.{IsGraftTask, Waits, Keeps}
-use Rattle.operator_core.specs.Issues.{IsHeld, waiting_are, graft_issued}
-use Rattle.operator_core.specs.Progresses.{state, own_part_of, IsKnown, SameScript, HeldUpTo, IsOrderOf, IssuesGraft, Visits}
+use Rattle.operator_core.specs.Tasks.{task_issued, unissued}
+use Rattle.operator_core.specs.States.{State, part_of_state}
+use Rattle.operator_core.specs.Keeps.{IsGraftTask, IsWaitingTask, OperatorInvariant}
+use Rattle.operator_core.specs.Issues.{IsGraftHeldUp, waiting_are, graft_issued}
+use Rattle.operator_core.specs.Progresses.{progress_state, own_part_of, IsKnown, SameScript, HeldUpTo, IsOrderOf, IssuesGraft, VisitsTask}
 use Rattle.operator_core.proofs.Lists.{all_append, all_map, length_set, one_member}
 use Rattle.operator_core.proofs.SlotLaws.{slot_next}
 use Rattle.operator_core.proofs.Tasks.{split_at, split_done, before_done, before_more, before_same}
@@ -56,26 +56,28 @@ module _ (old : Progress) (place : ℕ) where
 
   -- the state once the task there has a remote say something, or its graft is ordered
   abbrev said : State
-  said = waiting_are (state old) (kept ++ rest)
+  said = waiting_are (progress_state old) (kept ++ rest)
 
   abbrev ordered : ℕ → GraftEntry → Seat → State
-  ordered at_place entry seat = waiting_are (graft_issued (state old) at_place entry seat) (kept ++ rest)
+  ordered at_place entry seat = waiting_are (graft_issued (progress_state old) at_place entry seat) (kept ++ rest)
 
   module _ (task : Task) (there : slice_get old.tasks.items place ≡ Some task) (unissued_is : task.issued ≡ false) where
     -- the tasks that wait, about this one
-    split : (state old).waiting ≡ kept ++ task ∷ rest
+    split : (progress_state old).waiting ≡ kept ++ task ∷ rest
     split = split_at old.tasks.items place task there unissued_is
 
-    it_waits : Keeps (state old) → HeldUpTo old place → Waits old.known.setup old.group old.next task
-    it_waits keeps helds = waits (state old) keeps kept rest task split helds
+    it_waits : OperatorInvariant (progress_state old) → HeldUpTo old place → IsWaitingTask old.known.setup old.group old.next task
+    it_waits keeps helds = waits (progress_state old) keeps kept rest task split helds
 
-    it_is_of_step : IsKnown old → Keeps (state old) → HeldUpTo old place → (number : ℕ) → IsOrderOf old task number → IsGraftTask old.known.setup task
+    it_is_of_step : IsKnown old → OperatorInvariant (progress_state old) → HeldUpTo old place → (number : ℕ) → IsOrderOf old task number
+        → IsGraftTask old.known.setup task
     it_is_of_step known keeps helds number is = graft_task old.known.setup old.script known.script old.group old.next task number (it_waits keeps helds) is
 
 module _ {C : Type 0} (old : Progress) (place : ℕ) (task : Task) (there : slice_get old.tasks.items place ≡ Some task) where
   -- ---- nothing happens
 
-  stays : (post : Post (Item C)) → (IsKnown old → Keeps (state old) → HeldUpTo old place → HeldUpTo old (place + 1)) → Visits old place post old post
+  stays : (post : Post (Item C)) → (IsKnown old → OperatorInvariant (progress_state old) → HeldUpTo old place → HeldUpTo old (place + 1))
+      → VisitsTask old place post old post
   stays post held = record {
     deeds = [];
     wrote = wrote_none post;
@@ -88,20 +90,21 @@ module _ {C : Type 0} (old : Progress) (place : ℕ) (task : Task) (there : slic
     replay = λ known keeps helds session. refl;
   }
 
-  pub visit_done : (post : Post (Item C)) → task.issued ≡ true → Visits old place post old post
-  visit_done post is_done = stays post (λ known keeps helds. subst (λ (ts : List Task). AllByRecursion (IsHeld (state old)) ts)
+  pub visit_done : (post : Post (Item C)) → task.issued ≡ true → VisitsTask old place post old post
+  visit_done post is_done = stays post (λ known keeps helds. subst (λ (ts : List Task). AllByRecursion (IsGraftHeldUp (progress_state old)) ts)
       (sym (ap (λ n. unissued (take n old.tasks.items)) (next_place place) ∙ before_same old.tasks.items place task there is_done)) helds)
 
   module _ (unissued_is : task.issued ≡ false) where
     -- ---- it waits still
 
-    pub visit_held : (post : Post (Item C)) (moves : Move) → move_of (slot_at old.slots.items task.graft) ≡ Some moves → (seat : Seat) → slice_get old.seats.items moves.peering.0 ≡ Some seat
-        → seat.moving ≡ true → Visits old place post old post
-    visit_held post moves made seat seated moving = stays post (λ known keeps helds. subst (λ (ts : List Task). AllByRecursion (IsHeld (state old)) ts)
+    pub visit_held : (post : Post (Item C)) (moves : Move) → move_of (slot_at old.slots.items task.graft) ≡ Some moves → (seat : Seat)
+        → slice_get old.seats.items moves.peering.0 ≡ Some seat
+        → seat.moving ≡ true → VisitsTask old place post old post
+    visit_held post moves made seat seated moving = stays post (λ known keeps helds. subst (λ (ts : List Task). AllByRecursion (IsGraftHeldUp (progress_state old)) ts)
         (sym (ap (λ n. unissued (take n old.tasks.items)) (next_place place) ∙ before_more old.tasks.items place task there unissued_is))
-        (all_append (IsHeld (state old)) (kept old place) (task ∷ []) helds (held (slot_at old.slots.items task.graft) refl made, tt)))
+        (all_append (IsGraftHeldUp (progress_state old)) (kept old place) (task ∷ []) helds (held (slot_at old.slots.items task.graft) refl made, tt)))
       where
-        held : (o : Option Slot) → slot_at old.slots.items task.graft ≡ o → move_of o ≡ Some moves → IsHeld (state old) task
+        held : (o : Option Slot) → slot_at old.slots.items task.graft ≡ o → move_of o ≡ Some moves → IsGraftHeldUp (progress_state old) task
         held None e made' = absurd cc
         held (Some Unmade) e made' = absurd cc
         held (Some (Stays k p router)) e made' = absurd cc
@@ -109,32 +112,36 @@ module _ {C : Type 0} (old : Progress) (place : ℕ) (task : Task) (there : slic
             let same : record { peering = entry.peering; target = entry.target } ≡ moves = cc in
             record { entry = entry; is = e; seat = seat; seated = ap (λ (m : Move). slice_get old.seats.items m.peering.0) same ∙ seated; moving = moving }
 
-    pub visit_settle : (post : Post (Item C)) → slice_get old.script.steps task.step ≡ Some Settle → Visits old place post old post
+    pub visit_settle : (post : Post (Item C)) → slice_get old.script.steps task.step ≡ Some Settle → VisitsTask old place post old post
     visit_settle post is = stays post (λ known keeps helds. absurd ((it_waits old place task there unissued_is keeps helds).issuable (settle_there old.known.setup old.script known.script task.step is)))
 
     -- a graft's task whose graft isn't made isn't there
-    pub visit_unmade : (post : Post (Item C)) (number : ℕ) → IsOrderOf old task number → move_of (slot_at old.slots.items task.graft) ≡ None → Visits old place post old post
+    pub visit_unmade : (post : Post (Item C)) (number : ℕ) → IsOrderOf old task number → move_of (slot_at old.slots.items task.graft) ≡ None
+        → VisitsTask old place post old post
     visit_unmade post number is unmade = stays post (λ known keeps helds. absurd (
-        let made = made_there (state old) keeps (kept old place) (rest old place) task (split old place task there unissued_is) helds (it_is_of_step old place task there unissued_is known keeps helds number is) in
+        let made = made_there (progress_state old) keeps (kept old place) (rest old place) task (split old place task there unissued_is) helds (it_is_of_step old place task there unissued_is known keeps helds number is) in
         let e : Some made.0 ≡ None = sym made.1 ∙ unmade in cc))
 
     -- ---- it is issued
 
-    module _ (numbers : ActorsHaveNumbers) (mid new : Progress) (mid_new : SameScript mid new) (mid_state : state new ≡ waiting_are (state mid) (unissued new.tasks.items))
-        (done_is : new.tasks.items ≡ slice_set mid.tasks.items place (done task)) (before after : Post (Item C)) where
+    module _ (numbers : ActorsHaveNumbers) (mid new : Progress) (mid_new : SameScript mid new) (mid_state : progress_state new ≡ waiting_are (progress_state mid) (unissued new.tasks.items))
+        (done_is : new.tasks.items ≡ slice_set mid.tasks.items place (task_issued task)) (before after : Post (Item C)) where
       -- what waits then
       left_is : mid.tasks.items ≡ old.tasks.items → unissued new.tasks.items ≡ kept old place ++ rest old place
-      left_is same = ap unissued (done_is ∙ ap (λ tasks. slice_set tasks place (done task)) same) ∙ split_done old.tasks.items place task there
+      left_is same = ap unissued (done_is ∙ ap (λ tasks. slice_set tasks place (task_issued task)) same) ∙ split_done old.tasks.items place task there
 
       before_is : mid.tasks.items ≡ old.tasks.items → unissued (take (place + 1) new.tasks.items) ≡ kept old place
-      before_is same = ap (λ n. unissued (take n new.tasks.items)) (next_place place) ∙ ap (λ tasks. unissued (take (suc place) tasks)) (done_is ∙ ap (λ tasks. slice_set tasks place (done task)) same)
+      before_is same = ap (λ n. unissued (take n new.tasks.items)) (next_place place)
+          ∙ ap (λ tasks. unissued (take (suc place) tasks)) (done_is ∙ ap (λ tasks. slice_set tasks place (task_issued task)) same)
           ∙ before_done old.tasks.items place task there
 
       as_many_tasks : mid.tasks.items ≡ old.tasks.items → length new.tasks.items ≡ length old.tasks.items
-      as_many_tasks same = ap length done_is ∙ length_set mid.tasks.items place (done task) ∙ ap length same
+      as_many_tasks same = ap length done_is ∙ length_set mid.tasks.items place (task_issued task) ∙ ap length same
 
-      pub visit_says : (p : PeeringId) → slice_get old.script.steps task.step ≡ Some (Say p) → SameScript old mid → mid.tasks.items ≡ old.tasks.items → state mid ≡ state old
-          → Wrote before (deed_of before (operator_code (Order task.step 0)) None ((length old.script.rooms + p.0, SayOrder task.step) ∷ []) ∷ []) after → Visits old place before new after
+      pub visit_says : (p : PeeringId) → slice_get old.script.steps task.step ≡ Some (Say p) → SameScript old mid → mid.tasks.items ≡ old.tasks.items
+          → progress_state mid ≡ progress_state old
+          → Wrote before (deed_of before (operator_code (Order task.step 0)) None ((length old.script.rooms + p.0, SayOrder task.step) ∷ []) ∷ []) after
+          → VisitsTask old place before new after
       visit_says p is same tasks state_is wrote = record {
         deeds = deed_of before (operator_code (Order task.step 0)) None ((length old.script.rooms + p.0, SayOrder task.step) ∷ []) ∷ [];
         wrote = wrote;
@@ -142,28 +149,28 @@ module _ {C : Type 0} (old : Progress) (place : ℕ) (task : Task) (there : slic
         no_go = (no_go task.step 0, tt);
         same = same_then old mid new same mid_new;
         as_many = as_many_tasks tasks;
-        keeps = λ known keeps helds. subst Keeps (sym whole) (
+        keeps = λ known keeps helds. subst OperatorInvariant (sym whole) (
             let found = say_there old.known.setup old.script known.script task.step p is in
-            say_keeps (state old) keeps (kept old place) (rest old place) task (split old place task there unissued_is) helds p.0 found.0 found.1);
-        held = λ known keeps helds. subst (λ (ts : List Task). AllByRecursion (IsHeld (state new)) ts) (sym (before_is tasks))
-            (subst (λ (s : State). AllByRecursion (IsHeld s) (kept old place)) (sym whole)
-            (all_map (IsHeld (state old)) (IsHeld (said old place)) (kept old place) (λ m h. record { entry = h.entry; is = h.is; seat = h.seat; seated = h.seated; moving = h.moving }) helds));
+            say_keeps (progress_state old) keeps (kept old place) (rest old place) task (split old place task there unissued_is) helds p.0 found.0 found.1);
+        held = λ known keeps helds. subst (λ (ts : List Task). AllByRecursion (IsGraftHeldUp (progress_state new)) ts) (sym (before_is tasks))
+            (subst (λ (s : State). AllByRecursion (IsGraftHeldUp s) (kept old place)) (sym whole)
+            (all_map (IsGraftHeldUp (progress_state old)) (IsGraftHeldUp (said old place)) (kept old place) (λ m h. record { entry = h.entry; is = h.is; seat = h.seat; seated = h.seated; moving = h.moving }) helds));
         replay = λ known keeps helds session. (
             let found = say_there old.known.setup old.script known.script task.step p is in (
               own_part_of (said old place),
-              says session old.known.setup (part_of (state old)) (part_of (said old place)) (clock_of before + 1) (actor_of before)
+              says session old.known.setup (part_of_state (progress_state old)) (part_of_state (said old place)) (clock_of before + 1) (actor_of before)
                   numbers task.step p.0 (length old.script.rooms + p.0) (keeps.sound.says task.step p.0 found.0 found.1) (ap (λ k. k + p.0) (as_many_routers old.known.setup old.script known.script))
-                  (say_row (state old) keeps (kept old place) (rest old place) task (split old place task there unissued_is) helds p.0 found.0 found.1),
+                  (say_row (progress_state old) keeps (kept old place) (rest old place) task (split old place task there unissued_is) helds p.0 found.0 found.1),
               ap own_part_of whole,
             ));
       }
         where
-          whole : state new ≡ (said old place)
-          whole = mid_state ∙ ap (λ (s : State). waiting_are s (unissued new.tasks.items)) state_is ∙ ap (waiting_are (state old)) (left_is tasks)
+          whole : progress_state new ≡ (said old place)
+          whole = mid_state ∙ ap (λ (s : State). waiting_are s (unissued new.tasks.items)) state_is ∙ ap (waiting_are (progress_state old)) (left_is tasks)
 
       pub visit_orders : (moves : Move) (number : ℕ) → IsOrderOf old task number → move_of (slot_at old.slots.items task.graft) ≡ Some moves
           → (seat : Seat) → slice_get old.seats.items moves.peering.0 ≡ Some seat → seat.moving ≡ false
-          → IssuesGraft old task moves number before mid after → Visits old place before new after
+          → IssuesGraft old task moves number before mid after → VisitsTask old place before new after
       visit_orders moves number is made seat seated still issued = record {
         deeds = deed_of before (operator_code (Order task.step number)) None ((issued.seat.place.0, GraftOrder task.graft issued.entry.peering issued.entry.target) ∷ []) ∷ [];
         wrote = issued.wrote;
@@ -171,16 +178,16 @@ module _ {C : Type 0} (old : Progress) (place : ℕ) (task : Task) (there : slic
         no_go = (no_go task.step number, tt);
         same = same_then old mid new issued.same mid_new;
         as_many = as_many_tasks issued.tasks;
-        keeps = λ known keeps helds. subst Keeps (sym whole)
-            (graft_keeps (state old) keeps (kept old place) (rest old place) task (split old place task there unissued_is) helds (it_is_of_step old place task there unissued_is known keeps helds number is) issued.place issued.is_place issued.entry issued.there issued.seat issued.seated still_too);
-        held = λ known keeps helds. subst (λ (ts : List Task). AllByRecursion (IsHeld (state new)) ts) (sym (before_is issued.tasks))
-            (subst (λ (s : State). AllByRecursion (IsHeld s) (kept old place)) (sym whole)
-            (held_others (state old) keeps (kept old place) (rest old place) task (split old place task there unissued_is) helds (it_is_of_step old place task there unissued_is known keeps helds number is) issued.place issued.is_place issued.entry issued.there issued.seat issued.seated still_too));
+        keeps = λ known keeps helds. subst OperatorInvariant (sym whole)
+            (graft_keeps (progress_state old) keeps (kept old place) (rest old place) task (split old place task there unissued_is) helds (it_is_of_step old place task there unissued_is known keeps helds number is) issued.place issued.is_place issued.entry issued.there issued.seat issued.seated still_too);
+        held = λ known keeps helds. subst (λ (ts : List Task). AllByRecursion (IsGraftHeldUp (progress_state new)) ts) (sym (before_is issued.tasks))
+            (subst (λ (s : State). AllByRecursion (IsGraftHeldUp s) (kept old place)) (sym whole)
+            (held_others (progress_state old) keeps (kept old place) (rest old place) task (split old place task there unissued_is) helds (it_is_of_step old place task there unissued_is known keeps helds number is) issued.place issued.is_place issued.entry issued.there issued.seat issued.seated still_too));
         replay = λ known keeps helds session. (
           own_part_of (ordered old place issued.place issued.entry issued.seat),
-          orders session old.known.setup (part_of (state old)) (part_of (ordered old place issued.place issued.entry issued.seat)) (clock_of before + 1) (actor_of before) numbers task.step number task.graft issued.entry.peering issued.entry.target
+          orders session old.known.setup (part_of_state (progress_state old)) (part_of_state (ordered old place issued.place issued.entry issued.seat)) (clock_of before + 1) (actor_of before) numbers task.step number task.graft issued.entry.peering issued.entry.target
               issued.seat.place (keeps.seats.each issued.entry.peering.0 issued.seat issued.seated).there
-              (graft_row (state old) keeps (kept old place) (rest old place) task (split old place task there unissued_is) helds (it_is_of_step old place task there unissued_is known keeps helds number is) issued.place issued.is_place issued.entry issued.there issued.seat issued.seated still_too number
+              (graft_row (progress_state old) keeps (kept old place) (rest old place) task (split old place task there unissued_is) helds (it_is_of_step old place task there unissued_is known keeps helds number is) issued.place issued.is_place issued.entry issued.there issued.seat issued.seated still_too number
               (number_there old.known.setup old.script known.script task number is)),
           ap own_part_of whole,
         );
@@ -190,11 +197,14 @@ module _ {C : Type 0} (old : Progress) (place : ℕ) (task : Task) (there : slic
           names : record { peering = issued.entry.peering; target = issued.entry.target } ≡ moves
           names = one (slot_at old.slots.items task.graft) (ap (slot_at old.slots.items) (sym issued.is_place) ∙ slot_next old.slots.items issued.place ∙ issued.there) made
             where
-              one : (o : Option Slot) → o ≡ Some (Made issued.entry) → move_of o ≡ Some moves → record { peering = issued.entry.peering; target = issued.entry.target } ≡ moves
+              one : (o : Option Slot) → o ≡ Some (Made issued.entry) → move_of o ≡ Some moves
+                  → record { peering = issued.entry.peering; target = issued.entry.target } ≡ moves
               one o e f = let g : Some (record { peering = issued.entry.peering; target = issued.entry.target }) ≡ Some moves = sym (ap move_of e) ∙ f in cc
 
           still_too : issued.seat.moving ≡ false
-          still_too = ap (λ (x : Seat). x.moving) (one_member (slice_get old.seats.items moves.peering.0) issued.seat seat (sym (ap (λ (m : Move). slice_get old.seats.items m.peering.0) names) ∙ issued.seated) seated) ∙ still
+          still_too = ap (λ (x : Seat). x.moving) (one_member (slice_get old.seats.items moves.peering.0) issued.seat seat (sym (ap (λ (m : Move). slice_get old.seats.items m.peering.0) names) ∙ issued.seated) seated)
+              ∙ still
 
-          whole : state new ≡ ordered old place issued.place issued.entry issued.seat
-          whole = mid_state ∙ ap (λ (s : State). waiting_are s (unissued new.tasks.items)) issued.changes ∙ ap (waiting_are (graft_issued (state old) issued.place issued.entry issued.seat)) (left_is issued.tasks)
+          whole : progress_state new ≡ ordered old place issued.place issued.entry issued.seat
+          whole = mid_state ∙ ap (λ (s : State). waiting_are s (unissued new.tasks.items)) issued.changes
+              ∙ ap (waiting_are (graft_issued (progress_state old) issued.place issued.entry issued.seat)) (left_is issued.tasks)

@@ -16,8 +16,8 @@ use Rattle.operator_core.specs.Slots.{waiting_entry}
 abbrev pub load_of : List Seat → ℕ → ℕ
 load_of seats r = count_by (λ seat. seat.place.0 == r) seats
 
-abbrev pub loads_of : List Seat → ℕ → List ℕ
-loads_of seats routers = map (load_of seats) (range_with_len 0 routers)
+abbrev pub seat_loads : List Seat → ℕ → List ℕ
+seat_loads seats routers = map (load_of seats) (range_with_len 0 routers)
 
 -- the peerings whose sessions belong at a router, where the first seat is that of peering p
 abbrev pub seated_from : ℕ → RouterId → List Seat → List PeeringId

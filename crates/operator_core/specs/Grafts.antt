@@ -15,19 +15,19 @@ use Rattle.operator_core.specs.declared.grafts.Seat.{Seat}
 -- ---- the log, as the operator's part of the world has it
 
 -- the stage of a graft: it waits until it has a source, and it ends with its outcome
-abbrev pub stage_of : Option ℕ → Option Outcome → GraftStage
-stage_of source (Some outcome) = Ended outcome
-stage_of None None = Waiting
-stage_of (Some r) None = Issued
+abbrev pub graft_stage : Option ℕ → Option Outcome → GraftStage
+graft_stage source (Some outcome) = Ended outcome
+graft_stage None None = Waiting
+graft_stage (Some r) None = Issued
 
 -- the entry of a graft with a target
-abbrev pub entry_of : OperatorPart → ScriptGraft → ℕ → GraftEntry
-entry_of part g target = record {
+abbrev pub log_entry : OperatorPart → ScriptGraft → ℕ → GraftEntry
+log_entry part g target = record {
   graft = g.graft;
   peering = record { 0 = g.peering };
   source = option_map (λ r. record { 0 = r }) (part.source g.graft);
   target = record { 0 = target };
-  stage = stage_of (part.source g.graft) (part.outcome g.graft);
+  stage = graft_stage (part.source g.graft) (part.outcome g.graft);
 }
 
 -- a session of the router r, which is emptied, has no target: it stays there
@@ -42,18 +42,18 @@ staying_entry g r = record {
 
 abbrev pub given_entries : OperatorPart → ScriptGraft → Gift → List GraftEntry
 given_entries part g Unmade = []
-given_entries part g (To target) = entry_of part g target ∷ []
+given_entries part g (To target) = log_entry part g target ∷ []
 given_entries part g (Stays router) = staying_entry g router ∷ []
 
 -- the entry of a graft of this step, if the log has one
-abbrev pub entries_by : OperatorPart → Option StepOf → ScriptGraft → List GraftEntry
-entries_by part (Some (MoveStep peering target)) g = entry_of part g target ∷ []
-entries_by part (Some (EvacuateStep router)) g = given_entries part g (part.given g.graft)
-entries_by part _ g = []
+abbrev pub log_entries : OperatorPart → Option StepOf → ScriptGraft → List GraftEntry
+log_entries part (Some (MoveStep peering target)) g = log_entry part g target ∷ []
+log_entries part (Some (EvacuateStep router)) g = given_entries part g (part.given g.graft)
+log_entries part _ g = []
 
 -- the grafts of the script's graft steps, and those that its evacuate steps made as their groups began, in the order of their numbers
 abbrev pub log_of : Setup → OperatorPart → List GraftEntry
-log_of setup part = flat_map (λ g. entries_by part (slice_get setup.steps g.step) g) (grafts_in setup)
+log_of setup part = flat_map (λ g. log_entries part (slice_get setup.steps g.step) g) (grafts_in setup)
 
 -- ---- how far a graft is
 

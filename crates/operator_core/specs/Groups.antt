@@ -8,7 +8,7 @@ use Rattle.operator_core.specs.declared.groups.Task.{Task}
 use Rattle.operator_core.specs.declared.script.Script.{Script}
 use Rattle.operator_core.specs.declared.script.ScriptStep.{ScriptStep}
 use Rattle.operator_core.specs.declared.script.ScriptStep.TheVariants.{Say, Graft, Evacuate, Settle}
-use Rattle.operator_core.specs.Evacuate.{loads_of, gifts_by}
+use Rattle.operator_core.specs.Evacuate.{seat_loads, gifts_by}
 use Rattle.operator_core.specs.Tasks.{tasks_by}
 
 -- ---- numbers
@@ -42,7 +42,7 @@ module _ (script : Script) (numbers : List ℕ) (seats : List Seat) where
   -- what the step at a place gives
   abbrev pub gifts_of_step : ℕ → Option ScriptStep → List Gift
   gifts_of_step n None = []
-  gifts_of_step n (Some step) = gifts_by seats (loads_of seats (length script.rooms)) script.rooms (slice_index_or numbers n 0) step
+  gifts_of_step n (Some step) = gifts_by seats (seat_loads seats (length script.rooms)) script.rooms (slice_index_or numbers n 0) step
 
   abbrev pub tasks_of_step : ℕ → Option ScriptStep → List Task
   tasks_of_step n None = []

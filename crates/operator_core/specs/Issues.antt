@@ -10,7 +10,7 @@ use Rattle.operator_core.specs.Slots.{slot_at}
 use Rattle.operator_core.specs.States.{State}
 
 -- The graft of a task is held up: another graft of its peering is outstanding.
-pub record IsHeld (s : State) (task : Task) : Type 0 where
+pub record IsGraftHeldUp (s : State) (task : Task) : Type 0 where
   pub entry : GraftEntry
   pub is : slot_at s.slots task.graft ≡ Some (Made entry)
   pub seat : Seat

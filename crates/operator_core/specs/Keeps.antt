@@ -43,7 +43,7 @@ abbrev pub IsGraftTask : Setup → Task → Type 0
 IsGraftTask setup task = option_map (λ g. g.step) (graft_at setup task.graft) ≡ Some task.step
 
 -- a task of the current group, which ends before the step `next`; what the task orders agrees with its step
-pub record Waits (setup : Setup) (group next : ℕ) (task : Task) : Type 0 where
+pub record IsWaitingTask (setup : Setup) (group next : ℕ) (task : Task) : Type 0 where
   pub group_is : group_of setup task.step ≡ group
   pub before : task.step < next
   pub says : (p : ℕ) (bytes : List ℕ) → slice_get setup.steps task.step ≡ Some (SayStep p bytes) → task.graft ≡ 0
@@ -102,20 +102,21 @@ is_first (Some (EvacuateStep router)) slot = is_unmade slot
 is_first _ slot = false
 
 -- a graft has ended, if it exists
-abbrev pub IsOver : Slot → Type 0
-IsOver slot = (entry : GraftEntry) → slot ≡ Made entry → outcome_at entry.stage ≢ None
+abbrev pub IsSlotOver : Slot → Type 0
+IsSlotOver slot = (entry : GraftEntry) → slot ≡ Made entry → outcome_at entry.stage ≢ None
 
 -- A graft of an earlier group has ended; one of the current group waits exactly where it has a pending task; and the slot of a later one is as it was
 -- at first.
 pub record IsSlot (setup : Setup) (group : ℕ) (tasks : List Task) (g : ScriptGraft) (slot : Slot) : Type 0 where
   pub fits : IsSlotOf setup g slot
-  pub past : group_of setup g.step < group → IsOver slot
+  pub past : group_of setup g.step < group → IsSlotOver slot
   pub now : group_of setup g.step ≡ group → slot_waits slot ≡ has_task tasks g.step g.graft
   pub later : group < group_of setup g.step → is_first (slice_get setup.steps g.step) slot ≡ true
 
 -- When a graft was ordered, the earlier grafts of its peering had ended.
 abbrev pub InTurn : List Slot → Type 0
-InTurn slots = (i j : ℕ) (one other : GraftEntry) → i < j → slice_get slots i ≡ Some (Made one) → slice_get slots j ≡ Some (Made other) → one.peering.0 ≡ other.peering.0
+InTurn slots = (i j : ℕ) (one other : GraftEntry) → i < j → slice_get slots i ≡ Some (Made one) → slice_get slots j ≡ Some (Made other)
+    → one.peering.0 ≡ other.peering.0
     → is_waiting other.stage ≡ false → outcome_at one.stage ≢ None
 
 -- There is a slot for each graft of the script.
@@ -152,10 +153,10 @@ pub record EndsAt (setup : Setup) (group next : ℕ) : Type 0 where
   pub begins : group_of setup next ≡ group + 1
   pub before : (n : ℕ) → n < next → group_of setup n ≤ group
 
-pub record Keeps (s : State) : Type 0 where
+pub record OperatorInvariant (s : State) : Type 0 where
   pub sound : StepsAreSound s.setup
   pub ends : EndsAt s.setup s.group s.next
-  pub waiting : AllByRecursion (Waits s.setup s.group s.next) s.waiting
+  pub waiting : AllByRecursion (IsWaitingTask s.setup s.group s.next) s.waiting
   pub rising : Rises s.waiting
   pub slots : SlotsStand s.setup s.group s.waiting s.slots
   pub seats : SeatsStand s.setup s.slots s.seats

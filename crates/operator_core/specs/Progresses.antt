@@ -16,7 +16,7 @@ use Rattle.graft_model.specs.Setups.{Setup, EvacuateStep, ScriptGraft, group_of,
 use Rattle.graft_model.specs.Parts.{OperatorPart}
 use Rattle.graft_model.specs.Placements.{placement}
 use Rattle.graft_model.specs.Evacuations.{gift_to}
-use Rattle.graft_runs.specs.Actors.{OperatorIs, Operator as TheOperator}
+use Rattle.graft_actors.specs.Actors.{OperatorIs, Operator as TheOperator}
 use Rattle.graft_actors.specs.declared.known.Known.{Known}
 use Rattle.graft_actors.specs.Acts.{OwnPart, acts}
 use Rattle.graft_actors.specs.Notes.{deed_of}
@@ -32,17 +32,17 @@ use Rattle.operator_core.specs.Grafts.{is_open}
 use Rattle.operator_core.specs.Scripts.{IsScriptOf}
 use Rattle.operator_core.specs.Tasks.{unissued}
 use Rattle.operator_core.specs.Groups.{AreNumbers}
-use Rattle.operator_core.specs.States.{State, part_of}
-use Rattle.operator_core.specs.Keeps.{Keeps}
-use Rattle.operator_core.specs.Issues.{IsHeld, graft_issued}
+use Rattle.operator_core.specs.States.{State, part_of_state}
+use Rattle.operator_core.specs.Keeps.{OperatorInvariant}
+use Rattle.operator_core.specs.Issues.{IsGraftHeldUp, graft_issued}
 use Rattle.operator_core.specs.Notes.{graft_noted}
 use Rattle.operator_core.specs.Turns.{BeginNoGroup, NothingToOrder, IsHeldUp}
 
-abbrev pub state : Progress → State
-state p = record { setup = p.known.setup; group = p.group; next = p.next; waiting = unissued p.tasks.items; slots = p.slots.items; seats = p.seats.items }
+abbrev pub progress_state : Progress → State
+progress_state p = record { setup = p.known.setup; group = p.group; next = p.next; waiting = unissued p.tasks.items; slots = p.slots.items; seats = p.seats.items }
 
 abbrev pub own_part_of : State → OwnPart
-own_part_of s = record { setup = s.setup; name = TheOperator; part = OperatorIs (part_of s) }
+own_part_of s = record { setup = s.setup; name = TheOperator; part = OperatorIs (part_of_state s) }
 
 -- The script is that of the laboratory, with the numbers of its grafts, and its last step ends a group.
 pub record IsKnown (p : Progress) : Type 0 where
@@ -53,15 +53,15 @@ pub record IsKnown (p : Progress) : Type 0 where
   pub short : length p.script.steps ≤ 4097
   pub ended : slice_get p.script.steps (length p.script.steps - 1) ≡ Some Settle
 
-pub record IsSound (p : Progress) : Type 0 where
+pub record ProgressInvariant (p : Progress) : Type 0 where
   pub known : IsKnown p
-  pub keeps : Keeps (state p)
+  pub keeps : OperatorInvariant (progress_state p)
 
 -- nothing was issued yet
-pub record Begins (known : Known) (p : Progress) : Type 0 where
+pub record IsNewProgress (known : Known) (p : Progress) : Type 0 where
   pub is_known : p.known ≡ known
-  pub sound : IsSound p
-  pub part : part_of (state p) ≡ (first_world known.setup).operator
+  pub sound : ProgressInvariant p
+  pub part : part_of_state (progress_state p) ≡ (first_world known.setup).operator
 
 -- the peerings of existing grafts have seats
 abbrev pub HaveSeats : Progress → Type 0
@@ -101,19 +101,20 @@ pub record Ends (old : Progress) (place : ℕ) (outcome : Outcome) (new : Progre
   pub seated : slice_get old.seats.items entry.peering.0 ≡ Some seat
   pub same : SameScript old new
   pub tasks : new.tasks.items ≡ old.tasks.items
-  pub changes : state new ≡ graft_noted (state old) place entry outcome seat
+  pub changes : progress_state new ≡ graft_noted (progress_state old) place entry outcome seat
 
 -- of the tasks before this place, those that weren't issued are held up
 abbrev pub HeldUpTo : Progress → ℕ → Type 0
-HeldUpTo p place = AllByRecursion (IsHeld (state p)) (unissued (take place p.tasks.items))
+HeldUpTo p place = AllByRecursion (IsGraftHeldUp (progress_state p)) (unissued (take place p.tasks.items))
 
 pub record IsUnchanged (old new : Progress) : Type 0 where
   pub same : SameScript old new
-  pub state_is : state new ≡ state old
+  pub state_is : progress_state new ≡ progress_state old
 
 -- the group that begins has given the sessions of the routers that it empties to others, by the seats before it
-abbrev pub AreEmptied : Setup → OperatorPart → OperatorPart → Type 0
-AreEmptied setup before after = (g : ScriptGraft) (router : ℕ) → graft_at setup g.graft ≡ Some g → slice_get setup.steps g.step ≡ Some (EvacuateStep router) → group_of setup g.step ≡ after.group
+abbrev pub GivesEmptiedSessions : Setup → OperatorPart → OperatorPart → Type 0
+GivesEmptiedSessions setup before after = (g : ScriptGraft) (router : ℕ) → graft_at setup g.graft ≡ Some g
+    → slice_get setup.steps g.step ≡ Some (EvacuateStep router) → group_of setup g.step ≡ after.group
     → after.given g.graft ≡ gift_to setup (placement setup before) router g.peering
 
 module _ {C : Type 0} where
@@ -127,46 +128,48 @@ module _ {C : Type 0} where
     pub seated : slice_get old.seats.items entry.peering.0 ≡ Some seat
     pub same : SameScript old new
     pub tasks : new.tasks.items ≡ old.tasks.items
-    pub changes : state new ≡ graft_issued (state old) place entry seat
+    pub changes : progress_state new ≡ graft_issued (progress_state old) place entry seat
     pub wrote : Wrote before (deed_of before (operator_code (Order task.step number)) None ((seat.place.0, GraftOrder task.graft entry.peering entry.target) ∷ []) ∷ []) after
 
   -- A task is visited after those before it, which are issued or held up; it is then issued or held up too.
-  pub record Visits (old : Progress) (place : ℕ) (before : Post (Item C)) (new : Progress) (after : Post (Item C)) : Type 0 where
+  pub record VisitsTask (old : Progress) (place : ℕ) (before : Post (Item C)) (new : Progress) (after : Post (Item C)) : Type 0 where
     pub deeds : List (Deed (Item C))
     pub wrote : Wrote before deeds after
     pub none : AllByRecursion TakesNone deeds
     pub no_go : BeginNoGroup deeds
     pub same : SameScript old new
     pub as_many : length new.tasks.items ≡ length old.tasks.items
-    pub keeps : IsKnown old → Keeps (state old) → HeldUpTo old place → Keeps (state new)
-    pub held : IsKnown old → Keeps (state old) → HeldUpTo old place → HeldUpTo new (place + 1)
-    pub replay : IsKnown old → Keeps (state old) → HeldUpTo old place → (session : C → SessionValue) → Replay (acts session) (actor_of before) (own_part_of (state old)) deeds (own_part_of (state new))
+    pub keeps : IsKnown old → OperatorInvariant (progress_state old) → HeldUpTo old place → OperatorInvariant (progress_state new)
+    pub held : IsKnown old → OperatorInvariant (progress_state old) → HeldUpTo old place → HeldUpTo new (place + 1)
+    pub replay : IsKnown old → OperatorInvariant (progress_state old) → HeldUpTo old place → (session : C → SessionValue)
+        → Replay (acts session) (actor_of before) (own_part_of (progress_state old)) deeds (own_part_of (progress_state new))
 
   -- A whole call: what it wrote leads from the old part to the new one, and all stays sound.
   pub record Does (old : Progress) (before : Post (Item C)) (deeds : List (Deed (Item C))) (new : Progress) (after : Post (Item C)) : Type 0 where
     pub wrote : Wrote before deeds after
-    pub replay : (session : C → SessionValue) → Replay (acts session) (actor_of before) (own_part_of (state old)) deeds (own_part_of (state new))
+    pub replay : (session : C → SessionValue)
+        → Replay (acts session) (actor_of before) (own_part_of (progress_state old)) deeds (own_part_of (progress_state new))
     pub known : new.known ≡ old.known
-    pub sound : IsSound new
+    pub sound : ProgressInvariant new
 
   pub record Turns (old : Progress) (before : Post (Item C)) (new : Progress) (after : Post (Item C)) : Type 0 where
     pub deeds : List (Deed (Item C))
     pub does : Does old before deeds new after
     pub none : AllByRecursion TakesNone deeds
     pub no_go : BeginNoGroup deeds
-    pub settled : NothingToOrder old.known.setup (part_of (state new))
+    pub settled : NothingToOrder old.known.setup (part_of_state (progress_state new))
 
-  pub record Takes (from : ℕ) (item : Item C) (old : Progress) (before : Post (Item C)) (new : Progress) (after : Post (Item C)) : Type 0 where
+  pub record TakesItem (from : ℕ) (item : Item C) (old : Progress) (before : Post (Item C)) (new : Progress) (after : Post (Item C)) : Type 0 where
     pub deed : Deed (Item C)
     pub does : Does old before (deed ∷ []) new after
     pub takes : deed.taken ≡ Some (from, item)
 
   -- The next group begins, unless it is held up: its evacuate steps give what they should.
-  pub record Goes (old : Progress) (before : Post (Item C)) (new : Progress) (after : Post (Item C)) (answer : Bool) : Type 0 where
+  pub record BeginsNextGroup (old : Progress) (before : Post (Item C)) (new : Progress) (after : Post (Item C)) (answer : Bool) : Type 0 where
     pub deeds : List (Deed (Item C))
     pub does : Does old before deeds new after
     pub none : AllByRecursion TakesNone deeds
     pub made : (answer ≡ false) ↔ (deeds ≡ [])
-    pub held : (answer ≡ false) ↔ IsHeldUp old.known.setup (part_of (state old))
+    pub held : (answer ≡ false) ↔ IsHeldUp old.known.setup (part_of_state (progress_state old))
     pub few : length deeds ≤ 1
-    pub emptied : answer ≡ true → AreEmptied old.known.setup (part_of (state old)) (part_of (state new))
+    pub emptied : answer ≡ true → GivesEmptiedSessions old.known.setup (part_of_state (progress_state old)) (part_of_state (progress_state new))

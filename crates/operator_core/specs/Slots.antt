@@ -26,36 +26,36 @@ slot_at xs (suc k) = slice_get xs k
 abbrev pub source_at : GraftEntry → Option ℕ
 source_at entry = option_map (λ r. r.0) entry.source
 
-abbrev pub source_of : Option Slot → Option ℕ
-source_of (Some (slots.Made entry)) = source_at entry
-source_of _ = None
+abbrev pub slot_source : Option Slot → Option ℕ
+slot_source (Some (slots.Made entry)) = source_at entry
+slot_source _ = None
 
 abbrev pub outcome_of : Option Slot → Option Outcome
 outcome_of (Some (slots.Made entry)) = outcome_at entry.stage
 outcome_of _ = None
 
-abbrev pub gift_of : Option Slot → Gift
-gift_of (Some (slots.Made entry)) = To entry.target.0
-gift_of (Some (slots.Stays k p router)) = Stays router.0
-gift_of _ = Unmade
+abbrev pub slot_gift : Option Slot → Gift
+slot_gift (Some (slots.Made entry)) = To entry.target.0
+slot_gift (Some (slots.Stays k p router)) = Stays router.0
+slot_gift _ = Unmade
 
 -- what the graft of a step was given: nothing if the step doesn't evacuate a router
 abbrev pub given_of : Option StepOf → Option Slot → Gift
-given_of (Some (EvacuateStep router)) slot = gift_of slot
+given_of (Some (EvacuateStep router)) slot = slot_gift slot
 given_of _ slot = Unmade
 
 abbrev pub source_in : List Slot → ℕ → Option ℕ
-source_in xs k = source_of (slot_at xs k)
+source_in xs k = slot_source (slot_at xs k)
 
 abbrev pub outcome_in : List Slot → ℕ → Option Outcome
 outcome_in xs k = outcome_of (slot_at xs k)
 
 -- the step of a graft's number
-abbrev pub step_of : Setup → ℕ → Option StepOf
-step_of setup k = option_and_then (λ g. slice_get setup.steps g.step) (graft_at setup k)
+abbrev pub scripted_step : Setup → ℕ → Option StepOf
+scripted_step setup k = option_and_then (λ g. slice_get setup.steps g.step) (graft_at setup k)
 
 abbrev pub given_in : Setup → List Slot → ℕ → Gift
-given_in setup xs k = given_of (step_of setup k) (slot_at xs k)
+given_in setup xs k = given_of (scripted_step setup k) (slot_at xs k)
 
 abbrev pub moved_by_entry : GraftEntry → Move
 moved_by_entry entry = record { peering = entry.peering; target = entry.target }
@@ -76,10 +76,10 @@ first_open [] = None
 first_open (slot ∷ xs) = option_or (open_graft slot) (first_open xs)
 
 -- the log's entries for a slot
-abbrev pub entries_of : Slot → List GraftEntry
-entries_of slots.Unmade = []
-entries_of (slots.Stays k p router) = record { graft = k; peering = p; source = Some router; target = router; stage = Ended (Refused NoTarget) } ∷ []
-entries_of (slots.Made entry) = entry ∷ []
+abbrev pub entries_in_slot : Slot → List GraftEntry
+entries_in_slot slots.Unmade = []
+entries_in_slot (slots.Stays k p router) = record { graft = k; peering = p; source = Some router; target = router; stage = Ended (Refused NoTarget) } ∷ []
+entries_in_slot (slots.Made entry) = entry ∷ []
 
 -- ---- what happens to a slot
 

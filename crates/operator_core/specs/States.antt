@@ -26,5 +26,5 @@ is_say _ = false
 abbrev pub issued_in : State → ℕ → Bool
 issued_in s n = is_say (slice_get s.setup.steps n) && nat_lt n s.next && not (has_task s.waiting n 0)
 
-abbrev pub part_of : State → OperatorPart
-part_of s = record { group = s.group; issued = issued_in s; given = given_in s.setup s.slots; source = source_in s.slots; outcome = outcome_in s.slots }
+abbrev pub part_of_state : State → OperatorPart
+part_of_state s = record { group = s.group; issued = issued_in s; given = given_in s.setup s.slots; source = source_in s.slots; outcome = outcome_in s.slots }

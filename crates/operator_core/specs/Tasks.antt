@@ -9,8 +9,8 @@ use Rattle.operator_core.specs.declared.script.ScriptStep.TheVariants.{Say, Graf
 abbrev pub task_of : ℕ → ℕ → Task
 task_of step graft = record { step = step; graft = graft; issued = false }
 
-abbrev pub done : Task → Task
-done task = record task { issued = true }
+abbrev pub task_issued : Task → Task
+task_issued task = record task { issued = true }
 
 -- the tasks of a list that weren't issued
 abbrev pub unissued : List Task → List Task

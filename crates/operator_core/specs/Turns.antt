@@ -8,7 +8,7 @@ use Rattle.graft_model.specs.Parts.{OperatorPart}
 use Rattle.graft_model.specs.OperatorRows.{OperatorSent}
 use Rattle.graft_model.specs.declared.event.OperatorEvent.TheVariants.{Order}
 use Rattle.graft_model.specs.Steps.{operator_row}
-use Rattle.graft_runs.specs.Laws.{IsGo}
+use Rattle.graft_actors.specs.Laws.{IsGo}
 use Rattle.settled_check.specs.Left.{HasUnissued, IsOpen}
 
 -- none of these events begins a group
@@ -17,7 +17,8 @@ BeginNoGroup deeds = AllByRecursion (λ d. IsGo d.entry → ⊥) deeds
 
 -- nothing of the current group may be ordered
 abbrev pub NothingToOrder : Setup → OperatorPart → Type 0
-NothingToOrder setup part = (step number : ℕ) (sent : List OperatorSent) (after : OperatorPart) → operator_row setup (Order step number) part None sent after → ⊥
+NothingToOrder setup part = (step number : ℕ) (sent : List OperatorSent) (after : OperatorPart)
+    → operator_row setup (Order step number) part None sent after → ⊥
 
 -- The next group may not begin: something of the current group wasn't ordered, or a graft of it has no outcome, or it is the last one.
 abbrev pub IsHeldUp : Setup → OperatorPart → Type 0

@@ -1,7 +1,7 @@
 //! What evacuate steps give as their group begins: a target router for each session of the router that is emptied.
 
 ghost use Rattle.std.specs.Prelude.{◌≡◌, ◌≤◌, ◌<◌, ◌+◌, ◌^◌, All, length, IfOk};
-ghost use Rattle.operator_core.specs.Evacuate.{seated_from, load_of as load_of_lem, loads_of as loads_of_lem, gifts_to, given_slot, give as give_lem};
+ghost use Rattle.operator_core.specs.Evacuate.{seated_from, load_of as load_of_lem, seat_loads, gifts_to, given_slot, give as give_lem};
 
 use crate::grafts::{Move, Seat, Slot, waiting_entry};
 use evacuation::{a_plan_is_the_only_one, plan, there_is_a_plan};
@@ -38,7 +38,7 @@ pub(crate) fn loads_of(
     routers: usize,
 ) -> Result<Items<u32>, NoMemory>
     requires { length seats.now ≤ 256 }
-    ensures { IfOk result (λ loads. loads ≡ loads_of_lem seats.now routers) }
+    ensures { IfOk result (λ loads. loads ≡ seat_loads seats.now routers) }
 {
     let mut loads = Items::new(alloc);
     for router in 0..routers {

@@ -3,7 +3,7 @@
 ghost use Rattle.std.specs.Prelude.{◌≡◌, ◌≤◌, ◌++◌, Some, length, map, IfOk, OnOk};
 ghost use Rattle.std.specs.List.{flat_map};
 ghost use Rattle.operator_core.specs.Grafts.{is_open, seat_at};
-ghost use Rattle.operator_core.specs.Slots.{move_of, open_graft as open_graft_lem, first_open as first_open_lem, entries_of, issued_slot, ended_slot, waiting_entry as waiting_entry_lem, unmade_slots, first_slots as first_slots_lem};
+ghost use Rattle.operator_core.specs.Slots.{move_of, open_graft as open_graft_lem, first_open as first_open_lem, entries_in_slot, issued_slot, ended_slot, waiting_entry as waiting_entry_lem, unmade_slots, first_slots as first_slots_lem};
 
 use crate::script::ScriptStep;
 use graft_edge::{Items, NoMemory, PeeringId, RouterId, TryCopy};
@@ -162,7 +162,7 @@ pub(crate) fn first_open(slots: &[Slot]) -> Option<u32>
 
 /// Adds the log's entry for a slot, if it has one.
 fn add_entry(log: &mut GraftLog, slot: &Slot) -> Result<(), NoMemory>
-    ensures { OnOk result (log.new ≡ log.old ++ entries_of slot.now) }
+    ensures { OnOk result (log.new ≡ log.old ++ entries_in_slot slot.now) }
 {
     match slot {
         Slot::Made(entry) => log.push(entry.copy()?),
@@ -183,7 +183,7 @@ fn add_entry(log: &mut GraftLog, slot: &Slot) -> Result<(), NoMemory>
 
 /// Returns the log of the grafts in the slots.
 pub(crate) fn logged(alloc: Global, slots: &[Slot]) -> Result<GraftLog, NoMemory>
-    ensures { IfOk result (λ log. log ≡ flat_map entries_of slots.now) }
+    ensures { IfOk result (λ log. log ≡ flat_map entries_in_slot slots.now) }
 {
     let mut log = Items::new(alloc);
     for slot in slots {

@@ -7,7 +7,7 @@ ghost use Rattle.ring_net.specs.Posts.{TookItem, Moved, Pauses, SameEdges};
 ghost use Rattle.session_value.specs.Sessions.{SessionValue};
 ghost use Rattle.graft_actors.specs.Acts.{acts};
 ghost use Rattle.operator_core.specs.Keeps.{Rises-prop};
-ghost use Rattle.operator_core.specs.Progresses.{IsSound};
+ghost use Rattle.operator_core.specs.Progresses.{ProgressInvariant};
 
 use crate::progress::Progress;
 use crate::script::Script;
@@ -22,19 +22,19 @@ use std::alloc::Global;
 #[derive(Drop)]
 pub struct Operator {
     progress: Progress,
-    ghost sound: { IsSound progress } by { Prim.hlevel (props, AllByRecursion-prop, Rises-prop) },
+    ghost sound: { ProgressInvariant progress } by { Prim.hlevel (props, AllByRecursion-prop, Rises-prop) },
 }
 
 impl Operator {
     ghost use Rattle.graft_model.specs.First.{first_world};
     ghost use Rattle.graft_model.specs.Setups.{EvacuateStep, group_of};
     ghost use Rattle.graft_model.specs.Evacuations.{GivesByPlan};
-    ghost use Rattle.graft_runs.specs.Actors.{OperatorIs, Operator as TheOperator};
+    ghost use Rattle.graft_actors.specs.Actors.{OperatorIs, Operator as TheOperator};
     ghost use Rattle.settled_check.specs.Rests.{IsOperatorRest};
     ghost use Rattle.operator_core.specs.Scripts.{IsScriptOf, IsWorkable};
     ghost use Rattle.operator_core.specs.Grafts.{log_of};
     ghost use Rattle.operator_core.specs.Turns.{IsHeldUp};
-    ghost use Rattle.operator_core.specs.Operators.{setup_of, operator_part, own_part, took as took_lem, Turned, Paused};
+    ghost use Rattle.operator_core.specs.Operators.{operator_setup, operator_part, own_part, took_by_operator, OperatorTurned, Paused};
 
     /// Returns an operator that has issued nothing yet. The first group of its script is the current one.
     pub fn new(alloc: Global, known: Known, script: Script) -> Result<Operator, NoMemory>
@@ -55,7 +55,7 @@ impl Operator {
         item: Item<C>,
         post: &mut Post<Item<C>>,
     ) -> Result<(), NoMemory>
-        ensures took { OnOk result ((session : C → SessionValue) → TookItem own_part (acts session) took_lem from item self.old post.old self.new post.new) }
+        ensures took { OnOk result ((session : C → SessionValue) → TookItem own_part (acts session) took_by_operator from item self.old post.old self.new post.new) }
         ensures edges { SameEdges post.old post.new }
     {
         self.progress.take(from, item, post)
@@ -63,7 +63,7 @@ impl Operator {
 
     /// Orders whatever of the current group may be ordered, in the order of its steps.
     pub fn turn<C: Drop>(&mut self, post: &mut Post<Item<C>>) -> Result<(), NoMemory>
-        ensures turned { OnOk result ((session : C → SessionValue) → Moved own_part (acts session) Turned self.old post.old self.new post.new) }
+        ensures turned { OnOk result ((session : C → SessionValue) → Moved own_part (acts session) OperatorTurned self.old post.old self.new post.new) }
         ensures edges { SameEdges post.old post.new }
     {
         self.progress.turn(post)
@@ -74,10 +74,10 @@ impl Operator {
     /// of it has no outcome, or there is no further group.
     pub fn go<C: Drop>(&mut self, post: &mut Post<Item<C>>) -> Result<bool, NoMemory>
         ensures paused { IfOk result (λ answer. (session : C → SessionValue) → Pauses own_part (acts session) Paused self.old post.old self.new post.new answer) }
-        ensures held { IfOk result (λ answer. (answer ≡ false) ↔ IsHeldUp (setup_of self.old) (operator_part self.old)) }
+        ensures held { IfOk result (λ answer. (answer ≡ false) ↔ IsHeldUp (operator_setup self.old) (operator_part self.old)) }
         // Each evacuate step of the new group has given the sessions of its router to the others by plan.
-        ensures emptied { IfOk result (λ answer. answer ≡ true → (step router : ℕ) → slice_get (setup_of self.old).steps step ≡ Some (EvacuateStep router)
-            → group_of (setup_of self.old) step ≡ (operator_part self.new).group → GivesByPlan (setup_of self.old) (operator_part self.old) (operator_part self.new) step router) }
+        ensures emptied { IfOk result (λ answer. answer ≡ true → (step router : ℕ) → slice_get (operator_setup self.old).steps step ≡ Some (EvacuateStep router)
+            → group_of (operator_setup self.old) step ≡ (operator_part self.new).group → GivesByPlan (operator_setup self.old) (operator_part self.old) (operator_part self.new) step router) }
         ensures edges { SameEdges post.old post.new }
     {
         emptied_routers_give_by_plan();
@@ -99,14 +99,14 @@ impl Operator {
     ///
     /// `NoMemory` if memory runs out.
     pub fn log(&self) -> Result<GraftLog, NoMemory>
-        ensures { IfOk result (λ log. log ≡ log_of (setup_of self.now) (operator_part self.now)) }
+        ensures { IfOk result (λ log. log ≡ log_of (operator_setup self.now) (operator_part self.now)) }
     {
         self.progress.log()
     }
 
     /// Returns what is left to do.
     pub fn rest(&self) -> OperatorRest
-        ensures { IsOperatorRest (setup_of self.now) (operator_part self.now) result }
+        ensures { IsOperatorRest (operator_setup self.now) (operator_part self.now) result }
     {
         self.progress.rest()
     }

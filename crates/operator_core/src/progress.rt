@@ -6,7 +6,7 @@ ghost use Rattle.graft_steps.specs.declared.item.Item.{Item};
 ghost use Rattle.graft_model.specs.declared.event.OperatorEvent.TheVariants as events;
 ghost use Rattle.graft_model.specs.Codes.{operator_code};
 ghost use Rattle.graft_actors.specs.Notes.{deed_of};
-ghost use Rattle.operator_core.specs.Tasks.{done};
+ghost use Rattle.operator_core.specs.Tasks.{task_issued};
 ghost use Rattle.operator_core.specs.Slots.{slot_at, move_of};
 
 use crate::evacuate::give;
@@ -16,11 +16,11 @@ use crate::grafts::{
 use crate::groups::{Task, drop_issued, graft_numbers, group_from, has_unissued};
 use crate::script::{Script, ScriptStep};
 use graft_actors::{
-    Known, note_dropped, note_operator, note_operator_sent, the_operator_takes_what_comes,
+    Known, actors_have_their_numbers, note_dropped, note_operator, note_operator_sent,
+    the_operator_takes_what_comes,
 };
 use graft_edge::{Items, NoMemory, PeeringId};
 use graft_model::OperatorEvent;
-use graft_runs::actors_have_their_numbers;
 use graft_steps::{GraftLog, Item, OperatorRest, Outcome};
 use ring_net::Post;
 use std::alloc::Global;
@@ -61,10 +61,10 @@ fn note_order<C: Drop>(
 impl Progress {
     ghost use Rattle.operator_core.specs.declared.groups.Task.{Task};
     ghost use Rattle.operator_core.specs.declared.grafts.Move.{Move};
-    ghost use Rattle.operator_core.specs.Progresses.{state, IsKnown, IsSound, HaveSeats, IsMadeAt, IsOpenPlace, Ends, SameScript, IssuesGraft, IsUnchanged, Visits, Turns, Takes, Goes, Begins, IsOrderOf};
+    ghost use Rattle.operator_core.specs.Progresses.{progress_state, IsKnown, ProgressInvariant, HaveSeats, IsMadeAt, IsOpenPlace, Ends, SameScript, IssuesGraft, IsUnchanged, VisitsTask, Turns, TakesItem, BeginsNextGroup, IsNewProgress, IsOrderOf};
     ghost use Rattle.settled_check.specs.Rests.{IsOperatorRest};
     ghost use Rattle.operator_core.specs.Grafts.{log_of};
-    ghost use Rattle.operator_core.specs.States.{part_of};
+    ghost use Rattle.operator_core.specs.States.{part_of_state};
     ghost use Rattle.operator_core.specs.Turns.{IsHeldUp};
     ghost use Rattle.operator_core.specs.Scripts.{IsScriptOf, IsWorkable};
 
@@ -72,7 +72,7 @@ impl Progress {
     pub(crate) fn new(alloc: Global, known: Known, script: Script) -> Result<Progress, NoMemory>
         requires script { IsScriptOf known.setup script }
         requires sound { IsWorkable script }
-        ensures { IfOk result (Begins known) }
+        ensures { IfOk result (IsNewProgress known) }
     {
         let steps = script.steps.as_slice();
         let peerings = script.starts.len();
@@ -153,7 +153,7 @@ impl Progress {
         ensures same { SameScript self.old self.new }
         ensures slots { self.new.slots.items ≡ self.old.slots.items }
         ensures seats { self.new.seats.items ≡ self.old.seats.items }
-        ensures tasks { self.new.tasks.items ≡ slice_set self.old.tasks.items place (done task) }
+        ensures tasks { self.new.tasks.items ≡ slice_set self.old.tasks.items place (task_issued task) }
     {
         self.tasks[place] = Task {
             issued: true,
@@ -174,7 +174,7 @@ impl Progress {
         requires waits { task.issued ≡ false }
         requires counted { place < length self.old.tasks.items }
         requires is { slice_get self.old.script.steps task.step ≡ Some (ScriptStep.Say peering) }
-        ensures ok { OnOk result (Visits self.old place post.old self.new post.new) }
+        ensures ok { OnOk result (VisitsTask self.old place post.old self.new post.new) }
         ensures err { OnErr result (IsUnchanged self.old self.new) }
         ensures edges { SameEdges post.old post.new }
     {
@@ -214,7 +214,7 @@ impl Progress {
         requires counted { place < length self.old.tasks.items }
         requires seated { HaveSeats self.old }
         requires is { IsOrderOf self.old task number }
-        ensures ok { OnOk result (Visits self.old place post.old self.new post.new) }
+        ensures ok { OnOk result (VisitsTask self.old place post.old self.new post.new) }
         ensures err { OnErr result (IsUnchanged self.old self.new) }
         ensures edges { SameEdges post.old post.new }
     {
@@ -244,7 +244,7 @@ impl Progress {
         requires counted { place < length self.old.tasks.items }
         requires within { task.step < length self.old.script.steps }
         requires seated { HaveSeats self.old }
-        ensures ok { OnOk result (Visits self.old place post.old self.new post.new) }
+        ensures ok { OnOk result (VisitsTask self.old place post.old self.new post.new) }
         ensures err { OnErr result (IsUnchanged self.old self.new) }
         ensures edges { SameEdges post.old post.new }
     {
@@ -258,9 +258,9 @@ impl Progress {
 
     /// Issues each task of the group that may be issued, in their order.
     pub(crate) fn turn<C: Drop>(&mut self, post: &mut Post<Item<C>>) -> Result<(), NoMemory>
-        requires { IsSound self.old }
+        requires { ProgressInvariant self.old }
         ensures ok { OnOk result (Turns self.old post.old self.new post.new) }
-        ensures err { OnErr result (IsSound self.new) }
+        ensures err { OnErr result (ProgressInvariant self.new) }
         ensures edges { SameEdges post.old post.new }
     {
         for place in 0..self.tasks.len() {
@@ -321,9 +321,9 @@ impl Progress {
         item: Item<C>,
         post: &mut Post<Item<C>>,
     ) -> Result<(), NoMemory>
-        requires { IsSound self.old }
-        ensures ok { OnOk result (Takes from item self.old post.old self.new post.new) }
-        ensures err { OnErr result (IsSound self.new) }
+        requires { ProgressInvariant self.old }
+        ensures ok { OnOk result (TakesItem from item self.old post.old self.new post.new) }
+        ensures err { OnErr result (ProgressInvariant self.new) }
         ensures edges { SameEdges post.old post.new }
     {
         actors_have_their_numbers();
@@ -345,8 +345,8 @@ impl Progress {
 
     /// Returns whether a task of the group wasn't issued, or a graft of it hasn't ended, or there is no further group.
     fn is_held_up(&self) -> bool
-        requires { IsSound self.now }
-        ensures { IsTrue result ↔ IsHeldUp self.now.known.setup (part_of (state self.now)) }
+        requires { ProgressInvariant self.now }
+        ensures { IsTrue result ↔ IsHeldUp self.now.known.setup (part_of_state (progress_state self.now)) }
     {
         if has_unissued(self.tasks.as_slice()) {
             return true;
@@ -360,9 +360,9 @@ impl Progress {
     /// Begins the next group, if each task of the current one was issued, each of its grafts has ended, and there is a
     /// further group. Returns whether it did.
     pub(crate) fn go<C: Drop>(&mut self, post: &mut Post<Item<C>>) -> Result<bool, NoMemory>
-        requires { IsSound self.old }
-        ensures ok { IfOk result (Goes self.old post.old self.new post.new) }
-        ensures err { OnErr result (IsSound self.new) }
+        requires { ProgressInvariant self.old }
+        ensures ok { IfOk result (BeginsNextGroup self.old post.old self.new post.new) }
+        ensures err { OnErr result (ProgressInvariant self.new) }
         ensures edges { SameEdges post.old post.new }
     {
         if self.is_held_up() {
@@ -385,16 +385,16 @@ impl Progress {
 
     /// Returns the log of grafts.
     pub(crate) fn log(&self) -> Result<GraftLog, NoMemory>
-        requires { IsSound self.now }
-        ensures { IfOk result (λ log. log ≡ log_of self.now.known.setup (part_of (state self.now))) }
+        requires { ProgressInvariant self.now }
+        ensures { IfOk result (λ log. log ≡ log_of self.now.known.setup (part_of_state (progress_state self.now))) }
     {
         logged(self.alloc, self.slots.as_slice())
     }
 
     /// Returns what is left to do.
     pub(crate) fn rest(&self) -> OperatorRest
-        requires { IsSound self.now }
-        ensures { IsOperatorRest self.now.known.setup (part_of (state self.now)) result }
+        requires { ProgressInvariant self.now }
+        ensures { IsOperatorRest self.now.known.setup (part_of_state (progress_state self.now)) result }
     {
         OperatorRest {
             unissued: has_unissued(self.tasks.as_slice()),

@@ -15,7 +15,7 @@ use Rattle.std.specs.Cmp.{tied_itself}
 use Rattle.bgp_types.specs.Prefixes.{PrefixValue}
 use Rattle.bgp_types.specs.Tables.{prefix_cmp, first_above}
 use Rattle.bgp_types.proofs.TableLaws.{prefix_total, exact_prefixes, without, put_right, put_left, find_right, find_above, without_right, without_above, rising_parts, next_right, below_not_above}
-use Rattle.prefix_table.specs.Places.{AllBelow, AllAbove, IsPlace, IsGap, first_prefix}
+use Rattle.prefix_table.specs.Places.{AllBelow, AllAbove, IsPlaceOfPrefix, IsGapForPrefix, first_prefix}
 
 module _ {A : Type 0} (P : A → Type 0) where
   each_taken : (xs : List A) (i : ℕ) → ((k : ℕ) (d : A) → k < i → k < length xs → P (get_or xs k d)) → AllByRecursion P (take i xs)
@@ -31,7 +31,8 @@ module _ {A : Type 0} (P : A → Type 0) where
 
 module _ {V : Type 0} where
   -- neighbours rise
-  neighbours : (es : List (PrefixValue × V)) → T (is_sorted prefix_cmp es) → (k : ℕ) (d : PrefixValue × V) → k + 1 < length es → is_lt (prefix_cmp (get_or es (k + 1) d).0 (get_or es k d).0) ≡ false
+  neighbours : (es : List (PrefixValue × V)) → T (is_sorted prefix_cmp es) → (k : ℕ) (d : PrefixValue × V) → k + 1 < length es
+      → is_lt (prefix_cmp (get_or es (k + 1) d).0 (get_or es k d).0) ≡ false
   neighbours es rise k d h =
       let at : k < length es = omega arith in
       let e = split_at es k d at in
@@ -42,7 +43,8 @@ module _ {V : Type 0} where
       ap is_lt (prefix_total.antisymm (get_or es (k + 1) d).0 (get_or es k d).0 ∙ ap ordering_reverse less)
 
   -- where a prefix stands is its place
-  pub placed : (es : List (PrefixValue × V)) → T (is_sorted prefix_cmp es) → (p : PrefixValue) (at : ℕ) → at < length es → ((d : PrefixValue × V) → (get_or es at d).0 ≡ p) → IsPlace es p at
+  pub placed : (es : List (PrefixValue × V)) → T (is_sorted prefix_cmp es) → (p : PrefixValue) (at : ℕ) → at < length es
+      → ((d : PrefixValue × V) → (get_or es at d).0 ≡ p) → IsPlaceOfPrefix es p at
   placed [] rise p at h has = absurd (omega arith)
   placed (e ∷ es) rise p at h has =
       let all = e ∷ es in
@@ -55,7 +57,8 @@ module _ {V : Type 0} where
       }
 
   -- a search by halves ends where the prefix stands, or would stand
-  pub searched : (es : List (PrefixValue × V)) → T (is_sorted prefix_cmp es) → (p : PrefixValue) (r : Result ℕ ℕ) → IsSearchInRange r (length es) → IsBinarySearchResult (λ e. prefix_cmp e.0 p) es r → record { found : IfOk r (IsPlace es p); absent : IfErr r (IsGap es p) }
+  pub searched : (es : List (PrefixValue × V)) → T (is_sorted prefix_cmp es) → (p : PrefixValue) (r : Result ℕ ℕ) → IsSearchInRange r (length es)
+      → IsBinarySearchResult (λ e. prefix_cmp e.0 p) es r → record { found : IfOk r (IsPlaceOfPrefix es p); absent : IfErr r (IsGapForPrefix es p) }
   searched es rise p (Ok at) in_range equal = record { found = placed es rise p at in_range (λ d. exact_prefixes _ _ (equal d)); absent = tt }
   searched es rise p (Err at) in_range parted =
       let parts = parted (searchable_from_sorted prefix_total (λ e. e.0) es p (λ k d low high. neighbours es rise k d high)) in
@@ -70,9 +73,11 @@ module _ {V : Type 0} where
 
   -- ---- at the prefix
 
-  module _ (es : List (PrefixValue × V)) (p : PrefixValue) (at : ℕ) (here : IsPlace es p at) where
+  module _ (es : List (PrefixValue × V)) (p : PrefixValue) (at : ℕ) (here : IsPlaceOfPrefix es p at) where
     split : (d : PrefixValue × V) → es ≡ take at es ++ (p, (get_or es at d).1) ∷ drop (at + 1) es
-    split d = split_at es at d here.in_range ∙ ap (λ (e : PrefixValue × V). take at es ++ e ∷ drop (suc at) es) (ap (λ (q : PrefixValue). (q, (get_or es at d).1)) (here.has d)) ∙ ap (λ (i : ℕ). take at es ++ (p, (get_or es at d).1) ∷ drop i es) (sym (add-one at))
+    split d = split_at es at d here.in_range
+        ∙ ap (λ (e : PrefixValue × V). take at es ++ e ∷ drop (suc at) es) (ap (λ (q : PrefixValue). (q, (get_or es at d).1)) (here.has d))
+        ∙ ap (λ (i : ℕ). take at es ++ (p, (get_or es at d).1) ∷ drop i es) (sym (add-one at))
 
     pub find_at : (d : PrefixValue × V) → find prefix_cmp p es ≡ Some (get_or es at d).1
     find_at d =
@@ -101,7 +106,7 @@ module _ {V : Type 0} where
 
   -- ---- where it would stand
 
-  module _ (es : List (PrefixValue × V)) (p : PrefixValue) (at : ℕ) (gap : IsGap es p at) where
+  module _ (es : List (PrefixValue × V)) (p : PrefixValue) (at : ℕ) (gap : IsGapForPrefix es p at) where
     pub find_gap : find prefix_cmp p es ≡ None
     find_gap =
         ap (find prefix_cmp p) (sym (take-append-drop at es))
@@ -131,13 +136,15 @@ module _ {V : Type 0} where
   first_of_above p [] a = refl
   first_of_above p (e ∷ es) a = rw a.0 refl
 
-  pub first_in_gap : (es : List (PrefixValue × V)) (p : PrefixValue) (at : ℕ) → IsGap es p at → first_above (Some p) (map (λ e. e.0) es) ≡ first_prefix (drop at es)
+  pub first_in_gap : (es : List (PrefixValue × V)) (p : PrefixValue) (at : ℕ) → IsGapForPrefix es p at
+      → first_above (Some p) (map (λ e. e.0) es) ≡ first_prefix (drop at es)
   first_in_gap es p at gap =
       ap (λ (xs : List (PrefixValue × V)). first_above (Some p) (map (λ e. e.0) xs)) (sym (take-append-drop at es))
       ∙ (next_right p (take at es) (drop at es) (below_not_above p (take at es) gap.before)
       ∙ first_of_above p (drop at es) gap.after)
 
-  pub first_past : (es : List (PrefixValue × V)) (p : PrefixValue) (at : ℕ) → IsPlace es p at → first_above (Some p) (map (λ e. e.0) es) ≡ first_prefix (drop (at + 1) es)
+  pub first_past : (es : List (PrefixValue × V)) (p : PrefixValue) (at : ℕ) → IsPlaceOfPrefix es p at
+      → first_above (Some p) (map (λ e. e.0) es) ≡ first_prefix (drop (at + 1) es)
   first_past [] p at here = absurd (omega (arith, here.in_range))
   first_past (e ∷ es) p at here =
       let all = e ∷ es in

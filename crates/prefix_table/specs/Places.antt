@@ -13,14 +13,14 @@ abbrev pub AllAbove : {V : Type 0} → PrefixValue → List (PrefixValue × V) �
 AllAbove p es = AllByRecursion (λ e. prefix_cmp p e.0 ≡ Less) es
 
 -- p stands at this place, with smaller prefixes before it and greater ones after it
-pub record IsPlace {V : Type 0} (es : List (PrefixValue × V)) (p : PrefixValue) (at : ℕ) : Type 0 where
+pub record IsPlaceOfPrefix {V : Type 0} (es : List (PrefixValue × V)) (p : PrefixValue) (at : ℕ) : Type 0 where
   pub in_range : at < length es
   pub has : (d : PrefixValue × V) → (slice_index_or es at d).0 ≡ p
   pub before : AllBelow p (take at es)
   pub after : AllAbove p (drop (at + 1) es)
 
 -- p would be inserted at this place: smaller prefixes are before it, and greater ones from it on
-pub record IsGap {V : Type 0} (es : List (PrefixValue × V)) (p : PrefixValue) (at : ℕ) : Type 0 where
+pub record IsGapForPrefix {V : Type 0} (es : List (PrefixValue × V)) (p : PrefixValue) (at : ℕ) : Type 0 where
   pub in_range : at ≤ length es
   pub before : AllBelow p (take at es)
   pub after : AllAbove p (drop at es)

@@ -3,7 +3,7 @@
 ghost use Rattle.std.specs.Prelude.{◌≡◌, ◌+◌, ◌≤◌, ℕ, T, IsOk, IsSome, IfOk, IfErr, OnOk, OnErr, option_copied};
 ghost use Rattle.std.specs.FinMap as map;
 ghost use Rattle.bgp_types.specs.Tables.{prefix_cmp, first_above};
-ghost use Rattle.prefix_table.specs.Places.{IsPlace, IsGap, first_prefix};
+ghost use Rattle.prefix_table.specs.Places.{IsPlaceOfPrefix, IsGapForPrefix, first_prefix};
 
 use bgp_types::{Prefix, Table};
 use std::alloc::Global;
@@ -92,8 +92,8 @@ impl<V: Drop> Table<V> for SortedTable<V> {
 /// where it would be inserted. It uses binary search.
 pub fn place<V>(entries: &[(Prefix, V)], prefix: Prefix) -> Result<usize, usize>
     requires { T (map.is_sorted prefix_cmp entries.now) }
-    ensures found { IfOk result (IsPlace entries.now prefix) }
-    ensures absent { IfErr result (IsGap entries.now prefix) }
+    ensures found { IfOk result (IsPlaceOfPrefix entries.now prefix) }
+    ensures absent { IfErr result (IsGapForPrefix entries.now prefix) }
 {
     entries.binary_search_by_key(&prefix, |entry| entry.0)
 }

@@ -1,5 +1,5 @@
 -- A node whose branch got a node for a prefix.
-use Rattle.std.proofs.Common.{◌≡◌, ◌≢◌, ℕ, suc, ◌+◌, ◌≤◌, Bool, true, List, [], ◌∷◌, ◌++◌, length, Option, Some, None, refl, sym, ap, subst, ◌∙◌, arith, slice_get, inl, inr, ◌⊎◌}
+use Rattle.std.proofs.Common.{◌≡◌, ◌≢◌, ℕ, ◌≤◌, Bool, true, List, [], ◌∷◌, ◌++◌, length, Option, Some, refl, sym, ap, subst, ◌∙◌, arith, slice_get, inl, inr, ◌⊎◌}
 use Rattle.std.specs.Prelude.{IfSome, option_map}
 use Rattle.std.specs.List.{Contains}
 use Rattle.std.proofs.lemmas.List.Elements.{Contains-append_left, Contains-append_right, Contains-append_cases}
@@ -9,33 +9,25 @@ use Rattle.prefix_trie.specs.declared.node.Node.{Node}
 use Rattle.prefix_trie.specs.Arena.{nowhere, entries_at, places_at, AreApart}
 use Rattle.prefix_trie.specs.Adding.{CanAdd, IsAdded}
 use Rattle.prefix_trie.proofs.Apart.{first_or_rest, left_apart, right_apart, never_both, both_apart}
-use Rattle.prefix_trie.proofs.Places.{AtPlace}
-use Rattle.prefix_trie.proofs.Relinked.{had, all_apart, place_not, deeper, at_top, zero_relinked, one_relinked}
+use Rattle.prefix_trie.proofs.Branches.{Stands}
+use Rattle.prefix_trie.proofs.Levels.{AtNode, at_node}
+use Rattle.prefix_trie.proofs.Relinked.{all_apart, place_not, zero_relinked, one_relinked}
 
-module _ {V : Type 0} (nodes : List Node) (values : List (Option V)) (p : PrefixValue) (fresh spare k place : ℕ) (n : Node) (was : slice_get nodes place ≡ Some n) (can : CanAdd nodes values p fresh spare (suc k) place) where
+module _ (nodes : List Node) (p : PrefixValue) (fresh spare place : ℕ) (n : Node) (was : slice_get nodes place ≡ Some n) (can : CanAdd nodes p fresh spare place) where
   abbrev Z : List ℕ
-  Z = places_at nodes k n.zero
+  Z = places_at nodes n.zero
 
   abbrev O : List ℕ
-  O = places_at nodes k n.one
+  O = places_at nodes n.one
 
-  here_apart : AreApart (places_at nodes (suc k) place)
-  here_apart = can.apart.1.1
-
-  here : AtPlace nodes values (entries_at nodes values (suc k) place) place k n
-  here = had nodes values k place n was can.trie here_apart
+  at : AtNode nodes place n
+  at = at_node nodes place n was can.trie
 
   all : AreApart (place ∷ (Z ++ O))
-  all = all_apart nodes values k place n was can.trie here_apart
+  all = all_apart nodes place n at can.apart.1.1
 
   not_place : (r : ℕ) → Contains (Z ++ O) r → r ≢ place
-  not_place = place_not nodes values k place n was can.trie here_apart
-
-  down : (r : ℕ) → Contains (Z ++ O) r → Contains (places_at nodes (suc k) place) r
-  down = deeper nodes values k place n was can.trie here_apart
-
-  top : Contains (places_at nodes (suc k) place) place
-  top = at_top nodes values k place n was can.trie here_apart
+  not_place = place_not nodes place n at can.apart.1.1
 
   in_zero : (r : ℕ) → Contains Z r → Contains (Z ++ O) r
   in_zero = Contains-append_left Z O
@@ -43,68 +35,49 @@ module _ {V : Type 0} (nodes : List Node) (values : List (Option V)) (p : Prefix
   in_one : (r : ℕ) → Contains O r → Contains (Z ++ O) r
   in_one = Contains-append_right Z O
 
-  fresh_not : (r : ℕ) → Contains (places_at nodes (suc k) place) r → r ≢ fresh
-  fresh_not r inside e = can.apart.0 (subst (Contains (spare ∷ places_at nodes (suc k) place)) e (Contains-append_right (spare ∷ []) (places_at nodes (suc k) place) r inside))
+  fresh_not : (r : ℕ) → Contains (places_at nodes place) r → r ≢ fresh
+  fresh_not r inside e = can.apart.0 (subst (Contains (spare ∷ places_at nodes place)) e (Contains-append_right (spare ∷ []) (places_at nodes place) r inside))
 
-  spare_not : (r : ℕ) → Contains (places_at nodes (suc k) place) r → r ≢ spare
-  spare_not r inside e = can.apart.1.0 (subst (Contains (places_at nodes (suc k) place)) e inside)
-
-  -- there is room in both branches as well
-  branch_deep : (low high : ℕ) (o : Option Node) → 34 ≤ n.prefix.len + suc k → IfSome o (λ m. Within low high n.prefix.len m.prefix) → IfSome o (λ m. 34 ≤ m.prefix.len + k)
-  branch_deep low high None deep below = tt
-  branch_deep low high (Some m) deep below = let longer = below.longer in omega arith
-
-  deep_here : 34 ≤ n.prefix.len + suc k
-  deep_here = subst (λ (o : Option Node). IfSome o (λ m. 34 ≤ m.prefix.len + suc k)) was can.deep
-
-  branch_room : 1 ≤ k
-  branch_room = let len = here.branching.is.len in omega (arith, deep_here)
+  spare_not : (r : ℕ) → Contains (places_at nodes place) r → r ≢ spare
+  spare_not r inside e = can.apart.1.0 (subst (Contains (places_at nodes place)) e inside)
 
   branch_apart : (xs : List ℕ) → ((r : ℕ) → Contains xs r → Contains (Z ++ O) r) → AreApart xs → AreApart (fresh ∷ (spare ∷ xs))
   branch_apart xs sub apart = (
     (λ inside. elim (first_or_rest spare xs fresh inside) [
       | inl e ↦ can.apart.0 (0, omega arith, sym e)
-      | inr below ↦ fresh_not fresh (down fresh (sub fresh below)) refl
+      | inr below ↦ fresh_not fresh (at.below fresh (sub fresh below)) refl
     ]),
-    ((λ inside. spare_not spare (down spare (sub spare inside)) refl), apart),
+    ((λ inside. spare_not spare (at.below spare (sub spare inside)) refl), apart),
   )
 
-  pub can_zero : CanAdd nodes values p fresh spare k n.zero
+  pub can_zero : CanAdd nodes p fresh spare n.zero
   can_zero = record {
     is = can.is;
-    trie = here.zero_below;
-    room = branch_room;
-    deep = branch_deep n.prefix.address (middle n.prefix) (slice_get nodes n.zero) deep_here here.branching.zero;
-    absent = λ r inside. can.absent r (down r (in_zero r inside));
+    trie = at.zero_below;
+    absent = λ r inside. can.absent r (at.below r (in_zero r inside));
     apart = branch_apart Z in_zero (left_apart Z O all.1);
     fresh_in = can.fresh_in;
     spare_in = can.spare_in;
     few = can.few;
-    fresh_bare = can.fresh_bare;
-    spare_bare = can.spare_bare;
   }
 
-  pub can_one : CanAdd nodes values p fresh spare k n.one
+  pub can_one : CanAdd nodes p fresh spare n.one
   can_one = record {
     is = can.is;
-    trie = here.one_below;
-    room = branch_room;
-    deep = branch_deep (middle n.prefix) (past n.prefix) (slice_get nodes n.one) deep_here here.branching.one;
-    absent = λ r inside. can.absent r (down r (in_one r inside));
+    trie = at.one_below;
+    absent = λ r inside. can.absent r (at.below r (in_one r inside));
     apart = branch_apart O in_one (right_apart Z O all.1);
     fresh_in = can.fresh_in;
     spare_in = can.spare_in;
     few = can.few;
-    fresh_bare = can.fresh_bare;
-    spare_bare = can.spare_bare;
   }
 
   -- the node is as it was once something was added to a branch
-  pub still_zero : (fs : List Node) (to : ℕ) (forked : Bool) → IsAdded nodes fs values p fresh spare k n.zero to forked → slice_get fs place ≡ Some n
-  still_zero fs to forked a = a.others place (λ inside. not_place place (in_zero place inside) refl) (fresh_not place top) (spare_not place top) ∙ was
+  pub still_zero : (fs : List Node) (to : ℕ) (forked : Bool) → IsAdded nodes fs p fresh spare n.zero to forked → slice_get fs place ≡ Some n
+  still_zero fs to forked a = a.others place (λ inside. not_place place (in_zero place inside) refl) (fresh_not place at.here) (spare_not place at.here) ∙ was
 
-  pub still_one : (fs : List Node) (to : ℕ) (forked : Bool) → IsAdded nodes fs values p fresh spare k n.one to forked → slice_get fs place ≡ Some n
-  still_one fs to forked a = a.others place (λ inside. not_place place (in_one place inside) refl) (fresh_not place top) (spare_not place top) ∙ was
+  pub still_one : (fs : List Node) (to : ℕ) (forked : Bool) → IsAdded nodes fs p fresh spare n.one to forked → slice_get fs place ≡ Some n
+  still_one fs to forked a = a.others place (λ inside. not_place place (in_one place inside) refl) (fresh_not place at.here) (spare_not place at.here) ∙ was
 
   -- One branch has the places that it had, and one or two that were of no use. The other branch stays.
   module _ (side other : List ℕ) (side_in : (r : ℕ) → Contains side r → Contains (Z ++ O) r) (other_in : (r : ℕ) → Contains other r → Contains (Z ++ O) r) (never : (r : ℕ) → Contains side r → Contains other r → ⊥)
@@ -113,8 +86,8 @@ module _ {V : Type 0} (nodes : List Node) (values : List (Option V)) (p : Prefix
     side_not_place e = elim among [
       | inl old ↦ not_place r (side_in r old) e
       | inr new ↦ elim new [
-        | inl f ↦ fresh_not place top (sym e ∙ f)
-        | inr s ↦ spare_not place top (sym e ∙ s.0)
+        | inl f ↦ fresh_not place at.here (sym e ∙ f)
+        | inr s ↦ spare_not place at.here (sym e ∙ s.0)
       ]
     ]
 
@@ -122,14 +95,14 @@ module _ {V : Type 0} (nodes : List Node) (values : List (Option V)) (p : Prefix
     side_not_other inside = elim among [
       | inl old ↦ never r old inside
       | inr new ↦ elim new [
-        | inl f ↦ fresh_not r (down r (other_in r inside)) f
-        | inr s ↦ spare_not r (down r (other_in r inside)) s.0
+        | inl f ↦ fresh_not r (at.below r (other_in r inside)) f
+        | inr s ↦ spare_not r (at.below r (other_in r inside)) s.0
       ]
     ]
 
-    side_among : Contains (places_at nodes (suc k) place) r ⊎ ((r ≡ fresh) ⊎ ((r ≡ spare) × (forked ≡ true)))
+    side_among : Contains (places_at nodes place) r ⊎ ((r ≡ fresh) ⊎ ((r ≡ spare) × (forked ≡ true)))
     side_among = elim among [
-      | inl old ↦ inl (down r (side_in r old))
+      | inl old ↦ inl (at.below r (side_in r old))
       | inr new ↦ inr new
     ]
 
@@ -138,23 +111,33 @@ module _ {V : Type 0} (nodes : List Node) (values : List (Option V)) (p : Prefix
     few_now e = let few = can.few in omega (arith, many, e, few)
 
     still_there : option_map (λ (m : Node). m.prefix) (slice_get gs fresh) ≡ Some p → option_map (λ (m : Node). m.prefix) (slice_get fs fresh) ≡ Some p
-    still_there there = ap (option_map (λ (m : Node). m.prefix)) (others fresh (λ e. fresh_not place top (sym e))) ∙ there
+    still_there there = ap (option_map (λ (m : Node). m.prefix)) (others fresh (λ e. fresh_not place at.here (sym e))) ∙ there
 
-    elsewhere : (r : ℕ) → (Contains (places_at nodes (suc k) place) r → ⊥) → r ≢ place
-    elsewhere r away e = away (subst (Contains (places_at nodes (suc k) place)) (sym e) top)
+    elsewhere : (r : ℕ) → (Contains (places_at nodes place) r → ⊥) → r ≢ place
+    elsewhere r away e = away (subst (Contains (places_at nodes place)) (sym e) at.here)
 
-    here_still : (low high len : ℕ) (m : Node) → m.prefix ≡ n.prefix → slice_get fs place ≡ Some m → IfSome (slice_get nodes place) (λ m. Within low high len m.prefix) → IfSome (slice_get fs place) (λ m. Within low high len m.prefix)
+    here_still : (low high len : ℕ) (m : Node) → m.prefix ≡ n.prefix → slice_get fs place ≡ Some m
+        → IfSome (slice_get nodes place) (λ m. Within low high len m.prefix) → IfSome (slice_get fs place) (λ m. Within low high len m.prefix)
     here_still low high len m same now w = subst (λ (o : Option Node). IfSome o (λ m. Within low high len m.prefix)) (sym now) (subst (Within low high len) (sym same) (subst (λ (o : Option Node). IfSome o (λ m. Within low high len m.prefix)) was w))
 
-    pub zero_added : IsAdded nodes gs values p fresh spare k n.zero to forked → slice_get fs place ≡ Some (record { prefix = n.prefix; zero = to; one = n.one }) → Within n.prefix.address (middle n.prefix) n.prefix.len p → IsAdded nodes fs values p fresh spare (suc k) place place forked
+    never : (r : ℕ) → Contains Z r → Contains O r → ⊥
+    never = never_both Z O all.1
+
+    never_back : (r : ℕ) → Contains O r → Contains Z r → ⊥
+    never_back r right left = never r left right
+
+    pub zero_added : IsAdded nodes gs p fresh spare n.zero to forked
+        → slice_get fs place ≡ Some (record { prefix = n.prefix; zero = to; one = n.one }) → Within n.prefix.address (middle n.prefix) n.prefix.len p
+        → IsAdded nodes fs p fresh spare place place forked
     zero_added a now w =
-        let T = places_at gs k to in
-        let never : (r : ℕ) → Contains Z r → Contains O r → ⊥ = never_both Z O all.1 in
-        let s = zero_relinked nodes values k place n was can.trie here_apart gs fs to (few_now a.as_many) others a.trie (λ r inside. side_not_place Z O in_zero in_one never forked r (a.among r inside)) a.entries
-        (λ r inside. a.others r (λ left. never r left inside) (fresh_not r (down r (in_one r inside))) (spare_not r (down r (in_one r inside))))
-        (a.within n.prefix n.prefix.address (middle n.prefix) here.branching.is (inl (refl, refl)) w here.branching.zero) now in
+        let T = places_at gs to in
+        let now_is : (values : List (Option ℕ)) → entries_at gs values to ≡ entries_at nodes values n.zero → Stands fs values place (entries_at nodes values place) (place ∷ (T ++ O)) =
+        λ values same. zero_relinked nodes place n at can.apart.1.1 values gs fs to (few_now a.as_many) others a.trie (λ r inside. side_not_place Z O in_zero in_one never forked r (a.among r inside)) same
+        (λ r inside. a.others r (λ left. never r left inside) (fresh_not r (at.below r (in_one r inside))) (spare_not r (at.below r (in_one r inside))))
+        (a.within n.prefix n.prefix.address (middle n.prefix) at.branching.is (inl (refl, refl)) w at.branching.zero) now in
+        let s = now_is [] (a.entries [] refl refl) in
         record {
-          entries = s.entries;
+          entries = λ values f g. (now_is values (a.entries values f g)).entries;
           trie = s.trie;
           node = still_there a.node;
           there = subst (λ (ps : List ℕ). Contains ps fresh) (sym s.places) (Contains-append_right (place ∷ []) (T ++ O) fresh (Contains-append_left T O fresh a.there));
@@ -166,44 +149,47 @@ module _ {V : Type 0} (nodes : List Node) (values : List (Option V)) (p : Prefix
             both_apart T O a.apart (right_apart Z O all.1) (λ r left right. side_not_other Z O in_zero in_one never forked r (a.among r left) right),
           );
           among = λ r inside. elim (first_or_rest place (T ++ O) r (subst (λ (ps : List ℕ). Contains ps r) s.places inside)) [
-            | inl at ↦ inl (subst (Contains (places_at nodes (suc k) place)) (sym at) top)
+            | inl e ↦ inl (subst (Contains (places_at nodes place)) (sym e) at.here)
             | inr below ↦ elim (Contains-append_cases T O r below) [
               | inl left ↦ side_among Z O in_zero in_one never forked r (a.among r left)
-              | inr right ↦ inl (down r (in_one r right))
+              | inr right ↦ inl (at.below r (in_one r right))
             ]
           ];
-          others = λ r away f g. others r (elsewhere r away) ∙ a.others r (λ left. away (down r (in_zero r left))) f g;
+          others = λ r away f g. others r (elsewhere r away) ∙ a.others r (λ left. away (at.below r (in_zero r left))) f g;
           as_many = many ∙ a.as_many;
           within = λ q low high is half new old. here_still low high q.len _ refl now old;
         }
 
-    pub one_added : IsAdded nodes gs values p fresh spare k n.one to forked → slice_get fs place ≡ Some (record { prefix = n.prefix; zero = n.zero; one = to }) → Within (middle n.prefix) (past n.prefix) n.prefix.len p → IsAdded nodes fs values p fresh spare (suc k) place place forked
+    pub one_added : IsAdded nodes gs p fresh spare n.one to forked
+        → slice_get fs place ≡ Some (record { prefix = n.prefix; zero = n.zero; one = to }) → Within (middle n.prefix) (past n.prefix) n.prefix.len p
+        → IsAdded nodes fs p fresh spare place place forked
     one_added a now w =
-        let T = places_at gs k to in
-        let never : (r : ℕ) → Contains O r → Contains Z r → ⊥ = λ r right left. never_both Z O all.1 r left right in
-        let s = one_relinked nodes values k place n was can.trie here_apart gs fs to (few_now a.as_many) others a.trie (λ r inside. side_not_place O Z in_one in_zero never forked r (a.among r inside)) a.entries
-        (λ r inside. a.others r (λ right. never r right inside) (fresh_not r (down r (in_zero r inside))) (spare_not r (down r (in_zero r inside))))
-        (a.within n.prefix (middle n.prefix) (past n.prefix) here.branching.is (inr (refl, refl)) w here.branching.one) now in
+        let T = places_at gs to in
+        let now_is : (values : List (Option ℕ)) → entries_at gs values to ≡ entries_at nodes values n.one → Stands fs values place (entries_at nodes values place) (place ∷ (Z ++ T)) =
+        λ values same. one_relinked nodes place n at can.apart.1.1 values gs fs to (few_now a.as_many) others a.trie (λ r inside. side_not_place O Z in_one in_zero never_back forked r (a.among r inside)) same
+        (λ r inside. a.others r (λ right. never r inside right) (fresh_not r (at.below r (in_zero r inside))) (spare_not r (at.below r (in_zero r inside))))
+        (a.within n.prefix (middle n.prefix) (past n.prefix) at.branching.is (inr (refl, refl)) w at.branching.one) now in
+        let s = now_is [] (a.entries [] refl refl) in
         record {
-          entries = s.entries;
+          entries = λ values f g. (now_is values (a.entries values f g)).entries;
           trie = s.trie;
           node = still_there a.node;
           there = subst (λ (ps : List ℕ). Contains ps fresh) (sym s.places) (Contains-append_right (place ∷ []) (Z ++ T) fresh (Contains-append_right Z T fresh a.there));
           apart = subst AreApart (sym s.places) (
             (λ inside. elim (Contains-append_cases Z T place inside) [
               | inl left ↦ not_place place (in_zero place left) refl
-              | inr right ↦ side_not_place O Z in_one in_zero never forked place (a.among place right) refl
+              | inr right ↦ side_not_place O Z in_one in_zero never_back forked place (a.among place right) refl
             ]),
-            both_apart Z T (left_apart Z O all.1) a.apart (λ r left right. side_not_other O Z in_one in_zero never forked r (a.among r right) left),
+            both_apart Z T (left_apart Z O all.1) a.apart (λ r left right. side_not_other O Z in_one in_zero never_back forked r (a.among r right) left),
           );
           among = λ r inside. elim (first_or_rest place (Z ++ T) r (subst (λ (ps : List ℕ). Contains ps r) s.places inside)) [
-            | inl at ↦ inl (subst (Contains (places_at nodes (suc k) place)) (sym at) top)
+            | inl e ↦ inl (subst (Contains (places_at nodes place)) (sym e) at.here)
             | inr below ↦ elim (Contains-append_cases Z T r below) [
-              | inl left ↦ inl (down r (in_zero r left))
-              | inr right ↦ side_among O Z in_one in_zero never forked r (a.among r right)
+              | inl left ↦ inl (at.below r (in_zero r left))
+              | inr right ↦ side_among O Z in_one in_zero never_back forked r (a.among r right)
             ]
           ];
-          others = λ r away f g. others r (elsewhere r away) ∙ a.others r (λ right. away (down r (in_one r right))) f g;
+          others = λ r away f g. others r (elsewhere r away) ∙ a.others r (λ right. away (at.below r (in_one r right))) f g;
           as_many = many ∙ a.as_many;
           within = λ q low high is half new old. here_still low high q.len _ refl now old;
         }

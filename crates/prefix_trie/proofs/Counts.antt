@@ -1,6 +1,6 @@
 -- The entries of a trie rise, and there are fewer of them than a table can count.
-use Rattle.std.proofs.Common.{◌≡◌, ℕ, zero, suc, subst, slice_get, ◌+◌, ◌*◌, ◌^◌, ◌<◌, ◌≤◌, Bool, true, false, cond, List, [], ◌∷◌, ◌++◌, length, Option, Some, None, refl, sym, ap, ◌∙◌, arith, inl, inr}
-use Rattle.std.specs.Prelude.{T, ◌&&◌, is_some, IfSome, option_map, unwrap_or}
+use Rattle.std.proofs.Common.{◌≡◌, ℕ, subst, ◌+◌, ◌*◌, ◌^◌, ◌<◌, ◌≤◌, Bool, true, false, cond, List, [], ◌∷◌, ◌++◌, length, Option, Some, None, refl, sym, ap, ◌∙◌, arith, inl, inr}
+use Rattle.std.specs.Prelude.{T, ◌&&◌, is_some}
 use Rattle.std.specs.declared.cmp.Ordering.{Ordering}
 use Rattle.std.specs.declared.cmp.Ordering.TheVariants.{Less, Greater}
 use Rattle.std.specs.Ordering.{is_lt}
@@ -16,8 +16,9 @@ use Rattle.prefix_trie.specs.Halves.{middle, Within}
 use Rattle.prefix_trie.specs.Nodes.{own, IsNode}
 use Rattle.prefix_trie.specs.declared.node.Node.{Node}
 use Rattle.prefix_trie.specs.declared.tree.Tree.{Tree}
-use Rattle.prefix_trie.specs.Arena.{value_at, entries_at, IsBranching, IsTrieAt}
+use Rattle.prefix_trie.specs.Arena.{value_at, entries_at, IsTrieAt}
 use Rattle.prefix_trie.specs.Trees.{entries, IsTrie}
+use Rattle.prefix_trie.proofs.Levels.{by_trie, node_entries, none_at}
 use Rattle.prefix_trie.proofs.Places.{halves_of}
 use Rattle.prefix_trie.proofs.Halves.{positive}
 use Rattle.prefix_trie.proofs.Nodes.{every, every_both, later_address, branches_above, ones_above}
@@ -26,7 +27,8 @@ rising_own : {V : Type 0} (p : PrefixValue) (o : Option V) → T (is_sorted pref
 rising_own p None = tt
 rising_own p (Some v) = tt
 
-rising_node : {V : Type 0} (p : PrefixValue) (o : Option V) (zs os : List (PrefixValue × V)) → IsNode p zs os → T (is_sorted prefix_cmp zs) → T (is_sorted prefix_cmp os) → T (is_sorted prefix_cmp (own p o ++ (zs ++ os)))
+rising_node : {V : Type 0} (p : PrefixValue) (o : Option V) (zs os : List (PrefixValue × V)) → IsNode p zs os → T (is_sorted prefix_cmp zs)
+    → T (is_sorted prefix_cmp os) → T (is_sorted prefix_cmp (own p o ++ (zs ++ os)))
 rising_node {V} p o zs os node rz ro =
     rising_append prefix_total (own p o) (zs ++ os) (rising_own p o)
     (rising_append prefix_total zs os rz ro (every (Within p.address (middle p) p.len) (λ q. AllAbove prefix_cmp q os) zs (λ q w. let to = w.to in let pos = positive q in ones_above p o zs os node q (omega arith)) node.zeros))
@@ -37,22 +39,15 @@ rising_node {V} p o zs os node rz ro =
     own_first (Some v) = (branches_above p o zs os node p (omega arith) (omega arith), tt)
 
 -- the entries of nodes, which are none or those of a node over its branches
-by_levels : {V : Type 0} (P : List (PrefixValue × V) → Type 0) (nodes : List Node) (values : List (Option V)) → P [] → ((p : PrefixValue) (o : Option V) (zs os : List (PrefixValue × V)) → IsNode p zs os → P zs → P os → P (own p o ++ (zs ++ os)))
-    → (levels place : ℕ) → IsTrieAt nodes levels place → P (entries_at nodes values levels place)
-unfolding IsTrieAt entries_at
-by_levels P nodes values none over zero place trie = none
-by_levels {V} P nodes values none over (suc k) place trie = by_node (λ p trie. by_levels P nodes values none over k p trie) (slice_get nodes place) refl where
-  whole : Option Node → List (PrefixValue × V)
-  whole o = unwrap_or (option_map (λ n. own n.prefix (value_at values place) ++ (entries_at nodes values k n.zero ++ entries_at nodes values k n.one)) o) []
-
-  by_node : ((p : ℕ) → IsTrieAt nodes k p → P (entries_at nodes values k p)) → (o : Option Node) → slice_get nodes place ≡ o → P (entries_at nodes values (suc k) place)
-  by_node recur None is = subst (λ (o : Option Node). P (whole o)) (sym is) none
-  by_node recur (Some n) is =
-      let parts = subst (λ (o : Option Node). IfSome o (λ n. IsBranching nodes n × IsTrieAt nodes k n.zero × IsTrieAt nodes k n.one)) is trie.1 in
-      subst (λ (o : Option Node). P (whole o)) (sym is) (over n.prefix (value_at values place) (entries_at nodes values k n.zero) (entries_at nodes values k n.one) (halves_of nodes values k n parts.0 parts.1 parts.2) (recur n.zero parts.1) (recur n.one parts.2))
+by_entries : {V : Type 0} (P : List (PrefixValue × V) → Type 0) (nodes : List Node) (values : List (Option V)) → P []
+    → ((p : PrefixValue) (o : Option V) (zs os : List (PrefixValue × V)) → IsNode p zs os → P zs → P os → P (own p o ++ (zs ++ os)))
+    → (place : ℕ) → IsTrieAt nodes place → P (entries_at nodes values place)
+by_entries P nodes values none over =
+    by_trie nodes (λ place. P (entries_at nodes values place)) (λ place is empty. subst P (sym (none_at nodes values place is)) none)
+    (λ place n at zeros ones. subst P (sym (node_entries nodes values place n at)) (over n.prefix (value_at values place) (entries_at nodes values n.zero) (entries_at nodes values n.one) (halves_of nodes values place n at) zeros ones))
 
 pub rising_trie : {V : Type 0} (t : Tree V) → IsTrie t → T (is_sorted prefix_cmp (entries t))
-rising_trie t h = by_levels (λ es. T (is_sorted prefix_cmp es)) t.nodes.items t.values.items tt (λ p o zs os node a b. rising_node p o zs os node a b) 34 t.root h.trie
+rising_trie t h = by_entries (λ es. T (is_sorted prefix_cmp es)) t.nodes.items t.values.items tt (λ p o zs os node a b. rising_node p o zs os node a b) t.root h.trie
 
 -- ---- how many
 
@@ -61,7 +56,7 @@ itself p None is = tt
 itself p (Some v) is = (is, tt)
 
 all_are : {V : Type 0} (t : Tree V) → IsTrie t → AllByRecursion (λ e. IsPrefix e.0) (entries t)
-all_are {V} t h = by_levels (λ es. AllByRecursion (λ e. IsPrefix e.0) es) t.nodes.items t.values.items tt (λ p o zs os node a b. every_both IsPrefix (own p o) (zs ++ os) (itself p o node.is) (every_both IsPrefix zs os a b)) 34 t.root h.trie
+all_are {V} t h = by_entries (λ es. AllByRecursion (λ e. IsPrefix e.0) es) t.nodes.items t.values.items tt (λ p o zs os node a b. every_both IsPrefix (own p o) (zs ++ os) (itself p o node.is) (every_both IsPrefix zs os a b)) t.root h.trie
 
 -- a number for each prefix, in the same order
 rank : PrefixValue → ℕ
@@ -93,11 +88,13 @@ rank_rises p q is isq less = elim (cases_lt p.address q.address) [
     is_less : true ≡ false → ⊥
     is_less e = cc
 
-above_rank : {V : Type 0} (p : PrefixValue) (es : List (PrefixValue × V)) → IsPrefix p → AllByRecursion (λ e. IsPrefix e.0) es → AllAbove prefix_cmp p es → AllByRecursion (λ e. rank p + 1 ≤ rank e.0) es
+above_rank : {V : Type 0} (p : PrefixValue) (es : List (PrefixValue × V)) → IsPrefix p → AllByRecursion (λ e. IsPrefix e.0) es
+    → AllAbove prefix_cmp p es → AllByRecursion (λ e. rank p + 1 ≤ rank e.0) es
 above_rank p [] is all above = tt
 above_rank p (e ∷ es) is all above = (let lt = rank_rises p e.0 is all.0 above.0 in omega arith, above_rank p es is all.1 above.1)
 
-counted : {V : Type 0} (low : ℕ) (es : List (PrefixValue × V)) → low ≤ 2 ^ 38 → T (is_sorted prefix_cmp es) → AllByRecursion (λ e. IsPrefix e.0) es → AllByRecursion (λ e. low ≤ rank e.0) es → low + length es ≤ 2 ^ 38
+counted : {V : Type 0} (low : ℕ) (es : List (PrefixValue × V)) → low ≤ 2 ^ 38 → T (is_sorted prefix_cmp es) → AllByRecursion (λ e. IsPrefix e.0) es
+    → AllByRecursion (λ e. low ≤ rank e.0) es → low + length es ≤ 2 ^ 38
 counted low [] h rise all from = omega arith
 counted low (e ∷ es) h rise all from =
     let parts = rising_parts prefix_total [] e es rise in
@@ -122,17 +119,21 @@ countable t h =
     omega arith
 
 -- after a change
-pub put_len : {V : Type 0} (p : PrefixValue) (v : V) (es : List (PrefixValue × V)) → T (is_sorted prefix_cmp es) → (b : Bool) → is_some (find prefix_cmp p es) ≡ b → length (put prefix_cmp p v es) ≡ cond b (length es) (length es + 1)
+pub put_len : {V : Type 0} (p : PrefixValue) (v : V) (es : List (PrefixValue × V)) → T (is_sorted prefix_cmp es) → (b : Bool)
+    → is_some (find prefix_cmp p es) ≡ b → length (put prefix_cmp p v es) ≡ cond b (length es) (length es + 1)
 put_len p v es rise b e = length-put prefix_cmp prefix_total p v es rise ∙ ap (λ (t : Bool). cond t (length es) (length es + 1)) e
 
 pub none_of : {V : Type 0} (o : Option V) → is_some o ≡ false → o ≡ None
 none_of None e = refl
 none_of (Some v) e = absurd cc
 
-pub one_less : {V : Type 0} (p : PrefixValue) (w : V) (es : List (PrefixValue × V)) → T (is_sorted prefix_cmp es) → find prefix_cmp p es ≡ Some w → 1 + length (without prefix_cmp p es) ≡ length es
-one_less {V} p w es rise some = ap (λ (o : Option V). cond (is_some o) 1 0 + length (without prefix_cmp p es)) (sym some) ∙ length_without prefix_cmp prefix_total p es rise
+pub one_less : {V : Type 0} (p : PrefixValue) (w : V) (es : List (PrefixValue × V)) → T (is_sorted prefix_cmp es) → find prefix_cmp p es ≡ Some w
+    → 1 + length (without prefix_cmp p es) ≡ length es
+one_less {V} p w es rise some = ap (λ (o : Option V). cond (is_some o) 1 0 + length (without prefix_cmp p es)) (sym some)
+    ∙ length_without prefix_cmp prefix_total p es rise
 
-pub none_less : {V : Type 0} (p : PrefixValue) (es : List (PrefixValue × V)) → T (is_sorted prefix_cmp es) → find prefix_cmp p es ≡ None → length (without prefix_cmp p es) ≡ length es
+pub none_less : {V : Type 0} (p : PrefixValue) (es : List (PrefixValue × V)) → T (is_sorted prefix_cmp es) → find prefix_cmp p es ≡ None
+    → length (without prefix_cmp p es) ≡ length es
 none_less {V} p es rise none =
     let e = ap (λ (o : Option V). cond (is_some o) 1 0 + length (without prefix_cmp p es)) (sym none) ∙ length_without prefix_cmp prefix_total p es rise in
     omega arith

@@ -1,5 +1,5 @@
 -- What places are free while nodes go, each with its value.
-use Rattle.std.proofs.Common.{◌≡◌, ℕ, zero, suc, ◌-◌, ◌≤◌, ◌<◌, Bool, true, false, cond, set, List, [], ◌∷◌, ◌++◌, length, Option, Some, None, refl, sym, ap, subst, ◌∙◌, arith, slice_get, inl, inr, ◌⊎◌}
+use Rattle.std.proofs.Common.{◌≡◌, ℕ, zero, suc, ◌≤◌, ◌<◌, Bool, true, false, cond, set, List, [], ◌∷◌, ◌++◌, length, Option, None, refl, sym, ap, subst, ◌∙◌, arith, slice_get, inl, inr, ◌⊎◌}
 use Rattle.std.specs.List.{Contains}
 use Rattle.std.proofs.lemmas.List.Elements.{Contains-append_left, Contains-append_right, Contains-append_cases}
 use Rattle.std.proofs.lemmas.Option.{slice_get_past}
@@ -8,9 +8,8 @@ use Rattle.prefix_trie.specs.declared.tree.Tree.{Tree}
 use Rattle.prefix_trie.specs.Arena.{nowhere, value_at, places_at, AreApart}
 use Rattle.prefix_trie.specs.Trees.{entries, IsTrie}
 use Rattle.prefix_trie.proofs.Apart.{both_apart, first_or_rest, in_none, left_apart, right_apart, never_both}
-use Rattle.prefix_trie.proofs.Levels.{no_places, empty_trie}
-use Rattle.prefix_trie.proofs.Outside.{held_at}
-use Rattle.prefix_trie.proofs.Places.{none_at, places_in}
+use Rattle.prefix_trie.proofs.Levels.{AtNode, empty_trie, no_places, none_at}
+use Rattle.prefix_trie.proofs.Places.{places_in}
 
 -- ---- values
 
@@ -87,35 +86,34 @@ module _ (place : ℕ) (Z O free fs : List ℕ) (apart : AreApart (place ∷ ((Z
     ]
 
 -- A node's place is free, where there is room, and then those of its branches.
-module _ (nodes : List Node) (levels place : ℕ) (n : Node) (some : 1 ≤ levels) (there : slice_get nodes place ≡ Some n) (free : List ℕ) (apart : AreApart (places_at nodes levels place ++ free)) (b : Bool) (fs : List ℕ) (is : fs ≡ cond b (free ++ place ∷ []) free) where
-  held : places_at nodes levels place ≡ place ∷ (places_at nodes (levels - 1) n.zero ++ places_at nodes (levels - 1) n.one)
-  held = held_at nodes levels place n some there
-
-  all_apart : AreApart (place ∷ ((places_at nodes (levels - 1) n.zero ++ places_at nodes (levels - 1) n.one) ++ free))
-  all_apart = subst (λ (ps : List ℕ). AreApart (ps ++ free)) held apart
+module _ (nodes : List Node) (place : ℕ) (n : Node) (at : AtNode nodes place n) (free : List ℕ) (apart : AreApart (places_at nodes place ++ free)) (b : Bool) (fs : List ℕ) (is : fs ≡ cond b (free ++ place ∷ []) free) where
+  all_apart : AreApart (place ∷ ((places_at nodes n.zero ++ places_at nodes n.one) ++ free))
+  all_apart = subst (λ (ps : List ℕ). AreApart (ps ++ free)) at.places apart
 
   among : (q : ℕ) → Contains fs q → Contains free q ⊎ (q ≡ place)
   among = added_among b free fs place is
 
   now_apart : AreApart fs
-  now_apart = added_apart b free fs place is (right_apart (places_at nodes levels place) free apart) (λ inside. all_apart.0 (Contains-append_right (places_at nodes (levels - 1) n.zero ++ places_at nodes (levels - 1) n.one) free place inside))
+  now_apart = added_apart b free fs place is (right_apart (places_at nodes place) free apart) (λ inside. all_apart.0 (Contains-append_right (places_at nodes n.zero ++ places_at nodes n.one) free place inside))
 
-  pub zero_apart : AreApart (places_at nodes (levels - 1) n.zero ++ fs)
-  zero_apart = first_apart place (places_at nodes (levels - 1) n.zero) (places_at nodes (levels - 1) n.one) free fs all_apart now_apart among
+  pub zero_apart : AreApart (places_at nodes n.zero ++ fs)
+  zero_apart = first_apart place (places_at nodes n.zero) (places_at nodes n.one) free fs all_apart now_apart among
 
-  pub place_bare : {V : Type 0} (values : List (Option V)) → ((q : ℕ) → Contains free q → value_at values q ≡ None) → (q : ℕ) → Contains fs q → value_at (set values place None) q ≡ None
+  pub place_bare : {V : Type 0} (values : List (Option V)) → ((q : ℕ) → Contains free q → value_at values q ≡ None) → (q : ℕ) → Contains fs q
+      → value_at (set values place None) q ≡ None
   place_bare {V} values bare q inside = elim (among q inside) [
     | inl old ↦ none_still values place q (bare q old)
     | inr at ↦ subst (λ (r : ℕ). value_at (set values place None) r ≡ None) (sym at) (none_here values place)
   ]
 
-  module _ (gs : List ℕ) (gs_apart : AreApart gs) (gs_among : (q : ℕ) → Contains gs q → Contains (places_at nodes (levels - 1) n.zero ++ fs) q) where
-    pub one_apart : AreApart (places_at nodes (levels - 1) n.one ++ gs)
-    one_apart = second_apart place (places_at nodes (levels - 1) n.zero) (places_at nodes (levels - 1) n.one) free fs all_apart now_apart among gs gs_apart gs_among
+  module _ (gs : List ℕ) (gs_apart : AreApart gs) (gs_among : (q : ℕ) → Contains gs q → Contains (places_at nodes n.zero ++ fs) q) where
+    pub one_apart : AreApart (places_at nodes n.one ++ gs)
+    one_apart = second_apart place (places_at nodes n.zero) (places_at nodes n.one) free fs all_apart now_apart among gs gs_apart gs_among
 
-    pub node_among : (hs : List ℕ) → ((q : ℕ) → Contains hs q → Contains (places_at nodes (levels - 1) n.one ++ gs) q) → (q : ℕ) → Contains hs q → Contains (places_at nodes levels place ++ free) q
-    node_among hs hs_among q inside = subst (λ (ps : List ℕ). Contains (ps ++ free) q) (sym held)
-        (all_among place (places_at nodes (levels - 1) n.zero) (places_at nodes (levels - 1) n.one) free fs all_apart now_apart among gs gs_apart gs_among hs hs_among q inside)
+    pub node_among : (hs : List ℕ) → ((q : ℕ) → Contains hs q → Contains (places_at nodes n.one ++ gs) q) → (q : ℕ) → Contains hs q
+        → Contains (places_at nodes place ++ free) q
+    node_among hs hs_among q inside = subst (λ (ps : List ℕ). Contains (ps ++ free) q) (sym at.places)
+        (all_among place (places_at nodes n.zero) (places_at nodes n.one) free fs all_apart now_apart among gs gs_apart gs_among hs hs_among q inside)
 
 -- ---- a trie without nodes
 
@@ -123,18 +121,19 @@ pub none_at_root : {V : Type 0} (t : Tree V) → length t.nodes.items ≤ nowher
 none_at_root t few root = slice_get_past t.nodes.items t.root (omega (arith, few, root))
 
 pub no_entries : {V : Type 0} (t : Tree V) → length t.nodes.items ≤ nowhere → t.root ≡ nowhere → entries t ≡ []
-no_entries t few root = none_at t.nodes.items t.values.items 34 t.root (none_at_root t few root)
+no_entries t few root = none_at t.nodes.items t.values.items t.root (none_at_root t few root)
 
-pub emptied_trie : {V : Type 0} (t u : Tree V) → IsTrie t → u.nodes.items ≡ t.nodes.items → u.root ≡ nowhere → AreApart u.free.items → ((q : ℕ) → Contains u.free.items q → Contains (places_at t.nodes.items 34 t.root ++ t.free.items) q)
+pub emptied_trie : {V : Type 0} (t u : Tree V) → IsTrie t → u.nodes.items ≡ t.nodes.items → u.root ≡ nowhere → AreApart u.free.items
+    → ((q : ℕ) → Contains u.free.items q → Contains (places_at t.nodes.items t.root ++ t.free.items) q)
     → ((q : ℕ) → Contains u.free.items q → value_at u.values.items q ≡ None) → length u.values.items ≡ length t.nodes.items → IsTrie u
 emptied_trie {V} t u h nodes root apart among bare valued =
     let few : length u.nodes.items ≤ nowhere = subst (λ (ns : List Node). length ns ≤ nowhere) (sym nodes) h.few in
     let none = none_at_root u few root in
     record {
-      trie = empty_trie u.nodes.items u.values.items 34 u.root none root;
-      apart = subst (λ (ps : List ℕ). AreApart (ps ++ u.free.items)) (sym (no_places u.nodes.items u.values.items 34 u.root none)) apart;
-      free_in = λ q inside. subst (λ (ns : List Node). q < length ns) (sym nodes) (elim (Contains-append_cases (places_at t.nodes.items 34 t.root) t.free.items q (among q inside)) [
-        | inl node ↦ places_in t.nodes.items 34 t.root q node
+      trie = empty_trie u.nodes.items u.root none root;
+      apart = subst (λ (ps : List ℕ). AreApart (ps ++ u.free.items)) (sym (no_places u.nodes.items u.root none)) apart;
+      free_in = λ q inside. subst (λ (ns : List Node). q < length ns) (sym nodes) (elim (Contains-append_cases (places_at t.nodes.items t.root) t.free.items q (among q inside)) [
+        | inl node ↦ places_in t.nodes.items q t.root h.trie node
         | inr old ↦ h.free_in q old
       ]);
       free_bare = bare;

@@ -44,7 +44,8 @@ half_finer p q h k =
 
 -- a multiple of the size of a shorter one is one of that of a longer one
 begins_finer : (p q : PrefixValue) → IsPrefix p → p.len ≤ q.len → q.len ≤ 32 → p.address ≡ (p.address / size p * 2 ^ (q.len - p.len)) * size q
-begins_finer p q is h k = begins p is ∙ (ap (λ (n : ℕ). p.address / size p * n) (finer p q h k) ∙ sym (mul_assoc (p.address / size p) (2 ^ (q.len - p.len)) (size q)))
+begins_finer p q is h k = begins p is
+    ∙ (ap (λ (n : ℕ). p.address / size p * n) (finer p q h k) ∙ sym (mul_assoc (p.address / size p) (2 ^ (q.len - p.len)) (size q)))
 
 added : (a b c d m : ℕ) → a ≡ c * m → b ≡ d * m → a + b ≡ (c + d) * m
 added a b c d m e f = rw (e, f) (sym (add-mul c d m))
@@ -99,7 +100,8 @@ middle_le_past p h = elim (cases_lt p.len 32) [
 ]
 
 -- Half of how far into a prefix an address lies is less than its half.
-pub covers_by_half : (p q : PrefixValue) → IsPrefix p → p.len < q.len → q.len ≤ 32 → p.address ≤ q.address → (q.address - p.address) / 2 < 2 ^ 31 / 2 ^ p.len ↔ Covers p q
+pub covers_by_half : (p q : PrefixValue) → IsPrefix p → p.len < q.len → q.len ≤ 32 → p.address ≤ q.address
+    → (q.address - p.address) / 2 < 2 ^ 31 / 2 ^ p.len ↔ Covers p q
 covers_by_half p q is longer fits from =
     let e = half p.len (omega arith) in
     let n : 32 - p.len ≡ suc (31 - p.len) = omega arith in

@@ -23,6 +23,7 @@ pub mod Changes
 pub mod Sides
 pub mod Relinked
 pub mod Trimmed
+pub mod Numbered
 pub mod Settled
 pub mod Taken
 pub mod Standing

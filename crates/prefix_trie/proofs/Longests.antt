@@ -17,7 +17,8 @@ use Rattle.prefix_trie.proofs.Nodes.{every, every_both, equal_from_test, apart, 
 use Rattle.prefix_trie.proofs.Places.{alone}
 
 -- what a node has is under its prefix
-all_under : {V : Type 0} (p : PrefixValue) (o : Option V) (zs os : List (PrefixValue × V)) → IsNode p zs os → AllByRecursion (λ e. Under p e.0) (own p o ++ (zs ++ os))
+all_under : {V : Type 0} (p : PrefixValue) (o : Option V) (zs os : List (PrefixValue × V)) → IsNode p zs os
+    → AllByRecursion (λ e. Under p e.0) (own p o ++ (zs ++ os))
 all_under {V} p o zs os node =
     let le = middle_le_past p node.is.len in
     every_both (Under p) (own p o) (zs ++ os) (alone (Under p) p o (record { is = node.is; long = omega arith; from = omega arith; to = omega arith }))
@@ -51,7 +52,8 @@ pub record Walk {V : Type 0} (host : PrefixValue) (es here : List (PrefixValue �
 pub walk_begins : {V : Type 0} (host : PrefixValue) (es : List (PrefixValue × V)) → Walk host es es None
 walk_begins host es = record { inside = λ q h. h; rest = λ q h c. inl h; found = tt; below = tt }
 
-pub walk_ends : {V : Type 0} (host : PrefixValue) (es here : List (PrefixValue × V)) (best : Option PrefixValue) → Walk host es here best → ((q : PrefixValue) → Has here q → Covers q host → ⊥) → LongestOf (Has es) host best
+pub walk_ends : {V : Type 0} (host : PrefixValue) (es here : List (PrefixValue × V)) (best : Option PrefixValue) → Walk host es here best
+    → ((q : PrefixValue) → Has here q → Covers q host → ⊥) → LongestOf (Has es) host best
 walk_ends host es here None w none = record { none = λ q h c. elim (w.rest q h c) [ inl k ↦ none q k c | inr k ↦ k ] }
 walk_ends host es here (Some p) w none = record {
   there = w.found.0;
@@ -182,13 +184,16 @@ module _ {V : Type 0} (p : PrefixValue) (o : Option V) (zs os : List (PrefixValu
       deeper_below None under = tt
       deeper_below (Some x) under = λ q h. under q (inner q h)
 
-  pub step_early : (es : List (PrefixValue × V)) (best : Option PrefixValue) → Covers p host → host.address < middle p → Walk host es (own p o ++ (zs ++ os)) best → Walk host es zs (cond (is_some o) (Some p) best)
+  pub step_early : (es : List (PrefixValue × V)) (best : Option PrefixValue) → Covers p host → host.address < middle p
+      → Walk host es (own p o ++ (zs ++ os)) best → Walk host es zs (cond (is_some o) (Some p) best)
   step_early es best covers h w = step es zs best (is_some o) refl covers early_has (λ q k. let l = (has_within (Within p.address (middle p) p.len) zs q node.zeros k).longer in omega arith) (early_rest h) w
 
-  pub step_late : (es : List (PrefixValue × V)) (best : Option PrefixValue) → Covers p host → middle p ≤ host.address → Walk host es (own p o ++ (zs ++ os)) best → Walk host es os (cond (is_some o) (Some p) best)
+  pub step_late : (es : List (PrefixValue × V)) (best : Option PrefixValue) → Covers p host → middle p ≤ host.address
+      → Walk host es (own p o ++ (zs ++ os)) best → Walk host es os (cond (is_some o) (Some p) best)
   step_late es best covers h w = step es os best (is_some o) refl covers late_has (λ q k. let l = (has_within (Within (middle p) (past p) p.len) os q node.ones k).longer in omega arith) (late_rest h) w
 
 -- the same of another word for what there is
-pub same_longest : (has other : PrefixValue → Type 0) (host : PrefixValue) (r : Option PrefixValue) → ((q : PrefixValue) → has q → other q) → ((q : PrefixValue) → other q → has q) → LongestOf has host r → LongestOf other host r
+pub same_longest : (has other : PrefixValue → Type 0) (host : PrefixValue) (r : Option PrefixValue) → ((q : PrefixValue) → has q → other q)
+    → ((q : PrefixValue) → other q → has q) → LongestOf has host r → LongestOf other host r
 same_longest has other host None to from l = record { none = λ q h c. l.none q (from q h) c }
 same_longest has other host (Some p) to from l = record { there = to p l.there; covers = l.covers; longest = λ q h c. l.longest q (from q h) c }

@@ -17,7 +17,8 @@ keys es = map (λ e. e.0) es
 
 module _ {V : Type 0} where
   -- of two parts
-  pub first_of_both : (a : Option PrefixValue) (xs ys : List (PrefixValue × V)) → first_above a (keys (xs ++ ys)) ≡ option_or (first_above a (keys xs)) (first_above a (keys ys))
+  pub first_of_both : (a : Option PrefixValue) (xs ys : List (PrefixValue × V))
+      → first_above a (keys (xs ++ ys)) ≡ option_or (first_above a (keys xs)) (first_above a (keys ys))
   first_of_both a [] ys = refl
   first_of_both a (x ∷ xs) ys =
       elim (is_above a x.0) as (λ b. cond b (Some x.0) (first_above a (keys (xs ++ ys))) ≡ option_or (cond b (Some x.0) (first_above a (keys xs))) (first_above a (keys ys))) [
@@ -31,7 +32,8 @@ module _ {V : Type 0} where
   first_of_above p (e ∷ es) a = rw a.0 refl
 
   -- of a node without a value
-  pub first_below : (p : PrefixValue) (o : Option V) (zs os : List (PrefixValue × V)) → is_some o ≡ false → first_above None (keys (own p o ++ (zs ++ os))) ≡ option_or (first_above None (keys zs)) (first_above None (keys os))
+  pub first_below : (p : PrefixValue) (o : Option V) (zs os : List (PrefixValue × V)) → is_some o ≡ false
+      → first_above None (keys (own p o ++ (zs ++ os))) ≡ option_or (first_above None (keys zs)) (first_above None (keys os))
   first_below p None zs os e = first_of_both None zs os
   first_below p (Some v) zs os e = absurd cc
 
@@ -48,7 +50,8 @@ module _ {V : Type 0} where
     passed h None = tt
     passed h (Some v) = (h, tt)
 
-    pub next_early : is_lt (prefix_cmp q p) ≡ false → q.address < middle p → first_above (Some q) (keys (own p o ++ (zs ++ os))) ≡ option_or (first_above (Some q) (keys zs)) (first_above None (keys os))
+    pub next_early : is_lt (prefix_cmp q p) ≡ false → q.address < middle p
+        → first_above (Some q) (keys (own p o ++ (zs ++ os))) ≡ option_or (first_above (Some q) (keys zs)) (first_above None (keys os))
     next_early h early =
         next_right q (own p o) (zs ++ os) (passed h o)
         ∙ (first_of_both (Some q) zs os

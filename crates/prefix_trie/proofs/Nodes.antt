@@ -44,30 +44,15 @@ apart p q h = by_test (eq_by_cmp prefix_cmp p q) refl where
   by_test false e = e
 
 module _ {V : Type 0} where
-  pub every : (P Q : PrefixValue → Type 0) (es : List (PrefixValue × V)) → ((p : PrefixValue) → P p → Q p) → AllByRecursion (λ e. P e.0) es → AllByRecursion (λ e. Q e.0) es
+  pub every : (P Q : PrefixValue → Type 0) (es : List (PrefixValue × V)) → ((p : PrefixValue) → P p → Q p) → AllByRecursion (λ e. P e.0) es
+      → AllByRecursion (λ e. Q e.0) es
   every P Q [] h all = tt
   every P Q (e ∷ es) h all = (h e.0 all.0, every P Q es h all.1)
 
-  pub every_both : (P : PrefixValue → Type 0) (xs ys : List (PrefixValue × V)) → AllByRecursion (λ e. P e.0) xs → AllByRecursion (λ e. P e.0) ys → AllByRecursion (λ e. P e.0) (xs ++ ys)
+  pub every_both : (P : PrefixValue → Type 0) (xs ys : List (PrefixValue × V)) → AllByRecursion (λ e. P e.0) xs → AllByRecursion (λ e. P e.0) ys
+      → AllByRecursion (λ e. P e.0) (xs ++ ys)
   every_both P [] ys a b = b
   every_both P (x ∷ xs) ys a b = (a.0, every_both P xs ys a.1 b)
-
-  pub every_put : (P : PrefixValue → Type 0) (p : PrefixValue) (v : V) (es : List (PrefixValue × V)) → P p → AllByRecursion (λ e. P e.0) es → AllByRecursion (λ e. P e.0) (put prefix_cmp p v es)
-  every_put P p v [] h all = (h, tt)
-  every_put P p v (e ∷ es) h all =
-      elim (prefix_cmp p e.0) as (λ o. AllByRecursion (λ e. P e.0) (by_order o ((p, v) ∷ e ∷ es) ((e.0, v) ∷ es) (e ∷ put prefix_cmp p v es))) [
-        | Less ↦ (h, all)
-        | Equal ↦ all
-        | Greater ↦ (all.0, every_put P p v es h all.1)
-      ]
-
-  pub every_without : (P : PrefixValue → Type 0) (p : PrefixValue) (es : List (PrefixValue × V)) → AllByRecursion (λ e. P e.0) es → AllByRecursion (λ e. P e.0) (without prefix_cmp p es)
-  every_without P p [] all = tt
-  every_without P p (e ∷ es) all =
-      elim (not (eq_by_cmp prefix_cmp p e.0)) as (λ b. AllByRecursion (λ e. P e.0) (cond b (e ∷ without prefix_cmp p es) (without prefix_cmp p es))) [
-        | true ↦ (all.0, every_without P p es all.1)
-        | false ↦ every_without P p es all.1
-      ]
 
   -- no entry has the prefix
   pub find_apart : (p : PrefixValue) (es fs : List (PrefixValue × V)) → AllByRecursion (λ e. p ≢ e.0) es → find prefix_cmp p (es ++ fs) ≡ find prefix_cmp p fs
@@ -78,7 +63,8 @@ module _ {V : Type 0} where
   find_none p [] h = refl
   find_none p (e ∷ es) h = rw (apart p e.0 h.0) (find_none p es h.1)
 
-  pub without_apart : (p : PrefixValue) (es fs : List (PrefixValue × V)) → AllByRecursion (λ e. p ≢ e.0) es → without prefix_cmp p (es ++ fs) ≡ es ++ without prefix_cmp p fs
+  pub without_apart : (p : PrefixValue) (es fs : List (PrefixValue × V)) → AllByRecursion (λ e. p ≢ e.0) es
+      → without prefix_cmp p (es ++ fs) ≡ es ++ without prefix_cmp p fs
   without_apart p [] fs h = refl
   without_apart p (e ∷ es) fs h = rw (apart p e.0 h.0) (ap (λ (xs : List (PrefixValue × V)). e ∷ xs) (without_apart p es fs h.1))
 
@@ -126,9 +112,6 @@ module _ {V : Type 0} where
       by_value None = find_above prefix_cmp p (zs ++ os) (branches_above p (omega arith) (omega arith))
       by_value (Some v) = rw (tied_itself prefix_total p) refl
 
-    pub find_nowhere : (q : PrefixValue) → q.len ≤ p.len → q ≢ p → find prefix_cmp q (own p o ++ (zs ++ os)) ≡ None
-    find_nowhere q h k = find_none q (own p o ++ (zs ++ os)) (every_both (λ x. q ≢ x) (own p o) (zs ++ os) (own_apart q p o k) (branches_apart q h))
-
     pub find_early : (q : PrefixValue) → q ≢ p → q.address < middle p → find prefix_cmp q (own p o ++ (zs ++ os)) ≡ find prefix_cmp q zs
     find_early q k h = find_apart q (own p o) (zs ++ os) (own_apart q p o k) ∙ find_left prefix_cmp q zs os (ones_above q h)
 
@@ -143,11 +126,15 @@ module _ {V : Type 0} where
       by_value None = put_left prefix_cmp p v [] (zs ++ os) (branches_above p (omega arith) (omega arith))
       by_value (Some w) = rw (tied_itself prefix_total p) refl
 
-    pub put_early : (q : PrefixValue) (v : V) → prefix_cmp q p ≡ Greater → q.address < middle p → put prefix_cmp q v (own p o ++ (zs ++ os)) ≡ own p o ++ (put prefix_cmp q v zs ++ os)
-    put_early q v k h = put_right prefix_cmp q v (own p o) (zs ++ os) (own_below q p o k) ∙ ap (λ (xs : List (PrefixValue × V)). own p o ++ xs) (put_left prefix_cmp q v zs os (ones_above q h))
+    pub put_early : (q : PrefixValue) (v : V) → prefix_cmp q p ≡ Greater → q.address < middle p
+        → put prefix_cmp q v (own p o ++ (zs ++ os)) ≡ own p o ++ (put prefix_cmp q v zs ++ os)
+    put_early q v k h = put_right prefix_cmp q v (own p o) (zs ++ os) (own_below q p o k)
+        ∙ ap (λ (xs : List (PrefixValue × V)). own p o ++ xs) (put_left prefix_cmp q v zs os (ones_above q h))
 
-    pub put_late : (q : PrefixValue) (v : V) → prefix_cmp q p ≡ Greater → middle p ≤ q.address → put prefix_cmp q v (own p o ++ (zs ++ os)) ≡ own p o ++ (zs ++ put prefix_cmp q v os)
-    put_late q v k h = put_right prefix_cmp q v (own p o) (zs ++ os) (own_below q p o k) ∙ ap (λ (xs : List (PrefixValue × V)). own p o ++ xs) (put_right prefix_cmp q v zs os (zeros_below q h))
+    pub put_late : (q : PrefixValue) (v : V) → prefix_cmp q p ≡ Greater → middle p ≤ q.address
+        → put prefix_cmp q v (own p o ++ (zs ++ os)) ≡ own p o ++ (zs ++ put prefix_cmp q v os)
+    put_late q v k h = put_right prefix_cmp q v (own p o) (zs ++ os) (own_below q p o k)
+        ∙ ap (λ (xs : List (PrefixValue × V)). own p o ++ xs) (put_right prefix_cmp q v zs os (zeros_below q h))
 
     -- ---- without a prefix
 
@@ -157,11 +144,15 @@ module _ {V : Type 0} where
       by_value None = without_none p (zs ++ os) (branches_apart p (omega arith))
       by_value (Some v) = rw (tied_itself prefix_total p) (without_none p (zs ++ os) (branches_apart p (omega arith)))
 
-    pub without_early : (q : PrefixValue) → q ≢ p → q.address < middle p → without prefix_cmp q (own p o ++ (zs ++ os)) ≡ own p o ++ (without prefix_cmp q zs ++ os)
-    without_early q k h = without_apart q (own p o) (zs ++ os) (own_apart q p o k) ∙ ap (λ (xs : List (PrefixValue × V)). own p o ++ xs) (without_left prefix_cmp q zs os (ones_above q h))
+    pub without_early : (q : PrefixValue) → q ≢ p → q.address < middle p
+        → without prefix_cmp q (own p o ++ (zs ++ os)) ≡ own p o ++ (without prefix_cmp q zs ++ os)
+    without_early q k h = without_apart q (own p o) (zs ++ os) (own_apart q p o k)
+        ∙ ap (λ (xs : List (PrefixValue × V)). own p o ++ xs) (without_left prefix_cmp q zs os (ones_above q h))
 
-    pub without_late : (q : PrefixValue) → q ≢ p → middle p ≤ q.address → without prefix_cmp q (own p o ++ (zs ++ os)) ≡ own p o ++ (zs ++ without prefix_cmp q os)
-    without_late q k h = without_apart q (own p o) (zs ++ os) (own_apart q p o k) ∙ ap (λ (xs : List (PrefixValue × V)). own p o ++ xs) (without_right prefix_cmp q zs os (zeros_below q h))
+    pub without_late : (q : PrefixValue) → q ≢ p → middle p ≤ q.address
+        → without prefix_cmp q (own p o ++ (zs ++ os)) ≡ own p o ++ (zs ++ without prefix_cmp q os)
+    without_late q k h = without_apart q (own p o) (zs ++ os) (own_apart q p o k)
+        ∙ ap (λ (xs : List (PrefixValue × V)). own p o ++ xs) (without_right prefix_cmp q zs os (zeros_below q h))
 
 -- ---- tests
 

@@ -1,9 +1,9 @@
 -- What stands at a place of a node.
-use Rattle.std.proofs.Common.{◌≡◌, ℕ, zero, suc, ◌-◌, ◌≤◌, ◌<◌, length, inl, inr, Bool, true, false, List, [], ◌∷◌, ◌++◌, map, is_some, Option, Some, None, refl, sym, ap, subst, ◌∙◌, arith, slice_get}
-use Rattle.std.specs.Prelude.{IfSome, option_map, unwrap_or}
+use Rattle.std.proofs.Common.{◌≡◌, ℕ, ◌<◌, length, inl, inr, Bool, true, false, List, ◌++◌, map, is_some, Option, Some, None, refl, sym, ap, subst, ◌∙◌, arith, slice_get}
+use Rattle.std.specs.Prelude.{IfSome}
 use Rattle.std.specs.List.{Contains, AllByRecursion}
-use Rattle.std.proofs.lemmas.List.Elements.{Contains-append_left, Contains-append_right, Contains-append_cases}
-use Rattle.std.proofs.lemmas.Option.{slice_get_within}
+use Rattle.std.proofs.lemmas.List.Elements.{Contains-append_cases}
+use Rattle.std.proofs.lemmas.Option.{same_Some, slice_get_within}
 use Rattle.bgp_types.specs.Prefixes.{PrefixValue}
 use Rattle.bgp_types.specs.Tables.{first_above}
 use Rattle.prefix_trie.specs.Halves.{middle, past, Within}
@@ -11,124 +11,135 @@ use Rattle.prefix_trie.specs.Nodes.{own, IsNode}
 use Rattle.prefix_trie.proofs.Halves.{middle_le_past}
 use Rattle.prefix_trie.proofs.Nodes.{every, every_both}
 use Rattle.prefix_trie.specs.declared.node.Node.{Node}
-use Rattle.prefix_trie.specs.Arena.{value_at, entries_at, places_at, IsBranching, IsTrieAt}
+use Rattle.prefix_trie.specs.Arena.{nowhere, value_at, entries_at, places_at, IsBranching, IsTrieAt}
 use Rattle.prefix_trie.proofs.Apart.{first_or_rest, in_none}
-
--- the entries from a place on which a node stands, with so many levels below it, and what the trie promises of it
-pub record AtPlace {V : Type 0} (nodes : List Node) (values : List (Option V)) (whole : List (PrefixValue × V)) (place below : ℕ) (n : Node) : Type 0 where
-  pub is : whole ≡ own n.prefix (value_at values place) ++ (entries_at nodes values below n.zero ++ entries_at nodes values below n.one)
-  pub node : IsNode n.prefix (entries_at nodes values below n.zero) (entries_at nodes values below n.one)
-  pub zero_below : IsTrieAt nodes below n.zero
-  pub one_below : IsTrieAt nodes below n.one
-  pub branching : IsBranching nodes n
+use Rattle.prefix_trie.proofs.Levels.{AtNode, at_node, by_trie, no_places, none_at, node_entries}
 
 -- a prefix with its value, if it has one
 pub alone : {V : Type 0} (P : PrefixValue → Type 0) (p : PrefixValue) (o : Option V) → P p → AllByRecursion (λ e. P e.0) (own p o)
 alone P p None h = tt
 alone P p (Some v) h = (h, tt)
 
--- What stands from a place down lies where the prefix at the place lies.
-pub all_within : {V : Type 0} (nodes : List Node) (values : List (Option V)) (low high len levels place : ℕ) → IsTrieAt nodes levels place → IfSome (slice_get nodes place) (λ m. Within low high len m.prefix)
-    → AllByRecursion (λ e. Within low high len e.0) (entries_at nodes values levels place)
-unfolding IsTrieAt entries_at
-all_within nodes values low high len zero place trie within = tt
-all_within {V} nodes values low high len (suc k) place trie within = by_node (λ low high len p trie within. all_within nodes values low high len k p trie within) (slice_get nodes place) refl where
-  whole : Option Node → List (PrefixValue × V)
-  whole o = unwrap_or (option_map (λ n. own n.prefix (value_at values place) ++ (entries_at nodes values k n.zero ++ entries_at nodes values k n.one)) o) []
+-- ---- what stands from a place down lies where the prefix at the place lies
 
-  by_node : ((low high len p : ℕ) → IsTrieAt nodes k p → IfSome (slice_get nodes p) (λ m. Within low high len m.prefix) → AllByRecursion (λ e. Within low high len e.0) (entries_at nodes values k p)) → (o : Option Node) → slice_get nodes place ≡ o → AllByRecursion (λ e. Within low high len e.0) (entries_at nodes values (suc k) place)
-  by_node recur None is = subst (λ (o : Option Node). AllByRecursion (λ (e : PrefixValue × V). Within low high len e.0) (whole o)) (sym is) tt
-  by_node recur (Some n) is =
-      let w = subst (λ (o : Option Node). IfSome o (λ m. Within low high len m.prefix)) is within in
-      let parts = subst (λ (o : Option Node). IfSome o (λ n. IsBranching nodes n × IsTrieAt nodes k n.zero × IsTrieAt nodes k n.one)) is trie.1 in
-      let P = Within low high len in
-      let le = middle_le_past n.prefix parts.0.is.len in
+module _ (nodes : List Node) (n : Node) (branching : IsBranching nodes n) (low high len : ℕ) (w : Within low high len n.prefix) (q : PrefixValue) where
+  pub early_lies : Within n.prefix.address (middle n.prefix) n.prefix.len q → Within low high len q
+  early_lies u =
+      let le = middle_le_past n.prefix branching.is.len in
       let from = w.from in
       let to = w.to in
       let long = w.longer in
-      let mid : n.prefix.address ≤ middle n.prefix = omega arith in
-      subst (λ (o : Option Node). AllByRecursion (λ (e : PrefixValue × V). P e.0) (whole o)) (sym is)
-      (every_both P (own n.prefix (value_at values place)) (entries_at nodes values k n.zero ++ entries_at nodes values k n.one) (alone P n.prefix (value_at values place) w)
-      (every_both P (entries_at nodes values k n.zero) (entries_at nodes values k n.one)
-      (every (Within n.prefix.address (middle n.prefix) n.prefix.len) P (entries_at nodes values k n.zero) (λ q u. let a = u.longer in let b = u.from in let c = u.to in record { is = u.is; longer = omega arith; from = omega arith; to = omega arith }) (recur n.prefix.address (middle n.prefix) n.prefix.len n.zero parts.1 parts.0.zero))
-      (every (Within (middle n.prefix) (past n.prefix) n.prefix.len) P (entries_at nodes values k n.one) (λ q u. let a = u.longer in let b = u.from in let c = u.to in record { is = u.is; longer = omega arith; from = omega arith; to = omega arith }) (recur (middle n.prefix) (past n.prefix) n.prefix.len n.one parts.2 parts.0.one))))
+      let a = u.longer in
+      let b = u.from in
+      let c = u.to in
+      record { is = u.is; longer = omega arith; from = omega arith; to = omega arith }
+
+  pub late_lies : Within (middle n.prefix) (past n.prefix) n.prefix.len q → Within low high len q
+  late_lies u =
+      let from = w.from in
+      let to = w.to in
+      let long = w.longer in
+      let a = u.longer in
+      let b = u.from in
+      let c = u.to in
+      record { is = u.is; longer = omega arith; from = omega arith; to = omega arith }
+
+-- the entries
+module _ {V : Type 0} (nodes : List Node) (values : List (Option V)) where
+  abbrev AreWithin : ℕ → Type 0
+  AreWithin place = (low high len : ℕ) → IfSome (slice_get nodes place) (λ m. Within low high len m.prefix)
+      → AllByRecursion (λ e. Within low high len e.0) (entries_at nodes values place)
+
+  none_within : (place : ℕ) → slice_get nodes place ≡ None → place ≡ nowhere → AreWithin place
+  none_within place is empty low high len within = subst (λ (es : List (PrefixValue × V)). AllByRecursion (λ e. Within low high len e.0) es) (sym (none_at nodes values place is)) tt
+
+  node_within : (place : ℕ) (n : Node) → AtNode nodes place n → AreWithin n.zero → AreWithin n.one → AreWithin place
+  node_within place n at zeros ones low high len within =
+      let w = subst (λ (o : Option Node). IfSome o (λ m. Within low high len m.prefix)) at.there within in
+      let P = Within low high len in
+      let branching = at.branching in
+      subst (λ (es : List (PrefixValue × V)). AllByRecursion (λ e. P e.0) es) (sym (node_entries nodes values place n at))
+      (every_both P (own n.prefix (value_at values place)) (entries_at nodes values n.zero ++ entries_at nodes values n.one) (alone P n.prefix (value_at values place) w)
+      (every_both P (entries_at nodes values n.zero) (entries_at nodes values n.one)
+      (every (Within n.prefix.address (middle n.prefix) n.prefix.len) P (entries_at nodes values n.zero) (early_lies nodes n branching low high len w) (zeros n.prefix.address (middle n.prefix) n.prefix.len branching.zero))
+      (every (Within (middle n.prefix) (past n.prefix) n.prefix.len) P (entries_at nodes values n.one) (late_lies nodes n branching low high len w) (ones (middle n.prefix) (past n.prefix) n.prefix.len branching.one))))
+
+  pub all_within : (place : ℕ) → IsTrieAt nodes place → (low high len : ℕ) → IfSome (slice_get nodes place) (λ m. Within low high len m.prefix)
+      → AllByRecursion (λ e. Within low high len e.0) (entries_at nodes values place)
+  all_within = by_trie nodes AreWithin none_within node_within
+
+-- the nodes
+module _ (nodes : List Node) (q : ℕ) (held : Node) (named : slice_get nodes q ≡ Some held) where
+  abbrev IsWithin : ℕ → Type 0
+  IsWithin place = (low high len : ℕ) → IfSome (slice_get nodes place) (λ m. Within low high len m.prefix) → Contains (places_at nodes place) q
+      → Within low high len held.prefix
+
+  none_holds : (place : ℕ) → slice_get nodes place ≡ None → place ≡ nowhere → IsWithin place
+  none_holds place is empty low high len within inside = absurd (in_none q (subst (λ (ps : List ℕ). Contains ps q) (no_places nodes place is) inside))
+
+  node_holds : (place : ℕ) (n : Node) → AtNode nodes place n → IsWithin n.zero → IsWithin n.one → IsWithin place
+  node_holds place n at zeros ones low high len within inside =
+      let Z = places_at nodes n.zero in
+      let O = places_at nodes n.one in
+      let w = subst (λ (o : Option Node). IfSome o (λ m. Within low high len m.prefix)) at.there within in
+      let branching = at.branching in
+      elim (first_or_rest place (Z ++ O) q (subst (λ (ps : List ℕ). Contains ps q) at.places inside)) [
+        | inl here ↦ subst (λ (m : Node). Within low high len m.prefix) (same_Some n held (sym at.there ∙ (ap (slice_get nodes) (sym here) ∙ named))) w
+        | inr below ↦ elim (Contains-append_cases Z O q below) [
+          | inl left ↦ early_lies nodes n branching low high len w held.prefix (zeros n.prefix.address (middle n.prefix) n.prefix.len branching.zero left)
+          | inr right ↦ late_lies nodes n branching low high len w held.prefix (ones (middle n.prefix) (past n.prefix) n.prefix.len branching.one right)
+        ]
+      ]
+
+  pub place_within : (place : ℕ) → IsTrieAt nodes place → (low high len : ℕ) → IfSome (slice_get nodes place) (λ m. Within low high len m.prefix)
+      → Contains (places_at nodes place) q → Within low high len held.prefix
+  place_within = by_trie nodes IsWithin none_holds node_holds
+
+-- ---- a node
+
+-- the entries from a place on which a node stands, and what the trie promises of it
+pub record AtPlace {V : Type 0} (nodes : List Node) (values : List (Option V)) (place : ℕ) (n : Node) : Type 0 where
+  pub at : AtNode nodes place n
+  pub is : entries_at nodes values place ≡ own n.prefix (value_at values place) ++ (entries_at nodes values n.zero ++ entries_at nodes values n.one)
+  pub node : IsNode n.prefix (entries_at nodes values n.zero) (entries_at nodes values n.one)
 
 -- the prefixes below a node stand in its two halves
-pub halves_of : {V : Type 0} (nodes : List Node) (values : List (Option V)) (k : ℕ) (n : Node) → IsBranching nodes n → IsTrieAt nodes k n.zero → IsTrieAt nodes k n.one → IsNode n.prefix (entries_at nodes values k n.zero) (entries_at nodes values k n.one)
-halves_of nodes values k n branching zeros ones = record {
-  is = branching.is;
-  zeros = all_within nodes values n.prefix.address (middle n.prefix) n.prefix.len k n.zero zeros branching.zero;
-  ones = all_within nodes values (middle n.prefix) (past n.prefix) n.prefix.len k n.one ones branching.one;
+pub halves_of : {V : Type 0} (nodes : List Node) (values : List (Option V)) (place : ℕ) (n : Node) → AtNode nodes place n
+    → IsNode n.prefix (entries_at nodes values n.zero) (entries_at nodes values n.one)
+halves_of nodes values place n at = record {
+  is = at.branching.is;
+  zeros = all_within nodes values n.zero at.zero_below n.prefix.address (middle n.prefix) n.prefix.len at.branching.zero;
+  ones = all_within nodes values n.one at.one_below (middle n.prefix) (past n.prefix) n.prefix.len at.branching.one;
 }
 
-pub at_place : {V : Type 0} (nodes : List Node) (values : List (Option V)) (levels place : ℕ) (n : Node) → slice_get nodes place ≡ Some n → IsTrieAt nodes levels place → AtPlace nodes values (entries_at nodes values levels place) place (levels - 1) n
-unfolding IsTrieAt entries_at
-at_place nodes values zero place n there trie = absurd (let e : None ≡ Some n = sym trie.0 ∙ there in cc)
-at_place {V} nodes values (suc k) place n there trie =
-    let parts = subst (λ (o : Option Node). IfSome o (λ n. IsBranching nodes n × IsTrieAt nodes k n.zero × IsTrieAt nodes k n.one)) there trie.1 in
-    let same : k ≡ suc k - 1 = omega arith in
-    subst (λ (j : ℕ). AtPlace nodes values (entries_at nodes values (suc k) place) place j n) same (record {
-      is = ap (λ (o : Option Node). unwrap_or (option_map (λ n. own n.prefix (value_at values place) ++ (entries_at nodes values k n.zero ++ entries_at nodes values k n.one)) o) []) there;
-      node = halves_of nodes values k n parts.0 parts.1 parts.2;
-      zero_below = parts.1;
-      one_below = parts.2;
-      branching = parts.0;
-    })
-
--- a node stands on a level
-pub on_level : (nodes : List Node) (levels place : ℕ) (n : Node) → slice_get nodes place ≡ Some n → IsTrieAt nodes levels place → 1 ≤ levels
-unfolding IsTrieAt
-on_level nodes zero place n there trie = absurd (let e : None ≡ Some n = sym trie.0 ∙ there in cc)
-on_level nodes (suc k) place n there trie = omega arith
-
--- no node stands at a place without one
-pub none_at : {V : Type 0} (nodes : List Node) (values : List (Option V)) (levels place : ℕ) → slice_get nodes place ≡ None → entries_at nodes values levels place ≡ []
-unfolding entries_at
-none_at nodes values zero place none = refl
-none_at nodes values (suc k) place none = ap (λ (o : Option Node). unwrap_or (option_map (λ n. own n.prefix (value_at values place) ++ (entries_at nodes values k n.zero ++ entries_at nodes values k n.one)) o) []) none
+pub at_place : {V : Type 0} (nodes : List Node) (values : List (Option V)) (place : ℕ) (n : Node) → slice_get nodes place ≡ Some n
+    → IsTrieAt nodes place → AtPlace nodes values place n
+at_place nodes values place n there trie =
+    let at = at_node nodes place n there trie in
+    record { at = at; is = node_entries nodes values place n at; node = halves_of nodes values place n at }
 
 -- a value that stands at a place is the first from there on
-pub first_own : {V : Type 0} (p : PrefixValue) (o : Option V) (zs os : List (PrefixValue × V)) → is_some o ≡ true → first_above None (map (λ e. e.0) (own p o ++ (zs ++ os))) ≡ Some p
+pub first_own : {V : Type 0} (p : PrefixValue) (o : Option V) (zs os : List (PrefixValue × V)) → is_some o ≡ true
+    → first_above None (map (λ e. e.0) (own p o ++ (zs ++ os))) ≡ Some p
 first_own p None zs os is = absurd (let e : ◌≡◌ {A = Bool} false true = is in cc)
 first_own p (Some v) zs os is = refl
 
--- the place of a node, and those of its branches, are among those from there on
-pub record PlacesAt (nodes : List Node) (whole : List ℕ) (place below : ℕ) (n : Node) : Type 0 where
-  pub here : Contains whole place
-  pub zeros : (q : ℕ) → Contains (places_at nodes below n.zero) q → Contains whole q
-  pub ones : (q : ℕ) → Contains (places_at nodes below n.one) q → Contains whole q
-
-pub among_places : (nodes : List Node) (levels place : ℕ) (n : Node) → 1 ≤ levels → slice_get nodes place ≡ Some n → PlacesAt nodes (places_at nodes levels place) place (levels - 1) n
-unfolding places_at
-among_places nodes zero place n some there = absurd (omega (arith, some))
-among_places nodes (suc k) place n some there =
-    let same : k ≡ suc k - 1 = omega arith in
-    let below = places_at nodes k n.zero ++ places_at nodes k n.one in
-    let listed : places_at nodes (suc k) place ≡ place ∷ below = ap (λ (o : Option Node). unwrap_or (option_map (λ n. place ∷ (places_at nodes k n.zero ++ places_at nodes k n.one)) o) []) there in
-    let rest : (q : ℕ) → Contains below q → Contains (places_at nodes (suc k) place) q = λ q inside. subst (λ (ps : List ℕ). Contains ps q) (sym listed) (Contains-append_right (place ∷ []) below q inside) in
-    subst (λ (j : ℕ). PlacesAt nodes (places_at nodes (suc k) place) place j n) same (record {
-      here = subst (λ (ps : List ℕ). Contains ps place) (sym listed) (0, omega arith, refl);
-      zeros = λ q inside. rest q (Contains-append_left (places_at nodes k n.zero) (places_at nodes k n.one) q inside);
-      ones = λ q inside. rest q (Contains-append_right (places_at nodes k n.zero) (places_at nodes k n.one) q inside);
-    })
-
 -- the places of nodes are in their list
-pub places_in : (nodes : List Node) (levels place q : ℕ) → Contains (places_at nodes levels place) q → q < length nodes
-unfolding places_at
-places_in nodes zero place q inside = absurd (in_none q inside)
-places_in nodes (suc k) place q inside = by_node (λ p inside. places_in nodes k p q inside) (slice_get nodes place) refl where
-  listed : Option Node → List ℕ
-  listed o = unwrap_or (option_map (λ n. place ∷ (places_at nodes k n.zero ++ places_at nodes k n.one)) o) []
+module _ (nodes : List Node) (q : ℕ) where
+  abbrev AreIn : ℕ → Type 0
+  AreIn place = Contains (places_at nodes place) q → q < length nodes
 
-  by_node : ((p : ℕ) → Contains (places_at nodes k p) q → q < length nodes) → (o : Option Node) → slice_get nodes place ≡ o → q < length nodes
-  by_node recur None is = absurd (in_none q (subst (λ (ps : List ℕ). Contains ps q) (ap listed is) inside))
-  by_node recur (Some n) is =
-      let Z = places_at nodes k n.zero in
-      let O = places_at nodes k n.one in
-      elim (first_or_rest place (Z ++ O) q (subst (λ (ps : List ℕ). Contains ps q) (ap listed is) inside)) [
-        | inl at ↦ slice_get_within nodes q n (ap (slice_get nodes) at ∙ is)
-        | inr below ↦ elim (Contains-append_cases Z O q below) [
-          | inl left ↦ recur n.zero left
-          | inr right ↦ recur n.one right
-        ]
-      ]
+  none_in : (place : ℕ) → slice_get nodes place ≡ None → place ≡ nowhere → AreIn place
+  none_in place is empty inside = absurd (in_none q (subst (λ (ps : List ℕ). Contains ps q) (no_places nodes place is) inside))
+
+  node_in : (place : ℕ) (n : Node) → AtNode nodes place n → AreIn n.zero → AreIn n.one → AreIn place
+  node_in place n at zeros ones inside = elim (first_or_rest place (places_at nodes n.zero ++ places_at nodes n.one) q (subst (λ (ps : List ℕ). Contains ps q) at.places inside)) [
+    | inl here ↦ slice_get_within nodes q n (ap (slice_get nodes) here ∙ at.there)
+    | inr below ↦ elim (Contains-append_cases (places_at nodes n.zero) (places_at nodes n.one) q below) [
+      | inl left ↦ zeros left
+      | inr right ↦ ones right
+    ]
+  ]
+
+  pub places_in : (place : ℕ) → IsTrieAt nodes place → Contains (places_at nodes place) q → q < length nodes
+  places_in = by_trie nodes AreIn none_in node_in

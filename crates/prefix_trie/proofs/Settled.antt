@@ -1,6 +1,6 @@
 -- A trie in which another value stands at one place, and one that got a node with its value.
-use Rattle.std.proofs.Common.{◌≡◌, ◌≢◌, ℕ, ◌+◌, ◌<◌, ◌≤◌, Bool, true, false, List, [], ◌∷◌, ◌++◌, length, Option, Some, None, refl, sym, ap, subst, ◌∙◌, arith, slice_get, get_or, set, inl, inr, ◌⊎◌}
-use Rattle.std.specs.Prelude.{not, if◌then◌else◌, IfSome, option_map, option_and_then}
+use Rattle.std.proofs.Common.{◌≡◌, ◌≢◌, ℕ, ◌<◌, ◌≤◌, Bool, true, false, List, [], ◌∷◌, ◌++◌, length, Option, Some, None, refl, sym, ap, subst, ◌∙◌, arith, slice_get, get_or, set, inl, inr, ◌⊎◌}
+use Rattle.std.specs.Prelude.{not, if◌then◌else◌, option_map, option_and_then}
 use Rattle.std.specs.FinMap.{find, put}
 use Rattle.std.specs.List.{Contains}
 use Rattle.std.proofs.lemmas.Bool.{cases_lt}
@@ -15,6 +15,7 @@ use Rattle.prefix_trie.specs.Arena.{nowhere, value_at, entries_at, places_at, Ar
 use Rattle.prefix_trie.specs.Adding.{CanAdd, IsAdded}
 use Rattle.prefix_trie.specs.Trees.{entries, IsTrie}
 use Rattle.prefix_trie.proofs.Apart.{both_apart, first_or_rest, in_none, left_apart, right_apart, never_both}
+use Rattle.prefix_trie.proofs.Numbered.{same_entries}
 use Rattle.prefix_trie.proofs.Replaced.{changed, replaced}
 
 -- ---- what stands in a list in which one element is another
@@ -58,7 +59,7 @@ pub record Settled {V : Type 0} (t u : Tree V) (p : PrefixValue) (old new : Opti
   pub there : find prefix_cmp p (entries t) ≡ old
   pub entries : entries u ≡ changed p new (entries t)
 
-module _ {V : Type 0} (t u : Tree V) (p : PrefixValue) (q : ℕ) (new : Option V) (trie : IsTrie t) (inside : Contains (places_at t.nodes.items 34 t.root) q) (node : option_map (λ n. n.prefix) (slice_get t.nodes.items q) ≡ Some p)
+module _ {V : Type 0} (t u : Tree V) (p : PrefixValue) (q : ℕ) (new : Option V) (trie : IsTrie t) (inside : Contains (places_at t.nodes.items t.root) q) (node : option_map (λ n. n.prefix) (slice_get t.nodes.items q) ≡ Some p)
     (nodes : u.nodes.items ≡ t.nodes.items) (free : u.free.items ≡ t.free.items) (root : u.root ≡ t.root) (values : u.values.items ≡ set t.values.items q new) where
   place_valued : q < length t.values.items
   place_valued = let lt = node_in t.nodes.items q p node in let same = trie.valued in omega (arith, lt, same)
@@ -71,35 +72,36 @@ module _ {V : Type 0} (t u : Tree V) (p : PrefixValue) (q : ℕ) (new : Option V
 
   settled_trie : IsTrie u
   settled_trie = record {
-    trie = subst (λ (ns : List Node). IsTrieAt ns 34 u.root) (sym nodes) (subst (λ (r : ℕ). IsTrieAt t.nodes.items 34 r) (sym root) trie.trie);
-    apart = subst (λ (ns : List Node). AreApart (places_at ns 34 u.root ++ u.free.items)) (sym nodes)
-        (subst (λ (r : ℕ). AreApart (places_at t.nodes.items 34 r ++ u.free.items)) (sym root)
-        (subst (λ (fs : List ℕ). AreApart (places_at t.nodes.items 34 t.root ++ fs)) (sym free) trie.apart));
+    trie = subst (λ (ns : List Node). IsTrieAt ns u.root) (sym nodes) (subst (λ (r : ℕ). IsTrieAt t.nodes.items r) (sym root) trie.trie);
+    apart = subst (λ (ns : List Node). AreApart (places_at ns u.root ++ u.free.items)) (sym nodes)
+        (subst (λ (r : ℕ). AreApart (places_at t.nodes.items r ++ u.free.items)) (sym root)
+        (subst (λ (fs : List ℕ). AreApart (places_at t.nodes.items t.root ++ fs)) (sym free) trie.apart));
     free_in = λ r at. subst (λ (ns : List Node). r < length ns) (sym nodes) (trie.free_in r (subst (λ (fs : List ℕ). Contains fs r) free at));
     free_bare = λ r at. (
         let was : Contains t.free.items r = subst (λ (fs : List ℕ). Contains fs r) free at in
-        other_value r (λ e. never_both (places_at t.nodes.items 34 t.root) t.free.items trie.apart q inside (subst (Contains t.free.items) e was)) ∙ trie.free_bare r was);
+        other_value r (λ e. never_both (places_at t.nodes.items t.root) t.free.items trie.apart q inside (subst (Contains t.free.items) e was)) ∙ trie.free_bare r was);
     few = subst (λ (ns : List Node). length ns ≤ nowhere) (sym nodes) trie.few;
-    valued = ap (λ (vs : List (Option V)). length vs) values ∙ (length-set t.values.items q new ∙ (trie.valued ∙ ap (λ (ns : List Node). length ns) (sym nodes)));
+    valued = ap (λ (vs : List (Option V)). length vs) values
+        ∙ (length-set t.values.items q new ∙ (trie.valued ∙ ap (λ (ns : List Node). length ns) (sym nodes)));
   }
 
   pub settled : Settled t u p (value_at t.values.items q) new
   settled =
       let n = named (slice_get t.nodes.items q) p node in
-      let r = replaced t.nodes.items t.values.items u.values.items trie.few q n.held n.is (value_at t.values.items q) new refl this_value other_value 34 t.root trie.trie (left_apart (places_at t.nodes.items 34 t.root) t.free.items trie.apart) inside in
+      let r = replaced t.nodes.items t.values.items u.values.items trie.few q n.held n.is (value_at t.values.items q) new refl this_value other_value t.root trie.trie (left_apart (places_at t.nodes.items t.root) t.free.items trie.apart) inside in
       record {
         trie = settled_trie;
         there = subst (λ (x : PrefixValue). find prefix_cmp x (entries t) ≡ value_at t.values.items q) n.name r.there;
-        entries = ap (λ (ns : List Node). entries_at ns u.values.items 34 u.root) nodes
-            ∙ (ap (λ (at : ℕ). entries_at t.nodes.items u.values.items 34 at) root
-            ∙ subst (λ (x : PrefixValue). entries_at t.nodes.items u.values.items 34 t.root ≡ changed x new (entries t)) n.name r.entries);
+        entries = ap (λ (ns : List Node). entries_at ns u.values.items u.root) nodes
+            ∙ (ap (λ (at : ℕ). entries_at t.nodes.items u.values.items at) root
+            ∙ subst (λ (x : PrefixValue). entries_at t.nodes.items u.values.items t.root ≡ changed x new (entries t)) n.name r.entries);
       }
 
 -- The same as the program has it: what find found is where the value was read and changed.
 module _ {V : Type 0} (t : Tree V) (p : PrefixValue) (nodes : List Node) (q : ℕ) (trie : IsTrie t) (are : nodes ≡ t.nodes.items)
-    (inside : Contains (places_at nodes 34 t.root) q) (node : option_map (λ n. n.prefix) (slice_get nodes q) ≡ Some p) where
-  found_inside : Contains (places_at t.nodes.items 34 t.root) q
-  found_inside = subst (λ (ns : List Node). Contains (places_at ns 34 t.root) q) are inside
+    (inside : Contains (places_at nodes t.root) q) (node : option_map (λ n. n.prefix) (slice_get nodes q) ≡ Some p) where
+  found_inside : Contains (places_at t.nodes.items t.root) q
+  found_inside = subst (λ (ns : List Node). Contains (places_at ns t.root) q) are inside
 
   found_node : option_map (λ n. n.prefix) (slice_get t.nodes.items q) ≡ Some p
   found_node = subst (λ (ns : List Node). option_map (λ (n : Node). n.prefix) (slice_get ns q) ≡ Some p) are node
@@ -107,7 +109,16 @@ module _ {V : Type 0} (t : Tree V) (p : PrefixValue) (nodes : List Node) (q : �
   pub found_valued : q < length t.values.items
   found_valued = let lt = node_in t.nodes.items q p found_node in let same = trie.valued in omega (arith, lt, same)
 
-  pub exchanged : (u : Tree V) (old new : Option V) → old ≡ get_or t.values.items q old → u.nodes.items ≡ t.nodes.items → u.free.items ≡ t.free.items → u.root ≡ t.root → u.values.items ≡ set t.values.items q new → Settled t u p old new
+  -- the value of a prefix is at the place of its node
+  pub found_value : (old : Option V) → old ≡ get_or t.values.items q old → find prefix_cmp p (entries t) ≡ old
+  found_value old read =
+      let n = named (slice_get t.nodes.items q) p found_node in
+      let value = value_at t.values.items q in
+      let r = replaced t.nodes.items t.values.items t.values.items trie.few q n.held n.is value value refl refl (λ r ne. refl) t.root trie.trie (left_apart (places_at t.nodes.items t.root) t.free.items trie.apart) found_inside in
+      subst (λ (x : PrefixValue). find prefix_cmp x (entries t) ≡ value) n.name r.there ∙ (value_read t.values.items q old found_valued ∙ sym read)
+
+  pub exchanged : (u : Tree V) (old new : Option V) → old ≡ get_or t.values.items q old → u.nodes.items ≡ t.nodes.items → u.free.items ≡ t.free.items
+      → u.root ≡ t.root → u.values.items ≡ set t.values.items q new → Settled t u p old new
   exchanged u old new read ns fs r vs = subst (λ (o : Option V). Settled t u p o new) (value_read t.values.items q old found_valued ∙ sym read) (settled t u p q new trie found_inside found_node ns fs r vs)
 
 -- ---- a node for a prefix, at places that were free
@@ -151,30 +162,21 @@ module _ (rest : List ℕ) (spare fresh : ℕ) where
         rest_apart = left_apart rest (spare ∷ []) others_apart;
       }
 
-pub added_in : {V : Type 0} (t : Tree V) (p : PrefixValue) (spare fresh : ℕ) (nodes fs : List Node) (values : List (Option V)) (to : ℕ) (forked : Bool) → nodes ≡ t.nodes.items → values ≡ t.values.items → IsAdded nodes fs values p fresh spare 34 t.root to forked → IsAdded t.nodes.items fs t.values.items p fresh spare 34 t.root to forked
-added_in {V} t p spare fresh nodes fs values to forked ns vs added = subst (λ (xs : List (Option V)). IsAdded t.nodes.items fs xs p fresh spare 34 t.root to forked) vs (subst (λ (xs : List Node). IsAdded xs fs values p fresh spare 34 t.root to forked) ns added)
-
 module _ {V : Type 0} (t : Tree V) (p : PrefixValue) (rest : List ℕ) (spare fresh : ℕ) (trie : IsTrie t) (free : t.free.items ≡ (rest ++ spare ∷ []) ++ fresh ∷ []) where
-  all_taken : AreTaken (places_at t.nodes.items 34 t.root) rest spare fresh
-  all_taken = taken rest spare fresh (places_at t.nodes.items 34 t.root) (subst (λ (fs : List ℕ). AreApart (places_at t.nodes.items 34 t.root ++ fs)) free trie.apart)
+  all_taken : AreTaken (places_at t.nodes.items t.root) rest spare fresh
+  all_taken = taken rest spare fresh (places_at t.nodes.items t.root) (subst (λ (fs : List ℕ). AreApart (places_at t.nodes.items t.root ++ fs)) free trie.apart)
 
   was_free : (q : ℕ) → Contains ((rest ++ spare ∷ []) ++ fresh ∷ []) q → Contains t.free.items q
   was_free q inside = subst (λ (fs : List ℕ). Contains fs q) (sym free) inside
 
-  deep_enough : (o : Option Node) → IfSome o (λ n. 34 ≤ n.prefix.len + 34)
-  deep_enough None = tt
-  deep_enough (Some n) = omega arith
-
   -- There is room for a prefix that has no node.
-  pub can_add : IsPrefix p → HasNone t.nodes.items 34 t.root p → CanAdd t.nodes.items t.values.items p fresh spare 34 t.root
+  pub can_add : IsPrefix p → HasNone t.nodes.items t.root p → CanAdd t.nodes.items p fresh spare t.root
   can_add is absent = record {
     is = is;
     trie = trie.trie;
-    room = omega arith;
-    deep = deep_enough (slice_get t.nodes.items t.root);
     absent = absent;
     apart = (
-      (λ inside. elim (first_or_rest spare (places_at t.nodes.items 34 t.root) fresh inside) [
+      (λ inside. elim (first_or_rest spare (places_at t.nodes.items t.root) fresh inside) [
         | inl e ↦ all_taken.two e
         | inr below ↦ all_taken.fresh_new below
       ]),
@@ -183,8 +185,6 @@ module _ {V : Type 0} (t : Tree V) (p : PrefixValue) (rest : List ℕ) (spare fr
     fresh_in = trie.free_in fresh (was_free fresh (fresh_in_free rest spare fresh));
     spare_in = trie.free_in spare (was_free spare (spare_in_free rest spare fresh));
     few = trie.few;
-    fresh_bare = trie.free_bare fresh (was_free fresh (fresh_in_free rest spare fresh));
-    spare_bare = trie.free_bare spare (was_free spare (spare_in_free rest spare fresh));
   }
 
   pub fresh_valued : fresh < length t.values.items
@@ -218,7 +218,8 @@ module _ {V : Type 0} (t : Tree V) (p : PrefixValue) (rest : List ℕ) (spare fr
   not_forked true e = absurd cc
   not_forked false e = refl
 
-  pub kept_pushed : (forked : Bool) → not forked ≡ true → (kept : List ℕ) (ok : Bool) → kept ≡ (if ok then rest ++ spare ∷ [] else rest) → AreApart kept × ((q : ℕ) → Contains kept q → Contains rest q ⊎ ((q ≡ spare) × (forked ≡ false)))
+  pub kept_pushed : (forked : Bool) → not forked ≡ true → (kept : List ℕ) (ok : Bool) → kept ≡ (if ok then rest ++ spare ∷ [] else rest)
+      → AreApart kept × ((q : ℕ) → Contains kept q → Contains rest q ⊎ ((q ≡ spare) × (forked ≡ false)))
   kept_pushed forked away kept ok is = (
     subst AreApart (sym is) (kept_apart_of ok),
     λ q at. elim (kept_in ok q (subst (λ (xs : List ℕ). Contains xs q) is at)) [
@@ -228,14 +229,14 @@ module _ {V : Type 0} (t : Tree V) (p : PrefixValue) (rest : List ℕ) (spare fr
   )
 
   -- what is still free, once a node for p stands at the fresh place
-  module _ (u : Tree V) (fs : List Node) (value : V) (to : ℕ) (forked : Bool) (added : IsAdded t.nodes.items fs t.values.items p fresh spare 34 t.root to forked)
+  module _ (u : Tree V) (fs : List Node) (value : V) (to : ℕ) (forked : Bool) (added : IsAdded t.nodes.items fs p fresh spare t.root to forked)
       (nodes : u.nodes.items ≡ fs) (root : u.root ≡ to) (values : u.values.items ≡ set t.values.items fresh (Some value))
       (kept_apart : AreApart u.free.items) (kept : (q : ℕ) → Contains u.free.items q → Contains rest q ⊎ ((q ≡ spare) × (forked ≡ false))) where
-    apart_from_kept : (q : ℕ) → Contains (places_at fs 34 to) q → Contains u.free.items q → ⊥
+    apart_from_kept : (q : ℕ) → Contains (places_at fs to) q → Contains u.free.items q → ⊥
     apart_from_kept q inside at = elim (added.among q inside) [
       | inl before ↦ elim (kept q at) [
         | inl r ↦ all_taken.rest_new q before r
-        | inr s ↦ all_taken.spare_new (subst (Contains (places_at t.nodes.items 34 t.root)) s.0 before)
+        | inr s ↦ all_taken.spare_new (subst (Contains (places_at t.nodes.items t.root)) s.0 before)
       ]
       | inr new ↦ elim new [
         | inl is_fresh ↦ elim (kept q at) [
@@ -275,22 +276,24 @@ module _ {V : Type 0} (t : Tree V) (p : PrefixValue) (rest : List ℕ) (spare fr
 
     pub put_trie : IsTrie u
     put_trie = record {
-      trie = subst (λ (ns : List Node). IsTrieAt ns 34 u.root) (sym nodes) (subst (λ (r : ℕ). IsTrieAt fs 34 r) (sym root) added.trie);
-      apart = subst (λ (ns : List Node). AreApart (places_at ns 34 u.root ++ u.free.items)) (sym nodes)
-          (subst (λ (r : ℕ). AreApart (places_at fs 34 r ++ u.free.items)) (sym root)
-          (both_apart (places_at fs 34 to) u.free.items added.apart kept_apart apart_from_kept));
+      trie = subst (λ (ns : List Node). IsTrieAt ns u.root) (sym nodes) (subst (λ (r : ℕ). IsTrieAt fs r) (sym root) added.trie);
+      apart = subst (λ (ns : List Node). AreApart (places_at ns u.root ++ u.free.items)) (sym nodes)
+          (subst (λ (r : ℕ). AreApart (places_at fs r ++ u.free.items)) (sym root)
+          (both_apart (places_at fs to) u.free.items added.apart kept_apart apart_from_kept));
       free_in = λ q at. subst (λ (ns : List Node). q < length ns) (sym nodes) (let lt = trie.free_in q (kept_was_free q at) in let many = added.as_many in omega (arith, lt, many));
       free_bare = λ q at. other_now q (kept_not_fresh q at) ∙ trie.free_bare q (kept_was_free q at);
       few = subst (λ (ns : List Node). length ns ≤ nowhere) (sym nodes) few_now;
-      valued = ap (λ (vs : List (Option V)). length vs) values ∙ (length-set t.values.items fresh (Some value) ∙ (trie.valued ∙ (sym added.as_many ∙ ap (λ (ns : List Node). length ns) (sym nodes))));
+      valued = ap (λ (vs : List (Option V)). length vs) values
+          ∙ (length-set t.values.items fresh (Some value) ∙ (trie.valued ∙ (sym added.as_many ∙ ap (λ (ns : List Node). length ns) (sym nodes))));
     }
 
     pub put_entries : entries u ≡ put prefix_cmp p value (entries t)
     put_entries =
         let n = named (slice_get fs fresh) p added.node in
         let bare = trie.free_bare fresh (was_free fresh (fresh_in_free rest spare fresh)) in
-        let r = replaced fs t.values.items u.values.items few_now fresh n.held n.is None (Some value) bare fresh_now other_now 34 to added.trie added.apart added.there in
-        ap (λ (ns : List Node). entries_at ns u.values.items 34 u.root) nodes
-        ∙ (ap (λ (at : ℕ). entries_at fs u.values.items 34 at) root
-        ∙ (subst (λ (x : PrefixValue). entries_at fs u.values.items 34 to ≡ put prefix_cmp x value (entries_at fs t.values.items 34 to)) n.name r.entries
-        ∙ ap (put prefix_cmp p value) added.entries))
+        let spare_bare = trie.free_bare spare (was_free spare (spare_in_free rest spare fresh)) in
+        let r = replaced fs t.values.items u.values.items few_now fresh n.held n.is None (Some value) bare fresh_now other_now to added.trie added.apart added.there in
+        ap (λ (ns : List Node). entries_at ns u.values.items u.root) nodes
+        ∙ (ap (λ (at : ℕ). entries_at fs u.values.items at) root
+        ∙ (subst (λ (x : PrefixValue). entries_at fs u.values.items to ≡ put prefix_cmp x value (entries_at fs t.values.items to)) n.name r.entries
+        ∙ ap (put prefix_cmp p value) (same_entries t.values.items t.nodes.items fs p fresh spare t.root to forked trie.trie added bare spare_bare)))

@@ -3,7 +3,7 @@ use Rattle.std.proofs.Common.{◌≡◌, ◌≢◌, ℕ, List, ◌<◌, Option, 
 use Rattle.std.proofs.lemmas.Bool.{cases_lt}
 use Rattle.std.specs.Prelude.{IfSome}
 use Rattle.bgp_types.specs.Prefixes.{PrefixValue, IsPrefix, Covers, cleared}
-use Rattle.prefix_trie.proofs.Places.{among_places}
+use Rattle.prefix_trie.proofs.Levels.{at_node}
 use Rattle.prefix_trie.specs.declared.node.Node.{Node}
 use Rattle.prefix_trie.specs.Adding.{CanAdd}
 
@@ -20,5 +20,6 @@ covers_shorter p at is covers differ = elim (cases_lt p.len at.len) [
       absurd (differ (same_parts at p (sym is.clear ∙ (ap (λ (n : ℕ). cleared n at.address) (sym same) ∙ covers.front)) (sym same)))
 ]
 
-pub differs_there : {V : Type 0} (nodes : List Node) (values : List (Option V)) (p : PrefixValue) (fresh spare levels place : ℕ) (n : Node) → CanAdd nodes values p fresh spare levels place → slice_get nodes place ≡ Some n → n.prefix ≢ p
-differs_there nodes values p fresh spare levels place n can there = subst (λ (o : Option Node). IfSome o (λ m. m.prefix ≢ p)) there (can.absent place (among_places nodes levels place n can.room there).here)
+pub differs_there : (nodes : List Node) (p : PrefixValue) (fresh spare place : ℕ) (n : Node) → CanAdd nodes p fresh spare place
+    → slice_get nodes place ≡ Some n → n.prefix ≢ p
+differs_there nodes p fresh spare place n can there = subst (λ (o : Option Node). IfSome o (λ m. m.prefix ≢ p)) there (can.absent place (at_node nodes place n there can.trie).here)

@@ -19,7 +19,7 @@ without_absent {V} p (e ∷ es) none = by_test (eq_by_cmp prefix_cmp p e.0) refl
   by_test true k below = absurd (let some : Some e.1 ≡ None = rw k at none in cc)
   by_test false k below = rw k (ap (λ (xs : List (PrefixValue × V)). e ∷ xs) (below (rw k at none)))
 
-module _ {V : Type 0} (t u : Tree V) (trie : IsTrie t) (trimmed : IsTrimmed t.nodes.items u.nodes.items t.values.items t.free.items u.free.items 34 t.root u.root) (values : u.values.items ≡ t.values.items) where
+module _ {V : Type 0} (t u : Tree V) (trie : IsTrie t) (trimmed : IsTrimmed t.nodes.items u.nodes.items t.values.items t.free.items u.free.items t.root u.root) (values : u.values.items ≡ t.values.items) where
   many : length u.nodes.items ≡ length t.nodes.items
   many = trimmed.as_many
 
@@ -29,7 +29,7 @@ module _ {V : Type 0} (t u : Tree V) (trie : IsTrie t) (trimmed : IsTrimmed t.no
     apart = trimmed.apart;
     free_in = λ q inside. elim (trimmed.freed q inside) [
       | inl before ↦ let lt = trie.free_in q before in omega (arith, lt, many)
-      | inr gone ↦ let lt = places_in t.nodes.items 34 t.root q gone.0 in omega (arith, lt, many)
+      | inr gone ↦ let lt = places_in t.nodes.items q t.root trie.trie gone.0 in omega (arith, lt, many)
     ];
     free_bare = λ q inside. ap (λ (vs : List (Option V)). value_at vs q) values ∙ elim (trimmed.freed q inside) [
       | inl before ↦ trie.free_bare q before
@@ -40,4 +40,4 @@ module _ {V : Type 0} (t u : Tree V) (trie : IsTrie t) (trimmed : IsTrimmed t.no
   }
 
   pub trimmed_entries : entries u ≡ entries t
-  trimmed_entries = ap (λ (vs : List (Option V)). entries_at u.nodes.items vs 34 u.root) values ∙ trimmed.entries
+  trimmed_entries = ap (λ (vs : List (Option V)). entries_at u.nodes.items vs u.root) values ∙ trimmed.entries

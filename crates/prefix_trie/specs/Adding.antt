@@ -1,62 +1,74 @@
 -- A prefix gets a node without a value, at a fresh place; if it needs a fork above it, the fork gets a spare place.
-use Rattle.std.specs.Prelude.{◌≡◌, ◌≢◌, ◌⊎◌, ℕ, suc, ◌+◌, ◌≤◌, ◌<◌, Bool, true, List, ◌∷◌, length, Option, None, Some, IfSome, option_map, slice_get}
+use Rattle.std.specs.Prelude.{◌≡◌, ◌≢◌, ◌⊎◌, ℕ, ◌≤◌, ◌<◌, Bool, true, List, ◌∷◌, length, Option, None, Some, IfSome, option_map, slice_get}
 use Rattle.std.specs.List.{Contains}
 use Rattle.bgp_types.specs.Prefixes.{PrefixValue, IsPrefix}
-use Rattle.prefix_trie.specs.Halves.{middle, past, Within}
+use Rattle.prefix_trie.specs.Halves.{middle, past, IsFork, Within}
 use Rattle.prefix_trie.specs.declared.node.Node.{Node}
-use Rattle.prefix_trie.specs.Arena.{nowhere, value_at, entries_at, places_at, AreApart, HasNone, IsTrieAt, IsUnder, StandsAt}
+use Rattle.prefix_trie.specs.Arena.{nowhere, value_at, entries_at, places_at, AreApart, HasNone, IsTrieAt, IsUnder, Leads}
 
 -- the addresses from low up to high are a half of q
 abbrev pub IsHalf : (q : PrefixValue) (low high : ℕ) → Type 0
 IsHalf q low high = ((low ≡ q.address) × (high ≡ middle q)) ⊎ ((low ≡ middle q) × (high ≡ past q))
 
--- There are two places that nothing uses, enough levels, and no node of the prefix.
-pub record CanAdd {V : Type 0} (nodes : List Node) (values : List (Option V)) (p : PrefixValue) (fresh spare levels place : ℕ) : Type 0 where
+-- There are two places that nothing uses, and no node of the prefix.
+pub record CanAdd (nodes : List Node) (p : PrefixValue) (fresh spare place : ℕ) : Type 0 where
   pub is : IsPrefix p
-  pub trie : IsTrieAt nodes levels place
-  pub room : 1 ≤ levels
-  pub deep : IfSome (slice_get nodes place) (λ n. 34 ≤ n.prefix.len + levels)
-  pub absent : HasNone nodes levels place p
-  pub apart : AreApart (fresh ∷ (spare ∷ places_at nodes levels place))
+  pub trie : IsTrieAt nodes place
+  pub absent : HasNone nodes place p
+  pub apart : AreApart (fresh ∷ (spare ∷ places_at nodes place))
   pub fresh_in : fresh < length nodes
   pub spare_in : spare < length nodes
   pub few : length nodes ≤ nowhere
-  pub fresh_bare : value_at values fresh ≡ None
-  pub spare_bare : value_at values spare ≡ None
 
--- The entries are the same, the node of p is at the fresh place, and what is elsewhere is unchanged.
-pub record IsAdded {V : Type 0} (nodes fs : List Node) (values : List (Option V)) (p : PrefixValue) (fresh spare levels from to : ℕ) (forked : Bool) : Type 0 where
-  pub entries : entries_at fs values levels to ≡ entries_at nodes values levels from
-  pub trie : IsTrieAt fs levels to
+-- The node of p is at the fresh place, and what is elsewhere is unchanged. Whatever values stand at places, as here numbers, but none at the two: the
+-- entries are the same.
+pub record IsAdded (nodes fs : List Node) (p : PrefixValue) (fresh spare from to : ℕ) (forked : Bool) : Type 0 where
+  pub entries : (values : List (Option ℕ)) → value_at values fresh ≡ None → value_at values spare ≡ None
+      → entries_at fs values to ≡ entries_at nodes values from
+  pub trie : IsTrieAt fs to
   pub node : option_map (λ n. n.prefix) (slice_get fs fresh) ≡ Some p
-  pub there : Contains (places_at fs levels to) fresh
-  pub apart : AreApart (places_at fs levels to)
-  pub among : (r : ℕ) → Contains (places_at fs levels to) r → Contains (places_at nodes levels from) r ⊎ ((r ≡ fresh) ⊎ ((r ≡ spare) × (forked ≡ true)))
-  pub others : (r : ℕ) → (Contains (places_at nodes levels from) r → ⊥) → r ≢ fresh → r ≢ spare → slice_get fs r ≡ slice_get nodes r
+  pub there : Contains (places_at fs to) fresh
+  pub apart : AreApart (places_at fs to)
+  pub among : (r : ℕ) → Contains (places_at fs to) r → Contains (places_at nodes from) r ⊎ ((r ≡ fresh) ⊎ ((r ≡ spare) × (forked ≡ true)))
+  pub others : (r : ℕ) → (Contains (places_at nodes from) r → ⊥) → r ≢ fresh → r ≢ spare → slice_get fs r ≡ slice_get nodes r
   pub as_many : length fs ≡ length nodes
-  pub within : (q : PrefixValue) (low high : ℕ) → IsPrefix q → IsHalf q low high → Within low high q.len p → IfSome (slice_get nodes from) (λ m. Within low high q.len m.prefix) → IfSome (slice_get fs to) (λ m. Within low high q.len m.prefix)
+  pub within : (q : PrefixValue) (low high : ℕ) → IsPrefix q → IsHalf q low high → Within low high q.len p
+      → IfSome (slice_get nodes from) (λ m. Within low high q.len m.prefix) → IfSome (slice_get fs to) (λ m. Within low high q.len m.prefix)
 
 -- The place above has a node that p is under, and this node names the place at for the half in which p lies.
-pub record IsBelow (nodes : List Node) (root : ℕ) (p : PrefixValue) (above at levels : ℕ) : Type 0 where
+pub record IsBelow (nodes : List Node) (root : ℕ) (p : PrefixValue) (above at : ℕ) : Type 0 where
   pub node : Node
   pub there : slice_get nodes above ≡ Some node
-  pub on : StandsAt nodes 34 root (suc levels) above
+  pub steps : ℕ
+  pub on : Leads nodes steps root above
   pub under : IsUnder node.prefix p
   pub side : ((p.address < middle node.prefix) × (at ≡ node.zero)) ⊎ ((middle node.prefix ≤ p.address) × (at ≡ node.one))
 
--- The place at is on the way to where a node of p belongs, on a level: it is the first place, or the node at above, which p is under, names it.
-pub record IsWay (nodes : List Node) (root : ℕ) (p : PrefixValue) (above at levels : ℕ) : Type 0 where
-  pub on : StandsAt nodes 34 root levels at
-  pub below : ((above ≡ nowhere) × (at ≡ root) × (levels ≡ 34)) ⊎ IsBelow nodes root p above at levels
+-- The place at is on the way to where a node of p belongs: it is the first place, or the node at above, which p is under, names it.
+abbrev pub IsWay : (nodes : List Node) (root : ℕ) (p : PrefixValue) (above at : ℕ) → Type 0
+IsWay nodes root p above at = ((above ≡ nowhere) × (at ≡ root)) ⊎ IsBelow nodes root p above at
 
 -- A node of p belongs at a place on its way if p isn't under the node there, or the place is vacant.
-pub record IsSpot (nodes : List Node) (root : ℕ) (p : PrefixValue) (above at levels : ℕ) : Type 0 where
-  pub way : IsWay nodes root p above at levels
+pub record IsSpot (nodes : List Node) (root : ℕ) (p : PrefixValue) (above at : ℕ) : Type 0 where
+  pub way : IsWay nodes root p above at
   pub stop : IfSome (slice_get nodes at) (λ n. IsUnder n.prefix p → ⊥)
 
 -- the place above is on the way of p too, below the place grand, or it is no place
-abbrev pub IsUpper : (nodes : List Node) (root : ℕ) (p : PrefixValue) (grand above levels : ℕ) → Type 0
-IsUpper nodes root p grand above levels = (above ≡ nowhere) ⊎ IsWay nodes root p grand above (suc levels)
+abbrev pub IsUpper : (nodes : List Node) (root : ℕ) (p : PrefixValue) (grand above : ℕ) → Type 0
+IsUpper nodes root p grand above = (above ≡ nowhere) ⊎ IsWay nodes root p grand above
+
+-- the node of a prefix without branches
+abbrev pub leaf : PrefixValue → Node
+leaf p = record { prefix = p; zero = nowhere; one = nowhere }
+
+-- m is the node of p whose only branch is at a place, for the half in which the prefix at lies.
+abbrev pub IsOver : (p at : PrefixValue) (place : ℕ) (m : Node) → Type 0
+IsOver p at place m = ((at.address < middle p) × (m ≡ record { prefix = p; zero = place; one = nowhere })) ⊎ ((middle p ≤ at.address) × (m ≡ record { prefix = p; zero = nowhere; one = place }))
+
+-- m is the fork of p, whose node is at a fresh place, and of the prefix at, whose node is at a place.
+abbrev pub IsForkOf : (p : PrefixValue) (fresh : ℕ) (at : PrefixValue) (place : ℕ) (m : Node) → Type 0
+IsForkOf p fresh at place m = ((p.address < at.address) × IsFork p.address at.address m.prefix × (m ≡ record { prefix = m.prefix; zero = fresh; one = place }))
+    ⊎ ((at.address ≤ p.address) × IsFork at.address p.address m.prefix × (m ≡ record { prefix = m.prefix; zero = place; one = fresh }))
 
 -- m is n except for the place that it names for the half in which p lies.
 abbrev pub IsLinked : (n : Node) (p : PrefixValue) (to : ℕ) (m : Node) → Type 0

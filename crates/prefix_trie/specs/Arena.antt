@@ -14,15 +14,15 @@ nowhere = 2 ^ 32 - 1
 abbrev pub value_at : {V : Type 0} → List (Option V) → ℕ → Option V
 value_at values place = option_and_then (λ value. value) (slice_get values place)
 
--- the prefixes with their values in this many levels of nodes from a place down, each before those that it covers
-unfoldable pub entries_at : {V : Type 0} → List Node → List (Option V) → ℕ → ℕ → List (PrefixValue × V)
-entries_at nodes values zero place = []
-entries_at nodes values (suc levels) place = unwrap_or (option_map (λ n. own n.prefix (value_at values place) ++ (entries_at nodes values levels n.zero ++ entries_at nodes values levels n.one)) (slice_get nodes place)) []
+-- the prefixes with their values on this many levels of nodes from a place down, each before those that it covers
+unfoldable pub entries_over : {V : Type 0} → List Node → List (Option V) → ℕ → ℕ → List (PrefixValue × V)
+entries_over nodes values zero place = []
+entries_over nodes values (suc levels) place = unwrap_or (option_map (λ n. own n.prefix (value_at values place) ++ (entries_over nodes values levels n.zero ++ entries_over nodes values levels n.one)) (slice_get nodes place)) []
 
 -- the places of these nodes
-unfoldable pub places_at : List Node → ℕ → ℕ → List ℕ
-places_at nodes zero place = []
-places_at nodes (suc levels) place = unwrap_or (option_map (λ n. place ∷ (places_at nodes levels n.zero ++ places_at nodes levels n.one)) (slice_get nodes place)) []
+unfoldable pub places_over : List Node → ℕ → ℕ → List ℕ
+places_over nodes zero place = []
+places_over nodes (suc levels) place = unwrap_or (option_map (λ n. place ∷ (places_over nodes levels n.zero ++ places_over nodes levels n.one)) (slice_get nodes place)) []
 
 -- A node has a prefix, and names nodes whose prefixes are longer ones of its two halves.
 pub record IsBranching (nodes : List Node) (n : Node) : Type 0 where
@@ -32,15 +32,25 @@ pub record IsBranching (nodes : List Node) (n : Node) : Type 0 where
 
 -- This many levels of nodes from a place down are all that there are; each node names nodes or nothing, and its prefix covers those below it, half by
 -- half.
-unfoldable pub IsTrieAt : List Node → ℕ → ℕ → Type 0
-IsTrieAt nodes zero place = (slice_get nodes place ≡ None) × (place ≡ nowhere)
-IsTrieAt nodes (suc levels) place = IfNone (slice_get nodes place) (place ≡ nowhere)
-    × IfSome (slice_get nodes place) (λ n. IsBranching nodes n × IsTrieAt nodes levels n.zero × IsTrieAt nodes levels n.one)
+unfoldable pub IsTrieOver : List Node → ℕ → ℕ → Type 0
+IsTrieOver nodes zero place = (slice_get nodes place ≡ None) × (place ≡ nowhere)
+IsTrieOver nodes (suc levels) place = IfNone (slice_get nodes place) (place ≡ nowhere)
+    × IfSome (slice_get nodes place) (λ n. IsBranching nodes n × IsTrieOver nodes levels n.zero × IsTrieOver nodes levels n.one)
 
--- Among this many levels from a place down, q is a place on level l.
-unfoldable pub StandsAt : List Node → ℕ → ℕ → ℕ → ℕ → Type 0
-StandsAt nodes zero place l q = (l ≡ zero) × (q ≡ place)
-StandsAt nodes (suc levels) place l q = ((l ≡ suc levels) × (q ≡ place)) ⊎ ((n : Node) × (slice_get nodes place ≡ Some n) × (StandsAt nodes levels n.zero l q ⊎ StandsAt nodes levels n.one l q))
+-- The same on all levels: a prefix has one of 33 lengths, and is longer than the one above it, so that there are never more than 34.
+abbrev pub entries_at : {V : Type 0} → List Node → List (Option V) → ℕ → List (PrefixValue × V)
+entries_at nodes values place = entries_over nodes values 34 place
+
+abbrev pub places_at : List Node → ℕ → List ℕ
+places_at nodes place = places_over nodes 34 place
+
+abbrev pub IsTrieAt : List Node → ℕ → Type 0
+IsTrieAt nodes place = IsTrieOver nodes 34 place
+
+-- This many branches lead from a place down to q.
+unfoldable pub Leads : List Node → ℕ → ℕ → ℕ → Type 0
+Leads nodes zero place q = q ≡ place
+Leads nodes (suc steps) place q = (n : Node) × (slice_get nodes place ≡ Some n) × (Leads nodes steps n.zero q ⊎ Leads nodes steps n.one q)
 
 -- at is shorter than p, and covers it
 abbrev pub IsUnder : PrefixValue → PrefixValue → Type 0
@@ -57,8 +67,8 @@ pub record IsSameAt {V : Type 0} (nodes fs : List Node) (values ws : List (Optio
   pub value : value_at ws q ≡ value_at values q
 
 -- No node from a place down has the prefix.
-abbrev pub HasNone : List Node → ℕ → ℕ → PrefixValue → Type 0
-HasNone nodes levels place p = (r : ℕ) → Contains (places_at nodes levels place) r → IfSome (slice_get nodes r) (λ n. n.prefix ≢ p)
+abbrev pub HasNone : List Node → ℕ → PrefixValue → Type 0
+HasNone nodes place p = (r : ℕ) → Contains (places_at nodes place) r → IfSome (slice_get nodes r) (λ n. n.prefix ≢ p)
 
 -- A node is at a place, and the other nodes are unchanged.
 pub record IsNodeSet (nodes fs : List Node) (q : ℕ) (n : Node) : Type 0 where

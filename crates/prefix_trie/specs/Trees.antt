@@ -7,12 +7,12 @@ use Rattle.prefix_trie.specs.Arena.{nowhere, value_at, entries_at, places_at, Ar
 
 -- its prefixes with their values, each before those that it covers
 abbrev pub entries : {V : Type 0} → Tree V → List (PrefixValue × V)
-entries t = entries_at t.nodes.items t.values.items 34 t.root
+entries t = entries_at t.nodes.items t.values.items t.root
 
 -- No place is used twice, and at those that are free there is no value.
 pub record IsTrie {V : Type 0} (t : Tree V) : Type 0 where
-  pub trie : IsTrieAt t.nodes.items 34 t.root
-  pub apart : AreApart (places_at t.nodes.items 34 t.root ++ t.free.items)
+  pub trie : IsTrieAt t.nodes.items t.root
+  pub apart : AreApart (places_at t.nodes.items t.root ++ t.free.items)
   pub free_in : (q : ℕ) → Contains t.free.items q → q < length t.nodes.items
   pub free_bare : (q : ℕ) → Contains t.free.items q → value_at t.values.items q ≡ None
   pub few : length t.nodes.items ≤ nowhere

@@ -6,19 +6,20 @@ use Rattle.prefix_trie.specs.declared.node.Node.{Node}
 use Rattle.prefix_trie.specs.Arena.{nowhere, value_at, entries_at, places_at, AreApart, IsTrieAt}
 
 -- No place that is free is one of the trie's.
-pub record CanTrim (nodes : List Node) (free : List ℕ) (levels place : ℕ) : Type 0 where
-  pub trie : IsTrieAt nodes levels place
-  pub apart : AreApart (places_at nodes levels place ++ free)
+pub record CanTrim (nodes : List Node) (free : List ℕ) (place : ℕ) : Type 0 where
+  pub trie : IsTrieAt nodes place
+  pub apart : AreApart (places_at nodes place ++ free)
   pub few : length nodes ≤ nowhere
 
 -- The entries are the same, and the places of removed nodes are free, unless there was no room to keep them. What is elsewhere is unchanged.
-pub record IsTrimmed {V : Type 0} (nodes fs : List Node) (values : List (Option V)) (free kept : List ℕ) (levels from to : ℕ) : Type 0 where
-  pub entries : entries_at fs values levels to ≡ entries_at nodes values levels from
-  pub trie : IsTrieAt fs levels to
-  pub apart : AreApart (places_at fs levels to ++ kept)
-  pub among : (r : ℕ) → Contains (places_at fs levels to) r → Contains (places_at nodes levels from) r
-  pub freed : (r : ℕ) → Contains kept r → Contains free r ⊎ (Contains (places_at nodes levels from) r × (value_at values r ≡ None))
+pub record IsTrimmed {V : Type 0} (nodes fs : List Node) (values : List (Option V)) (free kept : List ℕ) (from to : ℕ) : Type 0 where
+  pub entries : entries_at fs values to ≡ entries_at nodes values from
+  pub trie : IsTrieAt fs to
+  pub apart : AreApart (places_at fs to ++ kept)
+  pub among : (r : ℕ) → Contains (places_at fs to) r → Contains (places_at nodes from) r
+  pub freed : (r : ℕ) → Contains kept r → Contains free r ⊎ (Contains (places_at nodes from) r × (value_at values r ≡ None))
   pub more : length free ≤ length kept
-  pub others : (r : ℕ) → (Contains (places_at nodes levels from) r → ⊥) → slice_get fs r ≡ slice_get nodes r
+  pub others : (r : ℕ) → (Contains (places_at nodes from) r → ⊥) → slice_get fs r ≡ slice_get nodes r
   pub as_many : length fs ≡ length nodes
-  pub within : (low high len : ℕ) → IfSome (slice_get nodes from) (λ m. Within low high len m.prefix) → IfSome (slice_get fs to) (λ m. Within low high len m.prefix)
+  pub within : (low high len : ℕ) → IfSome (slice_get nodes from) (λ m. Within low high len m.prefix)
+      → IfSome (slice_get fs to) (λ m. Within low high len m.prefix)

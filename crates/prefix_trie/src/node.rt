@@ -1,21 +1,18 @@
 //! The nodes of a trie, which stand in one list. A node has a prefix, and names the places of its two
 //! branches. The value of a node stands at the same place of another list.
 
-ghost use Rattle.std.specs.Prelude.{◌↔◌, ◌⊎◌, ◌≢◌, ℕ, ◌≤◌, ◌/◌, ◌^◌, IsTrue, ◌≡◌, ◌++◌, if◌then◌else◌, ◌<◌, length, nat_lt, map, is_some, option_and_then, option_copied, option_map, slice_get, Some, None, IfNone, IfSome, IsSome, OnOk, OnSome};
+ghost use Rattle.std.specs.Prelude.{◌↔◌, ◌⊎◌, ◌≢◌, ℕ, ◌≤◌, ◌/◌, ◌^◌, IsTrue, ◌≡◌, ◌++◌, if◌then◌else◌, ◌<◌, length, nat_lt, map, is_some, option_copied, option_map, slice_get, Some, None, IfNone, IfSome, IsSome, OnOk, OnSome};
 ghost use Rattle.std.specs.FinMap as table;
 ghost use Rattle.std.specs.List.{Contains};
 ghost use Rattle.bgp_types.specs.Tables.{prefix_cmp, first_above};
 ghost use Rattle.prefix_trie.specs.Halves.{middle as middle_of, IsFork};
 ghost use Rattle.prefix_trie.specs.Longest.{LongestOf};
 ghost use Rattle.prefix_trie.specs.Arena.{entries_at, places_at, value_at, HasNone, IsTrieAt, IsNodeSet, IsUnder};
-ghost use Rattle.prefix_trie.specs.Adding.{CanAdd, IsAdded, IsLinked, IsSpot, IsUpper, IsWay};
+ghost use Rattle.prefix_trie.specs.Adding.{leaf as leaf_of, CanAdd, IsAdded, IsForkOf, IsLinked, IsOver, IsSpot, IsUpper, IsWay};
 ghost use Rattle.prefix_trie.specs.Trimming.{CanTrim, IsTrimmed};
 ghost use Rattle.bgp_types.specs.Prefixes.{Covers};
 
 use bgp_types::{NoMemory, Prefix, PrefixList};
-
-/// Maximum depth plus one: the length of a prefix grows from node to node.
-pub const LEVELS: u32 = 34;
 
 /// A prefix, and the places of its branches. A place without a node is that of an empty branch.
 #[derive(Clone, Copy)]
@@ -73,14 +70,13 @@ pub fn node_at(nodes: &[Node], place: u32) -> Option<&Node>
 }
 
 /// Returns the place of the node of a prefix, if there is one.
-pub fn find<V>(nodes: &[Node], values: &[Option<V>], root: u32, prefix: Prefix) -> Option<u32>
-    requires { IsTrieAt nodes.now 34 root }
-    ensures value { option_and_then (value_at values.now) result ≡ table.find prefix_cmp prefix (entries_at nodes.now values.now 34 root) }
-    ensures place { IfSome result (λ place. Contains (places_at nodes.now 34 root) place) }
+pub fn find(nodes: &[Node], root: u32, prefix: Prefix) -> Option<u32>
+    requires { IsTrieAt nodes.now root }
+    ensures place { IfSome result (λ place. Contains (places_at nodes.now root) place) }
     ensures node { IfSome result (λ place. option_map (λ n. n.prefix) (slice_get nodes.now place) ≡ Some prefix) }
+    ensures none { IfNone result (HasNone nodes.now root prefix) }
 {
     let mut at = root;
-    let mut levels = LEVELS;
     while let Some(node) = node_at(nodes, at) {
         if node.prefix.len() >= prefix.len() {
             return if node.prefix == prefix {
@@ -94,7 +90,6 @@ pub fn find<V>(nodes: &[Node], values: &[Option<V>], root: u32, prefix: Prefix) 
         } else {
             node.one
         };
-        levels -= 1;
     }
     None
 }
@@ -110,9 +105,9 @@ fn has_value<V>(values: &[Option<V>], place: u32) -> bool
 }
 
 /// Returns the least prefix in the subtree at a place.
-pub fn first<V>(nodes: &[Node], values: &[Option<V>], levels: u32, place: u32) -> Option<Prefix>
-    requires { IsTrieAt nodes.now levels place }
-    ensures { result ≡ first_above None (map (λ e. e.0) (entries_at nodes.now values.now levels place)) }
+pub fn first<V>(nodes: &[Node], values: &[Option<V>], place: u32) -> Option<Prefix>
+    requires { IsTrieAt nodes.now place }
+    ensures { result ≡ first_above None (map (λ e. e.0) (entries_at nodes.now values.now place)) }
 {
     match node_at(nodes, place) {
         None => None,
@@ -120,9 +115,9 @@ pub fn first<V>(nodes: &[Node], values: &[Option<V>], levels: u32, place: u32) -
             if has_value(values, place) {
                 return Some(node.prefix);
             }
-            match first(nodes, values, levels - 1, node.zero) {
+            match first(nodes, values, node.zero) {
                 Some(prefix) => Some(prefix),
-                None => first(nodes, values, levels - 1, node.one),
+                None => first(nodes, values, node.one),
             }
         }
     }
@@ -132,47 +127,40 @@ pub fn first<V>(nodes: &[Node], values: &[Option<V>], levels: u32, place: u32) -
 pub fn list<V>(
     nodes: &[Node],
     values: &[Option<V>],
-    levels: u32,
     place: u32,
     prefixes: &mut PrefixList,
 ) -> Result<(), NoMemory>
-    requires { IsTrieAt nodes.now levels place }
-    ensures { OnOk result (prefixes.new ≡ prefixes.old ++ map (λ e. e.0) (entries_at nodes.now values.now levels place)) }
+    requires { IsTrieAt nodes.now place }
+    ensures { OnOk result (prefixes.new ≡ prefixes.old ++ map (λ e. e.0) (entries_at nodes.now values.now place)) }
 {
     if let Some(node) = node_at(nodes, place) {
         if has_value(values, place) {
             prefixes.push(node.prefix)?;
         }
-        list(nodes, values, levels - 1, node.zero, prefixes)?;
-        list(nodes, values, levels - 1, node.one, prefixes)?;
+        list(nodes, values, node.zero, prefixes)?;
+        list(nodes, values, node.one, prefixes)?;
     }
     Ok(())
 }
 
 /// Returns the least prefix above another, in the subtree at a place.
-pub fn next<V>(
-    nodes: &[Node],
-    values: &[Option<V>],
-    levels: u32,
-    place: u32,
-    prefix: Prefix,
-) -> Option<Prefix>
-    requires { IsTrieAt nodes.now levels place }
-    ensures { result ≡ first_above (Some prefix) (map (λ e. e.0) (entries_at nodes.now values.now levels place)) }
+pub fn next<V>(nodes: &[Node], values: &[Option<V>], place: u32, prefix: Prefix) -> Option<Prefix>
+    requires { IsTrieAt nodes.now place }
+    ensures { result ≡ first_above (Some prefix) (map (λ e. e.0) (entries_at nodes.now values.now place)) }
 {
     match node_at(nodes, place) {
         None => None,
         Some(node) => {
             if prefix < node.prefix {
-                return first(nodes, values, levels, place);
+                return first(nodes, values, place);
             }
             if is_early(prefix.address(), node.prefix) {
-                if let Some(after) = next(nodes, values, levels - 1, node.zero, prefix) {
+                if let Some(after) = next(nodes, values, node.zero, prefix) {
                     return Some(after);
                 }
-                return first(nodes, values, levels - 1, node.one);
+                return first(nodes, values, node.one);
             }
-            next(nodes, values, levels - 1, node.one, prefix)
+            next(nodes, values, node.one, prefix)
         }
     }
 }
@@ -186,12 +174,11 @@ fn chosen(has: bool, prefix: Prefix, other: Option<Prefix>) -> Option<Prefix>
 
 /// Returns the longest prefix that covers another.
 pub fn longest<V>(nodes: &[Node], values: &[Option<V>], root: u32, host: Prefix) -> Option<Prefix>
-    requires { IsTrieAt nodes.now 34 root }
-    ensures { LongestOf (λ p. IsSome (table.find prefix_cmp p (entries_at nodes.now values.now 34 root))) host result }
+    requires { IsTrieAt nodes.now root }
+    ensures { LongestOf (λ p. IsSome (table.find prefix_cmp p (entries_at nodes.now values.now root))) host result }
 {
     let mut longest = None;
     let mut at = root;
-    let mut levels = LEVELS;
     while let Some(node) = node_at(nodes, at) {
         if !node.prefix.covers(&host) {
             return longest;
@@ -202,7 +189,6 @@ pub fn longest<V>(nodes: &[Node], values: &[Option<V>], root: u32, host: Prefix)
         } else {
             node.one
         };
-        levels -= 1;
     }
     longest
 }
@@ -226,69 +212,31 @@ pub struct Rooted {
 /// The place that means no node.
 pub const NOWHERE: u32 = u32::MAX;
 
-/// Adds a node of a prefix where the place is vacant.
-fn add_leaf<V>(
-    nodes: &mut [Node],
-    values: &[Option<V>],
-    fresh: u32,
-    spare: u32,
-    levels: u32,
-    place: u32,
-    prefix: Prefix,
-) -> Rooted
-    requires can { CanAdd nodes.old values.now prefix fresh spare levels place }
-    requires none { slice_get nodes.old place ≡ None }
-    ensures { IsAdded nodes.old nodes.new values.now prefix fresh spare levels place result.root result.forked }
+/// Returns a node of a prefix without branches.
+pub fn leaf(prefix: Prefix) -> Node
+    ensures { result ≡ leaf_of prefix }
 {
-    set_node(
-        nodes,
-        fresh,
-        Node {
-            prefix,
-            zero: NOWHERE,
-            one: NOWHERE,
-        },
-    );
-    Rooted {
-        root: fresh,
-        forked: false,
+    Node {
+        prefix,
+        zero: NOWHERE,
+        one: NOWHERE,
     }
 }
 
-/// Adds a node of a prefix above the node at a place, whose prefix it covers.
-fn add_above<V>(
-    nodes: &mut [Node],
-    values: &[Option<V>],
-    fresh: u32,
-    spare: u32,
-    levels: u32,
-    place: u32,
-    at: Prefix,
-    prefix: Prefix,
-) -> Rooted
-    requires can { CanAdd nodes.old values.now prefix fresh spare levels place }
-    requires there { option_map (λ n. n.prefix) (slice_get nodes.old place) ≡ Some at }
-    requires shorter { prefix.len < at.len }
-    requires covers { Covers prefix at }
-    ensures { IsAdded nodes.old nodes.new values.now prefix fresh spare levels place result.root result.forked }
+/// Returns a node of a prefix whose only branch is at a place, where the node has a prefix that it
+/// covers.
+fn over(prefix: Prefix, at: Prefix, place: u32) -> Node
+    ensures { IsOver prefix at place result }
 {
-    let node = if is_early(at.address(), prefix) {
-        Node {
-            prefix,
+    if is_early(at.address(), prefix) {
+        return Node {
             zero: place,
-            one: NOWHERE,
-        }
-    } else {
-        Node {
-            prefix,
-            zero: NOWHERE,
-            one: place,
-        }
-    };
-    set_node(nodes, fresh, node);
-    Rooted {
-        root: fresh,
-        forked: false,
+            ..leaf(prefix)
+        };
+    }
+    Node {
+        one: place,
+        ..leaf(prefix)
     }
 }
 
@@ -303,47 +251,24 @@ fn fork_of(low: u32, high: u32) -> Prefix
     }
 }
 
-/// Adds a node of a prefix beside the one at a place, where neither prefix covers the other, and a fork
-/// above both.
-fn add_beside<V>(
-    nodes: &mut [Node],
-    values: &[Option<V>],
-    fresh: u32,
-    spare: u32,
-    levels: u32,
-    place: u32,
-    at: Prefix,
-    prefix: Prefix,
-) -> Rooted
-    requires can { CanAdd nodes.old values.now prefix fresh spare levels place }
-    requires there { option_map (λ n. n.prefix) (slice_get nodes.old place) ≡ Some at }
+/// Returns a fork of two prefixes, neither of which covers the other: of one, whose node gets the place
+/// `fresh`, and of another, whose node is at a place.
+fn fork(prefix: Prefix, fresh: u32, at: Prefix, place: u32) -> Node
     requires above { Covers at prefix → ⊥ }
     requires below { Covers prefix at → ⊥ }
-    ensures { IsAdded nodes.old nodes.new values.now prefix fresh spare levels place result.root result.forked }
+    ensures { IsForkOf prefix fresh at place result }
 {
-    let leaf = Node {
-        prefix,
-        zero: NOWHERE,
-        one: NOWHERE,
-    };
-    set_node(nodes, fresh, leaf);
-    let fork = if prefix.address() < at.address() {
-        Node {
+    if prefix.address() < at.address() {
+        return Node {
             prefix: fork_of(prefix.address(), at.address()),
             zero: fresh,
             one: place,
-        }
-    } else {
-        Node {
-            prefix: fork_of(at.address(), prefix.address()),
-            zero: place,
-            one: fresh,
-        }
-    };
-    set_node(nodes, spare, fork);
-    Rooted {
-        root: spare,
-        forked: true,
+        };
+    }
+    Node {
+        prefix: fork_of(at.address(), prefix.address()),
+        zero: place,
+        one: fresh,
     }
 }
 
@@ -356,57 +281,55 @@ fn copy_at(nodes: &[Node], place: u32) -> Option<Node>
 
 /// Adds a node of a prefix at the place where it belongs: the place is vacant, or its node's prefix
 /// isn't a shorter one that covers it.
-fn add_at<V>(
-    nodes: &mut [Node],
-    values: &[Option<V>],
-    fresh: u32,
-    spare: u32,
-    levels: u32,
-    place: u32,
-    prefix: Prefix,
-) -> Rooted
-    requires can { CanAdd nodes.old values.now prefix fresh spare levels place }
+fn add_at(nodes: &mut [Node], fresh: u32, spare: u32, place: u32, prefix: Prefix) -> Rooted
+    requires can { CanAdd nodes.old prefix fresh spare place }
     requires stop { IfSome (slice_get nodes.old place) (λ n. IsUnder n.prefix prefix → ⊥) }
-    ensures { IsAdded nodes.old nodes.new values.now prefix fresh spare levels place result.root result.forked }
+    ensures { IsAdded nodes.old nodes.new prefix fresh spare place result.root result.forked }
 {
     let Some(node) = copy_at(nodes, place) else {
-        return add_leaf(nodes, values, fresh, spare, levels, place, prefix);
+        set_node(nodes, fresh, leaf(prefix));
+        return Rooted {
+            root: fresh,
+            forked: false,
+        };
     };
     let at = node.prefix;
     if prefix.covers(&at) {
-        return add_above(nodes, values, fresh, spare, levels, place, at, prefix);
+        set_node(nodes, fresh, over(prefix, at, place));
+        return Rooted {
+            root: fresh,
+            forked: false,
+        };
     }
-    add_beside(nodes, values, fresh, spare, levels, place, at, prefix)
+    set_node(nodes, fresh, leaf(prefix));
+    set_node(nodes, spare, fork(prefix, fresh, at, place));
+    Rooted {
+        root: spare,
+        forked: true,
+    }
 }
 
-/// Where the node of a prefix belongs: at place `at`, with `levels` levels from there on, below the
-/// node at `above`, which is below the one at `grand`.
+/// Where the node of a prefix belongs: at place `at`, below the node at `above`, which is below the one
+/// at `grand`.
 #[derive(Clone, Copy)]
 pub struct Spot {
     pub grand: u32,
     pub above: u32,
     pub at: u32,
-    pub levels: u32,
 }
 
 /// Finds where the node of a prefix belongs.
 pub fn seek(nodes: &[Node], root: u32, prefix: Prefix) -> Spot
-    requires { IsTrieAt nodes.now 34 root }
-    ensures spot { IsSpot nodes.now root prefix result.above result.at result.levels }
-    ensures upper { IsUpper nodes.now root prefix result.grand result.above result.levels }
+    requires { IsTrieAt nodes.now root }
+    ensures spot { IsSpot nodes.now root prefix result.above result.at }
+    ensures upper { IsUpper nodes.now root prefix result.grand result.above }
 {
     let mut grand = NOWHERE;
     let mut above = NOWHERE;
     let mut at = root;
-    let mut levels = LEVELS;
     while let Some(node) = node_at(nodes, at) {
         if !is_below(prefix, node.prefix) {
-            return Spot {
-                grand,
-                above,
-                at,
-                levels,
-            };
+            return Spot { grand, above, at };
         }
         grand = above;
         above = at;
@@ -415,14 +338,8 @@ pub fn seek(nodes: &[Node], root: u32, prefix: Prefix) -> Spot
         } else {
             node.one
         };
-        levels -= 1;
     }
-    Spot {
-        grand,
-        above,
-        at,
-        levels,
-    }
+    Spot { grand, above, at }
 }
 
 /// Whether the node at a place is that of a prefix.
@@ -447,20 +364,19 @@ fn linked(node: Node, prefix: Prefix, to: u32) -> Node
 
 /// Adds a node without a value for a prefix that has none, at the fresh place. If it needs a fork above
 /// it, the fork gets the spare place.
-pub fn add_node<V>(
+pub fn add_node(
     nodes: &mut [Node],
-    values: &[Option<V>],
     fresh: u32,
     spare: u32,
     root: u32,
     prefix: Prefix,
     spot: Spot,
 ) -> Rooted
-    requires can { CanAdd nodes.old values.now prefix fresh spare 34 root }
-    requires spot { IsSpot nodes.old root prefix spot.above spot.at spot.levels }
-    ensures { IsAdded nodes.old nodes.new values.now prefix fresh spare 34 root result.root result.forked }
+    requires can { CanAdd nodes.old prefix fresh spare root }
+    requires spot { IsSpot nodes.old root prefix spot.above spot.at }
+    ensures { IsAdded nodes.old nodes.new prefix fresh spare root result.root result.forked }
 {
-    let added = add_at(nodes, values, fresh, spare, spot.levels, spot.at, prefix);
+    let added = add_at(nodes, fresh, spare, spot.at, prefix);
     let Some(node) = copy_at(nodes, spot.above) else {
         return added;
     };
@@ -474,15 +390,9 @@ pub fn add_node<V>(
 /// Returns the place that replaces that of a node: if the node has neither a value nor two branches,
 /// that of its only branch, else its own. In the first case its own place is kept for reuse, if the
 /// list of free places has room.
-fn tidy<V>(
-    nodes: &[Node],
-    values: &[Option<V>],
-    free: &mut Vec<u32>,
-    levels: u32,
-    place: u32,
-) -> u32
-    requires { CanTrim nodes.now free.old.items levels place }
-    ensures { IsTrimmed nodes.now nodes.now values.now free.old.items free.new.items levels place result }
+fn tidy<V>(nodes: &[Node], values: &[Option<V>], free: &mut Vec<u32>, place: u32) -> u32
+    requires { CanTrim nodes.now free.old.items place }
+    ensures { IsTrimmed nodes.now nodes.now values.now free.old.items free.new.items place result }
 {
     let Some(node) = copy_at(nodes, place) else {
         return place;
@@ -511,15 +421,14 @@ fn trim_at<V>(
     prefix: Prefix,
     above: u32,
     at: u32,
-    levels: u32,
 ) -> u32
-    requires can { CanTrim nodes.old free.old.items 34 root }
-    requires way { IsWay nodes.old root prefix above at levels }
-    ensures trimmed { IsTrimmed nodes.old nodes.new values.now free.old.items free.new.items 34 root result }
+    requires can { CanTrim nodes.old free.old.items root }
+    requires way { IsWay nodes.old root prefix above at }
+    ensures trimmed { IsTrimmed nodes.old nodes.new values.now free.old.items free.new.items root result }
     ensures others { (r : ℕ) → r ≢ above → slice_get nodes.new r ≡ slice_get nodes.old r }
     ensures root { slice_get nodes.new above ≡ None ⊎ result ≡ root }
 {
-    let to = tidy(nodes, values, free, levels, at);
+    let to = tidy(nodes, values, free, at);
     let Some(node) = copy_at(nodes, above) else {
         return to;
     };
@@ -537,35 +446,17 @@ pub fn trim<V>(
     prefix: Prefix,
     spot: Spot,
 ) -> u32
-    requires can { CanTrim nodes.old free.old.items 34 root }
-    requires spot { IsSpot nodes.old root prefix spot.above spot.at spot.levels }
-    requires upper { IsUpper nodes.old root prefix spot.grand spot.above spot.levels }
-    ensures { IsTrimmed nodes.old nodes.new values.now free.old.items free.new.items 34 root result }
+    requires can { CanTrim nodes.old free.old.items root }
+    requires spot { IsSpot nodes.old root prefix spot.above spot.at }
+    requires upper { IsUpper nodes.old root prefix spot.grand spot.above }
+    ensures { IsTrimmed nodes.old nodes.new values.now free.old.items free.new.items root result }
 {
-    let begin = trim_at(
-        nodes,
-        values,
-        free,
-        root,
-        prefix,
-        spot.above,
-        spot.at,
-        spot.levels,
-    );
+    let begin = trim_at(nodes, values, free, root, prefix, spot.above, spot.at);
     let Some(node) = node_at(nodes, spot.above) else {
         return begin;
     };
     if node.zero != NOWHERE && node.one != NOWHERE {
         return root;
     }
-    trim_at(
-        nodes,
-        values,
-        free,
-        root,
-        prefix,
-        spot.grand,
-        spot.above,
-        spot.levels + 1,
-    )
+    trim_at(nodes, values, free, root, prefix, spot.grand, spot.above)
 }

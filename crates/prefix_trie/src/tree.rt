@@ -14,7 +14,7 @@ ghost use Rattle.prefix_trie.specs.Changes.{ChangeResult};
 ghost use Rattle.prefix_trie.specs.Nodes.{PutResult};
 ghost use Rattle.prefix_trie.specs.Trees.{entries, IsGrown, IsTrie};
 
-use crate::node::{LEVELS, NOWHERE, Node, Spot, add_node, find, is_at, node_at, seek, trim};
+use crate::node::{NOWHERE, Node, Spot, add_node, find, is_at, leaf, node_at, seek, trim};
 use bgp_types::{NoMemory, Prefix};
 use std::mem;
 
@@ -34,7 +34,7 @@ pub fn get<V>(tree: &Tree<V>, prefix: Prefix) -> Option<&V>
     requires { IsTrie tree.now }
     ensures { option_copied result ≡ table.find prefix_cmp prefix (entries tree.now) }
 {
-    let place = find(&tree.nodes, &tree.values, tree.root, prefix)?;
+    let place = find(&tree.nodes, tree.root, prefix)?;
     tree.values.get(place as usize)?.as_ref()
 }
 
@@ -51,7 +51,7 @@ pub fn change<V, R, F: FnOnce(&mut V) -> R>(
     ensures changed { ChangeResult (FnOnceReturnsAtMut F.FnOnce edit) prefix result (entries tree.old) (entries tree.new) }
     ensures free { tree.new.free ≡ tree.old.free }
 {
-    let place = find(&tree.nodes, &tree.values, tree.root, prefix)?;
+    let place = find(&tree.nodes, tree.root, prefix)?;
     match &mut tree.values[place as usize] {
         Some(value) => Some(edit(value)),
         None => None,
@@ -82,8 +82,8 @@ fn put_new<V: Drop>(
 ) -> Result<Option<V>, V>
     requires trie { IsTrie tree.old }
     requires sound { IsPrefix prefix }
-    requires spot { IsSpot tree.old.nodes.items tree.old.root prefix spot.above spot.at spot.levels }
-    requires absent { HasNone tree.old.nodes.items 34 tree.old.root prefix }
+    requires spot { IsSpot tree.old.nodes.items tree.old.root prefix spot.above spot.at }
+    requires absent { HasNone tree.old.nodes.items tree.old.root prefix }
     ensures trie { IsTrie tree.new }
     ensures put { PutResult result prefix value (entries tree.old) (entries tree.new) (length tree.old.free.items) (length tree.new.free.items) }
 {
@@ -98,8 +98,8 @@ fn put_new<V: Drop>(
 fn put_free<V: Drop>(tree: &mut Tree<V>, spot: Spot, prefix: Prefix, value: V)
     requires trie { IsTrie tree.old }
     requires sound { IsPrefix prefix }
-    requires spot { IsSpot tree.old.nodes.items tree.old.root prefix spot.above spot.at spot.levels }
-    requires absent { HasNone tree.old.nodes.items 34 tree.old.root prefix }
+    requires spot { IsSpot tree.old.nodes.items tree.old.root prefix spot.above spot.at }
+    requires absent { HasNone tree.old.nodes.items tree.old.root prefix }
     requires two { 2 ≤ length tree.old.free.items }
     ensures trie { IsTrie tree.new }
     ensures put { entries tree.new ≡ table.put prefix_cmp prefix value (entries tree.old) }
@@ -108,18 +108,11 @@ fn put_free<V: Drop>(tree: &mut Tree<V>, spot: Spot, prefix: Prefix, value: V)
     let (Some(fresh), Some(spare)) = (tree.free.pop(), tree.free.pop()) else {
         unreachable!()
     };
-    let added = add_node(
-        &mut tree.nodes,
-        &tree.values,
-        fresh,
-        spare,
-        tree.root,
-        prefix,
-        spot,
-    );
+    let added = add_node(&mut tree.nodes, fresh, spare, tree.root, prefix, spot);
     tree.values[fresh as usize] = Some(value);
     tree.root = added.root;
     if !added.forked {
+        // The list has room for a place that was just taken from it.
         let _ = tree.free.push(spare);
     }
 }
@@ -156,31 +149,19 @@ pub fn clear<V: Drop>(tree: &mut Tree<V>)
     ensures none { entries tree.new ≡ [] }
     ensures kept { length tree.old.free.items ≤ length tree.new.free.items }
 {
-    empty(
-        &tree.nodes,
-        &mut tree.values,
-        &mut tree.free,
-        LEVELS,
-        tree.root,
-    );
+    empty(&tree.nodes, &mut tree.values, &mut tree.free, tree.root);
     tree.root = NOWHERE;
 }
 
 /// Removes the values in the subtree at a place, and keeps the places of its nodes for reuse, as far as
 /// the list of free places has room.
-fn empty<V: Drop>(
-    nodes: &[Node],
-    values: &mut [Option<V>],
-    free: &mut Vec<u32>,
-    levels: u32,
-    place: u32,
-)
-    requires trie { IsTrieAt nodes.now levels place }
-    requires apart { AreApart (places_at nodes.now levels place ++ free.old.items) }
+fn empty<V: Drop>(nodes: &[Node], values: &mut [Option<V>], free: &mut Vec<u32>, place: u32)
+    requires trie { IsTrieAt nodes.now place }
+    requires apart { AreApart (places_at nodes.now place ++ free.old.items) }
     requires bare { (q : ℕ) → Contains free.old.items q → value_at values.old q ≡ None }
     requires valued { length values.old ≡ length nodes.now }
     ensures apart { AreApart free.new.items }
-    ensures among { (q : ℕ) → Contains free.new.items q → Contains (places_at nodes.now levels place ++ free.old.items) q }
+    ensures among { (q : ℕ) → Contains free.new.items q → Contains (places_at nodes.now place ++ free.old.items) q }
     ensures bare { (q : ℕ) → Contains free.new.items q → value_at values.new q ≡ None }
     ensures valued { length values.new ≡ length nodes.now }
     ensures kept { length free.old.items ≤ length free.new.items }
@@ -190,8 +171,8 @@ fn empty<V: Drop>(
     };
     values[place as usize] = None;
     let _ = free.push(place);
-    empty(nodes, values, free, levels - 1, node.zero);
-    empty(nodes, values, free, levels - 1, node.one);
+    empty(nodes, values, free, node.zero);
+    empty(nodes, values, free, node.one);
 }
 
 /// The number of all prefixes: for each length from 0 to 32, one for each value of that many bits.
@@ -261,12 +242,7 @@ fn add_place<V: Drop>(tree: &mut Tree<V>) -> Result<(), NoMemory>
     tree.nodes.reserve(1)?;
     tree.values.reserve(1)?;
     tree.free.push(place as u32)?;
-    let blank = Node {
-        prefix,
-        zero: NOWHERE,
-        one: NOWHERE,
-    };
-    if tree.nodes.push(blank).is_err() || tree.values.push(None).is_err() {
+    if tree.nodes.push(leaf(prefix)).is_err() || tree.values.push(None).is_err() {
         unreachable!();
     }
     Ok(())

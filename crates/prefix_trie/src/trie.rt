@@ -8,7 +8,7 @@ ghost use Rattle.bgp_types.specs.Prefixes.{prefix_of};
 ghost use Rattle.bgp_types.specs.Tables.{prefix_cmp, first_above};
 ghost use Rattle.prefix_trie.specs.Longest.{LongestOf};
 
-use crate::node::{LEVELS, NOWHERE, first, list, longest, next};
+use crate::node::{NOWHERE, first, list, longest, next};
 use crate::tree::{Tree, change, clear, get, put, reserve, take};
 use bgp_types::{Items, NoMemory, Prefix, PrefixList, SpareTable, Table};
 use std::alloc::Global;
@@ -82,7 +82,6 @@ impl<V: Drop> TrieTable<V> {
         list(
             &self.tree.nodes,
             &self.tree.values,
-            LEVELS,
             self.tree.root,
             &mut prefixes,
         )?;
@@ -139,14 +138,8 @@ impl<V: Drop> Table<V> for TrieTable<V> {
 
     fn next_after(&self, prefix: Option<Prefix>) -> Option<Prefix> {
         match prefix {
-            None => first(&self.tree.nodes, &self.tree.values, LEVELS, self.tree.root),
-            Some(prefix) => next(
-                &self.tree.nodes,
-                &self.tree.values,
-                LEVELS,
-                self.tree.root,
-                prefix,
-            ),
+            None => first(&self.tree.nodes, &self.tree.values, self.tree.root),
+            Some(prefix) => next(&self.tree.nodes, &self.tree.values, self.tree.root, prefix),
         }
     }
 

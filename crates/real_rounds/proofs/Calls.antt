@@ -16,19 +16,23 @@ use Rattle.far_side.specs.declared.fields as far_fields
 
 -- a router's turn passes one round on each session that is live at its start, where one may pass, and else none
 abbrev pub TurnsPassOne : Type 0
-TurnsPassOne = (old new : router_fields.Fields.Fields) (deeds : List (Deed (Item RunningSession))) (turned : router_turns.Turned old deeds new) (p : ℕ) (s : RunningSession) (o : Option Errand) → RunsAt old.places.places p s o
+TurnsPassOne = (old new : router_fields.Fields.Fields) (deeds : List (Deed (Item RunningSession))) (turned : router_turns.RouterTurned old deeds new) (p : ℕ) (s : RunningSession) (o : Option Errand)
+    → RunsAt old.places.places p s o
     → (MayPass s.session new.turns × (rounds_on p turned.work ≡ new.turns ∷ [])) ⊎ ((¬ MayPass s.session new.turns) × (rounds_on p turned.work ≡ []))
 
 -- a far side's take is one event
 abbrev pub FarTakesAreOne : Type 0
-FarTakesAreOne = (old new : far_fields.Fields.Fields) (from : ℕ) (item : Item RunningSession) (deeds : List (Deed (Item RunningSession))) → far_takes.Took old from item deeds new → length deeds ≡ 1
+FarTakesAreOne = (old new : far_fields.Fields.Fields) (from : ℕ) (item : Item RunningSession) (deeds : List (Deed (Item RunningSession)))
+    → far_takes.TookAsFar old from item deeds new → length deeds ≡ 1
 
 -- its links lead where they led
 abbrev pub FarTakesKeepLinks : Type 0
-FarTakesKeepLinks = (old new : far_fields.Fields.Fields) (from : ℕ) (item : Item RunningSession) (deeds : List (Deed (Item RunningSession))) → far_takes.Took old from item deeds new → SameLink old.remoteward new.remoteward
+FarTakesKeepLinks = (old new : far_fields.Fields.Fields) (from : ℕ) (item : Item RunningSession) (deeds : List (Deed (Item RunningSession)))
+    → far_takes.TookAsFar old from item deeds new → SameLink old.remoteward new.remoteward
 
 abbrev pub FarTurnsKeepLinks : Type 0
-FarTurnsKeepLinks = (old new : far_fields.Fields.Fields) (deeds : List (Deed (Item RunningSession))) → far_turns.Turned old deeds new → SameLink old.homeward new.homeward × SameLink old.remoteward new.remoteward
+FarTurnsKeepLinks = (old new : far_fields.Fields.Fields) (deeds : List (Deed (Item RunningSession))) → far_turns.FarTurned old deeds new
+    → SameLink old.homeward new.homeward × SameLink old.remoteward new.remoteward
 
 pub record CallsSay : Type 0 where
   pub turns : TurnsPassOne

@@ -36,7 +36,8 @@ get_in (x ∷ xs) zero l = (x, refl)
 get_in (x ∷ xs) (suc k) l = get_in xs k (omega (arith, l))
 
 -- the rounds up to a mark are a run from the first world to the one at that mark
-pub rounds_run : (setup : Setup) (faults : List Fault) (journal : List JournalEntry) (marks : List (List ℕ)) (real : RealRounds setup faults journal marks) (n : ℕ) → n < length marks
+pub rounds_run : (setup : Setup) (faults : List Fault) (journal : List JournalEntry) (marks : List (List ℕ)) (real : RealRounds setup faults journal marks) (n : ℕ)
+    → n < length marks
     → Run setup (first_world setup) (round_by_round real.events n) (real.world n)
 rounds_run setup faults journal marks real zero n_in = let mark = get_in marks 0 n_in in real.begins mark.0 mark.1
 rounds_run setup faults journal marks real (suc n) n_in =

@@ -11,9 +11,9 @@ use Rattle.ring_net.specs.Deeds.{Noted, Replay, deeds, entries_of, from_option, 
 use Rattle.ring_net.specs.Phases.{View}
 use Rattle.graft_model.specs.Setups.{Setup}
 use Rattle.graft_model.specs.Parts.{World}
-use Rattle.graft_runs.specs.Actors.{Thing, MeshItem, ActorName, Router, FarSide, Operator, number_in, IsActor, actor_at}
-use Rattle.graft_runs.specs.Seen.{channel_of}
-use Rattle.graft_runs.proofs.Numbers.{there, once}
+use Rattle.graft_actors.specs.Actors.{Thing, MeshItem, ActorName, Router, FarSide, Operator, number_in, IsActor, actor_at}
+use Rattle.graft_actors.specs.Seen.{channel_of}
+use Rattle.graft_actors.proofs.Numbers.{there, once, same_itself, same_tells, some_same}
 use Rattle.graft_actors.specs.Items.{thing_of}
 use Rattle.graft_actors.specs.Acts.{OwnPart, acts}
 use Rattle.router_core.specs.Parts.{carried}
@@ -22,64 +22,32 @@ use Rattle.world_nodes.specs.Edges.{has_channel, talks}
 use Rattle.world_nodes.specs.Nodes.{Mail, own}
 use Rattle.world_nodes.specs.declared.node.Node.{Node}
 use Rattle.real_rounds.specs.Entries as entries
-use Rattle.real_rounds.specs.Entries.{is_name, sender_of}
+use Rattle.real_rounds.specs.Entries.{is_same_name, sender_of}
 use Rattle.real_rounds.proofs.RouterDeeds.{IsKept}
 use Rattle.real_rounds.proofs.Senders.{IsSentBy, act_sent}
-
--- ---- one name
-
-name_itself : (x : ActorName) → is_name x (Some x) ≡ true
-name_itself (Router q) = equal q
-  where
-    equal : (n : ℕ) → (n == n) ≡ true
-    equal n = grind (arith, nat_tests)
-name_itself (FarSide p) = equal p
-  where
-    equal : (n : ℕ) → (n == n) ≡ true
-    equal n = grind (arith, nat_tests)
-name_itself Operator = refl
-
-name_none : (x : ActorName) → is_name x None ≡ false
-name_none (Router q) = refl
-name_none (FarSide p) = refl
-name_none Operator = refl
-
-tells : (m n : ℕ) → (m == n) ≡ true → m ≡ n
-tells m n e = grind (arith, nat_tests)
-
-name_tells : (x y : ActorName) → is_name x (Some y) ≡ true → x ≡ y
-name_tells (Router q) (Router r) e = ap Router (tells q r e)
-name_tells (Router q) (FarSide p) e = absurd cc
-name_tells (Router q) Operator e = absurd cc
-name_tells (FarSide p) (Router r) e = absurd cc
-name_tells (FarSide p) (FarSide q) e = ap FarSide (tells p q e)
-name_tells (FarSide p) Operator e = absurd cc
-name_tells Operator (Router r) e = absurd cc
-name_tells Operator (FarSide p) e = absurd cc
-name_tells Operator Operator e = refl
+use Rattle.world_nodes.proofs.Seen.{silent}
 
 -- ---- one event
 
-some_same : (x y : ActorName) → Some x ≡ Some y → x ≡ y
-some_same x y e = cc
-
 -- whether it took an item from this actor
-same_test : (setup : Setup) (x name : ActorName) (from : ℕ) → IsActor setup x → actor_at setup from ≡ Some name → (from == number_in setup x) ≡ is_name x (Some name)
+same_test : (setup : Setup) (x name : ActorName) (from : ℕ) → IsActor setup x → actor_at setup from ≡ Some name
+    → (from == number_in setup x) ≡ is_same_name x (Some name)
 same_test setup x name from known is = elim (eqb_tells from (number_in setup x)) [
-  | inl e ↦ e.0 ∙ sym (ap (λ (y : ActorName). is_name x (Some y)) (some_same name x (sym is ∙ ap (actor_at setup) e.1 ∙ there setup x known)) ∙ name_itself x)
-  | inr ne ↦ ne.0 ∙ sym (not_it (is_name x (Some name)) refl ne.1)
+  | inl e ↦ e.0
+      ∙ sym (ap (λ (y : ActorName). is_same_name x (Some y)) (some_same name x (sym is ∙ ap (actor_at setup) e.1 ∙ there setup x known)) ∙ same_itself x)
+  | inr ne ↦ ne.0 ∙ sym (not_it (is_same_name x (Some name)) refl ne.1)
 ]
   where
-    not_it : (b : Bool) → is_name x (Some name) ≡ b → (from ≡ number_in setup x → ⊥) → is_name x (Some name) ≡ false
+    not_it : (b : Bool) → is_same_name x (Some name) ≡ b → (from ≡ number_in setup x → ⊥) → is_same_name x (Some name) ≡ false
     not_it false e apart = e
-    not_it true e apart = absurd (apart (once setup from (number_in setup x) x (is ∙ ap (λ (y : ActorName). Some y) (sym (name_tells x name e))) (there setup x known)))
+    not_it true e apart = absurd (apart (once setup from (number_in setup x) x (is ∙ ap (λ (y : ActorName). Some y) (sym (same_tells x name e))) (there setup x known)))
 
 one_taken : (setup : Setup) (x : ActorName) (entry : JournalEntry) (stamp : ℕ) (taken : Option (ℕ × Mail)) → IsActor setup x → IsSentBy setup entry taken
-    → length (from_option (number_in setup x) stamp taken) ≡ (if is_name x (sender_of entry) then 1 else 0)
-one_taken setup x entry stamp None known sent = ap (λ (b : Bool). if b then 1 else 0) (sym (ap (λ (o : Option ActorName). is_name x o) sent ∙ name_none x))
+    → length (from_option (number_in setup x) stamp taken) ≡ (if is_same_name x (sender_of entry) then 1 else 0)
+one_taken setup x entry stamp None known sent = ap (λ (b : Bool). if b then 1 else 0) (sym (ap (λ (o : Option ActorName). is_same_name x o) sent))
 one_taken setup x entry stamp (Some t) known (name, sender, is) =
     by_flag (t.0 == number_in setup x) (record { stamp = record { 0 = stamp }; item = t.1 })
-    ∙ ap (λ (b : Bool). if b then 1 else 0) (same_test setup x name t.0 known is ∙ sym (ap (λ (o : Option ActorName). is_name x o) sender))
+    ∙ ap (λ (b : Bool). if b then 1 else 0) (same_test setup x name t.0 known is ∙ sym (ap (λ (o : Option ActorName). is_same_name x o) sender))
   where
     by_flag : (b : Bool) (item : Stamped Mail) → length (if b then item ∷ [] else []) ≡ (if b then 1 else 0)
     by_flag true item = refl
@@ -90,39 +58,22 @@ one_taken setup x entry stamp (Some t) known (name, sender, is) =
 pub count_cons : {A : Type 0} (test : A → Bool) (x : A) (xs : List A) → count_by test (x ∷ xs) ≡ (if test x then 1 else 0) + count_by test xs
 count_cons test x xs = sum_by-cons (λ y. if test y then 1 else 0) x xs
 
-pub taken_are : (setup : Setup) (x : ActorName) (n : ℕ) (p q : OwnPart) (notes : List (Noted Mail)) → IsActor setup x → p.setup ≡ setup → Replay (acts carried) n p (deeds notes) q → AllByRecursion IsKept (deeds notes)
-    → length (taken_from (number_in setup x) notes) ≡ entries.taken_from x (entries_of notes)
+pub taken_are : (setup : Setup) (x : ActorName) (n : ℕ) (p q : OwnPart) (notes : List (Noted Mail)) → IsActor setup x → p.setup ≡ setup
+    → Replay (acts carried) n p (deeds notes) q → AllByRecursion IsKept (deeds notes)
+    → length (taken_from (number_in setup x) notes) ≡ entries.count_taken_from x (entries_of notes)
 taken_are setup x n p q [] known of replay kept = refl
 taken_are setup x n p q (note ∷ notes) known of replay kept =
     length-append (gets (number_in setup x) note) (taken_from (number_in setup x) notes)
     ∙ (λ i. one_taken setup x note.deed.entry note.stamp note.deed.taken known
     (subst (λ (s : Setup). IsSentBy s note.deed.entry note.deed.taken) of (act_sent p replay.0 note.deed.entry note.deed.taken note.deed.sent replay.1 kept.0)) i
     + taken_are setup x n replay.0 q notes known (replay.1.setup ∙ of) replay.2 kept.1 i)
-    ∙ sym (count_cons (λ entry. is_name x (sender_of entry)) note.deed.entry (entries_of notes))
+    ∙ sym (count_cons (λ entry. is_same_name x (sender_of entry)) note.deed.entry (entries_of notes))
 
 -- ---- what a channel of the world holds
 
--- where nobody talks, nothing is on its way
-pub silent : (w : World) → ((r : ℕ) → w.mesh r r ≡ []) → (from to : Option ActorName) → talks from to ≡ false → channel_of w from to ≡ []
-silent w itself None to e = refl
-silent w itself (Some (Router q)) None e = refl
-silent w itself (Some (FarSide p)) None e = refl
-silent w itself (Some Operator) None e = refl
-silent w itself (Some (Router q)) (Some (Router r)) e = elim (eqb_tells q r) [
-  | inl s ↦ subst (λ n. map MeshItem (w.mesh q n) ≡ []) s.1 (ap (λ items. map MeshItem items) (itself q))
-  | inr ne ↦ absurd (let h : true ≡ false = sym (rw (ne.0) refl) ∙ e in cc)
-]
-silent w itself (Some (Router q)) (Some (FarSide p)) e = absurd cc
-silent w itself (Some (Router q)) (Some Operator) e = absurd cc
-silent w itself (Some (FarSide p)) (Some (Router r)) e = absurd cc
-silent w itself (Some (FarSide p)) (Some (FarSide q)) e = refl
-silent w itself (Some (FarSide p)) (Some Operator) e = refl
-silent w itself (Some Operator) (Some (Router r)) e = absurd cc
-silent w itself (Some Operator) (Some (FarSide p)) e = absurd cc
-silent w itself (Some Operator) (Some Operator) e = refl
-
 -- a channel of the world is empty, or as long as the net's
-pub channel_is : (setup : Setup) (v : View Node Mail) (w : World) → IsSeenAs own carried setup v w → ((a b : ℕ) → v.edge a b ≡ has_channel setup a b) → ((r : ℕ) → w.mesh r r ≡ []) → (x y : ActorName) → IsActor setup x → IsActor setup y
+pub channel_is : (setup : Setup) (v : View Node Mail) (w : World) → IsSeenAs own carried setup v w → ((a b : ℕ) → v.edge a b ≡ has_channel setup a b)
+    → ((r : ℕ) → w.mesh r r ≡ []) → (x y : ActorName) → IsActor setup x → IsActor setup y
     → (length (channel_of w (Some x) (Some y)) ≡ 0) ⊎ ((v.edge (number_in setup x) (number_in setup y) ≡ true) × (length (v.channel (number_in setup x) (number_in setup y)) ≡ length (channel_of w (Some x) (Some y))))
 channel_is setup v w seen edges itself x y x_known y_known = by_edge (talks (Some x) (Some y)) refl
   where
@@ -140,7 +91,8 @@ channel_is setup v w seen edges itself x y x_known y_known = by_edge (talks (Som
         inr (
           edge,
           sym (length-map (v.channel (number_in setup x) (number_in setup y)) (λ (z : Stamped Mail). z.item))
-              ∙ sym (length-map (map (λ (z : Stamped Mail). z.item) (v.channel (number_in setup x) (number_in setup y))) (thing_of carried setup)) ∙ ap (λ (ts : List Thing). length ts) is,
+              ∙ sym (length-map (map (λ (z : Stamped Mail). z.item) (v.channel (number_in setup x) (number_in setup y))) (thing_of carried setup))
+              ∙ ap (λ (ts : List Thing). length ts) is,
         )
 
 -- of what is there before the first round, what the two take

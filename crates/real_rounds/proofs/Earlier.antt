@@ -16,20 +16,18 @@ use Rattle.graft_model.specs.Setups.{Setup, routers_in}
 use Rattle.graft_model.specs.declared.event.RouterEvent.{RouterEvent}
 use Rattle.graft_model.specs.declared.event.RouterEvent.TheVariants.{Tick}
 use Rattle.graft_model.specs.Steps.{Event, ByRouter, ByFar, ByOperator}
-use Rattle.graft_runs.specs.Laws.{IsEntryOf, AreEntriesOf}
+use Rattle.graft_actors.specs.Laws.{IsEntryOf, AreEntriesOf}
 use Rattle.router_core.specs.Parts.{carried}
-use Rattle.router_core.specs.Rounds as router_rounds
 use Rattle.router_core.specs.Turned.{round_on, rounds_on}
-use Rattle.run_marks.specs.Marks.{before, MarksStandForWorlds}
-use Rattle.run_marks.proofs.Marks.{up_to_mark}
+use Rattle.world_runs.specs.Marks.{before, MarksStandForWorlds}
+use Rattle.world_runs.proofs.Marks.{up_to_mark}
 use Rattle.world_runs.specs.Runs.{Ran}
 use Rattle.world_runs.specs.Laws.{NothingWasDropped}
 use Rattle.world_nodes.specs.Fresh.{IsFresh}
 use Rattle.world_nodes.specs.Nodes.{Mail, own}
-use Rattle.world_nodes.specs.Ways.{Stand, Begins}
+use Rattle.world_nodes.specs.Ways.{Stand, IsFirstStand}
 use Rattle.world_nodes.specs.declared.node.Node.{Node}
 use Rattle.real_rounds.proofs.Calls.{CallsSay}
-use Rattle.real_rounds.specs.Entries.{AreCoded}
 use Rattle.real_rounds.proofs.Leading as leading
 use Rattle.real_rounds.proofs.Leading.{next_is}
 use Rattle.real_rounds.proofs.LegActors as actors
@@ -37,8 +35,9 @@ use Rattle.real_rounds.proofs.LegActors.{TicksAreEarlier}
 use Rattle.real_rounds.proofs.Legs.{Legs}
 use Rattle.real_rounds.proofs.RouterRounds as router_proofs
 use Rattle.real_rounds.proofs.Lists.{all_back}
-use Rattle.real_rounds.proofs.Slices.{entries_in_deeds, router_coded}
+use Rattle.real_rounds.proofs.Slices.{entries_in_deeds}
 use Rattle.real_rounds.proofs.TickLaws.{EarlyPlace, NotLate, NotLateEvent, early_run, early_first}
+use Rattle.graft_actors.specs.Makes.{AreCoded, AreDeeds}
 
 -- ---- entries
 
@@ -59,7 +58,8 @@ itself n = grind (arith, nat_tests)
 first_is : (m p round : ℕ) (rest : List ℕ) → AllByRecursion (λ i. i ≡ m) (round_on p (Tick p round) ++ rest) → round ≡ m
 first_is m p round rest all = (subst (λ (xs : List ℕ). AllByRecursion (λ i. i ≡ m) (xs ++ rest)) (let h : round_on p (Tick p round) ≡ round ∷ [] = rw (itself p) refl in h) all).0
 
-coded_below : (m : ℕ) (events : List RouterEvent) (entries : List JournalEntry) → AreCoded router_code events entries → ((p : ℕ) → AllByRecursion (λ i. i ≡ m) (rounds_on p events)) → AllByRecursion (TickBelow (m + 1)) entries
+coded_below : (m : ℕ) (events : List RouterEvent) (entries : List JournalEntry) → AreCoded router_code events entries
+    → ((p : ℕ) → AllByRecursion (λ i. i ≡ m) (rounds_on p events)) → AllByRecursion (TickBelow (m + 1)) entries
 coded_below m [] [] coded all = tt
 coded_below m [] (x ∷ xs) coded all = absurd coded
 coded_below m (e ∷ es) [] coded all = absurd coded
@@ -77,7 +77,8 @@ below_more m n [] le all = tt
 below_more m n (x ∷ xs) le all = (λ kind. (let h : x.b < m = all.0 kind in omega (arith, h, le)), below_more m n xs le all.1)
 
 -- what holds of each router's entries holds of the merged ones
-merged_all : (P : JournalEntry → Type 0) (routers : ℕ) (merged : List JournalEntry) → ((r : ℕ) → r < routers → AllByRecursion P (entries_by r merged)) → AllByRecursion (λ e. e.actor < routers → P e) merged
+merged_all : (P : JournalEntry → Type 0) (routers : ℕ) (merged : List JournalEntry)
+    → ((r : ℕ) → r < routers → AllByRecursion P (entries_by r merged)) → AllByRecursion (λ e. e.actor < routers → P e) merged
 merged_all P routers [] each = tt
 merged_all P routers (x ∷ xs) each = (
   λ there. (subst (λ (es : List JournalEntry). AllByRecursion P es) (let h : entries_by x.actor (x ∷ xs) ≡ x ∷ entries_by x.actor xs = rw (itself x.actor) refl in h) (each x.actor there)).0,
@@ -92,7 +93,8 @@ not_late : (n : ℕ) (event : RouterEvent) → ((p round : ℕ) → event ≡ Ti
 not_late n (Tick p round) h = h p round refl
 not_late n _ h = tt
 
-event_not_late : (setup : Setup) (n : ℕ) (event : Event) (entry : JournalEntry) → IsEntryOf setup event entry → (entry.actor < routers_in setup → TickBelow n entry) → NotLateEvent n event
+event_not_late : (setup : Setup) (n : ℕ) (event : Event) (entry : JournalEntry) → IsEntryOf setup event entry
+    → (entry.actor < routers_in setup → TickBelow n entry) → NotLateEvent n event
 event_not_late setup n (ByRouter r event) entry is below = not_late n event (λ p round e. (
     let kind : entry.kind ≡ (router_code (Tick 0 0)).kind = is.coded.kind ∙ ap (λ (x : RouterEvent). (router_code x).kind) e in
     let b_is : entry.b ≡ round = is.coded.b ∙ ap (λ (x : RouterEvent). (router_code x).b) e in
@@ -101,7 +103,8 @@ event_not_late setup n (ByRouter r event) entry is below = not_late n event (λ 
 event_not_late setup n (ByFar p event) entry is below = tt
 event_not_late setup n (ByOperator event) entry is below = tt
 
-events_not_late : (setup : Setup) (n : ℕ) (events : List Event) (entries : List JournalEntry) → AreEntriesOf setup events entries → AllByRecursion (λ e. e.actor < routers_in setup → TickBelow n e) entries → AllByRecursion (NotLateEvent n) events
+events_not_late : (setup : Setup) (n : ℕ) (events : List Event) (entries : List JournalEntry) → AreEntriesOf setup events entries
+    → AllByRecursion (λ e. e.actor < routers_in setup → TickBelow n e) entries → AllByRecursion (NotLateEvent n) events
 events_not_late setup n [] [] are all = tt
 events_not_late setup n [] (x ∷ xs) are all = absurd are
 events_not_late setup n (e ∷ es) [] are all = absurd are
@@ -109,7 +112,7 @@ events_not_late setup n (e ∷ es) (x ∷ xs) are all = (event_not_late setup n 
 
 -- ---- at a mark
 
-module _ (law : CallsSay) (setup : Setup) (faults : List Fault) (a b : Stand) (begins : Begins setup a) (fresh : AllByRecursion (IsFresh setup faults) begins.actors) (d : Node)
+module _ (law : CallsSay) (setup : Setup) (faults : List Fault) (a b : Stand) (begins : IsFirstStand setup a) (fresh : AllByRecursion (IsFresh setup faults) begins.actors) (d : Node)
     (d_fresh : IsFresh setup faults d) (legs : Legs setup a b) (journal : List JournalEntry) (merge : Interleaves b.view.journal journal) (b_ran : Ran own carried setup b.view) (worlds : MarksStandForWorlds own carried)
     (dropped : NothingWasDropped) where
   ticks_below : (k : ℕ) → k ≤ legs.made → (r : ℕ) → r < routers_in setup → AllByRecursion (TickBelow (k + 1)) ((legs.at k).journal r)
@@ -122,8 +125,8 @@ module _ (law : CallsSay) (setup : Setup) (faults : List Fault) (a b : Stand) (b
       let events : List RouterEvent = ph.takes.events ++ (ph.turns.again ++ ph.turns.work) in
       let coded : AreCoded router_code events (entries_of ((legs.phase k in_leg).notes r)) =
       subst (λ (es : List JournalEntry). AreCoded router_code events es) (entries_in_deeds ((legs.phase k in_leg).notes r))
-      (router_coded events (deeds ((legs.phase k in_leg).notes r)) (subst⁻¹ (λ (ds : List (Deed Mail)). router_rounds.AreOf events ds) ph.split
-      (router_proofs.router_coded law.turns x.fields ph.mid c.fields ph.first ph.second ph.takes ph.turns ph.calm k at))) in
+      (subst⁻¹ (λ (ds : List (Deed Mail)). AreDeeds router_code events ds) ph.split
+      (router_proofs.router_coded law.turns x.fields ph.mid c.fields ph.first ph.second ph.takes ph.turns ph.calm k at)) in
       let new : AllByRecursion (TickBelow ((k + 1) + 1)) (entries_of ((legs.phase k in_leg).notes r)) =
       coded_below (k + 1) events (entries_of ((legs.phase k in_leg).notes r)) coded (router_proofs.all_numbered law.turns x.fields ph.mid c.fields ph.first ph.second ph.takes ph.turns ph.calm k at) in
       let old : AllByRecursion (TickBelow ((k + 1) + 1)) ((legs.from k).journal r) =

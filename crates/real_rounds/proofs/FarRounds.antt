@@ -13,21 +13,24 @@ use Rattle.graft_model.specs.Setups.{beat_of}
 use Rattle.graft_model.specs.Parts.{FarPart}
 use Rattle.graft_model.specs.declared.event.FarEvent.{FarEvent}
 use Rattle.graft_model.specs.declared.event.FarEvent.TheVariants.{Send, Beat}
-use Rattle.far_side.specs.Links.{home_events, remote_events, left_of, LinkValue}
+use Rattle.far_side.specs.Links.{home_events, remote_events, left_in_link, LinkValue}
 use Rattle.far_side.specs.Parts.{far_part, HasLinks}
 use Rattle.far_side.specs.Passes as passes
 use Rattle.far_side.specs.Passes.{fates_in, plans_put, SameRemote, SameLink, again_events, FreshEvents, answer_events}
 use Rattle.far_side.specs.Remotes.{RemoteValue}
-use Rattle.far_side.specs.Turned.{Turned}
-use Rattle.far_side.specs.Turns.{SendsOld, SendsNew, SendsAnswer, SendsNone, FarGoes, AreOf}
+use Rattle.far_side.specs.Turned.{FarTurned}
+use Rattle.far_side.specs.Turns.{FarRetransmits, SendsNew, SendsAnswer, SendsNone, FarGoes}
 use Rattle.far_side.specs.declared.fields.Fields.{Fields}
 use Rattle.far_side.specs.declared.link.InLink.{InLink}
 use Rattle.world_nodes.specs.Nodes.{Mail}
 use Rattle.real_rounds.proofs.Calls.{FarTurnsKeepLinks}
-use Rattle.real_rounds.specs.Ends.{GoesOn}
-use Rattle.real_rounds.specs.Fars.{Links, ArePut, PointAt, IsDue, Beats, RealFar, is_take}
+use Rattle.real_rounds.specs.Ends.{AcksOrResends}
+use Rattle.real_rounds.specs.Fars.{Links, ArePut, PointAt, IsKeepaliveDue, BeatsIfDue, RealFar, is_take}
 use Rattle.real_rounds.proofs.Goes.{goes_on}
-use Rattle.real_rounds.proofs.FarTakes.{TookFar, far_coded-append, far_goes_at, fates_by, fates_put}
+use Rattle.real_rounds.proofs.FarTakes.{TookFar, far_goes_at, fates_by, fates_put}
+use Rattle.graft_actors.specs.Makes.{AreDeeds}
+use Rattle.graft_model.specs.Codes.{far_code}
+use Rattle.graft_actors.proofs.Deeds.{are_deeds-append}
 
 -- ---- what stands in links
 
@@ -43,7 +46,8 @@ pub record FarAt (faults : List Fault) (n : ℕ) (f : Fields) : Type 0 where
   pub fates : (way : Way) (segment : ℕ) → fate_in f.plan f.peering way segment ≡ fate_of faults f.peering way segment
 
 -- the plan's fates are those of the faults
-fates_are : (faults : List Fault) (f : Fields) (link : LinkValue) (way : Way) → ((segment : ℕ) → fate_in f.plan f.peering way segment ≡ fate_of faults f.peering way segment) → link.way ≡ way → link.peering ≡ f.peering.0
+fates_are : (faults : List Fault) (f : Fields) (link : LinkValue) (way : Way)
+    → ((segment : ℕ) → fate_in f.plan f.peering way segment ≡ fate_of faults f.peering way segment) → link.way ≡ way → link.peering ≡ f.peering.0
     → fates_in f.plan link ≡ (λ k. fate_of faults f.peering way k)
 fates_are faults f link way same leads own = (λ i n. fate_in f.plan (record { 0 = own i }) (leads i) n) ∙ (λ i n. same n i)
 
@@ -77,7 +81,7 @@ beaten_acked a b events (inr h) = ap (λ (x : Fields). x.remote.end.acked) h.2
 
 -- ---- the round
 
-module _ (keep : FarTurnsKeepLinks) (faults : List Fault) (a b c : Fields) (ds es : List (Deed Mail)) (took : TookFar a ds b) (turned : Turned b es c) (n : ℕ) (at : FarAt faults n a) where
+module _ (keep : FarTurnsKeepLinks) (faults : List Fault) (a b c : Fields) (ds es : List (Deed Mail)) (took : TookFar a ds b) (turned : FarTurned b es c) (n : ℕ) (at : FarAt faults n a) where
   abbrev pub rest : List FarEvent
   rest = again_events turned.reached ++ (turned.beats ++ (turned.fresh ++ answer_events turned.sent))
 
@@ -88,7 +92,8 @@ module _ (keep : FarTurnsKeepLinks) (faults : List Fault) (a b c : Fields) (ds e
   count = length (again_events turned.reached) + (length turned.fresh + length (answer_events turned.sent))
 
   -- a piece of the turn
-  piece : (Allowed : FarPart → FarEvent → Type 0) (x y : FarPart) (events : List FarEvent) → FarGoes b.known.setup b.peering.0 Allowed x events y → FarGoes a.known.setup a.peering.0 Allowed x events y
+  piece : (Allowed : FarPart → FarEvent → Type 0) (x y : FarPart) (events : List FarEvent) → FarGoes b.known.setup b.peering.0 Allowed x events y
+      → FarGoes a.known.setup a.peering.0 Allowed x events y
   piece Allowed x y events h = far_goes_at Allowed a b x y events took.setup took.peering h
 
   number_is : c.turns ≡ n + 1
@@ -104,15 +109,16 @@ module _ (keep : FarTurnsKeepLinks) (faults : List Fault) (a b c : Fields) (ds e
   reached_at_turn = ap (λ (x : RemoteValue). x.at_turn) turned.is_reached.is ∙ took.at_turn ∙ at.level
 
   end_acked : c.remote.end.acked ≡ turned.reached.end.acked
-  end_acked = ap (λ (x : Endpoint). x.acked) turned.end ∙ fresh_acked turned.beaten.remote.end turned.sent turned.fresh turned.is_fresh ∙ beaten_acked turned.before turned.beaten turned.beats turned.is_beat
+  end_acked = ap (λ (x : Endpoint). x.acked) turned.end ∙ fresh_acked turned.beaten.remote.end turned.sent turned.fresh turned.is_fresh
+      ∙ beaten_acked turned.before turned.beaten turned.beats turned.is_beat
       ∙ ap (λ (x : RemoteValue). x.end.acked) turned.is_before.0
 
-  stood : GoesOn a.remote.end c.remote.end (length (again_events turned.reached))
+  stood : AcksOrResends a.remote.end c.remote.end (length (again_events turned.reached))
   stood = goes_on a.remote.end turned.reached.end c.remote.end (length (again_events turned.reached)) (omega (arith, turned.is_reached.acked, took.acked)) (turned.is_reached.emitted ∙ took.emitted) end_acked
       (λ same out. again_once turned.reached (reached_at_turn ∙ same) out)
 
   -- the timer
-  due : passes.IsDue turned.before → IsDue a.known.setup a.peering.0 (n + 1) (far_part b)
+  due : passes.IsDue turned.before → IsKeepaliveDue a.known.setup a.peering.0 (n + 1) (far_part b)
   due d = record {
     beat = turned.before.beat;
     is = at.beat ∙ ap (λ (k : ℕ). Some k) (sym (turned.is_before.2 ∙ took.beat));
@@ -129,7 +135,7 @@ module _ (keep : FarTurnsKeepLinks) (faults : List Fault) (a b c : Fields) (ds e
       stream_is : length turned.before.remote.end.stream ≡ length b.remote.end.stream
       stream_is = ap (λ (x : RemoteValue). length x.end.stream) turned.is_before.0 ∙ ap (λ (xs : List ℕ). length xs) turned.is_reached.stream
 
-  undue : IsDue a.known.setup a.peering.0 (n + 1) (far_part b) → passes.IsDue turned.before
+  undue : IsKeepaliveDue a.known.setup a.peering.0 (n + 1) (far_part b) → passes.IsDue turned.before
   undue d = record {
     some = omega (arith, d.some, beat_is);
     multiple = subst (λ (k : ℕ). turned.before.turns % k ≡ 0) (sym beat_is) (subst (λ (k : ℕ). k % d.beat ≡ 0) (sym round_is) d.multiple);
@@ -150,7 +156,7 @@ module _ (keep : FarTurnsKeepLinks) (faults : List Fault) (a b c : Fields) (ds e
       stream_is : length turned.before.remote.end.stream ≡ length b.remote.end.stream
       stream_is = ap (λ (x : RemoteValue). length x.end.stream) turned.is_before.0 ∙ ap (λ (xs : List ℕ). length xs) turned.is_reached.stream
 
-  beats_due : Beats a.known.setup a.peering.0 (n + 1) (far_part b) turned.beats
+  beats_due : BeatsIfDue a.known.setup a.peering.0 (n + 1) (far_part b) turned.beats
   beats_due = elim (turned.is_beat) [
     | inl h ↦ inl (due h.0, h.1 ∙ ap (λ (k : ℕ). Beat k ∷ []) (let e : turned.before.turns ≡ n + 1 = omega (arith, turned.is_before.1, took.turns, at.turns) in e))
     | inr h ↦ inr (λ d. h.0 (undue d), h.1)
@@ -197,7 +203,7 @@ module _ (keep : FarTurnsKeepLinks) (faults : List Fault) (a b c : Fields) (ds e
     level = turned.level;
     takes = took.goes;
     delivers = delivers;
-    resends = piece SendsOld turned.delivered turned.resent (again_events turned.reached) turned.resends;
+    resends = piece FarRetransmits turned.delivered turned.resent (again_events turned.reached) turned.resends;
     says = piece SendsNone turned.resent turned.said turned.beats turned.says;
     sends = piece SendsNew turned.said turned.level turned.fresh turned.sends;
     replies = piece SendsAnswer turned.level (far_part c) (answer_events turned.sent) turned.answers;
@@ -207,12 +213,12 @@ module _ (keep : FarTurnsKeepLinks) (faults : List Fault) (a b c : Fields) (ds e
     goes_on = stood;
     are_taken = are_taken;
     are_sent = (are_sent, point_all (fates_in b.plan b.homeward) b.pointer.0 c.pointer.0 b.homeward.put count pointer_is);
-    home = λ i. record { plans = (turned.homeward ∙ (λ j. left_of (took.homeward j).plans ++ sent)) i; put = (turned.put ∙ (λ j. (took.homeward j).put + count)) i };
-    remote = λ i. record { plans = (turned.remoteward.0 ∙ (λ j. left_of (took.plans j))) i; put = (turned.remoteward.1 ∙ took.put) i };
+    home = λ i. record { plans = (turned.homeward ∙ (λ j. left_in_link (took.homeward j).plans ++ sent)) i; put = (turned.put ∙ (λ j. (took.homeward j).put + count)) i };
+    remote = λ i. record { plans = (turned.remoteward.0 ∙ (λ j. left_in_link (took.plans j))) i; put = (turned.remoteward.1 ∙ took.put) i };
   }
 
-  pub far_coded : AreOf (took.events ++ turn) (ds ++ es)
-  far_coded = far_coded-append took.events turn ds es took.coded turned.events
+  pub far_coded : AreDeeds far_code (took.events ++ turn) (ds ++ es)
+  far_coded = are_deeds-append far_code took.events turn ds es took.coded turned.events
 
   pub far_after : FarAt faults (n + 1) c
   far_after = record {
@@ -225,7 +231,8 @@ module _ (keep : FarTurnsKeepLinks) (faults : List Fault) (a b c : Fields) (ds e
       );
       remoteward = ((keep b c es turned).1.way ∙ took.link.way ∙ at.links.remoteward.0, (keep b c es turned).1.peering ∙ took.link.peering ∙ at.links.remoteward.1 ∙ own);
     };
-    beat = (λ i. option_map beat_of (slice_get (setup_is i).peerings (peering_is i).0)) ∙ at.beat ∙ ap (λ (k : ℕ). Some k) (sym (ap (λ (x : Fields). x.beat) turned.same ∙ took.beat));
+    beat = (λ i. option_map beat_of (slice_get (setup_is i).peerings (peering_is i).0)) ∙ at.beat
+        ∙ ap (λ (k : ℕ). Some k) (sym (ap (λ (x : Fields). x.beat) turned.same ∙ took.beat));
     fates = λ way segment. (λ i. fate_in (plan_is i) (peering_is i) way segment) ∙ at.fates way segment ∙ (λ i. fate_of faults (sym peering_is i) way segment);
   }
     where

@@ -15,31 +15,27 @@ use Rattle.graft_model.specs.Setups.{Setup}
 use Rattle.graft_model.specs.declared.event.FarEvent.{FarEvent}
 use Rattle.graft_model.specs.declared.event.FarEvent.TheVariants.{Say, Send, Take, Pass, Reach, Lose, Point, Beat}
 use Rattle.graft_model.specs.Steps.{far_row}
-use Rattle.graft_runs.specs.Makes.{HasCode}
+use Rattle.graft_actors.specs.Makes.{HasCode, AreDeeds}
 use Rattle.graft_actors.specs.Acts.{OwnPart, ActsAs, acts}
 use Rattle.router_core.specs.Parts.{carried}
 use Rattle.far_side.specs.Parts.{far_part, own_part}
 use Rattle.far_side.specs.Passes.{SameLink, fates_in, plans_put}
-use Rattle.far_side.specs.Takes.{Took, taken_in}
-use Rattle.far_side.specs.Turns.{FarGoes, AreOf}
+use Rattle.far_side.specs.Takes.{TookAsFar, segments_taken_in}
+use Rattle.far_side.specs.Turns.{FarGoes}
 use Rattle.far_side.specs.declared.fields.Fields.{Fields}
 use Rattle.far_side.specs.declared.link.InLink.{InLink}
 use Rattle.world_nodes.specs.Nodes.{Mail}
 use Rattle.real_rounds.proofs.Calls.{FarTakesAreOne, FarTakesKeepLinks}
-use Rattle.real_rounds.specs.Fars.{Takes, is_take}
+use Rattle.real_rounds.specs.Fars.{IsFarTake, is_take}
 use Rattle.real_rounds.proofs.RouterDeeds.{IsKept}
+use Rattle.graft_actors.proofs.Deeds.{are_deeds-append}
 
 -- ---- events after events
 
-pub far_append : (Allowed : FarPart → FarEvent → Type 0) (setup : Setup) (p : ℕ) (a b c : FarPart) (es fs : List FarEvent) → FarGoes setup p Allowed a es b → FarGoes setup p Allowed b fs c → FarGoes setup p Allowed a (es ++ fs) c
+pub far_append : (Allowed : FarPart → FarEvent → Type 0) (setup : Setup) (p : ℕ) (a b c : FarPart) (es fs : List FarEvent)
+    → FarGoes setup p Allowed a es b → FarGoes setup p Allowed b fs c → FarGoes setup p Allowed a (es ++ fs) c
 far_append Allowed setup p a b c [] fs h k = subst (λ (x : FarPart). FarGoes setup p Allowed x fs c) h k
 far_append Allowed setup p a b c (e ∷ es) fs (taken, sent, m, row, allowed, rest) k = (taken, sent, m, row, allowed, far_append Allowed setup p m b c es fs rest k)
-
-pub far_coded-append : {I : Type 0} (es fs : List FarEvent) (ds gs : List (Deed I)) → AreOf es ds → AreOf fs gs → AreOf (es ++ fs) (ds ++ gs)
-far_coded-append [] fs [] gs h k = k
-far_coded-append [] fs (d ∷ ds) gs h k = absurd h
-far_coded-append (e ∷ es) fs [] gs h k = absurd h
-far_coded-append (e ∷ es) fs (d ∷ ds) gs h k = (h.0, far_coded-append es fs ds gs h.1 k)
 
 -- ---- fates
 
@@ -58,7 +54,7 @@ fates_then fate from (suc m) n (suc k) next e f = ap (λ (xs : List (Fate × ℕ
 
 -- ---- one take
 
-counts : (event : FarEvent) (d : Deed Mail) → HasCode (far_code event) d.entry → taken_in (d ∷ []) ≡ length (filter is_take (event ∷ []))
+counts : (event : FarEvent) (d : Deed Mail) → HasCode (far_code event) d.entry → segments_taken_in (d ∷ []) ≡ length (filter is_take (event ∷ []))
 counts (Say step) d coded = rw (coded.kind) refl
 counts (Send from len) d coded = rw (coded.kind) refl
 counts (Take router) d coded = rw (coded.kind) refl
@@ -68,7 +64,8 @@ counts (Lose way index) d coded = rw (coded.kind) refl
 counts (Point router) d coded = rw (coded.kind) refl
 counts (Beat round) d coded = rw (coded.kind) refl
 
-taking_row : (setup : Setup) (p : ℕ) (event : FarEvent) (a b : FarPart) (taken : Option FarTaken) (sent : List FarSent) → far_row setup p event a taken sent b → taken ≢ None → Takes a event
+taking_row : (setup : Setup) (p : ℕ) (event : FarEvent) (a b : FarPart) (taken : Option FarTaken) (sent : List FarSent)
+    → far_row setup p event a taken sent b → taken ≢ None → IsFarTake a event
 taking_row setup p (Say step) a b taken sent row some = tt
 taking_row setup p (Send from len) a b taken sent row some = absurd (some row.takes)
 taking_row setup p (Take router) a b taken sent row some = tt
@@ -85,8 +82,8 @@ pub record TookFar (a : Fields) (ds : List (Deed Mail)) (b : Fields) : Type 0 wh
   pub setup : b.known.setup ≡ a.known.setup
   pub peering : b.peering ≡ a.peering
   pub events : List FarEvent
-  pub coded : AreOf events ds
-  pub goes : FarGoes a.known.setup a.peering.0 Takes (far_part a) events (far_part b)
+  pub coded : AreDeeds far_code events ds
+  pub goes : FarGoes a.known.setup a.peering.0 IsFarTake (far_part a) events (far_part b)
   pub took : List InLink
   pub fates : map (λ (x : InLink). (x.fate, x.turns)) took ≡ fates_by (fates_in a.plan a.remoteward) a.remoteward.put (length (filter is_take events))
   pub plans : b.remoteward.plans ≡ a.remoteward.plans ++ took
@@ -128,7 +125,7 @@ some_taken f x (Some y) e h = absurd cc
 -- the row of the one event of a take
 module _ (a b : Fields) (d : Deed Mail) (from : ℕ) (item : Mail) (first : d.taken ≡ Some (from, item)) (act : ActsAs carried (own_part a) d.entry d.taken d.sent (own_part b)) (kept : d.entry.kind ≢ 0) where
   abbrev Row : Type 0
-  Row = (event : FarEvent) × (taken : Option FarTaken) × (sent : List FarSent) × HasCode (far_code event) d.entry × far_row a.known.setup a.peering.0 event (far_part a) taken sent (far_part b) × Takes (far_part a) event
+  Row = (event : FarEvent) × (taken : Option FarTaken) × (sent : List FarSent) × HasCode (far_code event) d.entry × far_row a.known.setup a.peering.0 event (far_part a) taken sent (far_part b) × IsFarTake (far_part a) event
 
   row_of : (o : Option (ℕ × Mail)) → o ≡ Some (from, item) → ActsAs carried (own_part a) d.entry o d.sent (own_part b) → Row
   row_of None e act = absurd cc
@@ -147,18 +144,20 @@ module _ (a b : Fields) (d : Deed Mail) (from : ℕ) (item : Mail) (first : d.ta
   one_row : Row
   one_row = row_of d.taken first act
 
-one_more : (a b : Fields) (from : ℕ) (item : Mail) (d : Deed Mail) → FarTakesKeepLinks → Took a from item (d ∷ []) b → d.taken ≡ Some (from, item) → ActsAs carried (own_part a) d.entry d.taken d.sent (own_part b) → d.entry.kind ≢ 0 → TookFar a (d ∷ []) b
+one_more : (a b : Fields) (from : ℕ) (item : Mail) (d : Deed Mail) → FarTakesKeepLinks → TookAsFar a from item (d ∷ []) b
+    → d.taken ≡ Some (from, item) → ActsAs carried (own_part a) d.entry d.taken d.sent (own_part b) → d.entry.kind ≢ 0 → TookFar a (d ∷ []) b
 one_more a b from item d links took first act kept =
     let (event, taken, sent, code, row, taking) = one_row a b d from item first act kept in
-    let n : taken_in (d ∷ []) ≡ length (filter is_take (event ∷ [])) = counts event d code in
+    let n : segments_taken_in (d ∷ []) ≡ length (filter is_take (event ∷ [])) = counts event d code in
     record {
       setup = ap (λ (x : Fields). x.known.setup) took.same;
       peering = ap (λ (x : Fields). x.peering) took.same;
       events = event ∷ [];
       coded = (code, tt);
       goes = (taken, sent, far_part b, row, taking, refl);
-      took = plans_put (fates_in a.plan a.remoteward) a.pointer.0 a.remoteward.put (taken_in (d ∷ []));
-      fates = fates_put (fates_in a.plan a.remoteward) a.pointer.0 a.remoteward.put (taken_in (d ∷ [])) ∙ ap (λ (k : ℕ). fates_by (fates_in a.plan a.remoteward) a.remoteward.put k) n;
+      took = plans_put (fates_in a.plan a.remoteward) a.pointer.0 a.remoteward.put (segments_taken_in (d ∷ []));
+      fates = fates_put (fates_in a.plan a.remoteward) a.pointer.0 a.remoteward.put (segments_taken_in (d ∷ []))
+          ∙ ap (λ (k : ℕ). fates_by (fates_in a.plan a.remoteward) a.remoteward.put k) n;
       plans = took.plans;
       put = took.put ∙ ap (λ (k : ℕ). a.remoteward.put + k) n;
       link = links a b from item (d ∷ []) took;
@@ -171,7 +170,8 @@ one_more a b from item d links took first act kept =
       plan = ap (λ (x : Fields). x.plan) took.same;
     }
 
-pub far_one : FarTakesAreOne → FarTakesKeepLinks → (a b : Fields) (n from : ℕ) (item : Mail) (ds : List (Deed Mail)) → Took a from item ds b → TakesFirst from item ds → Replay (acts carried) n (own_part a) ds (own_part b) → AllByRecursion IsKept ds
+pub far_one : FarTakesAreOne → FarTakesKeepLinks → (a b : Fields) (n from : ℕ) (item : Mail) (ds : List (Deed Mail)) → TookAsFar a from item ds b
+    → TakesFirst from item ds → Replay (acts carried) n (own_part a) ds (own_part b) → AllByRecursion IsKept ds
     → TookFar a ds b
 far_one law links a b n from item [] took first replay kept = absurd first
 far_one law links a b n from item (d ∷ []) took first replay kept =
@@ -183,7 +183,8 @@ same_fates : (a b : Fields) → b.plan ≡ a.plan → SameLink a.remoteward b.re
 same_fates a b plan link = λ i n. fate_in (plan i) (record { 0 = link.peering i }) (link.way i) n
 
 -- what a far side does is the same of what it was
-pub far_goes_at : (Allowed : FarPart → FarEvent → Type 0) (a b : Fields) (x y : FarPart) (es : List FarEvent) → b.known.setup ≡ a.known.setup → b.peering ≡ a.peering → FarGoes b.known.setup b.peering.0 Allowed x es y
+pub far_goes_at : (Allowed : FarPart → FarEvent → Type 0) (a b : Fields) (x y : FarPart) (es : List FarEvent) → b.known.setup ≡ a.known.setup
+    → b.peering ≡ a.peering → FarGoes b.known.setup b.peering.0 Allowed x es y
     → FarGoes a.known.setup a.peering.0 Allowed x es y
 far_goes_at Allowed a b x y es setup peering h =
     subst (λ (s : Setup). FarGoes s a.peering.0 Allowed x es y) setup (subst (λ (k : ℕ). FarGoes b.known.setup k Allowed x es y) (ap (λ k. k.0) peering) h)
@@ -193,8 +194,8 @@ far_then a b c ds es x y = record {
   setup = y.setup ∙ x.setup;
   peering = y.peering ∙ x.peering;
   events = x.events ++ y.events;
-  coded = far_coded-append x.events y.events ds es x.coded y.coded;
-  goes = far_append Takes a.known.setup a.peering.0 (far_part a) (far_part b) (far_part c) x.events y.events x.goes (far_goes_at Takes a b (far_part b) (far_part c) y.events x.setup x.peering y.goes);
+  coded = are_deeds-append far_code x.events y.events ds es x.coded y.coded;
+  goes = far_append IsFarTake a.known.setup a.peering.0 (far_part a) (far_part b) (far_part c) x.events y.events x.goes (far_goes_at IsFarTake a b (far_part b) (far_part c) y.events x.setup x.peering y.goes);
   took = x.took ++ y.took;
   fates = map-append (λ (l : InLink). (l.fate, l.turns)) x.took y.took
       ∙ (λ i. x.fates i ++ (y.fates ∙ ap (λ (f : ℕ → Fate). fates_by f b.remoteward.put (length (filter is_take y.events))) (same_fates a b x.plan x.link)) i)

@@ -4,14 +4,14 @@ use Rattle.std.specs.List.{AllByRecursion}
 use Rattle.link_bag.specs.declared.plan.Fault.{Fault}
 use Rattle.ring_net.specs.Phases.{InOrder}
 use Rattle.graft_model.specs.Setups.{Setup, IsSetup}
-use Rattle.graft_runs.specs.Laws.{OneWorldIsSeen}
+use Rattle.graft_actors.specs.Laws.{OneWorldIsSeen}
 use Rattle.router_core.specs.Parts.{carried}
-use Rattle.run_marks.specs.Marks.{MarksStandForWorlds}
+use Rattle.world_runs.specs.Marks.{MarksStandForWorlds}
 use Rattle.world_runs.specs.Runs.{Ran}
 use Rattle.world_runs.specs.Laws.{AnActIsAStep, ActsAreARun, NothingWasDropped, NobodyWritesToItself}
 use Rattle.world_nodes.specs.Fresh.{IsFresh}
 use Rattle.world_nodes.specs.Nodes.{own}
-use Rattle.world_nodes.specs.Ways.{Stand, Begins, Way}
+use Rattle.world_nodes.specs.Ways.{Stand, IsFirstStand, Way}
 use Rattle.world_nodes.specs.declared.node.Node.{Node}
 use Rattle.real_rounds.proofs.Calls.{calls_say}
 use Rattle.real_rounds.specs.Laws.{RoundsAreReal}
@@ -30,8 +30,8 @@ one_of : (setup : Setup) (faults : List Fault) (actors : List Node) → 0 < leng
 one_of setup faults [] some fresh = absurd (omega (arith, some))
 one_of setup faults (x ∷ xs) some fresh = record { node = x; fresh = fresh.0 }
 
-module _ (runs : (setup : Setup) (a b : Stand) (rounds : List ℕ) → IsSetup setup → Begins setup a → Way setup a rounds b → Ran own carried setup b.view)
-    (orders : (setup : Setup) (a b : Stand) (rounds : List ℕ) → IsSetup setup → Begins setup a → Way setup a rounds b → InOrder b.view)
+module _ (runs : (setup : Setup) (a b : Stand) (rounds : List ℕ) → IsSetup setup → IsFirstStand setup a → Way setup a rounds b → Ran own carried setup b.view)
+    (orders : (setup : Setup) (a b : Stand) (rounds : List ℕ) → IsSetup setup → IsFirstStand setup a → Way setup a rounds b → InOrder b.view)
     (worlds : MarksStandForWorlds own carried) (act_is_a_step : AnActIsAStep carried) (acts_run : ActsAreARun carried) (dropped : NothingWasDropped) (itself : NobodyWritesToItself) (one : OneWorldIsSeen) where
   pub all_real : RoundsAreReal
   all_real setup faults a b made journal sound begins fresh way merge =

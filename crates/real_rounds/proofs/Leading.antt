@@ -9,17 +9,17 @@ use Rattle.ring_net.specs.Phases.{View}
 use Rattle.journal_merge.specs.Merges.{Interleaves, entries_by}
 use Rattle.graft_model.specs.Setups.{Setup}
 use Rattle.graft_model.specs.Parts.{World}
-use Rattle.graft_runs.specs.Actors as names
-use Rattle.graft_runs.specs.Seen.{part_of}
-use Rattle.graft_runs.proofs.Numbers.{there}
+use Rattle.graft_actors.specs.Actors as names
+use Rattle.graft_actors.specs.Seen.{part_of}
+use Rattle.graft_actors.proofs.Numbers.{there}
 use Rattle.router_core.specs.Parts.{carried}
-use Rattle.run_marks.specs.Marks.{MarksStandForWorlds, IsWorldAtMark, operator_in}
+use Rattle.world_runs.specs.Marks.{MarksStandForWorlds, IsWorldAtMark, operator_number}
 use Rattle.world_runs.specs.Labs.{actors_in}
 use Rattle.world_runs.specs.Runs.{IsSeenAs, Ran}
 use Rattle.world_runs.specs.Laws.{NothingWasDropped}
 use Rattle.world_nodes.specs.Edges.{has_channel}
 use Rattle.world_nodes.specs.Nodes.{Mail, own}
-use Rattle.world_nodes.specs.Ways.{Stand, Begins}
+use Rattle.world_nodes.specs.Ways.{Stand, IsFirstStand}
 use Rattle.world_nodes.specs.declared.node.Node.{Node}
 use Rattle.world_nodes.proofs.Seen.{part_is}
 use Rattle.real_rounds.specs.Entries.{between}
@@ -45,7 +45,7 @@ number_below setup names.Operator l = omega arith
 pub next_is : (k : ℕ) → k + 1 ≡ suc k
 next_is k = omega arith
 
-module _ (setup : Setup) (a b : Stand) (begins : Begins setup a) (legs : Legs setup a b) (journal : List JournalEntry) (merge : Interleaves b.view.journal journal) (b_ran : Ran own carried setup b.view)
+module _ (setup : Setup) (a b : Stand) (begins : IsFirstStand setup a) (legs : Legs setup a b) (journal : List JournalEntry) (merge : Interleaves b.view.journal journal) (b_ran : Ran own carried setup b.view)
     (worlds : MarksStandForWorlds own carried) (dropped : NothingWasDropped) where
   -- ---- the world at each mark
 
@@ -69,7 +69,8 @@ module _ (setup : Setup) (a b : Stand) (begins : Begins setup a) (legs : Legs se
       ((legs.phase k (omega (arith, k_in))).edges x y ∙ (legs.pause k (omega (arith, k_in))).edges x y ∙ edges k (omega (arith, k_in)) x y)
 
   -- each actor at a mark is its part of the world there
-  pub own_at : (k : ℕ) → k ≤ legs.made → (x : names.ActorName) → names.IsActor setup x → (d : Node) → own (get_or (legs.at k).actors (names.number_in setup x) d) ≡ record { setup = setup; name = x; part = part_of (world k) x }
+  pub own_at : (k : ℕ) → k ≤ legs.made → (x : names.ActorName) → names.IsActor setup x → (d : Node)
+      → own (get_or (legs.at k).actors (names.number_in setup x) d) ≡ record { setup = setup; name = x; part = part_of (world k) x }
   own_at k k_in x known d = part_is own carried setup (legs.at k) (world k) (world_at k).2 (size k k_in) (names.number_in setup x) x d (there setup x known)
       (let l : names.number_in setup x < actors_in setup = number_below setup x known in omega (arith, l, size k k_in))
 
@@ -110,5 +111,5 @@ module _ (setup : Setup) (a b : Stand) (begins : Begins setup a) (legs : Legs se
       )
 
   -- who isn't the operator has noted nothing at the mark
-  pub no_front : (k : ℕ) (k_in : k < legs.made) (j : ℕ) → j ≢ operator_in setup → (legs.from k).journal j ≡ (legs.at k).journal j ++ []
+  pub no_front : (k : ℕ) (k_in : k < legs.made) (j : ℕ) → j ≢ operator_number setup → (legs.from k).journal j ≡ (legs.at k).journal j ++ []
   no_front k k_in j other = (legs.pause k k_in).journals j other ∙ sym (append-nil ((legs.at k).journal j))

@@ -20,32 +20,30 @@ use Rattle.graft_model.specs.Parts as model
 use Rattle.graft_model.specs.Parts.{World, RouterPart, FarPart, OperatorPart}
 use Rattle.graft_model.specs.Setups.{Setup, PeeringSetup, beat_of, routers_in, peerings_in}
 use Rattle.graft_model.specs.declared.event.FarEvent.{FarEvent}
-use Rattle.graft_runs.specs.Actors as names
-use Rattle.graft_runs.specs.Actors.{RouterIs, FarIs, OperatorIs}
-use Rattle.graft_runs.specs.Seen.{part_of}
+use Rattle.graft_actors.specs.Actors as names
+use Rattle.graft_actors.specs.Actors.{RouterIs, FarIs, OperatorIs}
+use Rattle.graft_actors.specs.Seen.{part_of}
 use Rattle.graft_actors.specs.Acts.{OwnPart, acts}
 use Rattle.router_core.specs.Parts.{router_part, carried}
 use Rattle.router_core.specs.Places.{place_of, RunsAt}
-use Rattle.router_core.specs.Rounds as router_rounds
 use Rattle.router_core.specs.declared.fields as router_fields
 use Rattle.router_core.specs.declared.router as router_type
 use Rattle.bgp_story.specs.Legal.{IsEarlier}
 use Rattle.far_side.specs.Parts.{far_part}
-use Rattle.far_side.specs.Turns as far_turns
 use Rattle.far_side.specs.declared.far as far_type
 use Rattle.operator_core.specs.Operators as operators
 use Rattle.operator_core.specs.Turns.{NothingToOrder}
 use Rattle.operator_core.specs.declared.operator as operator_type
-use Rattle.run_marks.specs.Marks.{MarksStandForWorlds, operator_in}
+use Rattle.world_runs.specs.Marks.{MarksStandForWorlds, operator_number}
 use Rattle.world_runs.specs.Runs.{Ran}
 use Rattle.world_runs.specs.Laws.{NothingWasDropped}
 use Rattle.world_nodes.specs.Fresh.{IsFresh}
 use Rattle.world_nodes.specs.Nodes.{Mail, own, took, turned}
-use Rattle.world_nodes.specs.Ways.{Stand, Begins}
+use Rattle.world_nodes.specs.Ways.{Stand, IsFirstStand}
 use Rattle.world_nodes.specs.declared.node.Node.{Node}
 use Rattle.world_nodes.specs.declared.node.Node.TheVariants.{Router, Far, Operator}
 use Rattle.real_rounds.proofs.Calls.{CallsSay}
-use Rattle.real_rounds.specs.Entries.{between, AreCoded}
+use Rattle.real_rounds.specs.Entries.{between}
 use Rattle.real_rounds.specs.Fars.{Links, empty_links, RealFar}
 use Rattle.real_rounds.specs.Routers.{RealRouter}
 use Rattle.real_rounds.specs.Whole.{RouterDid, FarDid, OperatorDid}
@@ -59,7 +57,8 @@ use Rattle.real_rounds.proofs.NodeRounds.{RouterPhase, router_phase, FarPhase, f
 use Rattle.real_rounds.proofs.RouterDeeds.{IsKept}
 use Rattle.real_rounds.proofs.RouterRounds.{RouterAt, MayPassThen, real_router, router_after}
 use Rattle.real_rounds.proofs.RouterRounds as router_proofs
-use Rattle.real_rounds.proofs.Slices.{entries_in_deeds, router_coded, far_coded, operator_coded}
+use Rattle.real_rounds.proofs.Slices.{entries_in_deeds}
+use Rattle.graft_actors.specs.Makes.{AreCoded, AreDeeds}
 
 -- ---- by their names
 
@@ -86,9 +85,6 @@ same_node_router x y e = cc
 
 same_node_far : (x y : far_type.Far.Far) → Far x ≡ Far y → x ≡ y
 same_node_far x y e = cc
-
-same_node_operator : (x y : operator_type.Operator.Operator) → Operator x ≡ Operator y → x ≡ y
-same_node_operator x y e = cc
 
 router_number : {r s : ℕ} → names.Router r ≡ names.Router s → r ≡ s
 router_number e = cc
@@ -143,11 +139,12 @@ HasEarlier round f = (p : ℕ) (s : RunningSession) (o : Option Errand) → Runs
 
 -- On a session that stands through a round, with a hold time that runs, the round may pass in the turn.
 abbrev pub Ticking : Type 0
-Ticking = (x c : router_fields.Fields.Fields) (ds : List (Deed Mail)) (ph : RouterPhase x c ds) (n : ℕ) → RouterAt n x → HasEarlier (n + 1) x → MayPassThen x ph.mid c (ph.takes.moments ++ (ph.turns.first ++ ph.turns.later))
+Ticking = (x c : router_fields.Fields.Fields) (ds : List (Deed Mail)) (ph : RouterPhase x c ds) (n : ℕ) → RouterAt n x → HasEarlier (n + 1) x
+    → MayPassThen x ph.mid c (ph.takes.moments ++ (ph.turns.first ++ ph.turns.later))
 
 -- ---- on the way
 
-module _ (law : CallsSay) (setup : Setup) (faults : List Fault) (a b : Stand) (begins : Begins setup a) (fresh : AllByRecursion (IsFresh setup faults) begins.actors) (d : Node) (d_fresh : IsFresh setup faults d)
+module _ (law : CallsSay) (setup : Setup) (faults : List Fault) (a b : Stand) (begins : IsFirstStand setup a) (fresh : AllByRecursion (IsFresh setup faults) begins.actors) (d : Node) (d_fresh : IsFresh setup faults d)
     (legs : Legs setup a b) (journal : List JournalEntry) (merge : Interleaves b.view.journal journal) (b_ran : Ran own carried setup b.view) (worlds : MarksStandForWorlds own carried) (dropped : NothingWasDropped) where
   abbrev pub world : ℕ → World
   world k = leading.world setup a b begins legs journal merge b_ran worlds dropped k
@@ -155,7 +152,8 @@ module _ (law : CallsSay) (setup : Setup) (faults : List Fault) (a b : Stand) (b
   abbrev at_mark : ℕ → ℕ → Node
   at_mark k j = get_or (legs.at k).actors j d
 
-  own_at : (k : ℕ) → k ≤ legs.made → (x : names.ActorName) → names.IsActor setup x → own (at_mark k (names.number_in setup x)) ≡ record { setup = setup; name = x; part = part_of (world k) x }
+  own_at : (k : ℕ) → k ≤ legs.made → (x : names.ActorName) → names.IsActor setup x
+      → own (at_mark k (names.number_in setup x)) ≡ record { setup = setup; name = x; part = part_of (world k) x }
   own_at k k_in x known = leading.own_at setup a b begins legs journal merge b_ran worlds dropped k k_in x known d
 
   first_fresh : (j : ℕ) → IsFresh setup faults (at_mark 0 j)
@@ -173,17 +171,19 @@ module _ (law : CallsSay) (setup : Setup) (faults : List Fault) (a b : Stand) (b
 
   -- what is left of the law: each Tick of a session that is live at a mark has the number of a round before it
   abbrev pub TicksAreEarlier : Type 0
-  TicksAreEarlier = (k : ℕ) → k ≤ legs.made → (r p : ℕ) (s : SessionValue) (o : Option model.Errand) → ((world k).router r).places p ≡ model.Live s o → All (IsEarlier (k + 1)) s.story
+  TicksAreEarlier = (k : ℕ) → k ≤ legs.made → (r p : ℕ) (s : SessionValue) (o : Option model.Errand) → ((world k).router r).places p ≡ model.Live s o
+      → All (IsEarlier (k + 1)) s.story
 
   -- ---- routers
 
-  router_apart : (r : ℕ) → r < routers_in setup → r ≢ operator_in setup
+  router_apart : (r : ℕ) → r < routers_in setup → r ≢ operator_number setup
   router_apart r l e = absurd (omega (arith, l, e))
 
   pub router_at : (k : ℕ) → k ≤ legs.made → (r : ℕ) → r < routers_in setup → (x : router_type.Router.Router) × (at_mark k r ≡ Router x)
   router_at k k_in r r_in = node_router (at_mark k r) r (ap (λ (o : OwnPart). o.name) (own_at k k_in (names.Router r) r_in))
 
-  router_own : (k : ℕ) → k ≤ legs.made → (r : ℕ) → r < routers_in setup → (x : router_type.Router.Router) → at_mark k r ≡ Router x → own (Router x) ≡ record { setup = setup; name = names.Router r; part = RouterIs ((world k).router r) }
+  router_own : (k : ℕ) → k ≤ legs.made → (r : ℕ) → r < routers_in setup → (x : router_type.Router.Router) → at_mark k r ≡ Router x
+      → own (Router x) ≡ record { setup = setup; name = names.Router r; part = RouterIs ((world k).router r) }
   router_own k k_in r r_in x is = sym (ap own is) ∙ own_at k k_in (names.Router r) r_in
 
   pub router_leg : (k : ℕ) (k_in : k < legs.made) (r : ℕ) → r < routers_in setup → (x : router_type.Router.Router) → at_mark k r ≡ Router x
@@ -197,7 +197,8 @@ module _ (law : CallsSay) (setup : Setup) (faults : List Fault) (a b : Stand) (b
   router_first r r_in x is =
       let new = subst (λ (n : Node). IsFresh setup faults n) is (first_fresh r) in
       let own_first : own (Router x) ≡ record { setup = setup; name = names.Router r; part = RouterIs (first_router setup r) } =
-      sym (ap own is) ∙ ap (λ (xs : List Node). own (get_or xs r d)) (ap (λ (v : View Node Mail). v.actors) legs.first ∙ begins.new.all) ∙ begins.first.routers r d r_in in
+      sym (ap own is) ∙ ap (λ (xs : List Node). own (get_or xs r d)) (ap (λ (v : View Node Mail). v.actors) legs.first ∙ begins.new.all)
+      ∙ begins.first.routers r d r_in in
       record {
         turns = new.turns;
         level = λ p s o runs. new.at_turn p s o runs
@@ -232,9 +233,8 @@ module _ (law : CallsSay) (setup : Setup) (faults : List Fault) (a b : Stand) (b
           coded = subst⁻¹ (λ (es : List JournalEntry). AreCoded router_code (ph.takes.events ++ (ph.turns.again ++ ph.turns.work)) es)
               (leading.slice_is setup a b begins legs journal merge b_ran worlds dropped k k_in r [] (leading.no_front setup a b begins legs journal merge b_ran worlds dropped k k_in r (router_apart r r_in)))
               (subst (λ (es : List JournalEntry). AreCoded router_code (ph.takes.events ++ (ph.turns.again ++ ph.turns.work)) es) (entries_in_deeds (notes k k_in r))
-              (router_coded (ph.takes.events ++ (ph.turns.again ++ ph.turns.work)) (deeds (notes k k_in r))
-              (subst⁻¹ (λ (ds : List (Deed Mail)). router_rounds.AreOf (ph.takes.events ++ (ph.turns.again ++ ph.turns.work)) ds) ph.split
-              (router_proofs.router_coded law.turns x.fields ph.mid c.fields ph.first ph.second ph.takes ph.turns ph.calm k at))));
+              (subst⁻¹ (λ (ds : List (Deed Mail)). AreDeeds router_code (ph.takes.events ++ (ph.turns.again ++ ph.turns.work)) ds) ph.split
+              (router_proofs.router_coded law.turns x.fields ph.mid c.fields ph.first ph.second ph.takes ph.turns ph.calm k at)));
           real = subst (λ (s : Setup). RealRouter s r (k + 1) ((world k).router r) (ph.takes.events ++ (ph.turns.again ++ ph.turns.work)) ((world (k + 1)).router r)) (ap (λ (o : OwnPart). o.setup) before)
               (subst (λ (i : ℕ). RealRouter x.fields.known.setup i (k + 1) ((world k).router r) (ph.takes.events ++ (ph.turns.again ++ ph.turns.work)) ((world (k + 1)).router r)) (router_number (ap (λ (o : OwnPart). o.name) before))
               (subst (λ (part : RouterPart). RealRouter x.fields.known.setup x.fields.number.0 (k + 1) part (ph.takes.events ++ (ph.turns.again ++ ph.turns.work)) ((world (k + 1)).router r)) start
@@ -243,13 +243,14 @@ module _ (law : CallsSay) (setup : Setup) (faults : List Fault) (a b : Stand) (b
 
   -- ---- far sides
 
-  far_apart : (p : ℕ) → p < peerings_in setup → routers_in setup + p ≢ operator_in setup
+  far_apart : (p : ℕ) → p < peerings_in setup → routers_in setup + p ≢ operator_number setup
   far_apart p l e = absurd (omega (arith, l, e))
 
   far_at : (k : ℕ) → k ≤ legs.made → (p : ℕ) → p < peerings_in setup → (x : far_type.Far.Far) × (at_mark k (routers_in setup + p) ≡ Far x)
   far_at k k_in p p_in = node_far (at_mark k (routers_in setup + p)) p (ap (λ (o : OwnPart). o.name) (own_at k k_in (names.FarSide p) p_in))
 
-  far_own : (k : ℕ) → k ≤ legs.made → (p : ℕ) → p < peerings_in setup → (x : far_type.Far.Far) → at_mark k (routers_in setup + p) ≡ Far x → own (Far x) ≡ record { setup = setup; name = names.FarSide p; part = FarIs ((world k).far p) }
+  far_own : (k : ℕ) → k ≤ legs.made → (p : ℕ) → p < peerings_in setup → (x : far_type.Far.Far) → at_mark k (routers_in setup + p) ≡ Far x
+      → own (Far x) ≡ record { setup = setup; name = names.FarSide p; part = FarIs ((world k).far p) }
   far_own k k_in p p_in x is = sym (ap own is) ∙ own_at k k_in (names.FarSide p) p_in
 
   far_leg : (k : ℕ) (k_in : k < legs.made) (p : ℕ) → p < peerings_in setup → (x : far_type.Far.Far) → at_mark k (routers_in setup + p) ≡ Far x
@@ -268,7 +269,9 @@ module _ (law : CallsSay) (setup : Setup) (faults : List Fault) (a b : Stand) (b
       let new = subst (λ (n : Node). IsFresh setup faults n) is (first_fresh (routers_in setup + p)) in
       let peering = some_peering setup.peerings p p_in in
       let own_first : own (Far x) ≡ record { setup = setup; name = names.FarSide p; part = FarIs (first_far (Some peering.0)) } =
-      sym (ap own is) ∙ ap (λ (xs : List Node). own (get_or xs (routers_in setup + p) d)) (ap (λ (v : View Node Mail). v.actors) legs.first ∙ begins.new.all) ∙ begins.first.far_sides p d peering.0 peering.1 in
+      sym (ap own is)
+      ∙ ap (λ (xs : List Node). own (get_or xs (routers_in setup + p) d)) (ap (λ (v : View Node Mail). v.actors) legs.first ∙ begins.new.all)
+      ∙ begins.first.far_sides p d peering.0 peering.1 in
       record {
         turns = new.turns;
         level = new.at_turn ∙ sym (ap (λ (part : FarPart). part.end.acked) (far_is (ap (λ (o : OwnPart). o.part) own_first)));
@@ -282,7 +285,8 @@ module _ (law : CallsSay) (setup : Setup) (faults : List Fault) (a b : Stand) (b
       some_peering (y ∷ xs) zero l = (y, refl)
       some_peering (y ∷ xs) (suc i) l = some_peering xs i (omega (arith, l))
 
-  far_level : (k : ℕ) → k ≤ legs.made → (p : ℕ) → p < peerings_in setup → (x : far_type.Far.Far) → at_mark k (routers_in setup + p) ≡ Far x → FarAt faults k x.fields
+  far_level : (k : ℕ) → k ≤ legs.made → (p : ℕ) → p < peerings_in setup → (x : far_type.Far.Far) → at_mark k (routers_in setup + p) ≡ Far x
+      → FarAt faults k x.fields
   far_level zero k_in p p_in x is = far_first p p_in x is
   far_level (suc k) k_in p p_in x is =
       let (y, y_is) = far_at k (omega (arith, k_in)) p p_in in
@@ -311,14 +315,16 @@ module _ (law : CallsSay) (setup : Setup) (faults : List Fault) (a b : Stand) (b
             (leading.slice_is setup a b begins legs journal merge b_ran worlds dropped k k_in (routers_in setup + p) []
             (leading.no_front setup a b begins legs journal merge b_ran worlds dropped k k_in (routers_in setup + p) (far_apart p p_in)))
             (subst (λ (es : List JournalEntry). AreCoded far_code events es) (entries_in_deeds (notes k k_in (routers_in setup + p)))
-            (far_coded events (deeds (notes k k_in (routers_in setup + p)))
-            (subst⁻¹ (λ (ds : List (Deed Mail)). far_turns.AreOf events ds) ph.split
-            (far_rounds.far_coded law.links_turning faults x.fields ph.mid c.fields ph.first ph.second ph.takes ph.turns k at))));
+            (subst⁻¹ (λ (ds : List (Deed Mail)). AreDeeds far_code events ds) ph.split
+            (far_rounds.far_coded law.links_turning faults x.fields ph.mid c.fields ph.first ph.second ph.takes ph.turns k at)));
         real = real_at x c {events = events} before after (far_links k p x x_is) (far_links (k + 1) p c c_is) real;
       }
     where
-      real_at : (x c : far_type.Far.Far) {start end : FarPart} {l m : Links} {events : List FarEvent} → own (Far x) ≡ record { setup = setup; name = names.FarSide p; part = FarIs start } → own (Far c) ≡ record { setup = setup; name = names.FarSide p; part = FarIs end }
-          → links_of x.fields ≡ l → links_of c.fields ≡ m → RealFar x.fields.known.setup faults x.fields.peering.0 (k + 1) (far_part x.fields) (links_of x.fields) events (far_part c.fields) (links_of c.fields)
+      real_at : (x c : far_type.Far.Far) {start end : FarPart} {l m : Links} {events : List FarEvent}
+          → own (Far x) ≡ record { setup = setup; name = names.FarSide p; part = FarIs start }
+          → own (Far c) ≡ record { setup = setup; name = names.FarSide p; part = FarIs end }
+          → links_of x.fields ≡ l → links_of c.fields ≡ m
+          → RealFar x.fields.known.setup faults x.fields.peering.0 (k + 1) (far_part x.fields) (links_of x.fields) events (far_part c.fields) (links_of c.fields)
           → RealFar setup faults p (k + 1) start l events end m
       real_at x c {start} {end} {l} {m} {events} before after first last real =
           subst (λ (s : Setup). RealFar s faults p (k + 1) start l events end m) (ap (λ (o : OwnPart). o.setup) before)
@@ -330,8 +336,8 @@ module _ (law : CallsSay) (setup : Setup) (faults : List Fault) (a b : Stand) (b
 
   -- ---- the operator
 
-  operator_at : (k : ℕ) → k ≤ legs.made → (x : operator_type.Operator.Operator) × (at_mark k (operator_in setup) ≡ Operator x)
-  operator_at k k_in = node_operator (at_mark k (operator_in setup)) (ap (λ (o : OwnPart). o.name) (own_at k k_in names.Operator tt))
+  operator_at : (k : ℕ) → k ≤ legs.made → (x : operator_type.Operator.Operator) × (at_mark k (operator_number setup) ≡ Operator x)
+  operator_at k k_in = node_operator (at_mark k (operator_number setup)) (ap (λ (o : OwnPart). o.name) (own_at k k_in names.Operator tt))
 
   pub operator_did : (k : ℕ) (k_in : k < legs.made) → OperatorDid setup (world k) (between journal (legs.mark k) (legs.mark (k + 1))) (world (k + 1))
   operator_did k k_in =
@@ -341,28 +347,31 @@ module _ (law : CallsSay) (setup : Setup) (faults : List Fault) (a b : Stand) (b
       let before = own_at k (omega (arith, k_in)) names.Operator tt in
       let after = own_at (k + 1) (omega (arith, k_in)) names.Operator tt in
       let n = leading.size_from setup a b begins legs journal merge b_ran worlds dropped k k_in in
-      let did : ActorDid own (acts carried) took turned (operator_in setup) (get_or (legs.from k).actors (operator_in setup) d) ((legs.from k).clock (operator_in setup)) (notes k k_in (operator_in setup)) (at_mark (k + 1) (operator_in setup))
-      ((legs.at (k + 1)).clock (operator_in setup)) = (legs.phase k k_in).actors (operator_in setup) d (omega (arith, n)) in
-      let kept = leading.leg_kept setup a b begins legs journal merge b_ran worlds dropped k k_in (operator_in setup) (map entry_in pause.deeds) pause.journal in
-      let ds : List (Deed Mail) = pause.deeds ++ deeds (notes k k_in (operator_in setup)) in
-      let replay : Replay (acts carried) (operator_in setup) (own (at_mark k (operator_in setup))) ds (own (at_mark (k + 1) (operator_in setup))) =
-      replay-append (acts carried) (operator_in setup) (own (at_mark k (operator_in setup))) (own (get_or (legs.from k).actors (operator_in setup) d)) (own (at_mark (k + 1) (operator_in setup))) pause.deeds (deeds (notes k k_in (operator_in setup)))
+      let did : ActorDid own (acts carried) took turned (operator_number setup) (get_or (legs.from k).actors (operator_number setup) d) ((legs.from k).clock (operator_number setup)) (notes k k_in (operator_number setup)) (at_mark (k + 1) (operator_number setup))
+      ((legs.at (k + 1)).clock (operator_number setup)) = (legs.phase k k_in).actors (operator_number setup) d (omega (arith, n)) in
+      let kept = leading.leg_kept setup a b begins legs journal merge b_ran worlds dropped k k_in (operator_number setup) (map entry_in pause.deeds) pause.journal in
+      let ds : List (Deed Mail) = pause.deeds ++ deeds (notes k k_in (operator_number setup)) in
+      let replay : Replay (acts carried) (operator_number setup) (own (at_mark k (operator_number setup))) ds (own (at_mark (k + 1) (operator_number setup))) =
+      replay-append (acts carried) (operator_number setup) (own (at_mark k (operator_number setup))) (own (get_or (legs.from k).actors (operator_number setup) d)) (own (at_mark (k + 1) (operator_number setup))) pause.deeds (deeds (notes k k_in (operator_number setup)))
       (pause.replay d) did.replay in
-      let (events, coded, goes) = operator_events setup (operator_in setup) (world k).operator (world (k + 1)).operator (own (at_mark k (operator_in setup))) (own (at_mark (k + 1) (operator_in setup))) ds before after replay
-      (all-append IsKept pause.deeds (deeds (notes k k_in (operator_in setup))) (deeds_kept pause.deeds kept.0) kept.1) in
-      let (c, c_is, done) = operator_phase (operator_in setup) (get_or (legs.from k).actors (operator_in setup) d) (at_mark (k + 1) (operator_in setup)) ((legs.from k).clock (operator_in setup)) ((legs.at (k + 1)).clock (operator_in setup))
-      (notes k k_in (operator_in setup)) did m m_is in
-      let m_setup : operators.setup_of m ≡ setup =
-      ap (λ (n : Node). (own n).setup) (sym m_is) ∙ replay_setup (operator_in setup) (own (at_mark k (operator_in setup))) (own (get_or (legs.from k).actors (operator_in setup) d)) pause.deeds (pause.replay d) ∙ ap (λ (o : OwnPart). o.setup) before in
+      let (events, coded, goes) = operator_events setup (operator_number setup) (world k).operator (world (k + 1)).operator (own (at_mark k (operator_number setup))) (own (at_mark (k + 1) (operator_number setup))) ds before after replay
+      (all-append IsKept pause.deeds (deeds (notes k k_in (operator_number setup))) (deeds_kept pause.deeds kept.0) kept.1) in
+      let (c, c_is, done) = operator_phase (operator_number setup) (get_or (legs.from k).actors (operator_number setup) d) (at_mark (k + 1) (operator_number setup)) ((legs.from k).clock (operator_number setup)) ((legs.at (k + 1)).clock (operator_number setup))
+      (notes k k_in (operator_number setup)) did m m_is in
+      let m_setup : operators.operator_setup m ≡ setup =
+      ap (λ (n : Node). (own n).setup) (sym m_is)
+      ∙ replay_setup (operator_number setup) (own (at_mark k (operator_number setup))) (own (get_or (legs.from k).actors (operator_number setup) d)) pause.deeds (pause.replay d)
+      ∙ ap (λ (o : OwnPart). o.setup) before in
       record {
         events = events;
         coded = subst⁻¹ (λ (es : List JournalEntry). AreCoded operator_code events es)
-            (leading.slice_is setup a b begins legs journal merge b_ran worlds dropped k k_in (operator_in setup) (map entry_in pause.deeds) pause.journal
-            ∙ ap (λ (es : List JournalEntry). map entry_in pause.deeds ++ es) (sym (entries_in_deeds (notes k k_in (operator_in setup)))) ∙ sym (map-append entry_in pause.deeds (deeds (notes k k_in (operator_in setup)))))
-            (operator_coded events ds coded);
+            (leading.slice_is setup a b begins legs journal merge b_ran worlds dropped k k_in (operator_number setup) (map entry_in pause.deeds) pause.journal
+            ∙ ap (λ (es : List JournalEntry). map entry_in pause.deeds ++ es) (sym (entries_in_deeds (notes k k_in (operator_number setup))))
+            ∙ sym (map-append entry_in pause.deeds (deeds (notes k k_in (operator_number setup)))))
+            coded;
         real = record {
           goes = goes;
           issued = subst (λ (s : Setup). NothingToOrder s (world (k + 1)).operator) m_setup
-              (subst (λ (part : OperatorPart). NothingToOrder (operators.setup_of m) part) (operator_is (ap (λ (o : OwnPart). o.part) (sym (ap own c_is) ∙ after))) done);
+              (subst (λ (part : OperatorPart). NothingToOrder (operators.operator_setup m) part) (operator_is (ap (λ (o : OwnPart). o.part) (sym (ap own c_is) ∙ after))) done);
         };
       }

@@ -13,24 +13,24 @@ use Rattle.graft_model.specs.Parts.{World}
 use Rattle.graft_model.specs.Steps.{Event, Run}
 use Rattle.graft_laws.specs.Keeps.{Reached}
 use Rattle.graft_laws.proofs.Runs.{reached_run}
-use Rattle.graft_runs.specs.Actors.{ActorName, actor_at}
-use Rattle.graft_runs.specs.Laws.{AreEntriesOf, OneWorldIsSeen}
-use Rattle.graft_runs.specs.Seen.{part_of, channel_of}
-use Rattle.graft_runs.proofs.Numbers.{of_number}
+use Rattle.graft_actors.specs.Actors.{ActorName, actor_at}
+use Rattle.graft_actors.specs.Laws.{AreEntriesOf, OneWorldIsSeen}
+use Rattle.graft_actors.specs.Seen.{part_of, channel_of}
+use Rattle.graft_actors.proofs.Numbers.{of_number}
 use Rattle.graft_actors.specs.Items.{thing_of}
 use Rattle.graft_actors.specs.Acts.{OwnPart, acts}
 use Rattle.router_core.specs.Parts.{carried}
-use Rattle.run_marks.specs.Marks.{before, MarksStandForWorlds, IsWorldAtMark}
+use Rattle.world_runs.specs.Marks.{before, MarksStandForWorlds, IsWorldAtMark}
 use Rattle.world_runs.specs.Labs.{actors_in, net_of}
 use Rattle.world_runs.specs.Runs.{IsSeenAs, Ran}
 use Rattle.world_runs.specs.Laws.{ActsAreARun, NobodyWritesToItself, NothingWasDropped}
 use Rattle.world_nodes.specs.Edges.{has_channel}
 use Rattle.world_nodes.specs.Nodes.{Mail, own, took, turned}
-use Rattle.world_nodes.specs.Ways.{Stand, Begins}
+use Rattle.world_nodes.specs.Ways.{Stand, IsFirstStand}
 use Rattle.world_nodes.specs.declared.node.Node.{Node}
 use Rattle.real_rounds.specs.Entries.{between}
 use Rattle.real_rounds.specs.Whole.{RoundGoes}
-use Rattle.real_rounds.proofs.Channels.{silent}
+use Rattle.world_nodes.proofs.Seen.{silent}
 use Rattle.real_rounds.proofs.Leading as leading
 use Rattle.real_rounds.proofs.Leading.{number_below}
 use Rattle.real_rounds.proofs.Legs.{Legs}
@@ -50,9 +50,12 @@ module _ (one : OneWorldIsSeen) (setup : Setup) (v : View Node Mail) (d : Node) 
   channels_there : (x y : ℕ) → map (thing_of carried setup) (first.lab.channel x y) ≡ channel_of u (actor_at setup x) (actor_at setup y)
   channels_there x y = by_edge (has_channel setup x y) refl
     where
-      by_edge : (t : Bool) → has_channel setup x y ≡ t → map (thing_of carried setup) (first.lab.channel x y) ≡ channel_of u (actor_at setup x) (actor_at setup y)
-      by_edge true e = ap (λ items. map (thing_of carried setup) items) (first.is.channels x y (edges x y ∙ e) ∙ sym (second.is.channels x y (edges x y ∙ e))) ∙ second.sees.sees.channels x y
-      by_edge false e = first.sees.sees.channels x y ∙ silent w first_itself (actor_at setup x) (actor_at setup y) e ∙ sym (silent u second_itself (actor_at setup x) (actor_at setup y) e)
+      by_edge : (t : Bool) → has_channel setup x y ≡ t
+          → map (thing_of carried setup) (first.lab.channel x y) ≡ channel_of u (actor_at setup x) (actor_at setup y)
+      by_edge true e = ap (λ items. map (thing_of carried setup) items) (first.is.channels x y (edges x y ∙ e) ∙ sym (second.is.channels x y (edges x y ∙ e)))
+          ∙ second.sees.sees.channels x y
+      by_edge false e = first.sees.sees.channels x y ∙ silent w first_itself (actor_at setup x) (actor_at setup y) e
+          ∙ sym (silent u second_itself (actor_at setup x) (actor_at setup y) e)
 
   one_seen : u ≡ w
   one_seen = one setup (net_of carried setup first.lab) w u first.sees.sees (record { parts = parts_there; channels = channels_there; within = second.sees.sees.within })
@@ -69,7 +72,7 @@ first_of setup (event ∷ events) w v are run = absurd are
 
 -- ---- a leg
 
-module _ (setup : Setup) (a b : Stand) (begins : Begins setup a) (legs : Legs setup a b) (journal : List JournalEntry) (merge : Interleaves b.view.journal journal) (b_ran : Ran own carried setup b.view)
+module _ (setup : Setup) (a b : Stand) (begins : IsFirstStand setup a) (legs : Legs setup a b) (journal : List JournalEntry) (merge : Interleaves b.view.journal journal) (b_ran : Ran own carried setup b.view)
     (worlds : MarksStandForWorlds own carried) (dropped : NothingWasDropped) where
   pub world_first : leading.world setup a b begins legs journal merge b_ran worlds dropped 0 ≡ first_world setup
   world_first =
@@ -146,7 +149,8 @@ module _ (setup : Setup) (a b : Stand) (begins : Begins setup a) (legs : Legs se
     abbrev at : ℕ → World
     at k = leading.world setup a b begins legs journal merge b_ran worlds dropped k
 
-    goes_where : (k : ℕ) (there : (k < legs.made) ⊎ (legs.made ≤ k)) → k < legs.made → RoundGoes setup (at k) (between journal (legs.mark k) (legs.mark (k + 1))) (events_where k there) (at (k + 1))
+    goes_where : (k : ℕ) (there : (k < legs.made) ⊎ (legs.made ≤ k)) → k < legs.made
+        → RoundGoes setup (at k) (between journal (legs.mark k) (legs.mark (k + 1))) (events_where k there) (at (k + 1))
     unfolding events_where
     goes_where k (inl k_in) there = leg_goes d sound itself one law k k_in
     goes_where k (inr past) there = absurd (omega (arith, past, there))

@@ -8,7 +8,7 @@ use Rattle.std.proofs.lemmas.List.{append-nil, map-append, get_or_past}
 use Rattle.std.proofs.lemmas.Option.{same_Some, slice_get_within}
 use Rattle.ring_net.specs.declared.entry.JournalEntry.{JournalEntry}
 use Rattle.ring_net.specs.Deeds.{Deed, Noted, Replay, entries_of, sent_by}
-use Rattle.ring_net.specs.Phases.{View, Phase, Marked, Between, InOrder, OnlyClocks}
+use Rattle.ring_net.specs.Phases.{View, NetPhase, Marked, Between, InOrder, OnlyClocks}
 use Rattle.journal_merge.specs.Growth.{Grew}
 use Rattle.journal_merge.proofs.Pieces.{grows_on}
 use Rattle.ring_net.proofs.EdgeReads.{slice_get-append_left, slice_get-append_head}
@@ -17,15 +17,16 @@ use Rattle.graft_model.specs.Setups.{Setup}
 use Rattle.graft_actors.specs.Acts.{acts}
 use Rattle.router_core.specs.Parts.{carried}
 use Rattle.operator_core.specs.declared.operator as operator_type
-use Rattle.run_marks.specs.Marks.{before, operator_in, IsMarkOf}
+use Rattle.world_runs.specs.Marks.{before, operator_number, IsMarkOf}
 use Rattle.world_runs.specs.Labs.{actors_in}
 use Rattle.world_runs.specs.Runs.{Ran, QuietAt}
 use Rattle.world_nodes.specs.Nodes.{Mail, own, took, turned, paused}
-use Rattle.world_nodes.specs.Ways.{Stand, Begins, Round, Pause, Way, Here, Rounds, Groups}
+use Rattle.world_nodes.specs.Ways.{Stand, IsFirstStand, Round, Pause, Way, Here, Rounds, Groups}
 use Rattle.world_nodes.specs.declared.node.Node.{Node}
 use Rattle.world_nodes.specs.declared.node.Node.TheVariants.{Router, Far, Operator}
-use Rattle.real_rounds.proofs.Joins.{below_or_past, IsLevelled, still, at_level, level_ahead, level_then, grew_none}
+use Rattle.real_rounds.proofs.Joins.{below_or_past, IsLevelled, still, at_level, level_ahead, level_then}
 use Rattle.real_rounds.proofs.RunsBetween.{HasRuns, stays, runs_then, pause_levels, pause_notes, pause_grew}
+use Rattle.journal_merge.proofs.Growths.{grew_none}
 
 -- ---- at a mark
 
@@ -36,11 +37,13 @@ entry_in d = d.entry
 pub record Paused (setup : Setup) (u v : View Node Mail) : Type 0 where
   pub deeds : List (Deed Mail)
   pub size : length v.actors ≡ length u.actors
-  pub others : (j : ℕ) (d : Node) → j ≢ operator_in setup → get_or v.actors j d ≡ get_or u.actors j d
-  pub operator : (d : Node) (a : operator_type.Operator.Operator) → get_or u.actors (operator_in setup) d ≡ Operator a → (b : operator_type.Operator.Operator) × (get_or v.actors (operator_in setup) d ≡ Operator b)
-  pub replay : (d : Node) → Replay (acts carried) (operator_in setup) (own (get_or u.actors (operator_in setup) d)) deeds (own (get_or v.actors (operator_in setup) d))
-  pub journal : v.journal (operator_in setup) ≡ u.journal (operator_in setup) ++ map entry_in deeds
-  pub journals : (j : ℕ) → j ≢ operator_in setup → v.journal j ≡ u.journal j
+  pub others : (j : ℕ) (d : Node) → j ≢ operator_number setup → get_or v.actors j d ≡ get_or u.actors j d
+  pub operator : (d : Node) (a : operator_type.Operator.Operator) → get_or u.actors (operator_number setup) d ≡ Operator a
+      → (b : operator_type.Operator.Operator) × (get_or v.actors (operator_number setup) d ≡ Operator b)
+  pub replay : (d : Node)
+      → Replay (acts carried) (operator_number setup) (own (get_or u.actors (operator_number setup) d)) deeds (own (get_or v.actors (operator_number setup) d))
+  pub journal : v.journal (operator_number setup) ≡ u.journal (operator_number setup) ++ map entry_in deeds
+  pub journals : (j : ℕ) → j ≢ operator_number setup → v.journal j ≡ u.journal j
   pub edges : (a b : ℕ) → v.edge a b ≡ u.edge a b
   pub grows : (a b : ℕ) → u.edge a b ≡ true → length (u.channel a b) ≤ length (v.channel a b)
   pub rings : (a b : ℕ) → v.in_ring a b ≡ u.in_ring a b
@@ -58,7 +61,7 @@ no_pause setup v = record {
   others = λ j d ne. refl;
   operator = λ d a is. (a, is);
   replay = λ d. refl;
-  journal = sym (append-nil (v.journal (operator_in setup)));
+  journal = sym (append-nil (v.journal (operator_number setup)));
   journals = λ j ne. refl;
   edges = λ a b. refl;
   grows = λ a b e. omega arith;
@@ -76,9 +79,10 @@ pause_then setup u v w x y = record {
   size = y.size ∙ x.size;
   others = λ j d ne. y.others j d ne ∙ x.others j d ne;
   operator = λ d a is. (let m = x.operator d a is in y.operator d m.0 m.1);
-  replay = λ d. replay-append (acts carried) (operator_in setup) (own (get_or u.actors (operator_in setup) d)) (own (get_or v.actors (operator_in setup) d)) (own (get_or w.actors (operator_in setup) d)) x.deeds y.deeds (x.replay d) (y.replay d);
-  journal = y.journal ∙ ap (λ (es : List JournalEntry). es ++ map entry_in y.deeds) x.journal ∙ append_assoc (u.journal (operator_in setup)) (map entry_in x.deeds) (map entry_in y.deeds)
-      ∙ ap (λ (es : List JournalEntry). u.journal (operator_in setup) ++ es) (sym (map-append entry_in x.deeds y.deeds));
+  replay = λ d. replay-append (acts carried) (operator_number setup) (own (get_or u.actors (operator_number setup) d)) (own (get_or v.actors (operator_number setup) d)) (own (get_or w.actors (operator_number setup) d)) x.deeds y.deeds (x.replay d) (y.replay d);
+  journal = y.journal ∙ ap (λ (es : List JournalEntry). es ++ map entry_in y.deeds) x.journal
+      ∙ append_assoc (u.journal (operator_number setup)) (map entry_in x.deeds) (map entry_in y.deeds)
+      ∙ ap (λ (es : List JournalEntry). u.journal (operator_number setup) ++ es) (sym (map-append entry_in x.deeds y.deeds));
   journals = λ j ne. y.journals j ne ∙ x.journals j ne;
   edges = λ a b. y.edges a b ∙ x.edges a b;
   grows = λ a b e. (let first = x.grows a b e in let last = y.grows a b (x.edges a b ∙ e) in omega (arith, first, last));
@@ -91,26 +95,30 @@ pause_then setup u v w x y = record {
       (runs_then setup u v w (λ k. entries_of (x.notes k)) (λ k. entries_of (y.notes k)) (level_ahead own (acts carried) u v w x.levels y.levels x.notes y.notes x.grew y.grew x.levelled) x.size x.runs y.runs);
 }
 
-still_operator : (a : operator_type.Operator.Operator) (n : Node) (ds : List (Deed Mail)) → paused (Operator a) ds n → (b : operator_type.Operator.Operator) × (n ≡ Operator b)
+still_operator : (a : operator_type.Operator.Operator) (n : Node) (ds : List (Deed Mail)) → paused (Operator a) ds n
+    → (b : operator_type.Operator.Operator) × (n ≡ Operator b)
 still_operator a (Operator b) ds p = (b, refl)
 still_operator a (Router b) ds p = absurd p
 still_operator a (Far b) ds p = absurd p
 
-one_pause : (setup : Setup) (b c : Stand) (pause : Pause (operator_in setup) b c true) → length b.view.actors ≡ actors_in setup → HasRuns setup b.view c.view (λ k. entries_of (pause_notes setup b c pause k)) → Paused setup b.view c.view
+one_pause : (setup : Setup) (b c : Stand) (pause : Pause (operator_number setup) b c true) → length b.view.actors ≡ actors_in setup
+    → HasRuns setup b.view c.view (λ k. entries_of (pause_notes setup b c pause k)) → Paused setup b.view c.view
 one_pause setup b c pause in_all runs = record {
   deeds = did.deeds;
   size = did.size ∙ ap (λ (xs : List Node). length xs) only.actors;
   others = λ j d ne. did.others j d ne ∙ ap (λ (xs : List Node). get_or xs j d) only.actors;
-  operator = λ d a is. still_operator a (get_or c.view.actors (operator_in setup) d) did.deeds
-      (subst (λ (n : Node). paused n did.deeds (get_or c.view.actors (operator_in setup) d)) (ap (λ (xs : List Node). get_or xs (operator_in setup) d) only.actors ∙ is) (did.paused d));
-  replay = λ d. subst (λ (xs : List Node). Replay (acts carried) (operator_in setup) (own (get_or xs (operator_in setup) d)) did.deeds (own (get_or c.view.actors (operator_in setup) d))) only.actors (did.replay d);
-  journal = did.journal ∙ ap (λ (es : List JournalEntry). es ++ map entry_in did.deeds) (only.journals (operator_in setup));
+  operator = λ d a is. still_operator a (get_or c.view.actors (operator_number setup) d) did.deeds
+      (subst (λ (n : Node). paused n did.deeds (get_or c.view.actors (operator_number setup) d)) (ap (λ (xs : List Node). get_or xs (operator_number setup) d) only.actors ∙ is) (did.paused d));
+  replay = λ d. subst (λ (xs : List Node). Replay (acts carried) (operator_number setup) (own (get_or xs (operator_number setup) d)) did.deeds (own (get_or c.view.actors (operator_number setup) d))) only.actors (did.replay d);
+  journal = did.journal ∙ ap (λ (es : List JournalEntry). es ++ map entry_in did.deeds) (only.journals (operator_number setup));
   journals = λ j ne. did.journals j ne ∙ only.journals j;
   edges = λ x y. did.edges x y ∙ only.edges x y;
-  grows = λ x y e. elim (eqb_tells x (operator_in setup)) [
+  grows = λ x y e. elim (eqb_tells x (operator_number setup)) [
     | inl s ↦ (let size : length (c.view.channel x y) ≡ length (b.view.channel x y) + length (sent_by y did.deeds) =
-        ap (λ n. length (c.view.channel n y)) s.1 ∙ ap (λ items. length items) (did.channel y (only.edges (operator_in setup) y ∙ ap (λ n. b.view.edge n y) (sym s.1) ∙ e)) ∙ length-append (pause.level.channel (operator_in setup) y) (sent_by y did.deeds)
-        ∙ ap (λ n. n + length (sent_by y did.deeds)) (ap (λ items. length items) (only.channels (operator_in setup) y) ∙ ap (λ n. length (b.view.channel n y)) (sym s.1)) in omega (arith, size))
+        ap (λ n. length (c.view.channel n y)) s.1
+        ∙ ap (λ items. length items) (did.channel y (only.edges (operator_number setup) y ∙ ap (λ n. b.view.edge n y) (sym s.1) ∙ e))
+        ∙ length-append (pause.level.channel (operator_number setup) y) (sent_by y did.deeds)
+        ∙ ap (λ n. n + length (sent_by y did.deeds)) (ap (λ items. length items) (only.channels (operator_number setup) y) ∙ ap (λ n. length (b.view.channel n y)) (sym s.1)) in omega (arith, size))
     | inr ne ↦ (let size : length (c.view.channel x y) ≡ length (b.view.channel x y) = ap (λ items. length items) (did.channels x y ne.1 ∙ only.channels x y) in omega (arith, size))
   ];
   rings = λ x y. did.rings x y ∙ only.rings x y;
@@ -121,7 +129,7 @@ one_pause setup b c pause in_all runs = record {
   runs = runs;
 }
   where
-    did : Between own (acts carried) paused (operator_in setup) pause.level c.view true
+    did : Between own (acts carried) paused (operator_number setup) pause.level c.view true
     did = pause.between
 
     only : OnlyClocks b.view pause.level
@@ -129,7 +137,7 @@ one_pause setup b c pause in_all runs = record {
 
 -- what a pause adds to a journal
 pub pause_more : (setup : Setup) (u v : View Node Mail) → Paused setup u v → (j : ℕ) → (more : List JournalEntry) × (v.journal j ≡ u.journal j ++ more)
-pause_more setup u v pause j = elim (eqb_tells j (operator_in setup)) [
+pause_more setup u v pause j = elim (eqb_tells j (operator_number setup)) [
   | inl s ↦ (map entry_in pause.deeds, ap (λ n. v.journal n) s.1 ∙ pause.journal ∙ ap (λ n. u.journal n ++ map entry_in pause.deeds) (sym s.1))
   | inr ne ↦ ([], pause.journals j ne.1 ∙ sym (append-nil (u.journal j)))
 ]
@@ -159,10 +167,11 @@ pub record Legs (setup : Setup) (a b : Stand) : Type 0 where
   pub marks : (k : ℕ) (m : List ℕ) → slice_get b.marks k ≡ Some m → m ≡ mark k
   pub first : at 0 ≡ a.view
   pub pause : (k : ℕ) → k < made → Paused setup (at k) (from k)
-  pub phase : (k : ℕ) → k < made → Phase own (acts carried) took turned (from k) (at (k + 1))
+  pub phase : (k : ℕ) → k < made → NetPhase own (acts carried) took turned (from k) (at (k + 1))
   pub last : Paused setup (at made) b.view
 
-mark_grows : (u v w : View Node Mail) (m : List ℕ) → IsMarkOf u v m → ((j : ℕ) → (more : List JournalEntry) × (w.journal j ≡ v.journal j ++ more)) → IsMarkOf u w m
+mark_grows : (u v w : View Node Mail) (m : List ℕ) → IsMarkOf u v m → ((j : ℕ) → (more : List JournalEntry) × (w.journal j ≡ v.journal j ++ more))
+    → IsMarkOf u w m
 mark_grows u v w m is grown = record {
   lengths = is.lengths;
   later = λ j. ((is.later j).0 ++ (grown j).0, (grown j).1 ∙ ap (λ (es : List JournalEntry). es ++ (grown j).0) (is.later j).1 ∙ append_assoc (u.journal j) (is.later j).0 (grown j).0);
@@ -179,7 +188,7 @@ mark_now v old new marked order = record {
 }
 
 module _ (setup : Setup) (a : Stand) (ran : (b : Stand) (rounds : List ℕ) → Way setup a rounds b → Ran own carried setup b.view) (ordered : (b : Stand) (rounds : List ℕ) → Way setup a rounds b → InOrder b.view)
-    (pauses : (b c : Stand) → QuietAt own carried setup b.view → (pause : Pause (operator_in setup) b c true) → HasRuns setup b.view c.view (λ k. entries_of (pause_notes setup b c pause k))) (begins : Begins setup a) where
+    (pauses : (b c : Stand) → QuietAt own carried setup b.view → (pause : Pause (operator_number setup) b c true) → HasRuns setup b.view c.view (λ k. entries_of (pause_notes setup b c pause k))) (begins : IsFirstStand setup a) where
   no_legs : Legs setup a a
   no_legs = record {
     made = 0;
@@ -200,7 +209,7 @@ module _ (setup : Setup) (a : Stand) (ran : (b : Stand) (rounds : List ℕ) → 
       only_one zero m is = sym (same_Some begins.marked.mark m is)
       only_one (suc k) m is = absurd cc
 
-  groups_legs : (b c : Stand) → Legs setup a b → Pause (operator_in setup) b c true → Paused setup b.view c.view → Legs setup a c
+  groups_legs : (b c : Stand) → Legs setup a b → Pause (operator_number setup) b c true → Paused setup b.view c.view → Legs setup a c
   groups_legs b c legs pause paused = record {
     made = legs.made;
     at = legs.at;
@@ -246,11 +255,13 @@ module _ (setup : Setup) (a : Stand) (ran : (b : Stand) (rounds : List ℕ) → 
 
     next_marks : (k : ℕ) (m : List ℕ) → slice_get (b.marks ++ round.marked.mark ∷ []) k ≡ Some m → m ≡ next_mark k
     next_marks k m is = elim (below_or_past k (legs.made + 1)) [
-      | inl l ↦ legs.marks k m (sym (slice_get-append_left b.marks (round.marked.mark ∷ []) k (omega (arith, l, legs.count))) ∙ is) ∙ sym (chosen_old (legs.made + 1) legs.mark round.marked.mark k l)
+      | inl l ↦ legs.marks k m (sym (slice_get-append_left b.marks (round.marked.mark ∷ []) k (omega (arith, l, legs.count))) ∙ is)
+          ∙ sym (chosen_old (legs.made + 1) legs.mark round.marked.mark k l)
       | inr past ↦
           let k_in : k < length (b.marks ++ round.marked.mark ∷ []) = slice_get_within (b.marks ++ round.marked.mark ∷ []) k m is in
           let k_is : length b.marks ≡ k = omega (arith, k_in, past, legs.count, length-append b.marks (round.marked.mark ∷ [])) in
-          same_Some m round.marked.mark (sym is ∙ slice_get-append_head b.marks round.marked.mark [] k k_is) ∙ sym (chosen_new (legs.made + 1) legs.mark round.marked.mark k past)
+          same_Some m round.marked.mark (sym is ∙ slice_get-append_head b.marks round.marked.mark [] k k_is)
+          ∙ sym (chosen_new (legs.made + 1) legs.mark round.marked.mark k past)
     ]
 
     next_pause : (k : ℕ) → k < legs.made + 1 → Paused setup (next_at k) (next_from k)
@@ -260,12 +271,12 @@ module _ (setup : Setup) (a : Stand) (ran : (b : Stand) (rounds : List ℕ) → 
           (subst (λ (i : ℕ). Paused setup (legs.at i) b.view) (let e : legs.made ≡ k = omega (arith, k_in, past) in e) legs.last)
     ])
 
-    next_phase : (k : ℕ) → k < legs.made + 1 → Phase own (acts carried) took turned (next_from k) (next_at (k + 1))
+    next_phase : (k : ℕ) → k < legs.made + 1 → NetPhase own (acts carried) took turned (next_from k) (next_at (k + 1))
     next_phase k k_in = elim (below_or_past k legs.made) [
-      | inl l ↦ subst⁻¹ (λ (v : View Node Mail). Phase own (acts carried) took turned v (next_at (k + 1))) (chosen_old legs.made legs.from b.view k l)
-          (subst⁻¹ (λ (v : View Node Mail). Phase own (acts carried) took turned (legs.from k) v) (chosen_old (legs.made + 1) legs.at c.view (k + 1) (omega (arith, l))) (legs.phase k l))
-      | inr past ↦ subst⁻¹ (λ (v : View Node Mail). Phase own (acts carried) took turned v (next_at (k + 1))) (chosen_new legs.made legs.from b.view k past)
-          (subst⁻¹ (λ (v : View Node Mail). Phase own (acts carried) took turned b.view v) (chosen_new (legs.made + 1) legs.at c.view (k + 1) (omega (arith, past))) round.phase)
+      | inl l ↦ subst⁻¹ (λ (v : View Node Mail). NetPhase own (acts carried) took turned v (next_at (k + 1))) (chosen_old legs.made legs.from b.view k l)
+          (subst⁻¹ (λ (v : View Node Mail). NetPhase own (acts carried) took turned (legs.from k) v) (chosen_old (legs.made + 1) legs.at c.view (k + 1) (omega (arith, l))) (legs.phase k l))
+      | inr past ↦ subst⁻¹ (λ (v : View Node Mail). NetPhase own (acts carried) took turned v (next_at (k + 1))) (chosen_new legs.made legs.from b.view k past)
+          (subst⁻¹ (λ (v : View Node Mail). NetPhase own (acts carried) took turned b.view v) (chosen_new (legs.made + 1) legs.at c.view (k + 1) (omega (arith, past))) round.phase)
     ]
 
     round_legs : Legs setup a c
@@ -287,7 +298,8 @@ module _ (setup : Setup) (a : Stand) (ran : (b : Stand) (rounds : List ℕ) → 
   all_there : (b : Stand) (rounds : List ℕ) → Way setup a rounds b → length b.view.actors ≡ actors_in setup
   all_there b rounds Here = ap (λ (xs : List Node). length xs) begins.new.all ∙ begins.first.all
   all_there c rounds (Rounds past n {b = b} way round) = round.phase.size ∙ all_there b (past ++ n ∷ []) way
-  all_there c rounds (Groups before {b = b} way quiet pause) = pause.between.size ∙ ap (λ (xs : List Node). length xs) pause.levelled.only.actors ∙ all_there b before way
+  all_there c rounds (Groups before {b = b} way quiet pause) = pause.between.size ∙ ap (λ (xs : List Node). length xs) pause.levelled.only.actors
+      ∙ all_there b before way
 
   pub legs_of : (b : Stand) (rounds : List ℕ) → Way setup a rounds b → Legs setup a b
   legs_of b rounds Here = no_legs

@@ -12,21 +12,21 @@ use Rattle.journal_merge.specs.Merges.{Interleaves}
 use Rattle.graft_model.specs.Setups.{Setup, IsSetup}
 use Rattle.graft_model.specs.Parts.{World}
 use Rattle.graft_model.specs.Steps.{Event}
-use Rattle.graft_runs.specs.Actors.{ActorName, number_in, IsActor}
-use Rattle.graft_runs.specs.Laws.{OneWorldIsSeen}
-use Rattle.graft_runs.specs.Seen.{channel_of}
+use Rattle.graft_actors.specs.Actors.{ActorName, number_in, IsActor}
+use Rattle.graft_actors.specs.Laws.{OneWorldIsSeen}
+use Rattle.graft_actors.specs.Seen.{channel_of}
 use Rattle.graft_actors.specs.Acts.{OwnPart, acts}
 use Rattle.router_core.specs.Parts.{carried}
-use Rattle.run_marks.specs.Marks.{MarksStandForWorlds, IsWorldAtMark}
+use Rattle.world_runs.specs.Marks.{MarksStandForWorlds, IsWorldAtMark}
 use Rattle.world_runs.specs.Runs.{Ran}
 use Rattle.world_runs.specs.Laws.{ActsAreARun, NothingWasDropped, NobodyWritesToItself}
 use Rattle.world_nodes.specs.Fresh.{IsFresh}
 use Rattle.world_nodes.specs.Nodes.{own, took, turned}
-use Rattle.world_nodes.specs.Ways.{Stand, Begins}
+use Rattle.world_nodes.specs.Ways.{Stand, IsFirstStand}
 use Rattle.world_nodes.specs.declared.node.Node.{Node}
 use Rattle.real_rounds.proofs.Calls.{CallsSay}
 use Rattle.real_rounds.specs.Entries as entries
-use Rattle.real_rounds.specs.Entries.{between, is_name, sender_of}
+use Rattle.real_rounds.specs.Entries.{between, is_same_name, sender_of}
 use Rattle.real_rounds.specs.Whole.{RealRound, RoundGoes, Drains, RealRounds}
 use Rattle.real_rounds.proofs.Channels.{taken_are, count_cons, channel_is}
 use Rattle.real_rounds.proofs.Leading as leading
@@ -37,21 +37,22 @@ use Rattle.real_rounds.proofs.LegRuns as leg_runs
 use Rattle.real_rounds.proofs.Legs.{Legs, pause_more}
 use Rattle.real_rounds.proofs.NodeRounds.{replay_setup}
 
-taken_more : (x : ActorName) (front es : List JournalEntry) → entries.taken_from x es ≤ entries.taken_from x (front ++ es)
+taken_more : (x : ActorName) (front es : List JournalEntry) → entries.count_taken_from x es ≤ entries.count_taken_from x (front ++ es)
 taken_more x [] es = omega arith
 taken_more x (e ∷ front) es =
     let ih = taken_more x front es in
-    let one = count_cons (λ entry. is_name x (sender_of entry)) e (front ++ es) in
+    let one = count_cons (λ entry. is_same_name x (sender_of entry)) e (front ++ es) in
     omega (arith, ih, one)
 
-both_rounds : (had net from ring ring2 first second one two : ℕ) → net ≡ had → net ≤ from → min 256 from ≤ first + ring → ring2 ≡ ring → ring2 ≤ second → first ≤ one → second ≤ two → min 256 had ≤ one + two
+both_rounds : (had net from ring ring2 first second one two : ℕ) → net ≡ had → net ≤ from → min 256 from ≤ first + ring → ring2 ≡ ring
+    → ring2 ≤ second → first ≤ one → second ≤ two → min 256 had ≤ one + two
 both_rounds had net from ring ring2 first second one two is grows pushed same known first_in second_in = omega (arith, is, grows, pushed, same, known, first_in, second_in)
 
-module _ (setup : Setup) (a b : Stand) (begins : Begins setup a) (d : Node) (legs : Legs setup a b) (journal : List JournalEntry) (merge : Interleaves b.view.journal journal) (b_ran : Ran own carried setup b.view)
+module _ (setup : Setup) (a b : Stand) (begins : IsFirstStand setup a) (d : Node) (legs : Legs setup a b) (journal : List JournalEntry) (merge : Interleaves b.view.journal journal) (b_ran : Ran own carried setup b.view)
     (worlds : MarksStandForWorlds own carried) (dropped : NothingWasDropped) (itself : NobodyWritesToItself) (sound : IsSetup setup) where
   -- so many entries at least took an item as the net took
   taken_in : (k : ℕ) (k_in : k < legs.made) (x y : ActorName) → IsActor setup x → IsActor setup y
-      → length (taken_from (number_in setup x) ((legs.phase k k_in).notes (number_in setup y))) ≤ entries.taken_from x (between journal (legs.mark k) (legs.mark (k + 1)) (number_in setup y))
+      → length (taken_from (number_in setup x) ((legs.phase k k_in).notes (number_in setup y))) ≤ entries.count_taken_from x (between journal (legs.mark k) (legs.mark (k + 1)) (number_in setup y))
   taken_in k k_in x y x_known y_known =
       let more = pause_more setup (legs.at k) (legs.from k) (legs.pause k k_in) (number_in setup y) in
       let n = leading.size_from setup a b begins legs journal merge b_ran worlds dropped k k_in in
@@ -62,9 +63,9 @@ module _ (setup : Setup) (a b : Stand) (begins : Begins setup a) (d : Node) (leg
       sym (replay_setup (number_in setup y) (own (get_or (legs.from k).actors (number_in setup y) d)) (own (get_or (legs.at (k + 1)).actors (number_in setup y) d)) (deeds ((legs.phase k k_in).notes (number_in setup y))) did.replay)
       ∙ ap (λ (o : OwnPart). o.setup) (leading.own_at setup a b begins legs journal merge b_ran worlds dropped (k + 1) (omega (arith, k_in)) y y_known d) in
       let kept = leading.leg_kept setup a b begins legs journal merge b_ran worlds dropped k k_in (number_in setup y) more.0 more.1 in
-      let size : length (taken_from (number_in setup x) ((legs.phase k k_in).notes (number_in setup y))) ≡ entries.taken_from x (entries_of ((legs.phase k k_in).notes (number_in setup y))) =
+      let size : length (taken_from (number_in setup x) ((legs.phase k k_in).notes (number_in setup y))) ≡ entries.count_taken_from x (entries_of ((legs.phase k k_in).notes (number_in setup y))) =
       taken_are setup x (number_in setup y) (own (get_or (legs.from k).actors (number_in setup y) d)) (own (get_or (legs.at (k + 1)).actors (number_in setup y) d)) ((legs.phase k k_in).notes (number_in setup y)) x_known of did.replay kept.1 in
-      subst⁻¹ (λ (es : List JournalEntry). length (taken_from (number_in setup x) ((legs.phase k k_in).notes (number_in setup y))) ≤ entries.taken_from x es)
+      subst⁻¹ (λ (es : List JournalEntry). length (taken_from (number_in setup x) ((legs.phase k k_in).notes (number_in setup y))) ≤ entries.count_taken_from x es)
       (leading.slice_is setup a b begins legs journal merge b_ran worlds dropped k k_in (number_in setup y) more.0 more.1)
       (let l = taken_more x more.0 (entries_of ((legs.phase k k_in).notes (number_in setup y))) in omega (arith, l, size))
 
@@ -78,7 +79,7 @@ module _ (setup : Setup) (a b : Stand) (begins : Begins setup a) (d : Node) (leg
         | inr some ↦ both_rounds (length (channel_of here.0 (Some x) (Some y))) (length ((legs.at k).channel (number_in setup x) (number_in setup y))) (length ((legs.from k).channel (number_in setup x) (number_in setup y)))
             ((legs.at (k + 1)).in_ring (number_in setup x) (number_in setup y)) ((legs.from (k + 1)).in_ring (number_in setup x) (number_in setup y))
             (length (taken_from (number_in setup x) ((legs.phase k first).notes (number_in setup y)))) (length (taken_from (number_in setup x) ((legs.phase (k + 1) second).notes (number_in setup y))))
-            (entries.taken_from x (between journal (legs.mark k) (legs.mark (k + 1)) (number_in setup y))) (entries.taken_from x (between journal (legs.mark (k + 1)) (legs.mark ((k + 1) + 1)) (number_in setup y)))
+            (entries.count_taken_from x (between journal (legs.mark k) (legs.mark (k + 1)) (number_in setup y))) (entries.count_taken_from x (between journal (legs.mark (k + 1)) (legs.mark ((k + 1) + 1)) (number_in setup y)))
             some.1 ((legs.pause k first).grows (number_in setup x) (number_in setup y) some.0) ((legs.phase k first).pushed (number_in setup x) (number_in setup y))
             ((legs.pause (k + 1) second).rings (number_in setup x) (number_in setup y)) ((legs.phase (k + 1) second).known (number_in setup x) (number_in setup y))
             (taken_in k first x y x_known y_known) (taken_in (k + 1) second x y x_known y_known)
@@ -86,7 +87,7 @@ module _ (setup : Setup) (a b : Stand) (begins : Begins setup a) (d : Node) (leg
 
 -- ---- all rounds
 
-module _ (law : CallsSay) (setup : Setup) (faults : List Fault) (a b : Stand) (sound : IsSetup setup) (begins : Begins setup a) (fresh : AllByRecursion (IsFresh setup faults) begins.actors) (d : Node)
+module _ (law : CallsSay) (setup : Setup) (faults : List Fault) (a b : Stand) (sound : IsSetup setup) (begins : IsFirstStand setup a) (fresh : AllByRecursion (IsFresh setup faults) begins.actors) (d : Node)
     (d_fresh : IsFresh setup faults d) (legs : Legs setup a b) (journal : List JournalEntry) (merge : Interleaves b.view.journal journal) (b_ran : Ran own carried setup b.view) (worlds : MarksStandForWorlds own carried)
     (dropped : NothingWasDropped) (itself : NobodyWritesToItself) (one : OneWorldIsSeen) (acts_run : ActsAreARun carried) (ticking : Ticking)
     (earlier : TicksAreEarlier law setup faults a b begins fresh d d_fresh legs journal merge b_ran worlds dropped) where

@@ -36,14 +36,16 @@ own : (f : ℕ → Place) (q : ℕ) (v : Place) (p : ℕ) → (p == q) ≡ true 
 own f q v p e = rw e refl
 
 -- another value where a session was live
-at_live : (a b : RouterPart) (q p : ℕ) (v : Place) (s : SessionValue) (o : Option Errand) → IsLive a q s o → b.places ≡ at a.places q v → HasLive p b → HasLive p a
+at_live : (a b : RouterPart) (q p : ℕ) (v : Place) (s : SessionValue) (o : Option Errand) → IsLive a q s o → b.places ≡ at a.places q v → HasLive p b
+    → HasLive p a
 at_live a b q p v s o before effect live = elim (eqb_tells p q) [
   | inl e ↦ (s, o, record { is = ap a.places e.1 ∙ before.is })
   | inr ne ↦ same_at a b p (ap (λ (f : ℕ → Place). f p) effect ∙ other a.places q v p ne.0) live
 ]
 
 -- a value that is no live session
-at_dead : (a b : RouterPart) (q p : ℕ) (v : Place) → ((s : SessionValue) (o : Option Errand) → v ≢ Live s o) → b.places ≡ at a.places q v → HasLive p b → HasLive p a
+at_dead : (a b : RouterPart) (q p : ℕ) (v : Place) → ((s : SessionValue) (o : Option Errand) → v ≢ Live s o) → b.places ≡ at a.places q v
+    → HasLive p b → HasLive p a
 at_dead a b q p v dead effect (s, o, live) = elim (eqb_tells p q) [
   | inl e ↦ absurd (dead s o (sym (own a.places q v p e.0) ∙ sym (ap (λ (f : ℕ → Place). f p) effect) ∙ live.is))
   | inr ne ↦ same_at a b p (ap (λ (f : ℕ → Place). f p) effect ∙ other a.places q v p ne.0) (s, o, live)
@@ -58,7 +60,8 @@ no_vacant s o e = absurd cc
 -- ---- one event
 
 -- what is live after an event that lands nobody was live before it
-pub live_before : (setup : Setup) (r : ℕ) (event : RouterEvent) (a b : RouterPart) (taken : Option RouterTaken) (sent : List RouterSent) → router_row setup r event a taken sent b → LandsNobody event → (p : ℕ) → HasLive p b → HasLive p a
+pub live_before : (setup : Setup) (r : ℕ) (event : RouterEvent) (a b : RouterPart) (taken : Option RouterTaken) (sent : List RouterSent)
+    → router_row setup r event a taken sent b → LandsNobody event → (p : ℕ) → HasLive p b → HasLive p a
 live_before setup r (Put q zero) a b taken sent row calm p live = same_at a b p (ap (λ (x : RouterPart). x.places p) row.effect) live
 live_before setup r (Put q (suc n)) a b taken sent row calm p live = at_live a b q p (Live row.next row.errand) row.session row.errand row.live (ap (λ (x : RouterPart). x.places) row.effect) live
 live_before setup r (Emit q from len) a b taken sent row calm p live =
@@ -85,7 +88,8 @@ live_before setup r _ a b taken sent row calm p live = same_at a b p (ap (λ (x 
 
 -- ---- several events
 
-pub live_start : (Allowed : RouterPart → RouterEvent → Type 0) (setup : Setup) (r : ℕ) (a b : RouterPart) (es : List RouterEvent) (ms : List RouterPart) → RouterGoes setup r Allowed a es ms b → AllByRecursion LandsNobody es → (p : ℕ) → HasLive p b
+pub live_start : (Allowed : RouterPart → RouterEvent → Type 0) (setup : Setup) (r : ℕ) (a b : RouterPart) (es : List RouterEvent) (ms : List RouterPart)
+    → RouterGoes setup r Allowed a es ms b → AllByRecursion LandsNobody es → (p : ℕ) → HasLive p b
     → HasLive p a
 live_start Allowed setup r a b [] [] h calm p live = same_at a b p (ap (λ (x : RouterPart). x.places p) h) live
 live_start Allowed setup r a b [] (m ∷ ms) h calm p live = absurd h
@@ -93,7 +97,8 @@ live_start Allowed setup r a b (e ∷ es) [] h calm p live = absurd h
 live_start Allowed setup r a b (e ∷ es) (m ∷ ms) (taken, sent, row, allowed, rest) calm p live = live_before setup r e a m taken sent row calm.0 p (live_start Allowed setup r m b es ms rest calm.1 p live)
 
 -- on a session that isn't live no round passes
-pub no_rounds_there : (Allowed : RouterPart → RouterEvent → Type 0) (setup : Setup) (r : ℕ) (a b : RouterPart) (es : List RouterEvent) (ms : List RouterPart) → RouterGoes setup r Allowed a es ms b → AllByRecursion LandsNobody es → (p : ℕ)
+pub no_rounds_there : (Allowed : RouterPart → RouterEvent → Type 0) (setup : Setup) (r : ℕ) (a b : RouterPart) (es : List RouterEvent) (ms : List RouterPart)
+    → RouterGoes setup r Allowed a es ms b → AllByRecursion LandsNobody es → (p : ℕ)
     → ¬ HasLive p a → rounds_on p es ≡ []
 no_rounds_there Allowed setup r a b [] ms h calm p absent = refl
 no_rounds_there Allowed setup r a b (e ∷ es) [] h calm p absent = absurd h

@@ -7,8 +7,8 @@ use Rattle.std.proofs.Math.Seq.{drop-append_seam}
 use Rattle.std.proofs.lemmas.Bool.Decides.{nat_tests}
 use Rattle.std.proofs.lemmas.List.{length-map}
 use Rattle.ring_net.specs.declared.entry.JournalEntry.{JournalEntry}
-use Rattle.ring_net.specs.Deeds.{Deed, Noted, IsOwn, deeds, noted, entries_of}
-use Rattle.ring_net.specs.Phases.{View, Phase, Between}
+use Rattle.ring_net.specs.Deeds.{Deed, Noted, IsDeedOf, deeds, noted, entries_of}
+use Rattle.ring_net.specs.Phases.{View, NetPhase, Between}
 use Rattle.journal_merge.specs.Worlds as worlds
 use Rattle.journal_merge.specs.Growth.{Grew, RunsTo}
 use Rattle.journal_merge.specs.Laws.{at_mark}
@@ -21,12 +21,12 @@ use Rattle.graft_model.specs.Quiet.{Quiet}
 use Rattle.graft_model.specs.Steps.{Event, Run}
 use Rattle.graft_laws.specs.Keeps.{Reached}
 use Rattle.graft_laws.proofs.Runs.{reached_more, reached_run}
-use Rattle.graft_runs.specs.Actors as names
-use Rattle.graft_runs.specs.Laws.{IsGo, AreEntriesOf}
-use Rattle.graft_runs.proofs.Numbers.{at_operator}
+use Rattle.graft_actors.specs.Actors as names
+use Rattle.graft_actors.specs.Laws.{IsGo, AreEntriesOf}
+use Rattle.graft_actors.proofs.Numbers.{at_operator}
 use Rattle.graft_actors.specs.Acts.{OwnPart, acts}
 use Rattle.router_core.specs.Parts.{carried}
-use Rattle.run_marks.specs.Marks.{operator_in}
+use Rattle.world_runs.specs.Marks.{operator_number}
 use Rattle.world_runs.specs.Labs.{actors_in, IsLab}
 use Rattle.world_runs.specs.Runs.{IsStepOfLab, IsRunOfLab, IsSeenAs, QuietAt}
 use Rattle.world_runs.specs.Laws.{IsNoGo, AnActIsAStep, ActsAreARun}
@@ -69,7 +69,8 @@ drop_one zero x xs nz = absurd (nz refl)
 drop_one (suc n) x xs nz = ap (λ j. drop j xs) (omega arith)
 
 behind_step : (mark : ℕ → ℕ) (e : JournalEntry) (es : List JournalEntry) (k : ℕ) → (mark e.actor ≡ 0) ⊎ (mark e.actor ≢ 0) → (e.actor ≡ k) ⊎ (e.actor ≢ k)
-    → entries_by k (behind mark es) ≡ drop (mark k) (entries_by k es) → entries_by k (behind (less_at mark e.actor) es) ≡ drop (less_at mark e.actor k) (entries_by k es)
+    → entries_by k (behind mark es) ≡ drop (mark k) (entries_by k es)
+    → entries_by k (behind (less_at mark e.actor) es) ≡ drop (less_at mark e.actor k) (entries_by k es)
     → entries_by k (behind mark (e ∷ es)) ≡ drop (mark k) (entries_by k (e ∷ es))
 behind_step mark e es k (inl z) (inl s) h g =
     let none : mark k ≡ 0 = ap mark (sym s) ∙ z in
@@ -98,7 +99,8 @@ sorted_behind mark (e ∷ es) sorted = one_of (λ xs. AreSorted xs) (mark e.acto
     (all_behind (IsBefore e) mark es sorted.0, sorted_behind mark es sorted.1) (sorted_behind (less_at mark e.actor) es sorted.1)
 
 -- what journals got between two moments has a merge, where all that they hold has one
-pub merge_between : (journals first new last : ℕ → List JournalEntry) (merged : List JournalEntry) → Interleaves journals merged → ((k : ℕ) → journals k ≡ (first k ++ new k) ++ last k) → (es : List JournalEntry) × Interleaves new es
+pub merge_between : (journals first new last : ℕ → List JournalEntry) (merged : List JournalEntry) → Interleaves journals merged
+    → ((k : ℕ) → journals k ≡ (first k ++ new k) ++ last k) → (es : List JournalEntry) × Interleaves new es
 merge_between journals first new last merged merge whole = (
   behind (λ k. length (first k)) (upto (λ k. length (first k ++ new k)) merged),
   record {
@@ -131,13 +133,15 @@ HasRuns setup u v new = (w : World) → length u.actors ≡ actors_in setup → 
 pub stays : (setup : Setup) (v : View Node Mail) → HasRuns setup v v (λ k. [])
 stays setup v w size reached seen = record { events = []; entries = []; merged = record { each = λ k. refl; sorted = tt }; entries_of = tt; after = w; run = refl; seen = seen }
 
-entries_join : (setup : Setup) (first second : List Event) (xs ys : List JournalEntry) → AreEntriesOf setup first xs → AreEntriesOf setup second ys → AreEntriesOf setup (first ++ second) (xs ++ ys)
+entries_join : (setup : Setup) (first second : List Event) (xs ys : List JournalEntry) → AreEntriesOf setup first xs → AreEntriesOf setup second ys
+    → AreEntriesOf setup (first ++ second) (xs ++ ys)
 entries_join setup [] second [] ys are more = more
 entries_join setup [] second (x ∷ xs) ys are more = absurd are
 entries_join setup (event ∷ first) second [] ys are more = absurd are
 entries_join setup (event ∷ first) second (x ∷ xs) ys are more = (are.0, entries_join setup first second xs ys are.1 more)
 
-pub run_then : (setup : Setup) (w : World) (v t : View Node Mail) (first second : ℕ → List JournalEntry) → IsAhead first second → (x : RunFrom setup w v first) → RunFrom setup x.after t second → RunFrom setup w t (λ k. first k ++ second k)
+pub run_then : (setup : Setup) (w : World) (v t : View Node Mail) (first second : ℕ → List JournalEntry) → IsAhead first second
+    → (x : RunFrom setup w v first) → RunFrom setup x.after t second → RunFrom setup w t (λ k. first k ++ second k)
 run_then setup w v t first second ahead x y = record {
   events = x.events ++ y.events;
   entries = x.entries ++ y.entries;
@@ -148,7 +152,8 @@ run_then setup w v t first second ahead x y = record {
   seen = y.seen;
 }
 
-pub runs_then : (setup : Setup) (u v t : View Node Mail) (first second : ℕ → List JournalEntry) → IsAhead first second → length v.actors ≡ length u.actors → HasRuns setup u v first → HasRuns setup v t second → HasRuns setup u t (λ k. first k ++ second k)
+pub runs_then : (setup : Setup) (u v t : View Node Mail) (first second : ℕ → List JournalEntry) → IsAhead first second
+    → length v.actors ≡ length u.actors → HasRuns setup u v first → HasRuns setup v t second → HasRuns setup u t (λ k. first k ++ second k)
 runs_then setup u v t first second ahead same x y w size reached seen =
     let before : RunFrom setup w v first = x w size reached seen in
     run_then setup w v t first second ahead before (y before.after (same ∙ size) (reached_run setup before.events w before.after reached before.run) before.seen)
@@ -180,16 +185,20 @@ module _ (setup : Setup) (u v : View Node Mail) (levels : List ℕ) (notes : ℕ
 abbrev IsInRound : Setup → JournalEntry → Type 0
 IsInRound setup e = (e.actor < actors_in setup) × (IsGo e → ⊥)
 
-in_round : (setup : Setup) (k : ℕ) (ds : List (Deed Mail)) → k < actors_in setup → AllByRecursion (IsOwn k) ds → AllByRecursion IsNoGo ds → AllByRecursion (IsInRound setup) (map (λ (d : Deed Mail). d.entry) ds)
+in_round : (setup : Setup) (k : ℕ) (ds : List (Deed Mail)) → k < actors_in setup → AllByRecursion (IsDeedOf k) ds → AllByRecursion IsNoGo ds
+    → AllByRecursion (IsInRound setup) (map (λ (d : Deed Mail). d.entry) ds)
 in_round setup k [] l owned none = tt
 in_round setup k (d ∷ ds) l owned none = ((omega (arith, l, owned.0), none.0), in_round setup k ds l owned.1 none.1)
 
-deeds_in_round : (setup : Setup) (ds : List (Deed Mail)) → AllByRecursion (IsInRound setup) (map (λ (d : Deed Mail). d.entry) ds) → AllByRecursion (λ (d : Deed Mail). d.entry.actor < actors_in setup) ds × AllByRecursion IsNoGo ds
+deeds_in_round : (setup : Setup) (ds : List (Deed Mail)) → AllByRecursion (IsInRound setup) (map (λ (d : Deed Mail). d.entry) ds)
+    → AllByRecursion (λ (d : Deed Mail). d.entry.actor < actors_in setup) ds × AllByRecursion IsNoGo ds
 deeds_in_round setup [] all = (tt, tt)
 deeds_in_round setup (d ∷ ds) all = let rest = deeds_in_round setup ds all.1 in ((all.0.0, rest.0), (all.0.1, rest.1))
 
 -- what a round did is a run, by the merge of its entries
-pub phase_runs : (setup : Setup) → IsSetup setup → ActsAreARun carried → (d : Node) (u v : View Node Mail) (phase : Phase own (acts carried) took turned u v) (entries : List JournalEntry) → Interleaves (λ k. entries_of (phase.notes k)) entries
+pub phase_runs : (setup : Setup) → IsSetup setup → ActsAreARun carried
+    → (d : Node) (u v : View Node Mail) (phase : NetPhase own (acts carried) took turned u v) (entries : List JournalEntry)
+    → Interleaves (λ k. entries_of (phase.notes k)) entries
     → HasRuns setup u v (λ k. entries_of (phase.notes k))
 phase_runs setup sound law d u v phase entries merge w size reached seen =
     run_of_piece setup u v [] phase.notes grew entries merge w seen (law setup seen.lab done.last (deeds done.events) w sound reached seen.sees alone.0 alone.1 done.run)
@@ -217,7 +226,8 @@ phase_runs setup sound law d u v phase entries merge w size reached seen =
 -- ---- a mark
 
 -- what one actor did at a mark is its own merge
-merge_at_mark : (n : ℕ) (ds : List (Deed Mail)) → AllByRecursion (IsOwn n) ds → length ds ≤ 1 → Interleaves (λ k. entries_of (at_mark own (acts carried) n ds k)) (map (λ (d : Deed Mail). d.entry) ds)
+merge_at_mark : (n : ℕ) (ds : List (Deed Mail)) → AllByRecursion (IsDeedOf n) ds → length ds ≤ 1
+    → Interleaves (λ k. entries_of (at_mark own (acts carried) n ds k)) (map (λ (d : Deed Mail). d.entry) ds)
 merge_at_mark n [] owned few = record { each = λ k. nobody (k == n); sorted = tt }
   where
     nobody : (t : Bool) → ◌≡◌ {A = List JournalEntry} [] (entries_of {I = Mail} (if t then [] else []))
@@ -234,13 +244,16 @@ merge_at_mark n (d ∷ []) owned few = record { each = each; sorted = (tt, tt) }
     ]
 merge_at_mark n (d ∷ other ∷ ds) owned few = absurd (omega (arith, few))
 
-entries_own : (n : ℕ) (ds : List (Deed Mail)) → AllByRecursion (IsOwn n) ds → AllByRecursion (λ (e : JournalEntry). e.actor ≡ n) (map (λ (d : Deed Mail). d.entry) ds)
+entries_own : (n : ℕ) (ds : List (Deed Mail)) → AllByRecursion (IsDeedOf n) ds
+    → AllByRecursion (λ (e : JournalEntry). e.actor ≡ n) (map (λ (d : Deed Mail). d.entry) ds)
 entries_own n [] owned = tt
 entries_own n (d ∷ ds) owned = (owned.0, entries_own n ds owned.1)
 
 -- one deed at most, in a quiet world
-few_run : (setup : Setup) → IsSetup setup → AnActIsAStep carried → ActsAreARun carried → (n : ℕ) (x : names.ActorName) → names.actor_at setup n ≡ Some x → (lab last : worlds.World OwnPart _) (ds : List (Deed Mail)) (w : World) → Reached setup w
-    → IsLab carried setup lab w → Quiet setup w → AllByRecursion (λ (e : JournalEntry). e.actor ≡ n) (map (λ (d : Deed Mail). d.entry) ds) → length ds ≤ 1 → worlds.Run (acts carried) lab ds last
+few_run : (setup : Setup) → IsSetup setup → AnActIsAStep carried → ActsAreARun carried → (n : ℕ) (x : names.ActorName)
+    → names.actor_at setup n ≡ Some x → (lab last : worlds.DeedWorld OwnPart _) (ds : List (Deed Mail)) (w : World) → Reached setup w
+    → IsLab carried setup lab w → Quiet setup w → AllByRecursion (λ (e : JournalEntry). e.actor ≡ n) (map (λ (d : Deed Mail). d.entry) ds)
+    → length ds ≤ 1 → worlds.DeedRun (acts carried) lab ds last
     → IsRunOfLab carried setup w (map (λ (d : Deed Mail). d.entry) ds) last
 few_run setup sound step law n x is lab last [] w reached is_lab quiet owned few run = law setup lab last [] w sound reached is_lab tt tt run
 few_run setup sound step law n x is lab last (d ∷ []) w reached is_lab quiet owned few (mid, made, same) =
@@ -250,27 +263,29 @@ few_run setup sound step law n x is lab last (d ∷ []) w reached is_lab quiet o
 few_run setup sound step law n x is lab last (d ∷ other ∷ ds) w reached is_lab quiet owned few run = absurd (omega (arith, few))
 
 -- at a mark all clocks are level, and then at that of what the operator did
-abbrev pub pause_levels : (setup : Setup) (b c : Stand) → Pause (operator_in setup) b c true → List ℕ
+abbrev pub pause_levels : (setup : Setup) (b c : Stand) → Pause (operator_number setup) b c true → List ℕ
 pause_levels setup b c pause = pause.levelled.clock ∷ pause.between.from ∷ pause.between.to ∷ []
 
-abbrev pub pause_notes : (setup : Setup) (b c : Stand) → Pause (operator_in setup) b c true → ℕ → List (Noted Mail)
-pause_notes setup b c pause = at_mark own (acts carried) (operator_in setup) pause.between.deeds
+abbrev pub pause_notes : (setup : Setup) (b c : Stand) → Pause (operator_number setup) b c true → ℕ → List (Noted Mail)
+pause_notes setup b c pause = at_mark own (acts carried) (operator_number setup) pause.between.deeds
 
-pub pause_grew : (setup : Setup) (b c : Stand) (pause : Pause (operator_in setup) b c true) → length b.view.actors ≡ actors_in setup → Grew own (acts carried) b.view c.view (pause_levels setup b c pause) (pause_notes setup b c pause)
+pub pause_grew : (setup : Setup) (b c : Stand) (pause : Pause (operator_number setup) b c true) → length b.view.actors ≡ actors_in setup
+    → Grew own (acts carried) b.view c.view (pause_levels setup b c pause) (pause_notes setup b c pause)
 pause_grew setup b c pause size = grows_on own (acts carried) b.view pause.level c.view (pause.levelled.clock ∷ []) (pause.between.from ∷ pause.between.to ∷ []) (λ k. []) (pause_notes setup b c pause)
     (level_grows own (acts carried) b.view pause.level pause.levelled)
-    (between_grows own (acts carried) paused pause.level c.view (operator_in setup) true (omega (arith, size, ap (λ (xs : List Node). length xs) pause.levelled.only.actors)) pause.between)
+    (between_grows own (acts carried) paused pause.level c.view (operator_number setup) true (omega (arith, size, ap (λ (xs : List Node). length xs) pause.levelled.only.actors)) pause.between)
 
 -- what the operator did at a mark, in a quiet world, is a run
-pub pause_runs : (setup : Setup) → IsSetup setup → AnActIsAStep carried → ActsAreARun carried → (d : Node) (b c : Stand) → QuietAt own carried setup b.view → (pause : Pause (operator_in setup) b c true)
+pub pause_runs : (setup : Setup) → IsSetup setup → AnActIsAStep carried → ActsAreARun carried → (d : Node) (b c : Stand)
+    → QuietAt own carried setup b.view → (pause : Pause (operator_number setup) b c true)
     → HasRuns setup b.view c.view (λ k. entries_of (pause_notes setup b c pause k))
 pause_runs setup sound step law d b c quiet pause w size reached seen =
     run_of_piece setup b.view c.view levels notes grew entries merge w seen
-    (few_run setup sound step law (operator_in setup) names.Operator (at_operator setup) seen.lab done.last (deeds done.events) w reached seen.sees (quiet w seen reached)
-    (subst⁻¹ (λ (es : List JournalEntry). AllByRecursion (λ (e : JournalEntry). e.actor ≡ operator_in setup) es) same (entries_own (operator_in setup) did.deeds did.own))
+    (few_run setup sound step law (operator_number setup) names.Operator (at_operator setup) seen.lab done.last (deeds done.events) w reached seen.sees (quiet w seen reached)
+    (subst⁻¹ (λ (es : List JournalEntry). AllByRecursion (λ (e : JournalEntry). e.actor ≡ operator_number setup) es) same (entries_own (operator_number setup) did.deeds did.own))
     (omega (arith, few, ap (λ (es : List JournalEntry). length es) same, length-map (deeds done.events) (λ (x : Deed Mail). x.entry), length-map did.deeds (λ (x : Deed Mail). x.entry))) done.run)
   where
-    did : Between own (acts carried) paused (operator_in setup) pause.level c.view true
+    did : Between own (acts carried) paused (operator_number setup) pause.level c.view true
     did = pause.between
 
     levels : List ℕ
@@ -289,7 +304,7 @@ pause_runs setup sound step law d b c quiet pause w size reached seen =
     grew = pause_grew setup b c pause size
 
     merge : Interleaves (λ k. entries_of (notes k)) entries
-    merge = merge_at_mark (operator_in setup) did.deeds did.own few
+    merge = merge_at_mark (operator_number setup) did.deeds did.own few
 
     done : RunsTo own (acts carried) b.view seen.lab levels notes entries c.view
     done = piece setup b.view c.view levels notes grew entries merge w seen

@@ -17,9 +17,9 @@ use Rattle.graft_model.specs.declared.event.RouterEvent.TheVariants.{Put, Emit, 
 use Rattle.graft_model.specs.declared.event.FarEvent.TheVariants.{Say, Send, Take, Pass, Reach, Lose, Point, Beat}
 use Rattle.graft_model.specs.declared.event.OperatorEvent.TheVariants.{Order, Note, Go}
 use Rattle.graft_model.specs.Steps.{router_row, far_row, operator_row}
-use Rattle.graft_runs.specs.Actors.{ActorPart, RouterIs, FarIs, OperatorIs, Thing, ActorName, Router, FarSide, Operator, number_in, actor_at}
-use Rattle.graft_runs.specs.Makes.{HasCode, makes_as, numbered, taken_by_router, taken_by_far, taken_by_operator}
-use Rattle.graft_runs.proofs.Numbers.{of_number}
+use Rattle.graft_actors.specs.Actors.{ActorPart, RouterIs, FarIs, OperatorIs, Thing, ActorName, Router, FarSide, Operator, number_in, actor_at}
+use Rattle.graft_actors.specs.Makes.{HasCode, makes_as, numbered, taken_by_router, taken_by_far, taken_by_operator}
+use Rattle.graft_actors.proofs.Numbers.{of_number}
 use Rattle.graft_actors.specs.Items.{thing_of}
 use Rattle.graft_actors.specs.Acts.{OwnPart, ActsAs, IsWelcome, MayTakeFrom, TakesWelcome, things}
 use Rattle.router_core.specs.Parts.{carried}
@@ -35,11 +35,12 @@ sender_coded code entry coded = λ i. sender_at (coded.kind i) (coded.a i)
 
 -- ---- by the rows
 
-router_sender : (setup : Setup) (r : ℕ) (event : RouterEvent) (a b : RouterPart) (taken : Option RouterTaken) (sent : List RouterSent) → router_row setup r event a taken sent b
+router_sender : (setup : Setup) (r : ℕ) (event : RouterEvent) (a b : RouterPart) (taken : Option RouterTaken) (sent : List RouterSent)
+    → router_row setup r event a taken sent b
     → sender_at (router_code event).kind (router_code event).a ≡ option_map (λ t. (taken_by_router t).0) taken
 router_sender setup r (Put p n) a b taken sent row = put n row
   where
-    put : (n : ℕ) → steps.puts setup r p n a taken sent b → None ≡ option_map (λ t. (taken_by_router t).0) taken
+    put : (n : ℕ) → steps.put_row setup r p n a taken sent b → None ≡ option_map (λ t. (taken_by_router t).0) taken
     put zero row = rw (row.alone.0) refl
     put (suc n) row = rw (row.alone.0) refl
 router_sender setup r (Emit p from len) a b taken sent row = rw (row.takes) refl
@@ -74,7 +75,8 @@ far_sender setup p (Lose way index) a b taken sent row = rw (row.takes) refl
 far_sender setup p (Point router) a b taken sent row = rw (row.takes) refl
 far_sender setup p (Beat round) a b taken sent row = rw (row.takes) refl
 
-operator_sender : (setup : Setup) (event : OperatorEvent) (a b : OperatorPart) (taken : Option OperatorTaken) (sent : List OperatorSent) → operator_row setup event a taken sent b
+operator_sender : (setup : Setup) (event : OperatorEvent) (a b : OperatorPart) (taken : Option OperatorTaken) (sent : List OperatorSent)
+    → operator_row setup event a taken sent b
     → sender_at (operator_code event).kind (operator_code event).a ≡ option_map (λ t. (taken_by_operator t).0) taken
 operator_sender setup (Order step number) a b taken sent (inl row) = rw (row.takes) refl
 operator_sender setup (Order step number) a b taken sent (inr row) = rw (row.takes) refl
@@ -83,7 +85,8 @@ operator_sender setup Go a b taken sent row = rw (row.takes) refl
 
 -- ---- two senders of like things with one number are one
 
-same_router : (setup : Setup) (t u : RouterTaken) → (taken_by_router t).1 ≡ (taken_by_router u).1 → number_in setup (taken_by_router t).0 ≡ number_in setup (taken_by_router u).0 → (taken_by_router u).0 ≡ (taken_by_router t).0
+same_router : (setup : Setup) (t u : RouterTaken) → (taken_by_router t).1 ≡ (taken_by_router u).1
+    → number_in setup (taken_by_router t).0 ≡ number_in setup (taken_by_router u).0 → (taken_by_router u).0 ≡ (taken_by_router t).0
 same_router setup (OrderIn x) (OrderIn y) e f = refl
 same_router setup (OrderIn x) (SegmentIn p y) e f = absurd cc
 same_router setup (OrderIn x) (MeshIn q y) e f = absurd cc
@@ -94,13 +97,15 @@ same_router setup (MeshIn p x) (OrderIn y) e f = absurd cc
 same_router setup (MeshIn p x) (SegmentIn q y) e f = absurd cc
 same_router setup (MeshIn p x) (MeshIn q y) e f = ap Router (sym f)
 
-same_far : (setup : Setup) (t u : FarTaken) → (taken_by_far t).1 ≡ (taken_by_far u).1 → number_in setup (taken_by_far t).0 ≡ number_in setup (taken_by_far u).0 → (taken_by_far u).0 ≡ (taken_by_far t).0
+same_far : (setup : Setup) (t u : FarTaken) → (taken_by_far t).1 ≡ (taken_by_far u).1
+    → number_in setup (taken_by_far t).0 ≡ number_in setup (taken_by_far u).0 → (taken_by_far u).0 ≡ (taken_by_far t).0
 same_far setup (OutwardIn p x) (OutwardIn q y) e f = ap Router (sym f)
 same_far setup (OutwardIn p x) (SayIn y) e f = absurd cc
 same_far setup (SayIn x) (OutwardIn q y) e f = absurd cc
 same_far setup (SayIn x) (SayIn y) e f = refl
 
-same_operator : (setup : Setup) (t u : OperatorTaken) → (taken_by_operator t).1 ≡ (taken_by_operator u).1 → number_in setup (taken_by_operator t).0 ≡ number_in setup (taken_by_operator u).0 → (taken_by_operator u).0 ≡ (taken_by_operator t).0
+same_operator : (setup : Setup) (t u : OperatorTaken) → (taken_by_operator t).1 ≡ (taken_by_operator u).1
+    → number_in setup (taken_by_operator t).0 ≡ number_in setup (taken_by_operator u).0 → (taken_by_operator u).0 ≡ (taken_by_operator t).0
 same_operator setup (ReportIn p x) (ReportIn q y) e f = ap Router (sym f)
 
 -- ---- an act
@@ -116,14 +121,17 @@ module _ {T : Type 0} (by : T → ActorName × Thing) (setup : Setup) (same : (t
   Comes None thing = ⊥
   Comes (Some from) thing = (t : T) × (by t ≡ (from, thing))
 
-  named : (from : ℕ) (thing : Thing) (t : T) (at : Option ActorName) → actor_at setup from ≡ at → Comes at thing → ◌≡◌ {A = ℕ × Thing} (from, thing) (numbered setup (by t)) → actor_at setup from ≡ Some (by t).0
+  named : (from : ℕ) (thing : Thing) (t : T) (at : Option ActorName) → actor_at setup from ≡ at → Comes at thing
+      → ◌≡◌ {A = ℕ × Thing} (from, thing) (numbered setup (by t)) → actor_at setup from ≡ Some (by t).0
   named from thing t None is comes e = absurd comes
   named from thing t (Some name) is (u, u_is) e =
       let number : from ≡ number_in setup name = (of_number setup from name is).1 in
-      is ∙ ap (λ (x : ActorName). Some x) (ap (λ (x : ActorName × Thing). x.0) (sym u_is) ∙ same t u (sym (ap (λ (x : ℕ × Thing). x.1) e) ∙ ap (λ (x : ActorName × Thing). x.1) (sym u_is))
+      is
+      ∙ ap (λ (x : ActorName). Some x) (ap (λ (x : ActorName × Thing). x.0) (sym u_is) ∙ same t u (sym (ap (λ (x : ℕ × Thing). x.1) e) ∙ ap (λ (x : ActorName × Thing). x.1) (sym u_is))
       (sym (ap (λ (x : ℕ × Thing). x.0) e) ∙ number ∙ ap (λ (x : ActorName × Thing). number_in setup x.0) (sym u_is)))
 
-  by_taken : (entry : JournalEntry) (taken : Option (ℕ × Mail)) (took : Option T) → sender_of entry ≡ option_map (λ t. (by t).0) took → option_map (λ x. (x.0, thing_of carried setup x.1)) taken ≡ option_map (λ t. numbered setup (by t)) took
+  by_taken : (entry : JournalEntry) (taken : Option (ℕ × Mail)) (took : Option T) → sender_of entry ≡ option_map (λ t. (by t).0) took
+      → option_map (λ x. (x.0, thing_of carried setup x.1)) taken ≡ option_map (λ t. numbered setup (by t)) took
       → ((from : ℕ) (item : Mail) → taken ≡ Some (from, item) → Comes (actor_at setup from) (thing_of carried setup item)) → IsSentBy setup entry taken
   by_taken entry None None sender e comes = sender
   by_taken entry None (Some t) sender e comes = absurd cc
@@ -133,21 +141,25 @@ module _ {T : Type 0} (by : T → ActorName × Thing) (setup : Setup) (same : (t
       pair : {A : Type 0} {u v : A} → Some u ≡ Some v → u ≡ v
       pair h = cc
 
-router_comes : (setup : Setup) (r : ℕ) (part : RouterPart) (o : Option ActorName) (thing : Thing) → MayTakeFrom setup (Router r) (RouterIs part) o thing → Comes taken_by_router setup (same_router setup) o thing
+router_comes : (setup : Setup) (r : ℕ) (part : RouterPart) (o : Option ActorName) (thing : Thing)
+    → MayTakeFrom setup (Router r) (RouterIs part) o thing → Comes taken_by_router setup (same_router setup) o thing
 router_comes setup r part None thing may = absurd may
 router_comes setup r part (Some from) thing may = (may.0, may.1)
 
-far_comes : (setup : Setup) (p : ℕ) (part : FarPart) (o : Option ActorName) (thing : Thing) → MayTakeFrom setup (FarSide p) (FarIs part) o thing → Comes taken_by_far setup (same_far setup) o thing
+far_comes : (setup : Setup) (p : ℕ) (part : FarPart) (o : Option ActorName) (thing : Thing) → MayTakeFrom setup (FarSide p) (FarIs part) o thing
+    → Comes taken_by_far setup (same_far setup) o thing
 far_comes setup p part None thing may = absurd may
 far_comes setup p part (Some from) thing may = (may.0, may.1)
 
-operator_comes : (setup : Setup) (part : OperatorPart) (o : Option ActorName) (thing : Thing) → MayTakeFrom setup Operator (OperatorIs part) o thing → Comes taken_by_operator setup (same_operator setup) o thing
+operator_comes : (setup : Setup) (part : OperatorPart) (o : Option ActorName) (thing : Thing) → MayTakeFrom setup Operator (OperatorIs part) o thing
+    → Comes taken_by_operator setup (same_operator setup) o thing
 operator_comes setup part None thing may = absurd may
 operator_comes setup part (Some from) thing may = (may.0, may.1)
 
 row_sent : (setup : Setup) (name : ActorName) (p q : ActorPart) (entry : JournalEntry) (taken : Option (ℕ × Mail)) (sent : List (ℕ × Thing))
     → makes_as setup (Some name) p entry (option_map (λ x. (x.0, thing_of carried setup x.1)) taken) sent q
-    → ((from : ℕ) (item : Mail) → taken ≡ Some (from, item) → MayTakeFrom setup name p (actor_at setup from) (thing_of carried setup item)) → IsSentBy setup entry taken
+    → ((from : ℕ) (item : Mail) → taken ≡ Some (from, item) → MayTakeFrom setup name p (actor_at setup from) (thing_of carried setup item))
+    → IsSentBy setup entry taken
 row_sent setup (Router r) (RouterIs p) (RouterIs q) entry taken sent row may = by_taken taken_by_router setup (same_router setup) entry taken row.took
     (sender_coded (router_code row.event) entry row.coded ∙ router_sender setup r row.event p q row.took row.gave row.holds) row.is_taken
     (λ from item e. router_comes setup r p (actor_at setup from) (thing_of carried setup item) (may from item e))
@@ -170,14 +182,16 @@ row_sent setup Operator (OperatorIs p) (FarIs q) entry taken sent row may = absu
 row_sent setup Operator (RouterIs p) q entry taken sent row may = absurd row
 row_sent setup Operator (FarIs p) q entry taken sent row may = absurd row
 
-welcome_takes : (own : OwnPart) (taken : Option (ℕ × Mail)) → TakesWelcome carried own taken → (from : ℕ) (item : Mail) → taken ≡ Some (from, item) → IsWelcome carried own from item
+welcome_takes : (own : OwnPart) (taken : Option (ℕ × Mail)) → TakesWelcome carried own taken → (from : ℕ) (item : Mail) → taken ≡ Some (from, item)
+    → IsWelcome carried own from item
 welcome_takes own None welcome from item e = absurd cc
 welcome_takes own (Some x) welcome from item e = subst (λ (y : ℕ × Mail). IsWelcome carried own y.0 y.1) (same e) welcome
   where
     same : {u v : ℕ × Mail} → Some u ≡ Some v → u ≡ v
     same h = cc
 
-pub act_sent : (before after : OwnPart) (entry : JournalEntry) (taken : Option (ℕ × Mail)) (sent : List (ℕ × Mail)) → ActsAs carried before entry taken sent after → entry.kind ≢ 0 → IsSentBy before.setup entry taken
+pub act_sent : (before after : OwnPart) (entry : JournalEntry) (taken : Option (ℕ × Mail)) (sent : List (ℕ × Mail))
+    → ActsAs carried before entry taken sent after → entry.kind ≢ 0 → IsSentBy before.setup entry taken
 act_sent before after entry taken sent act kept = elim act.does [
   | inl makes ↦ row_sent before.setup before.name before.part after.part entry taken (things carried before.setup sent) makes.row (λ from item e. (welcome_takes before taken makes.welcome from item e).takes)
   | inr drops ↦ absurd (kept drops.kind)

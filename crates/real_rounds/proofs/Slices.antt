@@ -1,4 +1,4 @@
--- What stands between two marks of a journal, and the events that it is of.
+-- What stands between two marks of a journal.
 use Rattle.std.proofs.Common.{◌≡◌, ◌-◌, ◌∙◌, ℕ, zero, suc, List, [], ◌∷◌, ◌++◌, length, map, take, drop, refl, ap, arith, take_at, length-append}
 use Rattle.ring_net.specs.declared.entry.JournalEntry.{JournalEntry}
 use Rattle.ring_net.specs.Deeds.{Deed, Noted, deeds, entries_of}
@@ -7,12 +7,10 @@ use Rattle.graft_model.specs.Codes.{router_code, far_code, operator_code}
 use Rattle.graft_model.specs.declared.event.RouterEvent.{RouterEvent}
 use Rattle.graft_model.specs.declared.event.FarEvent.{FarEvent}
 use Rattle.graft_model.specs.declared.event.OperatorEvent.{OperatorEvent}
-use Rattle.router_core.specs.Rounds as router_rounds
-use Rattle.far_side.specs.Turns as far_turns
-use Rattle.run_marks.specs.Marks.{before}
+use Rattle.world_runs.specs.Marks.{before}
 use Rattle.world_nodes.specs.Nodes.{Mail}
-use Rattle.real_rounds.specs.Entries.{between, AreCoded}
-use Rattle.real_rounds.proofs.NodeRounds.{AreEventsOf}
+use Rattle.real_rounds.specs.Entries.{between}
+use Rattle.graft_actors.specs.Makes.{AreCoded}
 
 cut_out : {A : Type 0} (had new more : List A) (m n : ℕ) → m ≡ length had → length new ≡ n → take n (drop m ((had ++ new) ++ more)) ≡ new
 cut_out [] new more zero n e f = take_at new more n f
@@ -21,7 +19,8 @@ cut_out (x ∷ had) new more zero n e f = absurd (omega (arith, e))
 cut_out (x ∷ had) new more (suc m) n e f = cut_out had new more m n (omega (arith, e)) f
 
 -- between two marks of which the one has had an actor's first entries, and the other those and more
-pub between_is : (journal : List JournalEntry) (mark next : List ℕ) (k : ℕ) (had new more : List JournalEntry) → entries_by k journal ≡ (had ++ new) ++ more → before mark k ≡ length had → before next k ≡ length (had ++ new)
+pub between_is : (journal : List JournalEntry) (mark next : List ℕ) (k : ℕ) (had new more : List JournalEntry)
+    → entries_by k journal ≡ (had ++ new) ++ more → before mark k ≡ length had → before next k ≡ length (had ++ new)
     → between journal mark next k ≡ new
 between_is journal mark next k had new more is at_mark at_next =
     ap (λ (es : List JournalEntry). take (before next k - before mark k) (drop (before mark k) es)) is
@@ -32,21 +31,3 @@ between_is journal mark next k had new more is at_mark at_next =
 pub entries_in_deeds : (notes : List (Noted Mail)) → map (λ (d : Deed Mail). d.entry) (deeds notes) ≡ entries_of notes
 entries_in_deeds [] = refl
 entries_in_deeds (n ∷ ns) = ap (λ (es : List JournalEntry). n.deed.entry ∷ es) (entries_in_deeds ns)
-
-pub router_coded : (events : List RouterEvent) (ds : List (Deed Mail)) → router_rounds.AreOf events ds → AreCoded router_code events (map (λ (d : Deed Mail). d.entry) ds)
-router_coded [] [] coded = tt
-router_coded [] (d ∷ ds) coded = absurd coded
-router_coded (e ∷ es) [] coded = absurd coded
-router_coded (e ∷ es) (d ∷ ds) coded = (coded.0, router_coded es ds coded.1)
-
-pub far_coded : (events : List FarEvent) (ds : List (Deed Mail)) → far_turns.AreOf events ds → AreCoded far_code events (map (λ (d : Deed Mail). d.entry) ds)
-far_coded [] [] coded = tt
-far_coded [] (d ∷ ds) coded = absurd coded
-far_coded (e ∷ es) [] coded = absurd coded
-far_coded (e ∷ es) (d ∷ ds) coded = (coded.0, far_coded es ds coded.1)
-
-pub operator_coded : (events : List OperatorEvent) (ds : List (Deed Mail)) → AreEventsOf events ds → AreCoded operator_code events (map (λ (d : Deed Mail). d.entry) ds)
-operator_coded [] [] coded = tt
-operator_coded [] (d ∷ ds) coded = absurd coded
-operator_coded (e ∷ es) [] coded = absurd coded
-operator_coded (e ∷ es) (d ∷ ds) coded = (coded.0, operator_coded es ds coded.1)

@@ -127,7 +127,8 @@ module _ (n : ℕ) where
   abbrev After : RouterPart → List RouterSent → Type 0
   After b sent = EarlyPlaces b × AllByRecursion EarlySent sent
 
-  early_row : (setup : Setup) (r : ℕ) (event : RouterEvent) (a b : RouterPart) (taken : Option RouterTaken) (sent : List RouterSent) → router_row setup r event a taken sent b → NotLate event → EarlyPlaces a → EarlyTaken taken → After b sent
+  early_row : (setup : Setup) (r : ℕ) (event : RouterEvent) (a b : RouterPart) (taken : Option RouterTaken) (sent : List RouterSent)
+      → router_row setup r event a taken sent b → NotLate event → EarlyPlaces a → EarlyTaken taken → After b sent
   early_row setup r (events.Put q zero) a b taken sent row l all took = (same_places a b (ap (λ (x : RouterPart). x.places) row.effect) all, nothing_sent sent row.alone.1)
   early_row setup r (events.Put q (suc m)) a b taken sent row l all took = (
     at_place a b q (Live row.next row.errand) (ap (λ (x : RouterPart). x.places) row.effect)
@@ -198,7 +199,8 @@ module _ (n : ℕ) where
 
   -- ---- the world
 
-  mesh_at : (f : ℕ → ℕ → List Mesh) (q r : ℕ) (items : List Mesh) → ((x y : ℕ) → AllByRecursion EarlyMesh (f x y)) → AllByRecursion EarlyMesh items → (x y : ℕ) → AllByRecursion EarlyMesh (at2 f q r items x y)
+  mesh_at : (f : ℕ → ℕ → List Mesh) (q r : ℕ) (items : List Mesh) → ((x y : ℕ) → AllByRecursion EarlyMesh (f x y)) → AllByRecursion EarlyMesh items
+      → (x y : ℕ) → AllByRecursion EarlyMesh (at2 f q r items x y)
   mesh_at f q r items all new x y = elim (eqb_tells x q) [
     | inl e ↦ elim (eqb_tells y r) [
       | inl g ↦ subst⁻¹ (λ (xs : List Mesh). AllByRecursion EarlyMesh xs) (let h : at2 f q r items x y ≡ items = rw (e.0, g.0) refl in h) new

@@ -35,7 +35,7 @@ use Rattle.bgp_session.specs.Steps.{MayPass}
 use Rattle.router_core.specs.Parts.{router_part}
 use Rattle.router_core.specs.Places.{place_of}
 use Rattle.router_core.specs.Rounds.{RouterGoes}
-use Rattle.router_core.specs.Turned.{Takes, stage_of}
+use Rattle.router_core.specs.Turned.{IsRouterTake, stage_of}
 use Rattle.real_rounds.proofs.Calls.{CallsSay}
 use Rattle.real_rounds.specs.Routers.{HasLive}
 use Rattle.real_rounds.proofs.LegActors.{Ticking}
@@ -55,7 +55,8 @@ same_live : (s u : SessionValue) (o q : Option Errand) → Live s o ≡ Live u q
 same_live s u o q e = cc
 
 -- the place of the event, or another
-at_step : (a b : RouterPart) (q p : ℕ) (v : Place) (s u : SessionValue) (o w : Option Errand) → IsLive a p s o → IsLive b p u w → b.places ≡ at a.places q v → ((p ≡ q) × (v ≡ Live u w)) ⊎ (u ≡ s)
+at_step : (a b : RouterPart) (q p : ℕ) (v : Place) (s u : SessionValue) (o w : Option Errand) → IsLive a p s o → IsLive b p u w
+    → b.places ≡ at a.places q v → ((p ≡ q) × (v ≡ Live u w)) ⊎ (u ≡ s)
 at_step a b q p v s u o w before ends_at effect = elim (eqb_tells p q) [
   | inl e ↦ inl (e.1, sym (own e.0) ∙ sym (ap (λ (f : ℕ → Place). f p) effect) ∙ ends_at.is)
   | inr ne ↦ inr (same_live s u o w (sym before.is ∙ sym (other ne.0) ∙ sym (ap (λ (f : ℕ → Place). f p) effect) ∙ ends_at.is))
@@ -72,24 +73,29 @@ was : (a : RouterPart) (p q : ℕ) (s x : SessionValue) (o y : Option Errand) �
 was a p q s x o y e here row = same_live s x o y (sym here.is ∙ ap a.places e ∙ row.is)
 
 -- the same place
-place_same : (event : RouterEvent) (a b : RouterPart) (p : ℕ) (s u : SessionValue) (o w : Option Errand) → IsLive a p s o → IsLive b p u w → b.places p ≡ a.places p → Step event p s u
+place_same : (event : RouterEvent) (a b : RouterPart) (p : ℕ) (s u : SessionValue) (o w : Option Errand) → IsLive a p s o → IsLive b p u w
+    → b.places p ≡ a.places p → Step event p s u
 place_same event a b p s u o w before ends_at e = stays (same_live s u o w (sym before.is ∙ sym e ∙ ends_at.is))
 
 -- only the order changes, or the session is not live then
-order_changes : (event : RouterEvent) (a b : RouterPart) (q p : ℕ) (x s u : SessionValue) (y z o w : Option Errand) → IsLive a q x y → IsLive a p s o → IsLive b p u w → b.places ≡ at a.places q (Live x z) → Step event p s u
+order_changes : (event : RouterEvent) (a b : RouterPart) (q p : ℕ) (x s u : SessionValue) (y z o w : Option Errand) → IsLive a q x y → IsLive a p s o
+    → IsLive b p u w → b.places ≡ at a.places q (Live x z) → Step event p s u
 order_changes event a b q p x s u y z o w row before ends_at effect = elim (at_step a b q p (Live x z) s u o w before ends_at effect) [
   | inl h ↦ stays (same_live x u z w h.1 ∙ was a p q s x o y h.0 before row)
   | inr e ↦ stays e
 ]
 
-leaves : (event : RouterEvent) (a b : RouterPart) (q p : ℕ) (v : Place) (s u : SessionValue) (o w : Option Errand) → ((x : SessionValue) (y : Option Errand) → v ≢ Live x y) → IsLive a p s o → IsLive b p u w → b.places ≡ at a.places q v → Step event p s u
+leaves : (event : RouterEvent) (a b : RouterPart) (q p : ℕ) (v : Place) (s u : SessionValue) (o w : Option Errand)
+    → ((x : SessionValue) (y : Option Errand) → v ≢ Live x y) → IsLive a p s o → IsLive b p u w → b.places ≡ at a.places q v → Step event p s u
 leaves event a b q p v s u o w dead before ends_at effect = elim (at_step a b q p v s u o w before ends_at effect) [
   | inl h ↦ absurd (dead u w h.1)
   | inr e ↦ stays e
 ]
 
 -- it comes where none was
-comes : (event : RouterEvent) (a b : RouterPart) (q p : ℕ) (v : Place) (s u : SessionValue) (o w : Option Errand) → ((x : SessionValue) (y : Option Errand) → a.places q ≢ Live x y) → IsLive a p s o → IsLive b p u w → b.places ≡ at a.places q v → Step event p s u
+comes : (event : RouterEvent) (a b : RouterPart) (q p : ℕ) (v : Place) (s u : SessionValue) (o w : Option Errand)
+    → ((x : SessionValue) (y : Option Errand) → a.places q ≢ Live x y) → IsLive a p s o → IsLive b p u w → b.places ≡ at a.places q v
+    → Step event p s u
 comes event a b q p v s u o w absent before ends_at effect = elim (at_step a b q p v s u o w before ends_at effect) [
   | inl h ↦ absurd (absent s o (ap a.places (sym h.0) ∙ before.is))
   | inr e ↦ stays e
@@ -105,14 +111,16 @@ no_frozen : (z : SessionValue) (k : Order) (x : SessionValue) (y : Option Errand
 no_frozen z k x y f = absurd cc
 
 -- another session there, by a case
-changes : (event : RouterEvent) (a b : RouterPart) (q p : ℕ) (x next s u : SessionValue) (y z o w : Option Errand) → IsLive a q x y → IsLive a p s o → IsLive b p u w → b.places ≡ at a.places q (Live next z)
+changes : (event : RouterEvent) (a b : RouterPart) (q p : ℕ) (x next s u : SessionValue) (y z o w : Option Errand) → IsLive a q x y → IsLive a p s o
+    → IsLive b p u w → b.places ≡ at a.places q (Live next z)
     → (p ≡ q → x ≡ s → next ≡ u → Step event p s u) → Step event p s u
 changes event a b q p x next s u y z o w row before ends_at effect case = elim (at_step a b q p (Live next z) s u o w before ends_at effect) [
   | inl h ↦ case h.0 (was a p q s x o y h.0 before row) (sym (same_live next u z w h.1))
   | inr e ↦ stays e
 ]
 
-pub step_of : (setup : Setup) (r : ℕ) (event : RouterEvent) (a b : RouterPart) (taken : Option RouterTaken) (sent : List RouterSent) → router_row setup r event a taken sent b → (p : ℕ) (s u : SessionValue) (o w : Option Errand)
+pub step_of : (setup : Setup) (r : ℕ) (event : RouterEvent) (a b : RouterPart) (taken : Option RouterTaken) (sent : List RouterSent)
+    → router_row setup r event a taken sent b → (p : ℕ) (s u : SessionValue) (o w : Option Errand)
     → IsLive a p s o → IsLive b p u w → Step event p s u
 step_of setup r (events.Put q zero) a b taken sent row p s u o w before ends_at = place_same (events.Put q zero) a b p s u o w before ends_at (ap (λ (x : RouterPart). x.places p) row.effect)
 step_of setup r (events.Put q (suc n)) a b taken sent row p s u o w before ends_at =
@@ -163,7 +171,8 @@ closed_step event p s u (gets bytes g) closed = absurd (g.unclosed closed)
 closed_step event p s u (puts update g is) closed = absurd (let h : Closed ≡ Established = sym closed ∙ g.established in cc)
 closed_step event p s u (passes round g is) closed = absurd (closed_up (state s) closed g.up)
 
-closed_on : (Allowed : RouterPart → RouterEvent → Type 0) (setup : Setup) (r : ℕ) (a b : RouterPart) (es : List RouterEvent) (ms : List RouterPart) → RouterGoes setup r Allowed a es ms b → (p : ℕ) → AllByRecursion (HasLive p) (a ∷ ms)
+closed_on : (Allowed : RouterPart → RouterEvent → Type 0) (setup : Setup) (r : ℕ) (a b : RouterPart) (es : List RouterEvent) (ms : List RouterPart)
+    → RouterGoes setup r Allowed a es ms b → (p : ℕ) → AllByRecursion (HasLive p) (a ∷ ms)
     → (s u : SessionValue) (o w : Option Errand) → IsLive a p s o → IsLive b p u w → state s ≡ Closed → state u ≡ Closed
 closed_on Allowed setup r a b [] [] goes p all s u o w before ends_at closed =
     ap (λ (x : SessionValue). state x) (same_live s u o w (sym before.is ∙ ap (λ (x : RouterPart). x.places p) (sym goes) ∙ ends_at.is)) ∙ closed
@@ -229,7 +238,8 @@ may_get s u bytes round g may unclosed =
     one_got : (round : ℕ) (bytes : List ℕ) → All (IsEarlier round) (Got bytes ∷ [])
     one_got round bytes = search rules
 
-may_step : (event : RouterEvent) (p : ℕ) (s u : SessionValue) (round : ℕ) → Step event p s u → stage_of event ≡ 0 → MayPass s round → state u ≢ Closed → MayPass u round
+may_step : (event : RouterEvent) (p : ℕ) (s u : SessionValue) (round : ℕ) → Step event p s u → stage_of event ≡ 0 → MayPass s round
+    → state u ≢ Closed → MayPass u round
 may_step event p s u round (stays e) takes may unclosed = subst⁻¹ (λ (x : SessionValue). MayPass x round) e may
 may_step event p s u round (ends end e stream) takes may unclosed = subst⁻¹ (λ (x : SessionValue). MayPass x round) e
     (record { up = may.up; runs = may.runs; later = may.later; room = omega (arith, may.room, ap (λ (xs : List ℕ). length xs) stream) })
@@ -237,7 +247,8 @@ may_step event p s u round (gets bytes g) takes may unclosed = may_get s u bytes
 may_step event p s u round (puts update g is) takes may unclosed = absurd (is takes)
 may_step event p s u round (passes n g is) takes may unclosed = absurd (is takes)
 
-may_on : (setup : Setup) (r : ℕ) (a b : RouterPart) (es : List RouterEvent) (ms : List RouterPart) (round : ℕ) → RouterGoes setup r Takes a es ms b → (p : ℕ) → AllByRecursion (HasLive p) (a ∷ ms)
+may_on : (setup : Setup) (r : ℕ) (a b : RouterPart) (es : List RouterEvent) (ms : List RouterPart) (round : ℕ)
+    → RouterGoes setup r IsRouterTake a es ms b → (p : ℕ) → AllByRecursion (HasLive p) (a ∷ ms)
     → (s u : SessionValue) (o w : Option Errand) → IsLive a p s o → IsLive b p u w → state u ≢ Closed → MayPass s round → MayPass u round
 may_on setup r a b [] [] round goes p all s u o w before ends_at unclosed may =
     subst⁻¹ (λ (x : SessionValue). MayPass x round) (same_live s u o w (sym before.is ∙ ap (λ (x : RouterPart). x.places p) (sym goes) ∙ ends_at.is)) may
@@ -247,13 +258,13 @@ may_on setup r a b (e ∷ es) (m ∷ ms) round goes p all s u o w before ends_at
     let (x, y, live) = all.1.0 in
     may_on setup r m b es ms round goes.4 p all.1 x u y w live ends_at unclosed
     (may_step e p s x round (step_of setup r e a m goes.0 goes.1 goes.2 p s x o y before live) goes.3 may
-    (λ closed. unclosed (closed_on Takes setup r m b es ms goes.4 p all.1 x u y w live ends_at closed)))
+    (λ closed. unclosed (closed_on IsRouterTake setup r m b es ms goes.4 p all.1 x u y w live ends_at closed)))
 
 -- ---- the law of one round
 
 pub ticking : (law : CallsSay) → Ticking
 ticking law x c ds ph n at earlier p s u stands starts ends_up room m o m_at =
-    let both = through_both (HasLive p) Takes x.known.setup x.number.0 (router_part x) (router_part ph.mid) ph.takes.events ph.takes.moments (ph.turns.first ++ ph.turns.later) ph.takes.goes stands.throughout in
+    let both = through_both (HasLive p) IsRouterTake x.known.setup x.number.0 (router_part x) (router_part ph.mid) ph.takes.events ph.takes.moments (ph.turns.first ++ ph.turns.later) ph.takes.goes stands.throughout in
     let (v, v_order, v_at, v_is) = runs_at x p s stands.first_order stands.starts in
     let number : c.turns ≡ n + 1 = omega (arith, ph.turns.turns, ph.takes.turns, at.turns) in
     let later : All (IsEarlier (n + 1)) s.story = subst (λ (y : SessionValue). All (IsEarlier (n + 1)) y.story) v_is (earlier p v v_order v_at) in

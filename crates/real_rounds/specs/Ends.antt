@@ -4,5 +4,5 @@ use Rattle.tcp_seq.specs.Endpoint.{Endpoint}
 
 -- If bytes were outstanding at the start, more is acknowledged at the end, or an old slice was sent again. The number counts the slices that were
 -- sent again.
-abbrev pub GoesOn : Endpoint → Endpoint → ℕ → Type 0
-GoesOn start end again = start.acked < start.emitted → (start.acked < end.acked) ⊎ (again ≡ 1)
+abbrev pub AcksOrResends : Endpoint → Endpoint → ℕ → Type 0
+AcksOrResends start end again = start.acked < start.emitted → (start.acked < end.acked) ⊎ (again ≡ 1)

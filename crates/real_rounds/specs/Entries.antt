@@ -8,40 +8,32 @@ use Rattle.graft_model.specs.declared.event.RouterEvent.TheVariants.{Arrive, Str
 use Rattle.graft_model.specs.declared.event.FarEvent.TheVariants.{Say, Take, Point}
 use Rattle.graft_model.specs.declared.event.OperatorEvent.TheVariants.{Note}
 use Rattle.graft_model.specs.Codes.{router_code, far_code, operator_code}
-use Rattle.graft_runs.specs.Actors.{ActorName, Router, FarSide, Operator}
-use Rattle.graft_runs.specs.Makes.{HasCode}
-use Rattle.run_marks.specs.Marks.{before}
+use Rattle.graft_actors.specs.Actors.{ActorName, Router, FarSide, Operator, same_name}
+use Rattle.graft_actors.specs.Makes.{HasCode}
+use Rattle.world_runs.specs.Marks.{before}
 
 -- the entries of an actor after a mark and before the next one
 abbrev pub between : List JournalEntry → (mark next : List ℕ) → ℕ → List JournalEntry
 between journal mark next k = take (before next k - before mark k) (drop (before mark k) (entries_by k journal))
 
--- the entries are those of these events, in their order
-abbrev pub AreCoded : {E : Type 0} → (E → Code) → List E → List JournalEntry → Type 0
-AreCoded code [] [] = Unit {0}
-AreCoded code (event ∷ events) (entry ∷ entries) = HasCode (code event) entry × AreCoded code events entries
-AreCoded code events entries = ⊥
-
 -- ---- the sender of the item that an entry's event took
 
 -- the entry's kind is that of one of these events
-abbrev pub is_one_of : List Code → JournalEntry → Bool
-is_one_of these entry = list_any (λ code. code.kind == entry.kind) these
+abbrev pub is_of_kinds : List Code → JournalEntry → Bool
+is_of_kinds these entry = list_any (λ code. code.kind == entry.kind) these
 
 -- A router takes segments from a far side; tellings, sessions, questions and answers from other routers; and orders from the operator. A far side
 -- takes outward items from a router, and steps from the operator. The operator takes reports from a router.
 abbrev pub sender_of : JournalEntry → Option ActorName
-sender_of entry = if is_one_of (map router_code (Arrive 0 ∷ Stray 0 ∷ [])) entry then Some (FarSide entry.a)
-    else if is_one_of (map router_code (Hear 0 ∷ Land 0 ∷ TurnBack 0 ∷ Return 0 ∷ Clear 0 ∷ Answer 0 ∷ Collect 0 ∷ []) ++ map far_code (Take 0 ∷ Point 0 ∷ []) ++ map operator_code (Note 0 ∷ [])) entry then Some (Router entry.a)
-    else if is_one_of (router_code (Admit 0) ∷ far_code (Say 0) ∷ []) entry then Some Operator
+sender_of entry = if is_of_kinds (map router_code (Arrive 0 ∷ Stray 0 ∷ [])) entry then Some (FarSide entry.a)
+    else if is_of_kinds (map router_code (Hear 0 ∷ Land 0 ∷ TurnBack 0 ∷ Return 0 ∷ Clear 0 ∷ Answer 0 ∷ Collect 0 ∷ []) ++ map far_code (Take 0 ∷ Point 0 ∷ []) ++ map operator_code (Note 0 ∷ [])) entry then Some (Router entry.a)
+    else if is_of_kinds (router_code (Admit 0) ∷ far_code (Say 0) ∷ []) entry then Some Operator
     else None
 
-abbrev pub is_name : ActorName → Option ActorName → Bool
-is_name (Router q) (Some (Router r)) = q == r
-is_name (FarSide p) (Some (FarSide q)) = p == q
-is_name Operator (Some Operator) = true
-is_name name other = false
+abbrev pub is_same_name : ActorName → Option ActorName → Bool
+is_same_name x None = false
+is_same_name x (Some y) = same_name x y
 
 -- how many of the entries took an item that this actor sent
-abbrev pub taken_from : ActorName → List JournalEntry → ℕ
-taken_from x entries = count_by (λ entry. is_name x (sender_of entry)) entries
+abbrev pub count_taken_from : ActorName → List JournalEntry → ℕ
+count_taken_from x entries = count_by (λ entry. is_same_name x (sender_of entry)) entries

@@ -11,10 +11,10 @@ use Rattle.graft_model.specs.Parts.{FarPart}
 use Rattle.graft_model.specs.declared.event.FarEvent.{FarEvent}
 use Rattle.graft_model.specs.declared.event.FarEvent.TheVariants.{Say, Take, Point, Beat}
 use Rattle.graft_actors.specs.Emissions.{IsRested}
-use Rattle.far_side.specs.Links.{home_events, remote_events, left_of}
-use Rattle.far_side.specs.Turns.{SendsOld, SendsNew, SendsAnswer, SendsNone, FarGoes}
+use Rattle.far_side.specs.Links.{home_events, remote_events, left_in_link}
+use Rattle.far_side.specs.Turns.{FarRetransmits, SendsNew, SendsAnswer, SendsNone, FarGoes}
 use Rattle.far_side.specs.declared.link.InLink.{InLink}
-use Rattle.real_rounds.specs.Ends.{GoesOn}
+use Rattle.real_rounds.specs.Ends.{AcksOrResends}
 
 -- ---- kinds of events
 
@@ -23,11 +23,11 @@ is_take (Take router) = true
 is_take event = false
 
 -- the event takes an item
-abbrev pub Takes : FarPart → FarEvent → Type 0
-Takes part (Say step) = Unit {0}
-Takes part (Take router) = Unit {0}
-Takes part (Point router) = Unit {0}
-Takes part event = ⊥
+abbrev pub IsFarTake : FarPart → FarEvent → Type 0
+IsFarTake part (Say step) = Unit {0}
+IsFarTake part (Take router) = Unit {0}
+IsFarTake part (Point router) = Unit {0}
+IsFarTake part event = ⊥
 
 -- ---- the content of a link
 
@@ -61,7 +61,7 @@ PointAt router plans = AllByRecursion (λ x. x.pointed.0 ≡ router) plans
 -- ---- the timer
 
 -- A KEEPALIVE of the remote is due in this round, and there is room for it.
-pub record IsDue (setup : Setup) (p round : ℕ) (part : FarPart) : Type 0 where
+pub record IsKeepaliveDue (setup : Setup) (p round : ℕ) (part : FarPart) : Type 0 where
   pub beat : ℕ
   pub is : option_map beat_of (slice_get setup.peerings p) ≡ Some beat
   pub some : 0 < beat
@@ -71,8 +71,8 @@ pub record IsDue (setup : Setup) (p round : ℕ) (part : FarPart) : Type 0 where
   pub fits : length part.end.stream + 19 ≤ 2 ^ 20
 
 -- the remote says one exactly if it is due
-abbrev pub Beats : Setup → ℕ → ℕ → FarPart → List FarEvent → Type 0
-Beats setup p round part events = (IsDue setup p round part × (events ≡ Beat round ∷ [])) ⊎ ((¬ IsDue setup p round part) × (events ≡ []))
+abbrev pub BeatsIfDue : Setup → ℕ → ℕ → FarPart → List FarEvent → Type 0
+BeatsIfDue setup p round part events = (IsKeepaliveDue setup p round part × (events ≡ Beat round ∷ [])) ⊎ ((¬ IsKeepaliveDue setup p round part) × (events ≡ []))
 
 -- ---- a round
 
@@ -95,19 +95,19 @@ pub record RealFar (setup : Setup) (faults : List Fault) (p round : ℕ) (start 
   pub resent : FarPart
   pub said : FarPart
   pub level : FarPart
-  pub takes : FarGoes setup p Takes start taken turning
+  pub takes : FarGoes setup p IsFarTake start taken turning
   pub delivers : FarGoes setup p SendsNone turning (home_events end.pointer before.home.plans ++ remote_events (before.remote.plans ++ took)) delivered
-  pub resends : FarGoes setup p SendsOld delivered again resent
+  pub resends : FarGoes setup p FarRetransmits delivered again resent
   pub says : FarGoes setup p SendsNone resent beats said
   pub sends : FarGoes setup p SendsNew said fresh level
   pub replies : FarGoes setup p SendsAnswer level answers end
-  pub due : Beats setup p round turning beats
+  pub due : BeatsIfDue setup p round turning beats
   pub rested : IsRested end.end
   pub few : length again ≤ 1
-  pub goes_on : GoesOn start.end end.end (length again)
+  pub goes_on : AcksOrResends start.end end.end (length again)
   -- each segment has the fate of its number, and one that goes home records the router at which the link points at the end of the round
   pub are_taken : ArePut faults p Remote before.remote.put (length (filter is_take taken)) took
   pub are_sent : ArePut faults p Home before.home.put (length again + (length fresh + length answers)) sent × PointAt end.pointer sent
   -- what is left of each link
-  pub home : after.home ≡ record { plans = left_of before.home.plans ++ sent; put = before.home.put + (length again + (length fresh + length answers)) }
-  pub remote : after.remote ≡ record { plans = left_of (before.remote.plans ++ took); put = before.remote.put + length (filter is_take taken) }
+  pub home : after.home ≡ record { plans = left_in_link before.home.plans ++ sent; put = before.home.put + (length again + (length fresh + length answers)) }
+  pub remote : after.remote ≡ record { plans = left_in_link (before.remote.plans ++ took); put = before.remote.put + length (filter is_take taken) }

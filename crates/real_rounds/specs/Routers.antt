@@ -13,9 +13,9 @@ use Rattle.graft_model.specs.declared.event.OperatorEvent.{OperatorEvent}
 use Rattle.graft_model.specs.Steps.{operator_row}
 use Rattle.operator_core.specs.Turns.{NothingToOrder}
 use Rattle.router_core.specs.Rested.{RestedRouter}
-use Rattle.router_core.specs.Rounds.{SendsOld, Works, RouterGoes}
-use Rattle.router_core.specs.Turned.{Takes, stage_of, rounds_on, emits_on}
-use Rattle.real_rounds.specs.Ends.{GoesOn}
+use Rattle.router_core.specs.Rounds.{RouterRetransmits, IsNewWork, RouterGoes}
+use Rattle.router_core.specs.Turned.{IsRouterTake, stage_of, rounds_on, emits_on}
+use Rattle.real_rounds.specs.Ends.{AcksOrResends}
 
 -- a session of the peering is live at the router
 abbrev pub HasLive : ℕ → RouterPart → Type 0
@@ -23,7 +23,7 @@ HasLive p part = (s : SessionValue) × (o : Option Errand) × IsLive part p s o
 
 -- The session of a peering stays at a router through these parts: it is live in each, with the one value in the first, and with the other in the
 -- last.
-pub record Stands (p : ℕ) (start : RouterPart) (parts : List RouterPart) (end : RouterPart) (first last : SessionValue) : Type 0 where
+pub record StaysLive (p : ℕ) (start : RouterPart) (parts : List RouterPart) (end : RouterPart) (first last : SessionValue) : Type 0 where
   pub first_order : Option Errand
   pub last_order : Option Errand
   pub starts : IsLive start p first first_order
@@ -50,18 +50,19 @@ pub record RealRouter (setup : Setup) (r round : ℕ) (start : RouterPart) (even
   pub first : List RouterPart
   pub second : List RouterPart
   pub third : List RouterPart
-  pub takes : RouterGoes setup r Takes start taken first turning
-  pub sends : RouterGoes setup r SendsOld turning again second sent
-  pub works : RouterGoes setup r (Works setup r) sent work third end
+  pub takes : RouterGoes setup r IsRouterTake start taken first turning
+  pub sends : RouterGoes setup r RouterRetransmits turning again second sent
+  pub works : RouterGoes setup r (IsNewWork setup r) sent work third end
   pub in_order : Climbs 1 (map stage_of work)
   pub rested : RestedRouter setup r end
   -- of each session at most one old slice is sent again
   pub few : (p : ℕ) → emits_on p again ≤ 1
-  pub goes_on : (p : ℕ) (s u : SessionValue) → Stands p start (first ++ (second ++ third)) end s u → GoesOn s.end u.end (emits_on p again)
+  pub goes_on : (p : ℕ) (s u : SessionValue) → StaysLive p start (first ++ (second ++ third)) end s u → AcksOrResends s.end u.end (emits_on p again)
   -- a round that passes on a session has the number of this one; and it passes once if a hold time runs throughout and the stream had room for the
   -- answer
   pub numbered : (p : ℕ) → AllByRecursion (λ n. n ≡ round) (rounds_on p work)
-  pub ticks : (p : ℕ) (s u : SessionValue) → Stands p start (first ++ (second ++ third)) end s u → HoldRuns s → HoldRuns u → length s.end.stream ≤ 1044461 → rounds_on p work ≡ round ∷ []
+  pub ticks : (p : ℕ) (s u : SessionValue) → StaysLive p start (first ++ (second ++ third)) end s u → HoldRuns s → HoldRuns u
+      → length s.end.stream ≤ 1044461 → rounds_on p work ≡ round ∷ []
 
 -- ---- the operator
 

@@ -12,13 +12,14 @@ use Rattle.graft_model.specs.Steps.{Event, Run}
 use Rattle.graft_model.specs.declared.event.RouterEvent.{RouterEvent}
 use Rattle.graft_model.specs.declared.event.FarEvent.{FarEvent}
 use Rattle.graft_model.specs.declared.event.OperatorEvent.{OperatorEvent}
-use Rattle.graft_runs.specs.Actors.{ActorName, Router, FarSide, Operator, number_in, IsActor}
-use Rattle.graft_runs.specs.Laws.{AreEntriesOf}
-use Rattle.graft_runs.specs.Seen.{channel_of, IsWithin}
-use Rattle.run_marks.specs.Marks.{IsWorldAtMark}
-use Rattle.real_rounds.specs.Entries.{between, AreCoded, taken_from}
+use Rattle.graft_actors.specs.Actors.{ActorName, Router, FarSide, Operator, number_in, IsActor}
+use Rattle.graft_actors.specs.Laws.{AreEntriesOf}
+use Rattle.graft_actors.specs.Seen.{channel_of, IsWithin}
+use Rattle.world_runs.specs.Marks.{IsWorldAtMark}
+use Rattle.real_rounds.specs.Entries.{between, count_taken_from}
 use Rattle.real_rounds.specs.Routers.{RealRouter, RealOperator}
 use Rattle.real_rounds.specs.Fars.{Links, empty_links, RealFar}
+use Rattle.graft_actors.specs.Makes.{AreCoded}
 
 -- ---- one round
 
@@ -58,7 +59,7 @@ pub record RoundGoes (setup : Setup) (start : World) (slices : Slices) (events :
 -- In two rounds, at least as many items are taken from each channel as it holds at the start, or 256 if it holds more.
 abbrev pub Drains : Setup → World → Slices → Slices → Type 0
 Drains setup start one other = (x y : ActorName) → IsActor setup x → IsActor setup y
-    → min 256 (length (channel_of start (Some x) (Some y))) ≤ taken_from x (one (number_in setup y)) + taken_from x (other (number_in setup y))
+    → min 256 (length (channel_of start (Some x) (Some y))) ≤ count_taken_from x (one (number_in setup y)) + count_taken_from x (other (number_in setup y))
 
 -- ---- all rounds
 

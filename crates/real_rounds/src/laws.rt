@@ -3,10 +3,9 @@
 ghost use Rattle.real_rounds.specs.Laws.{RoundsAreReal};
 
 use bgp_session::Capsule;
-use graft_runs::a_net_is_one_world;
-use run_marks::marks_stand_for_worlds;
+use graft_actors::a_net_is_one_world;
 use world_nodes::{Node, the_way_is_a_run};
-use world_runs::{an_act_is_a_step, worlds_are_on_the_way};
+use world_runs::{an_act_is_a_step, marks_stand_for_worlds, worlds_are_on_the_way};
 
 /// Between any two adjacent marks of a laboratory's net each router, each far side and the operator do what a round
 /// requires: each takes what arrives; a router decides, tells and puts all that it may; each endpoint sends again at

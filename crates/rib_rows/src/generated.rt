@@ -4,28 +4,11 @@ use crate::plain::{Held, Plain, best_at, put_in, source, take_out};
 use crate::tables::tables;
 use bgp_types::{Attrs, From, Items, NoMemory, Origin, PathPart, Prefix, Route, TryCopy};
 use rib_stages::{InEntry, Rib};
+use row_harness::Random;
 use std::alloc::Global;
 
 /// The number of commands.
 const COMMANDS: u32 = 3_000;
-
-/// A linear congruential generator, with the constants of Knuth's MMIX. Only the upper bits are used.
-#[derive(Drop)]
-struct Generator {
-    state: u64,
-}
-
-impl Generator {
-    /// Returns the next number below `limit`.
-    fn below(&mut self, limit: u32) -> u32 {
-        self.state = self
-            .state
-            .wrapping_mul(6_364_136_223_846_793_005)
-            .wrapping_add(1_442_695_040_888_963_407);
-        let number = (self.state >> 32) as u32;
-        number.checked_rem(limit).unwrap_or(0)
-    }
-}
 
 /// Returns one of 16 prefixes: 10.0.0.0/8, and 10.1.0.0/16 to 10.15.0.0/16.
 fn prefix(n: u32) -> Option<Prefix> {
@@ -61,18 +44,12 @@ fn route(
 }
 
 /// Returns one of few routes, so that many are equal by most rules.
-fn any_route(alloc: Global, numbers: &mut Generator) -> Result<Route, NoMemory> {
-    let neighbour = numbers.below(3);
-    let is_long = numbers.below(2) == 0;
-    let med = numbers.below(3);
-    let raised = numbers.below(2);
-    route(
-        alloc,
-        neighbour.saturating_add(65_001),
-        is_long,
-        med,
-        raised.saturating_add(100),
-    )
+fn any_route(alloc: Global, random: &mut Random) -> Result<Route, NoMemory> {
+    let as_number = 65_001 + random.below(3);
+    let is_long = random.below(2) == 0;
+    let med = random.below(3);
+    let pref = 100 + random.below(2);
+    route(alloc, as_number, is_long, med, pref)
 }
 
 /// Returns the entry for an own network of the router. Its route has an empty path.
@@ -129,23 +106,23 @@ fn lose_both(rib: &mut Rib, plain: &mut Plain, from: From, prefix: Prefix) -> Re
 /// Runs a command on both: one in a hundred drops a source, and of the others one in four removes a route.
 fn command(
     alloc: Global,
-    numbers: &mut Generator,
+    random: &mut Random,
     rib: &mut Rib,
     plain: &mut Plain,
 ) -> Result<(), NoMemory> {
-    let from = source(numbers.below(8));
-    let Some(prefix) = prefix(numbers.below(16)) else {
+    let from = source(random.below(8));
+    let Some(prefix) = prefix(random.below(16)) else {
         return Ok(());
     };
-    if numbers.below(100) == 0 {
+    if random.below(100) == 0 {
         take_out(plain, from, None);
         return rib.drop_from(from);
     }
-    if numbers.below(4) == 0 {
+    if random.below(4) == 0 {
         return lose_both(rib, plain, from, prefix);
     }
-    let identifier = numbers.below(4);
-    let route = any_route(alloc, numbers)?;
+    let identifier = random.below(4);
+    let route = any_route(alloc, random)?;
     let held = Held {
         from,
         prefix,
@@ -228,21 +205,21 @@ fn decide_some(rib: &mut Rib, count: u32) -> Result<bool, NoMemory> {
 /// Runs one command and up to two decisions. Returns whether all is right then.
 fn step(
     alloc: Global,
-    numbers: &mut Generator,
+    random: &mut Random,
     rib: &mut Rib,
     plain: &mut Plain,
 ) -> Result<bool, NoMemory> {
-    command(alloc, numbers, rib, plain)?;
-    let decided = decide_some(rib, numbers.below(3))?;
+    command(alloc, random, rib, plain)?;
+    let decided = decide_some(rib, random.below(3))?;
     Ok(are_right(alloc, rib, plain)? && decided)
 }
 
 /// Returns how many steps went wrong.
 fn steps_that_differ(alloc: Global, rib: &mut Rib, plain: &mut Plain) -> Result<u32, NoMemory> {
-    let mut numbers = Generator { state: 20 };
+    let mut random = Random::new(20);
     let mut differ = 0u32;
     for _n in 0..COMMANDS {
-        if !step(alloc, &mut numbers, rib, plain)? {
+        if !step(alloc, &mut random, rib, plain)? {
             differ = differ.saturating_add(1);
         }
     }

@@ -4,13 +4,13 @@ use adj_rib::AdjRib;
 use anyhow::Result;
 use bgp_types::{Message, NoMemory, Octets, PeeringId};
 use bgp_wire::write_message;
-use due_set::DueSet;
+use prefix_set::PrefixSet;
 use rib_stages::{OutView, Rib};
 use std::alloc::Global;
-use tell_plan::{next_update_is_one_way, plan};
+use update_plan::{next_update_is_one_way, plan};
 
 /// Adds the prefixes that have a best route to a set, up to 100.
-fn add_all(rib: &Rib, set: &mut DueSet) -> Result<(), NoMemory> {
+fn add_all(rib: &Rib, set: &mut PrefixSet) -> Result<(), NoMemory> {
     let mut last = None;
     for _n in 0..100u32 {
         let Some(prefix) = rib.next_best(last) else {
@@ -27,7 +27,7 @@ fn add_all(rib: &Rib, set: &mut DueSet) -> Result<(), NoMemory> {
 fn written(
     alloc: Global,
     rib: &Rib,
-    due: &DueSet,
+    due: &PrefixSet,
     peering: u8,
     remote_as: u32,
 ) -> Result<Option<Octets>, NoMemory> {
@@ -63,7 +63,7 @@ fn octets_text(alloc: Global, octets: &Octets) -> Result<String> {
 /// Returns the octets of the only UPDATE that tells all best routes on a session with a remote of this AS, without the
 /// marker.
 pub fn planned(alloc: Global, rib: &Rib, peering: u8, remote_as: u32) -> Result<String> {
-    let mut due = DueSet::new(alloc);
+    let mut due = PrefixSet::new(alloc);
     add_all(rib, &mut due)?;
     match written(alloc, rib, &due, peering, remote_as)? {
         Some(octets) => octets_text(alloc, &octets),

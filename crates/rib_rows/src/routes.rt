@@ -1,10 +1,11 @@
 //! The route of a row: `path AS from ADDRESS`, and, if it has them, `med NUMBER`, `community OCTETS`, and `import
 //! NUMBER`, the preference that the import policy sets.
 
-use crate::words::{address, number, value};
+use crate::words::{address, number_after};
 use anyhow::{Context, Result};
 use bgp_types::{Attrs, Items, NoMemory, Origin, PathPart, Prefix, RawAttr, RawAttrs, Route};
 use route_policy::{Policy, Rule};
+use row_harness::value;
 use std::alloc::Global;
 
 /// The numbers of a route.
@@ -16,8 +17,8 @@ struct RouteNumbers {
 }
 
 fn numbers_of(words: &[&str]) -> Result<RouteNumbers> {
-    let as_number = number(words, "path")?.context("a path")?;
-    let med = number(words, "med")?;
+    let as_number = number_after(words, "path")?.context("a path")?;
+    let med = number_after(words, "med")?;
     let next_hop = address(words, "from")?;
     Ok(RouteNumbers {
         as_number,
@@ -82,7 +83,7 @@ fn policy_of(alloc: Global, pref: Option<u32>) -> Result<Policy, NoMemory> {
 /// Returns the route of a row, as its import policy leaves it.
 pub fn route_of(alloc: Global, words: &[&str], prefix: Prefix) -> Result<Option<Route>> {
     let numbers = numbers_of(words)?;
-    let pref = number(words, "import")?;
+    let pref = number_after(words, "import")?;
     let unknown = community_of(alloc, words)?;
     let route = route_with(alloc, numbers, unknown)?;
     let policy = policy_of(alloc, pref)?;

@@ -3,10 +3,11 @@
 use crate::plans::planned;
 use crate::routes::route_of;
 use crate::texts::{from_text, or_nothing, push_prefix, push_route};
-use crate::words::{address, number, prefix, small, source, word};
+use crate::words::{address, number_after, prefix, source};
 use anyhow::{Context, Result, bail};
 use bgp_types::{From, Items, NoMemory, Prefix, PrefixList, RouterId};
 use rib_stages::{InEntry, Numbers, Rib, RibConfig};
+use row_harness::{Table, small, word};
 use std::alloc::Global;
 
 /// Returns the routes of router 0 of AS 65000. The identifiers of routers 0 to 3 are 10.255.0.1 to 10.255.0.4, and the
@@ -149,7 +150,7 @@ fn told_inside(alloc: Global, rib: &Rib, prefix: Prefix) -> Result<String> {
 
 /// Returns what is told on a session. Its number is the third word of the row, and the AS of its remote follows `to`.
 fn told_outside(alloc: Global, rib: &Rib, words: &[&str]) -> Result<String> {
-    let remote_as = number(words, "to")?.context("an AS")?;
+    let remote_as = number_after(words, "to")?.context("an AS")?;
     planned(alloc, rib, small(words, 2)?, remote_as)
 }
 
@@ -165,16 +166,33 @@ fn look(alloc: Global, rib: &Rib, words: &[&str]) -> Result<String> {
     }
 }
 
-/// Returns the answer to a row. One that changes the routes answers with the least dirty prefix.
-pub fn answer(alloc: Global, rib: &mut Rib, words: &[&str]) -> Result<String> {
-    match word(words, 0) {
-        "router" => begin(alloc, rib, words)?,
-        "hear" => hear(alloc, rib, words)?,
-        "lose" => lose(rib, words)?,
-        "drop" => rib.drop_from(source(words)?)?,
-        "mark" => rib.mark(prefix(words, 1)?)?,
-        "decide" => return decide_all(alloc, rib),
-        _ => return look(alloc, rib, words),
+/// The routes that the rows change and look at.
+#[derive(Drop)]
+pub struct RouterTables {
+    rib: Rib,
+}
+
+impl RouterTables {
+    pub fn new(alloc: Global) -> Result<RouterTables, NoMemory> {
+        Ok(RouterTables {
+            rib: tables(alloc, &[])?,
+        })
     }
-    least_dirty(alloc, rib)
+}
+
+impl Table for RouterTables {
+    /// Returns the answer to a row. One that changes the routes answers with the least dirty prefix.
+    fn answer(&mut self, alloc: Global, words: &[&str]) -> Result<String> {
+        let rib = &mut self.rib;
+        match word(words, 0) {
+            "router" => begin(alloc, rib, words)?,
+            "hear" => hear(alloc, rib, words)?,
+            "lose" => lose(rib, words)?,
+            "drop" => rib.drop_from(source(words)?)?,
+            "mark" => rib.mark(prefix(words, 1)?)?,
+            "decide" => return decide_all(alloc, rib),
+            _ => return look(alloc, rib, words),
+        }
+        least_dirty(alloc, rib)
+    }
 }

@@ -28,7 +28,7 @@ use Rattle.route_policy.specs.declared.best.Best.{Best}
 use Rattle.route_policy.specs.declared.entry.Entry.{Entry}
 use Rattle.rib_stages.specs.declared.config.RibConfig.{RibConfig}
 use Rattle.rib_stages.specs.Values.{RibValue}
-use Rattle.rib_stages.specs.Choosing.{cost_to, identifier_of, has_network, telling_candidate, source_numbers, candidates_among, candidates_of, chosen, NoneBehind, route_from}
+use Rattle.rib_stages.specs.Choosing.{cost_to, identifier_of, has_network, telling_candidate, source_numbers, candidates_among, candidates_of, rib_choice, NoneBehind, route_from}
 use Rattle.rib_stages.specs.Ranks.{rank_in, entry_rank}
 use Rattle.rib_stages.proofs.Sorted.{alike_is_same}
 use Rattle.rib_stages.proofs.Numbered.{sources, both_all, both_sorted, sources-append, all_from, sorted_numbers, none_found, found_among, among_range, fewer}
@@ -74,7 +74,8 @@ keys_are : (cs : List Candidate) → keys_of (ranked_sources from_of cs) ≡ sou
 keys_are [] = refl
 keys_are (c ∷ cs) = ap (λ (xs : List From). c.0.from ∷ xs) (keys_are cs)
 
-rank_step : (c : Candidate) (ranks : List RankedSource) (found : Option Rank) (o : Option Candidate) → found ≡ option_map (λ c. c.1) o → (b : Bool) → cond b (Some c.1) found ≡ option_map (λ c. c.1) (cond b (Some c) o)
+rank_step : (c : Candidate) (ranks : List RankedSource) (found : Option Rank) (o : Option Candidate) → found ≡ option_map (λ c. c.1) o → (b : Bool)
+    → cond b (Some c.1) found ≡ option_map (λ c. c.1) (cond b (Some c) o)
 rank_step c ranks found o is true = refl
 rank_step c ranks found o is false = is
 
@@ -105,7 +106,8 @@ module _ (rib : RibValue) (prefix : PrefixValue) where
 
   -- ---- in order
 
-  own_below : (ys : List From) → AllByRecursion (λ y. from_order Own y ≡ Less) ys → (b : Bool) → AllByRecursion (λ x. AllByRecursion (λ y. from_order x y ≡ Less) ys) (sources (own_candidates rib.config.home_as b))
+  own_below : (ys : List From) → AllByRecursion (λ y. from_order Own y ≡ Less) ys → (b : Bool)
+      → AllByRecursion (λ x. AllByRecursion (λ y. from_order x y ≡ Less) ys) (sources (own_candidates rib.config.home_as b))
   own_below ys below true = (below, tt)
   own_below ys below false = tt
 
@@ -160,13 +162,15 @@ module _ (rib : RibValue) (prefix : PrefixValue) where
   candidate_at (Peering p) = entry_at p.0
   candidate_at (Router q) = telling_at q.0
 
-  found_three : (test : From → Bool) → find (λ c. test c.0.from) (candidates_of rib prefix) ≡ option_or (option_or (find (λ c. test c.0.from) own) (find (λ c. test c.0.from) (filter_map entry_at source_numbers))) (find (λ c. test c.0.from) (filter_map telling_at source_numbers))
+  found_three : (test : From → Bool)
+      → find (λ c. test c.0.from) (candidates_of rib prefix) ≡ option_or (option_or (find (λ c. test c.0.from) own) (find (λ c. test c.0.from) (filter_map entry_at source_numbers))) (find (λ c. test c.0.from) (filter_map telling_at source_numbers))
   unfolding candidates_of
   found_three test =
       find-append (λ c. test c.0.from) (own ++ filter_map entry_at source_numbers) (filter_map telling_at source_numbers)
       ∙ ap (λ o. option_or o (find (λ c. test c.0.from) (filter_map telling_at source_numbers))) (find-append (λ c. test c.0.from) own (filter_map entry_at source_numbers))
 
-  own_found : (b : Bool) → find (λ (c : Candidate). is_at (from_order Own) c.0.from) (own_candidates rib.config.home_as b) ≡ cond b (Some (record { from = Own; route = own_route }, own_rank rib.config.home_as)) None
+  own_found : (b : Bool)
+      → find (λ (c : Candidate). is_at (from_order Own) c.0.from) (own_candidates rib.config.home_as b) ≡ cond b (Some (record { from = Own; route = own_route }, own_rank rib.config.home_as)) None
   own_found true = refl
   own_found false = refl
 
@@ -210,15 +214,18 @@ module _ (rib : RibValue) (prefix : PrefixValue) where
 
   -- ---- ranks and routes by source
 
-  entry_ranked : (p : ℕ) (o : Option Entry) → option_map (λ (c : Candidate). c.1) (entry_candidate rib.config.home_as p o) ≡ option_map (entry_rank rib.config.home_as) o
+  entry_ranked : (p : ℕ) (o : Option Entry)
+      → option_map (λ (c : Candidate). c.1) (entry_candidate rib.config.home_as p o) ≡ option_map (entry_rank rib.config.home_as) o
   entry_ranked p None = refl
   entry_ranked p (Some e) = refl
 
-  telling_ranked : (q : ℕ) (o : Option Route) → option_map (λ (c : Candidate). c.1) (telling_candidate rib.config q o) ≡ option_map (rank_of rib.config.home_as false (cost_to rib.config q) (identifier_of rib.config q) (identifier_of rib.config q)) o
+  telling_ranked : (q : ℕ) (o : Option Route)
+      → option_map (λ (c : Candidate). c.1) (telling_candidate rib.config q o) ≡ option_map (rank_of rib.config.home_as false (cost_to rib.config q) (identifier_of rib.config q) (identifier_of rib.config q)) o
   telling_ranked q None = refl
   telling_ranked q (Some route) = refl
 
-  own_ranked : (b : Bool) → option_map (λ (c : Candidate). c.1) (cond b (Some (record { from = Own; route = own_route }, own_rank rib.config.home_as)) None) ≡ cond b (Some (own_rank rib.config.home_as)) None
+  own_ranked : (b : Bool)
+      → option_map (λ (c : Candidate). c.1) (cond b (Some (record { from = Own; route = own_route }, own_rank rib.config.home_as)) None) ≡ cond b (Some (own_rank rib.config.home_as)) None
   own_ranked true = refl
   own_ranked false = refl
 
@@ -230,15 +237,18 @@ module _ (rib : RibValue) (prefix : PrefixValue) where
   abbrev pub best_from_there : From → Option Best
   best_from_there from = option_map (λ route. record { from = from; route = route }) (route_from rib from prefix)
 
-  entry_best : (p : ℕ) (o : Option Entry) → option_map (λ (c : Candidate). c.0) (entry_candidate rib.config.home_as p o) ≡ option_map (λ (route : Route). record { from = peering_of p; route = route }) (option_map (λ (e : Entry). e.route) o)
+  entry_best : (p : ℕ) (o : Option Entry)
+      → option_map (λ (c : Candidate). c.0) (entry_candidate rib.config.home_as p o) ≡ option_map (λ (route : Route). record { from = peering_of p; route = route }) (option_map (λ (e : Entry). e.route) o)
   entry_best p None = refl
   entry_best p (Some e) = refl
 
-  telling_best : (q : ℕ) (o : Option Route) → option_map (λ (c : Candidate). c.0) (telling_candidate rib.config q o) ≡ option_map (λ (route : Route). record { from = router_of q; route = route }) o
+  telling_best : (q : ℕ) (o : Option Route)
+      → option_map (λ (c : Candidate). c.0) (telling_candidate rib.config q o) ≡ option_map (λ (route : Route). record { from = router_of q; route = route }) o
   telling_best q None = refl
   telling_best q (Some route) = refl
 
-  own_best : (b : Bool) → option_map (λ (c : Candidate). c.0) (cond b (Some (record { from = Own; route = own_route }, own_rank rib.config.home_as)) None) ≡ option_map (λ (route : Route). record { from = Own; route = route }) (cond b (Some own_route) None)
+  own_best : (b : Bool)
+      → option_map (λ (c : Candidate). c.0) (cond b (Some (record { from = Own; route = own_route }, own_rank rib.config.home_as)) None) ≡ option_map (λ (route : Route). record { from = Own; route = route }) (cond b (Some own_route) None)
   own_best true = refl
   own_best false = refl
 
@@ -249,16 +259,20 @@ module _ (rib : RibValue) (prefix : PrefixValue) where
 
   -- ---- the choice
 
-  ranks_same : IsShort rib → (ranks : List RankedSource) → ((from : From) → rank_at ranks from ≡ rank_in rib prefix from) → (from : From) → rank_at ranks from ≡ rank_at (ranked_sources from_of (candidates_of rib prefix)) from
+  ranks_same : IsShort rib → (ranks : List RankedSource) → ((from : From) → rank_at ranks from ≡ rank_in rib prefix from) → (from : From)
+      → rank_at ranks from ≡ rank_at (ranked_sources from_of (candidates_of rib prefix)) from
   ranks_same short ranks are from =
-      are from ∙ sym (rank_found (is_at (from_order from)) (candidates_of rib prefix) ∙ (ap (option_map (λ (c : Candidate). c.1)) (found_is short from) ∙ ranked_at from))
+      are from
+      ∙ sym (rank_found (is_at (from_order from)) (candidates_of rib prefix) ∙ (ap (option_map (λ (c : Candidate). c.1)) (found_is short from) ∙ ranked_at from))
 
-  pub ranks_same_lists : IsShort rib → (ranks : List RankedSource) → IsInOrder ranks → ((from : From) → rank_at ranks from ≡ rank_in rib prefix from) → ranks ≡ ranked_sources from_of (candidates_of rib prefix)
+  pub ranks_same_lists : IsShort rib → (ranks : List RankedSource) → IsInOrder ranks → ((from : From) → rank_at ranks from ≡ rank_in rib prefix from)
+      → ranks ≡ ranked_sources from_of (candidates_of rib prefix)
   ranks_same_lists short ranks ordered are = alike_is_same from_order from_order_total from_order_exact ranks (ranked_sources from_of (candidates_of rib prefix)) ordered in_order (ranks_same short ranks are)
 
   -- the chosen one of ranks that belong to the candidates names the chosen candidate
-  pub choice_named : IsShort rib → (ranks : List RankedSource) → IsInOrder ranks → ((from : From) → rank_at ranks from ≡ rank_in rib prefix from) → chosen rib prefix ≡ option_and_then best_from_there (choice ranks)
-  unfolding chosen
+  pub choice_named : IsShort rib → (ranks : List RankedSource) → IsInOrder ranks → ((from : From) → rank_at ranks from ≡ rank_in rib prefix from)
+      → rib_choice rib prefix ≡ option_and_then best_from_there (choice ranks)
+  unfolding rib_choice
   choice_named short ranks ordered are =
       let by_source : candidate_from from_of (candidates_of rib prefix) ≡ best_from_there = λ i from. (ap (option_map (λ (c : Candidate). c.0)) (found_is short from) ∙ best_at from) i in
       sym (ap (λ (xs : List RankedSource). option_and_then best_from_there (choice xs)) (ranks_same_lists short ranks ordered are)
@@ -276,15 +290,18 @@ module _ (rib : RibValue) (prefix : PrefixValue) (peerings routers most : ℕ) (
   pub fewer_candidates : candidates_among (range_with_len 0 most) (range_with_len 0 most) rib prefix ≡ candidates_among (range_with_len 0 peerings) (range_with_len 0 routers) rib prefix
   fewer_candidates = λ i. (own rib prefix ++ fewer_entries i) ++ fewer_tellings i
 
-pub chosen_among : (rib : RibValue) (prefix : PrefixValue) (peerings routers : ℕ) → peerings ≤ 256 → routers ≤ 256 → NoneBehind peerings routers rib prefix → chosen rib prefix ≡ choice (candidates_among (range_with_len 0 peerings) (range_with_len 0 routers) rib prefix)
-unfolding chosen candidates_of source_numbers
+pub chosen_among : (rib : RibValue) (prefix : PrefixValue) (peerings routers : ℕ) → peerings ≤ 256 → routers ≤ 256
+    → NoneBehind peerings routers rib prefix
+    → rib_choice rib prefix ≡ choice (candidates_among (range_with_len 0 peerings) (range_with_len 0 routers) rib prefix)
+unfolding rib_choice candidates_of source_numbers
 chosen_among rib prefix peerings routers few_peerings few_routers none = ap choice (fewer_candidates rib prefix peerings routers 256 few_peerings few_routers none)
 
 -- ---- where the choice is one
 
 -- the choice goes by what stands at the prefix
-pub chosen_by : (a b : RibValue) (q : PrefixValue) → a.config ≡ b.config → ((p : ℕ) → table.get (a.entries p) q ≡ table.get (b.entries p) q) → ((r : ℕ) → table.get (a.tellings r) q ≡ table.get (b.tellings r) q) → chosen a q ≡ chosen b q
-unfolding chosen candidates_of
+pub chosen_by : (a b : RibValue) (q : PrefixValue) → a.config ≡ b.config → ((p : ℕ) → table.get (a.entries p) q ≡ table.get (b.entries p) q)
+    → ((r : ℕ) → table.get (a.tellings r) q ≡ table.get (b.tellings r) q) → rib_choice a q ≡ rib_choice b q
+unfolding rib_choice candidates_of
 chosen_by a b q config entries tellings = λ i. choice (
     own_candidates (config i).home_as (has_network (config i) q)
     ++ filter_map (λ p. entry_candidate (config i).home_as p (entries p i)) source_numbers
@@ -295,7 +312,8 @@ unfolding choice left_of keep
 nothing_chosen = refl
 
 -- without candidates there is none
-pub none_chosen : (rib : RibValue) (prefix : PrefixValue) → has_network rib.config prefix ≡ false → ((p : ℕ) → table.get (rib.entries p) prefix ≡ None) → ((q : ℕ) → table.get (rib.tellings q) prefix ≡ None) → chosen rib prefix ≡ None
+pub none_chosen : (rib : RibValue) (prefix : PrefixValue) → has_network rib.config prefix ≡ false
+    → ((p : ℕ) → table.get (rib.entries p) prefix ≡ None) → ((q : ℕ) → table.get (rib.tellings q) prefix ≡ None) → rib_choice rib prefix ≡ None
 none_chosen rib prefix network entries tellings =
     chosen_among rib prefix 0 0 (omega arith) (omega arith) (record { entries = λ p le. entries p; tellings = λ q le. tellings q })
     ∙ (ap (λ (b : Bool). choice (own_candidates rib.config.home_as b ++ [] ++ [])) network ∙ nothing_chosen)

@@ -13,7 +13,7 @@ use Rattle.route_policy.specs.Candidates.{own_route}
 use Rattle.route_policy.specs.declared.best.Best.{Best}
 use Rattle.session_value.specs.Sets.{Prefixes, has}
 use Rattle.rib_stages.specs.Values.{RibValue}
-use Rattle.rib_stages.specs.Choosing.{has_network, candidates_of, chosen, route_from}
+use Rattle.rib_stages.specs.Choosing.{has_network, candidates_of, rib_choice, route_from}
 use Rattle.rib_stages.specs.Ranks.{RankSets, ranks_at, route_at, IsRib}
 use Rattle.rib_stages.proofs.Candidates.{IsShort, from_of, best_from_there, choice_named, ranks_same_lists}
 use Rattle.rib_stages.proofs.Kept.{set_has}
@@ -24,26 +24,32 @@ module _ (rib : RibValue) (sets : RankSets) (networks : Prefixes) (own : Route) 
 
   -- ---- the route to an own network
 
-  network_is : (prefix : PrefixValue) → has networks prefix ≡ has_network rib.config prefix
+  pub network_is : (prefix : PrefixValue) → has networks prefix ≡ has_network rib.config prefix
   network_is prefix = ap (λ (s : Prefixes). has s prefix) kept.networks ∙ set_has rib.config.networks prefix
 
-  pub own_is_there : (prefix : PrefixValue) → has networks prefix ≡ true → Some own ≡ route_from rib Own prefix
-  own_is_there prefix there = ap Some kept.own ∙ sym (ap (λ (b : Bool). cond b (Some own_route) None) (sym (network_is prefix) ∙ there))
+  -- another network has none
+  pub no_route : (from : From) (prefix : PrefixValue) → from ≡ Own → has_network rib.config prefix ≡ false → None ≡ route_from rib from prefix
+  no_route from prefix is gone = sym (ap (λ (f : From). route_from rib f prefix) is ∙ ap (λ (b : Bool). cond b (Some own_route) None) gone)
 
-  pub own_isnt_there : (prefix : PrefixValue) → has networks prefix ≡ false → None ≡ route_from rib Own prefix
-  own_isnt_there prefix gone = sym (ap (λ (b : Bool). cond b (Some own_route) None) (sym (network_is prefix) ∙ gone))
+  -- the route from any other source, or to a network that is there
+  pub route_is : (from : From) (prefix : PrefixValue) → (from ≡ Own → has_network rib.config prefix ≡ true)
+      → route_at own rib.entries rib.tellings from prefix ≡ route_from rib from prefix
+  route_is Own prefix there = ap Some kept.own ∙ sym (ap (λ (b : Bool). cond b (Some own_route) None) (there refl))
+  route_is (Peering p) prefix there = refl
+  route_is (Router q) prefix there = refl
 
   module _ (prefix : PrefixValue) (ordered : IsInOrder (ranks_at sets prefix)) where
-    pub chosen_is : chosen rib prefix ≡ option_and_then (best_from_there rib prefix) (choice (ranks_at sets prefix))
+    pub chosen_is : rib_choice rib prefix ≡ option_and_then (best_from_there rib prefix) (choice (ranks_at sets prefix))
     chosen_is = choice_named rib prefix short (ranks_at sets prefix) ordered (λ from. kept.ranks prefix from)
 
     -- no rank is chosen: there is no candidate
-    pub chosen_none : (o : Option From) → o ≡ choice (ranks_at sets prefix) → o ≡ None → chosen rib prefix ≡ None
+    pub chosen_none : (o : Option From) → o ≡ choice (ranks_at sets prefix) → o ≡ None → rib_choice rib prefix ≡ None
     chosen_none o is none = chosen_is ∙ ap (option_and_then (best_from_there rib prefix)) (sym is ∙ none)
 
-    source_chosen : choice (ranks_at sets prefix) ≡ option_map from_of (chosen rib prefix)
-    unfolding chosen
-    source_chosen = ap choice (ranks_same_lists rib prefix short (ranks_at sets prefix) ordered (λ from. kept.ranks prefix from)) ∙ choice-sources from_of (candidates_of rib prefix)
+    source_chosen : choice (ranks_at sets prefix) ≡ option_map from_of (rib_choice rib prefix)
+    unfolding rib_choice
+    source_chosen = ap choice (ranks_same_lists rib prefix short (ranks_at sets prefix) ordered (λ from. kept.ranks prefix from))
+        ∙ choice-sources from_of (candidates_of rib prefix)
 
     not_none : (from : From) (o : Option Best) → Some from ≡ option_map from_of o → is_some o ≡ true
     not_none from None e = absurd cc
@@ -56,24 +62,24 @@ module _ (rib : RibValue) (sets : RankSets) (networks : Prefixes) (own : Route) 
     -- where a rank is chosen, the route of its source is there
     route_there : (from : From) → choice (ranks_at sets prefix) ≡ Some from → is_some (route_from rib from prefix) ≡ true
     route_there from is =
-        let some : is_some (chosen rib prefix) ≡ true = not_none from (chosen rib prefix) (sym is ∙ source_chosen) in
+        let some : is_some (rib_choice rib prefix) ≡ true = not_none from (rib_choice rib prefix) (sym is ∙ source_chosen) in
         let there : is_some (best_from_there rib prefix from) ≡ true = ap is_some (sym (chosen_is ∙ ap (option_and_then (best_from_there rib prefix)) is)) ∙ some in
         some_mapped (λ (route : Route). record { from = from; route = route }) (route_from rib from prefix) there
 
-    own_same : (b : Bool) → is_some (cond b (Some own_route) None) ≡ true → cond b (Some own_route) None ≡ Some own
-    own_same true e = ap Some (sym kept.own)
-    own_same false e = absurd cc
+    is_network : (b : Bool) → is_some (cond b (Some own_route) None) ≡ true → b ≡ true
+    is_network true e = refl
+    is_network false e = e
 
     route_same : (from : From) → is_some (route_from rib from prefix) ≡ true → route_from rib from prefix ≡ route_at own rib.entries rib.tellings from prefix
-    route_same Own there = own_same (has_network rib.config prefix) there
-    route_same (Peering p) there = refl
-    route_same (Router q) there = refl
+    route_same from there =
+        sym (route_is from prefix (λ is. is_network (has_network rib.config prefix) (ap (λ (f : From). is_some (route_from rib f prefix)) (sym is) ∙ there)))
 
     -- the route of the chosen source, and it is the chosen one
     pub route_is_there : (from : From) → choice (ranks_at sets prefix) ≡ Some from → is_some (route_at own rib.entries rib.tellings from prefix) ≡ true
     route_is_there from is = let there = route_there from is in ap is_some (sym (route_same from there)) ∙ there
 
-    pub chosen_some : (from : From) (route : Route) → choice (ranks_at sets prefix) ≡ Some from → route_at own rib.entries rib.tellings from prefix ≡ Some route → chosen rib prefix ≡ Some (record { from = from; route = route })
+    pub chosen_some : (from : From) (route : Route) → choice (ranks_at sets prefix) ≡ Some from
+        → route_at own rib.entries rib.tellings from prefix ≡ Some route → rib_choice rib prefix ≡ Some (record { from = from; route = route })
     chosen_some from route is here =
         chosen_is
         ∙ (ap (option_and_then (best_from_there rib prefix)) is

@@ -1,20 +1,22 @@
 -- A source's routes go one after another.
 use Rattle.std.proofs.Common.{◌≡◌, ℕ, zero, suc, ◌-◌, ◌<◌, ◌==◌, Bool, true, false, cond, List, [], ◌∷◌, Option, Some, None, refl, sym, ap, subst, ◌∙◌, arith, inl, inr}
-use Rattle.std.specs.Prelude.{◌⊎◌, ◌||◌, is_some}
+use Rattle.std.specs.Prelude.{◌≢◌, ◌⊎◌, ◌||◌, is_some}
 use Rattle.std.specs.FinMap as map
 use Rattle.std.specs.List.{list_any}
 use Rattle.std.specs.Ordering.{eq_by_cmp}
-use Rattle.std.proofs.lemmas.Bool.{eq-eqb}
 use Rattle.bgp_types.specs.Prefixes.{PrefixValue}
 use Rattle.bgp_types.specs.Tables.{prefix_cmp, first_above}
 use Rattle.bgp_types.proofs.TableLaws.{prefix_total, tied}
+use Rattle.bgp_types.specs.declared.rank.From.{From}
+use Rattle.bgp_types.specs.declared.rank.From.TheVariants.{Own, Peering, Router}
 use Rattle.loc_rib.specs.Values.{with_value}
 use Rattle.session_value.specs.Points.{at}
 use Rattle.session_value.specs.Sets.{Entries, Tellings, Prefixes, Marks}
-use Rattle.rib_stages.specs.Values.{RibValue}
-use Rattle.rib_stages.specs.Steps.{EntersEntry, EntersTelling, DropsEntries, DropsTellings}
+use Rattle.rib_stages.specs.Values.{RibValue, Given, table_from}
+use Rattle.rib_stages.specs.Choosing.{prefixes_from}
+use Rattle.rib_stages.specs.Steps.{Enters, Drops, DropsAll, DropsSome, with_table}
 use Rattle.rib_stages.proofs.Marks.{with_gives, marks_next, itself}
-use Rattle.rib_stages.proofs.Tables.{at-itself}
+use Rattle.rib_stages.proofs.Tables.{at-itself, there_at}
 
 -- ---- one table
 
@@ -23,7 +25,8 @@ least_of : (ks : List PrefixValue) (p : PrefixValue) → first_above None ks ≡
 least_of [] p e = absurd cc
 least_of (k ∷ ks) p e =
     let same : k ≡ p = ap (λ (o : Option PrefixValue). Rattle.std.specs.Option.unwrap_or o k) e in
-    ap (λ (x : PrefixValue). eq_by_cmp prefix_cmp p x || list_any (eq_by_cmp prefix_cmp p) ks) same ∙ ap (λ (b : Bool). b || list_any (eq_by_cmp prefix_cmp p) ks) (itself p)
+    ap (λ (x : PrefixValue). eq_by_cmp prefix_cmp p x || list_any (eq_by_cmp prefix_cmp p) ks) same
+    ∙ ap (λ (b : Bool). b || list_any (eq_by_cmp prefix_cmp p) ks) (itself p)
 
 no_least : (ks : List PrefixValue) → first_above None ks ≡ None → (q : PrefixValue) → list_any (eq_by_cmp prefix_cmp q) ks ≡ false
 no_least [] e q = refl
@@ -73,9 +76,6 @@ module _ {A : Type 0} where
     pub marks_more : (first marked : Prefixes) → Marks first before now marked → Marks first before (with_value now p None) (map.insert marked p tt)
     marks_more first marked marks = marks_next first marked (map.insert marked p tt) before now p None marks still (inr ((λ none. let f : ◌≡◌ {A = Bool} false true = ap is_some none ∙ there in cc), refl))
 
-  pub left_none : (table : map.FinMap prefix_cmp A) → IsLeft table table
-  left_none table q = inr refl
-
   pub marks_none : (set : Prefixes) (table : map.FinMap prefix_cmp A) → Marks set table table set
   marks_none set table = record { marked = λ q is. inl is; others = λ q is. (is, refl) }
 
@@ -85,65 +85,60 @@ module _ {A : Type 0} where
     by_test true r = refl
     by_test false r = refl
 
-  there_at : (f : ℕ → map.FinMap prefix_cmp A) (p : ℕ) (t : map.FinMap prefix_cmp A) → at f p t p ≡ t
-  there_at f p t = ap (λ (b : Bool). cond b t (f p)) (eq-eqb p p refl)
+-- ---- what a source gives
 
--- ---- a peering's entries
+module _ (rib : RibValue) where
+  pub same_table : (from : From) → with_table rib from (table_from rib from) rib.dirty ≡ rib
+  same_table Own = refl
+  same_table (Peering p) = ap (λ (f : ℕ → Entries). record rib { entries = f }) (at-itself rib.entries p.0)
+  same_table (Router q) = ap (λ (f : ℕ → Tellings). record rib { tellings = f }) (at-itself rib.tellings q.0)
 
-pub drops_no_entry : (rib : RibValue) (p : ℕ) → DropsEntries rib p rib
-drops_no_entry rib p = record {
-  left = left_none (rib.entries p);
-  dirty = marks_none rib.dirty (rib.entries p);
-  effect = ap (λ (f : ℕ → Entries). record rib { entries = f }) (sym (at-itself rib.entries p));
-}
+  table_is : (from : From) → from ≢ Own → (table : map.FinMap prefix_cmp (Given from)) (dirty : Prefixes)
+      → table_from (with_table rib from table dirty) from ≡ table
+  table_is Own not table dirty = absurd (not refl)
+  table_is (Peering p) not table dirty = there_at rib.entries p.0 table
+  table_is (Router q) not table dirty = there_at rib.tellings q.0 table
 
-module _ (before now after : RibValue) (p : ℕ) (prefix : PrefixValue) (drops : DropsEntries before p now) (there : is_some (map.get (now.entries p) prefix) ≡ true) (goes : EntersEntry now p prefix None after) where
-  abbrev entries_then : Entries
-  entries_then = with_value (now.entries p) prefix None
+  last_table : (from : From) (t u : map.FinMap prefix_cmp (Given from)) (d e : Prefixes)
+      → with_table (with_table rib from t d) from u e ≡ with_table rib from u e
+  last_table Own t u d e = refl
+  last_table (Peering p) t u d e = ap (λ (f : ℕ → Entries). record rib { entries = f; dirty = e }) (twice rib.entries p.0 t u)
+  last_table (Router q) t u d e = ap (λ (f : ℕ → Tellings). record rib { tellings = f; dirty = e }) (twice rib.tellings q.0 t u)
 
-  pub entries_are : after.entries p ≡ entries_then
-  entries_are = ap (λ (r : RibValue). r.entries p) goes.effect ∙ there_at now.entries p entries_then
+  -- the least prefix of a source
+  pub least_given : (from : From) (prefix : PrefixValue) → first_above None (prefixes_from rib from) ≡ Some prefix
+      → is_some (map.get (table_from rib from) prefix) ≡ true
+  least_given Own prefix e = least_is (table_from rib Own) prefix e
+  least_given (Peering p) prefix e = least_is (rib.entries p.0) prefix e
+  least_given (Router q) prefix e = least_is (rib.tellings q.0) prefix e
 
-  dirty_are : after.dirty ≡ map.insert now.dirty prefix tt
-  dirty_are = ap (λ (r : RibValue). r.dirty) goes.effect
+  pub none_given : (from : From) → first_above None (prefixes_from rib from) ≡ None → table_from rib from ≡ map.empty
+  none_given Own e = no_least_is (table_from rib Own) e
+  none_given (Peering p) e = no_least_is (rib.entries p.0) e
+  none_given (Router q) e = no_least_is (rib.tellings q.0) e
 
-  pub drops_entry : DropsEntries before p after
-  drops_entry = record {
-    left = subst (λ (t : Entries). IsLeft (before.entries p) t) (sym entries_are) (left_more (before.entries p) (now.entries p) prefix there drops.left);
-    dirty = subst (λ (t : Entries). Marks before.dirty (before.entries p) t after.dirty) (sym entries_are) (subst (λ (s : Prefixes). Marks before.dirty (before.entries p) entries_then s) (sym dirty_are) (marks_more (before.entries p) (now.entries p) prefix there drops.left before.dirty now.dirty drops.dirty));
+module _ (before now after : RibValue) (from : From) (given : from ≢ Own) (prefix : PrefixValue) (drops : Drops before from now) (there : is_some (map.get (table_from now from) prefix) ≡ true) (goes : Enters now from prefix None after) where
+  abbrev then : map.FinMap prefix_cmp (Given from)
+  then = with_value (table_from now from) prefix None
+
+  pub then_is : table_from after from ≡ then
+  then_is = ap (λ (r : RibValue). table_from r from) goes.effect ∙ table_is now from given then (map.insert now.dirty prefix tt)
+
+  dirty_is : after.dirty ≡ map.insert now.dirty prefix tt
+  dirty_is = ap (λ (r : RibValue). r.dirty) goes.effect
+
+  pub drops_more : Drops before from after
+  drops_more = record {
+    left = subst (IsLeft (table_from before from)) (sym then_is) (left_more (table_from before from) (table_from now from) prefix there drops.left);
+    dirty = subst (λ (p : map.FinMap prefix_cmp (Given from) × Prefixes). Marks before.dirty (table_from before from) p.0 p.1) (λ i. (sym then_is i, sym dirty_is i)) (marks_more (table_from before from) (table_from now from) prefix there drops.left before.dirty now.dirty drops.dirty);
     effect =
         goes.effect
-        ∙ (ap (λ (r : RibValue). record r { entries = at r.entries p entries_then; dirty = map.insert now.dirty prefix tt }) drops.effect
-        ∙ (ap (λ (f : ℕ → Entries). record before { entries = f; dirty = map.insert now.dirty prefix tt }) (twice before.entries p (now.entries p) entries_then)
-        ∙ λ i. record before { entries = at before.entries p (sym entries_are i); dirty = sym dirty_are i }));
+        ∙ (ap (λ (r : RibValue). with_table r from then (map.insert now.dirty prefix tt)) drops.effect
+        ∙ (last_table before from (table_from now from) then now.dirty (map.insert now.dirty prefix tt)
+        ∙ λ i. with_table before from (sym then_is i) (sym dirty_is i)));
   }
 
--- ---- what a router told
-
-pub drops_no_telling : (rib : RibValue) (q : ℕ) → DropsTellings rib q rib
-drops_no_telling rib q = record {
-  left = left_none (rib.tellings q);
-  dirty = marks_none rib.dirty (rib.tellings q);
-  effect = ap (λ (f : ℕ → Tellings). record rib { tellings = f }) (sym (at-itself rib.tellings q));
-}
-
-module _ (before now after : RibValue) (q : ℕ) (prefix : PrefixValue) (drops : DropsTellings before q now) (there : is_some (map.get (now.tellings q) prefix) ≡ true) (goes : EntersTelling now q prefix None after) where
-  abbrev tellings_then : Tellings
-  tellings_then = with_value (now.tellings q) prefix None
-
-  pub tellings_are : after.tellings q ≡ tellings_then
-  tellings_are = ap (λ (r : RibValue). r.tellings q) goes.effect ∙ there_at now.tellings q tellings_then
-
-  marked_are : after.dirty ≡ map.insert now.dirty prefix tt
-  marked_are = ap (λ (r : RibValue). r.dirty) goes.effect
-
-  pub drops_telling : DropsTellings before q after
-  drops_telling = record {
-    left = subst (λ (t : Tellings). IsLeft (before.tellings q) t) (sym tellings_are) (left_more (before.tellings q) (now.tellings q) prefix there drops.left);
-    dirty = subst (λ (t : Tellings). Marks before.dirty (before.tellings q) t after.dirty) (sym tellings_are) (subst (λ (s : Prefixes). Marks before.dirty (before.tellings q) tellings_then s) (sym marked_are) (marks_more (before.tellings q) (now.tellings q) prefix there drops.left before.dirty now.dirty drops.dirty));
-    effect =
-        goes.effect
-        ∙ (ap (λ (r : RibValue). record r { tellings = at r.tellings q tellings_then; dirty = map.insert now.dirty prefix tt }) drops.effect
-        ∙ (ap (λ (f : ℕ → Tellings). record before { tellings = f; dirty = map.insert now.dirty prefix tt }) (twice before.tellings q (now.tellings q) tellings_then)
-        ∙ λ i. record before { tellings = at before.tellings q (sym tellings_are i); dirty = sym marked_are i }));
-  }
+pub drops_all : (before after : RibValue) (from : From) → from ≢ Own → Drops before from after → table_from after from ≡ map.empty → DropsAll before from after
+drops_all before after Own not drops none = absurd (not refl)
+drops_all before after (Peering p) not drops none = (drops, none)
+drops_all before after (Router q) not drops none = (drops, none)

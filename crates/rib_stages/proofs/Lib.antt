@@ -1,4 +1,3 @@
-pub mod Equality
 pub mod Tables
 pub mod Sorted
 pub mod Numbered

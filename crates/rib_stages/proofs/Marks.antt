@@ -13,7 +13,8 @@ use Rattle.session_value.specs.Sets.{Prefixes, has, Marks, MarksOne}
 -- ---- what a table answers after one change
 
 module _ {A : Type 0} where
-  pub with_gives : (table : map.FinMap prefix_cmp A) (p q : PrefixValue) (value : Option A) → map.get (with_value table p value) q ≡ cond (eq_by_cmp prefix_cmp q p) value (map.get table q)
+  pub with_gives : (table : map.FinMap prefix_cmp A) (p q : PrefixValue) (value : Option A)
+      → map.get (with_value table p value) q ≡ cond (eq_by_cmp prefix_cmp q p) value (map.get table q)
   with_gives table p q None = map.get-remove prefix_total table p q
   with_gives table p q (Some x) = map.get-insert prefix_total table p x q
 
@@ -48,9 +49,6 @@ has_inserted set p q = ap is_some (map.get-insert prefix_total set p tt q) ∙ b
   by_test true = refl
   by_test false = refl
 
-true≢false : {A : Type 0} (b : Bool) → b ≡ true → b ≡ false → A
-true≢false b t f = absurd cc
-
 module _ {A : Type 0} (before marked after : Prefixes) (old now : map.FinMap prefix_cmp A) (p : PrefixValue) (value : Option A) (marks : Marks before old now marked) (first : map.get now p ≡ map.get old p) where
   abbrev next : map.FinMap prefix_cmp A
   next = with_value now p value
@@ -62,14 +60,16 @@ module _ {A : Type 0} (before marked after : Prefixes) (old now : map.FinMap pre
     has_after : (q : PrefixValue) → has after q ≡ cond (eq_by_cmp prefix_cmp q p) true (has marked q)
     has_after q = ap (λ (s : Prefixes). has s q) set ∙ has_inserted marked p q
 
-    marked_at : (q : PrefixValue) (b : Bool) → eq_by_cmp prefix_cmp q p ≡ b → cond b true (has marked q) ≡ true → (has before q ≡ true) ⊎ (map.get next q ≢ map.get old q)
+    marked_at : (q : PrefixValue) (b : Bool) → eq_by_cmp prefix_cmp q p ≡ b → cond b true (has marked q) ≡ true
+        → (has before q ≡ true) ⊎ (map.get next q ≢ map.get old q)
     marked_at q true e is = inr (λ same. differs (sym (with_here now p value) ∙ (ap (map.get next) (sym (tied q p e)) ∙ (same ∙ (ap (map.get old) (tied q p e) ∙ sym first)))))
     marked_at q false e is = elim (marks.marked q is) [
       | inl was ↦ inl was
       | inr other ↦ inr (λ same. other (sym (with_gives now p q value ∙ ap (λ (t : Bool). cond t value (map.get now q)) e) ∙ same))
     ]
 
-    others_at : (q : PrefixValue) (b : Bool) → eq_by_cmp prefix_cmp q p ≡ b → cond b true (has marked q) ≡ false → (has before q ≡ false) × (map.get next q ≡ map.get old q)
+    others_at : (q : PrefixValue) (b : Bool) → eq_by_cmp prefix_cmp q p ≡ b → cond b true (has marked q) ≡ false
+        → (has before q ≡ false) × (map.get next q ≡ map.get old q)
     others_at q true e is = absurd cc
     others_at q false e is = let m = marks.others q is in (m.0, with_gives now p q value ∙ (ap (λ (t : Bool). cond t value (map.get now q)) e ∙ m.1))
 

@@ -19,7 +19,8 @@ pub both_all : {A : Type 0} (P : A → Type 0) (xs ys : List A) → AllByRecursi
 both_all P [] ys g h = h
 both_all P (x ∷ xs) ys g h = (g.0, both_all P xs ys g.1 h)
 
-pub both_sorted : (xs ys : List From) → IsStrictlySortedBy from_order xs → IsStrictlySortedBy from_order ys → AllByRecursion (λ x. AllByRecursion (λ y. from_order x y ≡ Less) ys) xs → IsStrictlySortedBy from_order (xs ++ ys)
+pub both_sorted : (xs ys : List From) → IsStrictlySortedBy from_order xs → IsStrictlySortedBy from_order ys
+    → AllByRecursion (λ x. AllByRecursion (λ y. from_order x y ≡ Less) ys) xs → IsStrictlySortedBy from_order (xs ++ ys)
 unfolding IsStrictlySortedBy
 both_sorted [] ys g h below = h
 both_sorted (x ∷ xs) ys g h below = (both_all (λ y. from_order x y ≡ Less) xs ys g.0 below.0, both_sorted xs ys g.1 h below.1)
@@ -31,7 +32,8 @@ sources-append (x ∷ xs) ys = ap (λ (zs : List From). x.0.from ∷ zs) (source
 -- ---- the candidates of numbers
 
 module _ (g : ℕ → Option Candidate) (source : ℕ → From) (named : (k : ℕ) (c : Candidate) → g k ≡ Some c → c.0.from ≡ source k) where
-  all_step : (P : From → Type 0) (a : ℕ) (rest : List Candidate) → P (source a) → AllByRecursion P (sources rest) → (o : Option Candidate) → g a ≡ o → AllByRecursion P (sources (cons_option o rest))
+  all_step : (P : From → Type 0) (a : ℕ) (rest : List Candidate) → P (source a) → AllByRecursion P (sources rest) → (o : Option Candidate) → g a ≡ o
+      → AllByRecursion P (sources (cons_option o rest))
   all_step P a rest h more None is = more
   all_step P a rest h more (Some c) is = (subst P (sym (named a c is)) h, more)
 
@@ -40,18 +42,21 @@ module _ (g : ℕ → Option Candidate) (source : ℕ → From) (named : (k : �
   all_from P zero a h = tt
   all_from P (suc n) a h = all_step P a (filter_map g (range_with_len (a + 1) n)) (h a (omega arith)) (all_from P n (a + 1) (λ k le. h k (omega (arith, le)))) (g a) refl
 
-  sorted_step : (a : ℕ) (rest : List Candidate) → AllByRecursion (λ y. from_order (source a) y ≡ Less) (sources rest) → IsStrictlySortedBy from_order (sources rest) → (o : Option Candidate) → g a ≡ o → IsStrictlySortedBy from_order (sources (cons_option o rest))
+  sorted_step : (a : ℕ) (rest : List Candidate) → AllByRecursion (λ y. from_order (source a) y ≡ Less) (sources rest)
+      → IsStrictlySortedBy from_order (sources rest) → (o : Option Candidate) → g a ≡ o → IsStrictlySortedBy from_order (sources (cons_option o rest))
   unfolding IsStrictlySortedBy
   sorted_step a rest below more None is = more
   sorted_step a rest below more (Some c) is = (subst (λ (x : From). AllByRecursion (λ y. from_order x y ≡ Less) (sources rest)) (sym (named a c is)) below, more)
 
-  pub sorted_numbers : ((j k : ℕ) → j < k → from_order (source j) (source k) ≡ Less) → (n a : ℕ) → IsStrictlySortedBy from_order (sources (filter_map g (range_with_len a n)))
+  pub sorted_numbers : ((j k : ℕ) → j < k → from_order (source j) (source k) ≡ Less) → (n a : ℕ)
+      → IsStrictlySortedBy from_order (sources (filter_map g (range_with_len a n)))
   unfolding IsStrictlySortedBy
   sorted_numbers rises zero a = tt
   sorted_numbers rises (suc n) a =
       sorted_step a (filter_map g (range_with_len (a + 1) n)) (all_from (λ y. from_order (source a) y ≡ Less) n (a + 1) (λ k le. rises a k (omega (arith, le)))) (sorted_numbers rises n (a + 1)) (g a) refl
 
-  passed_by : (test : From → Bool) (k : ℕ) (rest : List Candidate) → test (source k) ≡ false → (o : Option Candidate) → g k ≡ o → find (λ c. test c.0.from) (cons_option o rest) ≡ find (λ c. test c.0.from) rest
+  passed_by : (test : From → Bool) (k : ℕ) (rest : List Candidate) → test (source k) ≡ false → (o : Option Candidate) → g k ≡ o
+      → find (λ c. test c.0.from) (cons_option o rest) ≡ find (λ c. test c.0.from) rest
   passed_by test k rest fails None is = refl
   passed_by test k rest fails (Some c) is = ap (λ (b : Bool). cond b (Some c) (find (λ d. test d.0.from) rest)) (ap test (named k c is) ∙ fails)
 
@@ -66,13 +71,15 @@ module _ (g : ℕ → Option Candidate) (source : ℕ → From) (named : (k : �
     kept true o e = e
     kept false o e = refl
 
-    here : (k : ℕ) (rest : List Candidate) (b : Bool) → (k == p) ≡ true → find (λ c. test c.0.from) rest ≡ cond b (g p) None → (o : Option Candidate) → g k ≡ o → find (λ c. test c.0.from) (cons_option o rest) ≡ g p
+    here : (k : ℕ) (rest : List Candidate) (b : Bool) → (k == p) ≡ true → find (λ c. test c.0.from) rest ≡ cond b (g p) None → (o : Option Candidate)
+        → g k ≡ o → find (λ c. test c.0.from) (cons_option o rest) ≡ g p
     here k rest b e others None is = others ∙ (kept b (g p) (ap g (sym (eqb-true k p e)) ∙ is) ∙ sym (ap g (sym (eqb-true k p e)) ∙ is))
     here k rest b e others (Some c) is =
         ap (λ (t : Bool). cond t (Some c) (find (λ d. test d.0.from) rest)) (ap test (named k c is) ∙ (tells k ∙ e))
         ∙ (sym is ∙ ap g (eqb-true k p e))
 
-    found_step : (k : ℕ) (rest : List Candidate) (b : Bool) → find (λ c. test c.0.from) rest ≡ cond b (g p) None → (t : Bool) → (k == p) ≡ t → find (λ c. test c.0.from) (cons_option (g k) rest) ≡ cond (t || b) (g p) None
+    found_step : (k : ℕ) (rest : List Candidate) (b : Bool) → find (λ c. test c.0.from) rest ≡ cond b (g p) None → (t : Bool) → (k == p) ≡ t
+        → find (λ c. test c.0.from) (cons_option (g k) rest) ≡ cond (t || b) (g p) None
     found_step k rest b others true e = here k rest b e others (g k) refl
     found_step k rest b others false e = passed_by test k rest (tells k ∙ e) (g k) refl ∙ others
 
@@ -92,10 +99,12 @@ among_range (suc n) a p le lt = among_step a p (list_any (λ k. k == p) (range_w
 -- numbers that have nothing add nothing
 pub none_added : (g : ℕ → Option Candidate) (n a : ℕ) → ((k : ℕ) → a ≤ k → g k ≡ None) → filter_map g (range_with_len a n) ≡ []
 none_added g zero a none = refl
-none_added g (suc n) a none = ap (λ (o : Option Candidate). cons_option o (filter_map g (range_with_len (a + 1) n))) (none a (omega arith)) ∙ none_added g n (a + 1) (λ k le. none k (omega (arith, le)))
+none_added g (suc n) a none = ap (λ (o : Option Candidate). cons_option o (filter_map g (range_with_len (a + 1) n))) (none a (omega arith))
+    ∙ none_added g n (a + 1) (λ k le. none k (omega (arith, le)))
 
 -- so fewer numbers do, where the further ones have nothing
-pub fewer : (g : ℕ → Option Candidate) (n m a : ℕ) → n ≤ m → ((k : ℕ) → a + n ≤ k → g k ≡ None) → filter_map g (range_with_len a m) ≡ filter_map g (range_with_len a n)
+pub fewer : (g : ℕ → Option Candidate) (n m a : ℕ) → n ≤ m → ((k : ℕ) → a + n ≤ k → g k ≡ None)
+    → filter_map g (range_with_len a m) ≡ filter_map g (range_with_len a n)
 fewer g zero m a le none = none_added g m a (λ k h. none k (omega (arith, h)))
 fewer g (suc n) zero a le none = absurd (omega (arith, le))
 fewer g (suc n) (suc m) a le none = ap (cons_option (g a)) (fewer g n m (a + 1) (omega (arith, le)) (λ k h. none k (omega (arith, h))))

@@ -17,7 +17,8 @@ use Rattle.rib_stages.specs.Ranks.{RankSets, ranks_at, SetsRank, HasOwnRanks}
 use Rattle.rib_stages.proofs.Kept.{tests_same}
 use Rattle.rib_stages.proofs.Marks.{itself}
 
-set_more_from : (networks : List PrefixValue) (n : PrefixValue) (set : Prefixes) → fold (λ s network. map.insert s network tt) set (networks ++ n ∷ []) ≡ map.insert (fold (λ s network. map.insert s network tt) set networks) n tt
+set_more_from : (networks : List PrefixValue) (n : PrefixValue) (set : Prefixes)
+    → fold (λ s network. map.insert s network tt) set (networks ++ n ∷ []) ≡ map.insert (fold (λ s network. map.insert s network tt) set networks) n tt
 set_more_from [] n set = refl
 set_more_from (m ∷ ms) n set = set_more_from ms n (map.insert set m tt)
 
@@ -43,12 +44,14 @@ or_same : (b : Bool) → (b || false) ≡ b
 or_same true = refl
 or_same false = refl
 
-pub own_ranks_more : (rank : Rank) (networks : List PrefixValue) (n : PrefixValue) (before after : RankSets) → HasOwnRanks rank networks before → SetsRank before n Own (Some rank) after → HasOwnRanks rank (networks ++ n ∷ []) after
+pub own_ranks_more : (rank : Rank) (networks : List PrefixValue) (n : PrefixValue) (before after : RankSets) → HasOwnRanks rank networks before
+    → SetsRank before n Own (Some rank) after → HasOwnRanks rank (networks ++ n ∷ []) after
 own_ranks_more rank networks n before after has_own sets = record { own = λ q. own q (eq_by_cmp prefix_cmp q n) refl; others = λ q from differs. others q from differs (eq_by_cmp prefix_cmp q n) refl } where
   apart_from : (q : PrefixValue) → eq_by_cmp prefix_cmp q n ≡ false → q ≢ n
   apart_from q e same = let t : eq_by_cmp prefix_cmp q n ≡ true = ap (λ (x : PrefixValue). eq_by_cmp prefix_cmp x n) same ∙ itself n in absurd cc
 
-  own : (q : PrefixValue) (b : Bool) → eq_by_cmp prefix_cmp q n ≡ b → rank_at (ranks_at after q) Own ≡ cond (list_any (same_prefix q) (networks ++ n ∷ [])) (Some rank) None
+  own : (q : PrefixValue) (b : Bool) → eq_by_cmp prefix_cmp q n ≡ b
+      → rank_at (ranks_at after q) Own ≡ cond (list_any (same_prefix q) (networks ++ n ∷ [])) (Some rank) None
   own q true e =
       let test : same_prefix q n ≡ true = sym (tests_same q n) ∙ e in
       ap (λ (x : PrefixValue). rank_at (ranks_at after x) Own) (tied q n e)
@@ -59,12 +62,14 @@ own_ranks_more rank networks n before after has_own sets = record { own = λ q. 
       ∙ (has_own.own q ∙ ap (λ (b : Bool). cond b (Some rank) None) (sym (any_more (same_prefix q) networks n ∙ (ap (λ (b : Bool). list_any (same_prefix q) networks || b) test ∙ or_same (list_any (same_prefix q) networks)))))
 
   others : (q : PrefixValue) (from : From) → from ≢ Own → (b : Bool) → eq_by_cmp prefix_cmp q n ≡ b → rank_at (ranks_at after q) from ≡ None
-  others q from differs true e = ap (λ (x : PrefixValue). rank_at (ranks_at after x) from) (tied q n e) ∙ (sets.others from differs ∙ has_own.others n from differs)
+  others q from differs true e = ap (λ (x : PrefixValue). rank_at (ranks_at after x) from) (tied q n e)
+      ∙ (sets.others from differs ∙ has_own.others n from differs)
   others q from differs false e = ap (λ (rs : List RankedSource). rank_at rs from) (sets.elsewhere q (apart_from q e)) ∙ has_own.others q from differs
 
 -- no network has no rank
 pub own_ranks_none : (rank : Rank) (sets : RankSets) → sets ≡ map.empty → HasOwnRanks rank [] sets
 own_ranks_none rank sets is = record {
   own = λ q. ap (λ (s : RankSets). rank_at (ranks_at s q) Own) is ∙ ap (λ o. rank_at (Rattle.std.specs.Option.unwrap_or o []) Own) (map.get-empty prefix_cmp q);
-  others = λ q from differs. ap (λ (s : RankSets). rank_at (ranks_at s q) from) is ∙ ap (λ o. rank_at (Rattle.std.specs.Option.unwrap_or o []) from) (map.get-empty prefix_cmp q);
+  others = λ q from differs. ap (λ (s : RankSets). rank_at (ranks_at s q) from) is
+      ∙ ap (λ o. rank_at (Rattle.std.specs.Option.unwrap_or o []) from) (map.get-empty prefix_cmp q);
 }

@@ -20,18 +20,13 @@ use Rattle.bgp_types.specs.declared.rank.From.{From}
 use Rattle.bgp_types.specs.declared.rank.Rank.{Rank}
 use Rattle.bgp_types.proofs.TableLaws.{prefix_total}
 use Rattle.decision_core.specs.Choice.{choice, left_of, keep}
-use Rattle.decision_groups.specs.Order.{RankedSource, IsInOrder, from_order, rank_at, with_rank, without}
+use Rattle.decision_groups.specs.Order.{RankedSource, IsInOrder, from_order, rank_at, with_rank, without_source}
 use Rattle.decision_groups.proofs.OrderLaws.{from_order_total, from_order_exact}
 use Rattle.rib_stages.specs.Ranks.{RankSets, ranks_at, ranks_with, SetsRank}
-use Rattle.rib_stages.proofs.Kept.{tests_same}
+use Rattle.rib_stages.proofs.Kept.{is_equal, tests_same}
 use Rattle.rib_stages.proofs.Marks.{itself, apart}
 
 -- ---- look-ups in lists of entries
-
-is_equal : (o : Ordering) → is_eq o ≡ true → o ≡ Equal
-is_equal Less e = absurd cc
-is_equal Equal e = refl
-is_equal Greater e = absurd cc
 
 module _ {K X : Type 0} (R : K → K → Ordering) (o : IsTotalOrder R) (exact : CmpEqualImpliesEq R) (q k : K) (v : X) where
   shadowed : (b : Bool) (x y : Option X) → cond b x y ≡ cond b x (cond b x y)
@@ -48,7 +43,8 @@ module _ {K X : Type 0} (R : K → K → Ordering) (o : IsTotalOrder R) (exact :
   swapped false true x y z never = refl
   swapped false false x y z never = refl
 
-  step : (e : K × X) (es : List (K × X)) (a : Ordering) → R k e.0 ≡ a → lookup (is_at (R q)) (insert_entry R es k v) ≡ cond (is_eq (R q k)) (Some v) (lookup (is_at (R q)) es)
+  step : (e : K × X) (es : List (K × X)) (a : Ordering) → R k e.0 ≡ a
+      → lookup (is_at (R q)) (insert_entry R es k v) ≡ cond (is_eq (R q k)) (Some v) (lookup (is_at (R q)) es)
       → lookup (is_at (R q)) (match_ordering a ((k, v) ∷ (e ∷ es)) ((e.0, v) ∷ es) (e ∷ insert_entry R es k v)) ≡ cond (is_eq (R q k)) (Some v) (cond (is_eq (R q e.0)) (Some e.1) (lookup (is_at (R q)) es))
   step e es Less is rest = refl
   step e es Equal is rest =
@@ -78,19 +74,25 @@ other_test other from differs = by_test (is_eq (from_order other from)) refl whe
   by_test false e = refl
 
 pub rank_there : (ranks : List RankedSource) (from : From) (rank : Rank) → rank_at (with_rank ranks from rank) from ≡ Some rank
-rank_there ranks from rank = lookup-inserted from_order from_order_total from_order_exact from from rank ranks ∙ ap (λ (o : Ordering). cond (is_eq o) (Some rank) (rank_at ranks from)) (tied_itself from_order_total from)
+rank_there ranks from rank = lookup-inserted from_order from_order_total from_order_exact from from rank ranks
+    ∙ ap (λ (o : Ordering). cond (is_eq o) (Some rank) (rank_at ranks from)) (tied_itself from_order_total from)
 
-pub rank_other : (ranks : List RankedSource) (from : From) (rank : Rank) (other : From) → other ≢ from → rank_at (with_rank ranks from rank) other ≡ rank_at ranks other
-rank_other ranks from rank other differs = lookup-inserted from_order from_order_total from_order_exact other from rank ranks ∙ ap (λ (b : Bool). cond b (Some rank) (rank_at ranks other)) (other_test other from differs)
+pub rank_other : (ranks : List RankedSource) (from : From) (rank : Rank) (other : From) → other ≢ from
+    → rank_at (with_rank ranks from rank) other ≡ rank_at ranks other
+rank_other ranks from rank other differs = lookup-inserted from_order from_order_total from_order_exact other from rank ranks
+    ∙ ap (λ (b : Bool). cond b (Some rank) (rank_at ranks other)) (other_test other from differs)
 
-taken_out : (ranks : List RankedSource) (from other : From) → IsInOrder ranks → rank_at (without ranks from) other ≡ cond (is_eq (from_order from other)) None (rank_at ranks other)
+taken_out : (ranks : List RankedSource) (from other : From) → IsInOrder ranks
+    → rank_at (without_source ranks from) other ≡ cond (is_eq (from_order from other)) None (rank_at ranks other)
 taken_out ranks from other ordered =
     lookup-remove_entry (eq_by_cmp_equiv from_order_total) (is_at (from_order from)) (λ x y t. (eq_by_cmp_equiv from_order_total).congr from x y t) other ranks (IsDistinct-from_sorted from_order _ ordered)
 
-pub rank_gone : (ranks : List RankedSource) (from : From) → IsInOrder ranks → rank_at (without ranks from) from ≡ None
-rank_gone ranks from ordered = taken_out ranks from from ordered ∙ ap (λ (o : Ordering). cond (is_eq o) None (rank_at ranks from)) (tied_itself from_order_total from)
+pub rank_gone : (ranks : List RankedSource) (from : From) → IsInOrder ranks → rank_at (without_source ranks from) from ≡ None
+rank_gone ranks from ordered = taken_out ranks from from ordered
+    ∙ ap (λ (o : Ordering). cond (is_eq o) None (rank_at ranks from)) (tied_itself from_order_total from)
 
-pub rank_left : (ranks : List RankedSource) (from : From) → IsInOrder ranks → (other : From) → other ≢ from → rank_at (without ranks from) other ≡ rank_at ranks other
+pub rank_left : (ranks : List RankedSource) (from : From) → IsInOrder ranks → (other : From) → other ≢ from
+    → rank_at (without_source ranks from) other ≡ rank_at ranks other
 rank_left ranks from ordered other differs =
     taken_out ranks from other ordered
     ∙ ap (λ (b : Bool). cond b None (rank_at ranks other)) ((eq_by_cmp_equiv from_order_total).symm from other ∙ other_test other from differs)
@@ -106,18 +108,21 @@ unwrapped_none true o = refl
 unwrapped_none false o = refl
 
 put_at : (sets : RankSets) (p : PrefixValue) (xs : List RankedSource) (q : PrefixValue) → ranks_at (map.insert sets p xs) q ≡ ranks_with (ranks_at sets) p xs q
-put_at sets p xs q = ap (λ o. unwrap_or o []) (map.get-insert prefix_total sets p xs q) ∙ (unwrapped (eq_by_cmp prefix_cmp q p) xs (map.get sets q) ∙ ap (λ (b : Bool). cond b xs (ranks_at sets q)) (tests_same q p))
+put_at sets p xs q = ap (λ o. unwrap_or o []) (map.get-insert prefix_total sets p xs q)
+    ∙ (unwrapped (eq_by_cmp prefix_cmp q p) xs (map.get sets q) ∙ ap (λ (b : Bool). cond b xs (ranks_at sets q)) (tests_same q p))
 
 pub ranks_put : (sets : RankSets) (p : PrefixValue) (xs : List RankedSource) → ranks_at (map.insert sets p xs) ≡ ranks_with (ranks_at sets) p xs
 ranks_put sets p xs = λ i q. put_at sets p xs q i
 
 gone_at : (sets : RankSets) (p : PrefixValue) (q : PrefixValue) → ranks_at (map.remove sets p) q ≡ ranks_with (ranks_at sets) p [] q
-gone_at sets p q = ap (λ o. unwrap_or o []) (map.get-remove prefix_total sets p q) ∙ (unwrapped_none (eq_by_cmp prefix_cmp q p) (map.get sets q) ∙ ap (λ (b : Bool). cond b [] (ranks_at sets q)) (tests_same q p))
+gone_at sets p q = ap (λ o. unwrap_or o []) (map.get-remove prefix_total sets p q)
+    ∙ (unwrapped_none (eq_by_cmp prefix_cmp q p) (map.get sets q) ∙ ap (λ (b : Bool). cond b [] (ranks_at sets q)) (tests_same q p))
 
 pub ranks_gone : (sets : RankSets) (p : PrefixValue) (xs : List RankedSource) → xs ≡ [] → ranks_at (map.remove sets p) ≡ ranks_with (ranks_at sets) p xs
 ranks_gone sets p xs is = (λ i q. gone_at sets p q i) ∙ ap (ranks_with (ranks_at sets) p) (sym is)
 
-twice : (ranks : PrefixValue → List RankedSource) (p : PrefixValue) (xs ys : List RankedSource) (q : PrefixValue) → ranks_with (ranks_with ranks p xs) p ys q ≡ ranks_with ranks p ys q
+twice : (ranks : PrefixValue → List RankedSource) (p : PrefixValue) (xs ys : List RankedSource) (q : PrefixValue)
+    → ranks_with (ranks_with ranks p xs) p ys q ≡ ranks_with ranks p ys q
 twice ranks p xs ys q = by_test (same_prefix q p) where
   by_test : (b : Bool) → cond b ys (cond b xs (ranks q)) ≡ cond b ys (ranks q)
   by_test true = refl
@@ -134,16 +139,19 @@ module _ (before after : RankSets) (p : PrefixValue) (xs : List RankedSource) (p
   pub ranks_back : xs ≡ ranks_at before p → ranks_at after ≡ ranks_at before
   ranks_back is = put ∙ (ap (ranks_with (ranks_at before) p) is ∙ λ i q. again (ranks_at before) p q i)
 
-  pub sets_rank : (from : From) (rank : Option Rank) → rank_at xs from ≡ rank → ((other : From) → other ≢ from → rank_at xs other ≡ rank_at (ranks_at before p) other) → SetsRank before p from rank after
+  pub sets_rank : (from : From) (rank : Option Rank) → rank_at xs from ≡ rank
+      → ((other : From) → other ≢ from → rank_at xs other ≡ rank_at (ranks_at before p) other) → SetsRank before p from rank after
   sets_rank from rank there others =
       let here : ranks_at after p ≡ xs = ap (λ (f : PrefixValue → List RankedSource). f p) put ∙ ap (λ (b : Bool). cond b xs (ranks_at before p)) (sym (tests_same p p) ∙ itself p) in record {
         there = ap (λ (ys : List RankedSource). rank_at ys from) here ∙ there;
         others = λ other differs. ap (λ (ys : List RankedSource). rank_at ys other) here ∙ others other differs;
-        elsewhere = λ q differs. ap (λ (f : PrefixValue → List RankedSource). f q) put ∙ ap (λ (b : Bool). cond b xs (ranks_at before q)) (sym (tests_same q p) ∙ apart p q differs);
+        elsewhere = λ q differs. ap (λ (f : PrefixValue → List RankedSource). f q) put
+            ∙ ap (λ (b : Bool). cond b xs (ranks_at before q)) (sym (tests_same q p) ∙ apart p q differs);
       }
 
 -- what goes again once nothing is left
-pub ranks_emptied : (before left : RankSets) (p : PrefixValue) (xs : List RankedSource) → left ≡ map.insert before p xs → xs ≡ [] → ranks_at (map.remove left p) ≡ ranks_with (ranks_at before) p xs
+pub ranks_emptied : (before left : RankSets) (p : PrefixValue) (xs : List RankedSource) → left ≡ map.insert before p xs → xs ≡ []
+    → ranks_at (map.remove left p) ≡ ranks_with (ranks_at before) p xs
 ranks_emptied before left p xs is empty =
     ranks_gone left p xs empty
     ∙ (ap (λ (s : RankSets). ranks_with (ranks_at s) p xs) is
@@ -190,7 +198,7 @@ module _ (before after : RankSets) (p : PrefixValue) (from : From) (ranks xs : L
   call_keeps (Ok v) is = tt
   call_keeps (Err e) is = ranks_back before after p xs put (is ∙ there)
 
-  pub call_drops : IsInOrder ranks → xs ≡ without ranks from → SetsRank before p from None after
+  pub call_drops : IsInOrder ranks → xs ≡ without_source ranks from → SetsRank before p from None after
   call_drops ordered is = sets_rank before after p xs put from None
       (ap (λ (ys : List RankedSource). rank_at ys from) is ∙ rank_gone ranks from ordered)
       (λ other differs. ap (λ (ys : List RankedSource). rank_at ys other) is ∙ (rank_left ranks from ordered other differs ∙ ap (λ (ys : List RankedSource). rank_at ys other) there))

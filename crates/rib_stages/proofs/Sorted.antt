@@ -30,5 +30,6 @@ module _ {K X : Type 0} (R : K → K → Ordering) where
   looked_up q [] = refl
   looked_up q (e ∷ es) = ap (cond (is_eq (R q e.0)) (Some e.1)) (looked_up q es)
 
-  pub alike_is_same : IsTotalOrder R → CmpEqualImpliesEq R → (es fs : List (K × X)) → IsStrictlySortedBy R (keys_of es) → IsStrictlySortedBy R (keys_of fs) → ((q : K) → lookup (is_at (R q)) es ≡ lookup (is_at (R q)) fs) → es ≡ fs
+  pub alike_is_same : IsTotalOrder R → CmpEqualImpliesEq R → (es fs : List (K × X)) → IsStrictlySortedBy R (keys_of es)
+      → IsStrictlySortedBy R (keys_of fs) → ((q : K) → lookup (is_at (R q)) es ≡ lookup (is_at (R q)) fs) → es ≡ fs
   alike_is_same o exact es fs s t is = same_entries R o exact es fs (sorted es s) (sorted fs t) (λ q. looked_up q es ∙ (is q ∙ sym (looked_up q fs)))

@@ -1,15 +1,15 @@
 -- Tables in a list, one of which changes.
-use Rattle.std.proofs.Common.{◌≡◌, ℕ, zero, suc, ◌<◌, ◌≤◌, ◌==◌, Bool, true, false, cond, List, [], ◌∷◌, length, replicate, ◌++◌, ◌+◌, get_or, set, add-one, refl, sym, ap, subst, ◌∙◌, arith}
-use Rattle.std.proofs.lemmas.Bool.{eqb-true}
+use Rattle.std.proofs.Common.{◌≡◌, ℕ, zero, suc, ◌<◌, ◌==◌, Bool, true, false, cond, List, [], ◌∷◌, length, replicate, ◌++◌, ◌+◌, get_or, set, add-one, refl, sym, ap, ◌∙◌, arith}
+use Rattle.std.proofs.lemmas.Bool.{eqb-true, eq-eqb}
 use Rattle.std.proofs.lemmas.Bool.Decides.{nat_tests}
 use Rattle.std.proofs.lemmas.List.{length-map, map-append, map-set}
-use Rattle.std.specs.Prelude.{Result, Ok, Err, OnOk}
+use Rattle.std.specs.Prelude.{Result, Ok, Err, OnErr}
 use Rattle.bgp_types.specs.Prefixes.{PrefixValue}
 use Rattle.std.specs.FinMap as map
 use Rattle.bgp_types.specs.Tables.{prefix_cmp}
 use Rattle.prefix_trie.specs.Table.{TableValue}
 use Rattle.session_value.specs.Points.{at}
-use Rattle.rib_stages.specs.Values.{table_at, contents_of, tables_of, room_at}
+use Rattle.rib_stages.specs.Values.{table_at, contents_of, tables_of}
 
 pub length_replicate : {B : Type 0} (n : ℕ) (x : B) → length (replicate n x) ≡ n
 length_replicate zero x = refl
@@ -25,7 +25,8 @@ both_suc : (k n : ℕ) → (k == n) ≡ (suc k == suc n)
 both_suc k n = grind (arith, nat_tests)
 
 module _ {A : Type 0} where
-  one_set : (cs : List (map.FinMap prefix_cmp A)) (n k : ℕ) (c : map.FinMap prefix_cmp A) → n < length cs → table_at (set cs n c) k ≡ cond (k == n) c (table_at cs k)
+  one_set : (cs : List (map.FinMap prefix_cmp A)) (n k : ℕ) (c : map.FinMap prefix_cmp A) → n < length cs
+      → table_at (set cs n c) k ≡ cond (k == n) c (table_at cs k)
   one_set [] n k c h = absurd (omega (arith, h))
   one_set (x ∷ cs) zero zero c h = refl
   one_set (x ∷ cs) zero (suc k) c h = ap (λ (b : Bool). cond b c (table_at cs k)) (sym (not_zero k))
@@ -38,11 +39,15 @@ module _ {A : Type 0} where
 
   -- the same of tables with their room
   pub tables-set : (ts : List (TableValue A)) (n : ℕ) (t : TableValue A) → n < length ts → tables_of (set ts n t) ≡ at (tables_of ts) n t.contents
-  tables-set ts n t h = ap table_at (map-set (λ (x : TableValue A). x.contents) ts n t) ∙ table-set (contents_of ts) n t.contents (omega (arith, h, length-map ts (λ (x : TableValue A). x.contents)))
+  tables-set ts n t h = ap table_at (map-set (λ (x : TableValue A). x.contents) ts n t)
+      ∙ table-set (contents_of ts) n t.contents (omega (arith, h, length-map ts (λ (x : TableValue A). x.contents)))
 
   itself : (f : ℕ → map.FinMap prefix_cmp A) (n k : ℕ) (b : Bool) → (k == n) ≡ b → cond b (f n) (f k) ≡ f k
   itself f n k true e = ap f (sym (eqb-true k n e))
   itself f n k false e = refl
+
+  pub there_at : (f : ℕ → map.FinMap prefix_cmp A) (n : ℕ) (t : map.FinMap prefix_cmp A) → at f n t n ≡ t
+  there_at f n t = ap (λ (b : Bool). cond b t (f n)) (eq-eqb n n refl)
 
   pub at-itself : (f : ℕ → map.FinMap prefix_cmp A) (n : ℕ) → at f n (f n) ≡ f
   at-itself f n = λ i k. itself f n k (k == n) refl i
@@ -57,24 +62,6 @@ module _ {A : Type 0} where
   table_is [] n x h is = absurd (omega (arith, h))
   table_is (y ∷ ts) zero x h is = ap (λ (t : TableValue A). t.contents) (sym is)
   table_is (y ∷ ts) (suc n) x h is = table_is ts n x (omega (arith, h)) is
-
-  pub room_is : (ts : List (TableValue A)) (n : ℕ) (x : TableValue A) → n < length ts → x ≡ get_or ts n x → room_at ts n ≡ x.room
-  room_is [] n x h is = absurd (omega (arith, h))
-  room_is (y ∷ ts) zero x h is = ap (λ (t : TableValue A). t.room) (sym is)
-  room_is (y ∷ ts) (suc n) x h is = room_is ts n x (omega (arith, h)) is
-
-  pub room-set : (ts : List (TableValue A)) (n : ℕ) (t : TableValue A) → n < length ts → room_at (set ts n t) n ≡ t.room
-  room-set [] n t h = absurd (omega (arith, h))
-  room-set (x ∷ ts) zero t h = refl
-  room-set (x ∷ ts) (suc n) t h = room-set ts n t (omega (arith, h))
-
-  -- the table there is another
-  pub tables_become : (ts : List (TableValue A)) (n : ℕ) (x t : TableValue A) (c : map.FinMap prefix_cmp A) → n < length ts → x ≡ get_or ts n x → t.contents ≡ c → tables_of (set ts n t) ≡ at (tables_of ts) n c
-  tables_become ts n x t c h is e = tables-set ts n t h ∙ ap (at (tables_of ts) n) e
-
-  -- the table there has the same
-  pub tables_stay : (ts : List (TableValue A)) (n : ℕ) (x t : TableValue A) → n < length ts → x ≡ get_or ts n x → t.contents ≡ x.contents → tables_of (set ts n t) ≡ tables_of ts
-  tables_stay ts n x t h is e = tables-set ts n t h ∙ (ap (at (tables_of ts) n) (e ∙ sym (table_is ts n x h is)) ∙ at-itself (tables_of ts) n)
 
   pub empty_at : (n k : ℕ) → table_at (replicate n (map.empty {K = PrefixValue} {X = A} {R = prefix_cmp})) k ≡ map.empty
   empty_at zero k = refl
@@ -93,15 +80,15 @@ module _ {A : Type 0} where
     there : x.contents ≡ tables_of vs n
     there = sym (table_is ts k x within read) ∙ (λ i. tables_of (same i) (index i))
 
-    pub call_becomes : (change : map.FinMap prefix_cmp A → map.FinMap prefix_cmp A) → t.contents ≡ change x.contents → tables_of (set ts k t) ≡ at (tables_of vs) n (change (tables_of vs n))
-    call_becomes change e = tables-set ts k t within ∙ (ap (at (tables_of ts) k) (e ∙ ap change there) ∙ λ i. at (tables_of (same i)) (index i) (change (tables_of vs n)))
+    pub call_becomes : (change : map.FinMap prefix_cmp A → map.FinMap prefix_cmp A) → t.contents ≡ change x.contents
+        → tables_of (set ts k t) ≡ at (tables_of vs) n (change (tables_of vs n))
+    call_becomes change e = tables-set ts k t within
+        ∙ (ap (at (tables_of ts) k) (e ∙ ap change there) ∙ λ i. at (tables_of (same i)) (index i) (change (tables_of vs n)))
 
-    pub call_stays : t.contents ≡ x.contents → tables_of (set ts k t) ≡ tables_of vs
-    call_stays e = tables_stay ts k x t within read e ∙ ap tables_of same
-
-    pub call_room : {B E : Type 0} (r : Result B E) → OnOk r (1 ≤ t.room) → OnOk r (1 ≤ room_at (set ts k t) n)
-    call_room (Ok v) h = subst (λ (m : ℕ). 1 ≤ room_at (set ts k t) m) index (subst (λ (m : ℕ). 1 ≤ m) (sym (room-set ts k t within)) h)
-    call_room (Err e) h = tt
+    pub call_stays : {B E : Type 0} (r : Result B E) → t.contents ≡ x.contents → OnErr r (tables_of (set ts k t) ≡ tables_of vs)
+    call_stays (Ok v) e = tt
+    call_stays (Err v) e = tables-set ts k t within
+        ∙ (ap (at (tables_of ts) k) (e ∙ sym (table_is ts k x within read)) ∙ (at-itself (tables_of ts) k ∙ ap tables_of same))
 
   -- ---- empty tables
 
@@ -112,7 +99,8 @@ module _ {A : Type 0} where
   one_more zero = refl
   one_more (suc n) = ap (λ (ts : List (map.FinMap prefix_cmp A)). map.empty ∷ ts) (one_more n)
 
-  pub contents_more : (ts us : List (TableValue A)) (t : TableValue A) (n : ℕ) → contents_of ts ≡ empties n → us ≡ ts ++ t ∷ [] → t.contents ≡ map.empty → contents_of us ≡ empties (n + 1)
+  pub contents_more : (ts us : List (TableValue A)) (t : TableValue A) (n : ℕ) → contents_of ts ≡ empties n → us ≡ ts ++ t ∷ []
+      → t.contents ≡ map.empty → contents_of us ≡ empties (n + 1)
   contents_more ts us t n is more none =
       ap contents_of more ∙ (map-append (λ (x : TableValue A). x.contents) ts (t ∷ [])
       ∙ ((λ i. is i ++ none i ∷ []) ∙ (one_more n ∙ ap empties (sym (add-one n)))))

@@ -1,159 +1,152 @@
 -- What is kept after the calls of a whole change.
-use Rattle.std.proofs.Common.{◌≡◌, ℕ, ◌<◌, false, List, Option, Some, refl, sym, ap, subst, ◌∙◌, inl, inr}
-use Rattle.std.specs.Prelude.{◌≢◌, Result, Ok, Err, OnOk, OnErr}
+use Rattle.std.proofs.Common.{◌≡◌, ℕ, ◌<◌, Bool, true, false, List, Option, Some, None, refl, sym, ap, subst, ◌∙◌, inl, inr}
+use Rattle.std.specs.Prelude.{◌≢◌, MatchBool, Result, Ok, Err, OnOk, OnErr}
 use Rattle.std.specs.FinMap as map
 use Rattle.std.specs.Option.{option_map}
 use Rattle.bgp_types.specs.Prefixes.{PrefixValue}
 use Rattle.bgp_types.specs.Tables.{prefix_cmp}
 use Rattle.bgp_types.specs.declared.attrs.Route.{Route}
-use Rattle.bgp_types.specs.declared.rank.From.TheVariants.{Peering, Router}
+use Rattle.bgp_types.specs.declared.rank.From.{From}
+use Rattle.bgp_types.specs.declared.rank.From.TheVariants.{Own, Peering, Router}
+use Rattle.bgp_types.specs.declared.rank.Rank.{Rank}
 use Rattle.loc_rib.specs.Values.{LocValue, with_best, with_value}
-use Rattle.route_policy.specs.Candidates.{own_rank, own_route, rank_of}
+use Rattle.route_policy.specs.Candidates.{own_rank, own_route}
 use Rattle.route_policy.specs.declared.best.Best.{Best}
 use Rattle.route_policy.specs.declared.entry.Entry.{Entry}
-use Rattle.session_value.specs.Points.{at}
-use Rattle.session_value.specs.Sets.{Entries, Tellings, Prefixes}
-use Rattle.rib_stages.specs.declared.config.RibConfig.{RibConfig}
+use Rattle.session_value.specs.Sets.{Prefixes}
 use Rattle.prefix_trie.specs.Table.{TableValue}
-use Rattle.rib_stages.specs.Values.{RibValue, contents_of, set_of, table_at, tables_of}
-use Rattle.rib_stages.specs.Choosing.{cost_to, identifier_of, chosen}
-use Rattle.rib_stages.specs.Ranks.{RankSets, ranks_at, SetsRank, HasOwnRanks, entry_rank, IsRib}
-use Rattle.rib_stages.specs.Steps.{EntersEntry, EntersTelling, SetsEntry, SetsTelling, MayMark}
-use Rattle.rib_stages.proofs.Kept.{kept_marked, kept_ranks, kept_decided, kept_entry, kept_telling, kept_fresh}
+use Rattle.rib_stages.specs.declared.config.InEntry.{InEntry}
+use Rattle.rib_stages.specs.declared.ranks.Choices.{Choices}
+use Rattle.rib_stages.specs.declared.rib.Rib.TheInside.{Inside}
+use Rattle.rib_stages.specs.Values.{RibStore, RibValue, Given, rib_of, contents_of, set_of, table_at, table_from, tables_of}
+use Rattle.rib_stages.specs.Choosing.{rib_choice}
+use Rattle.rib_stages.specs.Ranks.{SetsRank, HasOwnRanks, MarksRank, MarksAtMost, IsRib}
+use Rattle.rib_stages.specs.Steps.{Enters, Sets, SetsIn, IsOther, MayMark, entries_with, tellings_with, with_table, given, given_from, taken}
+use Rattle.rib_stages.proofs.Drops.{same_table}
+use Rattle.rib_stages.proofs.Kept.{number_of, rank_given, entered, kept_entered, kept_marked, kept_ranks, kept_decided, kept_fresh}
 use Rattle.rib_stages.proofs.Marks.{with_same}
-use Rattle.rib_stages.proofs.Tables.{at-itself, empties, empty_tables}
+use Rattle.rib_stages.proofs.Tables.{empties, empty_tables}
 
--- the routes, of the parts that hold them
-abbrev pub parts : RibConfig → (ℕ → Entries) → (ℕ → Tellings) → LocValue → RibValue
-parts config entries tellings loc = record { config = config; entries = entries; tellings = tellings; best = loc.best; dirty = loc.dirty }
+-- the routes, as a Rib's fields hold them
+abbrev pub value_of : Inside → RibValue
+value_of i = record { config = i.config; entries = tables_of i.peerings; tellings = tables_of i.routers; best = i.choices.loc.best; dirty = i.choices.loc.dirty }
 
--- a change of a table that has more memory than before
-pub at_from : {A : Type 0} (f g h : ℕ → map.FinMap prefix_cmp A) (p : ℕ) (prefix : PrefixValue) (x : A) → g ≡ f → h ≡ at g p (map.insert (g p) prefix x) → h ≡ at f p (with_value (f p) prefix (Some x))
-at_from {A = A} f g h p prefix x same is = is ∙ ap (λ (k : ℕ → map.FinMap prefix_cmp A). at k p (map.insert (k p) prefix x)) same
+abbrev store_of : Inside → RibStore
+store_of i = record { config = i.config; entries = contents_of i.peerings; tellings = contents_of i.routers; best = i.choices.loc.best; dirty = i.choices.loc.dirty }
 
-module _ (config : RibConfig) (entries : ℕ → Entries) (tellings : ℕ → Tellings) (loc marked : LocValue) (sets after : RankSets) (networks : Prefixes) (own : Route) (prefix : PrefixValue) where
-  abbrev rib : RibValue
-  rib = parts config entries tellings loc
+abbrev IsWhole : Inside → Type 0
+IsWhole i = IsRib (value_of i) i.choices.groups.contents i.networks.contents i.own_route
 
-  module _ (kept : IsRib rib sets networks own) (mark : marked ≡ record loc { dirty = map.insert loc.dirty prefix tt }) where
-    abbrev dirtied : RibValue
-    dirtied = record rib { dirty = map.insert loc.dirty prefix tt }
+module _ (i : Inside) (whole : IsWhole i) (prefix : PrefixValue) where
+  module _ (peerings : List (TableValue Entry)) (routers : List (TableValue Route)) (choices : Choices) where
+    abbrev then : Inside
+    then = record i { peerings = peerings; routers = routers; choices = choices }
 
-    pub is_dirtied : (now : ℕ → Entries) (then : ℕ → Tellings) → now ≡ entries → then ≡ tellings → parts config now then marked ≡ dirtied
-    is_dirtied now then same alike = λ i. parts config (same i) (alike i) (mark i)
+    -- a source gave something else
+    module _ (source from : From) (is : source ≡ from) (given : source ≢ Own) (value : (f : From) → Option (Given f)) (rank : Option Rank)
+        (ranked : rank ≡ option_map (rank_given i.config from) (value from)) (named : From) (named_is : named ≡ from) (marks : MarksRank i.choices prefix named rank choices)
+        (here : tables_of peerings ≡ entries_with (value_of i) from (with_value (table_from (value_of i) from) prefix (value from)))
+        (there : tables_of routers ≡ tellings_with (value_of i) from (with_value (table_from (value_of i) from) prefix (value from))) where
+      entered_is : value_of then ≡ entered (value_of i) prefix from (value from)
+      entered_is = λ n. record { config = i.config; entries = here n; tellings = there n; best = (marks.loc n).best; dirty = (marks.loc n).dirty }
 
-    -- only the mark was made
-    pub whole_marked : (now : ℕ → Entries) (then : ℕ → Tellings) → now ≡ entries → then ≡ tellings → ranks_at after ≡ ranks_at sets → IsRib (parts config now then marked) after networks own
-    whole_marked now then same alike ranks = subst (λ (r : RibValue). IsRib r after networks own) (sym (is_dirtied now then same alike)) (kept_ranks dirtied sets after networks own (kept_marked rib sets after networks own kept prefix) ranks)
+      pub enters : (s : RibStore) → store_of i ≡ s → Enters (rib_of s) source prefix (value source) (value_of then)
+      enters s view = subst (λ (t : RibStore). Enters (rib_of t) source prefix (value source) (value_of then)) view (subst (λ (f : From). Enters (value_of i) f prefix (value f) (value_of then)) (sym is) (record { effect = entered_is }))
 
-    pub may_mark : (now : ℕ → Entries) (then : ℕ → Tellings) → now ≡ entries → then ≡ tellings → MayMark rib prefix (parts config now then marked)
-    may_mark now then same alike = record {
-      dirty = inr (ap (λ (l : LocValue). l.dirty) mark);
-      effect = is_dirtied now then same alike ∙ ap (λ (d : Prefixes). record rib { dirty = d }) (sym (ap (λ (l : LocValue). l.dirty) mark));
-    }
+      pub whole_entered : number_of from < 256 → IsWhole then
+      whole_entered octet = subst (λ (r : RibValue). IsRib r choices.groups.contents i.networks.contents i.own_route) (sym entered_is)
+          (kept_entered (value_of i) i.choices.groups.contents choices.groups.contents i.networks.contents i.own_route whole prefix from (value from) (subst (λ (f : From). f ≢ Own) is given) octet
+          (subst (λ (p : From × Option Rank). SetsRank i.choices.groups.contents prefix p.0 p.1 choices.groups.contents) (λ n. (named_is n, ranked n)) marks.ranks))
 
-    -- a peering gave another entry
-    module _ (p : ℕ) (octet : p < 256) (value : Option Entry) (now : ℕ → Entries) (sets_rank : SetsRank sets prefix (Peering (record { 0 = p })) (option_map (entry_rank config.home_as) value) after) (is : now ≡ at entries p (with_value (entries p) prefix value)) where
-      entered_is : parts config now tellings marked ≡ record rib { entries = at entries p (with_value (entries p) prefix value); dirty = map.insert loc.dirty prefix tt }
-      entered_is = λ i. parts config (is i) tellings (mark i)
-
-      pub whole_entry : IsRib (parts config now tellings marked) after networks own
-      whole_entry = subst (λ (r : RibValue). IsRib r after networks own) (sym entered_is) (kept_entry rib sets after networks own kept p octet prefix value sets_rank)
-
-      pub enters_entry : EntersEntry rib p prefix value (parts config now tellings marked)
-      enters_entry = record { effect = entered_is }
-
-    -- a router told another route
-    module _ (q : ℕ) (octet : q < 256) (value : Option Route) (now : ℕ → Tellings) (sets_rank : SetsRank sets prefix (Router (record { 0 = q })) (option_map (rank_of config.home_as false (cost_to config q) (identifier_of config q) (identifier_of config q)) value) after) (is : now ≡ at tellings q (with_value (tellings q) prefix value)) where
-      told_is : parts config entries now marked ≡ record rib { tellings = at tellings q (with_value (tellings q) prefix value); dirty = map.insert loc.dirty prefix tt }
-      told_is = λ i. parts config entries (is i) (mark i)
-
-      pub whole_telling : IsRib (parts config entries now marked) after networks own
-      whole_telling = subst (λ (r : RibValue). IsRib r after networks own) (sym told_is) (kept_telling rib sets after networks own kept q octet prefix value sets_rank)
-
-      pub enters_telling : EntersTelling rib q prefix value (parts config entries now marked)
-      enters_telling = record { effect = told_is }
-
-  -- nothing but memory was taken
-  pub may_mark_nothing : (now : ℕ → Entries) (then : ℕ → Tellings) (still : LocValue) → now ≡ entries → then ≡ tellings → still ≡ loc → MayMark rib prefix (parts config now then still)
-  may_mark_nothing now then still same alike stays = record {
-    dirty = inl (ap (λ (l : LocValue). l.dirty) stays);
-    effect = (λ i. parts config (same i) (alike i) (stays i)) ∙ ap (λ (d : Prefixes). record rib { dirty = d }) (sym (ap (λ (l : LocValue). l.dirty) stays));
-  }
-
-  pub whole_still : IsRib rib sets networks own → (now : ℕ → Entries) (then : ℕ → Tellings) (still : LocValue) → now ≡ entries → then ≡ tellings → still ≡ loc → IsRib (parts config now then still) sets networks own
-  whole_still kept now then still same alike stays = subst (λ (r : RibValue). IsRib r sets networks own) (sym (λ i. parts config (same i) (alike i) (stays i))) kept
+    -- memory ran out
+    pub whole_marked : MarksAtMost i.choices prefix choices → tables_of peerings ≡ tables_of i.peerings → tables_of routers ≡ tables_of i.routers → IsWhole then
+    whole_marked marks here there = kept_ranks (value_of then) i.choices.groups.contents choices.groups.contents i.networks.contents i.own_route (elim marks.loc [
+      | inl still ↦ subst (λ (r : RibValue). IsRib r i.choices.groups.contents i.networks.contents i.own_route) (sym (now_is i.choices.loc still)) whole
+      | inr is ↦ subst (λ (r : RibValue). IsRib r i.choices.groups.contents i.networks.contents i.own_route) (sym (now_is (record i.choices.loc { dirty = map.insert i.choices.loc.dirty prefix tt }) is)) (kept_marked (value_of i) i.choices.groups.contents i.choices.groups.contents i.networks.contents i.own_route whole prefix)
+    ]) marks.ranks where
+      now_is : (l : LocValue) → choices.loc ≡ l → value_of then ≡ record (value_of i) { best = l.best; dirty = l.dirty }
+      now_is l is = λ n. record { config = i.config; entries = here n; tellings = there n; best = (is n).best; dirty = (is n).dirty }
 
   -- a mark was tried
-  pub whole_tried : IsRib rib sets networks own → {A E : Type 0} (r : Result A E) → OnOk r (marked ≡ record loc { dirty = map.insert loc.dirty prefix tt }) → OnErr r (marked ≡ loc) → IsRib (parts config entries tellings marked) sets networks own
-  whole_tried kept (Ok v) is still = subst (λ (l : LocValue). IsRib (parts config entries tellings l) sets networks own) (sym is) (kept_marked rib sets sets networks own kept prefix)
-  whole_tried kept (Err e) is still = subst (λ (l : LocValue). IsRib (parts config entries tellings l) sets networks own) (sym still) kept
+  pub whole_tried : {A E : Type 0} (r : Result A E) (marked : LocValue)
+      → OnOk r (marked ≡ record i.choices.loc { dirty = map.insert i.choices.loc.dirty prefix tt }) → OnErr r (marked ≡ i.choices.loc)
+      → IsWhole (record i { choices = record i.choices { loc = marked } })
+  whole_tried (Ok v) marked is still = subst (λ (l : LocValue). IsWhole (record i { choices = record i.choices { loc = l } })) (sym is) (kept_marked (value_of i) i.choices.groups.contents i.choices.groups.contents i.networks.contents i.own_route whole prefix)
+  whole_tried (Err e) marked is still = subst (λ (l : LocValue). IsWhole (record i { choices = record i.choices { loc = l } })) (sym still) whole
 
   -- the prefix was decided
-  pub whole_decided : IsRib rib sets networks own → (decided : LocValue) → decided ≡ record { best = with_best loc.best prefix (chosen rib prefix); dirty = map.remove loc.dirty prefix } → IsRib (parts config entries tellings decided) sets networks own
-  whole_decided kept decided is = subst (λ (r : RibValue). IsRib r sets networks own) (sym (λ i. parts config entries tellings (is i))) (kept_decided rib sets sets networks own kept prefix)
+  pub whole_decided : (decided : LocValue)
+      → decided ≡ record { best = with_best i.choices.loc.best prefix (rib_choice (value_of i) prefix); dirty = map.remove i.choices.loc.dirty prefix }
+      → IsWhole (record i { choices = record i.choices { loc = decided } })
+  whole_decided decided is = subst (λ (l : LocValue). IsWhole (record i { choices = record i.choices { loc = l } })) (sym is) (kept_decided (value_of i) i.choices.groups.contents i.choices.groups.contents i.networks.contents i.own_route whole prefix)
 
 -- a best route is set, and its prefix is settled
-pub decided_is : (loc set settled : LocValue) (prefix : PrefixValue) (best chose : Option Best) → set ≡ record loc { best = with_best loc.best prefix best } → settled ≡ record set { dirty = map.remove set.dirty prefix } → chose ≡ best → settled ≡ record { best = with_best loc.best prefix chose; dirty = map.remove loc.dirty prefix }
+pub decided_is : (loc set settled : LocValue) (prefix : PrefixValue) (best chose : Option Best)
+    → set ≡ record loc { best = with_best loc.best prefix best } → settled ≡ record set { dirty = map.remove set.dirty prefix } → chose ≡ best
+    → settled ≡ record { best = with_best loc.best prefix chose; dirty = map.remove loc.dirty prefix }
 decided_is loc set settled prefix best chose sets settles is =
     settles
     ∙ (ap (λ (l : LocValue). record l { dirty = map.remove l.dirty prefix }) sets
     ∙ ap (λ (b : Option Best). record { best = with_best loc.best prefix b; dirty = map.remove loc.dirty prefix }) (sym is))
 
--- ---- what is the same as before
-
-pub sets_same_entry : (rib : RibValue) (p : ℕ) (prefix : PrefixValue) (value : Option Entry) → value ≡ map.get (rib.entries p) prefix → SetsEntry rib p prefix value rib
-sets_same_entry rib p prefix value is = record {
-  dirty = inl (is, refl);
-  effect = ap (λ (f : ℕ → Entries). record rib { entries = f }) (sym (ap (at rib.entries p) (with_same (rib.entries p) prefix value is) ∙ at-itself rib.entries p));
-}
-
-pub sets_other_entry : (rib after : RibValue) (p : ℕ) (prefix : PrefixValue) (value : Option Entry) → value ≢ map.get (rib.entries p) prefix → EntersEntry rib p prefix value after → SetsEntry rib p prefix value after
-sets_other_entry rib after p prefix value differs enters =
-    let dirty : after.dirty ≡ map.insert rib.dirty prefix tt = ap (λ (r : RibValue). r.dirty) enters.effect in record {
-      dirty = inr (differs, dirty);
-      effect = enters.effect ∙ ap (λ (d : Prefixes). record rib { entries = at rib.entries p (with_value (rib.entries p) prefix value); dirty = d }) (sym dirty);
-    }
-
-pub sets_same_telling : (rib : RibValue) (q : ℕ) (prefix : PrefixValue) (value : Option Route) → value ≡ map.get (rib.tellings q) prefix → SetsTelling rib q prefix value rib
-sets_same_telling rib q prefix value is = record {
-  dirty = inl (is, refl);
-  effect = ap (λ (f : ℕ → Tellings). record rib { tellings = f }) (sym (ap (at rib.tellings q) (with_same (rib.tellings q) prefix value is) ∙ at-itself rib.tellings q));
-}
-
-pub sets_other_telling : (rib after : RibValue) (q : ℕ) (prefix : PrefixValue) (value : Option Route) → value ≢ map.get (rib.tellings q) prefix → EntersTelling rib q prefix value after → SetsTelling rib q prefix value after
-sets_other_telling rib after q prefix value differs enters =
-    let dirty : after.dirty ≡ map.insert rib.dirty prefix tt = ap (λ (r : RibValue). r.dirty) enters.effect in record {
-      dirty = inr (differs, dirty);
-      effect = enters.effect ∙ ap (λ (d : Prefixes). record rib { tellings = at rib.tellings q (with_value (rib.tellings q) prefix value); dirty = d }) (sym dirty);
-    }
-
--- nothing changed
-pub marks_nothing : (rib after : RibValue) (prefix : PrefixValue) → after ≡ rib → MayMark rib prefix after
-marks_nothing rib after prefix is = record {
-  dirty = inl (ap (λ (r : RibValue). r.dirty) is);
-  effect = is ∙ ap (λ (d : Prefixes). record rib { dirty = d }) (sym (ap (λ (r : RibValue). r.dirty) is));
-}
-
 -- ---- what was given
 
-pub sets_entry_ok : {A E : Type 0} (r : Result A E) (rib after : RibValue) (p : ℕ) (prefix : PrefixValue) (value is : Option Entry) → OnOk r (EntersEntry rib p prefix value after) → is ≡ value → is ≢ map.get (rib.entries p) prefix → OnOk r (SetsEntry rib p prefix is after)
-sets_entry_ok (Ok v) rib after p prefix value is enters same differs = sets_other_entry rib after p prefix is differs (subst (λ (o : Option Entry). EntersEntry rib p prefix o after) (sym same) enters)
-sets_entry_ok (Err e) rib after p prefix value is enters same differs = tt
+sets_same : (rib : RibValue) (from : From) (prefix : PrefixValue) (value : Option (Given from)) → value ≡ map.get (table_from rib from) prefix
+    → Sets rib from prefix value rib
+sets_same rib from prefix value is = record {
+  dirty = inl (is, refl);
+  effect = sym (ap (λ (t : map.FinMap prefix_cmp (Given from)). with_table rib from t rib.dirty) (with_same (table_from rib from) prefix value is) ∙ same_table rib from);
+}
 
-pub sets_telling_ok : {A E : Type 0} (r : Result A E) (rib after : RibValue) (q : ℕ) (prefix : PrefixValue) (value is : Option Route) → OnOk r (EntersTelling rib q prefix value after) → is ≡ value → is ≢ map.get (rib.tellings q) prefix → OnOk r (SetsTelling rib q prefix is after)
-sets_telling_ok (Ok v) rib after q prefix value is enters same differs = sets_other_telling rib after q prefix is differs (subst (λ (o : Option Route). EntersTelling rib q prefix o after) (sym same) enters)
-sets_telling_ok (Err e) rib after q prefix value is enters same differs = tt
+pub not_own-peering : (p : ℕ) → Peering (record { 0 = p }) ≢ Own
+not_own-peering p e = cc
 
-pub nothing_ok : {A E : Type 0} (r : Result A E) (rib after : RibValue) (prefix : PrefixValue) → OnErr r (after ≡ rib) → OnErr r (MayMark rib prefix after)
-nothing_ok (Ok v) rib after prefix is = tt
-nothing_ok (Err e) rib after prefix is = marks_nothing rib after prefix is
+pub not_own-router : (q : ℕ) → Router (record { 0 = q }) ≢ Own
+not_own-router q e = cc
+
+-- whether it is what the source gives already
+pub set_or_other : (rib : RibValue) (from : From) (entry : InEntry) (same : Bool) → from ≢ Own
+    → MatchBool same (given_from from entry ≡ map.get (table_from rib from) entry.prefix) (given_from from entry ≢ map.get (table_from rib from) entry.prefix)
+    → MatchBool same (SetsIn rib from entry rib) (IsOther rib from entry)
+set_or_other rib Own entry true not is = absurd (not refl)
+set_or_other rib (Peering p) entry true not is = sets_same rib (Peering p) entry.prefix (given entry) is
+set_or_other rib (Router q) entry true not is = sets_same rib (Router q) entry.prefix entry.route is
+set_or_other rib from entry false not differs = record { not_own = not; differs = differs }
+
+sets_other : (rib after : RibValue) (from : From) (prefix : PrefixValue) (value : Option (Given from)) → value ≢ map.get (table_from rib from) prefix
+    → Enters rib from prefix value after → Sets rib from prefix value after
+sets_other rib after from prefix value differs enters =
+    let dirty : after.dirty ≡ map.insert rib.dirty prefix tt = ap (λ (r : RibValue). r.dirty) enters.effect in record {
+      dirty = inr (differs, dirty);
+      effect = enters.effect ∙ ap (with_table rib from (with_value (table_from rib from) prefix value)) (sym dirty);
+    }
+
+sets_in : (rib after : RibValue) (from : From) (entry : InEntry) → IsOther rib from entry
+    → Enters rib from entry.prefix (given_from from entry) after → SetsIn rib from entry after
+sets_in rib after Own entry other enters = absurd (other.not_own refl)
+sets_in rib after (Peering p) entry other enters = sets_other rib after (Peering p) entry.prefix (given entry) other.differs enters
+sets_in rib after (Router q) entry other enters = sets_other rib after (Router q) entry.prefix entry.route other.differs enters
+
+given_is : (from : From) (entry : InEntry) (route : Option Route) → from ≢ Own → entry.route ≡ route
+    → given_from from entry ≡ option_map (λ r. taken from (record { route = r; identifier = entry.identifier; address = entry.address })) route
+given_is Own entry route not is = absurd (not refl)
+given_is (Peering p) entry route not is = ap (λ (o : Option Route). given (record entry { route = o })) is
+given_is (Router q) entry None not is = is
+given_is (Router q) entry (Some r) not is = is
+
+pub sets_in_ok : {A E : Type 0} (r : Result A E) (rib after : RibValue) (from : From) (entry : InEntry) (route : Option Route)
+    → IsOther rib from entry → entry.route ≡ route
+    → OnOk r (Enters rib from entry.prefix (option_map (λ r. taken from (record { route = r; identifier = entry.identifier; address = entry.address })) route) after)
+    → OnOk r (SetsIn rib from entry after)
+sets_in_ok (Ok v) rib after from entry route other is enters = sets_in rib after from entry other (subst (λ (o : Option (Given from)). Enters rib from entry.prefix o after) (sym (given_is from entry route other.not_own is)) enters)
+sets_in_ok (Err e) rib after from entry route other is enters = tt
 
 -- ---- at the start
 
-module _ (config : RibConfig) (peerings : List (TableValue Entry)) (routers : List (TableValue Route)) (loc : LocValue) (no_entries : contents_of peerings ≡ empties 256) (no_tellings : contents_of routers ≡ empties 256) (begins : loc ≡ record { best = map.empty; dirty = set_of config.networks }) where
-  pub fresh_is : parts config (tables_of peerings) (tables_of routers) loc ≡ record { config = config; entries = λ p. map.empty; tellings = λ q. map.empty; best = map.empty; dirty = set_of config.networks }
-  fresh_is = λ i. parts config ((ap table_at no_entries ∙ empty_tables 256) i) ((ap table_at no_tellings ∙ empty_tables 256) i) (begins i)
+module _ (i : Inside) (no_entries : contents_of i.peerings ≡ empties 256) (no_tellings : contents_of i.routers ≡ empties 256) (begins : i.choices.loc ≡ record { best = map.empty; dirty = set_of i.config.networks }) where
+  pub fresh_is : value_of i ≡ record { config = i.config; entries = λ p. map.empty; tellings = λ q. map.empty; best = map.empty; dirty = set_of i.config.networks }
+  fresh_is = λ n. record { config = i.config; entries = (ap table_at no_entries ∙ empty_tables 256) n; tellings = (ap table_at no_tellings ∙ empty_tables 256) n; best = (begins n).best; dirty = (begins n).dirty }
 
-  pub whole_fresh : (sets : RankSets) (networks : Prefixes) (own : Route) → HasOwnRanks (own_rank config.home_as) config.networks sets → networks ≡ set_of config.networks → own ≡ own_route → IsRib (parts config (tables_of peerings) (tables_of routers) loc) sets networks own
-  whole_fresh sets networks own has_own set route = subst (λ (r : RibValue). IsRib r sets networks own) (sym fresh_is) (kept_fresh config sets networks own has_own set route)
+  pub whole_fresh : HasOwnRanks (own_rank i.config.home_as) i.config.networks i.choices.groups.contents
+      → i.networks.contents ≡ set_of i.config.networks → i.own_route ≡ own_route → IsWhole i
+  whole_fresh has_own set route = subst (λ (r : RibValue). IsRib r i.choices.groups.contents i.networks.contents i.own_route) (sym fresh_is) (kept_fresh i.config i.choices.groups.contents i.networks.contents i.own_route has_own set route)

@@ -47,8 +47,8 @@ unfoldable pub candidates_of : RibValue → PrefixValue → List Candidate
 candidates_of rib prefix = candidates_among source_numbers source_numbers rib prefix
 
 -- the choice between them
-unfoldable pub chosen : RibValue → PrefixValue → Option Best
-chosen rib prefix = choice (candidates_of rib prefix)
+unfoldable pub rib_choice : RibValue → PrefixValue → Option Best
+rib_choice rib prefix = choice (candidates_of rib prefix)
 
 -- No peering and no router from these numbers on has a route to the prefix.
 pub record NoneBehind (peerings routers : ℕ) (rib : RibValue) (prefix : PrefixValue) : Type 0 where
@@ -57,7 +57,7 @@ pub record NoneBehind (peerings routers : ℕ) (rib : RibValue) (prefix : Prefix
 
 -- For a prefix that isn't dirty, the best route is the chosen one, or there is none if none is chosen.
 pub record IsDecided (rib : RibValue) : Type 0 where
-  pub best : (prefix : PrefixValue) → has rib.dirty prefix ≡ false → map.get rib.best prefix ≡ chosen rib prefix
+  pub best : (prefix : PrefixValue) → has rib.dirty prefix ≡ false → map.get rib.best prefix ≡ rib_choice rib prefix
 
 -- ---- by source
 

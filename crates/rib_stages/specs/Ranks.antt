@@ -1,5 +1,5 @@
 -- The ranks of the routes to each prefix, as a Rib keeps them.
-use Rattle.std.specs.Prelude.{ℕ, ◌≡◌, ◌≢◌, ◌≤◌, true, false, List, [], Option, Some, None, option_map, unwrap_or, if◌then◌else◌}
+use Rattle.std.specs.Prelude.{ℕ, ◌≡◌, ◌≢◌, ◌≤◌, ◌⊎◌, true, false, List, [], Option, Some, None, option_map, unwrap_or, if◌then◌else◌}
 use Rattle.std.specs.List.{list_any}
 use Rattle.std.specs.FinMap as map
 use Rattle.bgp_types.specs.Prefixes.{PrefixValue, same_prefix}
@@ -12,6 +12,7 @@ use Rattle.decision_groups.specs.Order.{RankedSource, rank_at}
 use Rattle.route_policy.specs.Candidates.{own_rank, own_route, rank_of}
 use Rattle.route_policy.specs.declared.entry.Entry.{Entry}
 use Rattle.session_value.specs.Sets.{Entries, Prefixes, Tellings}
+use Rattle.rib_stages.specs.declared.ranks.Choices.{Choices}
 use Rattle.rib_stages.specs.Values.{RibValue, set_of}
 use Rattle.rib_stages.specs.Choosing.{cost_to, identifier_of, has_network, IsDecided}
 
@@ -31,6 +32,16 @@ pub record SetsRank (before : RankSets) (prefix : PrefixValue) (from : From) (ra
   pub there : rank_at (ranks_at after prefix) from ≡ rank
   pub others : (other : From) → other ≢ from → rank_at (ranks_at after prefix) other ≡ rank_at (ranks_at before prefix) other
   pub elsewhere : (q : PrefixValue) → q ≢ prefix → ranks_at after q ≡ ranks_at before q
+
+-- One prefix has this rank from one source, or none, and is dirty. All else is unchanged.
+pub record MarksRank (before : Choices) (prefix : PrefixValue) (from : From) (rank : Option Rank) (after : Choices) : Type 0 where
+  pub ranks : SetsRank before.groups.contents prefix from rank after.groups.contents
+  pub loc : after.loc ≡ record before.loc { dirty = map.insert before.loc.dirty prefix tt }
+
+-- Nothing changes, except that the prefix may become dirty.
+pub record MarksAtMost (before : Choices) (prefix : PrefixValue) (after : Choices) : Type 0 where
+  pub ranks : ranks_at after.groups.contents ≡ ranks_at before.groups.contents
+  pub loc : (after.loc ≡ before.loc) ⊎ (after.loc ≡ record before.loc { dirty = map.insert before.loc.dirty prefix tt })
 
 -- the rank of an entry, and of a route that a router told
 abbrev pub entry_rank : ℕ → Entry → Rank

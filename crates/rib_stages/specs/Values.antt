@@ -1,9 +1,11 @@
 -- The routes of a router as its callers see them (RFC 4271, section 3.2).
-use Rattle.std.specs.Prelude.{ℕ, List, option_map, unwrap_or, slice_get, fold, map as list_map, refl}
+use Rattle.std.specs.Prelude.{ℕ, List, unwrap_or, slice_get, fold, map as list_map, refl}
 use Rattle.std.specs.Coded.{Coded, code_by, coded×, coded_list, coded_ℕ}
 use base.Stored.{coded_unit}
 use Rattle.std.specs.FinMap as map
 use Rattle.bgp_types.specs.declared.attrs.Route.{Route}
+use Rattle.bgp_types.specs.declared.rank.From.{From}
+use Rattle.bgp_types.specs.declared.rank.From.TheVariants.{Own, Peering, Router}
 use Rattle.prefix_trie.specs.Table.{TableValue}
 use Rattle.bgp_types.specs.Prefixes.{PrefixValue}
 use Rattle.bgp_types.specs.Tables.{prefix_cmp, coded_prefix}
@@ -40,10 +42,6 @@ contents_of tables = list_map (λ t. t.contents) tables
 abbrev pub tables_of : {A : Type 0} → List (TableValue A) → ℕ → map.FinMap prefix_cmp A
 tables_of tables = table_at (contents_of tables)
 
--- a number of further prefixes for which the table at a place is certain to have memory
-abbrev pub room_at : {A : Type 0} → List (TableValue A) → ℕ → ℕ
-room_at tables n = unwrap_or (option_map (λ t. t.room) (slice_get tables n)) 0
-
 abbrev pub rib_of : RibStore → RibValue
 rib_of store = record {
   config = store.config;
@@ -73,3 +71,17 @@ coded_rib entry route best = code_by
 -- the set of the prefixes in a list
 abbrev pub set_of : List PrefixValue → Prefixes
 set_of prefixes = fold (λ set prefix. map.insert set prefix tt) map.empty prefixes
+
+-- ---- by source
+
+-- what a source gives for a prefix: a peering an entry, another router a route, and the router itself nothing but the network
+abbrev pub Given : From → Type 0
+Given Own = Unit {0}
+Given (Peering p) = Entry
+Given (Router q) = Route
+
+-- what a source gives
+abbrev pub table_from : RibValue → (from : From) → map.FinMap prefix_cmp (Given from)
+table_from rib Own = set_of rib.config.networks
+table_from rib (Peering p) = rib.entries p.0
+table_from rib (Router q) = rib.tellings q.0

@@ -9,13 +9,13 @@ ghost use Rattle.decision_core.specs.Choice.{choice};
 ghost use Rattle.loc_rib.specs.Values.{with_value};
 ghost use Rattle.session_value.specs.Sets.{Prefixes, Marks, MarksOne};
 ghost use Rattle.rib_stages.specs.Values.{RibValue};
-ghost use Rattle.rib_stages.specs.Choosing.{chosen, candidates_among, NoneBehind};
+ghost use Rattle.rib_stages.specs.Choosing.{rib_choice, candidates_among, NoneBehind};
 
 /// If no peering from number `peerings` on and no router from number `routers` on has a route to a
 /// prefix, the choice is that among the others.
 pub fn choice_among_fewer()
     ensures { (rib : RibValue) (prefix : PrefixValue) (peerings routers : ℕ) → peerings ≤ 256 → routers ≤ 256 → NoneBehind peerings routers rib prefix
-        → chosen rib prefix ≡ choice (candidates_among (range_with_len 0 peerings) (range_with_len 0 routers) rib prefix) }
+        → rib_choice rib prefix ≡ choice (candidates_among (range_with_len 0 peerings) (range_with_len 0 routers) rib prefix) }
 {}
 
 /// If prefixes get their new values one by one, each once, they are marked one by one: one more is

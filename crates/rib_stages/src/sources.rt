@@ -1,12 +1,14 @@
 //! Tables of routes, one for each number of a peering or a router.
 
-ghost use Rattle.std.specs.Prelude.{◌≡◌, ◌≤◌, IfOk, OnOk, option_copied, replicate};
+ghost use Rattle.std.specs.Prelude.{◌≡◌, ◌<◌, Some, IfOk, OnOk, OnErr, option_copied, replicate};
 ghost use Rattle.std.specs.FinMap as map;
 ghost use Rattle.bgp_types.specs.Tables.{first_above};
 ghost use Rattle.session_value.specs.Points.{at};
-ghost use Rattle.rib_stages.specs.Values.{contents_of, tables_of, room_at};
+ghost use Rattle.rib_stages.specs.Values.{contents_of, tables_of};
+ghost use Rattle.rib_stages.specs.Ranks.{MarksRank, MarksAtMost};
 
-use bgp_types::{NoMemory, Prefix, PrefixList, SpareTable, Table};
+use crate::ranks::Choices;
+use bgp_types::{From, NoMemory, Prefix, PrefixList, Rank, SpareTable, Table};
 use prefix_trie::TrieTable;
 use std::alloc::Global;
 use std::marker::Model;
@@ -70,27 +72,34 @@ impl<V: Drop> Sources<V> {
         table.prefixes()
     }
 
-    /// Allocates memory for one further prefix in a table. If memory runs out, no table changes.
-    pub fn reserve(&mut self, n: u8) -> Result<(), NoMemory>
-        ensures contents { tables_of self.new ≡ tables_of self.old }
-        ensures room { OnOk result (1 ≤ room_at self.new n) }
+    /// Sets the value of a prefix in a table, which has this rank from that source, and marks the
+    /// prefix as dirty. If memory runs out, the prefix may be dirty, and nothing else changes.
+    pub fn put(
+        &mut self,
+        n: u8,
+        prefix: Prefix,
+        value: V,
+        choices: &mut Choices,
+        from: From,
+        rank: Rank,
+    ) -> Result<(), NoMemory>
+        ensures octet { n < 256 }
+        ensures table { OnOk result (tables_of self.new ≡ at (tables_of self.old) n (map.insert (tables_of self.old n) prefix value)) }
+        ensures rank { OnOk result (MarksRank choices.old prefix from (Some rank) choices.new) }
+        ensures same { OnErr result (tables_of self.new ≡ tables_of self.old) }
+        ensures marked { OnErr result (MarksAtMost choices.old prefix choices.new) }
     {
         let table = &mut self.tables[usize::from(n)];
-        table.reserve(1)
-    }
-
-    /// Sets the value of a prefix in a table, which has to have memory for one further prefix.
-    pub fn set_reserved(&mut self, n: u8, prefix: Prefix, value: V)
-        requires { 1 ≤ room_at self.old n }
-        ensures { tables_of self.new ≡ at (tables_of self.old) n (map.insert (tables_of self.old n) prefix value) }
-    {
-        let table = &mut self.tables[usize::from(n)];
+        table.reserve(1)?;
+        choices.set_rank(prefix, from, rank)?;
         table.set_reserved(prefix, value);
+        Ok(())
     }
 
     /// Removes a prefix from a table.
     pub fn remove(&mut self, n: u8, prefix: Prefix)
-        ensures { tables_of self.new ≡ at (tables_of self.old) n (map.remove (tables_of self.old n) prefix) }
+        ensures octet { n < 256 }
+        ensures removed { tables_of self.new ≡ at (tables_of self.old) n (map.remove (tables_of self.old n) prefix) }
     {
         let table = &mut self.tables[usize::from(n)];
         table.remove(prefix);

@@ -28,7 +28,8 @@ module _ {I : Type 0} where
   }
 
 module _ {A P I : Type 0} (part : A → P) (makes : Makes P I) (took : A → ℕ → I → List (Deed I) → A → Type 0) (turned : A → List (Deed I) → A → Type 0) where
-  pub acts : (a b c : A) (old mid new : Post I) (r r' : List (Option (Consumer (Stamped I) Global AnyItems))) → TookEach part makes took a old r b mid r' → Moved part makes turned b mid c new
+  pub acts : (a b c : A) (old mid new : Post I) (r r' : List (Option (Consumer (Stamped I) Global AnyItems)))
+      → TookEach part makes took a old r b mid r' → Moved part makes turned b mid c new
       → Acts part makes took turned a old r c new r'
   acts a b c old mid new r r' t m =
       let ns : List (Noted I) = t.notes in

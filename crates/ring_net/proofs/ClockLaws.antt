@@ -8,12 +8,12 @@ use Rattle.std.proofs.lemmas.List.{length-set, get_or_default}
 use Rattle.std.proofs.lemmas.Bool.Decides.{eqb_tells}
 use Rattle.std.proofs.lemmas.Option.{slice_get-map, slice_get-get_or, get_or_from_slice_get}
 use Rattle.ring_net.specs.declared.cell.Cell.{Cell}
-use Rattle.ring_net.specs.Deeds.{Deed, Makes, Replay, IsOwn, Counted, sent_by}
+use Rattle.ring_net.specs.Deeds.{Deed, Makes, Replay, IsDeedOf, Counted, sent_by}
 use Rattle.ring_net.specs.Posts.{actor_of, clock_of, has_edge, Moved, Pauses}
 use Rattle.ring_net.specs.Ends.{ring_known}
 use Rattle.ring_net.specs.Cells.{with_clock}
 use Rattle.ring_net.specs.Clocks.{LevelsAll, PausesCell, KeepsEnds, PausesAt}
-use Rattle.ring_net.specs.Nets.{Linked, IsNet, out_of, in_of, out_end, in_end, box_of, waits_of, journal_of, clock_in, number_of, view_of}
+use Rattle.ring_net.specs.Nets.{Linked, IsNet, out_of, in_of, out_end, in_end, box_of, waits_of, journal_of, clock_in, cell_number, view_of}
 use Rattle.ring_net.specs.Phases.{is_edge, IsGreatest, OnlyClocks, Levelled, AllAt, Between}
 use Rattle.ring_net.proofs.EdgeReads.{slice_get-set_same, slice_get-set_other}
 use Rattle.ring_net.proofs.NetPhases.{actor_get, actor_at}
@@ -40,7 +40,8 @@ length-map f (x ∷ xs) = ap (λ n. suc n) (length-map f xs)
 
 module _ {A I : Type 0} where
   -- each cell got the clock
-  pub all_clocked : (old new : List (Cell A I)) (clock n : ℕ) → length new ≡ length old → length old ≤ n → ((k : ℕ) (d : Cell A I) → k < n → get_or new k d ≡ with_clock clock (get_or old k d)) → new ≡ map (with_clock clock) old
+  pub all_clocked : (old new : List (Cell A I)) (clock n : ℕ) → length new ≡ length old → length old ≤ n
+      → ((k : ℕ) (d : Cell A I) → k < n → get_or new k d ≡ with_clock clock (get_or old k d)) → new ≡ map (with_clock clock) old
   all_clocked old new clock n len all h = same_list new (map (with_clock clock) old) (len ∙ sym (length-map (with_clock clock) old))
       (λ k d l. let k_in : k < length old = omega (arith, len, l) in h k d (omega (arith, k_in, all)) ∙ sym (get_or-map_in (with_clock clock) old k d d k_in))
 
@@ -58,7 +59,7 @@ module _ {A I : Type 0} where
   map_box c None b = refl
   map_box c (Some x) b = refl
 
-  map_number : (c : ℕ) (o : Option (Cell A I)) (k : ℕ) → number_of (option_map (with_clock c) o) k ≡ number_of o k
+  map_number : (c : ℕ) (o : Option (Cell A I)) (k : ℕ) → cell_number (option_map (with_clock c) o) k ≡ cell_number o k
   map_number c None b = refl
   map_number c (Some x) b = refl
 
@@ -79,7 +80,7 @@ module _ {A I : Type 0} where
     outs = λ a b. ap (λ o. out_of o b) (slice_get-map (with_clock c) cells a) ∙ map_out c (slice_get cells a) b;
     ins = λ a b. ap (λ o. in_of o a) (slice_get-map (with_clock c) cells b) ∙ map_in c (slice_get cells b) a;
     boxes = λ a b. ap (λ o. box_of o b) (slice_get-map (with_clock c) cells a) ∙ map_box c (slice_get cells a) b;
-    numbers = λ k. ap (λ o. number_of o k) (slice_get-map (with_clock c) cells k) ∙ map_number c (slice_get cells k) k;
+    numbers = λ k. ap (λ o. cell_number o k) (slice_get-map (with_clock c) cells k) ∙ map_number c (slice_get cells k) k;
   }
 
   pub keeps_level : (old new : List (Cell A I)) → LevelsAll old new → KeepsEnds old new
@@ -88,12 +89,13 @@ module _ {A I : Type 0} where
   pub keeps_then : (x y z : List (Cell A I)) → KeepsEnds x y → KeepsEnds y z → KeepsEnds x z
   keeps_then x y z h k = record { outs = λ a b. k.outs a b ∙ h.outs a b; ins = λ a b. k.ins a b ∙ h.ins a b; boxes = λ a b. k.boxes a b ∙ h.boxes a b; numbers = λ n. k.numbers n ∙ h.numbers n }
 
-  pub keeps_pause : (cells : List (Cell A I)) (k : ℕ) (x y : Cell A I) → k < length cells → slice_get cells k ≡ Some x → PausesCell x y → KeepsEnds cells (set cells k y)
+  pub keeps_pause : (cells : List (Cell A I)) (k : ℕ) (x y : Cell A I) → k < length cells → slice_get cells k ≡ Some x → PausesCell x y
+      → KeepsEnds cells (set cells k y)
   keeps_pause cells k x y k_in is p = record {
     outs = λ a b. by_place a (λ n. out_end (set cells k y) n b ≡ out_end cells n b) (rw (here, is, ap (λ (z : Cell A I). z.rings) p.only) refl) (λ ne. ap (λ o. out_of o b) (slice_get-set_other cells k a y ne));
     ins = λ a b. by_place b (λ n. in_end (set cells k y) a n ≡ in_end cells a n) (rw (here, is, ap (λ (z : Cell A I). z.ins) p.only) refl) (λ ne. ap (λ o. in_of o a) (slice_get-set_other cells k b y ne));
     boxes = λ a b. by_place a (λ n. box_of (slice_get (set cells k y) n) b ≡ box_of (slice_get cells n) b) (rw (here, is) (p.edges.edges b)) (λ ne. ap (λ o. box_of o b) (slice_get-set_other cells k a y ne));
-    numbers = λ n. by_place n (λ n. number_of (slice_get (set cells k y) n) n ≡ number_of (slice_get cells n) n) (rw (here, is) p.edges.actor) (λ ne. ap (λ o. number_of o n) (slice_get-set_other cells k n y ne));
+    numbers = λ n. by_place n (λ n. cell_number (slice_get (set cells k y) n) n ≡ cell_number (slice_get cells n) n) (rw (here, is) p.edges.actor) (λ ne. ap (λ o. cell_number o n) (slice_get-set_other cells k n y ne));
   }
     where
       here : slice_get (set cells k y) k ≡ Some y
@@ -124,7 +126,8 @@ module _ {A I : Type 0} where
   some_cell [] k h = absurd (omega arith)
   some_cell (c ∷ cells) k h = c
 
-  pub greatest_view : (old new : List (Cell A I)) (edges : List (ℕ × ℕ)) (l : LevelsAll old new) → IsGreatest (length (view_of old edges).actors) (view_of old edges).clock l.clock
+  pub greatest_view : (old new : List (Cell A I)) (edges : List (ℕ × ℕ)) (l : LevelsAll old new)
+      → IsGreatest (length (view_of old edges).actors) (view_of old edges).clock l.clock
   greatest_view old new edges l = record {
     bound = λ k h. let k_in : k < length old = omega (arith, h, length-map (λ (z : Cell A I). z.actor) old) in
         subst (λ n. n ≤ l.clock) (sym (clock_get old k (some_cell old k k_in) k_in)) (l.bound k (some_cell old k k_in) k_in);
@@ -136,7 +139,8 @@ module _ {A I : Type 0} where
   pub level_view : (old new : List (Cell A I)) (edges : List (ℕ × ℕ)) (l : LevelsAll old new) → AllAt (view_of new edges) l.clock
   level_view old new edges l k h =
       let k_in : k < length old = omega (arith, h, ap (λ cells. length (map (λ (z : Cell A I). z.actor) cells)) l.all, ap (λ zs. length zs) (map_actors l.clock old), length-map (λ (z : Cell A I). z.actor) old) in
-      ap (λ cells. clock_in (slice_get cells k)) l.all ∙ ap (λ o. clock_in o) (slice_get-map (with_clock l.clock) old k ∙ ap (λ o. option_map (with_clock l.clock) o) (slice_get-get_or old k (some_cell old k k_in) k_in))
+      ap (λ cells. clock_in (slice_get cells k)) l.all
+      ∙ ap (λ o. clock_in o) (slice_get-map (with_clock l.clock) old k ∙ ap (λ o. option_map (with_clock l.clock) o) (slice_get-get_or old k (some_cell old k k_in) k_in))
 
   pub only_clocks : (old new : List (Cell A I)) (edges : List (ℕ × ℕ)) → LevelsAll old new → OnlyClocks (view_of old edges) (view_of new edges)
   only_clocks old new edges l = subst (λ cells. OnlyClocks (view_of old edges) (view_of cells edges)) (sym l.all) (record {
@@ -157,7 +161,8 @@ module _ {I : Type 0} where
   counted_rises c d (x ∷ xs) h = let k = counted_rises (c + 1) d xs h.1 in omega (arith, k)
 
 module _ {A P I : Type 0} (part : A → P) (makes : Makes P I) (moves : A → List (Deed I) → A → Type 0) where
-  pub between : (k : ℕ) (old new : List (Cell A I)) (edges : List (ℕ × ℕ)) (answer : Bool) → IsNet old edges → k < length old → PausesAt part makes moves k old new answer → Between part makes moves k (view_of old edges) (view_of new edges) answer
+  pub between : (k : ℕ) (old new : List (Cell A I)) (edges : List (ℕ × ℕ)) (answer : Bool) → IsNet old edges → k < length old
+      → PausesAt part makes moves k old new answer → Between part makes moves k (view_of old edges) (view_of new edges) answer
   between k old new edges answer net k_in p = record {
     deeds = ds;
     from = p.before.clock;
@@ -165,19 +170,26 @@ module _ {A P I : Type 0} (part : A → P) (makes : Makes P I) (moves : A → Li
     greatest = greatest_view old p.first edges p.before;
     level = level_view second new edges p.after;
     counted = subst (λ c. Counted c ds p.after.clock) x_clock (subst (λ c. Counted (clock_of x.post) ds c) last m.wrote.clocks);
-    own = subst (λ n. AllByRecursion (IsOwn n) ds) x_number m.wrote.own;
+    own = subst (λ n. AllByRecursion (IsDeedOf n) ds) x_number m.wrote.own;
     none = m.none;
     answer = pauses.none;
-    size = ap (λ zs. length zs) (only_clocks second new edges p.after).actors ∙ length-map (λ (z : Cell A I). z.actor) second ∙ length-set' ∙ sym (length-map (λ (z : Cell A I). z.actor) p.first) ∙ ap (λ zs. length zs) (only_clocks old p.first edges p.before).actors;
+    size = ap (λ zs. length zs) (only_clocks second new edges p.after).actors ∙ length-map (λ (z : Cell A I). z.actor) second ∙ length-set'
+        ∙ sym (length-map (λ (z : Cell A I). z.actor) p.first) ∙ ap (λ zs. length zs) (only_clocks old p.first edges p.before).actors;
     paused = λ d. rw (actor_old d, actor_new d) m.moved;
     replay = λ d. rw (actor_old d, actor_new d) (subst (λ n. Replay makes n (part x.actor) ds (part p.cell.actor)) x_number m.replay);
-    others = λ j d ne. ap (λ zs. get_or zs j d) (only_clocks second new edges p.after).actors ∙ actor_get second j d ∙ ap (λ o. actor_at o d) (slice_get-set_other p.first k j p.cell ne) ∙ sym (actor_get p.first j d) ∙ ap (λ zs. get_or zs j d) (only_clocks old p.first edges p.before).actors;
-    journal = (only_clocks second new edges p.after).journals k ∙ ap (λ o. journal_of o) at_second ∙ m.wrote.entries ∙ ap (λ es. es ++ map (λ (d : Deed I). d.entry) ds) (sym (ap (λ o. journal_of o) at_first) ∙ (only_clocks old p.first edges p.before).journals k);
-    journals = λ j ne. (only_clocks second new edges p.after).journals j ∙ ap (λ o. journal_of o) (slice_get-set_other p.first k j p.cell ne) ∙ (only_clocks old p.first edges p.before).journals j;
+    others = λ j d ne. ap (λ zs. get_or zs j d) (only_clocks second new edges p.after).actors ∙ actor_get second j d
+        ∙ ap (λ o. actor_at o d) (slice_get-set_other p.first k j p.cell ne) ∙ sym (actor_get p.first j d)
+        ∙ ap (λ zs. get_or zs j d) (only_clocks old p.first edges p.before).actors;
+    journal = (only_clocks second new edges p.after).journals k ∙ ap (λ o. journal_of o) at_second ∙ m.wrote.entries
+        ∙ ap (λ es. es ++ map (λ (d : Deed I). d.entry) ds) (sym (ap (λ o. journal_of o) at_first) ∙ (only_clocks old p.first edges p.before).journals k);
+    journals = λ j ne. (only_clocks second new edges p.after).journals j ∙ ap (λ o. journal_of o) (slice_get-set_other p.first k j p.cell ne)
+        ∙ (only_clocks old p.first edges p.before).journals j;
     edges = λ a b. refl;
-    channel = λ b e. (only_clocks second new edges p.after).channels k b ∙ middle b e ∙ ap (λ xs. xs ++ sent_by b ds) ((only_clocks old p.first edges p.before).channels k b);
+    channel = λ b e. (only_clocks second new edges p.after).channels k b ∙ middle b e
+        ∙ ap (λ xs. xs ++ sent_by b ds) ((only_clocks old p.first edges p.before).channels k b);
     channels = λ a b ne. (only_clocks second new edges p.after).channels a b ∙ aside a b ne ∙ (only_clocks old p.first edges p.before).channels a b;
-    rings = λ a b. (only_clocks second new edges p.after).rings a b ∙ ap (λ o. length (ring_known o)) (kept.ins a b) ∙ (only_clocks old p.first edges p.before).rings a b;
+    rings = λ a b. (only_clocks second new edges p.after).rings a b ∙ ap (λ o. length (ring_known o)) (kept.ins a b)
+        ∙ (only_clocks old p.first edges p.before).rings a b;
   }
     where
       d0 : Cell A I
@@ -220,21 +232,24 @@ module _ {A P I : Type 0} (part : A → P) (makes : Makes P I) (moves : A → Li
       first_linked = (net_keeps old p.first edges (keeps_level old p.first p.before) net).linked
 
       x_number : actor_of x.post ≡ k
-      x_number = sym (ap (λ o. number_of o k) at_first) ∙ first_linked.numbers k
+      x_number = sym (ap (λ o. cell_number o k) at_first) ∙ first_linked.numbers k
 
       x_clock : clock_of x.post ≡ p.before.clock
-      x_clock = sym (ap (λ o. clock_in o) at_first) ∙ level_view old p.first edges p.before k (omega (arith, first_in, length-map (λ (z : Cell A I). z.actor) p.first))
+      x_clock = sym (ap (λ o. clock_in o) at_first)
+          ∙ level_view old p.first edges p.before k (omega (arith, first_in, length-map (λ (z : Cell A I). z.actor) p.first))
 
       get_second : (d : Cell A I) → get_or second k d ≡ p.cell
       get_second d = get_or_from_slice_get second k p.cell d at_second
 
       last : clock_of p.cell.post ≡ p.after.clock
       last = elim (eqb_tells p.after.here k) [
-        | inl s ↦ sym (ap (λ (z : Cell A I). clock_of z.post) (get_second d0)) ∙ subst (λ n. clock_of (get_or second n d0).post ≡ p.after.clock) s.1 (p.after.is d0)
+        | inl s ↦ sym (ap (λ (z : Cell A I). clock_of z.post) (get_second d0))
+            ∙ subst (λ n. clock_of (get_or second n d0).post ≡ p.after.clock) s.1 (p.after.is d0)
         | inr ne ↦
             let here_in : p.after.here < length p.first = omega (arith, p.after.within, length-set') in
             let low : p.after.clock ≡ p.before.clock =
-            sym (p.after.is d0) ∙ sym (clock_get second p.after.here d0 p.after.within) ∙ ap (λ o. clock_in o) (slice_get-set_other p.first k p.after.here p.cell ne.1)
+            sym (p.after.is d0) ∙ sym (clock_get second p.after.here d0 p.after.within)
+            ∙ ap (λ o. clock_in o) (slice_get-set_other p.first k p.after.here p.cell ne.1)
             ∙ level_view old p.first edges p.before p.after.here (omega (arith, here_in, length-map (λ (z : Cell A I). z.actor) p.first)) in
             let up : clock_of x.post ≤ clock_of p.cell.post = counted_rises (clock_of x.post) (clock_of p.cell.post) ds m.wrote.clocks in
             let bound : clock_of (get_or second k d0).post ≤ p.after.clock = p.after.bound k d0 (omega (arith, length-set', first_in)) in
@@ -251,17 +266,22 @@ module _ {A P I : Type 0} (part : A → P) (makes : Makes P I) (moves : A → Li
       has_box : (b : ℕ) → is_edge edges k b ≡ true → has_edge x.post b ≡ true
       has_box b e = sym (ap (λ o. box_of o b) at_first) ∙ first_linked.boxes k b ∙ e
 
-      middle : (b : ℕ) → is_edge edges k b ≡ true → ring_known (in_end second k b) ++ waits_of (slice_get second k) b ≡ (ring_known (in_end p.first k b) ++ waits_of (slice_get p.first k) b) ++ sent_by b ds
+      middle : (b : ℕ) → is_edge edges k b ≡ true
+          → ring_known (in_end second k b) ++ waits_of (slice_get second k) b ≡ (ring_known (in_end p.first k b) ++ waits_of (slice_get p.first k) b) ++ sent_by b ds
       middle b e = ap (λ o. ring_known o ++ waits_of (slice_get second k) b) (kept.ins k b)
           ∙ ap (λ ws. ring_known (in_end p.first k b) ++ ws) (ap (λ o. waits_of o b) at_second ∙ m.wrote.boxes b (has_box b e) ∙ ap (λ ws. ws ++ sent_by b ds) (sym (ap (λ o. waits_of o b) at_first)))
           ∙ sym (append_assoc (ring_known (in_end p.first k b)) (waits_of (slice_get p.first k) b) (sent_by b ds))
 
-      aside : (a b : ℕ) → a ≢ k → ring_known (in_end second a b) ++ waits_of (slice_get second a) b ≡ ring_known (in_end p.first a b) ++ waits_of (slice_get p.first a) b
-      aside a b ne = ap (λ o. ring_known o ++ waits_of (slice_get second a) b) (kept.ins a b) ∙ ap (λ o. ring_known (in_end p.first a b) ++ waits_of o b) (slice_get-set_other p.first k a p.cell ne)
+      aside : (a b : ℕ) → a ≢ k
+          → ring_known (in_end second a b) ++ waits_of (slice_get second a) b ≡ ring_known (in_end p.first a b) ++ waits_of (slice_get p.first a) b
+      aside a b ne = ap (λ o. ring_known o ++ waits_of (slice_get second a) b) (kept.ins a b)
+          ∙ ap (λ o. ring_known (in_end p.first a b) ++ waits_of o b) (slice_get-set_other p.first k a p.cell ne)
 
   -- the cell is paused at its place, between two levellings
-  pub pauses_at : (old first new : List (Cell A I)) (k : ℕ) (d y : Cell A I) (answer : Bool) → k < length old → LevelsAll old first → PausesCell (get_or first k d) y
-      → Pauses part makes moves (get_or first k d).actor (get_or first k d).post y.actor y.post answer → LevelsAll (set first k y) new → PausesAt part makes moves k old new answer
+  pub pauses_at : (old first new : List (Cell A I)) (k : ℕ) (d y : Cell A I) (answer : Bool) → k < length old → LevelsAll old first
+      → PausesCell (get_or first k d) y
+      → Pauses part makes moves (get_or first k d).actor (get_or first k d).post y.actor y.post answer → LevelsAll (set first k y) new
+      → PausesAt part makes moves k old new answer
   pauses_at old first new k d y answer k_in l only pauses m = record {
     first = first;
     cell = y;
@@ -278,7 +298,8 @@ module _ {A P I : Type 0} (part : A → P) (makes : Makes P I) (moves : A → Li
       same e = get_or_default first k d e (omega (arith, len_first, k_in))
 
 module _ {A I : Type 0} where
-  pub keeps_pause_at : (old first : List (Cell A I)) (k : ℕ) (d y : Cell A I) → k < length old → LevelsAll old first → PausesCell (get_or first k d) y → KeepsEnds old (set first k y)
+  pub keeps_pause_at : (old first : List (Cell A I)) (k : ℕ) (d y : Cell A I) → k < length old → LevelsAll old first
+      → PausesCell (get_or first k d) y → KeepsEnds old (set first k y)
   keeps_pause_at old first k d y k_in l only =
       let len_first : length first ≡ length old = ap (λ cells. length cells) l.all ∙ length-map (with_clock l.clock) old in
       let within : k < length first = omega (arith, len_first, k_in) in

@@ -152,18 +152,21 @@ module _ {A I : Type 0} where
 pub split_front : {X : Type 0} (old front back : List X) (a : ℕ) (d : X) → old ≡ front ++ back → a < length front → slice_get old a ≡ Some (get_or front a d)
 split_front old front back a d parts h = rw parts (slice_get-append_left front back a h ∙ slice_get-get_or front a d h)
 
-pub split_head : {X : Type 0} (old front back : List X) (b : ℕ) (d : X) → old ≡ front ++ back → length front ≡ b → b < length old → slice_get old b ≡ Some (get_or back 0 d)
+pub split_head : {X : Type 0} (old front back : List X) (b : ℕ) (d : X) → old ≡ front ++ back → length front ≡ b → b < length old
+    → slice_get old b ≡ Some (get_or back 0 d)
 split_head old front [] b d parts len h = absurd (omega (arith, len, h, length-append front [], ap (λ xs. length xs) parts))
 split_head old front (y ∷ ys) b d parts len h = rw parts (slice_get-append_head front y ys b len)
 
-writes_up : {X : Type 0} (old front back : List X) (a b : ℕ) (x y : X) → old ≡ front ++ back → length front ≡ b → a < b → set front a x ++ set back 0 y ≡ set (set old a x) b y
+writes_up : {X : Type 0} (old front back : List X) (a b : ℕ) (x y : X) → old ≡ front ++ back → length front ≡ b → a < b
+    → set front a x ++ set back 0 y ≡ set (set old a x) b y
 writes_up old front back a b x y parts len h =
     let zero_at : b - b ≡ 0 = omega arith in
     let a_front : a < length front = omega (arith, len) in
     let set_len : length (set front a x) ≡ b = rw length-set len in
     sym (rw (parts, set-append_left front back a x a_front, set-append_right (set front a x) back b b y set_len (omega arith), zero_at) refl)
 
-writes_down : {X : Type 0} (old front back : List X) (a b : ℕ) (x y : X) → old ≡ front ++ back → length front ≡ a → b < a → set front b y ++ set back 0 x ≡ set (set old a x) b y
+writes_down : {X : Type 0} (old front back : List X) (a b : ℕ) (x y : X) → old ≡ front ++ back → length front ≡ a → b < a
+    → set front b y ++ set back 0 x ≡ set (set old a x) b y
 writes_down old front back a b x y parts len h =
     let zero_at : a - a ≡ 0 = omega arith in
     let b_front : b < length front = omega (arith, len) in
@@ -171,13 +174,15 @@ writes_down old front back a b x y parts len h =
 
 module _ {A I : Type 0} where
   pub reads_up : (old front back : List (Cell A I)) (a b : ℕ) (d e x y : Cell A I) → old ≡ front ++ back → length front ≡ b → a < b → b < length old
-      → ReadsEnds (ring_to (get_or front a d) b) (ring_from (get_or back 0 e) a) (ring_to x b) (ring_from y a) → LooksOut b (get_or front a d) x → LooksIn a (get_or back 0 e) y
+      → ReadsEnds (ring_to (get_or front a d) b) (ring_from (get_or back 0 e) a) (ring_to x b) (ring_from y a) → LooksOut b (get_or front a d) x
+      → LooksIn a (get_or back 0 e) y
       → ReadsEdge a b old (set front a x ++ set back 0 y)
   reads_up old front back a b d e x y parts len up b_in ends out into = reads_set old (set front a x ++ set back 0 y) a b (get_or front a d) (get_or back 0 e) x y (omega arith) (omega arith) b_in
       (split_front old front back a d parts (omega (arith, len))) (split_head old front back b e parts len b_in) (writes_up old front back a b x y parts len up) ends out into
 
   pub reads_down : (old front back : List (Cell A I)) (a b : ℕ) (d e x y : Cell A I) → old ≡ front ++ back → length front ≡ a → b < a → a < length old
-      → ReadsEnds (ring_to (get_or back 0 d) b) (ring_from (get_or front b e) a) (ring_to x b) (ring_from y a) → LooksOut b (get_or back 0 d) x → LooksIn a (get_or front b e) y
+      → ReadsEnds (ring_to (get_or back 0 d) b) (ring_from (get_or front b e) a) (ring_to x b) (ring_from y a) → LooksOut b (get_or back 0 d) x
+      → LooksIn a (get_or front b e) y
       → ReadsEdge a b old (set front b y ++ set back 0 x)
   reads_down old front back a b d e x y parts len down a_in ends out into = reads_set old (set front b y ++ set back 0 x) a b (get_or back 0 d) (get_or front b e) x y (omega arith) a_in (omega arith)
       (split_head old front back a d parts len a_in) (split_front old front back b e parts (omega (arith, len))) (writes_down old front back a b x y parts len down) ends out into

@@ -13,13 +13,14 @@ use Rattle.rtrb.specs.Ring.{sent, received, known_items, known_free, producer_ca
 use Rattle.ring_net.specs.declared.entry.Stamped.{Stamped}
 use Rattle.ring_net.specs.declared.cell.Cell.{Cell}
 use Rattle.ring_net.specs.Ends.{ring_known}
-use Rattle.ring_net.specs.Nets.{IsOneRing, Known, out_of, in_of, out_end, in_end, box_of, waits_of, journal_of, clock_in, number_of}
+use Rattle.ring_net.specs.Nets.{IsOneRing, Known, out_of, in_of, out_end, in_end, box_of, waits_of, journal_of, clock_in, cell_number}
 use Rattle.ring_net.specs.Phases.{is_edge}
 use Rattle.ring_net.specs.Fresh.{IsBlank, BlankAt, AllBlank, AddsOut, AddsIn, Connects, Fresh}
 use Rattle.ring_net.proofs.EdgeReads.{slice_get-set_same, slice_get-set_other}
 
 -- what a list with one more at its end has at a place
-pub slice_get-snoc : {X : Type 0} (xs : List X) (x : X) (k : ℕ) → ((k ≡ length xs) × (slice_get (xs ++ x ∷ []) k ≡ Some x)) ⊎ (slice_get (xs ++ x ∷ []) k ≡ slice_get xs k)
+pub slice_get-snoc : {X : Type 0} (xs : List X) (x : X) (k : ℕ)
+    → ((k ≡ length xs) × (slice_get (xs ++ x ∷ []) k ≡ Some x)) ⊎ (slice_get (xs ++ x ∷ []) k ≡ slice_get xs k)
 slice_get-snoc [] x zero = inl (refl, refl)
 slice_get-snoc [] x (suc k) = inr refl
 slice_get-snoc (y ∷ ys) x zero = inr refl
@@ -35,8 +36,10 @@ module _ {A I : Type 0} where
 
   -- ---- one edge more
 
-  pub connects_set : (old new : List (Cell A I)) (a b : ℕ) (f t x y : Cell A I) (p : Producer (Stamped I) Global AnyItems) (c : Consumer (Stamped I) Global AnyItems) → a ≢ b → a < length old → b < length old
-      → slice_get old a ≡ Some f → slice_get old b ≡ Some t → new ≡ set (set old a x) b y → AddsOut b p f x → AddsIn a c t y → IsOneRing p c → Known p c → known_items c ≡ [] → Connects a b old new
+  pub connects_set : (old new : List (Cell A I)) (a b : ℕ) (f t x y : Cell A I) (p : Producer (Stamped I) Global AnyItems) (c : Consumer (Stamped I) Global AnyItems)
+      → a ≢ b → a < length old → b < length old
+      → slice_get old a ≡ Some f → slice_get old b ≡ Some t → new ≡ set (set old a x) b y → AddsOut b p f x → AddsIn a c t y → IsOneRing p c
+      → Known p c → known_items c ≡ [] → Connects a b old new
   connects_set old new a b f t x y p c apart a_in b_in is_f is_t writes out into joined known empty =
       let at_b : slice_get new b ≡ Some y = rw writes (slice_get-set_same (set old a x) b y (rw length-set b_in)) in
       let at_a : slice_get new a ≡ Some x = rw writes (slice_get-set_other (set old a x) b a y apart ∙ slice_get-set_same old a x a_in) in
@@ -68,7 +71,7 @@ module _ {A I : Type 0} where
             (λ na nb s. rw (else_at n na nb) (h n m));
         journals = λ n. cases n (λ n. journal_of (slice_get new n) ≡ journal_of (slice_get old n)) (λ s. rw (at_a, is_f) out.entries) (λ s. rw (at_b, is_t, y_post) refl) (λ na nb s. rw (else_at n na nb) refl);
         clocks = λ n. cases n (λ n. clock_in (slice_get new n) ≡ clock_in (slice_get old n)) (λ s. rw (at_a, is_f) out.clock) (λ s. rw (at_b, is_t, y_post) refl) (λ na nb s. rw (else_at n na nb) refl);
-        numbers = λ n. cases n (λ n. number_of (slice_get new n) n ≡ number_of (slice_get old n) n) (λ s. rw (at_a, is_f) out.number) (λ s. rw (at_b, is_t, y_post) refl) (λ na nb s. rw (else_at n na nb) refl);
+        numbers = λ n. cases n (λ n. cell_number (slice_get new n) n ≡ cell_number (slice_get old n) n) (λ s. rw (at_a, is_f) out.number) (λ s. rw (at_b, is_t, y_post) refl) (λ na nb s. rw (else_at n na nb) refl);
         actors = rw writes (map_same (set old a x) b y t (slice_get-set_other old a b x (λ e. apart (sym e)) ∙ is_t) y_actor ∙ map_same old a x f is_f out.actor);
       }
     where
@@ -97,7 +100,8 @@ module _ {A I : Type 0} where
         ]
       ]
 
-      map_same : (xs : List (Cell A I)) (k : ℕ) (v w : Cell A I) → slice_get xs k ≡ Some w → v.actor ≡ w.actor → map (λ (z : Cell A I). z.actor) (set xs k v) ≡ map (λ (z : Cell A I). z.actor) xs
+      map_same : (xs : List (Cell A I)) (k : ℕ) (v w : Cell A I) → slice_get xs k ≡ Some w → v.actor ≡ w.actor
+          → map (λ (z : Cell A I). z.actor) (set xs k v) ≡ map (λ (z : Cell A I). z.actor) xs
       map_same [] k v w h e = refl
       map_same (z ∷ zs) zero v w h e = let s : z ≡ w = cc in ap (λ u. u ∷ map (λ (z : Cell A I). z.actor) zs) (e ∙ ap (λ (u : Cell A I). u.actor) (sym s))
       map_same (z ∷ zs) (suc k) v w h e = ap (λ us. z.actor ∷ us) (map_same zs k v w h e)
@@ -133,7 +137,7 @@ module _ {A I : Type 0} where
       box None k y b = refl
       box (Some c) k y b = b.edges y
 
-      number : (o : Option (Cell A I)) (k : ℕ) → BlankAt k o → number_of o k ≡ k
+      number : (o : Option (Cell A I)) (k : ℕ) → BlankAt k o → cell_number o k ≡ k
       number None k b = refl
       number (Some c) k b = b.number
 
@@ -155,7 +159,8 @@ module _ {A I : Type 0} where
       no_in : (x y : ℕ) → in_end cells x y ≡ None
       no_in x y = into (slice_get cells y) y x (h y)
 
-  pub fresh_more : (cells cells' : List (Cell A I)) (edges : List (ℕ × ℕ)) (i a b : ℕ) → i < length edges → a ≡ (get_or edges i (0, 0)).0 → b ≡ (get_or edges i (0, 0)).1 → a ≢ b
+  pub fresh_more : (cells cells' : List (Cell A I)) (edges : List (ℕ × ℕ)) (i a b : ℕ) → i < length edges → a ≡ (get_or edges i (0, 0)).0
+      → b ≡ (get_or edges i (0, 0)).1 → a ≢ b
       → Connects a b cells cells' → Fresh cells (take i edges) → Fresh cells' (take (i + 1) edges)
   fresh_more cells cells' edges i a b i_in is_a is_b apart k f = record {
     net = record {
@@ -251,10 +256,13 @@ module _ {A I : Type 0} where
             | inr na ↦ rw (na.0) refl
           ]
 
-  pub actors_push : (cells cells' : List (Cell A I)) (c : Cell A I) (actors : List A) (a : A) → cells' ≡ cells ++ c ∷ [] → c.actor ≡ a → map (λ (z : Cell A I). z.actor) cells ≡ actors → map (λ (z : Cell A I). z.actor) cells' ≡ actors ++ a ∷ []
-  actors_push cells cells' c actors a e f h = ap (λ xs. map (λ (z : Cell A I). z.actor) xs) e ∙ map-append (λ (z : Cell A I). z.actor) cells (c ∷ []) ∙ ap (λ xs. xs ++ c.actor ∷ []) h ∙ ap (λ z. actors ++ z ∷ []) f
+  pub actors_push : (cells cells' : List (Cell A I)) (c : Cell A I) (actors : List A) (a : A) → cells' ≡ cells ++ c ∷ [] → c.actor ≡ a
+      → map (λ (z : Cell A I). z.actor) cells ≡ actors → map (λ (z : Cell A I). z.actor) cells' ≡ actors ++ a ∷ []
+  actors_push cells cells' c actors a e f h = ap (λ xs. map (λ (z : Cell A I). z.actor) xs) e ∙ map-append (λ (z : Cell A I). z.actor) cells (c ∷ [])
+      ∙ ap (λ xs. xs ++ c.actor ∷ []) h ∙ ap (λ z. actors ++ z ∷ []) f
 
-pub known_empty : {T : Type 0} (p : Producer T Global AnyItems) (c : Consumer T Global AnyItems) → sent p ≡ [] → received c ≡ [] → known_items c ≡ [] → producer_capacity p ≡ known_free p → Known p c
+pub known_empty : {T : Type 0} (p : Producer T Global AnyItems) (c : Consumer T Global AnyItems) → sent p ≡ [] → received c ≡ [] → known_items c ≡ []
+    → producer_capacity p ≡ known_free p → Known p c
 known_empty {T} p c s r k f =
     let ls : length (sent p) ≡ 0 = ap (λ (xs : List T). length xs) s in
     let lr : length (received c) ≡ 0 = ap (λ (xs : List T). length xs) r in

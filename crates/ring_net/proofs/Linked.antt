@@ -15,7 +15,7 @@ use Rattle.ring_net.specs.declared.post.Post.{Post}
 use Rattle.ring_net.specs.declared.cell.Cell.{Cell}
 use Rattle.ring_net.specs.Posts.{actor_of, has_edge}
 use Rattle.ring_net.specs.Ends.{SameOut, SameIn}
-use Rattle.ring_net.specs.Nets.{LookedOut, LookedIn, IsOneRing, Linked, LevelAt, out_of, in_of, out_end, in_end, box_of, number_of}
+use Rattle.ring_net.specs.Nets.{LookedOut, LookedIn, IsOneRing, Linked, LevelAt, out_of, in_of, out_end, in_end, box_of, cell_number}
 use Rattle.ring_net.specs.Phases.{is_edge}
 use Rattle.ring_net.specs.Reads.{rest_of, Looked, ReadsEdge}
 use Rattle.ring_net.proofs.EdgeReads.{looked_then}
@@ -51,13 +51,15 @@ module _ {T : Type 0} where
   some_same_in (Some p) None h = absurd h
   some_same_in (Some p) (Some q) h = refl
 
-  pub out_was : (a b : Option (Producer T Global AnyItems)) (q : Producer T Global AnyItems) → SameOut a b → b ≡ Some q → (p : Producer T Global AnyItems) × (a ≡ Some p) × SameProducer p q
+  pub out_was : (a b : Option (Producer T Global AnyItems)) (q : Producer T Global AnyItems) → SameOut a b → b ≡ Some q
+      → (p : Producer T Global AnyItems) × (a ≡ Some p) × SameProducer p q
   out_was None None q h e = absurd cc
   out_was None (Some x) q h e = absurd h
   out_was (Some p) None q h e = absurd h
   out_was (Some p) (Some x) q h e = (p, refl, subst (λ y. SameOut (Some p) y) e h)
 
-  pub in_was : (a b : Option (Consumer T Global AnyItems)) (q : Consumer T Global AnyItems) → SameIn a b → b ≡ Some q → (p : Consumer T Global AnyItems) × (a ≡ Some p) × SameConsumer p q
+  pub in_was : (a b : Option (Consumer T Global AnyItems)) (q : Consumer T Global AnyItems) → SameIn a b → b ≡ Some q
+      → (p : Consumer T Global AnyItems) × (a ≡ Some p) × SameConsumer p q
   in_was None None q h e = absurd cc
   in_was None (Some x) q h e = absurd h
   in_was (Some p) None q h e = absurd h
@@ -75,7 +77,8 @@ module _ {T : Type 0} where
   same_in_looked (Some p) None h = absurd h
   same_in_looked (Some p) (Some q) h = h.0
 
-  pub joined_same : (p p' : Producer T Global AnyItems) (c c' : Consumer T Global AnyItems) → SameProducer p p' → SameConsumer c c' → IsOneRing p c → IsOneRing p' c'
+  pub joined_same : (p p' : Producer T Global AnyItems) (c c' : Consumer T Global AnyItems) → SameProducer p p' → SameConsumer c c' → IsOneRing p c
+      → IsOneRing p' c'
   joined_same p p' c c' l m h = record {
     pair = (m.0.0 ∙ h.pair.0 ∙ sym l.0.0, m.0.1 ∙ h.pair.1 ∙ sym l.0.1, m.0.2 ∙ h.pair.2 ∙ sym l.0.2, m.0.3 ∙ h.pair.3 ∙ sym l.0.3);
     size = l.1 ∙ h.size;
@@ -88,7 +91,7 @@ module _ {A I : Type 0} where
     pub outs : (x y : ℕ) → SameOut (out_end old x y) (out_end new x y)
     pub ins : (x y : ℕ) → SameIn (in_end old x y) (in_end new x y)
     pub boxes : (a b : ℕ) → box_of (slice_get new a) b ≡ box_of (slice_get old a) b
-    pub numbers : (k : ℕ) → number_of (slice_get new k) k ≡ number_of (slice_get old k) k
+    pub numbers : (k : ℕ) → cell_number (slice_get new k) k ≡ cell_number (slice_get old k) k
 
   pub linked_kept : (old new : List (Cell A I)) (edges : List (ℕ × ℕ)) → Kept old new → Linked old edges → Linked new edges
   linked_kept old new edges k h = record {
@@ -115,7 +118,7 @@ module _ {A I : Type 0} where
   box_of_rest None b = refl
   box_of_rest (Some c) b = refl
 
-  number_of_rest : (o : Option (Cell A I)) (k : ℕ) → number_of o k ≡ number_rest (rest_of o) k
+  number_of_rest : (o : Option (Cell A I)) (k : ℕ) → cell_number o k ≡ number_rest (rest_of o) k
   number_of_rest None k = refl
   number_of_rest (Some c) k = refl
 
@@ -159,7 +162,8 @@ module _ {A I : Type 0} where
     pub looked : Looked old new
     pub level : (a b : ℕ) → is_edge (take i edges) a b ≡ true → LevelAt new a b
 
-  pub reading_more : (edges : List (ℕ × ℕ)) (i : ℕ) (e : ℕ × ℕ) (old mid new : List (Cell A I)) → i < length edges → get_or edges i e ≡ e → Reading edges i old mid → ReadsEdge e.0 e.1 mid new → Reading edges (i + 1) old new
+  pub reading_more : (edges : List (ℕ × ℕ)) (i : ℕ) (e : ℕ × ℕ) (old mid new : List (Cell A I)) → i < length edges → get_or edges i e ≡ e
+      → Reading edges i old mid → ReadsEdge e.0 e.1 mid new → Reading edges (i + 1) old new
   reading_more edges i e old mid new i_in is h r = record {
     looked = looked_then old mid new h.looked r.looked;
     level = λ a b was p c out into. elim (here a b) [
@@ -190,10 +194,12 @@ module _ {A I : Type 0} where
           let more : list_any test (take (i + 1) edges) ≡ (list_any test (take i edges) || test (get_or edges i e)) = list_any_more test edges i e i_in in
           sym (or_false (is_edge (take i edges) a b)) ∙ ap (λ t. is_edge (take i edges) a b || t) (sym (ap test is ∙ not_it a b ne)) ∙ sym more ∙ was
 
-  pub reading_next : (edges : List (ℕ × ℕ)) (i a b : ℕ) (old mid new : List (Cell A I)) → i < length edges → a ≡ (get_or edges i (0, 0)).0 → b ≡ (get_or edges i (0, 0)).1
+  pub reading_next : (edges : List (ℕ × ℕ)) (i a b : ℕ) (old mid new : List (Cell A I)) → i < length edges → a ≡ (get_or edges i (0, 0)).0
+      → b ≡ (get_or edges i (0, 0)).1
       → Reading edges i old mid → ReadsEdge a b mid new → Reading edges (i + 1) old new
   reading_next edges i a b old mid new h is_a is_b r e = reading_more edges i (get_or edges i (0, 0)) old mid new h (get_or_default edges i (get_or edges i (0, 0)) (0, 0) h) r
       (subst (λ x. ReadsEdge x (get_or edges i (0, 0)).1 mid new) is_a (subst (λ y. ReadsEdge a y mid new) is_b e))
 
-  pub level_all : (cells : List (Cell A I)) (edges : List (ℕ × ℕ)) → Linked cells edges → ((a b : ℕ) → is_edge edges a b ≡ true → LevelAt cells a b) → (a b : ℕ) → LevelAt cells a b
+  pub level_all : (cells : List (Cell A I)) (edges : List (ℕ × ℕ)) → Linked cells edges → ((a b : ℕ) → is_edge edges a b ≡ true → LevelAt cells a b)
+      → (a b : ℕ) → LevelAt cells a b
   level_all cells edges l h a b p c out into = h a b (sym (l.outs a b) ∙ ap is_some out) p c out into

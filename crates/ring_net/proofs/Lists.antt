@@ -10,7 +10,8 @@ get_or-append_default (x ∷ xs) zero d = refl
 get_or-append_default (x ∷ xs) (suc b) d = get_or-append_default xs b d
 
 -- what was known ahead is taken, or still known
-pub prefix_taken : {T : Type 0} (known taken ahead after : List T) (x : T) → IsPrefix known (taken ++ ahead) → IsPrefix ahead (x ∷ after) → IsPrefix known ((taken ++ x ∷ []) ++ after)
+pub prefix_taken : {T : Type 0} (known taken ahead after : List T) (x : T) → IsPrefix known (taken ++ ahead) → IsPrefix ahead (x ∷ after)
+    → IsPrefix known ((taken ++ x ∷ []) ++ after)
 prefix_taken known taken ahead after x p q = (
   p.0 ++ q.0,
   sym (append_assoc known p.0 q.0) ∙ ap (λ s. s ++ q.0) p.1 ∙ append_assoc taken ahead q.0

@@ -19,8 +19,8 @@ use Rattle.ring_net.specs.Posts.{clock_of, entries_in, waits, box_items}
 use Rattle.ring_net.specs.Turns.{ActorDid}
 use Rattle.ring_net.specs.Ends.{SameOut, SameIn, IsSmall, Emptied, ring_sent, ring_free, ring_received, ring_known}
 use Rattle.ring_net.specs.Cells.{CellDid, CellTurned}
-use Rattle.ring_net.specs.Phases.{Phase}
-use Rattle.ring_net.specs.Nets.{LookedOut, LookedIn, Level, Known, IsOneRing, Linked, IsNet, LevelAt, out_of, in_of, out_end, in_end, box_of, waits_of, journal_of, clock_in, number_of, view_of}
+use Rattle.ring_net.specs.Phases.{NetPhase}
+use Rattle.ring_net.specs.Nets.{LookedOut, LookedIn, Level, Known, IsOneRing, Linked, IsNet, LevelAt, out_of, in_of, out_end, in_end, box_of, waits_of, journal_of, clock_in, cell_number, view_of}
 use Rattle.ring_net.specs.Phases.{is_edge}
 use Rattle.ring_net.specs.Reads.{rest_of, Looked}
 use Rattle.ring_net.proofs.TakesEach.{emptied_none}
@@ -35,13 +35,15 @@ same_tails (x ∷ xs) [] ys vs h e = absurd (omega arith)
 same_tails (x ∷ xs) (u ∷ us) ys vs h e = same_tails xs us ys vs (omega arith) (let t : xs ++ ys ≡ us ++ vs = cc in t)
 
 -- the equation of a channel over a phase, from what both ends know
-pub carried : {X : Type 0} (rec known sent box new taken rec' known' sent' box' : List X) → rec' ≡ rec ++ taken → IsPrefix known taken → length rec + length known ≡ length sent
+pub carried : {X : Type 0} (rec known sent box new taken rec' known' sent' box' : List X) → rec' ≡ rec ++ taken → IsPrefix known taken
+    → length rec + length known ≡ length sent
     → sent' ++ box' ≡ sent ++ (box ++ new) → rec' ++ known' ≡ sent' → (known ++ box) ++ new ≡ taken ++ (known' ++ box')
 carried rec known sent box new taken rec' known' sent' box' more p count said level =
     let r = p.0 in
     let whole : (rec ++ known) ++ (r ++ (known' ++ box')) ≡ sent ++ (box ++ new) =
     append_assoc rec known (r ++ (known' ++ box')) ∙ ap (λ xs. rec ++ xs) (sym (append_assoc known r (known' ++ box')) ∙ ap (λ xs. xs ++ (known' ++ box')) p.1)
-    ∙ sym (append_assoc rec taken (known' ++ box')) ∙ ap (λ xs. xs ++ (known' ++ box')) (sym more) ∙ sym (append_assoc rec' known' box') ∙ ap (λ xs. xs ++ box') level ∙ said in
+    ∙ sym (append_assoc rec taken (known' ++ box')) ∙ ap (λ xs. xs ++ (known' ++ box')) (sym more) ∙ sym (append_assoc rec' known' box')
+    ∙ ap (λ xs. xs ++ box') level ∙ said in
     let rest : r ++ (known' ++ box') ≡ box ++ new = same_tails (rec ++ known) sent (r ++ (known' ++ box')) (box ++ new) (length-append rec known ∙ count) whole in
     append_assoc known box new ∙ ap (λ xs. known ++ xs) (sym rest) ∙ sym (append_assoc known r (known' ++ box')) ∙ ap (λ xs. xs ++ (known' ++ box')) p.1
 
@@ -49,8 +51,10 @@ prefix_length : {X : Type 0} (xs ys : List X) → IsPrefix xs ys → length xs �
 prefix_length xs ys p = let e : length (xs ++ p.0) ≡ length ys = ap (λ zs. length zs) p.1 in omega (arith, length-append xs p.0, e)
 
 -- how much is taken of a channel: all of it, or what the ring takes
-pub pushed : {X : Type 0} (rec known sent box new taken rec' known' sent' box' : List X) (free : ℕ) → rec' ≡ rec ++ taken → (known ++ box) ++ new ≡ taken ++ (known' ++ box')
-    → (0 < length box' → length sent + free ≤ length sent') → 256 + length rec ≤ free + length sent → rec' ++ known' ≡ sent' → min 256 (length (known ++ box)) ≤ length taken + length known'
+pub pushed : {X : Type 0} (rec known sent box new taken rec' known' sent' box' : List X) (free : ℕ) → rec' ≡ rec ++ taken
+    → (known ++ box) ++ new ≡ taken ++ (known' ++ box')
+    → (0 < length box' → length sent + free ≤ length sent') → 256 + length rec ≤ free + length sent → rec' ++ known' ≡ sent'
+    → min 256 (length (known ++ box)) ≤ length taken + length known'
 pushed {X} rec known sent box new taken rec' known' sent' box' free more e pushes room level = by_case (some_or_none (length box'))
   where
     some_or_none : (n : ℕ) → (0 < n) ⊎ (n ≡ 0)
@@ -78,7 +82,9 @@ module _ {A P I : Type 0} (part : A → P) (makes : Makes P I) (took : A → ℕ
   DidAt (Some c) None = ⊥
   DidAt (Some c) (Some d) = CellDid part makes took turned c d
 
-  pub turned_at : (old mid : List (Cell A I)) → length mid ≡ length old → ((k : ℕ) (d : Cell A I) → k < length old → CellTurned part makes took turned (get_or old k d) (get_or mid k d)) → (k : ℕ) → TurnedAt (slice_get old k) (slice_get mid k)
+  pub turned_at : (old mid : List (Cell A I)) → length mid ≡ length old
+      → ((k : ℕ) (d : Cell A I) → k < length old → CellTurned part makes took turned (get_or old k d) (get_or mid k d)) → (k : ℕ)
+      → TurnedAt (slice_get old k) (slice_get mid k)
   turned_at old mid len h k = go (slice_get old k) refl
     where
       go : (o : Option (Cell A I)) → slice_get old k ≡ o → TurnedAt o (slice_get mid k)
@@ -118,7 +124,7 @@ module _ {A P I : Type 0} (part : A → P) (makes : Makes P I) (took : A → ℕ
   kept_boxes (Some c) None b h = absurd h
   kept_boxes (Some c) (Some d) b h = h.edges.edges b
 
-  kept_numbers : (o o' : Option (Cell A I)) (k : ℕ) → TurnedAt o o' → number_of o' k ≡ number_of o k
+  kept_numbers : (o o' : Option (Cell A I)) (k : ℕ) → TurnedAt o o' → cell_number o' k ≡ cell_number o k
   kept_numbers None None b h = refl
   kept_numbers None (Some d) b h = absurd h
   kept_numbers (Some c) None b h = absurd h
@@ -160,13 +166,15 @@ module _ {A P I : Type 0} (part : A → P) (makes : Makes P I) (took : A → ℕ
   did_emptied (Some c) None h a = absurd h
   did_emptied (Some c) (Some d) h a = h.emptied a
 
-  did_said : (o o' : Option (Cell A I)) (h : DidAt o o') (b : ℕ) → box_of o b ≡ true → ring_sent (out_of o' b) ++ waits_of o' b ≡ ring_sent (out_of o b) ++ (waits_of o b ++ sent_to b (notes_at o o' h))
+  did_said : (o o' : Option (Cell A I)) (h : DidAt o o') (b : ℕ) → box_of o b ≡ true
+      → ring_sent (out_of o' b) ++ waits_of o' b ≡ ring_sent (out_of o b) ++ (waits_of o b ++ sent_to b (notes_at o o' h))
   did_said None None h b e = absurd cc
   did_said None (Some d) h b e = absurd h
   did_said (Some c) None h b e = absurd h
   did_said (Some c) (Some d) h b e = h.said b e
 
-  did_pushes : (o o' : Option (Cell A I)) (h : DidAt o o') (b : ℕ) → 0 < length (waits_of o' b) → length (ring_sent (out_of o b)) + ring_free (out_of o b) ≤ length (ring_sent (out_of o' b))
+  did_pushes : (o o' : Option (Cell A I)) (h : DidAt o o') (b : ℕ) → 0 < length (waits_of o' b)
+      → length (ring_sent (out_of o b)) + ring_free (out_of o b) ≤ length (ring_sent (out_of o' b))
   did_pushes None None h b l = omega arith
   did_pushes None (Some d) h b l = absurd h
   did_pushes (Some c) None h b l = absurd h
@@ -188,14 +196,16 @@ module _ {T : Type 0} where
   looked_received (Some p) (Some q) h = h.1
 
   level_lists : (o : Option (Producer T Global AnyItems)) (i : Option (Consumer T Global AnyItems)) → is_some o ≡ is_some i
-      → ((p : Producer T Global AnyItems) (c : Consumer T Global AnyItems) → o ≡ Some p → i ≡ Some c → Level p c) → ring_received i ++ ring_known i ≡ ring_sent o
+      → ((p : Producer T Global AnyItems) (c : Consumer T Global AnyItems) → o ≡ Some p → i ≡ Some c → Level p c)
+      → ring_received i ++ ring_known i ≡ ring_sent o
   level_lists None None e h = refl
   level_lists None (Some c) e h = absurd cc
   level_lists (Some p) None e h = absurd cc
   level_lists (Some p) (Some c) e h = (h p c refl refl).items
 
   known_counts : (o : Option (Producer T Global AnyItems)) (i : Option (Consumer T Global AnyItems)) → is_some o ≡ is_some i
-      → ((p : Producer T Global AnyItems) (c : Consumer T Global AnyItems) → o ≡ Some p → i ≡ Some c → Known p c) → length (ring_received i) + length (ring_known i) ≡ length (ring_sent o)
+      → ((p : Producer T Global AnyItems) (c : Consumer T Global AnyItems) → o ≡ Some p → i ≡ Some c → Known p c)
+      → length (ring_received i) + length (ring_known i) ≡ length (ring_sent o)
   known_counts None None e h = refl
   known_counts None (Some c) e h = absurd cc
   known_counts (Some p) None e h = absurd cc
@@ -209,7 +219,8 @@ module _ {T : Type 0} where
 
   room_out : (o : Option (Producer T Global AnyItems)) (i : Option (Consumer T Global AnyItems)) → is_some o ≡ true → is_some i ≡ true
       → ((p : Producer T Global AnyItems) (c : Consumer T Global AnyItems) → o ≡ Some p → i ≡ Some c → IsOneRing p c)
-      → ((p : Producer T Global AnyItems) (c : Consumer T Global AnyItems) → o ≡ Some p → i ≡ Some c → Known p c) → 256 + length (ring_received i) ≤ ring_free o + length (ring_sent o)
+      → ((p : Producer T Global AnyItems) (c : Consumer T Global AnyItems) → o ≡ Some p → i ≡ Some c → Known p c)
+      → 256 + length (ring_received i) ≤ ring_free o + length (ring_sent o)
   room_out None i e f h k = absurd cc
   room_out (Some p) None e f h k = absurd cc
   room_out (Some p) (Some c) e f h k = omega (arith, (k p c refl refl).slots, (h p c refl refl).size)
@@ -320,7 +331,7 @@ module _ {A P I : Type 0} (part : A → P) (makes : Makes P I) (took : A → ℕ
   memory_at None h = tt
   memory_at (Some c) h = h
 
-  did_actor : (o o' : Option (Cell A I)) (h : DidAt part makes took turned o o') (k : ℕ) (d : A) → is_some o ≡ true → number_of o k ≡ k
+  did_actor : (o o' : Option (Cell A I)) (h : DidAt part makes took turned o o') (k : ℕ) (d : A) → is_some o ≡ true → cell_number o k ≡ k
       → ActorDid part makes took turned k (actor_at o d) (clock_in o) (notes_at part makes took turned o o' h) (actor_at o' d) (clock_in o')
   did_actor None o' h k d s e = absurd cc
   did_actor (Some c) None h k d s e = absurd h
@@ -341,15 +352,17 @@ module _ {A P I : Type 0} (part : A → P) (makes : Makes P I) (took : A → ℕ
   length_actors (c ∷ cells) = ap (λ n. suc n) (length_actors cells)
 
   pub phase_done : (old mid new : List (Cell A I)) (edges : List (ℕ × ℕ)) → length mid ≡ length old → length new ≡ length mid → IsNet old edges
-      → ((k : ℕ) (d : Cell A I) → k < length old → CellTurned part makes took turned (get_or old k d) (get_or mid k d)) → Looked mid new → ((a b : ℕ) → LevelAt new a b)
-      → list_any (λ (c : Cell A I). c.has_failed) new ≡ false → Phase part makes took turned (view_of old edges) (view_of new edges)
+      → ((k : ℕ) (d : Cell A I) → k < length old → CellTurned part makes took turned (get_or old k d) (get_or mid k d)) → Looked mid new
+      → ((a b : ℕ) → LevelAt new a b)
+      → list_any (λ (c : Cell A I). c.has_failed) new ≡ false → NetPhase part makes took turned (view_of old edges) (view_of new edges)
   phase_done old mid new edges len len' net turns looked level fine = record {
     notes = notes;
     size = length_actors new ∙ len' ∙ len ∙ sym (length_actors old);
     actors = λ k d k_in. rw (actor_get old k d, actor_get new k d, same_actor (slice_get mid k) (slice_get new k) d (looked.rest k), same_clock (slice_get mid k) (slice_get new k) (looked.rest k))
         (did_actor (slice_get old k) (slice_get mid k) (did k) k d (some_at old k (omega (arith, length_actors old, k_in))) (net.linked.numbers k));
     none = λ k past. no_notes (slice_get old k) (slice_get mid k) (did k) (slice_get_past old k (omega (arith, length_actors old, past)));
-    journals = λ k. same_journal (slice_get mid k) (slice_get new k) (looked.rest k) ∙ did_journal part makes took turned (slice_get old k) (slice_get mid k) (did k);
+    journals = λ k. same_journal (slice_get mid k) (slice_get new k) (looked.rest k)
+        ∙ did_journal part makes took turned (slice_get old k) (slice_get mid k) (did k);
     edges = λ a b. refl;
     carries = λ a b e. carries a b e;
     apart = λ a b e. apart a b e;
@@ -381,14 +394,16 @@ module _ {A P I : Type 0} (part : A → P) (makes : Makes P I) (took : A → ℕ
       more : (a b : ℕ) → ring_received (in_end new a b) ≡ ring_received (in_end old a b) ++ taken_from a (notes b)
       more a b = looked_received (in_end mid a b) (in_end new a b) (looked.ins a b) ∙ (emptied a b).received
 
-      said : (a b : ℕ) → is_edge edges a b ≡ true → ring_sent (out_end new a b) ++ waits_of (slice_get new a) b ≡ ring_sent (out_end old a b) ++ (waits_of (slice_get old a) b ++ sent_to b (notes a))
+      said : (a b : ℕ) → is_edge edges a b ≡ true
+          → ring_sent (out_end new a b) ++ waits_of (slice_get new a) b ≡ ring_sent (out_end old a b) ++ (waits_of (slice_get old a) b ++ sent_to b (notes a))
       said a b e = rw (looked_sent (out_end mid a b) (out_end new a b) (looked.outs a b), same_waits (slice_get mid a) (slice_get new a) b (looked.rest a))
           (did_said part makes took turned (slice_get old a) (slice_get mid a) (did a) b (net.linked.boxes a b ∙ e))
 
       level_new : (a b : ℕ) → ring_received (in_end new a b) ++ ring_known (in_end new a b) ≡ ring_sent (out_end new a b)
       level_new a b = level_lists (out_end new a b) (in_end new a b) (linked.outs a b ∙ sym (linked.ins a b)) (level a b)
 
-      carries : (a b : ℕ) → is_edge edges a b ≡ true → (ring_known (in_end old a b) ++ waits_of (slice_get old a) b) ++ sent_to b (notes a) ≡ taken_from a (notes b) ++ (ring_known (in_end new a b) ++ waits_of (slice_get new a) b)
+      carries : (a b : ℕ) → is_edge edges a b ≡ true
+          → (ring_known (in_end old a b) ++ waits_of (slice_get old a) b) ++ sent_to b (notes a) ≡ taken_from a (notes b) ++ (ring_known (in_end new a b) ++ waits_of (slice_get new a) b)
       carries a b e = carried (ring_received (in_end old a b)) (ring_known (in_end old a b)) (ring_sent (out_end old a b)) (waits_of (slice_get old a) b) (sent_to b (notes a)) (taken_from a (notes b))
           (ring_received (in_end new a b)) (ring_known (in_end new a b)) (ring_sent (out_end new a b)) (waits_of (slice_get new a) b)
           (more a b) (known_taken a b) (known_counts (out_end old a b) (in_end old a b) (both a b) (net.known a b)) (said a b e) (level_new a b)
@@ -399,7 +414,8 @@ module _ {A P I : Type 0} (part : A → P) (makes : Makes P I) (took : A → ℕ
           let is : in_end new a b ≡ None = none_out (in_end new a b) (linked.ins a b ∙ e) in
           sym (ap (λ i. ring_received i ++ taken_from a (notes b)) was) ∙ sym (more a b) ∙ ap (λ i. ring_received i) is
 
-      by_edge : (a b : ℕ) (t : Bool) → is_edge edges a b ≡ t → min 256 (length (ring_known (in_end old a b) ++ waits_of (slice_get old a) b)) ≤ length (taken_from a (notes b)) + length (ring_known (in_end new a b))
+      by_edge : (a b : ℕ) (t : Bool) → is_edge edges a b ≡ t
+          → min 256 (length (ring_known (in_end old a b) ++ waits_of (slice_get old a) b)) ≤ length (taken_from a (notes b)) + length (ring_known (in_end new a b))
       by_edge a b false e = rw (none_out (in_end old a b) (net.linked.ins a b ∙ e), no_box (slice_get old a) b (net.linked.boxes a b ∙ e)) (omega arith)
       by_edge a b true e = pushed (ring_received (in_end old a b)) (ring_known (in_end old a b)) (ring_sent (out_end old a b)) (waits_of (slice_get old a) b) (sent_to b (notes a)) (taken_from a (notes b))
           (ring_received (in_end new a b)) (ring_known (in_end new a b)) (ring_sent (out_end new a b)) (waits_of (slice_get new a) b) (ring_free (out_end old a b))
@@ -408,7 +424,8 @@ module _ {A P I : Type 0} (part : A → P) (makes : Makes P I) (took : A → ℕ
           (room_out (out_end old a b) (in_end old a b) (net.linked.outs a b ∙ e) (net.linked.ins a b ∙ e) (net.linked.joined a b) (net.known a b)) (level_new a b)
 
   pub net_after : (old mid new : List (Cell A I)) (edges : List (ℕ × ℕ)) → length mid ≡ length old → IsNet old edges
-      → ((k : ℕ) (d : Cell A I) → k < length old → CellTurned part makes took turned (get_or old k d) (get_or mid k d)) → Looked mid new → ((a b : ℕ) → LevelAt new a b) → IsNet new edges
+      → ((k : ℕ) (d : Cell A I) → k < length old → CellTurned part makes took turned (get_or old k d) (get_or mid k d)) → Looked mid new
+      → ((a b : ℕ) → LevelAt new a b) → IsNet new edges
   net_after old mid new edges len net turns looked level = net_read new edges
       (linked_kept mid new edges (kept_looked mid new looked) (linked_kept old mid edges (kept_turned part makes took turned old mid (turned_at part makes took turned old mid len turns)) net.linked)) level
 

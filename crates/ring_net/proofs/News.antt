@@ -6,11 +6,12 @@ use Rattle.std.proofs.lemmas.List.Sums.{sum-map}
 use Rattle.ring_net.specs.declared.cell.Cell.{Cell}
 use Rattle.ring_net.specs.Posts.{entries_in}
 use Rattle.ring_net.specs.Nets.{waits_of, journal_of, view_of}
-use Rattle.ring_net.specs.Phases.{is_edge, IsNew, Marked, CountsAll}
+use Rattle.ring_net.specs.Phases.{is_edge, IsNewNet, Marked, CountsAll}
 use Rattle.ring_net.specs.Fresh.{Fresh}
 
 module _ {A I : Type 0} where
-  pub new_fresh : (cells : List (Cell A I)) (edges edges' : List (ℕ × ℕ)) (actors : List A) → edges' ≡ edges → Fresh cells edges → map (λ (c : Cell A I). c.actor) cells ≡ actors → IsNew actors edges (view_of cells edges')
+  pub new_fresh : (cells : List (Cell A I)) (edges edges' : List (ℕ × ℕ)) (actors : List A) → edges' ≡ edges → Fresh cells edges
+      → map (λ (c : Cell A I). c.actor) cells ≡ actors → IsNewNet actors edges (view_of cells edges')
   new_fresh cells edges edges' actors e f h = record {
     all = h;
     journals = f.journals;
@@ -20,7 +21,8 @@ module _ {A I : Type 0} where
     rings = λ a b. ap (λ xs. length xs) (f.rings a b);
   }
 
-  length_of : (cells : List (Cell A I)) (k : ℕ) → k < length cells → get_or (map (λ (c : Cell A I). length (entries_in c.post)) cells) k 0 ≡ length (journal_of (slice_get cells k))
+  length_of : (cells : List (Cell A I)) (k : ℕ) → k < length cells
+      → get_or (map (λ (c : Cell A I). length (entries_in c.post)) cells) k 0 ≡ length (journal_of (slice_get cells k))
   length_of [] k h = absurd (omega arith)
   length_of (c ∷ cells) zero h = refl
   length_of (c ∷ cells) (suc k) h = length_of cells k (omega arith)
@@ -33,7 +35,8 @@ module _ {A I : Type 0} where
   length_map f [] = refl
   length_map f (c ∷ cells) = ap (λ n. suc n) (length_map f cells)
 
-  pub marked_lengths : (cells : List (Cell A I)) (edges : List (ℕ × ℕ)) (old new : List (List ℕ)) (mark : List ℕ) → mark ≡ map (λ (c : Cell A I). length (entries_in c.post)) cells → new ≡ old ++ mark ∷ []
+  pub marked_lengths : (cells : List (Cell A I)) (edges : List (ℕ × ℕ)) (old new : List (List ℕ)) (mark : List ℕ)
+      → mark ≡ map (λ (c : Cell A I). length (entries_in c.post)) cells → new ≡ old ++ mark ∷ []
       → Marked (view_of cells edges) old new
   marked_lengths cells edges old new mark e f = record {
     mark = mark;
@@ -42,7 +45,8 @@ module _ {A I : Type 0} where
     lengths = λ k h. ap (λ xs. get_or xs k 0) e ∙ length_of cells k (omega (arith, h, length_map (λ (c : Cell A I). c.actor) cells));
   }
 
-  pub counts_all : (cells : List (Cell A I)) (edges : List (ℕ × ℕ)) (count : ℕ) → count ≡ min (sum_by (λ (c : Cell A I). length (entries_in c.post)) cells) (2 ^ 64 - 1) → CountsAll (view_of cells edges) count
+  pub counts_all : (cells : List (Cell A I)) (edges : List (ℕ × ℕ)) (count : ℕ)
+      → count ≡ min (sum_by (λ (c : Cell A I). length (entries_in c.post)) cells) (2 ^ 64 - 1) → CountsAll (view_of cells edges) count
   counts_all cells edges count e = record {
     each = map (λ (c : Cell A I). length (entries_in c.post)) cells;
     size = same_length (λ (c : Cell A I). length (entries_in c.post)) (λ (c : Cell A I). c.actor) cells;
@@ -55,7 +59,8 @@ pub record Greatest {X : Type 0} (f : X → ℕ) (xs : List X) (i g : ℕ) : Typ
   pub bound : (k : ℕ) (d : X) → k < i → f (get_or xs k d) ≤ g
   pub is : (k : ℕ) × (k < length xs) × ((d : X) → f (get_or xs k d) ≡ g)
 
-pub greatest_more : {X : Type 0} (f : X → ℕ) (xs : List X) (i g m : ℕ) (x : X) → i < length xs → x ≡ get_or xs i x → m ≡ max g (f x) → Greatest f xs i g → Greatest f xs (i + 1) m
+pub greatest_more : {X : Type 0} (f : X → ℕ) (xs : List X) (i g m : ℕ) (x : X) → i < length xs → x ≡ get_or xs i x → m ≡ max g (f x)
+    → Greatest f xs i g → Greatest f xs (i + 1) m
 greatest_more {X} f xs i g m x i_in is_x is_m h = record {
   bound = λ k d below. elim (last k below) [
     | inl lt ↦ omega (arith, h.bound k d lt, is_m)

@@ -6,9 +6,9 @@ use Rattle.std.proofs.lemmas.Bool.Decides.{eqb_tells}
 use Rattle.std.proofs.lemmas.List.{append-nil}
 use Rattle.ring_net.specs.declared.entry.JournalEntry.{JournalEntry}
 use Rattle.ring_net.specs.declared.cell.Cell.{Cell}
-use Rattle.ring_net.specs.Deeds.{Deed, Makes, IsOwn, Rising, deeds}
+use Rattle.ring_net.specs.Deeds.{Deed, Makes, IsDeedOf, Rising, deeds}
 use Rattle.ring_net.specs.Journals.{ClocksRise, IsJournal, AreJournals}
-use Rattle.ring_net.specs.Phases.{View, IsNew, InOrder, Levelled, Phase, Between}
+use Rattle.ring_net.specs.Phases.{View, IsNewNet, InOrder, Levelled, NetPhase, Between}
 use Rattle.ring_net.specs.Nets.{journal_of, view_of}
 use Rattle.ring_net.specs.Left.{HasJournals, journals_of, actors_of}
 use Rattle.ring_net.proofs.Replays.{all-append, clocked_rises, entries_deeds, rising_counted}
@@ -16,16 +16,19 @@ use Rattle.ring_net.proofs.Lists.{written_back}
 
 -- ---- entries
 
-below : (c d : ℕ) (es : List JournalEntry) → c ≤ d → AllByRecursion (λ (e : JournalEntry). e.clock ≤ c) es → AllByRecursion (λ (e : JournalEntry). e.clock ≤ d) es
+below : (c d : ℕ) (es : List JournalEntry) → c ≤ d → AllByRecursion (λ (e : JournalEntry). e.clock ≤ c) es
+    → AllByRecursion (λ (e : JournalEntry). e.clock ≤ d) es
 below c d [] l h = tt
 below c d (e ∷ es) l h = (omega (arith, l, h.0), below c d es l h.1)
 
 -- an entry that is no later than c stands before those that are later
-before : (e : JournalEntry) (c : ℕ) (es : List JournalEntry) → e.clock ≤ c → AllByRecursion (λ (f : JournalEntry). c < f.clock) es → AllByRecursion (λ (f : JournalEntry). e.clock < f.clock) es
+before : (e : JournalEntry) (c : ℕ) (es : List JournalEntry) → e.clock ≤ c → AllByRecursion (λ (f : JournalEntry). c < f.clock) es
+    → AllByRecursion (λ (f : JournalEntry). e.clock < f.clock) es
 before e c [] l h = tt
 before e c (f ∷ es) l h = (omega (arith, l, h.0), before e c es l h.1)
 
-pub rise-append : (c : ℕ) (xs ys : List JournalEntry) → ClocksRise xs → AllByRecursion (λ (e : JournalEntry). e.clock ≤ c) xs → ClocksRise ys → AllByRecursion (λ (e : JournalEntry). c < e.clock) ys → ClocksRise (xs ++ ys)
+pub rise-append : (c : ℕ) (xs ys : List JournalEntry) → ClocksRise xs → AllByRecursion (λ (e : JournalEntry). e.clock ≤ c) xs → ClocksRise ys
+    → AllByRecursion (λ (e : JournalEntry). c < e.clock) ys → ClocksRise (xs ++ ys)
 rise-append c [] ys h l k m = k
 rise-append c (x ∷ xs) ys h l k m = (all-append (λ (f : JournalEntry). x.clock < f.clock) xs ys h.0 (before x c ys l.0 m), rise-append c xs ys h.1 l.1 k m)
 
@@ -49,18 +52,20 @@ module _ {I : Type 0} where
   rising_below c d [] h = tt
   rising_below c d (e ∷ es) h = (rising_ends e.entry.clock d es h.1, rising_below e.entry.clock d es h.1)
 
-  own_entries : (k : ℕ) (ds : List (Deed I)) → AllByRecursion (IsOwn k) ds → AllByRecursion (λ (e : JournalEntry). e.actor ≡ k) (entries ds)
+  own_entries : (k : ℕ) (ds : List (Deed I)) → AllByRecursion (IsDeedOf k) ds → AllByRecursion (λ (e : JournalEntry). e.actor ≡ k) (entries ds)
   own_entries k [] h = tt
   own_entries k (d ∷ ds) h = (h.0, own_entries k ds h.1)
 
   -- a journal with these events more
-  grown : (k c d : ℕ) (es : List JournalEntry) (ds : List (Deed I)) → IsJournal k es → AllByRecursion (λ (e : JournalEntry). e.clock ≤ c) es → AllByRecursion (IsOwn k) ds → Rising c ds d → IsJournal k (es ++ entries ds)
+  grown : (k c d : ℕ) (es : List JournalEntry) (ds : List (Deed I)) → IsJournal k es → AllByRecursion (λ (e : JournalEntry). e.clock ≤ c) es
+      → AllByRecursion (IsDeedOf k) ds → Rising c ds d → IsJournal k (es ++ entries ds)
   grown k c d es ds j l own h = record {
     own = all-append (λ (e : JournalEntry). e.actor ≡ k) es (entries ds) j.own (own_entries k ds own);
     rising = rise-append c es (entries ds) j.rising l (rising_rise c d ds h) (rising_above c c d ds (omega arith) h);
   }
 
-  grown_below : (c d : ℕ) (es : List JournalEntry) (ds : List (Deed I)) → AllByRecursion (λ (e : JournalEntry). e.clock ≤ c) es → Rising c ds d → AllByRecursion (λ (e : JournalEntry). e.clock ≤ d) (es ++ entries ds)
+  grown_below : (c d : ℕ) (es : List JournalEntry) (ds : List (Deed I)) → AllByRecursion (λ (e : JournalEntry). e.clock ≤ c) es → Rising c ds d
+      → AllByRecursion (λ (e : JournalEntry). e.clock ≤ d) (es ++ entries ds)
   grown_below c d es ds l h = all-append (λ (e : JournalEntry). e.clock ≤ d) es (entries ds) (below c d es (rising_ends c d ds h) l) (rising_below c d ds h)
 
 -- ---- views
@@ -73,7 +78,7 @@ some_of [] k h = absurd (omega arith)
 some_of (x ∷ xs) k h = x
 
 module _ {A I : Type 0} where
-  pub order_new : (actors : List A) (edges : List (ℕ × ℕ)) (v : View A I) → IsNew actors edges v → InOrder v
+  pub order_new : (actors : List A) (edges : List (ℕ × ℕ)) (v : View A I) → IsNewNet actors edges v → InOrder v
   order_new actors edges v h = record {
     journals = λ k. rw (h.journals k) (record { own = tt; rising = tt });
     none = λ k past. h.journals k;
@@ -102,7 +107,8 @@ module _ {A I : Type 0} where
       each (c ∷ cells) (suc k) = each cells k
 
   -- the same of a vector of cells whose slice was written
-  pub has_written : (n : ℕ) (cells new : List (Cell A I)) (edges : List (ℕ × ℕ)) (journals : List (List JournalEntry)) → n ≡ length cells → length new ≡ n → journals ≡ journals_of (take n (new ++ drop (length new) cells)) → journals_of new ≡ journals_of cells
+  pub has_written : (n : ℕ) (cells new : List (Cell A I)) (edges : List (ℕ × ℕ)) (journals : List (List JournalEntry)) → n ≡ length cells
+      → length new ≡ n → journals ≡ journals_of (take n (new ++ drop (length new) cells)) → journals_of new ≡ journals_of cells
       → HasJournals (view_of cells edges) journals
   has_written n cells new edges journals size same is kept = rw (is, written_back n new cells size (same ∙ size), kept) (has_journals cells edges)
 
@@ -110,7 +116,8 @@ module _ {A I : Type 0} where
   are_journals v journals h o k = rw (h.each k) (o.journals k)
 
 module _ {A P I : Type 0} (part : A → P) (makes : Makes P I) where
-  pub order_phase : (took : A → ℕ → I → List (Deed I) → A → Type 0) (turned : A → List (Deed I) → A → Type 0) (old new : View A I) → Phase part makes took turned old new → InOrder old → InOrder new
+  pub order_phase : (took : A → ℕ → I → List (Deed I) → A → Type 0) (turned : A → List (Deed I) → A → Type 0) (old new : View A I)
+      → NetPhase part makes took turned old new → InOrder old → InOrder new
   order_phase took turned old new p h = record { journals = λ k. journals k (below_or_past k (length old.actors)); none = none; clocks = clocks }
     where
       journal : (k : ℕ) → new.journal k ≡ old.journal k ++ entries (deeds (p.notes k))
@@ -128,7 +135,8 @@ module _ {A P I : Type 0} (part : A → P) (makes : Makes P I) where
       clocks k k_in = let k_old : k < length old.actors = omega (arith, k_in, p.size) in let did = p.actors k (some_of old.actors k k_old) k_old in
           rw (journal k) (grown_below (old.clock k) (new.clock k) (old.journal k) (deeds (p.notes k)) (h.clocks k k_old) (clocked_rises (old.clock k) (new.clock k) (p.notes k) did.clocks))
 
-  pub order_between : (pauses : A → List (Deed I) → A → Type 0) (k : ℕ) (old new : View A I) (result : Bool) → k < length old.actors → Between part makes pauses k old new result → InOrder old → InOrder new
+  pub order_between : (pauses : A → List (Deed I) → A → Type 0) (k : ℕ) (old new : View A I) (result : Bool) → k < length old.actors
+      → Between part makes pauses k old new result → InOrder old → InOrder new
   order_between pauses k old new result k_old p h = record {
     journals = λ j. elim (eqb_tells j k) [
       | inl s ↦ subst (λ n. IsJournal n (new.journal n)) (sym s.1) (rw (p.journal) (grown k p.from p.to (old.journal k) p.deeds (h.journals k) from_below p.own rising))

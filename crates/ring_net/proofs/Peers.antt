@@ -15,7 +15,7 @@ use Rattle.ring_net.specs.declared.entry.Stamped.{Stamped}
 use Rattle.ring_net.specs.declared.post.Post.{Post}
 use Rattle.ring_net.specs.Deeds.{Deed, Makes, ClimbsTo, deeds, senders, taken_from}
 use Rattle.ring_net.specs.Ends.{Emptied, Flushed, SameIn, SameOut}
-use Rattle.ring_net.specs.Peers.{ListsFrom, Lists, Ascends, AddsPeer}
+use Rattle.ring_net.specs.Peers.{ListsFrom, ListsPlaces, Ascends, AddsPeer}
 use Rattle.ring_net.specs.Nets.{LookedOut, LookedIn}
 use Rattle.ring_net.specs.Takes.{TookOne, TookEach}
 use Rattle.ring_net.proofs.Lists.{get_or-append_default}
@@ -39,18 +39,21 @@ not_falling ps h i j l m = elim (below_or_not i j) [
 pub stood_there : (ps : List ℕ) (peer i : ℕ) → Ascends ps → i < length ps → get_or ps i 0 ≡ peer → AddsPeer peer ps ps
 stood_there ps peer i h within is = record { place = i; below = λ k l. omega (arith, h k i l within, is); stands = inl (within, (is, refl)) }
 
-pub was_put : (ps qs : List ℕ) (peer i : ℕ) → i ≤ length ps → ((k : ℕ) → k < i → get_or ps k 0 < peer) → ((k : ℕ) → i ≤ k → k < length ps → peer < get_or ps k 0) → qs ≡ insert ps i peer → AddsPeer peer ps qs
+pub was_put : (ps qs : List ℕ) (peer i : ℕ) → i ≤ length ps → ((k : ℕ) → k < i → get_or ps k 0 < peer)
+    → ((k : ℕ) → i ≤ k → k < length ps → peer < get_or ps k 0) → qs ≡ insert ps i peer → AddsPeer peer ps qs
 was_put ps qs peer i within below rest e = record { place = i; below = below; stands = inr (within, (λ l. rest i (omega arith) l, e)) }
 
 module _ {T : Type 0} where
   -- nothing more stands at the places
-  pub lists_kept : (xs ys : List (Option T)) (n : ℕ) (ps : List ℕ) → length xs ≤ length ys → ((k : ℕ) → n ≤ k → is_some (get_or xs k None) ≡ false → is_some (get_or ys k None) ≡ false)
+  pub lists_kept : (xs ys : List (Option T)) (n : ℕ) (ps : List ℕ) → length xs ≤ length ys
+      → ((k : ℕ) → n ≤ k → is_some (get_or xs k None) ≡ false → is_some (get_or ys k None) ≡ false)
       → ListsFrom xs n ps → ListsFrom ys n ps
   lists_kept xs ys n [] len f h = λ k l. f k l (h k l)
   lists_kept xs ys n (p ∷ ps) len f h = (h.0, (omega (arith, h.1.0, len), (λ k l m. f k l (h.1.1.0 k l m), lists_kept xs ys (p + 1) ps len (λ k l. f k (omega (arith, h.0, l))) h.1.1.1)))
 
   -- something is put at a place that the list has
-  pub lists_put : (xs ys : List (Option T)) (n : ℕ) (ps : List ℕ) (place peer : ℕ) → length xs ≤ length ys → ((k : ℕ) → k ≢ peer → is_some (get_or xs k None) ≡ false → is_some (get_or ys k None) ≡ false)
+  pub lists_put : (xs ys : List (Option T)) (n : ℕ) (ps : List ℕ) (place peer : ℕ) → length xs ≤ length ys
+      → ((k : ℕ) → k ≢ peer → is_some (get_or xs k None) ≡ false → is_some (get_or ys k None) ≡ false)
       → ((k : ℕ) → k < place → get_or ps k 0 < peer) → place < length ps → get_or ps place 0 ≡ peer → ListsFrom xs n ps → ListsFrom ys n ps
   lists_put xs ys n [] place peer len f below within is h = absurd (omega arith)
   lists_put xs ys n (p ∷ ps) zero peer len f below within is h = (h.0, (omega (arith, h.1.0, len), (λ k l m. f k (omega (arith, m, is)) (h.1.1.0 k l m), lists_kept xs ys (p + 1) ps len (λ k l. f k (omega (arith, l, is))) h.1.1.1)))
@@ -58,8 +61,10 @@ module _ {T : Type 0} where
       (h.0, (omega (arith, h.1.0, len), (λ k l m. f k (omega (arith, m, first)) (h.1.1.0 k l m), lists_put xs ys (p + 1) ps j peer len f (λ k l. below (suc k) (omega arith)) (omega (arith, within)) is h.1.1.1)))
 
   -- something is put at a place that the list has from now on
-  pub lists_insert : (xs ys : List (Option T)) (n : ℕ) (ps : List ℕ) (place peer : ℕ) → length xs ≤ length ys → peer < length ys → n ≤ peer → ((k : ℕ) → k ≢ peer → is_some (get_or xs k None) ≡ false → is_some (get_or ys k None) ≡ false)
-      → ((k : ℕ) → k < place → get_or ps k 0 < peer) → place ≤ length ps → (place < length ps → peer < get_or ps place 0) → ListsFrom xs n ps → ListsFrom ys n (insert ps place peer)
+  pub lists_insert : (xs ys : List (Option T)) (n : ℕ) (ps : List ℕ) (place peer : ℕ) → length xs ≤ length ys → peer < length ys → n ≤ peer
+      → ((k : ℕ) → k ≢ peer → is_some (get_or xs k None) ≡ false → is_some (get_or ys k None) ≡ false)
+      → ((k : ℕ) → k < place → get_or ps k 0 < peer) → place ≤ length ps → (place < length ps → peer < get_or ps place 0) → ListsFrom xs n ps
+      → ListsFrom ys n (insert ps place peer)
   lists_insert xs ys n [] zero peer len in_ys low f below within rest h = (low, (in_ys, (λ k l m. f k (omega (arith, m)) (h k l), λ k l. f k (omega (arith, l)) (h k (omega (arith, l, low))))))
   lists_insert xs ys n [] (suc j) peer len in_ys low f below within rest h = absurd (omega arith)
   lists_insert xs ys n (p ∷ ps) zero peer len in_ys low f below within rest h = let over : peer < p = rest (omega arith) in (
@@ -95,11 +100,12 @@ module _ {T : Type 0} where
   lists_ascend xs n (p ∷ ps) h (suc i) (suc j) l m = lists_ascend xs (p + 1) ps h.1.1.1 i j (omega arith) (omega arith)
 
   -- something is put at a place, and the list has it
-  pub lists_added : (xs ys : List (Option T)) (ps ps' : List ℕ) (peer : ℕ) → length xs ≤ length ys → peer < length ys → ((k : ℕ) → k ≢ peer → is_some (get_or xs k None) ≡ false → is_some (get_or ys k None) ≡ false)
-      → AddsPeer peer ps ps' → Lists xs ps → Lists ys ps'
+  pub lists_added : (xs ys : List (Option T)) (ps ps' : List ℕ) (peer : ℕ) → length xs ≤ length ys → peer < length ys
+      → ((k : ℕ) → k ≢ peer → is_some (get_or xs k None) ≡ false → is_some (get_or ys k None) ≡ false)
+      → AddsPeer peer ps ps' → ListsPlaces xs ps → ListsPlaces ys ps'
   lists_added xs ys ps ps' peer len in_ys f a h = elim a.stands [
-    | inl e ↦ subst (λ zs. Lists ys zs) (sym e.1.1) (lists_put xs ys 0 ps a.place peer len f a.below e.0 e.1.0 h)
-    | inr e ↦ subst (λ zs. Lists ys zs) (sym e.1.1) (lists_insert xs ys 0 ps a.place peer len in_ys (omega arith) f a.below e.0 e.1.0 h)
+    | inl e ↦ subst (λ zs. ListsPlaces ys zs) (sym e.1.1) (lists_put xs ys 0 ps a.place peer len f a.below e.0 e.1.0 h)
+    | inr e ↦ subst (λ zs. ListsPlaces ys zs) (sym e.1.1) (lists_insert xs ys 0 ps a.place peer len in_ys (omega arith) f a.below e.0 e.1.0 h)
   ]
 
   -- one place is written
@@ -110,29 +116,34 @@ module _ {T : Type 0} where
   set_other (x ∷ xs) (suc b) v zero ne h = h
   set_other (x ∷ xs) (suc b) v (suc k) ne h = set_other xs b v k (λ e. ne (ap (λ m. suc m) e)) h
 
-  set_less : (xs : List (Option T)) (b : ℕ) (v : Option T) → (is_some (get_or xs b None) ≡ false → is_some v ≡ false) → (k : ℕ) → is_some (get_or xs k None) ≡ false → is_some (get_or (set xs b v) k None) ≡ false
+  set_less : (xs : List (Option T)) (b : ℕ) (v : Option T) → (is_some (get_or xs b None) ≡ false → is_some v ≡ false) → (k : ℕ)
+      → is_some (get_or xs k None) ≡ false → is_some (get_or (set xs b v) k None) ≡ false
   set_less [] b v f k h = h
   set_less (x ∷ xs) zero v f zero h = f h
   set_less (x ∷ xs) zero v f (suc k) h = h
   set_less (x ∷ xs) (suc b) v f zero h = h
   set_less (x ∷ xs) (suc b) v f (suc k) h = set_less xs b v f k h
 
-  pub lists_set : (xs : List (Option T)) (b : ℕ) (v : Option T) (ps : List ℕ) → (is_some (get_or xs b None) ≡ false → is_some v ≡ false) → Lists xs ps → Lists (set xs b v) ps
+  pub lists_set : (xs : List (Option T)) (b : ℕ) (v : Option T) (ps : List ℕ) → (is_some (get_or xs b None) ≡ false → is_some v ≡ false)
+      → ListsPlaces xs ps → ListsPlaces (set xs b v) ps
   lists_set xs b v ps f h = lists_kept xs (set xs b v) 0 ps (omega (arith, length-set xs b v)) (λ k l. set_less xs b v f k) h
 
-  pub lists_set_added : (xs : List (Option T)) (b : ℕ) (v : Option T) (ps ps' : List ℕ) → b < length xs → AddsPeer b ps ps' → Lists xs ps → Lists (set xs b v) ps'
+  pub lists_set_added : (xs : List (Option T)) (b : ℕ) (v : Option T) (ps ps' : List ℕ) → b < length xs → AddsPeer b ps ps' → ListsPlaces xs ps
+      → ListsPlaces (set xs b v) ps'
   lists_set_added xs b v ps ps' b_in a h = lists_added xs (set xs b v) ps ps' b (omega (arith, length-set xs b v)) (omega (arith, b_in, length-set xs b v)) (λ k ne. set_other xs b v k ne) a h
 
   -- an empty place more at the end, or none
-  pub lists_longer : (xs ys : List (Option T)) (t : Bool) (ps : List ℕ) → ys ≡ (if t then xs ++ None ∷ [] else xs) → Lists xs ps → Lists ys ps
-  lists_longer xs ys true ps e h = subst (λ zs. Lists zs ps) (sym e) (lists_kept xs (xs ++ None ∷ []) 0 ps (omega (arith, length-append xs (None ∷ []))) (λ k l g. ap is_some (get_or-append_default xs k None) ∙ g) h)
-  lists_longer xs ys false ps e h = subst (λ zs. Lists zs ps) (sym e) h
+  pub lists_longer : (xs ys : List (Option T)) (t : Bool) (ps : List ℕ) → ys ≡ (if t then xs ++ None ∷ [] else xs) → ListsPlaces xs ps → ListsPlaces ys ps
+  lists_longer xs ys true ps e h = subst (λ zs. ListsPlaces zs ps) (sym e) (lists_kept xs (xs ++ None ∷ []) 0 ps (omega (arith, length-append xs (None ∷ []))) (λ k l g. ap is_some (get_or-append_default xs k None) ∙ g) h)
+  lists_longer xs ys false ps e h = subst (λ zs. ListsPlaces zs ps) (sym e) h
 
   -- the next place of the list
-  pub lists_next : (xs : List (Option T)) (n i : ℕ) (ps : List ℕ) → i < length ps → ListsFrom xs n (drop i ps) → ListsFrom xs n (get_or ps i 0 ∷ drop (i + 1) ps)
+  pub lists_next : (xs : List (Option T)) (n i : ℕ) (ps : List ℕ) → i < length ps → ListsFrom xs n (drop i ps)
+      → ListsFrom xs n (get_or ps i 0 ∷ drop (i + 1) ps)
   lists_next xs n i ps h l = rw add-one (rw (drop-cons ps i 0 h) at l)
 
-  pub lists_over : (xs : List (Option T)) (n i : ℕ) (ps : List ℕ) → length ps ≤ i → ListsFrom xs n (drop i ps) → (k : ℕ) → n ≤ k → is_some (get_or xs k None) ≡ false
+  pub lists_over : (xs : List (Option T)) (n i : ℕ) (ps : List ℕ) → length ps ≤ i → ListsFrom xs n (drop i ps) → (k : ℕ) → n ≤ k
+      → is_some (get_or xs k None) ≡ false
   lists_over xs n i [] h l k m = nothing i l
     where
       nothing : (j : ℕ) → ListsFrom xs n (drop j []) → is_some (get_or xs k None) ≡ false
@@ -162,10 +173,12 @@ module _ {T : Type 0} where
   same_out_none None (Some q) h e = absurd h
   same_out_none (Some p) b h e = absurd cc
 
-  pub lists_ins : (xs ys : List (Option (Consumer T Global AnyItems))) (ps : List ℕ) → length ys ≡ length xs → ((k : ℕ) → SameIn (get_or xs k None) (get_or ys k None)) → Lists xs ps → Lists ys ps
+  pub lists_ins : (xs ys : List (Option (Consumer T Global AnyItems))) (ps : List ℕ) → length ys ≡ length xs
+      → ((k : ℕ) → SameIn (get_or xs k None) (get_or ys k None)) → ListsPlaces xs ps → ListsPlaces ys ps
   lists_ins xs ys ps len f h = lists_kept xs ys 0 ps (omega (arith, len)) (λ k l. same_in_none (get_or xs k None) (get_or ys k None) (f k)) h
 
-  pub lists_outs : (xs ys : List (Option (Producer T Global AnyItems))) (ps : List ℕ) → length ys ≡ length xs → ((k : ℕ) → SameOut (get_or xs k None) (get_or ys k None)) → Lists xs ps → Lists ys ps
+  pub lists_outs : (xs ys : List (Option (Producer T Global AnyItems))) (ps : List ℕ) → length ys ≡ length xs
+      → ((k : ℕ) → SameOut (get_or xs k None) (get_or ys k None)) → ListsPlaces xs ps → ListsPlaces ys ps
   lists_outs xs ys ps len f h = lists_kept xs ys 0 ps (omega (arith, len)) (λ k l. same_out_none (get_or xs k None) (get_or ys k None) (f k)) h
 
 climbs_more : (low n m : ℕ) (xs : List ℕ) → n ≤ m → ClimbsTo low xs n → ClimbsTo low xs m
@@ -176,7 +189,8 @@ climbs_more low n m (x ∷ xs) l h = (h.0, climbs_more x n m xs l h.1)
 
 module _ {A P I : Type 0} (part : A → P) (makes : Makes P I) (took : A → ℕ → I → List (Deed I) → A → Type 0) where
   -- nothing is taken where there is no ring
-  taking_skip : (n m : ℕ) (a b : A) (old new : Post I) (r r' : List (Option (Consumer (Stamped I) Global AnyItems))) → n ≤ m → ((k : ℕ) → n ≤ k → k < m → is_some (get_or r k None) ≡ false)
+  taking_skip : (n m : ℕ) (a b : A) (old new : Post I) (r r' : List (Option (Consumer (Stamped I) Global AnyItems))) → n ≤ m
+      → ((k : ℕ) → n ≤ k → k < m → is_some (get_or r k None) ≡ false)
       → TakingEach part makes took a old r n b new r' → TakingEach part makes took a old r m b new r'
   taking_skip n m a b old new r r' low gap t = record {
     notes = t.notes;
@@ -196,11 +210,14 @@ module _ {A P I : Type 0} (part : A → P) (makes : Makes P I) (took : A → ℕ
     pub left : ListsFrom rings next (drop i peers)
     pub taking : TakingEach part makes took old before rings next new after rings'
 
-  pub walking_none : (peers : List ℕ) (a : A) (old : Post I) (rings : List (Option (Consumer (Stamped I) Global AnyItems))) → Lists rings peers → WalkingEach peers 0 a old rings a old rings
+  pub walking_none : (peers : List ℕ) (a : A) (old : Post I) (rings : List (Option (Consumer (Stamped I) Global AnyItems))) → ListsPlaces rings peers
+      → WalkingEach peers 0 a old rings a old rings
   walking_none peers a old rings h = record { next = 0; within = omega arith; left = h; taking = taking_each_none part makes took a old rings }
 
-  pub walking_more : (peers : List ℕ) (i : ℕ) (a b c : A) (old mid new : Post I) (r r' r'' : List (Option (Consumer (Stamped I) Global AnyItems))) → i < length peers → WalkingEach peers i a old r b mid r'
-      → TookOne part makes took (get_or peers i 0) b mid (get_or r' (get_or peers i 0) None) c new (get_or r'' (get_or peers i 0) None) → ((x : ℕ) → x ≢ get_or peers i 0 → get_or r'' x None ≡ get_or r' x None)
+  pub walking_more : (peers : List ℕ) (i : ℕ) (a b c : A) (old mid new : Post I) (r r' r'' : List (Option (Consumer (Stamped I) Global AnyItems)))
+      → i < length peers → WalkingEach peers i a old r b mid r'
+      → TookOne part makes took (get_or peers i 0) b mid (get_or r' (get_or peers i 0) None) c new (get_or r'' (get_or peers i 0) None)
+      → ((x : ℕ) → x ≢ get_or peers i 0 → get_or r'' x None ≡ get_or r' x None)
       → WalkingEach peers (i + 1) a old r c new r''
   walking_more peers i a b c old mid new r r' r'' i_in w one others =
       let p : ℕ = get_or peers i 0 in
@@ -212,7 +229,8 @@ module _ {A P I : Type 0} (part : A → P) (makes : Makes P I) (took : A → ℕ
         taking = taking_each_more part makes took p a b c old mid new r r' r'' (taking_skip w.next p a b old mid r r' l.0 l.1.1.0 w.taking) one others;
       }
 
-  pub walking_done : (peers : List ℕ) (i : ℕ) (a b : A) (old new : Post I) (r r' : List (Option (Consumer (Stamped I) Global AnyItems))) → length peers ≤ i → WalkingEach peers i a old r b new r' → TookEach part makes took a old r b new r'
+  pub walking_done : (peers : List ℕ) (i : ℕ) (a b : A) (old new : Post I) (r r' : List (Option (Consumer (Stamped I) Global AnyItems)))
+      → length peers ≤ i → WalkingEach peers i a old r b new r' → TookEach part makes took a old r b new r'
   walking_done peers i a b old new r r' over w = taking_each_done part makes took (length r) a b old new r r' refl
       (taking_skip w.next (length r) a b old new r r' w.within (λ k l m. lists_over r w.next i peers over w.left k l) w.taking)
 
@@ -230,16 +248,17 @@ module _ {I : Type 0} where
     pub flushed : (x : ℕ) → x < next → Flushed (get_or rings x None) (get_or boxes x None) (get_or rings' x None) (get_or boxes' x None)
     pub rest : (x : ℕ) → next ≤ x → (get_or rings' x None ≡ get_or rings x None) × (get_or boxes' x None ≡ get_or boxes x None)
 
-  pub flushing_none : (peers : List ℕ) (rings : List (Option (Producer (Stamped I) Global AnyItems))) (boxes : List (Option (VecDeque (Stamped I) Global))) → Lists rings peers → FlushingEach peers 0 rings boxes rings boxes
-  flushing_none peers rings boxes h = record { next = 0; left = h; flushed = λ x l. absurd (omega arith); rest = λ x l. (refl, refl) }
-
-  untouched : (r r' : List (Option (Producer (Stamped I) Global AnyItems))) (b b' : List (Option (VecDeque (Stamped I) Global))) (x : ℕ) → is_some (get_or r x None) ≡ false
-      → (get_or r' x None ≡ get_or r x None) × (get_or b' x None ≡ get_or b x None) → Flushed (get_or r x None) (get_or b x None) (get_or r' x None) (get_or b' x None)
+  untouched : (r r' : List (Option (Producer (Stamped I) Global AnyItems))) (b b' : List (Option (VecDeque (Stamped I) Global))) (x : ℕ)
+      → is_some (get_or r x None) ≡ false
+      → (get_or r' x None ≡ get_or r x None) × (get_or b' x None ≡ get_or b x None)
+      → Flushed (get_or r x None) (get_or b x None) (get_or r' x None) (get_or b' x None)
   untouched r r' b b' x none same = rw (same.0, same.1, none_of (get_or r x None) none) (flushed_none (get_or b x None))
 
-  pub flushing_more : (peers : List ℕ) (i : ℕ) (r r' r'' : List (Option (Producer (Stamped I) Global AnyItems))) (b b' b'' : List (Option (VecDeque (Stamped I) Global))) → i < length peers → FlushingEach peers i r b r' b'
+  pub flushing_more : (peers : List ℕ) (i : ℕ) (r r' r'' : List (Option (Producer (Stamped I) Global AnyItems))) (b b' b'' : List (Option (VecDeque (Stamped I) Global)))
+      → i < length peers → FlushingEach peers i r b r' b'
       → Flushed (get_or r' (get_or peers i 0) None) (get_or b' (get_or peers i 0) None) (get_or r'' (get_or peers i 0) None) (get_or b'' (get_or peers i 0) None)
-      → ((x : ℕ) → x ≢ get_or peers i 0 → (get_or r'' x None ≡ get_or r' x None) × (get_or b'' x None ≡ get_or b' x None)) → FlushingEach peers (i + 1) r b r'' b''
+      → ((x : ℕ) → x ≢ get_or peers i 0 → (get_or r'' x None ≡ get_or r' x None) × (get_or b'' x None ≡ get_or b' x None))
+      → FlushingEach peers (i + 1) r b r'' b''
   flushing_more peers i r r' r'' b b' b'' i_in w here others = record {
     next = p + 1;
     left = l.1.1.1;
@@ -260,10 +279,3 @@ module _ {I : Type 0} where
 
       l : ListsFrom r w.next (get_or peers i 0 ∷ drop (i + 1) peers)
       l = lists_next r w.next i peers i_in w.left
-
-  pub flushing_done : (peers : List ℕ) (i : ℕ) (r r' : List (Option (Producer (Stamped I) Global AnyItems))) (b b' : List (Option (VecDeque (Stamped I) Global))) → length peers ≤ i → FlushingEach peers i r b r' b'
-      → (x : ℕ) → Flushed (get_or r x None) (get_or b x None) (get_or r' x None) (get_or b' x None)
-  flushing_done peers i r r' b b' over w x = elim (below_or_not x w.next) [
-    | inl low ↦ w.flushed x low
-    | inr high ↦ untouched r r' b b' x (lists_over r w.next i peers over w.left x high) (w.rest x high)
-  ]

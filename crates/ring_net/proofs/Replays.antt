@@ -90,7 +90,8 @@ module _ {I : Type 0} where
   none_taken a s [] h = refl
   none_taken a s (d ∷ ds) h = rw (h.0) (none_taken a s ds h.1)
 
-  pub first_taken : (from s : ℕ) (x : I) (ds : List (Deed I)) → TakesFirst from x ds → taken_from from (noted s ds) ≡ record { stamp = record { 0 = s }; item = x } ∷ []
+  pub first_taken : (from s : ℕ) (x : I) (ds : List (Deed I)) → TakesFirst from x ds
+      → taken_from from (noted s ds) ≡ record { stamp = record { 0 = s }; item = x } ∷ []
   first_taken from s x [] h = absurd h
   first_taken from s x (d ∷ ds) h = rw (h.0, none_taken from s ds h.1) (here from s x)
     where

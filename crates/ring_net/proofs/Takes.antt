@@ -12,7 +12,7 @@ use Rattle.std.proofs.lemmas.List.{append-nil, map-append}
 use Rattle.std.proofs.lemmas.List.Concat.{flat_map-append}
 use Rattle.ring_net.specs.declared.entry.Stamped.{Stamped}
 use Rattle.ring_net.specs.declared.post.Post.{Post}
-use Rattle.ring_net.specs.Deeds.{Deed, Noted, Makes, Replay, IsOwn, TakesFirst, deeds, noted, entries_of, gets, puts, sent_to, taken_from, senders, sender_of}
+use Rattle.ring_net.specs.Deeds.{Deed, Noted, Makes, Replay, IsDeedOf, TakesFirst, deeds, noted, entries_of, gets, puts, sent_to, taken_from, senders, item_sender}
 use Rattle.ring_net.specs.Posts.{actor_of, clock_of, entries_in, waits, Wrote, TookItem}
 use Rattle.ring_net.specs.Turns.{Posted, TookAll, stays, takes}
 use Rattle.ring_net.proofs.Replays.{all-append, replay-append, deeds_noted, entries_noted, sent_noted, clocked-append, clocked_first, first_taken, first_senders}
@@ -27,7 +27,7 @@ module _ {I : Type 0} where
   pub posted_then : (old mid new : Post I) (ns ms : List (Noted I)) → Posted old ns mid → Posted mid ms new → Posted old (ns ++ ms) new
   posted_then old mid new ns ms h k = record {
     actor = k.actor ∙ h.actor;
-    own = rw (deeds_both ns ms) (all-append (IsOwn (actor_of old)) (deeds ns) (deeds ms) h.own (subst (λ a. AllByRecursion (IsOwn a) (deeds ms)) h.actor k.own));
+    own = rw (deeds_both ns ms) (all-append (IsDeedOf (actor_of old)) (deeds ns) (deeds ms) h.own (subst (λ a. AllByRecursion (IsDeedOf a) (deeds ms)) h.actor k.own));
     clocks = clocked-append (clock_of old) (clock_of mid) (clock_of new) ns ms h.clocks k.clocks;
     entries = k.entries ∙ ap (λ xs. xs ++ entries_of ms) h.entries ∙ append_assoc (entries_in old) (entries_of ns) (entries_of ms)
         ∙ ap (λ xs. entries_in old ++ xs) (sym (map-append (λ (n : Noted I). n.deed.entry) ns ms));
@@ -37,7 +37,8 @@ module _ {I : Type 0} where
   }
 
   -- a take after the clock met the item's stamp
-  pub posted_wrote : (old new : Post I) (s from : ℕ) (x : I) (ds : List (Deed I)) → Wrote (record old { clock = max (clock_of old) s }) ds new → TakesFirst from x ds → Posted old (noted s ds) new
+  pub posted_wrote : (old new : Post I) (s from : ℕ) (x : I) (ds : List (Deed I)) → Wrote (record old { clock = max (clock_of old) s }) ds new
+      → TakesFirst from x ds → Posted old (noted s ds) new
   posted_wrote old new s from x ds k first = record {
     actor = k.actor;
     own = rw (deeds_noted s ds) k.own;
@@ -47,17 +48,20 @@ module _ {I : Type 0} where
     boxes = λ b l. k.boxes b l ∙ ap (λ xs. waits old b ++ xs) (sym (sent_noted b s ds));
   }
 
-  pub received_more : (from s : ℕ) (x : I) (ns : List (Noted I)) (ds : List (Deed I)) (r start mid : List (Stamped I)) → r ≡ mid ++ record { stamp = record { 0 = s }; item = x } ∷ [] → mid ≡ start ++ taken_from from ns → TakesFirst from x ds
+  pub received_more : (from s : ℕ) (x : I) (ns : List (Noted I)) (ds : List (Deed I)) (r start mid : List (Stamped I))
+      → r ≡ mid ++ record { stamp = record { 0 = s }; item = x } ∷ [] → mid ≡ start ++ taken_from from ns → TakesFirst from x ds
       → r ≡ start ++ taken_from from (ns ++ noted s ds)
-  received_more from s x ns ds r start mid e f first = e ∙ ap (λ xs. xs ++ record { stamp = record { 0 = s }; item = x } ∷ []) f ∙ append_assoc start (taken_from from ns) (record { stamp = record { 0 = s }; item = x } ∷ [])
+  received_more from s x ns ds r start mid e f first = e ∙ ap (λ xs. xs ++ record { stamp = record { 0 = s }; item = x } ∷ []) f
+      ∙ append_assoc start (taken_from from ns) (record { stamp = record { 0 = s }; item = x } ∷ [])
       ∙ ap (λ xs. start ++ xs) (ap (λ xs. taken_from from ns ++ xs) (sym (first_taken from s x ds first)) ∙ sym (flat_map-append (gets from) ns (noted s ds)))
 
   pub deeds-append : (ns : List (Noted I)) (s : ℕ) (ds : List (Deed I)) → deeds (ns ++ noted s ds) ≡ deeds ns ++ ds
   deeds-append ns s ds = map-append (λ (n : Noted I). n.deed) ns (noted s ds) ∙ ap (λ xs. deeds ns ++ xs) (deeds_noted s ds)
 
-  pub senders_more : (from s : ℕ) (x : I) (ns : List (Noted I)) (ds : List (Deed I)) → AllByRecursion (λ k. k ≡ from) (senders (deeds ns)) → TakesFirst from x ds
+  pub senders_more : (from s : ℕ) (x : I) (ns : List (Noted I)) (ds : List (Deed I)) → AllByRecursion (λ k. k ≡ from) (senders (deeds ns))
+      → TakesFirst from x ds
       → AllByRecursion (λ k. k ≡ from) (senders (deeds (ns ++ noted s ds)))
-  senders_more from s x ns ds h first = rw (deeds-append ns s ds) (rw (flat_map-append (λ (d : Deed I). sender_of d.taken) (deeds ns) ds)
+  senders_more from s x ns ds h first = rw (deeds-append ns s ds) (rw (flat_map-append (λ (d : Deed I). item_sender d.taken) (deeds ns) ds)
       (all-append (λ k. k ≡ from) (senders (deeds ns)) (senders ds) h (first_senders from x ds first)))
 
 module _ {A P I : Type 0} (part : A → P) (makes : Makes P I) (took : A → ℕ → I → List (Deed I) → A → Type 0) where
@@ -65,7 +69,8 @@ module _ {A P I : Type 0} (part : A → P) (makes : Makes P I) (took : A → ℕ
   took_none a old = record { posted = posted_none old; replay = refl; tooks = stays a }
 
   pub took_more : (from s : ℕ) (x : I) (a b c : A) (old mid new : Post I) (ns : List (Noted I)) → TookAll part makes took a old ns b mid
-      → (h : TookItem part makes took from x b (record mid { clock = max (clock_of mid) s }) c new) → TookAll part makes took a old (ns ++ noted s h.deeds) c new
+      → (h : TookItem part makes took from x b (record mid { clock = max (clock_of mid) s }) c new)
+      → TookAll part makes took a old (ns ++ noted s h.deeds) c new
   took_more from s x a b c old mid new ns k h =
       let e : deeds (ns ++ noted s h.deeds) ≡ deeds ns ++ h.deeds = deeds-append ns s h.deeds in
       record {
@@ -87,7 +92,8 @@ module _ {A P I : Type 0} (part : A → P) (makes : Makes P I) (took : A → ℕ
   taking_none from a old ring = record { notes = []; all = took_none a old; more = sym (append-nil _); only = tt; known = ([], append-nil _); count = refl }
 
   pub taking_more : (from n s : ℕ) (x : I) (a b c : A) (old mid new : Post I) (r r' r'' : Consumer (Stamped I) Global AnyItems) → Taking from a old r n b mid r'
-      → received r'' ≡ received r' ++ record { stamp = record { 0 = s }; item = x } ∷ [] → IsPrefix (known_items r') (record { stamp = record { 0 = s }; item = x } ∷ known_items r'')
+      → received r'' ≡ received r' ++ record { stamp = record { 0 = s }; item = x } ∷ []
+      → IsPrefix (known_items r') (record { stamp = record { 0 = s }; item = x } ∷ known_items r'')
       → TookItem part makes took from x b (record mid { clock = max (clock_of mid) s }) c new → Taking from a old r (n + 1) c new r''
   taking_more from n s x a b c old mid new r r' r'' t got known h =
       let y : Stamped I = record { stamp = record { 0 = s }; item = x } in

@@ -4,7 +4,7 @@ use Rattle.ring_net.specs.declared.cell.Cell.{Cell}
 use Rattle.ring_net.specs.Deeds.{Deed, Makes}
 use Rattle.ring_net.specs.Posts.{clock_of, SameEdges, Pauses}
 use Rattle.ring_net.specs.Cells.{with_clock}
-use Rattle.ring_net.specs.Nets.{out_end, in_end, box_of, number_of}
+use Rattle.ring_net.specs.Nets.{out_end, in_end, box_of, cell_number}
 
 module _ {A I : Type 0} where
   -- every clock is the greatest one
@@ -26,7 +26,7 @@ module _ {A I : Type 0} where
     pub outs : (a b : ℕ) → out_end new a b ≡ out_end old a b
     pub ins : (a b : ℕ) → in_end new a b ≡ in_end old a b
     pub boxes : (a b : ℕ) → box_of (slice_get new a) b ≡ box_of (slice_get old a) b
-    pub numbers : (k : ℕ) → number_of (slice_get new k) k ≡ number_of (slice_get old k) k
+    pub numbers : (k : ℕ) → cell_number (slice_get new k) k ≡ cell_number (slice_get old k) k
 
 module _ {A P I : Type 0} (part : A → P) (makes : Makes P I) (moves : A → List (Deed I) → A → Type 0) where
   -- the clocks are levelled, the actor k does what it does at a mark, and the clocks are levelled again

@@ -40,12 +40,12 @@ module _ {I : Type 0} where
   from_option a s (Some t) = if t.0 == a then record { stamp = record { 0 = s }; item = t.1 } ∷ [] else []
 
   -- the sender of the item that was taken
-  abbrev pub sender_of : Option (ℕ × I) → List ℕ
-  sender_of None = []
-  sender_of (Some t) = t.0 ∷ []
+  abbrev pub item_sender : Option (ℕ × I) → List ℕ
+  item_sender None = []
+  item_sender (Some t) = t.0 ∷ []
 
   abbrev pub senders : List (Deed I) → List ℕ
-  senders ds = flat_map (λ d. sender_of d.taken) ds
+  senders ds = flat_map (λ d. item_sender d.taken) ds
 
   abbrev pub deeds : List (Noted I) → List (Deed I)
   deeds ns = map (λ n. n.deed) ns
@@ -92,8 +92,8 @@ module _ {I : Type 0} where
   abbrev pub IsLater : Noted I → Type 0
   IsLater n = (x : ℕ × I) → n.deed.taken ≡ Some x → n.stamp < n.deed.entry.clock
 
-  abbrev pub IsOwn : ℕ → Deed I → Type 0
-  IsOwn a d = d.entry.actor ≡ a
+  abbrev pub IsDeedOf : ℕ → Deed I → Type 0
+  IsDeedOf a d = d.entry.actor ≡ a
 
   abbrev pub TakesNone : Deed I → Type 0
   TakesNone d = d.taken ≡ None

@@ -10,7 +10,7 @@ use Rattle.ring_net.specs.declared.cell.Cell.{Cell}
 use Rattle.ring_net.specs.Posts.{actor_of, clock_of, entries_in, has_edge, waits}
 use Rattle.ring_net.specs.Ends.{ring_known}
 use Rattle.ring_net.specs.Cells.{ring_to, ring_from}
-use Rattle.ring_net.specs.Nets.{IsOneRing, Known, IsNet, out_end, in_end, box_of, waits_of, journal_of, clock_in, number_of}
+use Rattle.ring_net.specs.Nets.{IsOneRing, Known, IsNet, out_end, in_end, box_of, waits_of, journal_of, clock_in, cell_number}
 
 module _ {A I : Type 0} where
   -- the cell of this number, with no entry and no edge
@@ -58,7 +58,7 @@ module _ {A I : Type 0} where
     pub waiting : ((x y : ℕ) → waits_of (slice_get old x) y ≡ []) → (x y : ℕ) → waits_of (slice_get new x) y ≡ []
     pub journals : (k : ℕ) → journal_of (slice_get new k) ≡ journal_of (slice_get old k)
     pub clocks : (k : ℕ) → clock_in (slice_get new k) ≡ clock_in (slice_get old k)
-    pub numbers : (k : ℕ) → number_of (slice_get new k) k ≡ number_of (slice_get old k) k
+    pub numbers : (k : ℕ) → cell_number (slice_get new k) k ≡ cell_number (slice_get old k) k
     pub actors : map (λ (c : Cell A I). c.actor) new ≡ map (λ (c : Cell A I). c.actor) old
 
   -- a net of these edges in which nothing has happened

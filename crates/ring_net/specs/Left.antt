@@ -16,8 +16,8 @@ module _ {A I : Type 0} where
     pub each : (k : ℕ) → slice_index_or journals k [] ≡ v.journal k
 
   -- the items of each channel, in the order of the edges
-  abbrev pub left_of : View A I → List (ℕ × ℕ) → List (Left I)
-  left_of v edges = map (λ e. record { from = e.0; to = e.1; items = map (λ x. x.item) (v.channel e.0 e.1) }) edges
+  abbrev pub items_left : View A I → List (ℕ × ℕ) → List (Left I)
+  items_left v edges = map (λ e. record { from = e.0; to = e.1; items = map (λ x. x.item) (v.channel e.0 e.1) }) edges
 
   -- each cell's actor, and each cell's entries
   abbrev pub actors_of : List (Cell A I) → List A
@@ -37,7 +37,7 @@ module _ {A I : Type 0} where
     pub others : (x : ℕ) → x ≢ b → waits new.post x ≡ waits old.post x
 
   -- the items in flight from a to b may be removed, and all else is unchanged
-  pub record Drains (a b : ℕ) (old new : List (Cell A I)) : Type 0 where
+  pub record DrainsChannel (a b : ℕ) (old new : List (Cell A I)) : Type 0 where
     pub rings : (x y : ℕ) → (x ≡ a → y ≡ b → ⊥) → ring_known (in_end new x y) ≡ ring_known (in_end old x y)
     pub boxes : (x y : ℕ) → (x ≡ a → y ≡ b → ⊥) → waits_of (slice_get new x) y ≡ waits_of (slice_get old x) y
     pub actors : actors_of new ≡ actors_of old

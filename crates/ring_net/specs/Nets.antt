@@ -76,27 +76,30 @@ module _ {A I : Type 0} where
   in_end cells a b = in_of (slice_get cells b) a
 
   -- the number that the cell's post has, which should be k
-  abbrev pub number_of : Option (Cell A I) → ℕ → ℕ
-  number_of None k = k
-  number_of (Some c) k = actor_of c.post
+  abbrev pub cell_number : Option (Cell A I) → ℕ → ℕ
+  cell_number None k = k
+  cell_number (Some c) k = actor_of c.post
 
   -- the cells have the two ends of a ring for each edge, and no other ends
   pub record Linked (cells : List (Cell A I)) (edges : List (ℕ × ℕ)) : Type 0 where
-    pub joined : (a b : ℕ) (p : Producer (Stamped I) Global AnyItems) (c : Consumer (Stamped I) Global AnyItems) → out_end cells a b ≡ Some p → in_end cells a b ≡ Some c → IsOneRing p c
+    pub joined : (a b : ℕ) (p : Producer (Stamped I) Global AnyItems) (c : Consumer (Stamped I) Global AnyItems) → out_end cells a b ≡ Some p
+        → in_end cells a b ≡ Some c → IsOneRing p c
     pub outs : (a b : ℕ) → is_some (out_end cells a b) ≡ is_edge edges a b
     pub ins : (a b : ℕ) → is_some (in_end cells a b) ≡ is_edge edges a b
     pub boxes : (a b : ℕ) → box_of (slice_get cells a) b ≡ is_edge edges a b
     pub apart : (a : ℕ) → is_edge edges a a ≡ false
-    pub numbers : (k : ℕ) → number_of (slice_get cells k) k ≡ k
+    pub numbers : (k : ℕ) → cell_number (slice_get cells k) k ≡ k
 
   -- and both ends of each ring were read since anything was last pushed or popped
   pub record IsNet (cells : List (Cell A I)) (edges : List (ℕ × ℕ)) : Type 0 where
     pub linked : Linked cells edges
-    pub known : (a b : ℕ) (p : Producer (Stamped I) Global AnyItems) (c : Consumer (Stamped I) Global AnyItems) → out_end cells a b ≡ Some p → in_end cells a b ≡ Some c → Known p c
+    pub known : (a b : ℕ) (p : Producer (Stamped I) Global AnyItems) (c : Consumer (Stamped I) Global AnyItems) → out_end cells a b ≡ Some p
+        → in_end cells a b ≡ Some c → Known p c
 
   -- both ends of the edge from a to b are level, if they are there
   abbrev pub LevelAt : List (Cell A I) → ℕ → ℕ → Type 0
-  LevelAt cells a b = (p : Producer (Stamped I) Global AnyItems) (c : Consumer (Stamped I) Global AnyItems) → out_end cells a b ≡ Some p → in_end cells a b ≡ Some c → Level p c
+  LevelAt cells a b = (p : Producer (Stamped I) Global AnyItems) (c : Consumer (Stamped I) Global AnyItems) → out_end cells a b ≡ Some p
+      → in_end cells a b ≡ Some c → Level p c
 
   -- what the layer above sees
   abbrev pub view_of : List (Cell A I) → List (ℕ × ℕ) → View A I

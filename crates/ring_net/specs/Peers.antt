@@ -23,8 +23,8 @@ module _ {T : Type 0} where
   ListsFrom slots n (p ∷ ps) = (n ≤ p) × ((p < length slots) × (((k : ℕ) → n ≤ k → k < p → is_some (slice_index_or slots k None) ≡ false) × ListsFrom slots (p + 1) ps))
 
   -- the places at which there is something are in the list, in ascending order
-  abbrev pub Lists : List (Option T) → List ℕ → Type 0
-  Lists slots places = ListsFrom slots 0 places
+  abbrev pub ListsPlaces : List (Option T) → List ℕ → Type 0
+  ListsPlaces slots places = ListsFrom slots 0 places
 
   pub ListsFrom-prop : (slots : List (Option T)) (n : ℕ) (places : List ℕ) → IsProp (ListsFrom slots n places)
   ListsFrom-prop slots n [] = Π_prop (λ k. Π_prop (λ h. Bool-set _ _))

@@ -3,7 +3,7 @@ use Rattle.std.specs.Prelude.{ℕ, ◌≡◌, ◌≢◌, ◌≤◌, ◌<◌, ◌
 use Rattle.std.specs.List.{AllByRecursion, list_any}
 use Rattle.ring_net.specs.declared.entry.JournalEntry.{JournalEntry}
 use Rattle.ring_net.specs.declared.entry.Stamped.{Stamped}
-use Rattle.ring_net.specs.Deeds.{Deed, Noted, Makes, Replay, IsOwn, TakesNone, Counted, entries_of, sent_by, sent_to, taken_from}
+use Rattle.ring_net.specs.Deeds.{Deed, Noted, Makes, Replay, IsDeedOf, TakesNone, Counted, entries_of, sent_by, sent_to, taken_from}
 use Rattle.ring_net.specs.Turns.{ActorDid}
 use Rattle.ring_net.specs.Journals.{IsJournal}
 
@@ -22,7 +22,7 @@ pub record View (A I : Type 0) : Type 0 where
   pub in_ring : ℕ → ℕ → ℕ
 
 -- a net of these actors and edges in which nothing has happened
-pub record IsNew {A I : Type 0} (actors : List A) (edges : List (ℕ × ℕ)) (v : View A I) : Type 0 where
+pub record IsNewNet {A I : Type 0} (actors : List A) (edges : List (ℕ × ℕ)) (v : View A I) : Type 0 where
   pub all : v.actors ≡ actors
   pub journals : (k : ℕ) → v.journal k ≡ []
   pub clocks : (k : ℕ) → v.clock k ≡ 0
@@ -78,7 +78,7 @@ pub record Levelled {A I : Type 0} (old new : View A I) : Type 0 where
 
 module _ {A P I : Type 0} (part : A → P) (makes : Makes P I) where
   -- One phase: what each actor did, what was added to each journal, what each channel carried, and how much of it was taken and pushed.
-  pub record Phase (took : A → ℕ → I → List (Deed I) → A → Type 0) (turned : A → List (Deed I) → A → Type 0) (old new : View A I) : Type 0 where
+  pub record NetPhase (took : A → ℕ → I → List (Deed I) → A → Type 0) (turned : A → List (Deed I) → A → Type 0) (old new : View A I) : Type 0 where
     pub notes : ℕ → List (Noted I)
     pub size : length new.actors ≡ length old.actors
     pub actors : (k : ℕ) (d : A) → k < length old.actors
@@ -99,7 +99,7 @@ module _ {A P I : Type 0} (part : A → P) (makes : Makes P I) where
     pub greatest : IsGreatest (length old.actors) old.clock from
     pub level : AllAt new to
     pub counted : Counted from deeds to
-    pub own : AllByRecursion (IsOwn k) deeds
+    pub own : AllByRecursion (IsDeedOf k) deeds
     pub none : AllByRecursion TakesNone deeds
     pub answer : (result ≡ false) ↔ (deeds ≡ [])
     pub size : length new.actors ≡ length old.actors
@@ -116,5 +116,6 @@ module _ {A P I : Type 0} (part : A → P) (makes : Makes P I) where
   -- In two phases, with any levellings and calls at a mark between them, at least the lesser of 256 and the number of items that a channel held
   -- before them is taken from it.
   abbrev pub DrainsInTwo : (took : A → ℕ → I → List (Deed I) → A → Type 0) (turned : A → List (Deed I) → A → Type 0) → Type 0
-  DrainsInTwo took turned = (u v s t : View A I) (first : Phase took turned u v) (second : Phase took turned s t) → ((a b : ℕ) → s.in_ring a b ≡ v.in_ring a b)
+  DrainsInTwo took turned = (u v s t : View A I) (first : NetPhase took turned u v) (second : NetPhase took turned s t)
+      → ((a b : ℕ) → s.in_ring a b ≡ v.in_ring a b)
       → (a b : ℕ) → min 256 (length (u.channel a b)) ≤ length (taken_from a (first.notes b)) + length (taken_from a (second.notes b))

@@ -6,7 +6,7 @@ use Rattle.std.specs.declared.collections.VecDeque.{VecDeque}
 use Rattle.ring_net.specs.declared.entry.JournalEntry.{JournalEntry}
 use Rattle.ring_net.specs.declared.entry.Stamped.{Stamped}
 use Rattle.ring_net.specs.declared.post.Post.{Post}
-use Rattle.ring_net.specs.Deeds.{Deed, Makes, Replay, IsOwn, TakesNone, TakesFirst, Counted, sent_by}
+use Rattle.ring_net.specs.Deeds.{Deed, Makes, Replay, IsDeedOf, TakesNone, TakesFirst, Counted, sent_by}
 
 module _ {I : Type 0} where
   -- the number of the actor whose post it is
@@ -43,7 +43,7 @@ pub record SameEdges {I : Type 0} (old new : Post I) : Type 0 where
   pub edges : (b : ℕ) → has_edge new b ≡ has_edge old b
 
 -- The clock is increased, and an entry with it is added.
-pub record Notes {I : Type 0} (old : Post I) (entry : JournalEntry) (new : Post I) : Type 0 where
+pub record NotesEntry {I : Type 0} (old : Post I) (entry : JournalEntry) (new : Post I) : Type 0 where
   pub actor : actor_of new ≡ actor_of old
   pub clock : clock_of new ≡ entry.clock
   pub entries : entries_in new ≡ entries_in old ++ entry ∷ []
@@ -60,7 +60,7 @@ pub record SendsItem {I : Type 0} (old : Post I) (to : ℕ) (x : I) (new : Post 
 -- The entries and outboxes of a post, with these further events. Without an event, what contracts see of it is unchanged.
 pub record Wrote {I : Type 0} (old : Post I) (ds : List (Deed I)) (new : Post I) : Type 0 where
   pub actor : actor_of new ≡ actor_of old
-  pub own : AllByRecursion (IsOwn (actor_of old)) ds
+  pub own : AllByRecursion (IsDeedOf (actor_of old)) ds
   pub clocks : Counted (clock_of old) ds (clock_of new)
   pub entries : entries_in new ≡ entries_in old ++ map (λ d. d.entry) ds
   pub edges : (b : ℕ) → has_edge new b ≡ has_edge old b

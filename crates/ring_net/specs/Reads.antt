@@ -40,6 +40,7 @@ module _ {A I : Type 0} where
   -- the ends of one edge are read, and all others are unchanged
   pub record ReadsEdge (a b : ℕ) (old new : List (Cell A I)) : Type 0 where
     pub looked : Looked old new
-    pub level : (p : Producer (Stamped I) Global AnyItems) (c : Consumer (Stamped I) Global AnyItems) → out_end new a b ≡ Some p → in_end new a b ≡ Some c → Level p c
+    pub level : (p : Producer (Stamped I) Global AnyItems) (c : Consumer (Stamped I) Global AnyItems) → out_end new a b ≡ Some p
+        → in_end new a b ≡ Some c → Level p c
     pub other_outs : (x y : ℕ) → (x ≡ a → y ≡ b → ⊥) → out_end new x y ≡ out_end old x y
     pub other_ins : (x y : ℕ) → (x ≡ a → y ≡ b → ⊥) → in_end new x y ≡ in_end old x y

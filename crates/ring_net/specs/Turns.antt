@@ -1,14 +1,14 @@
 -- What an actor did in one phase: its takes, then its turn.
 use Rattle.std.specs.Prelude.{ℕ, ◌≡◌, ◌≤◌, true, List, [], ◌++◌, length}
 use Rattle.std.specs.List.{AllByRecursion}
-use Rattle.ring_net.specs.Deeds.{Deed, Noted, Makes, Replay, IsOwn, TakesNone, Clocked, Climbs, deeds, entries_of, senders, sent_to, taken_from}
+use Rattle.ring_net.specs.Deeds.{Deed, Noted, Makes, Replay, IsDeedOf, TakesNone, Clocked, Climbs, deeds, entries_of, senders, sent_to, taken_from}
 use Rattle.ring_net.specs.declared.post.Post.{Post}
 use Rattle.ring_net.specs.Posts.{actor_of, clock_of, entries_in, has_edge, waits}
 
 -- The entries and outboxes of a post after several calls, where before each call the clock was raised to the stamp of what it takes.
 pub record Posted {I : Type 0} (old : Post I) (ns : List (Noted I)) (new : Post I) : Type 0 where
   pub actor : actor_of new ≡ actor_of old
-  pub own : AllByRecursion (IsOwn (actor_of old)) (deeds ns)
+  pub own : AllByRecursion (IsDeedOf (actor_of old)) (deeds ns)
   pub clocks : Clocked (clock_of old) ns (clock_of new)
   pub entries : entries_in new ≡ entries_in old ++ entries_of ns
   pub edges : (b : ℕ) → has_edge new b ≡ has_edge old b
@@ -39,5 +39,5 @@ module _ {A P I : Type 0} (part : A → P) (makes : Makes P I) (took : A → ℕ
     pub order : Climbs 0 (senders (deeds first))
     pub most : (a : ℕ) → length (taken_from a ns) ≤ 256
     pub replay : Replay makes k (part old) (deeds ns) (part new)
-    pub own : AllByRecursion (IsOwn k) (deeds ns)
+    pub own : AllByRecursion (IsDeedOf k) (deeds ns)
     pub clocks : Clocked before ns after

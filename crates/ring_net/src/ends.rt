@@ -1,7 +1,7 @@
 //! The ends of the rings of one cell.
 
 ghost use Rattle.std.specs.Prelude.{◌≡◌, ◌≢◌, ◌==◌, ℕ, [], None, Some, if◌then◌else◌, slice_index_or, OnOk, OnErr};
-ghost use Rattle.ring_net.specs.Peers.{Lists, ListsFrom-prop, Ascends, AddsPeer};
+ghost use Rattle.ring_net.specs.Peers.{ListsPlaces, ListsFrom-prop, Ascends, AddsPeer};
 
 use graft_edge::NoMemory;
 use std::alloc::Global;
@@ -13,7 +13,7 @@ pub struct Ends<T> {
     pub(crate) slots: Vec<Option<T>>,
     // These include all places where an end is, in ascending order.
     pub(crate) peers: Vec<usize>,
-    ghost listed: { Lists slots.items peers.items } by { ListsFrom-prop slots.items 0 peers.items },
+    ghost listed: { ListsPlaces slots.items peers.items } by { ListsFrom-prop slots.items 0 peers.items },
 }
 
 /// Adds a peer to peers in ascending order, unless it is there. If memory runs out, nothing changes.

@@ -7,7 +7,7 @@ ghost use Rattle.ring_net.specs.Ends.{ring_known};
 ghost use Rattle.ring_net.specs.Cells.{ring_from};
 ghost use Rattle.ring_net.specs.Nets.{IsNet, in_end, waits_of, view_of};
 ghost use Rattle.ring_net.specs.Fresh.{EdgesOnce};
-ghost use Rattle.ring_net.specs.Left.{left_of, actors_of, journals_of, Drains, WithoutRing, WithoutBox};
+ghost use Rattle.ring_net.specs.Left.{items_left, actors_of, journals_of, DrainsChannel, WithoutRing, WithoutBox};
 
 use crate::actor::Actor;
 use crate::cell::Cell;
@@ -91,7 +91,7 @@ fn drain<A: Actor>(
     requires from { a < length cells.old }
     requires to { b < length cells.old }
     ensures items { IfOk result (λ items. items ≡ map (λ x. x.item) (ring_known (in_end cells.old a b) ++ waits_of (slice_get cells.old a) b)) }
-    ensures rest { Drains a b cells.old cells.new }
+    ensures rest { DrainsChannel a b cells.old cells.new }
 {
     let ring = take_ring(&mut cells[b], a);
     let outbox = take_box(&mut cells[a], b);
@@ -109,7 +109,7 @@ pub(crate) fn drain_all<A: Actor>(
 ) -> Result<Lefts<A::Item>, NoMemory>
     requires net { IsNet cells.old edges.now }
     requires once { EdgesOnce edges.now }
-    ensures left { IfOk result (λ left. left ≡ left_of (view_of cells.old edges.now) edges.now) }
+    ensures left { IfOk result (λ left. left ≡ items_left (view_of cells.old edges.now) edges.now) }
     ensures actors { actors_of cells.new ≡ actors_of cells.old }
     ensures journals { journals_of cells.new ≡ journals_of cells.old }
 {

@@ -5,7 +5,7 @@ ghost use Rattle.ring_net.specs.Posts.{entries_in};
 ghost use Rattle.std.specs.List.{list_any};
 ghost use Rattle.ring_net.specs.declared.cell.Cell.{Cell};
 ghost use Rattle.ring_net.specs.Cells.{CellTurned};
-ghost use Rattle.ring_net.specs.Phases.{Phase, InOrder};
+ghost use Rattle.ring_net.specs.Phases.{NetPhase, InOrder};
 ghost use Rattle.ring_net.specs.Fresh.{EdgesOnce};
 ghost use Rattle.ring_net.specs.Journals.{ClocksRise-prop};
 ghost use Rattle.std.proofs.Props.{props};
@@ -73,7 +73,7 @@ where
     requires order { InOrder (view_of cells.old edges.now) }
     ensures net { IsNet cells.new edges.now }
     ensures order { OnOk result (InOrder (view_of cells.new edges.now)) }
-    ensures phase { OnOk result (Phase A.part A.makes A.took A.turned (view_of cells.old edges.now) (view_of cells.new edges.now)) }
+    ensures phase { OnOk result (NetPhase A.part A.makes A.took A.turned (view_of cells.old edges.now) (view_of cells.new edges.now)) }
 {
     turn_all(rt, cells, workers, gate);
     read_all(cells, edges);
@@ -101,9 +101,9 @@ pub struct Net<A: Actor> {
 impl<A: Actor> Net<A> {
     ghost use Rattle.std.specs.Prelude.{◌≡◌, ◌≤◌, ◌<◌, ◌+◌, ◌++◌, ◌∷◌, [], ℕ, true, false, length, map, OnOk, OnErr, IsErr, IfOk, slice_get, Some};
     ghost use Rattle.ring_net.specs.Shown.{view, marks, edge_list, has_failed};
-    ghost use Rattle.ring_net.specs.Phases.{IsNew, InOrder, Marked, CountsAll, Levelled, Between, Phase};
+    ghost use Rattle.ring_net.specs.Phases.{IsNewNet, InOrder, Marked, CountsAll, Levelled, Between, NetPhase};
     ghost use Rattle.ring_net.specs.Fresh.{AreEdges};
-    ghost use Rattle.ring_net.specs.Left.{HasJournals, left_of};
+    ghost use Rattle.ring_net.specs.Left.{HasJournals, items_left};
 
     /// Returns the net of these actors, numbered from 0, with an edge for each pair of a sender and a
     /// receiver. There have to be at least one actor and at most 65,536. Each edge has to join two
@@ -113,7 +113,7 @@ impl<A: Actor> Net<A> {
     pub fn build(alloc: Global, actors: Actors<A>, edges: &[(u16, u16)]) -> Result<Net<A>, NoMemory>
         requires count { (1 ≤ length actors) × (length actors ≤ 65536) }
         requires edges { AreEdges (length actors) edges.now }
-        ensures new { IfOk result (λ net. IsNew actors edges.now (view net)) }
+        ensures new { IfOk result (λ net. IsNewNet actors edges.now (view net)) }
         ensures marks { IfOk result (λ net. Marked (view net) [] (marks net)) }
         ensures edges { IfOk result (λ net. edge_list net ≡ edges.now) }
         ensures failed { IfOk result (λ net. has_failed net ≡ false) }
@@ -145,7 +145,7 @@ impl<A: Actor> Net<A> {
         A: Send,
         A::Item: Send,
         requires { (1 ≤ workers) × (workers ≤ 8) }
-        ensures phase { OnOk result (Phase A.part A.makes A.took A.turned (view self.old) (view self.new)) }
+        ensures phase { OnOk result (NetPhase A.part A.makes A.took A.turned (view self.old) (view self.new)) }
         ensures failed { OnErr result (has_failed self.new ≡ true) }
         ensures stays { has_failed self.old ≡ true → IsErr result }
         ensures marks { marks self.new ≡ marks self.old }
@@ -236,7 +236,7 @@ impl<A: Actor> Net<A> {
         ensures actors { IfOk result (λ parts. parts.actors ≡ (view self).actors) }
         ensures journals { IfOk result (λ parts. HasJournals (view self) parts.journals) }
         ensures marks { IfOk result (λ parts. parts.marks ≡ marks self) }
-        ensures left { IfOk result (λ parts. parts.left ≡ left_of (view self) (edge_list self)) }
+        ensures left { IfOk result (λ parts. parts.left ≡ items_left (view self) (edge_list self)) }
         ensures failed { has_failed self ≡ true → IsErr result }
     {
         let Net {

@@ -2,7 +2,7 @@
 
 ghost use Rattle.std.specs.Prelude.{◌≡◌, ◌+◌, ◌++◌, ◌∷◌, ◌≢◌, ◌↔◌, [], ℕ, max, option_map, None, true, OnOk, OnErr, IfOk, IfErr, IfSome, IfNone, IsNone, Contains, IsTrue};
 ghost use Rattle.std.specs.List.{list_any};
-ghost use Rattle.ring_net.specs.Posts.{actor_of, clock_of, entries_in, has_edge, waits, Notes, SendsItem, Wrote, SameEdges};
+ghost use Rattle.ring_net.specs.Posts.{actor_of, clock_of, entries_in, has_edge, waits, NotesEntry, SendsItem, Wrote, SameEdges};
 
 use crate::entry::{JournalEntry, Stamp, Stamped};
 use crate::parts::Journal;
@@ -55,7 +55,7 @@ impl<I: Drop> Post<I> {
     /// Adds an entry of the actor with the next clock. If memory runs out, nothing changes. Clock
     /// overflow is `NoMemory` too: there is no memory for that many entries.
     pub fn note(&mut self, kind: u16, a: u32, b: u32, c: u32) -> Result<(), NoMemory>
-        ensures ok { OnOk result (Notes self.old
+        ensures ok { OnOk result (NotesEntry self.old
             (record { clock = clock_of self.old + 1; actor = actor_of self.old; kind = kind; a = a; b = b; c = c }) self.new) }
         ensures err { OnErr result (Wrote self.old [] self.new) }
     {

@@ -113,13 +113,13 @@ first_only p x xs none =
     let all = sum_by-cons (λ y. cond (is_answer_on p y) 1 0) x xs in let one = one_or_none (is_answer_on p x) in omega (arith, all, one, none)
 
 no_more : (setup : Setup) (r p : ℕ) (start end : RouterPart) (events : List RouterEvent) (parts : List RouterPart)
-    → RouterGoes setup r (rounds.Works setup r) start events parts end
+    → RouterGoes setup r (rounds.IsNewWork setup r) start events parts end
     → Climbs 7 (map stage_of events) → OwesNone p start → answers_on p events ≡ 0
 no_more setup r p start end [] parts g order none = refl
 no_more setup r p start end (x ∷ xs) [] g order none = absurd g
 no_more setup r p start end (x ∷ xs) (next ∷ parts) g order none = elim (kind_of p x) [
   | inl answer ↦
-      let owed = subst (rounds.Works setup r start) answer.1 g.3 in
+      let owed = subst (rounds.IsNewWork setup r start) answer.1 g.3 in
       absurd (true_or_false (sym owed.kind ∙ none owed.session owed.errand owed.live))
   | inr (inl emits) ↦
       let row = subst (λ y. router_row setup r y start g.0 g.1 next) emits.3 g.2 in
@@ -129,7 +129,7 @@ no_more setup r p start end (x ∷ xs) (next ∷ parts) g order none = elim (kin
 ]
 
 at_most_one : (setup : Setup) (r p low : ℕ) (start end : RouterPart) (events : List RouterEvent) (parts : List RouterPart)
-    → RouterGoes setup r (rounds.Works setup r) start events parts end
+    → RouterGoes setup r (rounds.IsNewWork setup r) start events parts end
     → Climbs low (map stage_of events) → answers_on p events ≤ 1
 at_most_one setup r p low start end [] parts g order = lit≤ tt
 at_most_one setup r p low start end (x ∷ xs) [] g order = absurd g
@@ -144,6 +144,6 @@ at_most_one setup r p low start end (x ∷ xs) (next ∷ parts) g order = elim (
 ]
 
 pub router_answers_once : (setup : Setup) (r p : ℕ) (start end : RouterPart) (work : List RouterEvent) (parts : List RouterPart)
-    → RouterGoes setup r (rounds.Works setup r) start work parts end
+    → RouterGoes setup r (rounds.IsNewWork setup r) start work parts end
     → Climbs 1 (map stage_of work) → answers_on p work ≤ 1
 router_answers_once setup r p start end work parts g order = at_most_one setup r p 1 start end work parts g order

@@ -14,16 +14,16 @@ use Rattle.graft_model.specs.declared.event.FarEvent.{FarEvent}
 use Rattle.graft_model.specs.declared.event.FarEvent.TheVariants.{Say, Send, Take, Pass, Reach, Lose, Point, Beat}
 use Rattle.graft_model.specs.Steps.{far_row}
 use Rattle.graft_actors.specs.Emissions.{IsRested}
-use Rattle.far_side.specs.Links.{act_of, remote_act, home_events, remote_events, left_of, put_now}
-use Rattle.far_side.specs.Turns.{SendsOld, SendsNew, SendsAnswer, SendsNone, FarGoes}
+use Rattle.far_side.specs.Links.{act_of, remote_act, home_events, remote_events, left_in_link, put_now}
+use Rattle.far_side.specs.Turns.{FarRetransmits, SendsNew, SendsAnswer, SendsNone, FarGoes}
 use Rattle.far_side.specs.declared.link.InLink.{InLink}
 use Rattle.real_rounds.specs.Ends as ends
 use Rattle.real_rounds.specs.Fars as fars
-use Rattle.real_rounds.specs.Fars.{is_take, Links, empty_links, nothing_lies, fates_put, ArePut, PointAt, IsDue, RealFar}
+use Rattle.real_rounds.specs.Fars.{is_take, Links, empty_links, nothing_lies, fates_put, ArePut, PointAt, IsKeepaliveDue, RealFar}
 use Rattle.graft_worked.specs.Base.{base}
 use Rattle.graft_worked.specs.Places.{idle_far}
 use Rattle.graft_worked.specs.Others.{beating}
-use Rattle.rounds_worked.specs.Fars.{Field, Is, Takes, Delivers, Resends, Says, Sends, Replies, Due, Rested, GoesOn, AreTaken, AreSent, Home, Remote, NoField, RealFarBut, FalseAlone, saying, sent_by, one_put, two_put, one_to_lose, one_elsewhere, one_never_put, one_to_remote, one_gone, both_octets, one_octet, other_octet, an_answer, a_delivery, a_segment, with_taken, one_taken, a_take, a_loss, a_point, a_beat}
+use Rattle.rounds_worked.specs.Fars.{FarField, Is, Takes, Delivers, Resends, Says, Sends, Replies, Due, Rested, GoesOn, AreTaken, AreSent, Home, Remote, NoField, RealFarBut, FalseAloneInFar, saying, with_slice_sent, one_put, two_put, one_to_lose, one_elsewhere, one_never_put, one_to_remote, one_gone, both_octets, one_octet, other_octet, an_answer, a_delivery, a_segment, with_taken, one_taken, a_take, a_loss, a_point, a_beat}
 use Rattle.rounds_worked.proofs.Marks.{heads, tails, not_some, not_empty, apart, less}
 use Rattle.rounds_worked.proofs.Routers.{emits_at}
 
@@ -61,7 +61,7 @@ far_of setup faults p round start before events end after b = record {
   remote = b.remote (λ e. cc);
 }
 
-pub of_far : (but : Field) (setup : Setup) (faults : List Fault) (p round : ℕ) (start : FarPart) (before : Links) (events : List FarEvent) (end : FarPart)
+pub of_far : (but : FarField) (setup : Setup) (faults : List Fault) (p round : ℕ) (start : FarPart) (before : Links) (events : List FarEvent) (end : FarPart)
     (after : Links)
     → RealFar setup faults p round start before events end after → RealFarBut but setup faults p round start before events end after
 of_far but setup faults p round start before events end after h = record {
@@ -105,26 +105,26 @@ none_took : (faults : List Fault) (p from : ℕ) (took : List InLink) → ArePut
 none_took faults p from [] are = refl
 none_took faults p from (x ∷ took) are = let e = are.fates in absurd cc
 
-never_due : (round : ℕ) (part : FarPart) → IsDue base 0 round part → ⊥
+never_due : (round : ℕ) (part : FarPart) → IsKeepaliveDue base 0 round part → ⊥
 never_due round part due =
     let none : ◌≡◌ {A = ℕ} 0 due.beat = ap (λ o. unwrap_or o 0) due.is in
     let some = due.some in absurd (omega (arith, none, some))
 
 -- the first segment is an old slice, a new one, or an owed answer
 abbrev SendsAny : FarPart → FarEvent → Type 0
-SendsAny part x = SendsOld part x ⊎ (SendsNew part x ⊎ SendsAnswer part x)
+SendsAny part x = FarRetransmits part x ⊎ (SendsNew part x ⊎ SendsAnswer part x)
 
-no_beat : (round : ℕ) (part : FarPart) (y : FarEvent) (beats : List FarEvent) → fars.Beats base 0 round part (y ∷ beats) → ⊥
+no_beat : (round : ℕ) (part : FarPart) (y : FarEvent) (beats : List FarEvent) → fars.BeatsIfDue base 0 round part (y ∷ beats) → ⊥
 no_beat round part y beats (inl due) = never_due round part due.0
 no_beat round part y beats (inr none) = let e : y ∷ beats ≡ [] = none.1 in absurd cc
 
 turn_from : (round : ℕ) (x : FarEvent) (start turning delivered resent said level end : FarPart) (xs again beats fresh answers : List FarEvent)
     → x ∷ xs ≡ again ++ (beats ++ (fresh ++ answers))
-    → fars.Beats base 0 round turning beats → turning ≡ start → delivered ≡ turning → FarGoes base 0 SendsOld delivered again resent
+    → fars.BeatsIfDue base 0 round turning beats → turning ≡ start → delivered ≡ turning → FarGoes base 0 FarRetransmits delivered again resent
     → FarGoes base 0 SendsNone resent beats said
     → FarGoes base 0 SendsNew said fresh level → FarGoes base 0 SendsAnswer level answers end → SendsAny start x
 turn_from round x start turning delivered resent said level end xs (y ∷ again) beats fresh answers e due takes delivers resends says sends replies =
-    inl (subst (SendsOld start) (sym (heads _ _ _ _ e)) (subst (λ part. SendsOld part y) (delivers ∙ takes) resends.4))
+    inl (subst (FarRetransmits start) (sym (heads _ _ _ _ e)) (subst (λ part. FarRetransmits part y) (delivers ∙ takes) resends.4))
 turn_from round x start turning delivered resent said level end xs [] (y ∷ beats) fresh answers e due takes delivers resends says sends replies = absurd
     (no_beat round turning y beats due)
 turn_from round x start turning delivered resent said level end xs [] [] (y ∷ fresh) answers e due takes delivers resends says sends replies =
@@ -137,14 +137,14 @@ turn_from round x start turning delivered resent said level end xs [] [] [] [] e
 first_from : (pointer round from len : ℕ) (start turning delivered resent said level end : FarPart) (xs taken again beats fresh answers : List FarEvent)
     (took : List InLink)
     → Send from len ∷ xs ≡ taken ++ (home_events pointer [] ++ (remote_events ([] ++ took) ++ (again ++ (beats ++ (fresh ++ answers)))))
-    → ArePut [] 0 way.Remote 0 (length (filter is_take taken)) took → fars.Beats base 0 round turning beats
-    → FarGoes base 0 fars.Takes start taken turning → FarGoes base 0 SendsNone turning (home_events pointer [] ++ remote_events ([] ++ took)) delivered
-    → FarGoes base 0 SendsOld delivered again resent
+    → ArePut [] 0 way.Remote 0 (length (filter is_take taken)) took → fars.BeatsIfDue base 0 round turning beats
+    → FarGoes base 0 fars.IsFarTake start taken turning → FarGoes base 0 SendsNone turning (home_events pointer [] ++ remote_events ([] ++ took)) delivered
+    → FarGoes base 0 FarRetransmits delivered again resent
     → FarGoes base 0 SendsNone resent beats said → FarGoes base 0 SendsNew said fresh level → FarGoes base 0 SendsAnswer level answers end
     → SendsAny start (Send from len)
 first_from pointer round from len start turning delivered resent said level end xs (y ∷ taken) again beats fresh answers took e are due takes delivers
     resends says sends replies =
-    absurd (subst (fars.Takes start) (sym (heads _ _ _ _ e)) takes.4)
+    absurd (subst (fars.IsFarTake start) (sym (heads _ _ _ _ e)) takes.4)
 first_from pointer round from len start turning delivered resent said level end xs [] again beats fresh answers (y ∷ took) e are due takes delivers resends
     says sends replies =
     absurd (not_empty y took (none_took [] 0 0 (y ∷ took) are))
@@ -161,7 +161,7 @@ first_is round from len start end xs after h = first_from end.pointer round from
 -- where nothing happens, nothing is taken or sent again, and the remote says nothing by its timer
 nothing_from : (setup : Setup) (pointer : ℕ) (start turning : FarPart) (taken again beats fresh answers : List FarEvent) (took : List InLink)
     → [] ≡ taken ++ (home_events pointer [] ++ (remote_events ([] ++ took) ++ (again ++ (beats ++ (fresh ++ answers)))))
-    → ArePut [] 0 way.Remote 0 (length (filter is_take taken)) took → FarGoes setup 0 fars.Takes start taken turning → (took ≡ []) × (again ≡ [])
+    → ArePut [] 0 way.Remote 0 (length (filter is_take taken)) took → FarGoes setup 0 fars.IsFarTake start taken turning → (took ≡ []) × (again ≡ [])
     × (beats ≡ []) × (turning ≡ start)
 nothing_from setup pointer start turning (y ∷ taken) again beats fresh answers took e are takes = absurd cc
 nothing_from setup pointer start turning [] again beats fresh answers (y ∷ took) e are takes = absurd (not_empty y took (none_took [] 0 0 (y ∷ took) are))
@@ -188,12 +188,12 @@ fates_are round start end events after h =
 -- ---- rounds
 
 -- a round without takes in which the timer has the remote say nothing, with links that were empty
-plain : (but : Field) (setup : Setup) (round : ℕ) (start : FarPart) (events : List FarEvent) (end : FarPart) (after : Links) (resent level : FarPart)
+plain : (but : FarField) (setup : Setup) (round : ℕ) (start : FarPart) (events : List FarEvent) (end : FarPart) (after : Links) (resent level : FarPart)
     (again fresh answers : List FarEvent) (sent : List InLink)
-    → (but ≢ Is → events ≡ again ++ (fresh ++ answers)) → (but ≢ Due → fars.Beats setup 0 round start []) → (but ≢ Resends
-    → FarGoes setup 0 SendsOld start again resent)
+    → (but ≢ Is → events ≡ again ++ (fresh ++ answers)) → (but ≢ Due → fars.BeatsIfDue setup 0 round start []) → (but ≢ Resends
+    → FarGoes setup 0 FarRetransmits start again resent)
     → (but ≢ Sends → FarGoes setup 0 SendsNew resent fresh level) → (but ≢ Replies → FarGoes setup 0 SendsAnswer level answers end)
-    → (but ≢ Rested → IsRested end.end) → length again ≤ 1 → (but ≢ GoesOn → ends.GoesOn start.end end.end (length again))
+    → (but ≢ Rested → IsRested end.end) → length again ≤ 1 → (but ≢ GoesOn → ends.AcksOrResends start.end end.end (length again))
     → (but ≢ AreSent → ArePut [] 0 way.Home 0 (length again + (length fresh + length answers)) sent × PointAt end.pointer sent)
     → (but ≢ Home → after.home ≡ record { plans = sent; put = 0 + (length again + (length fresh + length answers)) }) → (but ≢ Remote
     → after.remote ≡ nothing_lies)
@@ -229,14 +229,14 @@ plain but setup round start events end after resent level again fresh answers se
       remote = remote;
     }
 
-not_due : (round : ℕ) (part : FarPart) → fars.Beats base 0 round part []
+not_due : (round : ℕ) (part : FarPart) → fars.BeatsIfDue base 0 round part []
 not_due round part = inr (never_due round part, refl)
 
-none_out : (again : ℕ) → ends.GoesOn idle_far.end idle_far.end again
+none_out : (again : ℕ) → ends.AcksOrResends idle_far.end idle_far.end again
 none_out again out = absurd (less 0 1 (lit< tt) out)
 
 -- nothing happens at a far side that has nothing to do, but for what is left out
-idle : (but : Field) (events : List FarEvent) (after : Links) (sent : List InLink) → (but ≢ Is → events ≡ []) → (but ≢ AreSent
+idle : (but : FarField) (events : List FarEvent) (after : Links) (sent : List InLink) → (but ≢ Is → events ≡ []) → (but ≢ AreSent
     → ArePut [] 0 way.Home 0 0 sent × PointAt 0 sent)
     → (but ≢ Home → after.home ≡ record { plans = sent; put = 0 }) → (but ≢ Remote → after.remote ≡ nothing_lies)
     → RealFarBut but base [] 0 1 idle_far empty_links events idle_far after
@@ -256,7 +256,7 @@ nothing_to_send (inr (inl (new))) = elim new.all [
 ]
 nothing_to_send (inr (inr answer)) = answer
 
-pub another_event : FalseAlone Is base 1 idle_far empty_links (one_octet ∷ []) idle_far empty_links
+pub another_event : FalseAloneInFar Is base 1 idle_far empty_links (one_octet ∷ []) idle_far empty_links
 another_event = (
   idle Is (one_octet ∷ []) empty_links [] (λ other. absurd (other refl)) (λ other. (record { fates = refl }, tt)) (λ other. refl) (λ other. refl),
   λ h. nothing_to_send (first_is 1 0 1 idle_far idle_far [] empty_links h),
@@ -274,7 +274,7 @@ some_or_none x e = cc
 one_or_none : (x : Fate × ℕ) → x ∷ [] ≡ [] → ⊥
 one_or_none x e = cc
 
-sends_both : FarGoes base 0 SendsNew (saying 0) (both_octets ∷ []) (sent_by (saying 0) 0 2)
+sends_both : FarGoes base 0 SendsNew (saying 0) (both_octets ∷ []) (with_slice_sent (saying 0) 0 2)
 sends_both = (
   None,
   [],
@@ -293,33 +293,33 @@ sends_both = (
 )
 
 -- both octets are sent
-sending : (but : Field) (after : Links) (sent : List InLink) → (but ≢ AreSent → ArePut [] 0 way.Home 0 1 sent × PointAt 0 sent)
+sending : (but : FarField) (after : Links) (sent : List InLink) → (but ≢ AreSent → ArePut [] 0 way.Home 0 1 sent × PointAt 0 sent)
     → after.home ≡ record { plans = sent; put = 1 } → after.remote ≡ nothing_lies
-    → RealFarBut but base [] 0 1 (saying 0) empty_links (both_octets ∷ []) (sent_by (saying 0) 0 2) after
-sending but after sent are_sent home remote = plain but base 1 (saying 0) (both_octets ∷ []) (sent_by (saying 0) 0 2) after (saying 0)
-    (sent_by (saying 0) 0 2) [] (both_octets ∷ []) [] sent (λ other. refl)
+    → RealFarBut but base [] 0 1 (saying 0) empty_links (both_octets ∷ []) (with_slice_sent (saying 0) 0 2) after
+sending but after sent are_sent home remote = plain but base 1 (saying 0) (both_octets ∷ []) (with_slice_sent (saying 0) 0 2) after (saying 0)
+    (with_slice_sent (saying 0) 0 2) [] (both_octets ∷ []) [] sent (λ other. refl)
     (λ other. not_due 1 (saying 0)) (λ other. refl) (λ other. sends_both) (λ other. refl) (λ other. record { emitted = refl; answered = refl })
     (lit≤ tt)
     (λ other out. absurd (less 0 1 (lit< tt) out)) are_sent (λ other. home) (λ other. remote)
 
-pub sends_new : RealFar base [] 0 1 (saying 0) empty_links (both_octets ∷ []) (sent_by (saying 0) 0 2) one_put
-sends_new = far_of base [] 0 1 (saying 0) empty_links (both_octets ∷ []) (sent_by (saying 0) 0 2) one_put
+pub sends_new : RealFar base [] 0 1 (saying 0) empty_links (both_octets ∷ []) (with_slice_sent (saying 0) 0 2) one_put
+sends_new = far_of base [] 0 1 (saying 0) empty_links (both_octets ∷ []) (with_slice_sent (saying 0) 0 2) one_put
     (sending NoField one_put (put_now fate.Pass 0 ∷ []) (λ other. (record { fates = refl }, (refl, tt))) refl refl)
 
-pub loss_unplanned : FalseAlone AreSent base 1 (saying 0) empty_links (both_octets ∷ []) (sent_by (saying 0) 0 2) one_to_lose
+pub loss_unplanned : FalseAloneInFar AreSent base 1 (saying 0) empty_links (both_octets ∷ []) (with_slice_sent (saying 0) 0 2) one_to_lose
 loss_unplanned = (
   sending AreSent one_to_lose (put_now fate.Lose 0 ∷ []) (λ other. absurd (other refl)) refl refl,
   λ h. lose_or_pass
       (fates_are 1 _ _ _ one_to_lose h),
 )
 
-pub points_elsewhere : FalseAlone AreSent base 1 (saying 0) empty_links (both_octets ∷ []) (sent_by (saying 0) 0 2) one_elsewhere
+pub points_elsewhere : FalseAloneInFar AreSent base 1 (saying 0) empty_links (both_octets ∷ []) (with_slice_sent (saying 0) 0 2) one_elsewhere
 points_elsewhere = (
   sending AreSent one_elsewhere (put_now fate.Pass 1 ∷ []) (λ other. absurd (other refl)) refl refl,
   λ h. apart 0 1 (lit< tt) (sym (subst (PointAt 0) (sym (home_is 1 _ _ _ one_elsewhere h)) h.are_sent.1).0),
 )
 
-pub never_put : FalseAlone Home base 1 idle_far empty_links [] idle_far one_never_put
+pub never_put : FalseAloneInFar Home base 1 idle_far empty_links [] idle_far one_never_put
 never_put = (
   idle Home [] one_never_put [] (λ other. refl) (λ other. (record { fates = refl }, tt)) (λ other. absurd (other refl)) (λ other. refl),
   λ h. one_or_none _ (fates_are 1 _ _ _ one_never_put h),
@@ -327,10 +327,10 @@ never_put = (
 
 lies_in_remote : RealFar base [] 0 1 idle_far empty_links [] idle_far one_to_remote → ⊥
 lies_in_remote h =
-    let plans : (put_now fate.Pass 0 ∷ []) ≡ left_of ([] ++ h.took) = ap (λ l. l.plans) h.remote in
-    some_or_none _ (plans ∙ ap left_of (nothing_is base 1 idle_far idle_far one_to_remote h).0)
+    let plans : (put_now fate.Pass 0 ∷ []) ≡ left_in_link ([] ++ h.took) = ap (λ l. l.plans) h.remote in
+    some_or_none _ (plans ∙ ap left_in_link (nothing_is base 1 idle_far idle_far one_to_remote h).0)
 
-pub never_taken : FalseAlone Remote base 1 idle_far empty_links [] idle_far one_to_remote
+pub never_taken : FalseAloneInFar Remote base 1 idle_far empty_links [] idle_far one_to_remote
 never_taken = (
   idle Remote [] one_to_remote [] (λ other. refl) (λ other. (record { fates = refl }, tt)) (λ other. refl) (λ other. absurd (other refl)),
   lies_in_remote,
@@ -341,7 +341,7 @@ never_taken = (
 nothing_put : ArePut [] 0 way.Home 0 0 [] × PointAt 0 []
 nothing_put = (record { fates = refl }, tt)
 
-pub left_unsent : FalseAlone Rested base 1 (saying 0) empty_links [] (saying 0) empty_links
+pub left_unsent : FalseAloneInFar Rested base 1 (saying 0) empty_links [] (saying 0) empty_links
 left_unsent = (
   plain Rested base 1 (saying 0) [] (saying 0) empty_links (saying 0) (saying 0) [] [] [] [] (λ other. refl) (λ other. not_due 1 (saying 0)) (λ other. refl)
       (λ other. refl) (λ other. refl)
@@ -358,7 +358,7 @@ nothing_sent h = elim (h.goes_on (lit< tt)) [
 saying_rested : IsRested (saying 2).end
 saying_rested = record { emitted = refl; answered = refl }
 
-pub not_sent_again : FalseAlone GoesOn base 1 (saying 2) empty_links [] (saying 2) empty_links
+pub not_sent_again : FalseAloneInFar GoesOn base 1 (saying 2) empty_links [] (saying 2) empty_links
 not_sent_again = (
   plain GoesOn base 1 (saying 2) [] (saying 2) empty_links (saying 2) (saying 2) [] [] [] [] (λ other. refl) (λ other. not_due 1 (saying 2)) (λ other. refl)
       (λ other. refl) (λ other. refl)
@@ -368,19 +368,19 @@ not_sent_again = (
 
 -- ---- the timer
 
-is_due : IsDue beating 0 30 idle_far
+is_due : IsKeepaliveDue beating 0 30 idle_far
 is_due = record { beat = 30; is = refl; some = lit< tt; multiple = refl; later = lit< tt; few = lit< tt; fits = lit≤ tt }
 
-nothing_said : fars.Beats beating 0 30 idle_far [] → ⊥
+nothing_said : fars.BeatsIfDue beating 0 30 idle_far [] → ⊥
 nothing_said (inl due) = let e = due.1 in absurd cc
 nothing_said (inr none) = none.0 is_due
 
 no_keepalive : RealFar beating [] 0 30 idle_far empty_links [] idle_far empty_links → ⊥
 no_keepalive h =
     let n = nothing_is beating 30 idle_far idle_far empty_links h in
-    nothing_said (subst (fars.Beats beating 0 30 idle_far) n.2 (subst (λ part. fars.Beats beating 0 30 part h.beats) n.3 h.due))
+    nothing_said (subst (fars.BeatsIfDue beating 0 30 idle_far) n.2 (subst (λ part. fars.BeatsIfDue beating 0 30 part h.beats) n.3 h.due))
 
-pub keepalive_unsaid : FalseAlone Due beating 30 idle_far empty_links [] idle_far empty_links
+pub keepalive_unsaid : FalseAloneInFar Due beating 30 idle_far empty_links [] idle_far empty_links
 keepalive_unsaid = (
   plain Due beating 30 idle_far [] idle_far empty_links idle_far idle_far [] [] [] [] (λ other. refl) (λ other. absurd (other refl)) (λ other. refl)
       (λ other. refl) (λ other. refl)
@@ -399,14 +399,14 @@ no_first_alone (inr (inr answer)) = answer
 one_segment_put : ArePut [] 0 way.Home 0 1 (put_now fate.Pass 0 ∷ []) × PointAt 0 (put_now fate.Pass 0 ∷ [])
 one_segment_put = (record { fates = refl }, (refl, tt))
 
-pub short_again : FalseAlone Resends base 1 (saying 2) empty_links (one_octet ∷ []) (sent_by (saying 2) 0 1) one_put
+pub short_again : FalseAloneInFar Resends base 1 (saying 2) empty_links (one_octet ∷ []) (with_slice_sent (saying 2) 0 1) one_put
 short_again = (
-  plain Resends base 1 (saying 2) (one_octet ∷ []) (sent_by (saying 2) 0 1) one_put (sent_by (saying 2) 0 1) (sent_by (saying 2) 0 1) (one_octet ∷ []) [] []
+  plain Resends base 1 (saying 2) (one_octet ∷ []) (with_slice_sent (saying 2) 0 1) one_put (with_slice_sent (saying 2) 0 1) (with_slice_sent (saying 2) 0 1) (one_octet ∷ []) [] []
       (put_now fate.Pass 0 ∷ [])
       (λ other. refl) (λ other. not_due 1 (saying 2)) (λ other. absurd (other refl)) (λ other. refl) (λ other. refl)
       (λ other. record { emitted = refl; answered = refl }) (lit≤ tt)
       (λ other out. inr refl) (λ other. one_segment_put) (λ other. refl) (λ other. refl),
-  λ h. no_first_alone (first_is 1 0 1 (saying 2) (sent_by (saying 2) 0 1) [] one_put h),
+  λ h. no_first_alone (first_is 1 0 1 (saying 2) (with_slice_sent (saying 2) 0 1) [] one_put h),
 )
 
 -- the same where none is outstanding: a new slice has both
@@ -418,14 +418,14 @@ no_octet_alone (inr (inl new)) = elim new.all [
 ]
 no_octet_alone (inr (inr answer)) = answer
 
-pub short_slices : FalseAlone Sends base 1 (saying 0) empty_links (one_octet ∷ other_octet ∷ []) (sent_by (sent_by (saying 0) 0 1) 1 1) two_put
+pub short_slices : FalseAloneInFar Sends base 1 (saying 0) empty_links (one_octet ∷ other_octet ∷ []) (with_slice_sent (with_slice_sent (saying 0) 0 1) 1 1) two_put
 short_slices = (
-  plain Sends base 1 (saying 0) (one_octet ∷ other_octet ∷ []) (sent_by (sent_by (saying 0) 0 1) 1 1) two_put (saying 0) (sent_by (sent_by (saying 0) 0 1) 1 1)
+  plain Sends base 1 (saying 0) (one_octet ∷ other_octet ∷ []) (with_slice_sent (with_slice_sent (saying 0) 0 1) 1 1) two_put (saying 0) (with_slice_sent (with_slice_sent (saying 0) 0 1) 1 1)
       [] (one_octet ∷ other_octet ∷ []) [] (put_now fate.Pass 0 ∷ put_now fate.Pass 0 ∷ []) (λ other. refl) (λ other. not_due 1 (saying 0)) (λ other. refl)
       (λ other. absurd (other refl)) (λ other. refl)
       (λ other. record { emitted = refl; answered = refl }) (lit≤ tt) (λ other out. absurd (less 0 1 (lit< tt) out))
       (λ other. (record { fates = refl }, (refl, (refl, tt)))) (λ other. refl) (λ other. refl),
-  λ h. no_octet_alone (first_is 1 0 1 (saying 0) (sent_by (sent_by (saying 0) 0 1) 1 1) (other_octet ∷ []) two_put h),
+  λ h. no_octet_alone (first_is 1 0 1 (saying 0) (with_slice_sent (with_slice_sent (saying 0) 0 1) 1 1) (other_octet ∷ []) two_put h),
 )
 
 -- no answer is owed
@@ -434,25 +434,25 @@ no_answer (inl old) = less 0 1 (lit< tt) old.out
 no_answer (inr (inl new)) = new
 no_answer (inr (inr answer)) = let owed : ◌≡◌ {A = Bool} false true = answer in absurd cc
 
-pub answer_unowed : FalseAlone Replies base 1 idle_far empty_links (an_answer ∷ []) (sent_by idle_far 0 0) one_put
+pub answer_unowed : FalseAloneInFar Replies base 1 idle_far empty_links (an_answer ∷ []) (with_slice_sent idle_far 0 0) one_put
 answer_unowed = (
-  plain Replies base 1 idle_far (an_answer ∷ []) (sent_by idle_far 0 0) one_put idle_far idle_far [] [] (an_answer ∷ []) (put_now fate.Pass 0 ∷ [])
+  plain Replies base 1 idle_far (an_answer ∷ []) (with_slice_sent idle_far 0 0) one_put idle_far idle_far [] [] (an_answer ∷ []) (put_now fate.Pass 0 ∷ [])
       (λ other. refl) (λ other. not_due 1 idle_far) (λ other. refl) (λ other. refl) (λ other. absurd (other refl))
       (λ other. record { emitted = refl; answered = refl }) (lit≤ tt)
       (λ other. none_out 0) (λ other. one_segment_put) (λ other. refl) (λ other. refl),
-  λ h. no_answer (first_is 1 0 0 idle_far (sent_by idle_far 0 0) [] one_put h),
+  λ h. no_answer (first_is 1 0 0 idle_far (with_slice_sent idle_far 0 0) [] one_put h),
 )
 
 -- ---- what is delivered
 
 -- of the link to home, which holds nothing, nothing is delivered
 delivers_from : (start turning delivered : FarPart) (taken rest more : List FarEvent) → start.homeward ≡ [] → a_delivery ∷ [] ≡ taken ++ (a_delivery ∷ rest)
-    → FarGoes base 0 fars.Takes start taken turning → FarGoes base 0 SendsNone turning (a_delivery ∷ more) delivered → ⊥
+    → FarGoes base 0 fars.IsFarTake start taken turning → FarGoes base 0 SendsNone turning (a_delivery ∷ more) delivered → ⊥
 delivers_from start turning delivered [] rest more empty e takes delivers =
     not_some _ (sym (ap (λ (part : FarPart). slice_get part.homeward 0) takes ∙ ap (λ l. slice_get l 0) empty) ∙ delivers.3.there)
-delivers_from start turning delivered (y ∷ taken) rest more empty e takes delivers = subst (fars.Takes start) (sym (heads _ _ _ _ e)) takes.4
+delivers_from start turning delivered (y ∷ taken) rest more empty e takes delivers = subst (fars.IsFarTake start) (sym (heads _ _ _ _ e)) takes.4
 
-pub delivers_nothing : FalseAlone Delivers base 1 idle_far one_put (a_delivery ∷ []) idle_far one_gone
+pub delivers_nothing : FalseAloneInFar Delivers base 1 idle_far one_put (a_delivery ∷ []) idle_far one_gone
 delivers_nothing = (
   record {
     taken = [];
@@ -506,9 +506,9 @@ passes_one (x ∷ y ∷ took) rest are e = let none = tails _ _ _ _ are.fates in
 
 lost_from : (pointer : ℕ) (turning delivered resent said level end : FarPart) (taken again beats fresh answers : List FarEvent) (took : List InLink)
     → a_take ∷ a_loss ∷ [] ≡ taken ++ (home_events pointer [] ++ (remote_events ([] ++ took) ++ (again ++ (beats ++ (fresh ++ answers)))))
-    → ArePut [] 0 way.Remote 0 (length (filter is_take taken)) took → fars.Beats base 0 1 turning beats
-    → FarGoes base 0 fars.Takes idle_far taken turning → FarGoes base 0 SendsNone turning (home_events pointer [] ++ remote_events ([] ++ took)) delivered
-    → FarGoes base 0 SendsOld delivered again resent
+    → ArePut [] 0 way.Remote 0 (length (filter is_take taken)) took → fars.BeatsIfDue base 0 1 turning beats
+    → FarGoes base 0 fars.IsFarTake idle_far taken turning → FarGoes base 0 SendsNone turning (home_events pointer [] ++ remote_events ([] ++ took)) delivered
+    → FarGoes base 0 FarRetransmits delivered again resent
     → FarGoes base 0 SendsNone resent beats said → FarGoes base 0 SendsNew said fresh level → FarGoes base 0 SendsAnswer level answers end → ⊥
 lost_from pointer turning delivered resent said level end [] again beats fresh answers (y ∷ took) e are due takes delivers resends says sends replies =
     not_empty y took (none_took [] 0 0 (y ∷ took) are)
@@ -518,19 +518,19 @@ lost_from pointer turning delivered resent said level end [] again beats fresh a
 lost_from pointer turning delivered resent said level end (y ∷ []) again beats fresh answers took e are due takes delivers resends says sends replies =
     passes_one took _ (subst (λ x. ArePut [] 0 way.Remote 0 (length (filter is_take (x ∷ []))) took) (sym (heads _ _ _ _ e)) are) (tails _ _ _ _ e)
 lost_from pointer turning delivered resent said level end (y ∷ z ∷ taken) again beats fresh answers took e are due takes delivers resends says sends replies =
-    subst (fars.Takes takes.2) (sym (heads _ _ _ _ (tails _ _ _ _ e))) takes.5.4
+    subst (fars.IsFarTake takes.2) (sym (heads _ _ _ _ (tails _ _ _ _ e))) takes.5.4
 
 lost_unplanned : RealFar base [] 0 1 idle_far empty_links (a_take ∷ a_loss ∷ []) idle_far one_taken → ⊥
 lost_unplanned h = lost_from 0 h.turning h.delivered h.resent h.said h.level idle_far h.taken h.again h.beats h.fresh h.answers h.took h.is h.are_taken h.due
     h.takes h.delivers h.resends h.says h.sends h.replies
 
-takes_one : FarGoes base 0 fars.Takes idle_far (a_take ∷ []) with_taken
+takes_one : FarGoes base 0 fars.IsFarTake idle_far (a_take ∷ []) with_taken
 takes_one = (Some (OutwardIn 0 (Seg a_segment)), [], with_taken, record { segment = a_segment; takes = refl; sends = refl; effect = refl }, tt, refl)
 
 loses_one : FarGoes base 0 SendsNone with_taken (a_loss ∷ []) idle_far
 loses_one = (None, [], idle_far, record { there = lit< tt; takes = refl; sends = refl; effect = refl }, tt, refl)
 
-pub lost_by_no_fault : FalseAlone AreTaken base 1 idle_far empty_links (a_take ∷ a_loss ∷ []) idle_far one_taken
+pub lost_by_no_fault : FalseAloneInFar AreTaken base 1 idle_far empty_links (a_take ∷ a_loss ∷ []) idle_far one_taken
 lost_by_no_fault = (
   record {
     taken = a_take ∷ [];
@@ -578,29 +578,29 @@ both (x ∷ xs) ys of_xs of_ys = (of_xs.0, both xs ys of_xs.1 of_ys)
 
 -- no event of a turn is one that the operator or a router has a far side make
 turn_without : (turning delivered resent said level end : FarPart) (again beats fresh answers events : List FarEvent)
-    → events ≡ again ++ (beats ++ (fresh ++ answers)) → fars.Beats base 0 1 turning beats
-    → FarGoes base 0 SendsOld delivered again resent → FarGoes base 0 SendsNew said fresh level → FarGoes base 0 SendsAnswer level answers end
+    → events ≡ again ++ (beats ++ (fresh ++ answers)) → fars.BeatsIfDue base 0 1 turning beats
+    → FarGoes base 0 FarRetransmits delivered again resent → FarGoes base 0 SendsNew said fresh level → FarGoes base 0 SendsAnswer level answers end
     → AllByRecursion (λ y. y ≢ a_point) events
 turn_without turning delivered resent said level end again (y ∷ beats) fresh answers events e due resends sends replies = absurd (no_beat 1 turning y beats due)
 turn_without turning delivered resent said level end again [] fresh answers events e due resends sends replies = subst (AllByRecursion (λ y. y ≢ a_point))
     (sym e)
-    (both again (fresh ++ answers) (none_is a_point SendsOld (λ part x. x) delivered resent again resends)
+    (both again (fresh ++ answers) (none_is a_point FarRetransmits (λ part x. x) delivered resent again resends)
     (both fresh answers (none_is a_point SendsNew (λ part x. x) said level fresh sends) (none_is a_point SendsAnswer (λ part x. x) level end answers replies)))
 
 point_from : (pointer : ℕ) (turning delivered resent said level last : FarPart) (taken again beats fresh answers : List FarEvent) (took : List InLink)
     → both_octets ∷ a_point ∷ [] ≡ taken ++ (home_events pointer [] ++ (remote_events ([] ++ took) ++ (again ++ (beats ++ (fresh ++ answers)))))
-    → ArePut [] 0 way.Remote 0 (length (filter is_take taken)) took → fars.Beats base 0 1 turning beats
-    → FarGoes base 0 fars.Takes (saying 0) taken turning → FarGoes base 0 SendsOld delivered again resent → FarGoes base 0 SendsNew said fresh level
+    → ArePut [] 0 way.Remote 0 (length (filter is_take taken)) took → fars.BeatsIfDue base 0 1 turning beats
+    → FarGoes base 0 fars.IsFarTake (saying 0) taken turning → FarGoes base 0 FarRetransmits delivered again resent → FarGoes base 0 SendsNew said fresh level
     → FarGoes base 0 SendsAnswer level answers last → ⊥
 point_from pointer turning delivered resent said level last (y ∷ taken) again beats fresh answers took e are due takes resends sends replies = subst
-    (fars.Takes (saying 0)) (sym (heads _ _ _ _ e)) takes.4
+    (fars.IsFarTake (saying 0)) (sym (heads _ _ _ _ e)) takes.4
 point_from pointer turning delivered resent said level last [] again beats fresh answers (y ∷ took) e are due takes resends sends replies = not_empty y took
     (none_took [] 0 0 (y ∷ took) are)
 point_from pointer turning delivered resent said level last [] again beats fresh answers [] e are due takes resends sends replies =
     (turn_without turning delivered resent said level last again beats fresh answers (both_octets ∷ a_point ∷ []) e due resends sends replies).1.0 refl
 
 -- both octets are sent, and put into no link
-pub sent_among_takes : FalseAlone Takes base 1 (saying 0) empty_links (both_octets ∷ a_point ∷ []) (saying 2) empty_links
+pub sent_among_takes : FalseAloneInFar Takes base 1 (saying 0) empty_links (both_octets ∷ a_point ∷ []) (saying 2) empty_links
 sent_among_takes = (
   record {
     taken = both_octets ∷ a_point ∷ [];
@@ -645,15 +645,15 @@ no_events y events e = cc
 
 said_from : (pointer : ℕ) (turning delivered resent said level : FarPart) (taken again beats fresh answers : List FarEvent) (took : List InLink)
     → a_beat ∷ [] ≡ taken ++ (home_events pointer [] ++ (remote_events ([] ++ took) ++ (again ++ (beats ++ (fresh ++ answers)))))
-    → ArePut [] 0 way.Remote 0 (length (filter is_take taken)) took → FarGoes beating 0 fars.Takes idle_far taken turning
-    → FarGoes beating 0 SendsOld delivered again resent
+    → ArePut [] 0 way.Remote 0 (length (filter is_take taken)) took → FarGoes beating 0 fars.IsFarTake idle_far taken turning
+    → FarGoes beating 0 FarRetransmits delivered again resent
     → FarGoes beating 0 SendsNone resent beats said → FarGoes beating 0 SendsNew said fresh level → FarGoes beating 0 SendsAnswer level answers idle_far → ⊥
 said_from pointer turning delivered resent said level (y ∷ taken) again beats fresh answers took e are takes resends says sends replies = subst
-    (fars.Takes idle_far) (sym (heads _ _ _ _ e)) takes.4
+    (fars.IsFarTake idle_far) (sym (heads _ _ _ _ e)) takes.4
 said_from pointer turning delivered resent said level [] again beats fresh answers (y ∷ took) e are takes resends says sends replies = not_empty y took
     (none_took [] 0 0 (y ∷ took) are)
 said_from pointer turning delivered resent said level [] (y ∷ again) beats fresh answers [] e are takes resends says sends replies = subst
-    (SendsOld delivered) (sym (heads _ _ _ _ e)) resends.4
+    (FarRetransmits delivered) (sym (heads _ _ _ _ e)) resends.4
 said_from pointer turning delivered resent said level [] [] (y ∷ z ∷ beats) fresh answers [] e are takes resends says sends replies = no_events z
     (beats ++ (fresh ++ answers)) (tails _ _ _ _ e)
 said_from pointer turning delivered resent said level [] [] (y ∷ []) (z ∷ fresh) answers [] e are takes resends says sends replies = no_events z
@@ -669,7 +669,7 @@ said_from pointer turning delivered resent said level [] [] [] [] (y ∷ answers
     (sym (heads _ _ _ _ e)) replies.4
 said_from pointer turning delivered resent said level [] [] [] [] [] [] e are takes resends says sends replies = no_events a_beat [] (sym e)
 
-pub beat_without_words : FalseAlone Says beating 30 idle_far empty_links (a_beat ∷ []) idle_far empty_links
+pub beat_without_words : FalseAloneInFar Says beating 30 idle_far empty_links (a_beat ∷ []) idle_far empty_links
 beat_without_words = (
   record {
     taken = [];

@@ -12,13 +12,13 @@ use Rattle.graft_model.specs.Parts.{OperatorPart, World}
 use Rattle.graft_model.specs.First.{first_router, first_operator, first_world}
 use Rattle.graft_model.specs.Quiet.{Quiet}
 use Rattle.graft_steps.specs.declared.rest.Pending.TheVariants.{Script}
-use Rattle.graft_runs.specs.Laws.{IsGo}
-use Rattle.run_marks.specs.Marks.{before}
+use Rattle.graft_actors.specs.Laws.{IsGo}
+use Rattle.world_runs.specs.Marks.{before}
 use Rattle.lab_report.specs.declared.lab.RunEnd.{RunEnd}
 use Rattle.lab_report.specs.declared.lab.RunEnd.TheVariants.{Settled, Unsettled, StreamFull, JournalFull}
-use Rattle.lab_budgets.specs.declared.budget.Budget.{Budget}
-use Rattle.lab_run.specs.Ends.{NoneIsStuck, IsBelowLimits, MayEnd, Counted, NoneBegins, MarksName, HasMarks}
-use Rattle.rounds_worked.specs.Marks.{Field, Is, Empty, BeginsNone, IsLast, Whole, Name, NoField, HasMarksBut, FalseAlone, lone, once, twice, busy, calm, busy_at, usual, patient, one, heard, begun, noted, begun_second, mark_of, one_round, two_rounds, go_behind, two_behind}
+use Rattle.node_configs.specs.declared.budget.Budget.{Budget}
+use Rattle.lab_run.specs.Ends.{NoneIsStuck, IsBelowLimits, MayEnd, MarkCounts, NoneBegins, MarksName, HasMarks}
+use Rattle.rounds_worked.specs.Marks.{MarksField, Is, Empty, BeginsNone, IsLast, Whole, Name, NoField, HasMarksBut, FalseAloneInMarks, lone, once, twice, busy, calm, busy_at, usual, patient, one, hear_entry, begun_entry, note_entry, begun_second, mark_of, one_round, two_rounds, go_behind, two_behind}
 
 -- ---- quiet worlds
 
@@ -85,7 +85,7 @@ not_quiet setup w q = not_empty _ _ (q.says 0)
 none_stuck : (steps : List ScriptStep) → NoneIsStuck (lone steps) (first_world (lone steps))
 none_stuck steps p n stuck = let e = stuck.stuck.live.is in absurd cc
 
-below : (steps : List ScriptStep) (c : Counted) → c.events < 4194304 → IsBelowLimits (lone steps) (first_world (lone steps)) c
+below : (steps : List ScriptStep) (c : MarkCounts) → c.events < 4194304 → IsBelowLimits (lone steps) (first_world (lone steps)) c
 below steps c room = record { free = none_stuck steps; room = room }
 
 -- ---- entries before a mark
@@ -124,7 +124,7 @@ marks_of setup journal world budgets all made end b = record {
   name = b.name (λ e. cc);
 }
 
-pub of_marks : (but : Field) (setup : Setup) (journal : List JournalEntry) (world : ℕ → World)
+pub of_marks : (but : MarksField) (setup : Setup) (journal : List JournalEntry) (world : ℕ → World)
     (budgets : List Budget) (all : List (List ℕ)) (made : List ℕ) (end : RunEnd)
     → HasMarks setup journal world budgets all made end → HasMarksBut but setup journal world budgets all made end
 of_marks but setup journal world budgets all made end h = record {
@@ -162,7 +162,7 @@ once_named : (journal : List JournalEntry) → MarksName once journal (calm once
 once_named journal = inr (inl ((below once.steps _ (lit< tt), may_end_once 0), (refl, refl, refl)))
 
 -- the first mark is empty
-built : (but : Field) (setup : Setup) (journal : List JournalEntry) (world : ℕ → World)
+built : (but : MarksField) (setup : Setup) (journal : List JournalEntry) (world : ℕ → World)
     (budgets : List Budget) (marks : List (List ℕ)) (made : List ℕ) (end : RunEnd) (last : List ℕ)
     → (but ≢ BeginsNone → NoneBegins setup journal (mark_of 0 0) marks) → (but ≢ IsLast → last_or (Some (mark_of 0 0)) marks ≡ Some last)
     → (but ≢ Whole → (k : ℕ) → before last k ≡ length (entries_by k journal)) → (but ≢ Name → MarksName setup journal world 1 1 0 budgets marks made end)
@@ -184,10 +184,10 @@ one_round_named = marks_of once [] (calm once) (usual ∷ []) one_round (1 ∷ [
     (built NoField once [] (calm once) (usual ∷ []) (mark_of 0 0 ∷ []) (1 ∷ []) Settled (mark_of 0 0)
     (λ other. tt) (λ other. refl) (λ other. whole_of_none) (λ other. once_named []))
 
-pub two_groups_named : HasMarks twice (begun ∷ []) (calm twice) (usual ∷ usual ∷ []) go_behind (1 ∷ 1 ∷ []) Settled
-two_groups_named = marks_of twice (begun ∷ []) (calm twice) (usual ∷ usual ∷ []) go_behind (1 ∷ 1 ∷ []) Settled
-    (built NoField twice (begun ∷ []) (calm twice) (usual ∷ usual ∷ []) (mark_of 0 0 ∷ mark_of 0 1 ∷ []) (1 ∷ 1 ∷ []) Settled (mark_of 0 1)
-    (λ other. tt) (λ other. refl) (λ other. whole_of (begun ∷ []) 0 1 refl refl (lit< tt, tt))
+pub two_groups_named : HasMarks twice (begun_entry ∷ []) (calm twice) (usual ∷ usual ∷ []) go_behind (1 ∷ 1 ∷ []) Settled
+two_groups_named = marks_of twice (begun_entry ∷ []) (calm twice) (usual ∷ usual ∷ []) go_behind (1 ∷ 1 ∷ []) Settled
+    (built NoField twice (begun_entry ∷ []) (calm twice) (usual ∷ usual ∷ []) (mark_of 0 0 ∷ mark_of 0 1 ∷ []) (1 ∷ 1 ∷ []) Settled (mark_of 0 1)
+    (λ other. tt) (λ other. refl) (λ other. whole_of (begun_entry ∷ []) 0 1 refl refl (lit< tt, tt))
     (λ other. inr (inl (
       (below twice.steps _ (lit< tt), may_end_twice 0 1),
       ((refl, tt), ((1 ∷ []), refl, inr (inl ((below twice.steps _ (lit< tt), may_end_twice 1 2), (refl, refl, refl))))),
@@ -195,7 +195,7 @@ two_groups_named = marks_of twice (begun ∷ []) (calm twice) (usual ∷ usual �
 
 -- ---- one field is false, and all others hold
 
-pub another_list : FalseAlone Is once [] (calm once) (usual ∷ []) (mark_of 0 0 ∷ []) (1 ∷ []) Settled
+pub another_list : FalseAloneInMarks Is once [] (calm once) (usual ∷ []) (mark_of 0 0 ∷ []) (1 ∷ []) Settled
 another_list = (
   record {
     first = mark_of 0 0;
@@ -211,7 +211,7 @@ another_list = (
   λ h. of_parts (λ f ms. MarksName once [] (calm once) 1 1 0 (usual ∷ []) ms (1 ∷ []) Settled) _ _ _ _ h.is h.name,
 )
 
-pub begun_before : FalseAlone Empty once (heard ∷ []) (calm once) (usual ∷ []) (mark_of 1 0 ∷ mark_of 1 0 ∷ []) (1 ∷ []) Settled
+pub begun_before : FalseAloneInMarks Empty once (hear_entry ∷ []) (calm once) (usual ∷ []) (mark_of 1 0 ∷ mark_of 1 0 ∷ []) (1 ∷ []) Settled
 begun_before = (
   record {
     first = mark_of 1 0;
@@ -221,38 +221,38 @@ begun_before = (
     begins_none = λ other. tt;
     last = mark_of 1 0;
     is_last = λ other. refl;
-    whole = λ other. whole_of (heard ∷ []) 1 0 refl refl (lit< tt, tt);
+    whole = λ other. whole_of (hear_entry ∷ []) 1 0 refl refl (lit< tt, tt);
     name = λ other. inr (inl ((below once.steps _ (lit< tt), may_end_once 1), (refl, refl, refl)));
   },
   λ h. let all = of_parts (λ f ms. AllByRecursion (λ n. n ≡ 0) f) _ _ _ _ h.is h.empty in let one : ◌≡◌ {A = ℕ} 1 0 = all.0 in absurd cc,
 )
 
-pub go_in_first_round : FalseAlone BeginsNone once (begun ∷ []) (calm once) (usual ∷ []) (mark_of 0 0 ∷ mark_of 0 1 ∷ []) (1 ∷ []) Settled
+pub go_in_first_round : FalseAloneInMarks BeginsNone once (begun_entry ∷ []) (calm once) (usual ∷ []) (mark_of 0 0 ∷ mark_of 0 1 ∷ []) (1 ∷ []) Settled
 go_in_first_round = (
-  built BeginsNone once (begun ∷ []) (calm once) (usual ∷ []) (mark_of 0 1 ∷ []) (1 ∷ []) Settled (mark_of 0 1)
-      (λ other. absurd (other refl)) (λ other. refl) (λ other. whole_of (begun ∷ []) 0 1 refl refl (lit< tt, tt))
+  built BeginsNone once (begun_entry ∷ []) (calm once) (usual ∷ []) (mark_of 0 1 ∷ []) (1 ∷ []) Settled (mark_of 0 1)
+      (λ other. absurd (other refl)) (λ other. refl) (λ other. whole_of (begun_entry ∷ []) 0 1 refl refl (lit< tt, tt))
       (λ other. inr (inl ((below once.steps _ (lit< tt), may_end_once 1), (refl, refl, refl)))),
-  λ h. (of_parts (λ f ms. NoneBegins once (begun ∷ []) f ms) _ _ _ _ h.is h.begins_none).0 refl,
+  λ h. (of_parts (λ f ms. NoneBegins once (begun_entry ∷ []) f ms) _ _ _ _ h.is h.begins_none).0 refl,
 )
 
 -- an entry stands behind the last mark: that one is another, or the entry isn't of the run
-behind_the_last : HasMarks once (heard ∷ []) (calm once) (usual ∷ []) one_round (1 ∷ []) Settled → ⊥
+behind_the_last : HasMarks once (hear_entry ∷ []) (calm once) (usual ∷ []) one_round (1 ∷ []) Settled → ⊥
 behind_the_last h =
     let last = same_Some (mark_of 0 0) h.last (of_parts (λ f ms. last_or (Some f) ms ≡ Some h.last) _ _ _ _ h.is h.is_last) in
-    let none : ◌≡◌ {A = ℕ} 0 1 = subst (λ x. before x 0 ≡ length (entries_by 0 (heard ∷ []))) (sym last) (h.whole 0) in
+    let none : ◌≡◌ {A = ℕ} 0 1 = subst (λ x. before x 0 ≡ length (entries_by 0 (hear_entry ∷ []))) (sym last) (h.whole 0) in
     absurd cc
 
-pub another_last : FalseAlone IsLast once (heard ∷ []) (calm once) (usual ∷ []) one_round (1 ∷ []) Settled
+pub another_last : FalseAloneInMarks IsLast once (hear_entry ∷ []) (calm once) (usual ∷ []) one_round (1 ∷ []) Settled
 another_last = (
-  built IsLast once (heard ∷ []) (calm once) (usual ∷ []) (mark_of 0 0 ∷ []) (1 ∷ []) Settled (mark_of 1 0)
-      (λ other. tt) (λ other. absurd (other refl)) (λ other. whole_of (heard ∷ []) 1 0 refl refl (lit< tt, tt)) (λ other. once_named (heard ∷ [])),
+  built IsLast once (hear_entry ∷ []) (calm once) (usual ∷ []) (mark_of 0 0 ∷ []) (1 ∷ []) Settled (mark_of 1 0)
+      (λ other. tt) (λ other. absurd (other refl)) (λ other. whole_of (hear_entry ∷ []) 1 0 refl refl (lit< tt, tt)) (λ other. once_named (hear_entry ∷ [])),
   behind_the_last,
 )
 
-pub more_behind : FalseAlone Whole once (heard ∷ []) (calm once) (usual ∷ []) one_round (1 ∷ []) Settled
+pub more_behind : FalseAloneInMarks Whole once (hear_entry ∷ []) (calm once) (usual ∷ []) one_round (1 ∷ []) Settled
 more_behind = (
-  built Whole once (heard ∷ []) (calm once) (usual ∷ []) (mark_of 0 0 ∷ []) (1 ∷ []) Settled (mark_of 0 0)
-      (λ other. tt) (λ other. refl) (λ other. absurd (other refl)) (λ other. once_named (heard ∷ [])),
+  built Whole once (hear_entry ∷ []) (calm once) (usual ∷ []) (mark_of 0 0 ∷ []) (1 ∷ []) Settled (mark_of 0 0)
+      (λ other. tt) (λ other. refl) (λ other. absurd (other refl)) (λ other. once_named (hear_entry ∷ [])),
   behind_the_last,
 )
 
@@ -262,7 +262,7 @@ more_behind = (
 named_wrongly : (setup : Setup) (journal : List JournalEntry) (world : ℕ → World)
     (budgets : List Budget) (marks : List (List ℕ)) (made : List ℕ) (end : RunEnd) (last : List ℕ)
     → NoneBegins setup journal (mark_of 0 0) marks → last_or (Some (mark_of 0 0)) marks ≡ Some last → ((k : ℕ) → before last k ≡ length (entries_by k journal))
-    → (MarksName setup journal world 1 1 0 budgets marks made end → ⊥) → FalseAlone Name setup journal world budgets (mark_of 0 0 ∷ marks) made end
+    → (MarksName setup journal world 1 1 0 budgets marks made end → ⊥) → FalseAloneInMarks Name setup journal world budgets (mark_of 0 0 ∷ marks) made end
 named_wrongly setup journal world budgets marks made end last none is whole otherwise = (
   built Name setup journal world budgets marks made end last
       (λ other. none) (λ other. is) (λ other. whole) (λ other. absurd (other refl)),
@@ -271,7 +271,7 @@ named_wrongly setup journal world budgets marks made end last none is whole othe
 
 -- the same of one settle and one round without entries
 named_wrongly_once : (world : ℕ → World) (budget : Budget) (made : List ℕ) (end : RunEnd)
-    → (MarksName once [] world 1 1 0 (budget ∷ []) (mark_of 0 0 ∷ []) made end → ⊥) → FalseAlone Name once [] world (budget ∷ []) one_round made end
+    → (MarksName once [] world 1 1 0 (budget ∷ []) (mark_of 0 0 ∷ []) made end → ⊥) → FalseAloneInMarks Name once [] world (budget ∷ []) one_round made end
 named_wrongly_once world budget made end otherwise = named_wrongly once [] world (budget ∷ []) (mark_of 0 0 ∷ []) made end (mark_of 0 0) tt refl
     whole_of_none otherwise
 
@@ -286,7 +286,7 @@ another_round (inl goes) = goes.0.1 (may_end_once 0)
 another_round (inr (inl over)) = not_empty _ _ over.1.0
 another_round (inr (inr ends)) = ends.0
 
-pub round_though_quiet : FalseAlone Name once [] (calm once) (usual ∷ []) two_rounds (2 ∷ []) Settled
+pub round_though_quiet : FalseAloneInMarks Name once [] (calm once) (usual ∷ []) two_rounds (2 ∷ []) Settled
 round_though_quiet = named_wrongly once [] (calm once) (usual ∷ []) (mark_of 0 0 ∷ mark_of 0 0 ∷ []) (2 ∷ []) Settled (mark_of 0 0) tt refl whole_of_none
     another_round
 
@@ -295,7 +295,7 @@ too_many (inl goes) = less 1 2 (lit< tt) goes.0.2
 too_many (inr (inl over)) = not_empty _ _ over.1.0
 too_many (inr (inr ends)) = ends.0
 
-pub round_past_budget : FalseAlone Name once [] (busy_at 1 once) (one ∷ []) two_rounds (2 ∷ []) Settled
+pub round_past_budget : FalseAloneInMarks Name once [] (busy_at 1 once) (one ∷ []) two_rounds (2 ∷ []) Settled
 round_past_budget = named_wrongly once [] (busy_at 1 once) (one ∷ []) (mark_of 0 0 ∷ mark_of 0 0 ∷ []) (2 ∷ []) Settled (mark_of 0 0) tt refl whole_of_none
     too_many
 
@@ -304,7 +304,7 @@ settled_busy (inl goes) = goes.2
 settled_busy (inr (inl over)) = not_quiet once (first_world once) over.0.1.quiet
 settled_busy (inr (inr ends)) = ends.0
 
-pub settled_though_busy : FalseAlone Name once [] (busy_at 1 once) (usual ∷ []) one_round (1 ∷ []) Settled
+pub settled_though_busy : FalseAloneInMarks Name once [] (busy_at 1 once) (usual ∷ []) one_round (1 ∷ []) Settled
 settled_though_busy = named_wrongly_once (busy_at 1 once) usual (1 ∷ []) Settled settled_busy
 
 settled_early : MarksName once [] (calm once) 1 1 0 (patient ∷ []) (mark_of 0 0 ∷ []) (1 ∷ []) Settled → ⊥
@@ -312,7 +312,7 @@ settled_early (inl goes) = goes.2
 settled_early (inr (inl over)) = less 1 2 (lit< tt) over.0.1.enough
 settled_early (inr (inr ends)) = ends.0
 
-pub settled_before_least : FalseAlone Name once [] (calm once) (patient ∷ []) one_round (1 ∷ []) Settled
+pub settled_before_least : FalseAloneInMarks Name once [] (calm once) (patient ∷ []) one_round (1 ∷ []) Settled
 settled_before_least = named_wrongly_once (calm once) patient (1 ∷ []) Settled settled_early
 
 counted_two : MarksName once [] (calm once) 1 1 0 (usual ∷ []) (mark_of 0 0 ∷ []) (2 ∷ []) Settled → ⊥
@@ -320,7 +320,7 @@ counted_two (inl goes) = goes.2
 counted_two (inr (inl over)) = let two : ◌≡◌ {A = ℕ} 2 1 = heads _ _ _ _ over.1.1 in absurd cc
 counted_two (inr (inr ends)) = ends.0
 
-pub made_is_wrong : FalseAlone Name once [] (calm once) (usual ∷ []) one_round (2 ∷ []) Settled
+pub made_is_wrong : FalseAloneInMarks Name once [] (calm once) (usual ∷ []) one_round (2 ∷ []) Settled
 made_is_wrong = named_wrongly_once (calm once) usual (2 ∷ []) Settled counted_two
 
 in_budget : MarksName once [] (busy_at 1 once) 1 1 0 (usual ∷ []) (mark_of 0 0 ∷ []) (1 ∷ []) (Unsettled 1 1 Script) → ⊥
@@ -328,7 +328,7 @@ in_budget (inl goes) = goes.2
 in_budget (inr (inl over)) = not_quiet once (first_world once) over.0.1.quiet
 in_budget (inr (inr ends)) = less 1 2048 (lit< tt) ends.0.made
 
-pub unsettled_in_budget : FalseAlone Name once [] (busy_at 1 once) (usual ∷ []) one_round (1 ∷ []) (Unsettled 1 1 Script)
+pub unsettled_in_budget : FalseAloneInMarks Name once [] (busy_at 1 once) (usual ∷ []) one_round (1 ∷ []) (Unsettled 1 1 Script)
 unsettled_in_budget = named_wrongly_once (busy_at 1 once) usual (1 ∷ []) (Unsettled 1 1 Script) in_budget
 
 below_limit : MarksName once [] (calm once) 1 1 0 (usual ∷ []) (mark_of 0 0 ∷ []) (1 ∷ []) (JournalFull 0) → ⊥
@@ -336,7 +336,7 @@ below_limit (inl goes) = goes.2
 below_limit (inr (inl over)) = let e = over.1.2 in absurd cc
 below_limit (inr (inr ends)) = less 0 4194304 (lit< tt) ends.0.1
 
-pub journal_not_full : FalseAlone Name once [] (calm once) (usual ∷ []) one_round (1 ∷ []) (JournalFull 0)
+pub journal_not_full : FalseAloneInMarks Name once [] (calm once) (usual ∷ []) one_round (1 ∷ []) (JournalFull 0)
 journal_not_full = named_wrongly_once (calm once) usual (1 ∷ []) (JournalFull 0) below_limit
 
 none_there : MarksName once [] (calm once) 1 1 0 (usual ∷ []) (mark_of 0 0 ∷ []) (1 ∷ []) (StreamFull (record { 0 = 0 }) 1044500) → ⊥
@@ -344,7 +344,7 @@ none_there (inl goes) = goes.2
 none_there (inr (inl over)) = let e = over.1.2 in absurd cc
 none_there (inr (inr ends)) = none_stuck once.steps _ _ ends.0.lowest.0
 
-pub stream_not_full : FalseAlone Name once [] (calm once) (usual ∷ []) one_round (1 ∷ []) (StreamFull (record { 0 = 0 }) 1044500)
+pub stream_not_full : FalseAloneInMarks Name once [] (calm once) (usual ∷ []) one_round (1 ∷ []) (StreamFull (record { 0 = 0 }) 1044500)
 stream_not_full = named_wrongly_once (calm once) usual (1 ∷ []) (StreamFull (record { 0 = 0 }) 1044500) none_there
 
 -- ---- groups that begin elsewhere
@@ -354,37 +354,38 @@ none_begins (inl goes) = goes.0.1 (may_end_twice 0 1)
 none_begins (inr (inl over)) = over.1.0
 none_begins (inr (inr ends)) = ends.0
 
-pub no_go_behind : FalseAlone Name twice [] (calm twice) (usual ∷ usual ∷ []) two_rounds (1 ∷ 1 ∷ []) Settled
+pub no_go_behind : FalseAloneInMarks Name twice [] (calm twice) (usual ∷ usual ∷ []) two_rounds (1 ∷ 1 ∷ []) Settled
 no_go_behind = named_wrongly twice [] (calm twice) (usual ∷ usual ∷ []) (mark_of 0 0 ∷ mark_of 0 0 ∷ []) (1 ∷ 1 ∷ []) Settled (mark_of 0 0) tt refl
     whole_of_none none_begins
 
-no_go : IsGo noted → ⊥
+no_go : IsGo note_entry → ⊥
 no_go e = let other : ◌≡◌ {A = ℕ} 25 26 = e in absurd cc
 
-begins_late : MarksName twice (noted ∷ begun_second ∷ []) (calm twice) 1 1 0 (usual ∷ usual ∷ []) (mark_of 0 0 ∷ mark_of 0 2 ∷ []) (1 ∷ 1 ∷ []) Settled → ⊥
+begins_late : MarksName twice (note_entry ∷ begun_second ∷ []) (calm twice) 1 1 0 (usual ∷ usual ∷ []) (mark_of 0 0 ∷ mark_of 0 2 ∷ []) (1 ∷ 1 ∷ []) Settled → ⊥
 begins_late (inl goes) = goes.0.1 (may_end_twice 0 1)
 begins_late (inr (inl over)) = no_go over.1.0.0
 begins_late (inr (inr ends)) = ends.0
 
-pub go_one_late : FalseAlone Name twice (noted ∷ begun_second ∷ []) (calm twice) (usual ∷ usual ∷ []) two_behind (1 ∷ 1 ∷ []) Settled
-go_one_late = named_wrongly twice (noted ∷ begun_second ∷ []) (calm twice) (usual ∷ usual ∷ []) (mark_of 0 0 ∷ mark_of 0 2 ∷ []) (1 ∷ 1 ∷ []) Settled
+pub go_one_late : FalseAloneInMarks Name twice (note_entry ∷ begun_second ∷ []) (calm twice) (usual ∷ usual ∷ []) two_behind (1 ∷ 1 ∷ []) Settled
+go_one_late = named_wrongly twice (note_entry ∷ begun_second ∷ []) (calm twice) (usual ∷ usual ∷ []) (mark_of 0 0 ∷ mark_of 0 2 ∷ []) (1 ∷ 1 ∷ []) Settled
     (mark_of 0 2)
-    tt refl (whole_of (noted ∷ begun_second ∷ []) 0 2 refl refl (lit< tt, (lit< tt, tt))) begins_late
+    tt refl (whole_of (note_entry ∷ begun_second ∷ []) 0 2 refl refl (lit< tt, (lit< tt, tt))) begins_late
 
-begins_twice : MarksName twice (begun ∷ begun_second ∷ []) (calm twice) 1 1 0 (usual ∷ usual ∷ []) (mark_of 0 0 ∷ mark_of 0 2 ∷ []) (1 ∷ 1 ∷ []) Settled → ⊥
+begins_twice : MarksName twice (begun_entry ∷ begun_second ∷ []) (calm twice) 1 1 0 (usual ∷ usual ∷ []) (mark_of 0 0 ∷ mark_of 0 2 ∷ []) (1 ∷ 1 ∷ []) Settled
+    → ⊥
 begins_twice (inl goes) = goes.0.1 (may_end_twice 0 1)
 begins_twice (inr (inl over)) = over.1.0.1.0 refl
 begins_twice (inr (inr ends)) = ends.0
 
-pub two_gos : FalseAlone Name twice (begun ∷ begun_second ∷ []) (calm twice) (usual ∷ usual ∷ []) two_behind (1 ∷ 1 ∷ []) Settled
-two_gos = named_wrongly twice (begun ∷ begun_second ∷ []) (calm twice) (usual ∷ usual ∷ []) (mark_of 0 0 ∷ mark_of 0 2 ∷ []) (1 ∷ 1 ∷ []) Settled (mark_of 0 2)
-    tt refl (whole_of (begun ∷ begun_second ∷ []) 0 2 refl refl (lit< tt, (lit< tt, tt))) begins_twice
+pub two_gos : FalseAloneInMarks Name twice (begun_entry ∷ begun_second ∷ []) (calm twice) (usual ∷ usual ∷ []) two_behind (1 ∷ 1 ∷ []) Settled
+two_gos = named_wrongly twice (begun_entry ∷ begun_second ∷ []) (calm twice) (usual ∷ usual ∷ []) (mark_of 0 0 ∷ mark_of 0 2 ∷ []) (1 ∷ 1 ∷ []) Settled (mark_of 0 2)
+    tt refl (whole_of (begun_entry ∷ begun_second ∷ []) 0 2 refl refl (lit< tt, (lit< tt, tt))) begins_twice
 
-begins_busy : MarksName once (begun ∷ []) (busy_at 1 once) 1 1 0 (usual ∷ []) (mark_of 0 0 ∷ mark_of 0 1 ∷ []) (2 ∷ []) Settled → ⊥
+begins_busy : MarksName once (begun_entry ∷ []) (busy_at 1 once) 1 1 0 (usual ∷ []) (mark_of 0 0 ∷ mark_of 0 1 ∷ []) (2 ∷ []) Settled → ⊥
 begins_busy (inl goes) = goes.1.0 refl
 begins_busy (inr (inl over)) = not_empty _ _ over.1.0
 begins_busy (inr (inr ends)) = ends.0
 
-pub go_while_busy : FalseAlone Name once (begun ∷ []) (busy_at 1 once) (usual ∷ []) go_behind (2 ∷ []) Settled
-go_while_busy = named_wrongly once (begun ∷ []) (busy_at 1 once) (usual ∷ []) (mark_of 0 0 ∷ mark_of 0 1 ∷ []) (2 ∷ []) Settled (mark_of 0 1)
-    tt refl (whole_of (begun ∷ []) 0 1 refl refl (lit< tt, tt)) begins_busy
+pub go_while_busy : FalseAloneInMarks Name once (begun_entry ∷ []) (busy_at 1 once) (usual ∷ []) go_behind (2 ∷ []) Settled
+go_while_busy = named_wrongly once (begun_entry ∷ []) (busy_at 1 once) (usual ∷ []) (mark_of 0 0 ∷ mark_of 0 1 ∷ []) (2 ∷ []) Settled (mark_of 0 1)
+    tt refl (whole_of (begun_entry ∷ []) 0 1 refl refl (lit< tt, tt)) begins_busy

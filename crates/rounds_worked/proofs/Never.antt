@@ -25,12 +25,12 @@ use Rattle.rounds_worked.proofs.Routers.{goes_nowhere, is_allowed, no_stage}
 
 ticks_from : (start turning sent : RouterPart) (events taken again work : List RouterEvent) (first second : List RouterPart)
     → Tick 0 1 ∷ events ≡ taken ++ (again ++ work)
-    → RouterGoes base 0 turned.Takes start taken first turning → RouterGoes base 0 rounds.SendsOld turning again second sent → ((p : ℕ)
+    → RouterGoes base 0 turned.IsRouterTake start taken first turning → RouterGoes base 0 rounds.RouterRetransmits turning again second sent → ((p : ℕ)
     → AllByRecursion (λ n. n ≡ 2) (rounds_on p work)) → ⊥
 ticks_from start turning sent events (y ∷ taken) again work first second e takes sends numbered = no_stage 0
-    (subst (λ x. stage_of x ≡ 0) (sym (heads _ _ _ _ e)) (is_allowed base 0 turned.Takes _ _ y _ first takes))
-ticks_from start turning sent events [] (y ∷ again) work first second e takes sends numbered = subst (rounds.SendsOld turning) (sym (heads _ _ _ _ e))
-    (is_allowed base 0 rounds.SendsOld _ _ y _ second sends)
+    (subst (λ x. stage_of x ≡ 0) (sym (heads _ _ _ _ e)) (is_allowed base 0 turned.IsRouterTake _ _ y _ first takes))
+ticks_from start turning sent events [] (y ∷ again) work first second e takes sends numbered = subst (rounds.RouterRetransmits turning) (sym (heads _ _ _ _ e))
+    (is_allowed base 0 rounds.RouterRetransmits _ _ y _ second sends)
 ticks_from start turning sent events [] [] work first second e takes sends numbered = apart 1 2 (lit< tt)
     (subst (λ xs. AllByRecursion (λ n. n ≡ 2) (rounds_on 0 xs)) (sym e) (numbered 0)).0
 
@@ -63,10 +63,10 @@ emitted_behind before after taken sent s o row live =
 -- so it isn't new then
 not_new_behind : (before after : RouterPart) (x y : RouterEvent) (taken : Option RouterTaken) (sent : List RouterSent) → other_octets ≡ x
     → other_octets ≡ y → router_row base 0 x before taken sent after
-    → rounds.Works base 0 after y → ⊥
+    → rounds.IsNewWork base 0 after y → ⊥
 not_new_behind before after x y taken sent is_x is_y row works =
     let emits = subst (λ z. router_row base 0 z before taken sent after) (sym is_x) row in
-    let new = subst (rounds.Works base 0 after) (sym is_y) works in
+    let new = subst (rounds.IsNewWork base 0 after) (sym is_y) works in
     let some = emitted_behind before after taken sent new.session new.errand emits new.live in
     let next = new.kind.next in
     absurd (omega (arith, some, next))
@@ -76,7 +76,7 @@ no_events y events e = cc
 
 -- two in the work
 works_twice : (sent end : RouterPart) (x y : RouterEvent) (work : List RouterEvent) (parts : List RouterPart) → other_octets ≡ x → other_octets ≡ y
-    → RouterGoes base 0 (rounds.Works base 0) sent (x ∷ y ∷ work) parts end → ⊥
+    → RouterGoes base 0 (rounds.IsNewWork base 0) sent (x ∷ y ∷ work) parts end → ⊥
 works_twice sent end x y work [] is_x is_y g = g
 works_twice sent end x y work (part ∷ []) is_x is_y g = g.4
 works_twice sent end x y work (part ∷ next ∷ parts) is_x is_y g = not_new_behind sent part x y g.0 g.1 is_x is_y g.2 g.4.3
@@ -84,11 +84,11 @@ works_twice sent end x y work (part ∷ next ∷ parts) is_x is_y g = not_new_be
 -- one sent again, and one in the work
 again_and_work : (turning sent end : RouterPart) (x y : RouterEvent) (work : List RouterEvent) (second third : List RouterPart) → other_octets ≡ x
     → other_octets ≡ y
-    → RouterGoes base 0 rounds.SendsOld turning (x ∷ []) second sent → RouterGoes base 0 (rounds.Works base 0) sent (y ∷ work) third end → ⊥
+    → RouterGoes base 0 rounds.RouterRetransmits turning (x ∷ []) second sent → RouterGoes base 0 (rounds.IsNewWork base 0) sent (y ∷ work) third end → ⊥
 again_and_work turning sent end x y work [] third is_x is_y sends works = sends
 again_and_work turning sent end x y work (part ∷ second) third is_x is_y sends works =
-    not_new_behind turning part x y sends.0 sends.1 is_x is_y sends.2 (subst (λ p. rounds.Works base 0 p y)
-    (goes_nowhere base 0 rounds.SendsOld part sent second sends.4) (is_allowed base 0 (rounds.Works base 0) sent end y work third works))
+    not_new_behind turning part x y sends.0 sends.1 is_x is_y sends.2 (subst (λ p. rounds.IsNewWork base 0 p y)
+    (goes_nowhere base 0 rounds.RouterRetransmits part sent second sends.4) (is_allowed base 0 (rounds.IsNewWork base 0) sent end y work third works))
 
 two_again : (x y : RouterEvent) → other_octets ≡ x → other_octets ≡ y → emits_on 0 (x ∷ y ∷ []) ≤ 1 → ⊥
 two_again x y is_x is_y few = less 1 2 (lit< tt) (subst (λ z. emits_on 0 (other_octets ∷ z ∷ []) ≤ 1) (sym is_y)
@@ -96,11 +96,11 @@ two_again x y is_x is_y few = less 1 2 (lit< tt) (subst (λ z. emits_on 0 (other
 
 twice_from : (start turning sent end : RouterPart) (taken again work : List RouterEvent) (first second third : List RouterPart)
     → Arrive 0 ∷ other_octets ∷ other_octets ∷ [] ≡ taken ++ (again ++ work)
-    → RouterGoes base 0 turned.Takes start taken first turning → RouterGoes base 0 rounds.SendsOld turning again second sent
-    → RouterGoes base 0 (rounds.Works base 0) sent work third end
+    → RouterGoes base 0 turned.IsRouterTake start taken first turning → RouterGoes base 0 rounds.RouterRetransmits turning again second sent
+    → RouterGoes base 0 (rounds.IsNewWork base 0) sent work third end
     → Climbs 1 (map stage_of work) → emits_on 0 again ≤ 1 → ⊥
-twice_from start turning sent end [] (x ∷ again) work first second third e takes sends works order few = subst (rounds.SendsOld turning)
-    (sym (heads _ _ _ _ e)) (is_allowed base 0 rounds.SendsOld _ _ x _ second sends)
+twice_from start turning sent end [] (x ∷ again) work first second third e takes sends works order few = subst (rounds.RouterRetransmits turning)
+    (sym (heads _ _ _ _ e)) (is_allowed base 0 rounds.RouterRetransmits _ _ x _ second sends)
 twice_from start turning sent end [] [] work first second third e takes sends works order few = less 0 1 (lit< tt)
     (subst (λ events. Climbs 1 (map stage_of events)) (sym e) order).0
 twice_from start turning sent end (t ∷ []) [] (x ∷ y ∷ work) first second third e takes sends works order few = works_twice sent end x y work third
@@ -117,7 +117,7 @@ twice_from start turning sent end (t ∷ []) (x ∷ y ∷ []) work first second 
 twice_from start turning sent end (t ∷ []) (x ∷ y ∷ z ∷ again) work first second third e takes sends works order few = no_events z (again ++ work)
     (tails _ _ _ _ (tails _ _ _ _ (tails _ _ _ _ e)))
 twice_from start turning sent end (t ∷ u ∷ taken) again work (part ∷ first) second third e takes sends works order few =
-    no_stage 6 (subst (λ x. stage_of x ≡ 0) (sym (heads _ _ _ _ (tails _ _ _ _ e))) (is_allowed base 0 turned.Takes part turning u taken first takes.4))
+    no_stage 6 (subst (λ x. stage_of x ≡ 0) (sym (heads _ _ _ _ (tails _ _ _ _ e))) (is_allowed base 0 turned.IsRouterTake part turning u taken first takes.4))
 twice_from start turning sent end (t ∷ u ∷ taken) again work [] second third e takes sends works order few = takes
 
 pub never_twice : (start end : RouterPart) → RealRouter base 0 1 start (Arrive 0 ∷ other_octets ∷ other_octets ∷ []) end → ⊥

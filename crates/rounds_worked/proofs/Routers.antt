@@ -28,7 +28,7 @@ use Rattle.router_core.specs.Rounds.{RouterGoes, EmitsSome}
 use Rattle.router_core.specs.Turned as turned
 use Rattle.router_core.specs.Turned.{stage_of, rounds_on, emits_on}
 use Rattle.real_rounds.specs.Ends as ends
-use Rattle.real_rounds.specs.Routers.{Stands, HoldRuns, RealRouter}
+use Rattle.real_rounds.specs.Routers.{StaysLive, HoldRuns, RealRouter}
 use Rattle.graft_worked.specs.Base.{base}
 use Rattle.graft_worked.specs.Places.{idle_router}
 use Rattle.graft_worked.specs.First.{session_first}
@@ -38,7 +38,7 @@ use Rattle.graft_worked.specs.Start.{a_with, ack_segment}
 use Rattle.graft_worked.proofs.Points.{at-at, at_all}
 use Rattle.graft_worked.proofs.GraftEnds.{nothing_begins}
 use Rattle.graft_worked.proofs.Tens.{got_none, got_it}
-use Rattle.rounds_worked.specs.Routers.{Field, Is, Takes, Sends, Works, InOrder, Rested, GoesOn, Ticks, NoField, RealRouterBut, FalseAlone, undecided, fresh, waiting_session, waiting, timed_session, timed, all_octets, ten_octets, other_octets, stray}
+use Rattle.rounds_worked.specs.Routers.{RouterField, Is, Takes, Sends, Works, InOrder, Rested, GoesOn, Ticks, NoField, RealRouterBut, FalseAloneInRouter, undecided, open_unsent, waiting_session, waiting, timed_session, timed, all_octets, ten_octets, other_octets, stray}
 use Rattle.rounds_worked.proofs.Marks.{heads, apart, less}
 
 -- ---- all fields, and all but one
@@ -66,7 +66,7 @@ router_of setup r round start events end b = record {
   ticks = b.ticks (λ e. cc);
 }
 
-pub of_router : (but : Field) (setup : Setup) (r round : ℕ) (start : RouterPart) (events : List RouterEvent) (end : RouterPart)
+pub of_router : (but : RouterField) (setup : Setup) (r round : ℕ) (start : RouterPart) (events : List RouterEvent) (end : RouterPart)
     → RealRouter setup r round start events end → RealRouterBut but setup r round start events end
 of_router but setup r round start events end h = record {
   taken = h.taken;
@@ -104,23 +104,23 @@ is_allowed setup r Allowed before after x xs (part ∷ parts) g = g.3
 
 -- the first event is made as an item is taken, or sends an old slice again, or is the first of the work
 abbrev FirstIs : Setup → ℕ → RouterPart → RouterEvent → List RouterEvent → Type 0
-FirstIs setup r start x xs = (stage_of x ≡ 0) ⊎ (rounds.SendsOld start x ⊎ (rounds.Works setup r start x × Climbs 1 (map stage_of (x ∷ xs))))
+FirstIs setup r start x xs = (stage_of x ≡ 0) ⊎ (rounds.RouterRetransmits start x ⊎ (rounds.IsNewWork setup r start x × Climbs 1 (map stage_of (x ∷ xs))))
 
 first_from : (setup : Setup) (r : ℕ) (start turning sent end : RouterPart) (x : RouterEvent) (xs taken again work : List RouterEvent)
     (first second third : List RouterPart)
-    → x ∷ xs ≡ taken ++ (again ++ work) → RouterGoes setup r turned.Takes start taken first turning
-    → RouterGoes setup r rounds.SendsOld turning again second sent
-    → RouterGoes setup r (rounds.Works setup r) sent work third end → Climbs 1 (map stage_of work) → FirstIs setup r start x xs
+    → x ∷ xs ≡ taken ++ (again ++ work) → RouterGoes setup r turned.IsRouterTake start taken first turning
+    → RouterGoes setup r rounds.RouterRetransmits turning again second sent
+    → RouterGoes setup r (rounds.IsNewWork setup r) sent work third end → Climbs 1 (map stage_of work) → FirstIs setup r start x xs
 first_from setup r start turning sent end x xs (y ∷ taken) again work first second third e takes sends works order =
-    inl (subst (λ z. stage_of z ≡ 0) (sym (heads _ _ _ _ e)) (is_allowed setup r turned.Takes _ _ y _ first takes))
+    inl (subst (λ z. stage_of z ≡ 0) (sym (heads _ _ _ _ e)) (is_allowed setup r turned.IsRouterTake _ _ y _ first takes))
 first_from setup r start turning sent end x xs [] (y ∷ again) work first second third e takes sends works order =
-    inr (inl (subst (rounds.SendsOld start) (sym (heads _ _ _ _ e)) (subst (λ part. rounds.SendsOld part y)
-    (goes_nowhere setup r turned.Takes _ _ first takes) (is_allowed setup r rounds.SendsOld _ _ y _ second sends))))
+    inr (inl (subst (rounds.RouterRetransmits start) (sym (heads _ _ _ _ e)) (subst (λ part. rounds.RouterRetransmits part y)
+    (goes_nowhere setup r turned.IsRouterTake _ _ first takes) (is_allowed setup r rounds.RouterRetransmits _ _ y _ second sends))))
 first_from setup r start turning sent end x xs [] [] (y ∷ work) first second third e takes sends works order =
     inr (inr (
-      subst (rounds.Works setup r start) (sym (heads _ _ _ _ e))
-          (subst (λ part. rounds.Works setup r part y) (goes_nowhere setup r rounds.SendsOld _ _ second sends ∙ goes_nowhere setup r turned.Takes _ _ first
-          takes) (is_allowed setup r (rounds.Works setup r) _ _ y _ third works)),
+      subst (rounds.IsNewWork setup r start) (sym (heads _ _ _ _ e))
+          (subst (λ part. rounds.IsNewWork setup r part y) (goes_nowhere setup r rounds.RouterRetransmits _ _ second sends ∙ goes_nowhere setup r turned.IsRouterTake _ _ first
+          takes) (is_allowed setup r (rounds.IsNewWork setup r) _ _ y _ third works)),
       subst (λ events. Climbs 1 (map stage_of events)) (sym e) order,
     ))
 first_from setup r start turning sent end x xs [] [] [] first second third e takes sends works order = absurd cc
@@ -132,15 +132,15 @@ first_is setup r round start end x xs h = first_from setup r start h.turning h.s
 
 -- where nothing happens, a session that is live stands there all the time
 record NothingDone (p round : ℕ) (start end : RouterPart) (parts : List RouterPart) (again work : List RouterEvent) (s : SessionValue) : Type 0 where
-  stands : Stands p start parts end s s
+  stands : StaysLive p start parts end s s
   none_again : emits_on p again ≡ 0
   none_passes : rounds_on p work ≡ []
 
 nothing_from : (setup : Setup) (r round p : ℕ) (s : SessionValue) (o : Option Errand) (start turning sent end : RouterPart)
     (taken again work : List RouterEvent) (first second third : List RouterPart)
-    → IsLive start p s o → [] ≡ taken ++ (again ++ work) → RouterGoes setup r turned.Takes start taken first turning
-    → RouterGoes setup r rounds.SendsOld turning again second sent
-    → RouterGoes setup r (rounds.Works setup r) sent work third end → NothingDone p round start end (first ++ (second ++ third)) again work s
+    → IsLive start p s o → [] ≡ taken ++ (again ++ work) → RouterGoes setup r turned.IsRouterTake start taken first turning
+    → RouterGoes setup r rounds.RouterRetransmits turning again second sent
+    → RouterGoes setup r (rounds.IsNewWork setup r) sent work third end → NothingDone p round start end (first ++ (second ++ third)) again work s
 nothing_from setup r round p s o start turning sent end [] [] [] [] [] [] live e takes sends works = record {
   stands = record {
     first_order = o;
@@ -249,7 +249,7 @@ emits s from len may = record {
   };
 }
 
-emits_all : Emits 0 0 29 fresh None (OutwardTo 0 (Seg (slice_at session_first.end 0 29)) ∷ []) waiting
+emits_all : Emits 0 0 29 open_unsent None (OutwardTo 0 (Seg (slice_at session_first.end 0 29)) ∷ []) waiting
 emits_all = emits session_first 0 29 (emits_at session_first.end 0 29 (lit≤ tt) (lit≤ tt) (lit< tt) (lit≤ tt) (lit≤ tt) (lit≤ tt) refl)
 
 emits_again : Emits 0 0 29 waiting None (OutwardTo 0 (Seg (slice_at waiting_session.end 0 29)) ∷ []) waiting
@@ -257,10 +257,10 @@ emits_again = emits waiting_session 0 29 (emits_at waiting_session.end 0 29 (lit
 
 -- ---- rounds in which nothing happens
 
-still : (but : Field) (setup : Setup) (round : ℕ) (part : RouterPart) (events : List RouterEvent) → (but ≢ Is → events ≡ []) → (but ≢ Rested
+still : (but : RouterField) (setup : Setup) (round : ℕ) (part : RouterPart) (events : List RouterEvent) → (but ≢ Is → events ≡ []) → (but ≢ Rested
     → RestedRouter setup 0 part)
-    → (but ≢ GoesOn → (p : ℕ) (s u : SessionValue) → Stands p part [] part s u → ends.GoesOn s.end u.end 0)
-    → (but ≢ Ticks → (p : ℕ) (s u : SessionValue) → Stands p part [] part s u → HoldRuns s → ⊥) → RealRouterBut but setup 0 round part events part
+    → (but ≢ GoesOn → (p : ℕ) (s u : SessionValue) → StaysLive p part [] part s u → ends.AcksOrResends s.end u.end 0)
+    → (but ≢ Ticks → (p : ℕ) (s u : SessionValue) → StaysLive p part [] part s u → HoldRuns s → ⊥) → RealRouterBut but setup 0 round part events part
 still but setup round part events is rested goes_on untimed = record {
   taken = [];
   again = [];
@@ -295,7 +295,7 @@ nothing_to_emit (inl stage) = no_stage 6 stage
 nothing_to_emit (inr (inl old)) = none_at_idle 0 _ _ old.live
 nothing_to_emit (inr (inr new)) = none_at_idle 0 _ _ new.0.live
 
-pub another_event : FalseAlone Is base 1 idle_router (all_octets ∷ []) idle_router
+pub another_event : FalseAloneInRouter Is base 1 idle_router (all_octets ∷ []) idle_router
 another_event = (
   still Is base 1 idle_router (all_octets ∷ []) (λ other. absurd (other refl)) (λ other. idle_rested)
       (λ other p s u stands. absurd (none_at_idle p s _ stands.starts)) (λ other p s u stands holds. none_at_idle p s _ stands.starts),
@@ -308,14 +308,14 @@ not_decided e = let apart : ◌≡◌ {A = Bool} false true = ap is_some (sym (g
 none_at_undecided : (p : ℕ) (s : SessionValue) (o : Option Errand) → IsLive undecided p s o → ⊥
 none_at_undecided p s o live = let e : Vacant ≡ Live s o = live.is in absurd cc
 
-pub left_undecided : FalseAlone Rested base 1 undecided [] undecided
+pub left_undecided : FalseAloneInRouter Rested base 1 undecided [] undecided
 left_undecided = (
   still Rested base 1 undecided [] (λ other. refl) (λ other. absurd (other refl))
       (λ other p s u stands. absurd (none_at_undecided p s _ stands.starts)) (λ other p s u stands holds. none_at_undecided p s _ stands.starts),
   λ h. not_decided h.rested.clean,
 )
 
-untimed : (n p : ℕ) (s u : SessionValue) (parts : List RouterPart) (end : RouterPart) → Stands p (a_with (emitted_to n)) parts end s u → HoldRuns s → ⊥
+untimed : (n p : ℕ) (s u : SessionValue) (parts : List RouterPart) (end : RouterPart) → StaysLive p (a_with (emitted_to n)) parts end s u → HoldRuns s → ⊥
 untimed n p s u parts end stands holds = no_hold n (subst HoldRuns (sym (held_at (emitted_to n) s _ p stands.starts).1) holds)
 
 nothing_sent : RealRouter base 0 1 waiting [] waiting → ⊥
@@ -327,7 +327,7 @@ nothing_sent h =
       | inr again ↦ apart 0 1 (lit< tt) (sym n.none_again ∙ again)
     ]
 
-pub not_sent_again : FalseAlone GoesOn base 1 waiting [] waiting
+pub not_sent_again : FalseAloneInRouter GoesOn base 1 waiting [] waiting
 not_sent_again = (
   still GoesOn base 1 waiting [] (λ other. refl) (λ other. waiting_rested) (λ other. absurd (other refl))
       (λ other p s u stands. untimed 29 p s u _ _ stands),
@@ -349,7 +349,7 @@ no_round h =
     h.is h.takes h.sends h.works in
     apart 0 1 (lit< tt) (ap length (sym n.none_passes ∙ h.ticks 0 timed_session timed_session n.stands hold_runs hold_runs (lit≤ tt)))
 
-pub round_never_passes : FalseAlone Ticks beating 1 timed [] timed
+pub round_never_passes : FalseAloneInRouter Ticks beating 1 timed [] timed
 round_never_passes = (
   still Ticks beating 1 timed [] (λ other. refl) (λ other. rested_with timed_session timed_unread (record { emitted = refl; answered = refl }) beating)
       (λ other p s u stands out. let same = (held_at timed_session s _ p stands.starts).1 in absurd
@@ -365,11 +365,11 @@ kind_at : (w : SessionValue) (Kind : Endpoint → ℕ → ℕ → Type 0) (from 
 kind_at w Kind from len e = subst (λ (x : SessionValue). Kind x.end from len) (sym (held_at w e.session e.errand 0 e.live).1) e.kind
 
 -- a round of the session that has emitted so much, at the end of which all is emitted
-moving : (but : Field) (n : ℕ) (events taken again work : List RouterEvent) (turning sent : RouterPart) (first second third : List RouterPart)
+moving : (but : RouterField) (n : ℕ) (events taken again work : List RouterEvent) (turning sent : RouterPart) (first second third : List RouterPart)
     → events ≡ taken ++ (again ++ work)
-    → (but ≢ Takes → RouterGoes base 0 turned.Takes (a_with (emitted_to n)) taken first turning) → (but ≢ Sends
-    → RouterGoes base 0 rounds.SendsOld turning again second sent)
-    → (but ≢ Works → RouterGoes base 0 (rounds.Works base 0) sent work third waiting) → (but ≢ InOrder → Climbs 1 (map stage_of work))
+    → (but ≢ Takes → RouterGoes base 0 turned.IsRouterTake (a_with (emitted_to n)) taken first turning) → (but ≢ Sends
+    → RouterGoes base 0 rounds.RouterRetransmits turning again second sent)
+    → (but ≢ Works → RouterGoes base 0 (rounds.IsNewWork base 0) sent work third waiting) → (but ≢ InOrder → Climbs 1 (map stage_of work))
     → ((p : ℕ) → emits_on p again ≤ 1) → (0 < n → emits_on 0 again ≡ 1) → ((p : ℕ) → rounds_on p work ≡ [])
     → RealRouterBut but base 0 1 (a_with (emitted_to n)) events waiting
 moving but n events taken again work turning sent first second third is takes sends works in_order few again_is none_passes = record {
@@ -404,7 +404,7 @@ one_at_most : (p : ℕ) → emits_on p (ten_octets ∷ []) ≤ 1
 one_at_most zero = lit≤ tt
 one_at_most (suc p) = subst (λ t. 0 + cond t 1 0 ≤ 1) (sym (zero_not p)) (lit≤ tt)
 
-pub short_again : FalseAlone Sends base 1 waiting (ten_octets ∷ []) waiting
+pub short_again : FalseAloneInRouter Sends base 1 waiting (ten_octets ∷ []) waiting
 short_again = (
   moving Sends 29 (ten_octets ∷ []) [] (ten_octets ∷ []) [] waiting waiting [] [] [] refl (λ other. refl) (λ other. absurd (other refl)) (λ other. refl)
       (λ other. tt)
@@ -413,7 +413,7 @@ short_again = (
 )
 
 -- the same where none is outstanding: a new slice has them all
-no_ten_alone : FirstIs base 0 fresh ten_octets (other_octets ∷ []) → ⊥
+no_ten_alone : FirstIs base 0 open_unsent ten_octets (other_octets ∷ []) → ⊥
 no_ten_alone (inl stage) = no_stage 6 stage
 no_ten_alone (inr (inl old)) = less 0 1 (lit< tt) (kind_at session_first IsOld 0 10 old).out
 no_ten_alone (inr (inr new)) = elim (kind_at session_first rounds.IsNewOrOwed 0 10 new.0).all [
@@ -421,34 +421,34 @@ no_ten_alone (inr (inr new)) = elim (kind_at session_first rounds.IsNewOrOwed 0 
   | inr end ↦ apart 10 29 (lit< tt) end
 ]
 
-pub short_slices : FalseAlone Works base 1 fresh (ten_octets ∷ other_octets ∷ []) waiting
+pub short_slices : FalseAloneInRouter Works base 1 open_unsent (ten_octets ∷ other_octets ∷ []) waiting
 short_slices = (
-  moving Works 0 (ten_octets ∷ other_octets ∷ []) [] [] (ten_octets ∷ other_octets ∷ []) fresh fresh [] [] [] refl (λ other. refl) (λ other. refl)
+  moving Works 0 (ten_octets ∷ other_octets ∷ []) [] [] (ten_octets ∷ other_octets ∷ []) open_unsent open_unsent [] [] [] refl (λ other. refl) (λ other. refl)
       (λ other. absurd (other refl))
       (λ other. (lit≤ tt, (lit≤ tt, tt))) (λ p. lit≤ tt) (λ some. absurd (less 0 1 (lit< tt) some)) (λ p. refl),
-  λ h. no_ten_alone (first_is base 0 1 fresh waiting ten_octets (other_octets ∷ []) h),
+  λ h. no_ten_alone (first_is base 0 1 open_unsent waiting ten_octets (other_octets ∷ []) h),
 )
 
 -- nothing is taken behind a new slice
-not_behind : FirstIs base 0 fresh all_octets (stray ∷ []) → ⊥
+not_behind : FirstIs base 0 open_unsent all_octets (stray ∷ []) → ⊥
 not_behind (inl stage) = no_stage 6 stage
 not_behind (inr (inl old)) = less 0 1 (lit< tt) (kind_at session_first IsOld 0 29 old).out
 not_behind (inr (inr new)) = less 0 7 (lit< tt) new.1.1.0
 
-pub emitted_among_takes : FalseAlone Takes base 1 fresh (all_octets ∷ stray ∷ []) waiting
+pub emitted_among_takes : FalseAloneInRouter Takes base 1 open_unsent (all_octets ∷ stray ∷ []) waiting
 emitted_among_takes = (
   moving Takes 0 (all_octets ∷ stray ∷ []) (all_octets ∷ stray ∷ []) [] [] waiting waiting [] [] [] refl (λ other. absurd (other refl)) (λ other. refl)
       (λ other. refl) (λ other. tt)
       (λ p. lit≤ tt) (λ some. absurd (less 0 1 (lit< tt) some)) (λ p. refl),
-  λ h. not_behind (first_is base 0 1 fresh waiting all_octets (stray ∷ []) h),
+  λ h. not_behind (first_is base 0 1 open_unsent waiting all_octets (stray ∷ []) h),
 )
 
 strays : Strays 1 waiting (Some (SegmentIn 1 ack_segment)) [] waiting
 strays = record { absent = λ s o live. let e : Vacant ≡ Live s o = live.is in absurd cc; segment = ack_segment; takes = refl; sends = refl; stays = refl }
 
-pub taken_behind_work : FalseAlone InOrder base 1 fresh (all_octets ∷ stray ∷ []) waiting
+pub taken_behind_work : FalseAloneInRouter InOrder base 1 open_unsent (all_octets ∷ stray ∷ []) waiting
 taken_behind_work = (
-  moving InOrder 0 (all_octets ∷ stray ∷ []) [] [] (all_octets ∷ stray ∷ []) fresh fresh [] [] (waiting ∷ waiting ∷ []) refl (λ other. refl) (λ other. refl)
+  moving InOrder 0 (all_octets ∷ stray ∷ []) [] [] (all_octets ∷ stray ∷ []) open_unsent open_unsent [] [] (waiting ∷ waiting ∷ []) refl (λ other. refl) (λ other. refl)
       (λ other. (
         None,
         _,
@@ -457,14 +457,14 @@ taken_behind_work = (
         (Some (SegmentIn 1 ack_segment), [], strays, tt, refl),
       ))
       (λ other. absurd (other refl)) (λ p. lit≤ tt) (λ some. absurd (less 0 1 (lit< tt) some)) (λ p. refl),
-  λ h. not_behind (first_is base 0 1 fresh waiting all_octets (stray ∷ []) h),
+  λ h. not_behind (first_is base 0 1 open_unsent waiting all_octets (stray ∷ []) h),
 )
 
 -- ---- rounds that are real
 
-pub sends_new : RealRouter base 0 1 fresh (all_octets ∷ []) waiting
-sends_new = router_of base 0 1 fresh (all_octets ∷ []) waiting
-    (moving NoField 0 (all_octets ∷ []) [] [] (all_octets ∷ []) fresh fresh [] [] (waiting ∷ []) refl (λ other. refl) (λ other. refl)
+pub sends_new : RealRouter base 0 1 open_unsent (all_octets ∷ []) waiting
+sends_new = router_of base 0 1 open_unsent (all_octets ∷ []) waiting
+    (moving NoField 0 (all_octets ∷ []) [] [] (all_octets ∷ []) open_unsent open_unsent [] [] (waiting ∷ []) refl (λ other. refl) (λ other. refl)
     (λ other. (
       None,
       _,

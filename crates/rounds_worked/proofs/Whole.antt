@@ -10,12 +10,12 @@ use Rattle.graft_model.specs.First.{first_world}
 use Rattle.graft_model.specs.Quiet.{Quiet}
 use Rattle.graft_model.specs.declared.event.OperatorEvent.TheVariants.{Go}
 use Rattle.graft_model.specs.Steps.{Event, ByOperator, Run}
-use Rattle.graft_runs.specs.Actors.{Router, FarSide, Operator}
-use Rattle.graft_runs.specs.Laws.{IsEntryOf, AreEntriesOf}
-use Rattle.real_rounds.specs.Entries.{taken_from}
+use Rattle.graft_actors.specs.Actors.{Router, FarSide, Operator}
+use Rattle.graft_actors.specs.Laws.{IsEntryOf, AreEntriesOf}
+use Rattle.real_rounds.specs.Entries.{count_taken_from}
 use Rattle.real_rounds.specs.Whole.{Slices, RoundGoes, Drains}
-use Rattle.rounds_worked.specs.Marks.{once, busy, heard, begun}
-use Rattle.rounds_worked.specs.Whole.{Field, Merged, EntriesOf, Runs, NoField, RoundGoesBut, FalseAlone, thrice, next_group, first_group, last_group, two_gos, none_noted, noted_by, in_order, out_of_order, ordered, admitted}
+use Rattle.rounds_worked.specs.Marks.{once, busy, hear_entry, begun_entry}
+use Rattle.rounds_worked.specs.Whole.{RoundField, Merged, EntriesOf, Runs, NoField, RoundGoesBut, FalseAloneInRound, thrice, next_group, first_group, last_group, two_gos, none_noted, slices_of_one, groups_in_order, out_of_order, ordered, admitted}
 use Rattle.rounds_worked.proofs.Marks.{apart, less, not_empty, not_say, quiet_in}
 
 -- ---- all fields, and all but one
@@ -30,7 +30,7 @@ goes_of setup start slices events end b = record {
       (λ e. cc);
 }
 
-pub of_goes : (but : Field) (setup : Setup) (start : World) (slices : Slices) (events : List Event) (end : World) → RoundGoes setup start slices events end
+pub of_goes : (but : RoundField) (setup : Setup) (start : World) (slices : Slices) (events : List Event) (end : World) → RoundGoes setup start slices events end
     → RoundGoesBut but setup start slices events end
 of_goes but setup start slices events end h = record {
   entries = h.entries;
@@ -82,7 +82,7 @@ gos_run = (
   ),
 )
 
-go_entry : (clock : ℕ) → IsEntryOf thrice (ByOperator Go) (record begun { clock = clock })
+go_entry : (clock : ℕ) → IsEntryOf thrice (ByOperator Go) (record begun_entry { clock = clock })
 go_entry clock = record { there = tt; maker = refl; coded = record { kind = refl; a = refl; b = refl; c = refl } }
 
 -- the operator is actor 1
@@ -92,17 +92,17 @@ not_one k = grind (arith, nat_tests)
 one_not : (k : ℕ) → (suc (suc k) == 1) ≡ false
 one_not k = grind (arith, nat_tests)
 
-two_each : (c d : ℕ) (k : ℕ) → entries_by k (record begun { clock = c } ∷ record begun { clock = d } ∷ []) ≡ noted_by 1
-    (record begun { clock = c } ∷ record begun { clock = d } ∷ []) k
+two_each : (c d : ℕ) (k : ℕ) → entries_by k (record begun_entry { clock = c } ∷ record begun_entry { clock = d } ∷ []) ≡ slices_of_one 1
+    (record begun_entry { clock = c } ∷ record begun_entry { clock = d } ∷ []) k
 two_each c d zero = refl
 two_each c d (suc zero) = refl
-two_each c d (suc (suc k)) = (λ i. cond (not_one k i) (record begun { clock = c } ∷ cond (not_one k i) (record begun { clock = d } ∷ []) [])
-    (cond (not_one k i) (record begun { clock = d } ∷ []) []))
-    ∙ sym (ap (λ t. cond t (record begun { clock = c } ∷ record begun { clock = d } ∷ []) []) (one_not k))
+two_each c d (suc (suc k)) = (λ i. cond (not_one k i) (record begun_entry { clock = c } ∷ cond (not_one k i) (record begun_entry { clock = d } ∷ []) [])
+    (cond (not_one k i) (record begun_entry { clock = d } ∷ []) []))
+    ∙ sym (ap (λ t. cond t (record begun_entry { clock = c } ∷ record begun_entry { clock = d } ∷ []) []) (one_not k))
 
-pub two_gos_go : RoundGoes thrice first_group (noted_by 1 in_order) two_gos last_group
+pub two_gos_go : RoundGoes thrice first_group (slices_of_one 1 groups_in_order) two_gos last_group
 two_gos_go = record {
-  entries = in_order;
+  entries = groups_in_order;
   merged = record { each = two_each 1 2; sorted = ((inl (lit< tt), tt), (tt, tt)) };
   entries_of = (go_entry 1, (go_entry 2, tt));
   run = gos_run;
@@ -132,11 +132,11 @@ not_sorted sorted = elim sorted.0.0 [
   | inr same ↦ apart 1 2 (lit< tt) (sym same.0)
 ]
 
-clocks_fall : RoundGoes thrice first_group (noted_by 1 out_of_order) two_gos last_group → ⊥
+clocks_fall : RoundGoes thrice first_group (slices_of_one 1 out_of_order) two_gos last_group → ⊥
 clocks_fall h =
     not_sorted (subst AreSorted (sym (by_operator h.entries h.entries_of) ∙ h.merged.each 1) h.merged.sorted)
 
-pub not_by_clock : FalseAlone Merged thrice first_group (noted_by 1 out_of_order) two_gos last_group
+pub not_by_clock : FalseAloneInRound Merged thrice first_group (slices_of_one 1 out_of_order) two_gos last_group
 not_by_clock = (
   record {
     entries = out_of_order;
@@ -149,17 +149,17 @@ not_by_clock = (
 )
 
 -- an entry that is no event's
-no_event : RoundGoes once (first_world once) (noted_by 0 (heard ∷ [])) [] (first_world once) → ⊥
+no_event : RoundGoes once (first_world once) (slices_of_one 0 (hear_entry ∷ [])) [] (first_world once) → ⊥
 no_event h = not_empty _ _ (sym (h.merged.each 0) ∙ ap (entries_by 0) (none_of h.entries h.entries_of))
 
-pub entry_of_none : FalseAlone Merged once (first_world once) (noted_by 0 (heard ∷ [])) [] (first_world once)
+pub entry_of_none : FalseAloneInRound Merged once (first_world once) (slices_of_one 0 (hear_entry ∷ [])) [] (first_world once)
 entry_of_none = (record { entries = []; merged = λ other. absurd (other refl); entries_of = λ other. tt; run = λ other. refl }, no_event)
 
 -- events that have no entries
 not_noted : RoundGoes thrice first_group none_noted two_gos last_group → ⊥
 not_noted h = two_or_none h.entries h.entries_of (sym (by_operator h.entries h.entries_of) ∙ h.merged.each 1)
 
-pub events_unnoted : FalseAlone EntriesOf thrice first_group none_noted two_gos last_group
+pub events_unnoted : FalseAloneInRound EntriesOf thrice first_group none_noted two_gos last_group
 events_unnoted = (
   record {
     entries = [];
@@ -175,7 +175,7 @@ events_unnoted = (
 other_world : RoundGoes once (first_world once) none_noted [] (busy (first_world once)) → ⊥
 other_world h = not_empty 0 [] (ap (λ (w : World). w.says 0) h.run)
 
-pub not_its_world : FalseAlone Runs once (first_world once) none_noted [] (busy (first_world once))
+pub not_its_world : FalseAloneInRound Runs once (first_world once) none_noted [] (busy (first_world once))
 not_its_world = (
   record {
     entries = [];
@@ -195,11 +195,11 @@ left_for_two drains = less 0 1 (lit< tt) (drains Operator (Router 0) tt (lit< tt
 zero≤ : (n : ℕ) → 0 ≤ n
 zero≤ n = omega arith
 
-drained : (r : ℕ) → r < 1 → 1 ≤ 0 + taken_from Operator (noted_by 0 (admitted ∷ []) r)
+drained : (r : ℕ) → r < 1 → 1 ≤ 0 + count_taken_from Operator (slices_of_one 0 (admitted ∷ []) r)
 drained zero h = lit≤ tt
 drained (suc r) h = absurd (omega (arith, h))
 
-pub taken_in_two : Drains once ordered none_noted (noted_by 0 (admitted ∷ []))
+pub taken_in_two : Drains once ordered none_noted (slices_of_one 0 (admitted ∷ []))
 taken_in_two Operator (Router r) known there = drained r there
 taken_in_two Operator (FarSide p) known there = zero≤ _
 taken_in_two Operator Operator known there = zero≤ _

@@ -10,8 +10,8 @@ use Rattle.graft_model.specs.Parts.{FarPart}
 use Rattle.graft_model.specs.declared.event.FarEvent.{FarEvent}
 use Rattle.graft_model.specs.declared.event.FarEvent.TheVariants.{Send, Take, Pass, Lose, Point, Beat}
 use Rattle.graft_actors.specs.Emissions.{IsRested}
-use Rattle.far_side.specs.Links.{home_events, remote_events, left_of, put_now}
-use Rattle.far_side.specs.Turns.{SendsOld, SendsNew, SendsAnswer, SendsNone, FarGoes}
+use Rattle.far_side.specs.Links.{home_events, remote_events, left_in_link, put_now}
+use Rattle.far_side.specs.Turns.{FarRetransmits, SendsNew, SendsAnswer, SendsNone, FarGoes}
 use Rattle.far_side.specs.declared.link.InLink.{InLink}
 use Rattle.real_rounds.specs.Ends as ends
 use Rattle.real_rounds.specs.Fars as fars
@@ -20,26 +20,26 @@ use Rattle.graft_worked.specs.Places.{idle_far}
 
 -- ---- all fields but one
 
-pub data Field : Type 0 where
-  Is : Field
-  Takes : Field
-  Delivers : Field
-  Resends : Field
-  Says : Field
-  Sends : Field
-  Replies : Field
-  Due : Field
-  Rested : Field
-  Few : Field
-  GoesOn : Field
-  AreTaken : Field
-  AreSent : Field
-  Home : Field
-  Remote : Field
+pub data FarField : Type 0 where
+  Is : FarField
+  Takes : FarField
+  Delivers : FarField
+  Resends : FarField
+  Says : FarField
+  Sends : FarField
+  Replies : FarField
+  Due : FarField
+  Rested : FarField
+  Few : FarField
+  GoesOn : FarField
+  AreTaken : FarField
+  AreSent : FarField
+  Home : FarField
+  Remote : FarField
   -- no field is left out
-  NoField : Field
+  NoField : FarField
 
-pub record RealFarBut (but : Field) (setup : Setup) (faults : List Fault) (p round : ℕ) (start : FarPart) (before : Links) (events : List FarEvent)
+pub record RealFarBut (but : FarField) (setup : Setup) (faults : List Fault) (p round : ℕ) (start : FarPart) (before : Links) (events : List FarEvent)
     (end : FarPart) (after : Links) : Type 0 where
   pub taken : List FarEvent
   pub again : List FarEvent
@@ -55,28 +55,29 @@ pub record RealFarBut (but : Field) (setup : Setup) (faults : List Fault) (p rou
   pub resent : FarPart
   pub said : FarPart
   pub level : FarPart
-  pub takes : but ≢ Takes → FarGoes setup p fars.Takes start taken turning
+  pub takes : but ≢ Takes → FarGoes setup p fars.IsFarTake start taken turning
   pub delivers : but ≢ Delivers → FarGoes setup p SendsNone turning (home_events end.pointer before.home.plans
       ++ remote_events (before.remote.plans ++ took)) delivered
-  pub resends : but ≢ Resends → FarGoes setup p SendsOld delivered again resent
+  pub resends : but ≢ Resends → FarGoes setup p FarRetransmits delivered again resent
   pub says : but ≢ Says → FarGoes setup p SendsNone resent beats said
   pub sends : but ≢ Sends → FarGoes setup p SendsNew said fresh level
   pub replies : but ≢ Replies → FarGoes setup p SendsAnswer level answers end
-  pub due : but ≢ Due → fars.Beats setup p round turning beats
+  pub due : but ≢ Due → fars.BeatsIfDue setup p round turning beats
   pub rested : but ≢ Rested → IsRested end.end
   pub few : but ≢ Few → length again ≤ 1
-  pub goes_on : but ≢ GoesOn → ends.GoesOn start.end end.end (length again)
+  pub goes_on : but ≢ GoesOn → ends.AcksOrResends start.end end.end (length again)
   pub are_taken : but ≢ AreTaken → ArePut faults p way.Remote before.remote.put (length (filter is_take taken)) took
   pub are_sent : but ≢ AreSent → ArePut faults p way.Home before.home.put (length again + (length fresh + length answers)) sent × PointAt end.pointer sent
   pub home : but ≢ Home → after.home ≡ record {
-    plans = left_of before.home.plans ++ sent;
+    plans = left_in_link before.home.plans ++ sent;
     put = before.home.put + (length again + (length fresh + length answers));
   }
-  pub remote : but ≢ Remote → after.remote ≡ record { plans = left_of (before.remote.plans ++ took); put = before.remote.put + length (filter is_take taken) }
+  pub remote : but ≢ Remote
+      → after.remote ≡ record { plans = left_in_link (before.remote.plans ++ took); put = before.remote.put + length (filter is_take taken) }
 
 -- this field is false of a round, with no planned faults, and all others hold
-abbrev pub FalseAlone : Field → Setup → ℕ → FarPart → Links → List FarEvent → FarPart → Links → Type 0
-FalseAlone but setup round start before events end after = RealFarBut but setup [] 0 round start before events end after
+abbrev pub FalseAloneInFar : FarField → Setup → ℕ → FarPart → Links → List FarEvent → FarPart → Links → Type 0
+FalseAloneInFar but setup round start before events end after = RealFarBut but setup [] 0 round start before events end after
     × ¬ RealFar setup [] 0 round start before events end after
 
 -- ---- far sides, and their links
@@ -86,8 +87,8 @@ abbrev pub saying : ℕ → FarPart
 saying emitted = record idle_far { end = record fresh_endpoint { stream = 1 ∷ 2 ∷ []; emitted = emitted } }
 
 -- and it has sent `len` more octets from a place on, which are in the link to home
-abbrev pub sent_by : FarPart → (from len : ℕ) → FarPart
-sent_by part from len = record part {
+abbrev pub with_slice_sent : FarPart → (from len : ℕ) → FarPart
+with_slice_sent part from len = record part {
   end = record part.end { emitted = max part.end.emitted (from + len) };
   homeward = part.homeward ++ slice_at part.end from len ∷ [];
 }

@@ -10,24 +10,24 @@ use Rattle.graft_model.specs.declared.code.Code.{Code}
 use Rattle.graft_model.specs.declared.event.RouterEvent.TheVariants.{Hear}
 use Rattle.graft_model.specs.declared.event.OperatorEvent.TheVariants.{Note, Go}
 use Rattle.graft_model.specs.Codes.{router_code, operator_code}
-use Rattle.run_marks.specs.Marks.{before}
+use Rattle.world_runs.specs.Marks.{before}
 use Rattle.lab_report.specs.declared.lab.RunEnd.{RunEnd}
-use Rattle.lab_budgets.specs.declared.budget.Budget.{Budget}
+use Rattle.node_configs.specs.declared.budget.Budget.{Budget}
 use Rattle.lab_run.specs.Ends.{NoneBegins, MarksName, HasMarks}
 
 -- ---- all fields but one
 
-pub data Field : Type 0 where
-  Is : Field
-  Empty : Field
-  BeginsNone : Field
-  IsLast : Field
-  Whole : Field
-  Name : Field
+pub data MarksField : Type 0 where
+  Is : MarksField
+  Empty : MarksField
+  BeginsNone : MarksField
+  IsLast : MarksField
+  Whole : MarksField
+  Name : MarksField
   -- no field is left out
-  NoField : Field
+  NoField : MarksField
 
-pub record HasMarksBut (but : Field) (setup : Setup) (journal : List JournalEntry) (world : ℕ → World)
+pub record HasMarksBut (but : MarksField) (setup : Setup) (journal : List JournalEntry) (world : ℕ → World)
     (budgets : List Budget) (all : List (List ℕ)) (made : List ℕ) (end : RunEnd) : Type 0 where
   pub first : List ℕ
   pub marks : List (List ℕ)
@@ -40,8 +40,8 @@ pub record HasMarksBut (but : Field) (setup : Setup) (journal : List JournalEntr
   pub name : but ≢ Name → MarksName setup journal world 1 1 0 budgets marks made end
 
 -- this field is false, and all others hold
-abbrev pub FalseAlone : Field → Setup → List JournalEntry → (ℕ → World) → List Budget → List (List ℕ) → List ℕ → RunEnd → Type 0
-FalseAlone but setup journal world budgets all made end = HasMarksBut but setup journal world budgets all made end
+abbrev pub FalseAloneInMarks : MarksField → Setup → List JournalEntry → (ℕ → World) → List Budget → List (List ℕ) → List ℕ → RunEnd → Type 0
+FalseAloneInMarks but setup journal world budgets all made end = HasMarksBut but setup journal world budgets all made end
     × ¬ HasMarks setup journal world budgets all made end
 
 -- ---- laboratories
@@ -84,21 +84,21 @@ one = record { rounds = 1; least = 0 }
 -- ---- entries
 
 -- an entry of an actor with this code
-abbrev pub entry_of : (clock actor : ℕ) → Code → JournalEntry
-entry_of clock actor code = record { clock = clock; actor = actor; kind = code.kind; a = code.a; b = code.b; c = code.c }
+abbrev pub coded_entry : (clock actor : ℕ) → Code → JournalEntry
+coded_entry clock actor code = record { clock = clock; actor = actor; kind = code.kind; a = code.a; b = code.b; c = code.c }
 
 -- the router hears something; the operator begins a group; the operator notes an outcome, and begins a group after it
-abbrev pub heard : JournalEntry
-heard = entry_of 1 0 (router_code (Hear 0))
+abbrev pub hear_entry : JournalEntry
+hear_entry = coded_entry 1 0 (router_code (Hear 0))
 
-abbrev pub begun : JournalEntry
-begun = entry_of 1 1 (operator_code Go)
+abbrev pub begun_entry : JournalEntry
+begun_entry = coded_entry 1 1 (operator_code Go)
 
-abbrev pub noted : JournalEntry
-noted = entry_of 1 1 (operator_code (Note 0))
+abbrev pub note_entry : JournalEntry
+note_entry = coded_entry 1 1 (operator_code (Note 0))
 
 abbrev pub begun_second : JournalEntry
-begun_second = entry_of 2 1 (operator_code Go)
+begun_second = coded_entry 2 1 (operator_code Go)
 
 -- ---- marks: the numbers of entries of the router and of the operator
 

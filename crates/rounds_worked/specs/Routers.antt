@@ -14,7 +14,7 @@ use Rattle.router_core.specs.Rounds as rounds
 use Rattle.router_core.specs.Turned as turned
 use Rattle.router_core.specs.Turned.{stage_of, rounds_on, emits_on}
 use Rattle.real_rounds.specs.Ends as ends
-use Rattle.real_rounds.specs.Routers.{Stands, HoldRuns, RealRouter, OperatorRound, RealOperator}
+use Rattle.real_rounds.specs.Routers.{StaysLive, HoldRuns, RealRouter, OperatorRound, RealOperator}
 use Rattle.graft_worked.specs.Places.{idle_router}
 use Rattle.graft_worked.specs.First.{session_first}
 use Rattle.graft_worked.specs.Graft.{ten_alone}
@@ -23,21 +23,21 @@ use Rattle.graft_worked.specs.Start.{a_with}
 
 -- ---- a router: all fields but one
 
-pub data Field : Type 0 where
-  Is : Field
-  Takes : Field
-  Sends : Field
-  Works : Field
-  InOrder : Field
-  Rested : Field
-  Few : Field
-  GoesOn : Field
-  Numbered : Field
-  Ticks : Field
+pub data RouterField : Type 0 where
+  Is : RouterField
+  Takes : RouterField
+  Sends : RouterField
+  Works : RouterField
+  InOrder : RouterField
+  Rested : RouterField
+  Few : RouterField
+  GoesOn : RouterField
+  Numbered : RouterField
+  Ticks : RouterField
   -- no field is left out
-  NoField : Field
+  NoField : RouterField
 
-pub record RealRouterBut (but : Field) (setup : Setup) (r round : ℕ) (start : RouterPart) (events : List RouterEvent) (end : RouterPart) : Type 0 where
+pub record RealRouterBut (but : RouterField) (setup : Setup) (r round : ℕ) (start : RouterPart) (events : List RouterEvent) (end : RouterPart) : Type 0 where
   pub taken : List RouterEvent
   pub again : List RouterEvent
   pub work : List RouterEvent
@@ -47,21 +47,22 @@ pub record RealRouterBut (but : Field) (setup : Setup) (r round : ℕ) (start : 
   pub first : List RouterPart
   pub second : List RouterPart
   pub third : List RouterPart
-  pub takes : but ≢ Takes → rounds.RouterGoes setup r turned.Takes start taken first turning
-  pub sends : but ≢ Sends → rounds.RouterGoes setup r rounds.SendsOld turning again second sent
-  pub works : but ≢ Works → rounds.RouterGoes setup r (rounds.Works setup r) sent work third end
+  pub takes : but ≢ Takes → rounds.RouterGoes setup r turned.IsRouterTake start taken first turning
+  pub sends : but ≢ Sends → rounds.RouterGoes setup r rounds.RouterRetransmits turning again second sent
+  pub works : but ≢ Works → rounds.RouterGoes setup r (rounds.IsNewWork setup r) sent work third end
   pub in_order : but ≢ InOrder → Climbs 1 (map stage_of work)
   pub rested : but ≢ Rested → RestedRouter setup r end
   pub few : but ≢ Few → (p : ℕ) → emits_on p again ≤ 1
-  pub goes_on : but ≢ GoesOn → (p : ℕ) (s u : SessionValue) → Stands p start (first ++ (second ++ third)) end s u → ends.GoesOn s.end u.end (emits_on p again)
+  pub goes_on : but ≢ GoesOn → (p : ℕ) (s u : SessionValue) → StaysLive p start (first ++ (second ++ third)) end s u
+      → ends.AcksOrResends s.end u.end (emits_on p again)
   pub numbered : but ≢ Numbered → (p : ℕ) → AllByRecursion (λ n. n ≡ round) (rounds_on p work)
-  pub ticks : but ≢ Ticks → (p : ℕ) (s u : SessionValue) → Stands p start (first ++ (second ++ third)) end s u → HoldRuns s → HoldRuns u
+  pub ticks : but ≢ Ticks → (p : ℕ) (s u : SessionValue) → StaysLive p start (first ++ (second ++ third)) end s u → HoldRuns s → HoldRuns u
       → length s.end.stream ≤ 1044461
       → rounds_on p work ≡ round ∷ []
 
 -- this field is false of a round, and all others hold
-abbrev pub FalseAlone : Field → Setup → ℕ → RouterPart → List RouterEvent → RouterPart → Type 0
-FalseAlone but setup round start events end = RealRouterBut but setup 0 round start events end × ¬ RealRouter setup 0 round start events end
+abbrev pub FalseAloneInRouter : RouterField → Setup → ℕ → RouterPart → List RouterEvent → RouterPart → Type 0
+FalseAloneInRouter but setup round start events end = RealRouterBut but setup 0 round start events end × ¬ RealRouter setup 0 round start events end
 
 -- ---- routers
 
@@ -70,8 +71,8 @@ abbrev pub undecided : RouterPart
 undecided = record idle_router { dirty = ten_alone }
 
 -- the OPEN of 29 octets is put, and none of it emitted; all of it is emitted, and none acknowledged
-abbrev pub fresh : RouterPart
-fresh = a_with session_first
+abbrev pub open_unsent : RouterPart
+open_unsent = a_with session_first
 
 abbrev pub waiting_session : SessionValue
 waiting_session = record session_first { end = record session_first.end { emitted = 29 } }

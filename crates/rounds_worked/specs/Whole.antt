@@ -10,28 +10,28 @@ use Rattle.graft_model.specs.Codes.{router_code}
 use Rattle.graft_model.specs.declared.event.RouterEvent.TheVariants.{Admit}
 use Rattle.graft_model.specs.declared.event.OperatorEvent.TheVariants.{Go}
 use Rattle.graft_model.specs.Steps.{Event, ByOperator, Run}
-use Rattle.graft_runs.specs.Laws.{AreEntriesOf}
+use Rattle.graft_actors.specs.Laws.{AreEntriesOf}
 use Rattle.real_rounds.specs.Whole.{Slices, RoundGoes}
-use Rattle.rounds_worked.specs.Marks.{lone, once, entry_of, begun, begun_second}
+use Rattle.rounds_worked.specs.Marks.{lone, once, coded_entry, begun_entry, begun_second}
 
 -- ---- all fields but one
 
-pub data Field : Type 0 where
-  Merged : Field
-  EntriesOf : Field
-  Runs : Field
+pub data RoundField : Type 0 where
+  Merged : RoundField
+  EntriesOf : RoundField
+  Runs : RoundField
   -- no field is left out
-  NoField : Field
+  NoField : RoundField
 
-pub record RoundGoesBut (but : Field) (setup : Setup) (start : World) (slices : Slices) (events : List Event) (end : World) : Type 0 where
+pub record RoundGoesBut (but : RoundField) (setup : Setup) (start : World) (slices : Slices) (events : List Event) (end : World) : Type 0 where
   pub entries : List JournalEntry
   pub merged : but ≢ Merged → Interleaves slices entries
   pub entries_of : but ≢ EntriesOf → AreEntriesOf setup events entries
   pub run : but ≢ Runs → Run setup start events end
 
 -- this field is false, and all others hold
-abbrev pub FalseAlone : Field → Setup → World → Slices → List Event → World → Type 0
-FalseAlone but setup start slices events end = RoundGoesBut but setup start slices events end × ¬ RoundGoes setup start slices events end
+abbrev pub FalseAloneInRound : RoundField → Setup → World → Slices → List Event → World → Type 0
+FalseAloneInRound but setup start slices events end = RoundGoesBut but setup start slices events end × ¬ RoundGoes setup start slices events end
 
 -- ---- groups that begin in one round
 
@@ -57,15 +57,15 @@ two_gos = ByOperator Go ∷ ByOperator Go ∷ []
 abbrev pub none_noted : Slices
 none_noted k = []
 
-abbrev pub noted_by : ℕ → List JournalEntry → Slices
-noted_by actor entries k = if k == actor then entries else []
+abbrev pub slices_of_one : ℕ → List JournalEntry → Slices
+slices_of_one actor entries k = if k == actor then entries else []
 
 -- two groups begin, in the order of their clocks, or the other way round
-abbrev pub in_order : List JournalEntry
-in_order = begun ∷ begun_second ∷ []
+abbrev pub groups_in_order : List JournalEntry
+groups_in_order = begun_entry ∷ begun_second ∷ []
 
 abbrev pub out_of_order : List JournalEntry
-out_of_order = begun_second ∷ begun ∷ []
+out_of_order = begun_second ∷ begun_entry ∷ []
 
 -- ---- what is taken from a channel
 
@@ -74,4 +74,4 @@ abbrev pub ordered : World
 ordered = record (first_world once) { orders = λ r. record { graft = 1; peering = 0; target = 0 } ∷ [] }
 
 abbrev pub admitted : JournalEntry
-admitted = entry_of 1 0 (router_code (Admit 1))
+admitted = coded_entry 1 0 (router_code (Admit 1))

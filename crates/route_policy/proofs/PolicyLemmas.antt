@@ -34,10 +34,12 @@ holds_as_decides path as_number = (
       list_any_at (λ part. list_any (λ other. other == as_number) (ases_of part)) path k part within (rw is (test_from_Contains (ases_of part) as_number there))),
 )
 
-pub holds_as-is : (path : List PathPart) (as_number : ℕ) (answer : Bool) → (IsTrue answer → HoldsAs path as_number) × (HoldsAs path as_number → IsTrue answer) → answer ≡ holds_as path as_number
+pub holds_as-is : (path : List PathPart) (as_number : ℕ) (answer : Bool)
+    → (IsTrue answer → HoldsAs path as_number) × (HoldsAs path as_number → IsTrue answer) → answer ≡ holds_as path as_number
 holds_as-is path as_number answer h = same_from_decides answer (holds_as path as_number) h (holds_as_decides path as_number)
 
-pub holds_some_as-is : (path : List PathPart) (as_number : ℕ) (wanted : Option ℕ) (answer : Bool) → wanted ≡ Some as_number → (IsTrue answer → HoldsAs path as_number) × (HoldsAs path as_number → IsTrue answer) → answer ≡ holds_some_as wanted path
+pub holds_some_as-is : (path : List PathPart) (as_number : ℕ) (wanted : Option ℕ) (answer : Bool) → wanted ≡ Some as_number
+    → (IsTrue answer → HoldsAs path as_number) × (HoldsAs path as_number → IsTrue answer) → answer ≡ holds_some_as wanted path
 holds_some_as-is path as_number wanted answer is h = rw is (holds_as-is path as_number answer h)
 
 -- ---- the first rule that matches
@@ -45,14 +47,18 @@ holds_some_as-is path as_number wanted answer is h = rw is (holds_as-is path as_
 tried : {X : Type 0} (b : Bool) (x y z : X) → b ≡ false → y ≡ z → cond b x y ≡ z
 tried b x y z h is = rw h is
 
-policy-first : (rules : List Rule) (prefix : PrefixValue) (as_number : ℕ) (route : Route) (place : ℕ) (d : Rule) → place < length rules → matches (get_or rules place d) prefix route ≡ true → ((k : ℕ) → k < place → matches (get_or rules k d) prefix route ≡ false) → policy rules prefix as_number route ≡ decision (get_or rules place d) as_number route
+policy-first : (rules : List Rule) (prefix : PrefixValue) (as_number : ℕ) (route : Route) (place : ℕ) (d : Rule) → place < length rules
+    → matches (get_or rules place d) prefix route ≡ true → ((k : ℕ) → k < place → matches (get_or rules k d) prefix route ≡ false)
+    → policy rules prefix as_number route ≡ decision (get_or rules place d) as_number route
 policy-first [] prefix as_number route place d within here before = absurd (omega arith)
 policy-first (rule ∷ rules) prefix as_number route zero d within here before = rw here refl
 policy-first (rule ∷ rules) prefix as_number route (suc place) d within here before =
     tried (matches rule prefix route) (decision rule as_number route) (policy rules prefix as_number route) (decision (get_or rules place d) as_number route) (before 0 (omega arith))
     (policy-first rules prefix as_number route place d (omega (arith, within)) here (λ k below. before (suc k) (omega (arith, below))))
 
-pub policy-matching : (rules : List Rule) (prefix : PrefixValue) (as_number : ℕ) (route : Route) (place : ℕ) (d : Rule) → position (λ rule. matches rule prefix route) rules ≡ Some place → policy rules prefix as_number route ≡ decision (get_or rules place d) as_number route
+pub policy-matching : (rules : List Rule) (prefix : PrefixValue) (as_number : ℕ) (route : Route) (place : ℕ) (d : Rule)
+    → position (λ rule. matches rule prefix route) rules ≡ Some place
+    → policy rules prefix as_number route ≡ decision (get_or rules place d) as_number route
 policy-matching rules prefix as_number route place d is =
     let found = position-Some (λ rule. matches rule prefix route) rules place d is in
     policy-first rules prefix as_number route place d found.0 found.1 found.2
@@ -61,12 +67,14 @@ none_found : {X : Type 0} (b : Bool) (x : X) (o : Option X) → cond b (Some x) 
 none_found true x o h = cc
 none_found false x o h = (refl, h)
 
-policy-unmatched : (rules : List Rule) (prefix : PrefixValue) (as_number : ℕ) (route : Route) (n : ℕ) → position_from (λ rule. matches rule prefix route) n rules ≡ None → policy rules prefix as_number route ≡ Some route
+policy-unmatched : (rules : List Rule) (prefix : PrefixValue) (as_number : ℕ) (route : Route) (n : ℕ)
+    → position_from (λ rule. matches rule prefix route) n rules ≡ None → policy rules prefix as_number route ≡ Some route
 policy-unmatched [] prefix as_number route n h = refl
 policy-unmatched (rule ∷ rules) prefix as_number route n h =
     let parts = none_found (matches rule prefix route) n (position_from (λ rule. matches rule prefix route) (n + 1) rules) h in
     tried (matches rule prefix route) (decision rule as_number route) (policy rules prefix as_number route) (Some route) parts.0 (policy-unmatched rules prefix as_number route (n + 1) parts.1)
 
-pub policy-no_match : (rules : List Rule) (prefix : PrefixValue) (as_number : ℕ) (route : Route) → position (λ rule. matches rule prefix route) rules ≡ None → policy rules prefix as_number route ≡ Some route
+pub policy-no_match : (rules : List Rule) (prefix : PrefixValue) (as_number : ℕ) (route : Route)
+    → position (λ rule. matches rule prefix route) rules ≡ None → policy rules prefix as_number route ≡ Some route
 policy-no_match rules prefix as_number route h =
     policy-unmatched rules prefix as_number route 0 (sym (position_from-zero (λ rule. matches rule prefix route) rules) ∙ h)

@@ -4,9 +4,9 @@ use Rattle.bgp_types.specs.declared.path.PathPart.{PathPart}
 use Rattle.bgp_types.specs.declared.path.PathPart.TheVariants.{Set, Sequence}
 
 -- a path that begins with a sequence of fewer than 255 ASes
-abbrev pub has_room : List PathPart → Bool
-has_room (Sequence ases ∷ parts) = nat_lt (length ases) 255
-has_room parts = false
+abbrev pub has_room_for_as : List PathPart → Bool
+has_room_for_as (Sequence ases ∷ parts) = nat_lt (length ases) 255
+has_room_for_as parts = false
 
 -- a part with one more AS in front
 abbrev pub with_as : ℕ → PathPart → PathPart
@@ -17,7 +17,7 @@ with_as as_number (Set ases) = Set (as_number ∷ ases)
 abbrev pub prepend : ℕ → List PathPart → List PathPart
 prepend as_number [] = Sequence (as_number ∷ []) ∷ []
 prepend as_number (part ∷ parts) =
-    if has_room (part ∷ parts) then with_as as_number part ∷ parts else Sequence (as_number ∷ []) ∷ (part ∷ parts)
+    if has_room_for_as (part ∷ parts) then with_as as_number part ∷ parts else Sequence (as_number ∷ []) ∷ (part ∷ parts)
 
 abbrev pub prepend_times : ℕ → ℕ → List PathPart → List PathPart
 prepend_times zero as_number path = path

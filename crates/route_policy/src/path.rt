@@ -1,7 +1,7 @@
 //! ASes put in front of paths (RFC 4271, section 5.1.2).
 
 ghost use Rattle.std.specs.Prelude.{◌≡◌, IfOk};
-ghost use Rattle.route_policy.specs.Paths.{has_room as has_room_lem, with_as, prepend as prepend_lem, prepend_times as prepend_times_lem};
+ghost use Rattle.route_policy.specs.Paths.{has_room_for_as, with_as, prepend as prepend_lem, prepend_times as prepend_times_lem};
 
 use bgp_types::{AsPath, Items, NoMemory, PathPart};
 
@@ -10,7 +10,7 @@ const PART_LIMIT: usize = 255;
 
 /// Whether a path begins with a sequence to which an AS can be added.
 fn has_room(parts: &[PathPart]) -> bool
-    ensures { result ≡ has_room_lem parts.now }
+    ensures { result ≡ has_room_for_as parts.now }
 {
     match parts {
         [PathPart::Sequence(ases), ..] => ases.len() < PART_LIMIT,

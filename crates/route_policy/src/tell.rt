@@ -1,19 +1,14 @@
 //! What a router advertises of its best route (RFC 4271, sections 5.1, 9.1.3 and 9.2).
 
 ghost use Rattle.std.specs.Prelude.{◌≡◌, map, IfOk, None, Some, option_copied, if◌then◌else◌};
-ghost use Rattle.bgp_types.specs.declared.attrs.Attrs as attributes;
-ghost use Rattle.bgp_types.specs.declared.message.Message.TheVariants.{UpdateMsg};
-ghost use Rattle.bgp_types.specs.Lengths.{prefix_size};
-ghost use Rattle.route_policy.specs.Telling.{tell_in as tell_in_lem, tell_out as tell_out_lem, comes_from as comes_from_lem, is_kept_back as is_kept_back_lem, out_side, exported, told_attrs as told_attrs_lem, made_partial, announcing as announcing_lem, is_too_long as is_too_long_lem};
+ghost use Rattle.route_policy.specs.Telling.{tell_in as tell_in_lem, tell_out as tell_out_lem, comes_from as comes_from_lem, is_kept_back as is_kept_back_lem, out_side_of_view, exported, told_attrs as told_attrs_lem, made_partial, is_too_long as is_too_long_lem};
 
 use crate::best::Best;
 use crate::path::prepend;
 use crate::policy::Policy;
 use bgp_types::{
-    Attrs, From, Items, Message, NoMemory, PeeringId, Prefix, RawAttrs, Route, TryCopy, Update,
-    holds_as, message_len,
+    Attrs, From, Items, NoMemory, PeeringId, Prefix, RawAttrs, Route, TryCopy, holds_as, update_len,
 };
-use std::alloc::Global;
 
 /// What an advertisement on a session depends on.
 #[derive(Drop)]
@@ -58,7 +53,7 @@ fn comes_from(from: From, peering: PeeringId) -> bool
 /// this peering, or the remote's AS is in its path, in a sequence or in a set. The remote would not
 /// accept a route that went through its own AS (RFC 4271, section 9.1.2).
 pub fn is_kept_back(view: &OutView<'_>, best: &Best) -> bool
-    ensures { result ≡ is_kept_back_lem (out_side view.now) best.now }
+    ensures { result ≡ is_kept_back_lem (out_side_of_view view.now) best.now }
 {
     comes_from(best.from, view.peering) || holds_as(&best.route.attrs.path, view.remote_as)
 }
@@ -71,7 +66,7 @@ fn export(
     prefix: Prefix,
     route: Route,
 ) -> Result<Option<Route>, NoMemory>
-    ensures { IfOk result (λ answer. answer ≡ exported home_as (out_side view.now) prefix route) }
+    ensures { IfOk result (λ answer. answer ≡ exported home_as (out_side_of_view view.now) prefix route) }
 {
     let mut route = route;
     route.attrs.med = None;
@@ -94,7 +89,7 @@ fn all_partial(unknown: RawAttrs) -> RawAttrs
 
 /// Returns the attributes that are told for a route as the export policy left it.
 fn told_attrs(home_as: u32, view: &OutView<'_>, route: Route) -> Result<Attrs, NoMemory>
-    ensures { IfOk result (λ attrs. attrs ≡ told_attrs_lem home_as (out_side view.now) route) }
+    ensures { IfOk result (λ attrs. attrs ≡ told_attrs_lem home_as (out_side_of_view view.now) route) }
 {
     let mut attrs = route.attrs;
     attrs.path = prepend(attrs.path, home_as)?;
@@ -103,55 +98,24 @@ fn told_attrs(home_as: u32, view: &OutView<'_>, route: Route) -> Result<Attrs, N
     Ok(attrs)
 }
 
-/// Returns the number of octets in which a prefix is written.
-fn prefix_len(prefix: Prefix) -> usize
-    ensures { result ≡ prefix_size prefix }
+/// Whether the UPDATE that tells this one prefix would have more than 4,096 octets, in one of the widths
+/// of AS numbers.
+fn is_too_long(prefix: Prefix, attrs: &Attrs) -> bool
+    ensures { result ≡ is_too_long_lem prefix attrs.now }
 {
-    1 + usize::from(prefix.len()).div_ceil(8)
-}
-
-/// Returns the UPDATE that has these attributes and no prefix.
-fn announcing(alloc: Global, attrs: Attrs) -> Message
-    ensures { result ≡ UpdateMsg (announcing_lem attrs) }
-{
-    Message::UpdateMsg(Update {
-        withdrawn: Items::new(alloc),
-        attrs: Some(attrs),
-        nlri: Items::new(alloc),
-    })
-}
-
-/// Whether an UPDATE without a prefix would have more than 4,096 octets with this prefix, in one of the
-/// widths of AS numbers.
-fn is_too_long(prefix: Prefix, bare: &Message) -> bool
-    ensures { (attrs : attributes.Attrs) → bare.now ≡ UpdateMsg (announcing_lem attrs) → result ≡ is_too_long_lem prefix attrs }
-{
-    let narrow = message_len(bare, false);
-    let wide = message_len(bare, true);
-    let room = MESSAGE_LIMIT - prefix_len(prefix);
-    narrow.max(wide) > room
-}
-
-/// Returns the attributes of an UPDATE.
-fn attrs_of(message: Message) -> Option<Attrs>
-    ensures { (attrs : attributes.Attrs) → message ≡ UpdateMsg (announcing_lem attrs) → result ≡ Some attrs }
-{
-    match message {
-        Message::UpdateMsg(update) => update.attrs,
-        _ => None,
-    }
+    update_len(&[], Some(attrs), &[prefix], false) > MESSAGE_LIMIT
+        || update_len(&[], Some(attrs), &[prefix], true) > MESSAGE_LIMIT
 }
 
 /// Returns the attributes if the UPDATE that tells this one prefix has at most 4,096 octets in both
 /// widths of AS numbers, else `None`.
-fn where_it_fits(alloc: Global, prefix: Prefix, attrs: Attrs) -> Option<Attrs>
+fn where_it_fits(prefix: Prefix, attrs: Attrs) -> Option<Attrs>
     ensures { result ≡ (if is_too_long_lem prefix attrs then None else Some attrs) }
 {
-    let bare = announcing(alloc, attrs);
-    if is_too_long(prefix, &bare) {
+    if is_too_long(prefix, &attrs) {
         return None;
     }
-    attrs_of(bare)
+    Some(attrs)
 }
 
 /// Returns what is told of a prefix on a session, made from one copy of the best route. It is nothing
@@ -159,13 +123,12 @@ fn where_it_fits(alloc: Global, prefix: Prefix, attrs: Attrs) -> Option<Attrs>
 /// the export policy refuses it, or if its UPDATE would be longer than 4,096 octets. The path is
 /// checked before the export policy, and nothing is copied of a route that is kept back for it.
 pub fn tell_out(
-    alloc: Global,
     home_as: u32,
     view: &OutView<'_>,
     prefix: Prefix,
     best: Option<&Best>,
 ) -> Result<Option<Attrs>, NoMemory>
-    ensures { IfOk result (λ told. told ≡ tell_out_lem home_as (out_side view.now) prefix (option_copied best.entry)) }
+    ensures { IfOk result (λ told. told ≡ tell_out_lem home_as (out_side_of_view view.now) prefix (option_copied best.entry)) }
 {
     let Some(best) = best else {
         return Ok(None);
@@ -174,7 +137,7 @@ pub fn tell_out(
         return Ok(None);
     }
     match export(home_as, view, prefix, best.route.copy()?)? {
-        Some(route) => Ok(where_it_fits(alloc, prefix, told_attrs(home_as, view, route)?)),
+        Some(route) => Ok(where_it_fits(prefix, told_attrs(home_as, view, route)?)),
         None => Ok(None),
     }
 }

@@ -17,15 +17,15 @@ use Rattle.graft_model.specs.Parts.{RouterPart, Asked, Answered}
 use Rattle.graft_model.specs.RouterRows.{MeshIn, MeshTo}
 use Rattle.graft_model.specs.Setups.{routers_in}
 use Rattle.graft_model.specs.declared.event.RouterEvent.TheVariants.{Answer, Collect}
-use Rattle.graft_runs.specs.Actors.{Router, actor_at}
-use Rattle.graft_runs.proofs.Numbers.{there as is_there}
+use Rattle.graft_actors.specs.Actors.{Router, actor_at}
+use Rattle.graft_actors.proofs.Numbers.{there as is_there}
 use Rattle.graft_actors.specs.Notes.{WroteOne, dropped}
 use Rattle.graft_actors.proofs.Welcome.{router_asked, router_answered}
 use Rattle.router_core.specs.Confirming.{IsAwaited, HearsAnswer}
-use Rattle.router_core.specs.Parts.{router_part, carried, Keeps, KeepsPlace}
+use Rattle.router_core.specs.Parts.{router_part, carried, RouterInvariant, KeepsPlace}
 use Rattle.router_core.specs.Places.{place_of, place_at}
-use Rattle.router_core.specs.Rounds.{Writes}
-use Rattle.router_core.specs.Takes.{TakesIt}
+use Rattle.router_core.specs.Rounds.{WritesEvent}
+use Rattle.router_core.specs.Takes.{RouterTakesIt}
 use Rattle.router_core.specs.Visits.{SameButPlaces}
 use Rattle.router_core.specs.declared.fields.Fields.{Fields}
 use Rattle.router_core.specs.declared.place.Errand.{Errand}
@@ -38,12 +38,12 @@ use Rattle.router_core.proofs.PlaceLists.{same_there}
 use Rattle.router_core.proofs.PlaceSteps.{elsewhere, here, keeps_at, part_at}
 use Rattle.router_core.proofs.Takings.{drops, is_router, all_stay, takes_then}
 
-module _ (f : Fields) (p q : Post (Item RunningSession)) (from k : ℕ) (peering : PeeringId) (keeps : Keeps f) where
-  pub drops_asked : f.routers ≤ from → WroteOne p dropped [] q → TakesIt from (items.Asked k peering) f p f q
+module _ (f : Fields) (p q : Post (Item RunningSession)) (from k : ℕ) (peering : PeeringId) (keeps : RouterInvariant f) where
+  pub drops_asked : f.routers ≤ from → WroteOne p dropped [] q → RouterTakesIt from (items.Asked k peering) f p f q
   drops_asked past wrote = drops f p q from (items.Asked k peering) keeps wrote
       (λ w. let below : from < routers_in f.known.setup = is_router f.known.setup from ((router_asked carried f.known.setup from f.number.0 k (router_part f) peering).0 w) in omega (arith, below, past, keeps.routers))
 
-  pub drops_answered : f.routers ≤ from → WroteOne p dropped [] q → TakesIt from (items.Answered k peering) f p f q
+  pub drops_answered : f.routers ≤ from → WroteOne p dropped [] q → RouterTakesIt from (items.Answered k peering) f p f q
   drops_answered past wrote = drops f p q from (items.Answered k peering) keeps wrote
       (λ w. let below : from < routers_in f.known.setup = is_router f.known.setup from ((router_answered carried f.known.setup from f.number.0 k (router_part f) peering).0 w) in omega (arith, below, past, keeps.routers))
 
@@ -55,7 +55,7 @@ module _ (f : Fields) (p q : Post (Item RunningSession)) (from k : ℕ) (peering
     at_from = is_there f.known.setup (Router from) known
 
     -- it answers at once
-    pub answers : Writes p (Answer from) ((from, items.Answered k peering) ∷ []) q → TakesIt from (items.Asked k peering) f p f q
+    pub answers : WritesEvent p (Answer from) ((from, items.Answered k peering) ∷ []) q → RouterTakesIt from (items.Asked k peering) f p f q
     answers wrote = takes_then f f f p q q from (items.Asked k peering) (Answer from) []
         (record {
           router = same_router f;
@@ -82,7 +82,7 @@ module _ (f : Fields) (p q : Post (Item RunningSession)) (from k : ℕ) (peering
 
     -- an answer that nothing waits for changes nothing
     ignores : ((source : ℕ) (session : SessionValue) → place_of (place_at f.places.places peering.0) ≡ model.Live session (Some (model.Asking (record { graft = k; source = source; next = from }))) → ⊥)
-        → Writes p (Collect from) [] q → TakesIt from (items.Answered k peering) f p f q
+        → WritesEvent p (Collect from) [] q → RouterTakesIt from (items.Answered k peering) f p f q
     ignores not wrote = takes_then f f f p q q from (items.Answered k peering) (Collect from) []
         (record {
           router = same_router f;
@@ -125,7 +125,7 @@ module _ (f : Fields) (p q : Post (Item RunningSession)) (from k : ℕ) (peering
       live_same : (u v : RunningSession) (o w : Option Errand) → Some (Live u o) ≡ Some (Live s (Some (Asking landing))) → Some (Live v w) ≡ next_place → v ≡ u
       live_same u v o w a b = let x : u ≡ s = cc in let y : v ≡ s = cc in y ∙ sym x
 
-      counts : Writes p (Collect from) [] q → TakesIt from (items.Answered k peering) f p g q
+      counts : WritesEvent p (Collect from) [] q → RouterTakesIt from (items.Answered k peering) f p g q
       counts wrote = takes_then f g g p q q from (items.Answered k peering) (Collect from) []
           (record {
             router = record { setup = ap (λ (h : Fields). h.known.setup) same; number = ap (λ (h : Fields). h.number) same };
@@ -174,7 +174,8 @@ module _ (f : Fields) (p q : Post (Item RunningSession)) (from k : ℕ) (peering
     none_or_asking : (s t : SessionValue) (w : model.Word) → model.Live s None ≡ model.Live t (Some (model.Asking w)) → ⊥
     none_or_asking s t w e = let x : None ≡ Some (model.Asking w) = cc in absurd cc
 
-    leaving_or_asking : (s t : SessionValue) (o : model.Order) (w : model.Word) → model.Live s (Some (model.Leaving o)) ≡ model.Live t (Some (model.Asking w)) → ⊥
+    leaving_or_asking : (s t : SessionValue) (o : model.Order) (w : model.Word)
+        → model.Live s (Some (model.Leaving o)) ≡ model.Live t (Some (model.Asking w)) → ⊥
     leaving_or_asking s t o w e = let x : Some (model.Leaving o) ≡ Some (model.Asking w) = cc in let y : model.Leaving o ≡ model.Asking w = cc in absurd cc
 
     owing_or_asking : (s t : SessionValue) (v w : model.Word) → model.Live s (Some (model.Owing v)) ≡ model.Live t (Some (model.Asking w)) → ⊥
@@ -183,16 +184,18 @@ module _ (f : Fields) (p q : Post (Item RunningSession)) (from k : ℕ) (peering
     same_word : (s t : SessionValue) (v w : model.Word) → model.Live s (Some (model.Asking v)) ≡ model.Live t (Some (model.Asking w)) → v ≡ w
     same_word s t v w e = let x : Some (model.Asking v) ≡ Some (model.Asking w) = cc in let y : model.Asking v ≡ model.Asking w = cc in cc
 
-    module _ (g : Fields) (x : Option Place) (wrote : Writes p (Collect from) [] q) (same : SameButPlaces f g) (held : g.places ≡ with_place f.places peering.0 x) where
+    module _ (g : Fields) (x : Option Place) (wrote : WritesEvent p (Collect from) [] q) (same : SameButPlaces f g) (held : g.places ≡ with_place f.places peering.0 x) where
       -- the place stays as it is
       idle : (y : Option Place) → place_at f.places.places peering.0 ≡ y → x ≡ y
-          → ((source : ℕ) (session : SessionValue) → place_of y ≡ model.Live session (Some (model.Asking (record { graft = k; source = source; next = from }))) → ⊥) → TakesIt from (items.Answered k peering) f p g q
+          → ((source : ℕ) (session : SessionValue) → place_of y ≡ model.Live session (Some (model.Asking (record { graft = k; source = source; next = from }))) → ⊥)
+          → RouterTakesIt from (items.Answered k peering) f p g q
       idle y is x_is not =
           let stays : g.places ≡ f.places = held ∙ ap (with_place f.places peering.0) (x_is ∙ sym is) ∙ same_there f.places peering.0 in
           let unchanged : g ≡ f = same ∙ ap (λ (places : PlaceList Place). let h : Fields = record f { places = places } in h) stays in
-          subst (λ (h : Fields). TakesIt from (items.Answered k peering) f p h q) (sym unchanged) (ignores (λ source session e. not source session (sym (ap place_of is) ∙ e)) wrote)
+          subst (λ (h : Fields). RouterTakesIt from (items.Answered k peering) f p h q) (sym unchanged) (ignores (λ source session e. not source session (sym (ap place_of is) ∙ e)) wrote)
 
-      pub collects : (y : Option Place) → place_at f.places.places peering.0 ≡ y → HearsAnswer k from y x → TakesIt from (items.Answered k peering) f p g q
+      pub collects : (y : Option Place) → place_at f.places.places peering.0 ≡ y → HearsAnswer k from y x
+          → RouterTakesIt from (items.Answered k peering) f p g q
       collects None is goes = idle None is goes (λ source t e. no_vacant t (record { graft = k; source = source; next = from }) e)
       collects (Some (Live s None)) is goes = idle (Some (Live s None)) is goes (λ source t e. none_or_asking s.session t (record { graft = k; source = source; next = from }) e)
       collects (Some (Live s (Some (Leaving ids)))) is goes = idle (Some (Live s (Some (Leaving ids)))) is goes (λ source t e. leaving_or_asking s.session t _ (record { graft = k; source = source; next = from }) e)

@@ -25,13 +25,13 @@ use Rattle.graft_model.specs.First.{first_router, place_in}
 use Rattle.graft_model.specs.Setups.{Setup, PeeringSetup, IsSetup, of_router, peerings_in, starting_at}
 use Rattle.graft_model.specs.Parts as model
 use Rattle.graft_model.specs.Parts.{RouterPart}
-use Rattle.graft_runs.specs.Actors.{Router, RouterIs}
+use Rattle.graft_actors.specs.Actors.{Router, RouterIs}
 use Rattle.session_places.specs.Places.{PlaceList, with_place}
 use Rattle.router_core.proofs.PlaceLists.{count_first, count_with, count_without, listed, rooms, set_again}
-use Rattle.router_core.specs.Beginning.{AreBegun, CanBegin, begins, begun_at}
+use Rattle.router_core.specs.Beginning.{AreBegun, CanBegin, begun_session, begun_at}
 use Rattle.router_core.specs.Begins.{BeginsAs}
-use Rattle.router_core.specs.Configs.{AreFirstsOf, IsConfigOf, IsRibOf, starting_here}
-use Rattle.router_core.specs.Parts.{router_part, Keeps, KeepsPlace, HasReadAll}
+use Rattle.router_core.specs.Configs.{AreFirstsOf, IsRouterConfigOf, IsRibOf, starting_here}
+use Rattle.router_core.specs.Parts.{router_part, RouterInvariant, KeepsPlace, HasReadAll}
 use Rattle.router_core.specs.Places.{place_of, place_at}
 use Rattle.router_core.specs.declared.config.Firsts.{Firsts}
 use Rattle.router_core.specs.declared.config.RouterConfig.{RouterConfig}
@@ -55,17 +55,19 @@ length_vacant (suc n) = omega (arith, length_vacant n)
 pub begun_none : (count : ℕ) (places : List (Option Place)) → places ≡ replicate count None → AreBegun count [] places
 begun_none count places is = record { length = ap (λ (xs : List (Option Place)). length xs) is ∙ length_vacant count; each = λ p. ap (λ (xs : List (Option Place)). place_at xs p) is ∙ vacant_at count p }
 
-pub begun_more : (count : ℕ) (config : SessionConfig) (configs : List SessionConfig) (places : List (Option Place)) → config.peering.0 < count → AreBegun count configs places
-    → AreBegun count (config ∷ configs) (set places config.peering.0 (Some (Live (begins config) None)))
+pub begun_more : (count : ℕ) (config : SessionConfig) (configs : List SessionConfig) (places : List (Option Place)) → config.peering.0 < count
+    → AreBegun count configs places
+    → AreBegun count (config ∷ configs) (set places config.peering.0 (Some (Live (begun_session config) None)))
 begun_more count config configs places there begun = record {
-  length = length-set places config.peering.0 (Some (Live (begins config) None)) ∙ begun.length;
+  length = length-set places config.peering.0 (Some (Live (begun_session config) None)) ∙ begun.length;
   each = λ p. elim (same_or_not config.peering.0 p) [
     | inl e ↦
-        ap (λ (k : ℕ). place_at (set places config.peering.0 (Some (Live (begins config) None))) k) e ∙ set_here places config.peering.0 (Some (Live (begins config) None)) (omega (arith, there, begun.length))
-        ∙ sym (ap (λ (b : Bool). let x : Option Place = if b then Some (Live (begins config) None) else begun_at configs p in x) (eq-eqb p config.peering.0 e))
+        ap (λ (k : ℕ). place_at (set places config.peering.0 (Some (Live (begun_session config) None))) k) e
+        ∙ set_here places config.peering.0 (Some (Live (begun_session config) None)) (omega (arith, there, begun.length))
+        ∙ sym (ap (λ (b : Bool). let x : Option Place = if b then Some (Live (begun_session config) None) else begun_at configs p in x) (eq-eqb p config.peering.0 e))
     | inr not ↦
-        set_other places config.peering.0 (Some (Live (begins config) None)) (omega (arith, there, begun.length)) p not ∙ begun.each p
-        ∙ sym (ap (λ (b : Bool). let x : Option Place = if b then Some (Live (begins config) None) else begun_at configs p in x) (ne_eqb p config.peering.0 not))
+        set_other places config.peering.0 (Some (Live (begun_session config) None)) (omega (arith, there, begun.length)) p not ∙ begun.each p
+        ∙ sym (ap (λ (b : Bool). let x : Option Place = if b then Some (Live (begun_session config) None) else begun_at configs p in x) (ne_eqb p config.peering.0 not))
   ];
 }
 
@@ -73,7 +75,7 @@ begun_more count config configs places there begun = record {
 
 place_from : ℕ → Option PeeringSetup → Option Place
 place_from r None = None
-place_from r (Some x) = if x.start == r then Some (Live (begins x.config) None) else None
+place_from r (Some x) = if x.start == r then Some (Live (begun_session x.config) None) else None
 
 -- the peerings from a number on have their numbers
 Numbered : ℕ → List PeeringSetup → Type 0
@@ -91,7 +93,8 @@ unfolding Numbered
 numbered_rest k x ps each i y is = let e : y.config.peering.0 ≡ k + suc i = each (suc i) y is in omega (arith, e)
 
 -- the first of them begins here, or doesn't
-starts : (r : ℕ) (x : PeeringSetup) (ps : List PeeringSetup) (p : ℕ) → (x.start == r) ≡ true → begun_at (here r (x ∷ ps)) p ≡ (if p == x.config.peering.0 then Some (Live (begins x.config) None) else begun_at (here r ps) p)
+starts : (r : ℕ) (x : PeeringSetup) (ps : List PeeringSetup) (p : ℕ) → (x.start == r) ≡ true
+    → begun_at (here r (x ∷ ps)) p ≡ (if p == x.config.peering.0 then Some (Live (begun_session x.config) None) else begun_at (here r ps) p)
 starts r x ps p e = ap (λ (b : Bool). begun_at (list_map (λ y. y.config) (cond b (x ∷ filter (λ y. y.start == r) ps) (filter (λ y. y.start == r) ps))) p) e
 
 starts_not : (r : ℕ) (x : PeeringSetup) (ps : List PeeringSetup) (p : ℕ) → (x.start == r) ≡ false → begun_at (here r (x ∷ ps)) p ≡ begun_at (here r ps) p
@@ -106,7 +109,7 @@ begun_before r k (x ∷ ps) each p below =
     elim (by_test (x.start == r)) [
       | inl e ↦
           starts r x ps p e
-          ∙ ap (λ (b : Bool). let y : Option Place = if b then Some (Live (begins x.config) None) else begun_at (here r ps) p in y) (ne_eqb p x.config.peering.0 (λ same. let no : ⊥ = omega (arith, same, first, below) in no)) ∙ rest
+          ∙ ap (λ (b : Bool). let y : Option Place = if b then Some (Live (begun_session x.config) None) else begun_at (here r ps) p in y) (ne_eqb p x.config.peering.0 (λ same. let no : ⊥ = omega (arith, same, first, below) in no)) ∙ rest
       | inr e ↦ starts_not r x ps p e ∙ rest
     ]
 
@@ -117,11 +120,12 @@ begun_from r k (x ∷ ps) each zero =
     let first : x.config.peering.0 ≡ k + 0 = each 0 x refl in
     elim (by_test (x.start == r)) [
       | inl e ↦
-          starts r x ps (k + 0) e ∙ ap (λ (b : Bool). let y : Option Place = if b then Some (Live (begins x.config) None) else begun_at (here r ps) (k + 0) in y) (eq-eqb (k + 0) x.config.peering.0 (sym first))
-          ∙ sym (ap (λ (b : Bool). let y : Option Place = if b then Some (Live (begins x.config) None) else None in y) e)
+          starts r x ps (k + 0) e
+          ∙ ap (λ (b : Bool). let y : Option Place = if b then Some (Live (begun_session x.config) None) else begun_at (here r ps) (k + 0) in y) (eq-eqb (k + 0) x.config.peering.0 (sym first))
+          ∙ sym (ap (λ (b : Bool). let y : Option Place = if b then Some (Live (begun_session x.config) None) else None in y) e)
       | inr e ↦
           starts_not r x ps (k + 0) e ∙ begun_before r (k + 1) ps (numbered_rest k x ps each) (k + 0) (omega arith)
-          ∙ sym (ap (λ (b : Bool). let y : Option Place = if b then Some (Live (begins x.config) None) else None in y) e)
+          ∙ sym (ap (λ (b : Bool). let y : Option Place = if b then Some (Live (begun_session x.config) None) else None in y) e)
     ]
 begun_from r k (x ∷ ps) each (suc i) =
     let first : x.config.peering.0 ≡ k + 0 = each 0 x refl in
@@ -130,7 +134,7 @@ begun_from r k (x ∷ ps) each (suc i) =
     elim (by_test (x.start == r)) [
       | inl e ↦
           starts r x ps (k + suc i) e
-          ∙ ap (λ (b : Bool). let y : Option Place = if b then Some (Live (begins x.config) None) else begun_at (here r ps) (k + suc i) in y) (ne_eqb (k + suc i) x.config.peering.0 (λ same. let no : ⊥ = omega (arith, same, first) in no)) ∙ rest
+          ∙ ap (λ (b : Bool). let y : Option Place = if b then Some (Live (begun_session x.config) None) else begun_at (here r ps) (k + suc i) in y) (ne_eqb (k + suc i) x.config.peering.0 (λ same. let no : ⊥ = omega (arith, same, first) in no)) ∙ rest
       | inr e ↦ starts_not r x ps (k + suc i) e ∙ rest
     ]
 
@@ -147,7 +151,8 @@ unfolding place_from
 model_is r None = refl
 model_is r (Some x) = by_flag (x.start == r)
   where
-    by_flag : (b : Bool) → place_of (if b then Some (Live (begins x.config) None) else None) ≡ (if b then model.Live (begun x.config) None else model.Vacant)
+    by_flag : (b : Bool)
+        → place_of (if b then Some (Live (begun_session x.config) None) else None) ≡ (if b then model.Live (begun x.config) None else model.Vacant)
     by_flag true = refl
     by_flag false = refl
 
@@ -161,7 +166,7 @@ unfolding place_from
 no_turn r None s q e = absurd (let x : ⊥ = cc in x)
 no_turn r (Some x) s q e = by_flag (x.start == r) e
   where
-    by_flag : (b : Bool) → (if b then Some (Live (begins x.config) None) else None) ≡ Some (Live s q) → s.acked_at_turn ≡ 0
+    by_flag : (b : Bool) → (if b then Some (Live (begun_session x.config) None) else None) ≡ Some (Live s q) → s.acked_at_turn ≡ 0
     by_flag true is = sym (ap turn_in is)
     by_flag false is = sym (ap turn_in is)
 
@@ -186,12 +191,13 @@ all_read config unclosed front rest is got = none_got front rest (sym (none_unre
 none_at : (A : Type 0) (x : PrefixValue) → is_some (map.get (let t : map.FinMap prefix_cmp A = map.empty in t) x) ≡ false
 none_at A x = ap is_some (map.get-empty prefix_cmp x)
 
-keeps_from : (setup : Setup) (r p : ℕ) → IsSetup setup → (o : Option PeeringSetup) → slice_get setup.peerings p ≡ o → KeepsPlace setup r p map.empty map.empty (place_from r o)
+keeps_from : (setup : Setup) (r p : ℕ) → IsSetup setup → (o : Option PeeringSetup) → slice_get setup.peerings p ≡ o
+    → KeepsPlace setup r p map.empty map.empty (place_from r o)
 unfolding place_from
 keeps_from setup r p sound None is = (none_at Entry, none_in)
 keeps_from setup r p sound (Some x) is = by_flag (x.start == r)
   where
-    by_flag : (b : Bool) → KeepsPlace setup r p map.empty map.empty (if b then Some (Live (begins x.config) None) else None)
+    by_flag : (b : Bool) → KeepsPlace setup r p map.empty map.empty (if b then Some (Live (begun_session x.config) None) else None)
     by_flag true = (
       record {
         peering = (sound.peerings p x is).number;
@@ -233,11 +239,13 @@ get_below [] i x is = absurd (let e : ⊥ = cc in e)
 get_below (y ∷ xs) zero x is = omega arith
 get_below (y ∷ xs) (suc i) x is = let h : i < length xs = get_below xs i x is in omega (arith, h)
 
-can_among : (count r : ℕ) (ps : List PeeringSetup) → ((i : ℕ) (x : PeeringSetup) → slice_get ps i ≡ Some x → CanBegin count x.config) → AllByRecursion (CanBegin count) (here r ps)
+can_among : (count r : ℕ) (ps : List PeeringSetup) → ((i : ℕ) (x : PeeringSetup) → slice_get ps i ≡ Some x → CanBegin count x.config)
+    → AllByRecursion (CanBegin count) (here r ps)
 can_among count r [] each = tt
 can_among count r (x ∷ ps) each = by_flag (x.start == r) (can_among count r ps (λ i y is. each (suc i) y is))
   where
-    by_flag : (b : Bool) → AllByRecursion (CanBegin count) (here r ps) → AllByRecursion (CanBegin count) (list_map (λ y. y.config) (cond b (x ∷ filter (λ y. y.start == r) ps) (filter (λ y. y.start == r) ps)))
+    by_flag : (b : Bool) → AllByRecursion (CanBegin count) (here r ps)
+        → AllByRecursion (CanBegin count) (list_map (λ y. y.config) (cond b (x ∷ filter (λ y. y.start == r) ps) (filter (λ y. y.start == r) ps)))
     by_flag true rest = (each 0 x refl, rest)
     by_flag false rest = rest
 
@@ -245,7 +253,8 @@ pub can_begin : (setup : Setup) (r : ℕ) → IsSetup setup → AllByRecursion (
 can_begin setup r sound = can_among (peerings_in setup) r setup.peerings
     (λ i x is. record { there = omega (arith, get_below setup.peerings i x is, (sound.peerings i x is).number); valid = (sound.peerings i x is).valid })
 
-pub config_can_begin : (setup : Setup) (config : RouterConfig) → IsSetup setup → IsConfigOf setup config → AllByRecursion (CanBegin (length config.firsts)) config.sessions
+pub config_can_begin : (setup : Setup) (config : RouterConfig) → IsSetup setup → IsRouterConfigOf setup config
+    → AllByRecursion (CanBegin (length config.firsts)) config.sessions
 config_can_begin setup config sound is =
     subst (λ (n : ℕ). AllByRecursion (CanBegin n) config.sessions) (sym (count_is setup config.firsts is.firsts))
     (subst (AllByRecursion (CanBegin (peerings_in setup))) (sym is.sessions) (can_begin setup config.number.0 sound))
@@ -264,7 +273,8 @@ none_counted : (count : ℕ) → (let xs : List (Option Place) = replicate count
 none_counted zero = refl
 none_counted (suc count) = let e = count_first None (replicate count None) in let r = none_counted count in omega (arith, e, r)
 
-pub begun_first : (count room : ℕ) (all : List SessionConfig) (places : PlaceList Place) → places.places ≡ replicate count None → places.room ≡ room → length all ≤ room → Begun count room all all places
+pub begun_first : (count room : ℕ) (all : List SessionConfig) (places : PlaceList Place) → places.places ≡ replicate count None → places.room ≡ room
+    → length all ≤ room → Begun count room all all places
 begun_first count room all places is has few = record {
   done = [];
   is = sym (append-nil all);
@@ -293,7 +303,8 @@ module _ (count room : ℕ) (all left less : List SessionConfig) (places : Place
     this_there = let size : length mid.places ≡ length places.places = ap length (listed cleared) ∙ length-set places.places n None in omega (arith, at, size, this_can.there, so_far.begun.length)
 
     pub this_vacant : place_at mid.places n ≡ None
-    this_vacant = ap (λ (xs : List (Option Place)). place_at xs n) (listed cleared) ∙ set_here places.places n None (let there = this_can.there in let size = so_far.begun.length in omega (arith, at, there, size))
+    this_vacant = ap (λ (xs : List (Option Place)). place_at xs n) (listed cleared)
+        ∙ set_here places.places n None (let there = this_can.there in let size = so_far.begun.length in omega (arith, at, there, size))
 
     pub this_room : count_by is_some mid.places < mid.room
     this_room =
@@ -302,28 +313,31 @@ module _ (count room : ℕ) (all left less : List SessionConfig) (places : Place
         let same : mid.room ≡ room = rooms cleared ∙ so_far.reserved in
         omega (arith, count_is, fewer, same, one_less, so_far.few)
 
-    pub begun_next : (s : RunningSession) → s ≡ begins config → (new : PlaceList Place) → new ≡ with_place mid n (Some (Live s None)) → Begun count room all less new
+    pub begun_next : (s : RunningSession) → s ≡ begun_session config → (new : PlaceList Place) → new ≡ with_place mid n (Some (Live s None))
+        → Begun count room all less new
     begun_next s s_is new put = record {
       done = config ∷ so_far.done;
       is = all_is;
       begun = subst (AreBegun count (config ∷ so_far.done)) (sym list_is) (begun_more count config so_far.done places.places this_can.there so_far.begun);
       reserved = rooms put ∙ (rooms cleared ∙ so_far.reserved);
       few =
-          let count_is : count_by is_some new.places ≡ count_by is_some (set places.places config.peering.0 (Some (Live (begins config) None))) = ap (count_by is_some) list_is in
-          let more = count_with places.places config.peering.0 (Live (begins config) None) in
+          let count_is : count_by is_some new.places ≡ count_by is_some (set places.places config.peering.0 (Some (Live (begun_session config) None))) = ap (count_by is_some) list_is in
+          let more = count_with places.places config.peering.0 (Live (begun_session config) None) in
           omega (arith, count_is, more, one_less, so_far.few);
     }
       where
-        list_is : new.places ≡ set places.places config.peering.0 (Some (Live (begins config) None))
-        list_is = listed put ∙ ap (λ (xs : List (Option Place)). set xs n (Some (Live s None))) (listed cleared) ∙ set_again places.places n None (Some (Live s None))
+        list_is : new.places ≡ set places.places config.peering.0 (Some (Live (begun_session config) None))
+        list_is = listed put ∙ ap (λ (xs : List (Option Place)). set xs n (Some (Live s None))) (listed cleared)
+            ∙ set_again places.places n None (Some (Live s None))
             ∙ (λ i. set places.places (at i) (Some (Live (s_is i) None)))
 
-pub begun_all : (count room : ℕ) (all left : List SessionConfig) (places : PlaceList Place) → Begun count room all left places → left ≡ [] → AreBegun count all places.places
+pub begun_all : (count room : ℕ) (all left : List SessionConfig) (places : PlaceList Place) → Begun count room all left places → left ≡ []
+    → AreBegun count all places.places
 begun_all count room all left places so_far none = subst (λ (cs : List SessionConfig). AreBegun count cs places.places) (sym (so_far.is ∙ ap (λ (xs : List SessionConfig). xs ++ so_far.done) none)) so_far.begun
 
 -- ---- there is room for the sessions that begin
 
-pub begin_in_room : (setup : Setup) (config : RouterConfig) → IsSetup setup → IsConfigOf setup config → length config.sessions ≤ config.room
+pub begin_in_room : (setup : Setup) (config : RouterConfig) → IsSetup setup → IsRouterConfigOf setup config → length config.sessions ≤ config.room
 begin_in_room setup config sound is =
     let count : length config.sessions ≡ starting_at setup config.number.0 = ap (λ (xs : List SessionConfig). length xs) is.sessions ∙ length-map (filter (λ (x : PeeringSetup). x.start == config.number.0) setup.peerings) (λ x. x.config) in
     let few = sound.room config.number.0 is.there in
@@ -344,7 +358,7 @@ sets_same a b same = map.same_map prefix_total exact_prefixes a b (λ x. unit_sa
 abbrev pub fresh_rib : RouterConfig → RibValue
 fresh_rib config = record { config = config.rib; entries = λ p. map.empty; tellings = λ q. map.empty; best = map.empty; dirty = set_of config.rib.networks }
 
-module _ (f : Fields) (config : RouterConfig) (sound : IsSetup f.known.setup) (is : IsConfigOf f.known.setup config) (rib : rib_of f.rib ≡ fresh_rib config) (begun : AreBegun (length config.firsts) config.sessions f.places.places) (reserved : f.places.room ≡ config.room)
+module _ (f : Fields) (config : RouterConfig) (sound : IsSetup f.known.setup) (is : IsRouterConfigOf f.known.setup config) (rib : rib_of f.rib ≡ fresh_rib config) (begun : AreBegun (length config.firsts) config.sessions f.places.places) (reserved : f.places.room ≡ config.room)
     (in_count : length f.due_in ≡ config.routers) (in_none : (n : ℕ) → table_at f.due_in n ≡ map.empty) (out_count : length f.due_out ≡ length config.firsts) (out_none : (n : ℕ) → table_at f.due_out n ≡ map.empty) where
   abbrev whole : Fields
   whole = record f { number = config.number; routers = config.routers; room = config.room; home_as = config.rib.home_as; policies = config.policies; firsts = config.firsts; turns = 0 }
@@ -368,7 +382,7 @@ module _ (f : Fields) (config : RouterConfig) (sound : IsSetup f.known.setup) (i
     due_out = λ p. out_none p i;
   }
 
-  keeps_whole : Keeps whole
+  keeps_whole : RouterInvariant whole
   keeps_whole = record {
     there = is.there;
     routers = is.routers;

@@ -13,13 +13,13 @@ use Rattle.graft_model.specs.Parts.{Asked, Done}
 use Rattle.graft_model.specs.RouterRows.{MeshTo}
 use Rattle.graft_model.specs.Setups.{routers_in}
 use Rattle.graft_model.specs.declared.event.RouterEvent.TheVariants as events
-use Rattle.graft_runs.specs.Actors.{Router, MeshItem}
+use Rattle.graft_actors.specs.Actors.{Router, MeshItem}
 use Rattle.graft_actors.specs.Emissions.{Tally}
 use Rattle.session_places.specs.Places.{with_place}
 use Rattle.router_core.specs.Confirming.{TakesWord}
-use Rattle.router_core.specs.Parts.{Keeps, KeepsPlace, IsLandingOf}
+use Rattle.router_core.specs.Parts.{RouterInvariant, KeepsPlace, IsLandingOf}
 use Rattle.router_core.specs.Places.{place_of, place_at}
-use Rattle.router_core.specs.Rounds.{Did, Writes}
+use Rattle.router_core.specs.Rounds.{DidAsRouter, WritesEvent}
 use Rattle.router_core.specs.Stages.{WordGoes}
 use Rattle.router_core.specs.Visits.{Visits, SameButPlaces, confirming}
 use Rattle.router_core.specs.declared.fields.Fields.{Fields}
@@ -32,7 +32,7 @@ use Rattle.router_core.proofs.Dids.{Sends, did_sent}
 use Rattle.router_core.proofs.PlaceSteps.{at_own, elsewhere, here, keeps_at, part_at, visits_same}
 use Rattle.router_core.proofs.Standing.{none_in}
 
-module _ (f g : Fields) (p q : Post (Item RunningSession)) (n : ℕ) (s : RunningSession) (landing : Landing) (keeps : Keeps f) (there : n < length f.places.places) (clean : f.rib.dirty ≡ map.empty) (told : (r : ℕ) → table_at f.due_in r ≡ map.empty)
+module _ (f g : Fields) (p q : Post (Item RunningSession)) (n : ℕ) (s : RunningSession) (landing : Landing) (keeps : RouterInvariant f) (there : n < length f.places.places) (clean : f.rib.dirty ≡ map.empty) (told : (r : ℕ) → table_at f.due_in r ≡ map.empty)
     (is : place_at f.places.places n ≡ Some (Live s (Some (Owing landing)))) (same : SameButPlaces f g) where
   place_is : KeepsPlace f.known.setup f.number.0 n ((rib_of f.rib).entries n) (table_at f.due_out n) (Some (Live s (Some (Owing landing))))
   place_is = subst (KeepsPlace f.known.setup f.number.0 n ((rib_of f.rib).entries n) (table_at f.due_out n)) is (keeps.each n)
@@ -42,7 +42,7 @@ module _ (f g : Fields) (p q : Post (Item RunningSession)) (n : ℕ) (s : Runnin
 
   -- the next router is asked
   module _ (k : ℕ) (is_next : IsNextToAsk landing.ids.source.0 landing.ids.target.0 f.routers landing.next k) (items_are : g.places ≡ with_place f.places n (Some (Live s (Some (Asking (record landing { next = k }))))))
-      (wrote : Writes p (events.Ask landing.ids.graft k) ((k, items.Asked landing.ids.graft landing.ids.peering) ∷ []) q) where
+      (wrote : WritesEvent p (events.Ask landing.ids.graft k) ((k, items.Asked landing.ids.graft landing.ids.peering) ∷ []) q) where
     next_is : IsNextToAsk landing.ids.source.0 f.number.0 (routers_in f.known.setup) landing.next k
     next_is = subst (λ (t : ℕ). IsNextToAsk landing.ids.source.0 t (routers_in f.known.setup) landing.next k) landing_is.target
         (subst (λ (m : ℕ). IsNextToAsk landing.ids.source.0 landing.ids.target.0 m landing.next k) keeps.routers is_next)
@@ -56,7 +56,7 @@ module _ (f g : Fields) (p q : Post (Item RunningSession)) (n : ℕ) (s : Runnin
       may = tt;
     }
 
-    did_ask : (t : ℕ → Tally) → Did f p t (events.Ask landing.ids.graft k ∷ []) g q t
+    did_ask : (t : ℕ → Tally) → DidAsRouter f p t (events.Ask landing.ids.graft k ∷ []) g q t
     did_ask t = did_sent f g p q t (events.Ask landing.ids.graft k) k (items.Asked landing.ids.graft landing.ids.peering) (MeshTo k (Asked landing.ids.graft n))
         (record { setup = ap (λ (h : Fields). h.known.setup) same; number = ap (λ (h : Fields). h.number) same }) wrote sends_asked
         (record {
@@ -76,7 +76,7 @@ module _ (f g : Fields) (p q : Post (Item RunningSession)) (n : ℕ) (s : Runnin
     asked : Visits confirming n f p g q
     asked = record {
       events = events.Ask landing.ids.graft k ∷ [];
-      did = λ t. subst (λ (u : ℕ → Tally). Did f p t (events.Ask landing.ids.graft k ∷ []) g q u) (λ i m. sym (at_own t n (t n) refl m) i) (did_ask t);
+      did = λ t. subst (λ (u : ℕ → Tally). DidAsRouter f p t (events.Ask landing.ids.graft k ∷ []) g q u) (λ i m. sym (at_own t n (t n) refl m) i) (did_ask t);
       at = (refl, tt);
       goes = subst (λ (x : Option Place). WordGoes x (place_at g.places.places n)) (sym is) (inl (k, here f g n (Some (Live s (Some (Asking (record landing { next = k }))))) there same items_are));
       others = λ m not. (elsewhere f g n (Some (Live s (Some (Asking (record landing { next = k }))))) there same items_are m not, refl);
@@ -86,7 +86,7 @@ module _ (f g : Fields) (p q : Post (Item RunningSession)) (n : ℕ) (s : Runnin
 
   -- the source is told
   module _ (all : AreAllAsked landing.ids.source.0 landing.ids.target.0 f.routers landing.next) (items_are : g.places ≡ with_place f.places n (Some (Live s None)))
-      (wrote : Writes p (events.Confirm landing.ids.graft) ((landing.ids.source.0, items.Done landing.ids.graft landing.ids.peering) ∷ []) q) where
+      (wrote : WritesEvent p (events.Confirm landing.ids.graft) ((landing.ids.source.0, items.Done landing.ids.graft landing.ids.peering) ∷ []) q) where
     all_asked : AreAllAsked landing.ids.source.0 f.number.0 (routers_in f.known.setup) landing.next
     all_asked = subst (λ (t : ℕ). AreAllAsked landing.ids.source.0 t (routers_in f.known.setup) landing.next) landing_is.target
         (subst (λ (m : ℕ). AreAllAsked landing.ids.source.0 landing.ids.target.0 m landing.next) keeps.routers all)
@@ -100,7 +100,7 @@ module _ (f g : Fields) (p q : Post (Item RunningSession)) (n : ℕ) (s : Runnin
       may = tt;
     }
 
-    did_confirm : (t : ℕ → Tally) → Did f p t (events.Confirm landing.ids.graft ∷ []) g q t
+    did_confirm : (t : ℕ → Tally) → DidAsRouter f p t (events.Confirm landing.ids.graft ∷ []) g q t
     did_confirm t = did_sent f g p q t (events.Confirm landing.ids.graft) landing.ids.source.0 (items.Done landing.ids.graft landing.ids.peering) (MeshTo landing.ids.source.0 (Done landing.ids.graft n))
         (record { setup = ap (λ (h : Fields). h.known.setup) same; number = ap (λ (h : Fields). h.number) same }) wrote sends_done
         (record {
@@ -120,7 +120,7 @@ module _ (f g : Fields) (p q : Post (Item RunningSession)) (n : ℕ) (s : Runnin
     confirmed : Visits confirming n f p g q
     confirmed = record {
       events = events.Confirm landing.ids.graft ∷ [];
-      did = λ t. subst (λ (u : ℕ → Tally). Did f p t (events.Confirm landing.ids.graft ∷ []) g q u) (λ i k. sym (at_own t n (t n) refl k) i) (did_confirm t);
+      did = λ t. subst (λ (u : ℕ → Tally). DidAsRouter f p t (events.Confirm landing.ids.graft ∷ []) g q u) (λ i k. sym (at_own t n (t n) refl k) i) (did_confirm t);
       at = (refl, tt);
       goes = subst (λ (x : Option Place). WordGoes x (place_at g.places.places n)) (sym is) (inr (here f g n (Some (Live s None)) there same items_are));
       others = λ k not. (elsewhere f g n (Some (Live s None)) there same items_are k not, refl);
@@ -142,7 +142,7 @@ same_ask ids named k r e = let a : Ask named r ≡ Ask ids k = cc in ((let x : n
 ask_or_confirm : (ids named : GraftIds) (r : ℕ) → Some (Ask named r) ≡ Some (Confirm ids) → ⊥
 ask_or_confirm ids named r e = let a : Ask named r ≡ Confirm ids = cc in absurd cc
 
-module _ (f g : Fields) (p q : Post (Item RunningSession)) (n : ℕ) (x : Option Place) (keeps : Keeps f) (there : n < length f.places.places) (same : SameButPlaces f g) (items_are : g.places ≡ with_place f.places n x) where
+module _ (f g : Fields) (p q : Post (Item RunningSession)) (n : ℕ) (x : Option Place) (keeps : RouterInvariant f) (there : n < length f.places.places) (same : SameButPlaces f g) (items_are : g.places ≡ with_place f.places n x) where
   idle : (y : Option Place) → place_at f.places.places n ≡ y → x ≡ y → WordGoes y y → Visits confirming n f p g p
   idle y is x_is goes = visits_same f g n x there same items_are confirming p keeps (ap place_of (x_is ∙ sym is))
       (subst (λ (z : Option Place). WordGoes z x) (sym is) (subst (WordGoes y) (sym x_is) goes)) (λ t. refl) same
@@ -157,7 +157,8 @@ module _ (f g : Fields) (p q : Post (Item RunningSession)) (n : ℕ) (x : Option
   says_nothing (Some (Live s (Some (Asking landing)))) is takes = idle (Some (Live s (Some (Asking landing)))) is takes.1 refl
   says_nothing (Some (Shadow away)) is takes = idle (Some (Shadow away)) is takes.1 refl
 
-  pub asks_next : f.rib.dirty ≡ map.empty → ((r : ℕ) → table_at f.due_in r ≡ map.empty) → (named : GraftIds) (r : ℕ) → Writes p (events.Ask named.graft r) ((r, items.Asked named.graft named.peering) ∷ []) q
+  pub asks_next : f.rib.dirty ≡ map.empty → ((r : ℕ) → table_at f.due_in r ≡ map.empty) → (named : GraftIds) (r : ℕ)
+      → WritesEvent p (events.Ask named.graft r) ((r, items.Asked named.graft named.peering) ∷ []) q
       → (y : Option Place) → place_at f.places.places n ≡ y → TakesWord f.routers y (Some (Ask named r)) x → Visits confirming n f p g q
   asks_next clean told named r wrote None is takes = absurd (no_word (Ask named r) takes.0)
   asks_next clean told named r wrote (Some (Live s None)) is takes = absurd (no_word (Ask named r) takes.0)
@@ -165,13 +166,14 @@ module _ (f g : Fields) (p q : Post (Item RunningSession)) (n : ℕ) (x : Option
   asks_next clean told named r wrote (Some (Live s (Some (Owing landing)))) is (inl (k, next, answer, new)) =
       let e : (named ≡ landing.ids) × (r ≡ k) = same_ask landing.ids named k r answer in
       asked f g p q n s landing keeps there clean told is same k next (items_are ∙ ap (with_place f.places n) new)
-      (subst (λ (m : ℕ). Writes p (events.Ask landing.ids.graft m) ((m, items.Asked landing.ids.graft landing.ids.peering) ∷ []) q) e.1
-      (subst (λ (i : GraftIds). Writes p (events.Ask i.graft r) ((r, items.Asked i.graft i.peering) ∷ []) q) e.0 wrote))
+      (subst (λ (m : ℕ). WritesEvent p (events.Ask landing.ids.graft m) ((m, items.Asked landing.ids.graft landing.ids.peering) ∷ []) q) e.1
+      (subst (λ (i : GraftIds). WritesEvent p (events.Ask i.graft r) ((r, items.Asked i.graft i.peering) ∷ []) q) e.0 wrote))
   asks_next clean told named r wrote (Some (Live s (Some (Owing landing)))) is (inr (all, answer, new)) = absurd (ask_or_confirm landing.ids named r answer)
   asks_next clean told named r wrote (Some (Live s (Some (Asking landing)))) is takes = absurd (no_word (Ask named r) takes.0)
   asks_next clean told named r wrote (Some (Shadow away)) is takes = absurd (no_word (Ask named r) takes.0)
 
-  pub tells_source : f.rib.dirty ≡ map.empty → ((r : ℕ) → table_at f.due_in r ≡ map.empty) → (named : GraftIds) → Writes p (events.Confirm named.graft) ((named.source.0, items.Done named.graft named.peering) ∷ []) q
+  pub tells_source : f.rib.dirty ≡ map.empty → ((r : ℕ) → table_at f.due_in r ≡ map.empty) → (named : GraftIds)
+      → WritesEvent p (events.Confirm named.graft) ((named.source.0, items.Done named.graft named.peering) ∷ []) q
       → (y : Option Place) → place_at f.places.places n ≡ y → TakesWord f.routers y (Some (Confirm named)) x → Visits confirming n f p g q
   tells_source clean told named wrote None is takes = absurd (no_word (Confirm named) takes.0)
   tells_source clean told named wrote (Some (Live s None)) is takes = absurd (no_word (Confirm named) takes.0)
@@ -179,6 +181,6 @@ module _ (f g : Fields) (p q : Post (Item RunningSession)) (n : ℕ) (x : Option
   tells_source clean told named wrote (Some (Live s (Some (Owing landing)))) is (inl (k, next, answer, new)) = absurd (ask_or_confirm named landing.ids k (sym answer))
   tells_source clean told named wrote (Some (Live s (Some (Owing landing)))) is (inr (all, answer, new)) =
       confirmed f g p q n s landing keeps there clean told is same all (items_are ∙ ap (with_place f.places n) new)
-      (subst (λ (k : GraftIds). Writes p (events.Confirm k.graft) ((k.source.0, items.Done k.graft k.peering) ∷ []) q) (same_ids landing.ids named answer) wrote)
+      (subst (λ (k : GraftIds). WritesEvent p (events.Confirm k.graft) ((k.source.0, items.Done k.graft k.peering) ∷ []) q) (same_ids landing.ids named answer) wrote)
   tells_source clean told named wrote (Some (Live s (Some (Asking landing)))) is takes = absurd (no_word (Confirm named) takes.0)
   tells_source clean told named wrote (Some (Shadow away)) is takes = absurd (no_word (Confirm named) takes.0)

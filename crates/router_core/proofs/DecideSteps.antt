@@ -1,5 +1,5 @@
 -- Prefixes are decided, one after another.
-use Rattle.std.proofs.Common.{◌≡◌, ◌≢◌, ℕ, zero, ◌+◌, ◌<◌, ◌≤◌, List, [], ◌∷◌, ◌++◌, length, Option, option_map, Some, None, Bool, true, false, cond, is_some, ◌&&◌, ◌||◌, ◌==◌, not, ◌⊎◌, inl, inr, refl, sym, ap, subst, ◌∙◌, arith, filter_map}
+use Rattle.std.proofs.Common.{◌≡◌, ◌≢◌, ℕ, ◌+◌, ◌<◌, ◌≤◌, List, [], ◌∷◌, ◌++◌, length, Option, option_map, Some, None, Bool, true, false, cond, is_some, ◌&&◌, ◌||◌, ◌==◌, not, ◌⊎◌, inl, inr, refl, sym, ap, subst, ◌∙◌, arith, filter_map}
 use Rattle.std.specs.Prelude.{if◌then◌else◌}
 use Rattle.std.specs.FinMap as map
 use Rattle.std.specs.List.{range_with_len}
@@ -12,7 +12,7 @@ use Rattle.bgp_types.specs.declared.message.SessionState.{SessionState}
 use Rattle.bgp_types.specs.declared.message.SessionState.TheVariants.{OpenSent, OpenConfirm, Established, Closed}
 use Rattle.bgp_types.specs.declared.rank.From.TheVariants.{Router}
 use Rattle.decision_core.specs.Choice.{choice}
-use Rattle.loc_rib.specs.Values.{with_best, AreApart}
+use Rattle.loc_rib.specs.Values.{with_best, DifferIf}
 use Rattle.route_policy.specs.Candidates.{own_candidates, entry_candidate, rank_of}
 use Rattle.ring_net.specs.declared.post.Post.{Post}
 use Rattle.graft_steps.specs.declared.item.Item.{Item}
@@ -32,19 +32,19 @@ use Rattle.graft_model.specs.Parts.{RouterPart}
 use Rattle.graft_model.specs.Sets.{Adds}
 use Rattle.graft_model.specs.Setups.{Setup, peerings_in, routers_in}
 use Rattle.graft_model.specs.declared.event.RouterEvent.TheVariants.{Decide}
-use Rattle.graft_model.specs.TableRows.{Decides, DueEverywhere, holds_established, is_established, only}
+use Rattle.graft_model.specs.TableRows.{Decides, DueEverywhere, holds_established, is_established, only_prefix}
 use Rattle.graft_actors.specs.Emissions.{Tally}
-use Rattle.router_core.specs.Deciding.{AddsBelow, DecidesOne, DecidesSome, DueToAll, is_other, is_up_at}
-use Rattle.router_core.specs.Parts.{router_part, Keeps, KeepsPlace}
+use Rattle.router_core.specs.Deciding.{AddsBelow, DecidesOne, DecidesSome, DueToAll, is_other_router, is_up_at}
+use Rattle.router_core.specs.Parts.{router_part, RouterInvariant, KeepsPlace}
 use Rattle.router_core.specs.Places.{place_of, place_at}
-use Rattle.router_core.specs.Rounds.{Did, SameRouter, Writes}
+use Rattle.router_core.specs.Rounds.{DidAsRouter, SameRouter, WritesEvent}
 use Rattle.router_core.specs.Stages.{DecidesAll}
 use Rattle.router_core.specs.declared.fields.Fields.{Fields}
 use Rattle.router_core.specs.declared.place.Place.{Place}
 use Rattle.router_core.specs.declared.place.Place.TheVariants.{Live, Shadow}
 use Rattle.router_core.proofs.Dids.{did_same, did_then, did_one}
 use Rattle.router_core.proofs.RoundLists.{at-append}
-use Rattle.router_core.proofs.Standing.{keeps_on}
+use Rattle.router_core.proofs.Kept.{keeps_on}
 use Rattle.router_core.proofs.VisitSteps.{same_or_not, at_here, at_other, place_at_end}
 
 -- ---- sets with one prefix more
@@ -62,7 +62,7 @@ either_way p q = elim (by_test (eq_by_cmp prefix_cmp p q)) [
   ]
 ]
 
-no_add : (s : Prefixes) (prefix : PrefixValue) → Adds s (only prefix false) s
+no_add : (s : Prefixes) (prefix : PrefixValue) → Adds s (only_prefix prefix false) s
 no_add s prefix = record { members = λ x. by_both (has s x) (same_prefix prefix x) }
   where
     by_both : (h b : Bool) → h ≡ (h || (b && false))
@@ -71,7 +71,7 @@ no_add s prefix = record { members = λ x. by_both (has s x) (same_prefix prefix
     by_both false true = refl
     by_both false false = refl
 
-one_add : (s : Prefixes) (prefix : PrefixValue) → Adds s (only prefix true) (map.insert s prefix tt)
+one_add : (s : Prefixes) (prefix : PrefixValue) → Adds s (only_prefix prefix true) (map.insert s prefix tt)
 one_add s prefix = record { members = λ x. has_inserted s prefix x ∙ ap (λ (b : Bool). cond b true (has s x)) (either_way x prefix ∙ tests_same prefix x) ∙ by_both (has s x) (same_prefix prefix x) }
   where
     by_both : (h b : Bool) → cond b true h ≡ (h || (b && true))
@@ -80,20 +80,18 @@ one_add s prefix = record { members = λ x. has_inserted s prefix x ∙ ap (λ (
     by_both false true = refl
     by_both false false = refl
 
-add_where : (s : Prefixes) (prefix : PrefixValue) (b : Bool) → Adds s (only prefix b) (if b then map.insert s prefix tt else s)
+add_where : (s : Prefixes) (prefix : PrefixValue) (b : Bool) → Adds s (only_prefix prefix b) (if b then map.insert s prefix tt else s)
 add_where s prefix true = one_add s prefix
 add_where s prefix false = no_add s prefix
 
-pub adds_first : (test : ℕ → Bool) (prefix : PrefixValue) (xs : List Prefixes) → AddsBelow zero test prefix xs xs
-adds_first test prefix xs = record { size = refl; below = λ k below. absurd (omega (arith, below)); from = λ k from. refl }
-
-pub adds_next : (n : ℕ) (test : ℕ → Bool) (prefix : PrefixValue) (xs ys zs : List Prefixes) (b : Bool) → AddsBelow n test prefix xs ys → b ≡ test n → length zs ≡ length ys
+pub adds_next : (n : ℕ) (test : ℕ → Bool) (prefix : PrefixValue) (xs ys zs : List Prefixes) (b : Bool) → AddsBelow n test prefix xs ys → b ≡ test n
+    → length zs ≡ length ys
     → table_at zs ≡ at (table_at ys) n (if b then map.insert (table_at ys n) prefix tt else table_at ys n) → AddsBelow (n + 1) test prefix xs zs
 adds_next n test prefix xs ys zs b before is size added = record {
   size = size ∙ before.size;
   below = λ k below. elim (same_or_not n k) [
-    | inl e ↦ subst (λ (j : ℕ). Adds (table_at xs j) (only prefix (test j)) (table_at zs j)) (sym e) here
-    | inr not ↦ subst (Adds (table_at xs k) (only prefix (test k))) (sym (other k not)) (before.below k (lower k below not))
+    | inl e ↦ subst (λ (j : ℕ). Adds (table_at xs j) (only_prefix prefix (test j)) (table_at zs j)) (sym e) here
+    | inr not ↦ subst (Adds (table_at xs k) (only_prefix prefix (test k))) (sym (other k not)) (before.below k (lower k below not))
   ];
   from = λ k from. other k (λ e. let x : ⊥ = omega (arith, from, e) in x) ∙ before.from k (omega (arith, from));
 }
@@ -101,18 +99,19 @@ adds_next n test prefix xs ys zs b before is size added = record {
     other : (k : ℕ) → k ≢ n → table_at zs k ≡ table_at ys k
     other k not = ap (λ (d : ℕ → Prefixes). d k) added ∙ at_other (table_at ys) n (if b then map.insert (table_at ys n) prefix tt else table_at ys n) k not
 
-    here : Adds (table_at xs n) (only prefix (test n)) (table_at zs n)
-    here = subst (Adds (table_at xs n) (only prefix (test n))) (sym (ap (λ (d : ℕ → Prefixes). d n) added ∙ at_here (table_at ys) n (if b then map.insert (table_at ys n) prefix tt else table_at ys n) n refl))
-        (subst (λ (s : Prefixes). Adds s (only prefix (test n)) (if b then map.insert (table_at ys n) prefix tt else table_at ys n)) (before.from n (omega arith))
-        (subst (λ (c : Bool). Adds (table_at ys n) (only prefix c) (if b then map.insert (table_at ys n) prefix tt else table_at ys n)) is (add_where (table_at ys n) prefix b)))
+    here : Adds (table_at xs n) (only_prefix prefix (test n)) (table_at zs n)
+    here = subst (Adds (table_at xs n) (only_prefix prefix (test n))) (sym (ap (λ (d : ℕ → Prefixes). d n) added ∙ at_here (table_at ys) n (if b then map.insert (table_at ys n) prefix tt else table_at ys n) n refl))
+        (subst (λ (s : Prefixes). Adds s (only_prefix prefix (test n)) (if b then map.insert (table_at ys n) prefix tt else table_at ys n)) (before.from n (omega arith))
+        (subst (λ (c : Bool). Adds (table_at ys n) (only_prefix prefix c) (if b then map.insert (table_at ys n) prefix tt else table_at ys n)) is (add_where (table_at ys n) prefix b)))
 
     lower : (k : ℕ) → k < n + 1 → k ≢ n → k < n
     lower k below not = elim (cases_lt k n) [ inl under ↦ under | inr from ↦ absurd (not (omega (arith, from, below))) ]
 
-adds_all : (test : ℕ → Bool) (prefix : PrefixValue) (xs ys : List Prefixes) → AddsBelow (length xs) test prefix xs ys → ((k : ℕ) → length xs ≤ k → test k ≡ false) → (k : ℕ) → Adds (table_at xs k) (only prefix (test k)) (table_at ys k)
+adds_all : (test : ℕ → Bool) (prefix : PrefixValue) (xs ys : List Prefixes) → AddsBelow (length xs) test prefix xs ys
+    → ((k : ℕ) → length xs ≤ k → test k ≡ false) → (k : ℕ) → Adds (table_at xs k) (only_prefix prefix (test k)) (table_at ys k)
 adds_all test prefix xs ys adds none k = elim (cases_lt k (length xs)) [
   | inl below ↦ adds.below k below
-  | inr from ↦ subst (λ (s : Prefixes). Adds (table_at xs k) (only prefix (test k)) s) (sym (adds.from k from)) (subst (λ (b : Bool). Adds (table_at xs k) (only prefix b) (table_at xs k)) (sym (none k from)) (no_add (table_at xs k) prefix))
+  | inr from ↦ subst (λ (s : Prefixes). Adds (table_at xs k) (only_prefix prefix (test k)) s) (sym (adds.from k from)) (subst (λ (b : Bool). Adds (table_at xs k) (only_prefix prefix b) (table_at xs k)) (sym (none k from)) (no_add (table_at xs k) prefix))
 ]
 
 -- ---- what a place keeps
@@ -135,7 +134,8 @@ up_is OpenConfirm e = absurd (let x : ⊥ = cc in x)
 up_is Established e = refl
 up_is Closed e = absurd (let x : ⊥ = cc in x)
 
-add_keeps : (setup : Setup) (r p : ℕ) (entries : Entries) (due more : Prefixes) (prefix : PrefixValue) (x : Option Place) → KeepsPlace setup r p entries due x → Adds due (only prefix (holds_established (place_of x))) more → KeepsPlace setup r p entries more x
+add_keeps : (setup : Setup) (r p : ℕ) (entries : Entries) (due more : Prefixes) (prefix : PrefixValue) (x : Option Place)
+    → KeepsPlace setup r p entries due x → Adds due (only_prefix prefix (holds_established (place_of x))) more → KeepsPlace setup r p entries more x
 add_keeps setup r p entries due more prefix None keeps adds = (keeps.0, λ y. adds.members y ∙ none_added (has due y) (same_prefix prefix y) (keeps.1 y))
 add_keeps setup r p entries due more prefix (Some (Live s o)) keeps adds = (
   keeps.0,
@@ -155,7 +155,8 @@ none_of None e = refl
 none_of (Some x) e = absurd (let y : ⊥ = cc in y)
 
 -- The choice is the laboratory's: nothing stands behind its peerings and routers.
-pub chosen_is : (f : Fields) (prefix : PrefixValue) → Keeps f → rib_choosing.chosen (rib_of f.rib) prefix ≡ model_choosing.chosen f.known.setup f.number.0 (router_part f) prefix
+pub chosen_is : (f : Fields) (prefix : PrefixValue) → RouterInvariant f
+    → rib_choosing.rib_choice (rib_of f.rib) prefix ≡ model_choosing.chosen f.known.setup f.number.0 (router_part f) prefix
 chosen_is f prefix keeps =
     chosen_among (rib_of f.rib) prefix (peerings_in f.known.setup) (routers_in f.known.setup) keeps.few_peerings (omega (arith, keeps.routers, keeps.few_routers)) behind
     ∙ (λ i. choice (
@@ -171,11 +172,11 @@ chosen_is f prefix keeps =
 
 -- ---- one prefix
 
-module _ (f h g : Fields) (p q : Post (Item RunningSession)) (prefix : PrefixValue) (keeps : Keeps f) (dirty : has f.rib.dirty prefix ≡ true) (decided : h ≡ record f { rib = h.rib })
-    (rib : h.rib ≡ record f.rib { best = with_best f.rib.best prefix (rib_choosing.chosen (rib_of f.rib) prefix); dirty = map.remove f.rib.dirty prefix })
-    (wrote : Writes p (Decide prefix) [] q) where
+module _ (f h g : Fields) (p q : Post (Item RunningSession)) (prefix : PrefixValue) (keeps : RouterInvariant f) (dirty : has f.rib.dirty prefix ≡ true) (decided : h ≡ record f { rib = h.rib })
+    (rib : h.rib ≡ record f.rib { best = with_best f.rib.best prefix (rib_choosing.rib_choice (rib_of f.rib) prefix); dirty = map.remove f.rib.dirty prefix })
+    (wrote : WritesEvent p (Decide prefix) [] q) where
   -- the routes that it has then
-  pub keeps_decided : Keeps h
+  pub keeps_decided : RouterInvariant h
   keeps_decided = keeps_on f h keeps (subst (λ (x : Fields). x ≡ record f { places = x.places; rib = x.rib; due_in = x.due_in; due_out = x.due_out; turns = x.turns }) (sym decided) refl)
       (record {
         places = ap (λ (x : Fields). length x.places.places) decided;
@@ -183,7 +184,7 @@ module _ (f h g : Fields) (p q : Post (Item RunningSession)) (prefix : PrefixVal
         due_in = ap (λ (x : Fields). length x.due_in) decided;
         due_out = ap (λ (x : Fields). length x.due_out) decided;
         config = ap (λ (x : RibStore). x.config) rib;
-        tellings = ap (λ (x : RibStore). (rib_of x).tellings) rib;
+        tellings = λ q out. ap (λ (x : RibStore). (rib_of x).tellings q) rib;
       })
       (λ k. subst (λ (x : Fields). KeepsPlace f.known.setup f.number.0 k ((rib_of h.rib).entries k) (table_at x.due_out k) (place_at x.places.places k)) (sym decided)
       (subst (λ (x : RibStore). KeepsPlace f.known.setup f.number.0 k ((rib_of x).entries k) (table_at f.due_out k) (place_at f.places.places k)) (sym rib) (keeps.each k)))
@@ -196,11 +197,12 @@ module _ (f h g : Fields) (p q : Post (Item RunningSession)) (prefix : PrefixVal
       ∙ ap (λ (x : RibStore). let y : RouterPart = record (router_part f) { entries = (rib_of x).entries; tellings = (rib_of x).tellings; best = x.best; dirty = x.dirty } in y) rib
       ∙ ap (λ b. let y : RouterPart = record (router_part f) { best = with_best f.rib.best prefix b; dirty = map.remove f.rib.dirty prefix } in y) (chosen_is f prefix keeps)
 
-  did_decide : (part : RouterPart) → router_part g ≡ part → SameRouter f g → Decides f.known.setup f.number.0 prefix (router_part f) None [] part → (t : ℕ → Tally) → Did f p t (Decide prefix ∷ []) g q t
+  did_decide : (part : RouterPart) → router_part g ≡ part → SameRouter f g → Decides f.known.setup f.number.0 prefix (router_part f) None [] part
+      → (t : ℕ → Tally) → DidAsRouter f p t (Decide prefix ∷ []) g q t
   did_decide part is same row t = did_one f g p q t (Decide prefix) same wrote (subst (Decides f.known.setup f.number.0 prefix (router_part f) None []) (sym is) row) tt
 
   -- the best route stays
-  pub decides_same : AreApart (rib_choosing.chosen (rib_of f.rib) prefix) (map.get f.rib.best prefix) false → g ≡ h → DecidesOne prefix f p g q
+  pub decides_same : DifferIf (rib_choosing.rib_choice (rib_of f.rib) prefix) (map.get f.rib.best prefix) false → g ≡ h → DecidesOne prefix f p g q
   decides_same stays is = subst (λ (x : Fields). DecidesOne prefix f p x q) (sym is) whole
     where
       row : Decides f.known.setup f.number.0 prefix (router_part f) None [] part_then
@@ -215,36 +217,39 @@ module _ (f h g : Fields) (p q : Post (Item RunningSession)) (prefix : PrefixVal
       }
 
   -- another one is best
-  pub decides_other : AreApart (rib_choosing.chosen (rib_of f.rib) prefix) (map.get f.rib.best prefix) true → DueToAll prefix h g → DecidesOne prefix f p g q
+  pub decides_other : DifferIf (rib_choosing.rib_choice (rib_of f.rib) prefix) (map.get f.rib.best prefix) true → DueToAll prefix h g
+      → DecidesOne prefix f p g q
   decides_other apart due = record {
     did = did_decide part_new part_is (record { setup = ap (λ (x : Fields). x.known.setup) g_same; number = ap (λ (x : Fields). x.number) g_same }) row;
     dirty = ap (λ (x : Fields). x.rib.dirty) due.same ∙ ap (λ (x : RibStore). x.dirty) rib;
     same = g_same;
     keeps = keeps_on h g keeps_decided (subst (λ (x : Fields). x ≡ record h { places = x.places; rib = x.rib; due_in = x.due_in; due_out = x.due_out; turns = x.turns }) (sym due.same) refl)
-        (record { places = ap (λ (x : Fields). length x.places.places) due.same; reserved = ap (λ (x : Fields). x.places.room) due.same; due_in = due.due_in.size; due_out = due.due_out.size; config = ap (λ (x : Fields). x.rib.config) due.same; tellings = ap (λ (x : Fields). (rib_of x.rib).tellings) due.same })
+        (record { places = ap (λ (x : Fields). length x.places.places) due.same; reserved = ap (λ (x : Fields). x.places.room) due.same; due_in = due.due_in.size; due_out = due.due_out.size; config = ap (λ (x : Fields). x.rib.config) due.same; tellings = λ q out. ap (λ (x : Fields). (rib_of x.rib).tellings q) due.same })
         (λ k. subst (λ (x : Fields). KeepsPlace h.known.setup h.number.0 k ((rib_of x.rib).entries k) (table_at g.due_out k) (place_at x.places.places k)) (sym due.same)
         (add_keeps h.known.setup h.number.0 k ((rib_of h.rib).entries k) (table_at h.due_out k) (table_at g.due_out k) prefix (place_at h.places.places k) (keeps_decided.each k) (out k)));
   }
     where
       g_same : g ≡ record f { rib = g.rib; due_in = g.due_in; due_out = g.due_out }
-      g_same = due.same ∙ ap (λ (x : Fields). let y : Fields = record x { due_in = g.due_in; due_out = g.due_out } in y) decided ∙ ap (λ (x : RibStore). let y : Fields = record f { rib = x; due_in = g.due_in; due_out = g.due_out } in y) (sym (ap (λ (x : Fields). x.rib) due.same))
+      g_same = due.same
+          ∙ ap (λ (x : Fields). let y : Fields = record x { due_in = g.due_in; due_out = g.due_out } in y) decided ∙ ap (λ (x : RibStore). let y : Fields = record f { rib = x; due_in = g.due_in; due_out = g.due_out } in y) (sym (ap (λ (x : Fields). x.rib) due.same))
 
       part_new : RouterPart
       part_new = record part_then { due_in = table_at g.due_in; due_out = table_at g.due_out }
 
       part_is : router_part g ≡ part_new
-      part_is = ap router_part due.same ∙ ap (λ (x : RouterPart). let y : RouterPart = record x { due_in = table_at g.due_in; due_out = table_at g.due_out } in y) part_decided
+      part_is = ap router_part due.same
+          ∙ ap (λ (x : RouterPart). let y : RouterPart = record x { due_in = table_at g.due_in; due_out = table_at g.due_out } in y) part_decided
 
-      out : (k : ℕ) → Adds (table_at h.due_out k) (only prefix (holds_established (place_of (place_at h.places.places k)))) (table_at g.due_out k)
+      out : (k : ℕ) → Adds (table_at h.due_out k) (only_prefix prefix (holds_established (place_of (place_at h.places.places k)))) (table_at g.due_out k)
       out = adds_all (is_up_at h) prefix h.due_out g.due_out due.due_out (λ k from. ap (λ (x : Option Place). holds_established (place_of x)) (place_at_end h.places.places k (omega (arith, from, keeps_decided.places, keeps_decided.due_out))))
 
-      into : (k : ℕ) → Adds (table_at h.due_in k) (only prefix (is_other h k)) (table_at g.due_in k)
-      into = adds_all (is_other h) prefix h.due_in g.due_in due.due_in (λ k from. ap (λ (b : Bool). b && not (k == h.number.0)) (le-ltb k (routers_in h.known.setup) (omega (arith, from, keeps_decided.due_in))))
+      into : (k : ℕ) → Adds (table_at h.due_in k) (only_prefix prefix (is_other_router h k)) (table_at g.due_in k)
+      into = adds_all (is_other_router h) prefix h.due_in g.due_in due.due_in (λ k from. ap (λ (b : Bool). b && not (k == h.number.0)) (le-ltb k (routers_in h.known.setup) (omega (arith, from, keeps_decided.due_in))))
 
       everywhere : DueEverywhere f.known.setup f.number.0 prefix (router_part f) part_new
       everywhere = record {
-        routers = subst (λ (x : Fields). (k : ℕ) → Adds (table_at x.due_in k) (only prefix (is_other x k)) (table_at g.due_in k)) decided into;
-        peerings = subst (λ (x : Fields). (k : ℕ) → Adds (table_at x.due_out k) (only prefix (holds_established (place_of (place_at x.places.places k)))) (table_at g.due_out k)) decided out;
+        routers = subst (λ (x : Fields). (k : ℕ) → Adds (table_at x.due_in k) (only_prefix prefix (is_other_router x k)) (table_at g.due_in k)) decided into;
+        peerings = subst (λ (x : Fields). (k : ℕ) → Adds (table_at x.due_out k) (only_prefix prefix (holds_established (place_of (place_at x.places.places k)))) (table_at g.due_out k)) decided out;
       }
 
       row : Decides f.known.setup f.number.0 prefix (router_part f) None [] part_new
@@ -252,7 +257,7 @@ module _ (f h g : Fields) (p q : Post (Item RunningSession)) (prefix : PrefixVal
 
 -- ---- one after another
 
-pub decides_first : (f : Fields) (p : Post (Item RunningSession)) → Keeps f → DecidesSome f p f p
+pub decides_first : (f : Fields) (p : Post (Item RunningSession)) → RouterInvariant f → DecidesSome f p f p
 decides_first f p keeps = record { events = []; did = λ t. did_same f f p t (record { setup = refl; number = refl }) refl; at = tt; same = refl; keeps = keeps }
 
 module _ (f g h : Fields) (p r s : Post (Item RunningSession)) (prefix : PrefixValue) (before : DecidesSome f p g r) (one : DecidesOne prefix g r h s) where
@@ -274,12 +279,5 @@ decides_all f g p r some clean = record { events = some.events; did = some.did; 
 
 -- ---- where it is due
 
-pub other_is : (f : Fields) (q : ℕ) (b : Bool) → q < routers_in f.known.setup → b ≡ not (q == f.number.0) → b ≡ is_other f q
+pub other_is : (f : Fields) (q : ℕ) (b : Bool) → q < routers_in f.known.setup → b ≡ not (q == f.number.0) → b ≡ is_other_router f q
 other_is f q b below is = is ∙ sym (ap (λ (c : Bool). c && not (q == f.number.0)) (lt-ltb q (routers_in f.known.setup) below))
-
-pub due_all : (prefix : PrefixValue) (f g h : Fields) → AddsBelow (length f.due_in) (is_other f) prefix f.due_in g.due_in → g ≡ record f { due_in = g.due_in } → AddsBelow (length g.due_out) (is_up_at g) prefix g.due_out h.due_out → h ≡ record g { due_out = h.due_out } → DueToAll prefix f h
-due_all prefix f g h first g_same second h_same = record {
-  due_in = subst (AddsBelow (length f.due_in) (is_other f) prefix f.due_in) (sym (ap (λ (x : Fields). x.due_in) h_same)) first;
-  due_out = subst (λ (x : Fields). AddsBelow (length x.due_out) (is_up_at x) prefix x.due_out h.due_out) g_same second;
-  same = h_same ∙ ap (λ (x : Fields). let y : Fields = record x { due_out = h.due_out } in y) g_same ∙ (λ i. record f { due_in = sym (ap (λ (x : Fields). x.due_in) h_same) i; due_out = h.due_out });
-}

@@ -1,6 +1,6 @@
 -- Pieces of a call, one after another; and one event as a piece of a call.
 use Rattle.std.proofs.Common.{◌≡◌, ℕ, List, [], ◌∷◌, ◌++◌, Option, Some, None, refl, ap, sym, subst, ◌∙◌, inl}
-use Rattle.ring_net.specs.Deeds.{Deed, Replay, TakesNone}
+use Rattle.ring_net.specs.Deeds.{Replay, TakesNone}
 use Rattle.ring_net.specs.Posts.{actor_of}
 use Rattle.ring_net.specs.declared.post.Post.{Post}
 use Rattle.ring_net.proofs.PostLaws.{wrote_none, wrote_then}
@@ -13,16 +13,17 @@ use Rattle.graft_model.specs.RouterRows.{RouterSent}
 use Rattle.graft_model.specs.Codes.{router_code}
 use Rattle.graft_model.specs.declared.event.RouterEvent.{RouterEvent}
 use Rattle.graft_model.specs.Steps.{router_row}
-use Rattle.graft_runs.specs.Actors.{ActorName, Router, RouterIs, Thing, number_in, IsActor, actor_at}
-use Rattle.graft_runs.specs.Makes.{HasCode, sent_by_router}
-use Rattle.graft_runs.proofs.Numbers.{there}
+use Rattle.graft_actors.specs.Actors.{ActorName, Router, RouterIs, Thing, number_in, IsActor, actor_at}
+use Rattle.graft_actors.specs.Makes.{HasCode, sent_by_router}
+use Rattle.graft_actors.proofs.Numbers.{there}
 use Rattle.graft_actors.specs.Acts.{acts}
 use Rattle.graft_actors.specs.Emissions.{Tally}
 use Rattle.graft_actors.specs.Items.{thing_of, MayGo}
 use Rattle.graft_actors.specs.Notes.{deed_of}
 use Rattle.router_core.specs.Parts.{router_part, own_part, carried}
-use Rattle.router_core.specs.Rounds.{AreOf, CarefulRouter, router_tally, RouterRound, SameRouter, Did, Writes}
+use Rattle.router_core.specs.Rounds.{CarefulRouter, router_tally, RouterRound, SameRouter, DidAsRouter, WritesEvent}
 use Rattle.router_core.specs.declared.fields.Fields.{Fields}
+use Rattle.graft_actors.proofs.Deeds.{are_deeds-append}
 
 -- ---- what a router is
 
@@ -34,23 +35,19 @@ router_then a b c x y = record { setup = y.setup ∙ x.setup; number = y.number 
 
 -- ---- events after events
 
-pub rounds_append : (setup : Setup) (r : ℕ) (a b c : RouterPart) (t u w : ℕ → Tally) (es fs : List RouterEvent) → RouterRound setup r a t es b u → RouterRound setup r b u fs c w → RouterRound setup r a t (es ++ fs) c w
+pub rounds_append : (setup : Setup) (r : ℕ) (a b c : RouterPart) (t u w : ℕ → Tally) (es fs : List RouterEvent) → RouterRound setup r a t es b u
+    → RouterRound setup r b u fs c w → RouterRound setup r a t (es ++ fs) c w
 rounds_append setup r a b c t u w [] fs h k = subst (λ (x : RouterPart). RouterRound setup r x t fs c w) h.0 (subst (λ (x : ℕ → Tally). RouterRound setup r b x fs c w) h.1 k)
 rounds_append setup r a b c t u w (e ∷ es) fs (taken, sent, m, row, careful, rest) k = (taken, sent, m, row, careful, rounds_append setup r m b c (router_tally a e t) u w es fs rest k)
 
-pub are_of-append : {I : Type 0} (es fs : List RouterEvent) (ds gs : List (Deed I)) → AreOf es ds → AreOf fs gs → AreOf (es ++ fs) (ds ++ gs)
-are_of-append [] fs [] gs h k = k
-are_of-append [] fs (d ∷ ds) gs h k = absurd h
-are_of-append (e ∷ es) fs [] gs h k = absurd h
-are_of-append (e ∷ es) fs (d ∷ ds) gs h k = (h.0, are_of-append es fs ds gs h.1 k)
-
 -- the round of what another field set is the same router of
-pub round_at : (a b : Fields) (t u : ℕ → Tally) (es : List RouterEvent) (before after : RouterPart) → SameRouter a b → RouterRound b.known.setup b.number.0 before t es after u → RouterRound a.known.setup a.number.0 before t es after u
+pub round_at : (a b : Fields) (t u : ℕ → Tally) (es : List RouterEvent) (before after : RouterPart) → SameRouter a b
+    → RouterRound b.known.setup b.number.0 before t es after u → RouterRound a.known.setup a.number.0 before t es after u
 round_at a b t u es before after same h =
     subst (λ (s : Setup). RouterRound s a.number.0 before t es after u) same.setup (subst (λ (n : ℕ). RouterRound b.known.setup n before t es after u) (ap (λ k. k.0) same.number) h)
 
 -- nothing that the model sees changes
-pub did_same : (f g : Fields) (p : Post (Item RunningSession)) (t : ℕ → Tally) → SameRouter f g → router_part g ≡ router_part f → Did f p t [] g p t
+pub did_same : (f g : Fields) (p : Post (Item RunningSession)) (t : ℕ → Tally) → SameRouter f g → router_part g ≡ router_part f → DidAsRouter f p t [] g p t
 did_same f g p t same part = record {
   router = same;
   deeds = [];
@@ -61,13 +58,14 @@ did_same f g p t same part = record {
   round = (part, refl);
 }
 
-pub did_then : (a b c : Fields) (p q r : Post (Item RunningSession)) (t u w : ℕ → Tally) (es fs : List RouterEvent) → Did a p t es b q u → Did b q u fs c r w → Did a p t (es ++ fs) c r w
+pub did_then : (a b c : Fields) (p q r : Post (Item RunningSession)) (t u w : ℕ → Tally) (es fs : List RouterEvent) → DidAsRouter a p t es b q u
+    → DidAsRouter b q u fs c r w → DidAsRouter a p t (es ++ fs) c r w
 did_then a b c p q r t u w es fs x y = record {
   router = router_then a b c x.router y.router;
   deeds = x.deeds ++ y.deeds;
   wrote = wrote_then p q r x.deeds y.deeds x.wrote y.wrote;
   none = all-append TakesNone x.deeds y.deeds x.none y.none;
-  coded = are_of-append es fs x.deeds y.deeds x.coded y.coded;
+  coded = are_deeds-append router_code es fs x.deeds y.deeds x.coded y.coded;
   replay = replay-append (acts carried) (actor_of p) (own_part a) (own_part b) (own_part c) x.deeds y.deeds x.replay (subst (λ (n : ℕ). Replay (acts carried) n (own_part b) y.deeds (own_part c)) x.wrote.actor y.replay);
   round = rounds_append a.known.setup a.number.0 (router_part a) (router_part b) (router_part c) t u w es fs x.round
       (round_at a b u w fs (router_part b) (router_part c) x.router y.round);
@@ -76,13 +74,14 @@ did_then a b c p q r t u w es fs x y = record {
 -- ---- one event
 
 -- what is written of an event has its code
-pub has_code : (p : Post (Item RunningSession)) (event : RouterEvent) (taken : Option (ℕ × Item RunningSession)) (sent : List (ℕ × Item RunningSession)) → HasCode (router_code event) (deed_of p (router_code event) taken sent).entry
+pub has_code : (p : Post (Item RunningSession)) (event : RouterEvent) (taken : Option (ℕ × Item RunningSession)) (sent : List (ℕ × Item RunningSession))
+    → HasCode (router_code event) (deed_of p (router_code event) taken sent).entry
 has_code p event taken sent = record { kind = refl; a = refl; b = refl; c = refl }
 
 -- An event that takes nothing and sends nothing.
-pub did_one : (f g : Fields) (p q : Post (Item RunningSession)) (t : ℕ → Tally) (event : RouterEvent) → SameRouter f g → Writes p event [] q
+pub did_one : (f g : Fields) (p q : Post (Item RunningSession)) (t : ℕ → Tally) (event : RouterEvent) → SameRouter f g → WritesEvent p event [] q
     → router_row f.known.setup f.number.0 event (router_part f) None [] (router_part g) → CarefulRouter f.known.setup f.number.0 (router_part f) event
-    → Did f p t (event ∷ []) g q (router_tally (router_part f) event t)
+    → DidAsRouter f p t (event ∷ []) g q (router_tally (router_part f) event t)
 did_one f g p q t event same wrote row careful = record {
   router = same;
   deeds = deed_of p (router_code event) None [] ∷ [];
@@ -119,16 +118,19 @@ sends_name f to item sent s = subst (λ (x : ActorName × Thing). IsActor f.know
 pub sends_at : (f : Fields) (to : ℕ) (item : Item RunningSession) (sent : RouterSent) (s : Sends f to item sent) → actor_at f.known.setup to ≡ Some s.name
 sends_at f to item sent s = ap (actor_at f.known.setup) s.number ∙ there f.known.setup s.name s.known
 
-pub sends_is : (f : Fields) (to : ℕ) (item : Item RunningSession) (sent : RouterSent) → Sends f to item sent → ◌≡◌ {A = ℕ × Thing} (to, thing_of carried f.known.setup item) (number_in f.known.setup (sent_by_router sent).0, (sent_by_router sent).1)
+pub sends_is : (f : Fields) (to : ℕ) (item : Item RunningSession) (sent : RouterSent) → Sends f to item sent
+    → ◌≡◌ {A = ℕ × Thing} (to, thing_of carried f.known.setup item) (number_in f.known.setup (sent_by_router sent).0, (sent_by_router sent).1)
 sends_is f to item sent s = λ i. (
   (s.number ∙ sym (ap (λ (x : ActorName × Thing). number_in f.known.setup x.0) s.thing)) i,
   sym (ap (λ (x : ActorName × Thing). x.1) s.thing) i,
 )
 
 -- An event that takes nothing and sends one item.
-pub did_sent : (f g : Fields) (p q : Post (Item RunningSession)) (t : ℕ → Tally) (event : RouterEvent) (to : ℕ) (item : Item RunningSession) (sent : RouterSent) → SameRouter f g → Writes p event ((to, item) ∷ []) q
-    → Sends f to item sent → router_row f.known.setup f.number.0 event (router_part f) None (sent ∷ []) (router_part g) → CarefulRouter f.known.setup f.number.0 (router_part f) event
-    → Did f p t (event ∷ []) g q (router_tally (router_part f) event t)
+pub did_sent : (f g : Fields) (p q : Post (Item RunningSession)) (t : ℕ → Tally) (event : RouterEvent) (to : ℕ) (item : Item RunningSession) (sent : RouterSent)
+    → SameRouter f g → WritesEvent p event ((to, item) ∷ []) q
+    → Sends f to item sent → router_row f.known.setup f.number.0 event (router_part f) None (sent ∷ []) (router_part g)
+    → CarefulRouter f.known.setup f.number.0 (router_part f) event
+    → DidAsRouter f p t (event ∷ []) g q (router_tally (router_part f) event t)
 did_sent f g p q t event to item sent same wrote sends row careful = record {
   router = same;
   deeds = deed_of p (router_code event) None ((to, item) ∷ []) ∷ [];

@@ -24,7 +24,8 @@ module _ (xs now : List Prefixes) (n : ℕ) (x t : Prefixes) (same : xs ≡ now)
   pub size : length (set xs n t) ≡ length now
   size = length-set xs n t ∙ ap (λ (ts : List Prefixes). length ts) same
 
-  pub becomes_ok : {A E : Type 0} (r : Result A E) (change : Prefixes → Prefixes) → OnOk r (t ≡ change x) → OnOk r (table_at (set xs n t) ≡ at (table_at now) n (change (table_at now n)))
+  pub becomes_ok : {A E : Type 0} (r : Result A E) (change : Prefixes → Prefixes) → OnOk r (t ≡ change x)
+      → OnOk r (table_at (set xs n t) ≡ at (table_at now) n (change (table_at now n)))
   becomes_ok (Ok a) change e = becomes change e
   becomes_ok (Err e) change h = tt
 

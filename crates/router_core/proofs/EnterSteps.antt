@@ -73,7 +73,8 @@ module _ (a b c : RibValue) (p : ℕ) (values : PrefixValue → Option Entry) (x
     same_again : values x ≡ map.get (b.entries p) x → c.dirty ≡ b.dirty → Marks a.dirty (a.entries p) (with_value (b.entries p) x (values x)) c.dirty
     same_again is stays = subst (λ (es : Entries). Marks a.dirty (a.entries p) es c.dirty) (sym (with_same (b.entries p) x (values x) is)) (subst (λ (s : Prefixes). Marks a.dirty (a.entries p) (b.entries p) s) (sym stays) so_far.dirty)
 
-    by_test : (t : Bool) → list_any (same_prefix x) xs ≡ t → MarksOne b.dirty x (map.get (b.entries p) x) (values x) c.dirty → Marks a.dirty (a.entries p) (with_value (b.entries p) x (values x)) c.dirty
+    by_test : (t : Bool) → list_any (same_prefix x) xs ≡ t → MarksOne b.dirty x (map.get (b.entries p) x) (values x) c.dirty
+        → Marks a.dirty (a.entries p) (with_value (b.entries p) x (values x)) c.dirty
     by_test true e (inl (is, stays)) = same_again is stays
     by_test true e (inr (differs, set)) = absurd (differs (sym (so_far.each x e)))
     by_test false e m = marks_next a.dirty b.dirty c.dirty (a.entries p) (b.entries p) x (values x) so_far.dirty (so_far.others x e) m
@@ -99,8 +100,10 @@ module _ (a b c : RibValue) (p : ℕ) (values : PrefixValue → Option Entry) (x
 
 -- ---- what an import policy makes of attributes
 
-pub imported_is : (home_as : ℕ) (prefix : PrefixValue) (session : SessionRoute) (rules : Option (List Rule)) (remote_as : ℕ) (heard : Option Attrs) (attrs copy : Attrs) → session.import_rules ≡ rules → session.remote_as ≡ remote_as → heard ≡ Some attrs
-    → holds_as attrs.path home_as ≡ false → copy ≡ attrs → policy (unwrap_or rules []) prefix remote_as (record { attrs = copy; pref = 100 }) ≡ imported home_as prefix session heard
+pub imported_is : (home_as : ℕ) (prefix : PrefixValue) (session : SessionRoute) (rules : Option (List Rule)) (remote_as : ℕ) (heard : Option Attrs) (attrs copy : Attrs)
+    → session.import_rules ≡ rules → session.remote_as ≡ remote_as → heard ≡ Some attrs
+    → holds_as attrs.path home_as ≡ false → copy ≡ attrs
+    → policy (unwrap_or rules []) prefix remote_as (record { attrs = copy; pref = 100 }) ≡ imported home_as prefix session heard
 imported_is home_as prefix session rules remote_as heard attrs copy same_rules same_as is not same =
     ap (λ (a : Attrs). policy (unwrap_or rules []) prefix remote_as (record { attrs = a; pref = 100 })) same
     ∙ ap (λ (rs : Option (List Rule)). policy (unwrap_or rs []) prefix remote_as (record { attrs = attrs; pref = 100 })) (sym same_rules)

@@ -13,7 +13,8 @@ use Rattle.router_core.specs.Reading.{DueBy, FollowsStep, OneSet, prefixes_in}
 use Rattle.router_core.specs.declared.fields.Fields.{Fields}
 use Rattle.router_core.proofs.Kept.{at_own, at_else}
 
-pub one_set : (before : List Prefixes) (p : ℕ) (after : List Prefixes) (d : Prefixes) → length after ≡ length before → table_at after ≡ at (table_at before) p d → OneSet before p after
+pub one_set : (before : List Prefixes) (p : ℕ) (after : List Prefixes) (d : Prefixes) → length after ≡ length before
+    → table_at after ≡ at (table_at before) p d → OneSet before p after
 one_set before p after d len is = record { length = len; others = λ q not. ap (λ (t : ℕ → Prefixes). t q) is ∙ at_else (table_at before) p d q not }
 
 pub set_is : (before : List Prefixes) (p : ℕ) (after : List Prefixes) (d : Prefixes) → table_at after ≡ at (table_at before) p d → table_at after p ≡ d
@@ -23,8 +24,10 @@ pub same_set : (before : List Prefixes) (p : ℕ) → OneSet before p before
 same_set before p = record { length = refl; others = λ q not. refl }
 
 -- another set is due on the peering
-pub follows_due : (f g : Fields) (p : ℕ) (s : RunningSession) (step : ReadStep) (d : Prefixes) → g ≡ record f { rib = g.rib; due_out = g.due_out } → EntersAll (rib_of f.rib) p (entry_here f.home_as f.policies s.session) (prefixes_in step) (rib_of g.rib)
-    → length g.due_out ≡ length f.due_out → table_at g.due_out ≡ at (table_at f.due_out) p d → DueBy step f.rib.best (table_at f.due_out p) d → FollowsStep f p s step g
+pub follows_due : (f g : Fields) (p : ℕ) (s : RunningSession) (step : ReadStep) (d : Prefixes) → g ≡ record f { rib = g.rib; due_out = g.due_out }
+    → EntersAll (rib_of f.rib) p (entry_here f.home_as f.policies s.session) (prefixes_in step) (rib_of g.rib)
+    → length g.due_out ≡ length f.due_out → table_at g.due_out ≡ at (table_at f.due_out) p d → DueBy step f.rib.best (table_at f.due_out p) d
+    → FollowsStep f p s step g
 follows_due f g p s step d same entered len is due = record {
   same = same;
   entered = entered;
@@ -33,7 +36,8 @@ follows_due f g p s step d same entered len is due = record {
 }
 
 -- the set that is due stays
-pub follows_same : (f g : Fields) (p : ℕ) (s : RunningSession) (prefixes : List PrefixValue) → g ≡ record f { rib = g.rib } → EntersAll (rib_of f.rib) p (entry_here f.home_as f.policies s.session) prefixes (rib_of g.rib) → FollowsStep f p s (steps.Changed prefixes) g
+pub follows_same : (f g : Fields) (p : ℕ) (s : RunningSession) (prefixes : List PrefixValue) → g ≡ record f { rib = g.rib }
+    → EntersAll (rib_of f.rib) p (entry_here f.home_as f.policies s.session) prefixes (rib_of g.rib) → FollowsStep f p s (steps.Changed prefixes) g
 follows_same f g p s prefixes same entered = record {
   same = subst (λ (h : Fields). h ≡ record f { rib = h.rib; due_out = h.due_out }) (sym same) refl;
   entered = entered;

@@ -10,10 +10,10 @@ use Rattle.graft_model.specs.Parts.{Place, Vacant, Live, Frozen, Shadow, Errand,
 use Rattle.graft_model.specs.RouterRows.{IsLive}
 use Rattle.graft_model.specs.declared.event.RouterEvent.{RouterEvent}
 use Rattle.graft_model.specs.declared.event.RouterEvent.TheVariants.{Put, Emit}
-use Rattle.graft_actors.specs.Emissions.{IsOld, IsCareful, Tally, counted}
+use Rattle.graft_actors.specs.Emissions.{IsOld, IsCareful, Tally, tallied}
 use Rattle.graft_actors.proofs.Careful.{counted_again, counted_next}
-use Rattle.router_core.specs.Rounds.{CarefulRouter, IsNewOrOwed, SendsOld, Works, RouterGoes, tally_at, router_tally, RouterRound}
-use Rattle.router_core.specs.Turned.{AreAt, Takes, stage_of, is_emit_on, emits_on}
+use Rattle.router_core.specs.Rounds.{CarefulRouter, IsNewOrOwed, RouterRetransmits, IsNewWork, RouterGoes, tally_at, router_tally, RouterRound}
+use Rattle.router_core.specs.Turned.{AreAt, IsRouterTake, stage_of, is_emit_on, emits_on}
 use Rattle.router_core.proofs.RoundLists.{emits_on-cons}
 use Rattle.router_core.proofs.VisitSteps.{same_or_not, at_here, at_other}
 
@@ -31,7 +31,7 @@ one_on p e = if is_emit_on p e then 1 else 0
 abbrev Rises : ℕ → Tally → Tally → Type 0
 Rises n t u = (t.again ≤ u.again) × (u.again ≤ t.again + n)
 
-counted_rises : (e : Endpoint) (from len : ℕ) (t : Tally) → Rises 1 t (counted e from len t)
+counted_rises : (e : Endpoint) (from len : ℕ) (t : Tally) → Rises 1 t (tallied e from len t)
 counted_rises e from zero t = (omega arith, omega arith)
 counted_rises e from (suc n) t = by_flag (nat_lt from e.emitted)
   where
@@ -59,24 +59,25 @@ event_rises a _ t p = (omega arith, omega arith)
 
 -- what the tally of a live session is once it emitted
 live_tally : (a : RouterPart) (p from len : ℕ) (s : SessionValue) (o : Option Errand) (t : ℕ → Tally) → IsLive a p s o
-    → router_tally a (Emit p from len) t p ≡ counted s.end from len (t p)
+    → router_tally a (Emit p from len) t p ≡ tallied s.end from len (t p)
 live_tally a p from len s o t live = at_here t p (tally_at (a.places p) from len (t p)) p refl ∙ ap (λ (x : Place). tally_at x from len (t p)) live.is
 
 -- what a tally counts is old
-is_old : (e : Endpoint) (from len : ℕ) (t : Tally) → IsCareful e from len → (counted e from len t).again ≡ t.again + 1 → IsOld e from len
+is_old : (e : Endpoint) (from len : ℕ) (t : Tally) → IsCareful e from len → (tallied e from len t).again ≡ t.again + 1 → IsOld e from len
 is_old e from zero t careful one = absurd (omega (arith, one))
 is_old e from (suc n) t (inl old) one = old
 is_old e from (suc n) t (inr new) one =
-    let not : (counted e from (suc n) t).again ≡ t.again =
-    ap (λ (m : ℕ). (counted e m (suc n) t).again) new.next ∙ ap (λ (u : Tally). u.again) (counted_next e (suc n) t (omega arith)) in
+    let not : (tallied e from (suc n) t).again ≡ t.again =
+    ap (λ (m : ℕ). (tallied e m (suc n) t).again) new.next ∙ ap (λ (u : Tally). u.again) (counted_next e (suc n) t (omega arith)) in
     absurd (omega (arith, one, not))
 
 -- and what it doesn't count is new, or an answer that is owed
-is_new_or_owed : (e : Endpoint) (from len : ℕ) (t : Tally) → IsCareful e from len → (counted e from len t).again ≡ t.again → IsNewOrOwed e from len
+is_new_or_owed : (e : Endpoint) (from len : ℕ) (t : Tally) → IsCareful e from len → (tallied e from len t).again ≡ t.again → IsNewOrOwed e from len
 is_new_or_owed e from zero t careful none = careful
 is_new_or_owed e from (suc n) t (inl old) none =
-    let one : (counted e from (suc n) t).again ≡ t.again + 1 =
-    ap (λ (m : ℕ). (counted e m (suc n) t).again) old.first ∙ ap (λ (u : Tally). u.again) (counted_again e (suc n) t (omega arith) (omega (arith, old.first, old.out))) in
+    let one : (tallied e from (suc n) t).again ≡ t.again + 1 =
+    ap (λ (m : ℕ). (tallied e m (suc n) t).again) old.first
+    ∙ ap (λ (u : Tally). u.again) (counted_again e (suc n) t (omega arith) (omega (arith, old.first, old.out))) in
     absurd (omega (arith, one, none))
 is_new_or_owed e from (suc n) t (inr new) none = new
 
@@ -85,9 +86,9 @@ is_new_or_owed e from (suc n) t (inr new) none = new
 module _ (setup : Setup) (r : ℕ) where
   -- an event that adds all that it can
   sends_old : (a : RouterPart) (e : RouterEvent) (t : ℕ → Tally) → stage_of e ≡ 7 → CarefulRouter setup r a e
-      → ((p : ℕ) → (router_tally a e t p).again ≡ (t p).again + one_on p e) → SendsOld a e
+      → ((p : ℕ) → (router_tally a e t p).again ≡ (t p).again + one_on p e) → RouterRetransmits a e
   sends_old a (Emit p from len) t at careful all =
-      let one : (counted careful.session.end from len (t p)).again ≡ (t p).again + 1 =
+      let one : (tallied careful.session.end from len (t p)).again ≡ (t p).again + 1 =
       sym (ap (λ (u : Tally). u.again) (live_tally a p from len careful.session careful.errand t careful.live)) ∙ all p
       ∙ ap (λ (b : Bool). let n : ℕ = (t p).again + (if b then 1 else 0) in n) (eq-eqb p p refl) in
       record {
@@ -99,9 +100,10 @@ module _ (setup : Setup) (r : ℕ) where
   sends_old a _ t at careful all = omega (arith, at)
 
   -- one that adds nothing
-  works : (a : RouterPart) (e : RouterEvent) (t : ℕ → Tally) → CarefulRouter setup r a e → ((p : ℕ) → (router_tally a e t p).again ≡ (t p).again) → Works setup r a e
+  works : (a : RouterPart) (e : RouterEvent) (t : ℕ → Tally) → CarefulRouter setup r a e → ((p : ℕ) → (router_tally a e t p).again ≡ (t p).again)
+      → IsNewWork setup r a e
   works a (Emit p from len) t careful none =
-      let no : (counted careful.session.end from len (t p)).again ≡ (t p).again =
+      let no : (tallied careful.session.end from len (t p)).again ≡ (t p).again =
       sym (ap (λ (u : Tally). u.again) (live_tally a p from len careful.session careful.errand t careful.live)) ∙ none p in
       record {
         session = careful.session;
@@ -124,14 +126,15 @@ module _ (setup : Setup) (r : ℕ) where
       (omega (arith, first.0, later.0), omega (arith, first.1, later.1, emits_on-cons p e es))
 
   -- those of a take
-  pub goes_taking : (a b : RouterPart) (t u : ℕ → Tally) (es : List RouterEvent) → RouterRound setup r a t es b u → AreAt 0 es → GoesThrough setup r Takes a es b
+  pub goes_taking : (a b : RouterPart) (t u : ℕ → Tally) (es : List RouterEvent) → RouterRound setup r a t es b u → AreAt 0 es
+      → GoesThrough setup r IsRouterTake a es b
   goes_taking a b t u [] h at = ([], h.0)
   goes_taking a b t u (e ∷ es) (taken, sent, m, row, careful, rest) at =
       let more = goes_taking m b (router_tally a e t) u es rest at.1 in (m ∷ more.0, (taken, sent, row, at.0, more.1))
 
   -- segments, each of which is counted
   pub goes_again : (a b : RouterPart) (t u : ℕ → Tally) (es : List RouterEvent) → RouterRound setup r a t es b u → AreAt 7 es
-      → ((p : ℕ) → (u p).again ≡ (t p).again + emits_on p es) → GoesThrough setup r SendsOld a es b
+      → ((p : ℕ) → (u p).again ≡ (t p).again + emits_on p es) → GoesThrough setup r RouterRetransmits a es b
   goes_again a b t u [] h at all = ([], h.0)
   goes_again a b t u (e ∷ es) (taken, sent, m, row, careful, rest) at all =
       let more = goes_again m b (router_tally a e t) u es rest at.1 later in
@@ -148,7 +151,7 @@ module _ (setup : Setup) (r : ℕ) where
 
   -- events, none of which is counted among old segments
   pub goes_working : (a b : RouterPart) (t u : ℕ → Tally) (es : List RouterEvent) → RouterRound setup r a t es b u → ((p : ℕ) → (u p).again ≡ (t p).again)
-      → GoesThrough setup r (Works setup r) a es b
+      → GoesThrough setup r (IsNewWork setup r) a es b
   goes_working a b t u [] h none = ([], h.0)
   goes_working a b t u (e ∷ es) (taken, sent, m, row, careful, rest) none =
       let more = goes_working m b (router_tally a e t) u es rest later in (m ∷ more.0, (taken, sent, row, works setup r a e t careful first, more.1))

@@ -10,7 +10,7 @@ use Rattle.graft_steps.specs.declared.item.Item.{Item}
 use Rattle.graft_steps.specs.declared.item.Item.TheVariants as items
 use Rattle.graft_steps.specs.declared.order.GraftIds.{GraftIds}
 use Rattle.session_places.specs.Places.{with_place}
-use Rattle.router_core.specs.Rounds.{Writes}
+use Rattle.router_core.specs.Rounds.{WritesEvent}
 use Rattle.router_core.specs.declared.place.Errand.{Errand}
 use Rattle.router_core.specs.declared.place.Errand.TheVariants.{Leaving}
 use Rattle.graft_steps.specs.declared.refusal.Outcome.TheVariants.{Accepted}
@@ -25,18 +25,18 @@ use Rattle.graft_model.specs.Parts.{RouterPart, Done}
 use Rattle.graft_model.specs.RouterRows.{OrderIn, MeshIn, ReportOut}
 use Rattle.graft_model.specs.Setups.{routers_in, peerings_in}
 use Rattle.graft_model.specs.declared.event.RouterEvent.TheVariants.{Admit, Clear}
-use Rattle.graft_runs.specs.Actors.{Router, Operator, ReportItem, actor_at}
-use Rattle.graft_runs.proofs.Numbers.{there as is_there, of_number, at_operator}
+use Rattle.graft_actors.specs.Actors.{Router, Operator, ReportItem, actor_at}
+use Rattle.graft_actors.proofs.Numbers.{there as is_there, of_number, at_operator}
 use Rattle.graft_actors.specs.Notes.{WroteOne, dropped}
 use Rattle.graft_actors.proofs.Welcome.{router_order, router_done}
-use Rattle.router_core.specs.Parts.{router_part, carried, Keeps, KeepsPlace}
-use Rattle.router_core.specs.Places.{errand_of, order_of, place_of, place_at, IsFree, IsAway}
-use Rattle.router_core.specs.Takes.{TakesIt}
+use Rattle.router_core.specs.Parts.{router_part, carried, RouterInvariant, KeepsPlace}
+use Rattle.router_core.specs.Places.{errand_of, order_of, place_of, place_at, IsLiveWithoutErrand, IsShadowOf}
+use Rattle.router_core.specs.Takes.{RouterTakesIt}
 use Rattle.router_core.specs.declared.fields.Fields.{Fields}
 use Rattle.router_core.specs.declared.place.Place.{Place}
 use Rattle.router_core.specs.declared.place.Place.TheVariants.{Live, Shadow}
 use Rattle.router_core.proofs.Dids.{did_same, same_router}
-use Rattle.router_core.proofs.Kept.{one_or_other, at_else, places_at, placed_here, placed_else, rest_of, keeps_on, with_routes, live_is, stays_itself}
+use Rattle.router_core.proofs.Kept.{one_or_other, at_else, places_at, placed_here, placed_else, keeps_on, with_routes, live_is, stays_itself}
 use Rattle.router_core.proofs.PlaceLists.{listed, rooms}
 use Rattle.router_core.proofs.Takings.{drops, is_router, takes_then}
 
@@ -55,40 +55,43 @@ no_live_in s o e = cc
 no_shadow : (ids : GraftIds) → None ≡ Some (Shadow ids) → ⊥
 no_shadow ids e = cc
 
-free_of : (place : Option Place) (s : SessionValue) → place_of place ≡ model.Live s None → IsFree place
+free_of : (place : Option Place) (s : SessionValue) → place_of place ≡ model.Live s None → IsLiveWithoutErrand place
 free_of None s e = absurd cc
 free_of (Some (Live u None)) s e = record { session = u; is = refl }
 free_of (Some (Live u (Some o))) s e = absurd (let x : Some (errand_of o) ≡ None = cc in let y : ⊥ = cc in y)
 free_of (Some (Shadow away)) s e = absurd cc
 
-pub away_of : (place : Option Place) (k : ℕ) → place_of place ≡ model.Shadow k → IsAway place k
+pub away_of : (place : Option Place) (k : ℕ) → place_of place ≡ model.Shadow k → IsShadowOf place k
 away_of None k e = absurd cc
 away_of (Some (Live u o)) k e = absurd cc
 away_of (Some (Shadow away)) k e = record { away = away; is = refl; graft = cc }
 
 -- the place of a shadow is there
-pub away_within : (f : Fields) (p k : ℕ) → IsAway (place_at f.places.places p) k → p < length f.places.places
+pub away_within : (f : Fields) (p k : ℕ) → IsShadowOf (place_at f.places.places p) k → p < length f.places.places
 away_within f p k a = elim (cases_lt p (length f.places.places)) [ inl below ↦ below | inr past ↦ absurd (no_shadow a.away (sym (vacant_past f p past) ∙ a.is)) ]
 
 -- ---- the order
 
-module _ (f : Fields) (p q : Post (Item RunningSession)) (from k : ℕ) (peering : PeeringId) (target : RouterId) (keeps : Keeps f) where
+module _ (f : Fields) (p q : Post (Item RunningSession)) (from k : ℕ) (peering : PeeringId) (target : RouterId) (keeps : RouterInvariant f) where
   -- an order that isn't the operator's, or is of no live session that has nothing to be done for a graft, or to a router that isn't there
-  pub drops_order : (from ≡ f.routers + length f.places.places → target.0 < f.routers → peering.0 < length f.places.places → IsFree (place_at f.places.places peering.0) → ⊥) → WroteOne p dropped [] q → TakesIt from (items.GraftOrder k peering target) f p f q
+  pub drops_order : (from ≡ f.routers + length f.places.places → target.0 < f.routers → peering.0 < length f.places.places → IsLiveWithoutErrand (place_at f.places.places peering.0) → ⊥)
+      → WroteOne p dropped [] q → RouterTakesIt from (items.GraftOrder k peering target) f p f q
   drops_order not wrote = drops f p q from (items.GraftOrder k peering target) keeps wrote
       (λ w.
       let is = (router_order carried f.known.setup from f.number.0 k (router_part f) peering target).0 w in
       let number : from ≡ routers_in f.known.setup + peerings_in f.known.setup = (of_number f.known.setup from Operator is.0).1 in
-      let free : IsFree (place_at f.places.places peering.0) = free_of (place_at f.places.places peering.0) is.2 is.3 in
+      let free : IsLiveWithoutErrand (place_at f.places.places peering.0) = free_of (place_at f.places.places peering.0) is.2 is.3 in
       not (omega (arith, number, keeps.routers, keeps.places)) (omega (arith, is.1, keeps.routers)) (within free) free)
     where
-      within : IsFree (place_at f.places.places peering.0) → peering.0 < length f.places.places
+      within : IsLiveWithoutErrand (place_at f.places.places peering.0) → peering.0 < length f.places.places
       within free = elim (cases_lt peering.0 (length f.places.places)) [ inl below ↦ below | inr past ↦ absurd (no_live free.session (sym (vacant_past f peering.0 past) ∙ free.is)) ]
 
   -- the order is stored with the session
-  pub admits : (g : Fields) (s : RunningSession) (ids : GraftIds) → from ≡ f.routers + length f.places.places → target.0 < f.routers → peering.0 < length f.places.places → place_at f.places.places peering.0 ≡ Some (Live s None)
-      → ids ≡ record { graft = k; peering = peering; source = f.number; target = target } → Writes p (Admit k) [] q → g ≡ record f { places = g.places } → g.places ≡ with_place f.places peering.0 (Some (Live s (Some (Leaving ids))))
-      → TakesIt from (items.GraftOrder k peering target) f p g q
+  pub admits : (g : Fields) (s : RunningSession) (ids : GraftIds) → from ≡ f.routers + length f.places.places → target.0 < f.routers
+      → peering.0 < length f.places.places → place_at f.places.places peering.0 ≡ Some (Live s None)
+      → ids ≡ record { graft = k; peering = peering; source = f.number; target = target } → WritesEvent p (Admit k) [] q
+      → g ≡ record f { places = g.places } → g.places ≡ with_place f.places peering.0 (Some (Live s (Some (Leaving ids))))
+      → RouterTakesIt from (items.GraftOrder k peering target) f p g q
   admits g s ids number known there free is wrote same held =
       let targets : target.0 < routers_in f.known.setup = omega (arith, known, keeps.routers) in
       let from_is : from ≡ routers_in f.known.setup + peerings_in f.known.setup = omega (arith, number, keeps.routers, keeps.places) in
@@ -133,7 +136,7 @@ module _ (f : Fields) (p q : Post (Item RunningSession)) (from k : ℕ) (peering
         | inr not ↦ live_is f.places.places n u v o w a (record { is = sym (else_ n not) ∙ b.is })
       ]))
       (ap (λ (h : Fields). h.turns) same)
-      (keeps_on f g (rest_of f keeps)
+      (keeps_on f g keeps
       (subst (λ (h : Fields). h ≡ record f { places = h.places; rib = h.rib; due_in = h.due_in; due_out = h.due_out; turns = h.turns }) (sym same) refl)
       (record {
         places = ap length (listed held) ∙ length-set f.places.places peering.0 (Some (Live s (Some (Leaving ids))));
@@ -152,7 +155,8 @@ module _ (f : Fields) (p q : Post (Item RunningSession)) (from k : ℕ) (peering
         | inr not ↦ subst (λ (x : Option Place). KeepsPlace f.known.setup f.number.0 n ((rib_of f.rib).entries n) (table_at f.due_out n) x) (sym (else_ n not)) (keeps.each n)
       ])))
     where
-      live_same : (u v : RunningSession) (o w : Option Errand) → Some (Live u o) ≡ Some (Live s None) → Some (Live v w) ≡ Some (Live s (Some (Leaving ids))) → v ≡ u
+      live_same : (u v : RunningSession) (o w : Option Errand) → Some (Live u o) ≡ Some (Live s None)
+          → Some (Live v w) ≡ Some (Live s (Some (Leaving ids))) → v ≡ u
       live_same u v o w a b = let x : u ≡ s = cc in let y : v ≡ s = cc in y ∙ sym x
 
       with_order : KeepsPlace f.known.setup f.number.0 peering.0 ((rib_of f.rib).entries peering.0) (table_at f.due_out peering.0) (Some (Live s None))
@@ -170,20 +174,23 @@ module _ (f : Fields) (p q : Post (Item RunningSession)) (from k : ℕ) (peering
 
 -- ---- word that a session landed
 
-module _ (f : Fields) (p q : Post (Item RunningSession)) (from k : ℕ) (peering : PeeringId) (keeps : Keeps f) where
+module _ (f : Fields) (p q : Post (Item RunningSession)) (from k : ℕ) (peering : PeeringId) (keeps : RouterInvariant f) where
   -- word that isn't a router's, or of no shadow of that graft
-  pub drops_done : (from < f.routers → peering.0 < length f.places.places → IsAway (place_at f.places.places peering.0) k → ⊥) → WroteOne p dropped [] q → TakesIt from (items.Done k peering) f p f q
+  pub drops_done : (from < f.routers → peering.0 < length f.places.places → IsShadowOf (place_at f.places.places peering.0) k → ⊥)
+      → WroteOne p dropped [] q → RouterTakesIt from (items.Done k peering) f p f q
   drops_done not wrote = drops f p q from (items.Done k peering) keeps wrote
       (λ w.
       let is = (router_done carried f.known.setup from f.number.0 k (router_part f) peering).0 w in
       let known : from < routers_in f.known.setup = is_router f.known.setup from is.0 in
-      let away : IsAway (place_at f.places.places peering.0) k = away_of (place_at f.places.places peering.0) k is.1 in
+      let away : IsShadowOf (place_at f.places.places peering.0) k = away_of (place_at f.places.places peering.0) k is.1 in
       not (omega (arith, known, keeps.routers)) (away_within f peering.0 k away) away)
 
   -- the shadow ends, with its routes
-  pub clears : (g : Fields) (to : ℕ) → from < f.routers → peering.0 < length f.places.places → IsAway (place_at f.places.places peering.0) k → to ≡ f.routers + length f.places.places
-      → Writes p (Clear from) ((to, items.Report k Accepted) ∷ []) q → g ≡ record f { places = g.places; rib = g.rib } → g.places ≡ with_place f.places peering.0 None
-      → DropsEntries (rib_of f.rib) peering.0 (rib_of g.rib) → (rib_of g.rib).entries peering.0 ≡ map.empty → TakesIt from (items.Done k peering) f p g q
+  pub clears : (g : Fields) (to : ℕ) → from < f.routers → peering.0 < length f.places.places → IsShadowOf (place_at f.places.places peering.0) k
+      → to ≡ f.routers + length f.places.places
+      → WritesEvent p (Clear from) ((to, items.Report k Accepted) ∷ []) q → g ≡ record f { places = g.places; rib = g.rib }
+      → g.places ≡ with_place f.places peering.0 None
+      → DropsEntries (rib_of f.rib) peering.0 (rib_of g.rib) → (rib_of g.rib).entries peering.0 ≡ map.empty → RouterTakesIt from (items.Done k peering) f p g q
   clears g to below there away to_is wrote same held gone none =
       let known : from < routers_in f.known.setup = omega (arith, below, keeps.routers) in
       let at_from : actor_at f.known.setup from ≡ Some (Router from) = is_there f.known.setup (Router from) known in
@@ -229,7 +236,7 @@ module _ (f : Fields) (p q : Post (Item RunningSession)) (from k : ℕ) (peering
         | inr not ↦ live_is f.places.places n u v o w a (record { is = sym (else_ n not) ∙ b.is })
       ]))
       (ap (λ (h : Fields). h.turns) same)
-      (keeps_on f g (rest_of f keeps)
+      (keeps_on f g keeps
       (subst (λ (h : Fields). h ≡ record f { places = h.places; rib = h.rib; due_in = h.due_in; due_out = h.due_out; turns = h.turns }) (sym same) refl)
       (record {
         places = ap length (listed held) ∙ length-set f.places.places peering.0 None;
@@ -250,9 +257,11 @@ module _ (f : Fields) (p q : Post (Item RunningSession)) (from k : ℕ) (peering
             (subst (λ (es : Entries). KeepsPlace f.known.setup f.number.0 n es (table_at f.due_out n) (place_at f.places.places n)) (sym (entries_else n not)) (keeps.each n))
       ])))
     where
-      nothing : (x : Rattle.bgp_types.specs.Prefixes.PrefixValue) → is_some (map.get {X = Rattle.route_policy.specs.declared.entry.Entry.Entry} {R = Rattle.bgp_types.specs.Tables.prefix_cmp} map.empty x) ≡ false
+      nothing : (x : Rattle.bgp_types.specs.Prefixes.PrefixValue)
+          → is_some (map.get {X = Rattle.route_policy.specs.declared.entry.Entry.Entry} {R = Rattle.bgp_types.specs.Tables.prefix_cmp} map.empty x) ≡ false
       nothing x = ap (λ o. is_some o) (map.get-empty Rattle.bgp_types.specs.Tables.prefix_cmp x)
 
-      emptied : (ids : GraftIds) → KeepsPlace f.known.setup f.number.0 peering.0 ((rib_of f.rib).entries peering.0) (table_at f.due_out peering.0) (Some (Shadow ids))
+      emptied : (ids : GraftIds)
+          → KeepsPlace f.known.setup f.number.0 peering.0 ((rib_of f.rib).entries peering.0) (table_at f.due_out peering.0) (Some (Shadow ids))
           → KeepsPlace f.known.setup f.number.0 peering.0 ((rib_of g.rib).entries peering.0) (table_at f.due_out peering.0) None
       emptied ids h = ((λ x. ap (λ (es : Entries). is_some (map.get es x)) none ∙ nothing x), h.1)

@@ -13,7 +13,7 @@ use Rattle.bgp_session.specs.Running.{RunningSession}
 use Rattle.router_core.specs.declared.place.Errand.{Errand}
 use Rattle.graft_model.specs.Setups.{routers_in}
 use Rattle.router_core.specs.Configs.{IsRibOf}
-use Rattle.router_core.specs.Parts.{Keeps, KeepsPlace}
+use Rattle.router_core.specs.Parts.{RouterInvariant, KeepsAt, KeepsPlace, KeepsWith}
 use Rattle.router_core.specs.Places.{place_of, place_at, RunsAt}
 use Rattle.router_core.specs.Reading.{KeepsRest}
 use Rattle.router_core.specs.Takes.{Stays}
@@ -52,47 +52,11 @@ pub placed_else : (places : List (Option Place)) (p : ℕ) (x : Option Place) (q
 placed_else places p x q not = get_or-set_other places p q x None not
 
 -- the places of the part
-pub places_at : (places : List (Option Place)) (p : ℕ) (x : Option Place) → p < length places → (λ q. place_of (place_at (set places p x) q)) ≡ at (λ q. place_of (place_at places q)) p (place_of x)
+pub places_at : (places : List (Option Place)) (p : ℕ) (x : Option Place) → p < length places
+    → (λ q. place_of (place_at (set places p x) q)) ≡ at (λ q. place_of (place_at places q)) p (place_of x)
 places_at places p x there = at_is (λ q. place_of (place_at places q)) (λ q. place_of (place_at (set places p x) q)) p (place_of x) (ap place_of (placed_here places p x there)) (λ q not. ap place_of (placed_else places p x q not))
 
 -- ---- what is kept
-
-pub rest_of : (f : Fields) → Keeps f → KeepsRest f
-rest_of f k = record {
-  there = k.there;
-  routers = k.routers;
-  few_routers = k.few_routers;
-  few_peerings = k.few_peerings;
-  room = k.room;
-  reserved = k.reserved;
-  home_as = k.home_as;
-  policies = k.policies;
-  firsts = k.firsts;
-  rib = k.rib;
-  places = k.places;
-  due_in = k.due_in;
-  due_out = k.due_out;
-  tellings = k.tellings;
-}
-
-pub keeps_of : (f : Fields) → KeepsRest f → ((p : ℕ) → KeepsPlace f.known.setup f.number.0 p ((rib_of f.rib).entries p) (table_at f.due_out p) (place_at f.places.places p)) → Keeps f
-keeps_of f k each = record {
-  there = k.there;
-  routers = k.routers;
-  few_routers = k.few_routers;
-  few_peerings = k.few_peerings;
-  room = k.room;
-  reserved = k.reserved;
-  home_as = k.home_as;
-  policies = k.policies;
-  firsts = k.firsts;
-  rib = k.rib;
-  places = k.places;
-  due_in = k.due_in;
-  due_out = k.due_out;
-  tellings = k.tellings;
-  each = each;
-}
 
 -- all but the places, the routes, what is due and the count of turns is as it was
 abbrev pub IsSteady : Fields → Fields → Type 0
@@ -107,27 +71,33 @@ pub record SameSizes (f g : Fields) : Type 0 where
   pub config : g.rib.config ≡ f.rib.config
   pub tellings : (q : ℕ) → routers_in f.known.setup ≤ q → (rib_of g.rib).tellings q ≡ (rib_of f.rib).tellings q
 
-pub rest_on : (f g : Fields) → KeepsRest f → IsSteady f g → SameSizes f g → KeepsRest g
-rest_on f g k steady sizes = subst KeepsRest (sym steady) (record {
-  there = k.there;
-  routers = k.routers;
-  few_routers = k.few_routers;
-  few_peerings = k.few_peerings;
-  room = k.room;
-  reserved = sizes.reserved ∙ k.reserved;
-  home_as = k.home_as;
-  policies = k.policies;
-  firsts = k.firsts;
-  rib = subst (λ (config : RibConfig). IsRibOf f.known.setup f.number.0 config) (sym sizes.config) k.rib;
-  places = sizes.places ∙ k.places;
-  due_in = sizes.due_in ∙ k.due_in;
-  due_out = sizes.due_out ∙ k.due_out;
-  tellings = λ q from x. ap (λ (t : Tellings). is_some (map.get t x)) (sizes.tellings q from) ∙ k.tellings q from x;
-})
+module _ {Each : ℕ → Type 0} (f g : Fields) (k : KeepsWith Each f) (steady : IsSteady f g) (sizes : SameSizes f g) where
+  -- with another part for each peering
+  pub keeps_with : (Then : ℕ → Type 0) → ((p : ℕ) → Then p) → KeepsWith Then g
+  keeps_with Then each = subst (KeepsWith Then) (sym steady) (record {
+    there = k.there;
+    routers = k.routers;
+    few_routers = k.few_routers;
+    few_peerings = k.few_peerings;
+    room = k.room;
+    reserved = sizes.reserved ∙ k.reserved;
+    home_as = k.home_as;
+    policies = k.policies;
+    firsts = k.firsts;
+    rib = subst (λ (config : RibConfig). IsRibOf f.known.setup f.number.0 config) (sym sizes.config) k.rib;
+    places = sizes.places ∙ k.places;
+    due_in = sizes.due_in ∙ k.due_in;
+    due_out = sizes.due_out ∙ k.due_out;
+    tellings = λ q from x. ap (λ (t : Tellings). is_some (map.get t x)) (sizes.tellings q from) ∙ k.tellings q from x;
+    each = each;
+  })
 
-pub keeps_on : (f g : Fields) → KeepsRest f → IsSteady f g → SameSizes f g → ((p : ℕ) → KeepsPlace f.known.setup f.number.0 p ((rib_of g.rib).entries p) (table_at g.due_out p) (place_at g.places.places p)) → Keeps g
-keeps_on f g k steady sizes each = keeps_of g (rest_on f g k steady sizes)
-    (λ p. subst (λ (h : Fields). KeepsPlace h.known.setup h.number.0 p ((rib_of g.rib).entries p) (table_at g.due_out p) (place_at g.places.places p)) (sym steady) (each p))
+  pub rest_on : KeepsRest g
+  rest_on = keeps_with (λ p. Unit {0}) (λ p. tt)
+
+  pub keeps_on : ((p : ℕ) → KeepsPlace f.known.setup f.number.0 p ((rib_of g.rib).entries p) (table_at g.due_out p) (place_at g.places.places p))
+      → RouterInvariant g
+  keeps_on each = keeps_with (KeepsAt g) (λ p. subst (λ (h : Fields). KeepsPlace h.known.setup h.number.0 p ((rib_of g.rib).entries p) (table_at g.due_out p) (place_at g.places.places p)) (sym steady) (each p))
 
 -- ---- the part with other routes
 

@@ -16,16 +16,15 @@ use Rattle.rib_stages.specs.Values.{RibValue, rib_of}
 use Rattle.graft_model.specs.Decisions.{entry_of, remote_identifier, session_route}
 use Rattle.graft_model.specs.GraftRows.{is_taken, taken_in, refusal_of}
 use Rattle.graft_model.specs.RouterRows.{BringsIn}
-use Rattle.graft_model.specs.Setups.{first_of, unknown}
-use Rattle.tell_plan.proofs.Keys.{keys_any}
+use Rattle.graft_model.specs.Setups.{first_name, unknown_policy}
+use Rattle.update_plan.proofs.Keys.{keys_any}
 use Rattle.router_core.specs.Entering.{EntersAll, entry_here, missing_by, unknown_by}
-use Rattle.router_core.specs.Parts.{router_part, Keeps, HasNoEntry}
+use Rattle.router_core.specs.Parts.{router_part, RouterInvariant, HasNoEntry}
 use Rattle.router_core.specs.Places.{place_of, place_at}
 use Rattle.router_core.specs.declared.fields.Fields.{Fields}
 use Rattle.router_core.specs.declared.place.Place.{Place}
 use Rattle.router_core.specs.declared.place.Place.TheVariants.{Live, Shadow}
 use Rattle.router_core.proofs.PlaceLists.{count_first}
-use Rattle.router_core.proofs.Kept.{rest_of}
 use Rattle.router_core.proofs.ReadSteps.{entry_is}
 
 -- ---- how many places are taken
@@ -35,7 +34,9 @@ held_is None = refl
 held_is (Some (Live s o)) = refl
 held_is (Some (Shadow away)) = refl
 
-count_step : (g : ℕ → Bool) (x : Option Place) (xs : List (Option Place)) (k : ℕ) → g k ≡ is_some x → length (filter g (range_with_len (k + 1) (length xs))) ≡ count_by is_some xs → length (filter g (range_with_len k (length (x ∷ xs)))) ≡ count_by is_some (x ∷ xs)
+count_step : (g : ℕ → Bool) (x : Option Place) (xs : List (Option Place)) (k : ℕ) → g k ≡ is_some x
+    → length (filter g (range_with_len (k + 1) (length xs))) ≡ count_by is_some xs
+    → length (filter g (range_with_len k (length (x ∷ xs)))) ≡ count_by is_some (x ∷ xs)
 count_step g x xs k same rest =
     ap (λ (n : ℕ). length (filter g (range_with_len k n))) (let e : length (x ∷ xs) ≡ suc (length xs) = omega arith in e)
     ∙ one (g k) (filter g (range_with_len (k + 1) (length xs))) ∙ (λ i. (if same i then 1 else 0) + rest i) ∙ sym (count_first x xs) where
@@ -43,25 +44,27 @@ count_step g x xs k same rest =
       one true ns = omega arith
       one false ns = omega arith
 
-count_from : (g : ℕ → Bool) (xs : List (Option Place)) (k : ℕ) → ((i : ℕ) → i < length xs → g (k + i) ≡ is_some (get_or xs i None)) → length (filter g (range_with_len k (length xs))) ≡ count_by is_some xs
+count_from : (g : ℕ → Bool) (xs : List (Option Place)) (k : ℕ) → ((i : ℕ) → i < length xs → g (k + i) ≡ is_some (get_or xs i None))
+    → length (filter g (range_with_len k (length xs))) ≡ count_by is_some xs
 count_from g [] k same = refl
 count_from g (x ∷ xs) k same =
     count_step g x xs k (ap g (let e : k ≡ k + 0 = omega arith in e) ∙ same 0 (omega arith))
     (count_from g xs (k + 1) (λ i below. ap g (let e : k + 1 + i ≡ k + suc i = omega arith in e) ∙ same (suc i) (omega (arith, below))))
 
-pub taken_is : (f : Fields) → Keeps f → count_by is_some f.places.places ≡ taken_in f.known.setup (router_part f)
+pub taken_is : (f : Fields) → RouterInvariant f → count_by is_some f.places.places ≡ taken_in f.known.setup (router_part f)
 taken_is f keeps =
     sym (count_from (λ n. is_taken (place_of (place_at f.places.places n))) f.places.places 0 (λ i below. ap (λ (n : ℕ). is_taken (place_of (place_at f.places.places n))) (let e : 0 + i ≡ i = omega arith in e) ∙ held_is (place_at f.places.places i)))
     ∙ ap (λ (n : ℕ). length (filter (λ p. is_taken (place_of (place_at f.places.places p))) (range_with_len 0 n))) keeps.places
 
 -- ---- why a session isn't taken in
 
-unknown_is : (f : Fields) (name : Option (List ℕ)) → Keeps f → unknown_by f.policies name ≡ unknown f.known.setup f.number.0 name
+unknown_is : (f : Fields) (name : Option (List ℕ)) → RouterInvariant f → unknown_by f.policies name ≡ unknown_policy f.known.setup f.number.0 name
 unknown_is f None keeps = refl
 unknown_is f (Some name) keeps = ap (λ (o : Option (List Rule)). if is_none o then Some name else None) (keeps.policies.each name)
 
-pub refusal_is : (f : Fields) (s : SessionValue) → Keeps f → admit_refusal (count_by is_some f.places.places) f.room (missing_by f.policies s.config) ≡ refusal_of f.known.setup f.number.0 (router_part f) s
-refusal_is f s keeps = λ i. admit_refusal (taken_is f keeps i) (keeps.room i) (first_of (unknown_is f s.config.import keeps i) (unknown_is f s.config.export keeps i))
+pub refusal_is : (f : Fields) (s : SessionValue) → RouterInvariant f
+    → admit_refusal (count_by is_some f.places.places) f.room (missing_by f.policies s.config) ≡ refusal_of f.known.setup f.number.0 (router_part f) s
+refusal_is f s keeps = λ i. admit_refusal (taken_is f keeps i) (keeps.room i) (first_name (unknown_is f s.config.import keeps i) (unknown_is f s.config.export keeps i))
 
 -- ---- what lands brings in
 
@@ -72,13 +75,15 @@ no_value : {A : Type 0} (o : Option A) → is_some o ≡ false → o ≡ None
 no_value None e = refl
 no_value (Some a) e = absurd (let z : ⊥ = cc in z)
 
-pub brings_in : (f : Fields) (s : SessionValue) (after : RibValue) → Keeps f → HasNoEntry ((rib_of f.rib).entries s.config.peering.0) → EntersAll (rib_of f.rib) s.config.peering.0 (entry_here f.home_as f.policies s) (map.keys s.heard) after
+pub brings_in : (f : Fields) (s : SessionValue) (after : RibValue) → RouterInvariant f → HasNoEntry ((rib_of f.rib).entries s.config.peering.0)
+    → EntersAll (rib_of f.rib) s.config.peering.0 (entry_here f.home_as f.policies s) (map.keys s.heard) after
     → BringsIn f.known.setup f.number.0 s (after.entries s.config.peering.0)
 brings_in f s after keeps none entered x = by_test (is_some (map.get s.heard x)) refl
   where
     by_test : (b : Bool) → is_some (map.get s.heard x) ≡ b → map.get (after.entries s.config.peering.0) x ≡ entry_of f.known.setup f.number.0 s x
-    by_test true e = entered.each x (keys_any s.heard x ∙ e) ∙ entry_is f s x (rest_of f keeps)
-    by_test false e = entered.others x (keys_any s.heard x ∙ e) ∙ no_value (map.get ((rib_of f.rib).entries s.config.peering.0) x) (none x) ∙ sym (none_brought f s x (no_value (map.get s.heard x) e))
+    by_test true e = entered.each x (keys_any s.heard x ∙ e) ∙ entry_is f s x keeps
+    by_test false e = entered.others x (keys_any s.heard x ∙ e) ∙ no_value (map.get ((rib_of f.rib).entries s.config.peering.0) x) (none x)
+        ∙ sym (none_brought f s x (no_value (map.get s.heard x) e))
 
 -- a session that isn't refused finds room
 pub has_room : (held room : ℕ) (missing : Option (List ℕ)) → admit_refusal held room missing ≡ None → held < room

@@ -5,7 +5,7 @@ use Rattle.ring_net.specs.declared.post.Post.{Post}
 use Rattle.graft_steps.specs.declared.item.Item.{Item}
 use Rattle.graft_steps.specs.declared.item.Item.TheVariants as items
 use Rattle.graft_steps.specs.Landings.{Landing}
-use Rattle.router_core.specs.Rounds.{Writes}
+use Rattle.router_core.specs.Rounds.{WritesEvent}
 use Rattle.router_core.specs.declared.place.Errand.{Errand}
 use Rattle.router_core.specs.declared.place.Errand.TheVariants.{Owing}
 use Rattle.graft_steps.specs.declared.refusal.Refusal.{Refusal}
@@ -19,20 +19,20 @@ use Rattle.graft_model.specs.Parts.{RouterPart, Moved, Back, PointAt}
 use Rattle.graft_model.specs.RouterRows.{MeshIn, MeshTo, OutwardTo}
 use Rattle.graft_model.specs.Setups.{routers_in, peerings_in}
 use Rattle.graft_model.specs.declared.event.RouterEvent.TheVariants.{Land, TurnBack}
-use Rattle.graft_runs.specs.Actors.{Router, FarSide, OutwardItem, actor_at}
-use Rattle.graft_runs.proofs.Numbers.{there as is_there}
+use Rattle.graft_actors.specs.Actors.{Router, FarSide, OutwardItem, actor_at}
+use Rattle.graft_actors.proofs.Numbers.{there as is_there}
 use Rattle.graft_actors.specs.Items.{IsOnItsWay}
 use Rattle.graft_actors.specs.Notes.{WroteOne, dropped}
 use Rattle.graft_actors.proofs.Welcome.{router_moved}
-use Rattle.router_core.specs.Parts.{router_part, carried, Keeps, KeepsPlace, HasNoEntry}
+use Rattle.router_core.specs.Parts.{router_part, carried, RouterInvariant, KeepsPlace, HasNoEntry}
 use Rattle.router_core.specs.Places.{place_of, place_at, word_of}
 use Rattle.router_core.specs.Reading.{KeepsBut, ReadsAll, SettlesIn}
-use Rattle.router_core.specs.Takes.{TakesIt}
+use Rattle.router_core.specs.Takes.{RouterTakesIt}
 use Rattle.router_core.specs.declared.fields.Fields.{Fields}
 use Rattle.router_core.specs.declared.place.Place.{Place}
 use Rattle.router_core.specs.declared.place.Place.TheVariants.{Live, Shadow}
 use Rattle.router_core.proofs.Dids.{did_same, same_router}
-use Rattle.router_core.proofs.Kept.{one_or_other, at_is, at_else, places_at, placed_here, placed_else, rest_of, rest_on, with_routes, live_is, stays_itself}
+use Rattle.router_core.proofs.Kept.{one_or_other, at_is, at_else, places_at, placed_here, placed_else, rest_on, with_routes, live_is, stays_itself}
 use Rattle.router_core.proofs.LandSteps.{brings_in}
 use Rattle.router_core.proofs.PlaceLists.{listed, rooms}
 use Rattle.router_core.proofs.Takings.{drops, is_router, all_stay, takes_then}
@@ -43,15 +43,16 @@ vacant_of (Some (Live s o)) e = absurd (let x : ⊥ = cc in x)
 vacant_of (Some (Shadow away)) e = absurd (let x : ⊥ = cc in x)
 
 -- a session that isn't a router's, or whose place is taken, or that isn't on its way
-pub drops_moved : (f : Fields) (a b : Post (Item RunningSession)) (from k : ℕ) (s : RunningSession) → Keeps f
-    → (from < f.routers → s.session.config.peering.0 < length f.places.places → place_at f.places.places s.session.config.peering.0 ≡ None → IsOnItsWay f.known.setup s.session → ⊥) → WroteOne a dropped [] b → TakesIt from (items.Moved k s) f a f b
+pub drops_moved : (f : Fields) (a b : Post (Item RunningSession)) (from k : ℕ) (s : RunningSession) → RouterInvariant f
+    → (from < f.routers → s.session.config.peering.0 < length f.places.places → place_at f.places.places s.session.config.peering.0 ≡ None → IsOnItsWay f.known.setup s.session → ⊥)
+    → WroteOne a dropped [] b → RouterTakesIt from (items.Moved k s) f a f b
 drops_moved f a b from k s keeps not wrote = drops f a b from (items.Moved k s) keeps wrote
     (λ w.
     let is = (router_moved carried f.known.setup from f.number.0 k (router_part f) s).0 w in
     let known : from < routers_in f.known.setup = is_router f.known.setup from is.0 in
     not (omega (arith, known, keeps.routers)) (omega (arith, is.2, keeps.places)) (vacant_of (place_at f.places.places s.session.config.peering.0) is.3) is.1)
 
-module _ (f : Fields) (a b : Post (Item RunningSession)) (from k : ℕ) (s : RunningSession) (keeps : Keeps f)
+module _ (f : Fields) (a b : Post (Item RunningSession)) (from k : ℕ) (s : RunningSession) (keeps : RouterInvariant f)
     (below : from < f.routers) (there : s.session.config.peering.0 < length f.places.places) (vacant : place_at f.places.places s.session.config.peering.0 ≡ None) (way : IsOnItsWay f.known.setup s.session) where
   abbrev p : ℕ
   p = s.session.config.peering.0
@@ -69,7 +70,8 @@ module _ (f : Fields) (a b : Post (Item RunningSession)) (from k : ℕ) (s : Run
   comes = record { graft = k; peering = p; session = s.session; takes = refl; known = peering_known; vacant = ap place_of vacant }
 
   -- it is sent back
-  pub turns_back : (refusal : Refusal) → refusal_of f.known.setup f.number.0 (router_part f) s.session ≡ Some refusal → Writes a (TurnBack from) ((from, items.Back k s refusal) ∷ []) b → TakesIt from (items.Moved k s) f a f b
+  pub turns_back : (refusal : Refusal) → refusal_of f.known.setup f.number.0 (router_part f) s.session ≡ Some refusal
+      → WritesEvent a (TurnBack from) ((from, items.Back k s refusal) ∷ []) b → RouterTakesIt from (items.Moved k s) f a f b
   turns_back refusal cause wrote = takes_then f f f a b b from (items.Moved k s) (TurnBack from) []
       (record {
         router = same_router f;
@@ -96,7 +98,7 @@ module _ (f : Fields) (a b : Post (Item RunningSession)) (from k : ℕ) (s : Run
 
   -- it lands
   module _ (mid h : Fields) (c : Post (Item RunningSession)) (far : ℕ) (landed : Landing) (settles : SettlesIn f s landed mid) (landed_is : landed ≡ record { ids = record { graft = k; peering = s.session.config.peering; source = record { 0 = from }; target = f.number }; next = 0 }) (far_is : far ≡ f.routers + p) (admitted : refusal_of f.known.setup f.number.0 (router_part f) s.session ≡ None)
-      (wrote : Writes a (Land from) ((far, items.PointAt k) ∷ []) b) where
+      (wrote : WritesEvent a (Land from) ((far, items.PointAt k) ∷ []) b) where
     abbrev held : Option Place
     held = Some (Live s (Some (Owing landed)))
 
@@ -114,7 +116,7 @@ module _ (f : Fields) (a b : Post (Item RunningSession)) (from k : ℕ) (s : Run
 
     pub keeps_land : KeepsBut p mid
     keeps_land = subst (KeepsBut p) (sym settles.same) (record {
-      rest = rest_on f (record f { places = mid.places; rib = mid.rib; due_out = mid.due_out }) (rest_of f keeps) refl
+      rest = rest_on f (record f { places = mid.places; rib = mid.rib; due_out = mid.due_out }) keeps refl
           (record {
             places = ap length (listed settles.held) ∙ length-set f.places.places p held;
             reserved = rooms settles.held;
@@ -145,7 +147,7 @@ module _ (f : Fields) (a b : Post (Item RunningSession)) (from k : ℕ) (s : Run
     lands_at : at (router_part f).places p (place_of held) ≡ at (router_part f).places p (model.Live s.session (Some (model.Owing (record { graft = k; source = from; next = 0 }))))
     lands_at = ap (λ (l : Landing). at (router_part f).places p (model.Live s.session (Some (model.Owing (word_of l))))) landed_is
 
-    pub lands : ReadsAll p mid b h c → TakesIt from (items.Moved k s) f a h c
+    pub lands : ReadsAll p mid b h c → RouterTakesIt from (items.Moved k s) f a h c
     lands reads =
         let to_far : far ≡ routers_in f.known.setup + p = omega (arith, far_is, keeps.routers) in
         takes_then f mid h a b c from (items.Moved k s) (Land from) reads.events

@@ -3,9 +3,9 @@ use Rattle.std.proofs.Common.{◌≡◌, ℕ, ◌≤◌, ◌<◌, Bool, List, []
 use Rattle.bgp_types.specs.declared.attrs.Attrs.{Attrs}
 use Rattle.bgp_types.specs.Prefixes.{PrefixValue}
 use Rattle.session_value.specs.Sets.{Lists}
-use Rattle.tell_plan.specs.declared.batch.Batch.{Batch}
-use Rattle.tell_plan.specs.Plans.{IsNext, octets}
-use Rattle.tell_plan.proofs.Sizes.{one_more}
+use Rattle.update_plan.specs.declared.batch.Batch.{Batch}
+use Rattle.update_plan.specs.Plans.{IsNext, octets}
+use Rattle.update_plan.proofs.Sizes.{one_more}
 use Rattle.graft_model.proofs.Rising.{one_least, one_list}
 
 -- ---- as many as there is room for
@@ -27,7 +27,8 @@ module _ (wide : Bool) (attrs : Option Attrs) where
   abbrev Whole : List PrefixValue → List PrefixValue → Type 0
   Whole prefixes later = (next : PrefixValue) (rest : List PrefixValue) → later ≡ next ∷ rest → 4096 < octets wide attrs (prefixes ++ next ∷ [])
 
-  split_one : (front p p' later later' : List PrefixValue) → p ++ later ≡ p' ++ later' → octets wide attrs (front ++ p) ≤ 4096 → octets wide attrs (front ++ p') ≤ 4096 → Whole (front ++ p) later → Whole (front ++ p') later' → p ≡ p'
+  split_one : (front p p' later later' : List PrefixValue) → p ++ later ≡ p' ++ later' → octets wide attrs (front ++ p) ≤ 4096
+      → octets wide attrs (front ++ p') ≤ 4096 → Whole (front ++ p) later → Whole (front ++ p') later' → p ≡ p'
   split_one front [] [] later later' e fits fits' whole whole' = refl
   split_one front [] (y ∷ p') later later' e fits fits' whole whole' =
       let over : 4096 < octets wide attrs (front ++ y ∷ []) = subst (λ (l : List PrefixValue). 4096 < octets wide attrs (l ++ y ∷ [])) (append-nil front) (whole y (p' ++ later') e) in
@@ -50,7 +51,8 @@ module _ (wide : Bool) (attrs : Option Attrs) where
 parts : (a b : Batch) → a.attrs ≡ b.attrs → a.prefixes ≡ b.prefixes → a ≡ b
 parts a b e f = grind arith
 
-pub next_one : (Is : PrefixValue → Type 0) (to_tell : PrefixValue → Option Attrs) (wide : Bool) (a b : Batch) → IsNext Is to_tell wide a → IsNext Is to_tell wide b → a ≡ b
+pub next_one : (Is : PrefixValue → Type 0) (to_tell : PrefixValue → Option Attrs) (wide : Bool) (a b : Batch) → IsNext Is to_tell wide a
+    → IsNext Is to_tell wide b → a ≡ b
 next_one Is to_tell wide a b m n =
     let first : m.first ≡ n.first = one_least m.first n.first (n.least.least m.first m.least.is) (m.least.least n.first n.least.is) in
     let attrs : a.attrs ≡ b.attrs = m.told_first ∙ (ap to_tell first ∙ sym n.told_first) in

@@ -19,7 +19,8 @@ same_there places n = ap (λ (xs : List (Option Place)). let p : PlaceList Place
 
 -- ---- how many places are taken
 
-add_from : (xs : List (Option Place)) (a b : ℕ) → fold (λ (n : ℕ) (y : Option Place). n + (if is_some y then 1 else 0)) (a + b) xs ≡ a + fold (λ (n : ℕ) (y : Option Place). n + (if is_some y then 1 else 0)) b xs
+add_from : (xs : List (Option Place)) (a b : ℕ)
+    → fold (λ (n : ℕ) (y : Option Place). n + (if is_some y then 1 else 0)) (a + b) xs ≡ a + fold (λ (n : ℕ) (y : Option Place). n + (if is_some y then 1 else 0)) b xs
 add_from [] a b = refl
 add_from (y ∷ ys) a b = ap (λ (n : ℕ). fold (λ (m : ℕ) (z : Option Place). m + (if is_some z then 1 else 0)) n ys) (let e : a + b + (if is_some y then 1 else 0) ≡ a + (b + (if is_some y then 1 else 0)) = omega arith in e) ∙ add_from ys a (b + (if is_some y then 1 else 0))
 

@@ -15,15 +15,15 @@ use Rattle.rib_stages.specs.Values.{rib_of, table_at}
 use Rattle.graft_model.specs.Points.{at}
 use Rattle.graft_model.specs.Setups.{Setup}
 use Rattle.graft_actors.specs.Emissions.{Tally}
-use Rattle.router_core.specs.Parts.{router_part, Keeps, KeepsPlace}
+use Rattle.router_core.specs.Parts.{router_part, RouterInvariant, KeepsPlace}
 use Rattle.router_core.specs.Places.{place_of, place_at}
-use Rattle.router_core.specs.Rounds.{Did}
+use Rattle.router_core.specs.Rounds.{DidAsRouter}
 use Rattle.router_core.specs.Visits.{none_on, Stage, Visits, SameButPlaces}
 use Rattle.router_core.specs.declared.fields.Fields.{Fields}
 use Rattle.router_core.specs.declared.place.Place.{Place}
 use Rattle.router_core.specs.declared.place.Place.TheVariants.{Live}
 use Rattle.router_core.proofs.Dids.{did_same}
-use Rattle.router_core.proofs.Standing.{keeps_on}
+use Rattle.router_core.proofs.Kept.{keeps_on}
 use Rattle.router_core.proofs.PlaceLists.{listed, rooms}
 use Rattle.router_core.proofs.VisitSteps.{same_or_not, at_here, at_other, set_here, set_other, set_at}
 
@@ -32,8 +32,10 @@ pub at_own : {A : Type 0} (f : ℕ → A) (p : ℕ) (x : A) → x ≡ f p → (q
 at_own f p x is q = elim (same_or_not p q) [ inl e ↦ at_here f p x q e ∙ is ∙ ap f (sym e) | inr not ↦ at_other f p x q not ]
 
 -- a session with the same configuration and story, and as many unread bytes, keeps its place
-pub keeps_live : (setup : Setup) (r p : ℕ) (entries : Entries) (due : Prefixes) (s u : RunningSession) (o : Option Errand) → KeepsPlace setup r p entries due (Some (Live s o))
-    → u.session.config ≡ s.session.config → u.session.story ≡ s.session.story → unread u.session ≡ unread s.session → KeepsPlace setup r p entries due (Some (Live u o))
+pub keeps_live : (setup : Setup) (r p : ℕ) (entries : Entries) (due : Prefixes) (s u : RunningSession) (o : Option Errand)
+    → KeepsPlace setup r p entries due (Some (Live s o))
+    → u.session.config ≡ s.session.config → u.session.story ≡ s.session.story → unread u.session ≡ unread s.session
+    → KeepsPlace setup r p entries due (Some (Live u o))
 keeps_live setup r p entries due s u o keeps config story rest = (
   record {
     peering = ap (λ (c : SessionConfig). c.peering.0) config ∙ keeps.0.peering;
@@ -54,12 +56,13 @@ module _ (f g : Fields) (n : ℕ) (x : Option Place) (there : n < length f.place
   elsewhere q not = ap (λ (xs : List (Option Place)). place_at xs q) (listed items) ∙ set_other f.places.places n x there q not
 
   pub part_at : router_part g ≡ record (router_part f) { places = at (router_part f).places n (place_of x) }
-  part_at = ap router_part same ∙ (λ i. record (router_part f) { places = λ q. (ap (λ (xs : List (Option Place)). place_of (place_at xs q)) (listed items) ∙ set_at f.places.places n x there q) i })
+  part_at = ap router_part same
+      ∙ (λ i. record (router_part f) { places = λ q. (ap (λ (xs : List (Option Place)). place_of (place_at xs q)) (listed items) ∙ set_at f.places.places n x there q) i })
 
   pub part_same : place_of x ≡ place_of (place_at f.places.places n) → router_part g ≡ router_part f
   part_same stays = part_at ∙ (λ i. record (router_part f) { places = λ q. at_own (router_part f).places n (place_of x) stays q i })
 
-  pub keeps_at : Keeps f → KeepsPlace f.known.setup f.number.0 n ((rib_of f.rib).entries n) (table_at f.due_out n) x → Keeps g
+  pub keeps_at : RouterInvariant f → KeepsPlace f.known.setup f.number.0 n ((rib_of f.rib).entries n) (table_at f.due_out n) x → RouterInvariant g
   keeps_at keeps place = keeps_on f g keeps
       (subst (λ (h : Fields). h ≡ record f { places = h.places; rib = h.rib; due_in = h.due_in; due_out = h.due_out; turns = h.turns }) (sym same) refl)
       (record {
@@ -68,7 +71,7 @@ module _ (f g : Fields) (n : ℕ) (x : Option Place) (there : n < length f.place
         due_in = ap (λ (h : Fields). length h.due_in) same;
         due_out = ap (λ (h : Fields). length h.due_out) same;
         config = ap (λ (h : Fields). h.rib.config) same;
-        tellings = ap (λ (h : Fields). (rib_of h.rib).tellings) same;
+        tellings = λ q out. ap (λ (h : Fields). (rib_of h.rib).tellings q) same;
       })
       (λ p. subst (λ (h : Fields). KeepsPlace f.known.setup f.number.0 p ((rib_of h.rib).entries p) (table_at h.due_out p) (place_at g.places.places p)) (sym same) (each p))
     where
@@ -81,11 +84,12 @@ module _ (f g : Fields) (n : ℕ) (x : Option Place) (there : n < length f.place
       ]
 
   -- nothing that the model sees changes
-  pub visits_same : (stage : Stage) (p : Post (Item RunningSession)) → Keeps f → place_of x ≡ place_of (place_at f.places.places n) → stage.Goes none_on (place_at f.places.places n) x → ((t : Tally) → stage.count (place_at f.places.places n) t ≡ t) → stage.Same f g
+  pub visits_same : (stage : Stage) (p : Post (Item RunningSession)) → RouterInvariant f → place_of x ≡ place_of (place_at f.places.places n)
+      → stage.Goes none_on (place_at f.places.places n) x → ((t : Tally) → stage.count (place_at f.places.places n) t ≡ t) → stage.kept.Same f g
       → KeepsPlace f.known.setup f.number.0 n ((rib_of f.rib).entries n) (table_at f.due_out n) x → Visits stage n f p g p
   visits_same stage p keeps stays goes none same_rest place = record {
     events = [];
-    did = λ t. subst (λ (u : ℕ → Tally). Did f p t [] g p u) (λ i q. sym (at_own t n (stage.count (place_at f.places.places n) (t n)) (none (t n)) q) i)
+    did = λ t. subst (λ (u : ℕ → Tally). DidAsRouter f p t [] g p u) (λ i q. sym (at_own t n (stage.count (place_at f.places.places n) (t n)) (none (t n)) q) i)
         (did_same f g p t (record { setup = ap (λ (h : Fields). h.known.setup) same; number = ap (λ (h : Fields). h.number) same }) (part_same stays));
     at = tt;
     goes = subst (λ (y : Option Place). stage.Goes none_on (place_at f.places.places n) y) (sym here) goes;

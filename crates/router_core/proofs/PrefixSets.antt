@@ -8,7 +8,7 @@ use Rattle.bgp_types.specs.Tables.{prefix_cmp}
 use Rattle.bgp_story.specs.Readings.{Routes}
 use Rattle.session_value.specs.Sets.{BestRoutes, Prefixes, has}
 use Rattle.rib_stages.proofs.Marks.{itself, has_inserted}
-use Rattle.tell_plan.proofs.Keys.{same_is, keys_any}
+use Rattle.update_plan.proofs.Keys.{same_is, keys_any}
 use Rattle.router_core.specs.Reading.{AddsAll, IsDueAgain, IsDueBest}
 use Rattle.router_core.proofs.EnterSteps.{same_or_not, any_last, any_other}
 

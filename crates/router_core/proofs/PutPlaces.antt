@@ -13,18 +13,18 @@ use Rattle.bgp_types.specs.Prefixes.{PrefixValue, IsPrefix}
 use Rattle.bgp_types.specs.declared.message.SessionState.TheVariants.{Established}
 use Rattle.bgp_types.specs.Tables.{prefix_cmp, first_above}
 use Rattle.rib_stages.proofs.Drops.{no_least_is}
-use Rattle.router_core.proofs.Standing.{keeps_on}
+use Rattle.router_core.proofs.Kept.{keeps_on}
 use Rattle.session_value.specs.Cases.{update_for}
 use Rattle.session_value.specs.Sessions.{SessionValue, state, peering_of}
 use Rattle.session_value.specs.Sets.{BestRoutes, Prefixes, has}
 use Rattle.bgp_session.specs.Running.{RunningSession}
 use Rattle.rib_stages.specs.Values.{rib_of, table_at}
-use Rattle.tell_plan.specs.Plans.{IsWritableFor, octets}
-use Rattle.tell_plan.proofs.Sizes.{one_more}
+use Rattle.update_plan.specs.Plans.{IsWritableFor, octets}
+use Rattle.update_plan.proofs.Sizes.{one_more}
 use Rattle.bgp_types.specs.declared.attrs.Attrs.{Attrs}
 use Rattle.bgp_types.proofs.WalkLaws.{next_entry}
 use Rattle.bgp_story.specs.Legal.{is_wide}
-use Rattle.tell_plan.specs.declared.batch.Batch.{Batch}
+use Rattle.update_plan.specs.declared.batch.Batch.{Batch}
 use Rattle.graft_model.specs.Points.{at}
 use Rattle.graft_model.specs.Parts as model
 use Rattle.graft_model.specs.Parts.{RouterPart}
@@ -33,19 +33,18 @@ use Rattle.graft_model.specs.Sets.{Drops}
 use Rattle.graft_model.specs.Setups.{Setup}
 use Rattle.graft_model.specs.declared.event.RouterEvent.TheVariants.{Put}
 use Rattle.graft_actors.specs.Emissions.{Tally}
-use Rattle.router_core.specs.Parts.{router_part, Keeps, KeepsPlace}
+use Rattle.router_core.specs.Parts.{router_part, RouterInvariant, KeepsPlace}
 use Rattle.router_core.specs.Places.{errand_of, place_of, place_at}
 use Rattle.router_core.specs.Putting.{HadNoRoom, LeavesPlan, NextAt, OfferedAt, OffersAt, PlannedAt, PutsAt, PutsFirst, PutsSomeAt}
 use Rattle.router_core.specs.Rested.{IsDone}
-use Rattle.router_core.specs.Rounds.{Did, Writes}
+use Rattle.router_core.specs.Rounds.{DidAsRouter, WritesEvent}
 use Rattle.router_core.specs.Stages.{PlaceGoes, PutsMore, PutsAll}
 use Rattle.router_core.specs.Updates.{IsNextUpdate, IsStuck, IsUnwritable, length_with}
-use Rattle.router_core.specs.Visits.{SameButLeaving, SameButPlaces}
+use Rattle.router_core.specs.Visits.{SameButLeaving, SameButPlaces, leaving_twice}
 use Rattle.router_core.specs.declared.fields.Fields.{Fields}
 use Rattle.router_core.specs.declared.place.Place.{Place}
 use Rattle.router_core.specs.declared.place.Place.TheVariants.{Live, Shadow}
 use Rattle.router_core.proofs.Dids.{did_one, did_same, did_then}
-use Rattle.router_core.proofs.EachPlace.{leaving_then}
 use Rattle.router_core.proofs.PlaceSteps.{elsewhere, here, keeps_at, part_same}
 use Rattle.router_core.proofs.PutRows.{can_offer, puts_some, rest_then}
 use Rattle.router_core.proofs.RoundLists.{at-append}
@@ -66,19 +65,23 @@ part_with due dirty best = record {
   due_out = λ p. due;
 }
 
-next_as : (setup : Setup) (r : ℕ) (a b : RouterPart) (p : ℕ) (s : SessionValue) (batch : Batch) → a.due_out p ≡ b.due_out p → a.dirty ≡ b.dirty → a.best ≡ b.best → IsNextUpdate setup r a p s batch → IsNextUpdate setup r b p s batch
+next_as : (setup : Setup) (r : ℕ) (a b : RouterPart) (p : ℕ) (s : SessionValue) (batch : Batch) → a.due_out p ≡ b.due_out p → a.dirty ≡ b.dirty
+    → a.best ≡ b.best → IsNextUpdate setup r a p s batch → IsNextUpdate setup r b p s batch
 next_as setup r a b p s batch due dirty best next =
     subst (λ (x : Prefixes). IsNextUpdate setup r (part_with x b.dirty b.best) p s batch) due
     (subst (λ (x : Prefixes). IsNextUpdate setup r (part_with (a.due_out p) x b.best) p s batch) dirty
     (subst (λ (x : BestRoutes). IsNextUpdate setup r (part_with (a.due_out p) a.dirty x) p s batch) best next))
 
-stuck_as : (setup : Setup) (r : ℕ) (a b : RouterPart) (p : ℕ) (s : SessionValue) (n : ℕ) → a.due_out p ≡ b.due_out p → a.dirty ≡ b.dirty → a.best ≡ b.best → IsStuck setup r a p s n → IsStuck setup r b p s n
+stuck_as : (setup : Setup) (r : ℕ) (a b : RouterPart) (p : ℕ) (s : SessionValue) (n : ℕ) → a.due_out p ≡ b.due_out p → a.dirty ≡ b.dirty
+    → a.best ≡ b.best → IsStuck setup r a p s n → IsStuck setup r b p s n
 stuck_as setup r a b p s n due dirty best x = record { established = x.established; batch = x.batch; next = next_as setup r a b p s x.batch due dirty best x.next; writable = x.writable; size = x.size; above = x.above }
 
-unwritable_as : (setup : Setup) (r : ℕ) (a b : RouterPart) (p : ℕ) (s : SessionValue) → a.due_out p ≡ b.due_out p → a.dirty ≡ b.dirty → a.best ≡ b.best → IsUnwritable setup r a p s → IsUnwritable setup r b p s
+unwritable_as : (setup : Setup) (r : ℕ) (a b : RouterPart) (p : ℕ) (s : SessionValue) → a.due_out p ≡ b.due_out p → a.dirty ≡ b.dirty
+    → a.best ≡ b.best → IsUnwritable setup r a p s → IsUnwritable setup r b p s
 unwritable_as setup r a b p s due dirty best x = record { established = x.established; batch = x.batch; next = next_as setup r a b p s x.batch due dirty best x.next; unwritable = x.unwritable }
 
-done_as : (setup : Setup) (r : ℕ) (a b : RouterPart) (p : ℕ) (place : model.Place) → a.due_out p ≡ b.due_out p → a.dirty ≡ b.dirty → a.best ≡ b.best → IsDone setup r a p place → IsDone setup r b p place
+done_as : (setup : Setup) (r : ℕ) (a b : RouterPart) (p : ℕ) (place : model.Place) → a.due_out p ≡ b.due_out p → a.dirty ≡ b.dirty → a.best ≡ b.best
+    → IsDone setup r a p place → IsDone setup r b p place
 done_as setup r a b p model.Vacant due dirty best done = sym due ∙ done
 done_as setup r a b p (model.Live s o) due dirty best (inl none) = inl (sym due ∙ none)
 done_as setup r a b p (model.Live s o) due dirty best (inr (inl (n, x))) = inr (inl (n, stuck_as setup r a b p s n due dirty best x))
@@ -101,7 +104,7 @@ goes_same None = refl
 goes_same (Some (Live s o)) = (s, refl, record { acked = refl; emitted = refl; at_turn = refl })
 goes_same (Some (Shadow away)) = refl
 
-pub some_first : (n : ℕ) (f : Fields) (p : Post (Item RunningSession)) → Keeps f → PutsSomeAt n f p f p
+pub some_first : (n : ℕ) (f : Fields) (p : Post (Item RunningSession)) → RouterInvariant f → PutsSomeAt n f p f p
 some_first n f p keeps = record {
   events = [];
   did = λ t. did_same f f p t (record { setup = refl; number = refl }) refl;
@@ -119,13 +122,13 @@ some_then n f g h p r s x y = record {
   at = at-append 6 x.events y.events x.at y.at;
   goes = goes_then (place_at f.places.places n) (place_at g.places.places n) (place_at h.places.places n) x.goes y.goes;
   others = λ k not. ((y.others k not).0 ∙ (x.others k not).0, (y.others k not).1 ∙ (x.others k not).1);
-  same = leaving_then f g h x.same y.same;
+  same = leaving_twice f g h x.same y.same;
   keeps = y.keeps;
 }
 
 -- ---- one place after another
 
-pub puts_first : (f : Fields) (p : Post (Item RunningSession)) → Keeps f → PutsFirst zero f p f p
+pub puts_first : (f : Fields) (p : Post (Item RunningSession)) → RouterInvariant f → PutsFirst zero f p f p
 puts_first f p keeps = record {
   events = [];
   did = λ t. did_same f f p t (record { setup = refl; number = refl }) refl;
@@ -168,11 +171,12 @@ module _ (n : ℕ) (f g h : Fields) (p r s : Post (Item RunningSession)) (before
       | inr not ↦ done_before k (lower k below not) not
     ];
     left = λ k from. (one.some.others k (apart k from)).0 ∙ before.left k (omega (arith, from));
-    same = leaving_then f g h before.same one.some.same;
+    same = leaving_twice f g h before.same one.some.same;
     keeps = one.some.keeps;
   }
 
-pub puts_all : (n : ℕ) (f g : Fields) (p q : Post (Item RunningSession)) → PutsFirst n f p g q → length f.places.places ≤ n → length g.places.places ≤ n → length g.due_out ≤ n → PutsAll f p g q
+pub puts_all : (n : ℕ) (f g : Fields) (p q : Post (Item RunningSession)) → PutsFirst n f p g q → length f.places.places ≤ n
+    → length g.places.places ≤ n → length g.due_out ≤ n → PutsAll f p g q
 puts_all n f g p q first last last_place last_due = record {
   events = first.events;
   did = first.did;
@@ -192,7 +196,7 @@ puts_all n f g p q first last last_place last_due = record {
 
 -- ---- there was no room
 
-module _ (f g : Fields) (p : Post (Item RunningSession)) (n : ℕ) (s u : RunningSession) (o : Option Errand) (batch : Batch) (keeps : Keeps f) (there : n < length f.places.places) (is : place_at f.places.places n ≡ Some (Live s o))
+module _ (f g : Fields) (p : Post (Item RunningSession)) (n : ℕ) (s u : RunningSession) (o : Option Errand) (batch : Batch) (keeps : RouterInvariant f) (there : n < length f.places.places) (is : place_at f.places.places n ≡ Some (Live s o))
     (x : Option Place) (x_is : x ≡ Some (Live u o)) (items : g.places ≡ with_place f.places n x) (same : SameButPlaces f g) (no_room : HadNoRoom s (update_for batch.attrs batch.prefixes) u) where
   stays : x ≡ place_at f.places.places n
   stays = x_is ∙ (ap (λ (v : RunningSession). Some (Live v o)) no_room.same ∙ sym is)
@@ -211,7 +215,8 @@ module _ (f g : Fields) (p : Post (Item RunningSession)) (n : ℕ) (s u : Runnin
     keeps = keeps_at f g n x there same items keeps (subst (KeepsPlace f.known.setup f.number.0 n ((rib_of f.rib).entries n) (table_at f.due_out n)) (sym stays) (keeps.each n));
   }
 
-  pub stuck_then : NextAt f.known.setup f.number.0 (router_part f) n (Some (Live s o)) batch → IsWritableFor batch → IsDone f.known.setup f.number.0 (router_part g) n ((router_part g).places n)
+  pub stuck_then : NextAt f.known.setup f.number.0 (router_part f) n (Some (Live s o)) batch → IsWritableFor batch
+      → IsDone f.known.setup f.number.0 (router_part g) n ((router_part g).places n)
   stuck_then next writable =
       subst (λ (y : Option Place). IsDone f.known.setup f.number.0 (router_part g) n (place_of y)) (sym (here f g n x there same items ∙ (stays ∙ is)))
       (inr (inl (
@@ -229,7 +234,8 @@ module _ (f g : Fields) (p : Post (Item RunningSession)) (n : ℕ) (s u : Runnin
 -- ---- nothing is left to put
 
 -- what is due on a live session is due while it is established
-pub established : (f : Fields) (n : ℕ) (s : RunningSession) (o : Option Errand) → Keeps f → place_at f.places.places n ≡ Some (Live s o) → (x : PrefixValue) → has (table_at f.due_out n) x ≡ true → state s.session ≡ Established
+pub established : (f : Fields) (n : ℕ) (s : RunningSession) (o : Option Errand) → RouterInvariant f → place_at f.places.places n ≡ Some (Live s o)
+    → (x : PrefixValue) → has (table_at f.due_out n) x ≡ true → state s.session ≡ Established
 established f n s o keeps is x due = (subst (KeepsPlace f.known.setup f.number.0 n ((rib_of f.rib).entries n) (table_at f.due_out n)) is (keeps.each n)).3 x due
 
 pub done_none : (setup : Setup) (r : ℕ) (part : RouterPart) (n : ℕ) (place : Option Place) → part.due_out n ≡ map.empty → IsDone setup r part n (place_of place)
@@ -238,13 +244,15 @@ done_none setup r part n (Some (Live s o)) none = inl none
 done_none setup r part n (Some (Shadow away)) none = none
 
 -- the first UPDATE of a plan is the next one of an established session
-pub next_at : (f : Fields) (n : ℕ) (place : Option Place) (batch : Batch) (batches : List Batch) → Keeps f → place_at f.places.places n ≡ place → PlannedAt f.known.setup f.number.0 (router_part f) n place (batch ∷ batches)
+pub next_at : (f : Fields) (n : ℕ) (place : Option Place) (batch : Batch) (batches : List Batch) → RouterInvariant f
+    → place_at f.places.places n ≡ place → PlannedAt f.known.setup f.number.0 (router_part f) n place (batch ∷ batches)
     → NextAt f.known.setup f.number.0 (router_part f) n place batch
 next_at f n None batch batches keeps is plan = absurd cc
 next_at f n (Some (Live s o)) batch batches keeps is plan = (established f n s o keeps is plan.0.first plan.0.least.is.0.0, plan.0)
 next_at f n (Some (Shadow away)) batch batches keeps is plan = absurd cc
 
-pub unwritable_then : (f : Fields) (n : ℕ) (place : Option Place) (batch : Batch) → NextAt f.known.setup f.number.0 (router_part f) n place batch → ¬ IsWritableFor batch → IsDone f.known.setup f.number.0 (router_part f) n (place_of place)
+pub unwritable_then : (f : Fields) (n : ℕ) (place : Option Place) (batch : Batch) → NextAt f.known.setup f.number.0 (router_part f) n place batch
+    → ¬ IsWritableFor batch → IsDone f.known.setup f.number.0 (router_part f) n (place_of place)
 unwritable_then f n None batch next not = absurd next
 unwritable_then f n (Some (Live s o)) batch next not = inr (inr (record { established = next.0; batch = batch; next = next.1; unwritable = not }))
 unwritable_then f n (Some (Shadow away)) batch next not = absurd next
@@ -252,8 +260,8 @@ unwritable_then f n (Some (Shadow away)) batch next not = absurd next
 nothing_in : (x : PrefixValue) → has map.empty x ≡ false
 nothing_in x = ap is_some (map.get-empty prefix_cmp x)
 
-module _ (f g : Fields) (p q : Post (Item RunningSession)) (n : ℕ) (keeps : Keeps f) (clean : f.rib.dirty ≡ map.empty) (x : PrefixValue) (due : has (table_at f.due_out n) x ≡ true)
-    (cleared : table_at g.due_out ≡ at (table_at f.due_out) n map.empty) (sizes : length g.due_out ≡ length f.due_out) (same : g ≡ record f { due_out = g.due_out }) (wrote : Writes p (Put n 0) [] q) where
+module _ (f g : Fields) (p q : Post (Item RunningSession)) (n : ℕ) (keeps : RouterInvariant f) (clean : f.rib.dirty ≡ map.empty) (x : PrefixValue) (due : has (table_at f.due_out n) x ≡ true)
+    (cleared : table_at g.due_out ≡ at (table_at f.due_out) n map.empty) (sizes : length g.due_out ≡ length f.due_out) (same : g ≡ record f { due_out = g.due_out }) (wrote : WritesEvent p (Put n 0) [] q) where
   cleared_here : table_at g.due_out n ≡ map.empty
   cleared_here = ap (λ (d : ℕ → Prefixes). d n) cleared ∙ at_here (table_at f.due_out) n map.empty n refl
 
@@ -273,7 +281,9 @@ module _ (f g : Fields) (p q : Post (Item RunningSession)) (n : ℕ) (keeps : Ke
       and_false true = refl
       and_false false = refl
 
-  nothing_row : (s : RunningSession) (o : Option Errand) → place_at f.places.places n ≡ Some (Live s o) → PlannedAt f.known.setup f.number.0 (router_part f) n (Some (Live s o)) [] → PutsNothing f.known.setup f.number.0 n (router_part f) None [] (router_part g)
+  nothing_row : (s : RunningSession) (o : Option Errand) → place_at f.places.places n ≡ Some (Live s o)
+      → PlannedAt f.known.setup f.number.0 (router_part f) n (Some (Live s o)) []
+      → PutsNothing f.known.setup f.number.0 n (router_part f) None [] (router_part g)
   nothing_row s o is plan = record {
     alone = (refl, refl);
     session = s.session;
@@ -284,7 +294,8 @@ module _ (f g : Fields) (p q : Post (Item RunningSession)) (n : ℕ) (keeps : Ke
     waits = (due, is_clean x);
     nothing = plan;
     due = drops;
-    effect = ap router_part same ∙ ap (λ (d : ℕ → Prefixes). let y : RouterPart = record (router_part f) { due_out = d } in y) (cleared ∙ ap (at (table_at f.due_out) n) (sym cleared_here));
+    effect = ap router_part same
+        ∙ ap (λ (d : ℕ → Prefixes). let y : RouterPart = record (router_part f) { due_out = d } in y) (cleared ∙ ap (at (table_at f.due_out) n) (sym cleared_here));
   }
 
   each_then : (k : ℕ) → KeepsPlace f.known.setup f.number.0 k ((rib_of f.rib).entries k) (table_at g.due_out k) (place_at g.places.places k)
@@ -295,12 +306,13 @@ module _ (f g : Fields) (p q : Post (Item RunningSession)) (n : ℕ) (keeps : Ke
         | inr not ↦ subst (λ (d : Prefixes). KeepsPlace f.known.setup f.number.0 k ((rib_of f.rib).entries k) d (place_at f.places.places k)) (sym (cleared_other k not)) (keeps.each k)
       ])
     where
-      none_due : (y : Option Place) → KeepsPlace f.known.setup f.number.0 n ((rib_of f.rib).entries n) (table_at f.due_out n) y → KeepsPlace f.known.setup f.number.0 n ((rib_of f.rib).entries n) map.empty y
+      none_due : (y : Option Place) → KeepsPlace f.known.setup f.number.0 n ((rib_of f.rib).entries n) (table_at f.due_out n) y
+          → KeepsPlace f.known.setup f.number.0 n ((rib_of f.rib).entries n) map.empty y
       none_due None k = (k.0, nothing_in)
       none_due (Some (Live s o)) k = (k.0, k.1, k.2, λ z due_it. absurd (false≢true (sym (nothing_in z) ∙ due_it)))
       none_due (Some (Shadow away)) k = (k.0, nothing_in)
 
-  keeps_then : Keeps g
+  keeps_then : RouterInvariant g
   keeps_then = keeps_on f g keeps
       (subst (λ (h : Fields). h ≡ record f { places = h.places; rib = h.rib; due_in = h.due_in; due_out = h.due_out; turns = h.turns }) (sym same) refl)
       (record {
@@ -309,12 +321,13 @@ module _ (f g : Fields) (p q : Post (Item RunningSession)) (n : ℕ) (keeps : Ke
         due_in = ap (λ (h : Fields). length h.due_in) same;
         due_out = sizes;
         config = ap (λ (h : Fields). h.rib.config) same;
-        tellings = ap (λ (h : Fields). (rib_of h.rib).tellings) same;
+        tellings = λ q out. ap (λ (h : Fields). (rib_of h.rib).tellings q) same;
       })
       (λ k. subst (λ (h : Fields). KeepsPlace f.known.setup f.number.0 k ((rib_of h.rib).entries k) (table_at g.due_out k) (place_at g.places.places k)) (sym same) (each_then k))
 
-  did_nothing : (place : Option Place) → place_at f.places.places n ≡ place → PlannedAt f.known.setup f.number.0 (router_part f) n place [] → KeepsPlace f.known.setup f.number.0 n ((rib_of f.rib).entries n) (table_at f.due_out n) place
-      → (t : ℕ → Tally) → Did f p t (Put n zero ∷ []) g q t
+  did_nothing : (place : Option Place) → place_at f.places.places n ≡ place → PlannedAt f.known.setup f.number.0 (router_part f) n place []
+      → KeepsPlace f.known.setup f.number.0 n ((rib_of f.rib).entries n) (table_at f.due_out n) place
+      → (t : ℕ → Tally) → DidAsRouter f p t (Put n zero ∷ []) g q t
   did_nothing None is plan k t = absurd (false≢true (sym (k.1 x) ∙ due))
   did_nothing (Some (Live s o)) is plan k t = did_one f g p q t (Put n zero) (record { setup = ap (λ (h : Fields). h.known.setup) same; number = ap (λ (h : Fields). h.number) same }) wrote (nothing_row s o is plan) tt
   did_nothing (Some (Shadow away)) is plan k t = absurd (false≢true (sym (k.1 x) ∙ due))
@@ -334,24 +347,28 @@ module _ (f g : Fields) (p q : Post (Item RunningSession)) (n : ℕ) (keeps : Ke
   }
 
 -- nothing is due there
-pub puts_idle : (n : ℕ) (f : Fields) (p : Post (Item RunningSession)) → Keeps f → first_above None (map.keys (table_at f.due_out n)) ≡ None → PutsAt n f p f p
+pub puts_idle : (n : ℕ) (f : Fields) (p : Post (Item RunningSession)) → RouterInvariant f → first_above None (map.keys (table_at f.due_out n)) ≡ None
+    → PutsAt n f p f p
 puts_idle n f p keeps none = record { some = some_first n f p keeps; done = done_none f.known.setup f.number.0 (router_part f) n (place_at f.places.places n) (no_least_is (table_at f.due_out n) none) }
 
 -- ---- what an offer leaves
 
-pub offers_at : (setup : Setup) (r : ℕ) (part : RouterPart) (n : ℕ) (place : Option Place) (batch : Batch) → NextAt setup r part n place batch → All IsPrefix batch.prefixes → IsWritableFor batch → OffersAt place (update_for batch.attrs batch.prefixes)
+pub offers_at : (setup : Setup) (r : ℕ) (part : RouterPart) (n : ℕ) (place : Option Place) (batch : Batch) → NextAt setup r part n place batch
+    → All IsPrefix batch.prefixes → IsWritableFor batch → OffersAt place (update_for batch.attrs batch.prefixes)
 offers_at setup r part n None batch next sound writable = next
 offers_at setup r part n (Some (Live s o)) batch next sound writable = can_offer setup r n part s.session batch next.0 next.1 sound writable
 offers_at setup r part n (Some (Shadow away)) batch next sound writable = next
 
-module _ (f g : Fields) (p q : Post (Item RunningSession)) (n : ℕ) (x : Option Place) (batch : Batch) (keeps : Keeps f) (there : n < length f.places.places) (items : g.places ≡ with_place f.places n x) where
+module _ (f g : Fields) (p q : Post (Item RunningSession)) (n : ℕ) (x : Option Place) (batch : Batch) (keeps : RouterInvariant f) (there : n < length f.places.places) (items : g.places ≡ with_place f.places n x) where
   module _ (due : table_at g.due_out ≡ at (table_at f.due_out) n (fold map.remove (table_at f.due_out n) batch.prefixes)) (sizes : length g.due_out ≡ length f.due_out) (same : SameButLeaving f g) where
-    pub offered_some : (place : Option Place) → place_at f.places.places n ≡ place → NextAt f.known.setup f.number.0 (router_part f) n place batch → OfferedAt true (update_for batch.attrs batch.prefixes) place x → Writes p (Put n (length batch.prefixes)) [] q → PutsSomeAt n f p g q
+    pub offered_some : (place : Option Place) → place_at f.places.places n ≡ place → NextAt f.known.setup f.number.0 (router_part f) n place batch
+        → OfferedAt true (update_for batch.attrs batch.prefixes) place x → WritesEvent p (Put n (length batch.prefixes)) [] q → PutsSomeAt n f p g q
     offered_some None is next offered wrote = absurd next
     offered_some (Some (Live s o)) is next (u, x_is, put) wrote = puts_some f g p q n s u o batch keeps there is next.1 put (items ∙ ap (with_place f.places n) x_is) due same sizes wrote
     offered_some (Some (Shadow away)) is next offered wrote = absurd next
 
-    pub offered_rest : (place : Option Place) → place_at f.places.places n ≡ place → NextAt f.known.setup f.number.0 (router_part f) n place batch → OfferedAt true (update_for batch.attrs batch.prefixes) place x → LeavesPlan n batch f g
+    pub offered_rest : (place : Option Place) → place_at f.places.places n ≡ place → NextAt f.known.setup f.number.0 (router_part f) n place batch
+        → OfferedAt true (update_for batch.attrs batch.prefixes) place x → LeavesPlan n batch f g
     offered_rest None is next offered = absurd next
     offered_rest (Some (Live s o)) is next (u, x_is, put) = record {
       rest = λ batches plan.
@@ -363,12 +380,14 @@ module _ (f g : Fields) (p q : Post (Item RunningSession)) (n : ℕ) (x : Option
     offered_rest (Some (Shadow away)) is next offered = absurd next
 
   module _ (same : SameButPlaces f g) where
-    pub offered_none : (place : Option Place) → place_at f.places.places n ≡ place → NextAt f.known.setup f.number.0 (router_part f) n place batch → OfferedAt false (update_for batch.attrs batch.prefixes) place x → PutsSomeAt n f p g p
+    pub offered_none : (place : Option Place) → place_at f.places.places n ≡ place → NextAt f.known.setup f.number.0 (router_part f) n place batch
+        → OfferedAt false (update_for batch.attrs batch.prefixes) place x → PutsSomeAt n f p g p
     offered_none None is next offered = absurd next
     offered_none (Some (Live s o)) is next (u, x_is, full) = idle f g p n s u o batch keeps there is x x_is items same full
     offered_none (Some (Shadow away)) is next offered = absurd next
 
-    pub offered_stuck : (place : Option Place) → place_at f.places.places n ≡ place → NextAt f.known.setup f.number.0 (router_part f) n place batch → OfferedAt false (update_for batch.attrs batch.prefixes) place x → IsWritableFor batch
+    pub offered_stuck : (place : Option Place) → place_at f.places.places n ≡ place → NextAt f.known.setup f.number.0 (router_part f) n place batch
+        → OfferedAt false (update_for batch.attrs batch.prefixes) place x → IsWritableFor batch
         → IsDone f.known.setup f.number.0 (router_part g) n ((router_part g).places n)
     offered_stuck None is next offered writable = absurd next
     offered_stuck (Some (Live s o)) is next (u, x_is, full) writable = stuck_then f g p n s u o batch keeps there is x x_is items same full next writable
@@ -380,14 +399,16 @@ pub none_of : {A : Type 0} (o : Option A) (none : Bool) → is_some o ≡ not no
 none_of None none e f = refl
 none_of (Some x) none e f = absurd (false≢true (sym (e ∙ ap not f)))
 
-pub some_due : (due : Prefixes) (o : Option PrefixValue) (none : Bool) → o ≡ first_above None (map.keys due) → is_some o ≡ not none → none ≡ false → (x : PrefixValue) × (has due x ≡ true)
+pub some_due : (due : Prefixes) (o : Option PrefixValue) (none : Bool) → o ≡ first_above None (map.keys due) → is_some o ≡ not none → none ≡ false
+    → (x : PrefixValue) × (has due x ≡ true)
 some_due due None none e f g = absurd (false≢true (f ∙ ap not g))
 some_due due (Some x) none e f g = let found = next_entry None x (map.entries due) (map.entries_sorted due) (sym e) in (x, ap is_some (map.get-entries due x ∙ found.found))
 
 pub reversed_pop : (old new : List Batch) (batch : Batch) → old ≡ new ++ batch ∷ [] → reverse old ≡ batch ∷ reverse new
 reversed_pop old new batch e = ap reverse e ∙ reverse-append new (batch ∷ [])
 
-pub settled_more : (F G H : ℕ → Prefixes) (n : ℕ) (S Y : Prefixes) (p : PrefixValue) → G ≡ at F n S → H ≡ at G n (map.remove (G n) p) → map.remove S p ≡ Y → H ≡ at F n Y
+pub settled_more : (F G H : ℕ → Prefixes) (n : ℕ) (S Y : Prefixes) (p : PrefixValue) → G ≡ at F n S → H ≡ at G n (map.remove (G n) p)
+    → map.remove S p ≡ Y → H ≡ at F n Y
 settled_more F G H n S Y p g h y = h ∙ (λ i. at (g i) n (map.remove ((g i) n) p)) ∙ twice
   where
     here_is : map.remove ((at F n S) n) p ≡ Y
@@ -415,14 +436,16 @@ counted wide attrs front (x ∷ xs) =
 pub few_prefixes : (wide : Bool) (attrs : Option Attrs) (xs : List PrefixValue) → octets wide attrs xs ≤ 4096 → length xs ≤ 4096
 few_prefixes wide attrs xs fits = let c = counted wide attrs [] xs in omega arith
 
-pub next_fits : (setup : Setup) (r : ℕ) (part : RouterPart) (n : ℕ) (place : Option Place) (batch : Batch) → NextAt setup r part n place batch → length batch.prefixes ≤ 4096
+pub next_fits : (setup : Setup) (r : ℕ) (part : RouterPart) (n : ℕ) (place : Option Place) (batch : Batch) → NextAt setup r part n place batch
+    → length batch.prefixes ≤ 4096
 next_fits setup r part n None batch next = absurd next
 next_fits setup r part n (Some (Live s o)) batch next = few_prefixes (is_wide (peering_of s.session.config) s.session.story) batch.attrs batch.prefixes next.1.fits
 next_fits setup r part n (Some (Shadow away)) batch next = absurd next
 
 -- ---- what was put there, and then all
 
-pub puts_done : (n : ℕ) (f g : Fields) (p r : Post (Item RunningSession)) → PutsSomeAt n f p g r → IsDone g.known.setup g.number.0 (router_part g) n (place_of (place_at g.places.places n)) → PutsAt n f p g r
+pub puts_done : (n : ℕ) (f g : Fields) (p r : Post (Item RunningSession)) → PutsSomeAt n f p g r
+    → IsDone g.known.setup g.number.0 (router_part g) n (place_of (place_at g.places.places n)) → PutsAt n f p g r
 puts_done n f g p r some done = record {
   some = some;
   done = subst (λ (s : Setup). IsDone s f.number.0 (router_part g) n (place_of (place_at g.places.places n))) (ap (λ (h : Fields). h.known.setup) some.same)

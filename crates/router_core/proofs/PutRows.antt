@@ -29,22 +29,22 @@ use Rattle.session_value.specs.Sessions.{SessionValue, state, peering_of, unread
 use Rattle.session_value.specs.Sets.{Prefixes, has}
 use Rattle.bgp_session.specs.Running.{RunningSession}
 use Rattle.rib_stages.specs.Values.{rib_of, table_at}
-use Rattle.tell_plan.specs.Plans.{IsPlan, IsWritableFor}
-use Rattle.tell_plan.specs.declared.batch.Batch.{Batch}
-use Rattle.tell_plan.proofs.Listed.{same_itself, is_same}
-use Rattle.tell_plan.proofs.PlanLaws.{changes, one_way, rest}
+use Rattle.update_plan.specs.Plans.{IsPlan, IsWritableFor}
+use Rattle.update_plan.specs.declared.batch.Batch.{Batch}
+use Rattle.update_plan.proofs.Listed.{same_itself, is_same}
+use Rattle.update_plan.proofs.PlanLaws.{changes, one_way, rest}
 use Rattle.graft_model.specs.Points.{at}
 use Rattle.graft_model.specs.Parts.{RouterPart}
 use Rattle.graft_model.specs.RouterRows.{IsToTell, PutsSome, RouterTaken, RouterSent}
 use Rattle.graft_model.specs.Setups.{Setup}
 use Rattle.graft_model.specs.Decisions.{to_tell}
 use Rattle.graft_model.specs.declared.event.RouterEvent.TheVariants.{Put}
-use Rattle.graft_model.specs.Steps.{puts}
+use Rattle.graft_model.specs.Steps.{put_row}
 use Rattle.graft_actors.specs.Emissions.{Tally}
-use Rattle.router_core.specs.Parts.{router_part, Keeps, KeepsPlace}
+use Rattle.router_core.specs.Parts.{router_part, RouterInvariant, KeepsPlace}
 use Rattle.router_core.specs.Places.{place_of, place_at, errand_of}
 use Rattle.router_core.specs.Putting.{CanOffer, WasPut, PlannedAt, PutsSomeAt}
-use Rattle.router_core.specs.Rounds.{CarefulRouter, Did, PutsNext, SameRouter, Writes}
+use Rattle.router_core.specs.Rounds.{CarefulRouter, DidAsRouter, PutsNext, SameRouter, WritesEvent}
 use Rattle.router_core.specs.Stages.{PlaceGoes, PutsMore}
 use Rattle.router_core.specs.Updates.{IsNextUpdate}
 use Rattle.router_core.specs.Visits.{SameButLeaving}
@@ -52,7 +52,7 @@ use Rattle.router_core.specs.declared.fields.Fields.{Fields}
 use Rattle.router_core.specs.declared.place.Place.{Place}
 use Rattle.router_core.specs.declared.place.Place.TheVariants.{Live}
 use Rattle.router_core.proofs.Dids.{did_one}
-use Rattle.router_core.proofs.Standing.{keeps_on}
+use Rattle.router_core.proofs.Kept.{keeps_on}
 use Rattle.std.proofs.lemmas.List.{length-set}
 use Rattle.router_core.proofs.PlaceLists.{listed, rooms}
 use Rattle.router_core.proofs.VisitSteps.{same_or_not, at_here, at_other, set_here, set_other, set_at}
@@ -127,16 +127,17 @@ less_due xs set p = removed_all xs set p ∙ turned (list_any (same_prefix p) xs
 -- ---- the row
 
 some_row : (setup : Setup) (r p : ℕ) (prefixes : List PrefixValue) (before : RouterPart) (taken : Option RouterTaken) (sent : List RouterSent) (then : RouterPart)
-    → prefixes ≢ [] → PutsSome setup r p (length prefixes) before taken sent then → puts setup r p (length prefixes) before taken sent then
+    → prefixes ≢ [] → PutsSome setup r p (length prefixes) before taken sent then → put_row setup r p (length prefixes) before taken sent then
 some_row setup r p [] before taken sent then some row = absurd (some refl)
 some_row setup r p (x ∷ xs) before taken sent then some row = row
 
-some_careful : (setup : Setup) (r p : ℕ) (prefixes : List PrefixValue) (part : RouterPart) → prefixes ≢ [] → PutsNext setup r part p (length prefixes) → CarefulRouter setup r part (Put p (length prefixes))
+some_careful : (setup : Setup) (r p : ℕ) (prefixes : List PrefixValue) (part : RouterPart) → prefixes ≢ []
+    → PutsNext setup r part p (length prefixes) → CarefulRouter setup r part (Put p (length prefixes))
 some_careful setup r p [] part some next = absurd (some refl)
 some_careful setup r p (x ∷ xs) part some next = next
 
 -- the places of f with another session at n, and less due on n, are those of g
-module _ (f g : Fields) (p q : Post (Item RunningSession)) (n : ℕ) (s u : RunningSession) (o : Option Errand) (batch : Batch) (keeps : Keeps f) (there : n < length f.places.places)
+module _ (f g : Fields) (p q : Post (Item RunningSession)) (n : ℕ) (s u : RunningSession) (o : Option Errand) (batch : Batch) (keeps : RouterInvariant f) (there : n < length f.places.places)
     (is : place_at f.places.places n ≡ Some (Live s o)) (next : IsNextUpdate f.known.setup f.number.0 (router_part f) n s.session batch) (put : WasPut s (update_for batch.attrs batch.prefixes) u)
     (items : g.places ≡ with_place f.places n (Some (Live u o))) (due : table_at g.due_out ≡ at (table_at f.due_out) n (fold map.remove (table_at f.due_out n) batch.prefixes))
     (same : SameButLeaving f g) where
@@ -176,7 +177,7 @@ module _ (f g : Fields) (p q : Post (Item RunningSession)) (n : ℕ) (s u : Runn
     effect = part_then;
   }
 
-  pub did_put : (t : ℕ → Tally) → Writes p (Put n (length batch.prefixes)) [] q → Did f p t (Put n (length batch.prefixes) ∷ []) g q t
+  pub did_put : (t : ℕ → Tally) → WritesEvent p (Put n (length batch.prefixes)) [] q → DidAsRouter f p t (Put n (length batch.prefixes) ∷ []) g q t
   did_put t wrote = did_one f g p q t (Put n (length batch.prefixes)) same_router_then wrote
       (some_row f.known.setup f.number.0 n batch.prefixes (router_part f) None [] (router_part g) next.some row)
       (some_careful f.known.setup f.number.0 n batch.prefixes (router_part f) next.some (record { session = s.session; errand = option_map errand_of o; live = record { is = ap place_of is }; batch = batch; next = next; size = refl }))
@@ -197,7 +198,8 @@ module _ (f g : Fields) (p q : Post (Item RunningSession)) (n : ℕ) (s u : Runn
       ∙ (ap (λ (d : Prefixes). has d x) (at_here (table_at f.due_out) n (fold map.remove (table_at f.due_out n) batch.prefixes) n refl) ∙ less_due batch.prefixes (table_at f.due_out n) x)
 
   -- what is left of the plan is the plan then
-  pub rest_then : (batches : List Batch) → PlannedAt f.known.setup f.number.0 (router_part f) n (Some (Live s o)) (batch ∷ batches) → PlannedAt g.known.setup g.number.0 (router_part g) n (Some (Live u o)) batches
+  pub rest_then : (batches : List Batch) → PlannedAt f.known.setup f.number.0 (router_part f) n (Some (Live s o)) (batch ∷ batches)
+      → PlannedAt g.known.setup g.number.0 (router_part g) n (Some (Live u o)) batches
   rest_then batches plan =
       subst (λ (h : Fields). PlannedAt h.known.setup h.number.0 (router_part h) n (Some (Live u o)) batches) (sym same)
       (subst (λ (w : Bool). IsPlan (IsToTell f.known.setup f.number.0 (router_part then) n u.session) (to_tell f.known.setup f.number.0 (router_part then) u.session) w batches) (sym (wide_then s.session u.session batch put.puts))
@@ -220,7 +222,8 @@ module _ (f g : Fields) (p q : Post (Item RunningSession)) (n : ℕ) (s u : Runn
   of_both true b e = refl
   of_both false b e = e
 
-  keeps_here : KeepsPlace f.known.setup f.number.0 n ((rib_of f.rib).entries n) (table_at f.due_out n) (Some (Live s o)) → KeepsPlace f.known.setup f.number.0 n ((rib_of f.rib).entries n) (table_at g.due_out n) (Some (Live u o))
+  keeps_here : KeepsPlace f.known.setup f.number.0 n ((rib_of f.rib).entries n) (table_at f.due_out n) (Some (Live s o))
+      → KeepsPlace f.known.setup f.number.0 n ((rib_of f.rib).entries n) (table_at g.due_out n) (Some (Live u o))
   keeps_here k = (
     record {
       peering = ap (λ (c : SessionConfig). c.peering.0) (config_then s.session u.session batch put.puts) ∙ k.0.peering;
@@ -229,7 +232,8 @@ module _ (f g : Fields) (p q : Post (Item RunningSession)) (n : ℕ) (s u : Runn
     },
     λ unclosed. subst BeginsNothing (sym (unread_then s.session u.session batch put.puts)) (k.1 (λ closed. unclosed (state_then s.session u.session batch put.puts ∙ closed))),
     k.2,
-    λ x has_it. state_then s.session u.session batch put.puts ∙ k.3 x (of_both (has (table_at f.due_out n) x) (not (list_any (same_prefix x) batch.prefixes)) (sym (less_due_then x) ∙ has_it)),
+    λ x has_it. state_then s.session u.session batch put.puts
+        ∙ k.3 x (of_both (has (table_at f.due_out n) x) (not (list_any (same_prefix x) batch.prefixes)) (sym (less_due_then x) ∙ has_it)),
   )
 
   place_here : place_at g.places.places n ≡ Some (Live u o)
@@ -247,7 +251,7 @@ module _ (f g : Fields) (p q : Post (Item RunningSession)) (n : ℕ) (s u : Runn
         (subst (KeepsPlace f.known.setup f.number.0 k ((rib_of f.rib).entries k) (table_at f.due_out k)) (sym (place_other k not)) (keeps.each k))
   ]
 
-  keeps_then : length g.due_out ≡ length f.due_out → Keeps g
+  keeps_then : length g.due_out ≡ length f.due_out → RouterInvariant g
   keeps_then sizes = keeps_on f g keeps
       (subst (λ (h : Fields). h ≡ record f { places = h.places; rib = h.rib; due_in = h.due_in; due_out = h.due_out; turns = h.turns }) (sym same) refl)
       (record {
@@ -256,11 +260,11 @@ module _ (f g : Fields) (p q : Post (Item RunningSession)) (n : ℕ) (s u : Runn
         due_in = ap (λ (h : Fields). length h.due_in) same;
         due_out = sizes;
         config = ap (λ (h : Fields). h.rib.config) same;
-        tellings = ap (λ (h : Fields). (rib_of h.rib).tellings) same;
+        tellings = λ q out. ap (λ (h : Fields). (rib_of h.rib).tellings q) same;
       })
       (λ k. subst (λ (h : Fields). KeepsPlace f.known.setup f.number.0 k ((rib_of h.rib).entries k) (table_at g.due_out k) (place_at g.places.places k)) (sym same) (each_then k))
 
-  pub puts_some : length g.due_out ≡ length f.due_out → Writes p (Put n (length batch.prefixes)) [] q → PutsSomeAt n f p g q
+  pub puts_some : length g.due_out ≡ length f.due_out → WritesEvent p (Put n (length batch.prefixes)) [] q → PutsSomeAt n f p g q
   puts_some sizes wrote = record {
     events = Put n (length batch.prefixes) ∷ [];
     did = λ t. did_put t wrote;
@@ -272,7 +276,8 @@ module _ (f g : Fields) (p q : Post (Item RunningSession)) (n : ℕ) (s u : Runn
   }
 
 -- an UPDATE of the plan may be offered
-pub can_offer : (setup : Setup) (r n : ℕ) (part : RouterPart) (s : SessionValue) (batch : Batch) → state s ≡ Established → IsNextUpdate setup r part n s batch → All IsPrefix batch.prefixes → IsWritableFor batch
+pub can_offer : (setup : Setup) (r n : ℕ) (part : RouterPart) (s : SessionValue) (batch : Batch) → state s ≡ Established
+    → IsNextUpdate setup r part n s batch → All IsPrefix batch.prefixes → IsWritableFor batch
     → CanOffer s (update_for batch.attrs batch.prefixes)
 can_offer setup r n part s batch established next sound writable = record {
   established = established;

@@ -21,10 +21,10 @@ use Rattle.graft_model.specs.RouterRows.{GetsNext}
 use Rattle.graft_model.specs.declared.event.RouterEvent.{RouterEvent}
 use Rattle.graft_model.specs.declared.event.RouterEvent.TheVariants.{Got}
 use Rattle.graft_actors.specs.Emissions.{Tally}
-use Rattle.router_core.specs.Parts.{router_part, Keeps, KeepsPlace, IsOfPeering, HasReadAll}
+use Rattle.router_core.specs.Parts.{router_part, RouterInvariant, KeepsPlace, IsOfPeering, HasReadAll, KeepsAt}
 use Rattle.router_core.specs.Places.{errand_of, place_of, place_at, RunsAt}
 use Rattle.router_core.specs.Reading.{FollowsStep, KeepsBut, KeepsLive, KeepsRest, ReadsAll, ReadsNone, ReadsOne, ReadsAt, StaysBut, unread_at}
-use Rattle.router_core.specs.Rounds.{Did, Writes}
+use Rattle.router_core.specs.Rounds.{DidAsRouter, WritesEvent}
 use Rattle.router_core.specs.Takes.{Stays}
 use Rattle.router_core.specs.declared.fields.Fields.{Fields}
 use Rattle.router_core.specs.declared.place.Place.{Place}
@@ -32,12 +32,12 @@ use Rattle.router_core.specs.declared.place.Place.TheVariants.{Live, Shadow}
 use Rattle.router_core.proofs.Dids.{did_one, did_same, did_then, same_router}
 use Rattle.router_core.proofs.RoundLists.{at-append}
 use Rattle.router_core.specs.Turned.{AreAt}
-use Rattle.router_core.proofs.Kept.{one_or_other, at_is, at_else, places_at, placed_here, placed_else, keeps_of, rest_on, with_routes, live_is, stays_itself}
+use Rattle.router_core.proofs.Kept.{one_or_other, at_is, at_else, places_at, placed_here, placed_else, keeps_with, rest_on, with_routes, live_is, stays_itself}
 use Rattle.router_core.proofs.PlaceLists.{listed, rooms, same_there}
 use Rattle.router_core.proofs.ReadSteps.{entry_is, follows_heard, due_then, due_up, less_unread}
 
 module _ (f g : Fields) (p : ℕ) (a b : Post (Item RunningSession)) (s u : RunningSession) (o : Option Errand) (step : ReadStep) (keeps : KeepsBut p f) (live : RunsAt f.places.places p s o) (tied : IsTied s.session) (reads : ReadsFrame step s u)
-    (there : p < length f.places.places) (items : g.places ≡ with_place f.places p (Some (Live u o))) (wrote : Writes a (Got p) [] b) (follows : FollowsStep (record f { places = g.places }) p u step g) where
+    (there : p < length f.places.places) (items : g.places ≡ with_place f.places p (Some (Live u o))) (wrote : WritesEvent a (Got p) [] b) (follows : FollowsStep (record f { places = g.places }) p u step g) where
   same : g ≡ record f { places = g.places; rib = g.rib; due_out = g.due_out }
   same = follows.same
 
@@ -141,7 +141,7 @@ module _ (f g : Fields) (p : ℕ) (a b : Post (Item RunningSession)) (s u : Runn
 -- so many were read
 pub record ReadsSome (p : ℕ) (f : Fields) (a : Post (Item RunningSession)) (g : Fields) (b : Post (Item RunningSession)) : Type 0 where
   pub events : List RouterEvent
-  pub did : (t : ℕ → Tally) → Did f a t events g b t
+  pub did : (t : ℕ → Tally) → DidAsRouter f a t events g b t
   pub at : AreAt 0 events
   pub stays : StaysBut p f g
   pub keeps : KeepsBut p g
@@ -174,16 +174,18 @@ reads_next p f g h a b c some one = record {
 pub reads_last : (p : ℕ) (f g h : Fields) (a b c : Post (Item RunningSession)) → ReadsSome p f a g b → ReadsNone p g b h c → ReadsAll p f a h c
 reads_last p f g h a b c some none = record {
   events = some.events ++ [];
-  did = λ t. subst (λ (d : Post (Item RunningSession)). Did f a t (some.events ++ []) h d t) (sym none.post)
+  did = λ t. subst (λ (d : Post (Item RunningSession)). DidAsRouter f a t (some.events ++ []) h d t) (sym none.post)
       (did_then f g h a b b t t t some.events [] (some.did t) (did_same g h b t (record { setup = ap (λ (k : Fields). k.known.setup) none.same; number = ap (λ (k : Fields). k.number) none.same }) part));
   at = at-append 0 some.events [] some.at tt;
   stays = record {
-    same = none.same ∙ (λ i. let v : Fields = record (some.stays.same i) { places = h.places; rib = sym (ap (λ (k : Fields). k.rib) none.same) i; due_out = sym (ap (λ (k : Fields). k.due_out) none.same) i } in v);
+    same = none.same
+        ∙ (λ i. let v : Fields = record (some.stays.same i) { places = h.places; rib = sym (ap (λ (k : Fields). k.rib) none.same) i; due_out = sym (ap (λ (k : Fields). k.due_out) none.same) i } in v);
     others = λ n not. at_same n ∙ some.stays.others n not;
     stays = λ s u o q x y. some.stays.stays s u o q x (record { is = sym (at_same p) ∙ y.is });
   };
-  keeps = subst Keeps (sym none.same) (keeps_of (record g { places = h.places })
-      (rest_on g (record g { places = h.places }) some.keeps.rest refl (record { places = ap length (listed none.places); reserved = rooms none.places; due_in = refl; due_out = refl; config = refl; tellings = λ n out. refl }))
+  keeps = subst RouterInvariant (sym none.same) (keeps_with g (record g { places = h.places }) some.keeps.rest refl
+      (record { places = ap length (listed none.places); reserved = rooms none.places; due_in = refl; due_out = refl; config = refl; tellings = λ n out. refl })
+      (KeepsAt (record g { places = h.places }))
       (λ n. subst (λ (xs : List (Option Place)). KeepsPlace g.known.setup g.number.0 n ((rib_of g.rib).entries n) (table_at g.due_out n) (place_at xs n)) (sym (listed none.places)) (each n)));
 }
   where
@@ -191,7 +193,8 @@ reads_last p f g h a b c some none = record {
     at_same n = ap (λ (xs : List (Option Place)). place_at xs n) (listed none.places)
 
     part : router_part h ≡ router_part g
-    part = ap router_part none.same ∙ ap (λ (xs : List (Option Place)). let v : RouterPart = record (router_part g) { places = λ n. place_of (place_at xs n) } in v) (listed none.places)
+    part = ap router_part none.same
+        ∙ ap (λ (xs : List (Option Place)). let v : RouterPart = record (router_part g) { places = λ n. place_of (place_at xs n) } in v) (listed none.places)
 
     all_read : CantRead some.keeps.here.session.session → HasReadAll some.keeps.here.session.session
     all_read (inl closed) = λ unclosed. absurd (unclosed closed)
@@ -210,15 +213,17 @@ reads_last p f g h a b c some none = record {
 
 new_is : (x new : Option Place) → ReadsAt None x new → new ≡ x
 new_is None new r = r.1
-new_is (Some (Live s o)) new (u, tied, reads, is) = is ∙ ap (λ (v : RunningSession). Some (Live v o)) reads.1
+new_is (Some (Live s o)) new (u, is, read) = is ∙ ap (λ (v : RunningSession). Some (Live v o)) read.1.1
 new_is (Some (Shadow away)) new r = r.1
 
 cant : (x new : Option Place) → ReadsAt None x new → (s : RunningSession) (o : Option Errand) → x ≡ Some (Live s o) → CantRead s.session
 cant None new r s o e = absurd (let z : ⊥ = cc in z)
-cant (Some (Live v w)) new (u, tied, reads, is) s o e = subst (λ (k : RunningSession). CantRead k.session) (let z : v ≡ s = cc in z) reads.0
+cant (Some (Live v w)) new (u, is, read) s o e = subst (λ (k : RunningSession). CantRead k.session) (let z : v ≡ s = cc in z) read.1.0
 cant (Some (Shadow away)) new r s o e = absurd (let z : ⊥ = cc in z)
 
-pub reads_none : (f g : Fields) (p i : ℕ) (a : Post (Item RunningSession)) (x new : Option Place) (step : Option ReadStep) → place_at f.places.places p ≡ x → ReadsAt step x new → step ≡ None → x ≡ place_at f.places.places i → g ≡ record f { places = g.places } → g.places ≡ with_place f.places i new → ReadsNone p f a g a
+pub reads_none : (f g : Fields) (p i : ℕ) (a : Post (Item RunningSession)) (x new : Option Place) (step : Option ReadStep)
+    → place_at f.places.places p ≡ x → ReadsAt step x new → step ≡ None → x ≡ place_at f.places.places i → g ≡ record f { places = g.places }
+    → g.places ≡ with_place f.places i new → ReadsNone p f a g a
 reads_none f g p i a x new step seen reads none item same held =
     let r : ReadsAt None x new = subst (λ (o : Option ReadStep). ReadsAt o x new) none reads in record {
       same = same;
@@ -236,8 +241,12 @@ live_within f p i keeps same = elim (cases_lt p (length f.places.places)) [
 
 -- ---- a message that is read at a place
 
-pub reads_some : (f g : Fields) (p : ℕ) (a b : Post (Item RunningSession)) (mid : Fields) (x new : Option Place) (step : ReadStep) (o : Option ReadStep) → KeepsBut p f → place_at f.places.places p ≡ x → ReadsAt o x new → o ≡ Some step → mid ≡ record f { places = mid.places } → mid.places ≡ with_place f.places p new
-    → Writes a (Got p) [] b → ((s : RunningSession) (w : Option Errand) → RunsAt mid.places.places p s w → s.session.config.peering.0 ≡ p → FollowsStep mid p s step g) → ReadsOne p f a g b
+pub reads_some : (f g : Fields) (p : ℕ) (a b : Post (Item RunningSession)) (mid : Fields) (x new : Option Place) (step : ReadStep) (o : Option ReadStep)
+    → KeepsBut p f → place_at f.places.places p ≡ x → ReadsAt o x new → o ≡ Some step → mid ≡ record f { places = mid.places }
+    → mid.places ≡ with_place f.places p new
+    → WritesEvent a (Got p) [] b
+    → ((s : RunningSession) (w : Option Errand) → RunsAt mid.places.places p s w → s.session.config.peering.0 ≡ p → FollowsStep mid p s step g)
+    → ReadsOne p f a g b
 reads_some f g p a b mid x new step o keeps seen reads some same held wrote follows = by_place x seen (subst (λ (q : Option ReadStep). ReadsAt q x new) some reads)
   where
     below : p < length f.places.places
@@ -252,13 +261,13 @@ reads_some f g p a b mid x new step o keeps seen reads some same held wrote foll
       where
         no_step : Some step ≡ None → ⊥
         no_step h = cc
-    by_place (Some (Live s w)) e (u, tied, read, is) =
+    by_place (Some (Live s w)) e (u, is, read) =
         let items_are : mid.places ≡ with_place f.places p (Some (Live u w)) = held ∙ ap (with_place f.places p) is in
         let live : RunsAt f.places.places p s w = record { is = e } in
         let now : RunsAt mid.places.places p u w = record { is = ap (λ (xs : List (Option Place)). place_at xs p) (listed items_are) ∙ placed_here f.places.places p (Some (Live u w)) below } in
         let had : keeps.here.session ≡ s = live_is f.places.places p s keeps.here.session w keeps.here.errand live keeps.here.live in
-        let own : u.session.config.peering.0 ≡ p = ap (λ (v : SessionValue). v.config.peering.0) read.gets.effect ∙ ap (λ (v : RunningSession). v.session.config.peering.0) (sym had) ∙ keeps.here.own.peering in
+        let own : u.session.config.peering.0 ≡ p = ap (λ (v : SessionValue). v.config.peering.0) read.1.gets.effect ∙ ap (λ (v : RunningSession). v.session.config.peering.0) (sym had) ∙ keeps.here.own.peering in
         let step_is : FollowsStep mid p u step g = follows u w now own in
         let places_are : g.places ≡ mid.places = ap (λ (h : Fields). h.places) step_is.same in
-        reads_one f g p a b s u w step keeps live tied read below (places_are ∙ items_are) wrote
+        reads_one f g p a b s u w step keeps live read.0 read.1 below (places_are ∙ items_are) wrote
         (subst (λ (h : Fields). FollowsStep h p u step g) (same ∙ (λ i. let h : Fields = record f { places = sym places_are i } in h)) step_is)

@@ -32,13 +32,13 @@ use Rattle.tcp_seq.specs.Endpoint.{received_bytes}
 use Rattle.graft_model.specs.Decisions.{entry_of, remote_identifier}
 use Rattle.graft_model.specs.RouterRows.{DueThen}
 use Rattle.graft_model.specs.Setups.{rules_for}
-use Rattle.bgp_session.specs.Steps.{Tells}
+use Rattle.bgp_session.specs.Steps.{TellsRead}
 use Rattle.bgp_session.specs.declared.answers.ReadStep.{ReadStep}
 use Rattle.bgp_session.specs.declared.answers.ReadStep.TheVariants as steps
-use Rattle.tell_plan.proofs.Keys.{keys_any}
+use Rattle.update_plan.proofs.Keys.{keys_any}
 use Rattle.router_core.specs.Entering.{entry_here, rules_by}
-use Rattle.router_core.specs.Parts.{IsDueWhileUp}
-use Rattle.router_core.specs.Reading.{KeepsRest, prefixes_in, DueBy}
+use Rattle.router_core.specs.Parts.{IsDueWhileUp, KeepsWith}
+use Rattle.router_core.specs.Reading.{prefixes_in, DueBy}
 use Rattle.router_core.specs.declared.fields.Fields.{Fields}
 
 -- ---- what a session brings in here
@@ -48,13 +48,15 @@ entry_by home_as rules s x = option_map
     (λ route. record { route = route; identifier = remote_identifier s; address = s.config.remote_address })
     (imported home_as x (record { peering = s.config.peering; remote_as = s.config.remote_as; identifier = remote_identifier s; address = s.config.remote_address; import_rules = rules; heard = map.get s.heard x }) (map.get s.heard x))
 
-rules_is : (f : Fields) (name : Option (List ℕ)) → KeepsRest f → rules_by f.policies name ≡ rules_for f.known.setup f.number.0 name
+rules_is : {Each : ℕ → Type 0} (f : Fields) (name : Option (List ℕ)) → KeepsWith Each f → rules_by f.policies name ≡ rules_for f.known.setup f.number.0 name
 rules_is f None k = refl
 rules_is f (Some name) k = k.policies.each name
 
-pub entry_is : (f : Fields) (s : SessionValue) (x : PrefixValue) → KeepsRest f → entry_here f.home_as f.policies s x ≡ entry_of f.known.setup f.number.0 s x
+pub entry_is : {Each : ℕ → Type 0} (f : Fields) (s : SessionValue) (x : PrefixValue) → KeepsWith Each f
+    → entry_here f.home_as f.policies s x ≡ entry_of f.known.setup f.number.0 s x
 unfolding entry_by
-entry_is f s x k = ap (λ (n : ℕ). entry_by n (rules_by f.policies s.config.import) s x) k.home_as ∙ ap (λ (rules : Option (List Rule)). entry_by f.known.setup.home_as rules s x) (rules_is f s.config.import k)
+entry_is f s x k = ap (λ (n : ℕ). entry_by n (rules_by f.policies s.config.import) s x) k.home_as
+    ∙ ap (λ (rules : Option (List Rule)). entry_by f.known.setup.home_as rules s x) (rules_is f s.config.import k)
 
 -- ---- small facts
 
@@ -83,7 +85,8 @@ is_none : {A : Type 0} (o : Option A) → is_some o ≡ false → o ≡ None
 is_none None e = refl
 is_none (Some a) e = absurd (nothing_has (sym e))
 
-closed_due : (best : BestRoutes) (before after : Prefixes) (st : SessionState) → ((x : PrefixValue) → has after x ≡ false) → DueThen st states.Closed best before after
+closed_due : (best : BestRoutes) (before after : Prefixes) (st : SessionState) → ((x : PrefixValue) → has after x ≡ false)
+    → DueThen st states.Closed best before after
 closed_due best before after states.OpenSent none = none
 closed_due best before after states.OpenConfirm none = none
 closed_due best before after states.Established none = none
@@ -116,7 +119,8 @@ module _ (s u : SessionValue) (bytes : List ℕ) (tied_to : IsTied s) (gets : Ge
 
   pub heard_stays : state s ≢ states.Established → state u ≢ states.Closed → u.heard ≡ s.heard
   heard_stays not unclosed =
-      heard_is ∙ ap (λ (o : Option Update). unless_closed gets.next (apply_if s.heard o)) (updates_none not) ∙ while_unclosed gets.next s.heard (λ e. unclosed (next_is ∙ e))
+      heard_is ∙ ap (λ (o : Option Update). unless_closed gets.next (apply_if s.heard o)) (updates_none not)
+      ∙ while_unclosed gets.next s.heard (λ e. unclosed (next_is ∙ e))
 
   pub heard_none : state u ≡ states.Closed → (x : PrefixValue) → map.get u.heard x ≡ None
   heard_none closed x =
@@ -136,7 +140,8 @@ module _ (s u : SessionValue) (bytes : List ℕ) (tied_to : IsTied s) (gets : Ge
   -- ---- how the router follows it
 
   -- where another route is heard than before, the entry is the new one
-  pub follows_heard : (entry : PrefixValue → Option Entry) (before after : Entries) (st : ReadStep) → Tells st s u → ((x : PrefixValue) → list_any (same_prefix x) (prefixes_in st) ≡ true → map.get after x ≡ entry x)
+  pub follows_heard : (entry : PrefixValue → Option Entry) (before after : Entries) (st : ReadStep) → TellsRead st s u
+      → ((x : PrefixValue) → list_any (same_prefix x) (prefixes_in st) ≡ true → map.get after x ≡ entry x)
       → ((x : PrefixValue) → list_any (same_prefix x) (prefixes_in st) ≡ false → map.get after x ≡ map.get before x) → (x : PrefixValue)
       → ((map.get u.heard x ≡ map.get s.heard x) × (map.get after x ≡ map.get before x)) ⊎ ((map.get u.heard x ≢ map.get s.heard x) × (map.get after x ≡ entry x))
   follows_heard entry before after steps.Opened tells each others x =
@@ -144,19 +149,22 @@ module _ (s u : SessionValue) (bytes : List ℕ) (tied_to : IsTied s) (gets : Ge
   follows_heard entry before after steps.Established tells each others x =
       inl (ap (λ (t : Routes). map.get t x) (heard_stays (λ is. confirm_up (sym tells.0 ∙ is)) (λ is. up_closed (sym tells.1 ∙ is))), others x refl)
   follows_heard entry before after (steps.Changed ps) tells each others x = by_test (list_any (same_prefix x) ps) refl where
-    by_test : (b : Bool) → list_any (same_prefix x) ps ≡ b → ((map.get u.heard x ≡ map.get s.heard x) × (map.get after x ≡ map.get before x)) ⊎ ((map.get u.heard x ≢ map.get s.heard x) × (map.get after x ≡ entry x))
+    by_test : (b : Bool) → list_any (same_prefix x) ps ≡ b
+        → ((map.get u.heard x ≡ map.get s.heard x) × (map.get after x ≡ map.get before x)) ⊎ ((map.get u.heard x ≢ map.get s.heard x) × (map.get after x ≡ entry x))
     by_test true e = inr (All-contains (λ p. map.get u.heard p ≢ map.get s.heard p) ps x tells.2.changed (Contains-from_any is_same x ps e), each x e)
     by_test false e = inl (tells.2.others x e, others x e)
   follows_heard entry before after (steps.Closed ps) tells each others x = by_test (list_any (same_prefix x) ps) refl where
     had : list_any (same_prefix x) ps ≡ is_some (map.get s.heard x)
     had = ap (λ (ks : List PrefixValue). list_any (same_prefix x) ks) tells.1 ∙ keys_any s.heard x
 
-    by_test : (b : Bool) → list_any (same_prefix x) ps ≡ b → ((map.get u.heard x ≡ map.get s.heard x) × (map.get after x ≡ map.get before x)) ⊎ ((map.get u.heard x ≢ map.get s.heard x) × (map.get after x ≡ entry x))
+    by_test : (b : Bool) → list_any (same_prefix x) ps ≡ b
+        → ((map.get u.heard x ≡ map.get s.heard x) × (map.get after x ≡ map.get before x)) ⊎ ((map.get u.heard x ≢ map.get s.heard x) × (map.get after x ≡ entry x))
     by_test true e = inr ((λ same. none_some (map.get s.heard x) (sym same ∙ heard_none tells.0 x) (sym had ∙ e)), each x e)
     by_test false e = inl (heard_none tells.0 x ∙ sym (is_none (map.get s.heard x) (sym had ∙ e)), others x e)
 
   -- what is due then
-  pub due_then : (best : BestRoutes) (before after : Prefixes) (st : ReadStep) → Tells st s u → DueBy st best before after → DueThen (state s) (state u) best before after
+  pub due_then : (best : BestRoutes) (before after : Prefixes) (st : ReadStep) → TellsRead st s u → DueBy st best before after
+      → DueThen (state s) (state u) best before after
   due_then best before after steps.Opened tells due =
       subst (λ (x : SessionState). DueThen x (state u) best before after) (sym tells.0) (subst (λ (y : SessionState). DueThen states.OpenSent y best before after) (sym tells.1) due)
   due_then best before after steps.Established tells due =
@@ -166,7 +174,8 @@ module _ (s u : SessionValue) (bytes : List ℕ) (tied_to : IsTied s) (gets : Ge
   due_then best before after (steps.Closed ps) tells due =
       subst (λ (y : SessionState). DueThen (state s) y best before after) (sym tells.0) (closed_due best before after (state s) (λ x. ap (λ (p : Prefixes). has p x) due ∙ none_in x))
 
-  pub due_up : (best : BestRoutes) (before after : Prefixes) (st : ReadStep) → Tells st s u → DueBy st best before after → IsDueWhileUp s before → IsDueWhileUp u after
+  pub due_up : (best : BestRoutes) (before after : Prefixes) (st : ReadStep) → TellsRead st s u → DueBy st best before after → IsDueWhileUp s before
+      → IsDueWhileUp u after
   due_up best before after steps.Opened tells due up x h = absurd (sent_up (sym tells.0 ∙ up x (sym (ap (λ (p : Prefixes). has p x) due) ∙ h)))
   due_up best before after steps.Established tells due up x h = tells.1
   due_up best before after (steps.Changed ps) tells due up x h = tells.1

@@ -8,7 +8,7 @@ use Rattle.session_value.specs.Sets.{Prefixes, has}
 use Rattle.rib_stages.specs.Values.{table_at}
 use Rattle.rib_stages.proofs.Drops.{least_is, no_least_is}
 use Rattle.settled_check.specs.Firsts.{IsLowestOf}
-use Rattle.settled_check.specs.Left.{HasGraft, HasSome, HasStream, graft_at}
+use Rattle.settled_check.specs.Left.{HoldsGraft, HasSome, graft_in_place}
 use Rattle.graft_model.specs.Parts.{RouterPart}
 use Rattle.router_core.specs.Places.{lower_of, place_of, place_at}
 use Rattle.router_core.specs.declared.place.Place.{Place}
@@ -19,9 +19,6 @@ use Rattle.router_core.proofs.VisitSteps.{place_at_end, same_or_not}
 -- none of the first so many is so
 abbrev pub NoneBelow : (ℕ → Type 0) → ℕ → Type 0
 NoneBelow Is n = (k : ℕ) → k < n → Is k → ⊥
-
-pub none_first : (Is : ℕ → Type 0) → NoneBelow Is 0
-none_first Is k below so = let x : ⊥ = omega (arith, below) in x
 
 pub none_next : (Is : ℕ → Type 0) (n : ℕ) → NoneBelow Is n → (Is n → ⊥) → NoneBelow Is (n + 1)
 none_next Is n none not k below so = elim (same_or_not n k) [
@@ -53,27 +50,25 @@ none_behind sets n k all from (p, there) = false_true (sym (ap (λ (t : Prefixes
 
 -- ---- places
 
-pub no_stream_behind : (places : List (Option Place)) (n k : ℕ) → length places ≤ n → n ≤ k → HasStream (place_of (place_at places k)) → ⊥
-no_stream_behind places n k all from so = subst (λ (x : Option Place). HasStream (place_of x)) (place_at_end places k (omega (arith, all, from))) so
-
 -- ---- grafts
 
 -- the lowest number of a graft at the first so many places
 abbrev pub LowestBelow : List (Option Place) → ℕ → Option ℕ → Type 0
-LowestBelow places n lowest = IsLowestOf (λ k. (p : ℕ) × (p < n) × (graft_at (place_of (place_at places p)) ≡ Some k)) lowest
+LowestBelow places n lowest = IsLowestOf (λ k. (p : ℕ) × (p < n) × (graft_in_place (place_of (place_at places p)) ≡ Some k)) lowest
 
 pub lowest_first : (places : List (Option Place)) → LowestBelow places 0 None
 lowest_first places k has = let (p, below, is) = has in let x : ⊥ = omega (arith, below) in x
 
 module _ (places : List (Option Place)) (n : ℕ) where
   -- what is at one of n + 1 places is at one of n, or at the last of them
-  cut : (p k : ℕ) → p < n + 1 → graft_at (place_of (place_at places p)) ≡ Some k → (p < n) ⊎ (graft_at (place_of (place_at places n)) ≡ Some k)
+  cut : (p k : ℕ) → p < n + 1 → graft_in_place (place_of (place_at places p)) ≡ Some k → (p < n) ⊎ (graft_in_place (place_of (place_at places n)) ≡ Some k)
   cut p k below is = elim (same_or_not n p) [
-    | inl e ↦ inr (subst (λ (m : ℕ). graft_at (place_of (place_at places m)) ≡ Some k) e is)
+    | inl e ↦ inr (subst (λ (m : ℕ). graft_in_place (place_of (place_at places m)) ≡ Some k) e is)
     | inr not ↦ inl (elim (cases_lt p n) [ inl under ↦ under | inr from ↦ absurd (not (omega (arith, from, below))) ])
   ]
 
-  pub lowest_next : (one other : Option ℕ) → LowestBelow places n one → graft_at (place_of (place_at places n)) ≡ other → LowestBelow places (n + 1) (lower_of one other)
+  pub lowest_next : (one other : Option ℕ) → LowestBelow places n one → graft_in_place (place_of (place_at places n)) ≡ other
+      → LowestBelow places (n + 1) (lower_of one other)
   lowest_next None None lowest is = λ k has. let (p, below, at) = has in elim (cut p k below at) [ inl under ↦ lowest k (p, under, at) | inr here ↦ (let x : ⊥ = no_some k (sym is ∙ here) in x) ]
     where
       no_some : (k : ℕ) → ◌≡◌ {A = Option ℕ} None (Some k) → ⊥
@@ -97,16 +92,17 @@ module _ (places : List (Option Place)) (n : ℕ) where
     ],
   )
 
-  pub lowest_all : (o : Option ℕ) → length places ≤ n → LowestBelow places n o → IsLowestOf (λ k. (p : ℕ) × (graft_at (place_of (place_at places p)) ≡ Some k)) o
+  pub lowest_all : (o : Option ℕ) → length places ≤ n → LowestBelow places n o
+      → IsLowestOf (λ k. (p : ℕ) × (graft_in_place (place_of (place_at places p)) ≡ Some k)) o
   lowest_all None all lowest = λ k has. let (p, at) = has in elim (cases_lt p n) [ inl below ↦ lowest k (p, below, at) | inr from ↦ behind p k from at ]
     where
-      behind : (p k : ℕ) → n ≤ p → graft_at (place_of (place_at places p)) ≡ Some k → ⊥
-      behind p k from at = let f : ◌≡◌ {A = Option ℕ} None (Some k) = sym (ap (λ (x : Option Place). graft_at (place_of x)) (place_at_end places p (omega (arith, all, from)))) ∙ at in (let x : ⊥ = cc in x)
+      behind : (p k : ℕ) → n ≤ p → graft_in_place (place_of (place_at places p)) ≡ Some k → ⊥
+      behind p k from at = let f : ◌≡◌ {A = Option ℕ} None (Some k) = sym (ap (λ (x : Option Place). graft_in_place (place_of x)) (place_at_end places p (omega (arith, all, from)))) ∙ at in (let x : ⊥ = cc in x)
   lowest_all (Some m) all lowest = (
     (lowest.0.0, lowest.0.2),
     λ k has. let (p, at) = has in elim (cases_lt p n) [
       | inl below ↦ lowest.1 k (p, below, at)
-      | inr from ↦ absurd (let f : ◌≡◌ {A = Option ℕ} None (Some k) = sym (ap (λ (x : Option Place). graft_at (place_of x)) (place_at_end places p (omega (arith, all, from)))) ∙ at in (let x : ⊥ = cc in x))
+      | inr from ↦ absurd (let f : ◌≡◌ {A = Option ℕ} None (Some k) = sym (ap (λ (x : Option Place). graft_in_place (place_of x)) (place_at_end places p (omega (arith, all, from)))) ∙ at in (let x : ⊥ = cc in x))
     ],
   )
 
@@ -121,6 +117,6 @@ has_some s o b is same = (
     by_flag true e some = same ∙ e
     by_flag false e some = absurd (none_due s o is e some)
 
-pub lowest_in : (part : RouterPart) (o : Option ℕ) → IsLowestOf (λ k. (p : ℕ) × (graft_at (part.places p) ≡ Some k)) o → IsLowestOf (HasGraft part) o
+pub lowest_in : (part : RouterPart) (o : Option ℕ) → IsLowestOf (λ k. (p : ℕ) × (graft_in_place (part.places p) ≡ Some k)) o → IsLowestOf (HoldsGraft part) o
 lowest_in part None lowest = lowest
 lowest_in part (Some k) lowest = lowest

@@ -5,7 +5,7 @@ use Rattle.ring_net.specs.declared.post.Post.{Post}
 use Rattle.graft_steps.specs.declared.item.Item.{Item}
 use Rattle.graft_steps.specs.declared.item.Item.TheVariants as items
 use Rattle.session_places.specs.Places.{with_place}
-use Rattle.router_core.specs.Rounds.{Writes}
+use Rattle.router_core.specs.Rounds.{WritesEvent}
 use Rattle.router_core.specs.declared.place.Errand.{Errand}
 use Rattle.graft_steps.specs.declared.refusal.Refusal.{Refusal}
 use Rattle.graft_steps.specs.declared.refusal.Outcome.TheVariants.{Refused}
@@ -17,26 +17,26 @@ use Rattle.graft_model.specs.Parts.{RouterPart, Back}
 use Rattle.graft_model.specs.RouterRows.{MeshIn, ReportOut}
 use Rattle.graft_model.specs.Setups.{routers_in, peerings_in}
 use Rattle.graft_model.specs.declared.event.RouterEvent.TheVariants.{Return}
-use Rattle.graft_runs.specs.Actors.{Router, Operator, ReportItem, actor_at}
-use Rattle.graft_runs.proofs.Numbers.{there as is_there, at_operator}
+use Rattle.graft_actors.specs.Actors.{Router, Operator, ReportItem, actor_at}
+use Rattle.graft_actors.proofs.Numbers.{there as is_there, at_operator}
 use Rattle.graft_actors.specs.Items.{IsOnItsWay}
 use Rattle.graft_actors.specs.Notes.{WroteOne, dropped}
 use Rattle.graft_actors.proofs.Welcome.{router_back}
-use Rattle.router_core.specs.Parts.{router_part, carried, Keeps, KeepsPlace}
-use Rattle.router_core.specs.Places.{place_of, place_at, IsAway}
+use Rattle.router_core.specs.Parts.{router_part, carried, RouterInvariant, KeepsPlace}
+use Rattle.router_core.specs.Places.{place_of, place_at, IsShadowOf}
 use Rattle.router_core.specs.Reading.{IsDueAgain, KeepsBut, OneSet, ReadsAll}
-use Rattle.router_core.specs.Takes.{TakesIt}
+use Rattle.router_core.specs.Takes.{RouterTakesIt}
 use Rattle.router_core.specs.declared.fields.Fields.{Fields}
 use Rattle.router_core.specs.declared.place.Place.{Place}
 use Rattle.router_core.specs.declared.place.Place.TheVariants.{Live, Shadow}
-use Rattle.router_core.proofs.Kept.{one_or_other, at_is, places_at, placed_here, placed_else, rest_of, rest_on, live_is, stays_itself}
+use Rattle.router_core.proofs.Kept.{one_or_other, at_is, places_at, placed_here, placed_else, rest_on, live_is, stays_itself}
 use Rattle.router_core.proofs.GraftSteps.{away_of, away_within}
 use Rattle.router_core.proofs.PlaceLists.{listed, rooms}
 use Rattle.router_core.proofs.Takings.{drops, is_router, takes_then}
 
-module _ (f mid h : Fields) (a b c : Post (Item RunningSession)) (from k to : ℕ) (s : RunningSession) (refusal : Refusal) (keeps : Keeps f)
-    (below : from < f.routers) (there : s.session.config.peering.0 < length f.places.places) (away : IsAway (place_at f.places.places s.session.config.peering.0) k) (way : IsOnItsWay f.known.setup s.session)
-    (to_is : to ≡ f.routers + length f.places.places) (wrote : Writes a (Return from) ((to, items.Report k (Refused refusal)) ∷ []) b)
+module _ (f mid h : Fields) (a b c : Post (Item RunningSession)) (from k to : ℕ) (s : RunningSession) (refusal : Refusal) (keeps : RouterInvariant f)
+    (below : from < f.routers) (there : s.session.config.peering.0 < length f.places.places) (away : IsShadowOf (place_at f.places.places s.session.config.peering.0) k) (way : IsOnItsWay f.known.setup s.session)
+    (to_is : to ≡ f.routers + length f.places.places) (wrote : WritesEvent a (Return from) ((to, items.Report k (Refused refusal)) ∷ []) b)
     (same : mid ≡ record f { places = mid.places; due_out = mid.due_out }) (held : mid.places ≡ with_place f.places s.session.config.peering.0 (Some (Live s None)))
     (sets : OneSet f.due_out s.session.config.peering.0 mid.due_out) (due : IsDueAgain s.session.told f.rib.best (table_at mid.due_out s.session.config.peering.0)) where
   abbrev p : ℕ
@@ -51,7 +51,7 @@ module _ (f mid h : Fields) (a b c : Post (Item RunningSession)) (from k to : �
   -- all is sound but that the session may have something to read
   pub keeps_return : KeepsBut p mid
   keeps_return = subst (KeepsBut p) (sym same) (record {
-    rest = rest_on f (record f { places = mid.places; due_out = mid.due_out }) (rest_of f keeps) refl
+    rest = rest_on f (record f { places = mid.places; due_out = mid.due_out }) keeps refl
         (record { places = ap length (listed held) ∙ length-set f.places.places p (Some (Live s None)); reserved = rooms held; due_in = refl; due_out = sets.length; config = refl; tellings = λ n out. refl });
     here = record {
       session = s;
@@ -66,7 +66,7 @@ module _ (f mid h : Fields) (a b c : Post (Item RunningSession)) (from k to : �
         (subst (λ (d : Prefixes). KeepsPlace f.known.setup f.number.0 n ((rib_of f.rib).entries n) d (place_at f.places.places n)) (sym (sets.others n not)) (keeps.each n));
   })
 
-  pub returns_back : ReadsAll p mid b h c → TakesIt from (items.Back k s refusal) f a h c
+  pub returns_back : ReadsAll p mid b h c → RouterTakesIt from (items.Back k s refusal) f a h c
   returns_back reads =
       let known : from < routers_in f.known.setup = omega (arith, below, keeps.routers) in
       let at_from : actor_at f.known.setup from ≡ Some (Router from) = is_there f.known.setup (Router from) known in
@@ -117,11 +117,12 @@ module _ (f mid h : Fields) (a b c : Post (Item RunningSession)) (from k to : �
       no_live v m e = cc
 
 -- a session that isn't a router's, or of no shadow of that graft, or isn't on its way
-pub drops_back : (f : Fields) (a b : Post (Item RunningSession)) (from k : ℕ) (s : RunningSession) (refusal : Refusal) → Keeps f
-    → (from < f.routers → s.session.config.peering.0 < length f.places.places → IsAway (place_at f.places.places s.session.config.peering.0) k → IsOnItsWay f.known.setup s.session → ⊥) → WroteOne a dropped [] b → TakesIt from (items.Back k s refusal) f a f b
+pub drops_back : (f : Fields) (a b : Post (Item RunningSession)) (from k : ℕ) (s : RunningSession) (refusal : Refusal) → RouterInvariant f
+    → (from < f.routers → s.session.config.peering.0 < length f.places.places → IsShadowOf (place_at f.places.places s.session.config.peering.0) k → IsOnItsWay f.known.setup s.session → ⊥)
+    → WroteOne a dropped [] b → RouterTakesIt from (items.Back k s refusal) f a f b
 drops_back f a b from k s refusal keeps not wrote = drops f a b from (items.Back k s refusal) keeps wrote
     (λ w.
     let is = (router_back carried f.known.setup from f.number.0 k (router_part f) s refusal).0 w in
     let known : from < routers_in f.known.setup = is_router f.known.setup from is.0 in
-    let away : IsAway (place_at f.places.places s.session.config.peering.0) k = away_of (place_at f.places.places s.session.config.peering.0) k is.2 in
+    let away : IsShadowOf (place_at f.places.places s.session.config.peering.0) k = away_of (place_at f.places.places s.session.config.peering.0) k is.2 in
     not (omega (arith, known, keeps.routers)) (away_within f s.session.config.peering.0 k away) away is.1)

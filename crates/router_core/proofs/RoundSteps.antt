@@ -1,11 +1,12 @@
 -- A round passes on a session, and the router follows it.
-use Rattle.std.proofs.Common.{◌≡◌, ◌≢◌, ℕ, ◌+◌, ◌<◌, ◌≤◌, List, [], ◌∷◌, ◌++◌, length, Option, Some, None, option_map, is_some, Bool, true, false, ◌⊎◌, inl, inr, refl, sym, ap, subst, ◌∙◌, arith}
-use Rattle.std.specs.Prelude.{if◌then◌else◌, nat_lt, Result, OnOk}
+use Rattle.std.proofs.Common.{◌≡◌, ◌≢◌, ℕ, ◌+◌, ◌<◌, List, [], ◌∷◌, ◌++◌, length, Option, Some, None, option_map, is_some, Bool, true, false, ◌⊎◌, inl, inr, refl, sym, ap, subst, ◌∙◌}
+use Rattle.std.specs.Prelude.{if◌then◌else◌, fold, nat_lt, Result, OnOk}
 use Rattle.std.proofs.lemmas.Result.{on_ok_weaker}
 use Rattle.std.specs.FinMap as map
 use Rattle.std.specs.List.{list_any}
 use Rattle.std.proofs.lemmas.Bool.{cases_lt, eq-eqb, ne_eqb}
 use Rattle.std.proofs.lemmas.List.{length-set}
+use Rattle.std.proofs.lemmas.List.Sums.{fold-append}
 use Rattle.bgp_types.specs.Prefixes.{PrefixValue, same_prefix}
 use Rattle.bgp_types.specs.declared.message.Message.TheVariants.{KeepaliveMsg}
 use Rattle.bgp_types.specs.declared.message.SessionState.{SessionState}
@@ -14,6 +15,7 @@ use Rattle.bgp_story.specs.declared.line.Line.{Line}
 use Rattle.bgp_story.specs.declared.line.Line.TheVariants.{Put, Tick}
 use Rattle.bgp_story.specs.Legal.{is_up, silence}
 use Rattle.bgp_story.specs.Readings.{Routes, unless_closed}
+use Rattle.bgp_story.specs.States.{after, with_keepalive_put}
 use Rattle.ring_net.specs.declared.post.Post.{Post}
 use Rattle.graft_steps.specs.declared.item.Item.{Item}
 use Rattle.session_places.specs.Places.{with_place}
@@ -21,13 +23,12 @@ use Rattle.router_core.specs.declared.place.Errand.{Errand}
 use Rattle.session_value.specs.declared.config.SessionConfig.{SessionConfig}
 use Rattle.session_value.specs.Cases.{PassesRound}
 use Rattle.session_value.specs.Fronts.{BeginsNothing}
-use Rattle.session_value.specs.Sessions.{SessionValue, hold_time, peering_of, state, unread}
+use Rattle.session_value.specs.Sessions.{SessionValue, hold_time, state, unread}
 use Rattle.session_value.specs.Sets.{BestRoutes, Entries, Prefixes, has}
-use Rattle.session_value.specs.Ties.{IsTied}
 use Rattle.session_value.proofs.Replies.{up_open, while_unclosed}
-use Rattle.session_value.proofs.Rounds.{Answers, ends, beats, stays, answers_are, state_next}
+use Rattle.session_value.proofs.Rounds.{Answers, ends, beats, stays, answers_are}
 use Rattle.bgp_session.specs.Running.{RunningSession}
-use Rattle.bgp_session.specs.Steps.{MayPass, Ticks, TellsRound}
+use Rattle.bgp_session.specs.Steps.{MayPass, SessionTicks, TellsRound}
 use Rattle.bgp_session.specs.declared.answers.TickStep.{TickStep}
 use Rattle.bgp_session.specs.declared.answers.TickStep.TheVariants.{Plain, Beat, Expired}
 use Rattle.rib_stages.specs.Values.{RibValue, rib_of, table_at}
@@ -37,11 +38,11 @@ use Rattle.graft_model.specs.RouterRows as rows
 use Rattle.graft_model.specs.RouterRows.{DueThen, FollowsHeard}
 use Rattle.graft_model.specs.declared.event.RouterEvent.TheVariants as events
 use Rattle.graft_actors.specs.Emissions.{Tally}
-use Rattle.tell_plan.proofs.Keys.{keys_any}
-use Rattle.router_core.specs.Parts.{router_part, Keeps, KeepsPlace}
+use Rattle.update_plan.proofs.Keys.{keys_any}
+use Rattle.router_core.specs.Parts.{router_part, RouterInvariant, KeepsPlace}
 use Rattle.router_core.specs.Places.{errand_of, place_of, place_at, RunsAt}
 use Rattle.router_core.specs.Reading.{DueBy, FollowsStep, prefixes_in}
-use Rattle.router_core.specs.Rounds.{Did, Writes}
+use Rattle.router_core.specs.Rounds.{DidAsRouter, WritesEvent}
 use Rattle.router_core.specs.Sending.{AtPlace}
 use Rattle.router_core.specs.Stages.{PassesRounds, PassesWhereItMay, PlaceGoes, PutsMore}
 use Rattle.router_core.specs.Ticking.{Ticked, followed}
@@ -51,11 +52,11 @@ use Rattle.router_core.specs.declared.fields.Fields.{Fields}
 use Rattle.router_core.specs.declared.place.Place.{Place}
 use Rattle.router_core.specs.declared.place.Place.TheVariants.{Live, Shadow}
 use Rattle.router_core.proofs.Dids.{did_one}
-use Rattle.router_core.proofs.Kept.{at_is, places_at, rest_of, with_routes}
+use Rattle.router_core.proofs.Kept.{keeps_on, at_is, places_at, with_routes}
 use Rattle.router_core.proofs.PlaceSteps.{at_own}
 use Rattle.router_core.proofs.ReadSteps.{entry_is}
 use Rattle.router_core.proofs.SendSteps.{some_none, visits_idle}
-use Rattle.router_core.proofs.Standing.{keeps_on, none_in}
+use Rattle.router_core.proofs.Standing.{none_in}
 use Rattle.router_core.proofs.PlaceLists.{listed, rooms}
 use Rattle.router_core.proofs.VisitSteps.{place_at_end, same_or_not, set_here, set_other, at_other}
 
@@ -94,36 +95,56 @@ closed_due OpenConfirm best before after none = none
 closed_due Established best before after none = none
 closed_due Closed best before after none = none
 
-module _ (s u : SessionValue) (round : ℕ) (tied : IsTied s) (passes : PassesRound s round u) where
-  next_is : state u ≡ passes.next
-  next_is = ap state passes.effect ∙ state_next (peering_of s.config) s.story round passes.answer passes.next passes.up passes.runs passes.later passes.reply tied.allowed
+-- a KEEPALIVE that is put while a session is up leaves its state
+keeps_up : (st : SessionState) → is_up st ≡ true → with_keepalive_put st ≡ st
+keeps_up OpenSent up = absurd (let x : ⊥ = cc in x)
+keeps_up OpenConfirm up = refl
+keeps_up Established up = refl
+keeps_up Closed up = absurd (let x : ⊥ = cc in x)
 
+round_ends : (st : SessionState) (round : ℕ) (answer : List Line) (next : SessionState) → is_up st ≡ true → Answers st answer next
+    → fold after st (Tick round ∷ answer) ≡ next
+round_ends st round _ _ up ends = refl
+round_ends st round _ _ up beats = keeps_up st up
+round_ends st round _ _ up stays = refl
+
+module _ (s u : SessionValue) (round : ℕ) (passes : PassesRound s round u) where
   answers : Answers (state s) passes.answer passes.next
   answers = answers_are (hold_time s) (silence s.story + 1) round (state s) passes.answer passes.next passes.reply
 
+  next_is : state u ≡ passes.next
+  next_is = ap state passes.effect
+      ∙ (fold-append after OpenSent s.story (Tick round ∷ passes.answer) ∙ round_ends (state s) round passes.answer passes.next passes.up answers)
+
   -- the state where the session goes on
   plain_state : TellsRound Plain s round u → state u ≡ state s
-  plain_state tells = next_is ∙ plain_stays (state s) passes.answer passes.next answers (same_tail s.story (Tick round) passes.answer [] (sym (ap (λ (v : SessionValue). v.story) passes.effect) ∙ tells))
+  plain_state tells = next_is
+      ∙ plain_stays (state s) passes.answer passes.next answers (same_tail s.story (Tick round) passes.answer [] (sym (ap (λ (v : SessionValue). v.story) passes.effect) ∙ tells))
 
   beat_state : TellsRound Beat s round u → state u ≡ state s
-  beat_state tells = next_is ∙ beat_stays (state s) passes.answer passes.next answers (same_tail s.story (Tick round) passes.answer (Put KeepaliveMsg ∷ []) (sym (ap (λ (v : SessionValue). v.story) passes.effect) ∙ tells))
+  beat_state tells = next_is
+      ∙ beat_stays (state s) passes.answer passes.next answers (same_tail s.story (Tick round) passes.answer (Put KeepaliveMsg ∷ []) (sym (ap (λ (v : SessionValue). v.story) passes.effect) ∙ tells))
 
   heard_stays : state u ≡ state s → u.heard ≡ s.heard
-  heard_stays same = ap (λ (v : SessionValue). v.heard) passes.effect ∙ while_unclosed passes.next s.heard (λ e. up_open (state s) passes.up (sym same ∙ next_is ∙ e))
+  heard_stays same = ap (λ (v : SessionValue). v.heard) passes.effect
+      ∙ while_unclosed passes.next s.heard (λ e. up_open (state s) passes.up (sym same ∙ next_is ∙ e))
 
   heard_none : state u ≡ Closed → (x : PrefixValue) → map.get u.heard x ≡ None
-  heard_none closed x = ap (λ (t : Routes). map.get t x) (ap (λ (v : SessionValue). v.heard) passes.effect ∙ ap (λ (st : SessionState). unless_closed st s.heard) (sym next_is ∙ closed)) ∙ map.get-empty _ x
+  heard_none closed x = ap (λ (t : Routes). map.get t x) (ap (λ (v : SessionValue). v.heard) passes.effect ∙ ap (λ (st : SessionState). unless_closed st s.heard) (sym next_is ∙ closed))
+      ∙ map.get-empty _ x
 
   unread_same : unread u ≡ unread s
   unread_same = ap unread passes.effect
 
   -- ---- how the router follows it
 
-  stays_heard : (entry : PrefixValue → Option _) (before after : Entries) → state u ≡ state s → ((x : PrefixValue) → map.get after x ≡ map.get before x) → (x : PrefixValue)
+  stays_heard : (entry : PrefixValue → Option _) (before after : Entries) → state u ≡ state s
+      → ((x : PrefixValue) → map.get after x ≡ map.get before x) → (x : PrefixValue)
       → ((map.get u.heard x ≡ map.get s.heard x) × (map.get after x ≡ map.get before x)) ⊎ ((map.get u.heard x ≢ map.get s.heard x) × (map.get after x ≡ entry x))
   stays_heard entry before after same others x = inl (ap (λ (t : Routes). map.get t x) (heard_stays same), others x)
 
-  follows_round : (entry : PrefixValue → Option _) (before after : Entries) (st : TickStep) → TellsRound st s round u → ((x : PrefixValue) → list_any (same_prefix x) (prefixes_in (followed st)) ≡ true → map.get after x ≡ entry x)
+  follows_round : (entry : PrefixValue → Option _) (before after : Entries) (st : TickStep) → TellsRound st s round u
+      → ((x : PrefixValue) → list_any (same_prefix x) (prefixes_in (followed st)) ≡ true → map.get after x ≡ entry x)
       → ((x : PrefixValue) → list_any (same_prefix x) (prefixes_in (followed st)) ≡ false → map.get after x ≡ map.get before x) → (x : PrefixValue)
       → ((map.get u.heard x ≡ map.get s.heard x) × (map.get after x ≡ map.get before x)) ⊎ ((map.get u.heard x ≢ map.get s.heard x) × (map.get after x ≡ entry x))
   follows_round entry before after Plain tells each others x = stays_heard entry before after (plain_state tells) (λ y. others y refl) x
@@ -132,28 +153,31 @@ module _ (s u : SessionValue) (round : ℕ) (tied : IsTied s) (passes : PassesRo
     had : list_any (same_prefix x) ps ≡ is_some (map.get s.heard x)
     had = ap (λ (ks : List PrefixValue). list_any (same_prefix x) ks) tells.1 ∙ keys_any s.heard x
 
-    by_test : (b : Bool) → list_any (same_prefix x) ps ≡ b → ((map.get u.heard x ≡ map.get s.heard x) × (map.get after x ≡ map.get before x)) ⊎ ((map.get u.heard x ≢ map.get s.heard x) × (map.get after x ≡ entry x))
+    by_test : (b : Bool) → list_any (same_prefix x) ps ≡ b
+        → ((map.get u.heard x ≡ map.get s.heard x) × (map.get after x ≡ map.get before x)) ⊎ ((map.get u.heard x ≢ map.get s.heard x) × (map.get after x ≡ entry x))
     by_test true e = inr ((λ same. false_true (sym (ap is_some (sym same ∙ heard_none tells.0 x)) ∙ (sym had ∙ e))), each x e)
     by_test false e = inl (heard_none tells.0 x ∙ sym (none_of (map.get s.heard x) (sym had ∙ e)), others x e)
 
   stays_due : (best : BestRoutes) (before after : Prefixes) → state u ≡ state s → after ≡ before → DueThen (state s) (state u) best before after
   stays_due best before after same due = subst (λ (y : SessionState). DueThen (state s) y best before after) (sym same) (subst (λ (d : Prefixes). DueThen (state s) (state s) best before d) (sym due) (same_due (state s) best before passes.up))
 
-  due_round : (best : BestRoutes) (before after : Prefixes) (st : TickStep) → TellsRound st s round u → DueBy (followed st) best before after → DueThen (state s) (state u) best before after
+  due_round : (best : BestRoutes) (before after : Prefixes) (st : TickStep) → TellsRound st s round u → DueBy (followed st) best before after
+      → DueThen (state s) (state u) best before after
   due_round best before after Plain tells due = stays_due best before after (plain_state tells) due
   due_round best before after Beat tells due = stays_due best before after (beat_state tells) due
   due_round best before after (Expired ps) tells due =
       subst (λ (y : SessionState). DueThen (state s) y best before after) (sym tells.0) (closed_due (state s) best before after (λ x. ap (λ (d : Prefixes). has d x) due ∙ none_in x))
 
-  up_round : (best : BestRoutes) (before after : Prefixes) (st : TickStep) → TellsRound st s round u → DueBy (followed st) best before after → ((x : PrefixValue) → has before x ≡ true → state s ≡ Established) → (x : PrefixValue) → has after x ≡ true → state u ≡ Established
+  up_round : (best : BestRoutes) (before after : Prefixes) (st : TickStep) → TellsRound st s round u → DueBy (followed st) best before after
+      → ((x : PrefixValue) → has before x ≡ true → state s ≡ Established) → (x : PrefixValue) → has after x ≡ true → state u ≡ Established
   up_round best before after Plain tells due up x h = plain_state tells ∙ up x (sym (ap (λ (d : Prefixes). has d x) due) ∙ h)
   up_round best before after Beat tells due up x h = beat_state tells ∙ up x (sym (ap (λ (d : Prefixes). has d x) due) ∙ h)
   up_round best before after (Expired ps) tells due up x h = absurd (false_true (sym (none_in x) ∙ sym (ap (λ (d : Prefixes). has d x) due) ∙ h))
 
 -- ---- the event
 
-module _ (f g : Fields) (p : ℕ) (a b : Post (Item RunningSession)) (s u : RunningSession) (o : Option Errand) (step : TickStep) (keeps : Keeps f) (is : place_at f.places.places p ≡ Some (Live s o)) (there : p < length f.places.places)
-    (may : MayPass s.session f.turns) (tied : IsTied s.session) (ticks : Ticks step s f.turns u) (items : g.places ≡ with_place f.places p (Some (Live u o))) (wrote : Writes a (events.Tick p f.turns) [] b)
+module _ (f g : Fields) (p : ℕ) (a b : Post (Item RunningSession)) (round : ℕ) (s u : RunningSession) (o : Option Errand) (step : TickStep) (keeps : RouterInvariant f) (is : place_at f.places.places p ≡ Some (Live s o)) (there : p < length f.places.places)
+    (may : MayPass s.session round) (ticks : SessionTicks step s round u) (items : g.places ≡ with_place f.places p (Some (Live u o))) (wrote : WritesEvent a (events.Tick p round) [] b)
     (follows : FollowsStep (record f { places = g.places }) p u (followed step) g) where
   same : g ≡ record f { places = g.places; rib = g.rib; due_out = g.due_out }
   same = follows.same
@@ -167,7 +191,7 @@ module _ (f g : Fields) (p : ℕ) (a b : Post (Item RunningSession)) (s u : Runn
   entries_else : (n : ℕ) → n ≢ p → (rib_of g.rib).entries n ≡ (rib_of f.rib).entries n
   entries_else n not = ap (λ (v : RibValue). v.entries n) follows.entered.effect ∙ at_other (rib_of f.rib).entries p ((rib_of g.rib).entries p) n not
 
-  row : rows.Ticks f.known.setup f.number.0 p f.turns (router_part f) None [] (router_part g)
+  row : rows.Ticks f.known.setup f.number.0 p round (router_part f) None [] (router_part g)
   row = record {
     alone = (refl, refl);
     session = s.session;
@@ -176,10 +200,10 @@ module _ (f g : Fields) (p : ℕ) (a b : Post (Item RunningSession)) (s u : Runn
     next = u.session;
     passes = ticks.passes;
     follows = record {
-      entries = follows_round s.session u.session f.turns tied ticks.passes (entry_of f.known.setup f.number.0 u.session) ((rib_of f.rib).entries p) ((rib_of g.rib).entries p) step ticks.tells
-          (λ x e. follows.entered.each x e ∙ entry_is f u.session x (rest_of f keeps)) follows.entered.others;
+      entries = follows_round s.session u.session round ticks.passes (entry_of f.known.setup f.number.0 u.session) ((rib_of f.rib).entries p) ((rib_of g.rib).entries p) step ticks.tells
+          (λ x e. follows.entered.each x e ∙ entry_is f u.session x keeps) follows.entered.others;
       dirty = follows.entered.dirty;
-      due = due_round s.session u.session f.turns tied ticks.passes f.rib.best (table_at f.due_out p) (table_at g.due_out p) step ticks.tells follows.due;
+      due = due_round s.session u.session round ticks.passes f.rib.best (table_at f.due_out p) (table_at g.due_out p) step ticks.tells follows.due;
       effect = ap router_part same
           ∙ (λ i. let v : RouterPart = record (with_routes (router_part f) (follows.entered.effect i)) {
             places = (ap (λ (xs : List (Option Place)). (λ n. place_of (place_at xs n))) (listed items) ∙ places_at f.places.places p (Some (Live u o)) there) i;
@@ -201,12 +225,12 @@ module _ (f g : Fields) (p : ℕ) (a b : Post (Item RunningSession)) (s u : Runn
       sends = ap (λ (c : SessionConfig). c.send_first.0) config_is ∙ place_is.0.sends;
       receives = ap (λ (c : SessionConfig). c.receive_first.0) config_is ∙ place_is.0.receives;
     },
-    λ unclosed. subst BeginsNothing (sym (unread_same s.session u.session f.turns tied ticks.passes)) (place_is.1 (up_open (state s.session) ticks.passes.up)),
+    λ unclosed. subst BeginsNothing (sym (unread_same s.session u.session round ticks.passes)) (place_is.1 (up_open (state s.session) ticks.passes.up)),
     place_is.2,
-    up_round s.session u.session f.turns tied ticks.passes f.rib.best (table_at f.due_out p) (table_at g.due_out p) step ticks.tells follows.due place_is.3,
+    up_round s.session u.session round ticks.passes f.rib.best (table_at f.due_out p) (table_at g.due_out p) step ticks.tells follows.due place_is.3,
   )
 
-  keeps_then : Keeps g
+  keeps_then : RouterInvariant g
   keeps_then = keeps_on f g keeps (subst (λ (h : Fields). h ≡ record f { places = h.places; rib = h.rib; due_in = h.due_in; due_out = h.due_out; turns = h.turns }) (sym same) refl)
       (record {
         places = ap length (listed items) ∙ length-set f.places.places p (Some (Live u o));
@@ -214,7 +238,7 @@ module _ (f g : Fields) (p : ℕ) (a b : Post (Item RunningSession)) (s u : Runn
         due_in = ap (λ (h : Fields). length h.due_in) same;
         due_out = follows.sets.length;
         config = ap (λ (v : RibValue). v.config) follows.entered.effect;
-        tellings = ap (λ (v : RibValue). v.tellings) follows.entered.effect;
+        tellings = λ q out. ap (λ (v : RibValue). v.tellings q) follows.entered.effect;
       })
       (λ n. elim (same_or_not p n) [
         | inl e ↦
@@ -226,45 +250,47 @@ module _ (f g : Fields) (p : ℕ) (a b : Post (Item RunningSession)) (s u : Runn
             (subst (λ (d : Prefixes). KeepsPlace f.known.setup f.number.0 n ((rib_of f.rib).entries n) d (place_at f.places.places n)) (sym (follows.sets.others n not)) (keeps.each n)))
       ])
 
-  round_here : rounds_on p (events.Tick p f.turns ∷ []) ≡ f.turns ∷ []
-  round_here = ap (λ (t : Bool). let xs : List ℕ = (if t then f.turns ∷ [] else []) ++ [] in xs) (eq-eqb p p refl)
+  round_here : rounds_on p (events.Tick p round ∷ []) ≡ round ∷ []
+  round_here = ap (λ (t : Bool). let xs : List ℕ = (if t then round ∷ [] else []) ++ [] in xs) (eq-eqb p p refl)
 
-  round_else : (n : ℕ) → n ≢ p → events_on n (events.Tick p f.turns ∷ []) ≡ none_on
-  round_else n not = ap (λ (t : Bool). let on : OnPeering = record { rounds = (if t then f.turns ∷ [] else []) ++ []; emits = 0; answers = 0 } in on) (ne_eqb p n (λ e. not (sym e)))
+  round_else : (n : ℕ) → n ≢ p → events_on n (events.Tick p round ∷ []) ≡ none_on
+  round_else n not = ap (λ (t : Bool). let on : OnPeering = record { rounds = (if t then round ∷ [] else []) ++ []; emits = 0; answers = 0 } in on) (ne_eqb p n (λ e. not (sym e)))
 
   more : PutsMore s u
   more = record { acked = ap (λ (v : SessionValue). v.end.acked) ticks.passes.effect; emitted = ap (λ (v : SessionValue). v.end.emitted) ticks.passes.effect; at_turn = ticks.same_turn }
 
-  pub ticks_at : Visits (passing_rounds f.turns) p f a g b
+  pub ticks_at : Visits (passing_rounds round) p f a g b
   ticks_at = record {
-    events = events.Tick p f.turns ∷ [];
-    did = λ t. subst (λ (v : ℕ → Tally). Did f a t (events.Tick p f.turns ∷ []) g b v) (λ i n. sym (at_own t p (t p) refl n) i)
-        (did_one f g a b t (events.Tick p f.turns) (record { setup = ap (λ (h : Fields). h.known.setup) same; number = ap (λ (h : Fields). h.number) same }) wrote row tt);
+    events = events.Tick p round ∷ [];
+    did = λ t. subst (λ (v : ℕ → Tally). DidAsRouter f a t (events.Tick p round ∷ []) g b v) (λ i n. sym (at_own t p (t p) refl n) i)
+        (did_one f g a b t (events.Tick p round) (record { setup = ap (λ (h : Fields). h.known.setup) same; number = ap (λ (h : Fields). h.number) same }) wrote row tt);
     at = (refl, tt);
-    goes = subst (λ (xs : List ℕ). PlaceGoes (PassesWhereItMay f.turns xs) (place_at f.places.places p) (place_at g.places.places p)) (sym round_here)
-        (subst (λ (x : Option Place). PlaceGoes (PassesWhereItMay f.turns (f.turns ∷ [])) x (place_at g.places.places p)) (sym is) (u, here, (more, inl (may, refl))));
+    goes = subst (λ (xs : List ℕ). PlaceGoes (PassesWhereItMay round xs) (place_at f.places.places p) (place_at g.places.places p)) (sym round_here)
+        (subst (λ (x : Option Place). PlaceGoes (PassesWhereItMay round (round ∷ [])) x (place_at g.places.places p)) (sym is) (u, here, (more, inl (may, refl))));
     others = λ n not. (elsewhere n not, round_else n not);
     same = same;
     keeps = keeps_then;
   }
 
 -- the router with the session after its round, which it follows then
-module _ {T E : Type 0} (r : Result T E) (f k g : Fields) (p : ℕ) (a b : Post (Item RunningSession)) (x : Option Place) (step : TickStep) (keeps : Keeps f) (there : p < length f.places.places) (same : k ≡ record f { places = k.places }) (items : k.places ≡ with_place f.places p x)
-    (wrote : Writes a (events.Tick p f.turns) [] b) (follows : (s : RunningSession) (o : Option Errand) → RunsAt k.places.places p s o → s.session.config.peering.0 ≡ p → OnOk r (FollowsStep k p s (followed step) g)) where
-  ticks_live : (s u : RunningSession) (o : Option Errand) → place_at f.places.places p ≡ Some (Live s o) → x ≡ Some (Live u o) → MayPass s.session f.turns → IsTied s.session → Ticks step s f.turns u → OnOk r (Visits (passing_rounds f.turns) p f a g b)
-  ticks_live s u o is x_is may tied ticks =
+module _ {T E : Type 0} (r : Result T E) (f k g : Fields) (p round : ℕ) (a b : Post (Item RunningSession)) (x : Option Place) (step : TickStep) (keeps : RouterInvariant f) (there : p < length f.places.places) (same : k ≡ record f { places = k.places }) (items : k.places ≡ with_place f.places p x)
+    (wrote : WritesEvent a (events.Tick p round) [] b) (follows : (s : RunningSession) (o : Option Errand) → RunsAt k.places.places p s o → s.session.config.peering.0 ≡ p → OnOk r (FollowsStep k p s (followed step) g)) where
+  ticks_live : (s u : RunningSession) (o : Option Errand) → place_at f.places.places p ≡ Some (Live s o) → x ≡ Some (Live u o)
+      → MayPass s.session round → SessionTicks step s round u → OnOk r (Visits (passing_rounds round) p f a g b)
+  ticks_live s u o is x_is may ticks =
       let own : KeepsPlace f.known.setup f.number.0 p ((rib_of f.rib).entries p) (table_at f.due_out p) (Some (Live s o)) = subst (KeepsPlace f.known.setup f.number.0 p ((rib_of f.rib).entries p) (table_at f.due_out p)) is (keeps.each p) in
       on_ok_weaker r
       (λ (done : FollowsStep k p u (followed step) g).
       let done' : FollowsStep (record f { places = k.places }) p u (followed step) g = subst (λ (h : Fields). FollowsStep h p u (followed step) g) same done in
       let places_are : k.places ≡ g.places = sym (ap (λ (h : Fields). h.places) done.same) in
-      ticks_at f g p a b s u o step keeps is there may tied ticks (ap (λ (h : Fields). h.places) done.same ∙ items ∙ ap (with_place f.places p) x_is) wrote
+      ticks_at f g p a b round s u o step keeps is there may ticks (ap (λ (h : Fields). h.places) done.same ∙ items ∙ ap (with_place f.places p) x_is) wrote
       (subst (λ v. FollowsStep (record f { places = v }) p u (followed step) g) places_are done'))
       (follows u o (record { is = ap (λ (xs : List (Option Place)). place_at xs p) (listed items) ∙ set_here f.places.places p x there ∙ x_is }) (ap (λ (v : SessionValue). v.config.peering.0) ticks.passes.effect ∙ own.0.peering))
 
-  pub ticks_some : (y : Option Place) → place_at f.places.places p ≡ y → AtPlace (Ticked f.turns) y (Some step) x → OnOk r (Visits (passing_rounds f.turns) p f a g b)
+  pub ticks_some : (y : Option Place) → place_at f.places.places p ≡ y → AtPlace (Ticked round) y (Some step) x
+      → OnOk r (Visits (passing_rounds round) p f a g b)
   ticks_some None is ticked = absurd (some_none step ticked.0)
-  ticks_some (Some (Live s o)) is (u, x_is, ticked) = ticks_live s u o is x_is ticked.0 ticked.1 ticked.2
+  ticks_some (Some (Live s o)) is (u, x_is, ticked) = ticks_live s u o is x_is ticked.0 ticked.1
   ticks_some (Some (Shadow away)) is ticked = absurd (some_none step ticked.0)
 
 -- ---- where none may pass
@@ -272,30 +298,27 @@ module _ {T E : Type 0} (r : Result T E) (f k g : Fields) (p : ℕ) (a b : Post 
 stays_put : (s : RunningSession) → PutsMore s s
 stays_put s = record { acked = refl; emitted = refl; at_turn = refl }
 
-module _ (f g : Fields) (a : Post (Item RunningSession)) (p : ℕ) (x : Option Place) (keeps : Keeps f) (there : p < length f.places.places) (same : SameButPlaces f g) (items : g.places ≡ with_place f.places p x) where
+module _ (f g : Fields) (a : Post (Item RunningSession)) (p round : ℕ) (x : Option Place) (keeps : RouterInvariant f) (there : p < length f.places.places) (same : SameButPlaces f g) (items : g.places ≡ with_place f.places p x) where
   same_rest : SameButSessions f g
   same_rest = subst (λ (h : Fields). h ≡ record f { places = h.places; rib = h.rib; due_out = h.due_out }) (sym same) refl
 
-  pub ticks_none : (y : Option Place) → place_at f.places.places p ≡ y → AtPlace (Ticked f.turns) y None x → Visits (passing_rounds f.turns) p f a g a
-  ticks_none None is ticked = visits_idle f g a a p x keeps there same items (passing_rounds f.turns) same_rest None is ticked.1 refl (λ t. refl)
+  pub ticks_none : (y : Option Place) → place_at f.places.places p ≡ y → AtPlace (Ticked round) y None x → Visits (passing_rounds round) p f a g a
+  ticks_none None is ticked = visits_idle f g a a p x keeps there same items (passing_rounds round) same_rest None is ticked.1 refl (λ t. refl)
   ticks_none (Some (Live s o)) is (u, x_is, ticked) =
-      visits_idle f g a a p x keeps there same items (passing_rounds f.turns) same_rest (Some (Live s o)) is (x_is ∙ ap (λ (v : RunningSession). Some (Live v o)) ticked.1) (s, refl, (stays_put s, inr (ticked.0, refl, refl))) (λ t. refl)
-  ticks_none (Some (Shadow away)) is ticked = visits_idle f g a a p x keeps there same items (passing_rounds f.turns) same_rest (Some (Shadow away)) is ticked.1 refl (λ t. refl)
+      visits_idle f g a a p x keeps there same items (passing_rounds round) same_rest (Some (Live s o)) is (x_is ∙ ap (λ (v : RunningSession). Some (Live v o)) ticked.1) (s, refl, (stays_put s, inr (ticked.0, refl, refl))) (λ t. refl)
+  ticks_none (Some (Shadow away)) is ticked = visits_idle f g a a p x keeps there same items (passing_rounds round) same_rest (Some (Shadow away)) is ticked.1 refl (λ t. refl)
 
 -- ---- all places
 
-pub sessions_then : (a b c : Fields) → SameButSessions a b → SameButSessions b c → SameButSessions a c
-sessions_then a b c x y = y ∙ ap (λ (f : Fields). let g : Fields = record f { places = c.places; rib = c.rib; due_out = c.due_out } in g) x
-
-pub passes_all : (f g : Fields) (a b : Post (Item RunningSession)) (n : ℕ) → length f.places.places ≤ n → Visited (passing_rounds f.turns) n f a g b → PassesRounds f a g b
-passes_all f g a b n last v = record {
+pub passes_all : (f g : Fields) (a b : Post (Item RunningSession)) → Visited (passing_rounds f.turns) (length f.places.places) f a g b → PassesRounds f a g b
+passes_all f g a b v = record {
   events = v.events;
-  did = λ t. subst (λ (w : ℕ → Tally). Did f a t v.events g b w) (λ i k. both (nat_lt k n) (t k) i) (v.did t);
+  did = λ t. subst (λ (w : ℕ → Tally). DidAsRouter f a t v.events g b w) (λ i k. both (nat_lt k (length f.places.places)) (t k) i) (v.did t);
   at = v.at;
-  places = λ k. elim (cases_lt k n) [
+  places = λ k. elim (cases_lt k (length f.places.places)) [
     | inl below ↦ v.done k below
     | inr from ↦
-        let end : place_at f.places.places k ≡ None = place_at_end f.places.places k (omega (arith, last, from)) in
+        let end : place_at f.places.places k ≡ None = place_at_end f.places.places k from in
         subst (PlaceGoes (PassesWhereItMay f.turns (rounds_on k v.events)) (place_at f.places.places k)) (sym (v.left k from).0)
         (subst (λ (x : Option Place). PlaceGoes (PassesWhereItMay f.turns (rounds_on k v.events)) x x) (sym end) refl)
   ];

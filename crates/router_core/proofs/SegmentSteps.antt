@@ -5,16 +5,16 @@ use Rattle.ring_net.specs.declared.post.Post.{Post}
 use Rattle.graft_steps.specs.declared.item.Item.{Item}
 use Rattle.graft_steps.specs.declared.item.Item.TheVariants as items
 use Rattle.session_places.specs.Places.{with_place}
-use Rattle.router_core.specs.Rounds.{Writes}
+use Rattle.router_core.specs.Rounds.{WritesEvent}
 use Rattle.router_core.specs.declared.place.Errand.{Errand}
 use Rattle.tcp_end.specs.declared.arrival.Arrival.{Arrival}
-use Rattle.tcp_seq.specs.Endpoint.{PlacedSegment, IsInStreams, TakesSegment}
+use Rattle.tcp_seq.specs.Endpoint.{PlacedSegment, TakesSegment}
 use Rattle.tcp_seq.specs.Placed.{placed}
 use Rattle.tcp_seq.specs.declared.segment.Segment.{Segment}
 use Rattle.tcp_seq.specs.declared.segment.Way.{Way}
 use Rattle.tcp_seq.specs.declared.segment.Way.TheVariants.{Home}
 use Rattle.bgp_session.specs.Running.{RunningSession}
-use Rattle.bgp_session.specs.Steps.{Arrives, received_as}
+use Rattle.bgp_session.specs.Steps.{SegmentArrives, received_as}
 use Rattle.session_value.specs.Sessions.{SessionValue}
 use Rattle.rib_stages.specs.Values.{rib_of, table_at}
 use Rattle.graft_model.specs.Points.{at}
@@ -23,40 +23,40 @@ use Rattle.graft_model.specs.Parts.{RouterPart}
 use Rattle.graft_model.specs.RouterRows.{SegmentIn}
 use Rattle.graft_model.specs.Setups.{routers_in, peerings_in}
 use Rattle.graft_model.specs.declared.event.RouterEvent.TheVariants.{Arrive, Stray}
-use Rattle.graft_runs.specs.Actors.{FarSide, actor_at}
-use Rattle.graft_runs.proofs.Numbers.{there as is_there, of_number}
+use Rattle.graft_actors.specs.Actors.{FarSide, actor_at}
+use Rattle.graft_actors.proofs.Numbers.{there as is_there, of_number}
 use Rattle.graft_actors.specs.Items.{home_first, remote_first, placed_for, segment_of, segment_thing, IsSegmentOf}
 use Rattle.graft_actors.specs.Notes.{WroteOne, dropped}
 use Rattle.graft_actors.proofs.Welcome.{router_segment}
-use Rattle.router_core.specs.Parts.{router_part, own_part, carried, Keeps, KeepsPlace, IsOfPeering}
+use Rattle.router_core.specs.Parts.{router_part, own_part, carried, RouterInvariant, KeepsPlace, IsOfPeering}
 use Rattle.router_core.specs.Places.{errand_of, place_of, place_at, RunsAt}
-use Rattle.router_core.specs.Reading.{ArrivesAt, FitsPlace, FitsSession, KeepsBut, ReadsAll}
-use Rattle.router_core.specs.Takes.{Stays, TakesIt}
+use Rattle.router_core.specs.Reading.{ArrivesAt, KeepsBut, ReadsAll}
+use Rattle.router_core.specs.Takes.{Stays, RouterTakesIt}
 use Rattle.router_core.specs.declared.fields.Fields.{Fields}
 use Rattle.router_core.specs.declared.place.Place.{Place}
 use Rattle.router_core.specs.declared.place.Place.TheVariants.{Live, Shadow}
 use Rattle.router_core.proofs.Dids.{did_same, same_router}
-use Rattle.router_core.proofs.Kept.{one_or_other, places_at, placed_here, placed_else, rest_of, rest_on, live_is, stays_itself}
+use Rattle.router_core.proofs.Kept.{one_or_other, places_at, placed_here, placed_else, rest_on, live_is, stays_itself}
 use Rattle.router_core.proofs.PlaceLists.{listed, rooms, same_there}
 use Rattle.router_core.proofs.Takings.{drops, takes_then}
 
-module _ (f : Fields) (a b : Post (Item RunningSession)) (from p : ℕ) (g : Segment) (keeps : Keeps f) where
+module _ (f : Fields) (a b : Post (Item RunningSession)) (from p : ℕ) (g : Segment) (keeps : RouterInvariant f) where
   -- a segment of no far side
-  pub drops_stranger : (from < f.routers → ⊥) → f.routers + length f.places.places ≤ from → WroteOne a dropped [] b → TakesIt from (items.Seg g) f a f b
+  pub drops_stranger : (from < f.routers → ⊥) → f.routers + length f.places.places ≤ from → WroteOne a dropped [] b → RouterTakesIt from (items.Seg g) f a f b
   drops_stranger not past wrote = drops f a b from (items.Seg g) keeps wrote
       (λ w.
       let is = (router_segment carried f.known.setup from f.number.0 (router_part f) g).0 w in
       let at_it = of_number f.known.setup from (FarSide is.0) is.1 in omega (arith, at_it.0, at_it.1, past, keeps.routers, keeps.places))
 
   -- a segment of a router
-  pub drops_router : from < f.routers → WroteOne a dropped [] b → TakesIt from (items.Seg g) f a f b
+  pub drops_router : from < f.routers → WroteOne a dropped [] b → RouterTakesIt from (items.Seg g) f a f b
   drops_router below wrote = drops f a b from (items.Seg g) keeps wrote
       (λ w.
       let is = (router_segment carried f.known.setup from f.number.0 (router_part f) g).0 w in
       let at_it = of_number f.known.setup from (FarSide is.0) is.1 in omega (arith, at_it.1, below, keeps.routers))
 
   -- one that isn't of its sender's peering
-  pub drops_other : from ≡ f.routers + p → (IsSegmentOf f.known.setup p Home g → ⊥) → WroteOne a dropped [] b → TakesIt from (items.Seg g) f a f b
+  pub drops_other : from ≡ f.routers + p → (IsSegmentOf f.known.setup p Home g → ⊥) → WroteOne a dropped [] b → RouterTakesIt from (items.Seg g) f a f b
   drops_other number not wrote = drops f a b from (items.Seg g) keeps wrote
       (λ w.
       let is = (router_segment carried f.known.setup from f.number.0 (router_part f) g).0 w in
@@ -66,10 +66,7 @@ module _ (f : Fields) (a b : Post (Item RunningSession)) (from p : ℕ) (g : Seg
 
 -- ---- a segment of the peering
 
-module _ (f : Fields) (a b : Post (Item RunningSession)) (from p : ℕ) (g : Segment) (keeps : Keeps f) (number : from ≡ f.routers + p) (there : p < length f.places.places) (is : IsSegmentOf f.known.setup p Home g) where
-  abbrev setup_ : Rattle.graft_model.specs.Setups.Setup
-  setup_ = f.known.setup
-
+module _ (f : Fields) (a b : Post (Item RunningSession)) (from p : ℕ) (g : Segment) (keeps : RouterInvariant f) (number : from ≡ f.routers + p) (there : p < length f.places.places) (is : IsSegmentOf f.known.setup p Home g) where
   abbrev seg : PlacedSegment
   seg = segment_of f.known.setup g
 
@@ -90,25 +87,10 @@ module _ (f : Fields) (a b : Post (Item RunningSession)) (from p : ℕ) (g : Seg
       ∙ ap (λ (n : ℕ). placed n (home_first f.known.setup p) g) (sym own.receives)
       ∙ ap (λ (n : ℕ). placed s.session.config.receive_first.0 n g) (sym own.sends)
 
-  fits_session : (s : RunningSession) (o : Option Errand) → RunsAt f.places.places p s o → FitsSession s.session.config g
-  fits_session s o live =
-      let own : IsOfPeering f.known.setup p s.session = own_of s o live in
-      record {
-        peering = λ i. record { 0 = (is.peering ∙ sym own.peering) i };
-        way = is.way;
-        len = is.len;
-        in_streams = subst IsInStreams (seg_is s o live) is.placed;
-      }
-
-  pub fits_place : FitsPlace (place_at f.places.places p) g
-  fits_place = by_place (place_at f.places.places p) refl where
-    by_place : (x : Option Place) → place_at f.places.places p ≡ x → FitsPlace x g
-    by_place None e = tt
-    by_place (Some (Live s o)) e = fits_session s o (record { is = e })
-    by_place (Some (Shadow away)) e = tt
-
   -- no session is live there
-  pub strays : (h : Fields) → h ≡ record f { places = h.places } → h.places ≡ with_place f.places p (place_at f.places.places p) → ((s : RunningSession) (o : Option Errand) → place_at f.places.places p ≡ Some (Live s o) → ⊥) → Writes a (Stray p) [] b → TakesIt from (items.Seg g) f a h b
+  pub strays : (h : Fields) → h ≡ record f { places = h.places } → h.places ≡ with_place f.places p (place_at f.places.places p)
+      → ((s : RunningSession) (o : Option Errand) → place_at f.places.places p ≡ Some (Live s o) → ⊥) → WritesEvent a (Stray p) [] b
+      → RouterTakesIt from (items.Seg g) f a h b
   strays h same held absent wrote =
       let kept : h.places ≡ f.places = held ∙ same_there f.places p in
       let unchanged : h.places.places ≡ f.places.places = listed kept in
@@ -135,7 +117,7 @@ module _ (f : Fields) (a b : Post (Item RunningSession)) (from p : ℕ) (g : Seg
       (refl, tt)
       (λ n u v o w x y. stays_itself u v (live_is f.places.places n u v o w x (record { is = ap (λ (xs : List (Option Place)). place_at xs n) (sym unchanged) ∙ y.is })))
       (ap (λ (k : Fields). k.turns) same)
-      (Rattle.router_core.proofs.Kept.keeps_on f h (rest_of f keeps)
+      (Rattle.router_core.proofs.Kept.keeps_on f h keeps
       (subst (λ (k : Fields). k ≡ record f { places = k.places; rib = k.rib; due_in = k.due_in; due_out = k.due_out; turns = k.turns }) (sym same) refl)
       (record {
         places = ap length unchanged;
@@ -154,7 +136,7 @@ module _ (f : Fields) (a b : Post (Item RunningSession)) (from p : ℕ) (g : Seg
       no_live (Some (Shadow away)) e s o l = cc
 
   -- it arrives at the session that is live there
-  module _ (mid : Fields) (s u : RunningSession) (o : Option Errand) (arrival : Arrival) (live : RunsAt f.places.places p s o) (arr : Arrives arrival s g u)
+  module _ (mid : Fields) (s u : RunningSession) (o : Option Errand) (arrival : Arrival) (live : RunsAt f.places.places p s o) (arr : SegmentArrives arrival s g u)
       (same : mid ≡ record f { places = mid.places }) (held : mid.places ≡ with_place f.places p (Some (Live u o))) where
     here : place_at mid.places.places p ≡ Some (Live u o)
     here = ap (λ (xs : List (Option Place)). place_at xs p) (listed held) ∙ placed_here f.places.places p (Some (Live u o)) there
@@ -167,7 +149,7 @@ module _ (f : Fields) (a b : Post (Item RunningSession)) (from p : ℕ) (g : Seg
 
     pub keeps_arrival : KeepsBut p mid
     keeps_arrival = subst (KeepsBut p) (sym same) (record {
-      rest = rest_on f (record f { places = mid.places }) (rest_of f keeps) refl
+      rest = rest_on f (record f { places = mid.places }) keeps refl
           (record { places = ap length (listed held) ∙ length-set f.places.places p (Some (Live u o)); reserved = rooms held; due_in = refl; due_out = refl; config = refl; tellings = λ n out. refl });
       here = record {
         session = u;
@@ -189,12 +171,14 @@ module _ (f : Fields) (a b : Post (Item RunningSession)) (from p : ℕ) (g : Seg
         ]
 
     emits_none : u.session.end.emitted ≡ s.session.end.emitted
-    emits_none = ap (λ (v : RunningSession). v.session.end.emitted) arr.effect ∙ elim arr.takes [ inl d ↦ ap (λ v. v.emitted) d.stays | inr c ↦ ap (λ v. v.emitted) c.changed ]
+    emits_none = ap (λ (v : RunningSession). v.session.end.emitted) arr.effect
+        ∙ elim arr.takes [ inl d ↦ ap (λ v. v.emitted) d.stays | inr c ↦ ap (λ v. v.emitted) c.changed ]
 
     stays_one : Stays s u
     stays_one = record { acked = rises; emitted = emits_none; at_turn = ap (λ (v : RunningSession). v.acked_at_turn) arr.effect }
 
-    pub arrives : (h : Fields) (c : Post (Item RunningSession)) → Writes a (Arrive p) [] b → ReadsAll p mid b h c → TakesIt from (items.Seg g) f a h c
+    pub arrives : (h : Fields) (c : Post (Item RunningSession)) → WritesEvent a (Arrive p) [] b → ReadsAll p mid b h c
+        → RouterTakesIt from (items.Seg g) f a h c
     arrives h c wrote reads =
         takes_then f mid h a b c from (items.Seg g) (Arrive p) reads.events
         (record {
@@ -259,7 +243,7 @@ pub record TookIn (place new : Option Place) (g : Segment) : Type 0 where
   pub later : RunningSession
   pub arrival : Arrival
   pub live : place ≡ Some (Live session errand)
-  pub arrives : Arrives arrival session g later
+  pub arrives : SegmentArrives arrival session g later
   pub is : new ≡ Some (Live later errand)
 
 pub took_in : (place new : Option Place) (g : Segment) (live : Bool) → ArrivesAt live place g new → live ≡ true → TookIn place new g

@@ -2,6 +2,7 @@
 use Rattle.std.proofs.Common.{◌≡◌, ℕ, ◌+◌, ◌<◌, ◌≤◌, [], ◌∷◌, length, Option, option_map, Some, None, Bool, true, false, ◌⊎◌, inl, inr, refl, sym, ap, subst, ◌∙◌, arith}
 use Rattle.std.specs.Prelude.{nat_lt, if◌then◌else◌, IsNone, IfNone, ◌↔◌, Result, Ok, Err, IfOk, OnOk}
 use Rattle.std.proofs.lemmas.Bool.{cases_lt, lt-ltb, le-ltb}
+use Rattle.std.proofs.lemmas.Result.{IfOk-weaker}
 use Rattle.ring_net.specs.declared.post.Post.{Post}
 use Rattle.tcp_seq.specs.Endpoint.{Endpoint, PlacedSegment, EmitsNext, EmitsAgain, EmitsSlice, next_length, again_length}
 use Rattle.tcp_seq.specs.Numbers.{offset_from}
@@ -9,20 +10,21 @@ use Rattle.tcp_seq.specs.declared.segment.Segment.{Segment}
 use Rattle.graft_steps.specs.declared.item.Item.{Item}
 use Rattle.graft_steps.specs.declared.item.Item.TheVariants as items
 use Rattle.graft_model.specs.declared.event.RouterEvent.TheVariants.{Emit}
-use Rattle.session_places.specs.Places.{with_place}
-use Rattle.router_core.specs.Rounds.{Writes}
+use Rattle.session_places.specs.Places.{PlaceList, with_place}
+use Rattle.router_core.specs.Rounds.{WritesEvent}
 use Rattle.router_core.specs.declared.place.Errand.{Errand}
 use Rattle.session_value.specs.Sessions.{SessionValue, unread}
 use Rattle.bgp_session.specs.Running.{RunningSession}
-use Rattle.bgp_session.specs.Steps.{Emits, EmitsBy, sent_as}
+use Rattle.bgp_session.specs.Steps.{SessionEmits, SessionEmitsIfAny, sent_as}
 use Rattle.graft_model.specs.Setups.{routers_in}
 use Rattle.graft_model.specs.Slices.{EmitsAt}
 use Rattle.graft_model.specs.Parts as model
 use Rattle.graft_actors.specs.Emissions.{Tally, reach_of}
 use Rattle.rib_stages.specs.Values.{rib_of, table_at}
-use Rattle.router_core.specs.Parts.{Keeps, KeepsPlace, IsOfPeering}
-use Rattle.router_core.specs.Places.{place_of, place_at, errand_of}
-use Rattle.router_core.specs.Sending.{AtPlace, SentAgain, SentNext, SentAnswer, IsOutletOf}
+use Rattle.router_core.specs.Parts.{RouterInvariant, KeepsPlace, IsOfPeering}
+use Rattle.router_core.specs.Lends.{live_in, with_live}
+use Rattle.router_core.specs.Places.{AtOne, place_of, place_at, errand_of}
+use Rattle.router_core.specs.Sending.{AtPlace, SessionSentAgain, SentNext, SessionSentAnswer, IsOutletOf}
 use Rattle.router_core.specs.Stages.{IsLevel, again_at, answer_at}
 use Rattle.router_core.specs.Visits.{none_on, Stage, Visits, SameButPlaces, Answers, SlicesOut, AllNewOut, answering, sending_again, slicing}
 use Rattle.router_core.specs.declared.fields.Fields.{Fields}
@@ -31,6 +33,7 @@ use Rattle.router_core.specs.declared.place.Place.TheVariants.{Live, Shadow}
 use Rattle.router_core.specs.declared.stages.send.Outlet.{Outlet}
 use Rattle.graft_actors.proofs.Careful.{at_again, at_answer, at_next, careful_again, careful_next, counted_again, counted_next}
 use Rattle.router_core.proofs.EmitSteps.{Gives, visits_emitted}
+use Rattle.router_core.proofs.PlaceLists.{same_there}
 use Rattle.router_core.proofs.PlaceSteps.{keeps_live, visits_same}
 use Rattle.router_core.proofs.RoundLists.{answer_here, emit_here, no_answer}
 
@@ -45,22 +48,23 @@ some_none x e = let y : ⊥ = cc in y
 
 -- what an outlet notes and sends
 abbrev pub WroteBy : Outlet → Segment → Post (Item RunningSession) → Post (Item RunningSession) → Type 0
-WroteBy outlet segment p q = Writes p (Emit outlet.place (offset_from segment.seq.0 outlet.first.0) (length segment.bytes)) ((outlet.to, items.Seg segment) ∷ []) q
+WroteBy outlet segment p q = WritesEvent p (Emit outlet.place (offset_from segment.seq.0 outlet.first.0) (length segment.bytes)) ((outlet.to, items.Seg segment) ∷ []) q
 
 module _ (f : Fields) (n : ℕ) (outlet : Outlet) (is : IsOutletOf f n outlet) (p q : Post (Item RunningSession)) (segment : Segment) where
-  pub wrote_by : (s : SessionValue) (from len : ℕ) → IsOfPeering f.known.setup n s → (sent_as s.config segment).place ≡ from → length segment.bytes ≡ len → WroteBy outlet segment p q
-      → Writes p (Emit n from len) ((routers_in f.known.setup + n, items.Seg segment) ∷ []) q
+  pub wrote_by : (s : SessionValue) (from len : ℕ) → IsOfPeering f.known.setup n s → (sent_as s.config segment).place ≡ from
+      → length segment.bytes ≡ len → WroteBy outlet segment p q
+      → WritesEvent p (Emit n from len) ((routers_in f.known.setup + n, items.Seg segment) ∷ []) q
   wrote_by s from len of place size wrote =
       let seen : offset_from segment.seq.0 outlet.first.0 ≡ from = ap (offset_from segment.seq.0) (is.first ∙ sym of.sends) ∙ place in
-      subst (λ (m : ℕ). Writes p (Emit n from m) ((routers_in f.known.setup + n, items.Seg segment) ∷ []) q) size
-      (subst (λ (m : ℕ). Writes p (Emit n m (length segment.bytes)) ((routers_in f.known.setup + n, items.Seg segment) ∷ []) q) seen
-      (subst (λ (m : ℕ). Writes p (Emit n (offset_from segment.seq.0 outlet.first.0) (length segment.bytes)) ((m, items.Seg segment) ∷ []) q) is.to
-      (subst (λ (m : ℕ). Writes p (Emit m (offset_from segment.seq.0 outlet.first.0) (length segment.bytes)) ((outlet.to, items.Seg segment) ∷ []) q) is.place wrote)))
+      subst (λ (m : ℕ). WritesEvent p (Emit n from m) ((routers_in f.known.setup + n, items.Seg segment) ∷ []) q) size
+      (subst (λ (m : ℕ). WritesEvent p (Emit n m (length segment.bytes)) ((routers_in f.known.setup + n, items.Seg segment) ∷ []) q) seen
+      (subst (λ (m : ℕ). WritesEvent p (Emit n (offset_from segment.seq.0 outlet.first.0) (length segment.bytes)) ((m, items.Seg segment) ∷ []) q) is.to
+      (subst (λ (m : ℕ). WritesEvent p (Emit m (offset_from segment.seq.0 outlet.first.0) (length segment.bytes)) ((outlet.to, items.Seg segment) ∷ []) q) is.place wrote)))
 
 -- by a step and the slice that it emits
 pub gives_slice : (Step : Endpoint → PlacedSegment → Endpoint → Type 0) (s u : SessionValue) (segment : Segment) (from len : ℕ)
     → ((end : Endpoint) → EmitsSlice s.end (sent_as s.config segment) end → Step s.end (sent_as s.config segment) end → EmitsAt from len s.end (sent_as s.config segment) end)
-    → Emits Step s segment u → Emits EmitsSlice s segment u → Gives s segment u from len
+    → SessionEmits Step s segment u → SessionEmits EmitsSlice s segment u → Gives s segment u from len
 gives_slice Step s u segment from len at emits slice =
     let same : slice.end ≡ emits.end = sym (ap (λ (v : SessionValue). v.end) slice.effect) ∙ ap (λ (v : SessionValue). v.end) emits.effect in
     record {
@@ -77,7 +81,7 @@ running_is : (u : RunningSession) (v : SessionValue) (n : ℕ) → u.session ≡
 running_is u v n session turn = λ i. record { session = session i; acked_at_turn = turn i }
 
 -- what a place keeps, where it is what it was
-module _ (f : Fields) (n : ℕ) (keeps : Keeps f) where
+module _ (f : Fields) (n : ℕ) (keeps : RouterInvariant f) where
   keeps_here : (x : Option Place) → place_at f.places.places n ≡ x → KeepsPlace f.known.setup f.number.0 n ((rib_of f.rib).entries n) (table_at f.due_out n) x
   keeps_here x is = subst (KeepsPlace f.known.setup f.number.0 n ((rib_of f.rib).entries n) (table_at f.due_out n)) is (keeps.each n)
 
@@ -100,7 +104,8 @@ none_is s o (inl none) = by_flag (nat_lt s.acked_at_turn s.session.end.acked)
     by_flag false = nothing_out
 
 -- a turn that sends is late: nothing was acknowledged since the last one
-late_for : (s : RunningSession) (segment : Segment) → (IsNone (Some segment) ↔ ((again_length s.session.end ≡ 0) ⊎ (s.acked_at_turn < s.session.end.acked))) → s.session.end.acked ≤ s.acked_at_turn
+late_for : (s : RunningSession) (segment : Segment)
+    → (IsNone (Some segment) ↔ ((again_length s.session.end ≡ 0) ⊎ (s.acked_at_turn < s.session.end.acked))) → s.session.end.acked ≤ s.acked_at_turn
 late_for s segment none = elim (cases_lt s.acked_at_turn s.session.end.acked) [ inl raised ↦ absurd (is_none_some segment (none.1 (inr raised))) | inr late ↦ late ]
 
 plus_again : (t : Tally) (n : ℕ) → n ≡ 0 → (let u : Tally = record t { again = t.again + n } in u) ≡ t
@@ -110,20 +115,23 @@ plus_answers : (t : Tally) (n : ℕ) → n ≡ 0 → (let u : Tally = record t {
 plus_answers t n is = ap (λ (m : ℕ). let u : Tally = record t { answers = m } in u) (let e : t.answers + n ≡ t.answers = omega (arith, is) in e)
 
 -- the places of f with x at n are those of g
-module _ (f g : Fields) (p q : Post (Item RunningSession)) (n : ℕ) (x : Option Place) (keeps : Keeps f) (there : n < length f.places.places) (same : SameButPlaces f g) (items_are : g.places ≡ with_place f.places n x) where
+module _ (f g : Fields) (p q : Post (Item RunningSession)) (n : ℕ) (x : Option Place) (keeps : RouterInvariant f) (there : n < length f.places.places) (same : SameButPlaces f g) (items_are : g.places ≡ with_place f.places n x) where
   items_for : (y : Option Place) → x ≡ y → g.places ≡ with_place f.places n y
   items_for y is = items_are ∙ ap (with_place f.places n) is
 
   -- the place is what it was
-  module _ (stage : Stage) (same_rest : stage.Same f g) where
-    pub visits_idle : (y : Option Place) → place_at f.places.places n ≡ y → x ≡ y → stage.Goes none_on y y → ((t : Tally) → stage.count y t ≡ t) → Visits stage n f p g p
+  module _ (stage : Stage) (same_rest : stage.kept.Same f g) where
+    pub visits_idle : (y : Option Place) → place_at f.places.places n ≡ y → x ≡ y → stage.Goes none_on y y → ((t : Tally) → stage.count y t ≡ t)
+        → Visits stage n f p g p
     visits_idle y is x_is goes count =
         visits_same f g n x there same items_are stage p keeps (ap place_of (x_is ∙ sym is))
         (subst (λ (z : Option Place). stage.Goes none_on z x) (sym is) (subst (stage.Goes none_on y) (sym x_is) goes))
         (λ t. ap (λ (z : Option Place). stage.count z t) is ∙ count t) same_rest (subst (KeepsPlace f.known.setup f.number.0 n ((rib_of f.rib).entries n) (table_at f.due_out n)) (sym x_is) (keeps_here f n keeps y is))
 
     -- its session is another one that the model doesn't tell from it
-    visits_alike : (s u : RunningSession) (o : Option Errand) → place_at f.places.places n ≡ Some (Live s o) → x ≡ Some (Live u o) → u.session ≡ s.session → stage.Goes none_on (Some (Live s o)) (Some (Live u o)) → ((t : Tally) → stage.count (Some (Live s o)) t ≡ t) → Visits stage n f p g p
+    visits_alike : (s u : RunningSession) (o : Option Errand) → place_at f.places.places n ≡ Some (Live s o) → x ≡ Some (Live u o)
+        → u.session ≡ s.session → stage.Goes none_on (Some (Live s o)) (Some (Live u o)) → ((t : Tally) → stage.count (Some (Live s o)) t ≡ t)
+        → Visits stage n f p g p
     visits_alike s u o is x_is alike goes count =
         visits_same f g n x there same items_are stage p keeps (ap place_of x_is ∙ ap (λ (v : SessionValue). model.Live v (option_map errand_of o)) alike ∙ sym (ap place_of is))
         (subst (λ (z : Option Place). stage.Goes none_on z x) (sym is) (subst (stage.Goes none_on (Some (Live s o))) (sym x_is) goes))
@@ -132,7 +140,8 @@ module _ (f g : Fields) (p q : Post (Item RunningSession)) (n : ℕ) (x : Option
         (keeps_live f.known.setup f.number.0 n ((rib_of f.rib).entries n) (table_at f.due_out n) s u o (keeps_here f n keeps (Some (Live s o)) is) (ap (λ (v : SessionValue). v.config) alike) (ap (λ (v : SessionValue). v.story) alike) (ap unread alike)))
 
   module _ (outlet : Outlet) (outlet_is : IsOutletOf f n outlet) (segment : Segment) (wrote : WroteBy outlet segment p q) where
-    again_live : (s u : RunningSession) (o : Option Errand) → place_at f.places.places n ≡ Some (Live s o) → x ≡ Some (Live u o) → SentAgain s (Some segment) u → Visits sending_again n f p g q
+    again_live : (s u : RunningSession) (o : Option Errand) → place_at f.places.places n ≡ Some (Live s o) → x ≡ Some (Live u o)
+        → SessionSentAgain s (Some segment) u → Visits sending_again n f p g q
     again_live s u o is x_is sent =
         let e : Endpoint = s.session.end in
         let gives : Gives s.session segment u.session e.acked (again_length e) = gives_slice EmitsAgain s.session u.session segment e.acked (again_length e)
@@ -146,12 +155,13 @@ module _ (f g : Fields) (p q : Post (Item RunningSession)) (n : ℕ) (x : Option
         sending_again refl (emit_here n e.acked (again_length e) ∙ sym (again_is s o late some), (u, refl, level))
         (λ t. counted_again e (again_length e) t some out ∙ ap (λ (m : ℕ). let v : Tally = record t { again = t.again + m } in v) (sym (again_is s o late some))) same
 
-    pub again_some : (y : Option Place) → place_at f.places.places n ≡ y → AtPlace SentAgain y (Some segment) x → Visits sending_again n f p g q
+    pub again_some : (y : Option Place) → place_at f.places.places n ≡ y → AtPlace SessionSentAgain y (Some segment) x → Visits sending_again n f p g q
     again_some None is at = absurd (some_none segment at.0)
     again_some (Some (Live s o)) is (u, x_is, sent) = again_live s u o is x_is sent
     again_some (Some (Shadow away)) is at = absurd (some_none segment at.0)
 
-    next_live : (s u : RunningSession) (o : Option Errand) → place_at f.places.places n ≡ Some (Live s o) → x ≡ Some (Live u o) → SentNext s (Some segment) u → Visits slicing n f p g q
+    next_live : (s u : RunningSession) (o : Option Errand) → place_at f.places.places n ≡ Some (Live s o) → x ≡ Some (Live u o)
+        → SentNext s (Some segment) u → Visits slicing n f p g q
     next_live s u o is x_is sent =
         let e : Endpoint = s.session.end in
         let gives : Gives s.session segment u.session e.emitted (next_length e) = gives_slice EmitsNext s.session u.session segment e.emitted (next_length e)
@@ -170,7 +180,8 @@ module _ (f g : Fields) (p q : Post (Item RunningSession)) (n : ℕ) (x : Option
     next_some (Some (Live s o)) is (u, x_is, sent) = next_live s u o is x_is sent
     next_some (Some (Shadow away)) is at = absurd (some_none segment at.0)
 
-    answer_live : (s u : RunningSession) (o : Option Errand) → place_at f.places.places n ≡ Some (Live s o) → x ≡ Some (Live u o) → SentAnswer s (Some segment) u → Visits answering n f p g q
+    answer_live : (s u : RunningSession) (o : Option Errand) → place_at f.places.places n ≡ Some (Live s o) → x ≡ Some (Live u o)
+        → SessionSentAnswer s (Some segment) u → Visits answering n f p g q
     answer_live s u o is x_is sent =
         let e : Endpoint = s.session.end in
         let at : EmitsAt e.emitted 0 e (sent_as s.session.config segment) sent.step.end = at_answer e sent.step.end (sent_as s.session.config segment) sent.step.step in
@@ -182,14 +193,14 @@ module _ (f g : Fields) (p q : Post (Item RunningSession)) (n : ℕ) (x : Option
         (wrote_by f n outlet outlet_is p q segment s.session e.emitted 0 (keeps_here f n keeps (Some (Live s o)) is).0 at.place at.size wrote)
         answering refl (answer_here n e.emitted ∙ sym one, (u, refl, given)) (λ t. ap (λ (m : ℕ). let v : Tally = record t { answers = t.answers + m } in v) (sym one)) same
 
-    pub answer_some : (y : Option Place) → place_at f.places.places n ≡ y → AtPlace SentAnswer y (Some segment) x → Visits answering n f p g q
+    pub answer_some : (y : Option Place) → place_at f.places.places n ≡ y → AtPlace SessionSentAnswer y (Some segment) x → Visits answering n f p g q
     answer_some None is at = absurd (some_none segment at.0)
     answer_some (Some (Live s o)) is (u, x_is, sent) = answer_live s u o is x_is sent
     answer_some (Some (Shadow away)) is at = absurd (some_none segment at.0)
 
   -- ---- nothing is sent
 
-  pub again_none : (y : Option Place) → place_at f.places.places n ≡ y → AtPlace SentAgain y None x → Visits sending_again n f p g p
+  pub again_none : (y : Option Place) → place_at f.places.places n ≡ y → AtPlace SessionSentAgain y None x → Visits sending_again n f p g p
   again_none None is at = visits_idle sending_again same None is at.1 (refl, refl) (λ t. plus_again t 0 refl)
   again_none (Some (Live s o)) is (u, x_is, sent) = visits_alike sending_again same s u o is x_is sent.step (sym (none_is s o (sent.none.0 refl)), (u, refl, running_is u s.session s.session.end.acked sent.step sent.turned)) (λ t. plus_again t (again_at (Some (Live s o))) (none_is s o (sent.none.0 refl)))
   again_none (Some (Shadow away)) is at = visits_idle sending_again same (Some (Shadow away)) is at.1 (refl, refl) (λ t. plus_again t 0 refl)
@@ -199,7 +210,7 @@ module _ (f g : Fields) (p q : Post (Item RunningSession)) (n : ℕ) (x : Option
   next_none (Some (Live s o)) is (u, x_is, sent) = visits_alike slicing same s u o is x_is sent.step (refl, (u, refl, subst (SlicesOut s) (sym (running_is u s.session s.acked_at_turn sent.step sent.same_turn)) refl)) (λ t. refl)
   next_none (Some (Shadow away)) is at = visits_idle slicing same (Some (Shadow away)) is at.1 (refl, refl) (λ t. refl)
 
-  pub answer_none : (y : Option Place) → place_at f.places.places n ≡ y → AtPlace SentAnswer y None x → Visits answering n f p g p
+  pub answer_none : (y : Option Place) → place_at f.places.places n ≡ y → AtPlace SessionSentAnswer y None x → Visits answering n f p g p
   answer_none None is at = visits_idle answering same None is at.1 (refl, refl) (λ t. plus_answers t 0 refl)
   answer_none (Some (Live s o)) is (u, x_is, sent) =
       let not : s.session.end.owed ≡ false = by_owed s.session.end.owed refl in
@@ -221,32 +232,47 @@ module _ (f g : Fields) (p q : Post (Item RunningSession)) (n : ℕ) (x : Option
 
 -- ---- what a session's call answers
 
-sent_again_ok : {E : Type 0} (s u : RunningSession) (r : Result (Option Segment) E) → s.session.end.emitted ≤ length s.session.end.stream → IfOk r (λ a. IsNone a ↔ ((again_length s.session.end ≡ 0) ⊎ (s.acked_at_turn < s.session.end.acked)))
-    → IfOk r (λ a. EmitsBy EmitsAgain s.session a u.session) → IfOk r (λ a. EmitsBy EmitsSlice s.session a u.session) → OnOk r (u.acked_at_turn ≡ s.session.end.acked) → IfOk r (λ a. SentAgain s a u)
+pub sent_again_ok : {E : Type 0} (s u : RunningSession) (r : Result (Option Segment) E) → s.session.end.emitted ≤ length s.session.end.stream
+    → IfOk r (λ a. IsNone a ↔ ((again_length s.session.end ≡ 0) ⊎ (s.acked_at_turn < s.session.end.acked)))
+    → IfOk r (λ a. SessionEmitsIfAny EmitsAgain s.session a u.session) → IfOk r (λ a. SessionEmitsIfAny EmitsSlice s.session a u.session)
+    → OnOk r (u.acked_at_turn ≡ s.session.end.acked) → IfOk r (λ a. SessionSentAgain s a u)
 sent_again_ok s u (Ok a) within none step slice turned = record { none = none; within = within; step = step; slice = slice; turned = turned }
 sent_again_ok s u (Err e) within none step slice turned = tt
 
-sent_next_ok : {E : Type 0} (s u : RunningSession) (r : Result (Option Segment) E) → IfOk r (λ a. IsNone a ↔ (next_length s.session.end ≡ 0)) → IfOk r (λ a. IfNone a (s.session.end.emitted ≡ reach_of s.session.end))
-    → IfOk r (λ a. EmitsBy EmitsNext s.session a u.session) → IfOk r (λ a. EmitsBy EmitsSlice s.session a u.session) → OnOk r (u.acked_at_turn ≡ s.acked_at_turn) → IfOk r (λ a. SentNext s a u)
+pub sent_next_ok : {E : Type 0} (s u : RunningSession) (r : Result (Option Segment) E) → IfOk r (λ a. IsNone a ↔ (next_length s.session.end ≡ 0))
+    → IfOk r (λ a. IfNone a (s.session.end.emitted ≡ reach_of s.session.end))
+    → IfOk r (λ a. SessionEmitsIfAny EmitsNext s.session a u.session) → IfOk r (λ a. SessionEmitsIfAny EmitsSlice s.session a u.session)
+    → OnOk r (u.acked_at_turn ≡ s.acked_at_turn) → IfOk r (λ a. SentNext s a u)
 sent_next_ok s u (Ok a) none all step slice same = record { none = none; all = all; step = step; slice = slice; same_turn = same }
 sent_next_ok s u (Err e) none all step slice same = tt
 
--- at the place of the session
-pub live_ok : {A E : Type 0} (Does : RunningSession → Option A → RunningSession → Type 0) (s u : RunningSession) (o : Option Errand) (x y : Option Place) (r : Result (Option A) E) → x ≡ Some (Live s o) → y ≡ Some (Live u o) → IfOk r (λ a. Does s a u) → IfOk r (λ a. AtPlace Does x a y)
-live_ok Does s u o x y (Ok a) is y_is does = subst (λ (z : Option Place). AtPlace Does z a y) (sym is) (u, y_is, does)
-live_ok Does s u o x y (Err e) is y_is does = tt
+-- at the place of the session, which was lent
+at_live : {A : Type 0} (Does : RunningSession → Option A → RunningSession → Type 0) (x : Option Place) (s u : RunningSession) (a : Option A)
+    → live_in x ≡ Some s → Does s a u → AtPlace Does x a (with_live x u)
+at_live Does None s u a lent does = absurd (some_none s (sym lent))
+at_live Does (Some (Live v o)) s u a lent does = (u, refl, subst (λ (w : RunningSession). Does w a u) (let e : s ≡ v = cc in e) does)
+at_live Does (Some (Shadow away)) s u a lent does = absurd (some_none s (sym lent))
 
-pub again_answers : {E : Type 0} (s u : RunningSession) (o : Option Errand) (x y : Option Place) (r : Result (Option Segment) E) → x ≡ Some (Live s o) → y ≡ Some (Live u o) → s.session.end.emitted ≤ length s.session.end.stream
-    → IfOk r (λ a. IsNone a ↔ ((again_length s.session.end ≡ 0) ⊎ (s.acked_at_turn < s.session.end.acked)))
-    → IfOk r (λ a. EmitsBy EmitsAgain s.session a u.session) → IfOk r (λ a. EmitsBy EmitsSlice s.session a u.session) → OnOk r (u.acked_at_turn ≡ s.session.end.acked) → IfOk r (λ a. AtPlace SentAgain x a y)
-again_answers s u o x y r is y_is within none step slice turned = live_ok SentAgain s u o x y r is y_is (sent_again_ok s u r within none step slice turned)
+module _ {A : Type 0} (Does : RunningSession → Option A → RunningSession → Type 0) (old : PlaceList Place) (n : ℕ) where
+  pub lent_one : (s u : RunningSession) (a : Option A) → live_in (place_at old.places n) ≡ Some s → Does s a u
+      → AtOne (λ x y. AtPlace Does x a y) old n (with_place old n (with_live (place_at old.places n) u))
+  lent_one s u a lent does = record { place = with_live (place_at old.places n) u; goes = at_live Does (place_at old.places n) s u a lent does; stays = refl }
 
-pub next_answers : {E : Type 0} (s u : RunningSession) (o : Option Errand) (x y : Option Place) (r : Result (Option Segment) E) → x ≡ Some (Live s o) → y ≡ Some (Live u o) → IfOk r (λ a. IsNone a ↔ (next_length s.session.end ≡ 0)) → IfOk r (λ a. IfNone a (s.session.end.emitted ≡ reach_of s.session.end))
-    → IfOk r (λ a. EmitsBy EmitsNext s.session a u.session) → IfOk r (λ a. EmitsBy EmitsSlice s.session a u.session) → OnOk r (u.acked_at_turn ≡ s.acked_at_turn) → IfOk r (λ a. AtPlace SentNext x a y)
-next_answers s u o x y r is y_is none all step slice same = live_ok SentNext s u o x y r is y_is (sent_next_ok s u r none all step slice same)
+  pub lent_ok : {E : Type 0} (s u : RunningSession) (r : Result (Option A) E) → live_in (place_at old.places n) ≡ Some s → IfOk r (λ a. Does s a u)
+      → IfOk r (λ a. AtOne (λ x y. AtPlace Does x a y) old n (with_place old n (with_live (place_at old.places n) u)))
+  lent_ok s u r lent does = IfOk-weaker r _ _ (λ a. lent_one s u a lent) does
+
+  -- no session is live there
+  pub none_lent : live_in (place_at old.places n) ≡ None → AtOne (λ x y. AtPlace Does x None y) old n old
+  none_lent none = record { place = place_at old.places n; goes = by_place (place_at old.places n) none; stays = sym (same_there old n) }
+    where
+      by_place : (x : Option Place) → live_in x ≡ None → AtPlace Does x None x
+      by_place None none = (refl, refl)
+      by_place (Some (Live s o)) none = absurd (some_none s none)
+      by_place (Some (Shadow away)) none = (refl, refl)
 
 -- what is sent has at most 1,024 bytes
-pub short_again : (y x : Option Place) (segment : Segment) → AtPlace SentAgain y (Some segment) x → length segment.bytes ≤ 1024
+pub short_again : (y x : Option Place) (segment : Segment) → AtPlace SessionSentAgain y (Some segment) x → length segment.bytes ≤ 1024
 short_again None x segment at = absurd (some_none segment at.0)
 short_again (Some (Live s o)) x segment (u, x_is, sent) = sent.slice.step.short
 short_again (Some (Shadow away)) x segment at = absurd (some_none segment at.0)
@@ -255,8 +281,3 @@ pub short_next : (y x : Option Place) (segment : Segment) → AtPlace SentNext y
 short_next None x segment at = absurd (some_none segment at.0)
 short_next (Some (Live s o)) x segment (u, x_is, sent) = sent.slice.step.short
 short_next (Some (Shadow away)) x segment at = absurd (some_none segment at.0)
-
-pub short_answer : (y x : Option Place) (segment : Segment) → AtPlace SentAnswer y (Some segment) x → length segment.bytes ≤ 1024
-short_answer None x segment at = absurd (some_none segment at.0)
-short_answer (Some (Live s o)) x segment (u, x_is, sent) = let e : length segment.bytes ≡ 0 = ap (λ (q : PlacedSegment). length q.bytes) sent.step.step.answer.empty in omega (arith, e)
-short_answer (Some (Shadow away)) x segment at = absurd (some_none segment at.0)

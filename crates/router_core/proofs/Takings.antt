@@ -14,18 +14,18 @@ use Rattle.graft_model.specs.RouterRows.{RouterTaken, RouterSent}
 use Rattle.graft_model.specs.Codes.{router_code}
 use Rattle.graft_model.specs.declared.event.RouterEvent.{RouterEvent}
 use Rattle.graft_model.specs.Steps.{router_row}
-use Rattle.graft_runs.specs.Actors.{ActorName, Router, FarSide, Operator, Thing, number_in, IsActor, actor_at}
-use Rattle.graft_runs.specs.Makes.{numbered, taken_by_router, sent_by_router}
-use Rattle.graft_runs.proofs.Numbers.{of_number}
+use Rattle.graft_actors.specs.Actors.{ActorName, Router, FarSide, Operator, Thing, number_in, IsActor, actor_at}
+use Rattle.graft_actors.specs.Makes.{numbered, taken_by_router, sent_by_router}
+use Rattle.graft_actors.proofs.Numbers.{of_number}
 use Rattle.graft_actors.specs.Acts.{acts, IsWelcome, MayComeFrom, SendsFit, things}
-use Rattle.graft_actors.specs.Emissions.{Tally, nothing}
+use Rattle.graft_actors.specs.Emissions.{Tally, zero_tally}
 use Rattle.graft_actors.specs.Items.{thing_of}
 use Rattle.graft_actors.specs.Notes.{deed_of, WroteOne, dropped}
-use Rattle.router_core.specs.Parts.{router_part, own_part, carried, Keeps}
+use Rattle.router_core.specs.Parts.{router_part, own_part, carried, RouterInvariant}
 use Rattle.router_core.specs.Places.{RunsAt}
-use Rattle.router_core.specs.Rounds.{CarefulRouter, router_tally, RouterRound, SameRouter, Did, Writes}
-use Rattle.router_core.specs.Takes.{Stays, TakesIt, IsOther}
-use Rattle.router_core.specs.Turned.{AreAt, Takes}
+use Rattle.router_core.specs.Rounds.{CarefulRouter, router_tally, RouterRound, SameRouter, DidAsRouter, WritesEvent}
+use Rattle.router_core.specs.Takes.{Stays, RouterTakesIt, IsNoRouterItem}
+use Rattle.router_core.specs.Turned.{AreAt, IsRouterTake}
 use Rattle.router_core.specs.declared.fields.Fields.{Fields}
 use Rattle.router_core.proofs.Goes.{GoesThrough, goes_taking}
 use Rattle.router_core.proofs.Dids.{has_code, same_router, router_then, round_at}
@@ -36,7 +36,7 @@ use Rattle.router_core.proofs.Kept.{live_is, stays_itself}
 pub record TakesFirstly (f g : Fields) (p q : Post (Item RunningSession)) (from : ℕ) (item : Item RunningSession) (event : RouterEvent) : Type 0 where
   pub router : SameRouter f g
   pub sent : List (ℕ × Item RunningSession)
-  pub wrote : Writes p event sent q
+  pub wrote : WritesEvent p event sent q
   pub welcome : IsWelcome carried (own_part f) from item
   pub name : ActorName
   pub number : from ≡ number_in f.known.setup name
@@ -51,12 +51,12 @@ pub record TakesFirstly (f g : Fields) (p q : Post (Item RunningSession)) (from 
   pub still : (t : ℕ → Tally) → router_tally (router_part f) event t ≡ t
 
 module _ (f g h : Fields) (p q r : Post (Item RunningSession)) (from : ℕ) (item : Item RunningSession) (event : RouterEvent) (events : List RouterEvent)
-    (first : TakesFirstly f g p q from item event) (did : (t : ℕ → Tally) → Did g q t events h r t) where
+    (first : TakesFirstly f g p q from item event) (did : (t : ℕ → Tally) → DidAsRouter g q t events h r t) where
   abbrev first_deed : Deed (Item RunningSession)
   first_deed = deed_of p (router_code event) (Some (from, item)) first.sent
 
   abbrev none_yet : ℕ → Tally
-  none_yet n = nothing
+  none_yet n = zero_tally
 
   acts_first : acts carried (actor_of p) (own_part f) first_deed.entry (Some (from, item)) first.sent (own_part g)
   acts_first = record {
@@ -90,10 +90,12 @@ module _ (f g h : Fields) (p q r : Post (Item RunningSession)) (from : ℕ) (ite
   )
 
   -- the take whose first event it is
-  pub takes_then : AreAt 0 (event ∷ events) → ((p : ℕ) (s u : RunningSession) (o q : Option Errand) → RunsAt f.places.places p s o → RunsAt h.places.places p u q → Stays s u) → h.turns ≡ f.turns → Keeps h → TakesIt from item f p h r
+  pub takes_then : AreAt 0 (event ∷ events)
+      → ((p : ℕ) (s u : RunningSession) (o q : Option Errand) → RunsAt f.places.places p s o → RunsAt h.places.places p u q → Stays s u)
+      → h.turns ≡ f.turns → RouterInvariant h → RouterTakesIt from item f p h r
   takes_then at stays turns keeps =
-      let d : Did g q none_yet events h r none_yet = did none_yet in
-      let goes : GoesThrough f.known.setup f.number.0 Takes (router_part f) (event ∷ events) (router_part h) =
+      let d : DidAsRouter g q none_yet events h r none_yet = did none_yet in
+      let goes : GoesThrough f.known.setup f.number.0 IsRouterTake (router_part f) (event ∷ events) (router_part h) =
       goes_taking f.known.setup f.number.0 (router_part f) (router_part h) none_yet none_yet (event ∷ events) (round_first none_yet) at in
       let one : Wrote p (first_deed ∷ []) q = first.wrote (Some (from, item)) in
       record {
@@ -113,7 +115,8 @@ module _ (f g h : Fields) (p q r : Post (Item RunningSession)) (from : ℕ) (ite
 
 -- ---- items that are dropped
 
-pub drops : (f : Fields) (p q : Post (Item RunningSession)) (from : ℕ) (item : Item RunningSession) → Keeps f → WroteOne p dropped [] q → (IsWelcome carried (own_part f) from item → ⊥) → TakesIt from item f p f q
+pub drops : (f : Fields) (p q : Post (Item RunningSession)) (from : ℕ) (item : Item RunningSession) → RouterInvariant f → WroteOne p dropped [] q
+    → (IsWelcome carried (own_part f) from item → ⊥) → RouterTakesIt from item f p f q
 drops f p q from item keeps wrote not = record {
   took = record {
     deeds = deed_of p dropped (Some (from, item)) [] ∷ [];
@@ -130,10 +133,10 @@ drops f p q from item keeps wrote not = record {
 }
 
 -- an item that no router takes
-pub other_unwelcome : (f : Fields) (from : ℕ) (item : Item RunningSession) → IsOther item → IsWelcome carried (own_part f) from item → ⊥
+pub other_unwelcome : (f : Fields) (from : ℕ) (item : Item RunningSession) → IsNoRouterItem item → IsWelcome carried (own_part f) from item → ⊥
 other_unwelcome f from item other w = by_item item other (actor_at f.known.setup from) w.comes
   where
-    by_item : (item : Item RunningSession) → IsOther item → (o : Option ActorName) → MayComeFrom carried f.known.setup o (Router f.number.0) item → ⊥
+    by_item : (item : Item RunningSession) → IsNoRouterItem item → (o : Option ActorName) → MayComeFrom carried f.known.setup o (Router f.number.0) item → ⊥
     by_item (items.PointAt k) other None m = m
     by_item (items.PointAt k) other (Some (Router q)) m = m
     by_item (items.PointAt k) other (Some (FarSide q)) m = m
@@ -161,5 +164,6 @@ is_router setup n is = let at : (is.0 < routers_in setup) × (n ≡ is.0) = of_n
 
 -- ---- sessions that stay as they are
 
-pub all_stay : (f g : Fields) → g.places ≡ f.places → (p : ℕ) (s u : RunningSession) (o q : Option Errand) → RunsAt f.places.places p s o → RunsAt g.places.places p u q → Stays s u
+pub all_stay : (f g : Fields) → g.places ≡ f.places → (p : ℕ) (s u : RunningSession) (o q : Option Errand) → RunsAt f.places.places p s o
+    → RunsAt g.places.places p u q → Stays s u
 all_stay f g same p s u o q a b = stays_itself s u (live_is f.places.places p s u o q a (subst (λ xs. RunsAt xs p u q) (listed same) b))

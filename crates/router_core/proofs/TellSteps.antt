@@ -17,10 +17,10 @@ use Rattle.graft_model.specs.Parts.{RouterPart, Told}
 use Rattle.graft_model.specs.RouterRows.{MeshTo}
 use Rattle.graft_model.specs.Setups.{routers_in}
 use Rattle.graft_model.specs.declared.event.RouterEvent.TheVariants.{Tell}
-use Rattle.graft_runs.specs.Actors.{Router, MeshItem}
+use Rattle.graft_actors.specs.Actors.{Router, MeshItem}
 use Rattle.std.proofs.lemmas.Bool.{cases_lt}
-use Rattle.router_core.specs.Rounds.{Writes}
-use Rattle.router_core.specs.Parts.{router_part, Keeps}
+use Rattle.router_core.specs.Rounds.{WritesEvent}
+use Rattle.router_core.specs.Parts.{router_part, RouterInvariant}
 use Rattle.router_core.specs.Stages.{TellsAll}
 use Rattle.router_core.specs.Tellings.{TellsOne, TellsSome, TellsRouter, TellsFirst}
 use Rattle.router_core.specs.declared.fields.Fields.{Fields}
@@ -33,9 +33,9 @@ use Rattle.router_core.proofs.VisitSteps.{same_or_not, at_here, at_other}
 not_dirty : (dirty : Prefixes) (x : PrefixValue) → dirty ≡ map.empty → has dirty x ≡ false
 not_dirty dirty x none = ap (λ (d : Prefixes). has d x) none ∙ none_in x
 
-module _ (f g : Fields) (p q : Post (Item RunningSession)) (to : ℕ) (prefix : PrefixValue) (route : Option Route) (keeps : Keeps f) (clean : f.rib.dirty ≡ map.empty) (there : to < length f.due_in)
+module _ (f g : Fields) (p q : Post (Item RunningSession)) (to : ℕ) (prefix : PrefixValue) (route : Option Route) (keeps : RouterInvariant f) (clean : f.rib.dirty ≡ map.empty) (there : to < length f.due_in)
     (due : has (table_at f.due_in to) prefix ≡ true) (is : route ≡ tell_in (map.get f.rib.best prefix)) (same : g ≡ record f { due_in = g.due_in }) (sizes : length g.due_in ≡ length f.due_in)
-    (drops : table_at g.due_in ≡ at (table_at f.due_in) to (map.remove (table_at f.due_in to) prefix)) (wrote : Writes p (Tell to prefix) ((to, items.Told prefix route) ∷ []) q) where
+    (drops : table_at g.due_in ≡ at (table_at f.due_in) to (map.remove (table_at f.due_in to) prefix)) (wrote : WritesEvent p (Tell to prefix) ((to, items.Told prefix route) ∷ []) q) where
   sends_told : Sends f to (items.Told prefix route) (MeshTo to (Told prefix (tell_in (map.get f.rib.best prefix))))
   sends_told = record {
     name = Router to;
@@ -63,7 +63,7 @@ module _ (f g : Fields) (p q : Post (Item RunningSession)) (to : ℕ) (prefix : 
 
 -- ---- one router
 
-pub some_first : (q : ℕ) (f : Fields) (p : Post (Item RunningSession)) → Keeps f → TellsSome q f p f p
+pub some_first : (q : ℕ) (f : Fields) (p : Post (Item RunningSession)) → RouterInvariant f → TellsSome q f p f p
 some_first q f p keeps = record {
   events = [];
   did = λ t. did_same f f p t (record { setup = refl; number = refl }) refl;
@@ -74,7 +74,8 @@ some_first q f p keeps = record {
 }
 
 -- there are as many sets, and nothing is to be decided still
-pub same_due_in : (q : ℕ) (f g : Fields) (p r : Post (Item RunningSession)) → Keeps f → TellsSome q f p g r → q < length f.due_in → q < length g.due_in
+pub same_due_in : (q : ℕ) (f g : Fields) (p r : Post (Item RunningSession)) → RouterInvariant f → TellsSome q f p g r → q < length f.due_in
+    → q < length g.due_in
 same_due_in q f g p r keeps some there = omega (arith, there, keeps.due_in, some.keeps.due_in, ap (λ (h : Fields). routers_in h.known.setup) some.same)
 
 pub still_clean : (q : ℕ) (f g : Fields) (p r : Post (Item RunningSession)) → TellsSome q f p g r → f.rib.dirty ≡ map.empty → g.rib.dirty ≡ map.empty
@@ -86,7 +87,8 @@ module _ (q : ℕ) (f g h : Fields) (p r s : Post (Item RunningSession)) (prefix
     events = before.events ++ Tell q prefix ∷ [];
     did = λ t. did_then f g h p r s t t t before.events (Tell q prefix ∷ []) (before.did t) (one.did t);
     at = at-append 4 before.events (Tell q prefix ∷ []) before.at (refl, tt);
-    others = λ k not. ap (λ (d : ℕ → Prefixes). d k) one.due ∙ at_other (table_at g.due_in) q (map.remove (table_at g.due_in q) prefix) k not ∙ before.others k not;
+    others = λ k not. ap (λ (d : ℕ → Prefixes). d k) one.due ∙ at_other (table_at g.due_in) q (map.remove (table_at g.due_in q) prefix) k not
+        ∙ before.others k not;
     same = one.same ∙ ap (λ (x : Fields). let y : Fields = record x { due_in = h.due_in } in y) before.same;
     keeps = one.keeps;
   }
@@ -97,7 +99,7 @@ module _ (q : ℕ) (f g h : Fields) (p r s : Post (Item RunningSession)) (prefix
 
 -- ---- one router after another
 
-pub told_first : (f : Fields) (p : Post (Item RunningSession)) → Keeps f → TellsFirst zero f p f p
+pub told_first : (f : Fields) (p : Post (Item RunningSession)) → RouterInvariant f → TellsFirst zero f p f p
 told_first f p keeps = record {
   events = [];
   did = λ t. did_same f f p t (record { setup = refl; number = refl }) refl;

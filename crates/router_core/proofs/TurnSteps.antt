@@ -16,13 +16,14 @@ use Rattle.graft_model.specs.Setups.{Setup}
 use Rattle.graft_model.specs.Parts as model
 use Rattle.graft_model.specs.Parts.{RouterPart}
 use Rattle.graft_model.specs.declared.event.RouterEvent.{RouterEvent}
-use Rattle.graft_actors.specs.Emissions.{Tally, IsRested, nothing, reach_of}
+use Rattle.graft_actors.specs.Emissions.{Tally, IsRested, zero_tally, reach_of}
 use Rattle.router_core.specs.Parts.{router_part, KeepsPlace}
 use Rattle.router_core.specs.Places.{place_of, place_at, errand_of, RunsAt}
-use Rattle.router_core.specs.Rested.{AwaitsAtMost, IsDone, IsQuietPlace, RestedRouter}
-use Rattle.router_core.specs.Rounds.{SendsOld, Works, Did}
-use Rattle.router_core.specs.Stages.{PlaceGoes, GraftGoes, WordGoes, PutsMore, IsLevel, EmitsAll, PassesWhereItMay, again_at, answer_at, with_again, with_answers, SendsAgain, PassesRounds, BeginsGrafts, DecidesAll, TellsAll, ConfirmsAll, PutsAll, Emits}
-use Rattle.router_core.specs.Turned.{rounds_on, emits_on, answers_on, stage_of, TurnsSession, TurnsOnce}
+use Rattle.settled_check.specs.Left.{AwaitsAtMost}
+use Rattle.router_core.specs.Rested.{IsDone, IsQuietPlace, RestedRouter}
+use Rattle.router_core.specs.Rounds.{RouterRetransmits, IsNewWork, DidAsRouter}
+use Rattle.router_core.specs.Stages.{PlaceGoes, GraftGoes, WordGoes, PutsMore, IsLevel, EmitsAll, PassesWhereItMay, again_at, answer_at, with_again, with_answers, SendsAgain, PassesRounds, BeginsGrafts, DecidesAll, TellsAll, ConfirmsAll, PutsAll, EmitsEverywhere}
+use Rattle.router_core.specs.Turned.{rounds_on, emits_on, answers_on, stage_of, TurnsSession, RouterTurnsOnce}
 use Rattle.router_core.specs.Updates.{IsStuck, IsUnwritable}
 use Rattle.router_core.specs.declared.fields.Fields.{Fields}
 use Rattle.router_core.specs.declared.place.Errand.TheVariants.{Leaving, Owing, Asking}
@@ -97,7 +98,8 @@ all_out None y goes = subst AllOut (sym goes) tt
 all_out (Some (Live s o)) y (u, is, becomes) = subst AllOut (sym is) (record { emitted = ap (λ (v : RunningSession). v.session.end.emitted) becomes ∙ sym (ap (λ (v : RunningSession). reach_of v.session.end) becomes); answered = ap (λ (v : RunningSession). v.session.end.owed) becomes })
 all_out (Some (Shadow away)) y goes = subst AllOut (sym goes) tt
 
-quiet : (setup : Setup) (r p : ℕ) (entries : Entries) (due : Prefixes) (x : Option Place) → KeepsPlace setup r p entries due x → WaitsAtMost x → AllOut x → IsQuietPlace (place_of x)
+quiet : (setup : Setup) (r p : ℕ) (entries : Entries) (due : Prefixes) (x : Option Place) → KeepsPlace setup r p entries due x → WaitsAtMost x
+    → AllOut x → IsQuietPlace (place_of x)
 quiet setup r p entries due None keeps waits out = tt
 quiet setup r p entries due (Some (Live s o)) keeps waits out = (waits, keeps.1, out)
 quiet setup r p entries due (Some (Shadow away)) keeps waits out = tt
@@ -111,13 +113,15 @@ unwritable_on : (setup : Setup) (r p : ℕ) (part : RouterPart) (places : ℕ �
     → IsUnwritable setup r (record part { places = places }) p (record s { end = record s.end { emitted = m; owed = b } })
 unwritable_on setup r p part places s m b h = record { established = h.established; batch = h.batch; next = h.next; unwritable = h.unwritable }
 
-done_live : (setup : Setup) (r p : ℕ) (part : RouterPart) (places : ℕ → model.Place) (s : SessionValue) (o : Option model.Errand) (m : ℕ) (b : Bool) → IsDone setup r part p (model.Live s o)
+done_live : (setup : Setup) (r p : ℕ) (part : RouterPart) (places : ℕ → model.Place) (s : SessionValue) (o : Option model.Errand) (m : ℕ) (b : Bool)
+    → IsDone setup r part p (model.Live s o)
     → IsDone setup r (record part { places = places }) p (model.Live (record s { end = record s.end { emitted = m; owed = b } }) o)
 done_live setup r p part places s o m b (inl none) = inl none
 done_live setup r p part places s o m b (inr (inl (n, stuck))) = inr (inl (n, stuck_on setup r p n part places s m b stuck))
 done_live setup r p part places s o m b (inr (inr not)) = inr (inr (unwritable_on setup r p part places s m b not))
 
-done_on : (setup : Setup) (r p : ℕ) (part : RouterPart) (places : ℕ → model.Place) (x y : Option Place) → PlaceGoes EmitsAll x y → IsDone setup r part p (place_of x) → IsDone setup r (record part { places = places }) p (place_of y)
+done_on : (setup : Setup) (r p : ℕ) (part : RouterPart) (places : ℕ → model.Place) (x y : Option Place) → PlaceGoes EmitsAll x y
+    → IsDone setup r part p (place_of x) → IsDone setup r (record part { places = places }) p (place_of y)
 done_on setup r p part places None y goes done = subst (λ (z : Option Place). IsDone setup r (record part { places = places }) p (place_of z)) (sym goes) done
 done_on setup r p part places (Some (Live s o)) y (u, is, becomes) done =
     subst (λ (z : Option Place). IsDone setup r (record part { places = places }) p (place_of z)) (sym (is ∙ ap (λ (v : RunningSession). Some (Live v o)) becomes))
@@ -158,28 +162,35 @@ record LivesOn (round : ℕ) (rounds : List ℕ) (s u : RunningSession) : Type 0
   at_turn : u.acked_at_turn ≡ s.session.end.acked
   ticked : (MayPass s.session round × (rounds ≡ round ∷ [])) ⊎ ((¬ MayPass s.session round) × (rounds ≡ []))
 
-level_rounds : (round : ℕ) (rounds : List ℕ) (s u v : RunningSession) → IsLevel s u → (MayPass u.session round × (rounds ≡ round ∷ [])) ⊎ ((¬ MayPass u.session round) × (rounds ≡ []) × (v ≡ u))
+level_rounds : (round : ℕ) (rounds : List ℕ) (s u v : RunningSession) → IsLevel s u
+    → (MayPass u.session round × (rounds ≡ round ∷ [])) ⊎ ((¬ MayPass u.session round) × (rounds ≡ []) × (v ≡ u))
     → (MayPass s.session round × (rounds ≡ round ∷ [])) ⊎ ((¬ MayPass s.session round) × (rounds ≡ []))
 level_rounds round rounds s u v level (inl h) = inl (subst (λ (x : SessionValue). MayPass x round) (ap (λ (x : RunningSession). x.session) level) h.0, h.1)
 level_rounds round rounds s u v level (inr h) = inr (subst (λ (x : SessionValue). ¬ MayPass x round) (ap (λ (x : RunningSession). x.session) level) h.0, h.1)
 
 -- the session at the start, after each stage that changes it, and at the end
-lives_with : (round : ℕ) (rounds : List ℕ) (s s1 s2 s3 s4 u : RunningSession) → IsLevel s s1 → PassesWhereItMay round rounds s1 s2 → PutsMore s2 s3 → EmitsAll s3 s4 → s4 ≡ u → LivesOn round rounds s u
+lives_with : (round : ℕ) (rounds : List ℕ) (s s1 s2 s3 s4 u : RunningSession) → IsLevel s s1 → PassesWhereItMay round rounds s1 s2 → PutsMore s2 s3
+    → EmitsAll s3 s4 → s4 ≡ u → LivesOn round rounds s u
 lives_with round rounds s s1 s2 s3 s4 u level passed more all last = record {
-  acked = sym (ap (λ (x : RunningSession). x.session.end.acked) last) ∙ ap (λ (x : RunningSession). x.session.end.acked) all ∙ more.acked ∙ passed.0.acked ∙ ap (λ (x : RunningSession). x.session.end.acked) level;
-  at_turn = sym (ap (λ (x : RunningSession). x.acked_at_turn) last) ∙ ap (λ (x : RunningSession). x.acked_at_turn) all ∙ more.at_turn ∙ passed.0.at_turn ∙ ap (λ (x : RunningSession). x.acked_at_turn) level;
+  acked = sym (ap (λ (x : RunningSession). x.session.end.acked) last) ∙ ap (λ (x : RunningSession). x.session.end.acked) all ∙ more.acked
+      ∙ passed.0.acked ∙ ap (λ (x : RunningSession). x.session.end.acked) level;
+  at_turn = sym (ap (λ (x : RunningSession). x.acked_at_turn) last) ∙ ap (λ (x : RunningSession). x.acked_at_turn) all ∙ more.at_turn
+      ∙ passed.0.at_turn ∙ ap (λ (x : RunningSession). x.acked_at_turn) level;
   ticked = level_rounds round rounds s s1 s2 level passed.1;
 }
 
 -- its place once a router is asked or the source is told, after the later stages, and at the end
-lives_later : (round : ℕ) (rounds : List ℕ) (m h k : Option Place) (s s1 s2 u : RunningSession) (o q : Option Errand) → m ≡ Some (Live s2 o) → k ≡ Some (Live u q) → IsLevel s s1 → PassesWhereItMay round rounds s1 s2 → PlaceGoes PutsMore m h → PlaceGoes EmitsAll h k → LivesOn round rounds s u
+lives_later : (round : ℕ) (rounds : List ℕ) (m h k : Option Place) (s s1 s2 u : RunningSession) (o q : Option Errand) → m ≡ Some (Live s2 o)
+    → k ≡ Some (Live u q) → IsLevel s s1 → PassesWhereItMay round rounds s1 s2 → PlaceGoes PutsMore m h → PlaceGoes EmitsAll h k
+    → LivesOn round rounds s u
 lives_later round rounds m h k s s1 s2 u o q is end level passed puts emits =
     let (s3, h_is, more) = subst (λ (x : Option Place). PlaceGoes PutsMore x h) is puts in
     let (s4, k_is, all) = subst (λ (x : Option Place). PlaceGoes EmitsAll x k) h_is emits in
     lives_with round rounds s s1 s2 s3 s4 u level passed more all (live_same s4 u o q (sym k_is ∙ end))
 
 -- a place before the turn, after each stage that changes places, and at the end
-lives_on : (round : ℕ) (rounds : List ℕ) (a b c d m h k : Option Place) (s u : RunningSession) (o q : Option Errand) → a ≡ Some (Live s o) → k ≡ Some (Live u q) → PlaceGoes IsLevel a b → PlaceGoes (PassesWhereItMay round rounds) b c → GraftGoes c d
+lives_on : (round : ℕ) (rounds : List ℕ) (a b c d m h k : Option Place) (s u : RunningSession) (o q : Option Errand) → a ≡ Some (Live s o)
+    → k ≡ Some (Live u q) → PlaceGoes IsLevel a b → PlaceGoes (PassesWhereItMay round rounds) b c → GraftGoes c d
     → WordGoes d m → PlaceGoes PutsMore m h → PlaceGoes EmitsAll h k → LivesOn round rounds s u
 lives_on round rounds a b c d m h k s u o q is end again passes grafts confirms puts emits =
     let (s1, b_is, level) = subst (λ (x : Option Place). PlaceGoes IsLevel x b) is again in
@@ -210,7 +221,8 @@ answer_few (Some (Live s o)) = by_flag s.session.end.owed
     by_flag false = omega arith
 answer_few (Some (Shadow away)) = omega arith
 
-again_once : (s : RunningSession) (o : Option Errand) → s.acked_at_turn ≡ s.session.end.acked → s.session.end.acked < s.session.end.emitted → again_at (Some (Live s o)) ≡ 1
+again_once : (s : RunningSession) (o : Option Errand) → s.acked_at_turn ≡ s.session.end.acked → s.session.end.acked < s.session.end.emitted
+    → again_at (Some (Live s o)) ≡ 1
 again_once s o level out =
     ap (λ (b : Bool). let n : ℕ = if b then 0 else (if nat_lt 0 (again_length s.session.end) then 1 else 0) in n) (le-ltb s.acked_at_turn s.session.end.acked (omega (arith, level)))
     ∙ ap (λ (b : Bool). let n : ℕ = if b then 1 else 0 in n) (lt-ltb 0 (again_length s.session.end) (omega (arith, out)))
@@ -219,7 +231,7 @@ again_once s o level out =
 
 -- f is the router before the turn, a after its turn was counted, and b to k after each stage
 module _ (f a b c d e g m h k : Fields) (p0 p1 p2 p3 p4 p5 p6 p7 p8 : Post (Item RunningSession)) (counted : a ≡ record f { turns = f.turns + 1 })
-    (again : SendsAgain a p0 b p1) (rounds : PassesRounds b p1 c p2) (grafts : BeginsGrafts c p2 d p3) (decides : DecidesAll d p3 e p4) (tells : TellsAll e p4 g p5) (confirms : ConfirmsAll g p5 m p6) (puts : PutsAll m p6 h p7) (emits : Emits h p7 k p8) where
+    (again : SendsAgain a p0 b p1) (rounds : PassesRounds b p1 c p2) (grafts : BeginsGrafts c p2 d p3) (decides : DecidesAll d p3 e p4) (tells : TellsAll e p4 g p5) (confirms : ConfirmsAll g p5 m p6) (puts : PutsAll m p6 h p7) (emits : EmitsEverywhere h p7 k p8) where
   -- what each stage leaves
   b_same : b ≡ record f { turns = f.turns + 1; places = b.places }
   b_same = again.same ∙ ap (λ (x : Fields). let y : Fields = record x { places = b.places } in y) counted
@@ -261,17 +273,17 @@ module _ (f a b c d e g m h k : Fields) (p0 p1 p2 p3 p4 p5 p6 p7 p8 : Post (Item
 
   -- the tallies once old segments were sent again, and at the end
   abbrev sent : ℕ → Tally
-  sent = with_again a (λ p. nothing)
+  sent = with_again a (λ p. zero_tally)
 
   abbrev tally : ℕ → Tally
   tally = with_answers h sent
 
-  did_again : Did f p0 (λ p. nothing) again.events b p1 sent
+  did_again : DidAsRouter f p0 (λ p. zero_tally) again.events b p1 sent
   did_again =
-      let counted_did : Did f p0 (λ p. nothing) [] a p0 (λ p. nothing) = did_same f a p0 (λ p. nothing) (record { setup = ap (λ (x : Fields). x.known.setup) counted; number = ap (λ (x : Fields). x.number) counted }) (ap router_part counted) in
-      did_then f a b p0 p0 p1 (λ p. nothing) (λ p. nothing) sent [] again.events counted_did (again.did (λ p. nothing))
+      let counted_did : DidAsRouter f p0 (λ p. zero_tally) [] a p0 (λ p. zero_tally) = did_same f a p0 (λ p. zero_tally) (record { setup = ap (λ (x : Fields). x.known.setup) counted; number = ap (λ (x : Fields). x.number) counted }) (ap router_part counted) in
+      did_then f a b p0 p0 p1 (λ p. zero_tally) (λ p. zero_tally) sent [] again.events counted_did (again.did (λ p. zero_tally))
 
-  did_work : Did b p1 sent work k p8 tally
+  did_work : DidAsRouter b p1 sent work k p8 tally
   did_work =
       let told : List RouterEvent = confirms.events ++ (puts.events ++ emits.events) in
       did_then b c k p1 p2 p8 sent sent tally rounds.events behind (rounds.did sent)
@@ -281,14 +293,14 @@ module _ (f a b c d e g m h k : Fields) (p0 p1 p2 p3 p4 p5 p6 p7 p8 : Post (Item
       (did_then g m k p5 p6 p8 sent sent tally confirms.events (puts.events ++ emits.events) (confirms.did sent)
       (did_then m h k p6 p7 p8 sent sent tally puts.events emits.events (puts.did sent) (emits.did sent))))))
 
-  did_all : Did f p0 (λ p. nothing) (again.events ++ work) k p8 tally
-  did_all = did_then f b k p0 p1 p8 (λ p. nothing) sent tally again.events work did_again did_work
+  did_all : DidAsRouter f p0 (λ p. zero_tally) (again.events ++ work) k p8 tally
+  did_all = did_then f b k p0 p1 p8 (λ p. zero_tally) sent tally again.events work did_again did_work
 
   -- old segments first, and the work then
-  sends : GoesThrough f.known.setup f.number.0 SendsOld (router_part f) again.events (router_part b)
-  sends = goes_again f.known.setup f.number.0 (router_part f) (router_part b) (λ p. nothing) sent again.events did_again.round again.at (λ p. ap (λ (n : ℕ). 0 + n) (sym (again.once p)))
+  sends : GoesThrough f.known.setup f.number.0 RouterRetransmits (router_part f) again.events (router_part b)
+  sends = goes_again f.known.setup f.number.0 (router_part f) (router_part b) (λ p. zero_tally) sent again.events did_again.round again.at (λ p. ap (λ (n : ℕ). 0 + n) (sym (again.once p)))
 
-  works : GoesThrough f.known.setup f.number.0 (Works f.known.setup f.number.0) (router_part b) work (router_part k)
+  works : GoesThrough f.known.setup f.number.0 (IsNewWork f.known.setup f.number.0) (router_part b) work (router_part k)
   works = goes_working f.known.setup f.number.0 (router_part b) (router_part k) sent tally work (round_at f b sent tally work (router_part b) (router_part k) did_again.router did_work.round) (λ p. refl)
 
   in_order : Climbs 1 (map stage_of work)
@@ -332,7 +344,8 @@ module _ (f a b c d e g m h k : Fields) (p0 p1 p2 p3 p4 p5 p6 p7 p8 : Post (Item
     subst (λ (n : ℕ). n ≤ 1) (sym (answers_are p ∙ emits.once p)) (answer_few (place_at h.places.places p)),
   )
 
-  session_turns : (p : ℕ) (s u : RunningSession) (o q : Option Errand) → RunsAt f.places.places p s o → RunsAt k.places.places p u q → TurnsSession k.turns p again.events work s u
+  session_turns : (p : ℕ) (s u : RunningSession) (o q : Option Errand) → RunsAt f.places.places p s o → RunsAt k.places.places p u q
+      → TurnsSession k.turns p again.events work s u
   session_turns p s u o q before after =
       let start : place_at a.places.places p ≡ Some (Live s o) = ap (λ (x : Fields). place_at x.places.places p) counted ∙ before.is in
       let round : b.turns ≡ k.turns = ap (λ (x : Fields). x.turns) b_same ∙ sym (ap (λ (x : Fields). x.turns) k_same) in
@@ -386,7 +399,7 @@ module _ (f a b c d e g m h k : Fields) (p0 p1 p2 p3 p4 p5 p6 p7 p8 : Post (Item
     done = done;
   }
 
-  pub turns_once : TurnsOnce f p0 k p8
+  pub turns_once : RouterTurnsOnce f p0 k p8
   turns_once = record {
     moved = record {
       deeds = did_all.deeds;

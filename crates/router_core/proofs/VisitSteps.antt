@@ -8,9 +8,9 @@ use Rattle.graft_steps.specs.declared.item.Item.{Item}
 use Rattle.bgp_session.specs.Running.{RunningSession}
 use Rattle.graft_model.specs.Points.{at}
 use Rattle.graft_actors.specs.Emissions.{Tally}
-use Rattle.router_core.specs.Parts.{Keeps}
+use Rattle.router_core.specs.Parts.{RouterInvariant}
 use Rattle.router_core.specs.Places.{place_of, place_at}
-use Rattle.router_core.specs.Rounds.{Did}
+use Rattle.router_core.specs.Rounds.{DidAsRouter}
 use Rattle.router_core.specs.Turned.{AreAt}
 use Rattle.router_core.specs.Visits.{OnPeering, events_on, none_on, Stage, Visits, Visited}
 use Rattle.router_core.specs.declared.fields.Fields.{Fields}
@@ -32,7 +32,8 @@ same_or_not p q = elim (cases_lt q p) [
 abbrev counted_by : (stage : Stage) → List (Option Place) → (ℕ → Tally) → ℕ → ℕ → Tally
 counted_by stage places t n p = if nat_lt p n then stage.count (place_at places p) (t p) else t p
 
-counted_below : (stage : Stage) (places : List (Option Place)) (t : ℕ → Tally) (n p : ℕ) → p < n → counted_by stage places t n p ≡ stage.count (place_at places p) (t p)
+counted_below : (stage : Stage) (places : List (Option Place)) (t : ℕ → Tally) (n p : ℕ) → p < n
+    → counted_by stage places t n p ≡ stage.count (place_at places p) (t p)
 counted_below stage places t n p below = ap (λ (b : Bool). let x : Tally = if b then stage.count (place_at places p) (t p) else t p in x) (lt-ltb p n below)
 
 counted_from : (stage : Stage) (places : List (Option Place)) (t : ℕ → Tally) (n p : ℕ) → n ≤ p → counted_by stage places t n p ≡ t p
@@ -51,7 +52,8 @@ module _ (stage : Stage) (a b c : Fields) (p q r : Post (Item RunningSession)) (
   fresh : place_at b.places.places n ≡ place_at a.places.places n
   fresh = (before.left n (omega arith)).0
 
-  counted_then : (t : ℕ → Tally) (k : ℕ) → at (counted_by stage a.places.places t n) n (stage.count (place_at b.places.places n) (counted_by stage a.places.places t n n)) k ≡ counted_by stage a.places.places t (n + 1) k
+  counted_then : (t : ℕ → Tally) (k : ℕ)
+      → at (counted_by stage a.places.places t n) n (stage.count (place_at b.places.places n) (counted_by stage a.places.places t n n)) k ≡ counted_by stage a.places.places t (n + 1) k
   counted_then t k = elim (same_or_not n k) [
     | inl e ↦
         at_here (counted_by stage a.places.places t n) n (stage.count (place_at b.places.places n) (counted_by stage a.places.places t n n)) k e
@@ -88,29 +90,31 @@ module _ (stage : Stage) (a b c : Fields) (p q r : Post (Item RunningSession)) (
   left_then k from =
       let not : k ≢ n = λ e. let x : ⊥ = omega (arith, from, e) in x in (
         (now.others k not).0 ∙ (before.left k (omega (arith, from))).0,
-        events_on-append k before.events now.events ∙ ap (λ (on : OnPeering). on_then on (events_on k now.events)) (before.left k (omega (arith, from))).1 ∙ none_then (events_on k now.events) ∙ (now.others k not).1,
+        events_on-append k before.events now.events
+            ∙ ap (λ (on : OnPeering). on_then on (events_on k now.events)) (before.left k (omega (arith, from))).1
+            ∙ none_then (events_on k now.events) ∙ (now.others k not).1,
       )
 
-  pub visited_next : ((x y z : Fields) → stage.Same x y → stage.Same y z → stage.Same x z) → Visited stage (n + 1) a p c r
-  visited_next same_then = record {
+  pub visited_next : Visited stage (n + 1) a p c r
+  visited_next = record {
     events = before.events ++ now.events;
     did = λ t. did_then a b c p q r t (counted_by stage a.places.places t n) (counted_by stage a.places.places t (n + 1)) before.events now.events (before.did t)
-        (subst (λ (u : ℕ → Tally). Did b q (counted_by stage a.places.places t n) now.events c r u) (λ i k. counted_then t k i) (now.did (counted_by stage a.places.places t n)));
+        (subst (λ (u : ℕ → Tally). DidAsRouter b q (counted_by stage a.places.places t n) now.events c r u) (λ i k. counted_then t k i) (now.did (counted_by stage a.places.places t n)));
     at = at-append stage.number before.events now.events before.at now.at;
     done = done_then;
     left = left_then;
-    same = same_then a b c before.same now.same;
+    same = stage.kept.twice a b c before.same now.same;
     keeps = now.keeps;
   }
 
-pub visited_first : (stage : Stage) (f : Fields) (p : Post (Item RunningSession)) → stage.Same f f → Keeps f → Visited stage zero f p f p
-visited_first stage f p same keeps = record {
+pub visited_first : (stage : Stage) (f : Fields) (p : Post (Item RunningSession)) → RouterInvariant f → Visited stage zero f p f p
+visited_first stage f p keeps = record {
   events = [];
-  did = λ t. subst (λ (u : ℕ → Tally). Did f p t [] f p u) (λ i k. sym (counted_from stage f.places.places t 0 k (omega arith)) i) (did_same f f p t (record { setup = refl; number = refl }) refl);
+  did = λ t. subst (λ (u : ℕ → Tally). DidAsRouter f p t [] f p u) (λ i k. sym (counted_from stage f.places.places t 0 k (omega arith)) i) (did_same f f p t (record { setup = refl; number = refl }) refl);
   at = tt;
   done = λ k below. absurd (omega (arith, below));
   left = λ k from. (refl, refl);
-  same = same;
+  same = stage.kept.first f;
   keeps = keeps;
 }
 
@@ -144,17 +148,21 @@ module _ (x y z : Stage) (a b c : Fields) (p q r : Post (Item RunningSession)) (
       let first : Tally = x.count (place_at a.places.places n) (t n) in
       elim (same_or_not n k) [
         | inl e ↦
-            at_here (at t n first) n (y.count (place_at b.places.places n) (at t n first n)) k e ∙ ap (y.count (place_at b.places.places n)) (at_here t n first n refl)
-            ∙ counts (events_on n before.events) (place_at a.places.places n) (place_at b.places.places n) (t n) before.goes ∙ sym (at_here t n (z.count (place_at a.places.places n) (t n)) k e)
+            at_here (at t n first) n (y.count (place_at b.places.places n) (at t n first n)) k e
+            ∙ ap (y.count (place_at b.places.places n)) (at_here t n first n refl)
+            ∙ counts (events_on n before.events) (place_at a.places.places n) (place_at b.places.places n) (t n) before.goes
+            ∙ sym (at_here t n (z.count (place_at a.places.places n) (t n)) k e)
         | inr not ↦
-            at_other (at t n first) n (y.count (place_at b.places.places n) (at t n first n)) k not ∙ at_other t n first k not ∙ sym (at_other t n (z.count (place_at a.places.places n) (t n)) k not)
+            at_other (at t n first) n (y.count (place_at b.places.places n) (at t n first n)) k not ∙ at_other t n first k not
+            ∙ sym (at_other t n (z.count (place_at a.places.places n) (t n)) k not)
       ]
 
-  pub visits_then : x.number ≡ z.number → y.number ≡ z.number → ((k l : OnPeering) (u v w : Option Place) → x.Goes k u v → y.Goes l v w → z.Goes (on_then k l) u w)
-      → ((k : OnPeering) (u v : Option Place) (t : Tally) → x.Goes k u v → y.count v (x.count u t) ≡ z.count u t) → z.Same a c → Visits z n a p c r
+  pub visits_then : x.number ≡ z.number → y.number ≡ z.number
+      → ((k l : OnPeering) (u v w : Option Place) → x.Goes k u v → y.Goes l v w → z.Goes (on_then k l) u w)
+      → ((k : OnPeering) (u v : Option Place) (t : Tally) → x.Goes k u v → y.count v (x.count u t) ≡ z.count u t) → z.kept.Same a c → Visits z n a p c r
   visits_then first second goes counts same = record {
     events = before.events ++ now.events;
-    did = λ t. subst (λ (u : ℕ → Tally). Did a p t (before.events ++ now.events) c r u) (λ i k. counted_twice counts t k i)
+    did = λ t. subst (λ (u : ℕ → Tally). DidAsRouter a p t (before.events ++ now.events) c r u) (λ i k. counted_twice counts t k i)
         (did_then a b c p q r t (at t n (x.count (place_at a.places.places n) (t n))) (at (at t n (x.count (place_at a.places.places n) (t n))) n (y.count (place_at b.places.places n) (at t n (x.count (place_at a.places.places n) (t n)) n)))
         before.events now.events (before.did t) (now.did (at t n (x.count (place_at a.places.places n) (t n)))));
     at = at-append z.number before.events now.events (subst (λ (m : ℕ). AreAt m before.events) first before.at) (subst (λ (m : ℕ). AreAt m now.events) second now.at);
@@ -162,17 +170,19 @@ module _ (x y z : Stage) (a b c : Fields) (p q r : Post (Item RunningSession)) (
         (goes (events_on n before.events) (events_on n now.events) (place_at a.places.places n) (place_at b.places.places n) (place_at c.places.places n) before.goes now.goes);
     others = λ k not. (
       (now.others k not).0 ∙ (before.others k not).0,
-      events_on-append k before.events now.events ∙ ap (λ (on : OnPeering). on_then on (events_on k now.events)) (before.others k not).1 ∙ none_then (events_on k now.events) ∙ (now.others k not).1,
+      events_on-append k before.events now.events ∙ ap (λ (on : OnPeering). on_then on (events_on k now.events)) (before.others k not).1
+          ∙ none_then (events_on k now.events) ∙ (now.others k not).1,
     );
     same = same;
     keeps = now.keeps;
   }
 
-pub visits_as : (x z : Stage) (a b : Fields) (p q : Post (Item RunningSession)) (n : ℕ) (v : Visits x n a p b q) → x.number ≡ z.number → ((k : OnPeering) → x.Goes k (place_at a.places.places n) (place_at b.places.places n) → z.Goes k (place_at a.places.places n) (place_at b.places.places n))
-    → ((t : Tally) → x.count (place_at a.places.places n) t ≡ z.count (place_at a.places.places n) t) → z.Same a b → Visits z n a p b q
+pub visits_as : (x z : Stage) (a b : Fields) (p q : Post (Item RunningSession)) (n : ℕ) (v : Visits x n a p b q) → x.number ≡ z.number
+    → ((k : OnPeering) → x.Goes k (place_at a.places.places n) (place_at b.places.places n) → z.Goes k (place_at a.places.places n) (place_at b.places.places n))
+    → ((t : Tally) → x.count (place_at a.places.places n) t ≡ z.count (place_at a.places.places n) t) → z.kept.Same a b → Visits z n a p b q
 visits_as x z a b p q n v number goes counts same = record {
   events = v.events;
-  did = λ t. subst (λ (c : Tally). Did a p t v.events b q (at t n c)) (counts (t n)) (v.did t);
+  did = λ t. subst (λ (c : Tally). DidAsRouter a p t v.events b q (at t n c)) (counts (t n)) (v.did t);
   at = subst (λ (m : ℕ). AreAt m v.events) number v.at;
   goes = goes (events_on n v.events) v.goes;
   others = v.others;
@@ -181,31 +191,35 @@ visits_as x z a b p q n v number goes counts same = record {
 }
 
 -- all places had their turn
-module _ (stage : Stage) (f g : Fields) (p q : Post (Item RunningSession)) (n : ℕ) (v : Visited stage n f p g q) (last : length f.places.places ≤ n) where
+module _ (stage : Stage) (f g : Fields) (p q : Post (Item RunningSession)) (v : Visited stage (length f.places.places) f p g q) where
   -- behind the last place there is none
-  vacant_from : (k : ℕ) → n ≤ k → place_at f.places.places k ≡ None
-  vacant_from k from = place_at_end f.places.places k (omega (arith, last, from))
+  vacant_from : (k : ℕ) → length f.places.places ≤ k → place_at f.places.places k ≡ None
+  vacant_from k from = place_at_end f.places.places k from
 
-  pub all_places : (Goes : Option Place → Option Place → Type 0) → ((on : OnPeering) (x y : Option Place) → stage.Goes on x y → Goes x y) → Goes None None → (k : ℕ) → Goes (place_at f.places.places k) (place_at g.places.places k)
-  all_places Goes by_stage vacant k = elim (cases_lt k n) [
+  pub all_places : (Goes : Option Place → Option Place → Type 0) → ((on : OnPeering) (x y : Option Place) → stage.Goes on x y → Goes x y)
+      → Goes None None → (k : ℕ) → Goes (place_at f.places.places k) (place_at g.places.places k)
+  all_places Goes by_stage vacant k = elim (cases_lt k (length f.places.places)) [
     | inl below ↦ by_stage (events_on k v.events) (place_at f.places.places k) (place_at g.places.places k) (v.done k below)
     | inr from ↦ subst (Goes (place_at f.places.places k)) (sym (v.left k from).0) (subst (λ (x : Option Place). Goes x x) (sym (vacant_from k from)) vacant)
   ]
 
   -- how many events of one kind there are on each peering
-  pub all_counts : (number : OnPeering → ℕ) (many : Option Place → ℕ) → ((on : OnPeering) (x y : Option Place) → stage.Goes on x y → number on ≡ many x) → number none_on ≡ many None → (k : ℕ) → number (events_on k v.events) ≡ many (place_at f.places.places k)
-  all_counts number many by_stage vacant k = elim (cases_lt k n) [
+  pub all_counts : (number : OnPeering → ℕ) (many : Option Place → ℕ)
+      → ((on : OnPeering) (x y : Option Place) → stage.Goes on x y → number on ≡ many x) → number none_on ≡ many None → (k : ℕ)
+      → number (events_on k v.events) ≡ many (place_at f.places.places k)
+  all_counts number many by_stage vacant k = elim (cases_lt k (length f.places.places)) [
     | inl below ↦ by_stage (events_on k v.events) (place_at f.places.places k) (place_at g.places.places k) (v.done k below)
     | inr from ↦ ap number (v.left k from).1 ∙ vacant ∙ ap many (sym (vacant_from k from))
   ]
 
-  pub all_did : (total : (ℕ → Tally) → ℕ → Tally) → ((t : ℕ → Tally) (k : ℕ) → stage.count (place_at f.places.places k) (t k) ≡ total t k) → ((t : Tally) → stage.count None t ≡ t) → (t : ℕ → Tally) → Did f p t v.events g q (total t)
-  all_did total is none t = subst (λ (u : ℕ → Tally). Did f p t v.events g q u) (λ i k. pointwise k i) (v.did t)
+  pub all_did : (total : (ℕ → Tally) → ℕ → Tally) → ((t : ℕ → Tally) (k : ℕ) → stage.count (place_at f.places.places k) (t k) ≡ total t k)
+      → ((t : Tally) → stage.count None t ≡ t) → (t : ℕ → Tally) → DidAsRouter f p t v.events g q (total t)
+  all_did total is none t = subst (λ (u : ℕ → Tally). DidAsRouter f p t v.events g q u) (λ i k. pointwise k i) (v.did t)
     where
-      pointwise : (k : ℕ) → (if nat_lt k n then stage.count (place_at f.places.places k) (t k) else t k) ≡ total t k
-      pointwise k = elim (cases_lt k n) [
-        | inl below ↦ ap (λ (b : Bool). let x : Tally = if b then stage.count (place_at f.places.places k) (t k) else t k in x) (lt-ltb k n below) ∙ is t k
+      pointwise : (k : ℕ) → (if nat_lt k (length f.places.places) then stage.count (place_at f.places.places k) (t k) else t k) ≡ total t k
+      pointwise k = elim (cases_lt k (length f.places.places)) [
+        | inl below ↦ ap (λ (b : Bool). let x : Tally = if b then stage.count (place_at f.places.places k) (t k) else t k in x) (lt-ltb k (length f.places.places) below) ∙ is t k
         | inr from ↦
-            ap (λ (b : Bool). let x : Tally = if b then stage.count (place_at f.places.places k) (t k) else t k in x) (le-ltb k n from)
+            ap (λ (b : Bool). let x : Tally = if b then stage.count (place_at f.places.places k) (t k) else t k in x) (le-ltb k (length f.places.places) from)
             ∙ sym (none (t k)) ∙ ap (λ (x : Option Place). stage.count x (t k)) (sym (vacant_from k from)) ∙ is t k
       ]

@@ -9,13 +9,13 @@ use Rattle.router_core.specs.declared.place.Place.{Place}
 use Rattle.router_core.specs.declared.place.Place.TheVariants.{Live}
 
 -- a session that begins, which has had no retransmission turn
-abbrev pub begins : SessionConfig → RunningSession
-begins config = record { session = begun config; acked_at_turn = 0 }
+abbrev pub begun_session : SessionConfig → RunningSession
+begun_session config = record { session = begun config; acked_at_turn = 0 }
 
 -- the first session of a peering among those that begin, if there is one
 abbrev pub begun_at : List SessionConfig → ℕ → Option Place
 begun_at [] p = None
-begun_at (config ∷ configs) p = if p == config.peering.0 then Some (Live (begins config) None) else begun_at configs p
+begun_at (config ∷ configs) p = if p == config.peering.0 then Some (Live (begun_session config) None) else begun_at configs p
 
 -- A session can begin at one of `count` places.
 pub record CanBegin (count : ℕ) (config : SessionConfig) : Type 0 where

@@ -42,7 +42,7 @@ abbrev pub starting_here : Setup → ℕ → List SessionConfig
 starting_here setup r = map (λ peering. peering.config) (filter (λ peering. peering.start == r) setup.peerings)
 
 -- A configuration is that of a router of a laboratory, of at most 256 routers and 256 peerings.
-pub record IsConfigOf (setup : Setup) (config : RouterConfig) : Type 0 where
+pub record IsRouterConfigOf (setup : Setup) (config : RouterConfig) : Type 0 where
   pub there : config.number.0 < routers_in setup
   pub few_routers : routers_in setup ≤ 256
   pub few_peerings : peerings_in setup ≤ 256

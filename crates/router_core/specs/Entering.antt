@@ -14,7 +14,7 @@ use Rattle.rib_stages.specs.Steps.{given}
 use Rattle.rib_stages.specs.Values.{RibValue}
 use Rattle.rib_stages.specs.declared.config.InEntry.{InEntry}
 use Rattle.graft_model.specs.Decisions.{remote_identifier}
-use Rattle.graft_model.specs.Setups.{first_of}
+use Rattle.graft_model.specs.Setups.{first_name}
 use Rattle.router_core.specs.Configs.{rules_at}
 use Rattle.router_core.specs.declared.config.NamedPolicy.{NamedPolicy}
 
@@ -61,4 +61,4 @@ unknown_by policies (Some name) = if is_none (rules_at policies name) then Some 
 
 -- the import policy comes before the export policy
 abbrev pub missing_by : List NamedPolicy → SessionConfig → Option (List ℕ)
-missing_by policies config = first_of (unknown_by policies config.import) (unknown_by policies config.export)
+missing_by policies config = first_name (unknown_by policies config.import) (unknown_by policies config.export)

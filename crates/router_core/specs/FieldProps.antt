@@ -3,7 +3,7 @@ use Rattle.std.specs.Prelude.{◌≡◌, false, Bool, ℕ, Some, None, Option}
 use Rattle.std.proofs.Props.{props}
 use Rattle.session_value.specs.Sets.{Entries, Prefixes}
 use Rattle.graft_model.specs.Setups.{Setup}
-use Rattle.router_core.specs.Parts.{Keeps, KeepsPlace}
+use Rattle.router_core.specs.Parts.{RouterInvariant, KeepsPlace}
 use Rattle.router_core.specs.declared.fields.Fields.{Fields}
 use Rattle.router_core.specs.declared.place.Errand.TheVariants.{Leaving, Owing, Asking}
 use Rattle.router_core.specs.declared.place.Place.{Place}
@@ -17,5 +17,5 @@ KeepsPlace-prop setup r p entries due (Some (Live running (Some (Owing landing))
 KeepsPlace-prop setup r p entries due (Some (Live running (Some (Asking landing)))) = hlevel props
 KeepsPlace-prop setup r p entries due (Some (Shadow away)) = hlevel props
 
-pub Keeps-prop-if : (b : Bool) (f : Fields) → IsProp (b ≡ false → Keeps f)
-Keeps-prop-if b f = hlevel (props, KeepsPlace-prop)
+pub RouterInvariant-prop-if : (b : Bool) (f : Fields) → IsProp (b ≡ false → RouterInvariant f)
+RouterInvariant-prop-if b f = hlevel (props, KeepsPlace-prop)

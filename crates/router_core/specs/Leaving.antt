@@ -11,8 +11,10 @@ use Rattle.router_core.specs.declared.stages.grafts.Begun.TheVariants.{Nothing, 
 
 -- A stored graft is refused exactly where the source has a reason; otherwise the session leaves in it.
 abbrev pub BegunAs : Option Place → Begun → Option Place → Type 0
-BegunAs (Some (Live s (Some (Leaving ids)))) (Refused named refusal) new = (named ≡ ids) × (freeze_refusal ids.source ids.target (state s.session) (hold_time s.session) ≡ Some refusal) × (new ≡ Some (Live s None))
-BegunAs (Some (Live s (Some (Leaving ids)))) (Left named capsule) new = (named ≡ ids) × (freeze_refusal ids.source ids.target (state s.session) (hold_time s.session) ≡ None) × (capsule ≡ s) × (new ≡ Some (Shadow ids))
+BegunAs (Some (Live s (Some (Leaving ids)))) (Refused named refusal) new = (named ≡ ids)
+    × (freeze_refusal ids.source ids.target (state s.session) (hold_time s.session) ≡ Some refusal) × (new ≡ Some (Live s None))
+BegunAs (Some (Live s (Some (Leaving ids)))) (Left named capsule) new = (named ≡ ids)
+    × (freeze_refusal ids.source ids.target (state s.session) (hold_time s.session) ≡ None) × (capsule ≡ s) × (new ≡ Some (Shadow ids))
 BegunAs (Some (Live s (Some (Leaving ids)))) Nothing new = ⊥
 BegunAs (Some (Live s (Some (Owing landing)))) Nothing new = new ≡ Some (Live s (Some (Owing landing)))
 BegunAs (Some (Live s (Some (Asking landing)))) Nothing new = new ≡ Some (Live s (Some (Asking landing)))

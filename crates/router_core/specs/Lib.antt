@@ -1,5 +1,6 @@
 pub mod Configs
 pub mod Places
+pub mod Lends
 pub mod Parts
 pub mod Updates
 pub mod Rounds

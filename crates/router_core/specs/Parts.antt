@@ -11,7 +11,7 @@ use Rattle.bgp_session.specs.Running.{RunningSession}
 use Rattle.graft_steps.specs.declared.order.GraftIds.{GraftIds}
 use Rattle.graft_model.specs.Setups.{Setup, peerings_in, room_of, routers_in}
 use Rattle.graft_model.specs.Parts.{RouterPart}
-use Rattle.graft_runs.specs.Actors.{Router, RouterIs}
+use Rattle.graft_actors.specs.Actors.{Router, RouterIs}
 use Rattle.graft_actors.specs.Items.{home_first, remote_first}
 use Rattle.graft_actors.specs.Acts.{OwnPart}
 use Rattle.router_core.specs.Configs.{ArePoliciesOf, AreFirstsOf, IsRibOf}
@@ -89,7 +89,8 @@ KeepsPlace setup r p entries due (Some (Shadow away)) = IsGraftOf setup r p away
 
 -- ---- what the fields keep
 
-pub record Keeps (f : Fields) : Type 0 where
+-- what the fields keep beside their places, and a part for each peering
+pub record KeepsWith (Each : ℕ → Type 0) (f : Fields) : Type 0 where
   -- the configuration is its laboratory's
   pub there : f.number.0 < routers_in f.known.setup
   pub routers : f.routers ≡ routers_in f.known.setup
@@ -107,4 +108,11 @@ pub record Keeps (f : Fields) : Type 0 where
   pub due_in : length f.due_in ≡ routers_in f.known.setup
   pub due_out : length f.due_out ≡ peerings_in f.known.setup
   pub tellings : (q : ℕ) → routers_in f.known.setup ≤ q → (x : PrefixValue) → is_some (map.get ((rib_of f.rib).tellings q) x) ≡ false
-  pub each : (p : ℕ) → KeepsPlace f.known.setup f.number.0 p ((rib_of f.rib).entries p) (table_at f.due_out p) (place_at f.places.places p)
+  pub each : (p : ℕ) → Each p
+
+-- what is kept at the place for a peering
+abbrev pub KeepsAt : Fields → ℕ → Type 0
+KeepsAt f p = KeepsPlace f.known.setup f.number.0 p ((rib_of f.rib).entries p) (table_at f.due_out p) (place_at f.places.places p)
+
+abbrev pub RouterInvariant : Fields → Type 0
+RouterInvariant f = KeepsWith (KeepsAt f) f

@@ -43,12 +43,12 @@ pub record AtOne (Goes : Option Place → Option Place → Type 0) (old : PlaceL
   pub stays : new ≡ with_place old n place
 
 -- a session without an errand is live there
-pub record IsFree (place : Option Place) : Type 0 where
+pub record IsLiveWithoutErrand (place : Option Place) : Type 0 where
   pub session : RunningSession
   pub is : place ≡ Some (Live session None)
 
 -- a session has left this place in this graft
-pub record IsAway (place : Option Place) (k : ℕ) : Type 0 where
+pub record IsShadowOf (place : Option Place) (k : ℕ) : Type 0 where
   pub away : GraftIds
   pub is : place ≡ Some (Shadow away)
   pub graft : away.graft ≡ k

@@ -10,18 +10,18 @@ use Rattle.session_value.specs.Sessions.{SessionValue, state, peering_of}
 use Rattle.bgp_session.specs.Running.{RunningSession}
 use Rattle.bgp_session.specs.Steps.{offered_length}
 use Rattle.rib_stages.specs.Values.{table_at}
-use Rattle.tell_plan.specs.Plans.{IsPlan}
-use Rattle.tell_plan.specs.declared.batch.Batch.{Batch}
+use Rattle.update_plan.specs.Plans.{IsPlan}
+use Rattle.update_plan.specs.declared.batch.Batch.{Batch}
 use Rattle.graft_model.specs.Setups.{Setup}
 use Rattle.graft_model.specs.Parts.{RouterPart}
 use Rattle.graft_model.specs.RouterRows.{IsToTell}
 use Rattle.graft_model.specs.Decisions.{to_tell}
 use Rattle.graft_model.specs.declared.event.RouterEvent.{RouterEvent}
 use Rattle.graft_actors.specs.Emissions.{Tally}
-use Rattle.router_core.specs.Parts.{router_part, Keeps}
+use Rattle.router_core.specs.Parts.{router_part, RouterInvariant}
 use Rattle.router_core.specs.Places.{place_at}
 use Rattle.router_core.specs.Rested.{IsDone}
-use Rattle.router_core.specs.Rounds.{Did}
+use Rattle.router_core.specs.Rounds.{DidAsRouter}
 use Rattle.router_core.specs.Stages.{PlaceGoes, PutsMore}
 use Rattle.router_core.specs.Turned.{AreAt}
 use Rattle.router_core.specs.Updates.{IsNextUpdate, IsStuckInTime}
@@ -84,12 +84,12 @@ TimeAnswer (Some (Shadow away)) answer = answer ≡ None
 -- Something was put there.
 pub record PutsSomeAt (n : ℕ) (old : Fields) (before : Post (Item RunningSession)) (new : Fields) (after : Post (Item RunningSession)) : Type 0 where
   pub events : List RouterEvent
-  pub did : (t : ℕ → Tally) → Did old before t events new after t
+  pub did : (t : ℕ → Tally) → DidAsRouter old before t events new after t
   pub at : AreAt 6 events
   pub goes : PlaceGoes PutsMore (place_at old.places.places n) (place_at new.places.places n)
   pub others : (q : ℕ) → q ≢ n → (place_at new.places.places q ≡ place_at old.places.places q) × (table_at new.due_out q ≡ table_at old.due_out q)
   pub same : SameButLeaving old new
-  pub keeps : Keeps new
+  pub keeps : RouterInvariant new
 
 -- All that may be put was put there.
 pub record PutsAt (n : ℕ) (old : Fields) (before : Post (Item RunningSession)) (new : Fields) (after : Post (Item RunningSession)) : Type 0 where
@@ -109,10 +109,10 @@ PutOrDone false n batch old new = IsDone old.known.setup old.number.0 (router_pa
 
 pub record PutsFirst (n : ℕ) (old : Fields) (before : Post (Item RunningSession)) (new : Fields) (after : Post (Item RunningSession)) : Type 0 where
   pub events : List RouterEvent
-  pub did : (t : ℕ → Tally) → Did old before t events new after t
+  pub did : (t : ℕ → Tally) → DidAsRouter old before t events new after t
   pub at : AreAt 6 events
   pub goes : (p : ℕ) → p < n → PlaceGoes PutsMore (place_at old.places.places p) (place_at new.places.places p)
   pub done : (p : ℕ) → p < n → IsDone old.known.setup old.number.0 (router_part new) p ((router_part new).places p)
   pub left : (p : ℕ) → n ≤ p → place_at new.places.places p ≡ place_at old.places.places p
   pub same : SameButLeaving old new
-  pub keeps : Keeps new
+  pub keeps : RouterInvariant new

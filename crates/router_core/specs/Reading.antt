@@ -1,5 +1,5 @@
 -- What sessions take in and read at their places, what is due then, and the invariant that a router keeps meanwhile.
-use Rattle.std.specs.Prelude.{ℕ, ◌≡◌, ◌≢◌, ◌<◌, ◌≤◌, ◌^◌, ◌||◌, Bool, true, false, List, [], ◌∷◌, length, Option, Some, None, is_some}
+use Rattle.std.specs.Prelude.{ℕ, ◌≡◌, ◌≢◌, ◌<◌, ◌^◌, ◌||◌, Bool, true, false, List, [], ◌∷◌, length, Option, Some, None, is_some}
 use Rattle.std.specs.FinMap as map
 use Rattle.std.specs.List.{list_any}
 use Rattle.bgp_types.specs.Prefixes.{PrefixValue, same_prefix}
@@ -16,7 +16,7 @@ use Rattle.session_value.specs.Ties.{IsTied}
 use Rattle.rib_stages.specs.Values.{rib_of, table_at}
 use Rattle.bgp_session.specs.Fronts.{CantRead}
 use Rattle.bgp_session.specs.Running.{RunningSession}
-use Rattle.bgp_session.specs.Steps.{Arrives, Reads, received_as}
+use Rattle.bgp_session.specs.Steps.{SegmentArrives, ReadsFrameIfAny, received_as}
 use Rattle.bgp_session.specs.declared.answers.ReadStep.{ReadStep}
 use Rattle.bgp_session.specs.declared.answers.ReadStep.TheVariants as steps
 use Rattle.graft_steps.specs.declared.item.Item.{Item}
@@ -24,15 +24,14 @@ use Rattle.graft_steps.specs.Landings.{Landing}
 use Rattle.session_places.specs.Places.{with_place}
 use Rattle.router_core.specs.declared.place.Errand.{Errand}
 use Rattle.router_core.specs.declared.place.Errand.TheVariants.{Owing}
-use Rattle.graft_model.specs.Setups.{peerings_in, room_of, routers_in}
 use Rattle.graft_model.specs.declared.event.RouterEvent.{RouterEvent}
 use Rattle.graft_model.specs.declared.event.RouterEvent.TheVariants.{Got}
 use Rattle.graft_actors.specs.Emissions.{Tally}
-use Rattle.router_core.specs.Configs.{ArePoliciesOf, AreFirstsOf, IsRibOf}
 use Rattle.router_core.specs.Entering.{EntersAll, entry_here}
-use Rattle.router_core.specs.Parts.{IsDueWhileUp, IsOfPeering, IsErrandOf, KeepsPlace, Keeps}
+use Rattle.router_core.specs.Parts.{IsDueWhileUp, IsOfPeering, IsErrandOf, RouterInvariant, KeepsAt, KeepsWith}
 use Rattle.router_core.specs.Places.{RunsAt, place_at}
-use Rattle.router_core.specs.Rounds.{Did}
+use Rattle.router_core.specs.Rounds.{DidAsRouter}
+use Rattle.router_core.specs.Sending.{AtPlace}
 use Rattle.router_core.specs.Turned.{AreAt}
 use Rattle.router_core.specs.Takes.{Stays}
 use Rattle.router_core.specs.declared.fields.Fields.{Fields}
@@ -69,14 +68,16 @@ FitsPlace (Some (Shadow away)) g = Unit {0}
 -- The segment arrives at the live session; if there is none, it strays.
 abbrev pub ArrivesAt : Bool → Option Place → Segment → Option Place → Type 0
 ArrivesAt live None g new = (live ≡ false) × (new ≡ None)
-ArrivesAt live (Some (Live s errand)) g new = (live ≡ true) × (arrival : Arrival) × (u : RunningSession) × Arrives arrival s g u × (new ≡ Some (Live u errand))
+ArrivesAt live (Some (Live s errand)) g new = (live ≡ true) × (arrival : Arrival)
+    × (u : RunningSession) × SegmentArrives arrival s g u × (new ≡ Some (Live u errand))
 ArrivesAt live (Some (Shadow away)) g new = (live ≡ false) × (new ≡ Some (Shadow away))
 
 -- The live session reads, if it can.
+abbrev pub ReadsTied : RunningSession → Option ReadStep → RunningSession → Type 0
+ReadsTied s step u = IsTied s.session × ReadsFrameIfAny step s u
+
 abbrev pub ReadsAt : Option ReadStep → Option Place → Option Place → Type 0
-ReadsAt step None new = (step ≡ None) × (new ≡ None)
-ReadsAt step (Some (Live s errand)) new = (u : RunningSession) × IsTied s.session × Reads step s u × (new ≡ Some (Live u errand))
-ReadsAt step (Some (Shadow away)) new = (step ≡ None) × (new ≡ Some (Shadow away))
+ReadsAt step old new = AtPlace ReadsTied old step new
 
 -- ---- after a message
 
@@ -116,7 +117,8 @@ pub record MakesLive (old : Fields) (p : ℕ) (s : RunningSession) (errand : Opt
 -- A session lands in a graft: its routes are taken in, it is live, and routers are to be asked and then its source told.
 pub record SettlesIn (old : Fields) (s : RunningSession) (landed : Landing) (new : Fields) : Type 0 where
   pub same : new ≡ record old { places = new.places; rib = new.rib; due_out = new.due_out }
-  pub entered : EntersAll (rib_of old.rib) s.session.config.peering.0 (entry_here old.home_as old.policies s.session) (map.keys s.session.heard) (rib_of new.rib)
+  pub entered : EntersAll (rib_of old.rib) s.session.config.peering.0 (entry_here old.home_as old.policies s.session)
+      (map.keys s.session.heard) (rib_of new.rib)
   pub held : new.places ≡ with_place old.places s.session.config.peering.0 (Some (Live s (Some (Owing landed))))
   pub sets : OneSet old.due_out s.session.config.peering.0 new.due_out
   pub due : IsDueAgain s.session.told old.rib.best (table_at new.due_out s.session.config.peering.0)
@@ -124,21 +126,8 @@ pub record SettlesIn (old : Fields) (s : RunningSession) (landed : Landing) (new
 -- ---- what a router keeps meanwhile
 
 -- the invariant without the part that its places keep
-pub record KeepsRest (f : Fields) : Type 0 where
-  pub there : f.number.0 < routers_in f.known.setup
-  pub routers : f.routers ≡ routers_in f.known.setup
-  pub few_routers : f.routers ≤ 256
-  pub few_peerings : peerings_in f.known.setup ≤ 256
-  pub room : f.room ≡ room_of f.known.setup f.number.0
-  pub reserved : f.places.room ≡ f.room
-  pub home_as : f.home_as ≡ f.known.setup.home_as
-  pub policies : ArePoliciesOf f.known.setup f.number.0 f.policies
-  pub firsts : AreFirstsOf f.known.setup f.firsts
-  pub rib : IsRibOf f.known.setup f.number.0 f.rib.config
-  pub places : length f.places.places ≡ peerings_in f.known.setup
-  pub due_in : length f.due_in ≡ routers_in f.known.setup
-  pub due_out : length f.due_out ≡ peerings_in f.known.setup
-  pub tellings : (q : ℕ) → routers_in f.known.setup ≤ q → (x : PrefixValue) → is_some (map.get ((rib_of f.rib).tellings q) x) ≡ false
+abbrev pub KeepsRest : Fields → Type 0
+KeepsRest f = KeepsWith (λ p. Unit {0}) f
 
 -- A live session of its peering may have more to read.
 pub record KeepsLive (f : Fields) (p : ℕ) : Type 0 where
@@ -153,7 +142,7 @@ pub record KeepsLive (f : Fields) (p : ℕ) : Type 0 where
 pub record KeepsBut (p : ℕ) (f : Fields) : Type 0 where
   pub rest : KeepsRest f
   pub here : KeepsLive f p
-  pub others : (q : ℕ) → q ≢ p → KeepsPlace f.known.setup f.number.0 q ((rib_of f.rib).entries q) (table_at f.due_out q) (place_at f.places.places q)
+  pub others : (q : ℕ) → q ≢ p → KeepsAt f q
 
 -- ---- messages one after another
 
@@ -171,7 +160,7 @@ pub record StaysBut (p : ℕ) (old new : Fields) : Type 0 where
 
 -- One message is read, and the router follows it.
 pub record ReadsOne (p : ℕ) (old : Fields) (before : Post (Item RunningSession)) (new : Fields) (after : Post (Item RunningSession)) : Type 0 where
-  pub did : (t : ℕ → Tally) → Did old before t (Got p ∷ []) new after t
+  pub did : (t : ℕ → Tally) → DidAsRouter old before t (Got p ∷ []) new after t
   pub stays : StaysBut p old new
   pub less : unread_at (place_at new.places.places p) < unread_at (place_at old.places.places p)
   pub keeps : KeepsBut p new
@@ -186,7 +175,7 @@ pub record ReadsNone (p : ℕ) (old : Fields) (before : Post (Item RunningSessio
 -- All that can be read is read, so the router is sound.
 pub record ReadsAll (p : ℕ) (old : Fields) (before : Post (Item RunningSession)) (new : Fields) (after : Post (Item RunningSession)) : Type 0 where
   pub events : List RouterEvent
-  pub did : (t : ℕ → Tally) → Did old before t events new after t
+  pub did : (t : ℕ → Tally) → DidAsRouter old before t events new after t
   pub at : AreAt 0 events
   pub stays : StaysBut p old new
-  pub keeps : Keeps new
+  pub keeps : RouterInvariant new

@@ -8,7 +8,7 @@ use Rattle.graft_steps.specs.declared.item.Item.{Item}
 use Rattle.bgp_session.specs.Running.{RunningSession}
 use Rattle.tcp_seq.specs.Endpoint.{Endpoint}
 use Rattle.session_value.specs.Sessions.{SessionValue}
-use Rattle.tell_plan.specs.declared.batch.Batch.{Batch}
+use Rattle.update_plan.specs.declared.batch.Batch.{Batch}
 use Rattle.graft_model.specs.Points.{at}
 use Rattle.graft_model.specs.Setups.{Setup}
 use Rattle.graft_model.specs.Parts.{Place, Vacant, Live, Frozen, Shadow, Errand, RouterPart}
@@ -17,10 +17,10 @@ use Rattle.graft_model.specs.Codes.{router_code}
 use Rattle.graft_model.specs.declared.event.RouterEvent.{RouterEvent}
 use Rattle.graft_model.specs.declared.event.RouterEvent.TheVariants.{Put, Emit}
 use Rattle.graft_model.specs.Steps.{router_row}
-use Rattle.graft_runs.specs.Makes.{HasCode}
+use Rattle.graft_actors.specs.Makes.{AreDeeds}
 use Rattle.graft_actors.specs.Acts.{acts}
 use Rattle.graft_actors.specs.Notes.{WroteOne}
-use Rattle.graft_actors.specs.Emissions.{IsOld, IsNew, IsCareful, Tally, counted}
+use Rattle.graft_actors.specs.Emissions.{IsOld, IsNewSlice, IsCareful, Tally, tallied}
 use Rattle.router_core.specs.Parts.{router_part, own_part, carried}
 use Rattle.router_core.specs.Updates.{IsNextUpdate}
 use Rattle.router_core.specs.declared.fields.Fields.{Fields}
@@ -60,24 +60,25 @@ pub record EmitsSome (Kind : Endpoint → ℕ → ℕ → Type 0) (part : Router
 -- a segment without bytes is an acknowledgement that is owed; one with bytes is new
 abbrev pub IsNewOrOwed : Endpoint → ℕ → ℕ → Type 0
 IsNewOrOwed e from zero = e.owed ≡ true
-IsNewOrOwed e from (suc n) = IsNew e from (suc n)
+IsNewOrOwed e from (suc n) = IsNewSlice e from (suc n)
 
 -- the first outstanding slice of a session is sent again
-abbrev pub SendsOld : RouterPart → RouterEvent → Type 0
-SendsOld part (Emit p from len) = EmitsSome IsOld part p from len
-SendsOld part event = ⊥
+abbrev pub RouterRetransmits : RouterPart → RouterEvent → Type 0
+RouterRetransmits part (Emit p from len) = EmitsSome IsOld part p from len
+RouterRetransmits part event = ⊥
 
 -- what is emitted is new, or an acknowledgement that is owed; and an UPDATE that is put is the next one
-abbrev pub Works : Setup → ℕ → RouterPart → RouterEvent → Type 0
-Works setup r part (Emit p from len) = EmitsSome IsNewOrOwed part p from len
-Works setup r part (Put p (suc n)) = PutsNext setup r part p (suc n)
-Works setup r part event = Unit {0}
+abbrev pub IsNewWork : Setup → ℕ → RouterPart → RouterEvent → Type 0
+IsNewWork setup r part (Emit p from len) = EmitsSome IsNewOrOwed part p from len
+IsNewWork setup r part (Put p (suc n)) = PutsNext setup r part p (suc n)
+IsNewWork setup r part event = Unit {0}
 
 -- The events lead from one part to another through these parts, one after each event. Each event goes by its row, and is one that the stage allows.
 abbrev pub RouterGoes : Setup → ℕ → (RouterPart → RouterEvent → Type 0) → RouterPart → List RouterEvent → List RouterPart → RouterPart → Type 0
 RouterGoes setup r Allowed before [] [] after = after ≡ before
 RouterGoes setup r Allowed before (event ∷ events) (next ∷ parts) after =
-    (taken : Option RouterTaken) × (sent : List RouterSent) × router_row setup r event before taken sent next × Allowed before event × RouterGoes setup r Allowed next events parts after
+    (taken : Option RouterTaken) × (sent : List RouterSent) × router_row setup r event before taken sent next
+    × Allowed before event × RouterGoes setup r Allowed next events parts after
 RouterGoes setup r Allowed before events parts after = ⊥
 
 -- ---- the same with tallies, which the stages count
@@ -85,7 +86,7 @@ RouterGoes setup r Allowed before events parts after = ⊥
 -- what is emitted from a place is counted
 abbrev pub tally_at : Place → ℕ → ℕ → Tally → Tally
 tally_at Vacant from len t = t
-tally_at (Live session errand) from len t = counted session.end from len t
+tally_at (Live session errand) from len t = tallied session.end from len t
 tally_at (Frozen session order) from len t = t
 tally_at (Shadow graft) from len t = t
 
@@ -94,8 +95,8 @@ router_tally part (Emit p from len) t = at t p (tally_at (part.places p) from le
 router_tally part event t = t
 
 -- the next event is written, whether it takes an item or not
-abbrev pub Writes : Post (Item RunningSession) → RouterEvent → List (ℕ × Item RunningSession) → Post (Item RunningSession) → Type 0
-Writes before event sent after = WroteOne before (router_code event) sent after
+abbrev pub WritesEvent : Post (Item RunningSession) → RouterEvent → List (ℕ × Item RunningSession) → Post (Item RunningSession) → Type 0
+WritesEvent before event sent after = WroteOne before (router_code event) sent after
 
 -- ---- events of a part, one after another
 
@@ -104,14 +105,9 @@ Writes before event sent after = WroteOne before (router_code event) sent after
 abbrev pub RouterRound : Setup → ℕ → RouterPart → (ℕ → Tally) → List RouterEvent → RouterPart → (ℕ → Tally) → Type 0
 RouterRound setup r before t [] after u = (after ≡ before) × (u ≡ t)
 RouterRound setup r before t (event ∷ events) after u =
-    (taken : Option RouterTaken) × (sent : List RouterSent) × (mid : RouterPart) × router_row setup r event before taken sent mid × CarefulRouter setup r before event
+    (taken : Option RouterTaken) × (sent : List RouterSent) × (mid : RouterPart) × router_row setup r event before taken sent mid
+    × CarefulRouter setup r before event
     × RouterRound setup r mid (router_tally before event t) events after u
-
--- the entries of what was done are those of these events
-abbrev pub AreOf : {I : Type 0} → List RouterEvent → List (Deed I) → Type 0
-AreOf [] [] = Unit {0}
-AreOf (event ∷ events) (deed ∷ deeds) = HasCode (router_code event) deed.entry × AreOf events deeds
-AreOf events deeds = ⊥
 
 -- a router's laboratory and number stay the same
 pub record SameRouter (old new : Fields) : Type 0 where
@@ -119,11 +115,12 @@ pub record SameRouter (old new : Fields) : Type 0 where
   pub number : new.number ≡ old.number
 
 -- What a part of a call that takes no item does: the events that it made and wrote.
-pub record Did (old : Fields) (before : Post (Item RunningSession)) (t : ℕ → Tally) (events : List RouterEvent) (new : Fields) (after : Post (Item RunningSession)) (u : ℕ → Tally) : Type 0 where
+pub record DidAsRouter (old : Fields) (before : Post (Item RunningSession)) (t : ℕ → Tally) (events : List RouterEvent)
+    (new : Fields) (after : Post (Item RunningSession)) (u : ℕ → Tally) : Type 0 where
   pub router : SameRouter old new
   pub deeds : List (Deed (Item RunningSession))
   pub wrote : Wrote before deeds after
   pub none : AllByRecursion TakesNone deeds
-  pub coded : AreOf events deeds
+  pub coded : AreDeeds router_code events deeds
   pub replay : Replay (acts carried) (actor_of before) (own_part old) deeds (own_part new)
   pub round : RouterRound old.known.setup old.number.0 (router_part old) t events (router_part new) u

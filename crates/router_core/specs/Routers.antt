@@ -10,31 +10,31 @@ use Rattle.graft_actors.specs.Acts.{OwnPart}
 use Rattle.router_core.specs.Begins.{BeginsAs}
 use Rattle.router_core.specs.Parts.{router_part, own_part}
 use Rattle.router_core.specs.Places.{RunsAt}
-use Rattle.router_core.specs.Takes.{Took}
-use Rattle.router_core.specs.Turned.{Turned}
+use Rattle.router_core.specs.Takes.{TookAsRouter}
+use Rattle.router_core.specs.Turned.{RouterTurned}
 use Rattle.router_core.specs.declared.config.RouterConfig.{RouterConfig}
 use Rattle.router_core.specs.declared.router as routers
 
 -- a router's part of the world, by itself and as an actor
-abbrev pub part_in : routers.Router.Router → RouterPart
-part_in r = router_part r.fields
+abbrev pub part_of_router : routers.Router.Router → RouterPart
+part_of_router r = router_part r.fields
 
-abbrev pub own : routers.Router.Router → OwnPart
-own r = own_part r.fields
+abbrev pub router_own_part : routers.Router.Router → OwnPart
+router_own_part r = own_part r.fields
 
 -- memory never ran out in one of its calls
-abbrev pub Works : routers.Router.Router → Type 0
-Works r = r.has_failed ≡ false
+abbrev pub RouterWorks : routers.Router.Router → Type 0
+RouterWorks r = r.has_failed ≡ false
 
-abbrev pub IsNew : Setup → RouterConfig → routers.Router.Router → Type 0
-IsNew setup config router = BeginsAs setup config router.fields × Works router
+abbrev pub IsNewRouter : Setup → RouterConfig → routers.Router.Router → Type 0
+IsNewRouter setup config router = BeginsAs setup config router.fields × RouterWorks router
 
 -- what a take and a turn promise beside their events
-abbrev pub took : routers.Router.Router → ℕ → Item RunningSession → List (Deed (Item RunningSession)) → routers.Router.Router → Type 0
-took old from item deeds new = Took old.fields from item deeds new.fields × Works new
+abbrev pub took_by_router : routers.Router.Router → ℕ → Item RunningSession → List (Deed (Item RunningSession)) → routers.Router.Router → Type 0
+took_by_router old from item deeds new = TookAsRouter old.fields from item deeds new.fields × RouterWorks new
 
-abbrev pub turned : routers.Router.Router → List (Deed (Item RunningSession)) → routers.Router.Router → Type 0
-turned old deeds new = Turned old.fields deeds new.fields × Works new
+abbrev pub turned_by_router : routers.Router.Router → List (Deed (Item RunningSession)) → routers.Router.Router → Type 0
+turned_by_router old deeds new = RouterTurned old.fields deeds new.fields × RouterWorks new
 
 -- ---- looks
 

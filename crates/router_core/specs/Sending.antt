@@ -3,7 +3,7 @@ use Rattle.std.specs.Prelude.{ℕ, ◌≡◌, ◌⊎◌, ◌<◌, ◌≤◌, ◌
 use Rattle.tcp_seq.specs.declared.segment.Segment.{Segment}
 use Rattle.tcp_seq.specs.Endpoint.{EmitsNext, EmitsAgain, EmitsAnswer, EmitsSlice, again_length, next_length}
 use Rattle.bgp_session.specs.Running.{RunningSession}
-use Rattle.bgp_session.specs.Steps.{EmitsBy}
+use Rattle.bgp_session.specs.Steps.{SessionEmitsIfAny}
 use Rattle.graft_actors.specs.Emissions.{reach_of}
 use Rattle.graft_actors.specs.Items.{home_first}
 use Rattle.graft_model.specs.Setups.{routers_in}
@@ -19,25 +19,25 @@ AtPlace Does (Some (Live s errand)) answer new = (u : RunningSession) × (new �
 AtPlace Does (Some (Shadow away)) answer new = (answer ≡ None) × (new ≡ Some (Shadow away))
 
 -- the retransmission turn
-pub record SentAgain (s : RunningSession) (answer : Option Segment) (u : RunningSession) : Type 0 where
+pub record SessionSentAgain (s : RunningSession) (answer : Option Segment) (u : RunningSession) : Type 0 where
   pub none : IsNone answer ↔ ((again_length s.session.end ≡ 0) ⊎ (s.acked_at_turn < s.session.end.acked))
   pub within : s.session.end.emitted ≤ length s.session.end.stream
-  pub step : EmitsBy EmitsAgain s.session answer u.session
-  pub slice : EmitsBy EmitsSlice s.session answer u.session
+  pub step : SessionEmitsIfAny EmitsAgain s.session answer u.session
+  pub slice : SessionEmitsIfAny EmitsSlice s.session answer u.session
   pub turned : u.acked_at_turn ≡ s.session.end.acked
 
 -- the next new slice, if there is one
 pub record SentNext (s : RunningSession) (answer : Option Segment) (u : RunningSession) : Type 0 where
   pub none : IsNone answer ↔ (next_length s.session.end ≡ 0)
   pub all : IfNone answer (s.session.end.emitted ≡ reach_of s.session.end)
-  pub step : EmitsBy EmitsNext s.session answer u.session
-  pub slice : EmitsBy EmitsSlice s.session answer u.session
+  pub step : SessionEmitsIfAny EmitsNext s.session answer u.session
+  pub slice : SessionEmitsIfAny EmitsSlice s.session answer u.session
   pub same_turn : u.acked_at_turn ≡ s.acked_at_turn
 
 -- the acknowledgement, if one is owed
-pub record SentAnswer (s : RunningSession) (answer : Option Segment) (u : RunningSession) : Type 0 where
+pub record SessionSentAnswer (s : RunningSession) (answer : Option Segment) (u : RunningSession) : Type 0 where
   pub some : IsSome answer ↔ (s.session.end.owed ≡ true)
-  pub step : EmitsBy EmitsAnswer s.session answer u.session
+  pub step : SessionEmitsIfAny EmitsAnswer s.session answer u.session
   pub same_turn : u.acked_at_turn ≡ s.acked_at_turn
 
 -- where the segments emitted on a peering go, and the initial sequence number of its home side

@@ -9,10 +9,10 @@ use Rattle.bgp_session.specs.Running.{RunningSession}
 use Rattle.bgp_session.specs.Steps.{MayPass}
 use Rattle.graft_model.specs.declared.event.RouterEvent.{RouterEvent}
 use Rattle.graft_actors.specs.Emissions.{Tally, reach_of}
-use Rattle.router_core.specs.Parts.{router_part, Keeps}
+use Rattle.router_core.specs.Parts.{router_part, RouterInvariant}
 use Rattle.router_core.specs.Places.{place_at}
 use Rattle.router_core.specs.Rested.{IsDone}
-use Rattle.router_core.specs.Rounds.{Did}
+use Rattle.router_core.specs.Rounds.{DidAsRouter}
 use Rattle.router_core.specs.Turned.{AreAt, rounds_on, emits_on, answers_on}
 use Rattle.router_core.specs.declared.fields.Fields.{Fields}
 use Rattle.router_core.specs.declared.place.Errand.TheVariants.{Leaving, Owing, Asking}
@@ -41,7 +41,8 @@ abbrev pub WordGoes : Option Place → Option Place → Type 0
 WordGoes None new = new ≡ None
 WordGoes (Some (Live s None)) new = new ≡ Some (Live s None)
 WordGoes (Some (Live s (Some (Leaving ids)))) new = new ≡ Some (Live s (Some (Leaving ids)))
-WordGoes (Some (Live s (Some (Owing landing)))) new = ((q : ℕ) × (new ≡ Some (Live s (Some (Asking (record landing { next = q })))))) ⊎ (new ≡ Some (Live s None))
+WordGoes (Some (Live s (Some (Owing landing)))) new = ((q : ℕ) × (new ≡ Some (Live s (Some (Asking (record landing { next = q }))))))
+    ⊎ (new ≡ Some (Live s None))
 WordGoes (Some (Live s (Some (Asking landing)))) new = new ≡ Some (Live s (Some (Asking landing)))
 WordGoes (Some (Shadow away)) new = new ≡ Some (Shadow away)
 
@@ -87,67 +88,67 @@ with_answers f t p = record (t p) { answers = (t p).answers + answer_at (place_a
 pub record SendsAgain (old : Fields) (before : Post (Item RunningSession)) (new : Fields) (after : Post (Item RunningSession)) : Type 0 where
   pub events : List RouterEvent
   pub at : AreAt 7 events
-  pub did : (t : ℕ → Tally) → Did old before t events new after (with_again old t)
+  pub did : (t : ℕ → Tally) → DidAsRouter old before t events new after (with_again old t)
   pub once : (p : ℕ) → emits_on p events ≡ again_at (place_at old.places.places p)
   pub places : (p : ℕ) → PlaceGoes IsLevel (place_at old.places.places p) (place_at new.places.places p)
   pub same : new ≡ record old { places = new.places }
-  pub keeps : Keeps new
+  pub keeps : RouterInvariant new
 
 pub record PassesRounds (old : Fields) (before : Post (Item RunningSession)) (new : Fields) (after : Post (Item RunningSession)) : Type 0 where
   pub events : List RouterEvent
   pub at : AreAt 1 events
-  pub did : (t : ℕ → Tally) → Did old before t events new after t
+  pub did : (t : ℕ → Tally) → DidAsRouter old before t events new after t
   pub places : (p : ℕ) → PlaceGoes (PassesWhereItMay old.turns (rounds_on p events)) (place_at old.places.places p) (place_at new.places.places p)
   pub same : new ≡ record old { places = new.places; rib = new.rib; due_out = new.due_out }
-  pub keeps : Keeps new
+  pub keeps : RouterInvariant new
 
 pub record BeginsGrafts (old : Fields) (before : Post (Item RunningSession)) (new : Fields) (after : Post (Item RunningSession)) : Type 0 where
   pub events : List RouterEvent
   pub at : AreAt 2 events
-  pub did : (t : ℕ → Tally) → Did old before t events new after t
+  pub did : (t : ℕ → Tally) → DidAsRouter old before t events new after t
   pub places : (p : ℕ) → GraftGoes (place_at old.places.places p) (place_at new.places.places p)
   pub same : new ≡ record old { places = new.places; due_out = new.due_out }
-  pub keeps : Keeps new
+  pub keeps : RouterInvariant new
 
 pub record DecidesAll (old : Fields) (before : Post (Item RunningSession)) (new : Fields) (after : Post (Item RunningSession)) : Type 0 where
   pub events : List RouterEvent
   pub at : AreAt 3 events
-  pub did : (t : ℕ → Tally) → Did old before t events new after t
+  pub did : (t : ℕ → Tally) → DidAsRouter old before t events new after t
   pub clean : new.rib.dirty ≡ map.empty
   pub same : new ≡ record old { rib = new.rib; due_in = new.due_in; due_out = new.due_out }
-  pub keeps : Keeps new
+  pub keeps : RouterInvariant new
 
 pub record TellsAll (old : Fields) (before : Post (Item RunningSession)) (new : Fields) (after : Post (Item RunningSession)) : Type 0 where
   pub events : List RouterEvent
   pub at : AreAt 4 events
-  pub did : (t : ℕ → Tally) → Did old before t events new after t
+  pub did : (t : ℕ → Tally) → DidAsRouter old before t events new after t
   pub told : (q : ℕ) → (router_part new).due_in q ≡ map.empty
   pub same : new ≡ record old { due_in = new.due_in }
-  pub keeps : Keeps new
+  pub keeps : RouterInvariant new
 
 pub record ConfirmsAll (old : Fields) (before : Post (Item RunningSession)) (new : Fields) (after : Post (Item RunningSession)) : Type 0 where
   pub events : List RouterEvent
   pub at : AreAt 5 events
-  pub did : (t : ℕ → Tally) → Did old before t events new after t
+  pub did : (t : ℕ → Tally) → DidAsRouter old before t events new after t
   pub places : (p : ℕ) → WordGoes (place_at old.places.places p) (place_at new.places.places p)
   pub same : new ≡ record old { places = new.places }
-  pub keeps : Keeps new
+  pub keeps : RouterInvariant new
 
 -- On each session all that is to be told is put, or its next UPDATE has no room or can't be written.
 pub record PutsAll (old : Fields) (before : Post (Item RunningSession)) (new : Fields) (after : Post (Item RunningSession)) : Type 0 where
   pub events : List RouterEvent
   pub at : AreAt 6 events
-  pub did : (t : ℕ → Tally) → Did old before t events new after t
+  pub did : (t : ℕ → Tally) → DidAsRouter old before t events new after t
   pub places : (p : ℕ) → PlaceGoes PutsMore (place_at old.places.places p) (place_at new.places.places p)
   pub done : (p : ℕ) → IsDone old.known.setup old.number.0 (router_part new) p ((router_part new).places p)
   pub same : new ≡ record old { places = new.places; due_out = new.due_out }
-  pub keeps : Keeps new
+  pub keeps : RouterInvariant new
 
-pub record Emits (old : Fields) (before : Post (Item RunningSession)) (new : Fields) (after : Post (Item RunningSession)) : Type 0 where
+pub record EmitsEverywhere (old : Fields) (before : Post (Item RunningSession)) (new : Fields) (after : Post (Item RunningSession)) : Type 0 where
   pub events : List RouterEvent
   pub at : AreAt 7 events
-  pub did : (t : ℕ → Tally) → Did old before t events new after (with_answers old t)
+  pub did : (t : ℕ → Tally) → DidAsRouter old before t events new after (with_answers old t)
   pub once : (p : ℕ) → answers_on p events ≡ answer_at (place_at old.places.places p)
   pub places : (p : ℕ) → PlaceGoes EmitsAll (place_at old.places.places p) (place_at new.places.places p)
   pub same : new ≡ record old { places = new.places }
-  pub keeps : Keeps new
+  pub keeps : RouterInvariant new

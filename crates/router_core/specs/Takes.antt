@@ -10,11 +10,13 @@ use Rattle.bgp_session.specs.Running.{RunningSession}
 use Rattle.graft_model.specs.Parts.{RouterPart}
 use Rattle.graft_model.specs.declared.event.RouterEvent.{RouterEvent}
 use Rattle.graft_actors.specs.Acts.{acts, IsWelcome}
-use Rattle.router_core.specs.Parts.{router_part, own_part, carried, Keeps}
+use Rattle.router_core.specs.Parts.{router_part, own_part, carried, RouterInvariant}
 use Rattle.router_core.specs.Places.{RunsAt}
-use Rattle.router_core.specs.Rounds.{AreOf, RouterGoes, SameRouter}
-use Rattle.router_core.specs.Turned.{Takes}
+use Rattle.router_core.specs.Rounds.{RouterGoes, SameRouter}
+use Rattle.router_core.specs.Turned.{IsRouterTake}
 use Rattle.router_core.specs.declared.fields.Fields.{Fields}
+use Rattle.graft_actors.specs.Makes.{AreDeeds}
+use Rattle.graft_model.specs.Codes.{router_code}
 
 -- The session of a peering that stays live through a take emits nothing, and its retransmission turn stays the same.
 pub record Stays (old new : RunningSession) : Type 0 where
@@ -25,24 +27,25 @@ pub record Stays (old new : RunningSession) : Type 0 where
 -- The events of a take of an item that is welcome, all of which are made as items are taken, and the sessions that stay.
 pub record TakesRows (old : Fields) (deeds : List (Deed (Item RunningSession))) (new : Fields) : Type 0 where
   pub events : List RouterEvent
-  pub coded : AreOf events deeds
+  pub coded : AreDeeds router_code events deeds
   pub parts : List RouterPart
-  pub goes : RouterGoes old.known.setup old.number.0 Takes (router_part old) events parts (router_part new)
+  pub goes : RouterGoes old.known.setup old.number.0 IsRouterTake (router_part old) events parts (router_part new)
   pub stays : (p : ℕ) (s u : RunningSession) (o q : Option Errand) → RunsAt old.places.places p s o → RunsAt new.places.places p u q → Stays s u
 
-pub record Took (old : Fields) (from : ℕ) (item : Item RunningSession) (deeds : List (Deed (Item RunningSession))) (new : Fields) : Type 0 where
+pub record TookAsRouter (old : Fields) (from : ℕ) (item : Item RunningSession) (deeds : List (Deed (Item RunningSession))) (new : Fields) : Type 0 where
   pub router : SameRouter old new
   pub turns : new.turns ≡ old.turns
   pub rows : IsWelcome carried (own_part old) from item → TakesRows old deeds new
 
 -- a take, after which the router is sound
-pub record TakesIt (from : ℕ) (item : Item RunningSession) (old : Fields) (before : Post (Item RunningSession)) (new : Fields) (after : Post (Item RunningSession)) : Type 0 where
-  pub took : TookItem own_part (acts carried) Took from item old before new after
-  pub keeps : Keeps new
+pub record RouterTakesIt (from : ℕ) (item : Item RunningSession) (old : Fields) (before : Post (Item RunningSession))
+    (new : Fields) (after : Post (Item RunningSession)) : Type 0 where
+  pub took : TookItem own_part (acts carried) TookAsRouter from item old before new after
+  pub keeps : RouterInvariant new
 
 -- an item that no router takes
-abbrev pub IsOther : {C : Type 0} → Item C → Type 0
-IsOther (items.PointAt k) = Unit {0}
-IsOther (items.Report k outcome) = Unit {0}
-IsOther (items.SayOrder step) = Unit {0}
-IsOther item = ⊥
+abbrev pub IsNoRouterItem : {C : Type 0} → Item C → Type 0
+IsNoRouterItem (items.PointAt k) = Unit {0}
+IsNoRouterItem (items.Report k outcome) = Unit {0}
+IsNoRouterItem (items.SayOrder step) = Unit {0}
+IsNoRouterItem item = ⊥

@@ -12,11 +12,13 @@ use Rattle.graft_model.specs.Parts.{RouterPart}
 use Rattle.graft_model.specs.declared.event.RouterEvent.{RouterEvent}
 use Rattle.graft_model.specs.declared.event.RouterEvent.TheVariants.{Put, Emit, Decide, Tell, Refuse, Freeze, Leave, Ask, Confirm, Tick}
 use Rattle.graft_actors.specs.Acts.{acts}
-use Rattle.router_core.specs.Parts.{router_part, own_part, carried, Keeps}
+use Rattle.router_core.specs.Parts.{router_part, own_part, carried, RouterInvariant}
 use Rattle.router_core.specs.Places.{RunsAt}
 use Rattle.router_core.specs.Rested.{RestedRouter}
-use Rattle.router_core.specs.Rounds.{AreOf, SendsOld, Works, RouterGoes, SameRouter}
+use Rattle.router_core.specs.Rounds.{RouterRetransmits, IsNewWork, RouterGoes, SameRouter}
 use Rattle.router_core.specs.declared.fields.Fields.{Fields}
+use Rattle.graft_actors.specs.Makes.{AreDeeds}
+use Rattle.graft_model.specs.Codes.{router_code}
 
 -- the rounds that pass on the session of a peering
 abbrev pub round_on : ℕ → RouterEvent → List ℕ
@@ -58,8 +60,8 @@ stage_of (Emit p from len) = 7
 stage_of event = 0
 
 -- the event is made as an item is taken
-abbrev pub Takes : RouterPart → RouterEvent → Type 0
-Takes part event = stage_of event ≡ 0
+abbrev pub IsRouterTake : RouterPart → RouterEvent → Type 0
+IsRouterTake part event = stage_of event ≡ 0
 
 -- all events are of one stage
 abbrev pub AreAt : ℕ → List RouterEvent → Type 0
@@ -75,26 +77,27 @@ pub record TurnsSession (round : ℕ) (p : ℕ) (resent work : List RouterEvent)
 
 -- One turn: old segments are sent again, and then it works stage by stage. At its end the router is at rest. At most one segment of each session is
 -- sent again, and at most one acknowledgement of each is sent.
-pub record Turned (old : Fields) (deeds : List (Deed (Item RunningSession))) (new : Fields) : Type 0 where
+pub record RouterTurned (old : Fields) (deeds : List (Deed (Item RunningSession))) (new : Fields) : Type 0 where
   pub router : SameRouter old new
   pub turns : new.turns ≡ old.turns + 1
   pub again : List RouterEvent
   pub work : List RouterEvent
-  pub coded : AreOf (again ++ work) deeds
+  pub coded : AreDeeds router_code (again ++ work) deeds
   pub sent : RouterPart
   pub first : List RouterPart
   pub later : List RouterPart
-  pub sends : RouterGoes old.known.setup old.number.0 SendsOld (router_part old) again first sent
-  pub works : RouterGoes old.known.setup old.number.0 (Works old.known.setup old.number.0) sent work later (router_part new)
+  pub sends : RouterGoes old.known.setup old.number.0 RouterRetransmits (router_part old) again first sent
+  pub works : RouterGoes old.known.setup old.number.0 (IsNewWork old.known.setup old.number.0) sent work later (router_part new)
   pub in_order : Climbs 1 (map stage_of work)
   pub rested : RestedRouter old.known.setup old.number.0 (router_part new)
   pub few : (p : ℕ) → (emits_on p again ≤ 1) × (answers_on p work ≤ 1)
   -- one round passes on each session that runs at the start, if one may, and none otherwise
   pub passes : (p : ℕ) (s : RunningSession) (o : Option Errand) → RunsAt old.places.places p s o
       → (MayPass s.session new.turns × (rounds_on p work ≡ new.turns ∷ [])) ⊎ ((¬ MayPass s.session new.turns) × (rounds_on p work ≡ []))
-  pub sessions : (p : ℕ) (s u : RunningSession) (o q : Option Errand) → RunsAt old.places.places p s o → RunsAt new.places.places p u q → TurnsSession new.turns p again work s u
+  pub sessions : (p : ℕ) (s u : RunningSession) (o q : Option Errand) → RunsAt old.places.places p s o → RunsAt new.places.places p u q
+      → TurnsSession new.turns p again work s u
 
 -- a turn, after which the router is sound
-pub record TurnsOnce (old : Fields) (before : Post (Item RunningSession)) (new : Fields) (after : Post (Item RunningSession)) : Type 0 where
-  pub moved : Moved own_part (acts carried) Turned old before new after
-  pub keeps : Keeps new
+pub record RouterTurnsOnce (old : Fields) (before : Post (Item RunningSession)) (new : Fields) (after : Post (Item RunningSession)) : Type 0 where
+  pub moved : Moved own_part (acts carried) RouterTurned old before new after
+  pub keeps : RouterInvariant new

@@ -6,8 +6,8 @@ use Rattle.bgp_types.specs.Spelling.{spell}
 use Rattle.bgp_story.specs.Legal.{is_wide}
 use Rattle.session_value.specs.Sessions.{SessionValue, state, hold_time, peering_of}
 use Rattle.session_value.specs.Cases.{update_for}
-use Rattle.tell_plan.specs.Plans.{IsNext, IsWritableFor}
-use Rattle.tell_plan.specs.declared.batch.Batch.{Batch}
+use Rattle.update_plan.specs.Plans.{IsNext, IsWritableFor}
+use Rattle.update_plan.specs.declared.batch.Batch.{Batch}
 use Rattle.graft_model.specs.Setups.{Setup}
 use Rattle.graft_model.specs.Parts.{RouterPart, Errand}
 use Rattle.graft_model.specs.RouterRows.{IsLive, IsToTell}
@@ -20,7 +20,8 @@ IsNextUpdate setup r part p session batch =
     IsNext (IsToTell setup r part p session) (to_tell setup r part session) (is_wide (peering_of session.config) session.story) batch
 
 abbrev pub length_with : SessionValue → Batch → ℕ
-length_with session batch = length session.end.stream + length (spell (UpdateMsg (update_for batch.attrs batch.prefixes)) (is_wide (peering_of session.config) session.story))
+length_with session batch = length session.end.stream
+    + length (spell (UpdateMsg (update_for batch.attrs batch.prefixes)) (is_wide (peering_of session.config) session.story))
 
 -- An established session is stuck at a length: with its next UPDATE its stream would have that length, above 1,044,480.
 pub record IsStuck (setup : Setup) (r : ℕ) (part : RouterPart) (p : ℕ) (session : SessionValue) (n : ℕ) : Type 0 where

@@ -7,14 +7,14 @@ ghost use Rattle.session_value.specs.Points.{at};
 ghost use Rattle.rib_stages.specs.Values.{table_at};
 
 use bgp_types::{NoMemory, Prefix};
-use due_set::DueSet;
+use prefix_set::PrefixSet;
 use std::alloc::Global;
 use std::marker::Model;
 
 /// Sets of prefixes by number.
 #[derive(Drop)]
 pub(crate) struct DueSets {
-    sets: Vec<DueSet>,
+    sets: Vec<PrefixSet>,
 }
 
 impl Model for DueSets {
@@ -40,7 +40,7 @@ impl DueSets {
     {
         let mut sets = Vec::new(alloc);
         for _n in 0..count {
-            sets.push(DueSet::new(alloc))?;
+            sets.push(PrefixSet::new(alloc))?;
         }
         Ok(DueSets { sets })
     }
@@ -53,7 +53,7 @@ impl DueSets {
     }
 
     /// Returns set `n`, which must exist.
-    pub(crate) fn set(&self, n: usize) -> &DueSet
+    pub(crate) fn set(&self, n: usize) -> &PrefixSet
         requires { n < length self.now }
         ensures { result.now ≡ table_at self.now n }
     {
@@ -88,7 +88,7 @@ impl DueSets {
     }
 
     /// Replaces set `n`.
-    pub(crate) fn put(&mut self, n: usize, set: DueSet)
+    pub(crate) fn put(&mut self, n: usize, set: PrefixSet)
         requires { n < length self.old }
         ensures length { length self.new ≡ length self.old }
         ensures put { table_at self.new ≡ at (table_at self.old) n set }

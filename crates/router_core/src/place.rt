@@ -1,10 +1,13 @@
 //! A router's places for the sessions of the peerings.
 
 ghost use Rattle.std.specs.Prelude.{◌≡◌, ◌≢◌, ◌++◌, ◌<◌, ◌-◌, ◌^◌, Some, None, MatchBool, IfOk, OnOk};
+ghost use Rattle.std.specs.Borrow.{sem};
+ghost use Rattle.std.specs.Option.{option_copied_mut};
 ghost use Rattle.bgp_session.specs.Running.{RunningSession};
 ghost use Rattle.session_places.specs.Places.{with_place};
 ghost use Rattle.router_core.specs.Confirming.{HearsAnswer};
-ghost use Rattle.router_core.specs.Places.{AtOne, IsFree, IsAway, place_at, session_in, sessions_in};
+ghost use Rattle.router_core.specs.Lends.{lends_live, live_in};
+ghost use Rattle.router_core.specs.Places.{AtOne, IsLiveWithoutErrand, IsShadowOf, place_at, session_in, sessions_in};
 ghost use Rattle.router_core.specs.Reading.{ArrivesAt, FitsPlace, ReadsAt};
 
 use bgp_session::{ReadStep, Session};
@@ -91,18 +94,16 @@ impl Place {
             Place::Shadow { .. } => Ok(false),
         }
     }
+}
 
-    /// Lets the session read one message, if one is live and can.
-    fn read(&mut self) -> Result<Option<ReadStep>, NoMemory>
-        ensures { IfOk result (λ step. ReadsAt step (Some self.old) (Some self.new)) }
-    {
-        match self {
-            Place::Live { session, .. } => {
-                let _story = session.story();
-                session.read()
-            }
-            Place::Shadow { .. } => Ok(None),
-        }
+/// Lends the live session at a place.
+pub(crate) fn live_mut(places: &mut Places<Place>, n: usize) -> Option<&mut Session>
+    ensures* writes_back { sem 𝓛 (lends_live places.entry n result) }
+    ensures value { option_copied_mut result ≡ live_in (place_at places.old.places n) }
+{
+    match places.get_mut(n)? {
+        Place::Live { session, .. } => Some(session),
+        Place::Shadow { .. } => None,
     }
 }
 
@@ -115,7 +116,7 @@ pub(crate) fn is_vacant(places: &Places<Place>, n: usize) -> bool
 
 /// Returns whether a session without an errand is live at a place.
 pub(crate) fn is_free(places: &Places<Place>, n: usize) -> bool
-    ensures { MatchBool result (IsFree (place_at places.now.places n)) (¬ IsFree (place_at places.now.places n)) }
+    ensures { MatchBool result (IsLiveWithoutErrand (place_at places.now.places n)) (¬ IsLiveWithoutErrand (place_at places.now.places n)) }
 {
     match places.get(n) {
         Some(Place::Live { errand, .. }) => errand.is_none(),
@@ -125,7 +126,7 @@ pub(crate) fn is_free(places: &Places<Place>, n: usize) -> bool
 
 /// Returns whether the place is a shadow of this graft: its session has left in it.
 pub(crate) fn is_away(places: &Places<Place>, n: usize, graft: u32) -> bool
-    ensures { MatchBool result (IsAway (place_at places.now.places n) graft) (¬ IsAway (place_at places.now.places n) graft) }
+    ensures { MatchBool result (IsShadowOf (place_at places.now.places n) graft) (¬ IsShadowOf (place_at places.now.places n) graft) }
 {
     match places.get(n) {
         Some(Place::Shadow { away }) => away.ids().graft == graft,
@@ -173,8 +174,11 @@ pub(crate) fn arrive(
 pub(crate) fn read(places: &mut Places<Place>, n: usize) -> Result<Option<ReadStep>, NoMemory>
     ensures { IfOk result (λ step. AtOne (ReadsAt step) places.old n places.new) }
 {
-    match places.get_mut(n) {
-        Some(place) => place.read(),
+    match live_mut(places, n) {
+        Some(session) => {
+            let _story = session.story();
+            session.read()
+        }
         None => Ok(None),
     }
 }

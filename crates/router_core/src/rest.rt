@@ -4,9 +4,9 @@ ghost use Rattle.std.specs.Prelude.{ℕ, ◌≡◌, ◌≤◌, Option, Some, Non
 ghost use Rattle.rib_stages.specs.Values.{table_at};
 ghost use Rattle.graft_model.specs.Parts.{graft_of as graft_of_lem};
 ghost use Rattle.settled_check.specs.Firsts.{IsLowestOf};
-ghost use Rattle.settled_check.specs.Left.{HasSome, HasStream, graft_at as graft_lem};
+ghost use Rattle.settled_check.specs.Left.{HasSome, HasStream, graft_in_place};
 ghost use Rattle.settled_check.specs.Rests.{IsRouterRest};
-ghost use Rattle.router_core.specs.Parts.{Keeps, router_part};
+ghost use Rattle.router_core.specs.Parts.{RouterInvariant, router_part};
 ghost use Rattle.router_core.specs.Places.{errand_of, lower_of, place_at, place_of};
 
 use crate::due::DueSets;
@@ -41,7 +41,7 @@ fn graft_of(errand: &Errand) -> u32
 
 /// Returns the graft at a place, if there is one.
 fn graft_at(places: &Places<Place>, n: usize) -> Option<u32>
-    ensures { result ≡ graft_lem (place_of (place_at places.now.places n)) }
+    ensures { result ≡ graft_in_place (place_of (place_at places.now.places n)) }
 {
     match places.get(n)? {
         Place::Live { errand, .. } => match errand {
@@ -65,7 +65,7 @@ fn lower(one: Option<u32>, other: Option<u32>) -> Option<u32>
 
 /// Returns the lowest number of a graft at one of the places.
 fn lowest_graft(places: &Places<Place>) -> Option<u32>
-    ensures { IsLowestOf (λ k. (p : ℕ) × (graft_lem (place_of (place_at places.now.places p)) ≡ Some k)) result }
+    ensures { IsLowestOf (λ k. (p : ℕ) × (graft_in_place (place_of (place_at places.now.places p)) ≡ Some k)) result }
 {
     let mut lowest = None;
     for n in 0..places.len() {
@@ -131,7 +131,7 @@ fn peering_of(number: Option<u8>) -> Option<PeeringId>
 
 /// Returns what is left to do.
 pub(crate) fn rest(router: &Fields) -> RouterRest
-    requires { Keeps router.now }
+    requires { RouterInvariant router.now }
     ensures { IsRouterRest router.now.number.0 (router_part router.now) result }
 {
     RouterRest {

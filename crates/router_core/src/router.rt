@@ -1,8 +1,8 @@
 //! A home router.
 
 ghost use Rattle.std.specs.Prelude.{◌≡◌, false};
-ghost use Rattle.router_core.specs.Parts.{Keeps};
-ghost use Rattle.router_core.specs.FieldProps.{Keeps-prop-if};
+ghost use Rattle.router_core.specs.Parts.{RouterInvariant};
+ghost use Rattle.router_core.specs.FieldProps.{RouterInvariant-prop-if};
 
 use crate::config::RouterConfig;
 use crate::fields::Fields;
@@ -24,7 +24,7 @@ pub struct Router {
     fields: Fields,
     // Whether memory ran out. From then on no call does anything.
     has_failed: bool,
-    ghost sound: { has_failed ≡ false → Keeps fields } by { Keeps-prop-if has_failed fields },
+    ghost sound: { has_failed ≡ false → RouterInvariant fields } by { RouterInvariant-prop-if has_failed fields },
 }
 
 impl Router {
@@ -36,18 +36,18 @@ impl Router {
     ghost use Rattle.settled_check.specs.Rests.{IsRouterRest};
     ghost use Rattle.graft_model.specs.Setups.{IsSetup};
     ghost use Rattle.graft_actors.specs.Acts.{acts};
-    ghost use Rattle.router_core.specs.Configs.{IsConfigOf};
+    ghost use Rattle.router_core.specs.Configs.{IsRouterConfigOf};
     ghost use Rattle.router_core.specs.Parts.{carried};
     ghost use Rattle.router_core.specs.Places.{RunsAt, sessions_in};
-    ghost use Rattle.router_core.specs.Routers.{own, part_in, IsNew, IsHeldAt, Works, took, turned};
+    ghost use Rattle.router_core.specs.Routers.{router_own_part, part_of_router, IsNewRouter, IsHeldAt, RouterWorks, took_by_router, turned_by_router};
     ghost use Rattle.router_core.specs.Updates.{IsFirstStuck};
 
     /// Returns a router that begins with this configuration, in its laboratory. Its own networks are dirty, and the
     /// sessions that start here have put their OPENs.
     pub fn new(alloc: Global, known: Known, config: RouterConfig) -> Result<Router, NoMemory>
         requires setup { IsSetup known.setup }
-        requires config { IsConfigOf known.setup config }
-        ensures { IfOk result (IsNew known.setup config) }
+        requires config { IsRouterConfigOf known.setup config }
+        ensures { IfOk result (IsNewRouter known.setup config) }
     {
         let fields = crate::stages::begin(alloc, known, config)?;
         Ok(Router {
@@ -70,7 +70,7 @@ impl Router {
         item: Item<Capsule>,
         post: &mut Post<Item<Capsule>>,
     ) -> Result<(), NoMemory>
-        ensures took { OnOk result (TookItem own (acts carried) took from item self.old post.old self.new post.new) }
+        ensures took { OnOk result (TookItem router_own_part (acts carried) took_by_router from item self.old post.old self.new post.new) }
         ensures edges { SameEdges post.old post.new }
     {
         if self.has_failed {
@@ -87,7 +87,7 @@ impl Router {
     /// it emits what may be emitted, and the acknowledgements that are owed. Once memory ran out, every take and turn
     /// returns `NoMemory`.
     pub fn turn(&mut self, post: &mut Post<Item<Capsule>>) -> Result<(), NoMemory>
-        ensures turned { OnOk result (Moved own (acts carried) turned self.old post.old self.new post.new) }
+        ensures turned { OnOk result (Moved router_own_part (acts carried) turned_by_router self.old post.old self.new post.new) }
         ensures edges { SameEdges post.old post.new }
     {
         if self.has_failed {
@@ -111,7 +111,8 @@ impl Router {
     /// isn't closed and its hold time runs, that which it would reach with a KEEPALIVE, so that no round may pass on
     /// it.
     pub fn stuck(&self) -> Result<Option<(PeeringId, usize)>, NoMemory>
-        ensures { IfOk result (λ answer. IsFirstStuck (own self.now).setup self.now.fields.number.0 (part_in self.now) (option_map (λ x. (x.0.0, x.1)) answer)) }
+        ensures { IfOk result (λ answer. IsFirstStuck (router_own_part self.now).setup self.now.fields.number.0
+            (part_of_router self.now) (option_map (λ x. (x.0.0, x.1)) answer)) }
     {
         if self.has_failed {
             return Err(NoMemory);
@@ -132,17 +133,17 @@ impl Router {
 
     /// Returns the routes of the router: what each peering and each other router gave, and the best of them.
     pub fn rib(&self) -> &Rib
-        ensures entries { (rib_of result.now).entries ≡ (part_in self.now).entries }
-        ensures tellings { (rib_of result.now).tellings ≡ (part_in self.now).tellings }
-        ensures best { result.now.best ≡ (part_in self.now).best }
-        ensures dirty { result.now.dirty ≡ (part_in self.now).dirty }
+        ensures entries { (rib_of result.now).entries ≡ (part_of_router self.now).entries }
+        ensures tellings { (rib_of result.now).tellings ≡ (part_of_router self.now).tellings }
+        ensures best { result.now.best ≡ (part_of_router self.now).best }
+        ensures dirty { result.now.dirty ≡ (part_of_router self.now).dirty }
     {
         &self.fields.rib
     }
 
     /// Returns what is left to do.
     pub fn rest(&self) -> RouterRest
-        ensures { Works self.now → IsRouterRest self.now.fields.number.0 (part_in self.now) result }
+        ensures { RouterWorks self.now → IsRouterRest self.now.fields.number.0 (part_of_router self.now) result }
     {
         if self.has_failed {
             return nothing_left(self.fields.number);

@@ -11,8 +11,8 @@ mod segment;
 
 ghost use Rattle.std.specs.Prelude.{OnOk};
 ghost use Rattle.ring_net.specs.Posts.{SameEdges};
-ghost use Rattle.router_core.specs.Parts.{Keeps};
-ghost use Rattle.router_core.specs.Takes.{TakesIt};
+ghost use Rattle.router_core.specs.Parts.{RouterInvariant};
+ghost use Rattle.router_core.specs.Takes.{RouterTakesIt};
 
 use crate::fields::Fields;
 use bgp_session::Capsule;
@@ -28,9 +28,9 @@ pub(crate) fn take(
     item: Item<Capsule>,
     post: &mut Post<Item<Capsule>>,
 ) -> Result<(), NoMemory>
-    requires { Keeps router.old }
+    requires { RouterInvariant router.old }
     ensures edges { SameEdges post.old post.new }
-    ensures took { OnOk result (TakesIt from item router.old post.old router.new post.new) }
+    ensures took { OnOk result (RouterTakesIt from item router.old post.old router.new post.new) }
 {
     match item {
         Item::Seg(segment) => segment::take_segment(router, from, segment, post),

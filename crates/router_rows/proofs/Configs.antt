@@ -7,7 +7,7 @@ use Rattle.router_core.specs.declared.config.NamedPolicy.{NamedPolicy}
 use Rattle.rib_stages.specs.Choosing as of_rib
 use Rattle.graft_model.specs.Setups.{NamedRules, identifier_of, room_of}
 use Rattle.graft_actors.specs.Items.{home_first, remote_first}
-use Rattle.router_core.specs.Configs.{AreFirstsOf, ArePoliciesOf, IsConfigOf, IsRibOf, firsts_at, starting_here}
+use Rattle.router_core.specs.Configs.{AreFirstsOf, ArePoliciesOf, IsRouterConfigOf, IsRibOf, firsts_at, starting_here}
 use Rattle.router_rows.specs.Laboratory.{laboratory, all_firsts, config_with, in_name, out_name, prefers}
 
 each_first : (p : ℕ) → p < 5 → firsts_at all_firsts p ≡ Some (home_first laboratory p, remote_first laboratory p)
@@ -68,18 +68,18 @@ identifiers_are (suc (suc (suc q))) = refl
 -- a router of the laboratory, by what is its own
 config_is : (number room : ℕ) (policies : List NamedPolicy) (networks : List PrefixValue) → number < 3 → room ≡ room_of laboratory number
     → ArePoliciesOf laboratory number policies → IsRibOf laboratory number (config_with number room policies networks (starting_here laboratory number)).rib
-    → IsConfigOf laboratory (config_with number room policies networks (starting_here laboratory number))
+    → IsRouterConfigOf laboratory (config_with number room policies networks (starting_here laboratory number))
 config_is number room policies networks there enough are rib =
     record { there = there; few_routers = lit≤ tt; few_peerings = lit≤ tt; routers = refl; room = enough; policies = are; firsts = firsts_are; rib = rib; sessions = refl }
 
-pub config_of_0 : IsConfigOf laboratory (config_with 0 4 policies_0 [] (starting_here laboratory 0))
+pub config_of_0 : IsRouterConfigOf laboratory (config_with 0 4 policies_0 [] (starting_here laboratory 0))
 config_of_0 = config_is 0 4 policies_0 [] (lit< tt) refl policies_of_0
     (record { home_as = refl; number = refl; networks = λ x. refl; identifiers = identifiers_are; costs = λ q. refl })
 
-pub config_of_1 : IsConfigOf laboratory (config_with 1 4 policies_1 [] (starting_here laboratory 1))
+pub config_of_1 : IsRouterConfigOf laboratory (config_with 1 4 policies_1 [] (starting_here laboratory 1))
 config_of_1 = config_is 1 4 policies_1 [] (lit< tt) refl policies_of_1
     (record { home_as = refl; number = refl; networks = λ x. refl; identifiers = identifiers_are; costs = λ q. refl })
 
-pub config_of_2 : IsConfigOf laboratory (config_with 2 2 [] (record { address = 0xC6336400; len = 24 } ∷ []) (starting_here laboratory 2))
+pub config_of_2 : IsRouterConfigOf laboratory (config_with 2 2 [] (record { address = 0xC6336400; len = 24 } ∷ []) (starting_here laboratory 2))
 config_of_2 = config_is 2 2 [] (record { address = 0xC6336400; len = 24 } ∷ []) (lit< tt) refl policies_of_2
     (record { home_as = refl; number = refl; networks = λ x. refl; identifiers = identifiers_are; costs = λ q. refl })

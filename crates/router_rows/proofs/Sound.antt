@@ -8,7 +8,8 @@ use Rattle.graft_model.specs.Setups.{PeeringSetup, IsPeeringSetup, IsSetup, IsSt
 use Rattle.router_rows.specs.Laboratory.{laboratory, session_of, peering, in_name, out_name}
 
 -- A peering of the laboratory, whose AS is one, whose hold time is long enough, whose addresses are those of hosts, and whose policies its router has.
-peering_is : (p start identifier hold : ℕ) (import export : Option (List ℕ)) → start < 3 → identifier ≡ identifier_of laboratory start → 1 ≤ 65001 + p → 65001 + p < 2 ^ 32
+peering_is : (p start identifier hold : ℕ) (import export : Option (List ℕ)) → start < 3 → identifier ≡ identifier_of laboratory start
+    → 1 ≤ 65001 + p → 65001 + p < 2 ^ 32
     → hold < 2 ^ 16 → is_short_hold hold ≡ false → is_no_host identifier ≡ false → is_no_host (0xC0000201 + 4 * p + 1) ≡ false
     → missing_policy laboratory start (session_of p identifier hold import export) ≡ None
     → IsPeeringSetup laboratory p (peering start (session_of p identifier hold import export))

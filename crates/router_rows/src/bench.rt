@@ -4,11 +4,12 @@ use crate::laboratory::{router_0, router_1, router_2};
 use crate::sessions::remote;
 use crate::stations::Station;
 use crate::texts::{best_text, item_text, rest_text, session_text, stuck_text};
-use crate::words::{item_of, number, octets, small, word};
+use crate::words::{item_of, octets};
 use anyhow::{Context, Result, bail};
 use bgp_session::Capsule;
 use graft_edge::{NoMemory, PeeringId};
 use graft_steps::Item;
+use row_harness::{Table, number, small, word};
 use std::alloc::Global;
 use tcp_end::End;
 use tcp_seq::Segment;
@@ -281,9 +282,10 @@ impl Bench {
             _ => bail!("a call"),
         }
     }
+}
 
-    /// Returns the answer to a row.
-    pub fn answer(&mut self, alloc: Global, words: &[&str]) -> Result<String> {
+impl Table for Bench {
+    fn answer(&mut self, alloc: Global, words: &[&str]) -> Result<String> {
         match word(words, 0) {
             "begin" => {
                 *self = Bench::begin(alloc)?;

@@ -11,10 +11,10 @@ use Rattle.journal_merge.specs.Worlds.{taken_of}
 use Rattle.journal_merge.specs.Growth.{noted_by}
 use Rattle.journal_merge.proofs.Runs.{own_here}
 use Rattle.graft_model.specs.Setups.{Setup, routers_in, peerings_in}
-use Rattle.graft_runs.specs.Actors.{ActorName, Router, FarSide, Operator, number_in, IsActor, actor_at}
-use Rattle.graft_runs.proofs.Numbers.{there}
-use Rattle.run_marks.specs.Marks.{is_go}
-use Rattle.run_clocks.specs.Clocks.{Clocked, FollowsClocks, AreClocked, stamps_sent, number_taken, greatest, clock_behind}
+use Rattle.graft_actors.specs.Actors.{ActorName, Router, FarSide, Operator, number_in, IsActor, actor_at}
+use Rattle.graft_actors.proofs.Numbers.{there}
+use Rattle.world_runs.specs.Marks.{is_go}
+use Rattle.run_clocks.specs.Clocks.{ClockedEvent, FollowsClocks, AreClocked, stamps_sent, number_taken, greatest, clock_behind}
 use Rattle.run_clocks.proofs.Fronts.{Along, along_at, top, behind, IsTimed}
 use Rattle.run_clocks.proofs.Supplies.{IsSupplied, taken_itself}
 use Rattle.run_clocks.proofs.Twins.{Twin, AreTwins, Places, places, greatest_is, behind_is, stamps_are, number_is}
@@ -90,12 +90,12 @@ module _ {I : Type 0} (setup : Setup) (notes : List (Noted I)) where
         nothing [] h = cc
         nothing (x ∷ xs) h = cc
 
-    module _ (in_order : AreInOrder) (earlier : List Clocked) (e : Clocked) (fronts : AreTwins setup earlier front) (twin : Twin setup e note)
+    module _ (in_order : AreInOrder) (earlier : List ClockedEvent) (e : ClockedEvent) (fronts : AreTwins setup earlier front) (twin : Twin setup e note)
         (timed : IsTimed is_go front note) (supplied : IsSupplied front note) where
       -- the clock, with this stamp
       clock_is : (stamp : ℕ) → met (behind is_go note.deed.entry.actor front) note.stamp note.deed.taken ≡ max
           (behind is_go note.deed.entry.actor front) stamp
-          → e.clock ≡ (if e.begins then greatest (map (λ (f : Clocked). f.clock) earlier) else max (clock_behind e.maker earlier) stamp) + 1
+          → e.clock ≡ (if e.begins then greatest (map (λ (f : ClockedEvent). f.clock) earlier) else max (clock_behind e.maker earlier) stamp) + 1
       clock_is stamp m = twin.clock ∙ timed ∙ ap (λ c. (if is_go note.deed.entry then top is_go front else c) + 1) m
           ∙ sym (λ i. (if twin.begins i then greatest_is setup earlier front fronts i else max
           (behind_is setup e.maker note.deed.entry.actor twin.maker earlier front fronts i) stamp) + 1)
@@ -141,10 +141,10 @@ module _ {I : Type 0} (setup : Setup) (notes : List (Noted I)) where
           by_case None h = takes_none h
           by_case (Some t) h = takes_some t.0 t.1 h
 
-  pub all_follow : (events : List Clocked) → AreTwins setup events notes → AreInOrder → Along (IsTimed is_go) [] notes → Along IsSupplied [] notes
+  pub all_follow : (events : List ClockedEvent) → AreTwins setup events notes → AreInOrder → Along (IsTimed is_go) [] notes → Along IsSupplied [] notes
       → AreClocked events
   all_follow events twins in_order timed supplied earlier later e is =
-      let p : Places setup earlier later e notes = places setup earlier later e notes (subst (λ (all : List Clocked). AreTwins setup all notes) is twins) in
+      let p : Places setup earlier later e notes = places setup earlier later e notes (subst (λ (all : List ClockedEvent). AreTwins setup all notes) is twins) in
       follows p.front p.note p.back p.whole in_order earlier e p.fronts p.twin
       (along_at (IsTimed is_go) [] p.front p.back p.note (subst (λ (ns : List (Noted I)). Along (IsTimed is_go) [] ns) p.whole timed))
       (along_at IsSupplied [] p.front p.back p.note (subst (λ (ns : List (Noted I)). Along IsSupplied [] ns) p.whole supplied))

@@ -13,18 +13,18 @@ use Rattle.graft_model.specs.Setups.{Setup, IsSetup}
 use Rattle.graft_model.specs.Parts.{World}
 use Rattle.graft_model.specs.Steps.{Event, Run}
 use Rattle.graft_laws.proofs.Runs.{reached_first}
-use Rattle.graft_runs.specs.Actors.{Thing, ActorName, Router, FarSide, Operator, actor_at}
-use Rattle.graft_runs.specs.Laws.{AreEntriesOf, OneEventHasTheEntry}
-use Rattle.graft_runs.specs.Seen.{channel_of}
+use Rattle.graft_actors.specs.Actors.{Thing, ActorName, Router, FarSide, Operator, actor_at}
+use Rattle.graft_actors.specs.Laws.{AreEntriesOf, OneEventHasTheEntry}
+use Rattle.graft_actors.specs.Seen.{channel_of}
 use Rattle.graft_actors.specs.Items.{thing_of}
 use Rattle.graft_actors.specs.Acts.{acts}
 use Rattle.router_core.specs.Parts.{carried}
-use Rattle.run_marks.specs.Marks.{is_go}
+use Rattle.world_runs.specs.Marks.{is_go}
 use Rattle.world_runs.specs.Labs.{IsLab}
 use Rattle.world_runs.specs.Runs.{RanAs, Ran}
 use Rattle.world_runs.specs.Laws.{AnActIsAStep, NobodyWritesToItself}
 use Rattle.world_nodes.specs.Nodes.{Mail, own}
-use Rattle.world_nodes.specs.Ways.{Stand, Begins, Way, Here}
+use Rattle.world_nodes.specs.Ways.{Stand, IsFirstStand, Way, Here}
 use Rattle.run_clocks.specs.Clocks.{AreClocked, clocked_in}
 use Rattle.run_clocks.specs.Laws.{WaysAreClocked}
 use Rattle.run_clocks.proofs.Fronts.{Along, IsTimed}
@@ -54,10 +54,10 @@ first_of : (setup : Setup) (events : List Event) (w v : World) → AreEntriesOf 
 first_of setup [] w v are run = run
 first_of setup (event ∷ events) w v are run = absurd are
 
-module _ (runs : (setup : Setup) (a b : Stand) (rounds : List ℕ) → IsSetup setup → Begins setup a → Way setup a rounds b → Ran own carried setup b.view)
+module _ (runs : (setup : Setup) (a b : Stand) (rounds : List ℕ) → IsSetup setup → IsFirstStand setup a → Way setup a rounds b → Ran own carried setup b.view)
     (act_is_a_step : AnActIsAStep carried) (itself : NobodyWritesToItself)
     (one_event : OneEventHasTheEntry) where
-  module _ (setup : Setup) (a b : Stand) (made : List ℕ) (journal : List JournalEntry) (sound : IsSetup setup) (begins : Begins setup a)
+  module _ (setup : Setup) (a b : Stand) (made : List ℕ) (journal : List JournalEntry) (sound : IsSetup setup) (begins : IsFirstStand setup a)
       (way : Way setup a made b) (merge : Interleaves b.view.journal journal) where
     p : IsPaced setup a begins b.view
     p = way_paced setup a begins (λ c rounds w. runs setup a c rounds sound begins w) b made way

@@ -5,7 +5,7 @@ use Rattle.std.specs.List.{AllByRecursion}
 use Rattle.std.proofs.lemmas.Bool.Decides.{nat_tests}
 use Rattle.std.proofs.lemmas.List.{append-nil, map-append}
 use Rattle.ring_net.specs.declared.entry.JournalEntry.{JournalEntry}
-use Rattle.ring_net.specs.Deeds.{Deed, Noted, Makes, IsOwn, Clocked, Counted, Rising, deeds, noted, entries_of}
+use Rattle.ring_net.specs.Deeds.{Deed, Noted, Makes, IsDeedOf, Clocked, Counted, Rising, deeds, noted, entries_of}
 use Rattle.ring_net.specs.Phases.{View, IsGreatest, Levelled, Between}
 use Rattle.ring_net.proofs.Replays.{all-append, clocked-append, clocked_rises}
 use Rattle.journal_merge.specs.Merges.{AreSorted}
@@ -16,6 +16,7 @@ use Rattle.journal_merge.proofs.Runs.{own_here, own_else}
 use Rattle.journal_merge.proofs.Pieces.{level_grows, between_grows, grows_on}
 use Rattle.run_clocks.proofs.Fronts.{Along, along_join, IsTimed, StandsAt, piece_timed, go_timed}
 use Rattle.run_clocks.proofs.Cuts.{CutAt, cut_at, rising_high}
+use Rattle.journal_merge.proofs.Growths.{grew_none}
 
 pub below_or_past : (k n : ℕ) → (k < n) ⊎ (n ≤ k)
 below_or_past k n = grind arith
@@ -122,19 +123,6 @@ module _ {A P I : Type 0} (part : A → P) (makes : Makes P I) (go : JournalEntr
 
   -- ---- at the beginning
 
-  nothing_grew : Grew part makes a a [] (λ k. [])
-  nothing_grew = record {
-    size = refl;
-    replays = λ k d k_in. refl;
-    none = λ k past. refl;
-    own = λ k. tt;
-    clocks = λ k k_in. refl;
-    journals = λ k. sym (append-nil (a.journal k));
-    edges = λ a b. refl;
-    carries = λ x y e. append-nil (a.channel x y);
-    apart = λ x y e. refl;
-  }
-
   nothing_timed : AreTimed (λ k. []) (λ k. 0)
   nothing_timed events sorted each = subst (λ (ns : List (Noted I)). Along (IsTimed go) [] ns × StandsAt go (length a.actors) (λ k. 0) ns)
       (no_events events each) (tt, record { within = tt; at = λ k k_in. refl })
@@ -143,7 +131,7 @@ module _ {A P I : Type 0} (part : A → P) (makes : Makes P I) (go : JournalEntr
   paced_first clocks = record {
     levels = [];
     notes = λ k. [];
-    grew = nothing_grew;
+    grew = grew_none part makes a;
     clock = 0;
     old = λ k. [];
     new = λ k. [];
@@ -234,8 +222,8 @@ module _ {A P I : Type 0} (part : A → P) (makes : Makes P I) (go : JournalEntr
     counted : Counted did.from (d ∷ []) did.to
     counted = subst (λ (ds : List (Deed I)). Counted did.from ds did.to) one did.counted
 
-    own : AllByRecursion (IsOwn k) (d ∷ [])
-    own = subst (λ (ds : List (Deed I)). AllByRecursion (IsOwn k) ds) one did.own
+    own : AllByRecursion (IsDeedOf k) (d ∷ [])
+    own = subst (λ (ds : List (Deed I)). AllByRecursion (IsDeedOf k) ds) one did.own
 
     mark : ℕ → List (Noted I)
     mark j = at_mark part makes k did.deeds j

@@ -7,7 +7,7 @@ use Rattle.std.proofs.lemmas.List.{length-map, append-nil}
 use Rattle.std.proofs.lemmas.List.Elements.{filter-append}
 use Rattle.ring_net.specs.declared.entry.Stamped.{Stamped}
 use Rattle.ring_net.specs.Deeds.{Noted, Makes, items_for, from_option, puts, gets, sent_to, taken_from, deeds}
-use Rattle.journal_merge.specs.Worlds.{World, taken_of, takes_on, sends_on, Step, Run}
+use Rattle.journal_merge.specs.Worlds.{DeedWorld, taken_of, takes_on, sends_on, DeedStep, DeedRun}
 use Rattle.journal_merge.specs.Growth.{noted_by}
 use Rattle.journal_merge.proofs.Orders.{equal_or_not}
 use Rattle.journal_merge.proofs.Runs.{own_here, own_else}
@@ -89,7 +89,7 @@ module _ {I : Type 0} where
 -- ---- a run
 
 module _ {P I : Type 0} (makes : Makes P I) where
-  counted_on : (front : List (Noted I)) (n : Noted I) (w v : World P I) → AreCounted w.channel front → Step makes w n.deed v
+  counted_on : (front : List (Noted I)) (n : Noted I) (w v : DeedWorld P I) → AreCounted w.channel front → DeedStep makes w n.deed v
       → AreCounted v.channel (front ++ n ∷ [])
   counted_on front n w v counted step a b =
       let before : length (w.channel a b) ≡ length (takes_on n.deed a b) + length (step.rest a b) = ap (λ (xs : List I). length xs) (step.takes a b)
@@ -98,7 +98,7 @@ module _ {P I : Type 0} (makes : Makes P I) where
       ∙ length-append (step.rest a b) (sends_on n.deed a b) in
       omega (arith, before, after, counted a b, sent_more front n a b, taken_more front n a b)
 
-  supplied : (front : List (Noted I)) (n : Noted I) (w v : World P I) → AreCounted w.channel front → Step makes w n.deed v → IsSupplied front n
+  supplied : (front : List (Noted I)) (n : Noted I) (w v : DeedWorld P I) → AreCounted w.channel front → DeedStep makes w n.deed v → IsSupplied front n
   supplied front n w v counted step from item e =
       let me : ℕ = n.deed.entry.actor in
       let some : length (takes_on n.deed from me) ≡ 1 = ap (λ (xs : List I). length xs)
@@ -107,7 +107,7 @@ module _ {P I : Type 0} (makes : Makes P I) where
       (step.takes from me) ∙ length-append (takes_on n.deed from me) (step.rest from me) in
       omega (arith, some, before, counted from me)
 
-  pub run_supplied : (events front : List (Noted I)) (w v : World P I) → AreCounted w.channel front → Run makes w (deeds events) v
+  pub run_supplied : (events front : List (Noted I)) (w v : DeedWorld P I) → AreCounted w.channel front → DeedRun makes w (deeds events) v
       → Along IsSupplied front events
   run_supplied [] front w v counted run = tt
   run_supplied (n ∷ events) front w v counted (m, step, run) = (

@@ -10,52 +10,24 @@ use Rattle.journal_merge.specs.Worlds.{taken_of}
 use Rattle.journal_merge.specs.Growth.{noted_by}
 use Rattle.journal_merge.proofs.Runs.{own_here, own_else}
 use Rattle.graft_model.specs.Setups.{Setup}
-use Rattle.graft_runs.specs.Actors.{ActorName, Router, FarSide, Operator, IsActor, actor_at}
-use Rattle.graft_runs.proofs.Numbers.{once}
-use Rattle.run_marks.specs.Marks.{is_go}
-use Rattle.run_clocks.specs.Clocks.{Clocked, same_name, stamps_sent, number_taken, greatest, clock_behind}
+use Rattle.graft_actors.specs.Actors.{ActorName, Router, FarSide, Operator, IsActor, actor_at, same_name}
+use Rattle.graft_actors.proofs.Numbers.{once, same_itself, same_tells, some_same}
+use Rattle.world_runs.specs.Marks.{is_go}
+use Rattle.run_clocks.specs.Clocks.{ClockedEvent, stamps_sent, number_taken, greatest, clock_behind}
 use Rattle.run_clocks.proofs.Fronts.{top, behind}
 use Rattle.run_clocks.proofs.Supplies.{gets_many}
 
 -- ---- names
 
-name_itself : (x : ActorName) → same_name x x ≡ true
-name_itself (Router q) = equal q
-  where
-    equal : (n : ℕ) → (n == n) ≡ true
-    equal n = grind (arith, nat_tests)
-name_itself (FarSide p) = equal p
-  where
-    equal : (n : ℕ) → (n == n) ≡ true
-    equal n = grind (arith, nat_tests)
-name_itself Operator = refl
-
-tells : (m n : ℕ) → (m == n) ≡ true → m ≡ n
-tells m n e = grind (arith, nat_tests)
-
-name_tells : (x y : ActorName) → same_name x y ≡ true → x ≡ y
-name_tells (Router q) (Router r) e = ap Router (tells q r e)
-name_tells (Router q) (FarSide p) e = absurd cc
-name_tells (Router q) Operator e = absurd cc
-name_tells (FarSide p) (Router r) e = absurd cc
-name_tells (FarSide p) (FarSide q) e = ap FarSide (tells p q e)
-name_tells (FarSide p) Operator e = absurd cc
-name_tells Operator (Router r) e = absurd cc
-name_tells Operator (FarSide p) e = absurd cc
-name_tells Operator Operator e = refl
-
-pub some_same : (x y : ActorName) → Some x ≡ Some y → x ≡ y
-some_same x y e = cc
-
 pub named_test : (setup : Setup) (x y : ActorName) (a m : ℕ) → actor_at setup a ≡ Some x → actor_at setup m ≡ Some y → same_name x y ≡ (m == a)
 named_test setup x y a m x_is y_is = elim (eqb_tells m a) [
-  | inl e ↦ ap (same_name x) (some_same y x (sym y_is ∙ ap (actor_at setup) e.1 ∙ x_is)) ∙ name_itself x ∙ sym e.0
+  | inl e ↦ ap (same_name x) (some_same y x (sym y_is ∙ ap (actor_at setup) e.1 ∙ x_is)) ∙ same_itself x ∙ sym e.0
   | inr ne ↦ not_it (same_name x y) refl ne.1 ∙ sym ne.0
 ]
   where
     not_it : (t : Bool) → same_name x y ≡ t → (m ≡ a → ⊥) → same_name x y ≡ false
     not_it false e apart = e
-    not_it true e apart = absurd (apart (once setup m a x (y_is ∙ ap (λ (z : ActorName). Some z) (sym (name_tells x y e))) x_is))
+    not_it true e apart = absurd (apart (once setup m a x (y_is ∙ ap (λ (z : ActorName). Some z) (sym (same_tells x y e))) x_is))
 
 -- ---- the greatest number
 
@@ -74,7 +46,7 @@ greatest_peak xs = let e = fold_peak 0 xs in omega (arith, e)
 
 module _ {I : Type 0} (setup : Setup) where
   -- An event of the run is the net's: made by the same actor at the same clock, with as many items taken and sent.
-  pub record Twin (e : Clocked) (n : Noted I) : Type 0 where
+  pub record Twin (e : ClockedEvent) (n : Noted I) : Type 0 where
     pub maker : actor_at setup n.deed.entry.actor ≡ Some e.maker
     pub took : (x : ActorName) (a : ℕ) → actor_at setup a ≡ Some x → e.took x ≡ length (taken_of a n.deed.taken)
     pub none : (x : ActorName) → (IsActor setup x → ⊥) → e.took x ≡ 0
@@ -83,13 +55,13 @@ module _ {I : Type 0} (setup : Setup) where
     pub begins : e.begins ≡ is_go n.deed.entry
     pub clock : e.clock ≡ n.deed.entry.clock
 
-  abbrev pub AreTwins : List Clocked → List (Noted I) → Type 0
+  abbrev pub AreTwins : List ClockedEvent → List (Noted I) → Type 0
   AreTwins [] [] = Unit {0}
   AreTwins (e ∷ events) (n ∷ notes) = Twin e n × AreTwins events notes
   AreTwins events notes = ⊥
 
   -- the same of a front and what stands behind it
-  pub record Places (earlier later : List Clocked) (e : Clocked) (notes : List (Noted I)) : Type 0 where
+  pub record Places (earlier later : List ClockedEvent) (e : ClockedEvent) (notes : List (Noted I)) : Type 0 where
     pub front : List (Noted I)
     pub note : Noted I
     pub back : List (Noted I)
@@ -97,7 +69,8 @@ module _ {I : Type 0} (setup : Setup) where
     pub fronts : AreTwins earlier front
     pub twin : Twin e note
 
-  pub places : (earlier later : List Clocked) (e : Clocked) (notes : List (Noted I)) → AreTwins (earlier ++ e ∷ later) notes → Places earlier later e notes
+  pub places : (earlier later : List ClockedEvent) (e : ClockedEvent) (notes : List (Noted I)) → AreTwins (earlier ++ e ∷ later) notes
+      → Places earlier later e notes
   places [] later e [] twins = absurd twins
   places [] later e (n ∷ notes) twins = record { front = []; note = n; back = notes; whole = refl; fronts = tt; twin = twins.0 }
   places (d ∷ earlier) later e [] twins = absurd twins
@@ -107,39 +80,41 @@ module _ {I : Type 0} (setup : Setup) where
 
   -- ---- clocks
 
-  peak_clocks : (events : List Clocked) (notes : List (Noted I)) → AreTwins events notes → peak (map (λ (e : Clocked). e.clock) events) ≡ top is_go notes
+  peak_clocks : (events : List ClockedEvent) (notes : List (Noted I)) → AreTwins events notes
+      → peak (map (λ (e : ClockedEvent). e.clock) events) ≡ top is_go notes
   peak_clocks [] [] twins = refl
   peak_clocks [] (n ∷ notes) twins = absurd twins
   peak_clocks (e ∷ events) [] twins = absurd twins
   peak_clocks (e ∷ events) (n ∷ notes) twins = λ i. max (twins.0.clock i) (peak_clocks events notes twins.1 i)
 
-  pub greatest_is : (events : List Clocked) (notes : List (Noted I)) → AreTwins events notes
-      → greatest (map (λ (e : Clocked). e.clock) events) ≡ top is_go notes
-  greatest_is events notes twins = greatest_peak (map (λ (e : Clocked). e.clock) events) ∙ peak_clocks events notes twins
+  pub greatest_is : (events : List ClockedEvent) (notes : List (Noted I)) → AreTwins events notes
+      → greatest (map (λ (e : ClockedEvent). e.clock) events) ≡ top is_go notes
+  greatest_is events notes twins = greatest_peak (map (λ (e : ClockedEvent). e.clock) events) ∙ peak_clocks events notes twins
 
-  peak_behind : (x : ActorName) (a : ℕ) → actor_at setup a ≡ Some x → (events : List Clocked) (notes : List (Noted I)) → AreTwins events notes
-      → peak (map (λ (e : Clocked). e.clock) (filter (λ (e : Clocked). same_name x e.maker || e.begins) events)) ≡ behind is_go a notes
+  peak_behind : (x : ActorName) (a : ℕ) → actor_at setup a ≡ Some x → (events : List ClockedEvent) (notes : List (Noted I)) → AreTwins events notes
+      → peak (map (λ (e : ClockedEvent). e.clock) (filter (λ (e : ClockedEvent). same_name x e.maker || e.begins) events)) ≡ behind is_go a notes
   peak_behind x a is [] [] twins = refl
   peak_behind x a is [] (n ∷ notes) twins = absurd twins
   peak_behind x a is (e ∷ events) [] twins = absurd twins
   peak_behind x a is (e ∷ events) (n ∷ notes) twins =
-      ap (λ (t : Bool). peak (map (λ (d : Clocked). d.clock) (cond t (e ∷ filter (λ (d : Clocked). same_name x d.maker || d.begins) events)
-      (filter (λ (d : Clocked). same_name x d.maker || d.begins) events)))) test
+      ap (λ (t : Bool). peak (map (λ (d : ClockedEvent). d.clock) (cond t (e ∷ filter (λ (d : ClockedEvent). same_name x d.maker || d.begins) events)
+      (filter (λ (d : ClockedEvent). same_name x d.maker || d.begins) events)))) test
       ∙ by_case (n.deed.entry.actor == a || is_go n.deed.entry) (peak_behind x a is events notes twins.1)
     where
       test : (same_name x e.maker || e.begins) ≡ (n.deed.entry.actor == a || is_go n.deed.entry)
       test = λ i. named_test setup x e.maker a n.deed.entry.actor is twins.0.maker i || twins.0.begins i
 
-      by_case : (t : Bool) → peak (map (λ (d : Clocked). d.clock) (filter (λ (d : Clocked). same_name x d.maker || d.begins) events)) ≡ behind is_go a notes
-          → peak (map (λ (d : Clocked). d.clock) (cond t (e ∷ filter (λ (d : Clocked). same_name x d.maker || d.begins) events)
-          (filter (λ (d : Clocked). same_name x d.maker || d.begins) events)))
+      by_case : (t : Bool)
+          → peak (map (λ (d : ClockedEvent). d.clock) (filter (λ (d : ClockedEvent). same_name x d.maker || d.begins) events)) ≡ behind is_go a notes
+          → peak (map (λ (d : ClockedEvent). d.clock) (cond t (e ∷ filter (λ (d : ClockedEvent). same_name x d.maker || d.begins) events)
+          (filter (λ (d : ClockedEvent). same_name x d.maker || d.begins) events)))
           ≡ (if t then max n.deed.entry.clock (behind is_go a notes) else behind is_go a notes)
       by_case true h = λ i. max (twins.0.clock i) (h i)
       by_case false h = h
 
-  pub behind_is : (x : ActorName) (a : ℕ) → actor_at setup a ≡ Some x → (events : List Clocked) (notes : List (Noted I)) → AreTwins events notes
+  pub behind_is : (x : ActorName) (a : ℕ) → actor_at setup a ≡ Some x → (events : List ClockedEvent) (notes : List (Noted I)) → AreTwins events notes
       → clock_behind x events ≡ behind is_go a notes
-  behind_is x a is events notes twins = greatest_peak (map (λ (e : Clocked). e.clock) (filter (λ (e : Clocked). same_name x e.maker || e.begins) events))
+  behind_is x a is events notes twins = greatest_peak (map (λ (e : ClockedEvent). e.clock) (filter (λ (e : ClockedEvent). same_name x e.maker || e.begins) events))
       ∙ peak_behind x a is events notes twins
 
   -- ---- stamps
@@ -148,7 +123,7 @@ module _ {I : Type 0} (setup : Setup) where
   stamps_of clock [] = refl
   stamps_of clock (item ∷ items) = ap (λ xs. clock ∷ xs) (stamps_of clock items)
 
-  pub stamps_are : (x y : ActorName) (a b : ℕ) → actor_at setup a ≡ Some x → actor_at setup b ≡ Some y → (events : List Clocked) (notes : List (Noted I))
+  pub stamps_are : (x y : ActorName) (a b : ℕ) → actor_at setup a ≡ Some x → actor_at setup b ≡ Some y → (events : List ClockedEvent) (notes : List (Noted I))
       → AreTwins events notes
       → stamps_sent x y events ≡ map (λ (s : Stamped I). s.stamp.0) (sent_to b (noted_by a notes))
   stamps_are x y a b x_is y_is [] [] twins = refl
@@ -168,13 +143,13 @@ module _ {I : Type 0} (setup : Setup) where
         ∙ ap (λ (ns : List (Noted I)). map (λ (s : Stamped I). s.stamp.0) (sent_to b ns)) (sym (own_else a n notes s.1))
   ]
 
-  pub number_is : (x y : ActorName) (a b : ℕ) → actor_at setup a ≡ Some x → actor_at setup b ≡ Some y → (events : List Clocked) (notes : List (Noted I))
+  pub number_is : (x y : ActorName) (a b : ℕ) → actor_at setup a ≡ Some x → actor_at setup b ≡ Some y → (events : List ClockedEvent) (notes : List (Noted I))
       → AreTwins events notes
       → number_taken x y events ≡ length (taken_from a (noted_by b notes))
   number_is x y a b x_is y_is [] [] twins = refl
   number_is x y a b x_is y_is [] (n ∷ notes) twins = absurd twins
   number_is x y a b x_is y_is (e ∷ events) [] twins = absurd twins
-  number_is x y a b x_is y_is (e ∷ events) (n ∷ notes) twins = sum_by-cons (λ (d : Clocked). if same_name y d.maker then d.took x else 0) e events
+  number_is x y a b x_is y_is (e ∷ events) (n ∷ notes) twins = sum_by-cons (λ (d : ClockedEvent). if same_name y d.maker then d.took x else 0) e events
       ∙ elim (eqb_tells n.deed.entry.actor b) [
         | inl s ↦ (λ i. (if named_test setup y e.maker b n.deed.entry.actor y_is twins.0.maker i then twins.0.took x a x_is i else 0) + number_is x y a b x_is y_is events notes twins.1 i)
             ∙ ap (λ (t : Bool). (if t then length (taken_of a n.deed.taken) else 0) + length (taken_from a (noted_by b notes))) s.0

@@ -12,18 +12,18 @@ use Rattle.journal_merge.proofs.Pieces.{phase_grows}
 use Rattle.graft_model.specs.Codes.{operator_code}
 use Rattle.graft_model.specs.declared.event.OperatorEvent.TheVariants.{Go}
 use Rattle.graft_model.specs.Setups.{Setup, routers_in, peerings_in}
-use Rattle.graft_runs.specs.Actors.{OperatorIs, Operator}
-use Rattle.graft_runs.specs.Laws.{IsGo}
-use Rattle.graft_runs.proofs.Numbers.{at_operator}
+use Rattle.graft_actors.specs.Actors.{OperatorIs, Operator}
+use Rattle.graft_actors.specs.Laws.{IsGo}
+use Rattle.graft_actors.proofs.Numbers.{at_operator}
 use Rattle.graft_actors.specs.Acts.{OwnPart, ActsAs, acts}
 use Rattle.router_core.specs.Parts.{carried}
-use Rattle.run_marks.specs.Marks.{is_go}
-use Rattle.run_marks.proofs.Seen.{nothing_open, act_goes}
+use Rattle.world_runs.specs.Marks.{is_go}
+use Rattle.world_runs.proofs.Seen.{nothing_open, act_goes}
 use Rattle.world_runs.specs.Labs.{actors_in}
 use Rattle.world_runs.specs.Laws.{IsNoGo}
 use Rattle.world_runs.specs.Runs.{RanAs, Ran, QuietAt}
 use Rattle.world_nodes.specs.Nodes.{Mail, own, took, turned, paused}
-use Rattle.world_nodes.specs.Ways.{Stand, Begins, Round, Pause, Way, Here, Rounds, Groups}
+use Rattle.world_nodes.specs.Ways.{Stand, IsFirstStand, Round, Pause, Way, Here, Rounds, Groups}
 use Rattle.world_nodes.specs.declared.node.Node.{Node}
 use Rattle.world_nodes.proofs.Seen.{part_is}
 use Rattle.world_nodes.proofs.WayRuns.{round_no_go, pause_few}
@@ -54,7 +54,7 @@ no_go_tests (n ∷ notes) none = (no_go_test n.deed.entry none.0, no_go_tests no
 
 -- ---- the way
 
-module _ (setup : Setup) (a : Stand) (begins : Begins setup a) where
+module _ (setup : Setup) (a : Stand) (begins : IsFirstStand setup a) where
   abbrev pub IsPaced : View Node Mail → Type 0
   IsPaced v = Paced own (acts carried) is_go a.view v
 

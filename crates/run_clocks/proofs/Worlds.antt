@@ -17,10 +17,10 @@ use Rattle.graft_model.specs.Quiet.{Quiet}
 use Rattle.graft_model.specs.Steps.{Event, ByRouter, ByFar, ByOperator, Step, Run}
 use Rattle.graft_model.specs.declared.event.OperatorEvent.TheVariants.{Order, Note, Go}
 use Rattle.graft_model.proofs.GoAlone.{router_kind, far_kind}
-use Rattle.graft_runs.specs.Actors.{Thing, MeshItem, ActorName, Router, FarSide, Operator, IsActor, actor_at}
-use Rattle.graft_runs.specs.Laws.{maker_of, IsEntryOf, AreEntriesOf, IsGo, OneEventHasTheEntry}
-use Rattle.graft_runs.specs.Seen.{channel_of}
-use Rattle.graft_runs.proofs.Numbers.{there}
+use Rattle.graft_actors.specs.Actors.{Thing, MeshItem, ActorName, Router, FarSide, Operator, IsActor, actor_at}
+use Rattle.graft_actors.specs.Laws.{maker_of, IsEntryOf, AreEntriesOf, IsGo, OneEventHasTheEntry}
+use Rattle.graft_actors.specs.Seen.{channel_of}
+use Rattle.graft_actors.proofs.Numbers.{there, some_same}
 use Rattle.graft_actors.specs.Items.{thing_of}
 use Rattle.graft_actors.specs.Acts.{OwnPart, acts}
 use Rattle.graft_laws.specs.Keeps.{Reached}
@@ -31,7 +31,7 @@ use Rattle.graft_laws.proofs.Runs.{reached_more}
 use Rattle.graft_laws.proofs.OneWorld.{one_run}
 use Rattle.run_clocks.specs.Clocks.{on_way, clocked, clocked_in}
 use Rattle.run_clocks.proofs.Supplies.{sends_here, sends_else, takes_here, takes_else, taken_itself}
-use Rattle.run_clocks.proofs.Twins.{some_same, Twin, AreTwins}
+use Rattle.run_clocks.proofs.Twins.{Twin, AreTwins}
 
 -- ---- the beginning of a group
 
@@ -59,13 +59,13 @@ to_itself w none (FarSide p) = refl
 to_itself w none Operator = refl
 
 module _ {C : Type 0} (session : C → SessionValue) (setup : Setup) where
-  on_way_is : (lab : worlds.World OwnPart (Item C)) (w : World) (x y : ActorName) (a b : ℕ) → IsLab session setup lab w → actor_at setup a ≡ Some x
+  on_way_is : (lab : worlds.DeedWorld OwnPart (Item C)) (w : World) (x y : ActorName) (a b : ℕ) → IsLab session setup lab w → actor_at setup a ≡ Some x
       → actor_at setup b ≡ Some y → on_way w x y ≡ length (lab.channel a b)
   on_way_is lab w x y a b is_lab x_is y_is = (λ i. length (channel_of w (sym x_is i) (sym y_is i)))
       ∙ ap (λ (ts : List Thing). length ts) (sym (is_lab.sees.channels a b)) ∙ length-map (lab.channel a b) (thing_of session setup)
 
-  module _ (lab next : worlds.World OwnPart (Item C)) (n : Noted (Item C)) (event : Event) (w u : World) (before : IsLab session setup lab w)
-      (after : IsLab session setup next u) (made : worlds.Step (acts session) lab n.deed next)
+  module _ (lab next : worlds.DeedWorld OwnPart (Item C)) (n : Noted (Item C)) (event : Event) (w u : World) (before : IsLab session setup lab w)
+      (after : IsLab session setup next u) (made : worlds.DeedStep (acts session) lab n.deed next)
       (is : IsEntryOf setup event n.deed.entry) (was_none : (r : ℕ) → w.mesh r r ≡ []) (is_none : (r : ℕ) → u.mesh r r ≡ []) where
     maker : actor_at setup n.deed.entry.actor ≡ Some (maker_of event)
     maker = ap (actor_at setup) is.maker ∙ there setup (maker_of event) is.there
@@ -140,9 +140,9 @@ module _ {C : Type 0} (session : C → SessionValue) (setup : Setup) where
 
 module _ {C : Type 0} (session : C → SessionValue) (act_is_a_step : AnActIsAStep session) (itself : NobodyWritesToItself) (one_event : OneEventHasTheEntry)
     (setup : Setup) (sound : IsSetup setup) where
-  pub run_twins : (events : List Event) (notes : List (Noted (Item C))) (lab last : worlds.World OwnPart (Item C)) (w v : World) → Reached setup w
+  pub run_twins : (events : List Event) (notes : List (Noted (Item C))) (lab last : worlds.DeedWorld OwnPart (Item C)) (w v : World) → Reached setup w
       → IsLab session setup lab w → AreEntriesOf setup events (entries_of notes)
-      → (run : Run setup w events v) → worlds.Run (acts session) lab (deeds notes) last
+      → (run : Run setup w events v) → worlds.DeedRun (acts session) lab (deeds notes) last
       → AreTwins setup (clocked_in setup w events (entries_of notes) v run) notes
   run_twins [] [] lab last w v reached is_lab are run made = tt
   run_twins [] (n ∷ notes) lab last w v reached is_lab are run made = absurd are

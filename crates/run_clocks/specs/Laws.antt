@@ -6,11 +6,13 @@ use Rattle.graft_model.specs.Setups.{Setup, IsSetup}
 use Rattle.graft_model.specs.Parts.{World}
 use Rattle.graft_model.specs.First.{first_world}
 use Rattle.graft_model.specs.Steps.{Event, Run}
-use Rattle.graft_runs.specs.Laws.{AreEntriesOf}
-use Rattle.world_nodes.specs.Ways.{Stand, Begins, Way}
+use Rattle.graft_actors.specs.Laws.{AreEntriesOf}
+use Rattle.world_nodes.specs.Ways.{Stand, IsFirstStand, Way}
 use Rattle.run_clocks.specs.Clocks.{AreClocked, clocked_in}
 
 -- Whatever way a laboratory's net went, the events of its merged journal are clocked.
 abbrev pub WaysAreClocked : Type 0
-WaysAreClocked = (setup : Setup) (a b : Stand) (made : List ℕ) (journal : List JournalEntry) (events : List Event) (w : World) → IsSetup setup → Begins setup a → Way setup a made b
-    → Interleaves b.view.journal journal → AreEntriesOf setup events journal → (run : Run setup (first_world setup) events w) → AreClocked (clocked_in setup (first_world setup) events journal w run)
+WaysAreClocked = (setup : Setup) (a b : Stand) (made : List ℕ) (journal : List JournalEntry) (events : List Event) (w : World) → IsSetup setup
+    → IsFirstStand setup a → Way setup a made b
+    → Interleaves b.view.journal journal → AreEntriesOf setup events journal → (run : Run setup (first_world setup) events w)
+    → AreClocked (clocked_in setup (first_world setup) events journal w run)

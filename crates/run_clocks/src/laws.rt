@@ -3,7 +3,7 @@
 ghost use Rattle.run_clocks.specs.Laws.{WaysAreClocked};
 
 use bgp_session::Capsule;
-use graft_runs::an_entry_is_of_one_event;
+use graft_actors::an_entry_is_of_one_event;
 use world_nodes::the_way_is_a_run;
 use world_runs::{an_act_is_a_step, worlds_are_on_the_way};
 

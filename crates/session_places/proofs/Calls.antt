@@ -5,9 +5,9 @@ use Rattle.std.proofs.lemmas.List.Sums.{sum_by-set}
 use Rattle.std.proofs.lemmas.List.Folds.{sum_by-replicate}
 use Rattle.slab.specs.Slab.{Slab, get, slab_len, Updates, HasRoomFor, with_value}
 use Rattle.slab.proofs.SlabLemmas.{Updates-with_value}
-use Rattle.session_places.specs.Keys.{value_under, values_of, place_list, HasKey, IsSound}
+use Rattle.session_places.specs.Keys.{value_under, values_of, place_list, HasKey, AreSoundKeys}
 use Rattle.session_places.specs.Places.{with_place}
-use Rattle.session_places.proofs.KeyLemmas.{HasKey-within, get_or-values_of, count-values_of, ChangesAt, place_list-changed, IsSound-changed}
+use Rattle.session_places.proofs.KeyLemmas.{HasKey-within, get_or-values_of, count-values_of, ChangesAt, place_list-changed, AreSoundKeys-changed}
 
 module _ {V : Type 0} where
   -- no place with a key, no place with a value
@@ -21,8 +21,9 @@ module _ {V : Type 0} where
       ∙ sym (get_or-replicate n i None None there))
 
   -- nothing is there
-  pub IsSound-vacant : (slab : Slab V) (keys : List (Option ℕ)) (n room : ℕ) → slab.slots ≡ [] → keys ≡ replicate n None → room ≤ slab.capacity → IsSound slab keys room
-  IsSound-vacant slab keys n room empty vacant reserved =
+  pub AreSoundKeys-vacant : (slab : Slab V) (keys : List (Option ℕ)) (n room : ℕ) → slab.slots ≡ [] → keys ≡ replicate n None → room ≤ slab.capacity
+      → AreSoundKeys slab keys room
+  AreSoundKeys-vacant slab keys n room empty vacant reserved =
       let none : (m key : ℕ) → HasKey keys m key → ⊥ = λ m key has.
       let there : m < n = omega (arith, HasKey-within keys m key has, ap length vacant, length-replicate {A = Option ℕ} n None) in
       let read : get_or (replicate {A = Option ℕ} n None) m None ≡ None = get_or-replicate n m None None there in
@@ -42,7 +43,7 @@ module _ {V : Type 0} where
   OnSome-then None P some h = absurd (cc)
   OnSome-then (Some value) P some h = h
 
-  module _ (old new : Slab V) (keys : List (Option ℕ)) (n key room : ℕ) (sound : IsSound old keys room) (has : HasKey keys n key) where
+  module _ (old new : Slab V) (keys : List (Option ℕ)) (n key room : ℕ) (sound : AreSoundKeys old keys room) (has : HasKey keys n key) where
     changes : (slot : Option V) → Updates old new key slot → ChangesAt old new keys n key slot
     changes slot updates = record { updates = updates; only = λ m had. sound.apart m n key had has }
 
@@ -53,14 +54,15 @@ module _ {V : Type 0} where
         omega (arith, write, taken)
 
     -- the value of the place is taken out
-    pub IsSound-removed : Updates old new key None → slab_len new + 1 ≡ slab_len old → new.capacity ≡ old.capacity → IsSound new (set keys n None) room
-    IsSound-removed updates len capacity =
-        IsSound-changed old new keys n key None room sound (changes None updates) (omega (arith, counts None, sound.counted)) (omega (arith, sound.within)) (omega (arith, sound.reserved))
+    pub AreSoundKeys-removed : Updates old new key None → slab_len new + 1 ≡ slab_len old → new.capacity ≡ old.capacity
+        → AreSoundKeys new (set keys n None) room
+    AreSoundKeys-removed updates len capacity =
+        AreSoundKeys-changed old new keys n key None room sound (changes None updates) (omega (arith, counts None, sound.counted)) (omega (arith, sound.within)) (omega (arith, sound.reserved))
 
     pub place_list-removed : Updates old new key None → place_list new (set keys n None) room ≡ with_place (place_list old keys room) n None
     place_list-removed updates = place_list-changed old new keys n key None room (changes None updates)
 
-  module _ (slab : Slab V) (keys : List (Option ℕ)) (n key room : ℕ) (sound : IsSound slab keys room) (has : HasKey keys n key) (value : V) where
+  module _ (slab : Slab V) (keys : List (Option ℕ)) (n key room : ℕ) (sound : AreSoundKeys slab keys room) (has : HasKey keys n key) (value : V) where
     written : ChangesAt slab (with_value slab key value) keys n key (Some value)
     written = changes slab _ keys n key room sound has (Some value) (Updates-with_value slab key value (sound.named n key has))
 
@@ -72,10 +74,11 @@ module _ {V : Type 0} where
     place_list-written = rw same_keys at (place_list-changed slab (with_value slab key value) keys n key (Some value) room written)
 
   -- there is memory for one more value where fewer places are taken than may be
-  pub HasRoomFor-one : (slab : Slab V) (keys : List (Option ℕ)) (room : ℕ) → IsSound slab keys room → count_by is_some (values_of slab keys) < room → HasRoomFor slab 1
+  pub HasRoomFor-one : (slab : Slab V) (keys : List (Option ℕ)) (room : ℕ) → AreSoundKeys slab keys room
+      → count_by is_some (values_of slab keys) < room → HasRoomFor slab 1
   HasRoomFor-one slab keys room sound fewer = omega (arith, sound.reserved, sound.counted, count-values_of slab keys sound.named)
 
-  module _ (old new : Slab V) (keys : List (Option ℕ)) (n key room : ℕ) (sound : IsSound old keys room) (vacant : get_or (values_of old keys) n None ≡ None) (fresh : get old key ≡ None) (value : V) (updates : Updates old new key (Some value)) where
+  module _ (old new : Slab V) (keys : List (Option ℕ)) (n key room : ℕ) (sound : AreSoundKeys old keys room) (vacant : get_or (values_of old keys) n None ≡ None) (fresh : get old key ≡ None) (value : V) (updates : Updates old new key (Some value)) where
     apart_from_all : ChangesAt old new keys n key (Some value)
     apart_from_all = record {
       updates = updates;
@@ -93,12 +96,13 @@ module _ {V : Type 0} where
     pub place_list-put : place_list new (set keys n (Some key)) room ≡ with_place (place_list old keys room) n (Some value)
     place_list-put = place_list-changed old new keys n key (Some value) room apart_from_all
 
-    pub IsSound-put : n < length (values_of old keys) → count_by is_some (values_of old keys) < room → slab_len new ≡ slab_len old + 1 → new.capacity ≡ old.capacity → IsSound new (set keys n (Some key)) room
-    IsSound-put there fewer len capacity =
+    pub AreSoundKeys-put : n < length (values_of old keys) → count_by is_some (values_of old keys) < room → slab_len new ≡ slab_len old + 1
+        → new.capacity ≡ old.capacity → AreSoundKeys new (set keys n (Some key)) room
+    AreSoundKeys-put there fewer len capacity =
         let within : n < length keys = omega (arith, length-map keys (value_under old)) in
         let write = sum_by-set (λ o. cond (is_some o) 1 0) keys n (Some key) None within in
         let was : cond (is_some (get_or keys n None)) 1 0 ≡ 0 = ap {B = ℕ} (λ (o : Option ℕ). cond (is_some o) 1 0) (no_key (get_or keys n None) refl) in
-        IsSound-changed old new keys n key (Some value) room sound apart_from_all
+        AreSoundKeys-changed old new keys n key (Some value) room sound apart_from_all
         (omega (arith, write, was, sound.counted))
         (omega (arith, sound.counted, count-values_of old keys sound.named))
         (omega (arith, sound.reserved))

@@ -6,7 +6,7 @@ use Rattle.std.proofs.lemmas.Grind.{get_or-set_at}
 use Rattle.std.proofs.lemmas.List.{ext_get_or, get_or_past, get_or-set_other, length-map, length-set}
 use Rattle.std.proofs.lemmas.List.Sums.{sum_by-cons}
 use Rattle.slab.specs.Slab.{Slab, get, slab_len, ContainsKey, Updates}
-use Rattle.session_places.specs.Keys.{value_under, values_of, place_list, HasKey, IsSound}
+use Rattle.session_places.specs.Keys.{value_under, values_of, place_list, HasKey, AreSoundKeys}
 use Rattle.session_places.specs.Places.{with_place}
 
 -- a place with a key is one of the places
@@ -14,7 +14,8 @@ pub HasKey-within : (keys : List (Option ℕ)) (n key : ℕ) → HasKey keys n k
 HasKey-within keys n key there = grind (arith, get_or_past)
 
 -- after a write, a key stands at the place that was written or where it stood
-HasKey-set : (keys : List (Option ℕ)) (n : ℕ) (mine : Option ℕ) (m key : ℕ) → HasKey (set keys n mine) m key → ((m ≡ n) × (mine ≡ Some key)) ⊎ ((m ≢ n) × HasKey keys m key)
+HasKey-set : (keys : List (Option ℕ)) (n : ℕ) (mine : Option ℕ) (m key : ℕ) → HasKey (set keys n mine) m key
+    → ((m ≡ n) × (mine ≡ Some key)) ⊎ ((m ≢ n) × HasKey keys m key)
 HasKey-set keys n mine m key there =
     elim (cases_eq m n) [
       | inl same ↦
@@ -29,7 +30,8 @@ module _ {V : Type 0} where
   get_or-values_of slab keys n = get_or-map (value_under slab) keys n None
 
   -- as many places are taken as have a key
-  pub count-values_of : (slab : Slab V) (keys : List (Option ℕ)) → ((n key : ℕ) → HasKey keys n key → ContainsKey slab key) → count_by is_some (values_of slab keys) ≡ count_by is_some keys
+  pub count-values_of : (slab : Slab V) (keys : List (Option ℕ)) → ((n key : ℕ) → HasKey keys n key → ContainsKey slab key)
+      → count_by is_some (values_of slab keys) ≡ count_by is_some keys
   count-values_of slab [] named = refl
   count-values_of slab (None ∷ keys) named =
       omega (
@@ -85,7 +87,8 @@ module _ {V : Type 0} where
         ])
 
     -- that place alone has another value then
-    pub place_list-changed : (slot : Option V) (room : ℕ) → ChangesAt old new keys n key slot → place_list new (set keys n (key_for key slot)) room ≡ with_place (place_list old keys room) n slot
+    pub place_list-changed : (slot : Option V) (room : ℕ) → ChangesAt old new keys n key slot
+        → place_list new (set keys n (key_for key slot)) room ≡ with_place (place_list old keys room) n slot
     place_list-changed slot room change = λ i. record { places = values_changed slot change i; room = room }
 
     own_key : (slot : Option V) (k : ℕ) → key_for key slot ≡ Some k → (key ≡ k) × IsSome slot
@@ -93,8 +96,10 @@ module _ {V : Type 0} where
     own_key (Some value) k is = (cc, refl)
 
     -- the keys stay sound, where the numbers are right
-    pub IsSound-changed : (slot : Option V) (room : ℕ) → IsSound old keys room → ChangesAt old new keys n key slot → slab_len new ≡ count_by is_some (set keys n (key_for key slot)) → slab_len new ≤ room → room ≤ new.capacity → IsSound new (set keys n (key_for key slot)) room
-    IsSound-changed slot room sound change counted within reserved =
+    pub AreSoundKeys-changed : (slot : Option V) (room : ℕ) → AreSoundKeys old keys room → ChangesAt old new keys n key slot
+        → slab_len new ≡ count_by is_some (set keys n (key_for key slot)) → slab_len new ≤ room → room ≤ new.capacity
+        → AreSoundKeys new (set keys n (key_for key slot)) room
+    AreSoundKeys-changed slot room sound change counted within reserved =
         let mine = key_for key slot in
         record {
           named = λ m k has. elim (HasKey-set keys n mine m k has) [

@@ -22,7 +22,7 @@ abbrev pub HasKey : List (Option ℕ) → ℕ → ℕ → Type 0
 HasKey keys n key = slice_index_or keys n None ≡ Some key
 
 -- each key has a value, no key is at two places, and there is memory for `room` values
-pub record IsSound {V : Type 0} (slab : Slab V) (keys : List (Option ℕ)) (room : ℕ) : Type 0 where
+pub record AreSoundKeys {V : Type 0} (slab : Slab V) (keys : List (Option ℕ)) (room : ℕ) : Type 0 where
   pub named : (n key : ℕ) → HasKey keys n key → ContainsKey slab key
   pub apart : (n m key : ℕ) → HasKey keys n key → HasKey keys m key → n ≡ m
   pub counted : slab_len slab ≡ count_by is_some keys

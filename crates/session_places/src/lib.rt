@@ -28,11 +28,11 @@ impl<V> Model for Places<V> {
 
     ghost coded = { place_list_code V.code };
 
-    ghost use Rattle.session_places.specs.Keys.{place_list, IsSound};
+    ghost use Rattle.session_places.specs.Keys.{place_list, AreSoundKeys};
 
     ghost view = { λ p. place_list p.values p.keys.items p.room };
 
-    ghost invariant = { λ p. IsSound p.values p.keys.items p.room };
+    ghost invariant = { λ p. AreSoundKeys p.values p.keys.items p.room };
 }
 
 /// Returns the key at a place, if there is one.

@@ -21,10 +21,6 @@ read_within n xs bytes rest within front =
 pub first_stay : (n : ℕ) (xs ys : List ℕ) → n ≤ length xs → xs ≡ take (length xs) ys → take n ys ≡ take n xs
 first_stay n xs ys within stays = sym (ap (take n) stays ∙ take-take n (length xs) ys within)
 
-pub received_grows : (before after : Endpoint) (segment : PlacedSegment) → TakesSegment before segment after → received before ≤ received after
-received_grows before after segment takes =
-    omega (arith, ap (λ (xs : List ℕ). length xs) (received_stays before after segment takes), length-take (received before) (received_bytes after))
-
 pub front_length : (n : ℕ) (xs ys : List ℕ) → n ≤ length xs → take n xs ≡ ys → n ≡ length ys
 front_length n xs ys within is = omega (arith, within, length-take n xs, ap (λ (zs : List ℕ). length zs) is)
 

@@ -46,7 +46,8 @@ module _ (p : Peering) (lines : List Line) (bytes : List ℕ) (answer : List Lin
     pub state_next : state_of (lines ++ more) ≡ next
     state_next = state_is p (lines ++ more) next (legal_next (λ _ _. Unit {0}) allowed)
 
-    pub legal_then : (Changes : List Line → Update → Type 0) → Legal Changes p lines (state_of lines) → Legal Changes p (lines ++ more) (state_of (lines ++ more))
+    pub legal_then : (Changes : List Line → Update → Type 0) → Legal Changes p lines (state_of lines)
+        → Legal Changes p (lines ++ more) (state_of (lines ++ more))
     legal_then Changes legal = subst (λ (x : SessionState). Legal Changes p (lines ++ more) x) (sym state_next) (legal_next Changes legal)
 
     pub got_then : got_bytes (lines ++ more) ≡ got_bytes lines ++ bytes

@@ -22,7 +22,8 @@ not_up : (state : SessionState) → is_up state ≡ true → state ≡ OpenSent 
 not_up state up e = let x : is_up OpenSent ≡ true = ap is_up (sym e) ∙ up in absurd cc
 
 round_leads : (t u : Bool) (state next : SessionState) (answer : List Line) → is_up state ≡ true →
-    ◌≡◌ {A = List Line × SessionState} (cond t (Put (NoticeMsg hold_expired) ∷ [], Closed) (cond u (Put KeepaliveMsg ∷ [], state) ([], state))) (answer, next) → next ≡ OpenSent → ⊥
+    ◌≡◌ {A = List Line × SessionState} (cond t (Put (NoticeMsg hold_expired) ∷ [], Closed) (cond u (Put KeepaliveMsg ∷ [], state) ([], state))) (answer, next)
+    → next ≡ OpenSent → ⊥
 round_leads true u state next answer up r e = let x : Closed ≡ OpenSent = ap (λ (y : List Line × SessionState). y.1) r ∙ e in absurd cc
 round_leads false true state next answer up r e = not_up state up (ap (λ (y : List Line × SessionState). y.1) r ∙ e)
 round_leads false false state next answer up r e = not_up state up (ap (λ (y : List Line × SessionState). y.1) r ∙ e)

@@ -79,7 +79,8 @@ established_from e bytes answer r s = by_message (message_of e bytes) refl r whe
   by_message (Err n) g f = let x : Closed ≡ Established = ap (λ y. y.1) f in absurd cc
 
 -- a session that is neither established nor closed after a message has taken an OPEN
-pub confirmed_from : (e : Expected) (bytes : List ℕ) (answer : List Line) (next : SessionState) → reply_to (message_of e bytes) ≡ (answer, next) → next ≢ Established → next ≢ Closed → e.state ≡ OpenSent
+pub confirmed_from : (e : Expected) (bytes : List ℕ) (answer : List Line) (next : SessionState) → reply_to (message_of e bytes) ≡ (answer, next)
+    → next ≢ Established → next ≢ Closed → e.state ≡ OpenSent
 confirmed_from e bytes answer next r o c = by_message (message_of e bytes) refl r where
   by_message : (m : Result Message Notice) → message_of e bytes ≡ m → reply_to m ≡ (answer, next) → e.state ≡ OpenSent
   by_message (Ok (OpenMsg x)) g f = only_open e.state (read_of e bytes (OpenMsg x) g).in_state
@@ -101,13 +102,15 @@ keepalive_again e bytes h k = rw h (rw k (by_state (is_in_state e.state 4))) whe
   by_state true = refl
   by_state false = refl
 
-pub same_update : (p : Peering) (lines more : List Line) (state : SessionState) (bytes : List ℕ) (answer : List Line) (next : SessionState) → Allowed p lines state → reply_to (message_of (expected_next p lines state) bytes) ≡ (answer, next) → next ≢ Closed
+pub same_update : (p : Peering) (lines more : List Line) (state : SessionState) (bytes : List ℕ) (answer : List Line) (next : SessionState)
+    → Allowed p lines state → reply_to (message_of (expected_next p lines state) bytes) ≡ (answer, next) → next ≢ Closed
     → update_in (message_of (expected_next p (lines ++ more) Established) bytes) ≡ update_in (message_of (expected_next p lines state) bytes)
 same_update p lines more state bytes answer next l r c = by_message (message_of (expected_next p lines state) bytes) refl r where
   later : Expected
   later = expected_next p (lines ++ more) Established
 
-  by_message : (m : Result Message Notice) → message_of (expected_next p lines state) bytes ≡ m → reply_to m ≡ (answer, next) → update_in (message_of later bytes) ≡ update_in m
+  by_message : (m : Result Message Notice) → message_of (expected_next p lines state) bytes ≡ m → reply_to m ≡ (answer, next)
+      → update_in (message_of later bytes) ≡ update_in m
   by_message (Ok (OpenMsg o)) g f =
       let read = read_of (expected_next p lines state) bytes (OpenMsg o) g in
       other_state later bytes read.sound (ap (is_in_state Established) read.kind)

@@ -52,7 +52,8 @@ open_size first wide is =
     let all = framed_size 1 (spell_open first) in
     omega arith
 
-pub fault_size : (bytes : List ℕ) (expected : Expected) (notice : Notice) (wide : Bool) → first_fault bytes expected ≡ Some notice → length (spell (NoticeMsg notice) wide) ≤ 4096
+pub fault_size : (bytes : List ℕ) (expected : Expected) (notice : Notice) (wide : Bool) → first_fault bytes expected ≡ Some notice
+    → length (spell (NoticeMsg notice) wide) ≤ 4096
 fault_size bytes expected notice wide e = (fault_writable bytes expected notice wide e).size
 
 -- ---- room

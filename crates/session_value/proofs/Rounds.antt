@@ -32,7 +32,8 @@ by_tests true u state = ends
 by_tests false true state = beats
 by_tests false false state = stays
 
-pub answers_are : (h count round : ℕ) (state : SessionState) (answer : List Line) (next : SessionState) → reply_at h count round state ≡ (answer, next) → Answers state answer next
+pub answers_are : (h count round : ℕ) (state : SessionState) (answer : List Line) (next : SessionState)
+    → reply_at h count round state ≡ (answer, next) → Answers state answer next
 answers_are h count round state answer next e =
     subst (λ (r : List Line × SessionState). Answers state r.0 r.1) e (by_tests (eqb count h) (eqb (round % (h / 3)) 0) state)
 
@@ -41,12 +42,14 @@ round_gets state _ _ ends = refl
 round_gets state _ _ beats = refl
 round_gets state _ _ stays = refl
 
-round_tells : (state : SessionState) (answer : List Line) (next : SessionState) → Answers state answer next → (routes : Routes) → fold tell routes answer ≡ routes
+round_tells : (state : SessionState) (answer : List Line) (next : SessionState) → Answers state answer next → (routes : Routes)
+    → fold tell routes answer ≡ routes
 round_tells state _ _ ends routes = refl
 round_tells state _ _ beats routes = refl
 round_tells state _ _ stays routes = refl
 
-round_hears : (e : Expected) (state : SessionState) (answer : List Line) (next : SessionState) → Answers state answer next → (routes : Routes) → fold (hear e) routes answer ≡ routes
+round_hears : (e : Expected) (state : SessionState) (answer : List Line) (next : SessionState) → Answers state answer next → (routes : Routes)
+    → fold (hear e) routes answer ≡ routes
 round_hears e state _ _ ends routes = refl
 round_hears e state _ _ beats routes = refl
 round_hears e state _ _ stays routes = refl
@@ -71,7 +74,8 @@ module _ (p : Peering) (lines : List Line) (round : ℕ) (answer : List Line) (n
     pub state_next : state_of (lines ++ more) ≡ next
     state_next = state_is p (lines ++ more) next (legal_next (λ _ _. Unit {0}) allowed)
 
-    pub legal_then : (Changes : List Line → Update → Type 0) → Legal Changes p lines (state_of lines) → Legal Changes p (lines ++ more) (state_of (lines ++ more))
+    pub legal_then : (Changes : List Line → Update → Type 0) → Legal Changes p lines (state_of lines)
+        → Legal Changes p (lines ++ more) (state_of (lines ++ more))
     legal_then Changes legal = subst (λ (x : SessionState). Legal Changes p (lines ++ more) x) (sym state_next) (legal_next Changes legal)
 
     pub got_then : got_bytes (lines ++ more) ≡ got_bytes lines

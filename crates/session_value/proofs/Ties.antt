@@ -46,7 +46,8 @@ module _ (session : SessionValue) (end : Endpoint)
         put = stream ∙ tied.put;
         room = omega (arith, tied.room, ap (λ (xs : List ℕ). length xs) stream);
         read = omega (arith, tied.read, read, more);
-        got = ap (λ (n : ℕ). take n (received_bytes end)) read ∙ first_stay session.end.read (received_bytes session.end) (received_bytes end) tied.read grows ∙ tied.got;
+        got = ap (λ (n : ℕ). take n (received_bytes end)) read
+            ∙ first_stay session.end.read (received_bytes session.end) (received_bytes end) tied.read grows ∙ tied.got;
       }
 
   pub of_story_with : IsOfStory session → IsOfStory (record session { end = end })
@@ -61,7 +62,8 @@ pub record SendsSame (before after : Endpoint) : Type 0 where
   pub read : after.read ≡ before.read
   pub grows : received_bytes before ≡ take (received before) (received_bytes after)
 
-pub emits_same : (before : Endpoint) (segment : PlacedSegment) (after : Endpoint) → EmitsSlice before segment after ⊎ EmitsEmpty before segment after → SendsSame before after
+pub emits_same : (before : Endpoint) (segment : PlacedSegment) (after : Endpoint) → EmitsSlice before segment after ⊎ EmitsEmpty before segment after
+    → SendsSame before after
 emits_same before segment after (inl slice) = record {
   stream = ap (λ (e : Endpoint). e.stream) slice.rises;
   read = ap (λ (e : Endpoint). e.read) slice.rises;
@@ -85,16 +87,20 @@ takes_same before segment after (inr accepts) = record {
   grows = received_stays before after segment (inr accepts);
 }
 
-pub emits_tied : (session : SessionValue) (segment : PlacedSegment) (end : Endpoint) → IsTied session → EmitsSlice session.end segment end ⊎ EmitsEmpty session.end segment end → IsTied (record session { end = end })
+pub emits_tied : (session : SessionValue) (segment : PlacedSegment) (end : Endpoint) → IsTied session
+    → EmitsSlice session.end segment end ⊎ EmitsEmpty session.end segment end → IsTied (record session { end = end })
 emits_tied session segment end tied emits = let c = emits_same session.end segment end emits in tied_with session end c.stream c.read c.grows tied
 
-pub takes_tied : (session : SessionValue) (segment : PlacedSegment) (end : Endpoint) → IsTied session → TakesSegment session.end segment end → IsTied (record session { end = end })
+pub takes_tied : (session : SessionValue) (segment : PlacedSegment) (end : Endpoint) → IsTied session → TakesSegment session.end segment end
+    → IsTied (record session { end = end })
 takes_tied session segment end tied takes = let c = takes_same session.end segment end takes in tied_with session end c.stream c.read c.grows tied
 
-pub emits_of_story : (session : SessionValue) (segment : PlacedSegment) (end : Endpoint) → IsOfStory session → EmitsSlice session.end segment end ⊎ EmitsEmpty session.end segment end → IsOfStory (record session { end = end })
+pub emits_of_story : (session : SessionValue) (segment : PlacedSegment) (end : Endpoint) → IsOfStory session
+    → EmitsSlice session.end segment end ⊎ EmitsEmpty session.end segment end → IsOfStory (record session { end = end })
 emits_of_story session segment end is emits = let c = emits_same session.end segment end emits in of_story_with session end c.stream c.read c.grows is
 
-pub takes_of_story : (session : SessionValue) (segment : PlacedSegment) (end : Endpoint) → IsOfStory session → TakesSegment session.end segment end → IsOfStory (record session { end = end })
+pub takes_of_story : (session : SessionValue) (segment : PlacedSegment) (end : Endpoint) → IsOfStory session → TakesSegment session.end segment end
+    → IsOfStory (record session { end = end })
 takes_of_story session segment end is takes = let c = takes_same session.end segment end takes in of_story_with session end c.stream c.read c.grows is
 
 -- ---- what follows

@@ -22,7 +22,8 @@ module _ (p : Peering) (lines : List Line) (u : Update) (established : state_of 
   abbrev pub more : List Line
   more = Put (UpdateMsg u) ∷ []
 
-  pub legal_next : (Changes : List Line → Update → Type 0) → IsOneWay u (is_wide p lines) → Changes lines u → Legal Changes p lines (state_of lines) → Legal Changes p (lines ++ more) Established
+  pub legal_next : (Changes : List Line → Update → Type 0) → IsOneWay u (is_wide p lines) → Changes lines u → Legal Changes p lines (state_of lines)
+      → Legal Changes p (lines ++ more) Established
   legal_next Changes one_way changes legal =
       Legal.updated lines u (lines ++ more) (subst (λ (x : SessionState). Legal Changes p lines x) established legal) one_way changes refl
 
@@ -30,7 +31,8 @@ module _ (p : Peering) (lines : List Line) (u : Update) (established : state_of 
     pub state_next : state_of (lines ++ more) ≡ Established
     state_next = state_is p (lines ++ more) Established (legal_next (λ _ _. Unit {0}) one_way tt allowed)
 
-    pub legal_then : (Changes : List Line → Update → Type 0) → Changes lines u → Legal Changes p lines (state_of lines) → Legal Changes p (lines ++ more) (state_of (lines ++ more))
+    pub legal_then : (Changes : List Line → Update → Type 0) → Changes lines u → Legal Changes p lines (state_of lines)
+        → Legal Changes p (lines ++ more) (state_of (lines ++ more))
     legal_then Changes changes legal = subst (λ (x : SessionState). Legal Changes p (lines ++ more) x) (sym state_next) (legal_next Changes one_way changes legal)
 
     pub got_then : got_bytes (lines ++ more) ≡ got_bytes lines

@@ -21,8 +21,8 @@ use Rattle.session_value.specs.Sessions.{SessionValue, peering_of, state, unread
 abbrev pub sending : List ℕ → Endpoint → Endpoint
 sending bytes e = record e { stream = e.stream ++ bytes }
 
-abbrev pub reading : ℕ → Endpoint → Endpoint
-reading n e = record e { read = e.read + n }
+abbrev pub having_read : ℕ → Endpoint → Endpoint
+having_read n e = record e { read = e.read + n }
 
 -- the bytes of the messages that lines put, in the width of AS numbers of a story that ends with them
 abbrev pub put_by : SessionValue → List Line → List Line → List ℕ
@@ -42,7 +42,7 @@ pub record GetsFrame (before : SessionValue) (bytes : List ℕ) (after : Session
     story = before.story ++ Got bytes ∷ answer;
     heard = unless_closed next (apply_if before.heard (update_in (message_of (expected_next (peering_of before.config) before.story (state before)) bytes)));
     told = unless_closed next before.told;
-    end = sending (put_by before (before.story ++ Got bytes ∷ answer) answer) (reading (length bytes) before.end);
+    end = sending (put_by before (before.story ++ Got bytes ∷ answer) answer) (having_read (length bytes) before.end);
   }
 
 -- the UPDATE that says that prefixes have these attributes, or that they have none

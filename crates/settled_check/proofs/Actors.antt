@@ -14,7 +14,7 @@ use Rattle.graft_model.specs.Setups.{Setup}
 use Rattle.graft_model.specs.Parts.{RouterPart, FarPart, OperatorPart}
 use Rattle.settled_check.specs.Firsts.{IsFirstOf}
 use Rattle.settled_check.specs.Named.{RouterNames, FarNames, OperatorNames}
-use Rattle.settled_check.specs.Left.{HasSome, HasStream, HasGraft, IsOpen, LeftAtRouter, LeftAtFar, LeftToOperator}
+use Rattle.settled_check.specs.Left.{HasSome, HasStream, HoldsGraft, IsOpen, LeftAtRouter, LeftAtFar, LeftToOperator}
 use Rattle.settled_check.specs.Rests.{IsRouterRest, IsFarRest, IsOperatorRest}
 use Rattle.settled_check.proofs.Firsts.{first_of_more, lowest, lowest_number, is_lowest, is_lowest_number, one_number, two_numbers}
 
@@ -23,7 +23,7 @@ use Rattle.settled_check.proofs.Firsts.{first_of_more, lowest, lowest_number, is
 module _ (r : ℕ) (part : RouterPart) (rest : RouterRest) (is : IsRouterRest r part rest) where
   pub router_has : (x : Pending) → RouterNames rest x → LeftAtRouter r part x
   router_has Script names = names
-  router_has (Graft k) names = is_lowest_number (HasGraft part) rest.graft k is.graft names
+  router_has (Graft k) names = is_lowest_number (HoldsGraft part) rest.graft k is.graft names
   router_has (Channel a b) names = names
   router_has (Bag p) names = names
   router_has (Stream p) names = is_lowest (λ q. q.0) (λ q. HasStream (part.places q)) rest.stream p is.stream names
@@ -37,7 +37,7 @@ module _ (r : ℕ) (part : RouterPart) (rest : RouterRest) (is : IsRouterRest r 
   pub router_names : (y : Pending) → LeftAtRouter r part y → (x : Pending) × RouterNames rest x × (pending_cmp x y ≢ Greater)
   router_names Script left = absurd left
   router_names (Graft k) left =
-      let f : (m : ℕ) × (rest.graft ≡ Some m) × (m ≤ k) = lowest_number (HasGraft part) rest.graft k is.graft left in
+      let f : (m : ℕ) × (rest.graft ≡ Some m) × (m ≤ k) = lowest_number (HoldsGraft part) rest.graft k is.graft left in
       (Graft f.0, f.1, one_number f.0 k f.2)
   router_names (Channel a b) left = absurd left
   router_names (Bag p) left = absurd left
@@ -115,11 +115,14 @@ module _ (setup : Setup) (part : OperatorPart) (rest : OperatorRest) (is : IsOpe
 
 -- ---- the first of each
 
-pub router_first : (r : ℕ) (part : RouterPart) (rest : RouterRest) (answer : Option Pending) → IsRouterRest r part rest → IsFirstOf (RouterNames rest) answer → IsFirstOf (LeftAtRouter r part) answer
+pub router_first : (r : ℕ) (part : RouterPart) (rest : RouterRest) (answer : Option Pending) → IsRouterRest r part rest
+    → IsFirstOf (RouterNames rest) answer → IsFirstOf (LeftAtRouter r part) answer
 router_first r part rest answer is first = first_of_more (RouterNames rest) (LeftAtRouter r part) answer (router_has r part rest is) (router_names r part rest is) first
 
-pub far_first : (p : ℕ) (part : FarPart) (rest : FarRest) (answer : Option Pending) → IsFarRest p part rest → IsFirstOf (FarNames rest) answer → IsFirstOf (LeftAtFar p part) answer
+pub far_first : (p : ℕ) (part : FarPart) (rest : FarRest) (answer : Option Pending) → IsFarRest p part rest → IsFirstOf (FarNames rest) answer
+    → IsFirstOf (LeftAtFar p part) answer
 far_first p part rest answer is first = first_of_more (FarNames rest) (LeftAtFar p part) answer (far_has p part rest is) (far_names p part rest is) first
 
-pub operator_first : (setup : Setup) (part : OperatorPart) (rest : OperatorRest) (answer : Option Pending) → IsOperatorRest setup part rest → IsFirstOf (OperatorNames rest) answer → IsFirstOf (LeftToOperator setup part) answer
+pub operator_first : (setup : Setup) (part : OperatorPart) (rest : OperatorRest) (answer : Option Pending) → IsOperatorRest setup part rest
+    → IsFirstOf (OperatorNames rest) answer → IsFirstOf (LeftToOperator setup part) answer
 operator_first setup part rest answer is first = first_of_more (OperatorNames rest) (LeftToOperator setup part) answer (operator_has setup part rest is) (operator_names setup part rest is) first

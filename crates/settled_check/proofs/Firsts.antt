@@ -32,7 +32,8 @@ not_itself : (x : Pending) → pending_cmp x x ≢ Greater
 not_itself x g = let e : Greater ≡ Less = sym g ∙ pending_total.antisymm x x ∙ ap ordering_reverse g in absurd cc
 
 -- the lesser of two things is the first of both
-pub first_of_two : (cmp : Pending → Pending → Ordering) → ((x y : Pending) → cmp x y ≡ pending_cmp x y) → (one other : Option Pending) (a b m : Pending) → one ≡ Some a → other ≡ Some b → m ≡ ord_min cmp a b
+pub first_of_two : (cmp : Pending → Pending → Ordering) → ((x y : Pending) → cmp x y ≡ pending_cmp x y)
+    → (one other : Option Pending) (a b m : Pending) → one ≡ Some a → other ≡ Some b → m ≡ ord_min cmp a b
     → IsFirstOf (IsEither one other) (Some m)
 first_of_two cmp derived one other a b m is_a is_b is_m = by_order (pending_cmp b a) refl (is_m ∙ ap (λ o. cond (is_lt o) b a) (derived b a))
   where
@@ -63,14 +64,16 @@ first_of_two cmp derived one other a b m is_a is_b is_m = by_order (pending_cmp 
     by_order Greater more e = higher (λ less. absurd (let h : Greater ≡ Less = sym more ∙ less in cc)) e
 
 -- Where each thing of one set is in another, and each of the other isn't before one of the first, both have one first thing.
-pub first_of_more : (Few Many : Pending → Type 0) (answer : Option Pending) → ((x : Pending) → Few x → Many x) → ((y : Pending) → Many y → (x : Pending) × Few x × (pending_cmp x y ≢ Greater))
+pub first_of_more : (Few Many : Pending → Type 0) (answer : Option Pending) → ((x : Pending) → Few x → Many x)
+    → ((y : Pending) → Many y → (x : Pending) × Few x × (pending_cmp x y ≢ Greater))
     → IsFirstOf Few answer → IsFirstOf Many answer
 first_of_more Few Many None more few none = λ y many. none (few y many).0 (few y many).1
 first_of_more Few Many (Some first) more few is =
     (more first is.0, λ y many. not_after first (few y many).0 y (is.1 (few y many).0 (few y many).1) (few y many).2)
 
 -- the first of two sets, of the first things of each
-pub first_of_both : (One Other : Pending → Type 0) (one other both : Option Pending) → IsFirstOf One one → IsFirstOf Other other → IsFirstOf (IsEither one other) both
+pub first_of_both : (One Other : Pending → Type 0) (one other both : Option Pending) → IsFirstOf One one → IsFirstOf Other other
+    → IsFirstOf (IsEither one other) both
     → IsFirstOf (λ x. One x ⊎ Other x) both
 first_of_both One Other one other both is is' first = first_of_more (IsEither one other) (λ x. One x ⊎ Other x) both
     (λ x either. elim either [ inl e ↦ inl (named One one is x e) | inr e ↦ inr (named Other other is' x e) ])
@@ -83,14 +86,16 @@ first_of_both One Other one other both is is' first = first_of_more (IsEither on
     named Is None is x e = absurd cc
     named Is (Some first) is x e = let same : first ≡ x = cc in subst Is same is.0
 
-    before : (Is : Pending → Type 0) (answer : Option Pending) → IsFirstOf Is answer → (y : Pending) → Is y → (x : Pending) × (answer ≡ Some x) × (pending_cmp x y ≢ Greater)
+    before : (Is : Pending → Type 0) (answer : Option Pending) → IsFirstOf Is answer → (y : Pending) → Is y
+        → (x : Pending) × (answer ≡ Some x) × (pending_cmp x y ≢ Greater)
     before Is None is y there = absurd (is y there)
     before Is (Some first) is y there = (first, refl, is.1 y there)
 
 -- ---- numbers
 
 -- the lowest number, where there is one at all
-pub lowest : {A : Type 0} (number : A → ℕ) (Is : ℕ → Type 0) (answer : Option A) (n : ℕ) → IsLowestOf Is (option_map number answer) → Is n → (m : A) × (answer ≡ Some m) × (number m ≤ n)
+pub lowest : {A : Type 0} (number : A → ℕ) (Is : ℕ → Type 0) (answer : Option A) (n : ℕ) → IsLowestOf Is (option_map number answer) → Is n
+    → (m : A) × (answer ≡ Some m) × (number m ≤ n)
 lowest number Is None n is there = absurd (is n there)
 lowest number Is (Some m) n is there = (m, refl, is.1 n there)
 
@@ -98,7 +103,8 @@ pub lowest_number : (Is : ℕ → Type 0) (answer : Option ℕ) (n : ℕ) → Is
 lowest_number Is None n is there = absurd (is n there)
 lowest_number Is (Some m) n is there = (m, refl, is.1 n there)
 
-pub is_lowest : {A : Type 0} (number : A → ℕ) (Is : ℕ → Type 0) (answer : Option A) (m : A) → IsLowestOf Is (option_map number answer) → answer ≡ Some m → Is (number m)
+pub is_lowest : {A : Type 0} (number : A → ℕ) (Is : ℕ → Type 0) (answer : Option A) (m : A) → IsLowestOf Is (option_map number answer)
+    → answer ≡ Some m → Is (number m)
 is_lowest number Is None m is e = absurd cc
 is_lowest number Is (Some n) m is e = let same : n ≡ m = cc in subst (λ x. Is (number x)) same is.0
 

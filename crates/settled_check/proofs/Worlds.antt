@@ -24,10 +24,10 @@ use Rattle.graft_model.specs.Parts.{Place, Vacant, Live, Frozen, Shadow, Errand,
 use Rattle.graft_model.specs.First.{first_router, first_far, place_in}
 use Rattle.graft_model.specs.Quiet.{Quiet, HasRead, AllAcked, IsIdle}
 use Rattle.graft_model.specs.Claims.{sessions_at, sessions_on}
-use Rattle.graft_runs.specs.Actors.{ActorName, Router, FarSide, Operator, IsActor, number_in, actor_at, RouterIs, FarIs, MeshItem, OutwardItem, SegmentItem, OrderItem, ReportItem, StepItem}
-use Rattle.graft_runs.specs.Seen.{channel_of}
-use Rattle.graft_runs.specs.Laws.{ActorsHaveNumbers}
-use Rattle.settled_check.specs.Left.{HasSome, HasStream, HasUnread, IsUnacked, graft_at, IsUnended, HasUnissued, LeftAtRouter, LeftAtFar}
+use Rattle.graft_actors.specs.Actors.{ActorName, Router, FarSide, Operator, IsActor, number_in, actor_at, RouterIs, FarIs, MeshItem, OutwardItem, SegmentItem, OrderItem, ReportItem, StepItem}
+use Rattle.graft_actors.specs.Seen.{channel_of}
+use Rattle.graft_actors.specs.Laws.{ActorsHaveNumbers}
+use Rattle.settled_check.specs.Left.{HasSome, HasStream, HasUnread, IsUnacked, graft_in_place, IsUnended, HasUnissued, LeftAtRouter, LeftAtFar}
 use Rattle.settled_check.specs.Worlds.{LeftOnItsWay, IsLeft, OnItsWay, AtRouter, AtFarSide, ToOperator, Fits, IsOnTheWay, AreRests, NothingIsNamed}
 use Rattle.settled_check.proofs.Actors.{router_has, router_names, far_has, far_names, operator_has, operator_names}
 
@@ -96,7 +96,7 @@ all_acked from to fits none =
     let acked : from.acked ≡ length from.stream = same_number from.acked (length from.stream) none in
     record { received = omega (arith, fits.acked, fits.received, acked); acked = acked }
 
-idle : (remote : Endpoint) (place : Place) → graft_at place ≡ None → ¬ HasStream place → ¬ IsUnacked remote
+idle : (remote : Endpoint) (place : Place) → graft_in_place place ≡ None → ¬ HasStream place → ¬ IsUnacked remote
     → ((session : SessionValue) (order : Option Errand) → place ≡ Live session order → Fits session.end remote × Fits remote session.end) → IsIdle remote place
 idle remote Vacant no_graft no_stream acked fits = tt
 idle remote (Live session None) no_graft no_stream acked fits =
@@ -105,7 +105,7 @@ idle remote (Live session (Some order)) no_graft no_stream acked fits = absurd c
 idle remote (Frozen session order) no_graft no_stream acked fits = absurd cc
 idle remote (Shadow graft) no_graft no_stream acked fits = absurd cc
 
-idle_has_no_graft : (remote : Endpoint) (place : Place) (k : ℕ) → IsIdle remote place → graft_at place ≡ Some k → ⊥
+idle_has_no_graft : (remote : Endpoint) (place : Place) (k : ℕ) → IsIdle remote place → graft_in_place place ≡ Some k → ⊥
 idle_has_no_graft remote Vacant k is e = absurd cc
 idle_has_no_graft remote (Live session None) k is e = absurd cc
 idle_has_no_graft remote (Live session (Some order)) k is e = is
@@ -163,7 +163,8 @@ module _ (numbers : ActorsHaveNumbers) (setup : Setup) (w : World) (is : IsOnThe
       | inr unknown ↦ is.within.channels x y (λ l m. unknown l)
       | inl l ↦ elim (known y) [
         | inr unknown ↦ is.within.channels x y (λ k m. unknown m)
-        | inl m ↦ ap (λ o. channel_of w o (Some y)) (sym (numbers setup x l)) ∙ ap (λ o. channel_of w (actor_at setup (number_in setup x)) o) (sym (numbers setup y m))
+        | inl m ↦ ap (λ o. channel_of w o (Some y)) (sym (numbers setup x l))
+            ∙ ap (λ o. channel_of w (actor_at setup (number_in setup x)) o) (sym (numbers setup y m))
             ∙ nothing_comes (number_in setup x) (number_in setup y)
       ]
     ]

@@ -9,7 +9,7 @@ use Rattle.session_value.specs.Sets.{Prefixes, has}
 use Rattle.graft_steps.specs.declared.rest.Pending.{Pending}
 use Rattle.graft_steps.specs.declared.rest.Pending.TheVariants.{Script, Graft, Bag, Stream, Dirty, DueIn, DueOut}
 use Rattle.graft_model.specs.Setups.{Setup, SayStep, ScriptGraft, group_of, graft_at as script_graft}
-use Rattle.graft_model.specs.Parts.{Place, Vacant, Live, Frozen, Shadow, graft_of, RouterPart, FarPart, OperatorPart}
+use Rattle.graft_model.specs.Parts.{Errand, Asking, Place, Vacant, Live, Frozen, Shadow, graft_of, RouterPart, FarPart, OperatorPart}
 use Rattle.graft_model.specs.Placements.{target_in}
 
 -- ---- a router
@@ -19,12 +19,18 @@ abbrev pub HasSome : Prefixes → Type 0
 HasSome prefixes = (prefix : PrefixValue) × (has prefixes prefix ≡ true)
 
 -- the graft at a place: the one of the live session's errand, the one for which the session is frozen, or the one in which it left
-abbrev pub graft_at : Place → Option ℕ
-graft_at Vacant = None
-graft_at (Live session None) = None
-graft_at (Live session (Some errand)) = Some (graft_of errand)
-graft_at (Frozen session order) = Some order.graft
-graft_at (Shadow graft) = Some graft
+abbrev pub graft_in_place : Place → Option ℕ
+graft_in_place Vacant = None
+graft_in_place (Live session None) = None
+graft_in_place (Live session (Some errand)) = Some (graft_of errand)
+graft_in_place (Frozen session order) = Some order.graft
+graft_in_place (Shadow graft) = Some graft
+
+-- A session has no errand, unless the answer of a router is pending.
+abbrev pub AwaitsAtMost : Option Errand → Type 0
+AwaitsAtMost None = Unit {0}
+AwaitsAtMost (Some (Asking word)) = Unit {0}
+AwaitsAtMost (Some errand) = ⊥
 
 -- not all bytes of an endpoint's stream are acknowledged
 abbrev pub IsUnacked : Endpoint → Type 0
@@ -46,11 +52,11 @@ HasStream (Frozen session order) = IsUnacked session.end ⊎ HasUnread session
 HasStream (Shadow graft) = ⊥
 
 -- a graft is at one of the places
-abbrev pub HasGraft : RouterPart → ℕ → Type 0
-HasGraft part k = (p : ℕ) × (graft_at (part.places p) ≡ Some k)
+abbrev pub HoldsGraft : RouterPart → ℕ → Type 0
+HoldsGraft part k = (p : ℕ) × (graft_in_place (part.places p) ≡ Some k)
 
 abbrev pub LeftAtRouter : ℕ → RouterPart → Pending → Type 0
-LeftAtRouter r part (Graft k) = HasGraft part k
+LeftAtRouter r part (Graft k) = HoldsGraft part k
 LeftAtRouter r part (Stream p) = HasStream (part.places p.0)
 LeftAtRouter r part (Dirty s) = (s.0 ≡ r) × HasSome part.dirty
 LeftAtRouter r part (DueIn s q) = (s.0 ≡ r) × HasSome (part.due_in q.0)

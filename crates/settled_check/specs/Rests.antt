@@ -7,7 +7,7 @@ use Rattle.graft_steps.specs.declared.rest.OperatorRest.{OperatorRest}
 use Rattle.graft_model.specs.Setups.{Setup}
 use Rattle.graft_model.specs.Parts.{RouterPart, FarPart, OperatorPart}
 use Rattle.settled_check.specs.Firsts.{IsLowestOf}
-use Rattle.settled_check.specs.Left.{HasSome, HasStream, HasGraft, IsUnacked, HasUnissued, IsOpen}
+use Rattle.settled_check.specs.Left.{HasSome, HasStream, HoldsGraft, IsUnacked, HasUnissued, IsOpen}
 
 -- of the router of this number
 pub record IsRouterRest (r : ℕ) (part : RouterPart) (rest : RouterRest) : Type 0 where
@@ -15,7 +15,7 @@ pub record IsRouterRest (r : ℕ) (part : RouterPart) (rest : RouterRest) : Type
   pub dirty : (rest.dirty ≡ true) ↔ HasSome part.dirty
   pub due_in : IsLowestOf (λ q. HasSome (part.due_in q)) (option_map (λ q. q.0) rest.due_in)
   pub due_out : IsLowestOf (λ p. HasSome (part.due_out p)) (option_map (λ p. p.0) rest.due_out)
-  pub graft : IsLowestOf (HasGraft part) rest.graft
+  pub graft : IsLowestOf (HoldsGraft part) rest.graft
   pub stream : IsLowestOf (λ p. HasStream (part.places p)) (option_map (λ p. p.0) rest.stream)
 
 -- of the far side of this peering

@@ -2,7 +2,7 @@
 
 ghost use Rattle.settled_check.specs.Worlds.{RouterRestsTell, FarRestsTell, OperatorRestsTell, QuietIsNothingLeft, QuietIsFound};
 
-use graft_runs::actors_have_their_numbers;
+use graft_actors::actors_have_their_numbers;
 
 /// The first thing that an actor's rest names is the first one left to do in the actor's part of the world.
 pub fn rests_tell_what_is_left()

@@ -19,22 +19,22 @@ use Rattle.graft_model.specs.First.{first_router, place_in}
 use Rattle.graft_laws.specs.Keeps.{Reached, Has}
 use Rattle.graft_laws.specs.Ranges.{IsInRange}
 use Rattle.graft_laws.specs.Streams.{IsUnbroken}
-use Rattle.graft_runs.specs.Actors.{RouterIs, ActorName, Router, FarSide, Operator, IsActor, actor_at, MeshItem, OrderItem, ReportItem}
-use Rattle.graft_runs.specs.Seen.{channel_of, IsWithin}
-use Rattle.graft_runs.specs.Laws.{NumbersAreOfActors}
+use Rattle.graft_actors.specs.Actors.{RouterIs, ActorName, Router, FarSide, Operator, IsActor, actor_at, MeshItem, OrderItem, ReportItem}
+use Rattle.graft_actors.specs.Seen.{channel_of, IsWithin}
+use Rattle.graft_actors.specs.Laws.{NumbersAreOfActors}
 use Rattle.graft_actors.specs.Emissions.{IsRested}
 use Rattle.operator_core.specs.Turns.{NothingToOrder}
 use Rattle.settled_check.specs.Left.{HasSome, HasStream, IsUnacked, LeftAtRouter, LeftAtFar, LeftToOperator}
 use Rattle.settled_check.specs.Worlds.{LeftOnItsWay, IsLeft, OnItsWay, AtRouter, AtFarSide, ToOperator, StreamsFit}
-use Rattle.still_grafts.specs.Still as still
 use Rattle.still_grafts.specs.Still.{HasNoneStored, HasNoGraftLeft, StillWorldsHaveNoGraftLeft}
-use Rattle.router_core.specs.Rested.{AwaitsAtMost, IsQuietPlace, IsDone}
+use Rattle.router_core.specs.Rested.{IsQuietPlace, IsDone}
 use Rattle.world_nodes.specs.Looks.{IsStuckIn}
 use Rattle.silent_rounds.proofs.SameWorlds.{below_or_past, RouterRests, FarRests}
 
 -- what is told is written
 abbrev pub WhatIsToldCanBeWritten : Type 0
-WhatIsToldCanBeWritten = (setup : Setup) (w : World) (r p : ℕ) (session : SessionValue) (errand : Option Errand) (x : PrefixValue) (attrs : Attrs) → IsSetup setup → IsInRange setup → Reached setup w
+WhatIsToldCanBeWritten = (setup : Setup) (w : World) (r p : ℕ) (session : SessionValue) (errand : Option Errand) (x : PrefixValue) (attrs : Attrs)
+    → IsSetup setup → IsInRange setup → Reached setup w
     → (w.router r).places p ≡ Live session errand → to_tell setup r (w.router r) session x ≡ Some attrs → IsWritableAttrs attrs
 
 abbrev pub SessionsAreUnbroken : Type 0
@@ -83,15 +83,9 @@ all_acked e rested sent within unacked = unacked (whole e.acked e.emitted (lengt
 
 -- ---- places
 
-awaits : (errand : Option Errand) → AwaitsAtMost errand → still.AwaitsAtMost errand
-awaits None is = tt
-awaits (Some (Leaving order)) is = is
-awaits (Some (Owing word)) is = is
-awaits (Some (Asking word)) is = tt
-
 none_stored : (place : Place) → IsQuietPlace place → HasNoneStored place
 none_stored Vacant quiet = tt
-none_stored (Live session errand) quiet = awaits errand quiet.0
+none_stored (Live session errand) quiet = quiet.0
 none_stored (Frozen session order) quiet = quiet
 none_stored (Shadow graft) quiet = tt
 

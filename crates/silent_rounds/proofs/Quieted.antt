@@ -9,14 +9,14 @@ use Rattle.graft_model.specs.Parts.{World}
 use Rattle.graft_model.specs.Quiet.{Quiet}
 use Rattle.graft_laws.specs.Keeps.{Reached}
 use Rattle.graft_laws.specs.Ranges.{IsInRange}
-use Rattle.graft_runs.specs.Actors.{ActorName, number_in, IsActor}
-use Rattle.graft_runs.specs.Seen.{channel_of, IsWithin}
-use Rattle.graft_runs.specs.Laws.{NumbersAreOfActors}
+use Rattle.graft_actors.specs.Actors.{ActorName, number_in, IsActor}
+use Rattle.graft_actors.specs.Seen.{channel_of, IsWithin}
+use Rattle.graft_actors.specs.Laws.{NumbersAreOfActors}
 use Rattle.settled_check.specs.Worlds.{QuietIsNothingLeft, IsOnTheWay}
 use Rattle.still_grafts.specs.Still.{StillWorldsHaveNoGraftLeft}
 use Rattle.world_runs.specs.Laws.{WorldsAreOnTheWay}
 use Rattle.world_nodes.specs.Looks.{IsLowest, IsStuckIn}
-use Rattle.real_rounds.specs.Entries.{between, taken_from}
+use Rattle.real_rounds.specs.Entries.{between, count_taken_from}
 use Rattle.real_rounds.specs.Whole.{Slices, RealRound, Drains, RealRounds}
 use Rattle.silent_rounds.specs.Silence.{AreSilent, AreShort}
 use Rattle.silent_rounds.specs.Laws.{SilentLinksAreEmpty, SilentWorldsAreQuiet}
@@ -31,8 +31,8 @@ none_long (x ∷ xs) e = absurd (omega (arith, e))
 drained : (setup : Setup) (w : World) (one other : Slices) → ((n : ℕ) → one n ≡ []) → ((n : ℕ) → other n ≡ []) → Drains setup w one other
     → (x y : ActorName) → IsActor setup x → IsActor setup y → channel_of w (Some x) (Some y) ≡ []
 drained setup w one other none_in_one none_in_other drains x y x_known y_known =
-    let first : taken_from x (one (number_in setup y)) ≡ 0 = ap (λ (es : List JournalEntry). taken_from x es) (none_in_one (number_in setup y)) in
-    let second : taken_from x (other (number_in setup y)) ≡ 0 = ap (λ (es : List JournalEntry). taken_from x es) (none_in_other (number_in setup y)) in
+    let first : count_taken_from x (one (number_in setup y)) ≡ 0 = ap (λ (es : List JournalEntry). count_taken_from x es) (none_in_one (number_in setup y)) in
+    let second : count_taken_from x (other (number_in setup y)) ≡ 0 = ap (λ (es : List JournalEntry). count_taken_from x es) (none_in_other (number_in setup y)) in
     none_long (channel_of w (Some x) (Some y)) (nothing (length (channel_of w (Some x) (Some y))) _ _ (drains x y x_known y_known) first second)
   where
     nothing : (n taken more : ℕ) → min 256 n ≤ taken + more → taken ≡ 0 → more ≡ 0 → n ≡ 0

@@ -16,18 +16,18 @@ use Rattle.graft_model.specs.RouterRows.{IsLive}
 use Rattle.graft_model.specs.declared.event.RouterEvent.{RouterEvent}
 use Rattle.graft_model.specs.declared.event.FarEvent.{FarEvent}
 use Rattle.graft_model.specs.Steps.{Event, Run}
-use Rattle.graft_runs.specs.Actors.{Router, FarSide, number_in}
-use Rattle.graft_runs.specs.Laws.{AreEntriesOf}
+use Rattle.graft_actors.specs.Actors.{Router, FarSide, number_in}
+use Rattle.graft_actors.specs.Laws.{AreEntriesOf}
 use Rattle.graft_actors.specs.Emissions.{IsRested}
 use Rattle.operator_core.specs.Turns.{NothingToOrder}
 use Rattle.router_core.specs.Rested.{RestedRouter}
 use Rattle.router_core.specs.Rounds.{RouterGoes}
 use Rattle.router_core.specs.Turned.{emits_on}
-use Rattle.real_rounds.specs.Ends.{GoesOn}
-use Rattle.real_rounds.specs.Entries.{AreCoded}
-use Rattle.real_rounds.specs.Routers.{HasLive, Stands, RealRouter}
+use Rattle.real_rounds.specs.Ends.{AcksOrResends}
+use Rattle.real_rounds.specs.Routers.{HasLive, StaysLive, RealRouter}
 use Rattle.real_rounds.specs.Fars.{Links, RealFar}
 use Rattle.real_rounds.specs.Whole.{Slices, RouterDid, FarDid, OperatorDid, RoundGoes}
+use Rattle.graft_actors.specs.Makes.{AreCoded}
 
 -- ---- numbers and lists
 
@@ -49,10 +49,12 @@ no_entries : (setup : Setup) (entries : List JournalEntry) → AreEntriesOf setu
 no_entries setup [] are = refl
 no_entries setup (entry ∷ entries) are = absurd are
 
-pub silent_round : (setup : Setup) (start : World) (slices : Slices) (events : List Event) (end : World) → RoundGoes setup start slices events end → events ≡ [] → IsSilent start slices end
+pub silent_round : (setup : Setup) (start : World) (slices : Slices) (events : List Event) (end : World) → RoundGoes setup start slices events end
+    → events ≡ [] → IsSilent start slices end
 silent_round setup start slices events end goes none = record {
   same = subst (λ (es : List Event). Run setup start es end) none goes.run;
-  none = λ n. sym (goes.merged.each n) ∙ ap (λ (es : List JournalEntry). entries_by n es) (no_entries setup goes.entries (subst (λ (es : List Event). AreEntriesOf setup es goes.entries) none goes.entries_of));
+  none = λ n. sym (goes.merged.each n)
+      ∙ ap (λ (es : List JournalEntry). entries_by n es) (no_entries setup goes.entries (subst (λ (es : List Event). AreEntriesOf setup es goes.entries) none goes.entries_of));
 }
 
 no_events : {E : Type 0} (code : E → Code) (events : List E) (entries : List JournalEntry) → AreCoded code events entries → entries ≡ [] → events ≡ []
@@ -63,7 +65,7 @@ no_events code (event ∷ events) (entry ∷ entries) are none = absurd cc
 -- ---- an endpoint
 
 -- without an old slice sent again, and with the acknowledged length as before, nothing is outstanding
-nothing_out : (e : Endpoint) (again : ℕ) → again ≡ 0 → GoesOn e e again → e.emitted ≤ e.acked
+nothing_out : (e : Endpoint) (again : ℕ) → again ≡ 0 → AcksOrResends e e again → e.emitted ≤ e.acked
 nothing_out e again none goes_on = elim (below_or_past e.acked e.emitted) [
   | inl out ↦ elim (goes_on out) [ inl more ↦ omega (arith, more) | inr once ↦ omega (arith, none, once) ]
   | inr past ↦ past
@@ -76,7 +78,8 @@ pub record RouterRests (setup : Setup) (r : ℕ) (part : RouterPart) : Type 0 wh
   pub rested : RestedRouter setup r part
   pub sent : (p : ℕ) (s : SessionValue) (o : Option Errand) → IsLive part p s o → s.end.emitted ≤ s.end.acked
 
-goes_nowhere : (setup : Setup) (r : ℕ) (Allowed : RouterPart → RouterEvent → Type 0) (before : RouterPart) (events : List RouterEvent) (parts : List RouterPart) (after : RouterPart) → events ≡ []
+goes_nowhere : (setup : Setup) (r : ℕ) (Allowed : RouterPart → RouterEvent → Type 0) (before : RouterPart) (events : List RouterEvent) (parts : List RouterPart) (after : RouterPart)
+    → events ≡ []
     → RouterGoes setup r Allowed before events parts after → parts ≡ []
 goes_nowhere setup r Allowed before [] [] after none goes = refl
 goes_nowhere setup r Allowed before [] (part ∷ parts) after none goes = absurd goes
@@ -92,7 +95,7 @@ module _ (setup : Setup) (r round : ℕ) (part : RouterPart) (events : List Rout
       let second = append_none real.again real.work first.1 in
       (first.0, second.0, second.1)
 
-  stays : (p : ℕ) (s : SessionValue) (o : Option Errand) → IsLive part p s o → Stands p part (real.first ++ (real.second ++ real.third)) end s s
+  stays : (p : ℕ) (s : SessionValue) (o : Option Errand) → IsLive part p s o → StaysLive p part (real.first ++ (real.second ++ real.third)) end s s
   stays p s o live =
       let parts : real.first ++ (real.second ++ real.third) ≡ [] = all_none real.first real.second real.third (goes_nowhere setup r _ part real.taken real.first real.turning pieces.0 real.takes)
       (goes_nowhere setup r _ real.turning real.again real.second real.sent pieces.1 real.sends) (goes_nowhere setup r _ real.sent real.work real.third end pieces.2 real.works) in
@@ -110,7 +113,8 @@ module _ (setup : Setup) (r round : ℕ) (part : RouterPart) (events : List Rout
     sent = λ p s o live. nothing_out s.end (emits_on p real.again) (ap (λ (es : List RouterEvent). emits_on p es) pieces.1) (real.goes_on p s s (stays p s o live));
   }
 
-pub router_rests : (setup : Setup) (r round : ℕ) (start : World) (slices : Slices) (end : World) → RouterDid setup r round start slices end → IsSilent start slices end → RouterRests setup r (start.router r)
+pub router_rests : (setup : Setup) (r round : ℕ) (start : World) (slices : Slices) (end : World) → RouterDid setup r round start slices end
+    → IsSilent start slices end → RouterRests setup r (start.router r)
 router_rests setup r round start slices end did silent =
     router_at_rest setup r round (start.router r) did.events (end.router r) did.real (no_events router_code did.events _ did.coded (silent.none (number_in setup (Router r)))) (ap (λ (w : World). w.router r) silent.same)
 
@@ -133,7 +137,7 @@ module _ (setup : Setup) (faults : List Fault) (p round : ℕ) (part : FarPart) 
   far_at_rest : FarRests part
   far_at_rest = record {
     rested = subst (λ (x : FarPart). IsRested x.end) same real.rested;
-    sent = nothing_out part.end (length real.again) (ap (λ (es : List FarEvent). length es) none_again) (subst (λ (x : FarPart). GoesOn part.end x.end (length real.again)) same real.goes_on);
+    sent = nothing_out part.end (length real.again) (ap (λ (es : List FarEvent). length es) none_again) (subst (λ (x : FarPart). AcksOrResends part.end x.end (length real.again)) same real.goes_on);
   }
 
 pub far_rests : (setup : Setup) (faults : List Fault) (p round : ℕ) (start : World) (before : Links) (slices : Slices) (end : World) (after : Links)
@@ -143,5 +147,6 @@ far_rests setup faults p round start before slices end after did silent =
 
 -- ---- the operator
 
-pub nothing_to_order : (setup : Setup) (start : World) (slices : Slices) (end : World) → OperatorDid setup start slices end → IsSilent start slices end → NothingToOrder setup start.operator
+pub nothing_to_order : (setup : Setup) (start : World) (slices : Slices) (end : World) → OperatorDid setup start slices end
+    → IsSilent start slices end → NothingToOrder setup start.operator
 nothing_to_order setup start slices end did silent = subst (λ (w : World). NothingToOrder setup w.operator) silent.same did.real.issued

@@ -15,18 +15,18 @@ use Rattle.graft_model.specs.Setups.{Setup, peerings_in}
 use Rattle.graft_model.specs.Parts.{FarPart, World}
 use Rattle.graft_model.specs.Steps.{Event}
 use Rattle.graft_model.specs.declared.event.FarEvent.{FarEvent}
-use Rattle.graft_runs.specs.Actors.{FarSide, number_in}
-use Rattle.graft_runs.specs.Laws.{AreEntriesOf}
-use Rattle.far_side.specs.Links.{act_of, act_in, last_turn, older, left_of, home_act, home_event, home_events, remote_act, remote_event, remote_events}
+use Rattle.graft_actors.specs.Actors.{FarSide, number_in}
+use Rattle.graft_actors.specs.Laws.{AreEntriesOf}
+use Rattle.far_side.specs.Links.{act_of, act_in, last_turn, older, left_in_link, home_act, home_event, home_events, remote_act, remote_event, remote_events}
 use Rattle.far_side.specs.declared.link.InLink.{InLink}
 use Rattle.far_side.specs.declared.link.Act.{Act}
 use Rattle.far_side.specs.declared.link.Act.TheVariants.{Stays, Delivered, Copied, Lost}
-use Rattle.real_rounds.specs.Entries.{AreCoded}
 use Rattle.real_rounds.specs.Fars.{Links, Lying, ArePut, RealFar, is_take, fates_put}
 use Rattle.real_rounds.specs.Whole.{Slices, RoundGoes, RealRounds}
 use Rattle.silent_rounds.specs.Silence.{AreSilent, AreShort}
 use Rattle.silent_rounds.specs.Laws.{SilentLinksAreEmpty}
 use Rattle.silent_rounds.proofs.LinkPlans.{IsShort, Planned, mark_is, far_did, all_planned}
+use Rattle.graft_actors.specs.Makes.{AreCoded}
 
 -- ---- seven turns of one link
 
@@ -43,7 +43,7 @@ abbrev HeadStays : List InLink → Type 0
 HeadStays [] = Unit {0}
 HeadStays (x ∷ xs) = act_in x ≡ Stays
 
-head_left : (x : InLink) (xs : List InLink) → act_in x ≡ Stays → left_of (x ∷ xs) ≡ older x ∷ left_of xs
+head_left : (x : InLink) (xs : List InLink) → act_in x ≡ Stays → left_in_link (x ∷ xs) ≡ older x ∷ left_in_link xs
 head_left x xs h = rw h refl
 
 -- the first segment at a turn: it is as old, and doesn't wait for long
@@ -52,16 +52,16 @@ record Waiting (link : ℕ → List InLink) (j : ℕ) (x : InLink) (xs : List In
   old : j ≤ x.turns
   short : last_turn x.fate ≤ 6
 
-module _ (link : ℕ → List InLink) (silent : (j : ℕ) → j ≤ 6 → HeadStays (link j)) (goes : (j : ℕ) → j < 6 → link (j + 1) ≡ left_of (link j)) where
+module _ (link : ℕ → List InLink) (silent : (j : ℕ) → j ≤ 6 → HeadStays (link j)) (goes : (j : ℕ) → j < 6 → link (j + 1) ≡ left_in_link (link j)) where
   stays : (j : ℕ) (x : InLink) (xs : List InLink) → j ≤ 6 → Waiting link j x xs → act_in x ≡ Stays
   stays j x xs le w = subst HeadStays w.is (silent j le)
 
-  one_later : (j : ℕ) (x : InLink) (xs : List InLink) → j < 6 → Waiting link j x xs → Waiting link (j + 1) (older x) (left_of xs)
-  one_later j x xs lt w = record { is = goes j lt ∙ ap left_of w.is ∙ head_left x xs (stays j x xs (omega (arith, lt)) w); old = omega (arith, w.old); short = w.short }
+  one_later : (j : ℕ) (x : InLink) (xs : List InLink) → j < 6 → Waiting link j x xs → Waiting link (j + 1) (older x) (left_in_link xs)
+  one_later j x xs lt w = record { is = goes j lt ∙ ap left_in_link w.is ∙ head_left x xs (stays j x xs (omega (arith, lt)) w); old = omega (arith, w.old); short = w.short }
 
   waits : (d j : ℕ) (x : InLink) (xs : List InLink) → j + d ≡ 6 → Waiting link j x xs → ⊥
   waits zero j x xs size w = let before : x.turns < last_turn x.fate = stays_before x.fate x.turns (stays j x xs (omega (arith, size)) w) in omega (arith, size, w.old, w.short, before)
-  waits (suc d) j x xs size w = waits d (j + 1) (older x) (left_of xs) (omega (arith, size)) (one_later j x xs (omega (arith, size)) w)
+  waits (suc d) j x xs size w = waits d (j + 1) (older x) (left_in_link xs) (omega (arith, size)) (one_later j x xs (omega (arith, size)) w)
 
   seven_turns : AllByRecursion IsShort (link 0) → link 0 ≡ []
   seven_turns short = by_case (link 0) refl
@@ -84,9 +84,11 @@ no_entries : (setup : Setup) (entries : List JournalEntry) → AreEntriesOf setu
 no_entries setup [] are = refl
 no_entries setup (e ∷ es) are = absurd are
 
-no_slice : (setup : Setup) (start end : World) (slices : Slices) (events : List Event) → RoundGoes setup start slices events end → events ≡ [] → (n : ℕ) → slices n ≡ []
+no_slice : (setup : Setup) (start end : World) (slices : Slices) (events : List Event) → RoundGoes setup start slices events end → events ≡ []
+    → (n : ℕ) → slices n ≡ []
 no_slice setup start end slices events goes none n =
-    sym (goes.merged.each n) ∙ ap (λ (es : List JournalEntry). entries_by n es) (no_entries setup goes.entries (subst (λ (es : List Event). AreEntriesOf setup es goes.entries) none goes.entries_of))
+    sym (goes.merged.each n)
+    ∙ ap (λ (es : List JournalEntry). entries_by n es) (no_entries setup goes.entries (subst (λ (es : List Event). AreEntriesOf setup es goes.entries) none goes.entries_of))
 
 no_events : (events : List FarEvent) (entries : List JournalEntry) → AreCoded far_code events entries → entries ≡ [] → events ≡ []
 no_events [] entries coded none = refl
@@ -121,8 +123,8 @@ remote_head (x ∷ xs) none = by_act (act_in x) (nil_front (remote_event 0 x) _ 
 record Still (before after : Links) : Type 0 where
   home_stays : HeadStays before.home.plans
   remote_stays : HeadStays before.remote.plans
-  home_left : after.home.plans ≡ left_of before.home.plans
-  remote_left : after.remote.plans ≡ left_of before.remote.plans
+  home_left : after.home.plans ≡ left_in_link before.home.plans
+  remote_left : after.remote.plans ≡ left_in_link before.remote.plans
 
 no_put : (faults : List Fault) (p : ℕ) (way : Way) (from n : ℕ) (new : List InLink) → ArePut faults p way from n new → n ≡ 0 → new ≡ []
 no_put faults p way from n new put none = no_map (λ x. (x.fate, x.turns)) new (subst (λ (m : ℕ). map (λ x. (x.fate, x.turns)) new ≡ fates_put faults p way from m) none put.fates)
@@ -157,8 +159,9 @@ module _ (setup : Setup) (faults : List Fault) (p round : ℕ) (start end : FarP
   round_still = record {
     home_stays = home_head end.pointer before.home.plans (nil_front (home_events end.pointer before.home.plans) _ turn_none);
     remote_stays = remote_head before.remote.plans (subst (λ (xs : List InLink). remote_events xs ≡ []) same_plans (nil_front (remote_events (before.remote.plans ++ real.took)) _ link_none));
-    home_left = ap (λ (x : Lying). x.plans) real.home ∙ ap (λ (xs : List InLink). left_of before.home.plans ++ xs) sent_none ∙ append-nil (left_of before.home.plans);
-    remote_left = ap (λ (x : Lying). x.plans) real.remote ∙ ap (λ (xs : List InLink). left_of xs) same_plans;
+    home_left = ap (λ (x : Lying). x.plans) real.home ∙ ap (λ (xs : List InLink). left_in_link before.home.plans ++ xs) sent_none
+        ∙ append-nil (left_in_link before.home.plans);
+    remote_left = ap (λ (x : Lying). x.plans) real.remote ∙ ap (λ (xs : List InLink). left_in_link xs) same_plans;
   }
 
 -- ---- seven rounds

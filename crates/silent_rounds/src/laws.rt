@@ -2,8 +2,8 @@
 
 ghost use Rattle.silent_rounds.specs.Laws.{SilentLinksAreEmpty, SilentWorldsAreQuiet};
 
+use graft_actors::actors_have_their_numbers;
 use graft_laws::{sessions_are_unbroken, what_is_told_can_be_written};
-use graft_runs::actors_have_their_numbers;
 use settled_check::quiet_is_found;
 use still_grafts::still_worlds_have_no_graft_left;
 use world_runs::worlds_are_on_the_way;

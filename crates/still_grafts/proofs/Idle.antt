@@ -8,7 +8,7 @@ use Rattle.graft_model.specs.Parts.{Place, Vacant, Live, Frozen, Shadow, Leaving
 use Rattle.graft_model.specs.Parts.{Word, Moved, Back, Asked, Answered, Done, GraftOrder, Report, World}
 use Rattle.graft_laws.specs.Phases.{Stage, Ordered, Stored, Halted, Moving, Landed, Asking, Confirmed, Returning, Declined, Cleared, Busy}
 use Rattle.graft_laws.specs.Owned.{is_on, Stands}
-use Rattle.graft_laws.specs.Log.{is_of}
+use Rattle.graft_laws.specs.Log.{is_graft_on}
 use Rattle.graft_laws.proofs.Heads.{only_here, only2_here, placed_here, landed_here}
 use Rattle.still_grafts.specs.Still.{HasNoneStored, IsStill}
 use Rattle.still_grafts.proofs.Awaited.{IsAmong, AreAwaited}
@@ -54,7 +54,7 @@ module _ (setup : Setup) (w : World) (still : IsStill setup w) (awaited : AreAwa
       nothing_in (is_on p) (w.mesh t q) (Back k p s refusal) (still.mesh t q) (b.mesh t q ∙ only2_here t q (Back k p s refusal))
   not_busy p q k t (Declined refusal) s b =
       let report : Report = record { graft = k; outcome = Refused refusal } in
-      nothing_in (λ (o : Report). is_of setup p o.graft) (w.reports q) report (still.reports q) (b.reports q ∙ only_here q report)
+      nothing_in (λ (o : Report). is_graft_on setup p o.graft) (w.reports q) report (still.reports q) (b.reports q ∙ only_here q report)
   not_busy p q k t Cleared s b =
       let report : Report = record { graft = k; outcome = Accepted } in
-      nothing_in (λ (o : Report). is_of setup p o.graft) (w.reports q) report (still.reports q) (b.reports q ∙ only_here q report)
+      nothing_in (λ (o : Report). is_graft_on setup p o.graft) (w.reports q) report (still.reports q) (b.reports q ∙ only_here q report)

@@ -11,7 +11,7 @@ use Rattle.graft_laws.proofs.Deeds.{below_or}
 use Rattle.graft_laws.proofs.GroupGifts.{over_ended}
 use Rattle.graft_laws.proofs.OneGraft.{under_way_once}
 use Rattle.graft_laws.proofs.Runs.{always_owned}
-use Rattle.settled_check.specs.Left.{graft_at, HasGraft, IsOpen}
+use Rattle.settled_check.specs.Left.{graft_in_place, HoldsGraft, IsOpen}
 use Rattle.still_grafts.specs.Still.{IsStill, HasNoGraftLeft}
 use Rattle.still_grafts.proofs.Awaited.{AreAwaited, always_awaited}
 use Rattle.still_grafts.proofs.Idle.{not_busy}
@@ -25,19 +25,19 @@ module _ (setup : Setup) (w : World) (sound : IsSetup setup) (reached : Reached 
   awaited = always_awaited setup w reached
 
   -- a session that is only held is no graft
-  none_held : (b : Bool) (s : SessionValue) (k : ℕ) → graft_at (if b then Live s None else Vacant) ≡ Some k → ⊥
+  none_held : (b : Bool) (s : SessionValue) (k : ℕ) → graft_in_place (if b then Live s None else Vacant) ≡ Some k → ⊥
   none_held true s k e = cc
   none_held false s k e = cc
 
-  none_in : (p r k : ℕ) (phase : Phase) (s : SessionValue) → Stands setup w p phase s → graft_at ((w.router r).places p) ≡ Some k → ⊥
+  none_in : (p r k : ℕ) (phase : Phase) (s : SessionValue) → Stands setup w p phase s → graft_in_place ((w.router r).places p) ≡ Some k → ⊥
   none_in p r k (Busy q j t stage) s stands e = not_busy setup w still awaited p q j t stage s stands
-  none_in p r k (Idle q) s stands e = none_held (r == q) s k (ap graft_at (sym (stands.places r)) ∙ e)
+  none_in p r k (Idle q) s stands e = none_held (r == q) s k (ap graft_in_place (sym (stands.places r)) ∙ e)
 
-  none_there : (r k : ℕ) → HasGraft (w.router r) k → ⊥
+  none_there : (r k : ℕ) → HoldsGraft (w.router r) k → ⊥
   none_there r k (p, e) = by_bound (below_or p (peerings_in setup)) where
     by_bound : (p < peerings_in setup) ⊎ (peerings_in setup ≤ p) → ⊥
     by_bound (inl below) = let held = owned.peerings p below in none_in p r k held.phase held.session held.stands e
-    by_bound (inr past) = let f : None ≡ Some k = ap graft_at (sym ((owned.no_others p past).places r)) ∙ e in cc
+    by_bound (inr past) = let f : None ≡ Some k = ap graft_in_place (sym ((owned.no_others p past).places r)) ∙ e in cc
 
   none_open : (k : ℕ) → IsOpen setup w.operator k → ⊥
   none_open k (g, is, u, ordered) =

@@ -1,16 +1,10 @@
 -- Worlds in which nothing of a graft is on its way, none is stored, and no step may be ordered.
 use Rattle.std.specs.Prelude.{ℕ, ◌≡◌, [], Option, Some, None}
 use Rattle.graft_model.specs.Setups.{Setup, IsSetup}
-use Rattle.graft_model.specs.Parts.{Errand, Asking, Place, Vacant, Live, Frozen, Shadow, World}
+use Rattle.graft_model.specs.Parts.{Place, Vacant, Live, Frozen, Shadow, World}
 use Rattle.graft_laws.specs.Keeps.{Reached}
 use Rattle.operator_core.specs.Turns.{NothingToOrder}
-use Rattle.settled_check.specs.Left.{HasGraft, HasUnissued, IsOpen}
-
--- the session of a place has no errand, or waits for an answer
-abbrev pub AwaitsAtMost : Option Errand → Type 0
-AwaitsAtMost None = Unit {0}
-AwaitsAtMost (Some (Asking word)) = Unit {0}
-AwaitsAtMost (Some errand) = ⊥
+use Rattle.settled_check.specs.Left.{AwaitsAtMost, HoldsGraft, HasUnissued, IsOpen}
 
 -- no graft is stored at a place, no word is owed there, and no session is frozen
 abbrev pub HasNoneStored : Place → Type 0
@@ -29,7 +23,7 @@ pub record IsStill (setup : Setup) (w : World) : Type 0 where
 
 -- No router has anything of a graft, each graft that was ordered has its outcome, and no step of the current group is left to be ordered.
 pub record HasNoGraftLeft (setup : Setup) (w : World) : Type 0 where
-  pub routers : (r k : ℕ) → ¬ HasGraft (w.router r) k
+  pub routers : (r k : ℕ) → ¬ HoldsGraft (w.router r) k
   pub unended : (k : ℕ) → ¬ IsOpen setup w.operator k
   pub script : ¬ HasUnissued setup w.operator
 

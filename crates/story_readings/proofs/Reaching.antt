@@ -19,7 +19,7 @@ use Rattle.bgp_story.proofs.Shapes.{IsAnswer, allowed_of, got_answers, got_in_fr
 use Rattle.bgp_story.proofs.Splits.{Cut, behind, ahead, cut_of, some_left}
 use Rattle.bgp_story.proofs.StoryLaws.{state_is}
 use Rattle.session_value.specs.Fronts.{BeginsNothing}
-use Rattle.story_readings.specs.Reads.{IsNoTick, Reads, AreAlike}
+use Rattle.story_readings.specs.Reads.{IsNoTick, StoryReads, AreAlike}
 use Rattle.story_readings.proofs.Fronts.{joined, Cuts, same, first_ends, second_ends, cuts_of}
 
 -- ---- what was got
@@ -172,7 +172,7 @@ module _ (p : Peering) where
       (hears_gots (expected_next p lines Established) map.empty lines ∙ ap (λ e. table_of e (gots lines)) (expected_gots lines Established))
 
   -- a reading has no message left where it ends
-  ends : (said : List ℕ) (one : List Line) (s : SessionState) (x : Reads p said one s) (fs : List (List ℕ)) (t : SessionState) → Reaches fs t
+  ends : (said : List ℕ) (one : List Line) (s : SessionState) (x : StoryReads p said one s) (fs : List (List ℕ)) (t : SessionState) → Reaches fs t
       → (g : List ℕ) (more : List (List ℕ)) (rest : List ℕ) → fs ≡ gots one ++ g ∷ more → IsGot g → x.all.rest ≡ g ++ rest
       → (s ≡ Closed) ⊎ BeginsNothing x.all.rest → ⊥
   ends said one s x fs t r g more rest e w k (inr none) = none g rest k w
@@ -181,7 +181,7 @@ module _ (p : Peering) where
       let reached = reaches one s (allowed_of p one s x.legal) x.timeless in
       before.2 (one_state (gots one) (gots one) s before.0 reached before.1 refl ∙ closed)
 
-  module _ (said : List ℕ) (one other : List Line) (s t : SessionState) (x : Reads p said one s) (y : Reads p said other t) where
+  module _ (said : List ℕ) (one other : List Line) (s t : SessionState) (x : StoryReads p said one s) (y : StoryReads p said other t) where
     allowed : Allowed p one s
     allowed = allowed_of p one s x.legal
 
@@ -203,7 +203,7 @@ module _ (p : Peering) where
     same_states : t ≡ s
     same_states = one_state (gots one) (gots other) s t (reaches one s allowed x.timeless) (reaches other t allowed_other y.timeless) same_gots
 
-pub alike : (p : Peering) (said : List ℕ) (one other : List Line) (s t : SessionState) → Reads p said one s → Reads p said other t
+pub alike : (p : Peering) (said : List ℕ) (one other : List Line) (s t : SessionState) → StoryReads p said one s → StoryReads p said other t
     → AreAlike p one other s t
 alike p said one other s t x y =
     let gs = same_gots p said one other s t x y in

@@ -22,7 +22,7 @@ pub record GotAllOf (said : List ℕ) (lines : List Line) (state : SessionState)
   pub end : (state ≡ Closed) ⊎ BeginsNothing rest
 
 -- A legal story of a peering reads these bytes, and no round passes in it.
-pub record Reads (p : Peering) (said : List ℕ) (lines : List Line) (state : SessionState) : Type 0 where
+pub record StoryReads (p : Peering) (said : List ℕ) (lines : List Line) (state : SessionState) : Type 0 where
   pub legal : IsLegal p lines state
   pub timeless : AllByRecursion IsNoTick lines
   pub all : GotAllOf said lines state

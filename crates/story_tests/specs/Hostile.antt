@@ -13,15 +13,15 @@ use Rattle.bgp_story.specs.Readings.{Routes, IsLegal, put_bytes, got_bytes, hear
 use Rattle.bgp_story.specs.WorkedSessions.{worked_peering, home, open_bytes, keepalive_bytes, update_bytes, joined_lines, ten, heard_attrs}
 
 -- These octets begin with neither a whole message nor a header with a fault.
-abbrev pub Waits : List ℕ → Type 0
-Waits rest = (frame_at rest ≡ None) × ((length rest < 19) ⊎ (header_fault rest ≡ None))
+abbrev pub HasNoFrame : List ℕ → Type 0
+HasNoFrame rest = (frame_at rest ≡ None) × ((length rest < 19) ⊎ (header_fault rest ≡ None))
 
 -- The story of a session that hears what a remote says: as much as it can read, unless it is closed; what it puts; and the routes that it heard.
-pub record Hears (said : List ℕ) (lines : List Line) (state : SessionState) (put : List ℕ) (routes : Routes) : Type 0 where
+pub record HearsRemote (said : List ℕ) (lines : List Line) (state : SessionState) (put : List ℕ) (routes : Routes) : Type 0 where
   pub legal : IsLegal (worked_peering 0) lines state
   pub rest : List ℕ
   pub read : got_bytes lines ++ rest ≡ said
-  pub ended : (state ≡ Closed) ⊎ Waits rest
+  pub ended : (state ≡ Closed) ⊎ HasNoFrame rest
   pub put_is : put_bytes (worked_peering 0) lines ≡ put
   pub routes_are : heard (worked_peering 0) lines ≡ routes
 

@@ -19,7 +19,7 @@ use Rattle.bgp_types.proofs.FrameLaws.{IsFrame, front_frame}
 use Rattle.bgp_types.proofs.MessageLaws.{message_are, whole_frame}
 use Rattle.bgp_types.proofs.WrittenLaws.{written_reads}
 use Rattle.bgp_story.specs.Opens.{offers}
-use Rattle.lab_tables.specs.Peerings.{caps_of}
+use Rattle.lab_tables.specs.Peerings.{offered_caps}
 
 same : (n : ℕ) → eqb n n ≡ true
 same n = grind (arith, nat_tests)
@@ -32,7 +32,7 @@ narrow_fits n = by_test (ltb 65535 n) refl where
 
 -- the AS that the OPEN says, by each side's offer
 said_so : (offered as4 : Bool) (n : ℕ) → n < 2 ^ 32
-    → cond offered (is_said n (narrow_as n) (as_said (caps_of as4 n))) (is_field n (narrow_as n)) ≡ true
+    → cond offered (is_said n (narrow_as n) (as_said (offered_caps as4 n))) (is_field n (narrow_as n)) ≡ true
 said_so false as4 n fits = same (narrow_as n)
 said_so true false n fits = same (narrow_as n)
 said_so true true n fits = ap (λ k. eqb k n) (from_be_bytes-to_be_bytes_4 n fits) ∙ same n
@@ -43,7 +43,7 @@ written_frame expected m bytes reads is = (front_frame bytes (bytes, []) (whole_
 
 module _ (remote_as hold identifier : ℕ) (as4 : Bool) where
   abbrev pub opened : open_type.OpenMsg
-  opened = record { as_number = narrow_as remote_as; hold = hold; identifier = identifier; caps = caps_of as4 remote_as }
+  opened = record { as_number = narrow_as remote_as; hold = hold; identifier = identifier; caps = offered_caps as4 remote_as }
 
   abbrev pub open_bytes : List ℕ
   open_bytes = spell (OpenMsg opened) false

@@ -26,7 +26,7 @@ use Rattle.bgp_story.proofs.Ranges.{offers_home}
 use Rattle.session_value.specs.declared.config.SessionConfig.{SessionConfig}
 use Rattle.session_value.specs.Sessions.{peering_of}
 use Rattle.graft_model.specs.Setups.{PeeringSetup}
-use Rattle.even_inputs.specs.Readings.{Reading, unread, expected_by, opened_with, with_message, unless_ended, read_next, faulty_front, fronts_in, reading_of}
+use Rattle.even_inputs.specs.Readings.{Reading, nothing_read, expected_by, opened_with, with_message, unless_ended, read_next, faulty_front, fronts_in, reading_of}
 use Rattle.lab_tables.specs.Peerings.{default_opening}
 use Rattle.sure_inputs.proofs.Openings.{opened, open_bytes, keepalive_bytes, written_frame, offers_so, open_got, open_frame, keepalive_got, keepalive_frame}
 
@@ -115,10 +115,10 @@ module _ (peering : PeeringSetup) (hold identifier : ℕ) (as4 : Bool) (fits : p
 
   -- the OPEN was got
   abbrev confirming : Reading
-  confirming = with_message unread (Ok (OpenMsg first))
+  confirming = with_message nothing_read (Ok (OpenMsg first))
 
-  opens : read_next peering unread begins ≡ confirming
-  opens = ap (with_message unread) (open_got peering.config.remote_as hold identifier as4 peering.config.offered fits hold_fits long host)
+  opens : read_next peering nothing_read begins ≡ confirming
+  opens = ap (with_message nothing_read) (open_got peering.config.remote_as hold identifier as4 peering.config.offered fits hold_fits long host)
 
   -- and a KEEPALIVE behind it
   abbrev establishing : Reading
@@ -142,7 +142,7 @@ module _ (peering : PeeringSetup) (hold identifier : ℕ) (as4 : Bool) (fits : p
       append_assoc begins keepalive_bytes (flat_map (λ f. f) frames) in
       let fronts : fronts_in (default_opening peering.config.remote_as hold identifier as4 ++ flat_map (λ f. f) frames) ≡ begins ∷ keepalive_bytes ∷ frames =
       ap fronts_in joined ∙ fronts_are (begins ∷ keepalive_bytes ∷ frames) (frames_stand frames all) in
-      let established : fold (read_next peering) unread (begins ∷ keepalive_bytes ∷ frames) ≡ fold (read_next peering) establishing frames =
+      let established : fold (read_next peering) nothing_read (begins ∷ keepalive_bytes ∷ frames) ≡ fold (read_next peering) establishing frames =
       ap (λ r. fold (read_next peering) (read_next peering r keepalive_bytes) frames) opens ∙ ap (λ r. fold (read_next peering) r frames) confirms in
-      ap (λ fs. (fold (read_next peering) unread fs).state) fronts ∙ ap (λ (r : Reading). r.state) established
+      ap (λ fs. (fold (read_next peering) nothing_read fs).state) fronts ∙ ap (λ (r : Reading). r.state) established
       ∙ (stays_up peering first wide width frames all establishing (record { state = refl; opened = refl })).state

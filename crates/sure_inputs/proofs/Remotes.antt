@@ -7,7 +7,7 @@ use Rattle.bgp_types.specs.Values.{is_no_host, is_short_hold}
 use Rattle.lab_keys.specs.Values.{tables_at}
 use Rattle.lab_tables.specs.declared.input.LabInput.{LabInput}
 use Rattle.lab_tables.specs.declared.input.PeeringInput.{PeeringInput}
-use Rattle.lab_tables.specs.Peerings.{peering_of}
+use Rattle.lab_tables.specs.Peerings.{peering_input}
 use Rattle.lab_tables.specs.Documents.{router_names_of, peerings_of}
 use Rattle.lab_input.proofs.Ready.{accepted}
 use Rattle.lab_setup.specs.Accepted.{IsAccepted}
@@ -20,7 +20,7 @@ pub record IsRemote (x : PeeringInput) : Type 0 where
   pub hold_time : is_short_hold x.hold ≡ false
   pub host : is_no_host x.remote_id ≡ false
 
-of_table : (doc : Members) (routers : List (List ℕ)) (t : Members) → IsPeeringTable t → IsRemote (peering_of doc routers t)
+of_table : (doc : Members) (routers : List (List ℕ)) (t : Members) → IsPeeringTable t → IsRemote (peering_input doc routers t)
 of_table doc routers t is = record {
   remote_as = number_below 32 0 (codes "remote_as") t (omega arith);
   hold = number_below 16 180 (codes "hold") t (omega arith);
@@ -31,7 +31,7 @@ of_table doc routers t is = record {
 of_document : (doc : Members) → HasTables doc → AllByRecursion IsRemote (peerings_of doc)
 of_document doc tables =
     let routers : List (List ℕ) = router_names_of doc in
-    all_mapped (peering_of doc routers) IsPeeringTable IsRemote (of_table doc routers) (tables_at (codes "peering") doc) tables.peerings
+    all_mapped (peering_input doc routers) IsPeeringTable IsRemote (of_table doc routers) (tables_at (codes "peering") doc) tables.peerings
 
 pub remotes : (input : LabInput) → IsAccepted input → AllByRecursion IsRemote input.peerings
 remotes input from =

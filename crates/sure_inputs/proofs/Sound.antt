@@ -14,7 +14,7 @@ use Rattle.graft_model.specs.Setups.{Setup, RouterSetup, PeeringSetup, ScriptSte
 use Rattle.graft_model.specs.Setups.{is_settle as ends_group}
 use Rattle.graft_model.specs.Setups.{said_by as said_in_model}
 use Rattle.graft_model.proofs.Numbers.{step_of_graft}
-use Rattle.one_answer.specs.Settled.{said_in}
+use Rattle.one_answer.specs.Settled.{said_in_all}
 use Rattle.even_inputs.proofs.Lists.{both, all_true, slice_all, at_number}
 use Rattle.even_inputs.specs.Timers.{has_no_timer}
 use Rattle.even_inputs.specs.Readings.{reading_of}
@@ -24,8 +24,9 @@ use Rattle.lab_tables.specs.declared.input.PeeringInput.{PeeringInput}
 use Rattle.lab_tables.specs.declared.input.Step.{Step}
 use Rattle.lab_tables.specs.declared.input.Step.TheVariants.{Announce, Withdraw, Raw, Graft, Settle, Evacuate}
 use Rattle.lab_tables.specs.Peerings.{default_opening}
+use Rattle.lab_tables.specs.Scripts.{is_settle_step}
 use Rattle.lab_input.specs.Counts.{is_wide}
-use Rattle.lab_input.specs.Said.{update_of}
+use Rattle.lab_input.specs.Said.{step_update}
 use Rattle.lab_setup.specs.Accepted.{IsAccepted}
 use Rattle.lab_setup.specs.Setups.{peering_setup, script_step, ended_by, setup_of}
 use Rattle.lab_setup.proofs.Accepted.{writable}
@@ -34,7 +35,7 @@ use Rattle.lab_setup.proofs.Ready.{router_there, as_many_routers, as_many_peerin
 use Rattle.lab_setup.proofs.Said.{setup_bytes}
 use Rattle.lab_setup.proofs.Setups.{peering_at, steps_are}
 use Rattle.sure_inputs.specs.Laws.{SureInputsAreSure}
-use Rattle.sure_inputs.specs.Sure.{has_room_for, is_settle, is_raw_of, is_plain, is_sure_step, is_sure}
+use Rattle.sure_inputs.specs.Sure.{has_room_for, is_raw_step, is_plain, is_sure_step, is_sure}
 use Rattle.sure_inputs.proofs.Readings.{IsUpdate, up_by}
 use Rattle.sure_inputs.proofs.Remotes.{IsRemote, remotes}
 use Rattle.sure_inputs.proofs.Said.{frames_of, frames_said, updates_said}
@@ -103,7 +104,7 @@ module _ (input : LabInput) (from : IsAccepted input) (sure : is_sure input ≡ 
 
   -- a graft is made by a step behind a settle, of a plain remote
   record IsSureGraft (g : ScriptGraft) : Type 0 where
-    behind : list_any is_settle (take g.step input.steps) ≡ true
+    behind : list_any is_settle_step (take g.step input.steps) ≡ true
     plain : is_plain input.steps g.peering (slice_get input.peerings g.peering) ≡ true
 
   graft_of : (g : ScriptGraft) (step : Step) → is_sure_step input g.step step ≡ true → Moves input.peerings g.peering step → IsSureGraft g
@@ -141,10 +142,10 @@ module _ (input : LabInput) (from : IsAccepted input) (sure : is_sure input ≡ 
 
     frames : AllByRecursion (IsUpdate (is_wide x)) (frames_of (is_wide x) p input.steps)
     frames = updates_said (is_wide x) p input.steps
-        (recursion_from_All (λ step. IsWritable (UpdateMsg (update_of step)) (is_wide x)) input.steps (writable input from (is_wide x)))
-        (not_true (list_any (is_raw_of p) input.steps) (both _ _ plain).1)
+        (recursion_from_All (λ step. IsWritable (UpdateMsg (step_update step)) (is_wide x)) input.steps (writable input from (is_wide x)))
+        (not_true (list_any (is_raw_step p) input.steps) (both _ _ plain).1)
 
-    said_is : said_in setup p own ≡ begins ++ flat_map (λ f. f) (frames_of (is_wide x) p input.steps)
+    said_is : said_in_all setup p own ≡ begins ++ flat_map (λ f. f) (frames_of (is_wide x) p input.steps)
     said_is =
         ap (λ (bytes : List ℕ). bytes ++ flat_map (said_in_model p) setup.steps) opening_is
         ∙ ap (λ (bytes : List ℕ). begins ++ bytes) (setup_bytes input p x there ∙ frames_said (is_wide x) p input.steps)

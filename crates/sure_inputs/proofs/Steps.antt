@@ -8,9 +8,9 @@ use Rattle.graft_model.specs.Setups.{is_settle as ends_group}
 use Rattle.lab_tables.specs.declared.input.PeeringInput.{PeeringInput}
 use Rattle.lab_tables.specs.declared.input.Step.{Step}
 use Rattle.lab_tables.specs.declared.input.Step.TheVariants.{Announce, Withdraw, Raw, Graft, Settle, Evacuate}
+use Rattle.lab_tables.specs.Scripts.{is_settle_step}
 use Rattle.lab_setup.specs.Setups.{script_step, ended_by}
 use Rattle.lab_setup.proofs.Lists.{IsMadeOf, some_is, none_is, all_at}
-use Rattle.sure_inputs.specs.Sure.{is_settle}
 
 module _ (peerings : List PeeringInput) where
   abbrev of : Step → ScriptStep
@@ -18,7 +18,7 @@ module _ (peerings : List PeeringInput) where
 
   -- ---- one step
 
-  ends_as : (step : Step) → ends_group (of step) ≡ is_settle step
+  ends_as : (step : Step) → ends_group (of step) ≡ is_settle_step step
   ends_as (Announce q prefixes a) = refl
   ends_as (Withdraw q prefixes) = refl
   ends_as (Raw q bytes) = refl
@@ -44,14 +44,14 @@ module _ (peerings : List PeeringInput) where
   made_of_step o (step ∷ steps) (suc n) s there goes_on = made_of_step o steps n s there goes_on
 
   -- behind a settle of the input a group was ended
-  pub group_ended : (more : List ScriptStep) (steps : List Step) (n : ℕ) → list_any is_settle (take n steps) ≡ true
+  pub group_ended : (more : List ScriptStep) (steps : List Step) (n : ℕ) → list_any is_settle_step (take n steps) ≡ true
       → 0 < length (filter ends_group (take n (map of steps ++ more)))
   group_ended more [] zero any = absurd (false≢true any)
   group_ended more [] (suc n) any = absurd (false≢true any)
   group_ended more (step ∷ steps) zero any = absurd (false≢true any)
-  group_ended more (step ∷ steps) (suc n) any = by_test (is_settle step) (ends_group (of step)) (ends_as step) any (group_ended more steps n) where
-    by_test : (a b : Bool) → b ≡ a → (a || list_any is_settle (take n steps)) ≡ true
-        → (list_any is_settle (take n steps) ≡ true → 0 < length (filter ends_group (take n (map of steps ++ more))))
+  group_ended more (step ∷ steps) (suc n) any = by_test (is_settle_step step) (ends_group (of step)) (ends_as step) any (group_ended more steps n) where
+    by_test : (a b : Bool) → b ≡ a → (a || list_any is_settle_step (take n steps)) ≡ true
+        → (list_any is_settle_step (take n steps) ≡ true → 0 < length (filter ends_group (take n (map of steps ++ more))))
         → 0 < length (cond b (of step ∷ filter ends_group (take n (map of steps ++ more))) (filter ends_group (take n (map of steps ++ more))))
     by_test a true same any later = omega arith
     by_test true false same any later = absurd (false≢true same)

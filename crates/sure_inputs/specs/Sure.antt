@@ -8,6 +8,7 @@ use Rattle.lab_tables.specs.declared.input.RouterInput.{RouterInput}
 use Rattle.lab_tables.specs.declared.input.Step.{Step}
 use Rattle.lab_tables.specs.declared.input.Step.TheVariants.{Raw, Graft, Settle, Evacuate}
 use Rattle.lab_tables.specs.Peerings.{default_opening}
+use Rattle.lab_tables.specs.Scripts.{is_settle_step}
 use Rattle.lab_setup.specs.Setups.{setup_of}
 use Rattle.even_inputs.specs.Timers.{has_no_timer}
 
@@ -15,14 +16,10 @@ use Rattle.even_inputs.specs.Timers.{has_no_timer}
 abbrev pub has_room_for : ℕ → RouterInput → Bool
 has_room_for count router = nat_le count router.sessions
 
-abbrev pub is_settle : Step → Bool
-is_settle (Settle rounds least) = true
-is_settle _ = false
-
 -- a step has the remote of this peering say octets that it names
-abbrev pub is_raw_of : ℕ → Step → Bool
-is_raw_of p (Raw peering bytes) = peering.0 == p
-is_raw_of p _ = false
+abbrev pub is_raw_step : ℕ → Step → Bool
+is_raw_step p (Raw peering bytes) = peering.0 == p
+is_raw_step p _ = false
 
 -- a remote begins with the OPEN of its own values and a KEEPALIVE
 abbrev pub has_default_opening : PeeringInput → Bool
@@ -31,12 +28,12 @@ has_default_opening p = bytes_eq p.opening (default_opening p.remote_as p.hold p
 -- a remote says its default opening, and over the script nothing but UPDATEs of announce and withdraw steps
 abbrev pub is_plain : List Step → ℕ → Option PeeringInput → Bool
 is_plain steps p None = false
-is_plain steps p (Some peering) = has_default_opening peering && not (list_any (is_raw_of p) steps)
+is_plain steps p (Some peering) = has_default_opening peering && not (list_any (is_raw_step p) steps)
 
 -- A graft stands behind a settle, and its remote is plain; and no step empties a router.
 abbrev pub is_sure_step : LabInput → ℕ → Step → Bool
 is_sure_step input n (Graft peering target) =
-    list_any is_settle (take n input.steps) && is_plain input.steps peering.0 (slice_get input.peerings peering.0)
+    list_any is_settle_step (take n input.steps) && is_plain input.steps peering.0 (slice_get input.peerings peering.0)
 is_sure_step input n (Evacuate router) = false
 is_sure_step input n _ = true
 

@@ -14,7 +14,7 @@ use Rattle.bgp_types.proofs.ManyLaws.{many_some}
 use Rattle.bgp_story.specs.Legal.{reply_to}
 use Rattle.session_value.proofs.Replies.{confirmed_from}
 use Rattle.graft_model.specs.Setups.{PeeringSetup}
-use Rattle.even_inputs.specs.Readings.{Reading, unread, expected_by, with_message, unless_ended, read_next, faulty_front, fronts_in, reading_of}
+use Rattle.even_inputs.specs.Readings.{Reading, nothing_read, expected_by, with_message, unless_ended, read_next, faulty_front, fronts_in, reading_of}
 use Rattle.even_inputs.proofs.Fronts.{at_end, faulty_in_front}
 use Rattle.even_inputs.proofs.Lists.{both}
 use Rattle.even_inputs.proofs.AllRead.{stays_ended}
@@ -109,5 +109,5 @@ module _ (peering : PeeringSetup) where
   still_up xs ys up =
       let g : FrontsGrow xs ys = fronts_grow xs ys in
       subst (λ (r : Reading). UpOrEnded r.state)
-      (sym (ap (fold (read_next peering) unread) g.is ∙ fold-append (read_next peering) unread (fronts_in xs) g.more))
+      (sym (ap (fold (read_next peering) nothing_read) g.is ∙ fold-append (read_next peering) nothing_read (fronts_in xs) g.more))
       (all_up g.more (reading_of peering xs) (inl up))

@@ -20,9 +20,9 @@ use Rattle.graft_model.specs.declared.event.OperatorEvent.TheVariants.{Order, No
 use Rattle.graft_model.specs.Steps.{OperatorStep, Heads}
 use Rattle.graft_model.proofs.Numbers.{step_of_graft}
 use Rattle.graft_laws.specs.Keeps.{Reached}
-use Rattle.graft_laws.specs.Log.{grafts_of, is_of, HasEnded, Waits, IsBehind, GoesOnIn, LogSays}
+use Rattle.graft_laws.specs.Log.{grafts_of, is_graft_on, HasEnded, AwaitsOrder, IsBehind, GoesOnIn, LogSays}
 use Rattle.graft_laws.specs.Moves.{OperatorHeads}
-use Rattle.graft_laws.specs.Owned.{reports_of, Stands, IsHeld}
+use Rattle.graft_laws.specs.Owned.{reports_of, Stands, IsInSomePhase}
 use Rattle.graft_laws.specs.Phases.{Stage, Declined, Cleared, Phase, Idle, Busy, source_of, reports_by}
 use Rattle.graft_laws.proofs.Following.{own_head}
 use Rattle.graft_laws.proofs.GraftBounds.{graft_within}
@@ -95,7 +95,7 @@ module _ (setup : Setup) (moves : OnlyMoves setup) (operator : OperatorPart) (sa
   -- what is behind has its outcome
   over_outcome : (g : ScriptGraft) → IsGraftOf setup p g → IsBehind setup operator g → HasOutcome operator g
   over_outcome g own b = by_over b.over where
-    by_over : HasEnded operator g ⊎ (Waits operator g × (target_in setup operator g ≡ None)) → HasOutcome operator g
+    by_over : HasEnded operator g ⊎ (AwaitsOrder operator g × (target_in setup operator g ≡ None)) → HasOutcome operator g
     by_over (inl ended) = ended.ended
     by_over (inr (waits, none)) =
         let t = has_target setup moves g own.0 in
@@ -117,7 +117,7 @@ module _ (setup : Setup) (moves : OnlyMoves setup) (operator : OperatorPart) (sa
       ∙ placed_front log.past (log.now ++ log.later) log.grafts
       (all_both (IsGraftOf setup p) (IsBehind setup operator) (HasOutcome operator) log.past over_outcome own log.are_behind)
       (all_join (λ g. accepts operator g ≡ false) log.now log.later (none_now phase log.now log.goes_on)
-      (all_map (Waits operator) (λ g. accepts operator g ≡ false) log.later (λ g w. ap is_accepted w.unended) log.wait))
+      (all_map (AwaitsOrder operator) (λ g. accepts operator g ≡ false) log.later (λ g w. ap is_accepted w.unended) log.wait))
 
 -- ---- along runs
 
@@ -167,18 +167,18 @@ module _ (setup : Setup) (ok : IsSetup setup) (sure : IsSure setup) (up : StaysU
     noted g config target known config_is named is =
         by_outcome ((always_owned setup ok before reached).peerings g.peering (graft_within setup g.graft g ok known)) report.outcome refl
       where
-        own : is_of setup g.peering report.graft ≡ true
-        own = ap (is_of setup g.peering) is ∙ is_own setup g.peering g (known, refl)
+        own : is_graft_on setup g.peering report.graft ≡ true
+        own = ap (is_graft_on setup g.peering) is ∙ is_own setup g.peering g (known, refl)
 
-        there : (held : IsHeld setup before g.peering) (o : Outcome) → report.outcome ≡ o
+        there : (held : IsInSomePhase setup before g.peering) (o : Outcome) → report.outcome ≡ o
             → record { graft = g.graft; outcome = o } ∷ reports_of setup g.peering heads.rest ≡ reports_by held.phase r
         there held o e =
             ap (λ (k : ℕ). record { graft = k; outcome = o } ∷ reports_of setup g.peering heads.rest) (sym is)
             ∙ ap (λ (y : Outcome). record { graft = report.graft; outcome = y } ∷ reports_of setup g.peering heads.rest) (sym e)
-            ∙ own_head (λ (y : Report). is_of setup g.peering y.graft) (before.reports r) heads.rest report heads.is own
+            ∙ own_head (λ (y : Report). is_graft_on setup g.peering y.graft) (before.reports r) heads.rest report heads.is own
             ∙ held.stands.reports r
 
-        by_outcome : (held : IsHeld setup before g.peering) (o : Outcome) → report.outcome ≡ o → report.outcome ≡ result_of setup config g target
+        by_outcome : (held : IsInSomePhase setup before g.peering) (o : Outcome) → report.outcome ≡ o → report.outcome ≡ result_of setup config g target
         by_outcome held (Refused refusal) e =
             let f = refusal_in held.phase r g.graft refusal (reports_of setup g.peering heads.rest) (there held (Refused refusal) e) in
             let b : Stands setup before g.peering (Busy r g.graft f.0 (Declined refusal)) held.session =

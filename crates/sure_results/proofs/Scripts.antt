@@ -17,7 +17,7 @@ use Rattle.graft_laws.specs.Log.{grafts_of}
 use Rattle.graft_laws.proofs.Lists.{all_map, filter_none, filter_twice}
 use Rattle.graft_laws.proofs.Numbers.{before_below, behind_above}
 use Rattle.graft_laws.proofs.Placements.{accepts, by_last, placed_by}
-use Rattle.sure_results.specs.Results.{result_at, router_with, router_after, target_named, targets_before}
+use Rattle.sure_results.specs.Results.{result_at, router_after_graft, router_after, target_named, targets_before}
 
 -- ---- targets
 
@@ -86,7 +86,7 @@ front_targets setup p front back g is =
 pub after_both : (setup : Setup) (config : SessionConfig) (r : ℕ) (xs ys : List ℕ)
     → router_after setup config r (xs ++ ys) ≡ router_after setup config (router_after setup config r xs) ys
 after_both setup config r [] ys = refl
-after_both setup config r (x ∷ xs) ys = after_both setup config (router_with r x (result_at setup config r x)) xs ys
+after_both setup config r (x ∷ xs) ys = after_both setup config (router_after_graft r x (result_at setup config r x)) xs ys
 
 -- A graft has, in a log, the result that the script has for it where its session is at the router r.
 pub record HasResult (setup : Setup) (config : SessionConfig) (operator : OperatorPart) (r : ℕ) (g : ScriptGraft) : Type 0 where
@@ -98,14 +98,14 @@ module _ (setup : Setup) (config : SessionConfig) (operator : OperatorPart) wher
   -- each of some grafts has its result, where the session is at the router r before them
   abbrev pub HaveResults : ℕ → List ScriptGraft → Type 0
   HaveResults r [] = Unit {0}
-  HaveResults r (g ∷ gs) = (h : HasResult setup config operator r g) × HaveResults (router_with r h.target (result_at setup config r h.target)) gs
+  HaveResults r (g ∷ gs) = (h : HasResult setup config operator r g) × HaveResults (router_after_graft r h.target (result_at setup config r h.target)) gs
 
   -- where it is after the grafts that were in front already
   abbrev at_front : ℕ → List ScriptGraft → ℕ
   at_front r gs = router_after setup config r (filter_map (target_named setup) gs)
 
   one_after : (r : ℕ) (front : List ScriptGraft) (g : ScriptGraft) (target : ℕ) → target_named setup g ≡ Some target
-      → at_front r (front ++ g ∷ []) ≡ router_with (at_front r front) target (result_at setup config (at_front r front) target)
+      → at_front r (front ++ g ∷ []) ≡ router_after_graft (at_front r front) target (result_at setup config (at_front r front) target)
   one_after r front g target named =
       ap (router_after setup config r) (filter_map-append (target_named setup) front (g ∷ [])
       ∙ ap (λ (o : Option ℕ). filter_map (target_named setup) front ++ cons_option o []) named)
@@ -121,23 +121,23 @@ module _ (setup : Setup) (config : SessionConfig) (operator : OperatorPart) wher
     by_results r d [] all e = e
     by_results r d (g ∷ gs) all e =
         let h : HasResult setup config operator r g = all.0 in
-        let step : at_front r (g ∷ gs) ≡ at_front (router_with r h.target (result_at setup config r h.target)) gs =
+        let step : at_front r (g ∷ gs) ≡ at_front (router_after_graft r h.target (result_at setup config r h.target)) gs =
         ap (λ (o : Option ℕ). router_after setup config r (cons_option o (filter_map (target_named setup) gs))) h.named in
-        by_result (result_at setup config r h.target) refl (λ d' e'. by_results (router_with r h.target (result_at setup config r h.target)) d' gs all.1 e')
+        by_result (result_at setup config r h.target) refl (λ d' e'. by_results (router_after_graft r h.target (result_at setup config r h.target)) d' gs all.1 e')
         ∙ sym step
       where
         by_result : (o : Outcome) → result_at setup config r all.0.target ≡ o
-            → ((d' : Option ScriptGraft) → placed_then d' ≡ router_with r all.0.target (result_at setup config r all.0.target)
-            → placed_then (last_or d' (filter (accepts operator) gs)) ≡ at_front (router_with r all.0.target (result_at setup config r all.0.target)) gs)
-            → placed_then (last_or d (filter (accepts operator) (g ∷ gs))) ≡ at_front (router_with r all.0.target (result_at setup config r all.0.target)) gs
+            → ((d' : Option ScriptGraft) → placed_then d' ≡ router_after_graft r all.0.target (result_at setup config r all.0.target)
+            → placed_then (last_or d' (filter (accepts operator) gs)) ≡ at_front (router_after_graft r all.0.target (result_at setup config r all.0.target)) gs)
+            → placed_then (last_or d (filter (accepts operator) (g ∷ gs))) ≡ at_front (router_after_graft r all.0.target (result_at setup config r all.0.target)) gs
         by_result Accepted is later =
             let yes : accepts operator g ≡ true = ap is_accepted (all.0.outcome ∙ ap (λ (o : Outcome). Some o) is) in
             ap (λ (b : Bool). placed_then (last_or d (cond b (g ∷ filter (accepts operator) gs) (filter (accepts operator) gs)))) yes
-            ∙ later (Some g) (ap (λ (o : Option ℕ). unwrap_or o start) (target_is g ∙ all.0.named) ∙ sym (ap (router_with r all.0.target) is))
+            ∙ later (Some g) (ap (λ (o : Option ℕ). unwrap_or o start) (target_is g ∙ all.0.named) ∙ sym (ap (router_after_graft r all.0.target) is))
         by_result (Refused refusal) is later =
             let no : accepts operator g ≡ false = ap is_accepted (all.0.outcome ∙ ap (λ (o : Outcome). Some o) is) in
             ap (λ (b : Bool). placed_then (last_or d (cond b (g ∷ filter (accepts operator) gs) (filter (accepts operator) gs)))) no
-            ∙ later d (e ∙ sym (ap (router_with r all.0.target) is))
+            ∙ later d (e ∙ sym (ap (router_after_graft r all.0.target) is))
 
 -- Where the first grafts of a peering have their results, and none of the others was accepted, its session belongs where the script has it after these.
 pub placed_by_results : (setup : Setup) (config : SessionConfig) (operator : OperatorPart) (p : ℕ) (front back : List ScriptGraft)

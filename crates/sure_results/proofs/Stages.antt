@@ -17,8 +17,8 @@ use Rattle.session_value.specs.declared.config.SessionConfig.{SessionConfig}
 use Rattle.graft_model.specs.Setups.{Setup, IsSetup, peerings_in, room_of, config_of, missing_policy}
 use Rattle.graft_model.specs.Parts.{Vacant, Shadow, RouterPart, World}
 use Rattle.graft_model.specs.GraftRows.{is_taken, taken_in, refusal_of}
-use Rattle.graft_laws.specs.Configs.{IsOwn}
-use Rattle.graft_laws.specs.Keeps.{Reached, Keeps}
+use Rattle.graft_laws.specs.Configs.{HasOwnConfig}
+use Rattle.graft_laws.specs.Keeps.{Reached, IsInvariant}
 use Rattle.graft_laws.specs.Life.{Change, Rests, Grafts, Lands, Clears, Acts, Strays, IsToSay, FarActs, GraftMove, Begins, Admits, Refuses, Freezes, Leaves}
 use Rattle.graft_laws.specs.Life.{TurnsBack, Returns, Asks, Counts, Confirms, NotesRefusal, NotesSuccess}
 use Rattle.graft_laws.specs.Owned.{Stands}
@@ -128,7 +128,7 @@ module _ (setup : Setup) (ok : IsSetup setup) (sure : IsSure setup) (up : StaysU
       → Stands setup w p phase s
       → config_of setup p ≡ Some config → s.config ≡ config
   own_config w p phase s config reached below stands known =
-      same_Some s.config config (sym (has_at setup (IsOwn setup) w p phase s (always_own setup ok w reached p below) stands).config ∙ known)
+      same_Some s.config config (sym (has_at setup (HasOwnConfig setup) w p phase s (always_own setup ok w reached p below) stands).config ∙ known)
 
   -- the router that a session moves to has room for it, and nothing but a missing policy makes it turn the session back
   module _ (w : World) (p q k t : ℕ) (s : SessionValue) (config : SessionConfig) (reached : Reached setup w) (below : p < peerings_in setup)
@@ -185,7 +185,7 @@ module _ (setup : Setup) (ok : IsSetup setup) (sure : IsSure setup) (up : StaysU
     changes v phase _ s _ (IsToSay step line entries) stands is = is
     changes v phase _ s _ (FarActs event taken sent part row moves entries) stands is = is
 
-  keeps_results : Keeps setup (ShowsResult setup)
+  keeps_results : IsInvariant setup (ShowsResult setup)
   keeps_results = record {
     first = λ p config is other known. tt;
     step = λ before after p phase next s t reached below stands then change is config known.

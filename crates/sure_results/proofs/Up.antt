@@ -31,7 +31,7 @@ use Rattle.graft_laws.specs.Keeps.{Reached, Has}
 use Rattle.graft_laws.specs.Life.{Change, Acts, SessionAct, Puts, Emits, Arrives, Gets, Ticks}
 use Rattle.graft_laws.specs.Owned.{Stands}
 use Rattle.graft_laws.specs.Phases.{Phase, Busy}
-use Rattle.graft_laws.specs.Said.{size_at, unissued}
+use Rattle.graft_laws.specs.Said.{size_at, unissued_octets}
 use Rattle.graft_laws.specs.Streams.{IsUnbroken}
 use Rattle.graft_laws.proofs.First.{some_peering}
 use Rattle.graft_laws.proofs.Holders.{one_session}
@@ -41,10 +41,10 @@ use Rattle.graft_laws.proofs.QuietSolves.{quiet_solves_is}
 use Rattle.graft_laws.proofs.Runs.{reached_more, always_has_along}
 use Rattle.graft_laws.proofs.Solves.{has_at}
 use Rattle.graft_laws.proofs.StreamLaws.{said_is, always_unbroken, always_transparent_is}
-use Rattle.one_answer.specs.Settled.{said_in, HasNoTimer}
+use Rattle.one_answer.specs.Settled.{said_in_all, HasNoTimer}
 use Rattle.one_answer.proofs.Timeless.{FirstGot, first_got, HasNoHold, no_hold, timeless}
 use Rattle.one_answer.proofs.Words.{begins_said}
-use Rattle.story_readings.specs.Reads.{Reads, IsNoTick}
+use Rattle.story_readings.specs.Reads.{StoryReads, IsNoTick}
 use Rattle.even_inputs.specs.Readings.{Reading, reading_of}
 use Rattle.even_inputs.proofs.AllRead.{reads_all}
 use Rattle.even_inputs.proofs.Timers.{no_timer}
@@ -114,7 +114,7 @@ shorter_front (x ∷ xs) (y ∷ ys) m k l e =
     ap (λ (z : ℕ). z ∷ xs) same ∙ ap (λ (zs : List ℕ). y ∷ zs) behind
 
 -- what wasn't issued is no more than all that steps have the remote say
-unissued_most : (issued : ℕ → Bool) (p n : ℕ) (steps : List ScriptStep) → unissued issued p n steps ≤ length (flat_map (said_by p) steps)
+unissued_most : (issued : ℕ → Bool) (p n : ℕ) (steps : List ScriptStep) → unissued_octets issued p n steps ≤ length (flat_map (said_by p) steps)
 unissued_most issued p n [] = omega arith
 unissued_most issued p n (step ∷ steps) =
     let here : (if issued n then 0 else length (said_by p step)) ≤ length (said_by p step) = by_test (issued n) in
@@ -131,14 +131,14 @@ module _ (setup : Setup) (ok : IsSetup setup) (timer : HasNoTimer setup) (p : �
   abbrev own : Peering
   own = peering_of peering.config
 
-  said_first : (w : World) → Reached setup w → AreFirst (w.far p).end.stream (said_in setup p peering)
+  said_first : (w : World) → Reached setup w → AreFirst (w.far p).end.stream (said_in_all setup p peering)
   said_first w reached = begins_said setup p peering is (timer.beats p peering is) w reached
 
   -- its opening, with which it begins
   opening_first : (w : World) → Reached setup w → w.says p ≡ [] → AreFirst peering.opening (w.far p).end.stream
   opening_first w reached none =
       let stream : List ℕ = (w.far p).end.stream in
-      let later : ℕ = unissued w.operator.issued p 0 setup.steps in
+      let later : ℕ = unissued_octets w.operator.issued p 0 setup.steps in
       let sum : length stream + sum_by (size_at setup p) [] + later ≡ said_length setup p peering + 19 * (w.far p).beats =
       ap (λ (xs : List ℕ). length stream + sum_by (size_at setup p) xs + later) (sym none) ∙ (said_is setup p peering w is reached).sum in
       let most = unissued_most w.operator.issued p 0 setup.steps in
@@ -196,7 +196,7 @@ module _ (setup : Setup) (ok : IsSetup setup) (timer : HasNoTimer setup) (p : �
     pub never_ends : StaysUp setup p peering → state s ≢ Closed
     never_ends up closed =
         let said = said_first w reached in
-        let reads : Reads own (said_in setup p peering) s.story (state s) = record {
+        let reads : StoryReads own (said_in_all setup p peering) s.story (state s) = record {
           legal = legal;
           timeless = none_passed;
           all = record {
@@ -205,7 +205,7 @@ module _ (setup : Setup) (ok : IsSetup setup) (timer : HasNoTimer setup) (p : �
             end = inl closed;
           };
         } in
-        let not : Established ≡ Closed = sym up.kept ∙ ap (λ (x : Reading). x.state) (reads_all peering (said_in setup p peering) s.story (state s) reads)
+        let not : Established ≡ Closed = sym up.kept ∙ ap (λ (x : Reading). x.state) (reads_all peering (said_in_all setup p peering) s.story (state s) reads)
         ∙ closed in
         absurd cc
 
@@ -224,7 +224,7 @@ module _ (setup : Setup) (ok : IsSetup setup) (timer : HasNoTimer setup) (p : �
     stands : Stands setup w p has.phase solves.session
     stands = subst (λ (x : SessionValue). Stands setup w p has.phase x) (sym same) has.stands
 
-    reads : Reads own (w.far p).end.stream solves.session.story (state solves.session)
+    reads : StoryReads own (w.far p).end.stream solves.session.story (state solves.session)
     reads = record {
       legal = legal w has.phase solves.session reached stands;
       timeless = none_passed w has.phase solves.session reached stands;

@@ -27,14 +27,14 @@ abbrev pub result_at : Setup → SessionConfig → (r target : ℕ) → Outcome
 result_at setup config r target = if target == r then Refused SameRouter else by_policies (missing_policy setup target config)
 
 -- where the session is then
-abbrev pub router_with : (r target : ℕ) → Outcome → ℕ
-router_with r target Accepted = target
-router_with r target (Refused refusal) = r
+abbrev pub router_after_graft : (r target : ℕ) → Outcome → ℕ
+router_after_graft r target Accepted = target
+router_after_graft r target (Refused refusal) = r
 
 -- where it is after grafts to these targets, one after another
 abbrev pub router_after : Setup → SessionConfig → ℕ → List ℕ → ℕ
 router_after setup config r [] = r
-router_after setup config r (target ∷ targets) = router_after setup config (router_with r target (result_at setup config r target)) targets
+router_after setup config r (target ∷ targets) = router_after setup config (router_after_graft r target (result_at setup config r target)) targets
 
 -- the target that a step names for a graft
 abbrev pub target_named : Setup → ScriptGraft → Option ℕ

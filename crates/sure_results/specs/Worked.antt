@@ -8,8 +8,8 @@ use Rattle.even_inputs.specs.Worked.{router, peering, with_med}
 abbrev pub exporting : Option (List ℕ) → PeeringSetup
 exporting name = record (peering 0) { config = record (peering 0).config { export = name } }
 
-abbrev pub laboratory : Option (List ℕ) → Setup
-laboratory name = record {
+abbrev pub moving_laboratory : Option (List ℕ) → Setup
+moving_laboratory name = record {
   home_as = 65000;
   routers = router 0x0AFF0001 [] ∷ router 0x0AFF0002 [] ∷ [];
   peerings = exporting name ∷ [];

@@ -21,7 +21,7 @@ use Rattle.tcp_reasm.specs.Runs.{held}
 use Rattle.tcp_reasm.specs.Reassembly.{byte_ahead, brought}
 use Rattle.tcp_end.specs.State.{IsEndState, IsSending, expected, got, own_number, counted_from}
 use Rattle.tcp_end.specs.Receiving.{byte_then, Receives}
-use Rattle.tcp_end.specs.Arriving.{ahead_of, TakesByNumbers, newly_acked, IsAcceptableTo, Says, BringsNewByte, IsArrival, Leaves}
+use Rattle.tcp_end.specs.Arriving.{ahead_of, TakesByNumbers, newly_acked, IsAcceptableTo, SaysAck, BringsNewByte, IsArrival, ChangesByArrival}
 use Rattle.tcp_end.specs.Standing.{EndStands, Numbered, SameNumbers, Becomes, TakesBy}
 use Rattle.tcp_end.specs.declared.arrival.Arrival.{Arrival}
 use Rattle.tcp_end.specs.declared.arrival.Arrival.TheVariants.{Outside, Ahead, Duplicate, Accepted}
@@ -45,14 +45,17 @@ record Hears (s after : EndState) (p : PlacedSegment) (given : List ℕ) : Type 
   ahead : (k : ℕ) → held after.ahead (got after + k) ≡ with_ s p (got s + (length given + k))
 
 -- the byte at a place, from the one that numbers give
-pub byte_then_is : (s : EndState) (g : Segment) (p : PlacedSegment) (k : ℕ) → IsEndState s → Numbered s.receive_first.0 s.send_first.0 g p → p.place < 2 ^ 30 → length p.bytes < 2 ^ 16
+pub byte_then_is : (s : EndState) (g : Segment) (p : PlacedSegment) (k : ℕ) → IsEndState s → Numbered s.receive_first.0 s.send_first.0 g p
+    → p.place < 2 ^ 30 → length p.bytes < 2 ^ 16
     → byte_then (ahead_of s) g.seq.0 g.bytes k ≡ with_ s p (got s + k)
 byte_then_is s g p k rests numbered fits short =
     let small : got s % 2 ^ 32 ≡ got s = omega (arith, rests.received) in
     let old : held (counted_from (got s % 2 ^ 32) s.ahead) k ≡ held s.ahead (got s + k) =
-    ap (λ (n : ℕ). held (counted_from n s.ahead) k) small ∙ held_from (got s) (got s + 1) (got s + 16384) s.ahead k (omega arith) (omega (arith, rests.received)) rests.ahead in
+    ap (λ (n : ℕ). held (counted_from n s.ahead) k) small
+    ∙ held_from (got s) (got s + 1) (got s + 16384) s.ahead k (omega arith) (omega (arith, rests.received)) rests.ahead in
     let new : brought (expected s) g.seq.0 g.bytes k ≡ (if nat_lt k 16384 then byte_from p.place p.bytes (got s + k) else None) =
-    ap (λ (n : ℕ). brought (expected s) n g.bytes k) numbered.seq ∙ ap (λ (xs : List ℕ). brought (expected s) (number s.receive_first.0 p.place) xs k) numbered.bytes
+    ap (λ (n : ℕ). brought (expected s) n g.bytes k) numbered.seq
+    ∙ ap (λ (xs : List ℕ). brought (expected s) (number s.receive_first.0 p.place) xs k) numbered.bytes
     ∙ brought_place s.receive_first.0 (got s) p.place p.bytes k (omega (arith, rests.received)) fits short in
     let window : nat_lt k 16384 ≡ nat_lt (got s + k) (got s + 16384) = elim (cases_lt k 16384) [
       | inl below ↦ lt-ltb k 16384 below ∙ sym (lt-ltb (got s + k) (got s + 16384) (omega (arith, below)))
@@ -61,7 +64,8 @@ byte_then_is s g p k rests numbered fits short =
     ap (λ o. option_or o (brought (expected s) g.seq.0 g.bytes k)) old
     ∙ ap (option_or (held s.ahead (got s + k))) (new ∙ ap (λ (b : Bool). if b then byte_from p.place p.bytes (got s + k) else None) window)
 
-hears : (s after : EndState) (g : Segment) (p : PlacedSegment) → IsEndState s → IsEndState after → Numbered s.receive_first.0 s.send_first.0 g p → p.place < 2 ^ 30 → length p.bytes < 2 ^ 16 → after.taken ≡ s.taken
+hears : (s after : EndState) (g : Segment) (p : PlacedSegment) → IsEndState s → IsEndState after → Numbered s.receive_first.0 s.send_first.0 g p
+    → p.place < 2 ^ 30 → length p.bytes < 2 ^ 16 → after.taken ≡ s.taken
     → (r : Receives (ahead_of s) (ahead_of after) s.ready after.ready g.seq.0 g.bytes) → Hears s after p r.given
 hears s after g p rests rests_after numbered fits short same r =
     let n : length after.ready ≡ length s.ready + length r.given = ap length r.appended ∙ length-append s.ready r.given in
@@ -86,13 +90,15 @@ brought_is s e p k all from =
 accepted_from : (s : EndState) (e : Endpoint) (p : PlacedSegment) (k : ℕ) → EndStands s e → got s ≤ k → map.get (accepted e p) k ≡ with_ s p k
 accepted_from s e p k stands from =
     let all : received e ≡ got s = received_is s e stands in
-    get-accepted e p k ∙ ap (λ (o : Option ℕ). option_or o (byte_brought e p k)) (stands.ahead k (omega (arith, all, from))) ∙ ap (option_or (held s.ahead k)) (brought_is s e p k all from)
+    get-accepted e p k ∙ ap (λ (o : Option ℕ). option_or o (byte_brought e p k)) (stands.ahead k (omega (arith, all, from)))
+    ∙ ap (option_or (held s.ahead k)) (brought_is s e p k all from)
 
 stays_some : (o more : Option ℕ) → IsSome o → option_or o more ≡ o
 stays_some None more some = let e : false ≡ true = some in cc
 stays_some (Some x) more some = refl
 
-accepted_below : (s : EndState) (e : Endpoint) (p : PlacedSegment) (k : ℕ) → EndStands s e → k < received e → map.get (accepted e p) k ≡ slice_get (received_bytes e) k
+accepted_below : (s : EndState) (e : Endpoint) (p : PlacedSegment) (k : ℕ) → EndStands s e → k < received e
+    → map.get (accepted e p) k ≡ slice_get (received_bytes e) k
 accepted_below s e p k stands below =
     get-accepted e p k ∙ stays_some (map.get e.arrived k) (byte_brought e p k) (some_in_order e.arrived k below) ∙ sym (byte_in_order e.arrived k below)
 
@@ -114,7 +120,8 @@ accepted_in s e p k stands streams some =
     (subst (λ (o : Option ℕ). IsSome o) (get-accepted e p k) some)
 
 -- so not more is received than they have
-given_in : (s : EndState) (e : Endpoint) (p : PlacedSegment) (given : List ℕ) → EndStands s e → IsInStreams p → ((k : ℕ) → k < length given → with_ s p (got s + k) ≡ slice_get given k) → IsInStream (got s + length given)
+given_in : (s : EndState) (e : Endpoint) (p : PlacedSegment) (given : List ℕ) → EndStands s e → IsInStreams p
+    → ((k : ℕ) → k < length given → with_ s p (got s + k) ≡ slice_get given k) → IsInStream (got s + length given)
 given_in s e p given stands streams each = elim (cases_lt 0 (length given)) [
   | inl some ↦
       let last = length given - 1 in
@@ -126,7 +133,8 @@ given_in s e p given stands streams each = elim (cases_lt 0 (length given)) [
 ]
 
 -- the bytes that are received then
-received_then : (s after : EndState) (e : Endpoint) (p : PlacedSegment) (given : List ℕ) → EndStands s e → Hears s after p given → bytes_in_order (accepted e p) ≡ received_bytes e ++ given
+received_then : (s after : EndState) (e : Endpoint) (p : PlacedSegment) (given : List ℕ) → EndStands s e → Hears s after p given
+    → bytes_in_order (accepted e p) ≡ received_bytes e ++ given
 received_then s after e p given stands h =
     let all : received e ≡ got s = received_is s e stands in
     let n : length (received_bytes e ++ given) ≡ got s + length given = omega (arith, length-append (received_bytes e) given, all) in
@@ -137,12 +145,14 @@ received_then s after e p given stands h =
           let j = k - got s in
           let at : got s + j ≡ k = omega (arith, late, all) in
           let inside : j < length given = omega (arith, at, below, n) in
-          get-append_right (received_bytes e) given k j (omega (arith, at, all)) ∙ sym (h.each j inside) ∙ ap (with_ s p) at ∙ sym (accepted_from s e p k stands (omega (arith, late, all)))
+          get-append_right (received_bytes e) given k j (omega (arith, at, all)) ∙ sym (h.each j inside) ∙ ap (with_ s p) at
+          ∙ sym (accepted_from s e p k stands (omega (arith, late, all)))
     ])
     (ap (map.get (accepted e p)) n ∙ accepted_from s e p (got s + length given) stands (omega arith) ∙ h.ends)
 
 -- The tests of numbers and of places
-pub acceptable_to : (s : EndState) (e : Endpoint) (g : Segment) (p : PlacedSegment) → EndStands s e → Numbered s.receive_first.0 s.send_first.0 g p → IsInStreams p → length g.bytes < 2 ^ 16 → IsAcceptable e p → IsAcceptableTo s g
+pub acceptable_to : (s : EndState) (e : Endpoint) (g : Segment) (p : PlacedSegment) → EndStands s e → Numbered s.receive_first.0 s.send_first.0 g p
+    → IsInStreams p → length g.bytes < 2 ^ 16 → IsAcceptable e p → IsAcceptableTo s g
 acceptable_to s e g p stands numbered streams short is =
     let n : length g.bytes ≡ length p.bytes = ap length numbered.bytes in
     let by_number : Acceptable (number s.receive_first.0 (got s)) 16384 (number s.receive_first.0 p.place) (length p.bytes) =
@@ -151,7 +161,8 @@ acceptable_to s e g p stands numbered streams short is =
     subst (λ (m : ℕ). Acceptable (expected s) 16384 m (length g.bytes)) (sym numbered.seq)
     (subst (λ (m : ℕ). Acceptable (expected s) 16384 (number s.receive_first.0 p.place) m) (sym n) by_number)
 
-pub acceptable_for : (s : EndState) (e : Endpoint) (g : Segment) (p : PlacedSegment) → EndStands s e → Numbered s.receive_first.0 s.send_first.0 g p → IsInStreams p → length g.bytes < 2 ^ 16 → IsAcceptableTo s g → IsAcceptable e p
+pub acceptable_for : (s : EndState) (e : Endpoint) (g : Segment) (p : PlacedSegment) → EndStands s e → Numbered s.receive_first.0 s.send_first.0 g p
+    → IsInStreams p → length g.bytes < 2 ^ 16 → IsAcceptableTo s g → IsAcceptable e p
 acceptable_for s e g p stands numbered streams short is =
     let n : length g.bytes ≡ length p.bytes = ap length numbered.bytes in
     let by_number : Acceptable (number s.receive_first.0 (got s)) 16384 (number s.receive_first.0 p.place) (length p.bytes) =
@@ -165,29 +176,34 @@ emitted_small s sending = omega (arith, sending.emitted, sending.stream)
 ack_small : (p : PlacedSegment) → IsInStreams p → p.ack < 2 ^ 30
 ack_small p streams = omega (arith, streams.ack)
 
-pub beyond_for : (s : EndState) (e : Endpoint) (g : Segment) (p : PlacedSegment) → EndStands s e → Numbered s.receive_first.0 s.send_first.0 g p → IsInStreams p → Says Beyond s g → IsBeyond e p
+pub beyond_for : (s : EndState) (e : Endpoint) (g : Segment) (p : PlacedSegment) → EndStands s e → Numbered s.receive_first.0 s.send_first.0 g p
+    → IsInStreams p → SaysAck Beyond s g → IsBeyond e p
 beyond_for s e g p stands numbered streams is =
     let past : s.sent < p.ack = beyond_place s.send_first.0 s.acked s.sent p.ack stands.sound.sending.acked (emitted_small s stands.sound.sending) (ack_small p streams)
     (subst (λ (m : ℕ). IsAck Beyond (own_number s s.acked) (own_number s s.sent) m) numbered.ack is) in
     omega (arith, past, stands.emitted)
 
-pub beyond_to : (s : EndState) (e : Endpoint) (g : Segment) (p : PlacedSegment) → EndStands s e → Numbered s.receive_first.0 s.send_first.0 g p → IsInStreams p → IsBeyond e p → Says Beyond s g
+pub beyond_to : (s : EndState) (e : Endpoint) (g : Segment) (p : PlacedSegment) → EndStands s e → Numbered s.receive_first.0 s.send_first.0 g p
+    → IsInStreams p → IsBeyond e p → SaysAck Beyond s g
 beyond_to s e g p stands numbered streams is =
     subst (λ (m : ℕ). IsAck Beyond (own_number s s.acked) (own_number s s.sent) m) (sym numbered.ack)
     (place_beyond s.send_first.0 s.acked s.sent p.ack stands.sound.sending.acked (emitted_small s stands.sound.sending) (ack_small p streams) (omega (arith, is, stands.emitted)))
 
-pub within_sent : (s : EndState) (e : Endpoint) (g : Segment) (p : PlacedSegment) → EndStands s e → Numbered s.receive_first.0 s.send_first.0 g p → IsInStreams p → ¬ Says Beyond s g → p.ack ≤ s.sent
+pub within_sent : (s : EndState) (e : Endpoint) (g : Segment) (p : PlacedSegment) → EndStands s e → Numbered s.receive_first.0 s.send_first.0 g p
+    → IsInStreams p → ¬ SaysAck Beyond s g → p.ack ≤ s.sent
 within_sent s e g p stands numbered streams none = elim (cases_lt s.sent p.ack) [
   | inl past ↦ absurd (none (beyond_to s e g p stands numbered streams (omega (arith, past, stands.emitted))))
   | inr within ↦ within
 ]
 
 -- an owed answer
-owed_is : (s : EndState) (e : Endpoint) (g : Segment) (p : PlacedSegment) → EndStands s e → g.bytes ≡ p.bytes → (e.owed || nat_lt 0 (length p.bytes)) ≡ (s.owed || nat_lt 0 (length g.bytes))
+owed_is : (s : EndState) (e : Endpoint) (g : Segment) (p : PlacedSegment) → EndStands s e → g.bytes ≡ p.bytes
+    → (e.owed || nat_lt 0 (length p.bytes)) ≡ (s.owed || nat_lt 0 (length g.bytes))
 owed_is s e g p stands same = ap (λ (b : Bool). b || nat_lt 0 (length p.bytes)) stands.owed ∙ ap (λ (xs : List ℕ). s.owed || nat_lt 0 (length xs)) (sym same)
 
 -- a segment that is dropped
-dropped : (s after : EndState) (e : Endpoint) (p : PlacedSegment) → EndStands s e → (¬ IsAcceptable e p) ⊎ IsBeyond e p → after ≡ record s { owed = true } → Becomes (λ e' e''. TakesSegment e' p e'') e after
+dropped : (s after : EndState) (e : Endpoint) (p : PlacedSegment) → EndStands s e → (¬ IsAcceptable e p) ⊎ IsBeyond e p
+    → after ≡ record s { owed = true } → Becomes (λ e' e''. TakesSegment e' p e'') e after
 dropped s after e p stands cause is = record {
   end = record e { owed = true };
   step = inl (record { cause = cause; stays = refl });
@@ -207,7 +223,9 @@ right_some None b some = some
 right_some (Some x) b some = refl
 
 -- Where nothing new is brought, each place has what it had
-pub nothing_new : (s : EndState) (e : Endpoint) (g : Segment) (p : PlacedSegment) (k : ℕ) → EndStands s e → Numbered s.receive_first.0 s.send_first.0 g p → IsInStreams p → length g.bytes < 2 ^ 16 → ¬ BringsNewByte s g → map.get e.arrived k ≡ None → byte_brought e p k ≡ None
+pub nothing_new : (s : EndState) (e : Endpoint) (g : Segment) (p : PlacedSegment) (k : ℕ) → EndStands s e
+    → Numbered s.receive_first.0 s.send_first.0 g p → IsInStreams p → length g.bytes < 2 ^ 16 → ¬ BringsNewByte s g → map.get e.arrived k ≡ None
+    → byte_brought e p k ≡ None
 nothing_new s e g p k stands numbered streams short none empty =
     let all : received e ≡ got s = received_is s e stands in
     let from : got s ≤ k = elim (cases_lt k (received e)) [ inl below ↦ absurd (some_none (map.get e.arrived k) (some_in_order e.arrived k below) empty) | inr from ↦ omega (arith, from, all) ] in
@@ -217,7 +235,8 @@ nothing_new s e g p k stands numbered streams short none empty =
     let no_piece : held s.ahead k ≡ None = sym (stands.ahead k (omega (arith, from, all))) ∙ empty in
     let old : byte_ahead (ahead_of s) j ≡ None =
     ap (λ (m : ℕ). held (counted_from m s.ahead) j) (let small : got s % 2 ^ 32 ≡ got s = omega (arith, stands.sound.received) in small)
-    ∙ held_from (got s) (got s + 1) (got s + 16384) s.ahead j (omega arith) (omega (arith, stands.sound.received)) stands.sound.ahead ∙ ap (held s.ahead) at ∙ no_piece in
+    ∙ held_from (got s) (got s + 1) (got s + 16384) s.ahead j (omega arith) (omega (arith, stands.sound.received)) stands.sound.ahead
+    ∙ ap (held s.ahead) at ∙ no_piece in
     let both : byte_then (ahead_of s) g.seq.0 g.bytes j ≡ with_ s p k =
     byte_then_is s g p j stands.sound numbered (omega (arith, streams.end)) (omega (arith, n, short)) ∙ ap (with_ s p) at in
     let new : brought (expected s) g.seq.0 g.bytes j ≡ with_ s p k = ap (λ (o : Option ℕ). option_or o (brought (expected s) g.seq.0 g.bytes j)) (sym old) ∙ both in
@@ -231,8 +250,9 @@ same_either None more none = sym (none refl)
 same_either (Some x) more none = refl
 
 -- a segment that brings nothing new
-repeated : (s after : EndState) (g : Segment) (e : Endpoint) (p : PlacedSegment) → EndStands s e → Numbered s.receive_first.0 s.send_first.0 g p → IsInStreams p → length g.bytes < 2 ^ 16
-    → IsArrival Duplicate s g → Leaves Duplicate s g after → Becomes (λ e' e''. TakesSegment e' p e'') e after
+repeated : (s after : EndState) (g : Segment) (e : Endpoint) (p : PlacedSegment) → EndStands s e → Numbered s.receive_first.0 s.send_first.0 g p
+    → IsInStreams p → length g.bytes < 2 ^ 16
+    → IsArrival Duplicate s g → ChangesByArrival Duplicate s g after → Becomes (λ e' e''. TakesSegment e' p e'') e after
 repeated s after g e p stands numbered streams short is leaves =
     let within : p.ack ≤ s.sent = within_sent s e g p stands numbered streams is.1 in
     let old : p.ack ≤ s.acked = new_place s.send_first.0 s.acked s.sent p.ack stands.sound.sending.acked (emitted_small s stands.sound.sending) (ack_small p streams) within
@@ -252,8 +272,10 @@ repeated s after g e p stands numbered streams short is leaves =
     }
 
 -- a segment that is accepted
-taken_in : (s after : EndState) (g : Segment) (e : Endpoint) (p : PlacedSegment) → EndStands s e → Numbered s.receive_first.0 s.send_first.0 g p → IsInStreams p → length g.bytes < 2 ^ 16
-    → IsArrival Accepted s g → TakesByNumbers s g (newly_acked s g) after → (IsInStream (got after) → IsEndState after) → Becomes (λ e' e''. TakesSegment e' p e'') e after
+taken_in : (s after : EndState) (g : Segment) (e : Endpoint) (p : PlacedSegment) → EndStands s e → Numbered s.receive_first.0 s.send_first.0 g p
+    → IsInStreams p → length g.bytes < 2 ^ 16
+    → IsArrival Accepted s g → TakesByNumbers s g (newly_acked s g) after → (IsInStream (got after) → IsEndState after)
+    → Becomes (λ e' e''. TakesSegment e' p e'') e after
 taken_in s after g e p stands numbered streams short is takes at_rest =
     let n : length g.bytes ≡ length p.bytes = ap length numbered.bytes in
     let fits : p.place < 2 ^ 30 = omega (arith, streams.end) in
@@ -291,7 +313,8 @@ taken_in s after g e p stands numbered streams short is takes at_rest =
         waiting = ap (λ (t : EndState). t.waiting) takes.changed ∙ ap (drop (newly_acked s g)) stands.waiting ∙ drop-drop (newly_acked s g) e.acked e.stream
             ∙ ap (λ (m : ℕ). drop m e.stream) (ap (λ (m : ℕ). m + newly_acked s g) stands.acked ∙ acked);
         read_within = omega (arith, stands.read_within, count, all, h.received);
-        ready = h.ready ∙ ap (λ (xs : List ℕ). xs ++ r.given) stands.ready ∙ sym (drop-append-le e.read (received_bytes e) r.given stands.read_within) ∙ ap (drop e.read) (sym now);
+        ready = h.ready ∙ ap (λ (xs : List ℕ). xs ++ r.given) stands.ready
+            ∙ sym (drop-append-le e.read (received_bytes e) r.given stands.read_within) ∙ ap (drop e.read) (sym now);
         ahead = λ place from.
             let j = place - got after in
             let at : got after + j ≡ place = omega (arith, from, count) in
@@ -302,8 +325,10 @@ taken_in s after g e p stands numbered streams short is takes at_rest =
     }
 
 -- whatever the segment was
-becomes : (s after : EndState) (g : Segment) (arrival : Arrival) → length g.bytes < 2 ^ 16 → IsArrival arrival s g → Leaves arrival s g after → (IsInStream (got after) → IsEndState after)
-    → (e : Endpoint) (p : PlacedSegment) → EndStands s e → Numbered s.receive_first.0 s.send_first.0 g p → IsInStreams p → Becomes (λ e' e''. TakesSegment e' p e'') e after
+becomes : (s after : EndState) (g : Segment) (arrival : Arrival) → length g.bytes < 2 ^ 16 → IsArrival arrival s g
+    → ChangesByArrival arrival s g after → (IsInStream (got after) → IsEndState after)
+    → (e : Endpoint) (p : PlacedSegment) → EndStands s e → Numbered s.receive_first.0 s.send_first.0 g p → IsInStreams p
+    → Becomes (λ e' e''. TakesSegment e' p e'') e after
 becomes s after g Outside short is leaves at_rest e p stands numbered streams =
     dropped s after e p stands (inl (λ acceptable. is (acceptable_to s e g p stands numbered streams short acceptable))) leaves
 becomes s after g (Ahead ack) short is leaves at_rest e p stands numbered streams =
@@ -312,13 +337,14 @@ becomes s after g Duplicate short is leaves at_rest e p stands numbered streams 
 becomes s after g Accepted short is leaves at_rest e p stands numbered streams = taken_in s after g e p stands numbered streams short is leaves at_rest
 
 -- the numbers of the first bytes stay
-numbers : (s after : EndState) (g : Segment) (arrival : Arrival) → Leaves arrival s g after → SameNumbers s after
+numbers : (s after : EndState) (g : Segment) (arrival : Arrival) → ChangesByArrival arrival s g after → SameNumbers s after
 numbers s after g Outside leaves = record { send_first = ap (λ (t : EndState). t.send_first) leaves; receive_first = ap (λ (t : EndState). t.receive_first) leaves }
 numbers s after g (Ahead ack) leaves = record { send_first = ap (λ (t : EndState). t.send_first) leaves; receive_first = ap (λ (t : EndState). t.receive_first) leaves }
 numbers s after g Duplicate leaves = record { send_first = ap (λ (t : EndState). t.send_first) leaves; receive_first = ap (λ (t : EndState). t.receive_first) leaves }
 numbers s after g Accepted leaves = record { send_first = ap (λ (t : EndState). t.send_first) leaves.changed; receive_first = ap (λ (t : EndState). t.receive_first) leaves.changed }
 
-pub arrives_if_ok : (s after : EndState) (g : Segment) (result : Result Arrival NoMemory) → length g.bytes < 2 ^ 16 → IfOk result (λ a. IsArrival a s g) → IfOk result (λ a. Leaves a s g after) → OnOk result (IsInStream (got after) → IsEndState after)
+pub arrives_if_ok : (s after : EndState) (g : Segment) (result : Result Arrival NoMemory) → length g.bytes < 2 ^ 16
+    → IfOk result (λ a. IsArrival a s g) → IfOk result (λ a. ChangesByArrival a s g after) → OnOk result (IsInStream (got after) → IsEndState after)
     → OnOk result (TakesBy s g after)
 arrives_if_ok s after g (Ok arrival) short is leaves at_rest = record { numbers = numbers s after g arrival leaves; becomes = becomes s after g arrival short is leaves at_rest }
 arrives_if_ok s after g (Err error) short is leaves at_rest = tt

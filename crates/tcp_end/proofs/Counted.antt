@@ -13,14 +13,16 @@ use Rattle.tcp_reasm.proofs.Held.{runs_from}
 use Rattle.tcp_seq.proofs.ByteFrom.{byte_below, byte_there}
 
 -- one more piece is counted from a place
-pub counted_more : (base : ℕ) (xs ys : List Piece) (i : ℕ) (x : Piece) (place : ℕ) → i < length xs → ys ≡ counted_from base (take i xs) ++ drop i xs → x ≡ get_or ys i x → place ≡ offset_from (get_or ys i x).place base
+pub counted_more : (base : ℕ) (xs ys : List Piece) (i : ℕ) (x : Piece) (place : ℕ) → i < length xs → ys ≡ counted_from base (take i xs) ++ drop i xs
+    → x ≡ get_or ys i x → place ≡ offset_from (get_or ys i x).place base
     → set ys i (record { place = place; bytes = (get_or ys i x).bytes }) ≡ counted_from base (take (i + 1) xs) ++ drop (i + 1) xs
 counted_more base xs ys i x place below is read moves =
     let f : Piece → Piece = λ p. record p { place = offset_from p.place base } in
     let same : record { place = place; bytes = (get_or ys i x).bytes } ≡ f x = rw (moves, ← read) refl in
     ap (set ys i) same ∙ map_over_more f xs ys i x below is read
 
-pub raised_more : (base : ℕ) (xs ys : List Piece) (i : ℕ) (x : Piece) (place : ℕ) → i < length xs → ys ≡ raised base (take i xs) ++ drop i xs → x ≡ get_or ys i x → place ≡ plus (get_or ys i x).place base
+pub raised_more : (base : ℕ) (xs ys : List Piece) (i : ℕ) (x : Piece) (place : ℕ) → i < length xs → ys ≡ raised base (take i xs) ++ drop i xs
+    → x ≡ get_or ys i x → place ≡ plus (get_or ys i x).place base
     → set ys i (record { place = place; bytes = (get_or ys i x).bytes }) ≡ raised base (take (i + 1) xs) ++ drop (i + 1) xs
 raised_more base xs ys i x place below is read moves =
     let f : Piece → Piece = λ p. record p { place = plus p.place base } in
@@ -42,7 +44,8 @@ runs-counted base low (p ∷ ps) runs =
       runs-counted base (offset_from p.place base + length p.bytes) ps (subst (λ (n : ℕ). AreRuns n ps) next runs.3),
     )
 
-pub byte_counted : (base place moved : ℕ) (bytes : List ℕ) (k : ℕ) → base ≤ place → moved ≡ place - base → byte_from moved bytes k ≡ byte_from place bytes (base + k)
+pub byte_counted : (base place moved : ℕ) (bytes : List ℕ) (k : ℕ) → base ≤ place → moved ≡ place - base
+    → byte_from moved bytes k ≡ byte_from place bytes (base + k)
 byte_counted base place moved bytes k le is = elim (cases_lt k moved) [
   | inl below ↦ byte_below moved bytes k below ∙ sym (byte_below place bytes (base + k) (omega (arith, below, is)))
   | inr there ↦ byte_there moved bytes k there ∙ ap (slice_get bytes) (let e : k - moved ≡ base + k - place = omega (arith, there, le, is) in e)

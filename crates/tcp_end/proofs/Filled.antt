@@ -39,7 +39,8 @@ gap_length : (bytes : List ℕ) (at p : ℕ) → at ≤ p → p ≤ max at (leng
 gap_length bytes at p above within = omega (arith, length-take (p - at) (drop at bytes), length-drop at bytes)
 
 -- one more piece is reached
-fills_each : (bytes : List ℕ) (at : ℕ) (p : Piece) (ps : List Piece) (rest : List ℕ) → at ≤ p.place → p.place ≤ max at (length bytes) → AreRuns (p.place + length p.bytes) ps
+fills_each : (bytes : List ℕ) (at : ℕ) (p : Piece) (ps : List Piece) (rest : List ℕ) → at ≤ p.place → p.place ≤ max at (length bytes)
+    → AreRuns (p.place + length p.bytes) ps
     → ((k : ℕ) → p.place + length p.bytes ≤ k → slice_get rest (k - (p.place + length p.bytes)) ≡ option_or (held ps k) (byte_from 0 bytes k))
     → (k : ℕ) → at ≤ k → slice_get (take (p.place - at) (drop at bytes) ++ (p.bytes ++ rest)) (k - at) ≡ option_or (held (p ∷ ps) k) (byte_from 0 bytes k)
 fills_each bytes at p ps rest above within runs more k here =
@@ -67,7 +68,8 @@ fills_each bytes at p ps rest above within runs more k here =
       ]
     ]
 
-fills_more : (bytes : List ℕ) (at : ℕ) (p : Piece) (ps : List Piece) (c : ℕ) → at ≤ p.place → p.place ≤ max at (length bytes) → AreRuns (p.place + length p.bytes) ps
+fills_more : (bytes : List ℕ) (at : ℕ) (p : Piece) (ps : List Piece) (c : ℕ) → at ≤ p.place → p.place ≤ max at (length bytes)
+    → AreRuns (p.place + length p.bytes) ps
     → Fills bytes (p.place + length p.bytes) ps c → Fills bytes at (p ∷ ps) (suc c)
 fills_more bytes at p ps c above within runs more =
     let rest = filled bytes (p.place + length p.bytes) (take c ps) in
@@ -81,13 +83,16 @@ fills_more bytes at p ps c above within runs more =
       each = fills_each bytes at p (take c ps) rest above within (runs-take (p.place + length p.bytes) c ps runs) more.each;
     }
 
-reached_more : (end next : ℕ) (p : Piece) (ps : List Piece) → p.place ≤ end → next ≡ max end (p.place + length p.bytes) → reached end (p ∷ ps) ≡ suc (reached next ps)
-reached_more end next p ps le is = ap (λ b. if b then suc (reached (max end (p.place + length p.bytes)) ps) else 0) (le-leb p.place end le) ∙ ap (λ (n : ℕ). suc (reached n ps)) (sym is)
+reached_more : (end next : ℕ) (p : Piece) (ps : List Piece) → p.place ≤ end → next ≡ max end (p.place + length p.bytes)
+    → reached end (p ∷ ps) ≡ suc (reached next ps)
+reached_more end next p ps le is = ap (λ b. if b then suc (reached (max end (p.place + length p.bytes)) ps) else 0) (le-leb p.place end le)
+    ∙ ap (λ (n : ℕ). suc (reached n ps)) (sym is)
 
 reached_none : (end : ℕ) (p : Piece) (ps : List Piece) → end < p.place → reached end (p ∷ ps) ≡ 0
 reached_none end p ps above = ap (λ b. if b then suc (reached (max end (p.place + length p.bytes)) ps) else 0) (lt-leb p.place end above)
 
-pub fills : (bytes : List ℕ) (at : ℕ) (ps : List Piece) → at ≤ 16384 → length bytes ≤ 16384 → AreRuns at ps → Fills bytes at ps (reached (max at (length bytes)) ps)
+pub fills : (bytes : List ℕ) (at : ℕ) (ps : List Piece) → at ≤ 16384 → length bytes ≤ 16384 → AreRuns at ps
+    → Fills bytes at ps (reached (max at (length bytes)) ps)
 fills bytes at [] within fits runs = fills_stop bytes at [] within fits tt
 fills bytes at (p ∷ ps) within fits runs = elim (cases_lt (max at (length bytes)) p.place) [
   | inl above ↦ subst (Fills bytes at (p ∷ ps)) (sym (reached_none (max at (length bytes)) p ps above))

@@ -17,13 +17,14 @@ use Rattle.tcp_seq.proofs.Received.{bytes_are, some_none}
 use Rattle.tcp_seq.proofs.Emitting.{next_is_slice, again_is_slice}
 use Rattle.tcp_seq.proofs.Carried.{at_fresh, runs}
 use Rattle.tcp_seq.proofs.Flows.{emitted_in_streams}
-use Rattle.tcp_end.specs.State.{fresh, got}
+use Rattle.tcp_end.specs.State.{fresh_end, got}
 use Rattle.tcp_end.specs.Standing.{EndStands, Numbered, SameNumbers, Becomes, BecomesBy}
-use Rattle.tcp_end.specs.Ends.{EndSide, EndPair, fresh_pair, CallsSend, CallsEmit, CallsRead, CallsArrive, EndCalls, answered, PairStep, PairRun, IsNumberedAmong, PairStands, PairBecomes, PairFollows}
+use Rattle.tcp_end.specs.Ends.{EndSide, EndPair, fresh_pair, CallsSend, CallsEmit, CallsRead, CallsArrive, EndCalls, answer_segments, PairStep, PairRun, IsNumberedAmong, PairStands, PairBecomes, PairFollows}
 use Rattle.tcp_end.proofs.Steps.{stream_is, received_is}
 
 -- a fresh end stands for the fresh endpoint
-pub fresh_stands : (way : Way) (peering : PeeringId) (send_first receive_first : Seq) → EndStands (fresh way peering send_first receive_first) fresh_endpoint
+pub fresh_stands : (way : Way) (peering : PeeringId) (send_first receive_first : Seq)
+    → EndStands (fresh_end way peering send_first receive_first) fresh_endpoint
 fresh_stands way peering send_first receive_first = record {
   sound = record {
     sending = record { acked = omega arith; flight = omega arith; emitted = omega arith; stream = omega arith; at_turn = omega arith };
@@ -57,16 +58,19 @@ AreNumbered s gs ps = (g : Segment) → Contains gs g → IsNumberedAmong s.send
 same_emitted : (s : EndState) (gs gs' : List Segment) (ps : List PlacedSegment) → gs' ≡ gs → AreNumbered s gs ps → AreNumbered s gs' ps
 same_emitted s gs gs' ps same all g here = all g (subst (λ (xs : List Segment). Contains xs g) same here)
 
-among_more : (seq_first ack_first : ℕ) (g : Segment) (ps : List PlacedSegment) (p : PlacedSegment) → IsNumberedAmong seq_first ack_first g ps → IsNumberedAmong seq_first ack_first g (ps ++ p ∷ [])
+among_more : (seq_first ack_first : ℕ) (g : Segment) (ps : List PlacedSegment) (p : PlacedSegment) → IsNumberedAmong seq_first ack_first g ps
+    → IsNumberedAmong seq_first ack_first g (ps ++ p ∷ [])
 among_more seq_first ack_first g ps p is = record { segment = is.segment; there = Contains-append_left ps (p ∷ []) is.segment is.there; numbered = is.numbered }
 
-one_more : (s : EndState) (gs gs' : List Segment) (ps : List PlacedSegment) (g : Segment) (p : PlacedSegment) → gs' ≡ gs ++ g ∷ [] → Numbered s.send_first.0 s.receive_first.0 g p → AreNumbered s gs ps → AreNumbered s gs' (ps ++ p ∷ [])
+one_more : (s : EndState) (gs gs' : List Segment) (ps : List PlacedSegment) (g : Segment) (p : PlacedSegment) → gs' ≡ gs ++ g ∷ []
+    → Numbered s.send_first.0 s.receive_first.0 g p → AreNumbered s gs ps → AreNumbered s gs' (ps ++ p ∷ [])
 one_more s gs gs' ps g p adds numbered all q here = elim (Contains-push_cases gs g q (subst (λ (xs : List Segment). Contains xs q) adds here)) [
   | inl old ↦ among_more s.send_first.0 s.receive_first.0 q ps p (all q old)
   | inr new ↦ record { segment = p; there = Contains-push ps p; numbered = subst (λ (x : Segment). Numbered s.send_first.0 s.receive_first.0 x p) new numbered }
 ]
 
-side_sends : (theirs : List PlacedSegment) (mine : Side) (before after : EndSide) → EndStands before.state mine.end → AreNumbered before.state before.emitted mine.emitted → CallsSend before after → SideBecomes theirs mine before after
+side_sends : (theirs : List PlacedSegment) (mine : Side) (before after : EndSide) → EndStands before.state mine.end
+    → AreNumbered before.state before.emitted mine.emitted → CallsSend before after → SideBecomes theirs mine before after
 side_sends theirs mine before after stands all (bytes, by, same) =
     let becomes : Becomes (λ e e'. SendsBytes e bytes e') mine.end after.state = by.becomes mine.end stands in
     record {
@@ -77,7 +81,8 @@ side_sends theirs mine before after stands all (bytes, by, same) =
       emitted = same_emitted before.state before.emitted after.emitted mine.emitted same all;
     }
 
-side_reads : (theirs : List PlacedSegment) (mine : Side) (before after : EndSide) → EndStands before.state mine.end → AreNumbered before.state before.emitted mine.emitted → CallsRead before after → SideBecomes theirs mine before after
+side_reads : (theirs : List PlacedSegment) (mine : Side) (before after : EndSide) → EndStands before.state mine.end
+    → AreNumbered before.state before.emitted mine.emitted → CallsRead before after → SideBecomes theirs mine before after
 side_reads theirs mine before after stands all (n, by, same) =
     let becomes : Becomes (λ e e'. ReadsBytes e n e') mine.end after.state = by.becomes mine.end stands in
     record {
@@ -92,8 +97,11 @@ side_reads theirs mine before after stands all (n, by, same) =
 abbrev Free : Endpoint → PlacedSegment → Endpoint → Type 0
 Free e p e' = EmitsSlice e p e' ⊎ EmitsEmpty e p e'
 
-side_emits_by : (Step : Endpoint → PlacedSegment → Endpoint → Type 0) (theirs : List PlacedSegment) (mine : Side) (before after : EndSide) (answer : Option Segment) → EndStands before.state mine.end → AreNumbered before.state before.emitted mine.emitted
-    → ((p : PlacedSegment) (e : Endpoint) → Step mine.end p e → Free mine.end p e) → SameNumbers before.state after.state → BecomesBy Step before.state mine.end answer after.state → after.emitted ≡ before.emitted ++ answered answer → SideBecomes theirs mine before after
+side_emits_by : (Step : Endpoint → PlacedSegment → Endpoint → Type 0) (theirs : List PlacedSegment) (mine : Side) (before after : EndSide) (answer : Option Segment)
+    → EndStands before.state mine.end → AreNumbered before.state before.emitted mine.emitted
+    → ((p : PlacedSegment) (e : Endpoint) → Step mine.end p e → Free mine.end p e) → SameNumbers before.state after.state
+    → BecomesBy Step before.state mine.end answer after.state → after.emitted ≡ before.emitted ++ answer_segments answer
+    → SideBecomes theirs mine before after
 side_emits_by Step theirs mine before after None stands all free numbers becomes adds = record {
   side = mine;
   step = inr refl;
@@ -109,7 +117,8 @@ side_emits_by Step theirs mine before after (Some g) stands all free numbers bec
   emitted = one_more before.state before.emitted after.emitted mine.emitted g becomes.segment adds becomes.numbered all;
 }
 
-side_emits : (theirs : List PlacedSegment) (mine : Side) (before after : EndSide) → EndStands before.state mine.end → AreNumbered before.state before.emitted mine.emitted → CallsEmit before after → SideBecomes theirs mine before after
+side_emits : (theirs : List PlacedSegment) (mine : Side) (before after : EndSide) → EndStands before.state mine.end
+    → AreNumbered before.state before.emitted mine.emitted → CallsEmit before after → SideBecomes theirs mine before after
 side_emits theirs mine before after stands all (answer, inl next, adds) =
     side_emits_by EmitsNext theirs mine before after answer stands all
     (λ p e step. inl (next_is_slice mine.end e p (omega (arith, stands.acked, stands.emitted, stands.sound.sending.acked)) step)) next.numbers (next.becomes mine.end stands) adds
@@ -127,7 +136,8 @@ in_streams mine theirs p there back here =
 
 side_takes : (theirs : Side) (gs : List Segment) (mine : Side) (before after : EndSide) → IsCarried mine theirs → IsCarried theirs mine
     → ((g : Segment) → Contains gs g → IsNumberedAmong before.state.receive_first.0 before.state.send_first.0 g theirs.emitted)
-    → EndStands before.state mine.end → AreNumbered before.state before.emitted mine.emitted → CallsArrive gs before after → SideBecomes theirs.emitted mine before after
+    → EndStands before.state mine.end → AreNumbered before.state before.emitted mine.emitted → CallsArrive gs before after
+    → SideBecomes theirs.emitted mine before after
 side_takes theirs gs mine before after there back incoming stands all (g, here, by, same) =
     let is : IsNumberedAmong before.state.receive_first.0 before.state.send_first.0 g theirs.emitted = incoming g here in
     let becomes : Becomes (λ e e'. TakesSegment e is.segment e') mine.end after.state = by.becomes mine.end is.segment stands is.numbered (in_streams mine theirs is.segment there back is.there) in
@@ -139,7 +149,8 @@ side_takes theirs gs mine before after there back incoming stands all (g, here, 
       emitted = same_emitted before.state before.emitted after.emitted mine.emitted same all;
     }
 
-side_stays : (theirs : List PlacedSegment) (mine : Side) (before after : EndSide) → EndStands before.state mine.end → AreNumbered before.state before.emitted mine.emitted → after ≡ before → SideBecomes theirs mine before after
+side_stays : (theirs : List PlacedSegment) (mine : Side) (before after : EndSide) → EndStands before.state mine.end
+    → AreNumbered before.state before.emitted mine.emitted → after ≡ before → SideBecomes theirs mine before after
 side_stays theirs mine before after stands all same = subst (SideBecomes theirs mine before) (sym same) (record {
   side = mine;
   step = inr refl;
@@ -150,7 +161,8 @@ side_stays theirs mine before after stands all same = subst (SideBecomes theirs 
 
 side_calls : (theirs : Side) (gs : List Segment) (mine : Side) (before after : EndSide) → IsCarried mine theirs → IsCarried theirs mine
     → ((g : Segment) → Contains gs g → IsNumberedAmong before.state.receive_first.0 before.state.send_first.0 g theirs.emitted)
-    → EndStands before.state mine.end → AreNumbered before.state before.emitted mine.emitted → EndCalls gs before after → SideBecomes theirs.emitted mine before after
+    → EndStands before.state mine.end → AreNumbered before.state before.emitted mine.emitted → EndCalls gs before after
+    → SideBecomes theirs.emitted mine before after
 side_calls theirs gs mine before after there back incoming stands all (inl sends) = side_sends theirs.emitted mine before after stands all sends
 side_calls theirs gs mine before after there back incoming stands all (inr (inl emits)) = side_emits theirs.emitted mine before after stands all emits
 side_calls theirs gs mine before after there back incoming stands all (inr (inr (inl reads))) = side_reads theirs.emitted mine before after stands all reads
@@ -160,7 +172,8 @@ side_calls theirs gs mine before after there back incoming stands all (inr (inr 
 -- The pair
 
 -- the numbers that one end sends by are those that the other receives by
-cross : (mine theirs : EndState) (gs : List Segment) (ps : List PlacedSegment) → mine.receive_first ≡ theirs.send_first → theirs.receive_first ≡ mine.send_first → AreNumbered theirs gs ps
+cross : (mine theirs : EndState) (gs : List Segment) (ps : List PlacedSegment) → mine.receive_first ≡ theirs.send_first
+    → theirs.receive_first ≡ mine.send_first → AreNumbered theirs gs ps
     → (g : Segment) → Contains gs g → IsNumberedAmong mine.receive_first.0 mine.send_first.0 g ps
 cross mine theirs gs ps there back all g here =
     subst (λ (n : Seq). IsNumberedAmong n.0 mine.send_first.0 g ps) (sym there) (subst (λ (n : Seq). IsNumberedAmong theirs.send_first.0 n.0 g ps) back (all g here))
@@ -170,7 +183,8 @@ renumbered : (s s' : EndState) (gs : List Segment) (ps : List PlacedSegment) →
 renumbered s s' gs ps same all g here =
     subst (λ (n : Seq). IsNumberedAmong n.0 s'.receive_first.0 g ps) (sym same.send_first) (subst (λ (n : Seq). IsNumberedAmong s.send_first.0 n.0 g ps) (sym same.receive_first) (all g here))
 
-near_acts : (before : EndPair) (near : EndSide) (c : Connection) → PairStands before c → IsConnection c → EndCalls before.far.emitted before.near near → PairBecomes c (record { near = near; far = before.far })
+near_acts : (before : EndPair) (near : EndSide) (c : Connection) → PairStands before c → IsConnection c
+    → EndCalls before.far.emitted before.near near → PairBecomes c (record { near = near; far = before.far })
 near_acts before near c stands is calls =
     let acts : SideBecomes c.far.emitted c.near before.near near = side_calls c.far before.far.emitted c.near before.near near is.there is.back
     (cross before.near.state before.far.state before.far.emitted c.far.emitted stands.back stands.there stands.far_emitted) stands.near stands.near_emitted calls in
@@ -190,7 +204,8 @@ near_acts before near c stands is calls =
       };
     }
 
-far_acts : (before : EndPair) (far : EndSide) (c : Connection) → PairStands before c → IsConnection c → EndCalls before.near.emitted before.far far → PairBecomes c (record { near = before.near; far = far })
+far_acts : (before : EndPair) (far : EndSide) (c : Connection) → PairStands before c → IsConnection c → EndCalls before.near.emitted before.far far
+    → PairBecomes c (record { near = before.near; far = far })
 far_acts before far c stands is calls =
     let acts : SideBecomes c.near.emitted c.far before.far far = side_calls c.near before.near.emitted c.far before.far far is.back is.there
     (cross before.far.state before.near.state before.near.emitted c.near.emitted stands.there stands.back stands.near_emitted) stands.far stands.far_emitted calls in
@@ -217,7 +232,8 @@ pair_steps before after c stands is (inr (far, same)) =
     subst (λ (near : EndSide). PairBecomes c (record { near = near; far = after.far })) (sym same) (far_acts before after.far c stands is far)
 
 -- one step more
-run_more : (before : Connection) (states : List Connection) (last next : Connection) → ConnectionRun before states last → ConnectionStep last next → ConnectionRun before (states ++ next ∷ []) next
+run_more : (before : Connection) (states : List Connection) (last next : Connection) → ConnectionRun before states last → ConnectionStep last next
+    → ConnectionRun before (states ++ next ∷ []) next
 run_more before [] last next same step = (subst (λ (c : Connection). ConnectionStep c next) same step, refl)
 run_more before (x ∷ xs) last next (first, run) step = (first, run_more x xs last next run step)
 
@@ -259,21 +275,25 @@ pair_runs peering near_way far_way near_first far_first pairs last run =
         far = fresh_stands far_way peering far_first near_first;
         there = refl;
         back = refl;
-        near_emitted = no_segment (fresh near_way peering near_first far_first) [];
-        far_emitted = no_segment (fresh far_way peering far_first near_first) [];
+        near_emitted = no_segment (fresh_end near_way peering near_first far_first) [];
+        far_emitted = no_segment (fresh_end far_way peering far_first near_first) [];
       };
     }) run
 
 -- what was read, and what can be
-first_bytes : (s : EndState) (e : Endpoint) (stream : List ℕ) → EndStands s e → received_bytes e ≡ take (received e) stream → take s.taken stream ++ s.ready ≡ take (got s) stream
+first_bytes : (s : EndState) (e : Endpoint) (stream : List ℕ) → EndStands s e → received_bytes e ≡ take (received e) stream
+    → take s.taken stream ++ s.ready ≡ take (got s) stream
 first_bytes s e stream stands is =
     let all : received e ≡ s.taken + length s.ready = received_is s e stands in
     let rest : s.ready ≡ take (length s.ready) (drop s.taken stream) =
-    stands.ready ∙ ap (λ (n : ℕ). drop n (received_bytes e)) stands.read ∙ ap (drop s.taken) (is ∙ ap (λ (n : ℕ). take n stream) all) ∙ drop-take s.taken (length s.ready) stream in
+    stands.ready ∙ ap (λ (n : ℕ). drop n (received_bytes e)) stands.read ∙ ap (drop s.taken) (is ∙ ap (λ (n : ℕ). take n stream) all)
+    ∙ drop-take s.taken (length s.ready) stream in
     ap (λ (xs : List ℕ). take s.taken stream ++ xs) rest ∙ sym (take-add s.taken (length s.ready) stream)
 
-pub first_there : (pair : EndPair) (c : Connection) → PairStands pair c → IsConnection c → take pair.far.state.taken c.near.end.stream ++ pair.far.state.ready ≡ take (got pair.far.state) c.near.end.stream
+pub first_there : (pair : EndPair) (c : Connection) → PairStands pair c → IsConnection c
+    → take pair.far.state.taken c.near.end.stream ++ pair.far.state.ready ≡ take (got pair.far.state) c.near.end.stream
 first_there pair c stands is = first_bytes pair.far.state c.far.end c.near.end.stream stands.far is.there.flows.bytes
 
-pub first_back : (pair : EndPair) (c : Connection) → PairStands pair c → IsConnection c → take pair.near.state.taken c.far.end.stream ++ pair.near.state.ready ≡ take (got pair.near.state) c.far.end.stream
+pub first_back : (pair : EndPair) (c : Connection) → PairStands pair c → IsConnection c
+    → take pair.near.state.taken c.far.end.stream ++ pair.near.state.ready ≡ take (got pair.near.state) c.far.end.stream
 first_back pair c stands is = first_bytes pair.near.state c.near.end c.far.end.stream stands.near is.back.flows.bytes

@@ -7,7 +7,7 @@ use Rattle.tcp_reasm.specs.Runs.{AreRuns}
 use Rattle.tcp_reasm.specs.Reassembly.{Reassembly}
 use Rattle.tcp_seq.specs.declared.state.EndState.{EndState}
 use Rattle.tcp_end.specs.State.{IsEndState, expected, got, counted_from, raised, LieFrom}
-use Rattle.tcp_end.specs.Inner.{state_of, Keeps}
+use Rattle.tcp_end.specs.Inner.{end_state, EndInvariant}
 use Rattle.tcp_end.specs.Arriving.{ahead_of}
 use Rattle.tcp_end.specs.declared.end.End.TheInside.{Inside}
 use Rattle.tcp_reasm.proofs.Held.{runs_from}
@@ -27,7 +27,8 @@ raised-counted base low high (p ∷ ps) above fits lie =
     ap (λ (n : ℕ). let q : Piece = record p { place = n } in q ∷ raised base (counted_from base ps)) back
     ∙ ap (λ (qs : List Piece). p ∷ qs) (raised-counted base (p.place + length p.bytes) high ps (omega (arith, above, lie.0)) fits lie.3)
 
-pub lie-raised : (base low from high : ℕ) (ps : List Piece) → IsInStream base → from ≡ base + low → high ≡ base + 16384 → AreRuns low ps → LieFrom from high (raised base ps)
+pub lie-raised : (base low from high : ℕ) (ps : List Piece) → IsInStream base → from ≡ base + low → high ≡ base + 16384 → AreRuns low ps
+    → LieFrom from high (raised base ps)
 lie-raised base low from high [] fits at window runs = tt
 lie-raised base low from high (p ∷ ps) fits at window runs =
     let moved : plus p.place base ≡ p.place + base = omega (arith, runs.2, fits) in (
@@ -37,7 +38,8 @@ lie-raised base low from high (p ∷ ps) fits at window runs =
       lie-raised base (p.place + length p.bytes) (plus p.place base + length p.bytes) high ps fits (omega (arith, moved)) window runs.3,
     )
 
-pub runs-counted_back : (base low from high : ℕ) (ps : List Piece) → IsInStream base → from ≡ base + low → high ≡ base + 16384 → LieFrom from high ps → AreRuns low (counted_from base ps)
+pub runs-counted_back : (base low from high : ℕ) (ps : List Piece) → IsInStream base → from ≡ base + low → high ≡ base + 16384 → LieFrom from high ps
+    → AreRuns low (counted_from base ps)
 runs-counted_back base low from high [] fits at window lie = tt
 runs-counted_back base low from high (p ∷ ps) fits at window lie =
     let moved : offset_from p.place base ≡ p.place - base = omega (arith, lie.0, lie.2, at, window, fits) in (
@@ -48,14 +50,14 @@ runs-counted_back base low from high (p ∷ ps) fits at window lie =
     )
 
 -- what stands ahead of the state is what the endpoint keeps
-pub ahead_is : (e : Inside) → e.ahead.next ≡ expected (state_of e) → AreRuns 1 e.ahead.pieces → ahead_of (state_of e) ≡ e.ahead
+pub ahead_is : (e : Inside) → e.ahead.next ≡ expected (end_state e) → AreRuns 1 e.ahead.pieces → ahead_of (end_state e) ≡ e.ahead
 ahead_is e next runs =
     let base = (e.taken + length e.ready) % 2 ^ 32 in
     ap (λ (n : ℕ). let r : Reassembly = record { next = n; pieces = counted_from base (raised base e.ahead.pieces) } in r) (sym next)
     ∙ ap (λ (ps : List Piece). let r : Reassembly = record { next = e.ahead.next; pieces = ps } in r) (counted-raised base 1 e.ahead.pieces (omega arith) runs)
 
 -- what is exported can be imported, where at most 1 MiB was received
-pub lies : (e : Inside) → Keeps e → IsInStream (got (state_of e)) → IsEndState (state_of e)
+pub lies : (e : Inside) → EndInvariant e → IsInStream (got (end_state e)) → IsEndState (end_state e)
 lies e keeps few =
     let base : (e.taken + length e.ready) % 2 ^ 32 ≡ e.taken + length e.ready = omega (arith, few) in
     record {
@@ -65,7 +67,7 @@ lies e keeps few =
           (omega (arith, base, few)) (omega (arith, base)) (omega (arith, base)) keeps.runs;
     }
 
-pub exported : (e : Inside) (s : EndState) → s ≡ state_of e → Keeps e → IsInStream (got s) → IsEndState s
+pub exported : (e : Inside) (s : EndState) → s ≡ end_state e → EndInvariant e → IsInStream (got s) → IsEndState s
 exported e s is keeps few = subst IsEndState (sym is) (lies e keeps (subst (λ (t : EndState). IsInStream (got t)) is few))
 
 -- the fields of what is imported
@@ -85,13 +87,16 @@ inside_of s r = record {
   owed = s.owed;
 }
 
-pub imported_runs : (s : EndState) (vec counted ahead : List Piece) (len low : ℕ) → IsEndState s → low ≤ 1 → len ≡ length s.ready → vec ≡ s.ahead → counted ≡ counted_from (s.taken + len) vec → ahead ≡ counted → AreRuns low ahead
+pub imported_runs : (s : EndState) (vec counted ahead : List Piece) (len low : ℕ) → IsEndState s → low ≤ 1 → len ≡ length s.ready → vec ≡ s.ahead
+    → counted ≡ counted_from (s.taken + len) vec → ahead ≡ counted → AreRuns low ahead
 imported_runs s vec counted ahead len low rests le lens vecs counts is =
     let base = s.taken + len in
     rw (is ∙ counts ∙ ap (counted_from base) vecs) (runs_from low 1 (counted_from base s.ahead) le
     (runs-counted_back base 1 (got s + 1) (got s + 16384) s.ahead (omega (arith, lens, rests.received)) (omega (arith, lens)) (omega (arith, lens)) rests.ahead))
 
-made_is : (s : EndState) (r : Reassembly) (next len : ℕ) (vec counted ahead : List Piece) → len ≡ length s.ready → vec ≡ s.ahead → counted ≡ counted_from (s.taken + len) vec → ahead ≡ counted → next ≡ plus s.receive_first.0 (s.taken + len) → r ≡ record { next = next; pieces = ahead }
+made_is : (s : EndState) (r : Reassembly) (next len : ℕ) (vec counted ahead : List Piece) → len ≡ length s.ready → vec ≡ s.ahead
+    → counted ≡ counted_from (s.taken + len) vec → ahead ≡ counted → next ≡ plus s.receive_first.0 (s.taken + len)
+    → r ≡ record { next = next; pieces = ahead }
     → r ≡ record { next = plus s.receive_first.0 (got s); pieces = counted_from (got s) s.ahead }
 made_is s r next len vec counted ahead lens vecs counts is nexts made =
     made ∙ ap (λ (n : ℕ). let q : Reassembly = record { next = n; pieces = ahead } in q) (nexts ∙ ap (λ (n : ℕ). plus s.receive_first.0 (s.taken + n)) lens)
@@ -99,14 +104,16 @@ made_is s r next len vec counted ahead lens vecs counts is nexts made =
     (is ∙ counts ∙ ap (λ (n : ℕ). counted_from (s.taken + n) vec) lens ∙ ap (counted_from (got s)) vecs)
 
 -- what is imported is kept, and seen as it was
-pub imported_keeps : (s : EndState) → IsEndState s → Keeps (inside_of s (record { next = plus s.receive_first.0 (got s); pieces = counted_from (got s) s.ahead }))
+pub imported_keeps : (s : EndState) → IsEndState s
+    → EndInvariant (inside_of s (record { next = plus s.receive_first.0 (got s); pieces = counted_from (got s) s.ahead }))
 imported_keeps s rests = record {
   sending = record { acked = rests.sending.acked; flight = rests.sending.flight; emitted = rests.sending.emitted; stream = rests.sending.stream; at_turn = rests.sending.at_turn };
   next = refl;
   runs = imported_runs s s.ahead (counted_from (got s) s.ahead) (counted_from (got s) s.ahead) (length s.ready) 1 rests (omega arith) refl refl refl refl;
 }
 
-pub imported_is : (s : EndState) → IsEndState s → state_of (inside_of s (record { next = plus s.receive_first.0 (got s); pieces = counted_from (got s) s.ahead })) ≡ s
+pub imported_is : (s : EndState) → IsEndState s
+    → end_state (inside_of s (record { next = plus s.receive_first.0 (got s); pieces = counted_from (got s) s.ahead })) ≡ s
 imported_is s rests =
     let same : got s % 2 ^ 32 ≡ got s = omega (arith, rests.received) in
     ap (λ (ps : List Piece). let t : EndState = record s { ahead = ps } in t)
@@ -114,8 +121,10 @@ imported_is s rests =
     ∙ raised-counted (got s) (got s + 1) (got s + 16384) s.ahead (omega arith) (omega (arith, rests.received)) rests.ahead)
 
 -- the fields as the calls answered them
-pub fields_are : (s : EndState) (waiting ready : List ℕ) (r : Reassembly) (next len : ℕ) (vec counted ahead : List Piece) → waiting ≡ s.waiting → ready ≡ s.ready
-    → len ≡ length s.ready → vec ≡ s.ahead → counted ≡ counted_from (s.taken + len) vec → ahead ≡ counted → next ≡ plus s.receive_first.0 (s.taken + len) → r ≡ record { next = next; pieces = ahead }
+pub fields_are : (s : EndState) (waiting ready : List ℕ) (r : Reassembly) (next len : ℕ) (vec counted ahead : List Piece) → waiting ≡ s.waiting
+    → ready ≡ s.ready
+    → len ≡ length s.ready → vec ≡ s.ahead → counted ≡ counted_from (s.taken + len) vec → ahead ≡ counted
+    → next ≡ plus s.receive_first.0 (s.taken + len) → r ≡ record { next = next; pieces = ahead }
     → record (inside_of s r) { waiting = waiting; ready = ready } ≡ inside_of s (record { next = plus s.receive_first.0 (got s); pieces = counted_from (got s) s.ahead })
 fields_are s waiting ready r next len vec counted ahead waits readies lens vecs counts is nexts made =
     ap (λ (w : List ℕ). let e : Inside = record (inside_of s r) { waiting = w; ready = ready } in e) waits

@@ -28,7 +28,8 @@ end_stays low (p ∷ ps) from below runs =
     ap (λ (n : ℕ). fold end_from n ps) (end_above from p (omega (arith, below, runs.0)))
     ∙ end_stays (p.place + length p.bytes) ps from (omega (arith, below, runs.0)) runs.3
 
-hole_later : (p : Piece) (ps : List Piece) (from hole : ℕ) → p.place ≤ from → IsFirstHole ps (max from (p.place + length p.bytes)) hole → IsFirstHole (p ∷ ps) from hole
+hole_later : (p : Piece) (ps : List Piece) (from hole : ℕ) → p.place ≤ from → IsFirstHole ps (max from (p.place + length p.bytes)) hole
+    → IsFirstHole (p ∷ ps) from hole
 hole_later p ps from hole reaches rest = record {
   above = omega (arith, rest.above);
   none = held_later p ps hole (omega (arith, rest.above)) ∙ rest.none;

@@ -18,7 +18,7 @@ use Rattle.tcp_reasm.proofs.Held.{held_below, held_here, held-append, runs_from}
 use Rattle.tcp_seq.proofs.ByteFrom.{byte_below, byte_within}
 use Rattle.tcp_end.proofs.Counted.{held-counted}
 use Rattle.tcp_end.proofs.Filled.{Fills, fills}
-use Rattle.tcp_end.specs.Receiving.{BringsByte, byte_then, Receives, run_of, ReceivesRun}
+use Rattle.tcp_end.specs.Receiving.{BringsByte, byte_then, Receives, made_ready, ReceivesRun}
 
 -- the run of bytes from the place expected next on
 pub run_fills : (bytes : List ℕ) (ps : List Piece) → length bytes ≤ 16384 → AreRuns 1 ps → Fills bytes 0 ps (reached (length bytes) ps)
@@ -62,11 +62,12 @@ runs_behind ps bytes c all =
 
 -- bytes from the place expected next on
 pub receives_run : (before after : Reassembly) (ready ready' : List ℕ) (seq : ℕ) (bytes kept : List ℕ) → length kept ≤ 16384 → AreRuns 1 before.pieces
-    → ((k : ℕ) → byte_from 0 kept k ≡ brought before.next seq bytes k) → ReceivesRun before after ready ready' kept → Receives before after ready ready' seq bytes
+    → ((k : ℕ) → byte_from 0 kept k ≡ brought before.next seq bytes k) → ReceivesRun before after ready ready' kept
+    → Receives before after ready ready' seq bytes
 receives_run before after ready ready' seq bytes kept fits runs same is =
     let ps = before.pieces in
     let c = reached (length kept) ps in
-    let run = run_of before kept in
+    let run = made_ready before kept in
     let all : Fills kept 0 ps c = run_fills kept ps fits runs in
     let behind : AreRuns (length run + 1) (drop c ps) = runs_behind ps kept c all in
     record {
@@ -83,13 +84,15 @@ receives_run before after ready ready' seq bytes kept fits runs same is =
     }
 
 -- bytes behind the place expected next
-pub receives_ahead : (before after : Reassembly) (ready : List ℕ) (seq : ℕ) (bytes kept : List ℕ) (place : ℕ) → AreRuns 1 before.pieces → before.next < 2 ^ 32 → 0 < place
+pub receives_ahead : (before after : Reassembly) (ready : List ℕ) (seq : ℕ) (bytes kept : List ℕ) (place : ℕ) → AreRuns 1 before.pieces
+    → before.next < 2 ^ 32 → 0 < place
     → ((k : ℕ) → byte_from place kept k ≡ brought before.next seq bytes k) → Puts before after seq bytes → Receives before after ready ready seq bytes
 receives_ahead before after ready seq bytes kept place runs fits above same puts = record {
   given = [];
   appended = sym (append-nil ready);
   each = λ k below. absurd (omega (arith, below));
-  ends = ap (λ o. option_or o (brought before.next seq bytes 0)) (held_below 1 before.pieces 0 runs (omega arith)) ∙ sym (same 0) ∙ byte_below place kept 0 above;
+  ends = ap (λ o. option_or o (brought before.next seq bytes 0)) (held_below 1 before.pieces 0 runs (omega arith)) ∙ sym (same 0)
+      ∙ byte_below place kept 0 above;
   next = puts.next ∙ (let e : before.next ≡ plus before.next 0 = omega (arith, fits) in e);
   ahead = λ k. puts.ahead k ∙ ap (byte_then before seq bytes) (let e : k ≡ 0 + k = omega arith in e);
 }
@@ -108,26 +111,29 @@ runs_ahead before after seq bytes kept place runs above same puts left = runs_ab
     (puts.ahead 0 ∙ ap (λ o. option_or o (brought before.next seq bytes 0)) (held_below 1 before.pieces 0 runs (omega arith)) ∙ sym (same 0) ∙ byte_below place kept 0 above)
 
 -- how many bytes were added by a run
-pub run_count : (before : Reassembly) (bytes ready ready' : List ℕ) (old_len new_len few : ℕ) (cut : List Piece) → old_len ≡ length ready → new_len ≡ length ready' → few ≡ reached (length bytes) before.pieces → cut ≡ before.pieces
-    → ready' ≡ ready ++ filled bytes 0 (take few cut) → new_len - old_len ≡ length (run_of before bytes)
+pub run_count : (before : Reassembly) (bytes ready ready' : List ℕ) (old_len new_len few : ℕ) (cut : List Piece) → old_len ≡ length ready
+    → new_len ≡ length ready' → few ≡ reached (length bytes) before.pieces → cut ≡ before.pieces
+    → ready' ≡ ready ++ filled bytes 0 (take few cut) → new_len - old_len ≡ length (made_ready before bytes)
 run_count before bytes ready ready' old_len new_len few cut old new counts same added =
-    let whole : ready' ≡ ready ++ run_of before bytes =
+    let whole : ready' ≡ ready ++ made_ready before bytes =
     added ∙ ap (λ (qs : List Piece). ready ++ filled bytes 0 (take few qs)) same ∙ ap (λ (n : ℕ). ready ++ filled bytes 0 (take n before.pieces)) counts in
-    let n : length ready' ≡ length ready + length (run_of before bytes) = ap length whole ∙ length-append ready (run_of before bytes) in
+    let n : length ready' ≡ length ready + length (made_ready before bytes) = ap length whole ∙ length-append ready (made_ready before bytes) in
     omega (arith, old, new, n)
 
-pub run_within : (before : Reassembly) (bytes : List ℕ) → length bytes ≤ 16384 → AreRuns 1 before.pieces → length (run_of before bytes) ≤ 16384
+pub run_within : (before : Reassembly) (bytes : List ℕ) → length bytes ≤ 16384 → AreRuns 1 before.pieces → length (made_ready before bytes) ≤ 16384
 run_within before bytes fits runs = omega (arith, (run_fills bytes before.pieces fits runs).within)
 
-pub run_behind : (before : Reassembly) (bytes : List ℕ) (count few : ℕ) → length bytes ≤ 16384 → AreRuns 1 before.pieces → count ≡ length (run_of before bytes) → few ≡ reached (length bytes) before.pieces
+pub run_behind : (before : Reassembly) (bytes : List ℕ) (count few : ℕ) → length bytes ≤ 16384 → AreRuns 1 before.pieces
+    → count ≡ length (made_ready before bytes) → few ≡ reached (length bytes) before.pieces
     → AreRuns (count + 1) (drop few before.pieces)
 run_behind before bytes count few fits runs counts reaches =
     let c = reached (length bytes) before.pieces in
-    let behind : AreRuns (length (run_of before bytes) + 1) (drop c before.pieces) = runs_behind before.pieces bytes c (run_fills bytes before.pieces fits runs) in
+    let behind : AreRuns (length (made_ready before bytes) + 1) (drop c before.pieces) = runs_behind before.pieces bytes c (run_fills bytes before.pieces fits runs) in
     subst (λ (n : ℕ). AreRuns (n + 1) (drop few before.pieces)) (sym counts)
-    (subst (λ (n : ℕ). AreRuns (length (run_of before bytes) + 1) (drop n before.pieces)) (sym reaches) behind)
+    (subst (λ (n : ℕ). AreRuns (length (made_ready before bytes) + 1) (drop n before.pieces)) (sym reaches) behind)
 
 -- the number expected next, as it was read
-pub same_bytes : (place : ℕ) (kept : List ℕ) (next next' seq : ℕ) (bytes : List ℕ) → next ≡ next' → ((k : ℕ) → byte_from place kept k ≡ brought next seq bytes k)
+pub same_bytes : (place : ℕ) (kept : List ℕ) (next next' seq : ℕ) (bytes : List ℕ) → next ≡ next'
+    → ((k : ℕ) → byte_from place kept k ≡ brought next seq bytes k)
     → (k : ℕ) → byte_from place kept k ≡ brought next' seq bytes k
 same_bytes place kept next next' seq bytes is same k = same k ∙ ap (λ (n : ℕ). brought n seq bytes k) is

@@ -38,7 +38,8 @@ window_in f next place small fits is = omega (arith, ahead_offset f next place i
 last_number : (f place len : ℕ) → 0 < len → plus (number f place) (len - 1) ≡ number f (place + len - 1)
 last_number f place len some = plus_number f place (len - 1) ∙ ap (number f) (let e : place + (len - 1) ≡ place + len - 1 = omega (arith, some) in e)
 
-pub acceptable_place : (f next place len : ℕ) → next < 2 ^ 30 → place < 2 ^ 30 → len < 2 ^ 16 → Acceptable (number f next) 16384 (number f place) len → AcceptablePlace next 16384 place len
+pub acceptable_place : (f next place len : ℕ) → next < 2 ^ 30 → place < 2 ^ 30 → len < 2 ^ 16 → Acceptable (number f next) 16384 (number f place) len
+    → AcceptablePlace next 16384 place len
 acceptable_place f next place len small fits short (inl h) = absurd (omega (arith, h.1))
 acceptable_place f next place len small fits short (inr (inl h)) = inr (inl (h.0, h.1, in_window f next place (omega (arith, small)) (omega (arith, fits)) h.2))
 acceptable_place f next place len small fits short (inr (inr (some, open', inl first))) = inr (inr (some, open', inl (in_window f next place (omega (arith, small)) (omega (arith, fits)) first)))
@@ -50,7 +51,8 @@ acceptable_place f next place len small fits short (inr (inr (some, open', inr l
           (subst (λ (n : ℕ). IsInWindow (number f next) 16384 n) (last_number f place len some) last)),
     ))
 
-pub place_acceptable : (f next place len : ℕ) → next < 2 ^ 30 → place < 2 ^ 30 → len < 2 ^ 16 → AcceptablePlace next 16384 place len → Acceptable (number f next) 16384 (number f place) len
+pub place_acceptable : (f next place len : ℕ) → next < 2 ^ 30 → place < 2 ^ 30 → len < 2 ^ 16 → AcceptablePlace next 16384 place len
+    → Acceptable (number f next) 16384 (number f place) len
 place_acceptable f next place len small fits short (inl h) = absurd (omega (arith, h.1))
 place_acceptable f next place len small fits short (inr (inl h)) = inr (inl (h.0, h.1, window_in f next place (omega (arith, small)) (omega (arith, fits)) h.2))
 place_acceptable f next place len small fits short (inr (inr (some, open', inl first))) = inr (inr (some, open', inl (window_in f next place (omega (arith, small)) (omega (arith, fits)) first)))
@@ -63,13 +65,15 @@ place_acceptable f next place len small fits short (inr (inr (some, open', inr l
     ))
 
 -- what an acknowledgement says
-pub beyond_place : (f acked emitted ack : ℕ) → acked ≤ emitted → emitted < 2 ^ 30 → ack < 2 ^ 30 → IsAck Beyond (number f acked) (number f emitted) (number f ack) → emitted < ack
+pub beyond_place : (f acked emitted ack : ℕ) → acked ≤ emitted → emitted < 2 ^ 30 → ack < 2 ^ 30
+    → IsAck Beyond (number f acked) (number f emitted) (number f ack) → emitted < ack
 beyond_place f acked emitted ack le small fits is = elim (cases_lt ack acked) [
   | inl below ↦ absurd (omega (arith, behind_offset f acked ack below (omega (arith, le, small)), is.1, le, small, below))
   | inr from ↦ omega (arith, ahead_offset f acked ack from (omega (arith, fits)), ahead_offset f acked emitted le (omega (arith, small)), is.0, from, le)
 ]
 
-pub place_beyond : (f acked emitted ack : ℕ) → acked ≤ emitted → emitted < 2 ^ 30 → ack < 2 ^ 30 → emitted < ack → IsAck Beyond (number f acked) (number f emitted) (number f ack)
+pub place_beyond : (f acked emitted ack : ℕ) → acked ≤ emitted → emitted < 2 ^ 30 → ack < 2 ^ 30 → emitted < ack
+    → IsAck Beyond (number f acked) (number f emitted) (number f ack)
 place_beyond f acked emitted ack le small fits past =
     let ahead : offset_from (number f ack) (number f acked) ≡ ack - acked = ahead_offset f acked ack (omega (arith, le, past)) (omega (arith, fits)) in
     (omega (arith, ahead, ahead_offset f acked emitted le (omega (arith, small)), past, le), omega (arith, ahead, fits))
@@ -88,7 +92,8 @@ newly_place f acked emitted ack le small fits within = elim (cases_lt ack acked)
       ∙ omega (arith, near, from)
 ]
 
-pub new_place : (f acked emitted ack : ℕ) → acked ≤ emitted → emitted < 2 ^ 30 → ack < 2 ^ 30 → ack ≤ emitted → (¬ IsAck New (number f acked) (number f emitted) (number f ack)) → ack ≤ acked
+pub new_place : (f acked emitted ack : ℕ) → acked ≤ emitted → emitted < 2 ^ 30 → ack < 2 ^ 30 → ack ≤ emitted
+    → (¬ IsAck New (number f acked) (number f emitted) (number f ack)) → ack ≤ acked
 new_place f acked emitted ack le small fits within none = elim (cases_lt acked ack) [
   | inl above ↦
       let near : offset_from (number f ack) (number f acked) ≡ ack - acked = ahead_offset f acked ack (omega (arith, above)) (omega (arith, fits)) in
@@ -109,14 +114,16 @@ brought_place f next place bytes k small fits short = elim (cases_lt k 16384) [
   | inl within ↦ ap (λ (b : Bool). if b then slice_get bytes (offset_from (plus (number f next) k) (number f place)) else None) (lt-ltb k 16384 within)
       ∙ ap (λ (n : ℕ). slice_get bytes (offset_from n (number f place))) (plus_number f next k)
       ∙ elim (cases_lt (next + k) place) as (λ _. slice_get bytes (offset_from (number f (next + k)) (number f place)) ≡ byte_from place bytes (next + k)) [
-        | inl below ↦ slice_get_past bytes _ (omega (arith, behind_offset f place (next + k) below (omega (arith, fits)), short, fits, below)) ∙ sym (byte_below place bytes (next + k) below)
+        | inl below ↦ slice_get_past bytes _ (omega (arith, behind_offset f place (next + k) below (omega (arith, fits)), short, fits, below))
+            ∙ sym (byte_below place bytes (next + k) below)
         | inr from ↦ ap (slice_get bytes) (ahead_offset f place (next + k) from (omega (arith, small, within))) ∙ sym (byte_there place bytes (next + k) from)
       ]
       ∙ sym (ap (λ (b : Bool). if b then byte_from place bytes (next + k) else None) (lt-ltb k 16384 within))
 ]
 
 -- pieces counted from the place expected next
-pub held_from : (base low high : ℕ) (ps : List Piece) (k : ℕ) → base ≤ low → high < 2 ^ 32 → LieFrom low high ps → held (counted_from base ps) k ≡ held ps (base + k)
+pub held_from : (base low high : ℕ) (ps : List Piece) (k : ℕ) → base ≤ low → high < 2 ^ 32 → LieFrom low high ps
+    → held (counted_from base ps) k ≡ held ps (base + k)
 held_from base low high [] k above fits lie = refl
 held_from base low high (p ∷ ps) k above fits lie =
     let at : offset_from p.place base ≡ p.place - base = omega (arith, lie.0, lie.2, above, fits) in

@@ -7,8 +7,8 @@ use Rattle.tcp_seq.specs.Endpoint.{Endpoint, PlacedSegment, SendsBytes, EmitsNex
 use Rattle.tcp_seq.specs.Endpoint.{next_length as next_length_of, again_length as again_length_of}
 use Rattle.tcp_seq.specs.declared.segment.Segment.{Segment}
 use Rattle.tcp_seq.specs.declared.state.EndState.{EndState}
-use Rattle.tcp_end.specs.State.{IsSending, stream_length, got, segment_at, next_length, again_length, LieFrom}
-use Rattle.tcp_end.specs.Standing.{EndStands, Numbered, SameNumbers, Becomes, BecomesEmitting, StepsBy, EmitsBy}
+use Rattle.tcp_end.specs.State.{IsSending, stream_length, got, segment_at, end_next_length, end_again_length, LieFrom}
+use Rattle.tcp_end.specs.Standing.{EndStands, Numbered, SameNumbers, Becomes, BecomesEmitting, StepsBy, EndEmitsBy}
 
 -- the stream's length
 pub stream_is : (s : EndState) (e : Endpoint) → EndStands s e → length e.stream ≡ stream_length s
@@ -53,7 +53,8 @@ sends s after bytes fits is e stands =
     }
 
 -- the segment that is emitted stands for the slice of the stream
-pub slice_is : (s : EndState) (e : Endpoint) (place len : ℕ) → EndStands s e → s.acked ≤ place → Numbered s.send_first.0 s.receive_first.0 (segment_at s place len) (slice_at e place len)
+pub slice_is : (s : EndState) (e : Endpoint) (place len : ℕ) → EndStands s e → s.acked ≤ place
+    → Numbered s.send_first.0 s.receive_first.0 (segment_at s place len) (slice_at e place len)
 slice_is s e place len stands from =
     let at : e.acked + (place - s.acked) ≡ place = omega (arith, from, stands.acked) in
     record {
@@ -64,29 +65,31 @@ slice_is s e place len stands from =
     }
 
 -- a segment at the state's own equation
-pub slice_at_is : (s : EndState) (g : Segment) (e : Endpoint) (place place' len len' : ℕ) → g ≡ segment_at s place len → place ≡ place' → len ≡ len' → EndStands s e → s.acked ≤ place → Numbered s.send_first.0 s.receive_first.0 g (slice_at e place' len')
+pub slice_at_is : (s : EndState) (g : Segment) (e : Endpoint) (place place' len len' : ℕ) → g ≡ segment_at s place len → place ≡ place' → len ≡ len'
+    → EndStands s e → s.acked ≤ place → Numbered s.send_first.0 s.receive_first.0 g (slice_at e place' len')
 slice_at_is s g e place place' len len' is places lens stands from =
     subst (λ (n : ℕ). Numbered s.send_first.0 s.receive_first.0 g (slice_at e place' n)) lens
     (subst (λ (n : ℕ). Numbered s.send_first.0 s.receive_first.0 g (slice_at e n len)) places
     (rw is (slice_is s e place len stands from)))
 
-pub next_length_is : (s : EndState) (e : Endpoint) → EndStands s e → next_length_of e ≡ next_length s
+pub next_length_is : (s : EndState) (e : Endpoint) → EndStands s e → next_length_of e ≡ end_next_length s
 next_length_is s e stands = omega (arith, stream_is s e stands, stands.acked, stands.emitted, stands.sound.sending.acked, stands.sound.sending.flight)
 
-pub again_length_is : (s : EndState) (e : Endpoint) → EndStands s e → again_length_of e ≡ again_length s
+pub again_length_is : (s : EndState) (e : Endpoint) → EndStands s e → again_length_of e ≡ end_again_length s
 again_length_is s e stands = omega (arith, stands.acked, stands.emitted)
 
 -- the next slice is emitted
-pub emits_next : (s after : EndState) (g : Segment) → 0 < next_length s → g ≡ segment_at s s.sent (next_length s) → after ≡ record s { sent = s.sent + next_length s }
+pub emits_next : (s after : EndState) (g : Segment) → 0 < end_next_length s → g ≡ segment_at s s.sent (end_next_length s)
+    → after ≡ record s { sent = s.sent + end_next_length s }
     → (e : Endpoint) → EndStands s e → BecomesEmitting EmitsNext s e g after
 emits_next s after g some slice is e stands =
-    let n : next_length_of e ≡ next_length s = next_length_is s e stands in
+    let n : next_length_of e ≡ end_next_length s = next_length_is s e stands in
     let sending : IsSending s = stands.sound.sending in
     record {
       segment = slice_at e e.emitted (next_length_of e);
       end = record e { emitted = e.emitted + next_length_of e };
       step = record { some = omega (arith, n, some); slice = refl; rises = refl };
-      numbered = slice_at_is s g e s.sent e.emitted (next_length s) (next_length_of e) slice (sym stands.emitted) (sym n) stands sending.acked;
+      numbered = slice_at_is s g e s.sent e.emitted (end_next_length s) (next_length_of e) slice (sym stands.emitted) (sym n) stands sending.acked;
       stands = rw is (record {
         sound = record {
           sending = record {
@@ -113,7 +116,8 @@ emits_next s after g some slice is e stands =
     }
 
 -- what is owed changes, or what was acknowledged at the last turn
-stands_owing : (s : EndState) (e : Endpoint) (owed : Bool) (at_turn : ℕ) → at_turn ≤ s.acked → EndStands s e → EndStands (record s { owed = owed; acked_at_turn = at_turn }) (record e { owed = owed })
+stands_owing : (s : EndState) (e : Endpoint) (owed : Bool) (at_turn : ℕ) → at_turn ≤ s.acked → EndStands s e
+    → EndStands (record s { owed = owed; acked_at_turn = at_turn }) (record e { owed = owed })
 stands_owing s e owed at_turn within stands = record {
   sound = record {
     sending = record {
@@ -145,15 +149,16 @@ turned s after is e stands =
     (stands_owing s e s.owed s.acked (omega arith) stands))
 
 -- the first outstanding slice is emitted again
-pub emits_again : (s after : EndState) (g : Segment) → 0 < again_length s → g ≡ segment_at s s.acked (again_length s) → after ≡ record s { acked_at_turn = s.acked }
+pub emits_again : (s after : EndState) (g : Segment) → 0 < end_again_length s → g ≡ segment_at s s.acked (end_again_length s)
+    → after ≡ record s { acked_at_turn = s.acked }
     → (e : Endpoint) → EndStands s e → BecomesEmitting EmitsAgain s e g after
 emits_again s after g some slice is e stands =
-    let n : again_length_of e ≡ again_length s = again_length_is s e stands in
+    let n : again_length_of e ≡ end_again_length s = again_length_is s e stands in
     record {
       segment = slice_at e e.acked (again_length_of e);
       end = e;
       step = record { some = omega (arith, n, some); slice = refl; stays = refl };
-      numbered = slice_at_is s g e s.acked e.acked (again_length s) (again_length_of e) slice (sym stands.acked) (sym n) stands (omega arith);
+      numbered = slice_at_is s g e s.acked e.acked (end_again_length s) (again_length_of e) slice (sym stands.acked) (sym n) stands (omega arith);
       stands = turned s after is e stands;
     }
 
@@ -215,27 +220,29 @@ same_numbers : (s t after : EndState) → t.send_first ≡ s.send_first → t.re
 same_numbers s t after sends receives is =
     record { send_first = ap (λ (r : EndState). r.send_first) is ∙ sends; receive_first = ap (λ (r : EndState). r.receive_first) is ∙ receives }
 
-pub sends_by : (s after : EndState) (bytes : List ℕ) → stream_length s + length bytes ≤ 2 ^ 20 → after ≡ record s { waiting = s.waiting ++ bytes } → StepsBy (λ e e'. SendsBytes e bytes e') s after
+pub sends_by : (s after : EndState) (bytes : List ℕ) → stream_length s + length bytes ≤ 2 ^ 20 → after ≡ record s { waiting = s.waiting ++ bytes }
+    → StepsBy (λ e e'. SendsBytes e bytes e') s after
 sends_by s after bytes fits is = record { numbers = same_numbers s (record s { waiting = s.waiting ++ bytes }) after refl refl is; becomes = sends s after bytes fits is }
 
-pub reads_by : (s after : EndState) (n : ℕ) → n ≤ length s.ready → after ≡ record s { taken = plus s.taken n; ready = drop n s.ready } → StepsBy (λ e e'. ReadsBytes e n e') s after
+pub reads_by : (s after : EndState) (n : ℕ) → n ≤ length s.ready → after ≡ record s { taken = plus s.taken n; ready = drop n s.ready }
+    → StepsBy (λ e e'. ReadsBytes e n e') s after
 reads_by s after n within is = record { numbers = same_numbers s (record s { taken = plus s.taken n; ready = drop n s.ready }) after refl refl is; becomes = reads s after n within is }
 
-pub emits_next_by : (s after : EndState) (g : Segment) → 0 < next_length s → g ≡ segment_at s s.sent (next_length s) → after ≡ record s { sent = s.sent + next_length s } → EmitsBy EmitsNext s (Some g) after
-emits_next_by s after g some slice is = record { numbers = same_numbers s (record s { sent = s.sent + next_length s }) after refl refl is; becomes = emits_next s after g some slice is }
+pub emits_next_by : (s after : EndState) (g : Segment) → 0 < end_next_length s → g ≡ segment_at s s.sent (end_next_length s)
+    → after ≡ record s { sent = s.sent + end_next_length s } → EndEmitsBy EmitsNext s (Some g) after
+emits_next_by s after g some slice is = record { numbers = same_numbers s (record s { sent = s.sent + end_next_length s }) after refl refl is; becomes = emits_next s after g some slice is }
 
-pub emits_again_by : (s after : EndState) (g : Segment) → 0 < again_length s → g ≡ segment_at s s.acked (again_length s) → after ≡ record s { acked_at_turn = s.acked } → EmitsBy EmitsAgain s (Some g) after
+pub emits_again_by : (s after : EndState) (g : Segment) → 0 < end_again_length s → g ≡ segment_at s s.acked (end_again_length s)
+    → after ≡ record s { acked_at_turn = s.acked } → EndEmitsBy EmitsAgain s (Some g) after
 emits_again_by s after g some slice is = record { numbers = same_numbers s (record s { acked_at_turn = s.acked }) after refl refl is; becomes = emits_again s after g some slice is }
 
-pub answers_by : (s after : EndState) (g : Segment) → s.owed ≡ true → g ≡ segment_at s s.sent 0 → after ≡ record s { owed = false } → EmitsBy EmitsAnswer s (Some g) after
+pub answers_by : (s after : EndState) (g : Segment) → s.owed ≡ true → g ≡ segment_at s s.sent 0 → after ≡ record s { owed = false }
+    → EndEmitsBy EmitsAnswer s (Some g) after
 answers_by s after g owed empty is = record { numbers = same_numbers s (record s { owed = false }) after refl refl is; becomes = answers s after g owed empty is }
 
 -- with no segment
-pub turned_by : (s after : EndState) → after ≡ record s { acked_at_turn = s.acked } → EmitsBy EmitsAgain s None after
+pub turned_by : (s after : EndState) → after ≡ record s { acked_at_turn = s.acked } → EndEmitsBy EmitsAgain s None after
 turned_by s after is = record { numbers = same_numbers s (record s { acked_at_turn = s.acked }) after refl refl is; becomes = turned s after is }
-
-pub stays_by : (Step : Endpoint → PlacedSegment → Endpoint → Type 0) (s after : EndState) → after ≡ s → EmitsBy Step s None after
-stays_by Step s after is = record { numbers = same_numbers s s after refl refl is; becomes = λ e stands. rw is stands }
 
 -- where nothing was acknowledged since the last turn, a turn changes nothing
 pub same_turn : (s : EndState) → IsSending s → s.acked ≤ s.acked_at_turn → s ≡ record s { acked_at_turn = s.acked }

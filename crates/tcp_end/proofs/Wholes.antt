@@ -68,22 +68,29 @@ or_there None more there = absurd (there refl)
 or_there (Some x) more there = refl
 
 -- what arrived, place by place
-same_byte : (s : EndState) (e : Endpoint) (bytes : List ℕ) → EndStands s e → received_bytes e ≡ bytes → (k : ℕ) → map.get e.arrived k ≡ map.get (arrived_of bytes s.ahead) k
+same_byte : (s : EndState) (e : Endpoint) (bytes : List ℕ) → EndStands s e → received_bytes e ≡ bytes → (k : ℕ)
+    → map.get e.arrived k ≡ map.get (arrived_of bytes s.ahead) k
 same_byte s e bytes stands is k = elim (cases_lt k (received e)) [
   | inl below ↦
       let there : map.get e.arrived k ≡ byte_from 0 bytes k =
-      sym (byte_in_order e.arrived k below) ∙ ap (λ (xs : List ℕ). slice_get xs k) is ∙ ap (slice_get bytes) (let z : k ≡ k - 0 = omega arith in z) ∙ sym (byte_there 0 bytes k (omega arith)) in
-      there ∙ sym (or_there (byte_from 0 bytes k) (held s.ahead k) (λ none. some_none (map.get e.arrived k) (some_in_order e.arrived k below) (there ∙ none))) ∙ sym (get-arrived_of bytes s.ahead k)
+      sym (byte_in_order e.arrived k below) ∙ ap (λ (xs : List ℕ). slice_get xs k) is
+      ∙ ap (slice_get bytes) (let z : k ≡ k - 0 = omega arith in z) ∙ sym (byte_there 0 bytes k (omega arith)) in
+      there
+      ∙ sym (or_there (byte_from 0 bytes k) (held s.ahead k) (λ none. some_none (map.get e.arrived k) (some_in_order e.arrived k below) (there ∙ none)))
+      ∙ sym (get-arrived_of bytes s.ahead k)
   | inr past ↦
-      stands.ahead k past ∙ sym (get-arrived_of bytes s.ahead k ∙ ap (λ (o : Option ℕ). option_or o (held s.ahead k)) (byte_past 0 bytes k (omega (arith, past, ap length is))))
+      stands.ahead k past
+      ∙ sym (get-arrived_of bytes s.ahead k ∙ ap (λ (o : Option ℕ). option_or o (held s.ahead k)) (byte_past 0 bytes k (omega (arith, past, ap length is))))
 ]
 
 -- an endpoint that a state stands for is the one of its stream and of what was read
-pub endpoint_is : (s : EndState) (e : Endpoint) (stream read : List ℕ) → EndStands s e → e.stream ≡ stream → take e.read (received_bytes e) ≡ read → e ≡ endpoint_of stream read s
+pub endpoint_is : (s : EndState) (e : Endpoint) (stream read : List ℕ) → EndStands s e → e.stream ≡ stream → take e.read (received_bytes e) ≡ read
+    → e ≡ endpoint_of stream read s
 endpoint_is s e stream read stands is was =
     let bytes : received_bytes e ≡ read ++ s.ready = sym (take-append-drop e.read (received_bytes e)) ∙ ap (λ (xs : List ℕ). xs ++ drop e.read (received_bytes e)) was ∙ ap (λ (xs : List ℕ). read ++ xs) (sym stands.ready) in
     let same : e.arrived ≡ arrived_of (read ++ s.ready) s.ahead = map.same_map nat_cmp_total map.nat_cmp-IsAntisymmetric e.arrived (arrived_of (read ++ s.ready) s.ahead) (same_byte s e (read ++ s.ready) stands bytes) in
     made e (endpoint_of stream read s) is stands.emitted stands.acked same stands.read stands.owed
   where
-    made : (e f : Endpoint) → e.stream ≡ f.stream → e.emitted ≡ f.emitted → e.acked ≡ f.acked → e.arrived ≡ f.arrived → e.read ≡ f.read → e.owed ≡ f.owed → e ≡ f
+    made : (e f : Endpoint) → e.stream ≡ f.stream → e.emitted ≡ f.emitted → e.acked ≡ f.acked → e.arrived ≡ f.arrived → e.read ≡ f.read
+        → e.owed ≡ f.owed → e ≡ f
     made e f a b c d g h = λ i. record { stream = a i; emitted = b i; acked = c i; arrived = d i; read = g i; owed = h i }

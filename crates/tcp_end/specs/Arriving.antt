@@ -21,8 +21,8 @@ abbrev pub IsAcceptableTo : EndState → Segment → Type 0
 IsAcceptableTo s g = Acceptable (expected s) 16384 g.seq.0 (length g.bytes)
 
 -- what the acknowledgement of a segment says to the side that it arrives at
-abbrev pub Says : AckKind → EndState → Segment → Type 0
-Says kind s g = IsAck kind (own_number s s.acked) (own_number s s.sent) g.ack.0
+abbrev pub SaysAck : AckKind → EndState → Segment → Type 0
+SaysAck kind s g = IsAck kind (own_number s s.acked) (own_number s s.sent) g.ack.0
 
 -- a segment brings a byte for a place of the window that has none
 abbrev pub BringsNewByte : EndState → Segment → Type 0
@@ -31,9 +31,9 @@ BringsNewByte s g = BringsByte (ahead_of s) g.seq.0 g.bytes
 -- what kind of segment arrives
 abbrev pub IsArrival : Arrival → EndState → Segment → Type 0
 IsArrival Outside s g = ¬ IsAcceptableTo s g
-IsArrival (Ahead ack) s g = IsAcceptableTo s g × Says Beyond s g × (ack ≡ g.ack)
-IsArrival Duplicate s g = IsAcceptableTo s g × (¬ Says Beyond s g) × (¬ Says New s g) × (¬ BringsNewByte s g)
-IsArrival Accepted s g = IsAcceptableTo s g × (¬ Says Beyond s g) × (Says New s g ⊎ BringsNewByte s g)
+IsArrival (Ahead ack) s g = IsAcceptableTo s g × SaysAck Beyond s g × (ack ≡ g.ack)
+IsArrival Duplicate s g = IsAcceptableTo s g × (¬ SaysAck Beyond s g) × (¬ SaysAck New s g) × (¬ BringsNewByte s g)
+IsArrival Accepted s g = IsAcceptableTo s g × (¬ SaysAck Beyond s g) × (SaysAck New s g ⊎ BringsNewByte s g)
 
 -- how many outstanding bytes a segment newly acknowledges
 abbrev pub newly_acked : EndState → Segment → ℕ
@@ -53,15 +53,15 @@ pub record TakesByNumbers (before : EndState) (g : Segment) (acked : ℕ) (after
   }
 
 -- what an arriving segment changes: unless it is accepted, only that an answer is owed
-abbrev pub Leaves : Arrival → EndState → Segment → EndState → Type 0
-Leaves Outside before g after = after ≡ record before { owed = true }
-Leaves (Ahead ack) before g after = after ≡ record before { owed = true }
-Leaves Duplicate before g after = after ≡ record before { owed = before.owed || nat_lt 0 (length g.bytes) }
-Leaves Accepted before g after = TakesByNumbers before g (newly_acked before g) after
+abbrev pub ChangesByArrival : Arrival → EndState → Segment → EndState → Type 0
+ChangesByArrival Outside before g after = after ≡ record before { owed = true }
+ChangesByArrival (Ahead ack) before g after = after ≡ record before { owed = true }
+ChangesByArrival Duplicate before g after = after ≡ record before { owed = before.owed || nat_lt 0 (length g.bytes) }
+ChangesByArrival Accepted before g after = TakesByNumbers before g (newly_acked before g) after
 
 -- an accepted segment, with the number of bytes that it newly acknowledges
 abbrev pub TakenIn : Arrival → EndState → Segment → ℕ → EndState → Type 0
 TakenIn Outside before g acked after = ⊥
 TakenIn (Ahead ack) before g acked after = ⊥
-TakenIn Duplicate before g acked after = (acked ≡ 0) × (¬ BringsNewByte before g) × Leaves Duplicate before g after
+TakenIn Duplicate before g acked after = (acked ≡ 0) × (¬ BringsNewByte before g) × ChangesByArrival Duplicate before g after
 TakenIn Accepted before g acked after = ((0 < acked) ⊎ BringsNewByte before g) × TakesByNumbers before g acked after

@@ -7,8 +7,8 @@ use Rattle.tcp_seq.specs.declared.segment.Segment.{Segment}
 use Rattle.tcp_seq.specs.declared.state.EndState.{EndState}
 use Rattle.tcp_seq.specs.Endpoint.{PlacedSegment, SendsBytes, EmitsNext, EmitsAgain, EmitsAnswer, ReadsBytes}
 use Rattle.tcp_seq.specs.Connection.{Connection, fresh_connection, ConnectionStep, ConnectionRun}
-use Rattle.tcp_end.specs.State.{fresh}
-use Rattle.tcp_end.specs.Standing.{EndStands, Numbered, StepsBy, EmitsBy, TakesBy}
+use Rattle.tcp_end.specs.State.{fresh_end}
+use Rattle.tcp_end.specs.Standing.{EndStands, Numbered, StepsBy, EndEmitsBy, TakesBy}
 
 -- an end as contracts see it, and every segment that it ever emitted
 pub record EndSide : Type 0 where
@@ -22,8 +22,8 @@ pub record EndPair : Type 0 where
 -- two ends that `End::new` gave, each of which receives what the other sends
 abbrev pub fresh_pair : PeeringId → Way → Way → Seq → Seq → EndPair
 fresh_pair peering near_way far_way near_first far_first = record {
-  near = record { state = fresh near_way peering near_first far_first; emitted = [] };
-  far = record { state = fresh far_way peering far_first near_first; emitted = [] };
+  near = record { state = fresh_end near_way peering near_first far_first; emitted = [] };
+  far = record { state = fresh_end far_way peering far_first near_first; emitted = [] };
 }
 
 -- The calls, each by the step that its contract says
@@ -31,15 +31,15 @@ fresh_pair peering near_way far_way near_first far_first = record {
 abbrev pub CallsSend : EndSide → EndSide → Type 0
 CallsSend before after = (bytes : List ℕ) × StepsBy (λ e e'. SendsBytes e bytes e') before.state after.state × (after.emitted ≡ before.emitted)
 
-abbrev pub answered : Option Segment → List Segment
-answered None = []
-answered (Some segment) = segment ∷ []
+abbrev pub answer_segments : Option Segment → List Segment
+answer_segments None = []
+answer_segments (Some segment) = segment ∷ []
 
 -- `next_segment`, `turn` or `answer`
 abbrev pub CallsEmit : EndSide → EndSide → Type 0
 CallsEmit before after =
-    (answer : Option Segment) × (EmitsBy EmitsNext before.state answer after.state ⊎ EmitsBy EmitsAgain before.state answer after.state ⊎ EmitsBy EmitsAnswer before.state answer after.state)
-    × (after.emitted ≡ before.emitted ++ answered answer)
+    (answer : Option Segment) × (EndEmitsBy EmitsNext before.state answer after.state ⊎ EndEmitsBy EmitsAgain before.state answer after.state ⊎ EndEmitsBy EmitsAnswer before.state answer after.state)
+    × (after.emitted ≡ before.emitted ++ answer_segments answer)
 
 abbrev pub CallsRead : EndSide → EndSide → Type 0
 CallsRead before after = (n : ℕ) × StepsBy (λ e e'. ReadsBytes e n e') before.state after.state × (after.emitted ≡ before.emitted)
@@ -75,7 +75,8 @@ pub record PairStands (pair : EndPair) (c : Connection) : Type 0 where
   pub far : EndStands pair.far.state c.far.end
   pub there : pair.far.state.receive_first ≡ pair.near.state.send_first
   pub back : pair.near.state.receive_first ≡ pair.far.state.send_first
-  pub near_emitted : (g : Segment) → Contains pair.near.emitted g → IsNumberedAmong pair.near.state.send_first.0 pair.near.state.receive_first.0 g c.near.emitted
+  pub near_emitted : (g : Segment) → Contains pair.near.emitted g
+      → IsNumberedAmong pair.near.state.send_first.0 pair.near.state.receive_first.0 g c.near.emitted
   pub far_emitted : (g : Segment) → Contains pair.far.emitted g → IsNumberedAmong pair.far.state.send_first.0 pair.far.state.receive_first.0 g c.far.emitted
 
 -- a pair stands for the given connection, or for one that it becomes by a step

@@ -6,8 +6,8 @@ use Rattle.tcp_end.specs.State.{IsSending, expected, raised}
 use Rattle.tcp_end.specs.declared.end.End.TheInside.{Inside}
 
 -- the pieces ahead of a hole have their places in the stream
-abbrev pub state_of : Inside → EndState
-state_of e = record {
+abbrev pub end_state : Inside → EndState
+end_state e = record {
   way = e.way;
   peering = e.peering;
   send_first = e.send_first;
@@ -23,7 +23,7 @@ state_of e = record {
 }
 
 -- the reassembly expects the number after the received bytes, and has no byte there
-pub record Keeps (e : Inside) : Type 0 where
-  pub sending : IsSending (state_of e)
-  pub next : e.ahead.next ≡ expected (state_of e)
+pub record EndInvariant (e : Inside) : Type 0 where
+  pub sending : IsSending (end_state e)
+  pub next : e.ahead.next ≡ expected (end_state e)
   pub runs : AreRuns 1 e.ahead.pieces

@@ -29,11 +29,11 @@ Received true before after ready ready' seq bytes = BringsByte before seq bytes 
 Received false before after ready ready' seq bytes = (¬ BringsByte before seq bytes) × (after ≡ before) × (ready' ≡ ready)
 
 -- what becomes ready when bytes stand from the place expected next on: those bytes, and those of the pieces that they reach
-abbrev pub run_of : Reassembly → List ℕ → List ℕ
-run_of r bytes = filled bytes 0 (take (reached (length bytes) r.pieces) r.pieces)
+abbrev pub made_ready : Reassembly → List ℕ → List ℕ
+made_ready r bytes = filled bytes 0 (take (reached (length bytes) r.pieces) r.pieces)
 
 -- they become ready, and the pieces that they don't reach stand ahead
 pub record ReceivesRun (before after : Reassembly) (ready ready' : List ℕ) (bytes : List ℕ) : Type 0 where
-  pub appended : ready' ≡ ready ++ run_of before bytes
-  pub next : after.next ≡ plus before.next (length (run_of before bytes))
-  pub pieces : after.pieces ≡ counted_from (length (run_of before bytes)) (drop (reached (length bytes) before.pieces) before.pieces)
+  pub appended : ready' ≡ ready ++ made_ready before bytes
+  pub next : after.next ≡ plus before.next (length (made_ready before bytes))
+  pub pieces : after.pieces ≡ counted_from (length (made_ready before bytes)) (drop (reached (length bytes) before.pieces) before.pieces)

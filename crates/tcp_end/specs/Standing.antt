@@ -62,7 +62,7 @@ abbrev pub BecomesBy : (Endpoint → PlacedSegment → Endpoint → Type 0) → 
 BecomesBy Step before e (Some g) after = BecomesEmitting Step before e g after
 BecomesBy Step before e None after = EndStands after e
 
-pub record EmitsBy (Step : Endpoint → PlacedSegment → Endpoint → Type 0) (before : EndState) (answer : Option Segment) (after : EndState) : Type 0 where
+pub record EndEmitsBy (Step : Endpoint → PlacedSegment → Endpoint → Type 0) (before : EndState) (answer : Option Segment) (after : EndState) : Type 0 where
   pub numbers : SameNumbers before after
   pub becomes : (e : Endpoint) → EndStands before e → BecomesBy Step before e answer after
 

@@ -11,8 +11,8 @@ use Rattle.tcp_seq.specs.declared.state.Piece.{Piece}
 use Rattle.tcp_seq.specs.declared.state.EndState.{EndState}
 
 -- nothing sent and nothing received
-abbrev pub fresh : Way → PeeringId → Seq → Seq → EndState
-fresh way peering send_first receive_first = record {
+abbrev pub fresh_end : Way → PeeringId → Seq → Seq → EndState
+fresh_end way peering send_first receive_first = record {
   way = way;
   peering = peering;
   send_first = send_first;
@@ -70,12 +70,12 @@ segment_at s place len = record {
 }
 
 -- how many bytes the next slice has: those that are unsent and fit in the flight of 15,360, at most 1,024
-abbrev pub next_length : EndState → ℕ
-next_length s = min 1024 (min (unsent s) (15360 - outstanding s))
+abbrev pub end_next_length : EndState → ℕ
+end_next_length s = min 1024 (min (unsent s) (15360 - outstanding s))
 
 -- how many bytes are sent again: what is outstanding, at most 1,024
-abbrev pub again_length : EndState → ℕ
-again_length s = min 1024 (outstanding s)
+abbrev pub end_again_length : EndState → ℕ
+end_again_length s = min 1024 (outstanding s)
 
 -- what the sending side keeps
 pub record IsSending (s : EndState) : Type 0 where

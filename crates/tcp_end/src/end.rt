@@ -4,9 +4,9 @@ ghost use Rattle.std.specs.Prelude.{ℕ, ◌≡◌, ◌≢◌, ◌<◌, ◌≤�
 ghost use Rattle.tcp_seq.specs.Numbers.{plus};
 ghost use Rattle.tcp_seq.specs.Rules.{IsInStream};
 ghost use Rattle.tcp_seq.specs.Endpoint.{Endpoint, SendsBytes, EmitsNext, EmitsAgain, EmitsAnswer, ReadsBytes, fresh_endpoint};
-ghost use Rattle.tcp_end.specs.Standing.{EndStands, StepsBy, EmitsBy, TakesBy};
-ghost use Rattle.tcp_end.specs.Arriving.{IsArrival, Leaves, TakenIn, Says};
-ghost use Rattle.tcp_end.specs.State.{fresh, stream_length, unsent, outstanding, got, segment_at, next_length, again_length, IsSending, IsEndState};
+ghost use Rattle.tcp_end.specs.Standing.{EndStands, StepsBy, EndEmitsBy, TakesBy};
+ghost use Rattle.tcp_end.specs.Arriving.{IsArrival, ChangesByArrival, TakenIn, SaysAck};
+ghost use Rattle.tcp_end.specs.State.{fresh_end, stream_length, unsent, outstanding, got, segment_at, end_next_length, end_again_length, IsSending, IsEndState};
 
 use crate::ahead::{count_from, raise, receive};
 use crate::arrival::{Arrival, SendStop};
@@ -48,11 +48,11 @@ impl Model for End {
 
     ghost Value = { EndState };
 
-    ghost use Rattle.tcp_end.specs.Inner.{state_of, Keeps};
+    ghost use Rattle.tcp_end.specs.Inner.{end_state, EndInvariant};
 
-    ghost view = { state_of };
+    ghost view = { end_state };
 
-    ghost invariant = { Keeps };
+    ghost invariant = { EndInvariant };
 }
 
 /// Whether an acknowledgement is owed after a segment with these bytes was accepted.
@@ -83,7 +83,7 @@ impl End {
         send_first: Seq,
         receive_first: Seq,
     ) -> Result<End, NoMemory>
-        ensures fresh { IfOk result (λ end. end ≡ fresh way peering send_first receive_first) }
+        ensures fresh { IfOk result (λ end. end ≡ fresh_end way peering send_first receive_first) }
         ensures stands { IfOk result (λ end. EndStands end fresh_endpoint) }
     {
         Ok(End {
@@ -185,7 +185,7 @@ impl End {
 
     /// Returns how many bytes the next slice has.
     fn next_len(&self) -> u32
-        ensures { result ≡ next_length self.now }
+        ensures { result ≡ end_next_length self.now }
     {
         let unsent = self.stream_len() - self.sent;
         let room = FLIGHT - (self.sent - self.acked);
@@ -197,10 +197,10 @@ impl End {
     /// nothing changes.
     pub fn next_segment(&mut self) -> Result<Option<Segment>, NoMemory>
         ensures none { IfOk result (λ answer. IsNone answer ↔ ((unsent self.old ≡ 0) ⊎ (outstanding self.old ≡ 15360))) }
-        ensures slice { IfOk result (λ answer. IfSome answer (λ segment. segment ≡ segment_at self.old self.old.sent (next_length self.old))) }
-        ensures after { OnOk result (self.new ≡ record self.old { sent = self.old.sent + next_length self.old }) }
+        ensures slice { IfOk result (λ answer. IfSome answer (λ segment. segment ≡ segment_at self.old self.old.sent (end_next_length self.old))) }
+        ensures after { OnOk result (self.new ≡ record self.old { sent = self.old.sent + end_next_length self.old }) }
         ensures err { OnErr result (self.new ≡ self.old) }
-        ensures step { IfOk result (λ answer. EmitsBy EmitsNext self.old answer self.new) }
+        ensures step { IfOk result (λ answer. EndEmitsBy EmitsNext self.old answer self.new) }
     {
         let len = self.next_len();
         if len == 0 {
@@ -216,10 +216,10 @@ impl End {
     /// memory runs out, nothing changes.
     pub fn turn(&mut self) -> Result<Option<Segment>, NoMemory>
         ensures none { IfOk result (λ answer. IsNone answer ↔ ((outstanding self.old ≡ 0) ⊎ (self.old.acked_at_turn < self.old.acked))) }
-        ensures slice { IfOk result (λ answer. IfSome answer (λ segment. segment ≡ segment_at self.old self.old.acked (again_length self.old))) }
+        ensures slice { IfOk result (λ answer. IfSome answer (λ segment. segment ≡ segment_at self.old self.old.acked (end_again_length self.old))) }
         ensures after { OnOk result (self.new ≡ record self.old { acked_at_turn = self.old.acked }) }
         ensures err { OnErr result (self.new ≡ self.old) }
-        ensures step { IfOk result (λ answer. EmitsBy EmitsAgain self.old answer self.new) }
+        ensures step { IfOk result (λ answer. EndEmitsBy EmitsAgain self.old answer self.new) }
     {
         let len = PAYLOAD.min(self.sent - self.acked);
         if len == 0 || self.acked_at_turn < self.acked {
@@ -235,7 +235,7 @@ impl End {
         ensures some { IsSome result ↔ (self.old.owed ≡ true) }
         ensures empty { IfSome result (λ segment. segment ≡ segment_at self.old self.old.sent 0) }
         ensures after { self.new ≡ record self.old { owed = false } }
-        ensures step { EmitsBy EmitsAnswer self.old result self.new }
+        ensures step { EndEmitsBy EmitsAnswer self.old result self.new }
     {
         if !self.owed {
             return None;
@@ -253,7 +253,7 @@ impl End {
 
     /// Returns what an acknowledgement says of the bytes that were emitted.
     fn ack_kind(&self, segment: &Segment) -> AckKind
-        ensures { Says result self.now segment.now }
+        ensures { SaysAck result self.now segment.now }
     {
         let una = self.send_first.plus(self.acked);
         ack_kind(una, self.send_first.plus(self.sent), segment.ack)
@@ -281,7 +281,7 @@ impl End {
     fn arrive_by_numbers(&mut self, segment: &Segment) -> Result<Arrival, NoMemory>
         requires { length segment.now.bytes < 2 ^ 16 }
         ensures arrival { IfOk result (λ arrival. IsArrival arrival self.old segment.now) }
-        ensures after { IfOk result (λ arrival. Leaves arrival self.old segment.now self.new) }
+        ensures after { IfOk result (λ arrival. ChangesByArrival arrival self.old segment.now self.new) }
         ensures at_rest { OnOk result (IsInStream (got self.new) → IsEndState self.new) }
         ensures err { OnErr result (self.new ≡ self.old) }
     {
@@ -314,7 +314,7 @@ impl End {
         requires way { segment.now.way ≢ self.old.way }
         requires len { length segment.now.bytes < 2 ^ 16 }
         ensures arrival { IfOk result (λ arrival. IsArrival arrival self.old segment.now) }
-        ensures after { IfOk result (λ arrival. Leaves arrival self.old segment.now self.new) }
+        ensures after { IfOk result (λ arrival. ChangesByArrival arrival self.old segment.now self.new) }
         ensures err { OnErr result (self.new ≡ self.old) }
         ensures step { OnOk result (TakesBy self.old segment.now self.new) }
     {

@@ -25,7 +25,8 @@ ends_rise low (p ∷ ps) runs (suc i) zero d le below = absurd (omega (arith, le
 ends_rise low (p ∷ ps) runs (suc i) (suc j) d le below = ends_rise (p.place + length p.bytes) ps runs.3 i j d (omega (arith, le)) (omega (arith, below))
 
 -- the point up to which a test holds is the count of the first pieces that pass it
-pub point_counts : (test : Piece → Bool) (count : List Piece → ℕ) → count [] ≡ 0 → ((p : Piece) (ps : List Piece) → count (p ∷ ps) ≡ (if test p then suc (count ps) else 0))
+pub point_counts : (test : Piece → Bool) (count : List Piece → ℕ) → count [] ≡ 0
+    → ((p : Piece) (ps : List Piece) → count (p ∷ ps) ≡ (if test p then suc (count ps) else 0))
     → (ps : List Piece) (i : ℕ) → i ≤ length ps → IsPartitionPoint {X = Piece} (λ p. test p ≡ true) (λ p. test p ≡ false) ps i → i ≡ count ps
 point_counts test count none more [] zero within point = sym none
 point_counts test count none more [] (suc i) within point = absurd (omega (arith, within))

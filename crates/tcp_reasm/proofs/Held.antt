@@ -9,7 +9,8 @@ use Rattle.tcp_seq.proofs.ByteFrom.{byte_below, byte_past, byte_within}
 
 pub held-append : (ps qs : List Piece) (k : ℕ) → held (ps ++ qs) k ≡ option_or (held ps k) (held qs k)
 held-append [] qs k = refl
-held-append (p ∷ ps) qs k = ap (option_or (byte_from p.place p.bytes k)) (held-append ps qs k) ∙ sym (or_assoc (byte_from p.place p.bytes k) (held ps k) (held qs k))
+held-append (p ∷ ps) qs k = ap (option_or (byte_from p.place p.bytes k)) (held-append ps qs k)
+    ∙ sym (or_assoc (byte_from p.place p.bytes k) (held ps k) (held qs k))
 
 pub held_below : (low : ℕ) (ps : List Piece) (k : ℕ) → AreRuns low ps → k < low → held ps k ≡ None
 held_below low [] k runs below = refl

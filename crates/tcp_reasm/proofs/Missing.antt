@@ -7,7 +7,7 @@ use Rattle.std.specs.Option.{option_or}
 use Rattle.tcp_seq.specs.declared.state.Piece.{Piece}
 use Rattle.tcp_reasm.specs.Runs.{held, AreRuns}
 use Rattle.tcp_seq.specs.Endpoint.{byte_from}
-use Rattle.tcp_reasm.specs.Steps.{passed, begun, run_between, runs_outside, where_none}
+use Rattle.tcp_reasm.specs.Steps.{passed, begun_below, run_between, runs_outside, where_none}
 use Rattle.tcp_seq.proofs.Lookups.{get-drop, get-take, or_none}
 use Rattle.tcp_reasm.proofs.Held.{held_below, held-append, held_here, held_later, runs_from, runs-take, runs-drop}
 use Rattle.tcp_seq.proofs.ByteFrom.{byte_there, byte_below, byte_past}
@@ -61,7 +61,8 @@ abbrev pub AllBegin : ℕ → List Piece → Type 0
 AllBegin end [] = Unit {0}
 AllBegin end (p ∷ ps) = (p.place < end) × AllBegin end ps
 
-outside_runs : (low place : ℕ) (bytes : List ℕ) (at : ℕ) (ps : List Piece) → place ≤ at → place + length bytes ≤ 16384 → AllBegin (place + length bytes) ps → AreRuns low ps
+outside_runs : (low place : ℕ) (bytes : List ℕ) (at : ℕ) (ps : List Piece) → place ≤ at → place + length bytes ≤ 16384
+    → AllBegin (place + length bytes) ps → AreRuns low ps
     → AreRuns at (runs_outside place bytes at ps)
 outside_runs low place bytes at [] from fits begin runs =
     let to = place + length bytes in
@@ -78,7 +79,8 @@ outside_runs low place bytes at (p ∷ ps) from fits begin runs =
     (runs_from at next (runs_outside place bytes next ps) (omega arith) rest)
     (runs_from p.place next (runs_outside place bytes next ps) (omega arith) rest)
 
-outside_held : (low place : ℕ) (bytes : List ℕ) (at : ℕ) (ps : List Piece) → place ≤ at → place + length bytes ≤ 16384 → AllBegin (place + length bytes) ps → AreRuns low ps
+outside_held : (low place : ℕ) (bytes : List ℕ) (at : ℕ) (ps : List Piece) → place ≤ at → place + length bytes ≤ 16384
+    → AllBegin (place + length bytes) ps → AreRuns low ps
     → (k : ℕ) → at ≤ k → held (runs_outside place bytes at ps) k ≡ where_none (held ps k) (byte_from place bytes k)
 outside_held low place bytes at [] from fits begin runs k above = elim (cases_lt k (place + length bytes)) [
   | inl inside ↦ run_inside place bytes at (place + length bytes) k from above inside
@@ -117,32 +119,33 @@ passed_held place (p ∷ ps) k from = elim (cases_lt place (p.place + length p.b
 ]
 
 -- those that begin at or above a place have none below it
-begun_held : (low end : ℕ) (ps : List Piece) (k : ℕ) → AreRuns low ps → k < end → held (take (begun end ps) ps) k ≡ held ps k
+begun_held : (low end : ℕ) (ps : List Piece) (k : ℕ) → AreRuns low ps → k < end → held (take (begun_below end ps) ps) k ≡ held ps k
 begun_held low end [] k runs below = refl
 begun_held low end (p ∷ ps) k runs below = elim (cases_lt p.place end) [
   | inl begins ↦
-      ap (λ b. held (take (if b then suc (begun end ps) else 0) (p ∷ ps)) k) (lt-ltb p.place end begins)
+      ap (λ b. held (take (if b then suc (begun_below end ps) else 0) (p ∷ ps)) k) (lt-ltb p.place end begins)
       ∙ ap (option_or (byte_from p.place p.bytes k)) (begun_held (p.place + length p.bytes) end ps k runs.3 below)
   | inr above ↦
-      ap (λ b. held (take (if b then suc (begun end ps) else 0) (p ∷ ps)) k) (le-ltb p.place end above)
+      ap (λ b. held (take (if b then suc (begun_below end ps) else 0) (p ∷ ps)) k) (le-ltb p.place end above)
       ∙ sym (held_below p.place (p ∷ ps) k (omega arith, runs.1, runs.2, runs.3) (omega (arith, above, below)))
 ]
 
-begun_all : (end : ℕ) (ps : List Piece) → AllBegin end (take (begun end ps) ps)
+begun_all : (end : ℕ) (ps : List Piece) → AllBegin end (take (begun_below end ps) ps)
 begun_all end [] = tt
 begun_all end (p ∷ ps) = elim (cases_lt p.place end) [
-  | inl begins ↦ subst (λ b. AllBegin end (take (if b then suc (begun end ps) else 0) (p ∷ ps))) (sym (lt-ltb p.place end begins)) (begins, begun_all end ps)
-  | inr above ↦ subst (λ b. AllBegin end (take (if b then suc (begun end ps) else 0) (p ∷ ps))) (sym (le-ltb p.place end above)) tt
+  | inl begins ↦ subst (λ b. AllBegin end (take (if b then suc (begun_below end ps) else 0) (p ∷ ps))) (sym (lt-ltb p.place end begins)) (begins, begun_all end ps)
+  | inr above ↦ subst (λ b. AllBegin end (take (if b then suc (begun_below end ps) else 0) (p ∷ ps))) (sym (le-ltb p.place end above)) tt
 ]
 
 -- the pieces that may overlap bytes from a place on
 abbrev pub near : ℕ → List ℕ → List Piece → List Piece
-near place bytes ps = take (begun (place + length bytes) (drop (passed place ps) ps)) (drop (passed place ps) ps)
+near place bytes ps = take (begun_below (place + length bytes) (drop (passed place ps) ps)) (drop (passed place ps) ps)
 
 near_runs : (place : ℕ) (bytes : List ℕ) (ps : List Piece) → AreRuns 0 ps → AreRuns 0 (near place bytes ps)
-near_runs place bytes ps runs = runs-take 0 (begun (place + length bytes) (drop (passed place ps) ps)) (drop (passed place ps) ps) (runs-drop 0 (passed place ps) ps runs)
+near_runs place bytes ps runs = runs-take 0 (begun_below (place + length bytes) (drop (passed place ps) ps)) (drop (passed place ps) ps) (runs-drop 0 (passed place ps) ps runs)
 
-pub missing_runs : (place : ℕ) (bytes : List ℕ) (ps : List Piece) → place + length bytes ≤ 16384 → AreRuns 0 ps → AreRuns 0 (runs_outside place bytes place (near place bytes ps))
+pub missing_runs : (place : ℕ) (bytes : List ℕ) (ps : List Piece) → place + length bytes ≤ 16384 → AreRuns 0 ps
+    → AreRuns 0 (runs_outside place bytes place (near place bytes ps))
 missing_runs place bytes ps fits runs =
     runs_from 0 place (runs_outside place bytes place (near place bytes ps)) (omega arith)
     (outside_runs 0 place bytes place (near place bytes ps) (omega arith) fits (begun_all (place + length bytes) (drop (passed place ps) ps)) (near_runs place bytes ps runs))
@@ -161,16 +164,18 @@ missing_held place bytes ps fits runs k =
     elim (cases_lt k place) [
       | inl below ↦ held_below place (runs_outside place bytes place (near place bytes ps)) k found below
           ∙ sym (ap (where_none (held ps k)) (byte_below place bytes k below) ∙ where_none_none (held ps k))
-      | inr from ↦ outside_held 0 place bytes place (near place bytes ps) (omega arith) fits begin (near_runs place bytes ps runs) k from ∙ elim (cases_lt k end) [
-        | inl inside ↦ ap (λ o. where_none o (byte_from place bytes k)) (begun_held 0 end rest k (runs-drop 0 (passed place ps) ps runs) inside ∙ passed_held place ps k from)
-        | inr past ↦ ap (where_none (held (near place bytes ps) k)) (byte_past place bytes k past) ∙ where_none_none (held (near place bytes ps) k)
-            ∙ sym (ap (where_none (held ps k)) (byte_past place bytes k past) ∙ where_none_none (held ps k))
-      ]
+      | inr from ↦ outside_held 0 place bytes place (near place bytes ps) (omega arith) fits begin (near_runs place bytes ps runs) k from
+          ∙ elim (cases_lt k end) [
+            | inl inside ↦ ap (λ o. where_none o (byte_from place bytes k)) (begun_held 0 end rest k (runs-drop 0 (passed place ps) ps runs) inside ∙ passed_held place ps k from)
+            | inr past ↦ ap (where_none (held (near place bytes ps) k)) (byte_past place bytes k past) ∙ where_none_none (held (near place bytes ps) k)
+                ∙ sym (ap (where_none (held ps k)) (byte_past place bytes k past) ∙ where_none_none (held ps k))
+          ]
     ]
 
 -- the near pieces, as they are cut out
-pub near_is : (place : ℕ) (bytes : List ℕ) (ps rest cut : List Piece) (from count : ℕ) → from ≡ passed place ps → rest ≡ take (length ps - from) (drop from ps) → count ≡ begun (place + length bytes) rest → cut ≡ take count rest
+pub near_is : (place : ℕ) (bytes : List ℕ) (ps rest cut : List Piece) (from count : ℕ) → from ≡ passed place ps
+    → rest ≡ take (length ps - from) (drop from ps) → count ≡ begun_below (place + length bytes) rest → cut ≡ take count rest
     → cut ≡ near place bytes ps
 near_is place bytes ps rest cut from count skips cuts counts takes =
     let rest_is : rest ≡ drop (passed place ps) ps = cuts ∙ take_all (length ps - from) (drop from ps) (omega (arith, length-drop from ps)) ∙ ap (λ n. drop n ps) skips in
-    takes ∙ ap (λ n. take n rest) counts ∙ ap (λ qs. take (begun (place + length bytes) qs) qs) rest_is
+    takes ∙ ap (λ n. take n rest) counts ∙ ap (λ qs. take (begun_below (place + length bytes) qs) qs) rest_is

@@ -7,7 +7,7 @@ use Rattle.std.specs.Option.{option_or}
 use Rattle.tcp_seq.specs.declared.state.Piece.{Piece}
 use Rattle.tcp_reasm.specs.Runs.{held, AreRuns}
 use Rattle.tcp_seq.specs.Endpoint.{byte_from}
-use Rattle.tcp_reasm.specs.Steps.{begun}
+use Rattle.tcp_reasm.specs.Steps.{begun_below}
 use Rattle.tcp_seq.proofs.Lookups.{or_assoc, or_none, or_swap}
 use Rattle.tcp_reasm.proofs.Held.{held-append, held_here}
 use Rattle.tcp_seq.proofs.ByteFrom.{byte_within, byte_past, byte_below}
@@ -34,21 +34,23 @@ there : (p : Piece) (k : ℕ) → p.place ≤ k → k < p.place + length p.bytes
 there p k from below = ap is_some (byte_within p.place p.bytes k from below)
 
 -- a piece that begins below p ends at or below its place
-ends_below : (p q : Piece) (qs : List Piece) → q.place < p.place → 0 < length p.bytes → ((k : ℕ) → is_some (byte_from p.place p.bytes k) ≡ true → held (q ∷ qs) k ≡ None) → q.place + length q.bytes ≤ p.place
+ends_below : (p q : Piece) (qs : List Piece) → q.place < p.place → 0 < length p.bytes
+    → ((k : ℕ) → is_some (byte_from p.place p.bytes k) ≡ true → held (q ∷ qs) k ≡ None) → q.place + length q.bytes ≤ p.place
 ends_below p q qs below some free = elim (cases_lt p.place (q.place + length q.bytes)) [
   | inl inside ↦ absurd (none-some (get_or q.bytes (p.place - q.place) 0) (sym (free p.place (there p p.place (omega arith) (omega (arith, some)))) ∙ held_here q qs p.place (omega (arith, below)) inside))
   | inr le ↦ le
 ]
 
 -- p ends at or below a piece that doesn't begin below it
-begins_above : (p q : Piece) (qs : List Piece) → p.place ≤ q.place → 0 < length q.bytes → ((k : ℕ) → is_some (byte_from p.place p.bytes k) ≡ true → held (q ∷ qs) k ≡ None) → p.place + length p.bytes ≤ q.place
+begins_above : (p q : Piece) (qs : List Piece) → p.place ≤ q.place → 0 < length q.bytes
+    → ((k : ℕ) → is_some (byte_from p.place p.bytes k) ≡ true → held (q ∷ qs) k ≡ None) → p.place + length p.bytes ≤ q.place
 begins_above p q qs le some free = elim (cases_lt q.place (p.place + length p.bytes)) [
   | inl inside ↦ absurd (none-some (get_or q.bytes (q.place - q.place) 0) (sym (free q.place (there p q.place le inside)) ∙ held_here q qs q.place (omega arith) (omega (arith, some))))
   | inr above ↦ above
 ]
 
 pub placed : (low : ℕ) (p : Piece) (ps : List Piece) → low ≤ p.place → 0 < length p.bytes → p.place + length p.bytes ≤ 16384 → AreRuns low ps
-    → ((k : ℕ) → is_some (byte_from p.place p.bytes k) ≡ true → held ps k ≡ None) → Placed low p ps (insert ps (begun p.place ps) p)
+    → ((k : ℕ) → is_some (byte_from p.place p.bytes k) ≡ true → held ps k ≡ None) → Placed low p ps (insert ps (begun_below p.place ps) p)
 placed low p [] above some within runs free = record {
   runs = (above, some, within, tt);
   bytes = λ k. or_none (byte_from p.place p.bytes k);
@@ -56,13 +58,14 @@ placed low p [] above some within runs free = record {
 placed low p (q ∷ qs) above some within runs free = elim (cases_lt q.place p.place) [
   | inl below ↦
       let more = placed (q.place + length q.bytes) p qs (ends_below p q qs below some free) some within runs.3 (λ k here. none_behind (byte_from q.place q.bytes k) (held qs k) (free k here)) in
-      subst (λ b. Placed low p (q ∷ qs) (insert (q ∷ qs) (if b then suc (begun p.place qs) else 0) p)) (sym (lt-ltb q.place p.place below))
+      subst (λ b. Placed low p (q ∷ qs) (insert (q ∷ qs) (if b then suc (begun_below p.place qs) else 0) p)) (sym (lt-ltb q.place p.place below))
       (record {
         runs = (runs.0, runs.1, runs.2, more.runs);
-        bytes = λ k. ap (option_or (byte_from q.place q.bytes k)) (more.bytes k) ∙ sym (or_assoc (byte_from q.place q.bytes k) (held qs k) (byte_from p.place p.bytes k));
+        bytes = λ k. ap (option_or (byte_from q.place q.bytes k)) (more.bytes k)
+            ∙ sym (or_assoc (byte_from q.place q.bytes k) (held qs k) (byte_from p.place p.bytes k));
       })
   | inr le ↦
-      subst (λ b. Placed low p (q ∷ qs) (insert (q ∷ qs) (if b then suc (begun p.place qs) else 0) p)) (sym (le-ltb q.place p.place le))
+      subst (λ b. Placed low p (q ∷ qs) (insert (q ∷ qs) (if b then suc (begun_below p.place qs) else 0) p)) (sym (le-ltb q.place p.place le))
       (record {
         runs = (above, some, within, (begins_above p q qs le runs.1 free, runs.1, runs.2, runs.3));
         bytes = λ k. sym (or_comm (held (q ∷ qs) k) (byte_from p.place p.bytes k) (free k));
@@ -73,10 +76,11 @@ placed low p (q ∷ qs) above some within runs free = elim (cases_lt q.place p.p
 pub if_ok : {T E X : Type 0} (r : Result T E) (x y : X) → IsOk r → (if is_ok r then x else y) ≡ x
 if_ok r x y is = ap (λ b. if b then x else y) is
 
-pub placed_at : (p : Piece) (ps all after : List Piece) (index : ℕ) → 0 < length p.bytes → p.place + length p.bytes ≤ 16384 → AreRuns 0 ps → ((k : ℕ) → is_some (byte_from p.place p.bytes k) ≡ true → held ps k ≡ None)
-    → all ≡ ps → index ≡ begun p.place all → after ≡ insert ps index p → Placed 0 p ps after
+pub placed_at : (p : Piece) (ps all after : List Piece) (index : ℕ) → 0 < length p.bytes → p.place + length p.bytes ≤ 16384 → AreRuns 0 ps
+    → ((k : ℕ) → is_some (byte_from p.place p.bytes k) ≡ true → held ps k ≡ None)
+    → all ≡ ps → index ≡ begun_below p.place all → after ≡ insert ps index p → Placed 0 p ps after
 placed_at p ps all after index some within runs free whole counts is =
-    let index_is : index ≡ begun p.place ps = counts ∙ ap (begun p.place) whole in
+    let index_is : index ≡ begun_below p.place ps = counts ∙ ap (begun_below p.place) whole in
     rw (is, index_is) (placed 0 p ps (omega arith) some within runs free)
 
 -- the last of some pieces, and those before it
@@ -117,14 +121,16 @@ pub record TakesLast (pieces more rest : List Piece) (p : Piece) : Type 0 where
   pub bytes : (k : ℕ) → held more k ≡ option_or (held rest k) (byte_from p.place p.bytes k)
   pub free : (k : ℕ) → is_some (held more k) ≡ true → held pieces k ≡ None
 
-pub takes_last : (pieces more rest : List Piece) (p : Piece) → more ≡ rest ++ p ∷ [] → AreRuns 0 more → ((k : ℕ) → is_some (held more k) ≡ true → held pieces k ≡ None) → TakesLast pieces more rest p
+pub takes_last : (pieces more rest : List Piece) (p : Piece) → more ≡ rest ++ p ∷ [] → AreRuns 0 more
+    → ((k : ℕ) → is_some (held more k) ≡ true → held pieces k ≡ None) → TakesLast pieces more rest p
 takes_last pieces more rest p is runs free = record {
   last = last_of 0 rest p (subst (AreRuns 0) is runs);
   bytes = λ k. ap (λ qs. held qs k) is ∙ held-append rest (p ∷ []) k ∙ ap (option_or (held rest k)) (or_none (byte_from p.place p.bytes k));
   free = free;
 }
 
-pub last_free : (pieces more rest : List Piece) (p : Piece) → TakesLast pieces more rest p → (k : ℕ) → is_some (byte_from p.place p.bytes k) ≡ true → held pieces k ≡ None
+pub last_free : (pieces more rest : List Piece) (p : Piece) → TakesLast pieces more rest p → (k : ℕ) → is_some (byte_from p.place p.bytes k) ≡ true
+    → held pieces k ≡ None
 last_free pieces more rest p takes k here = takes.free k (ap is_some (takes.bytes k) ∙ is_some_right (held rest k) (byte_from p.place p.bytes k) here)
 
 -- either the last piece or the others have no byte at a place
@@ -134,7 +140,8 @@ last_or_rest rest p last k = elim (cases_lt k p.place) [
   | inr from ↦ inr (last.behind k from)
 ]
 
-pub rest_free : (pieces more rest after : List Piece) (p : Piece) → TakesLast pieces more rest p → ((k : ℕ) → held after k ≡ option_or (held pieces k) (byte_from p.place p.bytes k))
+pub rest_free : (pieces more rest after : List Piece) (p : Piece) → TakesLast pieces more rest p
+    → ((k : ℕ) → held after k ≡ option_or (held pieces k) (byte_from p.place p.bytes k))
     → (k : ℕ) → is_some (held rest k) ≡ true → held after k ≡ None
 rest_free pieces more rest after p takes bytes k here =
     let none : held pieces k ≡ None = takes.free k (ap is_some (takes.bytes k) ∙ is_some_left (held rest k) (byte_from p.place p.bytes k) here) in
@@ -143,7 +150,8 @@ rest_free pieces more rest after p takes bytes k here =
       | inr other ↦ absurd (some-none (held rest k) here other)
     ]
 
-pub rest_bytes : (pieces more rest after : List Piece) (p : Piece) → TakesLast pieces more rest p → ((k : ℕ) → held after k ≡ option_or (held pieces k) (byte_from p.place p.bytes k))
+pub rest_bytes : (pieces more rest after : List Piece) (p : Piece) → TakesLast pieces more rest p
+    → ((k : ℕ) → held after k ≡ option_or (held pieces k) (byte_from p.place p.bytes k))
     → (k : ℕ) → option_or (held after k) (held rest k) ≡ option_or (held pieces k) (held more k)
 rest_bytes pieces more rest after p takes bytes k =
     let byte = byte_from p.place p.bytes k in

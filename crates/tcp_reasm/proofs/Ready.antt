@@ -11,7 +11,7 @@ use Rattle.tcp_seq.specs.Numbers.{plus}
 use Rattle.tcp_seq.specs.declared.state.Piece.{Piece}
 use Rattle.tcp_reasm.specs.Runs.{held, AreRuns}
 use Rattle.tcp_seq.specs.Endpoint.{byte_from}
-use Rattle.tcp_reasm.specs.Steps.{in_order, bytes_of, lowered}
+use Rattle.tcp_reasm.specs.Steps.{in_order, piece_bytes, lowered}
 use Rattle.tcp_reasm.specs.Reassembly.{TakesReady}
 use Rattle.tcp_reasm.proofs.Held.{held_below, runs_from, held_here, held_later}
 use Rattle.tcp_seq.proofs.ByteFrom.{byte_there, byte_below}
@@ -26,7 +26,8 @@ runs-lowered by low (p ∷ ps) runs =
 byte_lowered : (by place : ℕ) (bytes : List ℕ) (k : ℕ) → by ≤ place → byte_from (place - by) bytes k ≡ byte_from place bytes (by + k)
 byte_lowered by place bytes k le = elim (cases_lt k (place - by)) [
   | inl below ↦ byte_below (place - by) bytes k below ∙ sym (byte_below place bytes (by + k) (omega (arith, below)))
-  | inr there ↦ byte_there (place - by) bytes k there ∙ ap (slice_get bytes) (let e : k - (place - by) ≡ by + k - place = omega (arith, there, le) in e) ∙ sym (byte_there place bytes (by + k) (omega (arith, there, le)))
+  | inr there ↦ byte_there (place - by) bytes k there
+      ∙ ap (slice_get bytes) (let e : k - (place - by) ≡ by + k - place = omega (arith, there, le) in e) ∙ sym (byte_there place bytes (by + k) (omega (arith, there, le)))
 ]
 
 held-lowered : (by : ℕ) (ps : List Piece) (k : ℕ) → AreRuns by ps → held (lowered by ps) k ≡ held ps (by + k)
@@ -36,17 +37,17 @@ held-lowered by (p ∷ ps) k runs =
     ∙ ap (option_or (byte_from p.place p.bytes (by + k))) (held-lowered by ps k (runs_from by (p.place + length p.bytes) ps (omega (arith, runs.0)) runs.3))
 
 -- the first pieces have no more bytes than the window has places
-pub bytes_fit : (at n : ℕ) (ps : List Piece) → at ≤ 16384 → AreRuns at ps → at + length (bytes_of (take n ps)) ≤ 16384
+pub bytes_fit : (at n : ℕ) (ps : List Piece) → at ≤ 16384 → AreRuns at ps → at + length (piece_bytes (take n ps)) ≤ 16384
 bytes_fit at zero ps fits runs = omega (arith, fits)
 bytes_fit at (suc n) [] fits runs = omega (arith, fits)
-bytes_fit at (suc n) (p ∷ ps) fits runs = omega (arith, length-append p.bytes (bytes_of (take n ps)), bytes_fit (p.place + length p.bytes) n ps runs.2 runs.3, runs.0)
+bytes_fit at (suc n) (p ∷ ps) fits runs = omega (arith, length-append p.bytes (piece_bytes (take n ps)), bytes_fit (p.place + length p.bytes) n ps runs.2 runs.3, runs.0)
 
 -- the first n pieces stand one behind the other from `at` on, and no byte stands behind them
 pub record InOrder (at : ℕ) (ps : List Piece) (n : ℕ) : Type 0 where
-  pub each : (k : ℕ) → at ≤ k → k < at + length (bytes_of (take n ps)) → held ps k ≡ slice_get (bytes_of (take n ps)) (k - at)
-  pub ends : held ps (at + length (bytes_of (take n ps))) ≡ None
-  pub behind : (k : ℕ) → at + length (bytes_of (take n ps)) ≤ k → held ps k ≡ held (drop n ps) k
-  pub runs : AreRuns (at + length (bytes_of (take n ps))) (drop n ps)
+  pub each : (k : ℕ) → at ≤ k → k < at + length (piece_bytes (take n ps)) → held ps k ≡ slice_get (piece_bytes (take n ps)) (k - at)
+  pub ends : held ps (at + length (piece_bytes (take n ps))) ≡ None
+  pub behind : (k : ℕ) → at + length (piece_bytes (take n ps)) ≤ k → held ps k ≡ held (drop n ps) k
+  pub runs : AreRuns (at + length (piece_bytes (take n ps))) (drop n ps)
 
 -- a hole
 stops : (at : ℕ) (ps : List Piece) → AreRuns at ps → held ps at ≡ None → InOrder at ps 0
@@ -60,9 +61,10 @@ stops at ps runs none =
     }
 
 -- one more piece
-goes_on : (at : ℕ) (p : Piece) (ps : List Piece) (n : ℕ) → p.place ≡ at → 0 < length p.bytes → AreRuns (p.place + length p.bytes) ps → InOrder (at + length p.bytes) ps n → InOrder at (p ∷ ps) (suc n)
+goes_on : (at : ℕ) (p : Piece) (ps : List Piece) (n : ℕ) → p.place ≡ at → 0 < length p.bytes → AreRuns (p.place + length p.bytes) ps
+    → InOrder (at + length p.bytes) ps n → InOrder at (p ∷ ps) (suc n)
 goes_on at p ps n is some runs more =
-    let rest = bytes_of (take n ps) in
+    let rest = piece_bytes (take n ps) in
     let end : at + length (p.bytes ++ rest) ≡ at + length p.bytes + length rest = omega (arith, length-append p.bytes rest) in
     record {
       each = λ k from below. elim (cases_lt k (at + length p.bytes)) [
@@ -93,30 +95,35 @@ are_in_order at (p ∷ ps) runs = elim (cases_lt at p.place) [
 ]
 
 -- the pieces that are taken
-pub takes_ready : (next after : ℕ) (ps left : List Piece) (out out' : List ℕ) (count len : ℕ) → AreRuns 0 ps → count ≡ in_order 0 ps → len ≡ length (bytes_of (take count ps)) → out' ≡ out ++ bytes_of (take count ps)
-    → left ≡ lowered len (drop count ps) → after ≡ plus next len → TakesReady (record { next = next; pieces = ps }) (record { next = after; pieces = left }) out out' len
+pub takes_ready : (next after : ℕ) (ps left : List Piece) (out out' : List ℕ) (count len : ℕ) → AreRuns 0 ps → count ≡ in_order 0 ps
+    → len ≡ length (piece_bytes (take count ps)) → out' ≡ out ++ piece_bytes (take count ps)
+    → left ≡ lowered len (drop count ps) → after ≡ plus next len
+    → TakesReady (record { next = next; pieces = ps }) (record { next = after; pieces = left }) out out' len
 takes_ready next after ps left out out' count len runs counts lens appends lowers moves =
     let all : InOrder 0 ps count = subst (InOrder 0 ps) (sym counts) (are_in_order 0 ps runs) in
-    let end : 0 + length (bytes_of (take count ps)) ≡ len = omega (arith, lens) in
+    let end : 0 + length (piece_bytes (take count ps)) ≡ len = omega (arith, lens) in
     let above : AreRuns len (drop count ps) = subst (λ (n : ℕ). AreRuns n (drop count ps)) end all.runs in
     record {
-      given = bytes_of (take count ps);
+      given = piece_bytes (take count ps);
       counted = sym lens;
       appended = appends;
-      each = λ k below. all.each k (omega arith) (omega (arith, below, end)) ∙ ap (slice_get (bytes_of (take count ps))) (let e : k - 0 ≡ k = omega arith in e);
+      each = λ k below. all.each k (omega arith) (omega (arith, below, end))
+          ∙ ap (slice_get (piece_bytes (take count ps))) (let e : k - 0 ≡ k = omega arith in e);
       ends = ap (held ps) (sym end) ∙ all.ends;
       next = moves;
       ahead = λ k. ap (λ qs. held qs k) lowers ∙ held-lowered len (drop count ps) k above ∙ sym (all.behind (len + k) (omega (arith, end)));
     }
 
-pub runs_left : (ps left : List Piece) (count len : ℕ) → AreRuns 0 ps → count ≡ in_order 0 ps → len ≡ length (bytes_of (take count ps)) → left ≡ lowered len (drop count ps) → AreRuns 0 left
+pub runs_left : (ps left : List Piece) (count len : ℕ) → AreRuns 0 ps → count ≡ in_order 0 ps → len ≡ length (piece_bytes (take count ps))
+    → left ≡ lowered len (drop count ps) → AreRuns 0 left
 runs_left ps left count len runs counts lens lowers =
     let all : InOrder 0 ps count = subst (InOrder 0 ps) (sym counts) (are_in_order 0 ps runs) in
-    let end : 0 + length (bytes_of (take count ps)) ≡ len + 0 = omega (arith, lens) in
+    let end : 0 + length (piece_bytes (take count ps)) ≡ len + 0 = omega (arith, lens) in
     rw lowers (runs-lowered len 0 (drop count ps) (subst (λ (n : ℕ). AreRuns n (drop count ps)) end all.runs))
 
 -- one more piece is counted from later
-pub lowered_more : (by : ℕ) (xs ys : List Piece) (i : ℕ) (x : Piece) (place : ℕ) → i < length xs → ys ≡ lowered by (take i xs) ++ drop i xs → x ≡ get_or ys i x → place ≡ (get_or ys i x).place - by
+pub lowered_more : (by : ℕ) (xs ys : List Piece) (i : ℕ) (x : Piece) (place : ℕ) → i < length xs → ys ≡ lowered by (take i xs) ++ drop i xs
+    → x ≡ get_or ys i x → place ≡ (get_or ys i x).place - by
     → set ys i (record { place = place; bytes = (get_or ys i x).bytes }) ≡ lowered by (take (i + 1) xs) ++ drop (i + 1) xs
 lowered_more by xs ys i x place below is read moves =
     let f : Piece → Piece = λ p. record p { place = p.place - by } in
@@ -131,4 +138,5 @@ front_removed xs ys count left within lefts same moved =
     let n : length (take left ys) ≡ length (drop count xs) = omega (arith, lefts, same, within, length-take left ys, length-drop count xs) in
     ext_get_or none (take left ys) (drop count xs) n (λ i below.
     let low : i < left = omega (arith, below, lefts, length-take left ys, same) in
-    get_or-take left ys i none low ∙ moved i none low ∙ ap (λ (j : ℕ). get_or xs j none) (let e : i + count ≡ count + i = omega arith in e) ∙ sym (get_or-drop count xs i none))
+    get_or-take left ys i none low ∙ moved i none low
+    ∙ ap (λ (j : ℕ). get_or xs j none) (let e : i + count ≡ count + i = omega arith in e) ∙ sym (get_or-drop count xs i none))

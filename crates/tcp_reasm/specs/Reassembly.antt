@@ -40,19 +40,19 @@ pub record Put : Type 0 where
   pub bytes : List ℕ
 
 -- one reassembly becomes another by these puts, in order
-abbrev pub PutsAll : Reassembly → List Put → Reassembly → Type 0
-PutsAll before [] after = after ≡ before
-PutsAll before (p ∷ ps) after = (between : Reassembly) × Puts before between p.seq p.bytes × PutsAll between ps after
+abbrev pub PutsInOrder : Reassembly → List Put → Reassembly → Type 0
+PutsInOrder before [] after = after ≡ before
+PutsInOrder before (p ∷ ps) after = (between : Reassembly) × Puts before between p.seq p.bytes × PutsInOrder between ps after
 
 -- each byte that the puts bring to a place from `next` on is the one of this stream
-abbrev pub AreOf : (ℕ → ℕ) → ℕ → List Put → Type 0
-AreOf stream next [] = Unit {0}
-AreOf stream next (p ∷ ps) = ((k byte : ℕ) → brought next p.seq p.bytes k ≡ Some byte → byte ≡ stream k) × AreOf stream next ps
+abbrev pub AreOfStream : (ℕ → ℕ) → ℕ → List Put → Type 0
+AreOfStream stream next [] = Unit {0}
+AreOfStream stream next (p ∷ ps) = ((k byte : ℕ) → brought next p.seq p.bytes k ≡ Some byte → byte ≡ stream k) × AreOfStream stream next ps
 
 -- whether one of the puts brings a byte to a place
-abbrev pub covers : ℕ → List Put → ℕ → Bool
-covers next [] k = false
-covers next (p ∷ ps) k = is_some (brought next p.seq p.bytes k) || covers next ps k
+abbrev pub is_brought : ℕ → List Put → ℕ → Bool
+is_brought next [] k = false
+is_brought next (p ∷ ps) k = is_some (brought next p.seq p.bytes k) || is_brought next ps k
 
 -- an empty reassembly that expects this number first
 abbrev pub nothing_from : ℕ → Reassembly

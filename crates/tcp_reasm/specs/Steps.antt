@@ -9,9 +9,9 @@ passed place [] = 0
 passed place (p ∷ ps) = if nat_le (p.place + length p.bytes) place then suc (passed place ps) else 0
 
 -- how many of the first pieces begin below a place
-abbrev pub begun : ℕ → List Piece → ℕ
-begun place [] = 0
-begun place (p ∷ ps) = if nat_lt p.place place then suc (begun place ps) else 0
+abbrev pub begun_below : ℕ → List Piece → ℕ
+begun_below place [] = 0
+begun_below place (p ∷ ps) = if nat_lt p.place place then suc (begun_below place ps) else 0
 
 -- of bytes that stand from a place on, the piece from `at` up to `to`, if there is one
 abbrev pub run_between : ℕ → List ℕ → ℕ → ℕ → List Piece
@@ -32,8 +32,8 @@ in_order at [] = 0
 in_order at (p ∷ ps) = if p.place == at then suc (in_order (at + length p.bytes) ps) else 0
 
 -- the bytes of pieces, one behind the other
-abbrev pub bytes_of : List Piece → List ℕ
-bytes_of ps = flat_map {X = Piece} (λ p. p.bytes) ps
+abbrev pub piece_bytes : List Piece → List ℕ
+piece_bytes ps = flat_map {X = Piece} (λ p. p.bytes) ps
 
 -- the pieces with their places lowered, counted from a later place
 abbrev pub lowered : ℕ → List Piece → List Piece

@@ -4,18 +4,18 @@ ghost use Rattle.std.specs.Prelude.{ℕ, ◌≡◌, ◌<◌, ◌+◌, ◌^◌, n
 ghost use Rattle.tcp_seq.specs.Numbers.{number};
 ghost use Rattle.tcp_seq.specs.Rules.{IsInStream};
 ghost use Rattle.tcp_seq.specs.Endpoint.{byte_from};
-ghost use Rattle.tcp_reasm.specs.Reassembly.{Reassembly, Put, PutsAll, AreOf, covers, nothing_from, byte_ahead, TakesReady, brought};
+ghost use Rattle.tcp_reasm.specs.Reassembly.{Reassembly, Put, PutsInOrder, AreOfStream, is_brought, nothing_from, byte_ahead, TakesReady, brought};
 
 /// After puts of slices of one stream, in any order and with any overlap and repetition, each place
 /// that they cover has the stream's byte and no other place has one. So two lists of puts that cover
 /// the same places give the same bytes out.
 pub fn same_places_same_bytes()
     ensures ahead { (stream : ℕ → ℕ) (next : ℕ) (puts : List Put) (after : Reassembly)
-        → PutsAll (nothing_from next) puts after → AreOf stream next puts
-        → (k : ℕ) → byte_ahead after k ≡ (if covers next puts k then Some (stream k) else None) }
+        → PutsInOrder (nothing_from next) puts after → AreOfStream stream next puts
+        → (k : ℕ) → byte_ahead after k ≡ (if is_brought next puts k then Some (stream k) else None) }
     ensures given { (stream : ℕ → ℕ) (next : ℕ) (puts others : List Put) (a b a' b' : Reassembly) (out x y : List ℕ) (m n : ℕ)
-        → PutsAll (nothing_from next) puts a → PutsAll (nothing_from next) others b → AreOf stream next puts → AreOf stream next others
-        → ((k : ℕ) → covers next puts k ≡ covers next others k) → TakesReady a a' out x m → TakesReady b b' out y n → x ≡ y }
+        → PutsInOrder (nothing_from next) puts a → PutsInOrder (nothing_from next) others b → AreOfStream stream next puts → AreOfStream stream next others
+        → ((k : ℕ) → is_brought next puts k ≡ is_brought next others k) → TakesReady a a' out x m → TakesReady b b' out y n → x ≡ y }
 {}
 
 /// For streams of at most 1 MiB the bytes that are put from a place's number on stand at the places

@@ -4,7 +4,7 @@ ghost use Rattle.std.specs.Prelude.{ℕ, ◌≡◌, ◌<◌, ◌≤◌, ◌+◌,
 ghost use Rattle.std.specs.Option.{option_or};
 ghost use Rattle.tcp_reasm.specs.Runs.{AreRuns, held};
 ghost use Rattle.tcp_seq.specs.Endpoint.{byte_from};
-ghost use Rattle.tcp_reasm.specs.Steps.{passed, begun, run_between, runs_outside as runs_outside_lem, where_none, in_order, bytes_of, lowered};
+ghost use Rattle.tcp_reasm.specs.Steps.{passed, begun_below, run_between, runs_outside as runs_outside_lem, where_none, in_order, piece_bytes, lowered};
 
 use graft_edge::{NoMemory, Octets};
 use std::alloc::{AllocError, Global};
@@ -25,7 +25,7 @@ fn passed_count(pieces: &[Piece], place: usize) -> usize
 /// Returns how many of the first pieces begin below a place.
 fn begun_count(pieces: &[Piece], place: usize) -> usize
     requires { AreRuns 0 pieces.now }
-    ensures count { result ≡ begun place pieces.now }
+    ensures count { result ≡ begun_below place pieces.now }
     ensures within { result ≤ length pieces.now }
 {
     pieces.partition_point(|piece| (piece.place as usize) < place)
@@ -152,7 +152,7 @@ pub(crate) fn ready(pieces: &[Piece]) -> (usize, usize)
     requires { AreRuns 0 pieces.now }
     ensures count { result.0 ≡ in_order 0 pieces.now }
     ensures within { result.0 ≤ length pieces.now }
-    ensures bytes { result.1 ≡ length (bytes_of (take result.0 pieces.now)) }
+    ensures bytes { result.1 ≡ length (piece_bytes (take result.0 pieces.now)) }
     ensures fits { result.1 ≤ 16384 }
 {
     let mut count = 0;
@@ -166,8 +166,8 @@ pub(crate) fn ready(pieces: &[Piece]) -> (usize, usize)
 
 /// Appends the bytes of pieces, which are `len` bytes in all. If memory runs out, nothing is appended.
 fn extend_all(out: &mut Vec<u8>, pieces: &[Piece], len: usize) -> Result<(), AllocError>
-    requires { len ≡ length (bytes_of pieces.now) }
-    ensures ok { OnOk result (out.new.items ≡ out.old.items ++ bytes_of pieces.now) }
+    requires { len ≡ length (piece_bytes pieces.now) }
+    ensures ok { OnOk result (out.new.items ≡ out.old.items ++ piece_bytes pieces.now) }
     ensures err { OnErr result (out.new.items ≡ out.old.items) }
 {
     out.reserve(len)?;
@@ -185,8 +185,8 @@ pub(crate) fn append(
     pieces: &[Piece],
     len: usize,
 ) -> Result<(), NoMemory>
-    requires { len ≡ length (bytes_of pieces.now) }
-    ensures ok { OnOk result (out.new ≡ out.old ++ bytes_of pieces.now) }
+    requires { len ≡ length (piece_bytes pieces.now) }
+    ensures ok { OnOk result (out.new ≡ out.old ++ piece_bytes pieces.now) }
     ensures err { OnErr result (out.new ≡ out.old) }
 {
     let mut bytes = std::mem::replace(out, Octets::new(alloc)).into_vec();

@@ -18,7 +18,8 @@ put_one : Option ℕ → ℕ → Bytes → Bytes
 put_one None k m = m
 put_one (Some byte) k m = if is_some (map.get m k) then m else map.insert m k byte
 
-put_here_by : (there : Option ℕ) (byte k : ℕ) (m : Bytes) → map.get m k ≡ there → map.get (if is_some there then m else map.insert m k byte) k ≡ option_or there (Some byte)
+put_here_by : (there : Option ℕ) (byte k : ℕ) (m : Bytes) → map.get m k ≡ there
+    → map.get (if is_some there then m else map.insert m k byte) k ≡ option_or there (Some byte)
 put_here_by None byte k m is =
     map.get-insert nat_cmp_total m k byte k
     ∙ ap (λ (b : Bool). cond b (Some byte) (map.get m k)) (unsigned_tied k k ∙ (let t : (k == k) ≡ true = grind (arith, nat_tests) in t))
@@ -89,11 +90,14 @@ get-accepted e p k =
 stays_or : (o more : Option ℕ) (byte : ℕ) → o ≡ Some byte → option_or o more ≡ Some byte
 stays_or o more byte is = ap (λ (p : Option ℕ). option_or p more) is
 
-pub byte_stays : (before after : Endpoint) (segment : PlacedSegment) (place byte : ℕ) → TakesSegment before segment after → map.get before.arrived place ≡ Some byte → map.get after.arrived place ≡ Some byte
+pub byte_stays : (before after : Endpoint) (segment : PlacedSegment) (place byte : ℕ) → TakesSegment before segment after
+    → map.get before.arrived place ≡ Some byte → map.get after.arrived place ≡ Some byte
 byte_stays before after segment place byte (inl drops) is = ap (λ (e : Endpoint). map.get e.arrived place) drops.stays ∙ is
-byte_stays before after segment place byte (inr accepts) is = accepts.arrived place ∙ stays_or (map.get before.arrived place) (byte_brought before segment place) byte is
+byte_stays before after segment place byte (inr accepts) is = accepts.arrived place
+    ∙ stays_or (map.get before.arrived place) (byte_brought before segment place) byte is
 
-pub received_stays : (before after : Endpoint) (segment : PlacedSegment) → TakesSegment before segment after → received_bytes before ≡ take (received before) (received_bytes after)
+pub received_stays : (before after : Endpoint) (segment : PlacedSegment) → TakesSegment before segment after
+    → received_bytes before ≡ take (received before) (received_bytes after)
 received_stays before after segment takes = in_order_grows before.arrived after.arrived (λ k byte is. byte_stays before after segment k byte takes is)
 
 -- One endpoint is left
@@ -122,7 +126,8 @@ no_bytes next place len none not (inl closed) = omega (arith, closed.1)
 no_bytes next place len none not (inr (inl empty)) = not empty.2
 no_bytes next place len none not (inr (inr bytes)) = omega (arith, none, bytes.0)
 
-neither_in : (next place len : ℕ) → 0 < len → ¬ IsPlaceInWindow next 16384 place → ¬ IsPlaceInWindow next 16384 (place + len - 1) → AcceptablePlace next 16384 place len → ⊥
+neither_in : (next place len : ℕ) → 0 < len → ¬ IsPlaceInWindow next 16384 place → ¬ IsPlaceInWindow next 16384 (place + len - 1)
+    → AcceptablePlace next 16384 place len → ⊥
 neither_in next place len some first last (inl closed) = omega (arith, closed.1)
 neither_in next place len some first last (inr (inl empty)) = omega (arith, some, empty.0)
 neither_in next place len some first last (inr (inr bytes)) = elim bytes.2 [ inl is ↦ first is | inr is ↦ last is ]

@@ -26,7 +26,8 @@ no_segment x x' y both stays same emits = record {
 }
 
 -- an earlier segment has a place, or the last one
-among : (segments : List PlacedSegment) (p : PlacedSegment) (place : ℕ) → IsAmong segments place ⊎ ((p.place ≤ place) × (place < p.place + length p.bytes)) → IsAmong (segments ++ p ∷ []) place
+among : (segments : List PlacedSegment) (p : PlacedSegment) (place : ℕ)
+    → IsAmong segments place ⊎ ((p.place ≤ place) × (place < p.place + length p.bytes)) → IsAmong (segments ++ p ∷ []) place
 among segments p place (inl is) = record {
   segment = is.segment;
   there = Contains-append_left segments (p ∷ []) is.segment is.there;

@@ -7,7 +7,8 @@ slice_length : (stream : List ℕ) (place n : ℕ) → place + n ≤ length stre
 slice_length stream place n within = omega (arith, within, length-take n (drop place stream), length-drop place stream)
 
 -- a slice by its own place and length
-itself : (e : Endpoint) (p : PlacedSegment) (place n : ℕ) → p.place ≡ place → length p.bytes ≡ n → p ≡ slice_at e place n → p ≡ slice_at e p.place (length p.bytes)
+itself : (e : Endpoint) (p : PlacedSegment) (place n : ℕ) → p.place ≡ place → length p.bytes ≡ n → p ≡ slice_at e place n
+    → p ≡ slice_at e p.place (length p.bytes)
 itself e p place n at len is = is ∙ sym (ap (λ (m : ℕ). slice_at e m n) at) ∙ sym (ap (slice_at e p.place) len)
 
 pub next_is_slice : (before after : Endpoint) (p : PlacedSegment) → before.acked ≤ before.emitted → EmitsNext before p after → EmitsSlice before p after
@@ -24,10 +25,12 @@ next_is_slice before after p acked next =
       within = omega (arith, at, len, within);
       flight = omega (arith, at, len, next.some);
       slice = itself before p before.emitted n at len next.slice;
-      rises = next.rises ∙ ap (λ (m : ℕ). let e : Endpoint = record before { emitted = m } in e) (let e : before.emitted + n ≡ max before.emitted (p.place + length p.bytes) = omega (arith, at, len) in e);
+      rises = next.rises
+          ∙ ap (λ (m : ℕ). let e : Endpoint = record before { emitted = m } in e) (let e : before.emitted + n ≡ max before.emitted (p.place + length p.bytes) = omega (arith, at, len) in e);
     }
 
-pub again_is_slice : (before after : Endpoint) (p : PlacedSegment) → before.emitted ≤ length before.stream → before.emitted ≤ before.acked + 15360 → EmitsAgain before p after → EmitsSlice before p after
+pub again_is_slice : (before after : Endpoint) (p : PlacedSegment) → before.emitted ≤ length before.stream → before.emitted ≤ before.acked + 15360
+    → EmitsAgain before p after → EmitsSlice before p after
 again_is_slice before after p emitted flight again =
     let n = again_length before in
     let within : before.acked + n ≤ before.emitted = omega (arith, again.some) in
@@ -41,5 +44,6 @@ again_is_slice before after p emitted flight again =
       within = omega (arith, at, len, within, emitted);
       flight = omega (arith, at, len, within, flight);
       slice = itself before p before.acked n at len again.slice;
-      rises = again.stays ∙ ap (λ (m : ℕ). let e : Endpoint = record before { emitted = m } in e) (let e : before.emitted ≡ max before.emitted (p.place + length p.bytes) = omega (arith, at, len, within) in e);
+      rises = again.stays
+          ∙ ap (λ (m : ℕ). let e : Endpoint = record before { emitted = m } in e) (let e : before.emitted ≡ max before.emitted (p.place + length p.bytes) = omega (arith, at, len, within) in e);
     }

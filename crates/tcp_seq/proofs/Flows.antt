@@ -63,7 +63,8 @@ slice_grows from len xs more within =
     ∙ take-append-le len (drop from xs) more (omega (arith, within, length-drop from xs))
 
 -- more bytes are sent
-from_sends : (from to : Endpoint) (bytes : List ℕ) → Carries from to → length from.stream + length bytes ≤ 2 ^ 20 → Carries (record from { stream = from.stream ++ bytes }) to
+from_sends : (from to : Endpoint) (bytes : List ℕ) → Carries from to → length from.stream + length bytes ≤ 2 ^ 20
+    → Carries (record from { stream = from.stream ++ bytes }) to
 from_sends from to bytes c fits = record {
   acked = c.acked;
   emitted = omega (arith, c.emitted, length-append from.stream bytes);
@@ -76,7 +77,8 @@ from_sends from to bytes c fits = record {
   );
 }
 
-still_sends : (e : Endpoint) (bytes : List ℕ) (p : PlacedSegment) → e.emitted ≤ length e.stream → IsEmittedBy e p → IsEmittedBy (record e { stream = e.stream ++ bytes }) p
+still_sends : (e : Endpoint) (bytes : List ℕ) (p : PlacedSegment) → e.emitted ≤ length e.stream → IsEmittedBy e p
+    → IsEmittedBy (record e { stream = e.stream ++ bytes }) p
 still_sends e bytes p within is = record {
   within = is.within;
   short = is.short;
@@ -85,7 +87,8 @@ still_sends e bytes p within is = record {
 }
 
 -- more is emitted, and an answer is owed or not
-from_emits : (from to : Endpoint) (emitted : ℕ) (owed : Bool) → Carries from to → from.emitted ≤ emitted → emitted ≤ length from.stream → emitted ≤ from.acked + 15360
+from_emits : (from to : Endpoint) (emitted : ℕ) (owed : Bool) → Carries from to → from.emitted ≤ emitted → emitted ≤ length from.stream
+    → emitted ≤ from.acked + 15360
     → Carries (record from { emitted = emitted; owed = owed }) to
 from_emits from to emitted owed c more within flight = record {
   acked = c.acked;
@@ -96,7 +99,8 @@ from_emits from to emitted owed c more within flight = record {
   arrived = λ place byte there. (omega (arith, (c.arrived place byte there).0, more), (c.arrived place byte there).1);
 }
 
-still_emits : (e : Endpoint) (emitted : ℕ) (owed : Bool) (p : PlacedSegment) → e.emitted ≤ emitted → IsEmittedBy e p → IsEmittedBy (record e { emitted = emitted; owed = owed }) p
+still_emits : (e : Endpoint) (emitted : ℕ) (owed : Bool) (p : PlacedSegment) → e.emitted ≤ emitted → IsEmittedBy e p
+    → IsEmittedBy (record e { emitted = emitted; owed = owed }) p
 still_emits e emitted owed p more is = record { within = omega (arith, is.within, more); short = is.short; bytes = is.bytes; ack = is.ack }
 
 -- bytes are read, and an answer is owed or not
@@ -107,7 +111,8 @@ still_reads : (e : Endpoint) (read : ℕ) (owed : Bool) (p : PlacedSegment) → 
 still_reads e read owed p is = record { within = is.within; short = is.short; bytes = is.bytes; ack = is.ack }
 
 -- an acknowledgement is taken, and bytes of the other stream
-from_acked : (from to : Endpoint) (ack : ℕ) (arrived : Bytes) (owed : Bool) → Carries from to → ack ≤ received to → Carries (record from { acked = max from.acked ack; arrived = arrived; owed = owed }) to
+from_acked : (from to : Endpoint) (ack : ℕ) (arrived : Bytes) (owed : Bool) → Carries from to → ack ≤ received to
+    → Carries (record from { acked = max from.acked ack; arrived = arrived; owed = owed }) to
 from_acked from to ack arrived owed c within = record {
   acked = omega (arith, c.acked, within);
   emitted = c.emitted;
@@ -137,7 +142,8 @@ to_same from to e c same read =
     }
 
 -- bytes arrive
-to_arrived : (from to e : Endpoint) → Carries from to → ((place byte : ℕ) → map.get e.arrived place ≡ Some byte → Stands from place byte) → received to ≤ received e → e.read ≡ to.read → Carries from e
+to_arrived : (from to e : Endpoint) → Carries from to → ((place byte : ℕ) → map.get e.arrived place ≡ Some byte → Stands from place byte)
+    → received to ≤ received e → e.read ≡ to.read → Carries from e
 to_arrived from to e c stands grows same = record {
   acked = omega (arith, c.acked, grows);
   emitted = c.emitted;
@@ -155,16 +161,19 @@ slice_stands from p k byte is there = elim (cases_lt k p.place) [
       let here : slice_get p.bytes (k - p.place) ≡ Some byte = sym (byte_there p.place p.bytes k above) ∙ there in
       let inside : k - p.place < length p.bytes = slice_get_within p.bytes (k - p.place) byte here in (
         omega (arith, inside, above, is.within),
-        sym (get-drop p.place from.stream (k - p.place) k (omega (arith, above))) ∙ sym (get-take (length p.bytes) (drop p.place from.stream) (k - p.place) inside)
+        sym (get-drop p.place from.stream (k - p.place) k (omega (arith, above)))
+            ∙ sym (get-take (length p.bytes) (drop p.place from.stream) (k - p.place) inside)
             ∙ ap (λ (xs : List ℕ). slice_get xs (k - p.place)) (sym is.bytes) ∙ here,
       )
 ]
 
-brought_stands : (b : Bool) (from : Endpoint) (p : PlacedSegment) (k byte : ℕ) → IsEmittedBy from p → (if b then byte_from p.place p.bytes k else None) ≡ Some byte → Stands from k byte
+brought_stands : (b : Bool) (from : Endpoint) (p : PlacedSegment) (k byte : ℕ) → IsEmittedBy from p
+    → (if b then byte_from p.place p.bytes k else None) ≡ Some byte → Stands from k byte
 brought_stands true from p k byte is there = slice_stands from p k byte is there
 brought_stands false from p k byte is there = cc
 
-either_stands : (old new : Option ℕ) (from : Endpoint) (k byte : ℕ) → (old ≡ Some byte → Stands from k byte) → (new ≡ Some byte → Stands from k byte) → option_or old new ≡ Some byte → Stands from k byte
+either_stands : (old new : Option ℕ) (from : Endpoint) (k byte : ℕ) → (old ≡ Some byte → Stands from k byte) → (new ≡ Some byte → Stands from k byte)
+    → option_or old new ≡ Some byte → Stands from k byte
 either_stands None new from k byte first second there = second there
 either_stands (Some x) new from k byte first second there = first there
 
@@ -197,7 +206,8 @@ emitted_on x y emitted owed is more within flight =
       still = λ p old. still_emits x emitted owed p more old;
     }
 
-slice_emitted : (e : Endpoint) (p : PlacedSegment) (after : Endpoint) → EmitsSlice e p after → IsEmittedBy (record e { emitted = max e.emitted (p.place + length p.bytes); owed = e.owed }) p
+slice_emitted : (e : Endpoint) (p : PlacedSegment) (after : Endpoint) → EmitsSlice e p after
+    → IsEmittedBy (record e { emitted = max e.emitted (p.place + length p.bytes); owed = e.owed }) p
 slice_emitted e p after emits = record {
   within = omega arith;
   short = emits.short;
@@ -216,7 +226,8 @@ empty_emitted e p after empty =
       ack = omega (arith, ap (λ (q : PlacedSegment). q.ack) empty.empty);
     }
 
-pub emits_linked : (x after y : Endpoint) (p : PlacedSegment) → AreLinked x y → EmitsSlice x p after ⊎ EmitsEmpty x p after → StaysLinked x after y × IsEmittedBy after p
+pub emits_linked : (x after y : Endpoint) (p : PlacedSegment) → AreLinked x y → EmitsSlice x p after ⊎ EmitsEmpty x p after
+    → StaysLinked x after y × IsEmittedBy after p
 emits_linked x after y p is (inl emits) = (
   stays_as x after _ y emits.rises
       (emitted_on x y (max x.emitted (p.place + length p.bytes)) x.owed is (omega arith) (omega (arith, is.there.emitted, emits.within)) (omega (arith, is.there.flight, emits.flight))),

@@ -67,7 +67,8 @@ record IsRun (n : ℕ) (es : List (ℕ × ℕ)) (run : List ℕ) : Type 0 where
   each : (j : ℕ) → j < length run → slice_get run j ≡ find nat_cmp (n + j) es
   ends : find nat_cmp (n + length run) es ≡ None
 
-each_more : (n : ℕ) (e : ℕ × ℕ) (es : List (ℕ × ℕ)) (run : List ℕ) → e.0 ≡ n → IsRun (n + 1) es run → (j : ℕ) → j < length (e.1 ∷ run) → slice_get (e.1 ∷ run) j ≡ find nat_cmp (n + j) (e ∷ es)
+each_more : (n : ℕ) (e : ℕ × ℕ) (es : List (ℕ × ℕ)) (run : List ℕ) → e.0 ≡ n → IsRun (n + 1) es run → (j : ℕ) → j < length (e.1 ∷ run)
+    → slice_get (e.1 ∷ run) j ≡ find nat_cmp (n + j) (e ∷ es)
 each_more n e es run is rest zero below = sym (find_here (n + 0) e es (omega (arith, is)))
 each_more n e es run is rest (suc j) below =
     rest.each j (omega (arith, below)) ∙ ap (λ (k : ℕ). find nat_cmp k es) (let same : n + 1 + j ≡ n + suc j = omega arith in same)
@@ -142,7 +143,8 @@ bytes_are m xs each ends =
     (byte_in_order m i below ∙ sym (each i (omega (arith, below, n))) ∙ slice_get-get_or xs i 0 (omega (arith, below, n))))
 
 -- bytes that stay keep the bytes in order
-pub in_order_grows : (m m' : Bytes) → ((k byte : ℕ) → map.get m k ≡ Some byte → map.get m' k ≡ Some byte) → bytes_in_order m ≡ take (length (bytes_in_order m)) (bytes_in_order m')
+pub in_order_grows : (m m' : Bytes) → ((k byte : ℕ) → map.get m k ≡ Some byte → map.get m' k ≡ Some byte)
+    → bytes_in_order m ≡ take (length (bytes_in_order m)) (bytes_in_order m')
 in_order_grows m m' stays =
     let run = bytes_in_order m in
     let there : (k : ℕ) → k < length run → map.get m' k ≡ Some (get_or run k 0) =

@@ -1,7 +1,8 @@
 //! A row of the input: `STATE WIDTH AS FRAME ANSWER ; WHAT IT SHOWS`.
 
-use anyhow::{Context, Result, bail};
+use anyhow::{Context, Result};
 use bgp_types::{Expected, SessionState};
+use row_harness::{number, word};
 use std::alloc::Global;
 
 /// Whether the home side offered four-octet AS numbers, and whether the session has them.
@@ -19,8 +20,7 @@ pub struct Row<'a> {
     pub widths: &'static [Width],
     remote_as: u32,
     pub octets: Vec<u8>,
-    pub answer: &'a str,
-    pub shows: &'a str,
+    answer: &'a [&'a str],
 }
 
 impl<'a> Row<'a> {
@@ -36,7 +36,11 @@ impl<'a> Row<'a> {
 
     /// Returns whether an answer is the one that the row expects. If the row says only `reads`, any message will do.
     pub fn takes(&self, answer: &str) -> bool {
-        answer == self.answer || self.answer == "reads" && answer.starts_with("reads ")
+        let mut words = answer.split(' ');
+        if self.answer == ["reads"].as_slice() {
+            return words.next() == Some("reads");
+        }
+        words.eq(self.answer.iter().copied())
     }
 }
 
@@ -60,24 +64,13 @@ fn widths_of(word: &str) -> Option<&'static [Width]> {
     }
 }
 
-/// Returns the first word of a row, and what follows it.
-fn word_of(text: &str) -> Result<(&str, &str)> {
-    text.split_once(' ').context("too few words")
-}
-
-/// Returns the row that a line stands for.
-pub fn row_of(alloc: Global, line: &str) -> Result<Row<'_>> {
-    let (words, shows) = line.split_once(" ; ").context("what it shows")?;
-    let (state, words) = word_of(words)?;
-    let (widths, words) = word_of(words)?;
-    let (remote_as, words) = word_of(words)?;
-    let (octets, answer) = word_of(words)?;
+/// Returns the row of these words.
+pub fn row_of<'a>(alloc: Global, words: &'a [&'a str]) -> Result<Row<'a>> {
     Ok(Row {
-        state: state_of(state).context("a state")?,
-        widths: widths_of(widths).context("a width")?,
-        remote_as: remote_as.parse::<u32>()?,
-        octets: hex::decode(alloc, octets)?,
-        answer,
-        shows,
+        state: state_of(word(words, 0)).context("a state")?,
+        widths: widths_of(word(words, 1)).context("a width")?,
+        remote_as: number(words, 2)?,
+        octets: hex::decode(alloc, word(words, 3))?,
+        answer: words.get(4..).context("an answer")?,
     })
 }

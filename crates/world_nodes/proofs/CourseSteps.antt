@@ -6,14 +6,14 @@ use Rattle.std.proofs.lemmas.Bool.Decides.{eqb_tells}
 use Rattle.std.proofs.lemmas.List.{length-map}
 use Rattle.std.proofs.Math.Seq.{take-length}
 use Rattle.ring_net.specs.Deeds.{Deed}
-use Rattle.ring_net.specs.Phases.{View, Phase, Between, Levelled, is_edge}
+use Rattle.ring_net.specs.Phases.{View, NetPhase, Between, Levelled, is_edge}
 use Rattle.graft_steps.specs.declared.rest.Pending.{Pending}
 use Rattle.graft_model.specs.Setups.{Setup, routers_in, peerings_in}
 use Rattle.graft_model.specs.Parts.{World, OperatorPart}
 use Rattle.graft_model.specs.Quiet.{Quiet}
-use Rattle.graft_runs.specs.Actors as names
-use Rattle.graft_runs.specs.Seen.{part_of}
-use Rattle.graft_runs.proofs.Numbers.{at_operator}
+use Rattle.graft_actors.specs.Actors as names
+use Rattle.graft_actors.specs.Seen.{part_of}
+use Rattle.graft_actors.proofs.Numbers.{at_operator}
 use Rattle.graft_actors.specs.Acts.{OwnPart, acts}
 use Rattle.operator_core.specs.Turns.{IsHeldUp}
 use Rattle.router_core.specs.Parts.{carried}
@@ -67,7 +67,7 @@ turned_works (Operator old) (Router new) ds t = absurd t.0
 turned_works (Operator old) (Far new) ds t = tt
 turned_works (Operator old) (Operator new) ds t = tt
 
-pub phase_works : (old new : View Node Mail) → Phase own (acts carried) took turned old new → AllByRecursion Works new.actors
+pub phase_works : (old new : View Node Mail) → NetPhase own (acts carried) took turned old new → AllByRecursion Works new.actors
 phase_works old new phase = all_by_place Works new.actors (λ k d k_in.
     let did = phase.actors k d (omega (arith, k_in, phase.size)) in turned_works did.mid (get_or new.actors k d) _ did.turn)
 
@@ -82,7 +82,8 @@ paused_works (Operator old) (Router new) ds p works = absurd p
 paused_works (Operator old) (Far new) ds p works = tt
 paused_works (Operator old) (Operator new) ds p works = tt
 
-pub pause_works : (k : ℕ) (old level new : View Node Mail) (answer : Bool) → Levelled old level → Between own (acts carried) paused k level new answer → AllByRecursion Works old.actors → AllByRecursion Works new.actors
+pub pause_works : (k : ℕ) (old level new : View Node Mail) (answer : Bool) → Levelled old level
+    → Between own (acts carried) paused k level new answer → AllByRecursion Works old.actors → AllByRecursion Works new.actors
 pause_works k old level new answer levelled did works = all_by_place Works new.actors (λ j d j_in. elim (eqb_tells j k) [
   | inl s ↦ subst (λ n. Works (get_or new.actors n d)) (sym s.1) (paused_works (get_or level.actors k d) (get_or new.actors k d) did.deeds (did.paused d)
       (one_of_all Works level.actors k d here (omega (arith, j_in, s.1, did.size))))
@@ -92,7 +93,8 @@ pause_works k old level new answer levelled did works = all_by_place Works new.a
     here : AllByRecursion Works level.actors
     here = subst (λ (xs : List Node). AllByRecursion Works xs) (sym levelled.only.actors) works
 
-pub pause_size : (k : ℕ) (old level new : View Node Mail) (answer : Bool) → Levelled old level → Between own (acts carried) paused k level new answer → length new.actors ≡ length old.actors
+pub pause_size : (k : ℕ) (old level new : View Node Mail) (answer : Bool) → Levelled old level → Between own (acts carried) paused k level new answer
+    → length new.actors ≡ length old.actors
 pause_size k old level new answer levelled did = did.size ∙ ap (λ (xs : List Node). length xs) levelled.only.actors
 
 -- ---- the counts are the laboratory's
@@ -102,7 +104,8 @@ size_in setup routers peerings n counts size = omega (arith, size, counts.router
 
 -- ---- a group that may not begin
 
-held_by : (old new : Node) (ds : List (Deed Mail)) (setup : Setup) (part : OperatorPart) → own old ≡ record { setup = setup; name = names.Operator; part = names.OperatorIs part } → paused old ds new → (ds ≡ []) ↔ IsHeldUp setup part
+held_by : (old new : Node) (ds : List (Deed Mail)) (setup : Setup) (part : OperatorPart)
+    → own old ≡ record { setup = setup; name = names.Operator; part = names.OperatorIs part } → paused old ds new → (ds ≡ []) ↔ IsHeldUp setup part
 held_by (Router old) new ds setup part is p = absurd (let h : names.Router old.fields.number.0 ≡ names.Operator = ap (λ (o : OwnPart). o.name) is in cc)
 held_by (Far old) new ds setup part is p = absurd (let h : names.FarSide old.fields.peering.0 ≡ names.Operator = ap (λ (o : OwnPart). o.name) is in cc)
 held_by (Operator old) (Router new) ds setup part is p = absurd p
@@ -113,7 +116,8 @@ held_by (Operator old) (Operator new) ds setup part is p =
     same : {a b : OperatorPart} → names.OperatorIs a ≡ names.OperatorIs b → a ≡ b
     same h = cc
 
-pub pause_held : (setup : Setup) (old level new : View Node Mail) (w : World) (answer : Bool) (k : ℕ) → IsSeenAs own carried setup old w → length old.actors ≡ actors_in setup → k ≡ routers_in setup + peerings_in setup → Levelled old level
+pub pause_held : (setup : Setup) (old level new : View Node Mail) (w : World) (answer : Bool) (k : ℕ) → IsSeenAs own carried setup old w
+    → length old.actors ≡ actors_in setup → k ≡ routers_in setup + peerings_in setup → Levelled old level
     → Between own (acts carried) paused k level new answer → (answer ≡ false) ↔ IsHeldUp setup w.operator
 pause_held setup old level new w answer k seen size is levelled did =
     let k_in : k < length old.actors = omega (arith, is, size) in
@@ -145,13 +149,16 @@ module _ (setup : Setup) (v : View Node Mail) (w : World) (seen : IsSeenAs own c
       (λ p n stuck. to_one own carried setup v w seen size (λ (o : OwnPart). IsStuckWith o p n) (names.Router stuck.router) stuck.there stuck.stuck)
       (subst (λ (xs : List OwnPart). IsLowest (IsStuckAtOne xs) answer) parts lowest)
 
-  pub pending_world : (edges : List (ℕ × ℕ)) → ((a b : ℕ) → v.edge a b ≡ is_edge edges a b) → ((a b : ℕ) → is_edge edges a b ≡ has_channel setup a b) → ((r : ℕ) → w.mesh r r ≡ []) → (one other answer : Option Pending)
-      → IsFirstOf (IsLeftToOne (take count (map own v.actors))) one → IsFirstOf (IsSentOnOne v.channel edges) other → IsFirstOf (IsEither one other) answer → IsPending setup w answer
+  pub pending_world : (edges : List (ℕ × ℕ)) → ((a b : ℕ) → v.edge a b ≡ is_edge edges a b) → ((a b : ℕ) → is_edge edges a b ≡ has_channel setup a b)
+      → ((r : ℕ) → w.mesh r r ≡ []) → (one other answer : Option Pending)
+      → IsFirstOf (IsLeftToOne (take count (map own v.actors))) one → IsFirstOf (IsSentOnOne v.channel edges) other
+      → IsFirstOf (IsEither one other) answer → IsPending setup w answer
   pending_world edges viewed each itself one other answer left sent first = first_same (λ x. IsLeftToOne (map own v.actors) x ⊎ IsSentOnOne v.channel edges x) (IsLeft setup w) answer
       (net_left own carried setup v w seen size edges viewed each itself) (left_net own carried setup v w seen size edges viewed each itself)
       (first_of_both (IsLeftToOne (map own v.actors)) (IsSentOnOne v.channel edges) one other answer (subst (λ (xs : List OwnPart). IsFirstOf (IsLeftToOne xs) one) parts left) sent first)
 
 -- nothing is pending exactly where nothing is left
-pub none_pending : (setup : Setup) (w : World) (answer : Option Pending) → ((x : Pending) → ¬ IsLeft setup w x) ↔ Quiet setup w → IsPending setup w answer → (answer ≡ None) ↔ Quiet setup w
+pub none_pending : (setup : Setup) (w : World) (answer : Option Pending) → ((x : Pending) → ¬ IsLeft setup w x) ↔ Quiet setup w
+    → IsPending setup w answer → (answer ≡ None) ↔ Quiet setup w
 none_pending setup w None law pending = (λ e. law.0 pending, λ quiet. refl)
 none_pending setup w (Some first) law pending = (λ e. absurd cc, λ quiet. absurd (law.1 quiet first pending.0))

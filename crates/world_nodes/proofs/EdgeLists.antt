@@ -26,15 +26,8 @@ stands_is_edge edges i e i_in is = list_any_at (λ (x : ℕ × ℕ). x.0 == e.0 
     both : (a b : ℕ) → (a == a && b == b) ≡ true
     both a b = grind (arith, nat_tests)
 
-pub no_edges : (count : ℕ) → AreEdges count []
-no_edges count = record {
-  from = λ i i_in. absurd (omega (arith, i_in));
-  to = λ i i_in. absurd (omega (arith, i_in));
-  apart = λ i i_in. absurd (omega (arith, i_in));
-  once = λ i j i_in. absurd (omega (arith, i_in));
-}
-
-pub one_edge_more : (count : ℕ) (edges : List (ℕ × ℕ)) (a b : ℕ) → AreEdges count edges → a < count → b < count → a ≢ b → is_edge edges a b ≡ false → AreEdges count (edges ++ (a, b) ∷ [])
+pub one_edge_more : (count : ℕ) (edges : List (ℕ × ℕ)) (a b : ℕ) → AreEdges count edges → a < count → b < count → a ≢ b → is_edge edges a b ≡ false
+    → AreEdges count (edges ++ (a, b) ∷ [])
 one_edge_more count edges a b are a_in b_in apart new = record {
   from = λ i i_in. elim (at_place edges (a, b) i i_in) [ inl h ↦ rw (h.1) (are.from i h.0) | inr h ↦ rw (h.1) a_in ];
   to = λ i i_in. elim (at_place edges (a, b) i i_in) [ inl h ↦ rw (h.1) (are.to i h.0) | inr h ↦ rw (h.1) b_in ];
@@ -56,7 +49,8 @@ one_edge_more count edges a b are a_in b_in apart new = record {
 
 -- which edges there are in a list with one more
 pub edge_in_more : (edges : List (ℕ × ℕ)) (a b x y : ℕ) → is_edge (edges ++ (a, b) ∷ []) x y ≡ (is_edge edges x y || (a == x && b == y))
-edge_in_more edges a b x y = list_any-append (λ (e : ℕ × ℕ). e.0 == x && e.1 == y) edges ((a, b) ∷ []) ∙ ap (λ t. is_edge edges x y || t) (or_false (a == x && b == y))
+edge_in_more edges a b x y = list_any-append (λ (e : ℕ × ℕ). e.0 == x && e.1 == y) edges ((a, b) ∷ [])
+    ∙ ap (λ t. is_edge edges x y || t) (or_false (a == x && b == y))
   where
     or_false : (t : Bool) → (t || false) ≡ t
     or_false true = refl

@@ -46,7 +46,8 @@ empty_by_length (x ∷ xs) e = absurd (omega (arith, e))
 
 -- ---- the first thing
 
-pub first_same : (One Two : Pending → Type 0) (answer : Option Pending) → ((x : Pending) → One x → Two x) → ((x : Pending) → Two x → One x) → IsFirstOf One answer → IsFirstOf Two answer
+pub first_same : (One Two : Pending → Type 0) (answer : Option Pending) → ((x : Pending) → One x → Two x) → ((x : Pending) → Two x → One x)
+    → IsFirstOf One answer → IsFirstOf Two answer
 first_same One Two None to from none = λ x two. none x (from x two)
 first_same One Two (Some first) to from is = (to first is.0, λ x two. is.1 x (from x two))
 
@@ -54,30 +55,35 @@ module _ {X : Type 0} (P : X → Pending → Type 0) where
   pub first_of_none : IsFirstOf (λ x. Any (λ b. P b x) []) None
   first_of_none = λ x any. none_of_none (λ b. P b x) any
 
-  pub first_of_more : (xs : List X) (y : X) (one other both : Option Pending) → IsFirstOf (λ x. Any (λ b. P b x) xs) one → IsFirstOf (P y) other → IsFirstOf (IsEither one other) both
+  pub first_of_more : (xs : List X) (y : X) (one other both : Option Pending) → IsFirstOf (λ x. Any (λ b. P b x) xs) one → IsFirstOf (P y) other
+      → IsFirstOf (IsEither one other) both
       → IsFirstOf (λ x. Any (λ b. P b x) (xs ++ y ∷ [])) both
   first_of_more xs y one other both is is' first = first_same (λ x. Any (λ b. P b x) xs ⊎ P y x) (λ x. Any (λ b. P b x) (xs ++ y ∷ [])) both
       (λ x either. elim either [ inl any ↦ any_left (λ b. P b x) xs y any | inr last ↦ Any-push (λ b. P b x) xs y last ])
       (λ x any. any_split (λ b. P b x) xs y any)
       (first_of_both (λ x. Any (λ b. P b x) xs) (P y) one other both is is' first)
 
-  pub first_of_same : (xs : List X) (y : X) (one : Option Pending) → IsFirstOf (λ x. Any (λ b. P b x) xs) one → ((x : Pending) → P y x → ⊥) → IsFirstOf (λ x. Any (λ b. P b x) (xs ++ y ∷ [])) one
+  pub first_of_same : (xs : List X) (y : X) (one : Option Pending) → IsFirstOf (λ x. Any (λ b. P b x) xs) one → ((x : Pending) → P y x → ⊥)
+      → IsFirstOf (λ x. Any (λ b. P b x) (xs ++ y ∷ [])) one
   first_of_same xs y one is not = first_same (λ x. Any (λ b. P b x) xs) (λ x. Any (λ b. P b x) (xs ++ y ∷ [])) one
       (λ x any. any_left (λ b. P b x) xs y any)
       (λ x any. elim (any_split (λ b. P b x) xs y any) [ inl before ↦ before | inr last ↦ absurd (not x last) ]) is
 
 -- an item is on its way along one edge
-pub first_sent : {I : Type 0} (channel : ℕ → ℕ → List I) (a b : ℕ) → channel a b ≢ [] → IsFirstOf (λ x. (x ≡ Channel a b) × (channel a b ≢ [])) (Some (Channel a b))
+pub first_sent : {I : Type 0} (channel : ℕ → ℕ → List I) (a b : ℕ) → channel a b ≢ []
+    → IsFirstOf (λ x. (x ≡ Channel a b) × (channel a b ≢ [])) (Some (Channel a b))
 first_sent channel a b some = ((refl, some), λ x is. subst (λ y. pending_cmp (Channel a b) y ≢ Greater) (sym is.0) (two_numbers a b b (omega arith)))
 
 -- ---- the lowest peering
 
-pub lowest_same : (One Two : ℕ → ℕ → Type 0) (answer : Option (ℕ × ℕ)) → ((p n : ℕ) → One p n → Two p n) → ((p n : ℕ) → Two p n → One p n) → IsLowest One answer → IsLowest Two answer
+pub lowest_same : (One Two : ℕ → ℕ → Type 0) (answer : Option (ℕ × ℕ)) → ((p n : ℕ) → One p n → Two p n) → ((p n : ℕ) → Two p n → One p n)
+    → IsLowest One answer → IsLowest Two answer
 lowest_same One Two None to from none = λ p n two. none p n (from p n two)
 lowest_same One Two (Some x) to from is = (to x.0 x.1 is.0, λ p n lower two. is.1 p n lower (from p n two))
 
 -- of two answers the lower one
-pub lowest_of_both : (One Other : ℕ → ℕ → Type 0) (one other both : Option (ℕ × ℕ)) → IsLowest One one → IsLowest Other other → IsLowest (IsOneOf one other) both → IsLowest (λ p n. One p n ⊎ Other p n) both
+pub lowest_of_both : (One Other : ℕ → ℕ → Type 0) (one other both : Option (ℕ × ℕ)) → IsLowest One one → IsLowest Other other
+    → IsLowest (IsOneOf one other) both → IsLowest (λ p n. One p n ⊎ Other p n) both
 lowest_of_both One Other one other None is is' none = λ p n either. elim either [
   | inl here ↦ let f = answered One one is p n here in none f.0 f.1 (inl f.2)
   | inr here ↦ let f = answered Other other is' p n here in none f.0 f.1 (inr f.2)
@@ -106,7 +112,8 @@ module _ {X : Type 0} (P : X → ℕ → ℕ → Type 0) where
   pub lowest_of_none : IsLowest (λ p n. Any (λ b. P b p n) []) None
   lowest_of_none = λ p n any. none_of_none (λ b. P b p n) any
 
-  pub lowest_of_more : (xs : List X) (y : X) (one other both : Option (ℕ × ℕ)) → IsLowest (λ p n. Any (λ b. P b p n) xs) one → IsLowest (P y) other → IsLowest (IsOneOf one other) both
+  pub lowest_of_more : (xs : List X) (y : X) (one other both : Option (ℕ × ℕ)) → IsLowest (λ p n. Any (λ b. P b p n) xs) one → IsLowest (P y) other
+      → IsLowest (IsOneOf one other) both
       → IsLowest (λ p n. Any (λ b. P b p n) (xs ++ y ∷ [])) both
   lowest_of_more xs y one other both is is' first = lowest_same (λ p n. Any (λ b. P b p n) xs ⊎ P y p n) (λ p n. Any (λ b. P b p n) (xs ++ y ∷ [])) both
       (λ p n either. elim either [ inl any ↦ any_left (λ b. P b p n) xs y any | inr last ↦ Any-push (λ b. P b p n) xs y last ])

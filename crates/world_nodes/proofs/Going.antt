@@ -5,7 +5,7 @@ use Rattle.std.specs.List.{AllByRecursion}
 use Rattle.std.proofs.lemmas.List.{append-nil, map-append}
 use Rattle.ring_net.specs.Deeds.{Deed, Noted, deeds}
 use Rattle.ring_net.specs.Turns.{ActorDid}
-use Rattle.ring_net.specs.Phases.{View, IsNew, InOrder, AllAt, Levelled, Phase, Between}
+use Rattle.ring_net.specs.Phases.{View, IsNewNet, InOrder, AllAt, Levelled, NetPhase, Between}
 use Rattle.ring_net.proofs.Replays.{all-append}
 use Rattle.ring_net.proofs.Order.{order_new, order_level, order_phase, order_between}
 use Rattle.journal_merge.specs.Growth.{Grew}
@@ -15,9 +15,10 @@ use Rattle.session_value.specs.Sessions.{SessionValue}
 use Rattle.graft_model.specs.Setups.{Setup, IsSetup}
 use Rattle.graft_model.specs.Parts.{World}
 use Rattle.graft_actors.specs.Acts.{OwnPart, acts}
-use Rattle.world_runs.specs.Labs.{actors_in, AreFirst}
+use Rattle.world_runs.specs.Labs.{actors_in, AreFirstActors}
 use Rattle.world_runs.specs.Runs.{IsSeenAs, Ran, QuietAt}
-use Rattle.world_runs.specs.Laws.{IsNoGo, NewNetsRan, RunsGoOn, GoesOn}
+use Rattle.world_runs.specs.Laws.{IsNoGo, NewNetsRan, RunsGoOn, ExtendsAtMark}
+use Rattle.journal_merge.proofs.Growths.{grew_none}
 
 below_or_past : (k n : ℕ) → (k < n) ⊎ (n ≤ k)
 below_or_past k n = grind arith
@@ -41,21 +42,9 @@ module _ {A C : Type 0} (own : A → OwnPart) (session : C → SessionValue) whe
     pub no_go : (k : ℕ) → AllByRecursion IsNoGo (deeds (notes k))
     pub ordered : InOrder v
 
-  nothing_grew : (v : View A (Item C)) → Grew own (acts session) v v [] (λ k. [])
-  nothing_grew v = record {
-    size = refl;
-    replays = λ k d k_in. refl;
-    none = λ k past. refl;
-    own = λ k. tt;
-    clocks = λ k k_in. refl;
-    journals = λ k. sym (append-nil (v.journal k));
-    edges = λ a b. refl;
-    carries = λ a b e. append-nil (v.channel a b);
-    apart = λ a b e. refl;
-  }
-
   -- from a level on
-  starts : (setup : Setup) (v : View A (Item C)) (clock : ℕ) → length v.actors ≡ actors_in setup → InOrder v → AllAt v clock → Ran own session setup v → Goes setup v
+  starts : (setup : Setup) (v : View A (Item C)) (clock : ℕ) → length v.actors ≡ actors_in setup → InOrder v → AllAt v clock
+      → Ran own session setup v → Goes setup v
   starts setup v clock size order level ran = record {
     start = v;
     clock = clock;
@@ -65,18 +54,20 @@ module _ {A C : Type 0} (own : A → OwnPart) (session : C → SessionValue) whe
     order = order;
     level = level;
     ran = ran;
-    grew = nothing_grew v;
+    grew = grew_none own (acts session) v;
     no_go = λ k. tt;
     ordered = order;
   }
 
-  pub goes_first : NewNetsRan own session → (setup : Setup) (actors : List A) (edges : List (ℕ × ℕ)) (v : View A (Item C)) → AreFirst own setup actors → IsNew actors edges v → Goes setup v
+  pub goes_first : NewNetsRan own session → (setup : Setup) (actors : List A) (edges : List (ℕ × ℕ)) (v : View A (Item C))
+      → AreFirstActors own setup actors → IsNewNet actors edges v → Goes setup v
   goes_first law setup actors edges v first new = starts setup v 0 (ap (λ (xs : List A). length xs) new.all ∙ first.all) (order_new actors edges v new) (λ k k_in. new.clocks k) (law setup actors edges v first new)
 
   pub goes_ran : RunsGoOn own session → (setup : Setup) (v : View A (Item C)) → IsSetup setup → Goes setup v → Ran own session setup v
   goes_ran law setup v sound goes = law setup goes.start v goes.levels goes.notes goes.clock sound goes.size goes.order goes.level goes.grew goes.no_go goes.ran
 
-  no_go_joined : (xs ys : List (Noted (Item C))) → AllByRecursion IsNoGo (deeds xs) → AllByRecursion IsNoGo (deeds ys) → AllByRecursion IsNoGo (deeds (xs ++ ys))
+  no_go_joined : (xs ys : List (Noted (Item C))) → AllByRecursion IsNoGo (deeds xs) → AllByRecursion IsNoGo (deeds ys)
+      → AllByRecursion IsNoGo (deeds (xs ++ ys))
   no_go_joined xs ys h k = subst (λ (ds : List (Deed (Item C))). AllByRecursion IsNoGo ds) (sym (map-append (λ (n : Noted (Item C)). n.deed) xs ys)) (all-append IsNoGo (deeds xs) (deeds ys) h k)
 
   -- ---- a round
@@ -84,9 +75,11 @@ module _ {A C : Type 0} (own : A → OwnPart) (session : C → SessionValue) whe
   module _ (took : A → ℕ → Item C → List (Deed (Item C)) → A → Type 0) (turned : A → List (Deed (Item C)) → A → Type 0) where
     -- what an actor does in a round is no Go
     abbrev pub RoundsBeginNoGroup : Type 0
-    RoundsBeginNoGroup = (k : ℕ) (old new : A) (before after : ℕ) (notes : List (Noted (Item C))) → ActorDid own (acts session) took turned k old before notes new after → AllByRecursion IsNoGo (deeds notes)
+    RoundsBeginNoGroup = (k : ℕ) (old new : A) (before after : ℕ) (notes : List (Noted (Item C)))
+        → ActorDid own (acts session) took turned k old before notes new after → AllByRecursion IsNoGo (deeds notes)
 
-    pub goes_round : RoundsBeginNoGroup → PhaseGrows own (acts session) took turned → GrowsOn own (acts session) → (setup : Setup) (u v : View A (Item C)) → Phase own (acts session) took turned u v → Goes setup u → Goes setup v
+    pub goes_round : RoundsBeginNoGroup → PhaseGrows own (acts session) took turned → GrowsOn own (acts session)
+        → (setup : Setup) (u v : View A (Item C)) → NetPhase own (acts session) took turned u v → Goes setup u → Goes setup v
     goes_round none phases joins setup u v phase goes = record {
       start = goes.start;
       clock = goes.clock;
@@ -112,15 +105,18 @@ module _ {A C : Type 0} (own : A → OwnPart) (session : C → SessionValue) whe
   seen_before setup u v w levelled seen = record {
     lab = seen.lab;
     is = record {
-      parts = λ k d k_in. seen.is.parts k d (subst (λ (xs : List A). k < length xs) (sym levelled.only.actors) k_in) ∙ ap (λ (xs : List A). own (get_or xs k d)) levelled.only.actors;
+      parts = λ k d k_in. seen.is.parts k d (subst (λ (xs : List A). k < length xs) (sym levelled.only.actors) k_in)
+          ∙ ap (λ (xs : List A). own (get_or xs k d)) levelled.only.actors;
       channels = λ a b e. seen.is.channels a b (levelled.only.edges a b ∙ e) ∙ ap (λ xs. map (λ x. x.item) xs) (levelled.only.channels a b);
     };
     sees = seen.sees;
   }
 
   module _ (paused : A → List (Deed (Item C)) → A → Type 0) where
-    pub goes_pause : ((old new : A) (ds : List (Deed (Item C))) → paused old ds new → length ds ≤ 1) → LevelGrows own (acts session) → BetweenGrows own (acts session) paused → GrowsOn own (acts session) → RunsGoOn own session → GoesOn own session
-        → (setup : Setup) (k : ℕ) (u l v : View A (Item C)) (answer : Bool) → IsSetup setup → k < length u.actors → Levelled u l → Between own (acts session) paused k l v answer → QuietAt own session setup u → Goes setup u → Goes setup v
+    pub goes_pause : ((old new : A) (ds : List (Deed (Item C))) → paused old ds new → length ds ≤ 1) → LevelGrows own (acts session)
+        → BetweenGrows own (acts session) paused → GrowsOn own (acts session) → RunsGoOn own session → ExtendsAtMark own session
+        → (setup : Setup) (k : ℕ) (u l v : View A (Item C)) (answer : Bool) → IsSetup setup → k < length u.actors → Levelled u l
+        → Between own (acts session) paused k l v answer → QuietAt own session setup u → Goes setup u → Goes setup v
     goes_pause few levels pauses joins goes_on go setup k u l v answer sound k_in levelled did quiet goes =
         let level_clock = levelled.clock in
         let level_size : length l.actors ≡ actors_in setup = ap (λ (xs : List A). length xs) levelled.only.actors ∙ goes.grew.size ∙ goes.size in

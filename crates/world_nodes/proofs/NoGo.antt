@@ -15,9 +15,9 @@ use Rattle.graft_model.specs.declared.event.OperatorEvent.{OperatorEvent}
 use Rattle.graft_model.specs.declared.event.OperatorEvent.TheVariants.{Order, Note, Go}
 use Rattle.graft_model.specs.Steps.{operator_row}
 use Rattle.graft_model.specs.OperatorRows.{OperatorTaken}
-use Rattle.graft_runs.specs.Actors.{ActorPart, RouterIs, FarIs, OperatorIs, Thing, ActorName, Router, FarSide, Operator}
-use Rattle.graft_runs.specs.Makes.{makes_as, numbered, taken_by_operator}
-use Rattle.graft_runs.specs.Laws.{IsGo}
+use Rattle.graft_actors.specs.Actors.{ActorPart, RouterIs, FarIs, OperatorIs, Thing, ActorName, Router, FarSide, Operator}
+use Rattle.graft_actors.specs.Makes.{makes_as, numbered, taken_by_operator}
+use Rattle.graft_actors.specs.Laws.{IsGo}
 use Rattle.graft_actors.specs.Acts.{OwnPart, ActsAs, acts}
 use Rattle.world_runs.specs.Laws.{IsNoGo}
 use Rattle.graft_model.proofs.GoAlone.{router_kind, far_kind}
@@ -32,7 +32,8 @@ no_far_go event e = let apart = far_kind event in grind (arith, nat_tests, apart
 
 -- ---- by their rows: a Go is the operator's, and takes nothing
 
-pub row_go : (setup : Setup) (name : ActorName) (p q : ActorPart) (entry : JournalEntry) (taken : Option (ℕ × Thing)) (sent : List (ℕ × Thing)) → makes_as setup (Some name) p entry taken sent q → IsGo entry
+pub row_go : (setup : Setup) (name : ActorName) (p q : ActorPart) (entry : JournalEntry) (taken : Option (ℕ × Thing)) (sent : List (ℕ × Thing))
+    → makes_as setup (Some name) p entry taken sent q → IsGo entry
     → (name ≡ Operator) × (taken ≡ None)
 row_go setup (Router r) (RouterIs p) (RouterIs q) entry taken sent row go = absurd (no_router_go row.event (sym row.coded.kind ∙ go))
 row_go setup (Router r) (RouterIs p) (FarIs q) entry taken sent row go = absurd row
@@ -66,7 +67,8 @@ module _ {C : Type 0} (session : C → SessionValue) where
   none_mapped f (Some x) e = absurd cc
 
   -- the same of an actor of the program
-  pub act_go : (before after : OwnPart) (entry : JournalEntry) (taken : Option (ℕ × Item C)) (sent : List (ℕ × Item C)) → ActsAs session before entry taken sent after → IsGo entry → (before.name ≡ Operator) × (taken ≡ None)
+  pub act_go : (before after : OwnPart) (entry : JournalEntry) (taken : Option (ℕ × Item C)) (sent : List (ℕ × Item C))
+      → ActsAs session before entry taken sent after → IsGo entry → (before.name ≡ Operator) × (taken ≡ None)
   act_go before after entry taken sent act go = elim (act.does) [
     | inl makes ↦ let row = row_go before.setup before.name before.part after.part entry _ _ makes.row go in (row.0, none_mapped _ taken row.1)
     | inr drops ↦ let h : 0 ≡ (operator_code Go).kind = sym drops.kind ∙ go in absurd (omega (arith, h))
@@ -79,7 +81,8 @@ module _ {C : Type 0} (session : C → SessionValue) where
       (λ go. other (act_go p replay.0 d.entry d.taken d.sent replay.1 go).0, replay_no_go k replay.0 q ds (λ e. other (sym replay.1.name ∙ e)) replay.2)
 
   -- the one event of a take begins no group
-  pub take_no_go : (k : ℕ) (p q : OwnPart) (from : ℕ) (item : Item C) (ds : List (Deed (Item C))) → length ds ≡ 1 → TakesFirst from item ds → Replay (acts session) k p ds q → AllByRecursion IsNoGo ds
+  pub take_no_go : (k : ℕ) (p q : OwnPart) (from : ℕ) (item : Item C) (ds : List (Deed (Item C))) → length ds ≡ 1 → TakesFirst from item ds
+      → Replay (acts session) k p ds q → AllByRecursion IsNoGo ds
   take_no_go k p q from item [] one first replay = absurd first
   take_no_go k p q from item (d ∷ []) one first replay = (λ go. absurd (let h : Some (from, item) ≡ None = sym first.0 ∙ (act_go p replay.0 d.entry d.taken d.sent replay.1 go).1 in cc), tt)
   take_no_go k p q from item (d ∷ e ∷ ds) one first replay = absurd (omega (arith, one))

@@ -13,12 +13,12 @@ use Rattle.graft_steps.specs.declared.rest.Pending.TheVariants.{Script, Graft, C
 use Rattle.session_value.specs.Sessions.{SessionValue}
 use Rattle.graft_model.specs.Setups.{Setup, routers_in, peerings_in}
 use Rattle.graft_model.specs.Parts.{World}
-use Rattle.graft_runs.specs.Actors.{ActorPart, ActorName, Router, FarSide, Operator, MeshItem, IsActor, number_in, actor_at}
-use Rattle.graft_runs.specs.Seen.{part_of, channel_of}
-use Rattle.graft_runs.proofs.Numbers.{there, of_number, at_operator}
+use Rattle.graft_actors.specs.Actors.{ActorPart, ActorName, Router, FarSide, Operator, MeshItem, IsActor, number_in, actor_at}
+use Rattle.graft_actors.specs.Seen.{part_of, channel_of}
+use Rattle.graft_actors.proofs.Numbers.{there, of_number, at_operator}
 use Rattle.graft_actors.specs.Items.{thing_of}
 use Rattle.graft_actors.specs.Acts.{OwnPart}
-use Rattle.settled_check.specs.Worlds.{IsLeft, OnItsWay, AtRouter, AtFarSide, ToOperator, LeftOnItsWay, IsOnItsWay}
+use Rattle.settled_check.specs.Worlds.{IsLeft, OnItsWay, AtRouter, AtFarSide, ToOperator, LeftOnItsWay, HasItemOnItsWay}
 use Rattle.world_runs.specs.Labs.{actors_in}
 use Rattle.world_runs.specs.Runs.{IsSeenAs}
 use Rattle.world_nodes.specs.Edges.{has_channel, talks}
@@ -45,8 +45,10 @@ number_below setup (Router r) l = omega (arith, l)
 number_below setup (FarSide p) l = omega (arith, l)
 number_below setup Operator l = omega arith
 
-own_same : (o : OwnPart) (setup : Setup) (name : ActorName) (part : ActorPart) → o.setup ≡ setup → o.name ≡ name → o.part ≡ part → o ≡ record { setup = setup; name = name; part = part }
-own_same o setup name part e f g = ap (λ s. record { setup = s; name = o.name; part = o.part }) e ∙ ap (λ n. record { setup = setup; name = n; part = o.part }) f ∙ ap (λ p. record { setup = setup; name = name; part = p }) g
+own_same : (o : OwnPart) (setup : Setup) (name : ActorName) (part : ActorPart) → o.setup ≡ setup → o.name ≡ name → o.part ≡ part
+    → o ≡ record { setup = setup; name = name; part = part }
+own_same o setup name part e f g = ap (λ s. record { setup = s; name = o.name; part = o.part }) e
+    ∙ ap (λ n. record { setup = setup; name = n; part = o.part }) f ∙ ap (λ p. record { setup = setup; name = name; part = p }) g
 
 some_of : {A : Type 0} (xs : List A) (k : ℕ) → k < length xs → A
 some_of [] k h = absurd (omega arith)
@@ -62,7 +64,7 @@ no_items f [] e = refl
 no_items f (x ∷ xs) e = absurd cc
 
 -- where nobody talks, nothing is on its way
-silent : (w : World) → ((r : ℕ) → w.mesh r r ≡ []) → (from to : Option ActorName) → talks from to ≡ false → channel_of w from to ≡ []
+pub silent : (w : World) → ((r : ℕ) → w.mesh r r ≡ []) → (from to : Option ActorName) → talks from to ≡ false → channel_of w from to ≡ []
 silent w itself None to e = refl
 silent w itself (Some (Router q)) None e = refl
 silent w itself (Some (FarSide p)) None e = refl
@@ -82,7 +84,8 @@ silent w itself (Some Operator) (Some Operator) e = refl
 
 module _ {A C : Type 0} (own : A → OwnPart) (session : C → SessionValue) (setup : Setup) (v : View A (Item C)) (w : World) (seen : IsSeenAs own session setup v w) (size : length v.actors ≡ actors_in setup) where
   -- each actor's part is that of its name in the world
-  pub part_is : (k : ℕ) (x : ActorName) (a : A) → actor_at setup k ≡ Some x → k < length v.actors → own (get_or v.actors k a) ≡ record { setup = setup; name = x; part = part_of w x }
+  pub part_is : (k : ℕ) (x : ActorName) (a : A) → actor_at setup k ≡ Some x → k < length v.actors
+      → own (get_or v.actors k a) ≡ record { setup = setup; name = x; part = part_of w x }
   part_is k x a is k_in = own_same (own (get_or v.actors k a)) setup x (part_of w x)
       (ap (λ o. o.setup) here ∙ seen.sees.setups k x is) (ap (λ o. o.name) here ∙ seen.sees.names k x is) (ap (λ o. o.part) here ∙ seen.sees.sees.parts k x is)
     where
@@ -90,7 +93,8 @@ module _ {A C : Type 0} (own : A → OwnPart) (session : C → SessionValue) (se
       here = sym (seen.is.parts k a k_in)
 
   -- what holds of the part of one actor
-  pub of_one : (P : OwnPart → Type 0) → Any P (map own v.actors) → (x : ActorName) × IsActor setup x × P (record { setup = setup; name = x; part = part_of w x })
+  pub of_one : (P : OwnPart → Type 0) → Any P (map own v.actors)
+      → (x : ActorName) × IsActor setup x × P (record { setup = setup; name = x; part = part_of w x })
   of_one P any =
       let k_in : any.0 < length v.actors = omega (arith, any.2, length-map v.actors own) in
       let name = somebody setup any.0 (omega (arith, k_in, size)) in
@@ -107,7 +111,8 @@ module _ {A C : Type 0} (own : A → OwnPart) (session : C → SessionValue) (se
   -- ---- what is left to do
 
   module _ (edges : List (ℕ × ℕ)) (viewed : (a b : ℕ) → v.edge a b ≡ is_edge edges a b) (each : (a b : ℕ) → is_edge edges a b ≡ has_channel setup a b) (itself : (r : ℕ) → w.mesh r r ≡ []) where
-    things : (a b : ℕ) → is_edge edges a b ≡ true → map (thing_of session setup) (map (λ (x : Stamped (Item C)). x.item) (v.channel a b)) ≡ channel_of w (actor_at setup a) (actor_at setup b)
+    things : (a b : ℕ) → is_edge edges a b ≡ true
+        → map (thing_of session setup) (map (λ (x : Stamped (Item C)). x.item) (v.channel a b)) ≡ channel_of w (actor_at setup a) (actor_at setup b)
     things a b e = ap (λ items. map (thing_of session setup) items) (sym (seen.is.channels a b (viewed a b ∙ e))) ∙ seen.sees.sees.channels a b
 
     sent_left : (x : Pending) → IsSentOnOne v.channel edges x → IsLeft setup w x
@@ -120,7 +125,7 @@ module _ {A C : Type 0} (own : A → OwnPart) (session : C → SessionValue) (se
             both : (a b : ℕ) → (a == a && b == b) ≡ true
             both a b = grind (arith, nat_tests)
 
-    left_sent : (a b : ℕ) → IsOnItsWay setup w a b → IsSentOnOne v.channel edges (Channel a b)
+    left_sent : (a b : ℕ) → HasItemOnItsWay setup w a b → IsSentOnOne v.channel edges (Channel a b)
     left_sent a b some = by_test (is_edge edges a b) refl
       where
         by_test : (t : Bool) → is_edge edges a b ≡ t → IsSentOnOne v.channel edges (Channel a b)

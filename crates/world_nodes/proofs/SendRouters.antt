@@ -2,7 +2,7 @@
 use denote.RattleType.{RattleType}
 use denote.Param.Send.{IsSend, sendable}
 use Rattle.std.proofs.Crossing.{crosses}
-use Rattle.due_set.specs.contracts.due.DueSet as DueSet
+use Rattle.prefix_set.specs.contracts.due.PrefixSet as PrefixSet
 use Rattle.decision_groups.specs.contracts.ranks.Ranks as Ranks
 use Rattle.decision_groups.specs.contracts.group.Group as Group
 use Rattle.decision_groups.specs.contracts.groups.Groups as Groups
@@ -44,7 +44,7 @@ entry = let r = route in search (sendable, crosses) depth 40
 policy : IsSend Policy.the_row
 policy = search (sendable, crosses, items) depth 40
 
-due_set : IsSend DueSet.the_row
+due_set : IsSend PrefixSet.the_row
 due_set = search (sendable, crosses, table) depth 40
 
 loc_rib : IsSend LocRib.the_row

@@ -8,13 +8,13 @@ use Rattle.ring_net.specs.Phases.{InOrder}
 use Rattle.ring_net.proofs.Replays.{all-append}
 use Rattle.journal_merge.specs.Laws.{GrowsOn, LevelGrows, PhaseGrows, BetweenGrows}
 use Rattle.graft_model.specs.Setups.{Setup, IsSetup, routers_in, peerings_in}
-use Rattle.graft_runs.specs.Actors as names
+use Rattle.graft_actors.specs.Actors as names
 use Rattle.graft_actors.specs.Acts.{acts}
 use Rattle.router_core.specs.Parts.{carried}
 use Rattle.world_runs.specs.Runs.{Ran}
-use Rattle.world_runs.specs.Laws.{IsNoGo, NewNetsRan, RunsGoOn, GoesOn}
+use Rattle.world_runs.specs.Laws.{IsNoGo, NewNetsRan, RunsGoOn, ExtendsAtMark}
 use Rattle.world_nodes.specs.Nodes.{Mail, own, took, turned, paused}
-use Rattle.world_nodes.specs.Ways.{Stand, Begins, Way, Here, Rounds, Groups}
+use Rattle.world_nodes.specs.Ways.{Stand, IsFirstStand, Way, Here, Rounds, Groups}
 use Rattle.world_nodes.specs.declared.node.Node.{Node}
 use Rattle.world_nodes.specs.declared.node.Node.TheVariants.{Router, Far, Operator}
 use Rattle.world_nodes.proofs.NoGo.{replay_no_go, take_no_go}
@@ -46,7 +46,8 @@ tooks_no_go : (old new : Node) (ds : List (Deed Mail)) → Tooks took old ds new
 tooks_no_go old new ds (stays a) = tt
 tooks_no_go old new ds (takes a b c before more from item tooks t) = all-append IsNoGo before more (tooks_no_go a b before tooks) (took_no_go b c from item more t)
 
-pub round_no_go : (k : ℕ) (old new : Node) (before after : ℕ) (notes : List (Noted Mail)) → ActorDid own (acts carried) took turned k old before notes new after → AllByRecursion IsNoGo (deeds notes)
+pub round_no_go : (k : ℕ) (old new : Node) (before after : ℕ) (notes : List (Noted Mail))
+    → ActorDid own (acts carried) took turned k old before notes new after → AllByRecursion IsNoGo (deeds notes)
 round_no_go k old new before after notes did = subst (λ (ds : List (Deed Mail)). AllByRecursion IsNoGo ds) (sym (ap (λ ns. deeds ns) did.split ∙ map-append (λ (n : Noted Mail). n.deed) did.first did.second))
     (all-append IsNoGo (deeds did.first) (deeds did.second) (tooks_no_go old did.mid (deeds did.first) did.tooks) (turned_no_go did.mid new (deeds did.second) did.turn))
 
@@ -65,17 +66,17 @@ pause_few (Operator old) (Far new) ds p = absurd p
 
 -- ---- the way
 
-module _ (new : NewNetsRan own carried) (goes_on : RunsGoOn own carried) (go : GoesOn own carried) (joins : GrowsOn own (acts carried)) (phases : PhaseGrows own (acts carried) took turned)
+module _ (new : NewNetsRan own carried) (goes_on : RunsGoOn own carried) (go : ExtendsAtMark own carried) (joins : GrowsOn own (acts carried)) (phases : PhaseGrows own (acts carried) took turned)
     (levels : LevelGrows own (acts carried)) (pauses : BetweenGrows own (acts carried) paused) where
-  goes : (setup : Setup) (a b : Stand) (rounds : List ℕ) → IsSetup setup → Begins setup a → Way setup a rounds b → Goes own carried setup b.view
+  goes : (setup : Setup) (a b : Stand) (rounds : List ℕ) → IsSetup setup → IsFirstStand setup a → Way setup a rounds b → Goes own carried setup b.view
   goes setup a b rounds sound begins Here = goes_first own carried new setup begins.actors begins.edges a.view begins.first begins.new
   goes setup a c rounds sound begins (Rounds past n {b = b} way round) = goes_round own carried took turned round_no_go phases joins setup b.view c.view round.phase (goes setup a b (past ++ n ∷ []) sound begins way)
   goes setup a c rounds sound begins (Groups before {b = b} way quiet pause) =
       let at = goes setup a b before sound begins way in
       goes_pause own carried paused pause_few levels pauses joins goes_on go setup (routers_in setup + peerings_in setup) b.view pause.level c.view true sound (omega (arith, at.grew.size, at.size)) pause.levelled pause.between quiet at
 
-  pub way_ran : (setup : Setup) (a b : Stand) (rounds : List ℕ) → IsSetup setup → Begins setup a → Way setup a rounds b → Ran own carried setup b.view
+  pub way_ran : (setup : Setup) (a b : Stand) (rounds : List ℕ) → IsSetup setup → IsFirstStand setup a → Way setup a rounds b → Ran own carried setup b.view
   way_ran setup a b rounds sound begins way = goes_ran own carried goes_on setup b.view sound (goes setup a b rounds sound begins way)
 
-  pub way_ordered : (setup : Setup) (a b : Stand) (rounds : List ℕ) → IsSetup setup → Begins setup a → Way setup a rounds b → InOrder b.view
+  pub way_ordered : (setup : Setup) (a b : Stand) (rounds : List ℕ) → IsSetup setup → IsFirstStand setup a → Way setup a rounds b → InOrder b.view
   way_ordered setup a b rounds sound begins way = (goes setup a b rounds sound begins way).ordered

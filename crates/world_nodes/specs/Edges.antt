@@ -3,7 +3,7 @@ use Rattle.std.specs.Prelude.{ℕ, ◌≡◌, ◌≤◌, ◌==◌, ◌&&◌, ◌
 use Rattle.ring_net.specs.Phases.{is_edge}
 use Rattle.ring_net.specs.Fresh.{AreEdges}
 use Rattle.graft_model.specs.Setups.{Setup, routers_in, peerings_in}
-use Rattle.graft_runs.specs.Actors.{ActorName, Router, FarSide, Operator, actor_at}
+use Rattle.graft_actors.specs.Actors.{ActorName, Router, FarSide, Operator, actor_at}
 use Rattle.world_runs.specs.Labs.{actors_in}
 
 -- Each way between two routers, between a router and a far side, and between a router and the operator, and from the operator to each far side.

@@ -1,6 +1,6 @@
 pub mod Nodes
 pub mod Edges
 pub mod Ways
-pub mod Courses
+pub mod RunningLabs
 pub mod Looks
 pub mod Fresh

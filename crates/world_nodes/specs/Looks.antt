@@ -8,7 +8,7 @@ use Rattle.graft_steps.specs.declared.rest.Pending.TheVariants.{Channel}
 use Rattle.graft_model.specs.Setups.{Setup, routers_in}
 use Rattle.graft_model.specs.Parts.{World}
 use Rattle.graft_laws.specs.Keeps.{Reached}
-use Rattle.graft_runs.specs.Actors.{ActorPart, RouterIs, FarIs, OperatorIs, ActorName, Router, FarSide, Operator}
+use Rattle.graft_actors.specs.Actors.{ActorPart, RouterIs, FarIs, OperatorIs, ActorName, Router, FarSide, Operator}
 use Rattle.graft_actors.specs.Acts.{OwnPart}
 use Rattle.router_core.specs.Parts.{carried}
 use Rattle.router_core.specs.Updates.{IsStuckAt}
@@ -45,8 +45,8 @@ abbrev pub IsStuckWith : OwnPart → ℕ → ℕ → Type 0
 IsStuckWith actor p n = IsStuckBy actor.setup actor.name actor.part p n
 
 -- a peering and a length, as numbers
-abbrev pub numbers : Option (PeeringId × ℕ) → Option (ℕ × ℕ)
-numbers answer = option_map (λ x. (x.0.0, x.1)) answer
+abbrev pub as_numbers : Option (PeeringId × ℕ) → Option (ℕ × ℕ)
+as_numbers answer = option_map (λ x. (x.0.0, x.1)) answer
 
 abbrev pub IsOneOf : Option (ℕ × ℕ) → Option (ℕ × ℕ) → ℕ → ℕ → Type 0
 IsOneOf one other p n = (one ≡ Some (p, n)) ⊎ (other ≡ Some (p, n))

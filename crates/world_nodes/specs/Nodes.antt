@@ -16,34 +16,34 @@ abbrev pub Mail : Type 0
 Mail = Item RunningSession
 
 abbrev pub own : Node → OwnPart
-own (Router router) = routers.own router
-own (Far far) = fars.own far
+own (Router router) = routers.router_own_part router
+own (Far far) = fars.far_own_part far
 own (Operator operator) = operators.own_part operator
 
 -- ---- calls
 
 -- the events lead from the actor's old value to its new one
-abbrev pub Leads : Node → List (Deed Mail) → Node → Type 0
-Leads old deeds new = Replay (acts carried) 0 (own old) deeds (own new)
+abbrev pub DeedsLead : Node → List (Deed Mail) → Node → Type 0
+DeedsLead old deeds new = Replay (acts carried) 0 (own old) deeds (own new)
 
 -- what each kind of actor promises of a take, and of a turn
 abbrev pub TookBy : Node → ℕ → Mail → List (Deed Mail) → Node → Type 0
-TookBy (Router old) from item deeds (Router new) = routers.took old from item deeds new
-TookBy (Far old) from item deeds (Far new) = fars.took old from item deeds new
-TookBy (Operator old) from item deeds (Operator new) = operators.took old from item deeds new
+TookBy (Router old) from item deeds (Router new) = routers.took_by_router old from item deeds new
+TookBy (Far old) from item deeds (Far new) = fars.took_by_far old from item deeds new
+TookBy (Operator old) from item deeds (Operator new) = operators.took_by_operator old from item deeds new
 TookBy old from item deeds new = ⊥
 
 abbrev pub TurnedBy : Node → List (Deed Mail) → Node → Type 0
-TurnedBy (Router old) deeds (Router new) = routers.turned old deeds new
-TurnedBy (Far old) deeds (Far new) = fars.turned old deeds new
-TurnedBy (Operator old) deeds (Operator new) = operators.Turned old deeds new
+TurnedBy (Router old) deeds (Router new) = routers.turned_by_router old deeds new
+TurnedBy (Far old) deeds (Far new) = fars.turned_by_far old deeds new
+TurnedBy (Operator old) deeds (Operator new) = operators.OperatorTurned old deeds new
 TurnedBy old deeds new = ⊥
 
 abbrev pub took : Node → ℕ → Mail → List (Deed Mail) → Node → Type 0
-took old from item deeds new = TookBy old from item deeds new × TakesFirst from item deeds × Leads old deeds new
+took old from item deeds new = TookBy old from item deeds new × TakesFirst from item deeds × DeedsLead old deeds new
 
 abbrev pub turned : Node → List (Deed Mail) → Node → Type 0
-turned old deeds new = TurnedBy old deeds new × Leads old deeds new
+turned old deeds new = TurnedBy old deeds new × DeedsLead old deeds new
 
 -- routers and far sides do nothing at a mark
 abbrev pub paused : Node → List (Deed Mail) → Node → Type 0
@@ -54,6 +54,6 @@ paused old deeds new = ⊥
 
 -- memory never ran out in one of its calls
 abbrev pub Works : Node → Type 0
-Works (Router router) = routers.Works router
+Works (Router router) = routers.RouterWorks router
 Works (Far far) = Unit {0}
 Works (Operator operator) = Unit {0}

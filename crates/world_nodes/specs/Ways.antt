@@ -1,10 +1,10 @@
 -- The way of a laboratory's net: rounds, each with a mark at its end, and the beginnings of groups.
 use Rattle.std.specs.Prelude.{ℕ, ◌≡◌, ◌+◌, List, [], ◌∷◌, ◌++◌, true, Bool}
-use Rattle.ring_net.specs.Phases.{View, IsNew, Marked, Levelled, Phase, Between}
+use Rattle.ring_net.specs.Phases.{View, IsNewNet, Marked, Levelled, NetPhase, Between}
 use Rattle.graft_actors.specs.Acts.{acts}
 use Rattle.graft_model.specs.Setups.{Setup, routers_in, peerings_in}
 use Rattle.router_core.specs.Parts.{carried}
-use Rattle.world_runs.specs.Labs.{AreFirst}
+use Rattle.world_runs.specs.Labs.{AreFirstActors}
 use Rattle.world_runs.specs.Runs.{QuietAt}
 use Rattle.world_nodes.specs.Edges.{AreEdgesOf}
 use Rattle.world_nodes.specs.Nodes.{Mail, own, took, turned, paused}
@@ -16,17 +16,17 @@ pub record Stand : Type 0 where
   pub marks : List (List ℕ)
 
 -- The stand at the beginning: all actors of the laboratory as they begin, with its edges, and one mark, of empty journals.
-pub record Begins (setup : Setup) (a : Stand) : Type 0 where
+pub record IsFirstStand (setup : Setup) (a : Stand) : Type 0 where
   pub actors : List Node
   pub edges : List (ℕ × ℕ)
-  pub first : AreFirst own setup actors
+  pub first : AreFirstActors own setup actors
   pub are_edges : AreEdgesOf setup edges
-  pub new : IsNew actors edges a.view
+  pub new : IsNewNet actors edges a.view
   pub marked : Marked a.view [] a.marks
 
 -- One round: each actor takes what comes and makes its turn, and a mark follows.
 pub record Round (a b : Stand) : Type 0 where
-  pub phase : Phase own (acts carried) took turned a.view b.view
+  pub phase : NetPhase own (acts carried) took turned a.view b.view
   pub marked : Marked b.view a.marks b.marks
 
 -- At a mark all clocks are levelled, and the operator, which is the last actor, begins the next group or doesn't.
@@ -41,4 +41,5 @@ pub record Pause (k : ℕ) (a b : Stand) (answer : Bool) : Type 0 where
 pub data Way (setup : Setup) (a : Stand) : List ℕ → Stand → Type 0 where
   Here : Way setup a (0 ∷ []) a
   Rounds : (past : List ℕ) (n : ℕ) {b c : Stand} → Way setup a (past ++ n ∷ []) b → Round b c → Way setup a (past ++ (n + 1) ∷ []) c
-  Groups : (rounds : List ℕ) {b c : Stand} → Way setup a rounds b → QuietAt own carried setup b.view → Pause (routers_in setup + peerings_in setup) b c true → Way setup a (rounds ++ 0 ∷ []) c
+  Groups : (rounds : List ℕ) {b c : Stand} → Way setup a rounds b → QuietAt own carried setup b.view
+      → Pause (routers_in setup + peerings_in setup) b c true → Way setup a (rounds ++ 0 ∷ []) c

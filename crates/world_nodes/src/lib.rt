@@ -2,12 +2,12 @@
 //! them at a mark.
 #![tactic(auto)]
 
-mod course;
 mod edges;
 mod laws;
 mod looks;
 mod node;
+mod running_lab;
 
-pub use course::Course;
 pub use laws::the_way_is_a_run;
 pub use node::Node;
+pub use running_lab::RunningLab;

@@ -5,7 +5,7 @@ ghost use Rattle.std.specs.List.{AllByRecursion};
 ghost use Rattle.ring_net.specs.Shown.{view};
 ghost use Rattle.settled_check.specs.Firsts.{IsFirstOf};
 ghost use Rattle.world_nodes.specs.Nodes.{Works, own};
-ghost use Rattle.world_nodes.specs.Looks.{IsLeftToOne, IsLeftWith, IsLowest, IsOneOf, IsSentOnOne, IsStuckAtOne, IsStuckWith, numbers};
+ghost use Rattle.world_nodes.specs.Looks.{IsLeftToOne, IsLeftWith, IsLowest, IsOneOf, IsSentOnOne, IsStuckAtOne, IsStuckWith, as_numbers};
 
 use crate::node::Node;
 use graft_edge::{NoMemory, PeeringId};
@@ -16,7 +16,7 @@ use settled_check::{far_rest, first_pending, operator_rest, rests_tell_what_is_l
 /// Returns the lowest peering of an actor whose session is stuck, with the length that its stream would have with its
 /// next message.
 fn stuck_at(node: &Node) -> Result<Option<(PeeringId, usize)>, NoMemory>
-    ensures { IfOk result (λ answer. IsLowest (IsStuckWith (own node.now)) (numbers answer)) }
+    ensures { IfOk result (λ answer. IsLowest (IsStuckWith (own node.now)) (as_numbers answer)) }
 {
     match node {
         Node::Router(router) => router.stuck(),
@@ -29,7 +29,7 @@ fn lower(
     one: Option<(PeeringId, usize)>,
     other: Option<(PeeringId, usize)>,
 ) -> Option<(PeeringId, usize)>
-    ensures { IsLowest (IsOneOf (numbers one) (numbers other)) (numbers result) }
+    ensures { IsLowest (IsOneOf (as_numbers one) (as_numbers other)) (as_numbers result) }
 {
     match (one, other) {
         (Some(one), Some(other)) => Some(if other.0.0 < one.0.0 { other } else { one }),
@@ -44,7 +44,7 @@ pub(crate) fn stuck_up_to(
     count: usize,
 ) -> Result<Option<(PeeringId, usize)>, NoMemory>
     requires { count ≤ length (view net.now).actors }
-    ensures { IfOk result (λ answer. IsLowest (IsStuckAtOne (take count (map own (view net.now).actors))) (numbers answer)) }
+    ensures { IfOk result (λ answer. IsLowest (IsStuckAtOne (take count (map own (view net.now).actors))) (as_numbers answer)) }
 {
     let mut lowest = None;
     for k in 0..count {

@@ -13,10 +13,10 @@ use Rattle.graft_model.specs.Setups.{Setup}
 use Rattle.graft_model.specs.Parts.{World}
 use Rattle.graft_model.specs.Quiet.{Quiet}
 use Rattle.graft_laws.specs.Facts.{NothingIsDropped}
-use Rattle.graft_runs.specs.Actors.{Thing, ActorName, actor_at}
-use Rattle.graft_runs.specs.Makes.{makes}
-use Rattle.graft_runs.specs.Seen.{part_of}
-use Rattle.graft_runs.specs.Laws.{IsGo, AnEventIsAStep, IsStepOf}
+use Rattle.graft_actors.specs.Actors.{Thing, ActorName, actor_at}
+use Rattle.graft_actors.specs.Makes.{makes}
+use Rattle.graft_actors.specs.Seen.{part_of}
+use Rattle.graft_actors.specs.Laws.{IsGo, AnEventIsAStep, IsStepOf}
 use Rattle.graft_actors.specs.Items.{thing_of}
 use Rattle.graft_actors.specs.Acts.{OwnPart, TakesWelcome, SendsFit, ActsAs, acts, things}
 use Rattle.world_runs.specs.Labs.{IsLab, net_of}
@@ -26,7 +26,8 @@ use Rattle.world_runs.proofs.Goes.{after_goes}
 
 -- ---- items as things
 
-map_more : {A B : Type 0} (f : A → B) (t : Bool) (x : A) (xs : List A) (ys : List B) → map f xs ≡ ys → map f (if t then x ∷ xs else xs) ≡ (if t then f x ∷ ys else ys)
+map_more : {A B : Type 0} (f : A → B) (t : Bool) (x : A) (xs : List A) (ys : List B) → map f xs ≡ ys
+    → map f (if t then x ∷ xs else xs) ≡ (if t then f x ∷ ys else ys)
 map_more f true x xs ys e = ap (λ zs. f x ∷ zs) e
 map_more f false x xs ys e = e
 
@@ -60,12 +61,13 @@ module _ {C : Type 0} (session : C → SessionValue) (setup : Setup) where
 
 -- what actors do with what is welcome are events by their rows
 abbrev pub RowsAreEvents : {C : Type 0} (session : C → SessionValue) → Type 0
-RowsAreEvents {C} session = (n : ℕ) (before after : OwnPart) (entry : JournalEntry) (taken : Option (ℕ × Item C)) (sent : List (ℕ × Item C)) → actor_at before.setup n ≡ Some before.name
+RowsAreEvents {C} session = (n : ℕ) (before after : OwnPart) (entry : JournalEntry) (taken : Option (ℕ × Item C)) (sent : List (ℕ × Item C))
+    → actor_at before.setup n ≡ Some before.name
     → ActsAs session before entry taken sent after → TakesWelcome session before taken
     → makes before.setup n before.part entry (option_map (λ x. (x.0, thing_of session before.setup x.1)) taken) (things session before.setup sent) after.part
 
-module _ {C : Type 0} (session : C → SessionValue) (rows : RowsAreEvents session) (event_is_a_step : AnEventIsAStep) (setup : Setup) (lab next : worlds.World OwnPart (Item C)) (deed : Deed (Item C)) (w : World) (x : ActorName)
-    (nothing : NothingIsDropped setup w) (is_lab : IsLab session setup lab w) (is : actor_at setup deed.entry.actor ≡ Some x) (step : worlds.Step (acts session) lab deed next) where
+module _ {C : Type 0} (session : C → SessionValue) (rows : RowsAreEvents session) (event_is_a_step : AnEventIsAStep) (setup : Setup) (lab next : worlds.DeedWorld OwnPart (Item C)) (deed : Deed (Item C)) (w : World) (x : ActorName)
+    (nothing : NothingIsDropped setup w) (is_lab : IsLab session setup lab w) (is : actor_at setup deed.entry.actor ≡ Some x) (step : worlds.DeedStep (acts session) lab deed next) where
   acted : ActsAs session (record { setup = setup; name = x; part = part_of w x }) deed.entry deed.taken deed.sent (next.part deed.entry.actor)
   acted = subst (λ (own : OwnPart). ActsAs session own deed.entry deed.taken deed.sent (next.part deed.entry.actor)) (own_is session setup lab w is_lab deed.entry.actor x is) step.made
 
@@ -74,7 +76,7 @@ module _ {C : Type 0} (session : C → SessionValue) (rows : RowsAreEvents sessi
       (sym (own_is session setup lab w is_lab deed.entry.actor x is))
       (rows deed.entry.actor (record { setup = setup; name = x; part = part_of w x }) (next.part deed.entry.actor) deed.entry deed.taken deed.sent is acted (takes_welcome session setup lab w nothing is_lab deed x is step.rest step.takes))
 
-  step_of_things : worlds.Step (makes setup) (net_of session setup lab) (in_things session setup deed) (net_of session setup next)
+  step_of_things : worlds.DeedStep (makes setup) (net_of session setup lab) (in_things session setup deed) (net_of session setup next)
   step_of_things = record {
     made = made;
     others = λ k ne. ap (λ (own : OwnPart). own.part) (step.others k ne);

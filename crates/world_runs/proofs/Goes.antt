@@ -8,7 +8,7 @@ use Rattle.graft_steps.specs.declared.item.Item.{Item}
 use Rattle.session_value.specs.Sessions.{SessionValue}
 use Rattle.graft_model.specs.Setups.{Setup}
 use Rattle.graft_laws.proofs.Lists.{all_back, all_join}
-use Rattle.graft_runs.specs.Actors.{ActorPart, ActorName, actor_at}
+use Rattle.graft_actors.specs.Actors.{ActorPart, ActorName, actor_at}
 use Rattle.graft_actors.specs.Items.{MayGo}
 use Rattle.graft_actors.specs.Acts.{SendsFit}
 use Rattle.world_runs.specs.Labs.{AllMayGo}
@@ -38,16 +38,20 @@ module _ {C : Type 0} (session : C → SessionValue) (setup : Setup) where
   goes_back (Some from) (Some to) xs ys goes = all_back (MayGo session setup from to) xs ys goes
   goes_back o q xs ys goes = none_behind xs ys goes
 
-  goes_join : (o q : Option ActorName) (xs ys : List (Item C)) → AllMayGo session setup o q xs → AllMayGo session setup o q ys → AllMayGo session setup o q (xs ++ ys)
+  goes_join : (o q : Option ActorName) (xs ys : List (Item C)) → AllMayGo session setup o q xs → AllMayGo session setup o q ys
+      → AllMayGo session setup o q (xs ++ ys)
   goes_join (Some from) (Some to) xs ys first second = all_join (MayGo session setup from to) xs ys first second
   goes_join o q xs ys first second = ap (λ (items : List (Item C)). items ++ ys) first ∙ second
 
-  goes_more : (from to : ActorName) (q : Option ActorName) (item : Item C) (items : List (Item C)) → q ≡ Some to → MayGo session setup from to item → AllMayGo session setup (Some from) q items
+  goes_more : (from to : ActorName) (q : Option ActorName) (item : Item C) (items : List (Item C)) → q ≡ Some to → MayGo session setup from to item
+      → AllMayGo session setup (Some from) q items
       → AllMayGo session setup (Some from) q (item ∷ items)
   goes_more from to None item items e may goes = absurd cc
   goes_more from to (Some other) item items e may goes = let same : to ≡ other = cc in (subst (λ (name : ActorName). MayGo session setup from name item) same may, goes)
 
-  sent_goes : (name : ActorName) (part : ActorPart) (b : ℕ) (sent : List (ℕ × Item C)) → SendsFit session (record { setup = setup; name = name; part = part }) sent → AllMayGo session setup (Some name) (actor_at setup b) (items_for b sent)
+  sent_goes : (name : ActorName) (part : ActorPart) (b : ℕ) (sent : List (ℕ × Item C))
+      → SendsFit session (record { setup = setup; name = name; part = part }) sent
+      → AllMayGo session setup (Some name) (actor_at setup b) (items_for b sent)
   sent_goes name part b [] fit = nothing_goes (Some name) (actor_at setup b)
   sent_goes name part b (x ∷ sent) fit = elim (equal_or_not x.0 b) [
     | inl e ↦ subst (AllMayGo session setup (Some name) (actor_at setup b)) (sym (items_here b x sent e))
@@ -65,7 +69,8 @@ module _ {C : Type 0} (session : C → SessionValue) (setup : Setup) where
     ]
 
     -- what is on its way after the deed may go there
-    pub after_goes : (a b : ℕ) (taken was rest now : List (Item C)) → was ≡ taken ++ rest → now ≡ rest ++ sends_on deed a b → AllMayGo session setup (actor_at setup a) (actor_at setup b) was
+    pub after_goes : (a b : ℕ) (taken was rest now : List (Item C)) → was ≡ taken ++ rest → now ≡ rest ++ sends_on deed a b
+        → AllMayGo session setup (actor_at setup a) (actor_at setup b) was
         → AllMayGo session setup (actor_at setup a) (actor_at setup b) now
     after_goes a b taken was rest now before after goes = subst (AllMayGo session setup (actor_at setup a) (actor_at setup b)) (sym after)
         (goes_join (actor_at setup a) (actor_at setup b) rest (sends_on deed a b)

@@ -15,7 +15,7 @@ use Rattle.graft_model.proofs.Footprints.{Footprint, Deciding, Telling, Hearing,
 use Rattle.graft_model.specs.Steps.{Heads, Event, ByRouter, ByFar, ByOperator, Step, router_row}
 use Rattle.graft_laws.specs.Phases.{Moving, Confirmed, Returning, Phase, Busy, only2, mesh_by, InBounds}
 use Rattle.graft_laws.specs.Moves.{mesh_taken, mesh_sent, RouterHeads, RouterMoves}
-use Rattle.graft_laws.specs.Owned.{mesh_of, Owned}
+use Rattle.graft_laws.specs.Owned.{mesh_items_on, Owned}
 use Rattle.graft_laws.specs.Keeps.{Reached}
 use Rattle.graft_laws.proofs.Lists.{all_moves}
 use Rattle.graft_laws.proofs.Moves.{router_moves, far_moves, operator_moves}
@@ -72,7 +72,8 @@ module _ (setup : Setup) (r : ℕ) (before : RouterPart) (taken : Option RouterT
   IsUnasked = (k p : ℕ) → taken ≡ Some (MeshIn r (Asked k p)) → ⊥
 
   -- one item at most is sent beside tellings, and it is none
-  silent_untold : (event : RouterEvent) (items : List RouterSent) → IsUnasked → SendsNoTelling setup r event before taken after items → AreUntold (mesh_sent r items r r)
+  silent_untold : (event : RouterEvent) (items : List RouterSent) → IsUnasked → SendsNoTelling setup r event before taken after items
+      → AreUntold (mesh_sent r items r r)
   silent_untold event [] unasked silent = tt
   silent_untold event (MeshTo q (Told x route) ∷ []) unasked silent = absurd silent
   silent_untold event (MeshTo q (Moved k p s) ∷ []) unasked silent = one_untold r q (Moved k p s) tt
@@ -130,7 +131,7 @@ graft_nowhere setup (Busy q k t Confirmed) p s r bounds = apart_nowhere t q r (D
 graft_nowhere setup (Busy q k t (Returning refusal)) p s r bounds = apart_nowhere t q r (Back k p s refusal) (λ e. bounds.2 (sym e))
 graft_nowhere setup phase p s r bounds = refl
 
-of_nobody : (items : List Mesh) → AreUntold items → ((p : ℕ) → mesh_of p items ≡ []) → items ≡ []
+of_nobody : (items : List Mesh) → AreUntold items → ((p : ℕ) → mesh_items_on p items ≡ []) → items ≡ []
 of_nobody [] untold none = refl
 of_nobody (Told prefix route ∷ items) untold none = absurd untold.0
 of_nobody (Moved k p s ∷ items) untold none = absurd (let e = none p in grind (arith, nat_tests))
@@ -144,7 +145,7 @@ nobody_writes_to_itself setup w r sound reached = of_nobody (w.mesh r r) (carrie
   owned : Owned setup w
   owned = always_owned setup sound w reached
 
-  no_graft : (p : ℕ) → mesh_of p (w.mesh r r) ≡ []
+  no_graft : (p : ℕ) → mesh_items_on p (w.mesh r r) ≡ []
   no_graft p = elim (below_or_past p (peerings_in setup)) [
     | inl below ↦ (let h = owned.peerings p below in h.stands.mesh r r ∙ graft_nowhere setup h.phase p h.session r h.stands.bounds)
     | inr past ↦ (owned.no_others p past).mesh r r

@@ -5,3 +5,6 @@ mod Runs
 mod Nets
 mod OnTheWay
 mod Itself
+pub mod Marks
+pub mod Groups
+pub mod Seen

@@ -6,7 +6,7 @@ use Rattle.std.proofs.lemmas.Option.{slice_get-get_or, slice_get_within}
 use Rattle.ring_net.specs.declared.entry.JournalEntry.{JournalEntry}
 use Rattle.ring_net.specs.declared.entry.Stamped.{Stamped}
 use Rattle.ring_net.specs.Deeds.{Deed, Noted, deeds, noted, entries_of}
-use Rattle.ring_net.specs.Phases.{View, IsNew, InOrder, AllAt}
+use Rattle.ring_net.specs.Phases.{View, IsNewNet, InOrder, AllAt}
 use Rattle.ring_net.proofs.Replays.{deeds_noted, entries_deeds}
 use Rattle.journal_merge.specs.Worlds as worlds
 use Rattle.journal_merge.specs.Merges.{Interleaves, IsCut, entries_by}
@@ -23,12 +23,12 @@ use Rattle.graft_model.specs.Quiet.{Quiet}
 use Rattle.graft_model.specs.First.{first_far, first_world}
 use Rattle.graft_laws.specs.Keeps.{Reached}
 use Rattle.graft_laws.proofs.First.{some_peering}
-use Rattle.graft_runs.specs.Actors.{FarIs, OperatorIs, ActorName, Router, FarSide, Operator, number_in, IsActor, actor_at}
-use Rattle.graft_runs.specs.Seen.{Net, Sees, IsFirst, part_of}
-use Rattle.graft_runs.specs.Laws.{AreEntriesOf}
-use Rattle.graft_runs.proofs.Numbers.{of_number}
+use Rattle.graft_actors.specs.Actors.{FarIs, OperatorIs, ActorName, Router, FarSide, Operator, number_in, IsActor, actor_at}
+use Rattle.graft_actors.specs.Seen.{Net, Sees, IsFirstNet, part_of}
+use Rattle.graft_actors.specs.Laws.{AreEntriesOf}
+use Rattle.graft_actors.proofs.Numbers.{of_number}
 use Rattle.graft_actors.specs.Acts.{OwnPart, acts}
-use Rattle.world_runs.specs.Labs.{actors_in, IsLab, AreFirst, net_of}
+use Rattle.world_runs.specs.Labs.{actors_in, IsLab, AreFirstActors, net_of}
 use Rattle.world_runs.specs.Runs.{IsStepOfLab, IsRunOfLab, IsSeenAs, RanAs, Ran, QuietAt}
 use Rattle.world_runs.specs.Laws.{IsNoGo, AnActIsAStep}
 use Rattle.world_runs.proofs.Goes.{nothing_goes}
@@ -91,10 +91,11 @@ module _ {A C : Type 0} (own : A → OwnPart) (session : C → SessionValue) (se
   own_or (Some a) = own a
 
   -- the laboratory of these actors, with nothing on its way
-  abbrev first_lab : List A → worlds.World OwnPart (Item C)
+  abbrev first_lab : List A → worlds.DeedWorld OwnPart (Item C)
   first_lab actors = record { part = λ n. own_or (slice_get actors n); channel = λ a b. [] }
 
-  first_own : (actors : List A) → AreFirst own setup actors → (x : ActorName) (d : A) → IsActor setup x → own (slice_index_or actors (number_in setup x) d) ≡ record { setup = setup; name = x; part = part_of (first_world setup) x }
+  first_own : (actors : List A) → AreFirstActors own setup actors → (x : ActorName) (d : A) → IsActor setup x
+      → own (slice_index_or actors (number_in setup x) d) ≡ record { setup = setup; name = x; part = part_of (first_world setup) x }
   first_own actors first (Router r) d there = first.routers r d there
   first_own actors first (FarSide p) d there = let h = some_peering setup p there in
       subst (λ (o : Option PeeringSetup). own (slice_index_or actors (routers_in setup + p) d) ≡ record { setup = setup; name = FarSide p; part = FarIs (first_far o) }) (sym h.1) (first.far_sides p d h.0 h.1)
@@ -105,29 +106,32 @@ module _ {A C : Type 0} (own : A → OwnPart) (session : C → SessionValue) (se
   actor_within (FarSide p) there = omega (arith, there)
   actor_within Operator there = omega arith
 
-  module _ (actors : List A) (first : AreFirst own setup actors) where
+  module _ (actors : List A) (first : AreFirstActors own setup actors) where
     part_is : (n : ℕ) (d : A) → n < length actors → own_or (slice_get actors n) ≡ own (slice_index_or actors n d)
     unfolding own_or
     part_is n d below = ap own_or (slice_get-get_or actors n d below)
 
-    named : (x : ActorName) → IsActor setup x → (first_lab actors).part (number_in setup x) ≡ record { setup = setup; name = x; part = part_of (first_world setup) x }
+    named : (x : ActorName) → IsActor setup x
+        → (first_lab actors).part (number_in setup x) ≡ record { setup = setup; name = x; part = part_of (first_world setup) x }
     named x there =
         let below : number_in setup x < length actors = omega (arith, actor_within x there, first.all) in
         let d : A = some_item actors (number_in setup x) below in
         part_is (number_in setup x) d below ∙ first_own actors first x d there
 
-    first_part : (n : ℕ) (x : ActorName) → actor_at setup n ≡ Some x → (first_lab actors).part n ≡ record { setup = setup; name = x; part = part_of (first_world setup) x }
+    first_part : (n : ℕ) (x : ActorName) → actor_at setup n ≡ Some x
+        → (first_lab actors).part n ≡ record { setup = setup; name = x; part = part_of (first_world setup) x }
     first_part n x e = let h = of_number setup n x e in ap (first_lab actors).part h.1 ∙ named x h.0
 
-    is_first : IsFirst setup (net_of session setup (first_lab actors))
+    is_first : IsFirstNet setup (net_of session setup (first_lab actors))
     is_first = record {
       routers = λ r there. ap (λ (o : OwnPart). o.part) (named (Router r) there);
-      far_sides = λ p peering e. ap (λ (o : OwnPart). o.part) (named (FarSide p) (slice_get_within setup.peerings p peering e)) ∙ ap (λ (o : Option PeeringSetup). FarIs (first_far o)) e;
+      far_sides = λ p peering e. ap (λ (o : OwnPart). o.part) (named (FarSide p) (slice_get_within setup.peerings p peering e))
+          ∙ ap (λ (o : Option PeeringSetup). FarIs (first_far o)) e;
       operator = ap (λ (o : OwnPart). o.part) (named Operator tt);
       channels = λ a b. refl;
     }
 
-    first_is_lab : ((net : Net) → IsFirst setup net → Sees setup net (first_world setup)) → IsLab session setup (first_lab actors) (first_world setup)
+    first_is_lab : ((net : Net) → IsFirstNet setup net → Sees setup net (first_world setup)) → IsLab session setup (first_lab actors) (first_world setup)
     first_is_lab begins = record {
       setups = λ n x e. ap (λ (o : OwnPart). o.setup) (first_part n x e);
       names = λ n x e. ap (λ (o : OwnPart). o.name) (first_part n x e);
@@ -135,7 +139,9 @@ module _ {A C : Type 0} (own : A → OwnPart) (session : C → SessionValue) (se
       sees = begins (net_of session setup (first_lab actors)) is_first;
     }
 
-  pub new_ran : ((net : Net) → IsFirst setup net → Sees setup net (first_world setup)) → (actors : List A) (edges : List (ℕ × ℕ)) (v : View A (Item C)) → AreFirst own setup actors → IsNew actors edges v → Ran own session setup v
+  pub new_ran : ((net : Net) → IsFirstNet setup net → Sees setup net (first_world setup))
+      → (actors : List A) (edges : List (ℕ × ℕ)) (v : View A (Item C)) → AreFirstActors own setup actors → IsNewNet actors edges v
+      → Ran own session setup v
   new_ran begins actors edges v first new merged merge = record {
     events = [];
     entries_of = subst (AreEntriesOf setup []) (sym (no_entries v.journal merged new.journals merge)) tt;
@@ -156,10 +162,13 @@ module _ {A C : Type 0} (own : A → OwnPart) (session : C → SessionValue) (se
 module _ {A C : Type 0} (own : A → OwnPart) (session : C → SessionValue) (setup : Setup) (u v : View A (Item C)) (levels : List ℕ) (notes : ℕ → List (Noted (Item C))) where
   -- the deeds of a piece are a run of the world, from wherever the net is seen as a laboratory of a world that a run leads to
   abbrev IsRunAfter : Type 0
-  IsRunAfter = (lab last : worlds.World OwnPart (Item C)) (events : List (Noted (Item C))) (w : World) → IsSeenAs own session setup u w → IsLab session setup lab w → Reached setup w
-      → ((k : ℕ) → noted_by k events ≡ notes k) → worlds.Run (acts session) lab (deeds events) last → IsRunOfLab session setup w (map (λ (d : Deed (Item C)). d.entry) (deeds events)) last
+  IsRunAfter = (lab last : worlds.DeedWorld OwnPart (Item C)) (events : List (Noted (Item C))) (w : World) → IsSeenAs own session setup u w
+      → IsLab session setup lab w → Reached setup w
+      → ((k : ℕ) → noted_by k events ≡ notes k) → worlds.DeedRun (acts session) lab (deeds events) last
+      → IsRunOfLab session setup w (map (λ (d : Deed (Item C)). d.entry) (deeds events)) last
 
-  ran_after : (clock : ℕ) → InOrder u → AllAt u clock → Grew own (acts session) u v levels notes → IsRunAfter → Ran own session setup u → Ran own session setup v
+  ran_after : (clock : ℕ) → InOrder u → AllAt u clock → Grew own (acts session) u v levels notes → IsRunAfter → Ran own session setup u
+      → Ran own session setup v
   ran_after clock order level grew more ran merged merge =
       let cut : IsCut u.journal (λ k. entries_of (notes k)) merged = cuts_at_level own (acts session) u v levels notes clock merged order level grew merge in
       let r : RanAs own session setup cut.front u = ran cut.front cut.first in
@@ -176,7 +185,8 @@ module _ {A C : Type 0} (own : A → OwnPart) (session : C → SessionValue) (se
       }
 
 module _ {A C : Type 0} (own : A → OwnPart) (session : C → SessionValue) (act_is_a_step : AnActIsAStep session) (setup : Setup) (sound : IsSetup setup) (u v : View A (Item C)) (size : length u.actors ≡ actors_in setup) (levels : List ℕ) where
-  pub runs_go_on : (notes : ℕ → List (Noted (Item C))) (clock : ℕ) → InOrder u → AllAt u clock → Grew own (acts session) u v levels notes → ((k : ℕ) → AllByRecursion IsNoGo (deeds (notes k)))
+  pub runs_go_on : (notes : ℕ → List (Noted (Item C))) (clock : ℕ) → InOrder u → AllAt u clock → Grew own (acts session) u v levels notes
+      → ((k : ℕ) → AllByRecursion IsNoGo (deeds (notes k)))
       → Ran own session setup u → Ran own session setup v
   runs_go_on notes clock order level grew no_go = ran_after own session setup u v levels notes clock order level grew more where
     more : IsRunAfter own session setup u v levels notes
@@ -185,8 +195,9 @@ module _ {A C : Type 0} (own : A → OwnPart) (session : C → SessionValue) (ac
         (all_each IsNoGo events (λ k. subst (λ (ns : List (Noted (Item C))). AllByRecursion IsNoGo (deeds ns)) (sym (each k)) (no_go k))) run
 
   -- one deed at most, in a quiet world
-  few_run : (lab last : worlds.World OwnPart (Item C)) (did : List (Deed (Item C))) (w : World) → Reached setup w → IsLab session setup lab w → Quiet setup w → AllByRecursion (λ (d : Deed (Item C)). d.entry.actor < actors_in setup) did
-      → length did ≤ 1 → worlds.Run (acts session) lab did last → IsRunOfLab session setup w (map (λ (d : Deed (Item C)). d.entry) did) last
+  few_run : (lab last : worlds.DeedWorld OwnPart (Item C)) (did : List (Deed (Item C))) (w : World) → Reached setup w → IsLab session setup lab w
+      → Quiet setup w → AllByRecursion (λ (d : Deed (Item C)). d.entry.actor < actors_in setup) did
+      → length did ≤ 1 → worlds.DeedRun (acts session) lab did last → IsRunOfLab session setup w (map (λ (d : Deed (Item C)). d.entry) did) last
   few_run lab last [] w reached is_lab quiet below few same = record { events = []; entries_of = tt; after = w; run = refl; lab = same_lab session setup lab last w same is_lab }
   few_run lab last (deed ∷ []) w reached is_lab quiet below few (mid, step, same) =
       let x = actor_below setup deed.entry.actor below.0 in
@@ -194,7 +205,8 @@ module _ {A C : Type 0} (own : A → OwnPart) (session : C → SessionValue) (ac
       record { events = s.event ∷ []; entries_of = (s.entry_of, tt); after = s.after; run = (s.after, s.step, refl); lab = same_lab session setup mid last s.after same s.lab }
   few_run lab last (deed ∷ other ∷ did) w reached is_lab quiet below few run = absurd (omega (arith, few))
 
-  pub goes_on : (k : ℕ) (did : List (Deed (Item C))) (clock : ℕ) → InOrder u → AllAt u clock → Grew own (acts session) u v levels (at_mark own (acts session) k did) → length did ≤ 1
+  pub goes_on : (k : ℕ) (did : List (Deed (Item C))) (clock : ℕ) → InOrder u → AllAt u clock
+      → Grew own (acts session) u v levels (at_mark own (acts session) k did) → length did ≤ 1
       → QuietAt own session setup u → Ran own session setup u → Ran own session setup v
   goes_on k did clock order level grew few quiet = ran_after own session setup u v levels (at_mark own (acts session) k did) clock order level grew more where
     here : at_mark own (acts session) k did k ≡ noted 0 did

@@ -13,7 +13,7 @@ use Rattle.graft_laws.specs.Keeps.{Has}
 use Rattle.graft_laws.specs.Owned.{Owned}
 use Rattle.graft_laws.specs.Streams.{IsUnbroken}
 use Rattle.graft_laws.proofs.Phases.{live_session}
-use Rattle.graft_runs.specs.Seen.{IsWithin}
+use Rattle.graft_actors.specs.Seen.{IsWithin}
 use Rattle.settled_check.specs.Worlds.{Fits, StreamsFit, IsOnTheWay}
 use Rattle.world_runs.specs.Runs.{TransparentThroughout}
 use Rattle.world_runs.proofs.Runs.{run_cut}

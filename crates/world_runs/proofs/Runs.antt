@@ -16,8 +16,8 @@ use Rattle.graft_model.specs.Parts.{World}
 use Rattle.graft_model.specs.Steps.{Event, ByRouter, ByFar, ByOperator, Run}
 use Rattle.graft_laws.specs.Keeps.{Reached}
 use Rattle.graft_laws.proofs.Runs.{reached_more}
-use Rattle.graft_runs.specs.Actors.{ActorName, Router, FarSide, Operator, actor_at}
-use Rattle.graft_runs.specs.Laws.{AreEntriesOf, code_of}
+use Rattle.graft_actors.specs.Actors.{ActorName, Router, FarSide, Operator, actor_at}
+use Rattle.graft_actors.specs.Laws.{AreEntriesOf, code_of}
 use Rattle.graft_actors.specs.Items.{thing_of}
 use Rattle.graft_actors.specs.Acts.{OwnPart, acts}
 use Rattle.world_runs.specs.Labs.{actors_in, AllMayGo, IsLab}
@@ -34,17 +34,12 @@ pub run_cut : (setup : Setup) (front back : List Event) (w v : World) → Run se
 run_cut setup [] back w v run = (w, refl, run)
 run_cut setup (event ∷ front) back w v (u, step, run) = let h = run_cut setup front back u v run in (h.0, (u, step, h.1), h.2)
 
-pub entries_join : (setup : Setup) (front back : List Event) (xs ys : List JournalEntry) → AreEntriesOf setup front xs → AreEntriesOf setup back ys → AreEntriesOf setup (front ++ back) (xs ++ ys)
+pub entries_join : (setup : Setup) (front back : List Event) (xs ys : List JournalEntry) → AreEntriesOf setup front xs → AreEntriesOf setup back ys
+    → AreEntriesOf setup (front ++ back) (xs ++ ys)
 entries_join setup [] back [] ys first second = second
 entries_join setup [] back (x ∷ xs) ys first second = absurd first
 entries_join setup (event ∷ front) back [] ys first second = absurd first
 entries_join setup (event ∷ front) back (x ∷ xs) ys first second = (first.0, entries_join setup front back xs ys first.1 second)
-
--- an event without its actor
-abbrev event_in : Event → ActorEvent
-event_in (ByRouter r event) = OfRouter event
-event_in (ByFar p event) = OfFar event
-event_in (ByOperator event) = OfOperator event
 
 -- no event's entry is that of a dropped item
 kind_above : ((event : ActorEvent) → 0 < (actor_code event).kind) → (event : Event) → (code_of event).kind ≢ 0
@@ -53,7 +48,8 @@ kind_above above (ByFar p event) e = let l = above (OfFar event) in omega (arith
 kind_above above (ByOperator event) e = let l = above (OfOperator event) in omega (arith, e, l)
 
 module _ (above : (event : ActorEvent) → 0 < (actor_code event).kind) where
-  pub none_dropped : (setup : Setup) (events : List Event) (entries : List JournalEntry) → AreEntriesOf setup events entries → AllByRecursion (λ (e : JournalEntry). e.kind ≢ 0) entries
+  pub none_dropped : (setup : Setup) (events : List Event) (entries : List JournalEntry) → AreEntriesOf setup events entries
+      → AllByRecursion (λ (e : JournalEntry). e.kind ≢ 0) entries
   none_dropped setup [] [] are = tt
   none_dropped setup [] (entry ∷ entries) are = absurd are
   none_dropped setup (event ∷ events) [] are = absurd are
@@ -73,7 +69,8 @@ actor_below setup n below = elim (where_is (routers_in setup) (peerings_in setup
 
 -- ---- runs of the laboratory
 
-pub same_lab : {C : Type 0} (session : C → SessionValue) (setup : Setup) (lab last : worlds.World OwnPart (Item C)) (w : World) → worlds.SameWorld lab last → IsLab session setup lab w → IsLab session setup last w
+pub same_lab : {C : Type 0} (session : C → SessionValue) (setup : Setup) (lab last : worlds.DeedWorld OwnPart (Item C)) (w : World)
+    → worlds.SameWorld lab last → IsLab session setup lab w → IsLab session setup last w
 same_lab {C} session setup lab last w same is_lab = record {
   setups = λ n x e. ap (λ (own : OwnPart). own.setup) (same.parts n) ∙ is_lab.setups n x e;
   names = λ n x e. ap (λ (own : OwnPart). own.name) (same.parts n) ∙ is_lab.names n x e;
@@ -86,8 +83,10 @@ same_lab {C} session setup lab last w same is_lab = record {
 }
 
 module _ {C : Type 0} (session : C → SessionValue) (act_is_a_step : AnActIsAStep session) (setup : Setup) (sound : IsSetup setup) where
-  pub acts_run : (lab last : worlds.World OwnPart (Item C)) (deeds : List (Deed (Item C))) (w : World) → Reached setup w → IsLab session setup lab w → AllByRecursion (λ (d : Deed (Item C)). d.entry.actor < actors_in setup) deeds
-      → AllByRecursion IsNoGo deeds → worlds.Run (acts session) lab deeds last → IsRunOfLab session setup w (map (λ (d : Deed (Item C)). d.entry) deeds) last
+  pub acts_run : (lab last : worlds.DeedWorld OwnPart (Item C)) (deeds : List (Deed (Item C))) (w : World) → Reached setup w
+      → IsLab session setup lab w → AllByRecursion (λ (d : Deed (Item C)). d.entry.actor < actors_in setup) deeds
+      → AllByRecursion IsNoGo deeds → worlds.DeedRun (acts session) lab deeds last
+      → IsRunOfLab session setup w (map (λ (d : Deed (Item C)). d.entry) deeds) last
   acts_run lab last [] w reached is_lab below no_go same = record { events = []; entries_of = tt; after = w; run = refl; lab = same_lab session setup lab last w same is_lab }
   acts_run lab last (deed ∷ deeds) w reached is_lab below no_go (mid, step, run) =
       let x = actor_below setup deed.entry.actor below.0 in

@@ -1,3 +1,4 @@
 pub mod Labs
 pub mod Runs
 pub mod Laws
+pub mod Marks

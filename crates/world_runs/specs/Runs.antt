@@ -14,7 +14,7 @@ use Rattle.graft_model.specs.Steps.{Event, Step, Run}
 use Rattle.graft_model.specs.Claims.{Transparent}
 use Rattle.graft_model.specs.Quiet.{Quiet}
 use Rattle.graft_laws.specs.Keeps.{Reached}
-use Rattle.graft_runs.specs.Laws.{IsEntryOf, AreEntriesOf}
+use Rattle.graft_actors.specs.Laws.{IsEntryOf, AreEntriesOf}
 use Rattle.graft_actors.specs.Acts.{OwnPart}
 use Rattle.world_runs.specs.Labs.{IsLab}
 
@@ -25,7 +25,7 @@ TransparentThroughout setup events = (front back : List Event) → events ≡ fr
 
 module _ {C : Type 0} (session : C → SessionValue) where
   -- The entry is that of a step of the world, which leads to the next laboratory.
-  pub record IsStepOfLab (setup : Setup) (before : World) (entry : JournalEntry) (next : worlds.World OwnPart (Item C)) : Type 0 where
+  pub record IsStepOfLab (setup : Setup) (before : World) (entry : JournalEntry) (next : worlds.DeedWorld OwnPart (Item C)) : Type 0 where
     pub event : Event
     pub entry_of : IsEntryOf setup event entry
     pub after : World
@@ -33,7 +33,7 @@ module _ {C : Type 0} (session : C → SessionValue) where
     pub lab : IsLab session setup next after
 
   -- The entries are those of a run of the world, which leads to the last laboratory.
-  pub record IsRunOfLab (setup : Setup) (before : World) (entries : List JournalEntry) (last : worlds.World OwnPart (Item C)) : Type 0 where
+  pub record IsRunOfLab (setup : Setup) (before : World) (entries : List JournalEntry) (last : worlds.DeedWorld OwnPart (Item C)) : Type 0 where
     pub events : List Event
     pub entries_of : AreEntriesOf setup events entries
     pub after : World
@@ -43,7 +43,7 @@ module _ {C : Type 0} (session : C → SessionValue) where
 module _ {A C : Type 0} (own : A → OwnPart) (session : C → SessionValue) where
   -- A view of a net is seen as a world.
   pub record IsSeenAs (setup : Setup) (v : View A (Item C)) (w : World) : Type 0 where
-    pub lab : worlds.World OwnPart (Item C)
+    pub lab : worlds.DeedWorld OwnPart (Item C)
     pub is : IsWorldOf own v lab
     pub sees : IsLab session setup lab w
 

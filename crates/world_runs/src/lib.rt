@@ -5,4 +5,7 @@
 
 mod laws;
 
-pub use laws::{an_act_is_a_step, nets_run, runs_are_transparent, worlds_are_on_the_way};
+pub use laws::{
+    an_act_is_a_step, groups_are_counted, marks_stand_for_one_world, marks_stand_for_worlds,
+    nets_run, runs_are_transparent, worlds_are_on_the_way,
+};

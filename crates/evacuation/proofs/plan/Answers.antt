@@ -1,8 +1,8 @@
 use Rattle.std.proofs.Common.{◌≡◌, ◌∷◌, ◌++◌, [], Option, ◌∙◌, ap, arith}
 use Rattle.graft_edge.specs.declared.ids.RouterId.{RouterId}
-use Rattle.evacuation.specs.Plans.{IsLeast, IsFull, one_more}
+use Rattle.evacuation.specs.Plans.{IsLeastLoaded, IsFull, one_more_load}
 use Rattle.evacuation.proofs.PlanLaws.{length-plan, KeepsRooms-plan, number_given-plan, AreAtMost-plan}
-use Rattle.evacuation.proofs.Turns.{Planned-none, Planned-given, Planned-not_given, Planned-all, one_more-written}
+use Rattle.evacuation.proofs.Turns.{Planned-none, Planned-given, Planned-not_given, Planned-all, one_more_load-written}
 use Rattle.evacuation.proofs.plan.Goals as goal
 use Rattle.evacuation.proofs.plan.Goals.{in-Some, in_default}
 
@@ -15,10 +15,10 @@ loop-preserved c =
     elim c.match-target.branch [
       | in-Some w ↦
           let r = w.in-Some.router in
-          let least : IsLeast c.loop.loads.items c.args.rooms.now c.args.from.0 r.0 = rw c.deref.ensures.value at w.in-Some.ensures.least in
-          let next : c.match-target.loads.items ≡ one_more c.loop.loads.items r.0 =
+          let least : IsLeastLoaded c.loop.loads.items c.args.rooms.now c.args.from.0 r.0 = rw c.deref.ensures.value at w.in-Some.ensures.least in
+          let next : c.match-target.loads.items ≡ one_more_load c.loop.loads.items r.0 =
           ap (λ v. v.items) w.loads-is
-          ∙ one_more-written c.loop.loads.items r.0 w.from.result w.index_mut.result.now w.from.ensures least.free.in_range w.index_mut.ensures.value in
+          ∙ one_more_load-written c.loop.loads.items r.0 w.from.result w.index_mut.result.now w.from.ensures least.free.in_range w.index_mut.ensures.value in
           Planned-given _ _ _ _ _ _ c.loop.invariant r least _ _ next (pushed ∙ ap (λ (t : Option RouterId). c.loop.targets ++ t ∷ []) w.target-is)
       | in_default w ↦
           let full : IsFull c.loop.loads.items c.args.rooms.now c.args.from.0 = rw c.deref.ensures.value at w.in_default.ensures.full in

@@ -5,7 +5,7 @@ ghost use Rattle.std.specs.List.{AllByRecursion};
 ghost use Rattle.graft_model.specs.Setups.{IsSetup};
 ghost use Rattle.router_core.specs.Beginning.{AreBegun, CanBegin};
 ghost use Rattle.router_core.specs.Begins.{BeginsAs};
-ghost use Rattle.router_core.specs.Configs.{IsConfigOf};
+ghost use Rattle.router_core.specs.Configs.{IsRouterConfigOf};
 
 use crate::config::RouterConfig;
 use crate::due::DueSets;
@@ -48,7 +48,7 @@ fn begin_places(
 /// Returns the fields of a router that begins with this configuration.
 pub(crate) fn begin(alloc: Global, known: Known, config: RouterConfig) -> Result<Fields, NoMemory>
     requires setup { IsSetup known.setup }
-    requires config { IsConfigOf known.setup config }
+    requires config { IsRouterConfigOf known.setup config }
     ensures { IfOk result (BeginsAs known.setup config) }
 {
     let RouterConfig {

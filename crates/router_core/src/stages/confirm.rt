@@ -1,16 +1,11 @@
 //! For each session that has landed, the other routers are asked, one after another, whether they have heard what was
 //! told. Once all have answered, the session's source is told.
 
-ghost use Rattle.std.specs.Prelude.{ℕ, ◌≡◌, ◌<◌, length, OnOk};
-ghost use Rattle.std.specs.FinMap as map;
-ghost use Rattle.ring_net.specs.Posts.{SameEdges};
-ghost use Rattle.rib_stages.specs.Values.{table_at};
 ghost use Rattle.router_core.specs.Confirming.{TakesWord};
-ghost use Rattle.router_core.specs.Parts.{Keeps};
 ghost use Rattle.router_core.specs.Places.{AtOne};
-ghost use Rattle.router_core.specs.Stages.{ConfirmsAll};
-ghost use Rattle.router_core.specs.Visits.{Visits, confirming};
+ghost use Rattle.router_core.specs.Visits.{confirming};
 
+use super::visit::Visit;
 use crate::fields::Fields;
 use crate::place::{Errand, Place};
 use bgp_session::Capsule;
@@ -64,50 +59,38 @@ fn take_word(places: &mut Places<Place>, n: usize, routers: u32) -> Option<Word>
     }
 }
 
-/// Asks the next router about the session that has landed at a place, or tells its source, if either is due.
-fn confirm_at(router: &mut Fields, n: usize, post: &mut Post<Item<Capsule>>) -> Result<(), NoMemory>
-    requires keeps { Keeps router.old }
-    requires place { n < length router.old.places.places }
-    requires clean { router.old.rib.dirty ≡ map.empty }
-    requires told { (q : ℕ) → table_at router.old.due_in q ≡ map.empty }
-    ensures edges { SameEdges post.old post.new }
-    ensures visits { OnOk result (Visits confirming n router.old post.old router.new post.new) }
-{
-    let routers = router.routers;
-    match take_word(&mut router.places, n, routers) {
-        Some(Word::Ask { ids, router: asked }) => {
-            let (graft, peering) = (ids.graft, ids.peering);
-            let ask = RouterEvent::Ask {
-                graft,
-                router: asked,
-            };
-            let question = Item::Asked { graft, peering };
-            note_router_sent(post, ask, asked as usize, question)
-        }
-        Some(Word::Confirm(ids)) => {
-            let (graft, peering) = (ids.graft, ids.peering);
-            let source = usize::from(ids.source.0);
-            let done = Item::Done { graft, peering };
-            note_router_sent(post, RouterEvent::Confirm { graft }, source, done)
-        }
-        None => Ok(()),
-    }
-}
+/// The stage at which the next router is asked, or the source is told, about each session that has landed. No prefix may
+/// be dirty, and nothing may be due to another router.
+#[derive(Drop)]
+pub(crate) struct Confirm;
 
-/// Asks the next router about each session that has landed here, or tells its source. No prefix may be dirty, and
-/// nothing may be due to another router.
-pub(crate) fn confirm_all(
-    router: &mut Fields,
-    post: &mut Post<Item<Capsule>>,
-) -> Result<(), NoMemory>
-    requires keeps { Keeps router.old }
-    requires clean { router.old.rib.dirty ≡ map.empty }
-    requires told { (q : ℕ) → table_at router.old.due_in q ≡ map.empty }
-    ensures edges { SameEdges post.old post.new }
-    ensures done { OnOk result (ConfirmsAll router.old post.old router.new post.new) }
-{
-    for n in 0..router.places.len() {
-        confirm_at(router, n, post)?;
+impl Visit for Confirm {
+    ghost stage = { λ stage. confirming };
+
+    fn visit(
+        &self,
+        router: &mut Fields,
+        n: usize,
+        post: &mut Post<Item<Capsule>>,
+    ) -> Result<(), NoMemory> {
+        let routers = router.routers;
+        match take_word(&mut router.places, n, routers) {
+            Some(Word::Ask { ids, router: asked }) => {
+                let (graft, peering) = (ids.graft, ids.peering);
+                let ask = RouterEvent::Ask {
+                    graft,
+                    router: asked,
+                };
+                let question = Item::Asked { graft, peering };
+                note_router_sent(post, ask, asked as usize, question)
+            }
+            Some(Word::Confirm(ids)) => {
+                let (graft, peering) = (ids.graft, ids.peering);
+                let source = usize::from(ids.source.0);
+                let done = Item::Done { graft, peering };
+                note_router_sent(post, RouterEvent::Confirm { graft }, source, done)
+            }
+            None => Ok(()),
+        }
     }
-    Ok(())
 }

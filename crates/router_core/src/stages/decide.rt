@@ -7,8 +7,8 @@ ghost use Rattle.session_value.specs.Points.{at};
 ghost use Rattle.session_value.specs.Sets.{has};
 ghost use Rattle.rib_stages.specs.Values.{table_at};
 ghost use Rattle.graft_model.specs.TableRows.{holds_established};
-ghost use Rattle.router_core.specs.Deciding.{AddsBelow, DecidesOne, DueToAll, is_other, is_up_at};
-ghost use Rattle.router_core.specs.Parts.{Keeps};
+ghost use Rattle.router_core.specs.Deciding.{AddsBelow, DecidesOne, DueToAll, is_other_router, is_up_at};
+ghost use Rattle.router_core.specs.Parts.{RouterInvariant};
 ghost use Rattle.router_core.specs.Places.{place_at, place_of};
 ghost use Rattle.router_core.specs.Stages.{DecidesAll};
 
@@ -28,7 +28,8 @@ use session_places::Places;
 fn add_where(sets: &mut DueSets, n: usize, prefix: Prefix, is_due: bool) -> Result<(), NoMemory>
     requires { n < length sets.old }
     ensures length { OnOk result (length sets.new ≡ length sets.old) }
-    ensures added { OnOk result (table_at sets.new ≡ at (table_at sets.old) n (if is_due then map.insert (table_at sets.old n) prefix tt else table_at sets.old n)) }
+    ensures added { OnOk result (table_at sets.new ≡ at (table_at sets.old) n
+        (if is_due then map.insert (table_at sets.old n) prefix tt else table_at sets.old n)) }
 {
     if is_due { sets.add(n, prefix) } else { Ok(()) }
 }
@@ -45,8 +46,8 @@ fn is_up(places: &Places<Place>, n: usize) -> bool
 
 /// Adds a prefix to what is due to each other router.
 fn due_to_routers(router: &mut Fields, prefix: Prefix) -> Result<(), NoMemory>
-    requires { Keeps router.old }
-    ensures added { OnOk result (AddsBelow (length router.old.due_in) (is_other router.old) prefix router.old.due_in router.new.due_in) }
+    requires { RouterInvariant router.old }
+    ensures added { OnOk result (AddsBelow (length router.old.due_in) (is_other_router router.old) prefix router.old.due_in router.new.due_in) }
     ensures same { OnOk result (router.new ≡ record router.old { due_in = router.new.due_in }) }
 {
     let own = u32::from(router.number.0);
@@ -58,7 +59,7 @@ fn due_to_routers(router: &mut Fields, prefix: Prefix) -> Result<(), NoMemory>
 
 /// Adds a prefix to what is due on each established session.
 fn due_on_sessions(router: &mut Fields, prefix: Prefix) -> Result<(), NoMemory>
-    requires { Keeps router.old }
+    requires { RouterInvariant router.old }
     ensures added { OnOk result (AddsBelow (length router.old.due_out) (is_up_at router.old) prefix router.old.due_out router.new.due_out) }
     ensures same { OnOk result (router.new ≡ record router.old { due_out = router.new.due_out }) }
 {
@@ -71,7 +72,7 @@ fn due_on_sessions(router: &mut Fields, prefix: Prefix) -> Result<(), NoMemory>
 
 /// Makes a prefix due to each other router and on each established session.
 fn due_to_all(router: &mut Fields, prefix: Prefix) -> Result<(), NoMemory>
-    requires { Keeps router.old }
+    requires { RouterInvariant router.old }
     ensures { OnOk result (DueToAll prefix router.old router.new) }
 {
     due_to_routers(router, prefix)?;
@@ -84,7 +85,7 @@ fn decide_one(
     prefix: Prefix,
     post: &mut Post<Item<Capsule>>,
 ) -> Result<(), NoMemory>
-    requires keeps { Keeps router.old }
+    requires keeps { RouterInvariant router.old }
     requires dirty { has router.old.rib.dirty prefix ≡ true }
     ensures edges { SameEdges post.old post.new }
     ensures decides { OnOk result (DecidesOne prefix router.old post.old router.new post.new) }
@@ -101,7 +102,7 @@ pub(crate) fn decide_all(
     router: &mut Fields,
     post: &mut Post<Item<Capsule>>,
 ) -> Result<(), NoMemory>
-    requires { Keeps router.old }
+    requires { RouterInvariant router.old }
     ensures edges { SameEdges post.old post.new }
     ensures done { OnOk result (DecidesAll router.old post.old router.new post.new) }
 {

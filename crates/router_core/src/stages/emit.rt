@@ -2,11 +2,11 @@
 
 ghost use Rattle.std.specs.Prelude.{◌<◌, length, OnOk};
 ghost use Rattle.ring_net.specs.Posts.{SameEdges};
-ghost use Rattle.router_core.specs.Parts.{Keeps};
-ghost use Rattle.router_core.specs.Stages.{Emits};
+ghost use Rattle.router_core.specs.Parts.{RouterInvariant};
 ghost use Rattle.router_core.specs.Visits.{Visits, answering, emitting, sending_new};
 
 use super::send::{answer, next, outlet_of};
+use super::visit::Visit;
 use crate::fields::Fields;
 use bgp_session::Capsule;
 use graft_edge::NoMemory;
@@ -19,7 +19,7 @@ fn send_new_at(
     n: usize,
     post: &mut Post<Item<Capsule>>,
 ) -> Result<(), NoMemory>
-    requires keeps { Keeps router.old }
+    requires keeps { RouterInvariant router.old }
     requires place { n < length router.old.places.places }
     ensures edges { SameEdges post.old post.new }
     ensures sent { OnOk result (Visits sending_new n router.old post.old router.new post.new) }
@@ -39,7 +39,7 @@ fn send_answer_at(
     n: usize,
     post: &mut Post<Item<Capsule>>,
 ) -> Result<(), NoMemory>
-    requires keeps { Keeps router.old }
+    requires keeps { RouterInvariant router.old }
     requires place { n < length router.old.places.places }
     ensures edges { SameEdges post.old post.new }
     ensures sent { OnOk result (Visits answering n router.old post.old router.new post.new) }
@@ -51,25 +51,20 @@ fn send_answer_at(
     outlet.send(segment, post)
 }
 
-/// Emits on a session all that may be emitted, and the acknowledgement that it owes.
-fn emit_at(router: &mut Fields, n: usize, post: &mut Post<Item<Capsule>>) -> Result<(), NoMemory>
-    requires keeps { Keeps router.old }
-    requires place { n < length router.old.places.places }
-    ensures edges { SameEdges post.old post.new }
-    ensures visits { OnOk result (Visits emitting n router.old post.old router.new post.new) }
-{
-    send_new_at(router, n, post)?;
-    send_answer_at(router, n, post)
-}
+/// The stage at which each session emits all that may be emitted, and the acknowledgement that it owes.
+#[derive(Drop)]
+pub(crate) struct Emit;
 
-/// Emits on each session all that may be emitted, and the acknowledgement that it owes.
-pub(crate) fn emit_all(router: &mut Fields, post: &mut Post<Item<Capsule>>) -> Result<(), NoMemory>
-    requires { Keeps router.old }
-    ensures edges { SameEdges post.old post.new }
-    ensures done { OnOk result (Emits router.old post.old router.new post.new) }
-{
-    for n in 0..router.places.len() {
-        emit_at(router, n, post)?;
+impl Visit for Emit {
+    ghost stage = { λ stage. emitting };
+
+    fn visit(
+        &self,
+        router: &mut Fields,
+        n: usize,
+        post: &mut Post<Item<Capsule>>,
+    ) -> Result<(), NoMemory> {
+        send_new_at(router, n, post)?;
+        send_answer_at(router, n, post)
     }
-    Ok(())
 }

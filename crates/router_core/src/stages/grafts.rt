@@ -1,17 +1,16 @@
 //! Grafts that begin at their source.
 
-ghost use Rattle.std.specs.Prelude.{◌<◌, ◌+◌, ◌≡◌, length, OnOk, None, Some};
-ghost use Rattle.ring_net.specs.Posts.{SameEdges};
+ghost use Rattle.std.specs.Prelude.{◌+◌, ◌≡◌, None, Some};
 ghost use Rattle.graft_model.specs.Setups.{peerings_in, routers_in};
 ghost use Rattle.bgp_session.specs.Running.{RunningSession};
 ghost use Rattle.router_core.specs.Leaving.{BegunAs, TakesOrder};
-ghost use Rattle.router_core.specs.Parts.{Keeps};
+ghost use Rattle.router_core.specs.Parts.{RouterInvariant};
 ghost use Rattle.router_core.specs.Places.{AtOne};
-ghost use Rattle.router_core.specs.Stages.{BeginsGrafts};
 ghost use Rattle.router_core.specs.declared.place.Errand.TheVariants.{Leaving};
 ghost use Rattle.router_core.specs.declared.place.Place.TheVariants.{Live};
-ghost use Rattle.router_core.specs.Visits.{Visits, beginning_grafts};
+ghost use Rattle.router_core.specs.Visits.{beginning_grafts};
 
+use super::visit::Visit;
 use crate::fields::Fields;
 use crate::place::{Errand, Place};
 use bgp_session::Capsule;
@@ -91,54 +90,43 @@ fn begin_graft(places: &mut Places<Place>, n: usize) -> Begun
 
 /// The number of the operator's actor.
 fn operator(router: &Fields) -> usize
-    requires { Keeps router.now }
+    requires { RouterInvariant router.now }
     ensures { result ≡ routers_in router.now.known.setup + peerings_in router.now.known.setup }
 {
     router.routers as usize + router.places.len()
 }
 
-/// Begins the graft that is stored at a place, if there is one.
-fn begin_graft_at(
-    router: &mut Fields,
-    n: usize,
-    post: &mut Post<Item<Capsule>>,
-) -> Result<(), NoMemory>
-    requires keeps { Keeps router.old }
-    requires place { n < length router.old.places.places }
-    ensures edges { SameEdges post.old post.new }
-    ensures visits { OnOk result (Visits beginning_grafts n router.old post.old router.new post.new) }
-{
-    let operator = operator(router);
-    match begin_graft(&mut router.places, n) {
-        Begun::Nothing => Ok(()),
-        Begun::Refused(ids, refusal) => {
-            let graft = ids.graft;
-            let outcome = Outcome::Refused(refusal);
-            let report = Item::Report { graft, outcome };
-            note_router_sent(post, RouterEvent::Refuse { graft }, operator, report)
-        }
-        Begun::Left(ids, capsule) => {
-            let graft = ids.graft;
-            router.due_out.clear(n);
-            note_router(post, RouterEvent::Freeze { graft })?;
-            let moved = Item::Moved { graft, capsule };
-            let target = usize::from(ids.target.0);
-            note_router_sent(post, RouterEvent::Leave { graft }, target, moved)
-        }
-    }
-}
+/// The stage at which each stored graft for which there is a reason is refused, and the sessions of the others are sent
+/// away.
+#[derive(Drop)]
+pub(crate) struct BeginGrafts;
 
-/// Refuses each stored graft for which there is a reason, and sends away the sessions of the others.
-pub(crate) fn begin_grafts(
-    router: &mut Fields,
-    post: &mut Post<Item<Capsule>>,
-) -> Result<(), NoMemory>
-    requires { Keeps router.old }
-    ensures edges { SameEdges post.old post.new }
-    ensures done { OnOk result (BeginsGrafts router.old post.old router.new post.new) }
-{
-    for n in 0..router.places.len() {
-        begin_graft_at(router, n, post)?;
+impl Visit for BeginGrafts {
+    ghost stage = { λ stage. beginning_grafts };
+
+    fn visit(
+        &self,
+        router: &mut Fields,
+        n: usize,
+        post: &mut Post<Item<Capsule>>,
+    ) -> Result<(), NoMemory> {
+        let operator = operator(router);
+        match begin_graft(&mut router.places, n) {
+            Begun::Nothing => Ok(()),
+            Begun::Refused(ids, refusal) => {
+                let graft = ids.graft;
+                let outcome = Outcome::Refused(refusal);
+                let report = Item::Report { graft, outcome };
+                note_router_sent(post, RouterEvent::Refuse { graft }, operator, report)
+            }
+            Begun::Left(ids, capsule) => {
+                let graft = ids.graft;
+                router.due_out.clear(n);
+                note_router(post, RouterEvent::Freeze { graft })?;
+                let moved = Item::Moved { graft, capsule };
+                let target = usize::from(ids.target.0);
+                note_router_sent(post, RouterEvent::Leave { graft }, target, moved)
+            }
+        }
     }
-    Ok(())
 }

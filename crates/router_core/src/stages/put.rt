@@ -1,14 +1,14 @@
 //! What sessions are told (RFC 4271, section 9.2).
 
-ghost use Rattle.std.specs.Prelude.{ℕ, ◌≡◌, ◌<◌, ◌^◌, ◌-◌, [], length, min, reverse, All, fold, Some, IfOk, IfSome, IfNone, OnOk, option_map};
+ghost use Rattle.std.specs.Prelude.{ℕ, ◌≡◌, ◌<◌, [], length, reverse, All, fold, Some, IfOk, IfSome, IfNone, OnOk, option_map};
 ghost use Rattle.std.specs.FinMap as map;
 ghost use Rattle.bgp_types.specs.Prefixes.{IsPrefix};
 ghost use Rattle.ring_net.specs.Posts.{SameEdges};
 ghost use Rattle.session_value.specs.Points.{at};
 ghost use Rattle.rib_stages.specs.Values.{table_at};
-ghost use Rattle.tell_plan.specs.Gathering.{AreSound};
-ghost use Rattle.tell_plan.specs.Plans.{IsWritableFor, octets};
-ghost use Rattle.router_core.specs.Parts.{Keeps, router_part};
+ghost use Rattle.update_plan.specs.Gathering.{AreSound};
+ghost use Rattle.update_plan.specs.Plans.{IsWritableFor};
+ghost use Rattle.router_core.specs.Parts.{RouterInvariant, router_part};
 ghost use Rattle.router_core.specs.Places.{AtOne, place_at};
 ghost use Rattle.router_core.specs.declared.place.Place.TheVariants.{Live};
 ghost use Rattle.router_core.specs.Putting.{NextAt, OfferedAt, OffersAt, PlannedAt, PutOrDone, PutsAt, PutsSomeAt, TimeAnswer};
@@ -20,7 +20,7 @@ use crate::fields::Fields;
 use crate::place::Place;
 use crate::takes::named::policy_of;
 use bgp_session::{Capsule, OfferStop, Session};
-use bgp_types::{Message, Prefix, SessionState, TryCopy, Update, message_len};
+use bgp_types::{Prefix, SessionState, TryCopy, Update};
 use graft_actors::note_router;
 use graft_edge::{NoMemory, PeeringId};
 use graft_model::RouterEvent;
@@ -28,8 +28,7 @@ use graft_steps::Item;
 use rib_stages::OutView;
 use ring_net::Post;
 use session_places::Places;
-use std::alloc::Global;
-use tell_plan::{Batch, plan};
+use update_plan::{Batch, plan};
 
 /// The limit of the bytes put on an established session, so that a NOTIFICATION has room after them.
 const MOST_PUT: usize = 1_044_480;
@@ -76,9 +75,10 @@ fn settle(due: &mut DueSets, n: usize, prefixes: &[Prefix])
 
 /// Returns the pending UPDATEs of the session at a place, the last one first.
 fn planned(router: &Fields, n: usize) -> Result<Vec<Batch>, NoMemory>
-    requires keeps { Keeps router.now }
+    requires keeps { RouterInvariant router.now }
     requires place { n < length router.now.places.places }
-    ensures planned { IfOk result (λ batches. PlannedAt router.now.known.setup router.now.number.0 (router_part router.now) n (place_at router.now.places.places n) (reverse batches.items)) }
+    ensures planned { IfOk result (λ batches. PlannedAt router.now.known.setup router.now.number.0 (router_part router.now) n
+        (place_at router.now.places.places n) (reverse batches.items)) }
     ensures sound { IfOk result (λ batches. AreSound batches.items) }
 {
     let Some(Place::Live { session, .. }) = router.places.get(n) else {
@@ -115,7 +115,7 @@ fn put_one(
     batch: Batch,
     post: &mut Post<Item<Capsule>>,
 ) -> Result<bool, NoMemory>
-    requires keeps { Keeps router.old }
+    requires keeps { RouterInvariant router.old }
     requires place { n < length router.old.places.places }
     requires next { NextAt router.old.known.setup router.old.number.0 (router_part router.old) n (place_at router.old.places.places n) batch }
     requires sound { All IsPrefix batch.prefixes }
@@ -141,7 +141,7 @@ fn put_nothing(
     n: usize,
     post: &mut Post<Item<Capsule>>,
 ) -> Result<(), NoMemory>
-    requires keeps { Keeps router.old }
+    requires keeps { RouterInvariant router.old }
     requires place { n < length router.old.places.places }
     requires clean { router.old.rib.dirty ≡ map.empty }
     requires planned { PlannedAt router.old.known.setup router.old.number.0 (router_part router.old) n (place_at router.old.places.places n) [] }
@@ -158,7 +158,7 @@ fn put_nothing(
 
 /// Puts on the session at a place what is due there.
 fn put_at(router: &mut Fields, n: usize, post: &mut Post<Item<Capsule>>) -> Result<(), NoMemory>
-    requires keeps { Keeps router.old }
+    requires keeps { RouterInvariant router.old }
     requires place { n < length router.old.places.places }
     requires clean { router.old.rib.dirty ≡ map.empty }
     ensures edges { SameEdges post.old post.new }
@@ -176,7 +176,7 @@ fn put_at(router: &mut Fields, n: usize, post: &mut Post<Item<Capsule>>) -> Resu
 /// Puts on each established session what is due on it, in UPDATEs that each tell as many prefixes as a message holds.
 /// No prefix may be dirty.
 pub(crate) fn put_all(router: &mut Fields, post: &mut Post<Item<Capsule>>) -> Result<(), NoMemory>
-    requires keeps { Keeps router.old }
+    requires keeps { RouterInvariant router.old }
     requires clean { router.old.rib.dirty ≡ map.empty }
     ensures edges { SameEdges post.old post.new }
     ensures done { OnOk result (PutsAll router.old post.old router.new post.new) }
@@ -187,23 +187,15 @@ pub(crate) fn put_all(router: &mut Fields, post: &mut Post<Item<Capsule>>) -> Re
     Ok(())
 }
 
-/// Returns the number of octets of a batch's UPDATE.
-fn update_len(alloc: Global, batch: Batch, wide: bool) -> usize
-    ensures { result ≡ min (octets wide batch.attrs batch.prefixes) (2 ^ 64 - 1) }
-{
-    let message = Message::UpdateMsg(batch.into_update(alloc));
-    message_len(&message, wide)
-}
-
 /// Returns the length that the stream of the session at a place would have with a batch's UPDATE.
-fn len_with(router: &Fields, n: usize, batch: Batch) -> usize
+fn len_with(router: &Fields, n: usize, batch: &Batch) -> usize
     requires place { n < length router.now.places.places }
-    requires next { NextAt router.now.known.setup router.now.number.0 (router_part router.now) n (place_at router.now.places.places n) batch }
-    ensures { (s : _) (o : _) → place_at router.now.places.places n ≡ Some (Live s o) → result ≡ length_with s.session batch }
+    requires next { NextAt router.now.known.setup router.now.number.0 (router_part router.now) n (place_at router.now.places.places n) batch.now }
+    ensures { (s : _) (o : _) → place_at router.now.places.places n ≡ Some (Live s o) → result ≡ length_with s.session batch.now }
 {
     match router.places.get(n) {
         Some(Place::Live { session, .. }) => {
-            session.put_len() as usize + update_len(router.alloc, batch, session.wide())
+            session.put_len() as usize + batch.octets(session.wide())
         }
         Some(Place::Shadow { .. }) | None => 0,
     }
@@ -212,7 +204,7 @@ fn len_with(router: &Fields, n: usize, batch: Batch) -> usize
 /// Returns the length that the stream of the session at a place would have with its next UPDATE, if there is no room
 /// for it.
 fn no_room_at(router: &Fields, n: usize) -> Result<Option<usize>, NoMemory>
-    requires keeps { Keeps router.now }
+    requires keeps { RouterInvariant router.now }
     requires place { n < length router.now.places.places }
     ensures { IfOk result (λ answer. RoomAnswer router.now.known.setup router.now.number.0 (router_part router.now) n answer) }
 {
@@ -223,7 +215,7 @@ fn no_room_at(router: &Fields, n: usize) -> Result<Option<usize>, NoMemory>
     if !batch.is_writable() {
         return Ok(None);
     }
-    let length = len_with(router, n, batch);
+    let length = len_with(router, n, &batch);
     if length > MOST_PUT {
         Ok(Some(length))
     } else {
@@ -263,7 +255,7 @@ fn late_at(places: &Places<Place>, n: usize) -> Option<usize>
 
 /// Returns the length at which the session at a place is stuck, if it is.
 fn stuck_at(router: &Fields, n: usize) -> Result<Option<usize>, NoMemory>
-    requires keeps { Keeps router.now }
+    requires keeps { RouterInvariant router.now }
     requires place { n < length router.now.places.places }
     ensures { IfOk result (λ answer. StuckAnswer router.now.known.setup router.now.number.0 (router_part router.now) n answer) }
 {
@@ -276,7 +268,7 @@ fn stuck_at(router: &Fields, n: usize) -> Result<Option<usize>, NoMemory>
 /// Returns the lowest peering whose live session is stuck, with the length that its stream would have: its next UPDATE
 /// would take it above 1,044,480 bytes, or else its hold time runs and a KEEPALIVE would.
 pub(crate) fn stuck(router: &Fields) -> Result<Option<(PeeringId, usize)>, NoMemory>
-    requires { Keeps router.now }
+    requires { RouterInvariant router.now }
     ensures { IfOk result (λ answer. IsFirstStuck router.now.known.setup router.now.number.0 (router_part router.now) (option_map (λ x. (x.0.0, x.1)) answer)) }
 {
     for n in 0..router.places.len() {

@@ -5,13 +5,13 @@ ghost use Rattle.ring_net.specs.Posts.{SameEdges};
 ghost use Rattle.tcp_seq.specs.Numbers.{offset_from};
 ghost use Rattle.graft_steps.specs.declared.item.Item.TheVariants as items;
 ghost use Rattle.graft_model.specs.declared.event.RouterEvent.TheVariants.{Emit};
-ghost use Rattle.router_core.specs.Parts.{Keeps};
+ghost use Rattle.router_core.specs.Parts.{RouterInvariant};
 ghost use Rattle.router_core.specs.Places.{AtOne};
-ghost use Rattle.router_core.specs.Rounds.{Writes};
-ghost use Rattle.router_core.specs.Sending.{AtPlace, SentAgain, SentNext, SentAnswer, IsOutletOf};
+ghost use Rattle.router_core.specs.Rounds.{WritesEvent};
+ghost use Rattle.router_core.specs.Sending.{AtPlace, SessionSentAgain, SentNext, SessionSentAnswer, IsOutletOf};
 
 use crate::fields::Fields;
-use crate::place::Place;
+use crate::place::{Place, live_mut};
 use bgp_session::Capsule;
 use graft_actors::note_router_sent;
 use graft_edge::NoMemory;
@@ -21,42 +21,12 @@ use ring_net::Post;
 use session_places::Places;
 use tcp_seq::{Segment, Seq};
 
-/// Makes the retransmission turn of the live session.
-fn again_of(place: &mut Place) -> Result<Option<Segment>, NoMemory>
-    ensures { IfOk result (λ answer. AtPlace SentAgain (Some place.old) answer (Some place.new)) }
-{
-    match place {
-        Place::Live { session, .. } => session.turn(),
-        Place::Shadow { .. } => Ok(None),
-    }
-}
-
-/// Emits the next new slice of the live session.
-fn next_of(place: &mut Place) -> Result<Option<Segment>, NoMemory>
-    ensures { IfOk result (λ answer. AtPlace SentNext (Some place.old) answer (Some place.new)) }
-{
-    match place {
-        Place::Live { session, .. } => session.next_segment(),
-        Place::Shadow { .. } => Ok(None),
-    }
-}
-
-/// Emits the acknowledgement that the live session owes.
-fn answer_of(place: &mut Place) -> Option<Segment>
-    ensures { AtPlace SentAnswer (Some place.old) result (Some place.new) }
-{
-    match place {
-        Place::Live { session, .. } => session.answer(),
-        Place::Shadow { .. } => None,
-    }
-}
-
 /// Makes the retransmission turn of the live session at a place.
 pub(crate) fn again(places: &mut Places<Place>, n: usize) -> Result<Option<Segment>, NoMemory>
-    ensures { IfOk result (λ answer. AtOne (λ old new. AtPlace SentAgain old answer new) places.old n places.new) }
+    ensures { IfOk result (λ answer. AtOne (λ old new. AtPlace SessionSentAgain old answer new) places.old n places.new) }
 {
-    match places.get_mut(n) {
-        Some(place) => again_of(place),
+    match live_mut(places, n) {
+        Some(session) => session.turn(),
         None => Ok(None),
     }
 }
@@ -65,18 +35,18 @@ pub(crate) fn again(places: &mut Places<Place>, n: usize) -> Result<Option<Segme
 pub(crate) fn next(places: &mut Places<Place>, n: usize) -> Result<Option<Segment>, NoMemory>
     ensures { IfOk result (λ answer. AtOne (λ old new. AtPlace SentNext old answer new) places.old n places.new) }
 {
-    match places.get_mut(n) {
-        Some(place) => next_of(place),
+    match live_mut(places, n) {
+        Some(session) => session.next_segment(),
         None => Ok(None),
     }
 }
 
 /// Emits the acknowledgement that the live session at a place owes.
 pub(crate) fn answer(places: &mut Places<Place>, n: usize) -> Option<Segment>
-    ensures { AtOne (λ old new. AtPlace SentAnswer old result new) places.old n places.new }
+    ensures { AtOne (λ old new. AtPlace SessionSentAnswer old result new) places.old n places.new }
 {
-    match places.get_mut(n) {
-        Some(place) => answer_of(place),
+    match live_mut(places, n) {
+        Some(session) => session.answer(),
         None => None,
     }
 }
@@ -92,7 +62,7 @@ pub(crate) struct Outlet {
 
 /// Returns the outlet of the peering of a place.
 pub(crate) fn outlet_of(router: &Fields, n: usize) -> Outlet
-    requires keeps { Keeps router.now }
+    requires keeps { RouterInvariant router.now }
     requires place { n < length router.now.places.places }
     ensures { IsOutletOf router.now n result }
 {
@@ -115,7 +85,8 @@ impl Outlet {
     ) -> Result<(), NoMemory>
         requires { length segment.bytes ≤ 1024 }
         ensures edges { SameEdges post.old post.new }
-        ensures sent { OnOk result (Writes post.old (Emit self.place (offset_from segment.seq.0 self.first.0) (length segment.bytes)) ((self.to, items.Seg segment) ∷ []) post.new) }
+        ensures sent { OnOk result (WritesEvent post.old (Emit self.place (offset_from segment.seq.0 self.first.0) (length segment.bytes))
+            ((self.to, items.Seg segment) ∷ []) post.new) }
     {
         let event = RouterEvent::Emit {
             peering: self.place,

@@ -5,7 +5,7 @@ ghost use Rattle.std.specs.FinMap as map;
 ghost use Rattle.ring_net.specs.Posts.{SameEdges};
 ghost use Rattle.session_value.specs.Sets.{has};
 ghost use Rattle.rib_stages.specs.Values.{table_at};
-ghost use Rattle.router_core.specs.Parts.{Keeps};
+ghost use Rattle.router_core.specs.Parts.{RouterInvariant};
 ghost use Rattle.router_core.specs.Stages.{TellsAll};
 ghost use Rattle.router_core.specs.Tellings.{TellsOne, TellsRouter};
 
@@ -25,7 +25,7 @@ fn tell_one(
     prefix: Prefix,
     post: &mut Post<Item<Capsule>>,
 ) -> Result<(), NoMemory>
-    requires keeps { Keeps router.old }
+    requires keeps { RouterInvariant router.old }
     requires clean { router.old.rib.dirty ≡ map.empty }
     requires there { q < length router.old.due_in }
     requires due { has (table_at router.old.due_in q) prefix ≡ true }
@@ -45,7 +45,7 @@ fn tell_router(
     q: usize,
     post: &mut Post<Item<Capsule>>,
 ) -> Result<(), NoMemory>
-    requires keeps { Keeps router.old }
+    requires keeps { RouterInvariant router.old }
     requires clean { router.old.rib.dirty ≡ map.empty }
     requires there { q < length router.old.due_in }
     ensures edges { SameEdges post.old post.new }
@@ -59,7 +59,7 @@ fn tell_router(
 
 /// Tells each other router what is due to it. No prefix may be dirty.
 pub(crate) fn tell_all(router: &mut Fields, post: &mut Post<Item<Capsule>>) -> Result<(), NoMemory>
-    requires keeps { Keeps router.old }
+    requires keeps { RouterInvariant router.old }
     requires clean { router.old.rib.dirty ≡ map.empty }
     ensures edges { SameEdges post.old post.new }
     ensures done { OnOk result (TellsAll router.old post.old router.new post.new) }

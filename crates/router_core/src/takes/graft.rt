@@ -10,10 +10,10 @@ ghost use Rattle.graft_actors.specs.Items.{IsOnItsWay};
 ghost use Rattle.router_core.specs.Entering.{missing_by, unknown_by};
 ghost use Rattle.router_core.specs.Places.{place_at};
 ghost use Rattle.router_core.specs.declared.place.Errand.TheVariants.{Owing};
-ghost use Rattle.router_core.specs.Parts.{Keeps};
+ghost use Rattle.router_core.specs.Parts.{RouterInvariant};
 ghost use Rattle.router_core.specs.Reading.{MakesLive, SettlesIn};
-ghost use Rattle.router_core.specs.Rounds.{Writes};
-ghost use Rattle.router_core.specs.Takes.{TakesIt};
+ghost use Rattle.router_core.specs.Rounds.{WritesEvent};
+ghost use Rattle.router_core.specs.Takes.{RouterTakesIt};
 
 use crate::config::Policies;
 use crate::fields::Fields;
@@ -34,7 +34,7 @@ use session_value::SessionConfig;
 /// Returns whether the session in a capsule is of a known peering, is established, and has the initial sequence numbers
 /// of the peering.
 fn is_on_its_way(router: &Fields, capsule: &Capsule) -> bool
-    requires keeps { Keeps router.now }
+    requires keeps { RouterInvariant router.now }
     requires there { capsule.now.session.config.peering.0 < length router.now.places.places }
     ensures { MatchBool result (IsOnItsWay router.now.known.setup capsule.now.session) (¬ IsOnItsWay router.now.known.setup capsule.now.session) }
 {
@@ -78,7 +78,8 @@ fn missing_policy(policies: &Policies, config: &SessionConfig) -> Result<Option<
 /// Returns why the router refuses a session, if it does.
 fn admission(router: &Fields, config: &SessionConfig) -> Result<Option<Refusal>, NoMemory>
     requires { router.now.places.room ≡ router.now.room }
-    ensures { IfOk result (λ refusal. refusal ≡ admit_refusal (count_by is_some router.now.places.places) router.now.room (missing_by router.now.policies config.now)) }
+    ensures { IfOk result (λ refusal. refusal ≡ admit_refusal (count_by is_some router.now.places.places) router.now.room
+        (missing_by router.now.policies config.now)) }
 {
     let missing = missing_policy(&router.policies, config)?;
     let room = router.room;
@@ -95,7 +96,7 @@ fn turn_back(
     refusal: Refusal,
 ) -> Result<(), NoMemory>
     requires { from < 2 ^ 32 }
-    ensures ok { OnOk result (Writes post.old (TurnBack from) ((from, items.Back graft capsule refusal) ∷ []) post.new) }
+    ensures ok { OnOk result (WritesEvent post.old (TurnBack from) ((from, items.Back graft capsule refusal) ∷ []) post.new) }
     ensures edges { SameEdges post.old post.new }
 {
     let source = from as u32;
@@ -173,9 +174,9 @@ pub(crate) fn take_moved(
     capsule: Capsule,
     post: &mut Post<Item<Capsule>>,
 ) -> Result<(), NoMemory>
-    requires { Keeps router.old }
+    requires { RouterInvariant router.old }
     ensures edges { SameEdges post.old post.new }
-    ensures took { OnOk result (TakesIt from (items.Moved graft capsule) router.old post.old router.new post.new) }
+    ensures took { OnOk result (RouterTakesIt from (items.Moved graft capsule) router.old post.old router.new post.new) }
 {
     let peering = capsule.config().peering;
     let place = usize::from(peering.0);
@@ -213,9 +214,9 @@ pub(crate) fn take_back(
     refusal: Refusal,
     post: &mut Post<Item<Capsule>>,
 ) -> Result<(), NoMemory>
-    requires { Keeps router.old }
+    requires { RouterInvariant router.old }
     ensures edges { SameEdges post.old post.new }
-    ensures took { OnOk result (TakesIt from (items.Back graft capsule refusal) router.old post.old router.new post.new) }
+    ensures took { OnOk result (RouterTakesIt from (items.Back graft capsule refusal) router.old post.old router.new post.new) }
 {
     let peering = capsule.config().peering;
     let place = usize::from(peering.0);
@@ -256,9 +257,9 @@ pub(crate) fn take_asked(
     peering: PeeringId,
     post: &mut Post<Item<Capsule>>,
 ) -> Result<(), NoMemory>
-    requires { Keeps router.old }
+    requires { RouterInvariant router.old }
     ensures edges { SameEdges post.old post.new }
-    ensures took { OnOk result (TakesIt from (items.Asked graft peering) router.old post.old router.new post.new) }
+    ensures took { OnOk result (RouterTakesIt from (items.Asked graft peering) router.old post.old router.new post.new) }
 {
     if from >= router.routers as usize {
         return note_dropped(post);
@@ -277,9 +278,9 @@ pub(crate) fn take_answered(
     peering: PeeringId,
     post: &mut Post<Item<Capsule>>,
 ) -> Result<(), NoMemory>
-    requires { Keeps router.old }
+    requires { RouterInvariant router.old }
     ensures edges { SameEdges post.old post.new }
-    ensures took { OnOk result (TakesIt from (items.Answered graft peering) router.old post.old router.new post.new) }
+    ensures took { OnOk result (RouterTakesIt from (items.Answered graft peering) router.old post.old router.new post.new) }
 {
     if from >= router.routers as usize {
         return note_dropped(post);
@@ -300,9 +301,9 @@ pub(crate) fn take_done(
     peering: PeeringId,
     post: &mut Post<Item<Capsule>>,
 ) -> Result<(), NoMemory>
-    requires { Keeps router.old }
+    requires { RouterInvariant router.old }
     ensures edges { SameEdges post.old post.new }
-    ensures took { OnOk result (TakesIt from (items.Done graft peering) router.old post.old router.new post.new) }
+    ensures took { OnOk result (RouterTakesIt from (items.Done graft peering) router.old post.old router.new post.new) }
 {
     let place = usize::from(peering.0);
     if from >= router.routers as usize {

@@ -73,7 +73,8 @@ fn enter_one(
     session: &Session,
     prefix: Prefix,
 ) -> Result<(), NoMemory>
-    ensures { OnOk result (SetsEntry (rib_of rib.old) session.now.session.config.peering.0 prefix (entry_here home_as policies.now session.now.session prefix) (rib_of rib.new)) }
+    ensures { OnOk result (SetsEntry (rib_of rib.old) session.now.session.config.peering.0 prefix
+        (entry_here home_as policies.now session.now.session prefix) (rib_of rib.new)) }
 {
     let entry = brought(home_as, policies, session, prefix)?;
     rib.set_in(From::Peering(session.config().peering), entry)
@@ -87,7 +88,8 @@ pub(crate) fn enter(
     session: &Session,
     prefixes: &[Prefix],
 ) -> Result<(), NoMemory>
-    ensures { OnOk result (EntersAll (rib_of rib.old) session.now.session.config.peering.0 (entry_here home_as policies.now session.now.session) prefixes.now (rib_of rib.new)) }
+    ensures { OnOk result (EntersAll (rib_of rib.old) session.now.session.config.peering.0
+        (entry_here home_as policies.now session.now.session) prefixes.now (rib_of rib.new)) }
 {
     for prefix in prefixes {
         enter_one(rib, home_as, policies, session, *prefix)?;

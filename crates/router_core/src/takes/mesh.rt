@@ -3,8 +3,8 @@
 ghost use Rattle.std.specs.Prelude.{OnOk};
 ghost use Rattle.ring_net.specs.Posts.{SameEdges};
 ghost use Rattle.graft_steps.specs.declared.item.Item.TheVariants as items;
-ghost use Rattle.router_core.specs.Parts.{Keeps};
-ghost use Rattle.router_core.specs.Takes.{TakesIt};
+ghost use Rattle.router_core.specs.Parts.{RouterInvariant};
+ghost use Rattle.router_core.specs.Takes.{RouterTakesIt};
 
 use crate::fields::Fields;
 use bgp_session::Capsule;
@@ -24,9 +24,9 @@ pub(crate) fn hear(
     route: Option<Route>,
     post: &mut Post<Item<Capsule>>,
 ) -> Result<(), NoMemory>
-    requires { Keeps router.old }
+    requires { RouterInvariant router.old }
     ensures edges { SameEdges post.old post.new }
-    ensures took { OnOk result (TakesIt from (items.Told prefix route) router.old post.old router.new post.new) }
+    ensures took { OnOk result (RouterTakesIt from (items.Told prefix route) router.old post.old router.new post.new) }
 {
     if from >= router.routers as usize {
         return note_dropped(post);

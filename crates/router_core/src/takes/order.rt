@@ -3,8 +3,8 @@
 ghost use Rattle.std.specs.Prelude.{OnOk};
 ghost use Rattle.ring_net.specs.Posts.{SameEdges};
 ghost use Rattle.graft_steps.specs.declared.item.Item.TheVariants as items;
-ghost use Rattle.router_core.specs.Parts.{Keeps};
-ghost use Rattle.router_core.specs.Takes.{IsOther, TakesIt};
+ghost use Rattle.router_core.specs.Parts.{RouterInvariant};
+ghost use Rattle.router_core.specs.Takes.{IsNoRouterItem, RouterTakesIt};
 
 use crate::fields::Fields;
 use crate::place::{is_free, store};
@@ -25,9 +25,9 @@ pub(crate) fn admit(
     target: RouterId,
     post: &mut Post<Item<Capsule>>,
 ) -> Result<(), NoMemory>
-    requires { Keeps router.old }
+    requires { RouterInvariant router.old }
     ensures edges { SameEdges post.old post.new }
-    ensures took { OnOk result (TakesIt from (items.GraftOrder graft peering target) router.old post.old router.new post.new) }
+    ensures took { OnOk result (RouterTakesIt from (items.GraftOrder graft peering target) router.old post.old router.new post.new) }
 {
     if from != router.routers as usize + router.places.len() {
         return note_dropped(post);
@@ -55,10 +55,10 @@ pub(crate) fn drop_other(
     item: Item<Capsule>,
     post: &mut Post<Item<Capsule>>,
 ) -> Result<(), NoMemory>
-    requires keeps { Keeps router.old }
-    requires other { IsOther item }
+    requires keeps { RouterInvariant router.old }
+    requires other { IsNoRouterItem item }
     ensures edges { SameEdges post.old post.new }
-    ensures took { OnOk result (TakesIt from item router.old post.old router.new post.new) }
+    ensures took { OnOk result (RouterTakesIt from item router.old post.old router.new post.new) }
 {
     note_dropped(post)
 }

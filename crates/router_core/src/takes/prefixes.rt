@@ -5,12 +5,12 @@ ghost use Rattle.router_core.specs.Reading.{AddsAll, IsDueAgain, IsDueBest};
 
 use bgp_session::Session;
 use bgp_types::{NoMemory, Prefix};
-use due_set::DueSet;
+use prefix_set::PrefixSet;
 use rib_stages::Rib;
 use std::alloc::Global;
 
 /// Adds prefixes to a set.
-fn add_all(set: &mut DueSet, prefixes: &[Prefix]) -> Result<(), NoMemory>
+fn add_all(set: &mut PrefixSet, prefixes: &[Prefix]) -> Result<(), NoMemory>
     ensures { OnOk result (AddsAll set.old prefixes.now set.new) }
 {
     for prefix in prefixes {
@@ -20,17 +20,17 @@ fn add_all(set: &mut DueSet, prefixes: &[Prefix]) -> Result<(), NoMemory>
 }
 
 /// Returns the set of the prefixes that have a best route: those that are due on a session once it is established.
-pub(crate) fn all_best(alloc: Global, rib: &Rib) -> Result<DueSet, NoMemory>
+pub(crate) fn all_best(alloc: Global, rib: &Rib) -> Result<PrefixSet, NoMemory>
     ensures { IfOk result (λ set. IsDueBest rib.now.best set) }
 {
-    let mut set = DueSet::new(alloc);
+    let mut set = PrefixSet::new(alloc);
     add_all(&mut set, rib.best_prefixes()?.as_slice())?;
     Ok(set)
 }
 
 /// Returns the set of the prefixes that were told on a session or have a best route: those that are due on a session
 /// that is live again.
-pub(crate) fn due_again(alloc: Global, rib: &Rib, session: &Session) -> Result<DueSet, NoMemory>
+pub(crate) fn due_again(alloc: Global, rib: &Rib, session: &Session) -> Result<PrefixSet, NoMemory>
     ensures { IfOk result (λ set. IsDueAgain session.now.session.told rib.now.best set) }
 {
     let mut set = all_best(alloc, rib)?;

@@ -26,7 +26,8 @@ fn enter_at(router: &mut Fields, place: usize, prefixes: &[Prefix]) -> Result<()
     requires { place < length router.old.places.places }
     ensures same { OnOk result (router.new ≡ record router.old { rib = router.new.rib }) }
     ensures entered { (s : RunningSession) (o : Option Errand) → RunsAt router.old.places.places place s o
-        → OnOk result (EntersAll (rib_of router.old.rib) s.session.config.peering.0 (entry_here router.old.home_as router.old.policies s.session) prefixes.now (rib_of router.new.rib)) }
+        → OnOk result (EntersAll (rib_of router.old.rib) s.session.config.peering.0 (entry_here router.old.home_as router.old.policies s.session)
+        prefixes.now (rib_of router.new.rib)) }
 {
     match router.places.get(place) {
         Some(Place::Live { session, .. }) => enter(
@@ -76,7 +77,8 @@ fn read_one(
 ) -> Result<bool, NoMemory>
     requires { KeepsBut peering.0 router.old }
     ensures edges { SameEdges post.old post.new }
-    ensures read { IfOk result (λ more. MatchBool more (ReadsOne peering.0 router.old post.old router.new post.new) (ReadsNone peering.0 router.old post.old router.new post.new)) }
+    ensures read { IfOk result (λ more. MatchBool more (ReadsOne peering.0 router.old post.old router.new post.new)
+        (ReadsNone peering.0 router.old post.old router.new post.new)) }
 {
     let Some(step) = read(&mut router.places, usize::from(peering.0))? else {
         return Ok(false);

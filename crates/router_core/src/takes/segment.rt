@@ -5,8 +5,8 @@ ghost use Rattle.ring_net.specs.Posts.{SameEdges};
 ghost use Rattle.graft_steps.specs.declared.item.Item.TheVariants as items;
 ghost use Rattle.tcp_seq.specs.declared.segment.Way.TheVariants as ways;
 ghost use Rattle.graft_actors.specs.Items.{IsSegmentOf};
-ghost use Rattle.router_core.specs.Parts.{Keeps};
-ghost use Rattle.router_core.specs.Takes.{TakesIt};
+ghost use Rattle.router_core.specs.Parts.{RouterInvariant};
+ghost use Rattle.router_core.specs.Takes.{RouterTakesIt};
 
 use crate::fields::Fields;
 use crate::place::arrive;
@@ -24,9 +24,10 @@ const MOST_BYTES: usize = 65_535;
 
 /// Returns whether a segment is of this peering and goes home, with sequence numbers within its streams.
 fn is_of(router: &Fields, peering: PeeringId, segment: &Segment) -> bool
-    requires keeps { Keeps router.now }
+    requires keeps { RouterInvariant router.now }
     requires there { peering.0 < length router.now.places.places }
-    ensures { MatchBool result (IsSegmentOf router.now.known.setup peering.0 ways.Home segment.now) (¬ IsSegmentOf router.now.known.setup peering.0 ways.Home segment.now) }
+    ensures { MatchBool result (IsSegmentOf router.now.known.setup peering.0 ways.Home segment.now)
+        (¬ IsSegmentOf router.now.known.setup peering.0 ways.Home segment.now) }
 {
     let Some(firsts) = router.firsts.get(usize::from(peering.0)) else {
         return false;
@@ -46,9 +47,9 @@ pub(crate) fn take_segment(
     segment: Segment,
     post: &mut Post<Item<Capsule>>,
 ) -> Result<(), NoMemory>
-    requires { Keeps router.old }
+    requires { RouterInvariant router.old }
     ensures edges { SameEdges post.old post.new }
-    ensures took { OnOk result (TakesIt from (items.Seg segment) router.old post.old router.new post.new) }
+    ensures took { OnOk result (RouterTakesIt from (items.Seg segment) router.old post.old router.new post.new) }
 {
     let routers = router.routers as usize;
     if from < routers {

@@ -1,5 +1,5 @@
 use bgp_types::Prefix;
-use due_set::DueSet;
+use prefix_set::PrefixSet;
 use std::alloc::Global;
 use std::process::Abort;
 use std::test::Fail;
@@ -90,7 +90,7 @@ fn prefix(number: u8) -> Result<Prefix, Fail> {
     Ok(Prefix::new(address, 16).ok_or("the length is at most 32")?)
 }
 
-fn run(set: &mut DueSet, step: Step) -> Result<(), Fail> {
+fn run(set: &mut PrefixSet, step: Step) -> Result<(), Fail> {
     match step {
         Step::Insert(number) => set.insert(prefix(number)?)?,
         Step::Remove(number) => set.remove(prefix(number)?),
@@ -101,7 +101,7 @@ fn run(set: &mut DueSet, step: Step) -> Result<(), Fail> {
 
 /// Runs a case, and checks that the set is left with its prefixes.
 fn run_case(rt: &impl Abort, alloc: Global, case: &Case) -> Result<(), Fail> {
-    let mut set = DueSet::new(alloc);
+    let mut set = PrefixSet::new(alloc);
     for step in case.steps {
         run(&mut set, *step)?;
     }

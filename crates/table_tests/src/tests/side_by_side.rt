@@ -2,38 +2,23 @@ use super::walk::longest;
 use bgp_types::{NoMemory, Prefix, Table};
 use prefix_table::SortedTable;
 use prefix_trie::TrieTable;
+use row_harness::Random;
 use std::alloc::{AllocError, Global};
 use std::process::Abort;
 use std::test::Fail;
 
-/// A linear congruential generator, of which the upper bits are used (Knuth's MMIX).
-#[derive(Drop)]
-struct Numbers {
-    state: u64,
-}
-
-impl Numbers {
-    fn next(&mut self) -> u32 {
-        self.state = self
-            .state
-            .wrapping_mul(6_364_136_223_846_793_005)
-            .wrapping_add(1_442_695_040_888_963_407);
-        (self.state >> 32) as u32
-    }
-}
-
 /// One of four addresses, or one that differs from it in a bit: so that many prefixes of them are equal, cover one
 /// another or diverge at some bit.
-fn any_address(numbers: &mut Numbers) -> u32 {
-    let base = numbers.next() % 4 * 0x5555_5555;
-    let bit = numbers.next() % 64;
+fn any_address(random: &mut Random) -> u32 {
+    let base = random.below(4) * 0x5555_5555;
+    let bit = random.below(64);
     if bit < 32 { base ^ 1 << bit } else { base }
 }
 
 /// Returns a prefix of any length.
-fn any_prefix(numbers: &mut Numbers) -> Option<Prefix> {
-    let address = any_address(numbers);
-    Prefix::new(address, (numbers.next() % 33) as u8)
+fn any_prefix(random: &mut Random) -> Option<Prefix> {
+    let address = any_address(random);
+    Prefix::new(address, random.below(33) as u8)
 }
 
 #[derive(Debug, Drop)]
@@ -50,11 +35,11 @@ enum Answer {
     Next(Option<Prefix>),
 }
 
-fn any_command(numbers: &mut Numbers) -> Option<Command> {
-    let kind = numbers.next() % 8;
-    let prefix = any_prefix(numbers)?;
+fn any_command(random: &mut Random) -> Option<Command> {
+    let kind = random.below(8);
+    let prefix = any_prefix(random)?;
     Some(match kind {
-        0..=3 => Command::Set(prefix, numbers.next()),
+        0..=3 => Command::Set(prefix, random.below(u32::MAX)),
         4 | 5 => Command::Remove(prefix),
         6 => Command::Get(prefix),
         _ => Command::NextAfter(prefix),
@@ -93,17 +78,17 @@ fn passed<T: Table<u32>>(alloc: Global, table: &T) -> Result<Vec<(Prefix, u32)>,
 fn run_both<R: Abort>(
     rt: &R,
     alloc: Global,
-    numbers: &mut Numbers,
+    random: &mut Random,
     commands: u32,
 ) -> Result<(), Fail> {
     let mut plain = SortedTable::new(alloc);
     let mut trie = TrieTable::new(alloc);
     for at in 0..commands {
-        let command = any_command(numbers).ok_or("a length is at most 32")?;
+        let command = any_command(random).ok_or("a length is at most 32")?;
         let want = run(&mut plain, &command)?;
         assert_eq!(rt; run(&mut trie, &command)?, want, "{at}: {command:?}");
         assert_eq!(rt; trie.len(), plain.len());
-        let address = any_address(numbers);
+        let address = any_address(random);
         assert_eq!(rt; trie.longest_match(address), longest(&plain, address));
         if at % 20 == 19 {
             let entries = passed(alloc, &plain)?;
@@ -116,14 +101,14 @@ fn run_both<R: Abort>(
 
 #[test]
 fn a_long_run_is_answered_alike(rt: HostRuntime) -> Result<(), Fail> {
-    run_both(&rt, rt.alloc(), &mut Numbers { state: 1 }, 2_000)
+    run_both(&rt, rt.alloc(), &mut Random::new(1), 2_000)
 }
 
 #[test]
 fn short_runs_are_answered_alike(rt: HostRuntime) -> Result<(), Fail> {
-    let mut numbers = Numbers { state: 2 };
+    let mut random = Random::new(2);
     for _ in 0..100u8 {
-        run_both(&rt, rt.alloc(), &mut numbers, 20)?;
+        run_both(&rt, rt.alloc(), &mut random, 20)?;
     }
     Ok(())
 }

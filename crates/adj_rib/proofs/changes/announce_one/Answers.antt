@@ -1,7 +1,7 @@
 use Rattle.std.specs.Arc.{arc_value}
 use Rattle.std.proofs.Common.{List, sym, ◌∙◌, subst}
 use Rattle.bgp_types.specs.Prefixes.{PrefixValue}
-use Rattle.adj_rib.specs.Changes.{Moved}
+use Rattle.adj_rib.specs.Changes.{RoutesMoved}
 use Rattle.adj_rib.proofs.Moves.{announced, had_it}
 use Rattle.adj_rib.proofs.changes.announce_one.Goals as goal
 
@@ -11,5 +11,5 @@ returns-then-is_same-clause-changed c = λ before to gives m.
 
 pub returns-clause-changed : goal.returns-clause-changed
 returns-clause-changed c = λ before to gives m.
-    subst (λ (ps : List PrefixValue). Moved to before c.set.new.self ps) (sym c.in_ok-push.ensures.ok)
+    subst (λ (ps : List PrefixValue). RoutesMoved to before c.set.new.self ps) (sym c.in_ok-push.ensures.ok)
     (announced to before c.args.routes.now c.set.new.self c.args.changed.now m c.args.prefix (arc_value c.args.attrs.now) c.in_ok-had.ensures.set gives (λ e. c.if-is_same.ensures (c.in_ok-had.ensures.had ∙ e)))

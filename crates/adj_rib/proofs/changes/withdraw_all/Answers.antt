@@ -2,7 +2,7 @@ use Rattle.std.proofs.Common.{◌≡◌, List, ap, ◌∙◌}
 use Rattle.std.specs.Prelude.{fold, is_some}
 use Rattle.std.specs.List.{list_any}
 use Rattle.bgp_types.specs.Prefixes.{PrefixValue, same_prefix}
-use Rattle.adj_rib.specs.Changes.{given, withdraw_unless}
+use Rattle.adj_rib.specs.Changes.{given_by_update, withdraw_unless}
 use Rattle.adj_rib.proofs.Moves.{all_but_announced, none_withdrawn}
 use Rattle.adj_rib.proofs.changes.withdraw_all.Goals as goal
 
@@ -22,5 +22,5 @@ returns-clause-routes c =
 pub returns-clause-changed : goal.returns-clause-changed
 returns-clause-changed c =
     let u = c.args.update.now in
-    let among : (p : PrefixValue) → list_any (same_prefix p) c.as_slice-2.result.now ≡ is_some (given u p) = λ p. ap (list_any (same_prefix p)) c.as_slice-2.ensures ∙ c.in_ok-announced.ensures.given p in
-    λ before m. c.in_ok-withdraw.ensures.changed before (given u) among m
+    let among : (p : PrefixValue) → list_any (same_prefix p) c.as_slice-2.result.now ≡ is_some (given_by_update u p) = λ p. ap (list_any (same_prefix p)) c.as_slice-2.ensures ∙ c.in_ok-announced.ensures.given p in
+    λ before m. c.in_ok-withdraw.ensures.changed before (given_by_update u) among m

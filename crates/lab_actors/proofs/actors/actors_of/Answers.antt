@@ -1,7 +1,7 @@
 use Rattle.std.proofs.Common.{◌≡◌, ℕ, ◌+◌, length, Some, sym, ap, ◌∙◌, subst, arith}
 use Rattle.graft_model.specs.Setups.{Setup, routers_in, peerings_in}
-use Rattle.graft_runs.specs.Actors.{Operator, actor_at}
-use Rattle.graft_runs.proofs.Numbers.{there}
+use Rattle.graft_actors.specs.Actors.{Operator, actor_at}
+use Rattle.graft_actors.proofs.Numbers.{there}
 use Rattle.lab_setup.specs.Setups.{setup_of}
 use Rattle.lab_setup.proofs.Ready.{as_many_routers, as_many_peerings}
 use Rattle.lab_actors.specs.Firsts.{AreFirstUpTo}

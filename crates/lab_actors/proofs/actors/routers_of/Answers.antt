@@ -1,7 +1,7 @@
 use Rattle.std.proofs.Common.{◌≡◌, ◌+◌, ◌<◌, ◌≤◌, length, sym, subst, arith}
 use Rattle.graft_model.specs.Setups.{Setup, routers_in}
-use Rattle.graft_runs.specs.Actors.{Router}
-use Rattle.graft_runs.proofs.Numbers.{there}
+use Rattle.graft_actors.specs.Actors.{Router}
+use Rattle.graft_actors.proofs.Numbers.{there}
 use Rattle.lab_setup.specs.Setups.{setup_of}
 use Rattle.lab_setup.proofs.Ready.{as_many_routers}
 use Rattle.node_configs.proofs.Accepted.{few}

@@ -6,7 +6,7 @@ use Rattle.bgp_types.specs.Texts.{address_text}
 use Rattle.lab_keys.specs.Kinds.{first_of}
 use Rattle.lab_keys.specs.Values.{text_at, maybe_text}
 use Rattle.lab_input.specs.declared.bad.BadInput.{BadInput}
-use Rattle.lab_input.specs.Names.{repeated_if, unknown, unknown_at, policies_at, remote_of}
+use Rattle.lab_input.specs.Names.{repeated_if, unknown, unknown_at, policies_at, remote_address_of}
 use Rattle.lab_input.proofs.Firsts.{first_of_parts}
 use Rattle.lab_input.proofs.named.peering_named.Goals as goal
 
@@ -18,7 +18,7 @@ returns c =
     let policies = policies_at routers (text_at (codes "at") t) in
     let name = repeated_if c.args.again.name (text_at (codes "name") t) in
     let at : List (List ℕ) → Option BadInput = λ known. unknown known (text_at (codes "at") t) in
-    let remote = repeated_if c.args.again.remote (address_text (remote_of t)) in
+    let remote = repeated_if c.args.again.remote (address_text (remote_address_of t)) in
     let rest = first_of (unknown_at policies (maybe_text (codes "import") t) ∷ unknown_at policies (maybe_text (codes "export") t) ∷ []) in
     let place : c.in_ok-place.place ≡ option_or name (option_or (at names) (option_or remote None)) =
     c.in_ok-place.ensures ∙ ap (λ known. option_or name (option_or (at known) (option_or remote None))) c.requires in

@@ -4,7 +4,7 @@ use Rattle.std.proofs.lemmas.Bool.{false≢true}
 use Rattle.toml.specs.Parse.{parse_document}
 use Rattle.toml.specs.View.{table_view}
 use Rattle.lab_input.specs.Bytes.{document_of}
-use Rattle.lab_input.specs.Labs.{input_in, Answers}
+use Rattle.lab_input.specs.Labs.{input_in, ReaderAnswers}
 use Rattle.lab_input.proofs.Bytes.{document_of-text, document_of-no_text, input_of-long, input_of-short}
 use Rattle.lab_input.proofs.read.read_lab.Goals as goal
 
@@ -21,7 +21,7 @@ returns-in-Ok-table_from_str c =
     let same = c.in-Ok.ensures.cases.0 in
     let read : parse_document bytes ≡ Some document = ap parse_document (sym same) ∙ c.in-Ok-table_from_str.ensures.ok in
     let is : document_of bytes ≡ Some document = document_of-text bytes c.in-Ok.ensures.cases.1 ∙ read in
-    subst (λ answer. Answers answer c.read_document.result) (sym (input_of-short bytes (omega arith) ∙ ap input_in is)) c.read_document.ensures
+    subst (λ answer. ReaderAnswers answer c.read_document.result) (sym (input_of-short bytes (omega arith) ∙ ap input_in is)) c.read_document.ensures
 
 pub returns-else-is_memory : goal.returns-else-is_memory
 returns-else-is_memory c =

@@ -5,7 +5,8 @@ use Rattle.lab_keys.proofs.keys.stray_in.Goals as goal
 
 pub returns-in_err-key : goal.returns-in_err-key
 returns-in_err-key c =
-    ap (option_map (λ k. k.now)) c.from_residual.ensures ∙ ap (option_map string_bytes) c.in_err-key.ensures ∙ stray_found c.args.known.now c.args.table.now.entries
+    ap (option_map (λ k. k.now)) c.from_residual.ensures ∙ ap (option_map string_bytes) c.in_err-key.ensures
+    ∙ stray_found c.args.known.now c.args.table.now.entries
 
 pub returns : goal.returns
 returns c = ap Some c.as_str.ensures.value ∙ ap (option_map string_bytes) c.in_ok-key.ensures ∙ stray_found c.args.known.now c.args.table.now.entries

@@ -11,4 +11,5 @@ loop-place-preserved c =
     let lines = flat_map (short_peering_line c.args.input.now c.args.sessions.now c.args.placement.now) (enumerate_from 0 (take c.loop-place.place c.as_slice-peerings.result.now)) in
     let piece = short_peering_line c.args.input.now c.args.sessions.now c.args.placement.now (c.loop-place.place, c.index-peerings-place.result) in
     let more = flat_map_numbered (short_peering_line c.args.input.now c.args.sessions.now c.args.placement.now) c.as_slice-peerings.result.now c.loop-place.place c.index-peerings-place.result below c.index-peerings-place.is in
-    c.in_ok-push_short_peering.ensures ∙ ap (λ t. t ++ piece) c.loop-place.invariant ∙ append_assoc (string_bytes c.args.text.now) lines piece ∙ ap (λ l. string_bytes c.args.text.now ++ l) (sym more)
+    c.in_ok-push_short_peering.ensures ∙ ap (λ t. t ++ piece) c.loop-place.invariant ∙ append_assoc (string_bytes c.args.text.now) lines piece
+    ∙ ap (λ l. string_bytes c.args.text.now ++ l) (sym more)

@@ -11,4 +11,5 @@ loop-place-preserved c =
     let lines = flat_map (short_router_line c.args.tables.now) (enumerate_from 0 (take c.loop-place.place c.args.routers.now)) in
     let piece = short_router_line c.args.tables.now (c.loop-place.place, c.index-routers-place.result) in
     let more = flat_map_numbered (short_router_line c.args.tables.now) c.args.routers.now c.loop-place.place c.index-routers-place.result below c.index-routers-place.is in
-    c.in_ok-push_short_router.ensures ∙ ap (λ t. t ++ piece) c.loop-place.invariant ∙ append_assoc (string_bytes c.args.text.now) lines piece ∙ ap (λ l. string_bytes c.args.text.now ++ l) (sym more)
+    c.in_ok-push_short_router.ensures ∙ ap (λ t. t ++ piece) c.loop-place.invariant ∙ append_assoc (string_bytes c.args.text.now) lines piece
+    ∙ ap (λ l. string_bytes c.args.text.now ++ l) (sym more)

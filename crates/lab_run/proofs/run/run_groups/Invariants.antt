@@ -1,13 +1,14 @@
 use Rattle.std.proofs.Common.{◌≡◌, take}
 use Rattle.graft_model.specs.Setups.{Setup, IsSetup}
 use Rattle.world_nodes.specs.Edges.{HasCounts}
-use Rattle.world_nodes.specs.Courses.{stand, counts, AllWork}
+use Rattle.world_nodes.specs.RunningLabs.{stand, counts, AllWork}
 use Rattle.lab_run.specs.Stories.{GroupsGo}
 use Rattle.lab_run.proofs.run.run_groups.Given as goal
 
 abbrev pub invariant-loop-place : goal.invariant-loop-place
 invariant-loop-place g l = record {
-  works : AllWork l.course;
-  same : counts l.course ≡ counts l.fn.course;
-  goes : (setup : Setup) → IsSetup setup → HasCounts setup (counts l.fn.course) → GroupsGo setup (stand l.fn.course) (take l.place l.budgets) l.made (stand l.course);
+  works : AllWork l.running;
+  same : counts l.running ≡ counts l.fn.running;
+  goes : (setup : Setup) → IsSetup setup → HasCounts setup (counts l.fn.running)
+      → GroupsGo setup (stand l.fn.running) (take l.place l.budgets) l.made (stand l.running);
 }

@@ -2,7 +2,7 @@ use Rattle.std.proofs.Common.{◌≡◌, ◌+◌, ◌++◌, ◌∷◌, [], ℕ, 
 use Rattle.std.specs.Prelude.{slice_get}
 use Rattle.std.specs.List.{flat_map, range_with_len}
 use Rattle.std.specs.Option.{option_copied}
-use Rattle.far_side.specs.Fars.{part_in}
+use Rattle.far_side.specs.Fars.{part_of_far}
 use Rattle.far_side.specs.declared.far.Far.{Far}
 use Rattle.lab_report.specs.declared.lab.FarView.{FarView}
 use Rattle.lab_seen.specs.Found.{far_in, fars_of}
@@ -23,7 +23,7 @@ loop-number-preserved c =
           w.fars-is
           ∙ w.in_ok-push.ensures.ok
           ∙ ap (λ (v : FarView). at.fars ++ v ∷ []) w.in_ok-far_view.ensures
-          ∙ ap (λ (vs : List FarView). vs ++ far_view (part_in far) ∷ []) at.invariant
+          ∙ ap (λ (vs : List FarView). vs ++ far_view (part_of_far far) ∷ []) at.invariant
           ∙ ap (λ (o : Option Far). so_far ++ fars_of o) (sym found)
           ∙ sym (one_number_more fars at.number)
       | in_default w ↦

@@ -8,7 +8,7 @@ use Rattle.lab_tables.specs.declared.input.LabInput.{LabInput}
 use Rattle.lab_tables.specs.declared.input.PeeringInput.{PeeringInput}
 use Rattle.lab_tables.specs.declared.input.RouterInput.{RouterInput}
 use Rattle.lab_tables.specs.declared.input.Step.{Step}
-use Rattle.lab_tables.specs.Peerings.{cost_of, peering_of, fault_of}
+use Rattle.lab_tables.specs.Peerings.{cost_of, peering_input, fault_of}
 use Rattle.lab_tables.specs.Scripts.{step_of}
 use Rattle.lab_tables.specs.Documents.{routers_of, router_names_of, peerings_of, peering_names_of}
 use Rattle.lab_tables.proofs.labs.lab_of.Goals as goal
@@ -33,7 +33,7 @@ returns c =
     let doc = table_view c.args.doc.now in
     let routers : c.in_ok-routers.routers ≡ routers_of doc = c.in_ok-routers.ensures in
     let names : c.in_ok-names.names ≡ router_names_of doc = c.in_ok-names.ensures ∙ ap (map (λ r. r.name)) (c.deref.ensures ∙ routers) in
-    let peerings : c.in_ok-peerings.peerings ≡ peerings_of doc = c.in_ok-peerings.ensures ∙ ap (λ ns. map (peering_of doc ns) (tables_at (codes "peering") doc)) names in
+    let peerings : c.in_ok-peerings.peerings ≡ peerings_of doc = c.in_ok-peerings.ensures ∙ ap (λ ns. map (peering_input doc ns) (tables_at (codes "peering") doc)) names in
     let remotes : c.in_ok-remotes.remotes ≡ peering_names_of doc = c.in_ok-remotes.ensures ∙ ap (map (λ p. p.name)) (c.deref-2.ensures ∙ peerings) in
     lab_same _ _ _ _ _ _ _ _ _ _ _ _ _ _
     c.number_or.ensures

@@ -6,17 +6,17 @@ use Rattle.toml.specs.Data.{Data}
 use Rattle.toml.specs.View.{view}
 use Rattle.lab_keys.specs.declared.flaw.Flaw.{Flaw}
 use Rattle.lab_keys.specs.declared.table_at.TableAt.TheVariants.{Top}
-use Rattle.lab_keys.specs.Places.{Place, place, member_of}
+use Rattle.lab_keys.specs.Places.{KeyPlace, place, member_of}
 use Rattle.lab_keys.specs.Kinds.{each_from, table_flaw}
 use Rattle.lab_keys.proofs.Walks.{each_goes_on}
-use Rattle.lab_tables.specs.Scripts.{is_word, is_settle, is_evacuate, evacuates, group_before, group_from, grouped_flaw}
+use Rattle.lab_tables.specs.Scripts.{is_word, is_settle_word, is_evacuate, evacuates, group_before, group_from, grouped_flaw}
 use Rattle.lab_tables.proofs.Groups.{any_mapped, group_next, mapped_get, mapped_drop, rest_whole}
 use Rattle.lab_tables.proofs.scripts.items_flaw.Invariants.{step_at}
 use Rattle.lab_tables.proofs.scripts.items_flaw.Goals as goal
 
 pub loop-i-init : goal.loop-i-init
 loop-i-init c = record {
-  grouped = record { before_is = refl; whole_is = c.evacuates_in-whole.ensures ∙ any_mapped (is_word is_settle) (is_word is_evacuate) view c.args.steps.now };
+  grouped = record { before_is = refl; whole_is = c.evacuates_in-whole.ensures ∙ any_mapped (is_word is_settle_word) (is_word is_evacuate) view c.args.steps.now };
   walk = refl;
 }
 
@@ -30,10 +30,12 @@ loop-i-preserved c =
     let at = c.loop-i.invariant.grouped in
     let within : i < length steps = omega arith in
     let inside : i < length xs = omega (arith, length-map steps view) in
-    let S : Data → Bool = is_word is_settle in
+    let S : Data → Bool = is_word is_settle_word in
     let ahead : list_any (λ w. is_word is_evacuate (view w)) (before_first (λ w. S (view w)) (take (length steps - (i + 1)) (drop (i + 1) steps))) ≡ evacuates (group_from xs (i + 1)) =
-    ap (λ ys. list_any (λ w. is_word is_evacuate (view w)) (before_first (λ w. S (view w)) ys)) (rest_whole steps (i + 1)) ∙ any_mapped S (is_word is_evacuate) view (drop (i + 1) steps) ∙ ap (λ ys. evacuates (before_first S ys)) (sym (mapped_drop view steps (i + 1))) in
-    let spot : Place = member_of (place Top (codes "step")) i in
+    ap (λ ys. list_any (λ w. is_word is_evacuate (view w)) (before_first (λ w. S (view w)) ys)) (rest_whole steps (i + 1))
+    ∙ any_mapped S (is_word is_evacuate) view (drop (i + 1) steps)
+    ∙ ap (λ ys. evacuates (before_first S ys)) (sym (mapped_drop view steps (i + 1))) in
+    let spot : KeyPlace = member_of (place Top (codes "step")) i in
     let none : None ≡ step_at xs i d =
     c.in_default.ensures
     ∙ ap (λ (b : Bool). table_flaw spot (grouped_flaw b c.loop-i.whole i) d) at.before_is

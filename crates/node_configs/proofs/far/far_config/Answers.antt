@@ -4,7 +4,7 @@ use Rattle.bgp_types.specs.declared.message.Message.TheVariants.{UpdateMsg}
 use Rattle.bgp_types.specs.Writable.{IsWritable}
 use Rattle.lab_tables.specs.declared.input.Step.{Step}
 use Rattle.lab_input.specs.Counts.{is_wide}
-use Rattle.lab_input.specs.Said.{update_of}
+use Rattle.lab_input.specs.Said.{step_update}
 use Rattle.node_configs.specs.Says.{says_of}
 use Rattle.node_configs.proofs.Accepted.{few, writable}
 use Rattle.lab_setup.proofs.Lists.{read_at}
@@ -19,7 +19,7 @@ says_of-requires-clause-few c =
 
 pub says_of-requires-clause-writable : goal.says_of-requires-clause-writable
 says_of-requires-clause-writable c =
-    subst (λ (steps : List Step). All (λ step. IsWritable (UpdateMsg (update_of step)) c.is_wide-wide.result) steps) (sym c.deref-2.ensures)
+    subst (λ (steps : List Step). All (λ step. IsWritable (UpdateMsg (step_update step)) c.is_wide-wide.result) steps) (sym c.deref-2.ensures)
     (writable c.args.input.now c.requires.accepted c.is_wide-wide.result)
 
 -- the peering of the number

@@ -3,7 +3,7 @@ use Rattle.std.specs.Prelude.{Option}
 use Rattle.lab_tables.specs.declared.input.Step.{Step}
 use Rattle.lab_input.proofs.Numbered.{flat_map_numbered}
 use Rattle.far_side.specs.declared.says.Say.{Say}
-use Rattle.lab_setup.specs.Said.{said_by}
+use Rattle.lab_setup.specs.Said.{bytes_of_step}
 use Rattle.node_configs.specs.Says.{say_if, says_of}
 use Rattle.node_configs.proofs.says.says_of.Goals as goal
 
@@ -11,7 +11,7 @@ use Rattle.node_configs.proofs.says.says_of.Goals as goal
 pub loop-i-preserved : goal.loop-i-preserved
 loop-i-preserved c =
     let below : c.loop-i.i < length c.args.steps.now = omega (arith, c.loop-i-test.true) in
-    let said : ℕ × Step → List Say = λ x. say_if x.0 (said_by c.args.wide c.args.peering.0 x.1) in
+    let said : ℕ × Step → List Say = λ x. say_if x.0 (bytes_of_step c.args.wide c.args.peering.0 x.1) in
     c.in_ok-push_said.ensures
     ∙ ap (λ (says : List Say). says ++ say_if c.loop-i.i c.in_ok-said.said) c.loop-i.invariant
     ∙ ap (λ (o : Option (List ℕ)). says_of c.args.wide c.args.peering.0 (take c.loop-i.i c.args.steps.now) ++ say_if c.loop-i.i o) c.in_ok-said.ensures

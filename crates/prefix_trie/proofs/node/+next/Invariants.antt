@@ -1,4 +1,5 @@
+use Rattle.prefix_trie.proofs.Levels.{left}
 use Rattle.prefix_trie.proofs.node.+next.Given as goal
 
 abbrev pub decreases-next : goal.decreases-next
-decreases-next g l = l.levels
+decreases-next g l = left l.nodes.now l.place

@@ -1,19 +1,14 @@
-use Rattle.std.proofs.Common.{◌≡◌, ◌≤◌, ◌+◌, ℕ, suc, List, Some, None, sym, ap, ◌∙◌, slice_get, length, arith, subst, inl, inr}
+use Rattle.std.proofs.Common.{◌≡◌, ◌≤◌, ℕ, List, Some, None, sym, ap, ◌∙◌, slice_get, length, arith, subst, inl, inr}
 use Rattle.std.specs.Option.{option_copied}
 use Rattle.std.proofs.lemmas.Option.{slice_get_past}
 use Rattle.prefix_trie.specs.declared.node.Node.{Node}
-use Rattle.prefix_trie.specs.Adding.{IsWay}
 use Rattle.prefix_trie.specs.Arena.{nowhere}
 use Rattle.prefix_trie.specs.Trimming.{IsTrimmed}
 use Rattle.prefix_trie.proofs.Apart.{left_apart}
 use Rattle.prefix_trie.proofs.Kept.{way_kept}
-use Rattle.prefix_trie.proofs.Standing.{stands_most}
 use Rattle.prefix_trie.proofs.Trimmed.{both_trimmed}
 use Rattle.prefix_trie.specs.Arena.{places_at}
 use Rattle.prefix_trie.proofs.node.trim.Goals as goal
-
-pub overflow_add-spot : goal.overflow_add-spot
-overflow_add-spot g c = let most = stands_most c.args.nodes.now 34 c.args.root c.args.spot.levels c.args.spot.at c.requires.spot.way.on in omega (arith, most)
 
 nowhere_empty : (nodes : List Node) (place : ℕ) (n : Node) → length nodes ≤ nowhere → slice_get nodes place ≡ Some n → place ≡ nowhere → ⊥
 nowhere_empty nodes place n few there is = let e : None ≡ Some n = sym (slice_get_past nodes place (omega (arith, few, is))) ∙ there in cc
@@ -26,13 +21,11 @@ trim_at-requires-clause-way g c =
     let there : slice_get fs s.above ≡ Some c.in-Some.node.now = sym c.node_at.ensures ∙ ap option_copied c.in-Some.is in
     let few : length fs ≤ nowhere = let few = c.requires.can.few in let many = c.trim_at-begin.ensures.trimmed.as_many in omega (arith, few, many) in
     let somewhere = nowhere_empty fs s.above c.in-Some.node.now few there in
-    let more : suc s.levels ≡ s.levels + 1 = omega arith in
     elim c.requires.upper [
       | inl no_place ↦ absurd (somewhere no_place)
-      | inr way ↦ elim c.requires.spot.way.below [
+      | inr way ↦ elim c.requires.spot.way [
         | inl top ↦ absurd (somewhere top.0)
-        | inr b ↦ subst (λ (j : ℕ). IsWay fs a.root a.prefix s.grand s.above j) more
-            (way_kept a.nodes.now fs a.root a.prefix s.grand s.above (suc s.levels) b.node b.there c.requires.can.trie (left_apart (places_at a.nodes.now 34 a.root) a.free.now.items c.requires.can.apart) c.trim_at-begin.ensures.others way)
+        | inr b ↦ way_kept a.nodes.now fs a.root a.prefix s.grand s.above b.node b.there c.requires.can.trie (left_apart (places_at a.nodes.now a.root) a.free.now.items c.requires.can.apart) c.trim_at-begin.ensures.others way
       ]
     ]
 
@@ -45,5 +38,5 @@ returns g c =
       | inl none ↦ absurd (let e : None ≡ Some c.in-Some.node.now = sym none ∙ there in cc)
       | inr is ↦ is
     ] in
-    both_trimmed a.nodes.now first.new.nodes c.trim_at.new.nodes a.values.now a.free.now.items first.new.free.items c.trim_at.new.free.items 34 a.root a.root c.trim_at.result
-    (subst (λ (to : ℕ). IsTrimmed a.nodes.now first.new.nodes a.values.now a.free.now.items first.new.free.items 34 a.root to) begins first.ensures.trimmed) c.trim_at.ensures.trimmed
+    both_trimmed a.nodes.now first.new.nodes c.trim_at.new.nodes a.values.now a.free.now.items first.new.free.items c.trim_at.new.free.items a.root a.root c.trim_at.result
+    (subst (λ (to : ℕ). IsTrimmed a.nodes.now first.new.nodes a.values.now a.free.now.items first.new.free.items a.root to) begins first.ensures.trimmed) c.trim_at.ensures.trimmed

@@ -1,9 +1,9 @@
-use Rattle.std.proofs.Common.{◌++◌, ◌∷◌, [], ℕ, List, Option, Some, refl, sym, ap, subst, ◌∙◌, arith, inl}
+use Rattle.std.proofs.Common.{◌++◌, ◌∷◌, [], ℕ, List, Some, refl, sym, ap, subst, ◌∙◌, arith, inl}
 use Rattle.std.specs.Vec.{with_item, with_items}
 use Rattle.std.proofs.lemmas.List.{with_items_is}
 use Rattle.prefix_trie.specs.declared.node.Node.{Node}
-use Rattle.prefix_trie.specs.Adding.{CanAdd}
-use Rattle.prefix_trie.proofs.Settled.{can_add, fresh_valued, put_trie, put_entries, added_in, kept_rest, kept_pushed}
+use Rattle.prefix_trie.specs.Adding.{CanAdd, IsAdded}
+use Rattle.prefix_trie.proofs.Settled.{can_add, fresh_valued, put_trie, put_entries, kept_rest, kept_pushed}
 use Rattle.prefix_trie.proofs.tree.put_free.Goals as goal
 
 pub add_node-added-requires-clause-can : goal.add_node-added-requires-clause-can
@@ -11,9 +11,8 @@ add_node-added-requires-clause-can g c =
     let s = c.in-Some-Some in
     let a = c.args in
     let free = s.ensures.items ∙ ap (λ (xs : List ℕ). xs ++ s.fresh ∷ []) s.ensures'.items in
-    subst (λ (ns : List Node). CanAdd ns c.deref.result.now a.prefix s.fresh s.spare 34 a.tree.now.root) (sym c.deref_mut.ensures.value)
-    (subst (λ (vs : List (Option g.row.V.Denot)). CanAdd a.tree.now.nodes.items vs a.prefix s.fresh s.spare 34 a.tree.now.root) (sym c.deref.ensures.value)
-    (can_add a.tree.now a.prefix c.pop-2.new.self.items s.spare s.fresh c.requires.trie free c.requires.sound c.requires.absent))
+    subst (λ (ns : List Node). CanAdd ns a.prefix s.fresh s.spare a.tree.now.root) (sym c.deref_mut.ensures.value)
+    (can_add a.tree.now a.prefix c.pop-2.new.self.items s.spare s.fresh c.requires.trie free c.requires.sound c.requires.absent)
 
 pub index_mut-requires : goal.index_mut-requires
 index_mut-requires g c =
@@ -31,7 +30,7 @@ returns-then-not-added-clause-trie g c =
     let t = a.tree.now in
     let rest = c.pop-2.new.self.items in
     let free = s.ensures.items ∙ ap (λ (xs : List ℕ). xs ++ s.fresh ∷ []) s.ensures'.items in
-    let added = added_in t a.prefix s.spare s.fresh c.deref_mut.result.now c.add_node-added.new.nodes c.deref.result.now c.add_node-added.result.root c.add_node-added.result.forked c.deref_mut.ensures.value c.deref.ensures.value c.add_node-added.ensures in
+    let added = subst (λ (ns : List Node). IsAdded ns c.add_node-added.new.nodes a.prefix s.fresh s.spare t.root c.add_node-added.result.root c.add_node-added.result.forked) c.deref_mut.ensures.value c.add_node-added.ensures in
     let kept = kept_pushed t a.prefix rest s.spare s.fresh c.requires.trie free c.add_node-added.result.forked c.if-not-added.true c.push.new.self.items _ c.push.ensures.items in
     put_trie t a.prefix rest s.spare s.fresh c.requires.trie free _ c.add_node-added.new.nodes a.value c.add_node-added.result.root c.add_node-added.result.forked added
     (with_items_is t.nodes c.add_node-added.new.nodes (added.as_many ∙ sym t.nodes.ok.0)) refl refl kept.0 kept.1
@@ -43,7 +42,7 @@ returns-then-not-added-clause-put g c =
     let t = a.tree.now in
     let rest = c.pop-2.new.self.items in
     let free = s.ensures.items ∙ ap (λ (xs : List ℕ). xs ++ s.fresh ∷ []) s.ensures'.items in
-    let added = added_in t a.prefix s.spare s.fresh c.deref_mut.result.now c.add_node-added.new.nodes c.deref.result.now c.add_node-added.result.root c.add_node-added.result.forked c.deref_mut.ensures.value c.deref.ensures.value c.add_node-added.ensures in
+    let added = subst (λ (ns : List Node). IsAdded ns c.add_node-added.new.nodes a.prefix s.fresh s.spare t.root c.add_node-added.result.root c.add_node-added.result.forked) c.deref_mut.ensures.value c.add_node-added.ensures in
     let kept = kept_pushed t a.prefix rest s.spare s.fresh c.requires.trie free c.add_node-added.result.forked c.if-not-added.true c.push.new.self.items _ c.push.ensures.items in
     put_entries t a.prefix rest s.spare s.fresh c.requires.trie free (record { nodes = with_items t.nodes c.add_node-added.new.nodes; values = with_item t.values s.fresh (Some a.value); free = c.push.new.self; root = c.add_node-added.result.root }) c.add_node-added.new.nodes a.value c.add_node-added.result.root c.add_node-added.result.forked added
     (with_items_is t.nodes c.add_node-added.new.nodes (added.as_many ∙ sym t.nodes.ok.0)) refl refl kept.0 kept.1
@@ -55,7 +54,7 @@ returns-else-not-added-clause-trie g c =
     let t = a.tree.now in
     let rest = c.pop-2.new.self.items in
     let free = s.ensures.items ∙ ap (λ (xs : List ℕ). xs ++ s.fresh ∷ []) s.ensures'.items in
-    let added = added_in t a.prefix s.spare s.fresh c.deref_mut.result.now c.add_node-added.new.nodes c.deref.result.now c.add_node-added.result.root c.add_node-added.result.forked c.deref_mut.ensures.value c.deref.ensures.value c.add_node-added.ensures in
+    let added = subst (λ (ns : List Node). IsAdded ns c.add_node-added.new.nodes a.prefix s.fresh s.spare t.root c.add_node-added.result.root c.add_node-added.result.forked) c.deref_mut.ensures.value c.add_node-added.ensures in
     put_trie t a.prefix rest s.spare s.fresh c.requires.trie free _ c.add_node-added.new.nodes a.value c.add_node-added.result.root c.add_node-added.result.forked added
     (with_items_is t.nodes c.add_node-added.new.nodes (added.as_many ∙ sym t.nodes.ok.0)) refl refl (kept_rest t a.prefix rest s.spare s.fresh c.requires.trie free) (λ q at. inl at)
 
@@ -66,6 +65,6 @@ returns-else-not-added-clause-put g c =
     let t = a.tree.now in
     let rest = c.pop-2.new.self.items in
     let free = s.ensures.items ∙ ap (λ (xs : List ℕ). xs ++ s.fresh ∷ []) s.ensures'.items in
-    let added = added_in t a.prefix s.spare s.fresh c.deref_mut.result.now c.add_node-added.new.nodes c.deref.result.now c.add_node-added.result.root c.add_node-added.result.forked c.deref_mut.ensures.value c.deref.ensures.value c.add_node-added.ensures in
+    let added = subst (λ (ns : List Node). IsAdded ns c.add_node-added.new.nodes a.prefix s.fresh s.spare t.root c.add_node-added.result.root c.add_node-added.result.forked) c.deref_mut.ensures.value c.add_node-added.ensures in
     put_entries t a.prefix rest s.spare s.fresh c.requires.trie free (record { nodes = with_items t.nodes c.add_node-added.new.nodes; values = with_item t.values s.fresh (Some a.value); free = c.pop-2.new.self; root = c.add_node-added.result.root }) c.add_node-added.new.nodes a.value c.add_node-added.result.root c.add_node-added.result.forked added
     (with_items_is t.nodes c.add_node-added.new.nodes (added.as_many ∙ sym t.nodes.ok.0)) refl refl (kept_rest t a.prefix rest s.spare s.fresh c.requires.trie free) (λ q at. inl at)

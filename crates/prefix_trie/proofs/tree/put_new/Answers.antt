@@ -15,13 +15,13 @@ returns-then-is_err-clause-put g c =
     record {
       entries = grown_entries t c.reserve.new.tree c.requires.trie r.grown r.trie.few;
       returned = refl;
-      new = none_found t.nodes.items t.values.items 34 t.root c.args.prefix c.requires.absent;
+      new = none_found t.nodes.items t.values.items c.args.prefix t.root c.requires.trie.trie c.requires.absent;
       few = few;
       few_left = omega (arith, few, same);
     }
 
 pub put_free-requires-clause-spot : goal.put_free-requires-clause-spot
-put_free-requires-clause-spot g c = let s = c.args.spot in spot_grown c.args.tree.now c.reserve.new.tree c.args.prefix s.above s.at s.levels c.requires.trie c.reserve.ensures.grown c.reserve.ensures.trie.few c.requires.spot
+put_free-requires-clause-spot g c = let s = c.args.spot in spot_grown c.args.tree.now c.reserve.new.tree c.args.prefix s.above s.at c.requires.trie c.reserve.ensures.grown c.reserve.ensures.trie.few c.requires.spot
 
 pub put_free-requires-clause-absent : goal.put_free-requires-clause-absent
 put_free-requires-clause-absent g c = grown_none c.args.tree.now c.reserve.new.tree c.requires.trie c.reserve.ensures.grown c.reserve.ensures.trie.few c.args.prefix c.requires.absent
@@ -35,6 +35,6 @@ returns-clause-put g c =
     let used = f.used in
     record {
       entries = f.put ∙ ap (put prefix_cmp c.args.prefix c.args.value) (grown_entries t c.reserve.new.tree c.requires.trie r.grown r.trie.few);
-      before = sym (none_found t.nodes.items t.values.items 34 t.root c.args.prefix c.requires.absent);
+      before = sym (none_found t.nodes.items t.values.items c.args.prefix t.root c.requires.trie.trie c.requires.absent);
       used = omega (arith, kept, used);
     }

@@ -1,6 +1,6 @@
 use Rattle.std.proofs.Common.{sym, ◌∙◌}
 use Rattle.ring_net.proofs.NetPhases.{phase_done, net_after, linked_after}
-use Rattle.ring_net.specs.Phases.{Phase}
+use Rattle.ring_net.specs.Phases.{NetPhase}
 use Rattle.ring_net.specs.Nets.{view_of}
 use Rattle.ring_net.proofs.Order.{order_phase}
 use Rattle.ring_net.proofs.net.phase_all.Goals as goal
@@ -19,5 +19,5 @@ returns-clause-phase g c = phase_done g.A.Actor.part g.A.Actor.makes g.A.Actor.t
 
 pub returns-clause-order : goal.returns-clause-order
 returns-clause-order g c =
-    let done : Phase g.A.Actor.part g.A.Actor.makes g.A.Actor.took g.A.Actor.turned (view_of c.args.cells.now c.args.edges.now) (view_of c.read_all.new.cells c.args.edges.now) = phase_done g.A.Actor.part g.A.Actor.makes g.A.Actor.took g.A.Actor.turned c.args.cells.now c.turn_all.new.cells c.read_all.new.cells c.args.edges.now c.turn_all.auto.cells c.read_all.auto.cells c.requires.net c.turn_all.ensures c.read_all.ensures.looked c.read_all.ensures.level (sym c.any_failed.ensures ∙ c.if-any_failed.false) in
+    let done : NetPhase g.A.Actor.part g.A.Actor.makes g.A.Actor.took g.A.Actor.turned (view_of c.args.cells.now c.args.edges.now) (view_of c.read_all.new.cells c.args.edges.now) = phase_done g.A.Actor.part g.A.Actor.makes g.A.Actor.took g.A.Actor.turned c.args.cells.now c.turn_all.new.cells c.read_all.new.cells c.args.edges.now c.turn_all.auto.cells c.read_all.auto.cells c.requires.net c.turn_all.ensures c.read_all.ensures.looked c.read_all.ensures.level (sym c.any_failed.ensures ∙ c.if-any_failed.false) in
     order_phase g.A.Actor.part g.A.Actor.makes g.A.Actor.took g.A.Actor.turned (view_of c.args.cells.now c.args.edges.now) (view_of c.read_all.new.cells c.args.edges.now) done c.requires.order

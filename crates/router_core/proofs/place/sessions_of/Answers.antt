@@ -12,7 +12,8 @@ nothing_left (x ∷ xs) h = absurd (omega arith)
 -- the sessions of one more place
 one_more : (xs : List Place) (x : Place) → sessions_in (map Some (xs ++ x ∷ [])) ≡ sessions_in (map Some xs) ++ session_in (Some x)
 one_more [] x = append-nil (session_in (Some x))
-one_more (y ∷ xs) x = ap (λ (s : List RunningSession). session_in (Some y) ++ s) (one_more xs x) ∙ sym (append_assoc (session_in (Some y)) (sessions_in (map Some xs)) (session_in (Some x)))
+one_more (y ∷ xs) x = ap (λ (s : List RunningSession). session_in (Some y) ++ s) (one_more xs x)
+    ∙ sym (append_assoc (session_in (Some y)) (sessions_in (map Some xs)) (session_in (Some x)))
 
 -- vacant places hold none
 of_values : (places : List (Option Place)) → sessions_in (map Some (filter_map (λ (value : Option Place). value) places)) ≡ sessions_in places
@@ -39,4 +40,5 @@ returns c =
     let none = c.in-None.ensures.steps in
     let empty : into_iter_items at.place-iterator ≡ [] = nothing_left _ (sym at.invariant.2 ∙ none.0) in
     let all = sym (append-nil at.yielded) ∙ rw empty at at.invariant.0 ∙ c.into_iter-place-iterator.ensures.into_iter_gives.0 in
-    at.invariant.1 ∙ (ap (λ (xs : List Place). sessions_in (map Some xs)) (all ∙ c.into_vec-place-items.ensures ∙ c.in_ok-into_values.ensures) ∙ of_values c.args.places.places)
+    at.invariant.1
+    ∙ (ap (λ (xs : List Place). sessions_in (map Some xs)) (all ∙ c.into_vec-place-items.ensures ∙ c.in_ok-into_values.ensures) ∙ of_values c.args.places.places)

@@ -1,4 +1,4 @@
-use Rattle.session_places.proofs.Calls.{HasRoomFor-one, IsSound-put, place_list-put}
+use Rattle.session_places.proofs.Calls.{HasRoomFor-one, AreSoundKeys-put, place_list-put}
 use Rattle.session_places.proofs.Places.put.Goals as goal
 
 pub insert_reserved-requires : goal.insert_reserved-requires
@@ -10,7 +10,7 @@ pub invariant_of-self : goal.invariant_of-self
 invariant_of-self g c =
     let fields = c.self.inside in
     let put = c.insert_reserved.ensures in
-    IsSound-put fields.values c.insert_reserved.new.self fields.keys.items c.args.n c.insert_reserved.result fields.room c.self.invariant
+    AreSoundKeys-put fields.values c.insert_reserved.new.self fields.keys.items c.args.n c.insert_reserved.result fields.room c.self.invariant
     (rw (← c.self.view_is) at c.requires.vacant) put.was_vacant c.args.value put.updates (rw (← c.self.view_is) at c.requires.there) (rw (← c.self.view_is) at c.requires.room) put.len put.capacity
 
 pub returns : goal.returns

@@ -1,7 +1,7 @@
 use Rattle.std.proofs.Common.{refl, ltb, rules}
 use Rattle.std.proofs.lemmas.List.Sorted.{IsPartitionPoint-from_clause, IsPartitionedBy-ltb}
 use Rattle.tcp_seq.specs.declared.state.Piece.{Piece}
-use Rattle.tcp_reasm.specs.Steps.{begun}
+use Rattle.tcp_reasm.specs.Steps.{begun_below}
 use Rattle.tcp_reasm.proofs.Counts.{begins_rise, point_counts}
 use Rattle.tcp_reasm.proofs.piece.begun_count.Goals as goal
 
@@ -10,4 +10,4 @@ returns-clause-count c =
     let begin = λ (p : Piece). p.place in
     let parted = IsPartitionedBy-ltb begin c.args.pieces.now c.args.place (begins_rise 0 c.args.pieces.now c.requires) in
     let point = IsPartitionPoint-from_clause (λ p. ltb (begin p) c.args.place) _ _ c.partition_point.ensures.partitioned parted (λ a r q k. search rules) in
-    point_counts (λ p. ltb (begin p) c.args.place) (begun c.args.place) refl (λ p ps. refl) c.args.pieces.now c.partition_point.result c.partition_point.ensures.bound point
+    point_counts (λ p. ltb (begin p) c.args.place) (begun_below c.args.place) refl (λ p ps. refl) c.args.pieces.now c.partition_point.result c.partition_point.ensures.bound point

@@ -7,4 +7,5 @@ use Rattle.adj_rib.proofs.Shares.{each_keys}
 use Rattle.adj_rib.proofs.shared.SharedRoutes.next_after.Goals as goal
 
 pub returns : goal.returns
-returns c = c.next_after.ensures ∙ ap (first_above c.args.prefix) (sym (each_keys arc_value c.self.inside.trie.contents) ∙ ap (λ (r : Routes). map.keys r) c.self.view_is)
+returns c = c.next_after.ensures
+    ∙ ap (first_above c.args.prefix) (sym (each_keys arc_value c.self.inside.trie.contents) ∙ ap (λ (r : Routes). map.keys r) c.self.view_is)

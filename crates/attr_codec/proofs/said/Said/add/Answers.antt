@@ -23,5 +23,6 @@ returns-clause-said c = elim c.match-piece.branch [
   | in_default+in_ok-other-in_default+in_ok-keep-in_default w ↦
       let e = other_ok (wire c.args.piece.now) w.in_ok-other-in_default.field-0 w.in_ok-other-in_default.ensures in
       let u : w.keep.new.unknown ≡ with_kept (kept_raw (wire c.args.piece.now)) c.args.self.now.unknown = rw e (w.in_ok-keep-in_default.ensures) in
-      w.self-is ∙ with_other c.args.wide (wire c.args.piece.now) c.args.self.now w.keep.new.unknown (search rules) (search rules) (search rules) (search rules) (search rules) (search rules) (search rules) (search rules) (search rules) u
+      w.self-is
+      ∙ with_other c.args.wide (wire c.args.piece.now) c.args.self.now w.keep.new.unknown (search rules) (search rules) (search rules) (search rules) (search rules) (search rules) (search rules) (search rules) (search rules) u
 ]

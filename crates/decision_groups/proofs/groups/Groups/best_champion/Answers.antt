@@ -12,7 +12,8 @@ abbrev best_of : List NumberedGroup → Option RankedSource
 best_of groups = best_by comes_first (filter_map champion_of (values_of groups))
 
 -- one more group, which is read of the list xs
-one_more : (groups xs : List NumberedGroup) (i : ℕ) (g : NumberedGroup) (best : Option RankedSource) → xs ≡ groups → i < length xs → g ≡ get_or xs i g → best ≡ best_of (take i groups) → better_of best (champion_of g.1) ≡ best_of (take (i + 1) groups)
+one_more : (groups xs : List NumberedGroup) (i : ℕ) (g : NumberedGroup) (best : Option RankedSource) → xs ≡ groups → i < length xs
+    → g ≡ get_or xs i g → best ≡ best_of (take i groups) → better_of best (champion_of g.1) ≡ best_of (take (i + 1) groups)
 one_more groups xs i g best is within read so_far =
     ap (λ o. better_of o (champion_of g.1)) (so_far ∙ ap (λ ys. best_of (take i ys)) (sym is))
     ∙ (sym (best_more (values_of (take i xs)) g.1)

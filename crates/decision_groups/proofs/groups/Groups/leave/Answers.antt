@@ -1,6 +1,6 @@
 use Rattle.std.proofs.Common.{◌≡◌, ◌==◌, cond, [], refl, sym, ap, ◌∙◌, subst, arith}
 use Rattle.std.specs.Ordering.{nat_cmp}
-use Rattle.decision_groups.specs.Order.{without}
+use Rattle.decision_groups.specs.Order.{without_source}
 use Rattle.decision_groups.specs.Groups.{AreNumbered, group_at, members_of, some_members}
 use Rattle.decision_groups.proofs.Places.{place-within}
 use Rattle.decision_groups.proofs.Numbered.{changed_numbers, gone_numbers, group-stays, group-gone, group-none}
@@ -13,8 +13,8 @@ returns-in_default c n =
     let es = c.self.inside.entries.items in
     let gap = rw c.deref.ensures.value at c.in_default.ensures.absent in
     ap (λ gs. group_at gs n) (sym c.self.view_is)
-    ∙ (group-none es c.args.neighbour c.in_default.field-0 gap n (λ ms. without ms c.args.from) refl
-    ∙ ap (λ gs. cond (n == c.args.neighbour) (some_members (without (members_of gs n) c.args.from)) (group_at gs n)) c.self.view_is)
+    ∙ (group-none es c.args.neighbour c.in_default.field-0 gap n (λ ms. without_source ms c.args.from) refl
+    ∙ ap (λ gs. cond (n == c.args.neighbour) (some_members (without_source (members_of gs n) c.args.from)) (group_at gs n)) c.self.view_is)
 
 -- ---- where it has one
 
@@ -42,8 +42,8 @@ returns-then-is_empty c n =
     let es = c.self.inside.entries.items in
     let here = rw c.deref.ensures.value at c.in-Ok.ensures.found in
     ap (λ gs. group_at gs n) c.remove-then-is_empty.ensures.items
-    ∙ (group-gone es c.args.neighbour c.in-Ok.at c.index_mut.result.now c.index_mut.ensures.value here c.self.invariant n (λ ms. without ms c.args.from) c.remove.new.self c.remove.ensures (c.is_empty.ensures.0 c.if-is_empty.true)
-    ∙ ap (λ gs. cond (n == c.args.neighbour) (some_members (without (members_of gs n) c.args.from)) (group_at gs n)) c.self.view_is)
+    ∙ (group-gone es c.args.neighbour c.in-Ok.at c.index_mut.result.now c.index_mut.ensures.value here c.self.invariant n (λ ms. without_source ms c.args.from) c.remove.new.self c.remove.ensures (c.is_empty.ensures.0 c.if-is_empty.true)
+    ∙ ap (λ gs. cond (n == c.args.neighbour) (some_members (without_source (members_of gs n) c.args.from)) (group_at gs n)) c.self.view_is)
 
 pub invariant_of-self-else-is_empty : goal.invariant_of-self-else-is_empty
 invariant_of-self-else-is_empty c =
@@ -56,5 +56,5 @@ returns-else-is_empty c n =
     let es = c.self.inside.entries.items in
     let here = rw c.deref.ensures.value at c.in-Ok.ensures.found in
     let some : c.remove.new.self ≡ [] → ⊥ = λ none. let yes = c.is_empty.ensures.1 none in let no = c.if-is_empty.false in cc in
-    group-stays es c.args.neighbour c.in-Ok.at c.index_mut.result.now c.index_mut.ensures.value here n (λ ms. without ms c.args.from) c.remove.new.self c.remove.ensures some
-    ∙ ap (λ gs. cond (n == c.args.neighbour) (some_members (without (members_of gs n) c.args.from)) (group_at gs n)) c.self.view_is
+    group-stays es c.args.neighbour c.in-Ok.at c.index_mut.result.now c.index_mut.ensures.value here n (λ ms. without_source ms c.args.from) c.remove.new.self c.remove.ensures some
+    ∙ ap (λ gs. cond (n == c.args.neighbour) (some_members (without_source (members_of gs n) c.args.from)) (group_at gs n)) c.self.view_is

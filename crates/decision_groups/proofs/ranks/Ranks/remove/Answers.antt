@@ -1,6 +1,6 @@
 use Rattle.std.proofs.Common.{Some, sym, ap, ◌∙◌, subst, arith}
 use Rattle.std.specs.BTreeMap.{is_at}
-use Rattle.decision_groups.specs.Order.{RankedSource, from_order, IsInOrder, rank_at, without}
+use Rattle.decision_groups.specs.Order.{RankedSource, from_order, IsInOrder, rank_at, without_source}
 use Rattle.decision_groups.proofs.Entries.{remove_absent, sorted-remove}
 use Rattle.decision_groups.proofs.Places.{place-within, lookup_place, remove_place, lookup_gap}
 use Rattle.decision_groups.proofs.ranks.Ranks.remove.Goals as goal
@@ -32,7 +32,7 @@ returns-in-Ok-clause-left c =
     let here = rw c.deref.ensures.value at c.in-Ok.ensures.found in
     c.remove.ensures.items
     ∙ (sym (remove_place from_order c.args.from es c.in-Ok.at here)
-    ∙ ap (λ cs. without cs c.args.from) c.self.view_is)
+    ∙ ap (λ cs. without_source cs c.args.from) c.self.view_is)
 
 pub returns-in-Ok-clause-in_order : goal.returns-in-Ok-clause-in_order
 returns-in-Ok-clause-in_order c = invariant_of-self c
@@ -49,4 +49,4 @@ returns-in-Err-clause-left c =
     let gap = rw c.deref.ensures.value at c.in-Err.ensures.absent in
     sym c.self.view_is
     ∙ (sym (remove_absent (is_at (from_order c.args.from)) es (lookup_gap from_order c.args.from es c.in-Err.field-0 gap))
-    ∙ ap (λ cs. without cs c.args.from) c.self.view_is)
+    ∙ ap (λ cs. without_source cs c.args.from) c.self.view_is)

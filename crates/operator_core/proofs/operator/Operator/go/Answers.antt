@@ -2,7 +2,7 @@ use Rattle.std.proofs.Common.{ap, ◌∙◌}
 use Rattle.std.specs.Prelude.{slice_get}
 use Rattle.graft_model.specs.Setups.{group_of}
 use Rattle.graft_model.specs.Placements.{placement}
-use Rattle.operator_core.specs.Operators.{setup_of, operator_part}
+use Rattle.operator_core.specs.Operators.{operator_setup, operator_part}
 use Rattle.operator_core.proofs.Results.{if_ok, either_if}
 use Rattle.operator_core.proofs.operator.Operator.go.Goals as goal
 
@@ -23,6 +23,6 @@ returns-clause-paused g c = if_ok c.go.result (λ answer t session. record {
 
 pub returns-clause-emptied : goal.returns-clause-emptied
 returns-clause-emptied g c = if_ok c.go.result (λ answer t yes step router there group. record {
-  given = λ x known of_step. t.emptied yes x router known (ap (slice_get (setup_of c.args.self.now).steps) of_step ∙ there) (ap (group_of (setup_of c.args.self.now)) of_step ∙ group);
-  well = c.emptied_routers_give_by_plan.ensures.well (setup_of c.args.self.now) (placement (setup_of c.args.self.now) (operator_part c.args.self.now)) router;
+  given = λ x known of_step. t.emptied yes x router known (ap (slice_get (operator_setup c.args.self.now).steps) of_step ∙ there) (ap (group_of (operator_setup c.args.self.now)) of_step ∙ group);
+  well = c.emptied_routers_give_by_plan.ensures.well (operator_setup c.args.self.now) (placement (operator_setup c.args.self.now) (operator_part c.args.self.now)) router;
 }) c.go.ensures.ok

@@ -27,7 +27,8 @@ give-requires c =
     subst (λ (n : ℕ). AreNumbers n c.args.script.steps c.in_ok-numbers.numbers) c.len-peerings.ensures (subst (λ (xs : List ScriptStep). AreNumbers c.len-peerings.result xs c.in_ok-numbers.numbers) c.as_slice-steps.ensures c.in_ok-numbers.ensures) in
     let seats : c.in_ok-seats.seats.items ≡ map seat_at c.args.script.starts = c.in_ok-seats.ensures ∙ ap (map seat_at) c.as_slice.ensures in
     let slots : c.in_ok-slots.slots.items ≡ first_slots (length c.args.script.starts) 0 c.args.script.steps =
-    c.in_ok-slots.ensures ∙ ap (λ (n : ℕ). first_slots n 0 c.as_slice-steps.result.now) c.len-peerings.ensures ∙ ap (first_slots (length c.args.script.starts) 0) c.as_slice-steps.ensures in
+    c.in_ok-slots.ensures ∙ ap (λ (n : ℕ). first_slots n 0 c.as_slice-steps.result.now) c.len-peerings.ensures
+    ∙ ap (first_slots (length c.args.script.starts) 0) c.as_slice-steps.ensures in
     let begins : IsGroupFrom c.args.script c.in_ok-numbers.numbers c.in_ok-seats.seats.items 0 c.in_ok-first.first =
     subst (λ (ns : List ℕ). IsGroupFrom c.args.script ns c.in_ok-seats.seats.items 0 c.in_ok-first.first) c.as_slice-2.ensures
     (subst (λ (xs : List Seat). IsGroupFrom c.args.script c.as_slice-2.result.now xs 0 c.in_ok-first.first) c.deref.ensures.value c.in_ok-first.ensures) in
@@ -41,7 +42,8 @@ returns c =
     subst (λ (n : ℕ). AreNumbers n c.args.script.steps c.in_ok-numbers.numbers) c.len-peerings.ensures (subst (λ (xs : List ScriptStep). AreNumbers c.len-peerings.result xs c.in_ok-numbers.numbers) c.as_slice-steps.ensures c.in_ok-numbers.ensures) in
     let seats : c.in_ok-seats.seats.items ≡ map seat_at c.args.script.starts = c.in_ok-seats.ensures ∙ ap (map seat_at) c.as_slice.ensures in
     let slots : c.in_ok-slots.slots.items ≡ first_slots (length c.args.script.starts) 0 c.args.script.steps =
-    c.in_ok-slots.ensures ∙ ap (λ (n : ℕ). first_slots n 0 c.as_slice-steps.result.now) c.len-peerings.ensures ∙ ap (first_slots (length c.args.script.starts) 0) c.as_slice-steps.ensures in
+    c.in_ok-slots.ensures ∙ ap (λ (n : ℕ). first_slots n 0 c.as_slice-steps.result.now) c.len-peerings.ensures
+    ∙ ap (first_slots (length c.args.script.starts) 0) c.as_slice-steps.ensures in
     let begins : IsGroupFrom c.args.script c.in_ok-numbers.numbers c.in_ok-seats.seats.items 0 c.in_ok-first.first =
     subst (λ (ns : List ℕ). IsGroupFrom c.args.script ns c.in_ok-seats.seats.items 0 c.in_ok-first.first) c.as_slice-2.ensures
     (subst (λ (xs : List Seat). IsGroupFrom c.args.script c.as_slice-2.result.now xs 0 c.in_ok-first.first) c.deref.ensures.value c.in_ok-first.ensures) in
@@ -59,5 +61,6 @@ returns c =
     })
     refl c.requires.script c.requires.sound numbers refl c.in_ok-first.first begins refl refl c.in_ok-slots.slots.items slots
     (with_items_is c.in_ok-slots.slots c.give.new.slots (ap (λ (xs : List Slot). length xs) c.give.ensures ∙ length_give c.as_slice-3.result.now c.deref_mut.result.now ∙ ap (λ (xs : List Slot). length xs) c.deref_mut.ensures.value ∙ sym c.in_ok-slots.slots.ok.0)
-    ∙ c.give.ensures ∙ ap (λ (xs : List Slot). give c.as_slice-3.result.now xs) c.deref_mut.ensures.value ∙ ap (λ (gifts : List Gift). give gifts c.in_ok-slots.slots.items) c.as_slice-3.ensures)
+    ∙ c.give.ensures ∙ ap (λ (xs : List Slot). give c.as_slice-3.result.now xs) c.deref_mut.ensures.value
+    ∙ ap (λ (gifts : List Gift). give gifts c.in_ok-slots.slots.items) c.as_slice-3.ensures)
     seats

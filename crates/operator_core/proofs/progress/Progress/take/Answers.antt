@@ -1,5 +1,5 @@
 use Rattle.std.proofs.Common.{◌≡◌, ◌≤◌, sym, subst, length, Some, arith}
-use Rattle.operator_core.specs.Progresses.{state, own_part_of, IsOpenPlace, Takes}
+use Rattle.operator_core.specs.Progresses.{progress_state, own_part_of, IsOpenPlace, TakesItem}
 use Rattle.graft_actors.specs.Acts.{IsWelcome}
 use Rattle.operator_core.proofs.Results.{on_ok}
 use Rattle.operator_core.proofs.Calls.{have_seats}
@@ -14,14 +14,14 @@ returns-in_default-clause-ok g c = on_ok c.note_dropped.result
 pub returns-then-from-len-clause-ok : goal.returns-then-from-len-clause-ok
 returns-then-from-len-clause-ok g c = on_ok c.note_dropped-then-from-len.result
     (λ wrote. take_drops c.args.self.now c.args.from c.args.item c.args.post.now c.note_dropped-then-from-len.new.post c.actors_have_their_numbers.ensures.numbers c.requires wrote
-    (λ session. subst (λ item. ¬ IsWelcome session (own_part_of (state c.args.self.now)) c.args.from item) (sym c.in-Report.is)
+    (λ session. subst (λ item. ¬ IsWelcome session (own_part_of (progress_state c.args.self.now)) c.args.from item) (sym c.in-Report.is)
     (stranger_unwelcome c.args.self.now c.args.from c.in-Report.graft c.in-Report.outcome session c.the_operator_takes_what_comes.ensures.report c.actors_have_their_numbers.ensures.actors c.requires.known
     (let l : c.len.result ≤ c.args.from = c.if-from-len.true in let e : c.len.result ≡ length c.args.self.now.script.rooms = c.len.ensures in omega arith)))) c.note_dropped-then-from-len.ensures.ok
 
 pub returns-in_default-open_place-clause-ok : goal.returns-in_default-open_place-clause-ok
 returns-in_default-open_place-clause-ok g c = on_ok c.note_dropped-in_default-open_place.result
     (λ wrote. take_drops c.args.self.now c.args.from c.args.item c.args.post.now c.note_dropped-in_default-open_place.new.post c.actors_have_their_numbers.ensures.numbers c.requires wrote
-    (λ session. subst (λ item. ¬ IsWelcome session (own_part_of (state c.args.self.now)) c.args.from item) (sym c.in-Report.is)
+    (λ session. subst (λ item. ¬ IsWelcome session (own_part_of (progress_state c.args.self.now)) c.args.from item) (sym c.in-Report.is)
     (closed_unwelcome c.args.self.now c.args.from c.in-Report.graft c.in-Report.outcome session c.the_operator_takes_what_comes.ensures.report c.requires
     (not_open c.args.self.now.slots.items c.in-Report.graft c.open_place.result (λ place e. c.in_default-open_place.not-Some place e) c.open_place.ensures)))) c.note_dropped-in_default-open_place.ensures.ok
 
@@ -36,6 +36,6 @@ end-requires-clause-seated g c = have_seats c.args.self.now c.requires.keeps
 pub returns-clause-ok : goal.returns-clause-ok
 returns-clause-ok g c =
     let is_place : IsOpenPlace c.args.self.now.slots.items c.in-Report.graft (Some c.in-Some.place) = subst (IsOpenPlace c.args.self.now.slots.items c.in-Report.graft) c.in-Some.is c.open_place.ensures in
-    subst (λ item. Takes c.args.from item c.args.self.now c.args.post.now c.end.new.self c.note_operator.new.post) (sym c.in-Report.is)
+    subst (λ item. TakesItem c.args.from item c.args.self.now c.args.post.now c.end.new.self c.note_operator.new.post) (sym c.in-Report.is)
     (take_notes c.args.self.now c.end.new.self c.args.from c.in-Report.graft c.in-Some.place c.in-Report.outcome c.args.post.now c.note_operator.new.post c.actors_have_their_numbers.ensures.numbers c.the_operator_takes_what_comes.ensures.report c.requires
     (let l = c.if-from-len.false in let e : c.len.result ≡ length c.args.self.now.script.rooms = c.len.ensures in omega arith) is_place c.in_ok-note_operator.ensures.ok c.end.ensures)

@@ -4,7 +4,7 @@ use Rattle.std.proofs.lemmas.List.{take_rest}
 use Rattle.bgp_types.specs.Prefixes.{PrefixValue}
 use Rattle.bgp_types.specs.Tables.{first_above}
 use Rattle.bgp_types.proofs.TableLaws.{table_keys}
-use Rattle.prefix_table.specs.Places.{IsPlace, IsGap, first_prefix}
+use Rattle.prefix_table.specs.Places.{IsPlaceOfPrefix, IsGapForPrefix, first_prefix}
 use Rattle.prefix_table.proofs.Places.{first_of_all, first_in_gap, first_past}
 use Rattle.prefix_table.proofs.sorted.SortedTableTable.next_after.Goals as goal
 
@@ -22,7 +22,7 @@ returns-in-Ok g c =
     let es = c.self.inside.entries.items in
     let p = c.in-Some.prefix in
     let at = c.in-Ok.at in
-    let here = subst (λ (xs : List (PrefixValue × g.row.V.Denot)). IsPlace xs p at) c.deref-2.ensures.value c.in-Ok.ensures.found in
+    let here = subst (λ (xs : List (PrefixValue × g.row.V.Denot)). IsPlaceOfPrefix xs p at) c.deref-2.ensures.value c.in-Ok.ensures.found in
     c.first-in-Ok.ensures
     ∙ (ap first_prefix (take_rest c.deref-in-Ok.result.now (at + 1))
     ∙ (ap (λ (xs : List (PrefixValue × g.row.V.Denot)). first_prefix (drop (at + 1) xs)) c.deref-in-Ok.ensures.value
@@ -35,7 +35,7 @@ returns-in-Err g c =
     let es = c.self.inside.entries.items in
     let p = c.in-Some.prefix in
     let at = c.in-Err.at in
-    let gap = subst (λ (xs : List (PrefixValue × g.row.V.Denot)). IsGap xs p at) c.deref-2.ensures.value c.in-Err.ensures.absent in
+    let gap = subst (λ (xs : List (PrefixValue × g.row.V.Denot)). IsGapForPrefix xs p at) c.deref-2.ensures.value c.in-Err.ensures.absent in
     c.first-in-Err.ensures
     ∙ (ap first_prefix (take_rest c.deref-in-Err.result.now at)
     ∙ (ap (λ (xs : List (PrefixValue × g.row.V.Denot)). first_prefix (drop at xs)) c.deref-in-Err.ensures.value

@@ -9,7 +9,8 @@ use Rattle.prefix_trie.proofs.trie.TrieTable.change.Goals as goal
 pub invariant_of-self : goal.invariant_of-self
 invariant_of-self g c = record {
   trie = c.change.ensures.trie;
-  len = c.self.invariant.len ∙ sym (change_len (FnOnceReturnsAtMut g.F.FnOnce c.args.edit) c.args.prefix (entries c.self.inside.tree) (entries c.change.new.tree) (rising_trie c.self.inside.tree c.self.invariant.trie) c.change.result c.change.ensures.changed);
+  len = c.self.invariant.len
+      ∙ sym (change_len (FnOnceReturnsAtMut g.F.FnOnce c.args.edit) c.args.prefix (entries c.self.inside.tree) (entries c.change.new.tree) (rising_trie c.self.inside.tree c.self.invariant.trie) c.change.result c.change.ensures.changed);
 }
 
 pub returns-clause-changed : goal.returns-clause-changed

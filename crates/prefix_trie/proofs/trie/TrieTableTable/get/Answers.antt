@@ -9,4 +9,5 @@ use Rattle.prefix_trie.proofs.trie.TrieTableTable.get.Goals as goal
 pub returns : goal.returns
 returns g c =
     let es = entries c.self.inside.tree in
-    c.get.ensures ∙ (sym (table_get es (rising_trie c.self.inside.tree c.self.invariant.trie) c.args.prefix) ∙ ap (λ (t : TableValue g.row.V.Denot). map.get t.contents c.args.prefix) c.self.view_is)
+    c.get.ensures
+    ∙ (sym (table_get es (rising_trie c.self.inside.tree c.self.invariant.trie) c.args.prefix) ∙ ap (λ (t : TableValue g.row.V.Denot). map.get t.contents c.args.prefix) c.self.view_is)

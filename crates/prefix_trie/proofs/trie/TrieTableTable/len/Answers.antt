@@ -9,4 +9,5 @@ use Rattle.prefix_trie.proofs.trie.TrieTableTable.len.Goals as goal
 pub returns : goal.returns
 returns g c =
     let es = entries c.self.inside.tree in
-    c.self.invariant.len ∙ (sym (table_len es (rising_trie c.self.inside.tree c.self.invariant.trie)) ∙ ap (λ (t : TableValue g.row.V.Denot). map.len t.contents) c.self.view_is)
+    c.self.invariant.len
+    ∙ (sym (table_len es (rising_trie c.self.inside.tree c.self.invariant.trie)) ∙ ap (λ (t : TableValue g.row.V.Denot). map.len t.contents) c.self.view_is)

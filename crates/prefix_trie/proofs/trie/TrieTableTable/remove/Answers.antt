@@ -37,7 +37,8 @@ pub returns-clause-before : goal.returns-clause-before
 returns-clause-before g c =
     let es = entries c.self.inside.tree in
     let rise = rising_trie c.self.inside.tree c.self.invariant.trie in
-    c.in_ok-taken.ensures.taken ∙ (sym (table_get es rise c.args.prefix) ∙ ap (λ (t : TableValue g.row.V.Denot). map.get t.contents c.args.prefix) c.self.view_is)
+    c.in_ok-taken.ensures.taken
+    ∙ (sym (table_get es rise c.args.prefix) ∙ ap (λ (t : TableValue g.row.V.Denot). map.get t.contents c.args.prefix) c.self.view_is)
 
 pub returns-clause-removed : goal.returns-clause-removed
 returns-clause-removed g c =

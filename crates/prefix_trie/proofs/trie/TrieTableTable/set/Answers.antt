@@ -39,14 +39,16 @@ invariant_of-self-else-is_none g c =
     let put = c.in_ok-before.ensures.put in
     record {
       trie = c.in_ok-before.ensures.trie;
-      len = c.self.invariant.len ∙ sym (ap length put.entries ∙ put_len c.args.prefix c.args.value es rise true (ap is_some (sym put.before) ∙ c.if-is_none.ensures));
+      len = c.self.invariant.len
+          ∙ sym (ap length put.entries ∙ put_len c.args.prefix c.args.value es rise true (ap is_some (sym put.before) ∙ c.if-is_none.ensures));
     }
 
 pub returns-clause-before : goal.returns-clause-before
 returns-clause-before g c =
     let es = entries c.self.inside.tree in
     let rise = rising_trie c.self.inside.tree c.self.invariant.trie in
-    c.in_ok-before.ensures.put.before ∙ (sym (table_get es rise c.args.prefix) ∙ ap (λ (t : TableValue g.row.V.Denot). map.get t.contents c.args.prefix) c.self.view_is)
+    c.in_ok-before.ensures.put.before
+    ∙ (sym (table_get es rise c.args.prefix) ∙ ap (λ (t : TableValue g.row.V.Denot). map.get t.contents c.args.prefix) c.self.view_is)
 
 pub returns-clause-ok : goal.returns-clause-ok
 returns-clause-ok g c =

@@ -16,7 +16,9 @@ from_items-requires g c =
 pub returns-clause-actors : goal.returns-clause-actors
 returns-clause-actors g c =
     let net = c.args.self in
-    c.in_ok-actors.ensures.actors ∙ ap (λ cells. actors_of cells) (written_back net.cells.len c.drain_all.new.cells net.cells.items net.cells.ok.0 (c.drain_all.auto.cells ∙ c.as_mut_slice.ensures.len ∙ net.cells.ok.0)) ∙ c.drain_all.ensures.actors ∙ ap (λ cells. actors_of cells) c.as_mut_slice.ensures.value
+    c.in_ok-actors.ensures.actors
+    ∙ ap (λ cells. actors_of cells) (written_back net.cells.len c.drain_all.new.cells net.cells.items net.cells.ok.0 (c.drain_all.auto.cells ∙ c.as_mut_slice.ensures.len ∙ net.cells.ok.0))
+    ∙ c.drain_all.ensures.actors ∙ ap (λ cells. actors_of cells) c.as_mut_slice.ensures.value
 
 pub returns-clause-journals : goal.returns-clause-journals
 returns-clause-journals g c =

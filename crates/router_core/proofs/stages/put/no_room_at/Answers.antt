@@ -1,7 +1,7 @@
 use Rattle.std.proofs.Common.{◌≡◌, List, Bool, true, false, refl, subst}
 use Rattle.std.specs.Prelude.{reverse, MatchBool}
-use Rattle.tell_plan.specs.Plans.{IsWritableFor}
-use Rattle.tell_plan.specs.declared.batch.Batch.{Batch}
+use Rattle.update_plan.specs.Plans.{IsWritableFor}
+use Rattle.update_plan.specs.declared.batch.Batch.{Batch}
 use Rattle.router_core.specs.Parts.{router_part}
 use Rattle.router_core.specs.Places.{place_at}
 use Rattle.router_core.specs.Putting.{PlannedAt}

@@ -3,7 +3,7 @@ use Rattle.std.specs.Prelude.{reverse}
 use Rattle.std.proofs.lemmas.List.{reverse-reverse}
 use Rattle.route_policy.specs.Telling.{OutSide}
 use Rattle.session_value.specs.declared.config.SessionConfig.{SessionConfig}
-use Rattle.tell_plan.specs.declared.batch.Batch.{Batch}
+use Rattle.update_plan.specs.declared.batch.Batch.{Batch}
 use Rattle.router_core.specs.Parts.{router_part}
 use Rattle.router_core.specs.Places.{place_at}
 use Rattle.router_core.specs.Entering.{rules_by}

@@ -5,8 +5,8 @@ use Rattle.std.proofs.lemmas.List.Elements.{All-pop}
 use Rattle.std.proofs.lemmas.Result.{on_ok_weaker}
 use Rattle.ring_net.proofs.TakesEach.{same_edges_self, same_edges_then}
 use Rattle.bgp_types.specs.Prefixes.{IsPrefix}
-use Rattle.tell_plan.specs.Plans.{IsWritableFor}
-use Rattle.tell_plan.specs.declared.batch.Batch.{Batch}
+use Rattle.update_plan.specs.Plans.{IsWritableFor}
+use Rattle.update_plan.specs.declared.batch.Batch.{Batch}
 use Rattle.router_core.specs.Parts.{router_part}
 use Rattle.router_core.specs.Places.{place_at}
 use Rattle.router_core.specs.Putting.{PlannedAt, PutOrDone, PutsAt}

@@ -1,7 +1,7 @@
 use Rattle.std.proofs.Common.{length}
 use Rattle.std.specs.Prelude.{reverse}
 use Rattle.ring_net.specs.Posts.{SameEdges}
-use Rattle.tell_plan.specs.Gathering.{AreSound}
+use Rattle.update_plan.specs.Gathering.{AreSound}
 use Rattle.router_core.specs.Parts.{router_part}
 use Rattle.router_core.specs.Places.{place_at}
 use Rattle.router_core.specs.Putting.{PlannedAt, PutsSomeAt}

@@ -7,7 +7,7 @@ use Rattle.rib_stages.specs.Values.{table_at}
 use Rattle.session_value.specs.Cases.{update_for}
 use Rattle.session_value.specs.Points.{at}
 use Rattle.graft_model.specs.declared.event.RouterEvent.TheVariants.{Put}
-use Rattle.router_core.specs.Rounds.{Writes}
+use Rattle.router_core.specs.Rounds.{WritesEvent}
 use Rattle.router_core.specs.Parts.{router_part}
 use Rattle.router_core.specs.Places.{place_at}
 use Rattle.router_core.specs.Putting.{OfferedAt, OffersAt}
@@ -59,7 +59,7 @@ returns-clause-some c =
     let prefixes : c.deref.result.now ≡ batch.prefixes = c.deref.ensures ∙ c.in_ok-prefixes.ensures in
     let due = c.settle.ensures.settled ∙ ap (λ (l : List PrefixValue). at (table_at f.due_out) n (fold map.remove (table_at f.due_out n) l)) prefixes in
     let size : c.len.result ≡ length batch.prefixes = c.len.ensures ∙ ap (λ (l : List PrefixValue). length l) c.in_ok-prefixes.ensures in
-    let wrote = subst (λ k. Writes c.args.post.now (Put n k) [] c.note_router.new.post) size c.in_ok-note_router.ensures.ok in
+    let wrote = subst (λ k. WritesEvent c.args.post.now (Put n k) [] c.note_router.new.post) size c.in_ok-note_router.ensures.ok in
     offered_some f (record f { places = c.offer.new.places; due_out = c.settle.new.due }) c.args.post.now c.note_router.new.post n c.in_ok-offer.ensures.place batch c.requires.keeps c.requires.place c.in_ok-offer.ensures.stays due c.settle.ensures.length refl x refl c.requires.next offered wrote
 
 pub returns-clause-put : goal.returns-clause-put

@@ -42,7 +42,9 @@ returns-in-Some-clause-took c =
     let at_peering : c.from-place.result ≡ c.args.capsule.session.config.peering.0 = c.from-place.ensures ∙ ap (λ (k : SessionConfig). k.peering.0) c.config.ensures in
     let seen : place_at c.args.router.now.places.places c.args.capsule.session.config.peering.0 ≡ place_at c.args.router.now.places.places c.from-place.result = ap (place_at c.args.router.now.places.places) (sym at_peering) in
     let cause : refusal_of c.args.router.now.known.setup c.args.router.now.number.0 (router_part c.args.router.now) c.args.capsule.session ≡ Some c.in-Some.refusal =
-    sym (refusal_is c.args.router.now c.args.capsule.session c.requires) ∙ ap (λ (k : SessionConfig). admit_refusal (count_by is_some c.args.router.now.places.places) c.args.router.now.room (missing_by c.args.router.now.policies k)) (sym c.config-2.ensures) ∙ sym c.in_ok-refusal.ensures ∙ c.in-Some.is in
+    sym (refusal_is c.args.router.now c.args.capsule.session c.requires)
+    ∙ ap (λ (k : SessionConfig). admit_refusal (count_by is_some c.args.router.now.places.places) c.args.router.now.room (missing_by c.args.router.now.policies k)) (sym c.config-2.ensures)
+    ∙ sym c.in_ok-refusal.ensures ∙ c.in-Some.is in
     on_ok_weaker c.turn_back.result (turns_back c.args.router.now c.args.post.now c.turn_back.new.post c.args.from c.args.graft c.args.capsule c.requires (omega (arith, c.if-from-router.false)) (omega (arith, c.if-place-len.false, c.len.ensures, at_peering)) (seen ∙ c.if-not-is_vacant.ensures) c.if-not-is_on_its_way.ensures c.in-Some.refusal cause) c.turn_back.ensures.ok
 
 pub admission-requires : goal.admission-requires
@@ -64,10 +66,13 @@ read_all-requires c =
     let at_peering : c.from-place.result ≡ c.args.capsule.session.config.peering.0 = c.from-place.ensures ∙ ap (λ (k : SessionConfig). k.peering.0) c.config.ensures in
     let seen : place_at c.args.router.now.places.places c.args.capsule.session.config.peering.0 ≡ place_at c.args.router.now.places.places c.from-place.result = ap (place_at c.args.router.now.places.places) (sym at_peering) in
     let landed_is : c.new-landed.result ≡ record { ids = record { graft = c.args.graft; peering = c.args.capsule.session.config.peering; source = record { 0 = c.args.from }; target = c.args.router.now.number }; next = 0 } =
-    c.new-landed.ensures ∙ ap (λ (k : SessionConfig). let l : Landing = record { ids = record { graft = c.args.graft; peering = k.peering; source = record { 0 = c.args.from }; target = c.args.router.now.number }; next = 0 } in l) c.config.ensures in
+    c.new-landed.ensures
+    ∙ ap (λ (k : SessionConfig). let l : Landing = record { ids = record { graft = c.args.graft; peering = k.peering; source = record { 0 = c.args.from }; target = c.args.router.now.number }; next = 0 } in l) c.config.ensures in
     let settles : SettlesIn c.args.router.now c.args.capsule c.new-landed.result c.settle_in.new.router = subst (λ (s : RunningSession). SettlesIn c.args.router.now s c.new-landed.result c.settle_in.new.router) c.land.ensures c.in_ok-settle_in.ensures in
     let cause : refusal_of c.args.router.now.known.setup c.args.router.now.number.0 (router_part c.args.router.now) c.args.capsule.session ≡ None =
-    sym (refusal_is c.args.router.now c.args.capsule.session c.requires) ∙ ap (λ (k : SessionConfig). admit_refusal (count_by is_some c.args.router.now.places.places) c.args.router.now.room (missing_by c.args.router.now.policies k)) (sym c.config-2.ensures) ∙ sym c.in_ok-refusal.ensures ∙ c.in_default.is in
+    sym (refusal_is c.args.router.now c.args.capsule.session c.requires)
+    ∙ ap (λ (k : SessionConfig). admit_refusal (count_by is_some c.args.router.now.places.places) c.args.router.now.room (missing_by c.args.router.now.policies k)) (sym c.config-2.ensures)
+    ∙ sym c.in_ok-refusal.ensures ∙ c.in_default.is in
     subst (λ (n : ℕ). KeepsBut n c.settle_in.new.router) (sym (ap (λ (k : SessionConfig). k.peering.0) c.config.ensures))
     (keeps_land c.args.router.now c.args.post.now c.note_router_sent.new.post c.args.from c.args.graft c.args.capsule c.requires (omega (arith, c.if-from-router.false)) (omega (arith, c.if-place-len.false, c.len.ensures, at_peering)) (seen ∙ c.if-not-is_vacant.ensures) c.if-not-is_on_its_way.ensures c.settle_in.new.router c.settle_in.new.router c.note_router_sent.new.post (c.args.router.now.routers + c.from-place.result) c.new-landed.result settles landed_is (omega (arith, at_peering)) cause c.in_ok-note_router_sent.ensures.ok)
 
@@ -76,10 +81,13 @@ returns-clause-took c =
     let at_peering : c.from-place.result ≡ c.args.capsule.session.config.peering.0 = c.from-place.ensures ∙ ap (λ (k : SessionConfig). k.peering.0) c.config.ensures in
     let seen : place_at c.args.router.now.places.places c.args.capsule.session.config.peering.0 ≡ place_at c.args.router.now.places.places c.from-place.result = ap (place_at c.args.router.now.places.places) (sym at_peering) in
     let landed_is : c.new-landed.result ≡ record { ids = record { graft = c.args.graft; peering = c.args.capsule.session.config.peering; source = record { 0 = c.args.from }; target = c.args.router.now.number }; next = 0 } =
-    c.new-landed.ensures ∙ ap (λ (k : SessionConfig). let l : Landing = record { ids = record { graft = c.args.graft; peering = k.peering; source = record { 0 = c.args.from }; target = c.args.router.now.number }; next = 0 } in l) c.config.ensures in
+    c.new-landed.ensures
+    ∙ ap (λ (k : SessionConfig). let l : Landing = record { ids = record { graft = c.args.graft; peering = k.peering; source = record { 0 = c.args.from }; target = c.args.router.now.number }; next = 0 } in l) c.config.ensures in
     let settles : SettlesIn c.args.router.now c.args.capsule c.new-landed.result c.settle_in.new.router = subst (λ (s : RunningSession). SettlesIn c.args.router.now s c.new-landed.result c.settle_in.new.router) c.land.ensures c.in_ok-settle_in.ensures in
     let cause : refusal_of c.args.router.now.known.setup c.args.router.now.number.0 (router_part c.args.router.now) c.args.capsule.session ≡ None =
-    sym (refusal_is c.args.router.now c.args.capsule.session c.requires) ∙ ap (λ (k : SessionConfig). admit_refusal (count_by is_some c.args.router.now.places.places) c.args.router.now.room (missing_by c.args.router.now.policies k)) (sym c.config-2.ensures) ∙ sym c.in_ok-refusal.ensures ∙ c.in_default.is in
+    sym (refusal_is c.args.router.now c.args.capsule.session c.requires)
+    ∙ ap (λ (k : SessionConfig). admit_refusal (count_by is_some c.args.router.now.places.places) c.args.router.now.room (missing_by c.args.router.now.policies k)) (sym c.config-2.ensures)
+    ∙ sym c.in_ok-refusal.ensures ∙ c.in_default.is in
     on_ok_weaker c.read_all.result
     (λ reads. lands c.args.router.now c.args.post.now c.note_router_sent.new.post c.args.from c.args.graft c.args.capsule c.requires (omega (arith, c.if-from-router.false)) (omega (arith, c.if-place-len.false, c.len.ensures, at_peering)) (seen ∙ c.if-not-is_vacant.ensures) c.if-not-is_on_its_way.ensures c.settle_in.new.router c.read_all.new.router c.read_all.new.post (c.args.router.now.routers + c.from-place.result) c.new-landed.result settles landed_is (omega (arith, at_peering)) cause c.in_ok-note_router_sent.ensures.ok
     (subst (λ (n : ℕ). ReadsAll n c.settle_in.new.router c.note_router_sent.new.post c.read_all.new.router c.read_all.new.post) (ap (λ (k : SessionConfig). k.peering.0) c.config.ensures) reads)) c.read_all.ensures.read

@@ -1,7 +1,0 @@
-use Rattle.ring_net.specs.Posts.{SameEdges}
-use Rattle.far_side.proofs.HomeSteps.{PassingEach}
-use Rattle.far_side.proofs.home.pass_home.Given as goal
-
--- so many segments had their turn
-abbrev pub invariant-loop-count : goal.invariant-loop-count
-invariant-loop-count g l = PassingEach l.initial.far l.initial.post l.far l.post l.place l._count × SameEdges l.initial.post l.post

@@ -1,5 +1,0 @@
-use Rattle.graft_runs.proofs.Steps.{event_step}
-use Rattle.graft_runs.proofs.laws.an_event_is_a_step.Goals as goal
-
-pub returns : goal.returns
-returns c = event_step

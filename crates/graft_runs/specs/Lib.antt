@@ -1,4 +1,0 @@
-pub mod Actors
-pub mod Makes
-pub mod Seen
-pub mod Laws

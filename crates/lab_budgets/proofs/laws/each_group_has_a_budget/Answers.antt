@@ -1,5 +1,0 @@
-use Rattle.lab_budgets.proofs.Groups.{each_has_one}
-use Rattle.lab_budgets.proofs.laws.each_group_has_a_budget.Goals as goal
-
-pub returns : goal.returns
-returns c = each_has_one

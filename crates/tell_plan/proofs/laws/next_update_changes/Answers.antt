@@ -1,5 +1,0 @@
-use Rattle.tell_plan.proofs.PlanLaws.{changes}
-use Rattle.tell_plan.proofs.laws.next_update_changes.Goals as goal
-
-pub returns : goal.returns
-returns c = λ due dirty told to_tell wide batch next. changes due dirty told to_tell wide batch next

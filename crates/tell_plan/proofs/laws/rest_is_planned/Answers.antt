@@ -1,5 +1,0 @@
-use Rattle.tell_plan.proofs.PlanLaws.{rest}
-use Rattle.tell_plan.proofs.laws.rest_is_planned.Goals as goal
-
-pub returns : goal.returns
-returns c = λ due then_due dirty told to_tell wide batch batches plan less_due. rest due then_due dirty told to_tell wide batch less_due batches plan

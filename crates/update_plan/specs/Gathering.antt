@@ -1,0 +1,74 @@
+-- How prefixes are gathered into UPDATEs, one by one.
+use Rattle.std.specs.Prelude.{ℕ, ◌≡◌, ◌≢◌, ◌≤◌, ◌<◌, ◌⊎◌, List, [], ◌∷◌, ◌++◌, length, map, Option, Some, None, Bool, All}
+use Rattle.std.specs.BTreeMap.{get}
+use Rattle.std.specs.Cmp.Lexicographic.{slice_cmp}
+use Rattle.std.specs.Ordering.{nat_cmp}
+use Rattle.bgp_types.specs.declared.attrs.Attrs.{Attrs}
+use Rattle.bgp_types.specs.Prefixes.{PrefixValue, IsPrefix}
+use Rattle.update_plan.specs.declared.batch.Batch.{Batch}
+use Rattle.update_plan.specs.declared.gather.Gathered.{Gathered}
+use Rattle.update_plan.specs.Codes.{value_code}
+use Rattle.update_plan.specs.Plans.{octets}
+
+-- no UPDATE tells this
+abbrev pub NoneTells : Option Attrs → List Batch → Type 0
+NoneTells attrs batches = All (λ batch. batch.attrs ≢ attrs) batches
+
+-- the last UPDATE that tells this
+pub record LastThatTells (attrs : Option Attrs) (batches before : List Batch) (batch : Batch) (after : List Batch) : Type 0 where
+  pub is : batches ≡ before ++ batch ∷ after
+  pub told : batch.attrs ≡ attrs
+  pub last : NoneTells attrs after
+
+-- a batch with one more prefix
+abbrev pub with_prefix : Batch → PrefixValue → Batch
+with_prefix batch prefix = record batch { prefixes = batch.prefixes ++ prefix ∷ [] }
+
+-- A prefix joins the last UPDATE that tells what is to be told of it, if it then has at most 4,096 octets.
+pub record Joins (wide : Bool) (attrs : Option Attrs) (prefix : PrefixValue) (old new : List Batch) : Type 0 where
+  pub before : List Batch
+  pub batch : Batch
+  pub after : List Batch
+  pub there : LastThatTells attrs old before batch after
+  pub fits : octets wide attrs (batch.prefixes ++ prefix ∷ []) ≤ 4096
+  pub effect : new ≡ before ++ with_prefix batch prefix ∷ after
+
+-- If there is no such UPDATE, or it is full, the prefix begins another behind all others.
+pub record BeginsUpdate (wide : Bool) (attrs : Option Attrs) (prefix : PrefixValue) (old new : List Batch) : Type 0 where
+  pub full : (before : List Batch) (batch : Batch) (after : List Batch) → LastThatTells attrs old before batch after
+      → 4096 < octets wide attrs (batch.prefixes ++ prefix ∷ [])
+  pub effect : new ≡ old ++ record { attrs = attrs; prefixes = prefix ∷ [] } ∷ []
+
+abbrev pub AddsToUpdates : Bool → Option Attrs → PrefixValue → List Batch → List Batch → Type 0
+AddsToUpdates wide attrs prefix old new = Joins wide attrs prefix old new ⊎ BeginsUpdate wide attrs prefix old new
+
+-- If what was told of a prefix is what is to be told, nothing changes. Else the prefix is added.
+abbrev pub Gathers : Bool → Option Attrs → (PrefixValue → Option Attrs) → PrefixValue → List Batch → List Batch → Type 0
+Gathers wide told to_tell prefix old new = ((told ≡ to_tell prefix) × (new ≡ old)) ⊎ ((told ≢ to_tell prefix) × AddsToUpdates wide (to_tell prefix) prefix old new)
+
+-- ---- how the UPDATEs that may be joined are found
+
+-- the place of the last UPDATE that tells this
+pub record IsPlaceOfUpdate (attrs : Option Attrs) (batches : List Batch) (number : ℕ) : Type 0 where
+  pub before : List Batch
+  pub batch : Batch
+  pub after : List Batch
+  pub there : LastThatTells attrs batches before batch after
+  pub is_number : number ≡ length before
+
+abbrev pub PlaceFor : Option Attrs → List Batch → Option ℕ → Type 0
+PlaceFor attrs batches None = NoneTells attrs batches
+PlaceFor attrs batches (Some number) = IsPlaceOfUpdate attrs batches number
+
+-- the number of octets in the UPDATE that tells a batch
+abbrev pub batch_octets : Bool → Batch → ℕ
+batch_octets wide batch = octets wide batch.attrs batch.prefixes
+
+-- For each value that can be told, the last UPDATE that tells it is found by its code. The octets of each UPDATE are counted.
+pub record GatheredInvariant (gathered : Gathered) : Type 0 where
+  pub found : (attrs : Option Attrs) → PlaceFor attrs gathered.batches.items (get (slice_cmp nat_cmp) gathered.places (value_code attrs))
+  pub counted : gathered.octets.items ≡ map (batch_octets gathered.wide) gathered.batches.items
+
+-- All prefixes in UPDATEs are valid prefixes.
+abbrev pub AreSound : List Batch → Type 0
+AreSound batches = All (λ batch. All IsPrefix batch.prefixes) batches
