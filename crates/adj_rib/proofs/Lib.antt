@@ -1,3 +1,3 @@
-pub mod Places
+pub mod Indices
 pub mod Moves
 pub mod Shares

@@ -15,7 +15,7 @@ use Rattle.bgp_types.proofs.OnceLaws.{same_itself, is_same}
 use Rattle.bgp_types.proofs.TableLaws.{prefix_total, exact_prefixes}
 use Rattle.bgp_story.specs.Readings.{Routes, announce, apply}
 use Rattle.adj_rib.specs.Changes.{Changed, RoutesMoved, given_by_update, withdraw_unless}
-use Rattle.adj_rib.proofs.Places.{one_test}
+use Rattle.adj_rib.proofs.Indices.{one_test}
 
 get_insert : (r : Routes) (p : PrefixValue) (a : Attrs) (q : PrefixValue) → map.get (map.insert r p a) q ≡ cond (same_prefix q p) (Some a) (map.get r q)
 get_insert r p a q = map.get-insert prefix_total r p a q ∙ ap (λ (b : Bool). cond b (Some a) (map.get r q)) (one_test q p)

@@ -75,7 +75,7 @@ kind_cases P p1 p2 p3 p4 p5 p6 p7 p17 p18 other k =
     either k 17 (λ e. subst P (sym e) p17) (λ n17.
     either k 18 (λ e. subst P (sym e) p18) (λ n18. other k n1 n2 n3 n4 n5 n6 n7 n17 n18)))))))))
 
--- what an attribute can say in each place
+-- what an attribute can say in each field
 record Says : Type 0 where
   origin : Option Origin
   path : Option (List PathPart)
@@ -86,8 +86,8 @@ record Says : Type 0 where
   as4_aggregator : Option Aggregator
   unknown : List RawAttr
 
-abbrev place_by_place : ℕ → Says → Said → Said
-place_by_place k n s = record {
+abbrev field_by_field : ℕ → Says → Said → Said
+field_by_field k n s = record {
   origin = cond (eqb k 1) n.origin s.origin;
   path = cond (eqb k 2) n.path s.path;
   next_hop = cond (eqb k 3) n.next_hop s.next_hop;
@@ -112,9 +112,9 @@ by_kind k n s =
     (cond (eqb k 18) (record s { as4_aggregator = n.as4_aggregator })
     (record s { unknown = n.unknown })))))))))
 
-shape : (n : Says) (s : Said) (k : ℕ) → place_by_place k n s ≡ by_kind k n s
+shape : (n : Says) (s : Said) (k : ℕ) → field_by_field k n s ≡ by_kind k n s
 shape n s =
-    kind_cases (λ k. place_by_place k n s ≡ by_kind k n s) refl refl refl refl refl refl refl refl refl
+    kind_cases (λ k. field_by_field k n s ≡ by_kind k n s) refl refl refl refl refl refl refl refl refl
     (λ k n1 n2 n3 n4 n5 n6 n7 n17 n18.
     rw (not_eq k 1 n1, not_eq k 2 n2, not_eq k 3 n3, not_eq k 4 n4, not_eq k 5 n5, not_eq k 6 n6, not_eq k 7 n7, not_eq k 17 n17, not_eq k 18 n18, is_unknown k n1 n2 n3 n4 n5 n6 n7 n17 n18) refl)
 

@@ -20,11 +20,11 @@ module _ {A : Type 0} (key : A → ℕ) where
   IsSorted [] = Unit {0}
   IsSorted (x ∷ xs) = AllByRecursion (λ y. key x ≤ key y) xs × IsSorted xs
 
-  by_place : (xs : List A) → IsNonDecreasingBy key xs → IsSorted xs
-  by_place [] rises = tt
-  by_place (x ∷ xs) rises = (
+  by_index : (xs : List A) → IsNonDecreasingBy key xs → IsSorted xs
+  by_index [] rises = tt
+  by_index (x ∷ xs) rises = (
     recursion_from_All (λ y. key x ≤ key y) xs (λ j d below. rises 0 (suc j) d (omega arith) (omega (arith, below))),
-    by_place xs (λ i j d le below. rises (suc i) (suc j) d (omega (arith, le)) (omega (arith, below))),
+    by_index xs (λ i j d le below. rises (suc i) (suc j) d (omega (arith, le)) (omega (arith, below))),
   )
 
   -- ---- members of one key
@@ -124,4 +124,4 @@ module _ {A : Type 0} (key : A → ℕ) where
 
   -- what a stable sort ensures
   pub sort_rises : (xs ys : List A) → IsNonDecreasingBy key ys → ((x : A) → filter (tied x) ys ≡ filter (tied x) xs) → ys ≡ in_rising key xs
-  sort_rises xs ys rises stable = same_lists ys (in_rising key xs) (by_place ys rises) (rising_sorted xs) (λ x. stable x ∙ sym (rising_ties x xs))
+  sort_rises xs ys rises stable = same_lists ys (in_rising key xs) (by_index ys rises) (rising_sorted xs) (λ x. stable x ∙ sym (rising_ties x xs))

@@ -122,7 +122,7 @@ rising_parts key zero xs r = (tt, r)
 rising_parts key (suc n) [] r = (tt, tt)
 rising_parts key (suc n) (x ∷ xs) r = let h = rising_parts key n xs r.1 in (((all_take (λ y. key x < key y) n xs r.0).0, h.0), h.1)
 
--- members from a place on
+-- members from an index on
 pub rest_above : {A : Type 0} (key : A → ℕ) (k n : ℕ) (xs : List A) (d : A) → IsRising key xs → n < length xs → k ≤ key (get_or xs n d)
     → AllByRecursion (λ x. k ≤ key x) (drop n xs)
 rest_above key k n [] d r lt le = absurd (omega arith)

@@ -18,7 +18,7 @@ use Rattle.tcp_end.specs.Standing.{EndStands, Numbered}
 use Rattle.tcp_end.specs.declared.arrival.Arrival.{Arrival}
 use Rattle.tcp_end.specs.declared.arrival.Arrival.TheVariants.{Outside, Ahead, Duplicate, Accepted}
 use Rattle.tcp_end.proofs.Arrives.{acceptable_for, acceptable_to, beyond_for, beyond_to, brought_is, brought_to, byte_then_is, nothing_new, within_sent}
-use Rattle.tcp_end.proofs.Places.{ahead_offset, behind_offset, held_from, new_place}
+use Rattle.tcp_end.proofs.Offsets.{ahead_offset, behind_offset, held_from, new_offset}
 use Rattle.tcp_end.proofs.Steps.{received_is}
 use Rattle.bgp_session.specs.Steps.{ArrivesAs, BringsTo}
 
@@ -40,7 +40,7 @@ some_or (Some x) more then' e same some = absurd cc
 module _ (s : EndState) (e : Endpoint) (g : Segment) (p : PlacedSegment) (stands : EndStands s e) (numbered : Numbered s.receive_first.0 s.send_first.0 g p) (streams : IsInStreams p) (short : length g.bytes < 2 ^ 16) where
   old_ack : ¬ SaysAck New s g → ¬ SaysAck Beyond s g → p.ack ≤ e.acked
   old_ack old within =
-      let le : p.ack ≤ s.acked = new_place s.send_first.0 s.acked s.sent p.ack stands.sound.sending.acked (omega (arith, stands.sound.sending.emitted, stands.sound.sending.stream)) (omega (arith, streams.ack))
+      let le : p.ack ≤ s.acked = new_offset s.send_first.0 s.acked s.sent p.ack stands.sound.sending.acked (omega (arith, stands.sound.sending.emitted, stands.sound.sending.stream)) (omega (arith, streams.ack))
       (within_sent s e g p stands numbered streams within)
       (λ new. old (subst (λ (m : ℕ). IsAck New (own_number s s.acked) (own_number s s.sent) m) (sym numbered.ack) new)) in
       omega (arith, le, stands.acked)
@@ -52,7 +52,7 @@ module _ (s : EndState) (e : Endpoint) (g : Segment) (p : PlacedSegment) (stands
       omega (arith, lt, stands.acked)
 
   brings_none : ¬ BringsNewByte s g → BringsTo e p → ⊥
-  brings_none none b = some_none (byte_brought e p b.place) b.some (nothing_new s e g p b.place stands numbered streams short none b.empty)
+  brings_none none b = some_none (byte_brought e p b.offset) b.some (nothing_new s e g p b.offset stands numbered streams short none b.empty)
 
   brings : BringsNewByte s g → BringsTo e p
   brings b =
@@ -65,7 +65,7 @@ module _ (s : EndState) (e : Endpoint) (g : Segment) (p : PlacedSegment) (stands
       ∙ held_from (got s) (got s + 1) (got s + 16384) s.ahead j (omega arith) (omega (arith, stands.sound.received)) stands.sound.ahead in
       let then_is = byte_then_is s g p j stands.sound numbered (omega (arith, streams.end)) (omega (arith, n, short)) in
       record {
-        place = k;
+        offset = k;
         empty = stands.ahead k (omega (arith, all)) ∙ (sym old ∙ b.1);
         some = subst (λ (o : Option ℕ). IsSome o) (sym (brought_is s e p k all (omega arith)))
             (some_or (held s.ahead k) (brought (expected s) g.seq.0 g.bytes j) (brought_to s p k) (sym old ∙ b.1)

@@ -61,25 +61,25 @@ module _ (parts : Parts) (end : EndState) (e : Endpoint) (k : SessionInvariant p
 -- ---- emission
 
 -- a slice of a stream of 1 MiB, with what was received
-in_streams : (s : EndState) (e : Endpoint) (place len : ℕ) → EndStands s e → place + len ≤ length e.stream → IsInStreams (slice_at e place len)
-in_streams s e place len stands within =
-    let n = length-take len (drop place e.stream) in
+in_streams : (s : EndState) (e : Endpoint) (offset len : ℕ) → EndStands s e → offset + len ≤ length e.stream → IsInStreams (slice_at e offset len)
+in_streams s e offset len stands within =
+    let n = length-take len (drop offset e.stream) in
     let stream = stream_is s e stands in
     let most = stands.sound.sending.stream in
     let got = received_is s e stands in
     let few = stands.sound.received in
     record { end = omega (arith, n, within, stream, most); ack = omega (arith, got, few) }
 
--- the numbers are those of the segment's places
+-- the numbers are those of the segment's offsets
 placed_is : (send receive : ℕ) (g : Segment) (p : PlacedSegment) → send < 2 ^ 32 → receive < 2 ^ 32 → Numbered send receive g p → IsInStreams p
     → p ≡ placed send receive g
 placed_is send receive g p a b numbered within =
-    let place : p.place ≡ (placed send receive g).place = omega (arith, a, numbered.seq, within.end) in
+    let offset : p.offset ≡ (placed send receive g).offset = omega (arith, a, numbered.seq, within.end) in
     let ack : p.ack ≡ (placed send receive g).ack = omega (arith, b, numbered.ack, within.ack) in
     let bytes : p.bytes ≡ g.bytes = sym numbered.bytes in
-    ap (λ (n : ℕ). let q : PlacedSegment = record { place = n; bytes = p.bytes; ack = p.ack } in q) place
-    ∙ (ap (λ (n : ℕ). let q : PlacedSegment = record { place = (placed send receive g).place; bytes = p.bytes; ack = n } in q) ack
-    ∙ ap (λ (bs : List ℕ). let q : PlacedSegment = record { place = (placed send receive g).place; bytes = bs; ack = (placed send receive g).ack } in q) bytes)
+    ap (λ (n : ℕ). let q : PlacedSegment = record { offset = n; bytes = p.bytes; ack = p.ack } in q) offset
+    ∙ (ap (λ (n : ℕ). let q : PlacedSegment = record { offset = (placed send receive g).offset; bytes = p.bytes; ack = n } in q) ack
+    ∙ ap (λ (bs : List ℕ). let q : PlacedSegment = record { offset = (placed send receive g).offset; bytes = bs; ack = (placed send receive g).ack } in q) bytes)
 
 -- the end goes on with the same peering, way and numbers
 pub record Goes (before after : EndState) : Type 0 where
@@ -94,8 +94,8 @@ pub record IsOf (end : EndState) (g : Segment) : Type 0 where
   pub way : g.way ≡ end.way
   pub window : g.window ≡ 16384
 
-pub of_slice : (end : EndState) (g : Segment) (place len : ℕ) → g ≡ segment_at end place len → IsOf end g
-of_slice end g place len is = record {
+pub of_slice : (end : EndState) (g : Segment) (offset len : ℕ) → g ≡ segment_at end offset len → IsOf end g
+of_slice end g offset len is = record {
   peering = ap (λ (x : Segment). x.peering) is;
   way = ap (λ (x : Segment). x.way) is;
   window = ap (λ (x : Segment). x.window) is;

@@ -74,11 +74,11 @@ pub record SessionTicks (step : TickStep) (before : RunningSession) (round : ℕ
 abbrev pub offered_length : SessionValue → Update → ℕ
 offered_length session update = length session.end.stream + length (spell (UpdateMsg update) (is_wide (peering_of session.config) session.story))
 
--- the segment by places in the two streams that a segment sent by a session stands for
+-- the segment by offsets in the two streams that a segment sent by a session stands for
 abbrev pub sent_as : SessionConfig → Segment → PlacedSegment
 sent_as config segment = placed config.send_first.0 config.receive_first.0 segment
 
--- the segment by places that an arriving segment stands for
+-- the segment by offsets that an arriving segment stands for
 abbrev pub received_as : SessionConfig → Segment → PlacedSegment
 received_as config segment = placed config.receive_first.0 config.send_first.0 segment
 
@@ -99,11 +99,11 @@ SessionEmitsIfAny Step before (Some segment) after = SessionEmits Step before se
 
 -- ---- what arrives
 
--- a segment brings a byte for a place that has none yet
+-- a segment brings a byte for an offset that has none yet
 pub record BringsTo (e : Endpoint) (segment : PlacedSegment) : Type 0 where
-  pub place : ℕ
-  pub empty : map.get e.arrived place ≡ None
-  pub some : IsSome (byte_brought e segment place)
+  pub offset : ℕ
+  pub empty : map.get e.arrived offset ≡ None
+  pub some : IsSome (byte_brought e segment offset)
 
 -- what an arriving segment is to an endpoint (RFC 9293, section 3.10.7.4)
 abbrev pub ArrivesAs : Arrival → Endpoint → PlacedSegment → Seq → Type 0

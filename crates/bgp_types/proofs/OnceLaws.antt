@@ -1,4 +1,4 @@
--- A list of prefixes, each once, at its first place.
+-- A list of prefixes, each once, where it first stands.
 use Rattle.std.proofs.Common.{◌≡◌, ℕ, suc, ◌+◌, ◌-◌, ◌*◌, ◌/◌, ◌^◌, ◌<◌, ◌≤◌, List, [], ◌∷◌, ◌++◌, length, Bool, true, false, cond, eqb, refl, sym, ap, ◌∙◌, subst, arith, append_assoc}
 use Rattle.std.specs.Prelude.{◌&&◌, ◌↔◌, ◌⊎◌, Contains, not}
 use Rattle.std.specs.List.{AllByRecursion, IsDistinct, list_any, position_or_len}
@@ -9,7 +9,7 @@ use Rattle.std.proofs.lemmas.List.{append-nil}
 use Rattle.std.proofs.lemmas.List.Elements.{Contains-append_left, Contains-append_right, Contains-push, Contains-push_cases, Contains-append_cases}
 use Rattle.std.proofs.lemmas.Nat.{shl-shr, shr_split}
 use Rattle.std.proofs.lemmas.Map.Views.{Contains-from_any}
-use Rattle.bgp_types.specs.Prefixes.{PrefixValue, IsPrefix, cleared, prefix_of, same_prefix, put_once, once_after, first_place, EachOnce}
+use Rattle.bgp_types.specs.Prefixes.{PrefixValue, IsPrefix, cleared, prefix_of, same_prefix, put_once, once_after, first_index, EachOnce}
 use Rattle.bgp_types.specs.Rising.{IsRising}
 use Rattle.bgp_types.proofs.ManyLaws.{either_false}
 
@@ -52,7 +52,7 @@ module _ {A : Type 0} where
   all_push P [] x all here = (here, tt)
   all_push P (y ∷ xs) x all here = (all.0, all_push P xs x all.1 here)
 
-  -- ---- places
+  -- ---- indices
 
   found : (test : A → Bool) (xs : List A) (y : A) → test y ≡ true → Contains xs y → position_or_len test xs < length xs
   found test [] y e c = absurd (none_in y c)
@@ -70,20 +70,20 @@ module _ {A : Type 0} where
       let later : position_or_len test xs ≡ length xs = missed test xs h.1 in
       rw h.0 (omega arith)
 
-  place_before : (test : A → Bool) (xs ys : List A) → position_or_len test xs < length xs → position_or_len test (xs ++ ys) ≡ position_or_len test xs
-  place_before test [] ys low = absurd (omega arith)
-  place_before test (x ∷ xs) ys low = by_test (test x) low (place_before test xs ys) where
+  index_before : (test : A → Bool) (xs ys : List A) → position_or_len test xs < length xs → position_or_len test (xs ++ ys) ≡ position_or_len test xs
+  index_before test [] ys low = absurd (omega arith)
+  index_before test (x ∷ xs) ys low = by_test (test x) low (index_before test xs ys) where
     by_test : (t : Bool) → cond (not t) (1 + position_or_len test xs) 0 < suc (length xs)
         → (position_or_len test xs < length xs → position_or_len test (xs ++ ys) ≡ position_or_len test xs)
         → cond (not t) (1 + position_or_len test (xs ++ ys)) 0 ≡ cond (not t) (1 + position_or_len test xs) 0
     by_test true low later = refl
     by_test false low later = ap (λ n. 1 + n) (later (omega arith))
 
-  place_behind : (test : A → Bool) (xs : List A) (y : A) → list_any test xs ≡ false → test y ≡ true → position_or_len test (xs ++ y ∷ []) ≡ length xs
-  place_behind test [] y none e = rw e refl
-  place_behind test (x ∷ xs) y none e =
+  index_behind : (test : A → Bool) (xs : List A) (y : A) → list_any test xs ≡ false → test y ≡ true → position_or_len test (xs ++ y ∷ []) ≡ length xs
+  index_behind test [] y none e = rw e refl
+  index_behind test (x ∷ xs) y none e =
       let h = either_false (test x) (list_any test xs) none in
-      let later : position_or_len test (xs ++ y ∷ []) ≡ length xs = place_behind test xs y h.1 e in
+      let later : position_or_len test (xs ++ y ∷ []) ≡ length xs = index_behind test xs y h.1 e in
       rw h.0 (omega arith)
 
   -- ---- rising lists
@@ -141,27 +141,27 @@ is_same p q e = by_test (eqb p.address q.address) (eqb p.len q.len) refl refl e 
   by_test true false f g e = absurd cc
   by_test false l f g e = absurd cc
 
--- prefixes whose places rise are distinct
-rising_distinct : (place : PrefixValue → ℕ) (ps : List PrefixValue) → IsRising place ps → IsDistinct same_prefix ps
+-- prefixes whose indices rise are distinct
+rising_distinct : (index : PrefixValue → ℕ) (ps : List PrefixValue) → IsRising index ps → IsDistinct same_prefix ps
 unfolding IsDistinct
-rising_distinct place [] rise = tt
-rising_distinct place (p ∷ ps) rise = (apart ps rise.0, rising_distinct place ps rise.1) where
-  unlike : (q : PrefixValue) (t : Bool) → same_prefix p q ≡ t → place p < place q → t ≡ false
-  unlike q true e up = absurd (let level : place p ≡ place q = ap place (is_same p q e) in omega arith)
+rising_distinct index [] rise = tt
+rising_distinct index (p ∷ ps) rise = (apart ps rise.0, rising_distinct index ps rise.1) where
+  unlike : (q : PrefixValue) (t : Bool) → same_prefix p q ≡ t → index p < index q → t ≡ false
+  unlike q true e up = absurd (let level : index p ≡ index q = ap index (is_same p q e) in omega arith)
   unlike q false e up = refl
 
-  apart : (qs : List PrefixValue) → AllByRecursion (λ q. place p < place q) qs → AllByRecursion (λ q. same_prefix p q ≡ false) qs
+  apart : (qs : List PrefixValue) → AllByRecursion (λ q. index p < index q) qs → AllByRecursion (λ q. same_prefix p q ≡ false) qs
   apart [] up = tt
   apart (q ∷ qs) up = (unlike q (same_prefix p q) refl up.0, apart qs up.1)
 
 -- one more prefix at the end
 module _ (front seen : List PrefixValue) (p : PrefixValue) (so_far : EachOnce front seen) where
-  same_places : AllByRecursion (λ q. first_place front q ≡ first_place (front ++ p ∷ []) q) seen
-  same_places = each_of (λ q. first_place front q ≡ first_place (front ++ p ∷ []) q) seen
-      (λ q c. sym (place_before (same_prefix q) front (p ∷ []) (found (same_prefix q) front q (same_itself q) ((so_far.members q).0 c))))
+  same_indices : AllByRecursion (λ q. first_index front q ≡ first_index (front ++ p ∷ []) q) seen
+  same_indices = each_of (λ q. first_index front q ≡ first_index (front ++ p ∷ []) q) seen
+      (λ q c. sym (index_before (same_prefix q) front (p ∷ []) (found (same_prefix q) front q (same_itself q) ((so_far.members q).0 c))))
 
-  still : IsRising (first_place (front ++ p ∷ [])) seen
-  still = rising_by (first_place front) (first_place (front ++ p ∷ [])) seen same_places so_far.in_order
+  still : IsRising (first_index (front ++ p ∷ [])) seen
+  still = rising_by (first_index front) (first_index (front ++ p ∷ [])) seen same_indices so_far.in_order
 
   stays : list_any (same_prefix p) seen ≡ true → EachOnce (front ++ p ∷ []) seen
   stays e = record {
@@ -183,22 +183,22 @@ module _ (front seen : List PrefixValue) (p : PrefixValue) (so_far : EachOnce fr
         let none : position_or_len (same_prefix p) seen ≡ length seen = missed (same_prefix p) seen e in
         absurd (omega arith)
 
-  below : list_any (same_prefix p) seen ≡ false → AllByRecursion (λ q. first_place (front ++ p ∷ []) q < first_place (front ++ p ∷ []) p) seen
-  below e = each_of (λ q. first_place (front ++ p ∷ []) q < first_place (front ++ p ∷ []) p) seen (λ q c.
-      let low : first_place front q < length front = found (same_prefix q) front q (same_itself q) ((so_far.members q).0 c) in
-      let before : first_place (front ++ p ∷ []) q ≡ first_place front q = place_before (same_prefix q) front (p ∷ []) low in
-      let last : first_place (front ++ p ∷ []) p ≡ length front = place_behind (same_prefix p) front p (new e) (same_itself p) in
+  below : list_any (same_prefix p) seen ≡ false → AllByRecursion (λ q. first_index (front ++ p ∷ []) q < first_index (front ++ p ∷ []) p) seen
+  below e = each_of (λ q. first_index (front ++ p ∷ []) q < first_index (front ++ p ∷ []) p) seen (λ q c.
+      let low : first_index front q < length front = found (same_prefix q) front q (same_itself q) ((so_far.members q).0 c) in
+      let before : first_index (front ++ p ∷ []) q ≡ first_index front q = index_before (same_prefix q) front (p ∷ []) low in
+      let last : first_index (front ++ p ∷ []) p ≡ length front = index_behind (same_prefix p) front p (new e) (same_itself p) in
       rw (before, last) low)
 
   joins : list_any (same_prefix p) seen ≡ false → EachOnce (front ++ p ∷ []) (seen ++ p ∷ [])
   joins e = record {
     members = λ q. (λ c. forth q (Contains-push_cases seen p q c), λ c. back q (Contains-push_cases front p q c));
-    distinct = rising_distinct (first_place (front ++ p ∷ [])) (seen ++ p ∷ []) rise;
+    distinct = rising_distinct (first_index (front ++ p ∷ [])) (seen ++ p ∷ []) rise;
     in_order = rise;
   }
     where
-      rise : IsRising (first_place (front ++ p ∷ [])) (seen ++ p ∷ [])
-      rise = rising_push (first_place (front ++ p ∷ [])) seen p still (below e)
+      rise : IsRising (first_index (front ++ p ∷ [])) (seen ++ p ∷ [])
+      rise = rising_push (first_index (front ++ p ∷ [])) seen p still (below e)
 
       last : (xs : List PrefixValue) (q : PrefixValue) → p ≡ q → Contains (xs ++ p ∷ []) q
       last xs q s = subst (λ (x : PrefixValue). Contains (xs ++ p ∷ []) x) s (Contains-push xs p)
@@ -228,7 +228,7 @@ unfolding IsDistinct
 EachOnce-none = record { members = λ p. (λ c. c, λ c. c); distinct = tt; in_order = tt }
 
 pub each_once : (prefixes once : List PrefixValue) → (once ≡ once_after [] prefixes) ↔ EachOnce prefixes once
-each_once prefixes once = (λ e. subst (λ (xs : List PrefixValue). EachOnce prefixes xs) (sym e) is, λ other. one_list (first_place prefixes) once (once_after [] prefixes) other.in_order is.in_order (λ z c. (is.members z).1 ((other.members z).0 c)) (λ z c. (other.members z).1 ((is.members z).0 c))) where
+each_once prefixes once = (λ e. subst (λ (xs : List PrefixValue). EachOnce prefixes xs) (sym e) is, λ other. one_list (first_index prefixes) once (once_after [] prefixes) other.in_order is.in_order (λ z c. (is.members z).1 ((other.members z).0 c)) (λ z c. (other.members z).1 ((is.members z).0 c))) where
   is : EachOnce prefixes (once_after [] prefixes)
   is = each_from [] [] prefixes EachOnce-none
 

@@ -74,20 +74,20 @@ same_prefix p q = (p.address == q.address) && (p.len == q.len)
 abbrev pub put_once : List PrefixValue → PrefixValue → List PrefixValue
 put_once seen p = if list_any (same_prefix p) seen then seen else seen ++ p ∷ []
 
--- the prefixes that aren't in the first list, each at its first place only
+-- the prefixes that aren't in the first list, each where it first stands
 abbrev pub once_after : List PrefixValue → List PrefixValue → List PrefixValue
 once_after seen [] = seen
 once_after seen (p ∷ prefixes) = once_after (put_once seen p) prefixes
 
--- the first place of a prefix in a list
-abbrev pub first_place : List PrefixValue → PrefixValue → ℕ
-first_place prefixes p = position_or_len (same_prefix p) prefixes
+-- the first index of a prefix in a list
+abbrev pub first_index : List PrefixValue → PrefixValue → ℕ
+first_index prefixes p = position_or_len (same_prefix p) prefixes
 
--- The second list has the members of the first, each once, in the order of their first places.
+-- The second list has the members of the first, each once, in the order of their first indices.
 pub record EachOnce (prefixes once : List PrefixValue) : Type 0 where
   pub members : (p : PrefixValue) → Contains once p ↔ Contains prefixes p
   pub distinct : IsDistinct same_prefix once
-  pub in_order : IsRising (first_place prefixes) once
+  pub in_order : IsRising (first_index prefixes) once
 
 -- the prefixes of a field
 unfoldable pub prefixes_of : List ℕ → Option (List PrefixValue)

@@ -19,7 +19,7 @@ use Rattle.bgp_types.specs.Values.{is_no_host, is_short_hold}
 
 -- ---- prefixes
 
--- the prefixes of a field, each once, at its first place
+-- the prefixes of a field, each once, where it first stands
 pub record ReadsPrefixes (field : List ℕ) (prefixes : List PrefixValue) : Type 0 where
   pub spelled : List WirePrefix
   pub octets : field ≡ flat_map wire_octets spelled

@@ -36,8 +36,8 @@ pub fn printed_prefix_reads()
     ensures { (p q : PrefixValue) → IsPrefix p → IsPrefixText (prefix_text p) q ↔ (q ≡ p) }
 {}
 
-/// The list that keeps each prefix at its first place only is the one list with the same members, each
-/// once, in the order of their first places.
+/// The list that keeps each prefix where it first stands is the one list with the same members, each
+/// once, in the order of their first indices.
 pub fn each_prefix_once()
     ensures { (prefixes : List PrefixValue) (once : List PrefixValue) → (once ≡ once_after [] prefixes) ↔ EachOnce prefixes once }
 {}

@@ -49,7 +49,7 @@ fn prefix_in(octets: &[u8]) -> Option<(Prefix, &[u8])>
     Some((prefix, after))
 }
 
-/// Reads the prefixes of a field, each once, at its first place. Returns `None` if the field is
+/// Reads the prefixes of a field, each once, where it first stands. Returns `None` if the field is
 /// malformed.
 pub fn prefixes_in(alloc: Global, field: &[u8]) -> Result<Option<PrefixList>, NoMemory>
     ensures { IfOk result (λ found. found ≡ prefixes_of field.now) }

@@ -9,7 +9,7 @@ use Rattle.std.proofs.lemmas.List.Folds.{list_any_at}
 use Rattle.std.proofs.lemmas.List.Sorted.{IsPermutation-refl, IsPermutation-cons, IsPermutation-middle, IsPermutation-trans, IsPermutation-keeps, list_any-IsPermutation}
 use Rattle.std.proofs.lemmas.Bool.Decides.{nat_tests}
 use Rattle.bgp_types.specs.declared.rank.Rank.{Rank}
-use Rattle.decision_core.specs.Choice.{is_own, has_higher_preference, has_shorter_path, has_lower_origin, has_lower_med, is_external, has_lower_cost, has_lower_identifier, has_lower_address, keep, left_of, first, choice, ranks_by_place, ranks_left, AreEqual}
+use Rattle.decision_core.specs.Choice.{is_own, has_higher_preference, has_shorter_path, has_lower_origin, has_lower_med, is_external, has_lower_cost, has_lower_identifier, has_lower_address, keep, left_of, first, choice, ranks_by_index, ranks_left, AreEqual}
 use Rattle.decision_core.specs.Search.{leads, is_nearer}
 use Rattle.decision_core.proofs.NineRules.{on, left_of-in_three, no_rank}
 
@@ -122,9 +122,9 @@ map-numbered n (rank ∷ ranks) = ap (λ rest. rank ∷ rest) (map-numbered (n +
 
 ranks_left-in_three : (ranks : List Rank) → ranks_left ranks ≡ keep is_nearer (keep has_lower_med (keep leads ranks))
 ranks_left-in_three ranks =
-    ap (map (λ c. c.1)) (left_of-in_three (ranks_by_place ranks))
-    ∙ map-keep (λ c. c.1) is_nearer (keep (on has_lower_med) (keep (on leads) (ranks_by_place ranks)))
-    ∙ ap (keep is_nearer) (map-keep (λ c. c.1) has_lower_med (keep (on leads) (ranks_by_place ranks)) ∙ ap (keep has_lower_med) (map-keep (λ c. c.1) leads (ranks_by_place ranks) ∙ ap (keep leads) (map-numbered 0 ranks)))
+    ap (map (λ c. c.1)) (left_of-in_three (ranks_by_index ranks))
+    ∙ map-keep (λ c. c.1) is_nearer (keep (on has_lower_med) (keep (on leads) (ranks_by_index ranks)))
+    ∙ ap (keep is_nearer) (map-keep (λ c. c.1) has_lower_med (keep (on leads) (ranks_by_index ranks)) ∙ ap (keep has_lower_med) (map-keep (λ c. c.1) leads (ranks_by_index ranks) ∙ ap (keep leads) (map-numbered 0 ranks)))
 
 pub ranks_left-IsPermutation : (ranks others : List Rank) → IsPermutation ranks others → IsPermutation (ranks_left ranks) (ranks_left others)
 ranks_left-IsPermutation ranks others h =
@@ -217,36 +217,36 @@ pub ranks_left-equal : (ranks : List Rank) (i j : ℕ) (d : Rank) → i < j → 
     → AreEqual (get_or (ranks_left ranks) i d) (get_or (ranks_left ranks) j d)
 ranks_left-equal ranks = rw ranks_left-in_three (left_equal ranks)
 
--- ---- the rank at the chosen place
+-- ---- the rank at the chosen index
 
--- a candidate stands at its place
-abbrev IsAtPlace : List Rank → ℕ × Rank → Type 0
-IsAtPlace ranks c = slice_get ranks c.0 ≡ Some c.1
+-- a candidate stands at its index
+abbrev IsAtIndex : List Rank → ℕ × Rank → Type 0
+IsAtIndex ranks c = slice_get ranks c.0 ≡ Some c.1
 
 slice_get_read : {X : Type 0} (xs : List X) (i : ℕ) (d : X) → i < length xs → slice_get xs i ≡ Some (get_or xs i d)
 slice_get_read [] i d within = absurd (omega arith)
 slice_get_read (x ∷ xs) zero d within = refl
 slice_get_read (x ∷ xs) (suc i) d within = slice_get_read xs i d (omega (arith, within))
 
-place_read : (ranks : List Rank) (i : ℕ) (d : Rank) → i < length ranks → (c : ℕ × Rank) → c ≡ (0 + i, get_or ranks i d) → IsAtPlace ranks c
-place_read ranks i d within c is = rw is (let place : 0 + i ≡ i = omega arith in rw place (slice_get_read ranks i d within))
+index_read : (ranks : List Rank) (i : ℕ) (d : Rank) → i < length ranks → (c : ℕ × Rank) → c ≡ (0 + i, get_or ranks i d) → IsAtIndex ranks c
+index_read ranks i d within c is = rw is (let index : 0 + i ≡ i = omega arith in rw index (slice_get_read ranks i d within))
 
-ranks_by_place-places : (ranks : List Rank) → All (IsAtPlace ranks) (ranks_by_place ranks)
-ranks_by_place-places ranks = All-from_get_or (IsAtPlace ranks) (ranks_by_place ranks) (0, no_rank)
-    (λ i within. let below : i < length ranks = (let e = length-enumerate_from 0 ranks in omega (arith, within)) in place_read ranks i no_rank below (get_or (ranks_by_place ranks) i (0, no_rank)) (get_or-enumerate_from 0 ranks i (0, no_rank) below))
+ranks_by_index-indices : (ranks : List Rank) → All (IsAtIndex ranks) (ranks_by_index ranks)
+ranks_by_index-indices ranks = All-from_get_or (IsAtIndex ranks) (ranks_by_index ranks) (0, no_rank)
+    (λ i within. let below : i < length ranks = (let e = length-enumerate_from 0 ranks in omega (arith, within)) in index_read ranks i no_rank below (get_or (ranks_by_index ranks) i (0, no_rank)) (get_or-enumerate_from 0 ranks i (0, no_rank) below))
 
 All-keep : {X : Type 0} (rule : X → X → Bool) (P : X → Type 0) (xs : List X) → All P xs → All P (keep rule xs)
 unfolding keep
 All-keep rule P xs h = All-filter (λ x. not (list_any (λ y. rule y x) xs)) P xs h
 
-first_place : (ranks : List Rank) (left : List (ℕ × Rank)) → All (IsAtPlace ranks) left
-    → first (map (λ c. c.1) left) ≡ option_and_then (λ place. slice_get ranks place) (option_map (λ c. c.0) (first left))
-first_place ranks [] h = refl
-first_place ranks (c ∷ left) h = sym (All-head (IsAtPlace ranks) c left h)
+first_index : (ranks : List Rank) (left : List (ℕ × Rank)) → All (IsAtIndex ranks) left
+    → first (map (λ c. c.1) left) ≡ option_and_then (λ index. slice_get ranks index) (option_map (λ c. c.0) (first left))
+first_index ranks [] h = refl
+first_index ranks (c ∷ left) h = sym (All-head (IsAtIndex ranks) c left h)
 
-pub ranks_left-first : (ranks : List Rank) → first (ranks_left ranks) ≡ option_and_then (λ place. slice_get ranks place) (choice (ranks_by_place ranks))
+pub ranks_left-first : (ranks : List Rank) → first (ranks_left ranks) ≡ option_and_then (λ index. slice_get ranks index) (choice (ranks_by_index ranks))
 unfolding choice
 ranks_left-first ranks =
-    first_place ranks (left_of (ranks_by_place ranks))
-    (rw left_of-in_three (All-keep (on is_nearer) (IsAtPlace ranks) (keep (on has_lower_med) (keep (on leads) (ranks_by_place ranks)))
-    (All-keep (on has_lower_med) (IsAtPlace ranks) (keep (on leads) (ranks_by_place ranks)) (All-keep (on leads) (IsAtPlace ranks) (ranks_by_place ranks) (ranks_by_place-places ranks)))))
+    first_index ranks (left_of (ranks_by_index ranks))
+    (rw left_of-in_three (All-keep (on is_nearer) (IsAtIndex ranks) (keep (on has_lower_med) (keep (on leads) (ranks_by_index ranks)))
+    (All-keep (on has_lower_med) (IsAtIndex ranks) (keep (on leads) (ranks_by_index ranks)) (All-keep (on leads) (IsAtIndex ranks) (ranks_by_index ranks) (ranks_by_index-indices ranks)))))

@@ -8,7 +8,7 @@ use Rattle.std.proofs.lemmas.List.Elements.{filter_agree, filter_more}
 use Rattle.std.proofs.lemmas.List.FromFn.{length-enumerate_from, get_or-enumerate_from}
 use Rattle.std.proofs.lemmas.Grind.{fold-append}
 use Rattle.bgp_types.specs.declared.rank.Rank.{Rank}
-use Rattle.decision_core.specs.Choice.{Rule, is_own, has_higher_preference, has_shorter_path, has_lower_origin, has_lower_med, is_external, has_lower_cost, has_lower_identifier, has_lower_address, keep, left_of, first, choice, ranks_by_place}
+use Rattle.decision_core.specs.Choice.{Rule, is_own, has_higher_preference, has_shorter_path, has_lower_origin, has_lower_med, is_external, has_lower_cost, has_lower_identifier, has_lower_address, keep, left_of, first, choice, ranks_by_index}
 use Rattle.decision_core.specs.Search.{in_turn, leads, is_nearer, pick, best_by, takes_out, is_taken_out, is_left, improves, is_next}
 use Rattle.decision_core.proofs.Filters.{IsStrictWeakOrder-in_turn, IsStrictWeakOrder-by_flag, IsStrictWeakOrder-on, Tops, list_any-filter, filter-filter, beaten_by_top, first-keep, keep-keep, best_by-tops, best_by-none, keep-none}
 
@@ -81,18 +81,18 @@ pub choice-in_three : {K : Type 0} (cs : List (K × Rank))
 unfolding choice
 choice-in_three cs = ap (option_map (λ c. c.0)) (ap first (left_of-in_three cs) ∙ first-keep (on is_nearer) (on_order is_nearer is_nearer_order) (keep (on has_lower_med) (keep (on leads) cs)))
 
--- ---- candidates that are named by their places
+-- ---- candidates that are named by their indices
 
 list_any-enumerate : (p : Rank → Bool) (n : ℕ) (ranks : List Rank) → list_any (λ c. p c.1) (enumerate_from n ranks) ≡ list_any p ranks
 list_any-enumerate p n [] = refl
 list_any-enumerate p n (rank ∷ ranks) = ap (λ b. p rank || b) (list_any-enumerate p (n + 1) ranks)
 
 keep-leads : (ranks : List Rank) (leader : Rank) → Tops leads leader ranks
-    → keep (on leads) (ranks_by_place ranks) ≡ filter (λ c. not (leads leader c.1)) (ranks_by_place ranks)
+    → keep (on leads) (ranks_by_index ranks) ≡ filter (λ c. not (leads leader c.1)) (ranks_by_index ranks)
 unfolding keep
-keep-leads ranks leader t = filter_agree (λ c. not (list_any (λ d. leads d.1 c.1) (ranks_by_place ranks))) (λ c. not (leads leader c.1))
+keep-leads ranks leader t = filter_agree (λ c. not (list_any (λ d. leads d.1 c.1) (ranks_by_index ranks))) (λ c. not (leads leader c.1))
     (λ c. ap not (list_any-enumerate (λ rank. leads rank c.1) 0 ranks ∙ beaten_by_top leads leads_order leader ranks t c.1))
-    (ranks_by_place ranks)
+    (ranks_by_index ranks)
 
 swap_tests : (a b : Bool) → (a && b) ≡ (b && a)
 swap_tests a b = grind arith
@@ -102,23 +102,23 @@ list_any-same p q same [] = refl
 list_any-same p q same (x ∷ xs) = rw (same x, list_any-same p q same xs) refl
 
 keep-med : (ranks : List Rank) (leader : Rank) → Tops leads leader ranks
-    → keep (on has_lower_med) (keep (on leads) (ranks_by_place ranks)) ≡ filter (λ c. is_left leader ranks c.1) (ranks_by_place ranks)
+    → keep (on has_lower_med) (keep (on leads) (ranks_by_index ranks)) ≡ filter (λ c. is_left leader ranks c.1) (ranks_by_index ranks)
 unfolding keep
 keep-med ranks leader t =
     ap (keep (on has_lower_med)) (keep-leads ranks leader t)
-    ∙ filter-filter (λ c. not (list_any (λ d. has_lower_med d.1 c.1) (filter (λ d. not (leads leader d.1)) (ranks_by_place ranks)))) (λ c. not (leads leader c.1)) (ranks_by_place ranks)
-    ∙ filter_agree (λ c. not (leads leader c.1) && not (list_any (λ d. has_lower_med d.1 c.1) (filter (λ d. not (leads leader d.1)) (ranks_by_place ranks)))) (λ c. is_left leader ranks c.1)
+    ∙ filter-filter (λ c. not (list_any (λ d. has_lower_med d.1 c.1) (filter (λ d. not (leads leader d.1)) (ranks_by_index ranks)))) (λ c. not (leads leader c.1)) (ranks_by_index ranks)
+    ∙ filter_agree (λ c. not (leads leader c.1) && not (list_any (λ d. has_lower_med d.1 c.1) (filter (λ d. not (leads leader d.1)) (ranks_by_index ranks)))) (λ c. is_left leader ranks c.1)
     (λ c. ap (λ b. not (leads leader c.1) && not b)
-    (list_any-filter (λ d. has_lower_med d.1 c.1) (λ d. not (leads leader d.1)) (ranks_by_place ranks)
+    (list_any-filter (λ d. has_lower_med d.1 c.1) (λ d. not (leads leader d.1)) (ranks_by_index ranks)
     ∙ list_any-enumerate (λ other. not (leads leader other) && has_lower_med other c.1) 0 ranks
     ∙ list_any-same (λ other. not (leads leader other) && has_lower_med other c.1) (λ other. takes_out leader other c.1) (λ other. swap_tests (not (leads leader other)) (has_lower_med other c.1)) ranks))
-    (ranks_by_place ranks)
+    (ranks_by_index ranks)
 
 -- what the loop finds is the choice
 pub choice-numbered : (ranks : List Rank) (leader : Rank) → best_by leads ranks ≡ Some leader
-    → choice (ranks_by_place ranks) ≡ option_map (λ c. c.0) (best_by (on is_nearer) (filter (λ c. is_left leader ranks c.1) (ranks_by_place ranks)))
+    → choice (ranks_by_index ranks) ≡ option_map (λ c. c.0) (best_by (on is_nearer) (filter (λ c. is_left leader ranks c.1) (ranks_by_index ranks)))
 choice-numbered ranks leader is =
-    choice-in_three (ranks_by_place ranks)
+    choice-in_three (ranks_by_index ranks)
     ∙ ap (λ rest. option_map (λ c. c.0) (best_by (on is_nearer) rest)) (keep-med ranks leader (best_by-tops leads leads_order ranks leader is))
 
 -- ---- the nine rules leave something
@@ -137,23 +137,23 @@ choice-none {K} cs h =
     let before_med = keep-none (on has_lower_med) (λ c d. nat_lt c.1.med d.1.med) (IsStrictWeakOrder-by_number (λ c. c.1.med)) (λ c d. med_within (c.1.neighbour == d.1.neighbour) c.1.med d.1.med) (keep (on leads) cs) none in
     keep-none (on leads) (on leads) (on_order leads leads_order) (λ c d k. k) cs before_med
 
-enumerate-none : (ranks : List Rank) → ranks_by_place ranks ≡ [] → ranks ≡ []
+enumerate-none : (ranks : List Rank) → ranks_by_index ranks ≡ [] → ranks ≡ []
 enumerate-none [] h = refl
 enumerate-none (rank ∷ ranks) h = cc
 
-pub choice-none_numbered : (ranks : List Rank) → choice (ranks_by_place ranks) ≡ None → ranks ≡ []
-choice-none_numbered ranks h = enumerate-none ranks (choice-none (ranks_by_place ranks) h)
+pub choice-none_numbered : (ranks : List Rank) → choice (ranks_by_index ranks) ≡ None → ranks ≡ []
+choice-none_numbered ranks h = enumerate-none ranks (choice-none (ranks_by_index ranks) h)
 
-pub choice-empty : (ranks : List Rank) → ranks ≡ [] → choice (ranks_by_place ranks) ≡ None
+pub choice-empty : (ranks : List Rank) → ranks ≡ [] → choice (ranks_by_index ranks) ≡ None
 unfolding choice left_of keep
 choice-empty ranks h = rw h refl
 
-pub empty_exactly : (ranks : List Rank) (answer : Option ℕ) → answer ≡ choice (ranks_by_place ranks)
+pub empty_exactly : (ranks : List Rank) (answer : Option ℕ) → answer ≡ choice (ranks_by_index ranks)
     → (IsNone answer → ranks ≡ []) × (ranks ≡ [] → IsNone answer)
 empty_exactly ranks None is = ((λ _. choice-none_numbered ranks (sym is)), (λ _. refl))
-empty_exactly ranks (Some place) is = ((λ h. cc), (λ h. let no : Some place ≡ None = is ∙ choice-empty ranks h in cc))
+empty_exactly ranks (Some index) is = ((λ h. cc), (λ h. let no : Some index ≡ None = is ∙ choice-empty ranks h in cc))
 
-pub choice-no_leader : (ranks : List Rank) (answer : Option ℕ) → answer ≡ None → best_by leads ranks ≡ None → answer ≡ choice (ranks_by_place ranks)
+pub choice-no_leader : (ranks : List Rank) (answer : Option ℕ) → answer ≡ None → best_by leads ranks ≡ None → answer ≡ choice (ranks_by_index ranks)
 choice-no_leader ranks answer none h = none ∙ sym (choice-empty ranks (best_by-none leads leads_order ranks h))
 
 -- ---- one more rank
@@ -177,8 +177,8 @@ best_more lt test xs i d x within is =
     ap (best_by lt) (filter_more test xs i d within ∙ ap (λ z. filter test (take i xs) ++ cond (test z) (z ∷ []) []) is)
     ∙ best_push lt (filter test (take i xs)) x (test x)
 
-place_shown : (i j : ℕ) (rank : Rank) → i ≡ j → (let pair : ℕ × Rank = (i, rank) in pair) ≡ (j, rank)
-place_shown i j rank h = rw h refl
+index_shown : (i j : ℕ) (rank : Rank) → i ≡ j → (let pair : ℕ × Rank = (i, rank) in pair) ≡ (j, rank)
+index_shown i j rank h = rw h refl
 
 nearest_step : (apart out : Bool) (i : ℕ) (rank : Rank) (old : Option (ℕ × Rank))
     → cond (apart && improves old rank && not out) (Some (i, rank)) old ≡ cond (apart && not out) (pick (on is_nearer) old (i, rank)) old
@@ -189,14 +189,14 @@ nearest_step true false i rank (Some nearest) = nearest_cases (is_nearer rank ne
 
 -- what one step of the loop leaves is the nearest of one more
 pub nearest_more : (leader : Rank) (ranks : List Rank) (i : ℕ) (d : Rank) (old new : Option (ℕ × Rank)) → i < length ranks
-    → old ≡ best_by (on is_nearer) (filter (λ c. is_left leader ranks c.1) (take i (ranks_by_place ranks)))
+    → old ≡ best_by (on is_nearer) (filter (λ c. is_left leader ranks c.1) (take i (ranks_by_index ranks)))
     → new ≡ cond (is_next leader ranks old (get_or ranks i d)) (Some (i, get_or ranks i d)) old
-    → new ≡ best_by (on is_nearer) (filter (λ c. is_left leader ranks c.1) (take (i + 1) (ranks_by_place ranks)))
+    → new ≡ best_by (on is_nearer) (filter (λ c. is_left leader ranks c.1) (take (i + 1) (ranks_by_index ranks)))
 nearest_more leader ranks i d old new within before after =
     let rank = get_or ranks i d in
     after ∙ nearest_step (not (leads leader rank)) (is_taken_out leader ranks rank) i rank old
     ∙ ap (λ o. cond (is_left leader ranks rank) (pick (on is_nearer) o (i, rank)) o) before
-    ∙ sym (best_more (on is_nearer) (λ c. is_left leader ranks c.1) (ranks_by_place ranks) i (i, d) (i, rank) (rw length-enumerate_from within) (get_or-enumerate_from 0 ranks i (i, d) within ∙ place_shown (0 + i) i rank (omega arith)))
+    ∙ sym (best_more (on is_nearer) (λ c. is_left leader ranks c.1) (ranks_by_index ranks) i (i, d) (i, rank) (rw length-enumerate_from within) (get_or-enumerate_from 0 ranks i (i, d) within ∙ index_shown (0 + i) i rank (omega arith)))
 
 pub chosen : {X : Type 0} (b : Bool) (x y z : X) → b ≡ true → z ≡ x → z ≡ cond b x y
 chosen true x y z h is = is
@@ -218,9 +218,9 @@ no_rank = record { own = false; pref = 0; path_len = 0; origin = 0; neighbour = 
 
 -- once all ranks were seen
 pub choice-all : (ranks : List Rank) (leader : Rank) (n : ℕ) (nearest : Option (ℕ × Rank)) → best_by leads ranks ≡ Some leader → length ranks ≤ n
-    → nearest ≡ best_by (on is_nearer) (filter (λ c. is_left leader ranks c.1) (take n (ranks_by_place ranks)))
-    → option_map (λ c. c.0) nearest ≡ choice (ranks_by_place ranks)
+    → nearest ≡ best_by (on is_nearer) (filter (λ c. is_left leader ranks c.1) (take n (ranks_by_index ranks)))
+    → option_map (λ c. c.0) nearest ≡ choice (ranks_by_index ranks)
 choice-all ranks leader n nearest is all before =
-    let whole : length (ranks_by_place ranks) ≤ n = rw length-enumerate_from all in
-    ap (option_map (λ c. c.0)) (before ∙ ap (λ cs. best_by (on is_nearer) (filter (λ c. is_left leader ranks c.1) cs)) (take_whole n (ranks_by_place ranks) whole))
+    let whole : length (ranks_by_index ranks) ≤ n = rw length-enumerate_from all in
+    ap (option_map (λ c. c.0)) (before ∙ ap (λ cs. best_by (on is_nearer) (filter (λ c. is_left leader ranks c.1) cs)) (take_whole n (ranks_by_index ranks) whole))
     ∙ sym (choice-numbered ranks leader is)

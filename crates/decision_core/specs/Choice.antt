@@ -53,7 +53,7 @@ nine_rules = is_own ∷ has_higher_preference ∷ has_shorter_path ∷ has_lower
 unfoldable pub keep : {X : Type 0} → (X → X → Bool) → List X → List X
 keep better xs = filter (λ x. not (list_any (λ y. better y x) xs)) xs
 
--- A candidate is a rank together with its name: its place in a list, or the source of its route. Each rule is applied to all candidates that the
+-- A candidate is a rank together with its name: its index in a list, or the source of its route. Each rule is applied to all candidates that the
 -- rules before it left.
 unfoldable pub left_of : {K : Type 0} → List (K × Rank) → List (K × Rank)
 left_of candidates = fold (λ rest better. keep (λ c d. better c.1 d.1) rest) candidates nine_rules
@@ -66,13 +66,13 @@ first (x ∷ _) = Some x
 unfoldable pub choice : {K : Type 0} → List (K × Rank) → Option K
 choice candidates = option_map (λ c. c.0) (first (left_of candidates))
 
--- the ranks of a list, each named by its place from 0
-abbrev pub ranks_by_place : List Rank → List (ℕ × Rank)
-ranks_by_place ranks = enumerate_from 0 ranks
+-- the ranks of a list, each named by its index from 0
+abbrev pub ranks_by_index : List Rank → List (ℕ × Rank)
+ranks_by_index ranks = enumerate_from 0 ranks
 
 -- the ranks that the nine rules leave, in the order of the list
 abbrev pub ranks_left : List Rank → List Rank
-ranks_left ranks = map (λ c. c.1) (left_of (ranks_by_place ranks))
+ranks_left ranks = map (λ c. c.1) (left_of (ranks_by_index ranks))
 
 -- neither of two ranks is better by any of the nine rules
 pub record AreEqual (a b : Rank) : Type 0 where

@@ -3,7 +3,7 @@
 //! 9.1.2.2.
 
 ghost use Rattle.std.specs.Prelude.{◌≡◌, ◌↔◌, [], IsNone, IsPermutation, AllPairs, option_map, option_and_then, slice_get};
-ghost use Rattle.decision_core.specs.Choice.{choice as choice_of, ranks_by_place, ranks_left, first, AreEqual, has_lower_med as has_lower_med_lem};
+ghost use Rattle.decision_core.specs.Choice.{choice as choice_of, ranks_by_index, ranks_left, first, AreEqual, has_lower_med as has_lower_med_lem};
 ghost use Rattle.decision_core.specs.Search.{leads as leads_lem, is_nearer as is_nearer_lem, best_by, takes_out as takes_out_lem, is_taken_out as is_taken_out_lem, improves as improves_lem, is_next as is_next_lem};
 
 use bgp_types::Rank;
@@ -76,7 +76,7 @@ fn is_taken_out(list: &[Rank], leader: &Rank, rank: &Rank) -> bool
     list.iter().any(|other| takes_out(leader, other, rank))
 }
 
-/// Whether a rank is nearer than the nearest one so far, which is given with its place.
+/// Whether a rank is nearer than the nearest one so far, which is given with its index.
 fn improves(nearest: &Option<(usize, Rank)>, rank: &Rank) -> bool
     ensures { result ≡ improves_lem nearest.now rank.now }
 {
@@ -95,23 +95,23 @@ fn is_next(list: &[Rank], leader: &Rank, nearest: &Option<(usize, Rank)>, rank: 
     !leads(leader, rank) && improves(nearest, rank) && !is_taken_out(list, leader, rank)
 }
 
-/// Returns the place in the list, counted from 0, of the route that the nine rules of the decision
+/// Returns the index in the list, counted from 0, of the route that the nine rules of the decision
 /// process choose. Each rule is applied to all the routes that the rules before it leave, so the routes
 /// that are left in the end don't depend on the order in which they arrived (RFC 4271, section
 /// 9.1.2.2). Those are equal by all nine rules, and the first of them is chosen. A route that is equal
 /// to it but was eliminated, by the MED of a third route, may stand before it. It allocates nothing.
 pub fn best(list: &[Rank]) -> Option<usize>
     ensures empty { IsNone result ↔ (list.now ≡ []) }
-    ensures choice { result ≡ choice_of (ranks_by_place list.now) }
+    ensures choice { result ≡ choice_of (ranks_by_index list.now) }
 {
     let leader = leader(list)?;
     let mut nearest: Option<(usize, Rank)> = None;
-    for (place, rank) in list.iter().enumerate() {
+    for (index, rank) in list.iter().enumerate() {
         if is_next(list, &leader, &nearest, rank) {
-            nearest = Some((place, *rank));
+            nearest = Some((index, *rank));
         }
     }
-    nearest.map(|(place, _)| place)
+    nearest.map(|(index, _)| index)
 }
 
 /// In any other order of the list the nine rules leave the same ranks. These are equal by all nine
@@ -120,5 +120,5 @@ pub fn order_matters_only_among_equals(list: &[Rank], other: &[Rank])
     requires { IsPermutation list.now other.now }
     ensures same { IsPermutation (ranks_left list.now) (ranks_left other.now) }
     ensures equal { AllPairs AreEqual (ranks_left list.now) }
-    ensures first { option_and_then (λ place. slice_get list.now place) (choice_of (ranks_by_place list.now)) ≡ first (ranks_left list.now) }
+    ensures first { option_and_then (λ index. slice_get list.now index) (choice_of (ranks_by_index list.now)) ≡ first (ranks_left list.now) }
 {}

@@ -1,5 +1,5 @@
 pub mod Entries
-pub mod Places
+pub mod Indices
 pub mod Numbered
 pub mod OrderLaws
 pub mod Kept

@@ -12,9 +12,9 @@ use Rattle.std.proofs.lemmas.Map.{lookup-remove_entry}
 use Rattle.std.proofs.lemmas.Map.Keys.{IsDistinct-from_sorted}
 use Rattle.decision_groups.specs.Order.{RankedSource}
 use Rattle.decision_groups.specs.Groups.{some_members, NumberedGroup, AreNumbered, group_at, members_of}
-use Rattle.decision_groups.specs.Places.{IsPlaceOfKey, IsGapForKey}
+use Rattle.decision_groups.specs.Indices.{IsIndexOfKey, IsGapForKey}
 use Rattle.decision_groups.proofs.Entries.{sorted-insert, sorted-remove, lookup-insert_entry}
-use Rattle.decision_groups.proofs.Places.{lookup_place, insert_over, remove_place, remove_over, lookup_gap, insert_gap}
+use Rattle.decision_groups.proofs.Indices.{lookup_index, insert_over, remove_index, remove_over, lookup_gap, insert_gap}
 
 at_number : (n m : ℕ) → is_at (nat_cmp n) m ≡ (n == m)
 at_number n m = grind (arith, nat_tests)
@@ -31,9 +31,9 @@ some_unless (c ∷ cs) some = refl
 
 -- ---- the group of a neighbour AS that has one
 
-module _ (es : List NumberedGroup) (neighbour at : ℕ) (e : NumberedGroup) (is : e ≡ get_or es at e) (here : IsPlaceOfKey nat_cmp neighbour es at) where
+module _ (es : List NumberedGroup) (neighbour at : ℕ) (e : NumberedGroup) (is : e ≡ get_or es at e) (here : IsIndexOfKey nat_cmp neighbour es at) where
   group_there : group_at es neighbour ≡ Some e.1
-  group_there = lookup_place nat_cmp neighbour es at e here ∙ ap (λ (f : NumberedGroup). Some f.1) (sym is)
+  group_there = lookup_index nat_cmp neighbour es at e here ∙ ap (λ (f : NumberedGroup). Some f.1) (sym is)
 
   members_there : (n : ℕ) → (n == neighbour) ≡ true → members_of es n ≡ e.1
   members_there n same = ap (members_of es) (same_number n neighbour same) ∙ ap (λ (o : Option (List RankedSource)). unwrap_or o []) group_there
@@ -49,13 +49,13 @@ module _ (es : List NumberedGroup) (neighbour at : ℕ) (e : NumberedGroup) (is 
 
   pub gone_numbers : AreNumbered es → (members : List RankedSource) → AreNumbered (list.remove (set es at (e.0, members)) at)
   gone_numbers numbered members =
-      subst AreNumbered (remove_place nat_cmp neighbour es at here ∙ sym (remove_over nat_cmp neighbour es at (e.0, members) here))
+      subst AreNumbered (remove_index nat_cmp neighbour es at here ∙ sym (remove_over nat_cmp neighbour es at (e.0, members) here))
       (sorted-remove nat_cmp (is_at (nat_cmp neighbour)) es numbered)
 
   gone_group : AreNumbered es → (n : ℕ) (members : List RankedSource)
       → group_at (list.remove (set es at (e.0, members)) at) n ≡ cond (n == neighbour) None (group_at es n)
   gone_group numbered n members =
-      ap (λ (gs : List NumberedGroup). group_at gs n) (remove_over nat_cmp neighbour es at (e.0, members) here ∙ sym (remove_place nat_cmp neighbour es at here))
+      ap (λ (gs : List NumberedGroup). group_at gs n) (remove_over nat_cmp neighbour es at (e.0, members) here ∙ sym (remove_index nat_cmp neighbour es at here))
       ∙ (lookup-remove_entry (eq_by_cmp_equiv nat_cmp_total) (is_at (nat_cmp neighbour)) (λ x y passes. ap is_eq (nat_cmp_total.congr neighbour x y ((Equal-is (nat_cmp neighbour x)).0 passes))) n es (IsDistinct-from_sorted nat_cmp (keys_of es) numbered)
       ∙ ap (λ b. cond b None (group_at es n)) (number_at n neighbour))
 

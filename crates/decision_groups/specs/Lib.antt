@@ -1,5 +1,5 @@
 pub mod Order
 pub mod Champions
 pub mod Groups
-pub mod Places
+pub mod Indices
 pub mod Sources

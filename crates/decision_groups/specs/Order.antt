@@ -26,7 +26,7 @@ from_order (Router r) (Router s) = nat_cmp r.0 s.0
 abbrev pub RankedSource : Type 0
 RankedSource = From × Rank
 
--- each at its place in this order, and none twice
+-- each at its index in this order, and none twice
 abbrev pub IsInOrder : List RankedSource → Type 0
 IsInOrder candidates = IsStrictlySortedBy from_order (keys_of candidates)
 

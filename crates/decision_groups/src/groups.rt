@@ -6,7 +6,7 @@ ghost use Rattle.std.specs.Map.{values_of};
 ghost use Rattle.decision_core.specs.Search.{best_by};
 ghost use Rattle.decision_groups.specs.Order.{with_rank, without_source};
 ghost use Rattle.decision_groups.specs.Groups.{NumberedGroup, AreNumbered, group_at, members_of, some_members, champion_of, comes_first as comes_first_lem, better_of};
-ghost use Rattle.decision_groups.specs.Places.{IsPlaceOfKey, IsGapForKey};
+ghost use Rattle.decision_groups.specs.Indices.{IsIndexOfKey, IsGapForKey};
 
 use crate::group::Group;
 use bgp_types::{From, NoMemory, Rank};
@@ -59,10 +59,10 @@ fn better(best: Option<(From, Rank)>, champion: Option<(From, Rank)>) -> Option<
     }
 }
 
-// Returns the place of a neighbour AS' group, or as the error the place where it would be inserted.
-fn place(entries: &[(u32, Group)], neighbour: u32) -> Result<usize, usize>
+// Returns the index of a neighbour AS' group, or as the error the index where it would be inserted.
+fn index_of(entries: &[(u32, Group)], neighbour: u32) -> Result<usize, usize>
     requires { AreNumbered entries.now }
-    ensures found { IfOk result (IsPlaceOfKey nat_cmp neighbour entries.now) }
+    ensures found { IfOk result (IsIndexOfKey nat_cmp neighbour entries.now) }
     ensures absent { IfErr result (IsGapForKey nat_cmp neighbour entries.now) }
 {
     entries.binary_search_by_key(&neighbour, |entry| entry.0)
@@ -84,7 +84,7 @@ impl Groups {
         ensures ok { OnOk result ((n : ℕ) → group_at self.new n ≡ (if n == rank.neighbour then Some (with_rank (members_of self.old n) from rank) else group_at self.old n)) }
         ensures err { OnErr result ((n : ℕ) → group_at self.new n ≡ group_at self.old n) }
     {
-        match place(&self.entries, rank.neighbour) {
+        match index_of(&self.entries, rank.neighbour) {
             Ok(at) => self.entries[at].1.set(from, rank),
             Err(at) => {
                 let group = Group::one(alloc, from, rank)?;
@@ -98,7 +98,7 @@ impl Groups {
     pub fn leave(&mut self, from: From, neighbour: u32)
         ensures { (n : ℕ) → group_at self.new n ≡ (if n == neighbour then some_members (without_source (members_of self.old n) from) else group_at self.old n) }
     {
-        let Ok(at) = place(&self.entries, neighbour) else {
+        let Ok(at) = index_of(&self.entries, neighbour) else {
             return;
         };
         let group = &mut self.entries[at].1;

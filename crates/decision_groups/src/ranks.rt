@@ -4,7 +4,7 @@ ghost use Rattle.std.specs.Prelude.{◌≡◌, ◌↔◌, [], ◌∷◌, IsTrue,
 ghost use Rattle.std.specs.Option.{option_copied};
 ghost use Rattle.decision_groups.specs.Order.{RankedSource, from_order, IsInOrder, rank_at, with_rank, without_source};
 ghost use Rattle.decision_groups.specs.Groups.{champion_of, beats_champion as beats_champion_lem, beats_in_group};
-ghost use Rattle.decision_groups.specs.Places.{IsPlaceOfKey, IsGapForKey};
+ghost use Rattle.decision_groups.specs.Indices.{IsIndexOfKey, IsGapForKey};
 
 use bgp_types::{From, NoMemory, Rank};
 use decision_core::{is_nearer, leads};
@@ -56,10 +56,10 @@ fn beats_champion(champion: &Option<(From, Rank)>, rank: &Rank) -> bool
     }
 }
 
-// Returns the place of the rank from this source, or as the error the place where it would be inserted.
-fn place(entries: &[(From, Rank)], from: From) -> Result<usize, usize>
+// Returns the index of the rank from this source, or as the error the index where it would be inserted.
+fn index_of(entries: &[(From, Rank)], from: From) -> Result<usize, usize>
     requires { IsInOrder entries.now }
-    ensures found { IfOk result (IsPlaceOfKey from_order from entries.now) }
+    ensures found { IfOk result (IsIndexOfKey from_order from entries.now) }
     ensures absent { IfErr result (IsGapForKey from_order from entries.now) }
 {
     entries.binary_search_by_key(&from, |entry| entry.0)
@@ -100,7 +100,7 @@ impl Ranks {
     pub fn get(&self, from: From) -> Option<&Rank>
         ensures { option_copied result ≡ rank_at self.now from }
     {
-        match place(&self.entries, from) {
+        match index_of(&self.entries, from) {
             Ok(at) => Some(&self.entries[at].1),
             Err(_) => None,
         }
@@ -115,7 +115,7 @@ impl Ranks {
         ensures err { OnErr result (self.new ≡ self.old) }
         ensures in_order { IsInOrder self.new }
     {
-        match place(&self.entries, from) {
+        match index_of(&self.entries, from) {
             Ok(at) => Ok(Some(mem::replace(&mut self.entries[at].1, rank))),
             Err(at) => {
                 self.entries.insert(at, (from, rank))?;
@@ -130,7 +130,7 @@ impl Ranks {
         ensures left { self.new ≡ without_source self.old from }
         ensures in_order { IsInOrder self.new }
     {
-        match place(&self.entries, from) {
+        match index_of(&self.entries, from) {
             Ok(at) => Some(self.entries.remove(at).1),
             Err(_) => None,
         }

@@ -35,11 +35,11 @@ pub record Planned (rooms : List ℕ) (from : ℕ) (first now : List ℕ) (turns
   pub rest : (count : ℕ) (later : TargetList) → Plan rooms from now count later → Plan rooms from first (turns + count) (targets ++ later)
 
 -- the loads with one more at a router, as they are written
-pub one_more_load-written : (loads : List ℕ) (r place load : ℕ) → place ≡ r → r < length loads → load ≡ get_or loads place load
-    → set loads place (load + 1) ≡ one_more_load loads r
-one_more_load-written loads r place load same there read =
-    let is : load ≡ slice_index loads place = get_or_read loads place load (omega arith) read 0 in
-    ap (λ n. set loads place (n + 1)) is ∙ ap (one_more_load loads) same
+pub one_more_load-written : (loads : List ℕ) (r index load : ℕ) → index ≡ r → r < length loads → load ≡ get_or loads index load
+    → set loads index (load + 1) ≡ one_more_load loads r
+one_more_load-written loads r index load same there read =
+    let is : load ≡ slice_index loads index = get_or_read loads index load (omega arith) read 0 in
+    ap (λ n. set loads index (n + 1)) is ∙ ap (one_more_load loads) same
 
 module _ (rooms : List ℕ) (from : ℕ) (first now : List ℕ) (turns : ℕ) (targets : TargetList) where
   one_turn : Planned rooms from first now turns targets → (count : ℕ) (target : Option RouterId) (later : TargetList)

@@ -57,7 +57,7 @@ fn least_loaded(loads: &[u32], rooms: &[u32], from: RouterId) -> Option<RouterId
 /// if no such router is below its room.
 ///
 /// A load is how many peerings a router holds, and a room how many it may hold. A router is named by
-/// its place in both lists, so these have the same length, which is at most the number of places that a
+/// its index in both lists, so these have the same length, which is at most the number of places that a
 /// `RouterId` can name. The router `from` gives its peerings away, and its own load is never changed.
 ///
 /// It allocates a copy of the loads and the targets, and takes a step for each peering and router.

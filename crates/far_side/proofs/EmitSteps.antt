@@ -40,10 +40,10 @@ from_on f g k from = record {
   short = omega (arith, from.short);
 }
 
--- its places are the same there
-pub same_places : (f : Fields) (g : Segment) → FarSideInvariant f
+-- its offsets are the same there
+pub same_offsets : (f : Fields) (g : Segment) → FarSideInvariant f
     → placed f.homeward.seq_first f.homeward.ack_first g ≡ placed f.remote.send_first f.remote.receive_first g
-same_places f g k = ap (λ (n : ℕ). placed n f.homeward.ack_first g) (k.homeward.seq_first ∙ sym k.sends)
+same_offsets f g k = ap (λ (n : ℕ). placed n f.homeward.ack_first g) (k.homeward.seq_first ∙ sym k.sends)
     ∙ ap (λ (n : ℕ). placed f.remote.send_first n g) (k.homeward.ack_first ∙ sym k.receives)
 
 -- ---- one segment
@@ -251,7 +251,7 @@ emitted_end r v is = subst (λ (u : RemoteValue). u ≡ record r { end = u.end; 
 pub emitted_turn : (r v : RemoteValue) → v ≡ record r { end = v.end; at_turn = r.end.acked } → v ≡ record r { end = v.end; at_turn = v.at_turn }
 emitted_turn r v is = subst (λ (u : RemoteValue). u ≡ record r { end = u.end; at_turn = u.at_turn }) (sym is) refl
 
--- the places of the segment
+-- the offsets of the segment
 same_placed : (f : Fields) (r : RemoteValue) (g : Segment) → r ≡ record f.remote { end = r.end; at_turn = r.at_turn }
     → placed r.send_first r.receive_first g ≡ placed f.remote.send_first f.remote.receive_first g
 same_placed f r g is = ap (λ (v : RemoteValue). placed v.send_first v.receive_first g) is

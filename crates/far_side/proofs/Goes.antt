@@ -14,7 +14,7 @@ use Rattle.graft_model.specs.declared.event.FarEvent.{FarEvent}
 use Rattle.graft_model.specs.declared.event.FarEvent.TheVariants.{Send}
 use Rattle.graft_actors.specs.Emissions.{zero_tally, IsOld, IsCareful, Tally, tallied}
 use Rattle.far_side.specs.Remotes.{RemoteValue}
-use Rattle.far_side.specs.Links.{home_act, home_event, home_events, remote_act, remote_event, remote_events, pass_events, act_in, next_place}
+use Rattle.far_side.specs.Links.{home_act, home_event, home_events, remote_act, remote_event, remote_events, pass_events, act_in, next_index}
 use Rattle.far_side.specs.Parts.{far_part}
 use Rattle.far_side.specs.Turns.{CarefulFar, far_tally, FarRound, FarRetransmits, SendsNew, SendsAnswer, SendsNone, FarGoes, DidAsFar}
 use Rattle.far_side.specs.Passes.{again_events, FreshEvents, answer_events, Beats}
@@ -37,7 +37,7 @@ silent_goes setup p a b t u (e ∷ es) none (taken, sent, m, row, careful, rest)
 silent_passes : (event : ℕ → InLink → List FarEvent) → ((n : ℕ) (x : InLink) → AllByRecursion Silent (event n x)) → (n : ℕ) (xs : List InLink)
     → AllByRecursion Silent (pass_events event n xs)
 silent_passes event each n [] = tt
-silent_passes event each n (x ∷ xs) = all-append Silent (event n x) (pass_events event (next_place n x) xs) (each n x) (silent_passes event each (next_place n x) xs)
+silent_passes event each n (x ∷ xs) = all-append Silent (event n x) (pass_events event (next_index n x) xs) (each n x) (silent_passes event each (next_index n x) xs)
 
 silent_home : (pointer n : ℕ) (x : InLink) (act : Act) → AllByRecursion Silent (home_act pointer n x act)
 silent_home pointer n x Stays = tt

@@ -18,32 +18,32 @@ leads_on old new way p s a same leads = record { way = same.way ∙ leads.way; p
 
 -- ---- the routers that the link pointed at
 
-all_cut : (P : InLink → Type 0) (place : ℕ) (xs : List InLink) → AllByRecursion P xs → AllByRecursion P (take place xs ++ drop (suc place) xs)
+all_cut : (P : InLink → Type 0) (index : ℕ) (xs : List InLink) → AllByRecursion P xs → AllByRecursion P (take index xs ++ drop (suc index) xs)
 all_cut P zero [] h = h
 all_cut P zero (x ∷ xs) h = h.1
-all_cut P (suc place) [] h = h
-all_cut P (suc place) (x ∷ xs) h = (h.0, all_cut P place xs h.1)
+all_cut P (suc index) [] h = h
+all_cut P (suc index) (x ∷ xs) h = (h.0, all_cut P index xs h.1)
 
-all_set : (P : InLink → Type 0) (place : ℕ) (xs : List InLink) (x y : InLink) → slice_get xs place ≡ Some x → (P x → P y) → AllByRecursion P xs
-    → AllByRecursion P (slice_set xs place y)
+all_set : (P : InLink → Type 0) (index : ℕ) (xs : List InLink) (x y : InLink) → slice_get xs index ≡ Some x → (P x → P y) → AllByRecursion P xs
+    → AllByRecursion P (slice_set xs index y)
 all_set P zero [] x y is so h = h
 all_set P zero (z ∷ zs) x y is so h = let e : z ≡ x = cc in (so (subst P e h.0), h.1)
-all_set P (suc place) [] x y is so h = h
-all_set P (suc place) (z ∷ zs) x y is so h = (h.0, all_set P place zs x y is so h.1)
+all_set P (suc index) [] x y is so h = h
+all_set P (suc index) (z ∷ zs) x y is so h = (h.0, all_set P index zs x y is so h.1)
 
-pub all_at : (P : InLink → Type 0) (place : ℕ) (xs : List InLink) (x : InLink) → slice_get xs place ≡ Some x → AllByRecursion P xs → P x
+pub all_at : (P : InLink → Type 0) (index : ℕ) (xs : List InLink) (x : InLink) → slice_get xs index ≡ Some x → AllByRecursion P xs → P x
 all_at P zero [] x is h = absurd (let e : ⊥ = cc in e)
 all_at P zero (z ∷ zs) x is h = let e : z ≡ x = cc in subst P e h.0
-all_at P (suc place) [] x is h = absurd (let e : ⊥ = cc in e)
-all_at P (suc place) (z ∷ zs) x is h = all_at P place zs x is h.1
+all_at P (suc index) [] x is h = absurd (let e : ⊥ = cc in e)
+all_at P (suc index) (z ∷ zs) x is h = all_at P index zs x is h.1
 
-pub all_after : (P : InLink → Type 0) (place : ℕ) (xs : List InLink) (x : InLink) → slice_get xs place ≡ Some x → (P x → P (older x))
-    → AllByRecursion P xs → AllByRecursion P (plans_after place x xs)
-all_after P place xs x is so h = by_test (is_gone (act_in x))
+pub all_after : (P : InLink → Type 0) (index : ℕ) (xs : List InLink) (x : InLink) → slice_get xs index ≡ Some x → (P x → P (older x))
+    → AllByRecursion P xs → AllByRecursion P (plans_after index x xs)
+all_after P index xs x is so h = by_test (is_gone (act_in x))
   where
-    by_test : (b : Bool) → AllByRecursion P (if b then without place xs else slice_set xs place (older x))
-    by_test true = subst (AllByRecursion P) (sym (without_is place xs)) (all_cut P place xs h)
-    by_test false = all_set P place xs x (older x) is so h
+    by_test : (b : Bool) → AllByRecursion P (if b then without index xs else slice_set xs index (older x))
+    by_test true = subst (AllByRecursion P) (sym (without_is index xs)) (all_cut P index xs h)
+    by_test false = all_set P index xs x (older x) is so h
 
 pub all_push : (P : InLink → Type 0) (xs : List InLink) (x : InLink) → AllByRecursion P xs → P x → AllByRecursion P (xs ++ x ∷ [])
 all_push P [] x h p = (p, tt)

@@ -14,39 +14,39 @@ use Rattle.far_side.specs.LinkInner.{link_of, LinkInvariant}
 use Rattle.far_side.specs.declared.link.InLink.{InLink}
 use Rattle.far_side.specs.declared.link.Link.TheInside.{Inside}
 
--- a list without the member at a place
-pub removed_is : {A : Type 0} (xs : List A) (place : ℕ) → remove xs place ≡ without place xs
-removed_is xs place = ap (λ (n : ℕ). take place xs ++ drop n xs) (sym (add-one place))
+-- a list without the member at an index
+pub removed_is : {A : Type 0} (xs : List A) (index : ℕ) → remove xs index ≡ without index xs
+removed_is xs index = ap (λ (n : ℕ). take index xs ++ drop n xs) (sym (add-one index))
 
-pub map-removed : {A B : Type 0} (f : A → B) (xs : List A) (place : ℕ) → map f (remove xs place) ≡ without place (map f xs)
-map-removed f xs place = ap (map f) (removed_is xs place) ∙ map-append f (take place xs) (drop (place + 1) xs)
-    ∙ ap (λ ys. ys ++ map f (drop (place + 1) xs)) (sym (take-map f place xs)) ∙ ap (λ ys. take place (map f xs) ++ ys) (sym (drop-map f (place + 1) xs))
+pub map-removed : {A B : Type 0} (f : A → B) (xs : List A) (index : ℕ) → map f (remove xs index) ≡ without index (map f xs)
+map-removed f xs index = ap (map f) (removed_is xs index) ∙ map-append f (take index xs) (drop (index + 1) xs)
+    ∙ ap (λ ys. ys ++ map f (drop (index + 1) xs)) (sym (take-map f index xs)) ∙ ap (λ ys. take index (map f xs) ++ ys) (sym (drop-map f (index + 1) xs))
 
-all_removed : (P : Segment → Type 0) (place : ℕ) (xs : List Segment) → AllByRecursion P xs → AllByRecursion P (take place xs ++ drop (suc place) xs)
+all_removed : (P : Segment → Type 0) (index : ℕ) (xs : List Segment) → AllByRecursion P xs → AllByRecursion P (take index xs ++ drop (suc index) xs)
 all_removed P zero [] h = h
 all_removed P zero (x ∷ xs) h = h.1
-all_removed P (suc place) [] h = h
-all_removed P (suc place) (x ∷ xs) h = (h.0, all_removed P place xs h.1)
+all_removed P (suc index) [] h = h
+all_removed P (suc index) (x ∷ xs) h = (h.0, all_removed P index xs h.1)
 
-all_at : (P : Segment → Type 0) (place : ℕ) (xs : List Segment) (x : Segment) → slice_get xs place ≡ Some x → AllByRecursion P xs → P x
+all_at : (P : Segment → Type 0) (index : ℕ) (xs : List Segment) (x : Segment) → slice_get xs index ≡ Some x → AllByRecursion P xs → P x
 all_at P zero [] x is h = absurd (let e : ⊥ = cc in e)
 all_at P zero (z ∷ zs) x is h = let e : z ≡ x = cc in subst P e h.0
-all_at P (suc place) [] x is h = absurd (let e : ⊥ = cc in e)
-all_at P (suc place) (z ∷ zs) x is h = all_at P place zs x is h.1
+all_at P (suc index) [] x is h = absurd (let e : ⊥ = cc in e)
+all_at P (suc index) (z ∷ zs) x is h = all_at P index zs x is h.1
 
--- the segment at a place is one of the link
-pub on_at : (l : Inside) (place : ℕ) (g : Segment) → LinkInvariant l → slice_get l.bag place ≡ Some g → IsOn (link_of l) g
-on_at l place g keeps is = all_at (IsOn (link_of l)) place l.bag g is (recursion_from_All (IsOn (link_of l)) l.bag keeps.own)
+-- the segment at an index is one of the link
+pub on_at : (l : Inside) (index : ℕ) (g : Segment) → LinkInvariant l → slice_get l.bag index ≡ Some g → IsOn (link_of l) g
+on_at l index g keeps is = all_at (IsOn (link_of l)) index l.bag g is (recursion_from_All (IsOn (link_of l)) l.bag keeps.own)
 
--- its places are those that the link is seen with
-pub seen_at : (l : Inside) (place : ℕ) (g : Segment) → slice_get l.bag place ≡ Some g
-    → slice_get (link_of l).segments place ≡ Some (placed (link_of l).seq_first (link_of l).ack_first g)
-seen_at l place g is = slice_get-map (placed l.seq_first.0 l.ack_first.0) l.bag place
+-- its offsets are those that the link is seen with
+pub seen_at : (l : Inside) (index : ℕ) (g : Segment) → slice_get l.bag index ≡ Some g
+    → slice_get (link_of l).segments index ≡ Some (placed (link_of l).seq_first (link_of l).ack_first g)
+seen_at l index g is = slice_get-map (placed l.seq_first.0 l.ack_first.0) l.bag index
     ∙ ap (λ (o : Option Segment). option_map (placed l.seq_first.0 l.ack_first.0) o) is
 
 -- the other segments stay ones of the link
-pub own_others : (l : Inside) (place : ℕ) → LinkInvariant l → All (IsOn (link_of l)) (remove l.bag place)
-own_others l place keeps = All-from_recursion (IsOn (link_of l)) (remove l.bag place) (all_removed (IsOn (link_of l)) place l.bag (recursion_from_All (IsOn (link_of l)) l.bag keeps.own))
+pub own_others : (l : Inside) (index : ℕ) → LinkInvariant l → All (IsOn (link_of l)) (remove l.bag index)
+own_others l index keeps = All-from_recursion (IsOn (link_of l)) (remove l.bag index) (all_removed (IsOn (link_of l)) index l.bag (recursion_from_All (IsOn (link_of l)) l.bag keeps.own))
 
 -- a segment more
 put_seen : (l : Inside) (bag : List Segment) (plans : List InLink) (number : ℕ) (g : Segment) (x : InLink) → bag ≡ l.bag ++ g ∷ []
@@ -72,38 +72,38 @@ put_then l v bag plans number g x y seen is more next same =
     subst (λ (u : LinkValue). let w : LinkValue = record (link_of l) { segments = map (placed l.seq_first.0 l.ack_first.0) bag; plans = plans; put = number } in w ≡ record u { segments = u.segments ++ placed u.seq_first u.ack_first g ∷ []; plans = u.plans ++ y ∷ []; put = u.put + 1 }) seen
     (put_seen l bag plans number g y is (more ∙ ap (λ (z : InLink). l.plans.items ++ z ∷ []) same) next)
 
--- the link as it is seen without the segment at a place
-pub removed_then : (l : Inside) (v : LinkValue) (bag : List Segment) (plans : List InLink) (place : ℕ) → link_of l ≡ v → bag ≡ remove l.bag place
-    → plans ≡ remove l.plans.items place
+-- the link as it is seen without the segment at an index
+pub removed_then : (l : Inside) (v : LinkValue) (bag : List Segment) (plans : List InLink) (index : ℕ) → link_of l ≡ v → bag ≡ remove l.bag index
+    → plans ≡ remove l.plans.items index
     → let w : LinkValue = record (link_of l) { segments = map (placed l.seq_first.0 l.ack_first.0) bag; plans = plans } in
-    w ≡ record v { segments = without place v.segments; plans = without place v.plans }
-removed_then l v bag plans place seen is less =
-    subst (λ (u : LinkValue). let w : LinkValue = record (link_of l) { segments = map (placed l.seq_first.0 l.ack_first.0) bag; plans = plans } in w ≡ record u { segments = without place u.segments; plans = without place u.plans }) seen
+    w ≡ record v { segments = without index v.segments; plans = without index v.plans }
+removed_then l v bag plans index seen is less =
+    subst (λ (u : LinkValue). let w : LinkValue = record (link_of l) { segments = map (placed l.seq_first.0 l.ack_first.0) bag; plans = plans } in w ≡ record u { segments = without index u.segments; plans = without index u.plans }) seen
     (λ i. record {
       way = l.way;
       peering = l.peering.0;
       seq_first = l.seq_first.0;
       ack_first = l.ack_first.0;
-      segments = (ap (map (placed l.seq_first.0 l.ack_first.0)) is ∙ map-removed (placed l.seq_first.0 l.ack_first.0) l.bag place) i;
-      plans = (less ∙ removed_is l.plans.items place) i;
+      segments = (ap (map (placed l.seq_first.0 l.ack_first.0)) is ∙ map-removed (placed l.seq_first.0 l.ack_first.0) l.bag index) i;
+      plans = (less ∙ removed_is l.plans.items index) i;
       put = l.put;
     })
 
-length_removed : {A : Type 0} (xs : List A) (place : ℕ) → place < length xs → length (remove xs place) + 1 ≡ length xs
-length_removed [] place below = absurd (omega (arith, below))
+length_removed : {A : Type 0} (xs : List A) (index : ℕ) → index < length xs → length (remove xs index) + 1 ≡ length xs
+length_removed [] index below = absurd (omega (arith, below))
 length_removed (x ∷ xs) zero below = let e : length xs + 1 ≡ suc (length xs) = add-one (length xs) in e
-length_removed (x ∷ xs) (suc place) below = let h : length (remove xs place) + 1 ≡ length xs = length_removed xs place (omega (arith, below)) in omega (arith, h)
+length_removed (x ∷ xs) (suc index) below = let h : length (remove xs index) + 1 ≡ length xs = length_removed xs index (omega (arith, below)) in omega (arith, h)
 
 -- what its fields keep
-pub keeps_removed : (l l' : Inside) (place : ℕ) → LinkInvariant l → place < length l.bag → l'.bag ≡ remove l.bag place
-    → l'.plans.items ≡ remove l.plans.items place → l'.way ≡ l.way → l'.peering ≡ l.peering → l'.seq_first ≡ l.seq_first → l'.ack_first ≡ l.ack_first
+pub keeps_removed : (l l' : Inside) (index : ℕ) → LinkInvariant l → index < length l.bag → l'.bag ≡ remove l.bag index
+    → l'.plans.items ≡ remove l.plans.items index → l'.way ≡ l.way → l'.peering ≡ l.peering → l'.seq_first ≡ l.seq_first → l'.ack_first ≡ l.ack_first
     → LinkInvariant l'
-keeps_removed l l' place keeps below bag plans way peering first other = record {
-  own = subst (λ (gs : List Segment). All (IsOn (link_of l')) gs) (sym bag) (All-from_recursion (IsOn (link_of l')) (remove l.bag place)
-      (all_same (remove l.bag place) (recursion_from_All (IsOn (link_of l)) (remove l.bag place) (own_others l place keeps))));
+keeps_removed l l' index keeps below bag plans way peering first other = record {
+  own = subst (λ (gs : List Segment). All (IsOn (link_of l')) gs) (sym bag) (All-from_recursion (IsOn (link_of l')) (remove l.bag index)
+      (all_same (remove l.bag index) (recursion_from_All (IsOn (link_of l)) (remove l.bag index) (own_others l index keeps))));
   planned = ap length plans
-      ∙ (let e : length (remove l.plans.items place) ≡ length (remove l.bag place) = omega (arith, length_removed l.plans.items place (omega (arith, keeps.planned, below)), length_removed l.bag place below, keeps.planned) in e) ∙ sym (ap length bag);
-  few = omega (arith, ap length bag, length_removed l.bag place below, keeps.few);
+      ∙ (let e : length (remove l.plans.items index) ≡ length (remove l.bag index) = omega (arith, length_removed l.plans.items index (omega (arith, keeps.planned, below)), length_removed l.bag index below, keeps.planned) in e) ∙ sym (ap length bag);
+  few = omega (arith, ap length bag, length_removed l.bag index below, keeps.few);
 }
   where
     same_on : (g : Segment) → IsOn (link_of l) g → IsOn (link_of l') g

@@ -55,23 +55,23 @@ leaves_same (Ahead ack) s g t is = (record { peering = ap (λ (u : EndState). u.
 leaves_same Duplicate s g t is = (record { peering = ap (λ (u : EndState). u.peering) is; way = ap (λ (u : EndState). u.way) is; send_first = ap (λ (u : EndState). u.send_first) is; receive_first = ap (λ (u : EndState). u.receive_first) is; taken = ap (λ (u : EndState). u.taken) is }, ap (λ (u : EndState). u.acked_at_turn) is)
 leaves_same Accepted s g t takes = let is = takes.changed in (record { peering = ap (λ (u : EndState). u.peering) is; way = ap (λ (u : EndState). u.way) is; send_first = ap (λ (u : EndState). u.send_first) is; receive_first = ap (λ (u : EndState). u.receive_first) is; taken = ap (λ (u : EndState). u.taken) is }, ap (λ (u : EndState). u.acked_at_turn) is)
 
--- the numbers of a segment are those of its own places
-number_back : (first place : ℕ) → first < 2 ^ 32 → place ≤ 2 ^ 20 + 2 ^ 16 → offset_from (number first place) first ≡ place
-number_back first place fits small = omega (arith, fits, small)
+-- the numbers of a segment are those of its own offsets
+number_back : (first offset : ℕ) → first < 2 ^ 32 → offset ≤ 2 ^ 20 + 2 ^ 16 → offset_from (number first offset) first ≡ offset
+number_back first offset fits small = omega (arith, fits, small)
 
 placed_is : (f a : ℕ) (g : Segment) (p : PlacedSegment) → f < 2 ^ 32 → a < 2 ^ 32 → Numbered f a g p → IsInStreams p → placed f a g ≡ p
 placed_is f a g p fits fits' numbered streams = λ i. record {
-  place = (ap (λ (n : ℕ). offset_from n f) numbered.seq ∙ number_back f p.place fits (omega (arith, streams.end))) i;
+  offset = (ap (λ (n : ℕ). offset_from n f) numbered.seq ∙ number_back f p.offset fits (omega (arith, streams.end))) i;
   bytes = numbered.bytes i;
   ack = (ap (λ (n : ℕ). offset_from n a) numbered.ack ∙ number_back a p.ack fits' streams.ack) i;
 }
 
 -- what a step emits: a slice of the stream with at most 1,024 bytes, and the stream stays
 pub record IsSlice (e : Endpoint) (p : PlacedSegment) (f : Endpoint) : Type 0 where
-  pub place : ℕ
+  pub offset : ℕ
   pub len : ℕ
-  pub is : p ≡ slice_at e place len
-  pub within : place + len ≤ length e.stream
+  pub is : p ≡ slice_at e offset len
+  pub within : offset + len ≤ length e.stream
   pub short : len ≤ 1024
   pub stream : f.stream ≡ e.stream
 

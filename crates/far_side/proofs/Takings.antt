@@ -41,10 +41,10 @@ use Rattle.far_side.proofs.Sessions.{for_each}
 use Rattle.far_side.proofs.Kept.{keeps_remoteward, keeps_remote, keeps_pointer}
 use Rattle.graft_model.specs.declared.code.Code.{Code}
 
--- the places of a segment for the remote
-segment_places : (f : Fields) (s : Segment) → FarSideInvariant f → IsFor f.remote s
+-- the offsets of a segment for the remote
+segment_offsets : (f : Fields) (s : Segment) → FarSideInvariant f → IsFor f.remote s
     → segment_of f.known.setup s ≡ placed f.remoteward.seq_first f.remoteward.ack_first s
-segment_places f s k fits =
+segment_offsets f s k fits =
     ap (λ (w : Way). placed_for w (home_first f.known.setup s.peering.0) (remote_first f.known.setup s.peering.0) s) fits.way
     ∙ ap (λ (n : ℕ). placed (home_first f.known.setup n) (remote_first f.known.setup n) s) (fits.peering ∙ k.remote)
     ∙ ap (λ (n : ℕ). placed n (remote_first f.known.setup f.peering.0) s) (sym k.remoteward.seq_first)
@@ -66,7 +66,7 @@ segment_is f s k fits = record {
   peering = fits.peering ∙ k.remote;
   way = fits.way;
   len = fits.short;
-  placed = subst IsInStreams (sym (segment_places f s k fits)) (segment_on f s k fits).in_streams;
+  placed = subst IsInStreams (sym (segment_offsets f s k fits)) (segment_on f s k fits).in_streams;
 }
 
 -- and one that isn't for the remote is none of its peering
@@ -225,7 +225,7 @@ module _ {C : Type 0} (session : C → SessionValue) where
       took_one f g p q from (far_code (Take from)) (items.Seg s) wrote
       (acts_taking f g p from (items.Seg s) (Router from) (OutwardIn from (Seg (segment_of f.known.setup s))) (Take from) refl ((far_segment session f.known.setup from f.peering.0 (far_part f) s).1 (from, at, is))
       (ap (λ (way : Way). (Router from, segment_thing way (segment_of f.known.setup s))) (sym is.way))
-      (record { segment = segment_of f.known.setup s; takes = refl; sends = refl; effect = ap far_part same ∙ ap (λ (x : PlacedSegment). let v : FarPart = record (far_part f) { remoteward = f.remoteward.segments ++ x ∷ [] } in v) (sym (segment_places f s keeps fits)) })
+      (record { segment = segment_of f.known.setup s; takes = refl; sends = refl; effect = ap far_part same ∙ ap (λ (x : PlacedSegment). let v : FarPart = record (far_part f) { remoteward = f.remoteward.segments ++ x ∷ [] } in v) (sym (segment_offsets f s keeps fits)) })
       setup (ap (λ (h : Fields). h.peering) same))
       (record {
         one = refl;

@@ -56,7 +56,7 @@ put_now fate router = record { fate = fate; turns = 0; pointed = record { 0 = ro
 abbrev pub left_in_link : List InLink → List InLink
 left_in_link xs = map older (filter (λ x. not (is_gone (act_in x))) xs)
 
--- the event of a segment that goes home, at its place in the link, while the link points at this router
+-- the event of a segment that goes home, at its index in the link, while the link points at this router
 abbrev pub home_act : (pointer index : ℕ) → InLink → Act → List FarEvent
 home_act pointer index x Stays = []
 home_act pointer index x (Delivered keep) = events.Pass index keep pointer ∷ []
@@ -84,14 +84,14 @@ link_act Remote pointer index x act = remote_act index act
 abbrev pub link_event : Way → (pointer : ℕ) → ℕ → InLink → List FarEvent
 link_event way pointer index x = link_act way pointer index x (act_in x)
 
--- the place of the next segment, where a place counts the segments that are still in the link
-abbrev pub next_place : ℕ → InLink → ℕ
-next_place index x = if is_gone (act_in x) then index else index + 1
+-- the index of the next segment, where an index counts the segments that are still in the link
+abbrev pub next_index : ℕ → InLink → ℕ
+next_index index x = if is_gone (act_in x) then index else index + 1
 
--- the events of all segments from a place on, in ascending order of place
+-- the events of all segments from an index on, in ascending order of index
 abbrev pub pass_events : (ℕ → InLink → List FarEvent) → ℕ → List InLink → List FarEvent
 pass_events event index [] = []
-pass_events event index (x ∷ xs) = event index x ++ pass_events event (next_place index x) xs
+pass_events event index (x ∷ xs) = event index x ++ pass_events event (next_index index x) xs
 
 abbrev pub home_events : (pointer : ℕ) → List InLink → List FarEvent
 home_events pointer xs = pass_events (home_event pointer) 0 xs
@@ -112,17 +112,17 @@ pub record LinkValue : Type 0 where
   pub plans : List InLink
   pub put : ℕ
 
--- the segment at a place stays one turn longer
-abbrev pub aged : (place : ℕ) → InLink → LinkValue → LinkValue
-aged place x link = record link { plans = slice_set link.plans place (older x) }
+-- the segment at an index stays one turn longer
+abbrev pub aged : (index : ℕ) → InLink → LinkValue → LinkValue
+aged index x link = record link { plans = slice_set link.plans index (older x) }
 
--- the segment at a place leaves the link
-abbrev pub removed : (place : ℕ) → LinkValue → LinkValue
-removed place link = record link { segments = without place link.segments; plans = without place link.plans }
+-- the segment at an index leaves the link
+abbrev pub removed : (index : ℕ) → LinkValue → LinkValue
+removed index link = record link { segments = without index link.segments; plans = without index link.plans }
 
--- the segment at a place is delivered, and leaves the link unless it is kept
-abbrev pub given : Bool → (place : ℕ) → LinkValue → LinkValue
-given keep place link = if keep then link else removed place link
+-- the segment at an index is delivered, and leaves the link unless it is kept
+abbrev pub given : Bool → (index : ℕ) → LinkValue → LinkValue
+given keep index link = if keep then link else removed index link
 
 -- a segment that this link may carry
 pub record IsOn (link : LinkValue) (g : Segment) : Type 0 where

@@ -20,7 +20,7 @@ use Rattle.bgp_types.specs.declared.message.Message.TheVariants.{KeepaliveMsg}
 use Rattle.bgp_types.specs.Spelling.{spell}
 use Rattle.graft_actors.specs.Emissions.{reach_of, Tally}
 use Rattle.far_side.specs.Remotes.{RemoteValue, SendingInvariant}
-use Rattle.far_side.specs.Links.{LinkValue, IsOn, act_in, is_gone, older, next_place, link_event, pass_events, left_in_link, put_now}
+use Rattle.far_side.specs.Links.{LinkValue, IsOn, act_in, is_gone, older, next_index, link_event, pass_events, left_in_link, put_now}
 use Rattle.graft_actors.specs.Notes.{WroteOne}
 use Rattle.far_side.specs.Parts.{FarSideInvariant, link_to, with_link}
 use Rattle.far_side.specs.Turns.{DidAsFar}
@@ -28,12 +28,12 @@ use Rattle.far_side.specs.declared.link.InLink.{InLink}
 use Rattle.far_side.specs.declared.fields.Fields.{Fields}
 use Rattle.graft_model.specs.Codes.{far_code}
 
--- The segment at a place of a link goes to a router: the segment that is sent is that one.
-pub record SendsHome {C : Type 0} (link : LinkValue) (place : ℕ) (keep : Bool) (router : ℕ) (before after : Post (Item C)) : Type 0 where
+-- The segment at an index of a link goes to a router: the segment that is sent is that one.
+pub record SendsHome {C : Type 0} (link : LinkValue) (index : ℕ) (keep : Bool) (router : ℕ) (before after : Post (Item C)) : Type 0 where
   pub segment : Segment
   pub own : IsOn link segment
-  pub is : slice_get link.segments place ≡ Some (placed link.seq_first link.ack_first segment)
-  pub wrote : WroteOne before (far_code (Pass place keep router)) ((router, items.Seg segment) ∷ []) after
+  pub is : slice_get link.segments index ≡ Some (placed link.seq_first link.ack_first segment)
+  pub wrote : WroteOne before (far_code (Pass index keep router)) ((router, items.Seg segment) ∷ []) after
 
 -- the other fields of a link stay the same
 pub record SameLink (old new : LinkValue) : Type 0 where
@@ -49,42 +49,42 @@ pub record SameRemote (old new : RemoteValue) : Type 0 where
   pub emitted : new.end.emitted ≡ old.end.emitted
   pub acked : old.end.acked ≤ new.end.acked
 
--- The segment at a place of a link arrives at the remote.
-pub record Arrives (link : LinkValue) (place : ℕ) (old new : RemoteValue) : Type 0 where
+-- The segment at an index of a link arrives at the remote.
+pub record Arrives (link : LinkValue) (index : ℕ) (old new : RemoteValue) : Type 0 where
   pub segment : PlacedSegment
-  pub is : slice_get link.segments place ≡ Some segment
+  pub is : slice_get link.segments index ≡ Some segment
   pub takes : TakesSegment old.end segment new.end
   pub same : new ≡ record old { end = new.end }
 
--- The segment at a place of a link is delivered: home to a router, or to the remote.
-abbrev pub Hands : {C : Type 0} → Way → LinkValue → (place : ℕ) → (keep : Bool) → (router : ℕ) → RemoteValue → Post (Item C) → RemoteValue
+-- The segment at an index of a link is delivered: home to a router, or to the remote.
+abbrev pub Hands : {C : Type 0} → Way → LinkValue → (index : ℕ) → (keep : Bool) → (router : ℕ) → RemoteValue → Post (Item C) → RemoteValue
     → Post (Item C) → Type 0
-Hands Home link place keep router old before new after = SendsHome link place keep router before after × (new ≡ old)
-Hands Remote link place keep router old before new after = WroteOne before (far_code (Reach place keep)) [] after × Arrives link place old new
+Hands Home link index keep router old before new after = SendsHome link index keep router before after × (new ≡ old)
+Hands Remote link index keep router old before new after = WroteOne before (far_code (Reach index keep)) [] after × Arrives link index old new
 
 -- what the turns of a link's segments change of the remote: nothing on the way home
 abbrev pub HandedTo : Way → RemoteValue → RemoteValue → Type 0
 HandedTo Home old new = new ≡ old
 HandedTo Remote old new = SameRemote old new
 
--- the plans of a link after the turn of the segment at a place, and the whole link
-abbrev pub plans_after : (place : ℕ) → InLink → List InLink → List InLink
-plans_after place x plans = if is_gone (act_in x) then without place plans else slice_set plans place (older x)
+-- the plans of a link after the turn of the segment at an index, and the whole link
+abbrev pub plans_after : (index : ℕ) → InLink → List InLink → List InLink
+plans_after index x plans = if is_gone (act_in x) then without index plans else slice_set plans index (older x)
 
-abbrev pub link_after : (place : ℕ) → InLink → LinkValue → LinkValue
-link_after place x link = record link {
-  segments = if is_gone (act_in x) then without place link.segments else link.segments;
-  plans = plans_after place x link.plans;
+abbrev pub link_after : (index : ℕ) → InLink → LinkValue → LinkValue
+link_after index x link = record link {
+  segments = if is_gone (act_in x) then without index link.segments else link.segments;
+  plans = plans_after index x link.plans;
 }
 
--- The segment at a place of a link has its turn.
-pub record LinkStep {C : Type 0} (session : C → SessionValue) (way : Way) (old : Fields) (place : ℕ) (before : Post (Item C)) (new : Fields) (next : ℕ) (after : Post (Item C)) : Type 0 where
+-- The segment at an index of a link has its turn.
+pub record LinkStep {C : Type 0} (session : C → SessionValue) (way : Way) (old : Fields) (index : ℕ) (before : Post (Item C)) (new : Fields) (next : ℕ) (after : Post (Item C)) : Type 0 where
   pub plan : InLink
-  pub is : slice_get (link_to old way).plans place ≡ Some plan
-  pub did : (t : Tally) → DidAsFar session old before t (link_event way old.pointer.0 place plan) new after t
-  pub next_is : next ≡ next_place place plan
+  pub is : slice_get (link_to old way).plans index ≡ Some plan
+  pub did : (t : Tally) → DidAsFar session old before t (link_event way old.pointer.0 index plan) new after t
+  pub next_is : next ≡ next_index index plan
   pub remote : HandedTo way old.remote new.remote
-  pub same : new ≡ with_link (record old { remote = new.remote }) way (link_after place plan (link_to old way))
+  pub same : new ≡ with_link (record old { remote = new.remote }) way (link_after index plan (link_to old way))
   pub keeps : FarSideInvariant new
 
 -- All segments of a link have their turns.

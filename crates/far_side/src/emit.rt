@@ -30,7 +30,7 @@ const KEEPALIVE: [u8; 19] = [
 /// The most KEEPALIVEs that are said at the interval.
 const MOST_BEATS: u32 = 27_594;
 
-/// Puts a segment of the remote that begins at a place into the link to home.
+/// Puts a segment of the remote that begins at an offset into the link to home.
 fn send<C: Drop>(
     far: &mut Fields,
     from: u32,

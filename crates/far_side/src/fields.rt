@@ -49,27 +49,27 @@ impl Fields {
         }
     }
 
-    /// Keeps the segment at a place of the link to one side for another turn. Returns the place of the next segment.
-    pub(crate) fn keep(&mut self, way: Way, place: u32) -> Result<u32, NoMemory>
-        requires { place < length (link_to self.old way).plans }
-        ensures next { IfOk result (λ next. next ≡ place + 1) }
-        ensures kept { OnOk result ((x : InLink) → slice_get (link_to self.old way).plans place ≡ Some x → self.new ≡ with_link self.old way (aged place x (link_to self.old way))) }
+    /// Keeps the segment at an index of the link to one side for another turn. Returns the index of the next segment.
+    pub(crate) fn keep(&mut self, way: Way, index: u32) -> Result<u32, NoMemory>
+        requires { index < length (link_to self.old way).plans }
+        ensures next { IfOk result (λ next. next ≡ index + 1) }
+        ensures kept { OnOk result ((x : InLink) → slice_get (link_to self.old way).plans index ≡ Some x → self.new ≡ with_link self.old way (aged index x (link_to self.old way))) }
     {
         match way {
-            Way::Home => self.homeward.keep(place),
-            Way::Remote => self.remoteward.keep(place),
+            Way::Home => self.homeward.keep(index),
+            Way::Remote => self.remoteward.keep(index),
         }
     }
 
-    /// Removes the segment at a place of the link to one side, and returns it.
-    pub(crate) fn remove(&mut self, way: Way, place: u32) -> Segment
-        requires { place < length (link_to self.old way).plans }
-        ensures there { place < length (link_to self.old way).segments }
-        ensures removed { self.new ≡ with_link self.old way (removed place (link_to self.old way)) }
+    /// Removes the segment at an index of the link to one side, and returns it.
+    pub(crate) fn remove(&mut self, way: Way, index: u32) -> Segment
+        requires { index < length (link_to self.old way).plans }
+        ensures there { index < length (link_to self.old way).segments }
+        ensures removed { self.new ≡ with_link self.old way (removed index (link_to self.old way)) }
     {
         match way {
-            Way::Home => self.homeward.remove(place),
-            Way::Remote => self.remoteward.remove(place),
+            Way::Home => self.homeward.remove(index),
+            Way::Remote => self.remoteward.remove(index),
         }
     }
 }

@@ -90,7 +90,7 @@ fn held(after: u32, turns: u32) -> Act
 }
 
 /// The segments on their way to one side of a peering, in the order in which they were put, with what the plan does to
-/// each. Contracts see the segments by their places in the streams.
+/// each. Contracts see the segments by their offsets in the streams.
 #[derive(Drop)]
 pub struct Link {
     way: Way,
@@ -183,52 +183,52 @@ impl Link {
         Ok(())
     }
 
-    /// Returns what the plan does to the segment at a place, which must be below the number of segments.
-    pub fn plan(&self, place: u32) -> InLink
-        requires { place < length self.now.plans }
-        ensures { slice_get self.now.plans place ≡ Some result }
+    /// Returns what the plan does to the segment at an index, which must be below the number of segments.
+    pub fn plan(&self, index: u32) -> InLink
+        requires { index < length self.now.plans }
+        ensures { slice_get self.now.plans index ≡ Some result }
     {
-        self.plans[place as usize]
+        self.plans[index as usize]
     }
 
-    /// Keeps the segment at a place for another turn. The place must be below the number of segments. Returns the place
+    /// Keeps the segment at an index for another turn. The index must be below the number of segments. Returns the index
     /// of the next segment, or `NoMemory` after 2^32 - 1 turns.
-    pub fn keep(&mut self, place: u32) -> Result<u32, NoMemory>
-        requires { place < length self.old.plans }
-        ensures next { IfOk result (λ next. next ≡ place + 1) }
-        ensures kept { OnOk result ((x : InLink) → slice_get self.old.plans place ≡ Some x → self.new ≡ aged place x self.old) }
+    pub fn keep(&mut self, index: u32) -> Result<u32, NoMemory>
+        requires { index < length self.old.plans }
+        ensures next { IfOk result (λ next. next ≡ index + 1) }
+        ensures kept { OnOk result ((x : InLink) → slice_get self.old.plans index ≡ Some x → self.new ≡ aged index x self.old) }
     {
-        let plan = self.plans[place as usize];
+        let plan = self.plans[index as usize];
         let Some(older) = plan.older() else {
             return Err(NoMemory);
         };
-        self.plans[place as usize] = older;
-        Ok(place + 1)
+        self.plans[index as usize] = older;
+        Ok(index + 1)
     }
 
-    /// Returns the segment at a place, which must be below the number of segments. If it is kept, a copy is returned,
+    /// Returns the segment at an index, which must be below the number of segments. If it is kept, a copy is returned,
     /// and otherwise it leaves the link.
-    pub fn give(&mut self, place: u32, keep: bool) -> Result<Segment, NoMemory>
-        requires { place < length self.old.plans }
-        ensures segment { IfOk result (λ g. slice_get self.old.segments place ≡ Some (placed self.old.seq_first self.old.ack_first g)) }
+    pub fn give(&mut self, index: u32, keep: bool) -> Result<Segment, NoMemory>
+        requires { index < length self.old.plans }
+        ensures segment { IfOk result (λ g. slice_get self.old.segments index ≡ Some (placed self.old.seq_first self.old.ack_first g)) }
         ensures own { IfOk result (IsOn self.old) }
-        ensures left { OnOk result (self.new ≡ given keep place self.old) }
+        ensures left { OnOk result (self.new ≡ given keep index self.old) }
     {
         if keep {
-            self.bag.deliver(place as usize)
+            self.bag.deliver(index as usize)
         } else {
-            Ok(self.remove(place))
+            Ok(self.remove(index))
         }
     }
 
-    /// Removes and returns the segment at a place, which must be below the number of segments.
-    pub fn remove(&mut self, place: u32) -> Segment
-        requires { place < length self.old.plans }
-        ensures segment { slice_get self.old.segments place ≡ Some (placed self.old.seq_first self.old.ack_first result) }
+    /// Removes and returns the segment at an index, which must be below the number of segments.
+    pub fn remove(&mut self, index: u32) -> Segment
+        requires { index < length self.old.plans }
+        ensures segment { slice_get self.old.segments index ≡ Some (placed self.old.seq_first self.old.ack_first result) }
         ensures own { IsOn self.old result }
-        ensures others { self.new ≡ removed place self.old }
+        ensures others { self.new ≡ removed index self.old }
     {
-        self.plans.remove(place as usize);
-        self.bag.remove(place as usize)
+        self.plans.remove(index as usize);
+        self.bag.remove(index as usize)
     }
 }

@@ -151,7 +151,7 @@ impl Remote {
         self.end.answer()
     }
 
-    /// Returns the place in its stream that it emits next.
+    /// Returns the offset in its stream that it emits next.
     pub fn emitted(&self) -> u32
         ensures { result ≡ self.now.end.emitted }
     {

@@ -4,7 +4,7 @@ use graft_edge::{Items, NoMemory, Octets};
 use std::alloc::Global;
 use std::collections::HashMap;
 
-/// The bytes that a step has a remote say. The step is its place among all steps of the script, from 0.
+/// The bytes that a step has a remote say. The step is its index among all steps of the script, from 0.
 #[derive(Debug, Drop)]
 pub struct Say {
     pub step: u32,

@@ -68,20 +68,20 @@ marked_more marks met at lt m r =
     before differ (inl k) = absurd (differ (sym (ap (λ (x : RouterId). x.0) (alone at r k.0 k.1 k.2))))
     before differ (inr k) = k
 
-module _ (tables : List ForwardMap) (address : ℕ) (from : RouterId) (marks : List Bool) (at : RouterId) (goes : Goes tables address from marks at) (place : ℕ) (here : place ≡ at.0) where
-  mark_at : slice_index_or marks place false ≡ slice_index_or marks at.0 false
+module _ (tables : List ForwardMap) (address : ℕ) (from : RouterId) (marks : List Bool) (at : RouterId) (goes : Goes tables address from marks at) (index : ℕ) (here : index ≡ at.0) where
+  mark_at : slice_index_or marks index false ≡ slice_index_or marks at.0 false
   mark_at = ap (λ (k : ℕ). slice_index_or marks k false) here
 
-  again : slice_index_or marks place false ≡ true → Contains goes.met at
+  again : slice_index_or marks index false ≡ true → Contains goes.met at
   again t = (goes.marked at).0 (sym mark_at ∙ t)
 
-  anew : slice_index_or marks place false ≡ false → Contains goes.met at → ⊥
+  anew : slice_index_or marks index false ≡ false → Contains goes.met at → ⊥
   anew t k = let u = (goes.marked at).1 k in let e = mark_at in cc
 
-  pub ends_again : slice_index_or marks place false ≡ true → Answer tables address from (Loop at)
+  pub ends_again : slice_index_or marks index false ≡ true → Answer tables address from (Loop at)
   ends_again t = answer tables address from (Loop at) (goes.rest (Loop at) (MetAgain (again t)))
 
-  module _ (new : slice_index_or marks place false ≡ false) (table : ForwardMap) (is : table ≡ forward_map_of tables at) where
+  module _ (new : slice_index_or marks index false ≡ false) (table : ForwardMap) (is : table ≡ forward_map_of tables at) where
     pub ends_without : HasNoEntryFor table address → Answer tables address from (NoRoute at)
     ends_without none = answer tables address from (NoRoute at) (goes.rest (NoRoute at) (NoEntry (anew new) (subst (λ (t : ForwardMap). HasNoEntryFor t address) is none)))
 
@@ -95,10 +95,10 @@ module _ (tables : List ForwardMap) (address : ℕ) (from : RouterId) (marks : L
       pub ends_out : (peering : PeeringId) → by ≡ Peering peering → Answer tables address from (Leaves at peering p)
       ends_out peering same = answer tables address from (Leaves at peering p) (goes.rest (Leaves at peering p) (FromPeering (anew new) (entry_at (Peering peering) same)))
 
-      pub goes_on : at.0 < 256 → (next : RouterId) → by ≡ Router next → Goes tables address from (slice_set marks place true) next
+      pub goes_on : at.0 < 256 → (next : RouterId) → by ≡ Router next → Goes tables address from (slice_set marks index true) next
       goes_on fits next same = record {
         met = at ∷ goes.met;
         marked = subst (λ (k : ℕ). Marks (slice_set marks k true) (at ∷ goes.met)) (sym here) (marked_more marks goes.met at (omega (arith, goes.full, fits)) goes.marked);
-        full = length-set marks place true ∙ goes.full;
+        full = length-set marks index true ∙ goes.full;
         rest = λ walk w. goes.rest walk (FromRouter (anew new) (entry_at (Router next) same) w);
       }

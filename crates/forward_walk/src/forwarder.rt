@@ -61,8 +61,8 @@ fn entry_at(tries: &[TrieTable<From>], at: RouterId, address: u32) -> Option<For
     Some(ForwardEntry { prefix, from })
 }
 
-/// Returns the place of a router's number among all router numbers.
-fn place_of(number: u8) -> usize
+/// Returns the index of a router's number among all router numbers.
+fn index_of(number: u8) -> usize
     ensures is { result ≡ number }
     ensures fits { result < ROUTER_NUMBERS }
 {
@@ -91,11 +91,11 @@ impl Forwarder {
         let mut met = [false; ROUTER_NUMBERS];
         let mut at = from;
         loop {
-            let place = place_of(at.0);
-            if met[place] {
+            let index = index_of(at.0);
+            if met[index] {
                 return Walk::Loop(at);
             }
-            met[place] = true;
+            met[index] = true;
             let Some(entry) = entry_at(&self.tries, at, address) else {
                 return Walk::NoRoute(at);
             };

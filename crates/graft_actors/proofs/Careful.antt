@@ -1,4 +1,4 @@
--- Slices by their places and lengths, and how they are counted.
+-- Slices by their offsets and lengths, and how they are counted.
 use Rattle.std.proofs.Common.{◌≡◌, ℕ, zero, suc, ◌+◌, ◌<◌, ◌≤◌, length, take, drop, Bool, ◌⊎◌, inl, inr, refl, sym, ap, ◌∙◌, arith}
 use Rattle.std.specs.Prelude.{if◌then◌else◌}
 use Rattle.std.proofs.lemmas.List.{length-take, length-drop}
@@ -9,7 +9,7 @@ use Rattle.graft_actors.specs.Emissions.{reach_of, IsCareful, Tally, tallied}
 
 pub at_next : (e f : Endpoint) (p : PlacedSegment) → EmitsSlice e p f → EmitsNext e p f → EmitsAt e.emitted (next_length e) e p f
 at_next e f p slice step = record {
-  place = ap (λ (q : PlacedSegment). q.place) step.slice;
+  offset = ap (λ (q : PlacedSegment). q.offset) step.slice;
   size = ap (λ (q : PlacedSegment). length q.bytes) step.slice
       ∙ (let n : length (take (next_length e) (drop e.emitted e.stream)) ≡ next_length e = omega (arith, step.some, length-take (next_length e) (drop e.emitted e.stream), length-drop e.emitted e.stream) in n);
   emits = inl slice;
@@ -17,7 +17,7 @@ at_next e f p slice step = record {
 
 pub at_again : (e f : Endpoint) (p : PlacedSegment) → e.emitted ≤ length e.stream → EmitsSlice e p f → EmitsAgain e p f → EmitsAt e.acked (again_length e) e p f
 at_again e f p within slice step = record {
-  place = ap (λ (q : PlacedSegment). q.place) step.slice;
+  offset = ap (λ (q : PlacedSegment). q.offset) step.slice;
   size = ap (λ (q : PlacedSegment). length q.bytes) step.slice
       ∙ (let n : length (take (again_length e) (drop e.acked e.stream)) ≡ again_length e = omega (arith, step.some, within, length-take (again_length e) (drop e.acked e.stream), length-drop e.acked e.stream) in n);
   emits = inl slice;
@@ -25,7 +25,7 @@ at_again e f p within slice step = record {
 
 pub at_answer : (e f : Endpoint) (p : PlacedSegment) → EmitsAnswer e p f → EmitsAt e.emitted 0 e p f
 at_answer e f p step = record {
-  place = ap (λ (q : PlacedSegment). q.place) step.answer.empty;
+  offset = ap (λ (q : PlacedSegment). q.offset) step.answer.empty;
   size = ap (λ (q : PlacedSegment). length q.bytes) step.answer.empty;
   emits = inr step.answer;
 }

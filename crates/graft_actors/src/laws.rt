@@ -160,7 +160,7 @@ pub fn a_net_is_one_world()
 {}
 
 /// An entry belongs to one event only, and a journal to one list of events. For example, if a router emits 20 bytes of
-/// peering 5 from place 10 on, the entry has kind 2 and arguments 5, 10 and 20.
+/// peering 5 from offset 10 on, the entry has kind 2 and arguments 5, 10 and 20.
 pub fn an_entry_is_of_one_event()
     ensures one { OneEventHasTheEntry }
     ensures all { OneListHasTheEntries }

@@ -11,7 +11,7 @@ pub Took-append : (before between after : Option (List ℕ)) (front back : List 
 Took-append before between None front back first second = rw (first, second) refl
 Took-append before between (Some rest) front back first second = rw (first, second) (ap Some (sym (append_assoc front back rest)))
 
--- the front of a buffer that was copied from a place on, and what stands after it there, are the whole from that place on
+-- the front of a buffer that was copied from an offset on, and what stands after it there, are the whole from that offset on
 pub front_joined : (n at : ℕ) (bytes buf : List ℕ) → take n buf ≡ take n (drop at bytes) → drop at bytes ≡ take n buf ++ drop (at + n) bytes
 front_joined n at bytes buf is =
     let split : drop at bytes ≡ take ((at + n) - at) (drop at bytes) ++ drop (at + n) bytes = drop_split bytes at (at + n) (omega arith) in

@@ -1,9 +1,9 @@
 //! Numbers of routers and peerings.
 
-/// A home router: its place in the input, counted from 0.
+/// A home router: its index in the input, counted from 0.
 #[derive(Clone, Copy, Debug, PartialEq, Eq, PartialOrd, Ord, Hash)]
 pub struct RouterId(pub u8);
 
-/// A peering of the home network with a remote: its place in the input, counted from 0.
+/// A peering of the home network with a remote: its index in the input, counted from 0.
 #[derive(Clone, Copy, Debug, PartialEq, Eq, PartialOrd, Ord, Hash)]
 pub struct PeeringId(pub u8);

@@ -7,7 +7,7 @@ use std::alloc::Global;
 use std::fmt;
 use std::marker::Model;
 
-/// A short text, such as the name of a router or the place of a key in an input. Contracts see its
+/// A short text, such as the name of a router or the path of a key in an input. Contracts see its
 /// bytes.
 #[derive(Debug, Drop)]
 pub struct Name {

@@ -75,7 +75,7 @@ impl MemSink {
     }
 }
 
-/// Copies the first bytes into the buffer from place `at` on, as many as fit and at most `step`, and
+/// Copies the first bytes into the buffer from offset `at` on, as many as fit and at most `step`, and
 /// returns how many it copied.
 fn copy_into(bytes: &[u8], step: usize, buf: &mut [u8], at: usize) -> usize
     requires { at ≤ length buf.old }

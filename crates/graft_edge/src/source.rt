@@ -24,7 +24,7 @@ pub trait Source {
     /// The number of reads that failed. It never decreases.
     ghost faults: { Self → ℕ };
 
-    /// Reads the next bytes into the first places of the buffer, and returns how many it read. Into a
+    /// Reads the next bytes to the front of the buffer, and returns how many it read. Into a
     /// buffer that isn't empty it reads none only at the end of input. If it fails, it has read
     /// nothing, and its count of faults rises, unless that count has reached 2^64 - 1.
     fn read(&mut self, buf: &mut [u8]) -> Result<usize, Failed>
@@ -82,7 +82,7 @@ impl MemSource {
     }
 }
 
-/// Copies the first bytes into the first places of a buffer, as many as fit and at most `step`, and
+/// Copies the first bytes to the front of a buffer, as many as fit and at most `step`, and
 /// returns how many it copied.
 fn copy_front(bytes: &[u8], step: usize, buf: &mut [u8]) -> usize
     ensures count { result ≡ min step (min (length buf.new) (length bytes.now)) }

@@ -57,7 +57,7 @@ impl Words {
         self.words.is_empty()
     }
 
-    /// Returns the word at place `k`, counted from 0, which has to be below `len()`.
+    /// Returns the word at index `k`, counted from 0, which has to be below `len()`.
     pub fn get(&self, k: usize) -> &str
         requires { k < length self.now }
         ensures { slice_get self.now k ≡ Some result.now }

@@ -5,21 +5,21 @@ use Rattle.std.specs.Prelude.{slice_get}
 use Rattle.graft_model.specs.Setups.{Setup, ScriptStep, SayStep, MoveStep, EvacuateStep, SettleStep, ScriptGraft, IsSetup, IsStep, routers_in, peerings_in, moved_by, graft_at}
 use Rattle.graft_model.specs.Parts.{Gift, Unmade, To, Stays, OperatorPart}
 use Rattle.graft_model.specs.Placements.{target_given, target_by, target_in}
-use Rattle.graft_model.proofs.Numbers.{step_of_graft, peering_of_place}
+use Rattle.graft_model.proofs.Numbers.{step_of_graft, peering_of_index}
 use Rattle.graft_laws.proofs.Gifts.{GivesToRouters}
 
 step_is : (setup : Setup) (n : ℕ) (step : ScriptStep) → IsSetup setup → slice_get setup.steps n ≡ Some step → IsStep setup step
 step_is setup n step ok is = subst (IsStep setup) (get_or_from_slice_get setup.steps n step step is) (ok.steps n step (slice_get_within setup.steps n step is))
 
-moved_within : (setup : Setup) (step : ScriptStep) (place p : ℕ) → IsStep setup step → slice_get (moved_by setup step) place ≡ Some p → p < peerings_in setup
-moved_within setup (SayStep q bytes) place p ok e = absurd cc
+moved_within : (setup : Setup) (step : ScriptStep) (index p : ℕ) → IsStep setup step → slice_get (moved_by setup step) index ≡ Some p → p < peerings_in setup
+moved_within setup (SayStep q bytes) index p ok e = absurd cc
 moved_within setup (MoveStep q target) zero p ok e = subst (λ (x : ℕ). x < peerings_in setup) (same_Some q p e) ok.0
-moved_within setup (MoveStep q target) (suc place) p ok e = absurd cc
-moved_within setup (EvacuateStep router) place p ok e = (peering_of_place setup place p e).1
-moved_within setup SettleStep place p ok e = absurd cc
+moved_within setup (MoveStep q target) (suc index) p ok e = absurd cc
+moved_within setup (EvacuateStep router) index p ok e = (peering_of_index setup index p e).1
+moved_within setup SettleStep index p ok e = absurd cc
 
 pub graft_within : (setup : Setup) (k : ℕ) (g : ScriptGraft) → IsSetup setup → graft_at setup k ≡ Some g → g.peering < peerings_in setup
-graft_within setup k g ok known = let s = step_of_graft setup k g known in moved_within setup s.step s.place g.peering (step_is setup g.step s.step ok s.there) s.moved
+graft_within setup k g ok known = let s = step_of_graft setup k g known in moved_within setup s.step s.index g.peering (step_is setup g.step s.step ok s.there) s.moved
 
 pub target_within : (setup : Setup) (operator : OperatorPart) (g : ScriptGraft) (t : ℕ) → IsSetup setup → GivesToRouters setup operator
     → target_in setup operator g ≡ Some t → t < routers_in setup

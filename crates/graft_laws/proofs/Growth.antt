@@ -14,7 +14,7 @@ use Rattle.graft_laws.specs.Phases.{Stage, Idle, Busy}
 use Rattle.graft_laws.specs.Log.{grafts_of, is_graft_on, HasEnded, AwaitsOrder, IsBehind, LogSays}
 use Rattle.graft_laws.proofs.Lists.{all_map, all_join}
 use Rattle.graft_laws.proofs.Moves.{router_moves, far_moves, operator_moves}
-use Rattle.graft_model.proofs.Numbers.{place_of_graft}
+use Rattle.graft_model.proofs.Numbers.{index_of_graft}
 use Rattle.graft_laws.proofs.Numbers.{before_below, own_graft, at_number}
 use Rattle.graft_laws.proofs.Logs.{grafts_are}
 
@@ -94,4 +94,4 @@ idle_ended setup operator p q k log own ordered = of (at_number setup p k (Ended
 
 -- numbers count from 1
 pub above_zero : (setup : Setup) (p k : ℕ) → is_graft_on setup p k ≡ true → 0 < k
-above_zero setup p k own = let f = own_graft setup p k own in let place = place_of_graft setup f.0.graft f.0 f.2.0 in omega (arith, place.1, f.1)
+above_zero setup p k own = let f = own_graft setup p k own in let index = index_of_graft setup f.0.graft f.0 f.2.0 in omega (arith, index.1, f.1)

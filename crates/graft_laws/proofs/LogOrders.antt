@@ -93,14 +93,14 @@ module _ (setup : Setup) (before : OperatorPart) (g : ScriptGraft) (t : ℕ) (ma
   abbrev ordered : OperatorPart
   ordered = with_order setup before g source
 
-  place : StandsAmong setup p g
-  place = among setup p g (may.known, refl)
+  cut : StandsAmong setup p g
+  cut = among setup p g (may.known, refl)
 
-  below : AllByRecursion (λ (x : ScriptGraft). x.graft < g.graft) place.front
-  below = before_below setup p place.front place.back g place.is
+  below : AllByRecursion (λ (x : ScriptGraft). x.graft < g.graft) cut.front
+  below = before_below setup p cut.front cut.back g cut.is
 
-  front_own : AllByRecursion (IsGraftOf setup p) place.front
-  front_own = all_front (IsGraftOf setup p) place.front (g ∷ place.back) (subst (λ (x : List ScriptGraft). AllByRecursion (IsGraftOf setup p) x) place.is (all_of_peering setup p))
+  front_own : AllByRecursion (IsGraftOf setup p) cut.front
+  front_own = all_front (IsGraftOf setup p) cut.front (g ∷ cut.back) (subst (λ (x : List ScriptGraft). AllByRecursion (IsGraftOf setup p) x) cut.is (all_of_peering setup p))
 
   -- the graft isn't behind, nor is it under way
   not_behind : IsBehind setup before g → ⊥
@@ -119,27 +119,27 @@ module _ (setup : Setup) (before : OperatorPart) (g : ScriptGraft) (t : ℕ) (ma
   record IsNext (phase : Phase) (log : LogSays setup before p phase) : Type 0 where
     idle : phase ≡ Idle (source_of phase)
     mid : List ScriptGraft
-    front : place.front ≡ log.past ++ mid
-    later : log.later ≡ mid ++ g ∷ place.back
+    front : cut.front ≡ log.past ++ mid
+    later : log.later ≡ mid ++ g ∷ cut.back
 
   heads : (x y : ScriptGraft) (xs ys : List ScriptGraft) → x ∷ xs ≡ y ∷ ys → x ≡ y
   heads x y xs ys e = cc
 
-  open_before : (x : ScriptGraft) (later ws : List ScriptGraft) → IsOpen setup before p x → x ∷ later ≡ ws ++ g ∷ place.back
+  open_before : (x : ScriptGraft) (later ws : List ScriptGraft) → IsOpen setup before p x → x ∷ later ≡ ws ++ g ∷ cut.back
       → AllByRecursion (λ (y : ScriptGraft). y.graft < g.graft) ws → ⊥
-  open_before x later [] is e less = not_open x is (heads x g later place.back e)
-  open_before x later (y ∷ ws) is e less = not_before x is (subst (λ (z : ScriptGraft). z.graft < g.graft) (sym (heads x y later (ws ++ g ∷ place.back) e)) less.0)
+  open_before x later [] is e less = not_open x is (heads x g later cut.back e)
+  open_before x later (y ∷ ws) is e less = not_before x is (subst (λ (z : ScriptGraft). z.graft < g.graft) (sym (heads x y later (ws ++ g ∷ cut.back) e)) less.0)
 
   is_next : (phase : Phase) (log : LogSays setup before p phase) → IsNext phase log
-  is_next phase log = of (stands_in log.past (log.now ++ log.later) place.front place.back g (sym log.grafts ∙ place.is)) where
-    by_now : (ws : List ScriptGraft) → place.front ≡ log.past ++ ws → log.now ++ log.later ≡ ws ++ g ∷ place.back
+  is_next phase log = of (stands_in log.past (log.now ++ log.later) cut.front cut.back g (sym log.grafts ∙ cut.is)) where
+    by_now : (ws : List ScriptGraft) → cut.front ≡ log.past ++ ws → log.now ++ log.later ≡ ws ++ g ∷ cut.back
         → ((log.now ≡ []) × (phase ≡ Idle (source_of phase))) ⊎ HasOpen setup before p log.now → IsNext phase log
     by_now ws e f (inl (none, idle)) = record { idle = idle; mid = ws; front = e; later = ap (λ (x : List ScriptGraft). x ++ log.later) (sym none) ∙ f }
     by_now ws e f (inr x) = absurd (open_before x.graft log.later ws x.open_is (ap (λ (y : List ScriptGraft). y ++ log.later) (sym x.is) ∙ f)
         (all_back (λ (y : ScriptGraft). y.graft < g.graft) log.past ws (subst (λ (y : List ScriptGraft). AllByRecursion (λ (z : ScriptGraft). z.graft < g.graft) y) e below)))
 
-    of : StandsIn log.past (log.now ++ log.later) place.front place.back g → IsNext phase log
-    of (inl (ws, e)) = absurd (not_behind (found_in place.front ws g (IsBehind setup before) (subst (λ (x : List ScriptGraft). AllByRecursion (IsBehind setup before) x) e log.are_behind)))
+    of : StandsIn log.past (log.now ++ log.later) cut.front cut.back g → IsNext phase log
+    of (inl (ws, e)) = absurd (not_behind (found_in cut.front ws g (IsBehind setup before) (subst (λ (x : List ScriptGraft). AllByRecursion (IsBehind setup before) x) e log.are_behind)))
     of (inr (ws, e, f)) = by_now ws e f (has_open setup before p phase log.now log.goes_on)
 
   -- a graft that waits before it is behind: its group has begun, and it isn't made
@@ -155,24 +155,24 @@ module _ (setup : Setup) (before : OperatorPart) (g : ScriptGraft) (t : ℕ) (ma
     by_target None is = is
     by_target (Some u) is = absurd (may.earlier x here.0.0 here.0.1 here.1 (some_not (target_in setup before x) u is) waits.unended)
 
-  front_behind : (phase : Phase) (log : LogSays setup before p phase) → IsNext phase log → AllByRecursion (IsBehind setup before) place.front
+  front_behind : (phase : Phase) (log : LogSays setup before p phase) → IsNext phase log → AllByRecursion (IsBehind setup before) cut.front
   front_behind phase log next =
       let Here : ScriptGraft → Type 0 = λ x. (IsGraftOf setup p x) × (x.graft < g.graft) in
-      let here : AllByRecursion Here place.front = all_both (IsGraftOf setup p) (λ (x : ScriptGraft). x.graft < g.graft) Here place.front (λ x own less. (own, less)) front_own below in
+      let here : AllByRecursion Here cut.front = all_both (IsGraftOf setup p) (λ (x : ScriptGraft). x.graft < g.graft) Here cut.front (λ x own less. (own, less)) front_own below in
       let here_mid : AllByRecursion Here next.mid = all_back Here log.past next.mid (subst (λ (x : List ScriptGraft). AllByRecursion Here x) next.front here) in
-      let wait_mid : AllByRecursion (AwaitsOrder before) next.mid = all_front (AwaitsOrder before) next.mid (g ∷ place.back) (subst (λ (x : List ScriptGraft). AllByRecursion (AwaitsOrder before) x) next.later log.wait) in
+      let wait_mid : AllByRecursion (AwaitsOrder before) next.mid = all_front (AwaitsOrder before) next.mid (g ∷ cut.back) (subst (λ (x : List ScriptGraft). AllByRecursion (AwaitsOrder before) x) next.later log.wait) in
       subst (λ (x : List ScriptGraft). AllByRecursion (IsBehind setup before) x) (sym next.front)
       (all_join (IsBehind setup before) log.past next.mid log.are_behind (all_both Here (AwaitsOrder before) (IsBehind setup before) next.mid passed here_mid wait_mid))
 
   log_with : (phase : Phase) (log : LogSays setup before p phase) → IsNext phase log → LogSays setup ordered p (Busy source g.graft t Ordered)
   log_with phase log next =
-      let wait_back : AllByRecursion (AwaitsOrder before) (g ∷ place.back) = all_back (AwaitsOrder before) next.mid (g ∷ place.back) (subst (λ (x : List ScriptGraft). AllByRecursion (AwaitsOrder before) x) next.later log.wait) in
+      let wait_back : AllByRecursion (AwaitsOrder before) (g ∷ cut.back) = all_back (AwaitsOrder before) next.mid (g ∷ cut.back) (subst (λ (x : List ScriptGraft). AllByRecursion (AwaitsOrder before) x) next.later log.wait) in
       record {
-        past = place.front;
+        past = cut.front;
         now = g ∷ [];
-        later = place.back;
-        grafts = place.is;
-        are_behind = all_both (λ (x : ScriptGraft). x.graft < g.graft) (IsBehind setup before) (IsBehind setup ordered) place.front (behind_with setup before g source) below (front_behind phase log next);
+        later = cut.back;
+        grafts = cut.is;
+        are_behind = all_both (λ (x : ScriptGraft). x.graft < g.graft) (IsBehind setup before) (IsBehind setup ordered) cut.front (behind_with setup before g source) below (front_behind phase log next);
         goes_on = record {
           step = g.step;
           is = refl;
@@ -182,8 +182,8 @@ module _ (setup : Setup) (before : OperatorPart) (g : ScriptGraft) (t : ℕ) (ma
           ordered = grind (arith, nat_tests);
           unended = may.unended;
         };
-        wait = all_both (λ (x : ScriptGraft). g.graft < x.graft) (AwaitsOrder before) (AwaitsOrder ordered) place.back (λ x above. waits_with setup before g source x (λ (same : x.graft ≡ g.graft). omega arith))
-            (behind_above setup p place.front place.back g place.is) wait_back.1;
+        wait = all_both (λ (x : ScriptGraft). g.graft < x.graft) (AwaitsOrder before) (AwaitsOrder ordered) cut.back (λ x above. waits_with setup before g source x (λ (same : x.graft ≡ g.graft). omega arith))
+            (behind_above setup p cut.front cut.back g cut.is) wait_back.1;
         placed = refl;
       }
 

@@ -6,7 +6,7 @@ use Rattle.std.proofs.lemmas.Option.{same_Some}
 use Rattle.std.specs.Prelude.{filter, slice_get}
 use Rattle.std.specs.List.{AllByRecursion}
 use Rattle.graft_model.specs.Setups.{Setup, ScriptGraft, grafts_in, graft_at}
-use Rattle.graft_model.proofs.Numbers.{number_of_place, graft_by_place, place_of_graft, number_is, graft_is_known}
+use Rattle.graft_model.proofs.Numbers.{number_of_index, graft_by_index, index_of_graft, number_is, graft_is_known}
 use Rattle.graft_laws.specs.Log.{grafts_of, is_peering, is_graft_on}
 use Rattle.graft_laws.proofs.Lists.{all_both, filter_all, filter_tests}
 
@@ -31,7 +31,7 @@ abbrev Rises : List ScriptGraft → Type 0
 Rises [] = Unit {0}
 Rises (g ∷ gs) = AllByRecursion (λ (x : ScriptGraft). g.graft < x.graft) gs × Rises gs
 
--- where each number is that of its place, counted from one above k
+-- where each number is that of its index, counted from one above k
 all_rise : (k : ℕ) (gs : List ScriptGraft) → ((i : ℕ) (g : ScriptGraft) → slice_get gs i ≡ Some g → g.graft ≡ k + i + 1) → Rises gs
 all_rise k [] numbers = tt
 all_rise k (g ∷ gs) numbers =
@@ -50,7 +50,7 @@ filter_rises test [] rise = tt
 filter_rises test (g ∷ gs) rise = rises_step (test g) g (filter test gs) (filter_all (λ (x : ScriptGraft). g.graft < x.graft) test gs rise.0) (filter_rises test gs rise.1)
 
 grafts_rise : (setup : Setup) (p : ℕ) → Rises (grafts_of setup p)
-grafts_rise setup p = filter_rises (λ g. g.peering == p) (grafts_in setup) (all_rise 0 (grafts_in setup) (λ i g e. let n = number_of_place setup i g e in omega (arith, n)))
+grafts_rise setup p = filter_rises (λ g. g.peering == p) (grafts_in setup) (all_rise 0 (grafts_in setup) (λ i g e. let n = number_of_index setup i g e in omega (arith, n)))
 
 front_below : (gs hs : List ScriptGraft) (g : ScriptGraft) → Rises (gs ++ g ∷ hs) → AllByRecursion (λ (x : ScriptGraft). x.graft < g.graft) gs
 front_below [] hs g rise = tt
@@ -77,9 +77,9 @@ IsGraftOf setup p g = (graft_at setup g.graft ≡ Some g) × (g.peering ≡ p)
 
 all_known : (setup : Setup) → AllByRecursion (λ (g : ScriptGraft). graft_at setup g.graft ≡ Some g) (grafts_in setup)
 all_known setup = all_at (λ (g : ScriptGraft). graft_at setup g.graft ≡ Some g) (grafts_in setup) (λ i g e.
-    let n = number_of_place setup i g e in
+    let n = number_of_index setup i g e in
     let m : g.graft ≡ suc i = omega (arith, n) in
-    ap (graft_at setup) m ∙ (graft_by_place setup i ∙ e))
+    ap (graft_at setup) m ∙ (graft_by_index setup i ∙ e))
 
 pub all_of_peering : (setup : Setup) (p : ℕ) → AllByRecursion (IsGraftOf setup p) (grafts_of setup p)
 all_of_peering setup p = all_both (λ (g : ScriptGraft). graft_at setup g.graft ≡ Some g) (λ (g : ScriptGraft). (g.peering == p) ≡ true) (IsGraftOf setup p) (grafts_of setup p)
@@ -117,8 +117,8 @@ pub record StandsAmong (setup : Setup) (p : ℕ) (g : ScriptGraft) : Type 0 wher
 pub among : (setup : Setup) (p : ℕ) (g : ScriptGraft) → IsGraftOf setup p g → StandsAmong setup p g
 among setup p g own =
     let test : ScriptGraft → Bool = λ x. x.peering == p in
-    let place = place_of_graft setup g.graft g own.0 in
-    let s = split_at (grafts_in setup) place.0 g place.2 in
+    let index = index_of_graft setup g.graft g own.0 in
+    let s = split_at (grafts_in setup) index.0 g index.2 in
     record {
       front = filter test s.0;
       back = filter test s.1;

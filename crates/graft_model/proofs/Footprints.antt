@@ -20,7 +20,7 @@ use Rattle.graft_model.specs.declared.event.RouterEvent.TheVariants.{Put, Emit, 
 use Rattle.graft_model.specs.Steps.{router_row}
 use Rattle.graft_model.specs.Taking.{RouterMayTake}
 
--- ---- values at one place
+-- ---- values at one number
 
 pub at_same : {A : Type 0} (f : ℕ → A) (j : ℕ) (x : A) → at f j x j ≡ x
 at_same f j x = grind (arith, nat_tests)
@@ -28,7 +28,7 @@ at_same f j x = grind (arith, nat_tests)
 pub at_apart : {A : Type 0} (f : ℕ → A) (j n : ℕ) (x : A) → n ≢ j → at f j x n ≡ f n
 at_apart f j n x other = grind (arith, nat_tests)
 
--- the same values but for one place
+-- the same values values at one number
 abbrev pub Elsewhere : {A : Type 0} → ℕ → (before after : ℕ → A) → Type 0
 Elsewhere p before after = (n : ℕ) → n ≢ p → after n ≡ before n
 

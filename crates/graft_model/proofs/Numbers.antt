@@ -54,7 +54,7 @@ numbered_is : (k n : ℕ) (peerings : List ℕ) → IsNumbered k (grafts_numbere
 numbered_is k n [] = tt
 numbered_is k n (p ∷ peerings) = (refl, numbered_is (k + 1) n peerings)
 
--- what stands at a place of the grafts of a step
+-- what stands at an index of the grafts of a step
 numbered_at : (k n : ℕ) (peerings : List ℕ) (i : ℕ) (g : ScriptGraft) → slice_get (grafts_numbered k n peerings) i ≡ Some g
     → (slice_get peerings i ≡ Some g.peering) × (g.step ≡ n)
 numbered_at k n [] i g e = absurd cc
@@ -89,22 +89,22 @@ first_more setup k n m s steps =
     length-append (grafts_numbered k n (moved_by setup s)) _
     ∙ ap (λ (z : ℕ). z + first_grafts setup (k + length (moved_by setup s)) (n + 1) m steps) (length-numbered k n (moved_by setup s))
 
--- Where a graft at a place of the grafts of steps comes from: from the step that stands behind so many steps, as the one at this place of its grafts.
+-- Where a graft at an index of the grafts of steps comes from: from the step that stands behind so many steps, as the one at this index of its grafts.
 record ComesFrom (setup : Setup) (k n : ℕ) (steps : List ScriptStep) (i : ℕ) (g : ScriptGraft) : Type 0 where
   behind : ℕ
   step : ScriptStep
-  place : ℕ
+  index : ℕ
   there : slice_get steps behind ≡ Some step
-  moved : slice_get (moved_by setup step) place ≡ Some g.peering
+  moved : slice_get (moved_by setup step) index ≡ Some g.peering
   by : g.step ≡ n + behind
-  is : i ≡ first_grafts setup k n behind steps + place
+  is : i ≡ first_grafts setup k n behind steps + index
 
 from_later : (setup : Setup) (k n : ℕ) (s : ScriptStep) (steps : List ScriptStep) (i j : ℕ) (g : ScriptGraft) → i ≡ length (moved_by setup s) + j
     → ComesFrom setup (k + length (moved_by setup s)) (n + 1) steps j g → ComesFrom setup k n (s ∷ steps) i g
 from_later setup k n s steps i j g e from = record {
   behind = suc from.behind;
   step = from.step;
-  place = from.place;
+  index = from.index;
   there = from.there;
   moved = from.moved;
   by = omega (arith, from.by);
@@ -117,7 +117,7 @@ comes_from setup k n [] i g e = absurd cc
 comes_from setup k n (s ∷ steps) i g e = elim (cases_lt i (length (moved_by setup s))) [
   | inl below ↦
       let t = numbered_at k n (moved_by setup s) i g (sym (get-append_left (grafts_numbered k n (moved_by setup s)) _ i (omega (arith, length-numbered k n (moved_by setup s), below))) ∙ e) in
-      record { behind = 0; step = s; place = i; there = refl; moved = t.0; by = omega (arith, t.1); is = omega arith }
+      record { behind = 0; step = s; index = i; there = refl; moved = t.0; by = omega (arith, t.1); is = omega arith }
   | inr above ↦
       let is : i ≡ length (moved_by setup s) + (i - length (moved_by setup s)) = omega (arith, above) in
       let at : slice_get (grafts_after setup (k + length (moved_by setup s)) (n + 1) steps) (i - length (moved_by setup s)) ≡ Some g =
@@ -125,7 +125,7 @@ comes_from setup k n (s ∷ steps) i g e = elim (cases_lt i (length (moved_by se
       from_later setup k n s steps i _ g is (comes_from setup (k + length (moved_by setup s)) (n + 1) steps _ g at)
 ]
 
--- A graft of a step stands at its place.
+-- A graft of a step stands at its index.
 has_graft : (setup : Setup) (k n : ℕ) (steps : List ScriptStep) (m j p : ℕ) (s : ScriptStep) (i graft step : ℕ) → slice_get steps m ≡ Some s
     → slice_get (moved_by setup s) j ≡ Some p
     → i ≡ first_grafts setup k n m steps + j → graft ≡ k + i + 1 → step ≡ n + m
@@ -163,23 +163,23 @@ first_rises setup k n (x ∷ steps) (suc one) (suc other) s less there =
 
 -- ---- the grafts of the script
 
--- the number of a graft is its place, counted from 1
-pub number_of_place : (setup : Setup) (i : ℕ) (g : ScriptGraft) → slice_get (grafts_in setup) i ≡ Some g → g.graft ≡ i + 1
-number_of_place setup i g at = let t = number_at 0 (grafts_in setup) (after_is setup 0 0 setup.steps) i g at in omega (arith, t)
+-- the number of a graft is its index, counted from 1
+pub number_of_index : (setup : Setup) (i : ℕ) (g : ScriptGraft) → slice_get (grafts_in setup) i ≡ Some g → g.graft ≡ i + 1
+number_of_index setup i g at = let t = number_at 0 (grafts_in setup) (after_is setup 0 0 setup.steps) i g at in omega (arith, t)
 
-pub graft_by_place : (setup : Setup) (i : ℕ) → graft_at setup (suc i) ≡ slice_get (grafts_in setup) i
-graft_by_place setup i = found_at 0 (grafts_in setup) (after_is setup 0 0 setup.steps) (suc i) i (omega arith)
+pub graft_by_index : (setup : Setup) (i : ℕ) → graft_at setup (suc i) ≡ slice_get (grafts_in setup) i
+graft_by_index setup i = found_at 0 (grafts_in setup) (after_is setup 0 0 setup.steps) (suc i) i (omega arith)
 
 pub no_graft_zero : (setup : Setup) → graft_at setup 0 ≡ None
 no_graft_zero setup = none_at 0 (grafts_in setup) (after_is setup 0 0 setup.steps) 0 (omega arith)
 
 -- where the graft of a number stands
-pub place_of_graft : (setup : Setup) (k : ℕ) (g : ScriptGraft) → graft_at setup k ≡ Some g → (i : ℕ) × (k ≡ i + 1) × (slice_get (grafts_in setup) i ≡ Some g)
-place_of_graft setup zero g at = let none = no_graft_zero setup in absurd cc
-place_of_graft setup (suc i) g at = (i, omega arith, sym (graft_by_place setup i) ∙ at)
+pub index_of_graft : (setup : Setup) (k : ℕ) (g : ScriptGraft) → graft_at setup k ≡ Some g → (i : ℕ) × (k ≡ i + 1) × (slice_get (grafts_in setup) i ≡ Some g)
+index_of_graft setup zero g at = let none = no_graft_zero setup in absurd cc
+index_of_graft setup (suc i) g at = (i, omega arith, sym (graft_by_index setup i) ∙ at)
 
 pub number_is : (setup : Setup) (k : ℕ) (g : ScriptGraft) → graft_at setup k ≡ Some g → g.graft ≡ k
-number_is setup k g at = let t = place_of_graft setup k g at in let n = number_of_place setup t.0 g t.2 in omega (arith, t.1, n)
+number_is setup k g at = let t = index_of_graft setup k g at in let n = number_of_index setup t.0 g t.2 in omega (arith, t.1, n)
 
 pub graft_is_known : (setup : Setup) (k : ℕ) (g : ScriptGraft) → graft_at setup k ≡ Some g → graft_at setup g.graft ≡ Some g
 graft_is_known setup k g at = ap (graft_at setup) (number_is setup k g at) ∙ at
@@ -190,24 +190,24 @@ one_of_number setup g h one other e = same_Some g h (sym one ∙ (ap (graft_at s
 
 -- ---- a graft and its step
 
--- A graft is of a step of the script, as the one at this place of the step's grafts.
+-- A graft is of a step of the script, as the one at this index of the step's grafts.
 pub record IsOfStep (setup : Setup) (g : ScriptGraft) : Type 0 where
   pub step : ScriptStep
-  pub place : ℕ
+  pub index : ℕ
   pub there : slice_get setup.steps g.step ≡ Some step
-  pub moved : slice_get (moved_by setup step) place ≡ Some g.peering
-  pub number : g.graft ≡ grafts_before setup g.step + place + 1
+  pub moved : slice_get (moved_by setup step) index ≡ Some g.peering
+  pub number : g.graft ≡ grafts_before setup g.step + index + 1
 
 pub step_of_graft : (setup : Setup) (k : ℕ) (g : ScriptGraft) → graft_at setup k ≡ Some g → IsOfStep setup g
 step_of_graft setup k g at =
-    let t = place_of_graft setup k g at in
-    let n = number_of_place setup t.0 g t.2 in
+    let t = index_of_graft setup k g at in
+    let n = number_of_index setup t.0 g t.2 in
     let from = comes_from setup 0 0 setup.steps t.0 g t.2 in
     let by : from.behind ≡ g.step = omega (arith, from.by) in
     let before : first_grafts setup 0 0 from.behind setup.steps ≡ grafts_before setup g.step = ap (grafts_before setup) by in
     let is = from.is in record {
       step = from.step;
-      place = from.place;
+      index = from.index;
       there = sym (ap (slice_get setup.steps) by) ∙ from.there;
       moved = from.moved;
       number = omega (arith, n, before, is);
@@ -217,7 +217,7 @@ pub graft_of_step : (setup : Setup) (n j p : ℕ) (s : ScriptStep) → slice_get
     → graft_at setup (grafts_before setup n + j + 1) ≡ Some (record { graft = grafts_before setup n + j + 1; peering = p; step = n })
 graft_of_step setup n j p s there moved =
     let e : grafts_before setup n + j + 1 ≡ suc (grafts_before setup n + j) = omega arith in
-    ap (graft_at setup) e ∙ (graft_by_place setup _ ∙ has_graft setup 0 0 setup.steps n j p s _ _ n there moved refl (omega arith) (omega arith))
+    ap (graft_at setup) e ∙ (graft_by_index setup _ ∙ has_graft setup 0 0 setup.steps n j p s _ _ n there moved refl (omega arith) (omega arith))
 
 -- ---- numbers rise with the steps
 
@@ -226,7 +226,7 @@ numbers_rise setup g h one other less =
     let a = step_of_graft setup g.graft g one in
     let b = step_of_graft setup h.graft h other in
     let rise = first_rises setup 0 0 setup.steps g.step h.step a.step less a.there in
-    let within = slice_get_within (moved_by setup a.step) a.place g.peering a.moved in
+    let within = slice_get_within (moved_by setup a.step) a.index g.peering a.moved in
     omega (arith, a.number, b.number, rise, within)
 
 pub steps_rise : (setup : Setup) (g h : ScriptGraft) → graft_at setup g.graft ≡ Some g → graft_at setup h.graft ≡ Some h → g.graft ≤ h.graft → g.step ≤ h.step
@@ -262,8 +262,8 @@ get_range a (suc n) (suc i) below = get_range (a + 1) n i (omega (arith, below))
 pub numbered_peering : (setup : Setup) (p : ℕ) → p < peerings_in setup → slice_get (peering_numbers setup) p ≡ Some p
 numbered_peering setup p below = get_range 0 (peerings_in setup) p below ∙ ap Some (let e : 0 + p ≡ p = omega arith in e)
 
-pub peering_of_place : (setup : Setup) (i p : ℕ) → slice_get (peering_numbers setup) i ≡ Some p → (p ≡ i) × (p < peerings_in setup)
-peering_of_place setup i p at =
+pub peering_of_index : (setup : Setup) (i p : ℕ) → slice_get (peering_numbers setup) i ≡ Some p → (p ≡ i) × (p < peerings_in setup)
+peering_of_index setup i p at =
     let within = slice_get_within (peering_numbers setup) i p at in
     let len = length-range_with_len 0 (peerings_in setup) in
     let below : i < peerings_in setup = omega (arith, within, len) in
@@ -272,14 +272,14 @@ peering_of_place setup i p at =
 
 -- ---- which order a number names
 
-one_place : (setup : Setup) (s : ScriptStep) (i j p q before g h : ℕ) → slice_get (moved_by setup s) i ≡ Some p → slice_get (moved_by setup s) j ≡ Some q
+one_index : (setup : Setup) (s : ScriptStep) (i j p q before g h : ℕ) → slice_get (moved_by setup s) i ≡ Some p → slice_get (moved_by setup s) j ≡ Some q
     → g ≡ before + i + 1 → h ≡ before + j + 1 → number_by (Some s) g ≡ number_by (Some s) h → g ≡ h
-one_place setup (SayStep peering bytes) i j p q before g h one other is_one is_other named = absurd cc
-one_place setup (MoveStep peering target) i j p q before g h one other is_one is_other named =
+one_index setup (SayStep peering bytes) i j p q before g h one other is_one is_other named = absurd cc
+one_index setup (MoveStep peering target) i j p q before g h one other is_one is_other named =
     let first = slice_get_within (peering ∷ []) i p one in
     let second = slice_get_within (peering ∷ []) j q other in omega (arith, first, second, is_one, is_other)
-one_place setup (EvacuateStep router) i j p q before g h one other is_one is_other named = named
-one_place setup SettleStep i j p q before g h one other is_one is_other named = absurd cc
+one_index setup (EvacuateStep router) i j p q before g h one other is_one is_other named = named
+one_index setup SettleStep i j p q before g h one other is_one is_other named = absurd cc
 
 -- The grafts of one step that are ordered under one number are one.
 pub one_order : (setup : Setup) (g h : ScriptGraft) → graft_at setup g.graft ≡ Some g → graft_at setup h.graft ≡ Some h → g.step ≡ h.step
@@ -289,8 +289,8 @@ one_order setup g h one other same named =
     let b = step_of_graft setup h.graft h other in
     let there : slice_get setup.steps h.step ≡ Some a.step = sym (ap (slice_get setup.steps) same) ∙ a.there in
     let step : b.step ≡ a.step = same_Some b.step a.step (sym b.there ∙ there) in
-    let moved : slice_get (moved_by setup a.step) b.place ≡ Some h.peering = sym (ap (λ (z : ScriptStep). slice_get (moved_by setup z) b.place) step) ∙ b.moved in
-    let number : h.graft ≡ grafts_before setup g.step + b.place + 1 = b.number ∙ ap (λ (z : ℕ). grafts_before setup z + b.place + 1) (sym same) in
+    let moved : slice_get (moved_by setup a.step) b.index ≡ Some h.peering = sym (ap (λ (z : ScriptStep). slice_get (moved_by setup z) b.index) step) ∙ b.moved in
+    let number : h.graft ≡ grafts_before setup g.step + b.index + 1 = b.number ∙ ap (λ (z : ℕ). grafts_before setup z + b.index + 1) (sym same) in
     let under : number_by (Some a.step) g.graft ≡ number_by (Some a.step) h.graft =
     sym (ap (λ (z : Option ScriptStep). number_by z g.graft) a.there) ∙ (named ∙ ap (λ (z : Option ScriptStep). number_by z h.graft) there) in
-    one_of_number setup g h one other (one_place setup a.step a.place b.place g.peering h.peering (grafts_before setup g.step) g.graft h.graft a.moved moved a.number number under)
+    one_of_number setup g h one other (one_index setup a.step a.index b.index g.peering h.peering (grafts_before setup g.step) g.graft h.graft a.moved moved a.number number under)

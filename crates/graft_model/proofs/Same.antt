@@ -49,7 +49,7 @@ pub same_marks : {A : Type 0} (before after other : Prefixes) (old new : map.Fin
     → Marks before old new other → after ≡ other
 same_marks before after other old new m n = same_set after other (λ x. marked_alike before after other old new x (has after x) (has other x) m n refl refl)
 
--- ---- places
+-- ---- offsets
 
 pub same_session : (s t : SessionValue) (o u : Option Errand) → Live s o ≡ Live t u → s ≡ t
 same_session s t o u e = cc
@@ -62,14 +62,14 @@ live_here part p s t o u a b = sym a.is ∙ b.is
 
 -- ---- what is emitted
 
-slice_is : (from len : ℕ) (e : Endpoint) (g : PlacedSegment) → g.place ≡ from → length g.bytes ≡ len → g ≡ slice_at e g.place (length g.bytes)
+slice_is : (from len : ℕ) (e : Endpoint) (g : PlacedSegment) → g.offset ≡ from → length g.bytes ≡ len → g ≡ slice_at e g.offset (length g.bytes)
     → g ≡ slice_at e from len
-slice_is from len e g place size slice = slice ∙ (ap (λ (n : ℕ). slice_at e n (length g.bytes)) place ∙ ap (λ (n : ℕ). slice_at e from n) size)
+slice_is from len e g offset size slice = slice ∙ (ap (λ (n : ℕ). slice_at e n (length g.bytes)) offset ∙ ap (λ (n : ℕ). slice_at e from n) size)
 
-rise_is : (from len : ℕ) (e a : Endpoint) (g : PlacedSegment) → g.place ≡ from → length g.bytes ≡ len → EmitsSlice e g a
+rise_is : (from len : ℕ) (e a : Endpoint) (g : PlacedSegment) → g.offset ≡ from → length g.bytes ≡ len → EmitsSlice e g a
     → a ≡ record e { emitted = max e.emitted (from + len) }
-rise_is from len e a g place size emits = emits.rises
-    ∙ (ap (λ (n : ℕ). let x : Endpoint = record e { emitted = max e.emitted (n + length g.bytes) } in x) place ∙ ap (λ (n : ℕ). let x : Endpoint = record e { emitted = max e.emitted (from + n) } in x) size)
+rise_is from len e a g offset size emits = emits.rises
+    ∙ (ap (λ (n : ℕ). let x : Endpoint = record e { emitted = max e.emitted (n + length g.bytes) } in x) offset ∙ ap (λ (n : ℕ). let x : Endpoint = record e { emitted = max e.emitted (from + n) } in x) size)
 
 none_in : (e : Endpoint) (g : PlacedSegment) → g ≡ slice_at e e.emitted 0 → length g.bytes ≡ 0
 none_in e g is = ap (λ (x : PlacedSegment). length x.bytes) is
@@ -77,7 +77,7 @@ none_in e g is = ap (λ (x : PlacedSegment). length x.bytes) is
 pub same_segment : (from len : ℕ) (e a b : Endpoint) (g h : PlacedSegment) → EmitsAt from len e g a → EmitsAt from len e h b → g ≡ h
 same_segment from len e a b g h one other = by_cases one.emits other.emits where
   by_cases : EmitsSlice e g a ⊎ EmitsEmpty e g a → EmitsSlice e h b ⊎ EmitsEmpty e h b → g ≡ h
-  by_cases (inl x) (inl y) = slice_is from len e g one.place one.size x.slice ∙ sym (slice_is from len e h other.place other.size y.slice)
+  by_cases (inl x) (inl y) = slice_is from len e g one.offset one.size x.slice ∙ sym (slice_is from len e h other.offset other.size y.slice)
   by_cases (inl x) (inr y) = let n = none_in e h y.empty in let s = x.some in let k = one.size in let l = other.size in absurd (omega arith)
   by_cases (inr x) (inl y) = let n = none_in e g x.empty in let s = y.some in let k = one.size in let l = other.size in absurd (omega arith)
   by_cases (inr x) (inr y) = x.empty ∙ sym y.empty
@@ -85,7 +85,7 @@ same_segment from len e a b g h one other = by_cases one.emits other.emits where
 pub same_end : (from len : ℕ) (e a b : Endpoint) (g h : PlacedSegment) → EmitsAt from len e g a → EmitsAt from len e h b → a ≡ b
 same_end from len e a b g h one other = by_cases one.emits other.emits where
   by_cases : EmitsSlice e g a ⊎ EmitsEmpty e g a → EmitsSlice e h b ⊎ EmitsEmpty e h b → a ≡ b
-  by_cases (inl x) (inl y) = rise_is from len e a g one.place one.size x ∙ sym (rise_is from len e b h other.place other.size y)
+  by_cases (inl x) (inl y) = rise_is from len e a g one.offset one.size x ∙ sym (rise_is from len e b h other.offset other.size y)
   by_cases (inl x) (inr y) = let n = none_in e h y.empty in let s = x.some in let k = one.size in let l = other.size in absurd (omega arith)
   by_cases (inr x) (inl y) = let n = none_in e g x.empty in let s = y.some in let k = one.size in let l = other.size in absurd (omega arith)
   by_cases (inr x) (inr y) = x.given ∙ sym y.given

@@ -58,7 +58,7 @@ pub record Beats (setup : Setup) (p round : ℕ) (before : FarPart) (taken : Opt
   pub sends : sent ≡ []
   pub effect : after ≡ record before { end = sending (spell KeepaliveMsg false) before.end; beats = before.beats + 1; last_beat = round }
 
--- A slice of what was said, or a segment without bytes at the place that is emitted next, goes into the link.
+-- A slice of what was said, or a segment without bytes at the offset that is emitted next, goes into the link.
 pub record SendsSegment (from len : ℕ) (before : FarPart) (taken : Option FarTaken) (sent : List FarSent) (after : FarPart) : Type 0 where
   pub segment : PlacedSegment
   pub end : Endpoint

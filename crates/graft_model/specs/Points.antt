@@ -1,4 +1,4 @@
--- Functions of numbers, changed at one place.
+-- Functions of numbers, changed at one number.
 use Rattle.std.specs.Prelude.{ℕ}
 pub use Rattle.session_value.specs.Points.{at}
 

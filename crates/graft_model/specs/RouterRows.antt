@@ -86,7 +86,7 @@ pub record PutsSome (setup : Setup) (r p n : ℕ) (before : RouterPart) (taken :
 
 -- ---- what is emitted and what arrives
 
--- A slice of what was put, or a segment without bytes at the place that is emitted next, goes to the far side with the current received length.
+-- A slice of what was put, or a segment without bytes at the offset that is emitted next, goes to the far side with the current received length.
 pub record Emits (p from len : ℕ) (before : RouterPart) (taken : Option RouterTaken) (sent : List RouterSent) (after : RouterPart) : Type 0 where
   pub session : SessionValue
   pub errand : Option Errand

@@ -71,7 +71,7 @@ pub fn leaving_keeps_the_entries()
         → (after.entries ≡ before.entries) × (after.tellings ≡ before.tellings) × (after.best ≡ before.best) × (after.dirty ≡ before.dirty) × (after.due_in ≡ before.due_in) }
 {}
 
-/// A segment without bytes has the place that is emitted next. Any emitted segment begins at the place that the event
+/// A segment without bytes has the offset that is emitted next. Any emitted segment begins at the offset that the event
 /// names, and has as many bytes as it names.
 pub fn segments_are_what_events_name()
     ensures empty_out { (setup : Setup) (r p from : ℕ) (session : SessionValue) (errand : Option Errand) (before after : RouterPart) (taken : Option RouterTaken) (sent : List RouterSent)
@@ -79,7 +79,7 @@ pub fn segments_are_what_events_name()
     ensures empty_home { (setup : Setup) (p from : ℕ) (before after : FarPart) (taken : Option FarTaken) (sent : List FarSent)
         → far_row setup p (Send from 0) before taken sent after → from ≡ before.end.emitted }
     ensures out { (setup : Setup) (r p from len : ℕ) (segment : PlacedSegment) (before after : RouterPart) (taken : Option RouterTaken)
-        → router_row setup r (Emit p from len) before taken (OutwardTo p (Seg segment) ∷ []) after → (segment.place ≡ from) × (length segment.bytes ≡ len) }
+        → router_row setup r (Emit p from len) before taken (OutwardTo p (Seg segment) ∷ []) after → (segment.offset ≡ from) × (length segment.bytes ≡ len) }
     ensures passed { (setup : Setup) (p index router : ℕ) (keep : Bool) (segment : PlacedSegment) (before after : FarPart) (taken : Option FarTaken) (sent : List FarSent)
         → far_row setup p (Pass index keep router) before taken sent after → slice_get before.homeward index ≡ Some segment
         → (router < routers_in setup) × (sent ≡ record { router = router; segment = segment } ∷ []) }

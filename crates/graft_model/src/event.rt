@@ -8,7 +8,7 @@ use tcp_seq::Way;
 pub enum RouterEvent {
     /// The next UPDATE is put on a session, with this many prefixes; with 0, all that is due on it was told already.
     Put { peering: u32, count: u32 },
-    /// `len` bytes of a session's stream go to the far side, from the place `from` on.
+    /// `len` bytes of a session's stream go to the far side, from the offset `from` on.
     Emit { peering: u32, from: u32, len: u32 },
     /// The next segment of a far side arrives at its session.
     Arrive { peering: u32 },
@@ -55,17 +55,17 @@ pub enum RouterEvent {
 pub enum FarEvent {
     /// The remote says the bytes of a step of the script, counted from 0.
     Say { step: u32 },
-    /// `len` bytes of the remote's stream go into the link, from the place `from` on.
+    /// `len` bytes of the remote's stream go into the link, from the offset `from` on.
     Send { from: u32, len: u32 },
     /// The next segment of a router goes into the link.
     Take { router: u32 },
-    /// The segment at this place of the link is delivered to a router. If `keep` is true, the link will deliver it once
+    /// The segment at this index of the link is delivered to a router. If `keep` is true, the link will deliver it once
     /// more.
     Pass { index: u32, keep: bool, router: u32 },
-    /// The segment at this place of the link is delivered to the remote. If `keep` is true, the link will deliver it
+    /// The segment at this index of the link is delivered to the remote. If `keep` is true, the link will deliver it
     /// once more.
     Reach { index: u32, keep: bool },
-    /// The segment at this place of the link, on its way to that side, is lost.
+    /// The segment at this index of the link, on its way to that side, is lost.
     Lose { way: Way, index: u32 },
     /// The link is pointed at a router, by word from that router.
     Point { router: u32 },

@@ -6,16 +6,16 @@ use Rattle.std.specs.Cmp.Lexicographic.{slice_cmp}
 use Rattle.graft_steps.specs.declared.rest.Pending.{Pending}
 use Rattle.graft_steps.specs.declared.rest.Pending.TheVariants.{Script, Graft, Channel, Bag, Stream, Dirty, DueIn, DueOut}
 
--- the place of its kind among the kinds
-abbrev pub kind_place : Pending → ℕ
-kind_place Script = 0
-kind_place (Graft k) = 1
-kind_place (Channel a b) = 2
-kind_place (Bag p) = 3
-kind_place (Stream p) = 4
-kind_place (Dirty r) = 5
-kind_place (DueIn r q) = 6
-kind_place (DueOut p) = 7
+-- the index of its kind among the kinds
+abbrev pub kind_index : Pending → ℕ
+kind_index Script = 0
+kind_index (Graft k) = 1
+kind_index (Channel a b) = 2
+kind_index (Bag p) = 3
+kind_index (Stream p) = 4
+kind_index (Dirty r) = 5
+kind_index (DueIn r q) = 6
+kind_index (DueOut p) = 7
 
 -- the numbers that it has, from the left
 abbrev pub numbers_of : Pending → List ℕ
@@ -30,4 +30,4 @@ numbers_of (DueOut p) = p.0 ∷ []
 
 -- by kind, and then by numbers
 abbrev pub pending_cmp : Pending → Pending → Ordering
-pending_cmp p q = ordering_then (nat_cmp (kind_place p) (kind_place q)) (slice_cmp nat_cmp (numbers_of p) (numbers_of q))
+pending_cmp p q = ordering_then (nat_cmp (kind_index p) (kind_index q)) (slice_cmp nat_cmp (numbers_of p) (numbers_of q))

@@ -8,7 +8,7 @@ use Rattle.std.specs.Option.{option_or}
 use Rattle.std.specs.Ordering.{nat_cmp}
 use Rattle.std.proofs.lemmas.Bool.Decides.{nat_tests}
 use Rattle.tcp_seq.specs.Endpoint.{Endpoint, Bytes, TakesSegment, bytes_in_order, received, byte_from, byte_brought}
-use Rattle.tcp_seq.specs.Rules.{AcceptablePlace}
+use Rattle.tcp_seq.specs.Rules.{AcceptableOffset}
 use Rattle.tcp_seq.proofs.Lookups.{or_none}
 use Rattle.tcp_seq.proofs.ByteFrom.{byte_below, byte_there, byte_past}
 use Rattle.graft_model.specs.Parts.{Live, Vacant}
@@ -39,7 +39,7 @@ same_cond : {A : Type 0} (t : Bool) (a : A) → cond t a a ≡ a
 same_cond true a = refl
 same_cond false a = refl
 
--- the bytes from a place on, found by their places
+-- the bytes from an offset on, found by their offsets
 found : (n : ℕ) (bytes : List ℕ) (k : ℕ) → map.find nat_cmp k (enumerate_from n bytes) ≡ byte_from n bytes k
 found n [] k = sym (same_cond (nat_lt k n) None)
 found n (x ∷ xs) k = (λ i. cond (unsigned_tied k n i) (Some x) (found (n + 1) xs k i)) ∙ one_more n x xs k (k == n) refl
@@ -54,22 +54,22 @@ in_window bytes n k false z short e = let far : 16384 ≤ k = grind (arith, nat_
 
 -- a segment with all bytes of a stream brings them to where nothing was
 brings_all : (e : Endpoint) (bytes : List ℕ) (ack : ℕ) → e.arrived ≡ none_yet → T (map.is_sorted nat_cmp (enumerate_from 0 bytes)) → length bytes ≤ 16384
-    → (k : ℕ) → map.get (from_zero bytes) k ≡ option_or (map.get e.arrived k) (byte_brought e (record { place = 0; bytes = bytes; ack = ack }) k)
+    → (k : ℕ) → map.get (from_zero bytes) k ≡ option_or (map.get e.arrived k) (byte_brought e (record { offset = 0; bytes = bytes; ack = ack }) k)
 brings_all e bytes ack is sorted short k =
     got_byte bytes sorted k
     ∙ (in_window bytes (received e) k (nat_le (received e) k && nat_lt k (received e + 16384)) (ap (λ m. length (bytes_in_order m)) is ∙ ap length received_none) short refl
-    ∙ ap (λ o. option_or o (byte_brought e (record { place = 0; bytes = bytes; ack = ack }) k)) (sym (ap (λ (m : Bytes). map.get m k) is ∙ map.get-empty nat_cmp k)))
+    ∙ ap (λ o. option_or o (byte_brought e (record { offset = 0; bytes = bytes; ack = ack }) k)) (sym (ap (λ (m : Bytes). map.get m k) is ∙ map.get-empty nat_cmp k)))
 
-brings_nothing : (e : Endpoint) (place ack k : ℕ)
-    → map.get e.arrived k ≡ option_or (map.get e.arrived k) (byte_brought e (record { place = place; bytes = []; ack = ack }) k)
-brings_nothing e place ack k = sym (ap (option_or (map.get e.arrived k)) (ap (λ o. cond (nat_le (received e) k && nat_lt k (received e + 16384)) o None) (same_cond (nat_lt k place) None) ∙ same_cond (nat_le (received e) k && nat_lt k (received e + 16384)) None) ∙ or_none (map.get e.arrived k))
+brings_nothing : (e : Endpoint) (offset ack k : ℕ)
+    → map.get e.arrived k ≡ option_or (map.get e.arrived k) (byte_brought e (record { offset = offset; bytes = []; ack = ack }) k)
+brings_nothing e offset ack k = sym (ap (option_or (map.get e.arrived k)) (ap (λ o. cond (nat_le (received e) k && nat_lt k (received e + 16384)) o None) (same_cond (nat_lt k offset) None) ∙ same_cond (nat_le (received e) k && nat_lt k (received e + 16384)) None) ∙ or_none (map.get e.arrived k))
 
 -- at a received length of n
-in_front : (n len : ℕ) → n ≡ 0 → 0 < len → AcceptablePlace n 16384 0 len
+in_front : (n len : ℕ) → n ≡ 0 → 0 < len → AcceptableOffset n 16384 0 len
 in_front n len e some = inr (inr (some, lit< tt, inl (omega arith, omega arith)))
 
-at_end : (n place : ℕ) → n ≡ place → AcceptablePlace n 16384 place 0
-at_end n place e = inr (inl (refl, lit< tt, (omega arith, omega arith)))
+at_end : (n offset : ℕ) → n ≡ offset → AcceptableOffset n 16384 offset 0
+at_end n offset e = inr (inl (refl, lit< tt, (omega arith, omega arith)))
 
 said_arrives : TakesSegment session_first.end said_segment session_arrived.end
 said_arrives = inr (record {
@@ -105,7 +105,7 @@ all_arrives = record {
   sends = refl;
   end = session_arrived.end;
   arrives = said_arrives;
-  effect = λ i. record (a_with session_arrived) { places = sym (at-at (λ p. Vacant) 0 (Live session_first None) (Live session_arrived None)) i };
+  effect = λ i. record (a_with session_arrived) { offsets = sym (at-at (λ p. Vacant) 0 (Live session_first None) (Live session_arrived None)) i };
 }
 
 pub all_reaches : Reaches 0 false far_taken None [] far_reached
@@ -121,5 +121,5 @@ acknowledged = record {
   sends = refl;
   end = session.end;
   arrives = ack_arrives;
-  effect = λ i. record (a_got session) { places = sym (at-at (λ p. Vacant) 0 (Live session_emitted None) (Live session None)) i };
+  effect = λ i. record (a_got session) { offsets = sym (at-at (λ p. Vacant) 0 (Live session_emitted None) (Live session None)) i };
 }

@@ -10,7 +10,7 @@ use Rattle.graft_model.specs.Parts.{OperatorPart}
 use Rattle.graft_model.specs.OperatorRows.{OperatorTaken, OperatorSent, OrderTo, OrdersGraft, number_by, target_in}
 use Rattle.graft_model.specs.Steps.{operator_row}
 use Rattle.graft_model.specs.declared.event.OperatorEvent.TheVariants.{Order}
-use Rattle.graft_model.proofs.Numbers.{place_of_graft}
+use Rattle.graft_model.proofs.Numbers.{index_of_graft}
 use Rattle.bgp_story.specs.Legal.{IsPeering}
 use Rattle.session_value.specs.Sessions.{peering_of}
 use Rattle.graft_worked.proofs.Setup.{peering_is_sound}
@@ -70,10 +70,10 @@ emptying_is_sound = record {
 
 -- c2 has no graft before number 2
 none_earlier : (other : ScriptGraft) → graft_at (emptying 4) other.graft ≡ Some other → other.peering ≡ 1 → other.graft < 2 → ⊥
-none_earlier other known peering before = let t = place_of_graft (emptying 4) other.graft other known in by_place t.0 t.1 t.2 where
-  by_place : (i : ℕ) → other.graft ≡ i + 1 → slice_get (grafts_in (emptying 4)) i ≡ Some other → ⊥
-  by_place zero number at = let e : ◌≡◌ {A = ℕ} 0 1 = ap (λ (g : ScriptGraft). g.peering) (same_Some _ other at) ∙ peering in absurd cc
-  by_place (suc i) number at = omega (arith, number, before)
+none_earlier other known peering before = let t = index_of_graft (emptying 4) other.graft other known in by_index t.0 t.1 t.2 where
+  by_index : (i : ℕ) → other.graft ≡ i + 1 → slice_get (grafts_in (emptying 4)) i ≡ Some other → ⊥
+  by_index zero number at = let e : ◌≡◌ {A = ℕ} 0 1 = ap (λ (g : ScriptGraft). g.peering) (same_Some _ other at) ∙ peering in absurd cc
+  by_index (suc i) number at = omega (arith, number, before)
 
 pub orders_second : OrdersGraft (emptying 4) 0 2 with_room None (OrderTo 0 order_of_c2 ∷ []) with_order
 orders_second = orders_first (emptying 4) 2 (record { graft = 2; peering = 1; step = 0 }) 1 with_room refl refl refl refl refl refl none_earlier

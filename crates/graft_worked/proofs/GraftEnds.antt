@@ -35,7 +35,7 @@ use Rattle.graft_model.specs.SmallWorlds.{config}
 use Rattle.graft_worked.specs.Base.{base}
 use Rattle.graft_worked.specs.Places.{idle_router, idle_far, nothing_on_the_way, world_of}
 use Rattle.graft_worked.specs.Graft.{put_all, said_all, home_end, remote_end, route, entry, over_peering, over_router, session, a_before, b_before, far_before, operator_before, a_after, b_after, far_after, operator_after, before_graft, after_graft, with_entry_kept}
-use Rattle.graft_model.proofs.Numbers.{place_of_graft}
+use Rattle.graft_model.proofs.Numbers.{index_of_graft}
 use Rattle.graft_worked.proofs.Points.{two_all, at_all, empty_at, empty_two, empty_one}
 use Rattle.graft_worked.proofs.Setup.{below_two, below_one}
 use Rattle.graft_worked.proofs.Tens.{is_ten, got_none, got_ten, got_it}
@@ -133,7 +133,7 @@ one_graft zero g e = same_Some the_graft g e
 one_graft (suc i) g e = absurd cc
 
 the_only : (g : ScriptGraft) → graft_at base g.graft ≡ Some g → the_graft ≡ g
-the_only g known = let t = place_of_graft base g.graft g known in one_graft t.0 g t.2
+the_only g known = let t = index_of_graft base g.graft g known in one_graft t.0 g t.2
 
 ended_before : Ended operator_before
 ended_before g known group made = let h : ◌≡◌ {A = ℕ} 1 0 = ap (λ (z : ScriptGraft). group_of base z.step) (the_only g known) ∙ group in absurd cc

@@ -1,4 +1,4 @@
--- Functions with another value at one place.
+-- Functions with another value at one number.
 use Rattle.std.proofs.Common.{◌≡◌, ℕ, ◌==◌, ◌&&◌, not, nat_lt, Bool, true, false, List, [], refl, cond, arith, ap, ◌∙◌}
 use Rattle.std.proofs.lemmas.Bool.Decides.{nat_tests}
 use Rattle.graft_model.specs.Points.{at, at2}

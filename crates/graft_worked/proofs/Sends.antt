@@ -19,7 +19,7 @@ no_bytes e after from n segment all emits = elim emits.emits [
 at_the_next : (e after : Endpoint) (from len : ℕ) (segment : PlacedSegment) → e.acked ≡ length e.stream → EmitsAt from len e segment after → from ≡ e.emitted
 at_the_next e after from len segment all emits = elim emits.emits [
   | inl slice ↦ let a = slice.from in let b = slice.within in let c = slice.some in absurd (omega arith)
-  | inr empty ↦ sym emits.place ∙ ap (λ (s : PlacedSegment). s.place) empty.empty
+  | inr empty ↦ sym emits.offset ∙ ap (λ (s : PlacedSegment). s.offset) empty.empty
 ]
 
 home_acked : home_end.acked ≡ length home_end.stream

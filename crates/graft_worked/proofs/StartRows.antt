@@ -40,7 +40,7 @@ use Rattle.graft_worked.specs.Start.{said_segment, put_segment, ack_segment, far
 use Rattle.graft_worked.proofs.Points.{at-at, at-same}
 use Rattle.graft_worked.proofs.Tens.{empty, got_none, got_ten, is_ten, some_at_ten, some_in_none, marks_new}
 
--- ---- bytes by their places
+-- ---- bytes by their offsets
 
 len_zero : {A : Type 0} (xs : List A) → length xs ≡ 0 → xs ≡ []
 len_zero [] e = refl
@@ -83,7 +83,7 @@ sends_all = record {
   segment = said_segment;
   end = far_emitted.end;
   emits = record {
-    place = refl;
+    offset = refl;
     size = refl;
     emits = inl (record { from = lit≤ tt; to = lit≤ tt; some = lit< tt; short = lit≤ tt; within = lit≤ tt; flight = lit≤ tt; slice = λ i. record said_segment { ack = sym (ap length received_none) i }; rises = refl });
   };
@@ -100,7 +100,7 @@ sends_ack = record {
   segment = ack_segment;
   end = remote_end;
   emits = record {
-    place = refl;
+    offset = refl;
     size = refl;
     emits = inr (record { empty = λ i. record ack_segment { ack = sym (ap length received_put) i }; given = refl });
   };
@@ -123,7 +123,7 @@ emits_all = record {
   segment = put_segment;
   end = session_emitted.end;
   emits = record {
-    place = refl;
+    offset = refl;
     size = refl;
     emits = inl (record { from = lit≤ tt; to = lit≤ tt; some = lit< tt; short = lit≤ tt; within = lit≤ tt; flight = lit≤ tt; slice = λ i. record put_segment { ack = sym (ap length received_said) i }; rises = refl });
   };

@@ -5,7 +5,7 @@ use Rattle.graft_model.specs.Setups.{Setup, ScriptStep, SayStep, MoveStep, Evacu
 use Rattle.graft_model.specs.Parts.{Gift, Unmade, OperatorPart}
 use Rattle.graft_model.specs.Placements.{placement}
 use Rattle.graft_model.specs.Evacuations.{gift_by, gift_in_group, gift_or, with_gifts}
-use Rattle.graft_model.proofs.Numbers.{place_of_graft}
+use Rattle.graft_model.proofs.Numbers.{index_of_graft}
 
 abbrev pub empties : Option ScriptStep → Bool
 empties None = false
@@ -33,4 +33,4 @@ nothing_given setup part none = λ i. record part { given = λ k. keeps (graft_a
 
 -- numbers begin with 1
 pub none_before : (setup : Setup) (g : ScriptGraft) → graft_at setup g.graft ≡ Some g → g.graft < 1 → ⊥
-none_before setup g known first = let t = place_of_graft setup g.graft g known in omega (arith, t.1, first)
+none_before setup g known first = let t = index_of_graft setup g.graft g known in omega (arith, t.1, first)

@@ -34,7 +34,7 @@ put_all = framed 1 (0x04 ∷ 0xFD ∷ 0xE8 ∷ 0x00 ∷ 0x00 ∷ 0x0A ∷ 0xFF �
 abbrev pub said_all : List ℕ
 said_all = open_bytes ++ (keepalive_bytes ++ update_bytes)
 
--- bytes from place 0 on
+-- bytes from offset 0 on
 abbrev pub from_zero : List ℕ → Bytes
 from_zero bytes = map.from_sorted (enumerate_from 0 bytes)
 

@@ -17,13 +17,13 @@ use Rattle.graft_worked.specs.Graft.{put_all, said_all, from_zero, at_ten, ten_a
 -- ---- segments: all that the remote said, all that home put, and the remote's acknowledgement
 
 abbrev pub said_segment : PlacedSegment
-said_segment = record { place = 0; bytes = said_all; ack = 0 }
+said_segment = record { offset = 0; bytes = said_all; ack = 0 }
 
 abbrev pub put_segment : PlacedSegment
-put_segment = record { place = 0; bytes = put_all; ack = 91 }
+put_segment = record { offset = 0; bytes = put_all; ack = 91 }
 
 abbrev pub ack_segment : PlacedSegment
-ack_segment = record { place = 91; bytes = []; ack = 48 }
+ack_segment = record { offset = 91; bytes = []; ack = 48 }
 
 -- ---- the far side
 

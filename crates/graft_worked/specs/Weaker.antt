@@ -107,7 +107,7 @@ abbrev pub with_word_on_its_way : World
 with_word_on_its_way = with_on_the_way (record nothing_on_the_way { to_a = Done 1 0 ∷ [] })
 
 abbrev pub empty_segment : PlacedSegment
-empty_segment = record { place = 0; bytes = []; ack = 0 }
+empty_segment = record { offset = 0; bytes = []; ack = 0 }
 
 -- outward: a segment is on its way to the far side
 abbrev pub with_segment_outward : World

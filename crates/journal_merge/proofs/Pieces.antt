@@ -38,9 +38,9 @@ module _ {I : Type 0} where
 -- ---- the events at a mark
 
 -- by cases on whether it is this number, for a function with a value there alone
-at_place : {I : Type 0} (k : ℕ) (ds : List (Deed I)) (n : ℕ) (Q : ℕ → List (Noted I) → Type 0) → Q k (noted 0 ds) → (n ≢ k → Q n [])
+at_index : {I : Type 0} (k : ℕ) (ds : List (Deed I)) (n : ℕ) (Q : ℕ → List (Noted I) → Type 0) → Q k (noted 0 ds) → (n ≢ k → Q n [])
     → Q n (if n == k then noted 0 ds else [])
-at_place {I} k ds n Q h f = elim (equal_or_not n k) [
+at_index {I} k ds n Q h f = elim (equal_or_not n k) [
   | inl e ↦ subst (λ m. Q m (if m == k then noted 0 ds else [])) (sym e) (rw (yes k) h)
   | inr ne ↦ rw (no n ne) (f ne)
 ]
@@ -89,14 +89,14 @@ module _ {A P I : Type 0} (part : A → P) (makes : Makes P I) where
       → (p : Between part makes paused k u v answer) → Grew part makes u v (p.from ∷ p.to ∷ []) (at_mark part makes k p.deeds)
   between_grows paused u v k answer k_in p = record {
     size = p.size;
-    replays = λ j d j_in. at_place k ds j (λ n ns. Replay makes n (part (get_or u.actors n d)) (deeds ns) (part (get_or v.actors n d))) (rw (deeds_noted 0 ds) (p.replay d)) (λ ne. ap part (p.others j d ne));
-    none = λ j past. at_place k ds j (λ n ns. length u.actors ≤ n → ns ≡ []) (λ h. absurd (omega (arith, h, k_in))) (λ ne h. refl) past;
-    own = λ j. at_place k ds j (λ n ns. AllByRecursion (IsDeedOf n) (deeds ns)) (rw (deeds_noted 0 ds) p.own) (λ ne. tt);
+    replays = λ j d j_in. at_index k ds j (λ n ns. Replay makes n (part (get_or u.actors n d)) (deeds ns) (part (get_or v.actors n d))) (rw (deeds_noted 0 ds) (p.replay d)) (λ ne. ap part (p.others j d ne));
+    none = λ j past. at_index k ds j (λ n ns. length u.actors ≤ n → ns ≡ []) (λ h. absurd (omega (arith, h, k_in))) (λ ne h. refl) past;
+    own = λ j. at_index k ds j (λ n ns. AllByRecursion (IsDeedOf n) (deeds ns)) (rw (deeds_noted 0 ds) p.own) (λ ne. tt);
     clocks = (at_mark part makes k ds, to_first, (λ j. [], to_second, λ j j_in. p.level j (omega (arith, j_in, p.size))));
-    journals = λ j. at_place k ds j (λ n ns. v.journal n ≡ u.journal n ++ entries_of ns) (rw (entries_noted 0 ds) p.journal) (λ ne. p.journals j ne ∙ sym (append-nil (u.journal j)));
+    journals = λ j. at_index k ds j (λ n ns. v.journal n ≡ u.journal n ++ entries_of ns) (rw (entries_noted 0 ds) p.journal) (λ ne. p.journals j ne ∙ sym (append-nil (u.journal j)));
     edges = p.edges;
     carries = λ a b e. ap (λ xs. u.channel a b ++ xs) refl
-        ∙ at_place k ds a (λ n ns. u.edge n b ≡ true → u.channel n b ++ sent_to b ns ≡ v.channel n b) (λ h. rw (sent_noted b 0 ds) (sym (p.channel b h))) (λ ne h. append-nil (u.channel a b) ∙ sym (p.channels a b ne)) e
+        ∙ at_index k ds a (λ n ns. u.edge n b ≡ true → u.channel n b ++ sent_to b ns ≡ v.channel n b) (λ h. rw (sent_noted b 0 ds) (sym (p.channel b h))) (λ ne h. append-nil (u.channel a b) ∙ sym (p.channels a b ne)) e
         ∙ ap (λ xs. xs ++ v.channel a b) (sym (nothing a b));
     apart = λ a b e. nothing a b;
   }
@@ -129,12 +129,12 @@ module _ {A P I : Type 0} (part : A → P) (makes : Makes P I) where
         first = at_mark part makes k ds;
         after = last;
         split = λ j. sym (append-nil (at_mark part makes k ds j));
-        clocked = λ j j_in. at_place k ds j (λ n ns. Clocked p.from ns (last n)) (rw (last_here k) (clocked_none p.from p.to 0 ds p.none p.counted)) (λ ne. last_else j k ne);
+        clocked = λ j j_in. at_index k ds j (λ n ns. Clocked p.from ns (last n)) (rw (last_here k) (clocked_none p.from p.to 0 ds p.none p.counted)) (λ ne. last_else j k ne);
         greatest = record { bound = λ j j_in. most j (j == k); here = k; within = k_in; is = last_here k };
       }
 
       nothing : (a b : ℕ) → taken_from a (if b == k then noted 0 p.deeds else []) ≡ []
-      nothing a b = at_place k p.deeds b (λ n ns. taken_from a ns ≡ []) (none_taken a 0 p.deeds p.none) (λ ne. refl)
+      nothing a b = at_index k p.deeds b (λ n ns. taken_from a ns ≡ []) (none_taken a 0 p.deeds p.none) (λ ne. refl)
 
   -- one piece after another
   pub grows_on : (u v t : View A I) (ls ms : List ℕ) (m n : ℕ → List (Noted I)) → Grew part makes u v ls m → Grew part makes v t ms n

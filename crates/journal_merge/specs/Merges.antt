@@ -40,7 +40,7 @@ pub record Interleaves (journals : ℕ → List JournalEntry) (merged : List Jou
   pub each : (k : ℕ) → entries_by k merged ≡ journals k
   pub sorted : AreSorted merged
 
--- one less at one place
+-- one less at one index
 abbrev pub less_at : (ℕ → ℕ) → ℕ → ℕ → ℕ
 less_at mark k n = if n == k then mark n - 1 else mark n
 

@@ -43,7 +43,7 @@ fn merge_two(
     Ok(Items::from_vec(merged))
 }
 
-/// Returns the place of a shortest list.
+/// Returns the index of a shortest list.
 fn shortest(runs: &[Journal]) -> usize
     requires { 0 < length runs.now }
     ensures { result < length runs.now }

@@ -99,9 +99,9 @@ module _ (input : LabInput) where
   peerings_over = sym (ap (λ ps. flat_map (meds_by (setup_of input)) (enumerate_from 0 ps)) peerings_are
       ∙ renumbered (meds_by (setup_of input)) (peering_setup input) 0 input.peerings)
 
--- ---- places
+-- ---- indices
 
-pub at_place : {A : Type 0} (xs : List A) (i : ℕ) (x : A) → i < length xs → x ≡ slice_index_or xs i x → slice_get xs i ≡ Some x
-at_place [] i x below is = absurd (omega (arith, below))
-at_place (y ∷ xs) zero x below is = ap (λ z. Some z) (sym is)
-at_place (y ∷ xs) (suc i) x below is = at_place xs i x (omega (arith, below)) is
+pub at_index : {A : Type 0} (xs : List A) (i : ℕ) (x : A) → i < length xs → x ≡ slice_index_or xs i x → slice_get xs i ≡ Some x
+at_index [] i x below is = absurd (omega (arith, below))
+at_index (y ∷ xs) zero x below is = ap (λ z. Some z) (sym is)
+at_index (y ∷ xs) (suc i) x below is = at_index xs i x (omega (arith, below)) is

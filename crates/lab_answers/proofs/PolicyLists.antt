@@ -44,7 +44,7 @@ by_number F G n [] each = refl
 by_number {X} {Y} F G n (x ∷ xs) each =
     let here : n + 0 ≡ n = omega arith in
     ap (λ (o : Option Y). cons_option o (filter_map F (range_with_len (n + 1) (length xs)))) (ap F (sym here) ∙ each 0 x refl)
-    ∙ ap (λ (l : List Y). cons_option (G x) l) (by_number F G (n + 1) xs (λ k y e. ap F (let place : n + 1 + k ≡ n + suc k = omega arith in place) ∙ each (suc k) y e))
+    ∙ ap (λ (l : List Y). cons_option (G x) l) (by_number F G (n + 1) xs (λ k y e. ap F (let index : n + 1 + k ≡ n + suc k = omega arith in index) ∙ each (suc k) y e))
 
 -- ---- by name
 

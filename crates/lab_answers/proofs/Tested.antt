@@ -39,6 +39,6 @@ module _ {X : Type 0} (test : ℕ × X → Bool) (xs : List X) (i : ℕ) where
   pub all_done : length xs ≤ i → all_from ≡ true
   all_done past = ap (λ ys. list_all test (enumerate_from i ys)) (drop_all i xs past)
 
--- an element that was read at its place
+-- an element that was read at its index
 pub item_at : {X : Type 0} (xs ys : List X) (i : ℕ) (x : X) → ys ≡ xs → i < length ys → x ≡ slice_index_or ys i x → slice_get xs i ≡ Some x
 item_at xs ys i x same below is = read_at xs ys i i x same refl (subst (λ zs. i < length zs) same below) is

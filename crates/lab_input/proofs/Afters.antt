@@ -85,7 +85,7 @@ pub again_is : (is_new had there : Bool) → is_new ≡ not had → had ≡ ther
 again_is is_new true there e f = ap not e ∙ f
 again_is is_new false there e f = ap not e ∙ f
 
--- ---- things with their places
+-- ---- things with their indices
 
 module _ {A : Type 0} (flaw : ℕ → A → Option BadInput) (xs : List A) (i : ℕ) (x : A) (within : i < length xs) (is : x ≡ get_or xs i x) where
   from_next : drop i xs ≡ x ∷ drop (i + 1) xs

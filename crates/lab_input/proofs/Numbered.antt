@@ -9,8 +9,8 @@ numbered f n (y ∷ xs) zero x lt at =
     let first : n ≡ n + 0 = omega arith in
     append-nil (f (n, y)) ∙ ap (λ z. f (n, z)) (sym at) ∙ ap (λ k. f (k, x)) first
 numbered f n (y ∷ xs) (suc i) x lt at =
-    let place : n + 1 + i ≡ n + suc i = omega arith in
-    ap (λ l. f (n, y) ++ l) (numbered f (n + 1) xs i x (omega (arith, lt)) at ∙ ap (λ k. flat_map f (enumerate_from (n + 1) (take i xs)) ++ f (k, x)) place)
+    let index : n + 1 + i ≡ n + suc i = omega arith in
+    ap (λ l. f (n, y) ++ l) (numbered f (n + 1) xs i x (omega (arith, lt)) at ∙ ap (λ k. flat_map f (enumerate_from (n + 1) (take i xs)) ++ f (k, x)) index)
     ∙ sym (append_assoc (f (n, y)) (flat_map f (enumerate_from (n + 1) (take i xs))) (f (n + suc i, x)))
 
 -- one element further, its own piece stands behind the others'
@@ -18,5 +18,5 @@ pub flat_map_numbered : {X A : Type 0} (f : ℕ × X → List A) (xs : List X) (
     → flat_map f (enumerate_from 0 (take (i + 1) xs)) ≡ flat_map f (enumerate_from 0 (take i xs)) ++ f (i, x)
 flat_map_numbered f xs i x lt at =
     let more : i + 1 ≡ suc i = omega arith in
-    let place : 0 + i ≡ i = omega arith in
-    ap (λ k. flat_map f (enumerate_from 0 (take k xs))) more ∙ numbered f 0 xs i x lt at ∙ ap (λ k. flat_map f (enumerate_from 0 (take i xs)) ++ f (k, x)) place
+    let index : 0 + i ≡ i = omega arith in
+    ap (λ k. flat_map f (enumerate_from 0 (take k xs))) more ∙ numbered f 0 xs i x lt at ∙ ap (λ k. flat_map f (enumerate_from 0 (take i xs)) ++ f (k, x)) index

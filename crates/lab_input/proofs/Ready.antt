@@ -19,7 +19,7 @@ use Rattle.bgp_types.specs.Writable.{IsWritableUpdate, IsWritable}
 use Rattle.bgp_types.proofs.Lengths.{update_size}
 use Rattle.lab_keys.specs.declared.flaw.Flaw.{Flaw}
 use Rattle.lab_keys.specs.declared.flaw.Flaw.TheVariants.{Shape}
-use Rattle.lab_keys.specs.Places.{place}
+use Rattle.lab_keys.specs.Spots.{spot_of}
 use Rattle.lab_keys.specs.declared.key.Kind.TheVariants.{Number, Name, Host, Prefix, Word}
 use Rattle.lab_keys.specs.declared.key.Words.TheVariants.{Origins}
 use Rattle.lab_keys.specs.declared.table_at.TableAt.TheVariants as tables
@@ -177,7 +177,7 @@ SaysWell routers ps t = (says_update (step_of routers ps t) ≡ true → IsRemot
 step_said : (routers : List (List ℕ)) (ps : List PeeringInput) (before whole : Bool) (i : ℕ) (t : Members) → grouped_flaw before whole i t ≡ None
     → SaysWell routers ps t
 step_said routers ps before whole i t none of says =
-    let crowded = flaw_if (is_crowded before whole (word_at t)) (Shape (place (tables.Step i) (codes "do"))) in
+    let crowded = flaw_if (is_crowded before whole (word_at t)) (Shape (spot_of (tables.Step i) (codes "do"))) in
     let last = option_or (worded_flaw (word_at t) i t) None in
     let behind = none_right (keys_flaw (tables.Step i) do_keys t) (option_or crowded last) none in
     let worded = none_left (worded_flaw (word_at t) i t) None (none_right crowded last behind) in

@@ -3,7 +3,7 @@ use Rattle.std.specs.Prelude.{◌≡◌, ℕ, ◌+◌, nat_lt, List, [], ◌∷�
 use Rattle.toml.specs.Data.{Members}
 use Rattle.lab_keys.specs.declared.flaw.Flaw.{Flaw}
 use Rattle.lab_keys.specs.declared.flaw.Flaw.TheVariants as flaws
-use Rattle.lab_keys.specs.Places.{key_place_text}
+use Rattle.lab_keys.specs.Spots.{key_spot_text}
 use Rattle.lab_keys.specs.Kinds.{first_of}
 use Rattle.lab_tables.specs.declared.input.LabInput.{LabInput}
 use Rattle.lab_input.specs.declared.bad.LabStop.{LabStop}
@@ -16,8 +16,8 @@ use Rattle.lab_input.specs.Names.{named}
 use Rattle.lab_input.specs.Counts.{count_fault}
 
 abbrev pub bad_of : Flaw → BadInput
-bad_of (flaws.Shape at) = Shape (key_place_text at)
-bad_of (flaws.Limit at n) = Limit (key_place_text at) n
+bad_of (flaws.Shape at) = Shape (key_spot_text at)
+bad_of (flaws.Limit at n) = Limit (key_spot_text at) n
 
 -- ---- the rules in their order
 

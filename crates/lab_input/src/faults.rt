@@ -11,7 +11,7 @@ use crate::names::unknown;
 use crate::told::{first, repeated_if};
 use bgp_types::{NoMemory, PeeringId};
 use lab_keys::text_at;
-use lab_tables::{Places, fault_of};
+use lab_tables::{NameIndex, fault_of};
 use link_bag::Fault;
 use std::alloc::Global;
 use std::collections::HashSet;
@@ -40,7 +40,7 @@ fn segment_of(fault: &Fault) -> SegmentKey
 /// Returns the first wrong name of a planned fault, or that an earlier fault has the same segment.
 fn fault_named(
     alloc: Global,
-    peerings: &Places,
+    peerings: &NameIndex,
     again: bool,
     table: &Table,
 ) -> Result<Option<BadInput>, NoMemory>
@@ -56,7 +56,7 @@ fn fault_named(
 /// Returns the first wrong name of planned faults.
 pub(crate) fn faults_named(
     alloc: Global,
-    peerings: &Places,
+    peerings: &NameIndex,
     tables: &[&Table],
 ) -> Result<Option<BadInput>, NoMemory>
     ensures { IfOk result (λ bad. bad ≡ each_after (fault_named_lem peerings.now) [] (map (λ u. table_view u.now) tables.now)) }

@@ -15,7 +15,7 @@ use crate::names::{repeated_address, unknown, unknown_at};
 use crate::told::{first, repeated_if};
 use bgp_types::{Items, Name, NoMemory, RouterId, TryCopy};
 use lab_keys::{address_or, text_at};
-use lab_tables::{Places, PolicyInput, RouterInput, StepWord, word_at};
+use lab_tables::{NameIndex, PolicyInput, RouterInput, StepWord, word_at};
 use std::alloc::Global;
 use std::collections::HashSet;
 use toml::Table;
@@ -30,7 +30,7 @@ struct Ends {
 }
 
 /// Returns the routers that a cost connects, with 0 for an unknown name.
-fn ends_of(routers: &Places, table: &Table) -> Ends
+fn ends_of(routers: &NameIndex, table: &Table) -> Ends
     ensures { result ≡ record { from = (cost_of routers.now (table_view table.now)).from; to = (cost_of routers.now (table_view table.now)).to } }
 {
     Ends {
@@ -42,7 +42,7 @@ fn ends_of(routers: &Places, table: &Table) -> Ends
 /// Returns the first wrong name of a cost, or that an earlier cost has the same ends.
 fn cost_named(
     alloc: Global,
-    routers: &Places,
+    routers: &NameIndex,
     again: bool,
     table: &Table,
 ) -> Result<Option<BadInput>, NoMemory>
@@ -59,7 +59,7 @@ fn cost_named(
 /// Returns the first wrong name of costs.
 pub(crate) fn costs_named(
     alloc: Global,
-    routers: &Places,
+    routers: &NameIndex,
     tables: &[&Table],
 ) -> Result<Option<BadInput>, NoMemory>
     ensures { IfOk result (λ bad. bad ≡ each_after (cost_named_lem routers.now) [] (map (λ u. table_view u.now) tables.now)) }
@@ -128,18 +128,18 @@ fn names_at(alloc: Global, router: Option<&RouterInput>) -> Result<Items<Name>, 
 }
 
 /// Returns the names of the policies of the router of this name.
-fn policies_at(alloc: Global, routers: &[RouterInput], name: &str) -> Result<Places, NoMemory>
+fn policies_at(alloc: Global, routers: &[RouterInput], name: &str) -> Result<NameIndex, NoMemory>
     ensures { IfOk result (λ names. names ≡ policies_at_lem routers.now name.now) }
 {
     let names = names_at(alloc, router_called(routers, name))?;
-    let places = Places::of(names)?;
-    Ok(places)
+    let index = NameIndex::of(names)?;
+    Ok(index)
 }
 
 /// Returns the fault of a peering whose name or remote's address an earlier one has, or whose router is unknown.
-fn place_named(
+fn identity_named(
     alloc: Global,
-    names: &Places,
+    names: &NameIndex,
     again: Again,
     table: &Table,
 ) -> Result<Option<BadInput>, NoMemory>
@@ -173,23 +173,23 @@ fn policy_named(
 fn peering_named(
     alloc: Global,
     routers: &[RouterInput],
-    names: &Places,
+    names: &NameIndex,
     again: Again,
     table: &Table,
 ) -> Result<Option<BadInput>, NoMemory>
     requires { names.now ≡ map (λ r. r.name) routers.now }
     ensures { IfOk result (λ bad. bad ≡ peering_fault routers.now again.name again.remote (table_view table.now)) }
 {
-    let place = place_named(alloc, names, again, table)?;
+    let identity = identity_named(alloc, names, again, table)?;
     let policy = policy_named(alloc, routers, table)?;
-    Ok(first(place, policy))
+    Ok(first(identity, policy))
 }
 
 /// Returns the first wrong name of peerings.
 pub(crate) fn peerings_named(
     alloc: Global,
     routers: &[RouterInput],
-    names: &Places,
+    names: &NameIndex,
     tables: &[&Table],
 ) -> Result<Option<BadInput>, NoMemory>
     requires { names.now ≡ map (λ r. r.name) routers.now }
@@ -218,8 +218,8 @@ pub(crate) fn peerings_named(
 /// Returns the first wrong name of a step of this word.
 fn worded_named(
     alloc: Global,
-    routers: &Places,
-    peerings: &Places,
+    routers: &NameIndex,
+    peerings: &NameIndex,
     word: StepWord,
     table: &Table,
 ) -> Result<Option<BadInput>, NoMemory>
@@ -241,8 +241,8 @@ fn worded_named(
 /// Returns the first wrong name of steps.
 pub(crate) fn steps_named(
     alloc: Global,
-    routers: &Places,
-    peerings: &Places,
+    routers: &NameIndex,
+    peerings: &NameIndex,
     tables: &[&Table],
 ) -> Result<Option<BadInput>, NoMemory>
     ensures { IfOk result (λ bad. bad ≡ first_of (map (λ u. step_named_lem routers.now peerings.now (table_view u.now)) tables.now)) }

@@ -10,7 +10,7 @@ use crate::bad::BadInput;
 use crate::told::{first, repeated_if};
 use bgp_types::{Address, Name, NoMemory, Prefix};
 use lab_keys::maybe_text;
-use lab_tables::{Places, PolicyInput, RouterInput};
+use lab_tables::{NameIndex, PolicyInput, RouterInput};
 use std::alloc::Global;
 use std::collections::HashSet;
 use toml::Table;
@@ -18,7 +18,7 @@ use toml::Table;
 /// Returns the fault of a text that is none of these names.
 pub(crate) fn unknown(
     alloc: Global,
-    names: &Places,
+    names: &NameIndex,
     text: &str,
 ) -> Result<Option<BadInput>, NoMemory>
     ensures { IfOk result (λ bad. bad ≡ unknown_lem names.now text.now) }
@@ -32,7 +32,7 @@ pub(crate) fn unknown(
 /// Returns the fault of a text at a key that is none of these names.
 pub(crate) fn unknown_at(
     alloc: Global,
-    names: &Places,
+    names: &NameIndex,
     key: &str,
     table: &Table,
 ) -> Result<Option<BadInput>, NoMemory>

@@ -14,12 +14,12 @@ use crate::names::routers_again;
 use crate::told::first;
 use bgp_types::NoMemory;
 use lab_keys::tables_in;
-use lab_tables::{LabInput, Places, RouterInput, peering_names, router_names};
+use lab_tables::{LabInput, NameIndex, RouterInput, peering_names, router_names};
 use std::alloc::Global;
 use toml::Table;
 
 /// Returns the first wrong name of the costs of a document.
-fn costs_in(alloc: Global, doc: &Table, names: &Places) -> Result<Option<BadInput>, NoMemory>
+fn costs_in(alloc: Global, doc: &Table, names: &NameIndex) -> Result<Option<BadInput>, NoMemory>
     ensures { IfOk result (λ bad. bad ≡ each_after (cost_named names.now) [] (tables_at (codes "cost") (table_view doc.now))) }
 {
     let tables = tables_in(alloc, "cost", doc)?;
@@ -32,7 +32,7 @@ fn peerings_in(
     alloc: Global,
     doc: &Table,
     routers: &[RouterInput],
-    names: &Places,
+    names: &NameIndex,
 ) -> Result<Option<BadInput>, NoMemory>
     requires { names.now ≡ map (λ r. r.name) routers.now }
     ensures { IfOk result (λ bad. bad ≡ each_after (peering_named routers.now) [] (tables_at (codes "peering") (table_view doc.now))) }
@@ -43,7 +43,7 @@ fn peerings_in(
 }
 
 /// Returns the first wrong name of the planned faults of a document.
-fn faults_in(alloc: Global, doc: &Table, remotes: &Places) -> Result<Option<BadInput>, NoMemory>
+fn faults_in(alloc: Global, doc: &Table, remotes: &NameIndex) -> Result<Option<BadInput>, NoMemory>
     ensures { IfOk result (λ bad. bad ≡ each_after (fault_named remotes.now) [] (tables_at (codes "fault") (table_view doc.now))) }
 {
     let tables = tables_in(alloc, "fault", doc)?;
@@ -55,8 +55,8 @@ fn faults_in(alloc: Global, doc: &Table, remotes: &Places) -> Result<Option<BadI
 fn steps_in(
     alloc: Global,
     doc: &Table,
-    names: &Places,
-    remotes: &Places,
+    names: &NameIndex,
+    remotes: &NameIndex,
 ) -> Result<Option<BadInput>, NoMemory>
     ensures { IfOk result (λ bad. bad ≡ first_of (map (step_named names.now remotes.now) (tables_at (codes "step") (table_view doc.now)))) }
 {
@@ -70,7 +70,7 @@ fn network_named(
     alloc: Global,
     doc: &Table,
     routers: &[RouterInput],
-    names: &Places,
+    names: &NameIndex,
 ) -> Result<Option<BadInput>, NoMemory>
     requires { names.now ≡ map (λ r. r.name) routers.now }
     ensures { IfOk result (λ bad. bad ≡ first_of (each_after router_again [] routers.now
@@ -87,8 +87,8 @@ fn network_named(
 fn script_named(
     alloc: Global,
     doc: &Table,
-    names: &Places,
-    remotes: &Places,
+    names: &NameIndex,
+    remotes: &NameIndex,
 ) -> Result<Option<BadInput>, NoMemory>
     ensures { IfOk result (λ bad. bad ≡ first_of (each_after (fault_named remotes.now) [] (tables_at (codes "fault") (table_view doc.now))
         ∷ first_of (map (step_named names.now remotes.now) (tables_at (codes "step") (table_view doc.now))) ∷ [])) }

@@ -15,7 +15,7 @@ use Rattle.lab_keys.specs.declared.flaw.Flaw.{Flaw}
 use Rattle.lab_keys.specs.declared.flaw.Flaw.TheVariants.{Shape, Limit}
 use Rattle.lab_keys.specs.declared.key.Kind.TheVariants.{Number, Host, Prefix}
 use Rattle.lab_keys.specs.declared.table_at.TableAt.{TableAt}
-use Rattle.lab_keys.specs.Places.{KeyPlace, place, member_of}
+use Rattle.lab_keys.specs.Spots.{KeySpot, spot_of, member_of}
 use Rattle.lab_keys.specs.Texts.{host_if, address_in, host_address_in, prefix_in}
 use Rattle.lab_keys.specs.Kinds.{each_from, flaw_if, beyond, number_flaw, text_flaw, kind_flaw, list_of, bounded_array_flaw, array_flaw, table_flaw}
 use Rattle.lab_keys.specs.KeyRows.{KeyRow}
@@ -60,7 +60,7 @@ pub record IsWithin (low high n : ℕ) : Type 0 where
   pub enough : low ≤ n
   pub few : n ≤ high
 
-within : (at : KeyPlace) (low high n : ℕ) → beyond at low high n ≡ None → IsWithin low high n
+within : (at : KeySpot) (low high n : ℕ) → beyond at low high n ≡ None → IsWithin low high n
 within at low high n none =
     let test : (nat_lt n low || nat_lt high n) ≡ false = if_none (nat_lt n low || nat_lt high n) (Limit at n) none in
     record { enough = not_less n low (or_left (nat_lt n low) (nat_lt high n) test); few = not_less high n (or_right (nat_lt n low) (nat_lt high n) test) }
@@ -70,7 +70,7 @@ record IsNumber (low high : ℕ) (d : Data) : Type 0 where
   is : d ≡ integer (pos n)
   within : IsWithin low high n
 
-number_there : (at : KeyPlace) (low high : ℕ) (d : Data) → number_flaw at low high d ≡ None → IsNumber low high d
+number_there : (at : KeySpot) (low high : ℕ) (d : Data) → number_flaw at low high d ≡ None → IsNumber low high d
 number_there at low high (integer (pos n)) none = record { n = n; is = refl; within = within at low high n none }
 number_there at low high (integer (negsuc n)) none = absurd (none_some (Limit at 0) none)
 number_there at low high (string _) none = absurd (none_some (Shape at) none)
@@ -86,7 +86,7 @@ record IsThere (flaw : Data → Option Flaw) (o : Option Data) : Type 0 where
   is : o ≡ Some d
   none : flaw d ≡ None
 
-there : (at : KeyPlace) (flaw : Data → Option Flaw) (o : Option Data) → present at true flaw o ≡ None → IsThere flaw o
+there : (at : KeySpot) (flaw : Data → Option Flaw) (o : Option Data) → present at true flaw o ≡ None → IsThere flaw o
 there at flaw None none = absurd (none_some (Shape at) none)
 there at flaw (Some d) none = record { d = d; is = refl; none = none }
 
@@ -100,8 +100,8 @@ pub number_within : (at : TableAt) (t : Members) (key : List ℕ) (bits default 
     → key_flaw at t (required key (Number low high)) ≡ None
     → IsWithin low high (number_or bits default key t)
 number_within at t key bits default low high fits none =
-    let here = there (place at key) (kind_flaw (Number low high) (place at key)) (get_member key t) none in
-    let number = number_there (place at key) low high here.d here.none in
+    let here = there (spot_of at key) (kind_flaw (Number low high) (spot_of at key)) (get_member key t) none in
+    let number = number_there (spot_of at key) low high here.d here.none in
     let few : number.n ≤ high = number.within.few in
     let is : number_or bits default key t ≡ number.n = number_of bits default number.n (get_member key t) (here.is ∙ ap Some number.is) (omega arith) in
     subst (IsWithin low high) (sym is) number.within
@@ -136,7 +136,7 @@ record IsHostText (d : Data) : Type 0 where
   reads : address_in text ≡ Some address
   host : is_no_host address ≡ false
 
-host_of : (at : KeyPlace) (text : List ℕ) (o : Option ℕ) → address_in text ≡ o
+host_of : (at : KeySpot) (text : List ℕ) (o : Option ℕ) → address_in text ≡ o
     → flaw_if (not (is_some (option_and_then host_if o))) (Shape at) ≡ None → IsHostText (string text)
 host_of at text None e none = absurd (none_some (Shape at) none)
 host_of at text (Some address) e none = by_test (is_no_host address) refl none where
@@ -144,7 +144,7 @@ host_of at text (Some address) e none = by_test (is_no_host address) refl none w
   by_test true is none = absurd (none_some (Shape at) none)
   by_test false is none = record { text = text; address = address; is = refl; reads = e; host = is }
 
-host_there : (at : KeyPlace) (d : Data) → kind_flaw Host at d ≡ None → IsHostText d
+host_there : (at : KeySpot) (d : Data) → kind_flaw Host at d ≡ None → IsHostText d
 host_there at (string text) none = host_of at text (address_in text) refl none
 host_there at (integer _) none = absurd (none_some (Shape at) none)
 host_there at (float _) none = absurd (none_some (Shape at) none)
@@ -166,27 +166,27 @@ host_at default o d there is = ap is_no_host (address_of default o d there is) �
 pub host_required : (at : TableAt) (t : Members) (key : List ℕ) (default : ℕ) → key_flaw at t (required key Host) ≡ None
     → is_no_host (address_or default key t) ≡ false
 host_required at t key default none =
-    let here = there (place at key) (kind_flaw Host (place at key)) (get_member key t) none in
-    host_at default (get_member key t) here.d here.is (host_there (place at key) here.d here.none)
+    let here = there (spot_of at key) (kind_flaw Host (spot_of at key)) (get_member key t) none in
+    host_at default (get_member key t) here.d here.is (host_there (spot_of at key) here.d here.none)
 
 -- the address at a key that may be left out
 pub host_optional : (at : TableAt) (t : Members) (key : List ℕ) (default : ℕ) → key_flaw at t (optional key Host) ≡ None → is_no_host default ≡ false
     → is_no_host (address_or default key t) ≡ false
 host_optional at t key default none host = by_value (get_member key t) none where
-  by_value : (o : Option Data) → present (place at key) false (kind_flaw Host (place at key)) o ≡ None
+  by_value : (o : Option Data) → present (spot_of at key) false (kind_flaw Host (spot_of at key)) o ≡ None
       → is_no_host (unwrap_or (option_and_then address_in (option_and_then as_str o)) default) ≡ false
   by_value None none = host
-  by_value (Some d) none = host_at default (Some d) d refl (host_there (place at key) d none)
+  by_value (Some d) none = host_at default (Some d) d refl (host_there (spot_of at key) d none)
 
 -- ---- arrays
 
-record IsArray (at : KeyPlace) (low high : ℕ) (flaw : ℕ → Data → Option Flaw) (d : Data) : Type 0 where
+record IsArray (at : KeySpot) (low high : ℕ) (flaw : ℕ → Data → Option Flaw) (d : Data) : Type 0 where
   items : Items
   is : d ≡ array items
   count : IsWithin low high (length (list_of items))
   each : each_from flaw 0 (list_of items) ≡ None
 
-array_there : (at : KeyPlace) (low high : ℕ) (flaw : ℕ → Data → Option Flaw) (d : Data) → array_flaw at low high flaw d ≡ None → IsArray at low high flaw d
+array_there : (at : KeySpot) (low high : ℕ) (flaw : ℕ → Data → Option Flaw) (d : Data) → array_flaw at low high flaw d ≡ None → IsArray at low high flaw d
 array_there at low high flaw (array items) none =
     let count = none_left (beyond at low high (length (list_of items))) (each_from flaw 0 (list_of items)) none in
     let each = none_right (beyond at low high (length (list_of items))) (each_from flaw 0 (list_of items)) none in
@@ -206,7 +206,7 @@ kept_few h (x ∷ xs) = by_value (h x) (kept_few h xs) where
   by_value (Some y) few = omega arith
 
 -- where an array may be left out, few of it are kept
-optional_few : {B : Type 0} (h : Data → Option B) (at : KeyPlace) (high : ℕ) (flaw : ℕ → Data → Option Flaw) (needed : Bool) (o : Option Data)
+optional_few : {B : Type 0} (h : Data → Option B) (at : KeySpot) (high : ℕ) (flaw : ℕ → Data → Option Flaw) (needed : Bool) (o : Option Data)
     → present at needed (array_flaw at 0 high flaw) o ≡ None → length (filter_map h (items_in o)) ≤ high
 optional_few h at high flaw needed None none = omega arith
 optional_few h at high flaw needed (Some d) none =
@@ -218,15 +218,15 @@ optional_few h at high flaw needed (Some d) none =
 pub numbers_few : (at : TableAt) (t : Members) (key : List ℕ) (low high high' : ℕ)
     → key_flaw at t (optional_array key 0 high (Number low high')) ≡ None → length (numbers_at key t) ≤ high
 numbers_few at t key low high high' none =
-    optional_few (number_in 32) (place at key) high (λ i. kind_flaw (Number low high') (member_of (place at key) i)) false (get_member key t) none
+    optional_few (number_in 32) (spot_of at key) high (λ i. kind_flaw (Number low high') (member_of (spot_of at key) i)) false (get_member key t) none
 
 pub tables_few : (at : TableAt) (t : Members) (key : List ℕ) (high : ℕ) (flaw : ℕ → Members → Option Flaw)
     → tables_flaw at key false 0 high flaw t ≡ None → length (tables_at key t) ≤ high
-tables_few at t key high flaw none = optional_few as_table (place at key) high (λ i. table_flaw (member_of (place at key) i) (flaw i)) false (get_member key t) none
+tables_few at t key high flaw none = optional_few as_table (spot_of at key) high (λ i. table_flaw (member_of (spot_of at key) i) (flaw i)) false (get_member key t) none
 
 -- ---- prefixes
 
-prefix_there : (at : KeyPlace) (d : Data) → kind_flaw Prefix at d ≡ None → (p : PrefixValue) × (prefix_of_data d ≡ Some p)
+prefix_there : (at : KeySpot) (d : Data) → kind_flaw Prefix at d ≡ None → (p : PrefixValue) × (prefix_of_data d ≡ Some p)
 prefix_there at (string text) none = by_value (prefix_in text) none where
   by_value : (o : Option PrefixValue) → flaw_if (not (is_some o)) (Shape at) ≡ None → (p : PrefixValue) × (o ≡ Some p)
   by_value None none = absurd (none_some (Shape at) none)
@@ -238,7 +238,7 @@ prefix_there at (datetime _) none = absurd (none_some (Shape at) none)
 prefix_there at (array _) none = absurd (none_some (Shape at) none)
 prefix_there at (table _) none = absurd (none_some (Shape at) none)
 
-prefixes_kept : (at : KeyPlace) (i : ℕ) (ds : List Data) → each_from (λ i. kind_flaw Prefix (member_of at i)) i ds ≡ None
+prefixes_kept : (at : KeySpot) (i : ℕ) (ds : List Data) → each_from (λ i. kind_flaw Prefix (member_of at i)) i ds ≡ None
     → length (filter_map prefix_of_data ds) ≡ length ds
 prefixes_kept at i [] none = refl
 prefixes_kept at i (d ∷ ds) none =
@@ -251,10 +251,10 @@ prefixes_kept at i (d ∷ ds) none =
 pub prefixes_within : (at : TableAt) (t : Members) (key : List ℕ) (low high : ℕ) → key_flaw at t (required_array key low high Prefix) ≡ None
     → IsWithin low high (length (prefixes_at key t))
 prefixes_within at t key low high none =
-    let flaw : ℕ → Data → Option Flaw = λ i. kind_flaw Prefix (member_of (place at key) i) in
-    let here = there (place at key) (array_flaw (place at key) low high flaw) (get_member key t) none in
-    let is = array_there (place at key) low high flaw here.d here.none in
-    let kept : length (filter_map prefix_of_data (list_of is.items)) ≡ length (list_of is.items) = prefixes_kept (place at key) 0 (list_of is.items) is.each in
+    let flaw : ℕ → Data → Option Flaw = λ i. kind_flaw Prefix (member_of (spot_of at key) i) in
+    let here = there (spot_of at key) (array_flaw (spot_of at key) low high flaw) (get_member key t) none in
+    let is = array_there (spot_of at key) low high flaw here.d here.none in
+    let kept : length (filter_map prefix_of_data (list_of is.items)) ≡ length (list_of is.items) = prefixes_kept (spot_of at key) 0 (list_of is.items) is.each in
     let items : items_at key t ≡ list_of is.items = ap items_in (here.is ∙ ap Some is.is) in
     subst (IsWithin low high) (sym (ap (λ ds. length (filter_map prefix_of_data ds)) items ∙ kept)) is.count
 
@@ -276,7 +276,7 @@ prefixes_formed (table _ ∷ ds) = prefixes_formed ds
 
 -- ---- tables
 
-each_table : (at : KeyPlace) (flaw : ℕ → Members → Option Flaw) (P : Members → Type 0) → ((i : ℕ) (t : Members) → flaw i t ≡ None → P t)
+each_table : (at : KeySpot) (flaw : ℕ → Members → Option Flaw) (P : Members → Type 0) → ((i : ℕ) (t : Members) → flaw i t ≡ None → P t)
     → (i : ℕ) (ds : List Data)
     → each_from (λ i. table_flaw (member_of at i) (flaw i)) i ds ≡ None → AllByRecursion P (filter_map as_table ds)
 each_table at flaw P kept i [] none = tt
@@ -300,9 +300,9 @@ pub tables_all : (at : TableAt) (t : Members) (key : List ℕ) (needed : Bool) (
     → ((i : ℕ) (t : Members) → flaw i t ≡ None → P t) → tables_flaw at key needed low high flaw t ≡ None → AllByRecursion P (tables_at key t)
 tables_all at t key needed low high flaw P kept none = by_value (get_member key t) none where
   by_value : (o : Option Data)
-      → present (place at key) needed (array_flaw (place at key) low high (λ i. table_flaw (member_of (place at key) i) (flaw i))) o ≡ None
+      → present (spot_of at key) needed (array_flaw (spot_of at key) low high (λ i. table_flaw (member_of (spot_of at key) i) (flaw i))) o ≡ None
       → AllByRecursion P (filter_map as_table (items_in o))
   by_value None none = tt
   by_value (Some d) none =
-      let is = array_there (place at key) low high (λ i. table_flaw (member_of (place at key) i) (flaw i)) d none in
-      subst (λ x. AllByRecursion P (filter_map as_table (items_in (Some x)))) (sym is.is) (each_table (place at key) flaw P kept 0 (list_of is.items) is.each)
+      let is = array_there (spot_of at key) low high (λ i. table_flaw (member_of (spot_of at key) i) (flaw i)) d none in
+      subst (λ x. AllByRecursion P (filter_map as_table (items_in (Some x)))) (sym is.is) (each_table (spot_of at key) flaw P kept 0 (list_of is.items) is.each)

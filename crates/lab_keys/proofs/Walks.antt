@@ -9,7 +9,7 @@ use Rattle.toml.specs.Data.{Data, string, integer, float, boolean, datetime, arr
 use Rattle.toml.specs.declared.value.Value.{Value}
 use Rattle.toml.specs.View.{view, items_of, items_view}
 use Rattle.lab_keys.specs.declared.flaw.Flaw.{Flaw}
-use Rattle.lab_keys.specs.Places.{KeyPlace}
+use Rattle.lab_keys.specs.Spots.{KeySpot}
 use Rattle.lab_keys.specs.Kinds.{each_from, first_of, list_of, beyond, bounded_array_flaw, array_flaw}
 use Rattle.lab_keys.specs.Values.{items_in}
 
@@ -17,7 +17,7 @@ pub list_of-items_of : (ds : List Data) → list_of (items_of ds) ≡ ds
 list_of-items_of [] = refl
 list_of-items_of (d ∷ ds) = ap (λ rest. d ∷ rest) (list_of-items_of ds)
 
--- ---- a walk, at place i of a list
+-- ---- a walk, at index i of a list
 
 drop_step : {A : Type 0} (xs : List A) (i : ℕ) (x : A) → i < length xs → x ≡ get_or xs i x → drop i xs ≡ x ∷ drop (i + 1) xs
 drop_step xs i x within is = drop_more xs i x within ∙ ap (λ y. y ∷ drop (i + 1) xs) (sym is)
@@ -64,7 +64,7 @@ seen_items : (items : Items) (vs : List Value) → Some (items_view vs) ≡ Some
 seen_items items vs same = let is : items ≡ items_view vs = cc in ap list_of is ∙ list_of-items_of (map view vs)
 
 -- the flaw of the values of an array is that of the array
-pub array_seen : (at : KeyPlace) (low high : ℕ) (flaw : ℕ → Data → Option Flaw) (d : Data) (vs : List Value) → Some (items_view vs) ≡ as_array d
+pub array_seen : (at : KeySpot) (low high : ℕ) (flaw : ℕ → Data → Option Flaw) (d : Data) (vs : List Value) → Some (items_view vs) ≡ as_array d
     → bounded_array_flaw at low high flaw (map view vs) ≡ array_flaw at low high flaw d
 array_seen at low high flaw (array items) vs same = ap (bounded_array_flaw at low high flaw) (sym (seen_items items vs same))
 array_seen at low high flaw (string _) vs same = cc
@@ -74,13 +74,13 @@ array_seen at low high flaw (boolean _) vs same = cc
 array_seen at low high flaw (datetime _) vs same = cc
 array_seen at low high flaw (table _) vs same = cc
 
-pub counted_stops : {A : Type 0} (at : KeyPlace) (low high : ℕ) (flaw : ℕ → Data → Option Flaw) (f : A → Data) (vs : List A) (found : Flaw)
+pub counted_stops : {A : Type 0} (at : KeySpot) (low high : ℕ) (flaw : ℕ → Data → Option Flaw) (f : A → Data) (vs : List A) (found : Flaw)
     → Some found ≡ beyond at low high (length vs)
     → Some found ≡ bounded_array_flaw at low high flaw (map f vs)
 counted_stops at low high flaw f vs found some =
     ap (λ o. option_or o (each_from flaw 0 (map f vs))) (some ∙ ap (beyond at low high) (sym (length-map vs f)))
 
-pub counted_goes_on : {A : Type 0} (at : KeyPlace) (low high : ℕ) (flaw : ℕ → Data → Option Flaw) (f : A → Data) (vs : List A)
+pub counted_goes_on : {A : Type 0} (at : KeySpot) (low high : ℕ) (flaw : ℕ → Data → Option Flaw) (f : A → Data) (vs : List A)
     → None ≡ beyond at low high (length vs)
     → each_from flaw 0 (map f vs) ≡ bounded_array_flaw at low high flaw (map f vs)
 counted_goes_on at low high flaw f vs none =

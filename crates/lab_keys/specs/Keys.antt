@@ -7,7 +7,7 @@ use Rattle.lab_keys.specs.declared.flaw.Flaw.TheVariants.{Shape}
 use Rattle.lab_keys.specs.declared.key.Kind.{Kind}
 use Rattle.lab_keys.specs.declared.key.Counts.{Counts}
 use Rattle.lab_keys.specs.declared.table_at.TableAt.{TableAt}
-use Rattle.lab_keys.specs.Places.{KeyPlace, place, member_of}
+use Rattle.lab_keys.specs.Spots.{KeySpot, spot_of, member_of}
 use Rattle.lab_keys.specs.Kinds.{first_of, each_from, flaw_if, is_one_of, kind_flaw, array_flaw, table_flaw}
 use Rattle.lab_keys.specs.KeyRows.{KeyRow}
 
@@ -31,17 +31,17 @@ names_of keys = map (λ key. key.name) keys
 
 -- ---- the flaws of a table
 
-abbrev pub value_flaw : Option Counts → Kind → KeyPlace → Data → Option Flaw
+abbrev pub value_flaw : Option Counts → Kind → KeySpot → Data → Option Flaw
 value_flaw None kind at d = kind_flaw kind at d
 value_flaw (Some counts) kind at d = array_flaw at counts.low counts.high (λ i. kind_flaw kind (member_of at i)) d
 
 -- a missing value has a wrong shape if it is required
-abbrev pub present : KeyPlace → Bool → (Data → Option Flaw) → Option Data → Option Flaw
+abbrev pub present : KeySpot → Bool → (Data → Option Flaw) → Option Data → Option Flaw
 present at needed flaw None = flaw_if needed (Shape at)
 present at needed flaw (Some d) = flaw d
 
 abbrev pub key_flaw : TableAt → Members → KeyRow → Option Flaw
-key_flaw at t key = present (place at key.name) key.needed (value_flaw key.counts key.kind (place at key.name)) (get_member key.name t)
+key_flaw at t key = present (spot_of at key.name) key.needed (value_flaw key.counts key.kind (spot_of at key.name)) (get_member key.name t)
 
 -- the first flaw of the keys, in their order
 abbrev pub keys_flaw : TableAt → List KeyRow → Members → Option Flaw
@@ -50,7 +50,7 @@ keys_flaw at keys t = first_of (map (key_flaw at t) keys)
 -- an array of low to high tables
 abbrev pub tables_flaw : TableAt → List ℕ → Bool → (low high : ℕ) → (ℕ → Members → Option Flaw) → Members → Option Flaw
 tables_flaw at key needed low high flaw t =
-    present (place at key) needed (array_flaw (place at key) low high (λ i. table_flaw (member_of (place at key) i) (flaw i))) (get_member key t)
+    present (spot_of at key) needed (array_flaw (spot_of at key) low high (λ i. table_flaw (member_of (spot_of at key) i) (flaw i))) (get_member key t)
 
 -- ---- keys that aren't known
 
@@ -61,7 +61,7 @@ stray_in known (member key d ms) = if is_one_of known key then stray_in known ms
 
 abbrev pub stray_at : TableAt → Option (List ℕ) → Option Flaw
 stray_at at None = None
-stray_at at (Some key) = Some (Shape (place at key))
+stray_at at (Some key) = Some (Shape (spot_of at key))
 
 abbrev pub stray_flaw : TableAt → List (List ℕ) → Members → Option Flaw
 stray_flaw at known t = stray_at at (stray_in known t)

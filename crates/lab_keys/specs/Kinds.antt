@@ -10,7 +10,7 @@ use Rattle.lab_keys.specs.declared.key.Kind.{Kind}
 use Rattle.lab_keys.specs.declared.key.Kind.TheVariants.{Number, HoldTime, Name, Host, Address, Prefix, Flag, Word, Hex, Misplaced}
 use Rattle.lab_keys.specs.declared.key.Words.{Words}
 use Rattle.lab_keys.specs.declared.key.Words.TheVariants.{Origins, Ways, FaultKinds, StepKinds}
-use Rattle.lab_keys.specs.Places.{KeyPlace, member_of}
+use Rattle.lab_keys.specs.Spots.{KeySpot, member_of}
 use Rattle.lab_keys.specs.Texts.{is_name, address_in, host_address_in, prefix_in, is_hex}
 
 -- ---- the first of several flaws
@@ -29,7 +29,7 @@ abbrev pub flaw_if : Bool → Flaw → Option Flaw
 flaw_if test flaw = if test then Some flaw else None
 
 -- a number or a count beyond its limits
-abbrev pub beyond : KeyPlace → (low high n : ℕ) → Option Flaw
+abbrev pub beyond : KeySpot → (low high n : ℕ) → Option Flaw
 beyond at low high n = flaw_if (nat_lt n low || nat_lt high n) (Limit at n)
 
 -- ---- kinds of values
@@ -44,28 +44,28 @@ abbrev pub is_one_of : List (List ℕ) → List ℕ → Bool
 is_one_of words text = list_any (λ word. bytes_eq text word) words
 
 -- a number from low to high; a negative one is reported as 0
-abbrev pub number_flaw : KeyPlace → (low high : ℕ) → Data → Option Flaw
+abbrev pub number_flaw : KeySpot → (low high : ℕ) → Data → Option Flaw
 number_flaw at low high (integer (pos n)) = beyond at low high n
 number_flaw at low high (integer (negsuc n)) = Some (Limit at 0)
 number_flaw at low high _ = Some (Shape at)
 
 -- a hold time in seconds: 0, or 3 to 65535 (RFC 4271, section 4.2)
-abbrev pub hold_time_flaw : KeyPlace → Data → Option Flaw
+abbrev pub hold_time_flaw : KeySpot → Data → Option Flaw
 hold_time_flaw at (integer (pos n)) = flaw_if (n == 1 || n == 2 || nat_lt 65535 n) (Limit at n)
 hold_time_flaw at (integer (negsuc n)) = Some (Limit at 0)
 hold_time_flaw at _ = Some (Shape at)
 
 -- a text of this form
-abbrev pub text_flaw : KeyPlace → (List ℕ → Bool) → Data → Option Flaw
+abbrev pub text_flaw : KeySpot → (List ℕ → Bool) → Data → Option Flaw
 text_flaw at is_formed (string text) = flaw_if (not (is_formed text)) (Shape at)
 text_flaw at is_formed _ = Some (Shape at)
 
-abbrev pub flag_flaw : KeyPlace → Data → Option Flaw
+abbrev pub flag_flaw : KeySpot → Data → Option Flaw
 flag_flaw at (boolean b) = None
 flag_flaw at _ = Some (Shape at)
 
 -- from low to high octets in hexadecimal
-abbrev pub hex_flaw : KeyPlace → (low high : ℕ) → Data → Option Flaw
+abbrev pub hex_flaw : KeySpot → (low high : ℕ) → Data → Option Flaw
 hex_flaw at low high (string text) = if is_hex text then beyond at low high (length text / 2) else Some (Shape at)
 hex_flaw at low high _ = Some (Shape at)
 
@@ -79,7 +79,7 @@ is_formed (Word words) text = is_one_of (words_of words) text
 is_formed _ text = false
 
 -- the first flaw of a value of a kind
-abbrev pub kind_flaw : Kind → KeyPlace → Data → Option Flaw
+abbrev pub kind_flaw : Kind → KeySpot → Data → Option Flaw
 kind_flaw (Number low high) at d = number_flaw at low high d
 kind_flaw HoldTime at d = hold_time_flaw at d
 kind_flaw Flag at d = flag_flaw at d
@@ -94,14 +94,14 @@ list_of no_items = []
 list_of (item d ds) = d ∷ list_of ds
 
 -- the length of an array is checked before its members
-abbrev pub bounded_array_flaw : KeyPlace → (low high : ℕ) → (ℕ → Data → Option Flaw) → List Data → Option Flaw
+abbrev pub bounded_array_flaw : KeySpot → (low high : ℕ) → (ℕ → Data → Option Flaw) → List Data → Option Flaw
 bounded_array_flaw at low high flaw ds = option_or (beyond at low high (length ds)) (each_from flaw 0 ds)
 
-abbrev pub array_flaw : KeyPlace → (low high : ℕ) → (ℕ → Data → Option Flaw) → Data → Option Flaw
+abbrev pub array_flaw : KeySpot → (low high : ℕ) → (ℕ → Data → Option Flaw) → Data → Option Flaw
 array_flaw at low high flaw (array items) = bounded_array_flaw at low high flaw (list_of items)
 array_flaw at low high flaw _ = Some (Shape at)
 
 -- a table, or a wrong shape
-abbrev pub table_flaw : KeyPlace → (Members → Option Flaw) → Data → Option Flaw
+abbrev pub table_flaw : KeySpot → (Members → Option Flaw) → Data → Option Flaw
 table_flaw at flaw (table t) = flaw t
 table_flaw at flaw _ = Some (Shape at)

@@ -1,4 +1,4 @@
-pub mod Places
+pub mod Spots
 pub mod Texts
 pub mod Kinds
 pub mod KeyRows

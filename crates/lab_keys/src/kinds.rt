@@ -2,7 +2,7 @@
 
 ghost use Rattle.std.specs.Prelude.{◌≡◌, ℕ, List, Bool, IsTrue, is_some, map};
 ghost use Rattle.toml.specs.View.{view};
-ghost use Rattle.lab_keys.specs.Places.{place, member_of};
+ghost use Rattle.lab_keys.specs.Spots.{spot_of, member_of};
 ghost use Rattle.lab_keys.specs.Texts.{is_hex as is_hex_lem};
 ghost use Rattle.lab_keys.specs.Kinds.{words_of as words_of_lem, is_one_of as is_one_of_lem, beyond as beyond_lem, number_flaw as number_flaw_lem, hold_time_flaw as hold_time_flaw_lem, hex_flaw as hex_flaw_lem, flag_flaw as flag_flaw_lem, kind_flaw as kind_flaw_lem, flaw_if as flaw_if_lem, text_flaw as text_flaw_lem, is_formed as is_formed_lem, each_from};
 
@@ -144,7 +144,7 @@ pub fn kind_flaw<'a>(kind: Kind, at: Spot<'a>, value: &Value) -> Option<Flaw<'a>
 
 /// Returns the first flaw of the members of an array.
 pub fn members_flaw<'a>(kind: Kind, at: TableAt, key: &'a str, values: &[Value]) -> Option<Flaw<'a>>
-    ensures { result ≡ each_from (λ i. kind_flaw_lem kind (member_of (place at key.now) i)) 0 (map view values.now) }
+    ensures { result ≡ each_from (λ i. kind_flaw_lem kind (member_of (spot_of at key.now) i)) 0 (map view values.now) }
 {
     for (i, value) in values.iter().enumerate() {
         if let Some(flaw) = kind_flaw(kind, Spot::of(at, key).member(i), value) {

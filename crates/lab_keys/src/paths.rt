@@ -1,7 +1,7 @@
 //! Paths of values, as texts.
 
 ghost use Rattle.std.specs.Prelude.{◌≡◌, ◌++◌, OnOk, IfOk, string_bytes};
-ghost use Rattle.lab_keys.specs.Places.{index_text, table_text, member_text, key_place_text};
+ghost use Rattle.lab_keys.specs.Spots.{index_text, table_text, member_text, key_spot_text};
 
 use crate::spot::Spot;
 use crate::table_at::TableAt;
@@ -62,9 +62,9 @@ fn push_member(text: &mut String, member: Option<usize>) -> Result<(), NoMemory>
     }
 }
 
-/// Returns the path of a place, like `router[0].policy[1].rule[0].ge` or `step[3].prefixes[2]`.
+/// Returns the path of a spot, like `router[0].policy[1].rule[0].ge` or `step[3].prefixes[2]`.
 pub fn path_of<'a>(alloc: Global, spot: Spot<'a>) -> Result<Name, NoMemory>
-    ensures { IfOk result (λ name. name ≡ key_place_text spot.entry) }
+    ensures { IfOk result (λ name. name ≡ key_spot_text spot.entry) }
 {
     let (table, key, member) = spot.into_parts();
     let mut text = String::new(alloc);

@@ -1,12 +1,12 @@
 //! Where a value is in an input.
 
 ghost use Rattle.std.specs.Prelude.{◌≡◌};
-ghost use Rattle.lab_keys.specs.Places.{place as place_lem, member_of as member_of_lem};
+ghost use Rattle.lab_keys.specs.Spots.{spot_of as spot_of_lem, member_of as member_of_lem};
 
 use crate::table_at::TableAt;
 use std::marker::Model;
 
-/// A place in an input: a key of a table and, for a member of the array at that key, its index.
+/// A spot in an input: a key of a table and, for a member of the array at that key, its index.
 #[derive(Debug, Drop)]
 pub struct Spot<'a> {
     table: TableAt,
@@ -15,17 +15,17 @@ pub struct Spot<'a> {
 }
 
 impl<'a> Model for Spot<'a> {
-    ghost use Rattle.lab_keys.specs.Places.{KeyPlace};
+    ghost use Rattle.lab_keys.specs.Spots.{KeySpot};
 
-    ghost Value = { KeyPlace };
+    ghost Value = { KeySpot };
 
     ghost view = { λ s. record { table = s.table; key = s.key.now; member = s.member } };
 }
 
 impl<'a> Spot<'a> {
-    /// Returns the place of a key of a table.
+    /// Returns the spot of a key of a table.
     pub fn of(table: TableAt, key: &'a str) -> Spot<'a>
-        ensures { result ≡ place_lem table key.now }
+        ensures { result ≡ spot_of_lem table key.now }
     {
         Spot {
             table,
@@ -34,7 +34,7 @@ impl<'a> Spot<'a> {
         }
     }
 
-    /// Returns the place of member `i` of the array there.
+    /// Returns the spot of member `i` of the array there.
     pub fn member(self, i: usize) -> Spot<'a>
         ensures { result ≡ member_of_lem self.entry i }
     {

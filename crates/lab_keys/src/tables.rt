@@ -4,7 +4,7 @@ ghost use Rattle.std.specs.Prelude.{◌≡◌, ℕ, List, Option, Some, None, ma
 ghost use Rattle.toml.specs.Data.{Members};
 ghost use Rattle.toml.specs.View.{view, table_view};
 ghost use Rattle.lab_keys.specs.declared.flaw.Flaw.{Flaw as FlawOf};
-ghost use Rattle.lab_keys.specs.Places.{place, member_of};
+ghost use Rattle.lab_keys.specs.Spots.{spot_of, member_of};
 ghost use Rattle.lab_keys.specs.Kinds.{table_flaw, each_from};
 ghost use Rattle.lab_keys.specs.Keys.{tables_flaw as tables_flaw_lem};
 
@@ -42,7 +42,7 @@ fn item_flaw<'a, K: TableKind>(
     i: usize,
     value: &'a Value,
 ) -> Option<Flaw<'a>>
-    ensures { result ≡ table_flaw (member_of (place at key.now) i) (K.flaw_of kind.now i) (view value.now) }
+    ensures { result ≡ table_flaw (member_of (spot_of at key.now) i) (K.flaw_of kind.now i) (view value.now) }
 {
     let Some(table) = value.as_table() else {
         return Some(Flaw::Shape(Spot::of(at, key).member(i)));
@@ -57,7 +57,7 @@ fn items_flaw<'a, K: TableKind>(
     key: &'a str,
     values: &'a [Value],
 ) -> Option<Flaw<'a>>
-    ensures { result ≡ each_from (λ i. table_flaw (member_of (place at key.now) i) (K.flaw_of kind.now i)) 0 (map view values.now) }
+    ensures { result ≡ each_from (λ i. table_flaw (member_of (spot_of at key.now) i) (K.flaw_of kind.now i)) 0 (map view values.now) }
 {
     for (i, value) in values.iter().enumerate() {
         if let Some(flaw) = item_flaw(kind, at, key, i, value) {

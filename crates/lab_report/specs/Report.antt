@@ -49,15 +49,15 @@ abbrev pub path_text : List PathPart → List ℕ
 path_text [] = codes "-"
 path_text (part ∷ parts) = part_text part ++ flat_map (λ p. codes "," ++ part_text p) parts
 
--- the name at a place, or a dash
+-- the name at an index, or a dash
 abbrev pub name_at : List (List ℕ) → ℕ → List ℕ
-name_at names place = unwrap_or (slice_get names place) (codes "-")
+name_at names index = unwrap_or (slice_get names index) (codes "-")
 
 abbrev pub router_name : LabInput → ℕ → List ℕ
-router_name input place = name_at (map (λ r. r.name) input.routers) place
+router_name input index = name_at (map (λ r. r.name) input.routers) index
 
 abbrev pub peering_name : LabInput → ℕ → List ℕ
-peering_name input place = name_at (map (λ p. p.name) input.peerings) place
+peering_name input index = name_at (map (λ p. p.name) input.peerings) index
 
 abbrev pub from_text : LabInput → From → List ℕ
 from_text input Own = codes "own"

@@ -134,14 +134,14 @@ fn push_short_peering(
     input: &LabInput,
     sessions: &[SessionView],
     placement: &[Place],
-    place: usize,
+    index: usize,
     peering: &PeeringInput,
 ) -> Result<(), NoMemory>
-    ensures { OnOk result (string_bytes text.new ≡ string_bytes text.old ++ short_peering_line input.now sessions.now placement.now (place, peering.now)) }
+    ensures { OnOk result (string_bytes text.new ≡ string_bytes text.old ++ short_peering_line input.now sessions.now placement.now (index, peering.now)) }
 {
     let name = peering.name.as_str();
-    let at = place_at(placement, place);
-    match sessions.get(place) {
+    let at = place_at(placement, index);
+    match sessions.get(index) {
         Some(view) => push_short_view(text, input, name, at, view),
         None => Ok(()),
     }
@@ -157,17 +157,17 @@ fn push_short_peerings(
     ensures { OnOk result (string_bytes text.new ≡ string_bytes text.old ++ flat_map (short_peering_line input.now sessions.now placement.now) (enumerate_from 0 input.now.peerings)) }
 {
     let peerings = input.peerings.as_slice();
-    for (place, peering) in peerings.iter().enumerate() {
-        push_short_peering(text, input, sessions, placement, place, peering)?;
+    for (index, peering) in peerings.iter().enumerate() {
+        push_short_peering(text, input, sessions, placement, index, peering)?;
     }
     Ok(())
 }
 
-/// How many best routes the router at a place has.
-fn best_count(tables: &[RouterTable], place: usize) -> usize
-    ensures { result ≡ best_count (slice_get tables.now place) }
+/// How many best routes the router at an index has.
+fn best_count(tables: &[RouterTable], index: usize) -> usize
+    ensures { result ≡ best_count (slice_get tables.now index) }
 {
-    match tables.get(place) {
+    match tables.get(index) {
         Some(table) => table.best.len(),
         None => 0,
     }
@@ -177,12 +177,12 @@ fn best_count(tables: &[RouterTable], place: usize) -> usize
 fn push_short_router(
     text: &mut String,
     tables: &[RouterTable],
-    place: usize,
+    index: usize,
     router: &RouterInput,
 ) -> Result<(), NoMemory>
-    ensures { OnOk result (string_bytes text.new ≡ string_bytes text.old ++ short_router_line tables.now (place, router.now)) }
+    ensures { OnOk result (string_bytes text.new ≡ string_bytes text.old ++ short_router_line tables.now (index, router.now)) }
 {
-    let best = best_count(tables, place);
+    let best = best_count(tables, index);
     text.push_str("router ")?;
     text.push_str(router.name.as_str())?;
     write!(text, " best {best}\n")?;
@@ -197,8 +197,8 @@ fn push_short_routers(
 ) -> Result<(), NoMemory>
     ensures { OnOk result (string_bytes text.new ≡ string_bytes text.old ++ flat_map (short_router_line tables.now) (enumerate_from 0 routers.now)) }
 {
-    for (place, router) in routers.iter().enumerate() {
-        push_short_router(text, tables, place, router)?;
+    for (index, router) in routers.iter().enumerate() {
+        push_short_router(text, tables, index, router)?;
     }
     Ok(())
 }

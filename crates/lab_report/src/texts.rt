@@ -12,20 +12,20 @@ use lab_tables::{LabInput, PeeringInput, RouterInput};
 use std::fmt::Write;
 
 /// The name of a router of the input.
-pub(crate) fn router_name(input: &LabInput, place: u8) -> &str
-    ensures { result.now ≡ router_name input.now place }
+pub(crate) fn router_name(input: &LabInput, index: u8) -> &str
+    ensures { result.now ≡ router_name input.now index }
 {
-    match input.routers.get(usize::from(place)) {
+    match input.routers.get(usize::from(index)) {
         Some(router) => router.name.as_str(),
         None => "-",
     }
 }
 
 /// The name of a peering of the input.
-pub(crate) fn peering_name(input: &LabInput, place: u8) -> &str
-    ensures { result.now ≡ peering_name input.now place }
+pub(crate) fn peering_name(input: &LabInput, index: u8) -> &str
+    ensures { result.now ≡ peering_name input.now index }
 {
-    match input.peerings.get(usize::from(place)) {
+    match input.peerings.get(usize::from(index)) {
         Some(peering) => peering.name.as_str(),
         None => "-",
     }
@@ -143,16 +143,16 @@ fn push_name(text: &mut String, name: &str) -> Result<(), NoMemory>
     Ok(())
 }
 
-/// The lines of the best routes of the router at a place.
+/// The lines of the best routes of the router at an index.
 fn push_table_at(
     text: &mut String,
     input: &LabInput,
     tables: &[RouterTable],
-    place: usize,
+    index: usize,
 ) -> Result<(), NoMemory>
-    ensures { OnOk result (string_bytes text.new ≡ string_bytes text.old ++ table_lines input.now (slice_get tables.now place)) }
+    ensures { OnOk result (string_bytes text.new ≡ string_bytes text.old ++ table_lines input.now (slice_get tables.now index)) }
 {
-    match tables.get(place) {
+    match tables.get(index) {
         Some(table) => push_table(text, input, table),
         None => Ok(()),
     }
@@ -163,13 +163,13 @@ fn push_router(
     text: &mut String,
     input: &LabInput,
     tables: &[RouterTable],
-    place: usize,
+    index: usize,
     router: &RouterInput,
 ) -> Result<(), NoMemory>
-    ensures { OnOk result (string_bytes text.new ≡ string_bytes text.old ++ router_lines input.now tables.now (place, router.now)) }
+    ensures { OnOk result (string_bytes text.new ≡ string_bytes text.old ++ router_lines input.now tables.now (index, router.now)) }
 {
     push_name(text, router.name.as_str())?;
-    push_table_at(text, input, tables, place)
+    push_table_at(text, input, tables, index)
 }
 
 /// The routers, in the order of the input, each with its best routes.
@@ -181,8 +181,8 @@ pub fn push_routers(
     ensures { OnOk result (string_bytes text.new ≡ string_bytes text.old ++ flat_map (router_lines input.now tables.now) (enumerate_from 0 input.now.routers)) }
 {
     let routers = input.routers.as_slice();
-    for (place, router) in routers.iter().enumerate() {
-        push_router(text, input, tables, place, router)?;
+    for (index, router) in routers.iter().enumerate() {
+        push_router(text, input, tables, index, router)?;
     }
     Ok(())
 }
@@ -255,10 +255,10 @@ fn push_view(
 }
 
 /// The place of a session, by the number of its peering.
-pub(crate) fn place_at(placement: &[Place], place: usize) -> Option<Place>
-    ensures { result ≡ slice_get placement.now place }
+pub(crate) fn place_at(placement: &[Place], index: usize) -> Option<Place>
+    ensures { result ≡ slice_get placement.now index }
 {
-    placement.get(place).copied()
+    placement.get(index).copied()
 }
 
 /// The line of a peering, where it has a session.
@@ -267,14 +267,14 @@ fn push_peering(
     input: &LabInput,
     sessions: &[SessionView],
     placement: &[Place],
-    place: usize,
+    index: usize,
     peering: &PeeringInput,
 ) -> Result<(), NoMemory>
-    ensures { OnOk result (string_bytes text.new ≡ string_bytes text.old ++ peering_line input.now sessions.now placement.now (place, peering.now)) }
+    ensures { OnOk result (string_bytes text.new ≡ string_bytes text.old ++ peering_line input.now sessions.now placement.now (index, peering.now)) }
 {
     let name = peering.name.as_str();
-    let at = place_at(placement, place);
-    match sessions.get(place) {
+    let at = place_at(placement, index);
+    match sessions.get(index) {
         Some(view) => push_view(text, input, name, at, view),
         None => Ok(()),
     }
@@ -290,8 +290,8 @@ pub fn push_peerings(
     ensures { OnOk result (string_bytes text.new ≡ string_bytes text.old ++ flat_map (peering_line input.now sessions.now placement.now) (enumerate_from 0 input.now.peerings)) }
 {
     let peerings = input.peerings.as_slice();
-    for (place, peering) in peerings.iter().enumerate() {
-        push_peering(text, input, sessions, placement, place, peering)?;
+    for (index, peering) in peerings.iter().enumerate() {
+        push_peering(text, input, sessions, placement, index, peering)?;
     }
     Ok(())
 }

@@ -111,8 +111,8 @@ fn push_traces_to(
     ensures { OnOk result (Appends (TracesFrom input.now forwarder.now address (numbered_routers input.now)) (string_bytes text.old) (string_bytes text.new)) }
 {
     let routers = numbered(input.routers.as_slice());
-    for (place, router) in routers.iter().enumerate() {
-        let walk = forwarder.walk(RouterId(place as u8), address);
+    for (index, router) in routers.iter().enumerate() {
+        let walk = forwarder.walk(RouterId(index as u8), address);
         push_trace(text, input, address, router, walk)?;
     }
     Ok(())

@@ -60,40 +60,40 @@ module _ (setup : Setup) (budget : Budget) (step : ℕ) (a b : Stand) (rounds : 
 
 -- ---- groups
 
-module _ (setup : Setup) (a : Stand) (budgets : List Budget) (place : ℕ) (there : place < length budgets) (none budget : Budget) (is : budget ≡ get_or budgets place none) (step : ℕ) (number : step ≡ place + 1)
-    (b d : Stand) (made all : List ℕ) (rounds : ℕ) (groups : GroupsGo setup a (take place budgets) made b) (all_is : all ≡ made ++ rounds ∷ []) (found : Option RunEnd) (answers : GroupAnswers setup budget step b rounds found d) where
-  past_count : length (take place budgets) ≡ place
-  past_count = length-take-le place budgets (omega (arith, there))
+module _ (setup : Setup) (a : Stand) (budgets : List Budget) (index : ℕ) (there : index < length budgets) (none budget : Budget) (is : budget ≡ get_or budgets index none) (step : ℕ) (number : step ≡ index + 1)
+    (b d : Stand) (made all : List ℕ) (rounds : ℕ) (groups : GroupsGo setup a (take index budgets) made b) (all_is : all ≡ made ++ rounds ∷ []) (found : Option RunEnd) (answers : GroupAnswers setup budget step b rounds found d) where
+  past_count : length (take index budgets) ≡ index
+  past_count = length-take-le index budgets (omega (arith, there))
 
-  itself : get_or budgets place budget ≡ budget
-  itself = get_or_default budgets place budget none there ∙ sym is
+  itself : get_or budgets index budget ≡ budget
+  itself = get_or_default budgets index budget none there ∙ sym is
 
-  past_more : take (place + 1) budgets ≡ take place budgets ++ budget ∷ []
-  past_more = take_more budgets place budget there ∙ ap (λ (x : Budget). take place budgets ++ x ∷ []) itself
+  past_more : take (index + 1) budgets ≡ take index budgets ++ budget ∷ []
+  past_more = take_more budgets index budget there ∙ ap (λ (x : Budget). take index budgets ++ x ∷ []) itself
 
-  whole : budgets ≡ take place budgets ++ budget ∷ drop (place + 1) budgets
-  whole = sym (take-append-drop place budgets)
-      ∙ ap (λ (xs : List Budget). take place budgets ++ xs) (drop_more budgets place budget there ∙ ap (λ (x : Budget). x ∷ drop (place + 1) budgets) itself)
+  whole : budgets ≡ take index budgets ++ budget ∷ drop (index + 1) budgets
+  whole = sym (take-append-drop index budgets)
+      ∙ ap (λ (xs : List Budget). take index budgets ++ xs) (drop_more budgets index budget there ∙ ap (λ (x : Budget). x ∷ drop (index + 1) budgets) itself)
 
-  at_step : (end : Option RunEnd) → found ≡ end → GroupAnswers setup budget (length (take place budgets) + 1) b rounds end d
+  at_step : (end : Option RunEnd) → found ≡ end → GroupAnswers setup budget (length (take index budgets) + 1) b rounds end d
   at_step end e = subst (λ (n : ℕ). GroupAnswers setup budget n b rounds end d) (number ∙ ap (λ (n : ℕ). n + 1) (sym past_count)) (subst (λ (o : Option RunEnd). GroupAnswers setup budget step b rounds o d) e answers)
 
   -- one group more is over, and the next one has begun
-  pub groups_more : found ≡ None → GroupsGo setup a (take (place + 1) budgets) all d
-  groups_more e = subst (λ (xs : List Budget). GroupsGo setup a xs all d) (sym past_more) (subst (λ (ns : List ℕ). GroupsGo setup a (take place budgets ++ budget ∷ []) ns d) (sym all_is) next) where
-    x : GroupAnswers setup budget (length (take place budgets) + 1) b rounds None d
+  pub groups_more : found ≡ None → GroupsGo setup a (take (index + 1) budgets) all d
+  groups_more e = subst (λ (xs : List Budget). GroupsGo setup a xs all d) (sym past_more) (subst (λ (ns : List ℕ). GroupsGo setup a (take index budgets ++ budget ∷ []) ns d) (sym all_is) next) where
+    x : GroupAnswers setup budget (length (take index budgets) + 1) b rounds None d
     x = at_step None e
 
-    next : GroupsGo setup a (take place budgets ++ budget ∷ []) (made ++ rounds ∷ []) d
+    next : GroupsGo setup a (take index budgets ++ budget ∷ []) (made ++ rounds ∷ []) d
     next = elim x.then_is [
       | inl limit ↦ absurd (limit.1 refl)
-      | inr over ↦ NextGroup (take place budgets) budget made rounds groups (subst (λ (o : Option RunEnd). GroupGoes setup budget (length (take place budgets) + 1) b rounds (verdict_of o) x.marked) over.0 x.group) over.1
+      | inr over ↦ NextGroup (take index budgets) budget made rounds groups (subst (λ (o : Option RunEnd). GroupGoes setup budget (length (take index budgets) + 1) b rounds (verdict_of o) x.marked) over.0 x.group) over.1
     ]
 
   -- the run ends
   pub run_ends : (end : RunEnd) → found ≡ Some end → RunGoes setup a budgets all end d
   run_ends end e = record {
-    past = take place budgets;
+    past = take index budgets;
     rounds = made;
     begun = b;
     groups = groups;
@@ -103,9 +103,9 @@ module _ (setup : Setup) (a : Stand) (budgets : List Budget) (place : ℕ) (ther
     marked = x.marked;
     group = x.group;
     made_is = all_is;
-    first = (drop (place + 1) budgets, whole);
+    first = (drop (index + 1) budgets, whole);
     ends = elim x.then_is [ inl limit ↦ inl (ap verdict_of limit.0, limit.2) | inr over ↦ inr (ap verdict_of over.0, over.1.0, over.1.1) ];
   }
     where
-      x : GroupAnswers setup budget (length (take place budgets) + 1) b rounds (Some end) d
+      x : GroupAnswers setup budget (length (take index budgets) + 1) b rounds (Some end) d
       x = at_step (Some end) e

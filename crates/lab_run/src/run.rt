@@ -123,11 +123,11 @@ fn run_one<R: Threads + Sync, G: Gate>(
 }
 
 /// The number of a settle, from 1, where it is one of 32 bits.
-fn number(place: usize) -> Result<u32, NoMemory>
-    ensures { IfOk result (λ n. n ≡ place + 1) }
+fn number(index: usize) -> Result<u32, NoMemory>
+    ensures { IfOk result (λ n. n ≡ index + 1) }
 {
-    if place < 4_294_967_295 {
-        Ok(place as u32 + 1)
+    if index < 4_294_967_295 {
+        Ok(index as u32 + 1)
     } else {
         Err(NoMemory)
     }
@@ -150,9 +150,9 @@ pub(crate) fn run_groups<R: Threads + Sync, G: Gate>(
         → RunGoes setup (stand running.old) budgets.now made.new end (stand running.new)) }
     ensures counts { counts running.new ≡ counts running.old }
 {
-    for place in 0..budgets.len() {
-        let step = number(place)?;
-        if let Some(end) = run_one(rt, running, budgets[place], step, made, workers, gate)? {
+    for index in 0..budgets.len() {
+        let step = number(index)?;
+        if let Some(end) = run_one(rt, running, budgets[index], step, made, workers, gate)? {
             return Ok(end);
         }
     }

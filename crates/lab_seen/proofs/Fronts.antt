@@ -4,7 +4,7 @@ use Rattle.std.specs.Prelude.{slice_get, option_to_list}
 use Rattle.std.proofs.lemmas.List.{take_at}
 
 module _ {A : Type 0} where
-  -- the next element is the one at the place, and what is left is behind it
+  -- the next element is the one at the index, and what is left is behind it
   pub record IsNext (xs : List A) (n : ℕ) (next : Option A) (rest : List A) : Type 0 where
     pub element : next ≡ slice_get xs n
     pub left : rest ≡ drop (n + 1) xs

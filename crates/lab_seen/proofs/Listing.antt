@@ -6,7 +6,7 @@ use Rattle.std.proofs.lemmas.List.{get_or_default, get_or-map, length-map, map_p
 use Rattle.std.proofs.lemmas.Option.{same_Some}
 use Rattle.bgp_types.specs.Prefixes.{PrefixValue}
 use Rattle.bgp_types.specs.Tables.{prefix_cmp}
-use Rattle.prefix_table.proofs.Places.{placed, find_at}
+use Rattle.prefix_table.proofs.Indices.{placed, find_at}
 
 some_entry : {E : Type 0} (es : List E) → 0 < length es → E
 some_entry [] some = absurd (omega arith)
@@ -16,7 +16,7 @@ module _ {X A : Type 0} (f : PrefixValue × X → A) (es : List (PrefixValue × 
   abbrev prefixes : List PrefixValue
   prefixes = map (λ e. e.0) es
 
-  -- what is found at the prefix of a place is what the entry there has
+  -- what is found at the prefix of an index is what the entry there has
   found_there : (i : ℕ) (p : PrefixValue) (d : PrefixValue × X) → i < length es → p ≡ (get_or es i d).0 → table.find prefix_cmp p es ≡ Some (get_or es i d).1
   found_there i p d lt is = find_at es p i (placed es rise p i lt (λ e. ap (λ (x : PrefixValue × X). x.0) (get_or_default es i e d lt) ∙ sym is)) d
 

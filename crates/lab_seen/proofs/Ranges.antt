@@ -16,8 +16,8 @@ module _ {A : Type 0} where
   pub one_number_more : (f : ℕ → List A) (n : ℕ) → flat_map f (range_with_len 0 (n + 1)) ≡ flat_map f (range_with_len 0 n) ++ f n
   one_number_more f n =
       let e : n + 1 ≡ suc n = omega arith in
-      let place : 0 + n ≡ n = omega arith in
-      ap (λ k. flat_map f (range_with_len 0 k)) e ∙ more f 0 n ∙ ap (λ k. flat_map f (range_with_len 0 n) ++ f k) place
+      let index : 0 + n ≡ n = omega arith in
+      ap (λ k. flat_map f (range_with_len 0 k)) e ∙ more f 0 n ∙ ap (λ k. flat_map f (range_with_len 0 n) ++ f k) index
 
   -- each number makes one element
   pub each_one : (f : ℕ → List A) (g : ℕ → A) (a n : ℕ) → ((k : ℕ) → k < a + n → f k ≡ g k ∷ []) → flat_map f (range_with_len a n) ≡ map g (range_with_len a n)

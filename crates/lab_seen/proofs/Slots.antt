@@ -30,8 +30,8 @@ itself p = grind (arith, nat_tests)
 slot_is : (found : List Found) (slots : List (Option Found)) (n k : ℕ) (d : Option Found) → slots ≡ map (first_on found) (range_with_len 0 n) → k < n
     → get_or slots k d ≡ first_on found k
 slot_is found slots n k d is below =
-    let place : 0 + k ≡ k = omega arith in
-    ap (λ (xs : List (Option Found)). get_or xs k d) is ∙ get_or-map-range_with_len (first_on found) 0 n k k d below place
+    let index : 0 + k ≡ k = omega arith in
+    ap (λ (xs : List (Option Found)). get_or xs k d) is ∙ get_or-map-range_with_len (first_on found) 0 n k k d below index
 
 slots_in : (found : List Found) (slots : List (Option Found)) (n : ℕ) → slots ≡ map (first_on found) (range_with_len 0 n) → length slots ≡ n
 slots_in found slots n is = ap length is ∙ length-map-range_with_len (first_on found) 0 n
@@ -71,8 +71,8 @@ module _ (found : List Found) (one : Found) where
         each k d within =
             let count = length-set slots p (Some one) ∙ slots_in found slots n is in
             let l : k < n = omega arith in
-            let place : 0 + k ≡ k = omega arith in
-            let right = get_or-map-range_with_len (first_on (found ++ one ∷ [])) 0 n k k d l place in
+            let index : 0 + k ≡ k = omega arith in
+            let right = get_or-map-range_with_len (first_on (found ++ one ∷ [])) 0 n k k d l index in
             elim (eqb_tells p k) [
               | inl e ↦ (let p_in : p < length slots = omega (arith, below, slots_in found slots n is) in
                   ap (λ j. get_or (set slots p (Some one)) j d) (sym e.1) ∙ get_or-set_same slots p (Some one) d p_in ∙ sym (is_new k e.1) ∙ sym right)
@@ -96,8 +96,8 @@ module _ (found : List Found) (one : Found) where
         each k d within =
             let count = slots_in found slots n is in
             let l : k < n = omega arith in
-            let place : 0 + k ≡ k = omega arith in
-            let right = get_or-map-range_with_len (first_on (found ++ one ∷ [])) 0 n k k d l place in
+            let index : 0 + k ≡ k = omega arith in
+            let right = get_or-map-range_with_len (first_on (found ++ one ∷ [])) 0 n k k d l index in
             elim (eqb_tells one.peering.0 k) [
               | inl e ↦ (let below : one.peering.0 < n = omega (arith, l, e.1) in
                   slot_is found slots n k d is l ∙ ap (first_on found) (sym e.1) ∙ sym (kept below (first_on found one.peering.0) refl)

@@ -19,7 +19,7 @@ use Rattle.lab_keys.specs.declared.flaw.Flaw.{Flaw}
 use Rattle.lab_keys.specs.declared.flaw.Flaw.TheVariants.{Shape, Limit}
 use Rattle.lab_keys.specs.declared.table_at.TableAt.{TableAt}
 use Rattle.lab_keys.specs.declared.table_at.TableAt.TheVariants as tables
-use Rattle.lab_keys.specs.Places.{KeyPlace, place, member_of}
+use Rattle.lab_keys.specs.Spots.{KeySpot, spot_of, member_of}
 use Rattle.lab_keys.specs.Kinds.{each_from, flaw_if, beyond, list_of, array_flaw, table_flaw}
 use Rattle.lab_keys.specs.Keys.{present, keys_flaw, stray_flaw, tables_flaw}
 use Rattle.lab_keys.specs.Values.{text_at, items_at, tables_at}
@@ -60,14 +60,14 @@ none_both None b e f = f
 none_both (Some x) b e f = absurd (none_some x e)
 
 -- a count that isn't beyond its limits isn't beyond the upper one
-not_above : (at : KeyPlace) (low high n : ℕ) → beyond at low high n ≡ None → beyond at 0 high n ≡ None
+not_above : (at : KeySpot) (low high n : ℕ) → beyond at low high n ≡ None → beyond at 0 high n ≡ None
 not_above at low high n none = by_tests (nat_lt n low) (nat_lt high n) (nat_lt n 0) none refl where
   by_tests : (a b c : Bool) → flaw_if (a || b) (Limit at n) ≡ None → nat_lt n 0 ≡ c → flaw_if (c || b) (Limit at n) ≡ None
   by_tests a b true none e = absurd (let f : nat_lt n 0 ≡ false = grind (arith, nat_tests) in false≢true (sym f ∙ e))
   by_tests true b false none e = absurd (none_some (Limit at n) none)
   by_tests false b false none e = none
 
-array_not_above : (at : KeyPlace) (low high : ℕ) (flaw : ℕ → Data → Option Flaw) (d : Data) → array_flaw at low high flaw d ≡ None
+array_not_above : (at : KeySpot) (low high : ℕ) (flaw : ℕ → Data → Option Flaw) (d : Data) → array_flaw at low high flaw d ≡ None
     → array_flaw at 0 high flaw d ≡ None
 array_not_above at low high flaw (array items) none =
     let count = beyond at low high (length (list_of items)) in
@@ -84,12 +84,12 @@ few_of : (at : TableAt) (t : Members) (key : List ℕ) (needed : Bool) (low high
     → tables_flaw at key needed low high flaw t ≡ None → length (tables_at key t) ≤ high
 few_of at t key needed low high flaw none = tables_few at t key high flaw (by_value (get_member key t) none) where
   flaws : ℕ → Data → Option Flaw
-  flaws i = table_flaw (member_of (place at key) i) (flaw i)
+  flaws i = table_flaw (member_of (spot_of at key) i) (flaw i)
 
-  by_value : (o : Option Data) → present (place at key) needed (array_flaw (place at key) low high flaws) o ≡ None
-      → present (place at key) false (array_flaw (place at key) 0 high flaws) o ≡ None
+  by_value : (o : Option Data) → present (spot_of at key) needed (array_flaw (spot_of at key) low high flaws) o ≡ None
+      → present (spot_of at key) false (array_flaw (spot_of at key) 0 high flaws) o ≡ None
   by_value None none = refl
-  by_value (Some d) none = array_not_above (place at key) low high flaws d none
+  by_value (Some d) none = array_not_above (spot_of at key) low high flaws d none
 
 -- what is known of a document whose tables have no flaw
 record HasTables (doc : Members) : Type 0 where

@@ -14,7 +14,7 @@ use Rattle.graft_laws.specs.Emptied.{EmptyAlone}
 use Rattle.lab_keys.specs.declared.flaw.Flaw.{Flaw}
 use Rattle.lab_keys.specs.declared.flaw.Flaw.TheVariants.{Shape}
 use Rattle.lab_keys.specs.declared.table_at.TableAt.TheVariants as tables
-use Rattle.lab_keys.specs.Places.{place}
+use Rattle.lab_keys.specs.Spots.{spot_of}
 use Rattle.lab_keys.specs.Kinds.{flaw_if}
 use Rattle.lab_keys.specs.Keys.{keys_flaw}
 use Rattle.lab_keys.specs.Values.{items_at, tables_at}
@@ -41,10 +41,10 @@ no_flaw false flaw none = refl
 
 uncrowded : (steps : List Data) (i : ℕ) (t : Members) → step_flaw steps i t ≡ None → is_crowded (before steps i) (whole steps i) (word_at t) ≡ false
 uncrowded steps i t none =
-    let crowded = flaw_if (is_crowded (before steps i) (whole steps i) (word_at t)) (Shape (place (tables.Step i) (codes "do"))) in
+    let crowded = flaw_if (is_crowded (before steps i) (whole steps i) (word_at t)) (Shape (spot_of (tables.Step i) (codes "do"))) in
     let last = option_or (worded_flaw (word_at t) i t) None in
     let behind = none_right (keys_flaw (tables.Step i) do_keys t) (option_or crowded last) none in
-    no_flaw _ (Shape (place (tables.Step i) (codes "do"))) (none_left crowded last behind)
+    no_flaw _ (Shape (spot_of (tables.Step i) (codes "do"))) (none_left crowded last behind)
 
 module _ (setup : Setup) (called : List (List ℕ)) (ps : List PeeringInput) where
   abbrev made : StepWord → Members → ScriptStep
@@ -202,8 +202,8 @@ module _ (doc : Members) (tables : StepsAreTables doc) (words : AllByRecursion I
     ahead less (inr evacuates) = no_second m u too evacuates
         (evacuates_before steps n (table t) (item n t at) is_evac (m - n - 1) m (omega (arith, less)) (let lt = within m u too in omega arith) group)
 
-    one_place : (word_at u ≡ Grafts) ⊎ (word_at u ≡ Evacuates) → m ≡ n
-    one_place moves = elim (cases_lt m n) [
+    one_index : (word_at u ≡ Grafts) ⊎ (word_at u ≡ Evacuates) → m ≡ n
+    one_index moves = elim (cases_lt m n) [
       | inl less ↦ absurd (behind less moves)
       | inr least ↦ elim (cases_lt n m) [ inl more ↦ absurd (ahead more moves) | inr most ↦ omega (arith, least, most) ]
     ]
@@ -224,7 +224,7 @@ module _ (doc : Members) (tables : StepsAreTables doc) (words : AllByRecursion I
       let a = get_below ts n here.t here.at in
       let b = get_below ts m there.t there.at in
       let same : ends steps m ≡ ends steps n = sym (group_as m (omega (arith, b))) ∙ group ∙ group_as n (omega (arith, a)) in
-      one_place n m here.t there.t here.at there.at (evacuates_by setup called ps (word_at here.t) here.t (known n here.t here.at) router here.is) same
+      one_index n m here.t there.t here.at there.at (evacuates_by setup called ps (word_at here.t) here.t (known n here.t here.at) router here.is) same
       (moves_by setup called ps (word_at there.t) there.t (known m there.t there.at) i p (ap (λ z. slice_get (moved_by setup z) i) there.is ∙ moved))
 
 pub accepted_alone : (bytes : List ℕ) (input : LabInput) → InputOf bytes input → EmptyAlone (setup_of input)
@@ -235,4 +235,4 @@ accepted_alone bytes input e =
     alone : (doc : Members) → HasTables doc → EmptyAlone (setup_of (lab_of doc))
     alone doc kept step router g at found group =
         let of = step_of_graft (setup_of (lab_of doc)) g.graft g found in
-        only_one doc kept.grouped kept.words step router g.step of.place g.peering of.step at of.there of.moved group
+        only_one doc kept.grouped kept.words step router g.step of.index g.peering of.step at of.there of.moved group

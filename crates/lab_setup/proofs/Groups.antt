@@ -7,7 +7,7 @@ use Rattle.std.proofs.lemmas.Option.{unwrap_or-slice_get}
 use Rattle.toml.specs.Data.{Data, string, integer, float, boolean, datetime, array, table, as_table, Members, get_member}
 use Rattle.lab_keys.specs.declared.flaw.Flaw.{Flaw}
 use Rattle.lab_keys.specs.declared.table_at.TableAt.TheVariants as tables
-use Rattle.lab_keys.specs.Places.{KeyPlace, place, member_of}
+use Rattle.lab_keys.specs.Spots.{KeySpot, spot_of, member_of}
 use Rattle.lab_keys.specs.Kinds.{each_from, list_of, array_flaw, table_flaw}
 use Rattle.lab_keys.specs.Keys.{present, tables_flaw}
 use Rattle.lab_keys.specs.Values.{items_in, items_at}
@@ -88,8 +88,8 @@ module _ (xs : List Data) where
   module _ (n : ℕ) (x : Data) (at : slice_get xs n ≡ Some x) (empties : is_word is_evacuate x ≡ true) where
     behind_it : (last : IsOneMore n 0) → before (n + 0 + 1) ≡ true
     behind_it last =
-        let place : n + 0 ≡ n = omega arith in
-        let is_x : last.x ≡ x = some_is last.x x (sym last.is ∙ ap (slice_get xs) place ∙ at) in
+        let index : n + 0 ≡ n = omega arith in
+        let is_x : last.x ≡ x = some_is last.x x (sym last.is ∙ ap (slice_get xs) index ∙ at) in
         next_before (n + 0) last.x last.is last.goes_on ∙ ap (λ y. is_word is_evacuate y || before (n + 0)) is_x ∙ ap (λ t. t || before (n + 0)) empties
 
     further : (j : ℕ) (last : IsOneMore n j) → before (n + j) ≡ true → before (n + j + 1) ≡ true
@@ -116,7 +116,7 @@ pub record AreTables (flaw : ℕ → Members → Option Flaw) (ds : List Data) :
 none_some : {A : Type 0} (x : A) → Some x ≡ None → ⊥
 none_some x e = cc
 
-module _ (at : KeyPlace) (flaw : ℕ → Members → Option Flaw) where
+module _ (at : KeySpot) (flaw : ℕ → Members → Option Flaw) where
   abbrev flaws : ℕ → Data → Option Flaw
   flaws i = table_flaw (member_of at i) (flaw i)
 
@@ -164,8 +164,8 @@ steps_tables doc none = by_value (get_member (codes "step") doc) none where
   flaw : ℕ → Members → Option Flaw
   flaw = step_flaw (items_at (codes "step") doc)
 
-  at : KeyPlace
-  at = place tables.Top (codes "step")
+  at : KeySpot
+  at = spot_of tables.Top (codes "step")
 
   by_value : (o : Option Data) → present at false (array_flaw at 0 4096 (flaws at flaw)) o ≡ None → AreTables flaw (items_in o)
   by_value None none = record { whole = refl; each = λ k t there. absurd (none_is t there) }

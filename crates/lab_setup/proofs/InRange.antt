@@ -35,7 +35,7 @@ use Rattle.lab_setup.specs.Setups.{named_rules, router_setup, peering_setup, is_
 use Rattle.lab_setup.proofs.Kept.{IsPeeringTable, HasTables, tables_kept, number_below}
 use Rattle.lab_setup.proofs.Lists.{IsIn, made_of, all_at, all_mapped, all_both, all_numbered, below_get, found_is}
 use Rattle.lab_setup.proofs.Names.{known, HasNames, names_kept}
-use Rattle.lab_setup.proofs.Names.{number_below as place_below}
+use Rattle.lab_setup.proofs.Names.{number_below as index_below}
 use Rattle.lab_setup.proofs.Octets.{update_octets, hex_octets, opening_octets}
 use Rattle.lab_setup.proofs.Said.{all_ended}
 
@@ -124,7 +124,7 @@ module _ (doc : Members) (tables : HasTables doc) (names : HasNames doc) where
   remote_at t none =
       let text = text_at (codes "peering") t in
       let as_many = length-map (peerings_of doc) (λ (q : PeeringInput). q.name) in
-      let below : index_of_name remotes text < length remotes = place_below remotes text (known remotes text none) in
+      let below : index_of_name remotes text < length remotes = index_below remotes text (known remotes text none) in
       let here : IsIn (peerings_of doc) (index_of_name remotes text) = below_get (peerings_of doc) (index_of_name remotes text) (omega arith) in
       subst IsRemoteOf (sym here.is) (all_at IsRemote (peerings_of doc) (index_of_name remotes text) here.x are_remotes here.is)
 

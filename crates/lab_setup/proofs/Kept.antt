@@ -17,7 +17,7 @@ use Rattle.lab_keys.specs.declared.key.Kind.TheVariants.{Number, HoldTime, Host,
 use Rattle.lab_keys.specs.declared.key.Words.TheVariants.{StepKinds}
 use Rattle.lab_keys.specs.declared.table_at.TableAt.{TableAt}
 use Rattle.lab_keys.specs.declared.table_at.TableAt.TheVariants as tables
-use Rattle.lab_keys.specs.Places.{KeyPlace, place}
+use Rattle.lab_keys.specs.Spots.{KeySpot, spot_of}
 use Rattle.lab_keys.specs.Kinds.{flaw_if, beyond, words_of, is_one_of, hold_time_flaw, hex_flaw, kind_flaw}
 use Rattle.lab_keys.specs.Keys.{required, optional, present, key_flaw, keys_flaw, stray_flaw, tables_flaw}
 use Rattle.lab_keys.specs.Texts.{is_hex, octets_in}
@@ -41,7 +41,7 @@ none_some x e = cc
 -- ---- hold times
 
 -- a hold time of 1 or 2 is a flaw
-hold_there : (at : KeyPlace) (d : Data) → hold_time_flaw at d ≡ None → (default : ℕ) → is_short_hold default ≡ false
+hold_there : (at : KeySpot) (d : Data) → hold_time_flaw at d ≡ None → (default : ℕ) → is_short_hold default ≡ false
     → is_short_hold (unwrap_or (number_in 16 d) default) ≡ false
 hold_there at (integer (pos n)) none default long = by_test ((n == 1) || (n == 2) || nat_lt 65535 n) refl none where
   first_two : (a b c : Bool) → (a || b || c) ≡ false → (a || b) ≡ false
@@ -68,10 +68,10 @@ hold_there at (table _) none default long = absurd (none_some (Shape at) none)
 hold_kept : (at : TableAt) (t : Members) (key : List ℕ) (default : ℕ) → key_flaw at t (optional key HoldTime) ≡ None → is_short_hold default ≡ false
     → is_short_hold (number_or 16 default key t) ≡ false
 hold_kept at t key default none long = by_value (get_member key t) none where
-  by_value : (o : Option Data) → present (place at key) false (kind_flaw HoldTime (place at key)) o ≡ None
+  by_value : (o : Option Data) → present (spot_of at key) false (kind_flaw HoldTime (spot_of at key)) o ≡ None
       → is_short_hold (unwrap_or (option_and_then (number_in 16) o) default) ≡ false
   by_value None none = long
-  by_value (Some d) none = hold_there (place at key) d none default long
+  by_value (Some d) none = hold_there (spot_of at key) d none default long
 
 fits_or : (bits : ℕ) (o : Option ℕ) (default : ℕ) → IfSome o (λ n. n < 2 ^ bits) → default < 2 ^ bits → unwrap_or o default < 2 ^ bits
 fits_or bits None default each fits = fits
@@ -82,7 +82,7 @@ number_below bits default key t fits = fits_or bits (option_and_then (number_in 
 
 -- ---- octets in hexadecimal
 
-not_beyond : (at : KeyPlace) (low high n : ℕ) → beyond at low high n ≡ None → n ≤ high
+not_beyond : (at : KeySpot) (low high n : ℕ) → beyond at low high n ≡ None → n ≤ high
 not_beyond at low high n none = by_test (nat_lt n low) (nat_lt high n) refl none where
   by_test : (a b : Bool) → nat_lt high n ≡ b → flaw_if (a || b) (Limit at n) ≡ None → n ≤ high
   by_test true b e none = absurd (none_some (Limit at n) none)
@@ -106,7 +106,7 @@ octets_few text = by_odd (length text % 2 == 1) where
 half : (a b : ℕ) → 2 * a ≤ b → b / 2 ≤ 4096 → a ≤ 4096
 half a b twice few = omega arith
 
-hex_there : (at : KeyPlace) (d : Data) → hex_flaw at 0 4096 d ≡ None → length (octets_in (unwrap_or (as_str d) [])) ≤ 4096
+hex_there : (at : KeySpot) (d : Data) → hex_flaw at 0 4096 d ≡ None → length (octets_in (unwrap_or (as_str d) [])) ≤ 4096
 hex_there at (string text) none = by_test (is_hex text) none where
   by_test : (t : Bool) → cond t (beyond at 0 4096 (length text / 2)) (Some (Shape at)) ≡ None → length (octets_in text) ≤ 4096
   by_test true none = half (length (octets_in text)) (length text) (octets_few text) (not_beyond at 0 4096 (length text / 2) none)
@@ -129,10 +129,10 @@ opening_few at t none = by_value (get_member (codes "opening") t) none where
   own : List ℕ
   own = default_opening (number_or 32 0 (codes "remote_as") t) (number_or 16 180 (codes "hold") t) (remote_id_of t) (remote_as4_of t)
 
-  by_value : (o : Option Data) → present (place at (codes "opening")) false (kind_flaw (Hex 0 4096) (place at (codes "opening"))) o ≡ None
+  by_value : (o : Option Data) → present (spot_of at (codes "opening")) false (kind_flaw (Hex 0 4096) (spot_of at (codes "opening"))) o ≡ None
       → length (cond (is_some o) (octets_in (unwrap_or (option_and_then as_str o) [])) own) ≤ 4096
   by_value None none = default_few (number_or 32 0 (codes "remote_as") t) (number_or 16 180 (codes "hold") t) (remote_id_of t) (remote_as4_of t)
-  by_value (Some d) none = hex_there (place at (codes "opening")) d none
+  by_value (Some d) none = hex_there (spot_of at (codes "opening")) d none
 
 -- ---- words of steps
 
@@ -147,7 +147,7 @@ no_other false false false false false true any other = absurd (cc)
 no_other false false false false false false any other = absurd (false≢true any)
 
 -- what stands at `do` is a word of a step
-word_there : (at : KeyPlace) (d : Data) → kind_flaw (Word StepKinds) at d ≡ None → step_word_of (unwrap_or (as_str d) []) ≡ Other → ⊥
+word_there : (at : KeySpot) (d : Data) → kind_flaw (Word StepKinds) at d ≡ None → step_word_of (unwrap_or (as_str d) []) ≡ Other → ⊥
 word_there at (string text) none = by_test (is_one_of (words_of StepKinds) text) refl none where
   by_test : (t : Bool) → is_one_of (words_of StepKinds) text ≡ t → flaw_if (not t) (Shape at) ≡ None → step_word_of text ≡ Other → ⊥
   by_test true e none = no_other (bytes_eq text (codes "announce")) (bytes_eq text (codes "withdraw")) (bytes_eq text (codes "raw")) (bytes_eq text (codes "graft"))
@@ -169,10 +169,10 @@ word_kept steps i t none = by_value (get_member (codes "do") t) (none_left (key_
   at : TableAt
   at = tables.Step i
 
-  by_value : (o : Option Data) → present (place at (codes "do")) true (kind_flaw (Word StepKinds) (place at (codes "do"))) o ≡ None
+  by_value : (o : Option Data) → present (spot_of at (codes "do")) true (kind_flaw (Word StepKinds) (spot_of at (codes "do"))) o ≡ None
       → step_word_of (unwrap_or (option_and_then as_str o) []) ≡ Other → ⊥
-  by_value None none = absurd (none_some (Shape (place at (codes "do"))) none)
-  by_value (Some d) none = word_there (place at (codes "do")) d none
+  by_value None none = absurd (none_some (Shape (spot_of at (codes "do"))) none)
+  by_value (Some d) none = word_there (spot_of at (codes "do")) d none
 
 -- ---- tables
 
@@ -190,7 +190,7 @@ peering_kept doc i t none =
     let at : TableAt = tables.Peering i in
     let ends = none_left (keys_flaw at peering_ends t) _ none in
     let behind = none_right (keys_flaw at peering_ends t) _ none in
-    let rest_on = none_right (flaw_if (number_or 32 0 (codes "remote_as") t == number_or 32 0 (codes "home_as") doc) (Shape (place at (codes "remote_as")))) _ behind in
+    let rest_on = none_right (flaw_if (number_or 32 0 (codes "remote_as") t == number_or 32 0 (codes "home_as") doc) (Shape (spot_of at (codes "remote_as")))) _ behind in
     let rest = none_left (keys_flaw at peering_rest t) _ rest_on in
     let address = host_required at t (codes "remote_address") 0 (none_of (map (key_flaw at t) peering_rest) 0 (key_flaw at t (required (codes "remote_address") Host)) rest refl) in
     record {

@@ -1,4 +1,4 @@
--- Lists by place: what stands in a list that was made from another one, and what is first in it.
+-- Lists by index: what stands in a list that was made from another one, and what is first in it.
 use Rattle.std.proofs.Common.{◌≡◌, ℕ, ◌+◌, ◌<◌, zero, suc, Bool, true, false, cond, not, ◌||◌, List, [], ◌∷◌, ◌++◌, length, map, refl, sym, ap, ◌∙◌, subst, arith, nat_lt, slice_index_or}
 use Rattle.std.specs.Prelude.{Option, Some, None, option_map, unwrap_or, slice_get, find, count_by, is_some}
 use Rattle.std.specs.List.{AllByRecursion, enumerate_from, list_any, position_or_len, position}
@@ -12,7 +12,7 @@ use Rattle.lab_tables.proofs.Groups.{any_of_mapped}
 use Rattle.lab_input.specs.declared.bad.BadInput.{BadInput}
 use Rattle.lab_input.specs.Names.{each_after}
 
--- ---- places
+-- ---- indices
 
 pub get_mapped : {A B : Type 0} (f : A → B) (xs : List A) (k : ℕ) → slice_get (map f xs) k ≡ option_map f (slice_get xs k)
 get_mapped f [] k = refl
@@ -27,7 +27,7 @@ get_numbered_from f (x ∷ xs) i (suc k) =
     let same : i + 1 + k ≡ i + suc k = omega arith in
     get_numbered_from f xs (i + 1) k ∙ ap (λ n. option_map (λ y. f (n, y)) (slice_get xs k)) same
 
--- what is made from each element and its place
+-- what is made from each element and its index
 pub get_numbered : {A B : Type 0} (f : ℕ × A → B) (xs : List A) (k : ℕ)
     → slice_get (map f (enumerate_from 0 xs)) k ≡ option_map (λ x. f (k, x)) (slice_get xs k)
 get_numbered f xs k =
@@ -57,7 +57,7 @@ pub made_of : {A B : Type 0} (f : A → B) (o : Option A) (y : B) → option_map
 made_of f None y e = absurd (none_is y e)
 made_of f (Some x) y e = record { x = x; there = refl; is = some_is (f x) y e }
 
--- a place of a list is below its length, and below it something stands
+-- an index of a list is below its length, and below it something stands
 pub get_below : {A : Type 0} (xs : List A) (k : ℕ) (x : A) → slice_get xs k ≡ Some x → k < length xs
 get_below [] k x e = absurd (none_is x e)
 get_below (y ∷ xs) zero x e = omega arith
@@ -72,10 +72,10 @@ below_get [] k lt = absurd (omega arith)
 below_get (y ∷ xs) zero lt = record { x = y; is = refl }
 below_get (y ∷ xs) (suc k) lt = let rest = below_get xs k (omega arith) in record { x = rest.x; is = rest.is }
 
--- what was read at a place
+-- what was read at an index
 pub read_at : {X : Type 0} (xs ys : List X) (i k : ℕ) (x : X) → ys ≡ xs → i ≡ k → k < length xs → x ≡ slice_index_or ys i x → slice_get xs k ≡ Some x
-read_at xs ys i k x same place below is =
-    slice_get-get_or xs k x below ∙ ap Some (sym (is ∙ ap (λ zs. slice_index_or zs i x) same ∙ ap (λ n. slice_index_or xs n x) place))
+read_at xs ys i k x same index below is =
+    slice_get-get_or xs k x below ∙ ap Some (sym (is ∙ ap (λ zs. slice_index_or zs i x) same ∙ ap (λ n. slice_index_or xs n x) index))
 
 pub all_at : {A : Type 0} (P : A → Type 0) (xs : List A) (k : ℕ) (x : A) → AllByRecursion P xs → slice_get xs k ≡ Some x → P x
 all_at P [] k x all e = absurd (none_is x e)
@@ -160,17 +160,17 @@ first_mapped : {A B : Type 0} (test : B → Bool) (f : A → B) (xs : List A) �
 first_mapped test f [] = refl
 first_mapped test f (x ∷ xs) = ap (λ n. cond (not (test (f x))) (1 + n) 0) (first_mapped test f xs)
 
--- the place of the first one, or 0
-pub place_of : {A : Type 0} (test : A → Bool) (xs : List A) → list_any test xs ≡ true → unwrap_or (position test xs) 0 ≡ position_or_len test xs
-place_of test xs any = ap (λ (t : Bool). unwrap_or (cond t (Some (position_or_len test xs)) None) 0) (less _ _ (first_below test xs any)) where
+-- the index of the first one, or 0
+pub index_of : {A : Type 0} (test : A → Bool) (xs : List A) → list_any test xs ≡ true → unwrap_or (position test xs) 0 ≡ position_or_len test xs
+index_of test xs any = ap (λ (t : Bool). unwrap_or (cond t (Some (position_or_len test xs)) None) 0) (less _ _ (first_below test xs any)) where
   less : (a b : ℕ) → a < b → nat_lt a b ≡ true
   less a b lt = grind (arith, nat_tests)
 
--- what stands at the place of a text among texts of things is the first thing of that text
+-- what stands at the index of a text among texts of things is the first thing of that text
 pub first_of_text : {A B : Type 0} (test : B → Bool) (f : A → B) (xs : List A) → list_any test (map f xs) ≡ true
     → slice_get xs (unwrap_or (position test (map f xs)) 0) ≡ find (λ x. test (f x)) xs
 first_of_text test f xs any =
-    ap (slice_get xs) (place_of test (map f xs) any ∙ first_mapped test f xs) ∙ first_there (λ x. test (f x)) xs (any_of_mapped test f xs ∙ any)
+    ap (slice_get xs) (index_of test (map f xs) any ∙ first_mapped test f xs) ∙ first_there (λ x. test (f x)) xs (any_of_mapped test f xs ∙ any)
 
 -- what is found is of all
 pub found_is : {A : Type 0} (P : A → Type 0) (test : A → Bool) (xs : List A) (y : A) → AllByRecursion P xs → find test xs ≡ Some y → P y

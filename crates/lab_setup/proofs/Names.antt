@@ -14,7 +14,7 @@ use Rattle.lab_tables.specs.Documents.{routers_of, router_names_of, peering_name
 use Rattle.lab_input.specs.declared.bad.BadInput.{BadInput}
 use Rattle.lab_input.specs.declared.bad.BadInput.TheVariants.{Unknown}
 use Rattle.lab_input.specs.Names.{each_after, repeated_if, unknown, unknown_at, router_again, cost_named, policies_at, remote_address_of, peering_named, fault_named, step_named, named}
-use Rattle.lab_setup.proofs.Lists.{none_of, none_after, none_mapped, first_below, place_of}
+use Rattle.lab_setup.proofs.Lists.{none_of, none_after, none_mapped, first_below, index_of}
 
 some_bad : (bad : BadInput) → Some bad ≡ None → ⊥
 some_bad bad e = false≢true (sym (ap is_some e))
@@ -32,8 +32,8 @@ known names text none = by_test (list_any (bytes_eq text) names) none where
 
 pub number_below : (names : List (List ℕ)) (text : List ℕ) → IsKnown names text → index_of_name names text < length names
 number_below names text known =
-    let place : index_of_name names text ≡ position_or_len (bytes_eq text) names = place_of (bytes_eq text) names known in
-    subst (λ n. n < length names) (sym place) (first_below (bytes_eq text) names known)
+    let index : index_of_name names text ≡ position_or_len (bytes_eq text) names = index_of (bytes_eq text) names known in
+    subst (λ n. n < length names) (sym index) (first_below (bytes_eq text) names known)
 
 -- ---- tables whose names are known
 

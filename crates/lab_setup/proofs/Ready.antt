@@ -39,7 +39,7 @@ use Rattle.lab_input.proofs.Ready.{accepted}
 use Rattle.lab_setup.proofs.Kept.{IsPeeringTable, IsRouterTable, HasTables, IsWorded, tables_kept, number_below}
 use Rattle.lab_setup.proofs.Lists.{made_of, none_of, none_here, all_at, all_mapped, all_both, all_numbered, first_of_text, get_mapped, get_numbered, length_numbered, IsIn, below_get, count_numbered}
 use Rattle.lab_setup.proofs.Names.{known, IsNamedPeering, HasNames, names_kept}
-use Rattle.lab_setup.proofs.Names.{number_below as place_below}
+use Rattle.lab_setup.proofs.Names.{number_below as index_below}
 use Rattle.lab_setup.proofs.Said.{said_whole, ends_with_settle, all_ended}
 
 -- ---- counts
@@ -139,7 +139,7 @@ module _ (input : LabInput) where
       let few = counts.room r here.x here.is in
       omega arith
 
-  -- a name that the router at a place has a policy of
+  -- a name that the router at an index has a policy of
   policy_there : (r : ℕ) (x : RouterInput) → slice_get input.routers r ≡ Some x → (name : List ℕ)
       → list_any (bytes_eq name) (map (λ p. p.name) x.policies) ≡ true
       → unknown_policy (setup_of input) r (Some name) ≡ None
@@ -178,7 +178,7 @@ module _ (doc : Members) (tables : HasTables doc) (names : HasNames doc) (counts
     start = index_of_name called (text_at (codes "at") t)
 
     start_below : start < length (routers_of doc)
-    start_below = let as_many = length-map (routers_of doc) (λ (r : RouterInput). r.name) in let below = place_below called (text_at (codes "at") t) name.at in omega arith
+    start_below = let as_many = length-map (routers_of doc) (λ (r : RouterInput). r.name) in let below = index_below called (text_at (codes "at") t) name.at in omega arith
 
     router : IsIn (routers_of doc) start
     router = below_get (routers_of doc) start start_below
@@ -254,14 +254,14 @@ module _ (doc : Members) (tables : HasTables doc) (names : HasNames doc) (counts
   peering_below : (text : List ℕ) → unknown remotes text ≡ None → index_of_name remotes text < peerings_in (setup_of input)
   peering_below text none =
       let as_many = length-map (peerings_of doc) (λ (q : PeeringInput). q.name) in
-      let below = place_below remotes text (known remotes text none) in
+      let below = index_below remotes text (known remotes text none) in
       let whole = as_many_peerings input in
       omega arith
 
   router_below : (text : List ℕ) → unknown called text ≡ None → index_of_name called text < routers_in (setup_of input)
   router_below text none =
       let as_many = length-map (routers_of doc) (λ (r : RouterInput). r.name) in
-      let below = place_below called text (known called text none) in
+      let below = index_below called text (known called text none) in
       let whole = as_many_routers input in
       omega arith
 

@@ -95,6 +95,6 @@ mapped_drop f xs zero = refl
 mapped_drop f [] (suc i) = refl
 mapped_drop f (x ∷ xs) (suc i) = mapped_drop f xs i
 
--- what stands from a place on is all of that
+-- what stands from an index on is all of that
 pub rest_whole : {A : Type 0} (xs : List A) (k : ℕ) → take (length xs - k) (drop k xs) ≡ drop k xs
 rest_whole xs k = take_all (length xs - k) (drop k xs) (omega (arith, length-drop k xs))

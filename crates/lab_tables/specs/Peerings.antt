@@ -15,7 +15,7 @@ use Rattle.lab_keys.specs.declared.key.Kind.TheVariants.{Number, HoldTime, Name,
 use Rattle.lab_keys.specs.declared.key.Words.TheVariants.{Ways, FaultKinds}
 use Rattle.lab_keys.specs.declared.table_at.TableAt.TheVariants as tables
 use Rattle.lab_keys.specs.KeyRows.{KeyRow}
-use Rattle.lab_keys.specs.Places.{place}
+use Rattle.lab_keys.specs.Spots.{spot_of}
 use Rattle.lab_keys.specs.Kinds.{first_of, flaw_if}
 use Rattle.lab_keys.specs.Keys.{required, optional, keys_flaw, stray_flaw, names_of}
 use Rattle.lab_keys.specs.Values.{has_member, text_at, maybe_text, number_or, flag_or, address_or, octets_at, items_at}
@@ -34,7 +34,7 @@ cost_rest = required (codes "cost") (Number 0 65535) ∷ []
 abbrev pub cost_flaw : ℕ → Members → Option Flaw
 cost_flaw i t = first_of (
     keys_flaw (tables.Cost i) cost_ends t
-    ∷ flaw_if (bytes_eq (text_at (codes "to") t) (text_at (codes "from") t)) (Shape (place (tables.Cost i) (codes "to")))
+    ∷ flaw_if (bytes_eq (text_at (codes "to") t) (text_at (codes "from") t)) (Shape (spot_of (tables.Cost i) (codes "to")))
     ∷ keys_flaw (tables.Cost i) cost_rest t
     ∷ stray_flaw (tables.Cost i) (names_of (cost_ends ++ cost_rest)) t
     ∷ [])
@@ -85,9 +85,9 @@ may_beat doc t =
 abbrev pub peering_flaw : Members → ℕ → Members → Option Flaw
 peering_flaw doc i t = first_of (
     keys_flaw (tables.Peering i) peering_ends t
-    ∷ flaw_if (number_or 32 0 (codes "remote_as") t == number_or 32 0 (codes "home_as") doc) (Shape (place (tables.Peering i) (codes "remote_as")))
+    ∷ flaw_if (number_or 32 0 (codes "remote_as") t == number_or 32 0 (codes "home_as") doc) (Shape (spot_of (tables.Peering i) (codes "remote_as")))
     ∷ keys_flaw (tables.Peering i) peering_rest t
-    ∷ flaw_if (flag_or false (codes "beats") t && not (may_beat doc t)) (Shape (place (tables.Peering i) (codes "beats")))
+    ∷ flaw_if (flag_or false (codes "beats") t && not (may_beat doc t)) (Shape (spot_of (tables.Peering i) (codes "beats")))
     ∷ keys_flaw (tables.Peering i) peering_last t
     ∷ stray_flaw (tables.Peering i) (names_of (peering_ends ++ peering_rest ++ peering_last)) t
     ∷ [])
@@ -153,7 +153,7 @@ fault_flaw i t =
     let kind = text_at (codes "kind") t in
     first_of (
     keys_flaw (tables.Fault i) fault_keys t
-    ∷ flaw_if (bytes_eq kind (codes "stray") && bytes_eq (text_at (codes "way") t) (codes "remote")) (Shape (place (tables.Fault i) (codes "kind")))
+    ∷ flaw_if (bytes_eq kind (codes "stray") && bytes_eq (text_at (codes "way") t) (codes "remote")) (Shape (spot_of (tables.Fault i) (codes "kind")))
     ∷ keys_flaw (tables.Fault i) (after_keys (bytes_eq kind (codes "lose"))) t
     ∷ stray_flaw (tables.Fault i) (names_of (fault_keys ++ after_keys true)) t
     ∷ [])

@@ -13,7 +13,7 @@ use Rattle.lab_keys.specs.declared.key.Kind.TheVariants.{Number, Name, Host, Pre
 use Rattle.lab_keys.specs.declared.key.Words.TheVariants.{Origins, StepKinds}
 use Rattle.lab_keys.specs.declared.table_at.TableAt.TheVariants as tables
 use Rattle.lab_keys.specs.KeyRows.{KeyRow}
-use Rattle.lab_keys.specs.Places.{place}
+use Rattle.lab_keys.specs.Spots.{spot_of}
 use Rattle.lab_keys.specs.Kinds.{first_of, flaw_if}
 use Rattle.lab_keys.specs.Keys.{required, optional, required_array, optional_array, keys_flaw, stray_flaw, names_of}
 use Rattle.lab_keys.specs.Values.{has_member, text_at, number_or, maybe_number, address_or, octets_at, prefixes_at, numbers_at}
@@ -105,7 +105,7 @@ do_keys = required (codes "do") (Word StepKinds) ∷ []
 abbrev pub least_flaw : StepWord → ℕ → Members → Option Flaw
 least_flaw Settles i t =
     let least = number_or 32 0 (codes "least") t in
-    flaw_if (nat_lt (number_or 32 least (codes "rounds") t) least) (Limit (place (tables.Step i) (codes "least")) least)
+    flaw_if (nat_lt (number_or 32 least (codes "rounds") t) least) (Limit (spot_of (tables.Step i) (codes "least")) least)
 least_flaw word i t = None
 
 abbrev pub worded_flaw : StepWord → ℕ → Members → Option Flaw
@@ -119,7 +119,7 @@ worded_flaw word i t = first_of (
 abbrev pub grouped_flaw : (before whole : Bool) → ℕ → Members → Option Flaw
 grouped_flaw before whole i t = first_of (
     keys_flaw (tables.Step i) do_keys t
-    ∷ flaw_if (is_crowded before whole (word_at t)) (Shape (place (tables.Step i) (codes "do")))
+    ∷ flaw_if (is_crowded before whole (word_at t)) (Shape (spot_of (tables.Step i) (codes "do")))
     ∷ worded_flaw (word_at t) i t
     ∷ [])
 
@@ -150,7 +150,7 @@ attrs_of remote_as remote_address t = record {
   unknown = [];
 }
 
--- a prefix that occurs more than once is said once, at its first place
+-- a prefix that occurs more than once is said once, where it first stands
 abbrev pub said_prefixes : Members → List PrefixValue
 said_prefixes t = once_after [] (prefixes_at (codes "prefixes") t)
 

@@ -6,7 +6,7 @@ ghost use Rattle.lab_keys.specs.Keys.{keys_flaw as keys_flaw_lem};
 ghost use Rattle.lab_tables.specs.Peerings.{cost_flaw as cost_flaw_lem, cost_of as cost_of_lem, fault_keys as fault_keys_lem, after_keys as after_keys_lem, fault_flaw as fault_flaw_lem, fault_of as fault_of_lem};
 
 use crate::input::CostInput;
-use crate::places::Places;
+use crate::name_index::NameIndex;
 use crate::words::{fault_kind_of, way_of};
 use bgp_types::{NoMemory, PeeringId, RouterId};
 use lab_keys::{
@@ -60,7 +60,7 @@ impl TableKind for CostTables {
 /// Cost reader, for these routers.
 #[derive(Drop)]
 pub(crate) struct CostReader<'p> {
-    pub routers: &'p Places,
+    pub routers: &'p NameIndex,
 }
 
 impl<'p> TableReader<CostInput> for CostReader<'p> {
@@ -136,7 +136,7 @@ impl TableKind for FaultTables {
 }
 
 /// Returns the planned fault that a table stands for.
-pub fn fault_of(peerings: &Places, table: &Table) -> Fault
+pub fn fault_of(peerings: &NameIndex, table: &Table) -> Fault
     ensures { result ≡ fault_of_lem peerings.now (table_view table.now) }
 {
     Fault {
@@ -151,7 +151,7 @@ pub fn fault_of(peerings: &Places, table: &Table) -> Fault
 /// Reader of planned faults, for these peerings.
 #[derive(Drop)]
 pub(crate) struct FaultReader<'p> {
-    pub peerings: &'p Places,
+    pub peerings: &'p NameIndex,
 }
 
 impl<'p> TableReader<Fault> for FaultReader<'p> {

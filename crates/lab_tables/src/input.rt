@@ -8,7 +8,7 @@ use link_bag::Fault;
 use route_policy::Rules;
 
 /// A laboratory and its script: routers and peerings in the order of the input, names resolved to
-/// their places in it, and defaults filled in.
+/// their indices in it, and defaults filled in.
 #[derive(Debug, Drop)]
 pub struct LabInput {
     /// The home network's AS number, at least 1.

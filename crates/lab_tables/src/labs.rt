@@ -7,7 +7,7 @@ ghost use Rattle.lab_tables.specs.Documents.{lab_of as lab_of_lem};
 use crate::costs::{CostReader, FaultReader};
 use crate::input::{CostInputs, Faults, LabInput, PeeringInput, PeeringInputs, RouterInput, Steps};
 use crate::peerings::PeeringReader;
-use crate::places::Places;
+use crate::name_index::NameIndex;
 use crate::routers::RouterTables;
 use crate::steps::StepReader;
 use bgp_types::{Items, Name, NoMemory, TryCopy};
@@ -16,29 +16,29 @@ use std::alloc::Global;
 use toml::Table;
 
 /// Returns the names of routers.
-pub fn router_names(alloc: Global, routers: &[RouterInput]) -> Result<Places, NoMemory>
+pub fn router_names(alloc: Global, routers: &[RouterInput]) -> Result<NameIndex, NoMemory>
     ensures { IfOk result (λ names. names ≡ map (λ r. r.name) routers.now) }
 {
     let mut names = Items::new(alloc);
     for router in routers {
         names.push(router.name.copy()?)?;
     }
-    Places::of(names)
+    NameIndex::of(names)
 }
 
 /// Returns the names of peerings.
-pub fn peering_names(alloc: Global, peerings: &[PeeringInput]) -> Result<Places, NoMemory>
+pub fn peering_names(alloc: Global, peerings: &[PeeringInput]) -> Result<NameIndex, NoMemory>
     ensures { IfOk result (λ names. names ≡ map (λ p. p.name) peerings.now) }
 {
     let mut names = Items::new(alloc);
     for peering in peerings {
         names.push(peering.name.copy()?)?;
     }
-    Places::of(names)
+    NameIndex::of(names)
 }
 
 /// Returns the costs between these routers.
-fn costs_of(alloc: Global, names: &Places, doc: &Table) -> Result<CostInputs, NoMemory>
+fn costs_of(alloc: Global, names: &NameIndex, doc: &Table) -> Result<CostInputs, NoMemory>
     ensures { IfOk result (λ costs. costs ≡ map (cost_of names.now) (tables_at (codes "cost") (table_view doc.now))) }
 {
     let reader = CostReader { routers: names };
@@ -46,7 +46,7 @@ fn costs_of(alloc: Global, names: &Places, doc: &Table) -> Result<CostInputs, No
 }
 
 /// Returns the peerings at these routers.
-fn peerings_of(alloc: Global, names: &Places, doc: &Table) -> Result<PeeringInputs, NoMemory>
+fn peerings_of(alloc: Global, names: &NameIndex, doc: &Table) -> Result<PeeringInputs, NoMemory>
     ensures { IfOk result (λ peerings. peerings ≡ map (peering_input (table_view doc.now) names.now) (tables_at (codes "peering") (table_view doc.now))) }
 {
     let reader = PeeringReader {
@@ -57,7 +57,7 @@ fn peerings_of(alloc: Global, names: &Places, doc: &Table) -> Result<PeeringInpu
 }
 
 /// Returns the planned faults of these peerings.
-fn faults_of(alloc: Global, remotes: &Places, doc: &Table) -> Result<Faults, NoMemory>
+fn faults_of(alloc: Global, remotes: &NameIndex, doc: &Table) -> Result<Faults, NoMemory>
     ensures { IfOk result (λ faults. faults ≡ map (fault_of remotes.now) (tables_at (codes "fault") (table_view doc.now))) }
 {
     let reader = FaultReader { peerings: remotes };
@@ -67,8 +67,8 @@ fn faults_of(alloc: Global, remotes: &Places, doc: &Table) -> Result<Faults, NoM
 /// Returns the steps of these routers and peerings.
 fn steps_of(
     alloc: Global,
-    names: &Places,
-    remotes: &Places,
+    names: &NameIndex,
+    remotes: &NameIndex,
     peerings: &[PeeringInput],
     doc: &Table,
 ) -> Result<Steps, NoMemory>

@@ -7,7 +7,7 @@ mod labs;
 mod once;
 mod opening;
 mod peerings;
-mod places;
+mod name_index;
 mod routers;
 mod rules;
 mod said;
@@ -24,7 +24,7 @@ pub use input::{
 pub use labs::{lab_of, peering_names, router_names};
 pub use once::each_once;
 pub use opening::default_opening;
-pub use places::Places;
+pub use name_index::NameIndex;
 pub use scripts::word_at;
 pub use shapes::shaped;
 pub use words::StepWord;

@@ -17,7 +17,7 @@ fn push_if(list: &mut PrefixList, test: bool, prefix: Prefix) -> Result<(), NoMe
     Ok(())
 }
 
-/// Returns the prefixes of a list without repetitions, each at its first place.
+/// Returns the prefixes of a list without repetitions, each where it first stands.
 pub fn each_once(alloc: Global, prefixes: &[Prefix]) -> Result<PrefixList, NoMemory>
     ensures { IfOk result (λ once. once ≡ once_after [] prefixes.now) }
 {

@@ -9,7 +9,7 @@ ghost use Rattle.lab_tables.specs.Peerings.{peering_ends as peering_ends_lem, pe
 
 use crate::input::PeeringInput;
 use crate::opening::default_opening;
-use crate::places::Places;
+use crate::name_index::NameIndex;
 use bgp_types::{Name, NoMemory, Octets, RouterId};
 use lab_keys::{
     Flaw, Key, Kind, Spot, TableAt, TableKind, TableReader, address_or, flag_or, has, items_at,
@@ -234,7 +234,7 @@ fn name_at(alloc: Global, key: &str, table: &Table) -> Result<Option<Name>, NoMe
 fn peering_of(
     alloc: Global,
     doc: &Table,
-    routers: &Places,
+    routers: &NameIndex,
     table: &Table,
 ) -> Result<PeeringInput, NoMemory>
     ensures { IfOk result (λ peering. peering ≡ peering_input (table_view doc.now) routers.now (table_view table.now)) }
@@ -264,7 +264,7 @@ fn peering_of(
 #[derive(Drop)]
 pub(crate) struct PeeringReader<'d> {
     pub doc: &'d Table,
-    pub routers: &'d Places,
+    pub routers: &'d NameIndex,
 }
 
 impl<'d> TableReader<PeeringInput> for PeeringReader<'d> {

@@ -68,7 +68,7 @@ pub(crate) fn said_attrs(
     }
 }
 
-/// Returns the prefixes of a step without repetitions, each at its first place.
+/// Returns the prefixes of a step without repetitions, each where it first stands.
 pub(crate) fn said_prefixes(alloc: Global, table: &Table) -> Result<PrefixList, NoMemory>
     ensures { IfOk result (λ prefixes. prefixes ≡ said_prefixes_lem (table_view table.now)) }
 {

@@ -4,7 +4,7 @@ ghost use Rattle.std.specs.Prelude.{◌≡◌, codes, map};
 ghost use Rattle.std.specs.List.{list_any, take_while};
 ghost use Rattle.toml.specs.View.{view, table_view};
 ghost use Rattle.lab_keys.specs.declared.table_at.TableAt.TheVariants.{Top};
-ghost use Rattle.lab_keys.specs.Places.{place, member_of};
+ghost use Rattle.lab_keys.specs.Spots.{spot_of, member_of};
 ghost use Rattle.lab_keys.specs.Kinds.{each_from, table_flaw};
 ghost use Rattle.lab_keys.specs.Keys.{keys_flaw as keys_flaw_lem, tables_flaw as tables_flaw_lem};
 ghost use Rattle.lab_keys.specs.Values.{items_at as items_at_lem};
@@ -229,7 +229,7 @@ fn grouped_flaw<'a>(before: bool, whole: bool, i: usize, table: &'a Table) -> Op
 
 /// Returns the first flaw of a value in the array of steps.
 fn item_flaw<'a>(before: bool, whole: bool, i: usize, step: &'a Value) -> Option<Flaw<'a>>
-    ensures { result ≡ table_flaw (member_of (place Top (codes "step")) i) (grouped_flaw_lem before whole i) (view step.now) }
+    ensures { result ≡ table_flaw (member_of (spot_of Top (codes "step")) i) (grouped_flaw_lem before whole i) (view step.now) }
 {
     let Some(table) = step.as_table() else {
         return Some(Flaw::Shape(Spot::of(TableAt::Top, "step").member(i)));
@@ -259,7 +259,7 @@ fn whole_next(whole: bool, step: &Value, further: &[Value]) -> bool
 
 /// Returns the first flaw of the values of the array of steps.
 fn items_flaw<'a>(steps: &'a [Value]) -> Option<Flaw<'a>>
-    ensures { result ≡ each_from (λ i. table_flaw (member_of (place Top (codes "step")) i) (step_flaw_lem (map view steps.now) i)) 0 (map view steps.now) }
+    ensures { result ≡ each_from (λ i. table_flaw (member_of (spot_of Top (codes "step")) i) (step_flaw_lem (map view steps.now) i)) 0 (map view steps.now) }
 {
     let mut before = false;
     let mut whole = evacuates_in(steps);

@@ -5,7 +5,7 @@ ghost use Rattle.toml.specs.View.{table_view};
 ghost use Rattle.lab_tables.specs.Scripts.{peering_number as peering_number_lem, worded_step as worded_step_lem, step_of as step_of_lem};
 
 use crate::input::{PeeringInput, Step};
-use crate::places::Places;
+use crate::name_index::NameIndex;
 use crate::said::{said_attrs, said_prefixes};
 use crate::scripts::word_at;
 use crate::words::StepWord;
@@ -17,8 +17,8 @@ use toml::Table;
 /// Step reader, for these routers and peerings.
 #[derive(Drop)]
 pub(crate) struct StepReader<'p> {
-    pub routers: &'p Places,
-    pub names: &'p Places,
+    pub routers: &'p NameIndex,
+    pub names: &'p NameIndex,
     pub peerings: &'p [PeeringInput],
     ghost same: { names.now ≡ map (λ p. p.name) peerings.now },
 }

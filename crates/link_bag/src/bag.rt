@@ -60,23 +60,23 @@ impl Bag {
         }
     }
 
-    /// Returns a copy of the segment at a place, counted from 0 and below the bag's length. The bag
+    /// Returns a copy of the segment at an index, counted from 0 and below the bag's length. The bag
     /// stays as it is.
-    pub fn deliver(&mut self, place: usize) -> Result<Segment, NoMemory>
-        requires { place < length self.old }
-        ensures copy { IfOk result (λ segment. slice_get self.old place ≡ Some segment) }
+    pub fn deliver(&mut self, index: usize) -> Result<Segment, NoMemory>
+        requires { index < length self.old }
+        ensures copy { IfOk result (λ segment. slice_get self.old index ≡ Some segment) }
         ensures kept { self.new ≡ self.old }
     {
-        self.segments[place].copy()
+        self.segments[index].copy()
     }
 
-    /// Removes and returns the segment at a place, counted from 0 and below the bag's length. The
+    /// Removes and returns the segment at an index, counted from 0 and below the bag's length. The
     /// others keep their order.
-    pub fn remove(&mut self, place: usize) -> Segment
-        requires { place < length self.old }
-        ensures segment { slice_get self.old place ≡ Some result }
-        ensures others { self.new ≡ remove self.old place }
+    pub fn remove(&mut self, index: usize) -> Segment
+        requires { index < length self.old }
+        ensures segment { slice_get self.old index ≡ Some result }
+        ensures others { self.new ≡ remove self.old index }
     {
-        self.segments.remove(place)
+        self.segments.remove(index)
     }
 }

@@ -7,16 +7,16 @@ use std::test::Fail;
 use tcp_end::{Arrival, End, SendStop};
 use tcp_seq::{Segment, Seq, Way};
 
-/// Returns the byte of a stream at a place.
-fn byte_at(place: u32, salt: u32) -> u8 {
-    (place % 251) as u8 ^ (salt % 256) as u8
+/// Returns the byte of a stream at an offset.
+fn byte_at(offset: u32, salt: u32) -> u8 {
+    (offset % 251) as u8 ^ (salt % 256) as u8
 }
 
-/// Returns the bytes of a stream from one place up to another.
+/// Returns the bytes of a stream from one offset up to another.
 pub(crate) fn stream(alloc: Global, from: u32, to: u32, salt: u32) -> Result<Octets, NoMemory> {
     let mut bytes = Octets::new(alloc);
-    for place in from..to {
-        bytes.push(byte_at(place, salt))?;
+    for offset in from..to {
+        bytes.push(byte_at(offset, salt))?;
     }
     Ok(bytes)
 }

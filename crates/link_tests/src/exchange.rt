@@ -83,9 +83,9 @@ fn emit(side: &mut Side, random: &mut Random) -> Result<(), NoMemory> {
 }
 
 /// Removes a segment that arrived from the link. One in sixteen stays.
-fn remove(link: &mut Vec<Segment>, place: usize, random: &mut Random) {
-    if random.below(16) > 0 && place < link.len() {
-        link.remove(place);
+fn remove(link: &mut Vec<Segment>, offset: usize, random: &mut Random) {
+    if random.below(16) > 0 && offset < link.len() {
+        link.remove(offset);
     }
 }
 
@@ -96,14 +96,14 @@ fn deliver_one(
     end: &mut End,
     random: &mut Random,
 ) -> Result<(), NoMemory> {
-    let place = random.below(link.len().min(8) as u32) as usize;
-    match link.get(place) {
+    let offset = random.below(link.len().min(8) as u32) as usize;
+    match link.get(offset) {
         Some(segment) => {
             take(rt, end, segment)?;
         }
         None => return Ok(()),
     }
-    remove(link, place, random);
+    remove(link, offset, random);
     Ok(())
 }
 

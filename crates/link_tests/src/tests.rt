@@ -107,10 +107,10 @@ fn put(
     Ok(())
 }
 
-/// A place keeps its first byte: the last put brings A to I for 4,294,967,294 to 6, where "cd" and "gh" were already
+/// An offset keeps its first byte: the last put brings A to I for 4,294,967,294 to 6, where "cd" and "gh" were already
 /// present. The window ends with 16,381.
 #[test]
-fn reassembly_keeps_the_first_byte_of_a_place(rt: HostRuntime) -> Result<(), Fail> {
+fn reassembly_keeps_the_first_byte_of_an_offset(rt: HostRuntime) -> Result<(), Fail> {
     let mut reasm = Reasm::new(rt.alloc(), Seq(4_294_967_294));
     let mut out = Octets::new(rt.alloc());
     put(&rt, &mut reasm, &mut out, 0, b"cd", 0)?;
@@ -132,7 +132,7 @@ fn pieces_are_taken_out_and_put_back(rt: HostRuntime) -> Result<(), Fail> {
     put(&rt, &mut reasm, &mut out, 100, b"a", 1)?;
     let pieces = reasm.into_pieces();
     for piece in &pieces {
-        assert_eq!(rt; piece.place, 16_381);
+        assert_eq!(rt; piece.offset, 16_381);
         assert_eq!(rt; &piece.bytes[..], b"yz".as_slice());
     }
     let reasm = Reasm::from_pieces(Seq(101), pieces);

@@ -10,7 +10,7 @@ use Rattle.lab_keys.specs.declared.flaw.Flaw.TheVariants.{Shape}
 use Rattle.lab_keys.specs.declared.key.Kind.TheVariants.{Number, Misplaced}
 use Rattle.lab_keys.specs.declared.table_at.TableAt.{TableAt}
 use Rattle.lab_keys.specs.declared.table_at.TableAt.TheVariants as tables
-use Rattle.lab_keys.specs.Places.{KeyPlace, place}
+use Rattle.lab_keys.specs.Spots.{KeySpot, spot_of}
 use Rattle.lab_keys.specs.Kinds.{flaw_if, kind_flaw}
 use Rattle.lab_keys.specs.Keys.{required, optional, present, key_flaw, keys_flaw, stray_flaw, tables_flaw, names_of}
 use Rattle.lab_keys.specs.Values.{number_in, number_or, text_at, items_at, tables_at}
@@ -31,12 +31,12 @@ abbrev after_of : Members → ℕ
 after_of t = number_or 32 0 (codes "after") t
 
 -- a value that is out of place is none
-misplaced : (at : KeyPlace) (o : Option Data) → present at false (kind_flaw Misplaced at) o ≡ None → unwrap_or (option_and_then (number_in 32) o) 0 ≤ 6
+misplaced : (at : KeySpot) (o : Option Data) → present at false (kind_flaw Misplaced at) o ≡ None → unwrap_or (option_and_then (number_in 32) o) 0 ≤ 6
 misplaced at None none = omega arith
 misplaced at (Some d) none = absurd (none_is (Shape at) (sym none))
 
 after_soon : (at : TableAt) (t : Members) (is_lost : Bool) → keys_flaw at (after_keys is_lost) t ≡ None → after_of t ≤ 6
-after_soon at t true none = misplaced (place at (codes "after")) (get_member (codes "after") t) (none_left (key_flaw at t (optional (codes "after") Misplaced)) None none)
+after_soon at t true none = misplaced (spot_of at (codes "after")) (get_member (codes "after") t) (none_left (key_flaw at t (optional (codes "after") Misplaced)) None none)
 after_soon at t false none =
     let within = number_within at t (codes "after") 32 0 1 6 (omega arith) (none_left (key_flaw at t (required (codes "after") (Number 1 6))) None none) in
     within.few
@@ -47,7 +47,7 @@ fault_soon i t none =
     let kind : List ℕ = text_at (codes "kind") t in
     let after : Option Flaw = keys_flaw at (after_keys (bytes_eq kind (codes "lose"))) t in
     let flaws : List (Option Flaw) = keys_flaw at fault_keys t
-    ∷ flaw_if (bytes_eq kind (codes "stray") && bytes_eq (text_at (codes "way") t) (codes "remote")) (Shape (place at (codes "kind")))
+    ∷ flaw_if (bytes_eq kind (codes "stray") && bytes_eq (text_at (codes "way") t) (codes "remote")) (Shape (spot_of at (codes "kind")))
     ∷ after
     ∷ stray_flaw at (names_of (fault_keys ++ after_keys true)) t
     ∷ [] in

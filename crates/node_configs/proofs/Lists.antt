@@ -34,7 +34,7 @@ pub map_mapped : {X Y Z : Type 0} (f : X → Y) (g : Y → Z) (h : X → Z) → 
 map_mapped f g h same [] = refl
 map_mapped f g h same (x ∷ xs) = ap (λ z. z ∷ map g (map f xs)) (same x) ∙ ap (λ zs. h x ∷ zs) (map_mapped f g h same xs)
 
--- what stands at the last place is the last element
+-- what stands at the last index is the last element
 last_from : {X : Type 0} (o : Option X) (x : X) (xs : List X) → slice_get (x ∷ xs) (length xs) ≡ last_or o (x ∷ xs)
 last_from o x [] = refl
 last_from o x (y ∷ ys) = last_from (Some x) y ys

@@ -83,7 +83,7 @@ step_works setup script starts rooms (MoveStep p target) there = (omega (arith, 
 step_works setup script starts rooms (EvacuateStep router) there = omega (arith, there)
 step_works setup script starts rooms SettleStep there = tt
 
--- what is at a place of a list that was made of another one
+-- what is at an index of a list that was made of another one
 all_made : {X Y : Type 0} (f : X → Y) (P : X → Type 0) (Q : Y → Type 0) → ((x : X) → P x → Q (f x)) → (xs : List X) → All P xs → All Q (map f xs)
 all_made f P Q each [] all k d below = absurd (omega (arith, below))
 all_made f P Q each (x ∷ xs) all zero d below = each x (all 0 x (omega arith))

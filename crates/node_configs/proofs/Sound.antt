@@ -10,7 +10,7 @@ use Rattle.lab_keys.specs.declared.flaw.Flaw.TheVariants.{Shape, Limit}
 use Rattle.lab_keys.specs.declared.key.Kind.TheVariants.{Number}
 use Rattle.lab_keys.specs.declared.table_at.TableAt.{TableAt}
 use Rattle.lab_keys.specs.declared.table_at.TableAt.TheVariants as tables
-use Rattle.lab_keys.specs.Places.{place}
+use Rattle.lab_keys.specs.Spots.{spot_of}
 use Rattle.lab_keys.specs.Kinds.{flaw_if, kind_flaw}
 use Rattle.lab_keys.specs.Keys.{optional, present, key_flaw, keys_flaw, stray_flaw, tables_flaw, names_of}
 use Rattle.lab_keys.specs.Values.{number_in, number_or, maybe_number, items_at, tables_at}
@@ -39,8 +39,8 @@ module _ (at : TableAt) (t : Members) (key : List ℕ) (bits default low high : 
     by_value : (o : Option Data) → get_member key t ≡ o → P (number_or bits default key t)
     by_value None e = subst P (sym (ap (λ x. unwrap_or (option_and_then (number_in bits) x) default) e)) other
     by_value (Some d) e =
-        let flaw : kind_flaw (Number low high) (place at key) d ≡ None = sym (ap (present (place at key) false (kind_flaw (Number low high) (place at key))) e) ∙ none in
-        each (number_or bits default key t) (number_within at t key bits default low high fits (ap (present (place at key) true (kind_flaw (Number low high) (place at key))) e ∙ flaw))
+        let flaw : kind_flaw (Number low high) (spot_of at key) d ≡ None = sym (ap (present (spot_of at key) false (kind_flaw (Number low high) (spot_of at key))) e) ∙ none in
+        each (number_or bits default key t) (number_within at t key bits default low high fits (ap (present (spot_of at key) true (kind_flaw (Number low high) (spot_of at key))) e ∙ flaw))
 
 -- ---- one settle
 
@@ -71,7 +71,7 @@ module _ (usual : ℕ) (long : 2048 ≤ usual) where
       let stray : Option Flaw = stray_flaw at (codes "do" ∷ names_of settle_keys) t in
       let keys : keys_flaw at settle_keys t ≡ None = none_left (keys_flaw at settle_keys t) (option_or (least_flaw Settles i t) (option_or stray None)) none in
       let behind = none_right (keys_flaw at settle_keys t) (option_or (least_flaw Settles i t) (option_or stray None)) none in
-      let at_least = no_less (number_or 32 least (codes "rounds") t) least (Limit (place at (codes "least")) least) (none_left (least_flaw Settles i t) (option_or stray None) behind) in
+      let at_least = no_less (number_or 32 least (codes "rounds") t) least (Limit (spot_of at (codes "least")) least) (none_left (least_flaw Settles i t) (option_or stray None) behind) in
       let rounds_good = none_left rounds_key (option_or least_key None) keys in
       let least_good = none_left least_key None (none_right rounds_key (option_or least_key None) keys) in
       let few : least ≤ 1024 = optional_is at t (codes "least") 32 0 0 1024 (omega arith) (λ n. n ≤ 1024) (λ n within. within.few) (omega arith) least_good in
@@ -96,7 +96,7 @@ module _ (usual : ℕ) (long : 2048 ≤ usual) where
   step_sound : (routers : List (List ℕ)) (ps : List PeeringInput) (before whole : Bool) (i : ℕ) (t : Members) → grouped_flaw before whole i t ≡ None
       → AreSound (budget_of usual (step_of routers ps t))
   step_sound routers ps before whole i t none =
-      let crowded = flaw_if (is_crowded before whole (word_at t)) (Shape (place (tables.Step i) (codes "do"))) in
+      let crowded = flaw_if (is_crowded before whole (word_at t)) (Shape (spot_of (tables.Step i) (codes "do"))) in
       let last = option_or (worded_flaw (word_at t) i t) None in
       let behind = none_right (keys_flaw (tables.Step i) do_keys t) (option_or crowded last) none in
       worded_sound (word_at t) routers ps i t (none_left (worded_flaw (word_at t) i t) None (none_right crowded last behind))

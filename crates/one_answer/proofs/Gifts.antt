@@ -279,11 +279,11 @@ placed_same setup w v ok reached other settled settled_other log =
     begun : (g : ScriptGraft) → graft_at setup g.graft ≡ Some g → group_of setup g.step ≤ w.operator.group
     begun g known =
         let is = step_of_graft setup g.graft g known in
-        let l : group_of setup g.step < groups_in setup = in_ended None setup.steps g.step is.step is.there (no_settle is.step is.place is.moved) ok.ended in
+        let l : group_of setup g.step < groups_in setup = in_ended None setup.steps g.step is.step is.there (no_settle is.step is.index is.moved) ok.ended in
         omega (arith, l, settled.last)
       where
-        no_settle : (step : ScriptStep) (place : ℕ) → slice_get (moved_by setup step) place ≡ Some g.peering → is_settle step ≡ false
-        no_settle (SayStep p bytes) place e = refl
-        no_settle (MoveStep p target) place e = refl
-        no_settle (EvacuateStep router) place e = refl
-        no_settle SettleStep place e = absurd cc
+        no_settle : (step : ScriptStep) (index : ℕ) → slice_get (moved_by setup step) index ≡ Some g.peering → is_settle step ≡ false
+        no_settle (SayStep p bytes) index e = refl
+        no_settle (MoveStep p target) index e = refl
+        no_settle (EvacuateStep router) index e = refl
+        no_settle SettleStep index e = absurd cc

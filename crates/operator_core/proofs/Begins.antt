@@ -11,7 +11,7 @@ use Rattle.graft_model.specs.Setups.{Setup, ScriptStep, SayStep, MoveStep, Evacu
 use Rattle.graft_model.specs.Parts.{Gift as GiftOf, Unmade as NoGift, To, Stays as StaysAt}
 use Rattle.graft_model.specs.Placements.{placement, is_accepted, target_by}
 use Rattle.graft_model.specs.Evacuations.{gift_to, gift_by, gift_in_group, gift_or}
-use Rattle.graft_model.proofs.Numbers.{number_of_place, graft_by_place, place_of_graft, no_graft_zero, step_of_graft, steps_rise, peering_of_place}
+use Rattle.graft_model.proofs.Numbers.{number_of_index, graft_by_index, index_of_graft, no_graft_zero, step_of_graft, steps_rise, peering_of_index}
 use Rattle.operator_core.specs.declared.evacuate.Gift.{Gift}
 use Rattle.operator_core.specs.declared.grafts.Seat.{Seat}
 use Rattle.operator_core.specs.declared.grafts.Slot.{Slot}
@@ -28,7 +28,7 @@ use Rattle.operator_core.proofs.Scripts.{groups_rise}
 use Rattle.operator_core.proofs.Placed.{placed_alike}
 use Rattle.operator_core.proofs.SlotLaws.{graft_there}
 use Rattle.operator_core.proofs.Ready.{group_gifts, group_tasks, gifts_at, IsReadySlot, IsReady}
-use Rattle.operator_core.proofs.GiftLists.{all_by_place, found}
+use Rattle.operator_core.proofs.GiftLists.{all_by_index, found}
 use Rattle.operator_core.proofs.Gifts.{has_number, gift_numbered, length_give, give_at, IsBelow, IsGiftWithin, group_gifts_rise, group_gifts_are, numbered_in_group, ArePlaced, gift_by_slot}
 use Rattle.operator_core.proofs.GiftTasks.{makes, group_tasks_rise, group_tasks_wait, has_move_task, has_gift_task}
 use Rattle.operator_core.proofs.GroupSpan.{group_in_span, in_span, span_ends}
@@ -120,24 +120,24 @@ evacuated_number : (setup : Setup) (k : ℕ) (g : ScriptGraft) (router : ℕ) �
 evacuated_number setup k g router known at =
     let of = step_of_graft setup k g known in
     let step : of.step ≡ EvacuateStep router = same_Some of.step (EvacuateStep router) (sym of.there ∙ at) in
-    let moved : slice_get (moved_by setup (EvacuateStep router)) of.place ≡ Some g.peering = ap (λ (s : ScriptStep). slice_get (moved_by setup s) of.place) (sym step) ∙ of.moved in
-    let place = peering_of_place setup of.place g.peering moved in
-    omega (arith, of.number, place.0)
+    let moved : slice_get (moved_by setup (EvacuateStep router)) of.index ≡ Some g.peering = ap (λ (s : ScriptStep). slice_get (moved_by setup s) of.index) (sym step) ∙ of.moved in
+    let index = peering_of_index setup of.index g.peering moved in
+    omega (arith, of.number, index.0)
 
 moved_number : (setup : Setup) (k : ℕ) (g : ScriptGraft) (p target : ℕ) → graft_at setup k ≡ Some g → slice_get setup.steps g.step ≡ Some (MoveStep p target)
     → g.graft ≡ grafts_before setup g.step + 1
 moved_number setup k g p target known at =
     let of = step_of_graft setup k g known in
     let step : of.step ≡ MoveStep p target = same_Some of.step (MoveStep p target) (sym of.there ∙ at) in
-    let moved : slice_get (p ∷ []) of.place ≡ Some g.peering = ap (λ (s : ScriptStep). slice_get (moved_by setup s) of.place) (sym step) ∙ of.moved in
-    let place = slice_get_within (p ∷ []) of.place g.peering moved in
-    omega (arith, of.number, place)
+    let moved : slice_get (p ∷ []) of.index ≡ Some g.peering = ap (λ (s : ScriptStep). slice_get (moved_by setup s) of.index) (sym step) ∙ of.moved in
+    let index = slice_get_within (p ∷ []) of.index g.peering moved in
+    omega (arith, of.number, index)
 
 no_settle : (setup : Setup) (k : ℕ) (g : ScriptGraft) → graft_at setup k ≡ Some g → slice_get setup.steps g.step ≢ Some SettleStep
 no_settle setup k g known at =
     let of = step_of_graft setup k g known in
     let step : of.step ≡ SettleStep = same_Some of.step SettleStep (sym of.there ∙ at) in
-    let moved : slice_get [] of.place ≡ Some g.peering = ap (λ (s : ScriptStep). slice_get (moved_by setup s) of.place) (sym step) ∙ of.moved in
+    let moved : slice_get [] of.index ≡ Some g.peering = ap (λ (s : ScriptStep). slice_get (moved_by setup s) of.index) (sym step) ∙ of.moved in
     absurd cc
 
 module _ (setup : Setup) (group from len : ℕ) (slots : List Slot) (seats : List Seat) (ready : IsReady setup group from len slots seats) where
@@ -150,13 +150,13 @@ module _ (setup : Setup) (group from len : ℕ) (slots : List Slot) (seats : Lis
   -- each gift has a slot
   gift_has_slot : (gift : Gift) → IsGiftWithin setup from len gift → (1 ≤ gift.graft) × (gift.graft ≤ length slots)
   gift_has_slot gift is =
-      let place = place_of_graft setup gift.graft _ is.of.graft in
-      let within = slice_get_within (grafts_in setup) place.0 _ place.2 in
+      let index = index_of_graft setup gift.graft _ is.of.graft in
+      let within = slice_get_within (grafts_in setup) index.0 _ index.2 in
       let all = ready.all in
-      (omega (arith, place.1), omega (arith, place.1, within, all))
+      (omega (arith, index.1), omega (arith, index.1, within, all))
 
   pub gifts_have_slots : All (λ gift. (1 ≤ gift.graft) × (gift.graft ≤ length slots)) (group_gifts setup seats from len)
-  gifts_have_slots = all_by_place (λ gift. (1 ≤ gift.graft) × (gift.graft ≤ length slots)) (group_gifts setup seats from len)
+  gifts_have_slots = all_by_index (λ gift. (1 ≤ gift.graft) × (gift.graft ≤ length slots)) (group_gifts setup seats from len)
       (all_map (IsGiftWithin setup from len) (λ gift. (1 ≤ gift.graft) × (gift.graft ≤ length slots)) (group_gifts setup seats from len) gift_has_slot (group_gifts_are setup seats ready.seated.all from len))
 
   -- ---- the slot of each graft
@@ -170,10 +170,10 @@ module _ (setup : Setup) (group from len : ℕ) (slots : List Slot) (seats : Lis
       (group_gifts_rise setup seats ready.seated.all from len)
 
   graft_known : (i : ℕ) (g : ScriptGraft) → slice_get (grafts_in setup) i ≡ Some g → graft_at setup (suc i) ≡ Some g
-  graft_known i g at = graft_by_place setup i ∙ at
+  graft_known i g at = graft_by_index setup i ∙ at
 
   graft_number : (i : ℕ) (g : ScriptGraft) → slice_get (grafts_in setup) i ≡ Some g → g.graft ≡ suc i
-  graft_number i g at = let n = number_of_place setup i g at in omega (arith, n)
+  graft_number i g at = let n = number_of_index setup i g at in omega (arith, n)
 
   has_old : (i : ℕ) (g : ScriptGraft) → slice_get (grafts_in setup) i ≡ Some g → i < length slots
   has_old i g at = let within = slice_get_within (grafts_in setup) i g at in let all = ready.all in omega (arith, within, all)
@@ -219,11 +219,11 @@ module _ (setup : Setup) (group from len : ℕ) (slots : List Slot) (seats : Lis
         let is = found (IsGiftWithin setup from len) (has_number (suc i)) (group_gifts setup seats from len) gift (group_gifts_are setup seats ready.seated.all from len) e in
         let within : IsGiftWithin setup from len gift = is.0 in
         let number : gift.graft ≡ suc i = eqb-true gift.graft (suc i) is.1 in
-        let mine : ScriptGraft = record { graft = gift.graft; peering = gift.peering.0; step = within.place } in
+        let mine : ScriptGraft = record { graft = gift.graft; peering = gift.peering.0; step = within.index } in
         let same : mine ≡ g = same_Some mine g (sym within.of.graft ∙ (ap (graft_at setup) number ∙ graft_known i g at)) in
-        let place : within.place ≡ g.step = ap (λ (z : ScriptGraft). z.step) same in
-        let step : slice_get setup.steps g.step ≡ Some (EvacuateStep gift.router.0) = ap (slice_get setup.steps) (sym place) ∙ within.of.step in
-        let group_is : group_of setup g.step ≡ group = ap (group_of setup) (sym place) ∙ is_in_group within.place within.behind within.within in
+        let index : within.index ≡ g.step = ap (λ (z : ScriptGraft). z.step) same in
+        let step : slice_get setup.steps g.step ≡ Some (EvacuateStep gift.router.0) = ap (slice_get setup.steps) (sym index) ∙ within.of.step in
+        let group_is : group_of setup g.step ≡ group = ap (group_of setup) (sym index) ∙ is_in_group within.index within.behind within.within in
         inl (record {
           gift = gift;
           found = e;
@@ -321,7 +321,7 @@ module _ (setup : Setup) (group from len : ℕ) (slots : List Slot) (seats : Lis
       → given_in setup begun_slots k ≡ gift_or (gift_in_group setup group (placement setup (with_slots setup slots)) (graft_at setup k)) (given_in setup slots k)
   begun_given zero = subst (λ (o : Option ScriptGraft). given_of (option_and_then (λ g. slice_get setup.steps g.step) o) None
       ≡ gift_or (gift_in_group setup group placed o) (given_of (option_and_then (λ g. slice_get setup.steps g.step) o) None)) (sym (no_graft_zero setup)) refl
-  begun_given (suc i) = subst (Gives i) (sym (graft_by_place setup i)) (by_graft (slice_get (grafts_in setup) i) refl) where
+  begun_given (suc i) = subst (Gives i) (sym (graft_by_index setup i)) (by_graft (slice_get (grafts_in setup) i) refl) where
     by_graft : (o : Option ScriptGraft) → slice_get (grafts_in setup) i ≡ o → Gives i o
     by_graft None e = refl
     by_graft (Some g) e = step_gives i g e (slice_get setup.steps g.step) refl
@@ -382,7 +382,7 @@ module _ (setup : Setup) (group from len : ℕ) (slots : List Slot) (seats : Lis
   length-begun : length begun_slots ≡ length (grafts_in setup)
   length-begun = length_give (group_gifts setup seats from len) slots ∙ ready.all
 
-  -- the graft whose slot is at a place
+  -- the graft whose slot is at an index
   graft_of_slot : (i : ℕ) (slot : Slot) → slice_get begun_slots i ≡ Some slot → (g : ScriptGraft) × (slice_get (grafts_in setup) i ≡ Some g)
   graft_of_slot i slot is = let within = slice_get_within begun_slots i slot is in let all = length-begun in there_is (grafts_in setup) i (omega (arith, within, all))
 

@@ -48,16 +48,16 @@ known_still old new same known = record {
 -- ---- what a visit asks
 
 pub have_seats : (p : Progress) → OperatorInvariant (progress_state p) → HaveSeats p
-have_seats p keeps place entry e =
-    let own = owner p.known.setup p.group (progress_state p).waiting p.slots.items keeps.slots place (Made entry) e in
-    let there : own.graft.peering < peerings_in p.known.setup = peering_there p.known.setup keeps.sound own.graft (graft_there p.known.setup place own.graft own.place) in
+have_seats p keeps index entry e =
+    let own = owner p.known.setup p.group (progress_state p).waiting p.slots.items keeps.slots index (Made entry) e in
+    let there : own.graft.peering < peerings_in p.known.setup = peering_there p.known.setup keeps.sound own.graft (graft_there p.known.setup index own.graft own.index) in
     let names : entry.peering.0 ≡ own.graft.peering = (own.is.fits.made entry refl).peering in
     let all : length p.seats.items ≡ peerings_in p.known.setup = keeps.seats.all in
     omega arith
 
 -- ---- a turn, task by task
 
-pub record Turning {C : Type 0} (start : Progress) (before : Post (Item C)) (place : ℕ) (now : Progress) (after : Post (Item C)) : Type 0 where
+pub record Turning {C : Type 0} (start : Progress) (before : Post (Item C)) (index : ℕ) (now : Progress) (after : Post (Item C)) : Type 0 where
   pub deeds : List (Deed (Item C))
   pub wrote : Wrote before deeds after
   pub none : AllByRecursion TakesNone deeds
@@ -65,14 +65,14 @@ pub record Turning {C : Type 0} (start : Progress) (before : Post (Item C)) (pla
   pub same : SameScript start now
   pub as_many : length now.tasks.items ≡ length start.tasks.items
   pub keeps : OperatorInvariant (progress_state now)
-  pub held : HeldUpTo now place
+  pub held : HeldUpTo now index
   pub replay : (session : C → SessionValue)
       → Replay (acts session) (actor_of before) (own_part_of (progress_state start)) deeds (own_part_of (progress_state now))
 
 module _ {C : Type 0} where
-  pub turning_on : (start mid now : Progress) (before between after : Post (Item C)) (place : ℕ) → IsKnown start
-      → Turning start before place mid between → VisitsTask mid place between now after → Turning start before (place + 1) now after
-  turning_on start mid now before between after place known t v =
+  pub turning_on : (start mid now : Progress) (before between after : Post (Item C)) (index : ℕ) → IsKnown start
+      → Turning start before index mid between → VisitsTask mid index between now after → Turning start before (index + 1) now after
+  turning_on start mid now before between after index known t v =
       let known_mid : IsKnown mid = known_still start mid t.same known in
       record {
         deeds = t.deeds ++ v.deeds;
@@ -87,11 +87,11 @@ module _ {C : Type 0} where
             (t.replay session) (subst (λ a. Replay (acts session) a (own_part_of (progress_state mid)) v.deeds (own_part_of (progress_state now))) t.wrote.actor (v.replay known_mid t.keeps t.held session));
       }
 
-  pub turning_ends : (start last now : Progress) (before after : Post (Item C)) (place : ℕ) → IsKnown start → place ≡ length start.tasks.items
-      → Turning start before place last after
+  pub turning_ends : (start last now : Progress) (before after : Post (Item C)) (index : ℕ) → IsKnown start → index ≡ length start.tasks.items
+      → Turning start before index last after
       → SameScript last now → progress_state now ≡ waiting_are (progress_state last) (unissued now.tasks.items)
       → now.tasks.items ≡ filter (λ task. not task.issued) last.tasks.items → Turns start before now after
-  turning_ends start last now before after place known whole_place t same now_is waiting = record {
+  turning_ends start last now before after index known whole_index t same now_is waiting = record {
     deeds = t.deeds;
     does = record {
       wrote = t.wrote;
@@ -113,15 +113,15 @@ module _ {C : Type 0} where
       state_is = now_is ∙ ap (waiting_are (progress_state last)) left
 
       held : AllByRecursion (IsGraftHeldUp (progress_state last)) (progress_state last).waiting
-      held = subst (λ (ts : List Task). AllByRecursion (IsGraftHeldUp (progress_state last)) ts) (all_taken last.tasks.items place (t.as_many ∙ sym whole_place)) t.held
+      held = subst (λ (ts : List Task). AllByRecursion (IsGraftHeldUp (progress_state last)) ts) (all_taken last.tasks.items index (t.as_many ∙ sym whole_index)) t.held
 
 -- a task that wasn't issued is of a step of the script
-pub step_within : (p : Progress) (place : ℕ) (task : Task) → IsKnown p → OperatorInvariant (progress_state p)
-    → slice_get p.tasks.items place ≡ Some task → task.issued ≡ false → task.step < length p.script.steps
-step_within p place task known keeps there waits =
-    let all : AllByRecursion (IsWaitingTask p.known.setup p.group p.next) (unissued (take place p.tasks.items) ++ task ∷ unissued (drop (suc place) p.tasks.items))
-    = subst (λ (ts : List Task). AllByRecursion (IsWaitingTask p.known.setup p.group p.next) ts) (split_at p.tasks.items place task there waits) keeps.waiting in
-    let w : IsWaitingTask p.known.setup p.group p.next task = (all_append_right (IsWaitingTask p.known.setup p.group p.next) (unissued (take place p.tasks.items)) (task ∷ unissued (drop (suc place) p.tasks.items)) all).0 in
+pub step_within : (p : Progress) (index : ℕ) (task : Task) → IsKnown p → OperatorInvariant (progress_state p)
+    → slice_get p.tasks.items index ≡ Some task → task.issued ≡ false → task.step < length p.script.steps
+step_within p index task known keeps there waits =
+    let all : AllByRecursion (IsWaitingTask p.known.setup p.group p.next) (unissued (take index p.tasks.items) ++ task ∷ unissued (drop (suc index) p.tasks.items))
+    = subst (λ (ts : List Task). AllByRecursion (IsWaitingTask p.known.setup p.group p.next) ts) (split_at p.tasks.items index task there waits) keeps.waiting in
+    let w : IsWaitingTask p.known.setup p.group p.next task = (all_append_right (IsWaitingTask p.known.setup p.group p.next) (unissued (take index p.tasks.items)) (task ∷ unissued (drop (suc index) p.tasks.items)) all).0 in
     let l : task.step < p.next = w.before in
     let m : p.next ≤ length p.known.setup.steps = keeps.ends.within in
     let e : length p.script.steps ≡ length p.known.setup.steps = as_many_steps p.known.setup p.script known.script in
@@ -131,11 +131,11 @@ pub state_of_forget : (old new : Progress) → SameScript old new → new.slots.
     → progress_state new ≡ waiting_are (progress_state old) (unissued new.tasks.items)
 state_of_forget old new same slots seats = λ i. record { setup = (same.known i).setup; group = same.group i; next = same.next i; waiting = unissued new.tasks.items; slots = slots i; seats = seats i }
 
-pub turning_moves : {C : Type 0} (start mid now now' : Progress) (before between after after' : Post (Item C)) (place : ℕ) → IsKnown start
-    → Turning start before place mid between → VisitsTask mid place between now after → now' ≡ now → after' ≡ after
-    → Turning start before (place + 1) now' after'
-turning_moves {C = C} start mid now now' before between after after' place known t v e f =
-    subst (λ (p : Progress). Turning start before (place + 1) p after') (sym e) (subst (λ (p : Post (Item C)). Turning start before (place + 1) now p) (sym f) (turning_on start mid now before between after place known t v))
+pub turning_moves : {C : Type 0} (start mid now now' : Progress) (before between after after' : Post (Item C)) (index : ℕ) → IsKnown start
+    → Turning start before index mid between → VisitsTask mid index between now after → now' ≡ now → after' ≡ after
+    → Turning start before (index + 1) now' after'
+turning_moves {C = C} start mid now now' before between after after' index known t v e f =
+    subst (λ (p : Progress). Turning start before (index + 1) p after') (sym e) (subst (λ (p : Post (Item C)). Turning start before (index + 1) now p) (sym f) (turning_on start mid now before between after index known t v))
 
 pub edges_move : {C : Type 0} (before between after after' : Post (Item C)) → SameEdges before between → SameEdges between after → after' ≡ after
     → SameEdges before after'

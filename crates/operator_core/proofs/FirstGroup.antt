@@ -14,7 +14,7 @@ use Rattle.graft_model.specs.Parts.{Unmade as NoGift, To}
 use Rattle.graft_model.specs.Placements.{target_by, placement}
 use Rattle.graft_model.specs.Evacuations.{gift_in_group, gift_or}
 use Rattle.graft_model.specs.First.{first_operator}
-use Rattle.graft_model.proofs.Numbers.{number_of_place}
+use Rattle.graft_model.proofs.Numbers.{number_of_index}
 use Rattle.operator_core.specs.declared.grafts.Seat.{Seat}
 use Rattle.operator_core.specs.declared.grafts.Slot.{Slot}
 use Rattle.operator_core.specs.declared.grafts.Slot.TheVariants.{Unmade, Stays, Made}
@@ -218,7 +218,7 @@ module _ (setup : Setup) (sound : StepsAreSound setup) (starts : (p : ℕ) (peer
       by_slot None e = ap (given_of (scripted_step setup (suc k))) e ∙ given_none (scripted_step setup (suc k))
       by_slot (Some slot) e =
           let own = of_graft k slot e in
-          let number : own.0.graft ≡ suc k = omega (arith, number_of_place setup k own.0 own.1) in
+          let number : own.0.graft ≡ suc k = omega (arith, number_of_index setup k own.0 own.1) in
           ap (given_of (scripted_step setup (suc k))) e
           ∙ ap (λ o. given_of o (Some slot)) (ap (scripted_step setup) (sym number) ∙ own_step setup first_slots_of k own.0 own.1)
           ∙ first_given (slice_get setup.steps own.0.step) own.0 slot own.2
@@ -239,7 +239,7 @@ module _ (setup : Setup) (sound : StepsAreSound setup) (starts : (p : ℕ) (peer
           let start : start_of setup p ≡ found.0.start = ap (λ o. unwrap_or (option_map (λ (peering : PeeringSetup). peering.start) o) 0) found.1 in
           record {
             place = ap (λ (x : Seat). x.place.0) same ∙ sym start ∙ sym (placed_first setup p (with_slots setup first_slots_of) no_outcome);
-            there = subst (λ (x : Seat). x.place.0 < routers_in setup) (sym same) (starts p found.0 found.1);
+            there = subst (λ (x : Seat). x.index.0 < routers_in setup) (sym same) (starts p found.0 found.1);
             still = (λ still i entry f of_p. ap is_open (waits i entry f).1, λ none. ap (λ (x : Seat). x.moving) same);
           }
 
@@ -251,7 +251,7 @@ module _ (setup : Setup) (sound : StepsAreSound setup) (starts : (p : ℕ) (peer
     others = others;
     settle = settle;
     all = as_many;
-    each = λ i g slot at_place e. first_ready_slot setup sound g slot (slice_get setup.steps g.step) refl (alike_at setup.steps (grafts_in setup) first_slots_of alike i g slot at_place e);
+    each = λ i g slot at_index e. first_ready_slot setup sound g slot (slice_get setup.steps g.step) refl (alike_at setup.steps (grafts_in setup) first_slots_of alike i g slot at_index e);
     in_turn = λ i j one other l e f same ordered. absurd (let g : true ≡ false = sym (ap is_waiting (waits j other f).1) ∙ ordered in cc);
     seated = seats_stand;
   }

@@ -18,10 +18,10 @@ module _ {A : Type 0} where
   sorted_append R [] ys one other across = other
   sorted_append R (x ∷ xs) ys one other across = (all_append (R x) xs ys one.0 across.0, sorted_append R xs ys one.1 other across.1)
 
-  pub all_by_place : (P : A → Type 0) (xs : List A) → AllByRecursion P xs → All P xs
-  all_by_place P [] all k d below = absurd (omega (arith, below))
-  all_by_place P (x ∷ xs) all zero d below = all.0
-  all_by_place P (x ∷ xs) all (suc k) d below = all_by_place P xs all.1 k d (omega (arith, below))
+  pub all_by_index : (P : A → Type 0) (xs : List A) → AllByRecursion P xs → All P xs
+  all_by_index P [] all k d below = absurd (omega (arith, below))
+  all_by_index P (x ∷ xs) all zero d below = all.0
+  all_by_index P (x ∷ xs) all (suc k) d below = all_by_index P xs all.1 k d (omega (arith, below))
 
   -- ---- what is found
 

@@ -55,11 +55,11 @@ give_at (gift ∷ gifts) slots i within counted sorted =
     let rest = give_at gifts more i (omega (arith, len, within)) counted.1 sorted.1 in
     elim (cases_eq gift.graft (suc i)) [
       | inl is ↦
-          let place : gift.graft - 1 ≡ i = omega (arith, is) in
+          let index : gift.graft - 1 ≡ i = omega (arith, is) in
           let none = none_found (has_number (suc i)) gifts (all_map (IsEarlier gift) (λ other. has_number (suc i) other ≡ false) gifts (λ other later. later_is_other gift other (suc i) is later) sorted.0) in
           rest
           ∙ (ap (λ (o : Option Gift). option_or (option_map given_slot o) (slice_get more i)) none
-          ∙ (ap (λ (p : ℕ). slice_get (slice_set slots p (given_slot gift)) i) place
+          ∙ (ap (λ (p : ℕ). slice_get (slice_set slots p (given_slot gift)) i) index
           ∙ (get_set_same slots i (given_slot gift) within
           ∙ ap (λ (b : Bool). option_or (option_map given_slot (cond b (Some gift) (gift_numbered (suc i) gifts))) (slice_get slots i)) (sym (eq-eqb gift.graft (suc i) is)))))
       | inr other ↦
@@ -150,7 +150,7 @@ module _ (first : ℕ) (router : RouterId) where
         ∙ ap (λ (b : Bool). gift_from router.0 (cond b (Some (q.0, t)) (find (λ e. eqb e.0 p) (zip (map (λ q. q.0) ps) ts)))) (sym (ne_eqb q.0 p other)))
   ]
 
--- ---- seats, and where the laboratory places sessions
+-- ---- seats, and where the laboratory indices sessions
 
 abbrev pub ArePlaced : (ℕ → ℕ) → ℕ → List Seat → Type 0
 ArePlaced placed q seats = (i : ℕ) (seat : Seat) → slice_get seats i ≡ Some seat → seat.place.0 ≡ placed (q + i)
@@ -189,7 +189,7 @@ module _ (placed : ℕ → ℕ) where
 
 -- ---- the gifts of a laboratory's steps
 
--- A gift is one of the evacuate step at this place: for a graft of it, to a router of the laboratory if to any.
+-- A gift is one of the evacuate step at this index: for a graft of it, to a router of the laboratory if to any.
 pub record IsGiftOf (setup : Setup) (m : ℕ) (gift : Gift) : Type 0 where
   pub step : slice_get setup.steps m ≡ Some (EvacuateStep gift.router.0)
   pub graft : graft_at setup gift.graft ≡ Some (record { graft = gift.graft; peering = gift.peering.0; step = m })
@@ -197,10 +197,10 @@ pub record IsGiftOf (setup : Setup) (m : ℕ) (gift : Gift) : Type 0 where
 
 -- and it is one of a step of the group
 pub record IsGiftWithin (setup : Setup) (from len : ℕ) (gift : Gift) : Type 0 where
-  pub place : ℕ
-  pub behind : from ≤ place
-  pub within : place < from + len
-  pub of : IsGiftOf setup place gift
+  pub index : ℕ
+  pub behind : from ≤ index
+  pub within : index < from + len
+  pub of : IsGiftOf setup index gift
 
 module _ (setup : Setup) (seats : List Seat) where
   length-loads : length (seat_loads seats (routers_in setup)) ≡ routers_in setup
@@ -248,7 +248,7 @@ module _ (setup : Setup) (seats : List Seat) where
 
   pub group_gifts_are : length seats ≡ peerings_in setup → (from len : ℕ) → AllByRecursion (IsGiftWithin setup from len) (group_gifts setup seats from len)
   group_gifts_are all from len = all_range (gifts_at setup seats) (IsGiftWithin setup from len) from len (λ m behind within.
-      all_map (IsGiftOf setup m) (IsGiftWithin setup from len) (gifts_at setup seats m) (λ gift is. record { place = m; behind = behind; within = within; of = is }) (gifts_are all m))
+      all_map (IsGiftOf setup m) (IsGiftWithin setup from len) (gifts_at setup seats m) (λ gift is. record { index = m; behind = behind; within = within; of = is }) (gifts_are all m))
 
   -- no step but a graft's own gives to it
   given_by_own : length seats ≡ peerings_in setup → (g : ScriptGraft) (k : ℕ) → graft_at setup k ≡ Some g → (m : ℕ) → m ≢ g.step

@@ -22,7 +22,7 @@ use Rattle.operator_core.specs.States.{State, part_of_state}
 use Rattle.operator_core.specs.Keeps.{emptied_by, IsMade, IsStaying, IsSlotOf, OperatorInvariant}
 use Rattle.operator_core.proofs.SlotLaws.{own_source, own_outcome, own_given}
 
--- two lists whose items at each place give the same give the same
+-- two lists whose items at each index give the same give the same
 flat_alike : {A B C : Type 0} (f : A → List C) (h : B → List C) (xs : List A) (ys : List B) → length xs ≡ length ys
     → ((i : ℕ) (x : A) (y : B) → slice_get xs i ≡ Some x → slice_get ys i ≡ Some y → f x ≡ h y)
     → flat_map f xs ≡ flat_map h ys

@@ -15,7 +15,7 @@ use Rattle.operator_core.specs.Groups.{gifts_of_step, tasks_of_step, gifts_at, t
 pub length-loads_of : (seats : List Seat) (routers : ℕ) → length (seat_loads seats routers) ≡ routers
 length-loads_of seats routers = length-map-range_with_len (load_of seats) 0 routers
 
--- one more place of a range
+-- one more index of a range
 flat_more : {A : Type 0} (f : ℕ → List A) (from len : ℕ) → flat_map f (range_with_len from (suc len)) ≡ flat_map f (range_with_len from len) ++ f (from + len)
 flat_more f from zero = append-nil (f from) ∙ ap f (let e : from ≡ from + zero = omega arith in e)
 flat_more f from (suc len) =
@@ -23,23 +23,23 @@ flat_more f from (suc len) =
     ∙ sym (append_assoc (f from) (flat_map f (range_with_len (from + 1) len)) (f (from + 1 + len)))
     ∙ ap (λ n. (f from ++ flat_map f (range_with_len (from + 1) len)) ++ f n) (let e : from + 1 + len ≡ from + suc len = omega arith in e)
 
-pub more_of : {A : Type 0} (f : ℕ → List A) (from place : ℕ) (xs more ys : List A) → from ≤ place
-    → xs ≡ flat_map f (range_with_len from (place - from)) → more ≡ f place → ys ≡ xs ++ more
-    → ys ≡ flat_map f (range_with_len from (place + 1 - from))
-more_of f from place xs more ys behind before here is =
-    let next : suc (place - from) ≡ place + 1 - from = omega arith in
-    let at : from + (place - from) ≡ place = omega arith in
-    is ∙ ap (λ zs. zs ++ more) before ∙ ap (λ zs. flat_map f (range_with_len from (place - from)) ++ zs) (here ∙ ap f (sym at))
-    ∙ sym (flat_more f from (place - from)) ∙ ap (λ n. flat_map f (range_with_len from n)) next
+pub more_of : {A : Type 0} (f : ℕ → List A) (from index : ℕ) (xs more ys : List A) → from ≤ index
+    → xs ≡ flat_map f (range_with_len from (index - from)) → more ≡ f index → ys ≡ xs ++ more
+    → ys ≡ flat_map f (range_with_len from (index + 1 - from))
+more_of f from index xs more ys behind before here is =
+    let next : suc (index - from) ≡ index + 1 - from = omega arith in
+    let at : from + (index - from) ≡ index = omega arith in
+    is ∙ ap (λ zs. zs ++ more) before ∙ ap (λ zs. flat_map f (range_with_len from (index - from)) ++ zs) (here ∙ ap f (sym at))
+    ∙ sym (flat_more f from (index - from)) ∙ ap (λ n. flat_map f (range_with_len from n)) next
 
-module _ (script : Script) (numbers : List ℕ) (seats : List Seat) (place : ℕ) (step : ScriptStep) (there : slice_get script.steps place ≡ Some step) where
+module _ (script : Script) (numbers : List ℕ) (seats : List Seat) (index : ℕ) (step : ScriptStep) (there : slice_get script.steps index ≡ Some step) where
   pub gifts_here : (loads rooms : List ℕ) → loads ≡ seat_loads seats (length script.rooms) → rooms ≡ script.rooms
-      → gifts_by seats loads rooms (slice_index_or numbers place 0) step ≡ gifts_at script numbers seats place
+      → gifts_by seats loads rooms (slice_index_or numbers index 0) step ≡ gifts_at script numbers seats index
   gifts_here loads rooms loads_are rooms_are =
-      (λ i. gifts_by seats (loads_are i) (rooms_are i) (slice_index_or numbers place 0) step) ∙ sym (ap (gifts_of_step script numbers seats place) there)
+      (λ i. gifts_by seats (loads_are i) (rooms_are i) (slice_index_or numbers index 0) step) ∙ sym (ap (gifts_of_step script numbers seats index) there)
 
-  pub tasks_here : (given : List Gift) → given ≡ gifts_at script numbers seats place
-      → tasks_by place (slice_index_or numbers place 0) step given ≡ tasks_at script numbers seats place
+  pub tasks_here : (given : List Gift) → given ≡ gifts_at script numbers seats index
+      → tasks_by index (slice_index_or numbers index 0) step given ≡ tasks_at script numbers seats index
   tasks_here given is =
-      ap (tasks_by place (slice_index_or numbers place 0) step) (is ∙ ap (gifts_of_step script numbers seats place) there)
-      ∙ sym (ap (tasks_of_step script numbers seats place) there)
+      ap (tasks_by index (slice_index_or numbers index 0) step) (is ∙ ap (gifts_of_step script numbers seats index) there)
+      ∙ sym (ap (tasks_of_step script numbers seats index) there)

@@ -37,7 +37,7 @@ module _ (s : State) (keeps : OperatorInvariant s) where
   held_by_graft None is some = absurd cc
   held_by_graft (Some k) is some =
       let r : IsFirstOpen s.slots k = first_is_open s.slots k (sym is) in
-      inr (inl (r.place + 1, open_there s keeps r.place r.entry r.there r.open_is))
+      inr (inl (r.index + 1, open_there s keeps r.index r.entry r.there r.open_is))
 
   pub held_at_end : s.next ≡ length s.setup.steps → IsHeldUp s.setup (part_of_state s)
   held_at_end e =

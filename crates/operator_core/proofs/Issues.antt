@@ -10,7 +10,7 @@ use Rattle.graft_model.specs.Points.{at}
 use Rattle.graft_model.specs.Setups.{ScriptStep, SayStep, MoveStep, EvacuateStep, SettleStep, ScriptGraft, group_of, grafts_in, graft_at}
 use Rattle.graft_model.specs.OperatorRows.{OrderTo, SayTo, OrdersSay, OrdersGraft, number_by}
 use Rattle.graft_model.specs.Placements.{target_in, placement}
-use Rattle.graft_model.proofs.Numbers.{place_of_graft, steps_rise}
+use Rattle.graft_model.proofs.Numbers.{index_of_graft, steps_rise}
 use Rattle.operator_core.specs.declared.grafts.Move.{Move}
 use Rattle.operator_core.specs.declared.grafts.Seat.{Seat}
 use Rattle.operator_core.specs.declared.grafts.Slot.{Slot}
@@ -103,9 +103,9 @@ module _ (s : State) (keeps : OperatorInvariant s) (kept rest : List Task) (task
     slots_without : SlotsStand s.setup s.group (kept ++ rest) s.slots
     slots_without = record {
       all = keeps.slots.all;
-      each = λ i g slot at_place there. (
-          let was = keeps.slots.each i g slot at_place there in
-          record { fits = was.fits; past = was.past; now = λ e. was.now e ∙ sym (other_stays g.step g.graft (alone g i at_place)); later = was.later });
+      each = λ i g slot at_index there. (
+          let was = keeps.slots.each i g slot at_index there in
+          record { fits = was.fits; past = was.past; now = λ e. was.now e ∙ sym (other_stays g.step g.graft (alone g i at_index)); later = was.later });
       in_turn = keeps.slots.in_turn;
     }
 
@@ -144,7 +144,7 @@ module _ (s : State) (keeps : OperatorInvariant s) (kept rest : List Task) (task
       ends = keeps.ends;
       waiting = others_wait;
       rising = others_rise;
-      slots = slots_without (λ g i at_place. is_other_graft g.step g.graft task (λ same. let n : g.graft ≡ i + 1 = number s.setup s.slots i g at_place in let z : task.graft ≡ 0 = no_graft in omega arith));
+      slots = slots_without (λ g i at_index. is_other_graft g.step g.graft task (λ same. let n : g.graft ≡ i + 1 = number s.setup s.slots i g at_index in let z : task.graft ≡ 0 = no_graft in omega arith));
       seats = keeps.seats;
     }
 
@@ -180,8 +180,8 @@ module _ (s : State) (keeps : OperatorInvariant s) (kept rest : List Task) (task
       by_slot : (i : ℕ) (g : ScriptGraft) → task.graft ≡ i + 1 → slice_get (grafts_in s.setup) i ≡ Some g → g.step ≡ task.step
           → (slot : Slot) × (slice_get s.slots i ≡ Some slot) × IsSlot s.setup s.group s.waiting g slot
           → (moves : Move) × (move_of (slot_at s.slots task.graft) ≡ Some moves)
-      by_slot i g is at_place step (slot, e, stands) = by_kind slot (ap (slot_at s.slots) is ∙ slot_next s.slots i ∙ e) (stands.now (ap (group_of s.setup) step ∙ waits.group_is)
-          ∙ ap (has_task s.waiting g.step) (number s.setup s.slots i g at_place ∙ sym is) ∙ ap (λ n. has_task s.waiting n task.graft) step ∙ task_waits)
+      by_slot i g is at_index step (slot, e, stands) = by_kind slot (ap (slot_at s.slots) is ∙ slot_next s.slots i ∙ e) (stands.now (ap (group_of s.setup) step ∙ waits.group_is)
+          ∙ ap (has_task s.waiting g.step) (number s.setup s.slots i g at_index ∙ sym is) ∙ ap (λ n. has_task s.waiting n task.graft) step ∙ task_waits)
         where
           by_kind : (slot : Slot) → slot_at s.slots task.graft ≡ Some slot → slot_waits slot ≡ true
               → (moves : Move) × (move_of (slot_at s.slots task.graft) ≡ Some moves)
@@ -192,32 +192,32 @@ module _ (s : State) (keeps : OperatorInvariant s) (kept rest : List Task) (task
       by_graft : (o : Option ScriptGraft) → graft_at s.setup task.graft ≡ o → (moves : Move) × (move_of (slot_at s.slots task.graft) ≡ Some moves)
       by_graft None e = absurd (let f : None ≡ Some task.step = sym (ap (option_map (λ (x : ScriptGraft). x.step)) e) ∙ of_step in cc)
       by_graft (Some g) e =
-          let at_i = place_of_graft s.setup task.graft g e in
+          let at_i = index_of_graft s.setup task.graft g e in
           let step : g.step ≡ task.step = (let f : Some g.step ≡ Some task.step = sym (ap (option_map (λ (x : ScriptGraft). x.step)) e) ∙ of_step in cc) in
           by_slot at_i.0 g at_i.1 at_i.2 step (slot_there s.setup s.group s.waiting s.slots keeps.slots at_i.0 g at_i.2)
 
-  module _ (of_step : IsGraftTask s.setup task) (place : ℕ) (is_place : place + 1 ≡ task.graft) (entry : GraftEntry) (there : slice_get s.slots place ≡ Some (Made entry))
+  module _ (of_step : IsGraftTask s.setup task) (index : ℕ) (is_index : index + 1 ≡ task.graft) (entry : GraftEntry) (there : slice_get s.slots index ≡ Some (Made entry))
       (seat : Seat) (seated : slice_get s.seats entry.peering.0 ≡ Some seat) (still : seat.moving ≡ false) where
     abbrev after : State
-    after = waiting_are (graft_issued s place entry seat) (kept ++ rest)
+    after = waiting_are (graft_issued s index entry seat) (kept ++ rest)
 
     abbrev new_entry : GraftEntry
     new_entry = issued_entry entry seat.place
 
-    own : IsOwned s.setup s.group s.waiting place (Made entry)
-    own = owner s.setup s.group s.waiting s.slots keeps.slots place (Made entry) there
+    own : IsOwned s.setup s.group s.waiting index (Made entry)
+    own = owner s.setup s.group s.waiting s.slots keeps.slots index (Made entry) there
 
     abbrev g : ScriptGraft
     g = own.graft
 
-    number_is : g.graft ≡ place + 1
-    number_is = number s.setup s.slots place g own.place
+    number_is : g.graft ≡ index + 1
+    number_is = number s.setup s.slots index g own.index
 
     known : graft_at s.setup g.graft ≡ Some g
-    known = graft_there s.setup place g own.place
+    known = graft_there s.setup index g own.index
 
     same_number : g.graft ≡ task.graft
-    same_number = number_is ∙ is_place
+    same_number = number_is ∙ is_index
 
     same_step : g.step ≡ task.step
     same_step = one_step (graft_at s.setup task.graft) (sym (ap (graft_at s.setup) same_number) ∙ known) of_step
@@ -238,7 +238,7 @@ module _ (s : State) (keeps : OperatorInvariant s) (kept rest : List Task) (task
     is_seat = keeps.seats.each entry.peering.0 seat seated
 
     -- the grafts of the peering before it have ended
-    earlier_ended : (i : ℕ) (one : GraftEntry) → i < place → slice_get s.slots i ≡ Some (Made one) → one.peering.0 ≡ entry.peering.0
+    earlier_ended : (i : ℕ) (one : GraftEntry) → i < index → slice_get s.slots i ≡ Some (Made one) → one.peering.0 ≡ entry.peering.0
         → outcome_at one.stage ≢ None
     earlier_ended i one l e of_p = by_group (compare (group_of s.setup h.graft.step) s.group)
       where
@@ -246,10 +246,10 @@ module _ (s : State) (keeps : OperatorInvariant s) (kept rest : List Task) (task
         h = owner s.setup s.group s.waiting s.slots keeps.slots i (Made one) e
 
         its_number : h.graft.graft ≡ i + 1
-        its_number = number s.setup s.slots i h.graft h.place
+        its_number = number s.setup s.slots i h.graft h.index
 
         steps : h.graft.step ≤ g.step
-        steps = steps_rise s.setup h.graft g (graft_there s.setup i h.graft h.place) known (omega (arith, its_number, number_is, l))
+        steps = steps_rise s.setup h.graft g (graft_there s.setup i h.graft h.index) known (omega (arith, its_number, number_is, l))
 
         no_task : has_task s.waiting h.graft.step h.graft.graft ≡ true → ⊥
         no_task w = elim (about h.graft.step h.graft.graft w) [
@@ -281,33 +281,33 @@ module _ (s : State) (keeps : OperatorInvariant s) (kept rest : List Task) (task
         by_group (inr (inr more)) = let up : group_of s.setup h.graft.step ≤ group_of s.setup g.step = groups_rise s.setup h.graft.step g.step steps in let k : group_of s.setup g.step ≡ s.group = group_is in absurd (omega arith)
 
     -- what stands in the slots then
-    place_within : place < length s.slots
-    place_within = slice_get_within s.slots place (Made entry) there
+    index_within : index < length s.slots
+    index_within = slice_get_within s.slots index (Made entry) there
 
-    at_new : slice_get after.slots place ≡ Some (Made new_entry)
-    at_new = get_set_same s.slots place (Made new_entry) place_within
+    at_new : slice_get after.slots index ≡ Some (Made new_entry)
+    at_new = get_set_same s.slots index (Made new_entry) index_within
 
-    at_other : (i : ℕ) → i ≢ place → slice_get after.slots i ≡ slice_get s.slots i
-    at_other i ne = get_set_other s.slots place i (Made new_entry) ne
+    at_other : (i : ℕ) → i ≢ index → slice_get after.slots i ≡ slice_get s.slots i
+    at_other i ne = get_set_other s.slots index i (Made new_entry) ne
 
     -- a slot is the new one, or one that stood there
     which : (i : ℕ) (slot : Slot) → slice_get after.slots i ≡ Some slot
-        → ((i ≡ place) × (slot ≡ Made new_entry)) ⊎ ((i ≢ place) × (slice_get s.slots i ≡ Some slot))
-    which i slot e = elim (by_test (i == place)) [
-      | inl f ↦ let is : i ≡ place = grind (arith, nat_tests) in inl (is, one_member (slice_get after.slots place) _ _ (sym (ap (slice_get after.slots) is) ∙ e) at_new)
-      | inr f ↦ let ne : i ≢ place = λ same. grind (arith, nat_tests) in inr (ne, sym (at_other i ne) ∙ e)
+        → ((i ≡ index) × (slot ≡ Made new_entry)) ⊎ ((i ≢ index) × (slice_get s.slots i ≡ Some slot))
+    which i slot e = elim (by_test (i == index)) [
+      | inl f ↦ let is : i ≡ index = grind (arith, nat_tests) in inl (is, one_member (slice_get after.slots index) _ _ (sym (ap (slice_get after.slots) is) ∙ e) at_new)
+      | inr f ↦ let ne : i ≢ index = λ same. grind (arith, nat_tests) in inr (ne, sym (at_other i ne) ∙ e)
     ]
 
     -- the same of entries
     which_entry : (i : ℕ) (one : GraftEntry) → slice_get after.slots i ≡ Some (Made one)
-        → ((i ≡ place) × (one ≡ new_entry)) ⊎ ((i ≢ place) × (slice_get s.slots i ≡ Some (Made one)))
+        → ((i ≡ index) × (one ≡ new_entry)) ⊎ ((i ≢ index) × (slice_get s.slots i ≡ Some (Made one)))
     which_entry i one e = elim (which i (Made one) e) [ inl (is, new) ↦ inl (is, same_entry one new_entry (ap Some new)) | inr other ↦ inr other ]
 
     same_outcomes : outcome_in after.slots ≡ outcome_in s.slots
-    same_outcomes = outcome_stays s.slots place entry new_entry there (sym (waiting_has_no_outcome entry.stage entry_waits))
+    same_outcomes = outcome_stays s.slots index entry new_entry there (sym (waiting_has_no_outcome entry.stage entry_waits))
 
     same_given : given_in s.setup after.slots ≡ given_in s.setup s.slots
-    same_given = given_stays s.slots place entry new_entry there s.setup refl
+    same_given = given_stays s.slots index entry new_entry there s.setup refl
 
     new_slot : IsSlot s.setup s.group (kept ++ rest) g (Made new_entry)
     new_slot = record {
@@ -324,21 +324,21 @@ module _ (s : State) (keeps : OperatorInvariant s) (kept rest : List Task) (task
 
     slots_stand : SlotsStand s.setup s.group (kept ++ rest) after.slots
     slots_stand = record {
-      all = length_set s.slots place (Made new_entry) ∙ keeps.slots.all;
+      all = length_set s.slots index (Made new_entry) ∙ keeps.slots.all;
       each = each;
       in_turn = in_turn;
     }
       where
         each : (i : ℕ) (x : ScriptGraft) (slot : Slot) → slice_get (grafts_in s.setup) i ≡ Some x → slice_get after.slots i ≡ Some slot
             → IsSlot s.setup s.group (kept ++ rest) x slot
-        each i x slot at_place e = elim (which i slot e) [
+        each i x slot at_index e = elim (which i slot e) [
           | inl (is, new) ↦
-              let same : g ≡ x = one_member (slice_get (grafts_in s.setup) place) _ _ own.place (sym (ap (slice_get (grafts_in s.setup)) is) ∙ at_place) in
+              let same : g ≡ x = one_member (slice_get (grafts_in s.setup) index) _ _ own.index (sym (ap (slice_get (grafts_in s.setup)) is) ∙ at_index) in
               subst (λ (y : ScriptGraft). IsSlot s.setup s.group (kept ++ rest) y slot) same (subst (IsSlot s.setup s.group (kept ++ rest) g) (sym new) new_slot)
           | inr (ne, old) ↦
-              let was = keeps.slots.each i x slot at_place old in
+              let was = keeps.slots.each i x slot at_index old in
               let differs : is_task x.step x.graft task ≡ false = is_other_graft x.step x.graft task
-              (λ same. ne (let a : x.graft ≡ i + 1 = number s.setup s.slots i x at_place in let b : place + 1 ≡ task.graft = is_place in omega arith)) in
+              (λ same. ne (let a : x.graft ≡ i + 1 = number s.setup s.slots i x at_index in let b : index + 1 ≡ task.graft = is_index in omega arith)) in
               record { fits = was.fits; past = was.past; now = λ f. was.now f ∙ sym (other_stays x.step x.graft differs); later = was.later }
         ]
 
@@ -348,7 +348,7 @@ module _ (s : State) (keeps : OperatorInvariant s) (kept rest : List Task) (task
             | inl (at_j, new') ↦ absurd (omega arith)
             | inr (ne, old) ↦
                 let of_p : entry.peering.0 ≡ other.peering.0 = sym (ap (λ (x : GraftEntry). x.peering.0) new) ∙ same in
-                absurd (keeps.slots.in_turn place j entry other (omega arith) there old of_p ordered (waiting_has_no_outcome entry.stage entry_waits))
+                absurd (keeps.slots.in_turn index j entry other (omega arith) there old of_p ordered (waiting_has_no_outcome entry.stage entry_waits))
           ]
           | inr (ne, old) ↦ elim (which_entry j other f) [
             | inl (at_j, new') ↦ earlier_ended i one (omega arith) old (same ∙ ap (λ (x : GraftEntry). x.peering.0) new')
@@ -378,7 +378,7 @@ module _ (s : State) (keeps : OperatorInvariant s) (kept rest : List Task) (task
         new_seat = record {
           place = is_seat.place ∙ sym (same_place entry.peering.0);
           there = is_seat.there;
-          still = (λ e. absurd cc, λ none. absurd (let h : true ≡ false = none place new_entry at_new refl in cc));
+          still = (λ e. absurd cc, λ none. absurd (let h : true ≡ false = none index new_entry at_new refl in cc));
         }
 
         other_seat : (q : ℕ) (other : Seat) → q ≢ entry.peering.0 → IsSeat s.setup s.slots q other → IsSeat s.setup after.slots q other
@@ -390,13 +390,13 @@ module _ (s : State) (keeps : OperatorInvariant s) (kept rest : List Task) (task
               | inl (is, new) ↦ absurd (ne (sym of_q ∙ ap (λ (x : GraftEntry). x.peering.0) new))
               | inr (differs, old) ↦ was.still.0 e i one old of_q
             ],
-            λ none. was.still.1 (λ i one f of_q. elim (by_test (i == place)) [
+            λ none. was.still.1 (λ i one f of_q. elim (by_test (i == index)) [
               | inl e ↦
-                  let same : i ≡ place = grind (arith, nat_tests) in
+                  let same : i ≡ index = grind (arith, nat_tests) in
                   let is_old : one ≡ entry = same_entry one entry (sym f ∙ ap (slice_get s.slots) same ∙ there) in
                   absurd (ne (sym of_q ∙ ap (λ (x : GraftEntry). x.peering.0) is_old))
               | inr e ↦
-                  let differs : i ≢ place = λ same. grind (arith, nat_tests) in
+                  let differs : i ≢ index = λ same. grind (arith, nat_tests) in
                   none i one (at_other i differs ∙ f) of_q
             ]),
           );
@@ -411,12 +411,12 @@ module _ (s : State) (keeps : OperatorInvariant s) (kept rest : List Task) (task
     earlier other other_known of_p l made none = by_slot (slot_there s.setup s.group s.waiting s.slots keeps.slots at_i.0 other at_i.2)
       where
         at_i : (i : ℕ) × (other.graft ≡ i + 1) × (slice_get (grafts_in s.setup) i ≡ Some other)
-        at_i = place_of_graft s.setup other.graft other other_known
+        at_i = index_of_graft s.setup other.graft other other_known
 
         by_slot : (slot : Slot) × (slice_get s.slots at_i.0 ≡ Some slot) × IsSlot s.setup s.group s.waiting other slot → ⊥
         by_slot (Unmade, e, is) = made (own_target s.setup s.slots at_i.0 other at_i.2 Unmade e is.fits)
         by_slot (Stays k p router, e, is) = made (own_target s.setup s.slots at_i.0 other at_i.2 (Stays k p router) e is.fits)
-        by_slot (Made one, e, is) = earlier_ended at_i.0 one (let a : other.graft ≡ at_i.0 + 1 = at_i.1 in let b : g.graft ≡ place + 1 = number_is in omega arith) e
+        by_slot (Made one, e, is) = earlier_ended at_i.0 one (let a : other.graft ≡ at_i.0 + 1 = at_i.1 in let b : g.graft ≡ index + 1 = number_is in omega arith) e
             ((is.fits.made one refl).peering ∙ of_p ∙ sym names.peering) (sym (own_outcome s.setup s.slots at_i.0 other at_i.2 one e) ∙ none)
 
     pub graft_row : (number : ℕ) → number ≡ number_by (slice_get s.setup.steps task.step) task.graft
@@ -428,9 +428,9 @@ module _ (s : State) (keeps : OperatorInvariant s) (kept rest : List Task) (task
       named = named ∙ ap (number_by (slice_get s.setup.steps task.step)) (sym same_number);
       group = ap (group_of s.setup) (sym same_step) ∙ group_is;
       target = entry.target.0;
-      is = own_target s.setup s.slots place g own.place (Made entry) there own.is.fits;
-      unordered = own_source s.setup s.slots place g own.place entry there ∙ ap (λ o. option_map (λ r. r.0) o) (names.source.1 entry_waits);
-      unended = own_outcome s.setup s.slots place g own.place entry there ∙ waiting_has_no_outcome entry.stage entry_waits;
+      is = own_target s.setup s.slots index g own.index (Made entry) there own.is.fits;
+      unordered = own_source s.setup s.slots index g own.index entry there ∙ ap (λ o. option_map (λ r. r.0) o) (names.source.1 entry_waits);
+      unended = own_outcome s.setup s.slots index g own.index entry there ∙ waiting_has_no_outcome entry.stage entry_waits;
       earlier = earlier;
       takes = refl;
       sends = λ i. OrderTo (places i) (record { graft = sym same_number i; peering = names.peering i; target = entry.target.0 }) ∷ [];
@@ -441,11 +441,11 @@ module _ (s : State) (keeps : OperatorInvariant s) (kept rest : List Task) (task
         places = is_seat.place ∙ ap (placement s.setup (with_slots s.setup s.slots)) names.peering
 
         sources : source_in after.slots ≡ at (source_in s.slots) g.graft (Some (placement s.setup (part_of_state s) g.peering))
-        sources = source_set s.slots place new_entry place_within ∙ (λ i. at (source_in s.slots) (sym number_is i) (Some (places i)))
+        sources = source_set s.slots index new_entry index_within ∙ (λ i. at (source_in s.slots) (sym number_is i) (Some (places i)))
 
         issued_is : issued_in after ≡ issued_in s
         issued_is = λ i m. ap (λ b. is_say (slice_get s.setup.steps m) && nat_lt m s.next && not b)
-            (other_stays m 0 (is_other_graft m 0 task (λ zero_is. let e : place + 1 ≡ task.graft = is_place in omega arith))) i
+            (other_stays m 0 (is_other_graft m 0 task (λ zero_is. let e : index + 1 ≡ task.graft = is_index in omega arith))) i
 
     -- what is held up stays so
     pub held_still : (other : Task) → other.graft ≢ task.graft → IsGraftHeldUp s other → IsGraftHeldUp after other
@@ -461,7 +461,7 @@ module _ (s : State) (keeps : OperatorInvariant s) (kept rest : List Task) (task
       where
         by_number : (k : ℕ) → other.graft ≡ k → slot_at after.slots other.graft ≡ Some (Made h.entry)
         by_number zero e = absurd (held_has_graft s other h e)
-        by_number (suc k) e = ap (slot_at after.slots) e ∙ at_other k (λ same. differs (omega (arith, e, same, is_place))) ∙ sym (ap (slot_at s.slots) e) ∙ h.is
+        by_number (suc k) e = ap (slot_at after.slots) e ∙ at_other k (λ same. differs (omega (arith, e, same, is_index))) ∙ sym (ap (slot_at s.slots) e) ∙ h.is
 
     -- the tasks before this one are of other grafts
     pub held_others : AllByRecursion (IsGraftHeldUp after) kept

@@ -1,4 +1,4 @@
--- Lists at places, and members that pass a test.
+-- Lists at indices, and members that pass a test.
 use Rattle.std.proofs.Common.{◌≡◌, ℕ, zero, suc, ◌<◌, ◌==◌, nat_lt, Bool, true, false, ◌||◌, List, [], ◌∷◌, ◌++◌, length, get_or, Option, Some, refl, sym, ap, ◌∙◌, inl, inr, arith}
 use Rattle.std.specs.Prelude.{◌≢◌, ◌⊎◌, slice_get, slice_set}
 use Rattle.std.specs.List.{list_any, AllByRecursion}
@@ -15,7 +15,7 @@ compare m n = elim (by_test (nat_lt m n)) [
   | inr e ↦ elim (by_test (m == n)) [ inl f ↦ inr (inl (grind (arith, nat_tests))) | inr f ↦ inr (inr (grind (arith, nat_tests))) ]
 ]
 
--- ---- places
+-- ---- indices
 
 pub get_set_same : {A : Type 0} (xs : List A) (i : ℕ) (x : A) → i < length xs → slice_get (slice_set xs i x) i ≡ Some x
 get_set_same [] i x l = absurd (omega arith)
@@ -34,7 +34,7 @@ length_set [] i x = refl
 length_set (y ∷ xs) zero x = refl
 length_set (y ∷ xs) (suc i) x = let h : length (slice_set xs i x) ≡ length xs = length_set xs i x in omega arith
 
--- a place within a list has a member
+-- an index within a list has a member
 pub there_is : {A : Type 0} (xs : List A) (i : ℕ) → i < length xs → (x : A) × (slice_get xs i ≡ Some x)
 there_is [] i l = absurd (omega arith)
 there_is (x ∷ xs) zero l = (x, refl)
@@ -43,7 +43,7 @@ there_is (x ∷ xs) (suc i) l = there_is xs i (omega arith)
 pub one_member : {A : Type 0} (o : Option A) (x y : A) → o ≡ Some x → o ≡ Some y → x ≡ y
 one_member o x y e f = cc
 
--- what is read at a place, of a list that is read under another name
+-- what is read at an index, of a list that is read under another name
 pub stands_in : {A : Type 0} (read xs : List A) (k : ℕ) (d x : A) → read ≡ xs → k < length xs → get_or read k d ≡ x → slice_get xs k ≡ Some x
 stands_in read xs k d x same l e = slice_get-get_or xs k d l ∙ ap Some (ap (λ ys. get_or ys k d) (sym same) ∙ e)
 

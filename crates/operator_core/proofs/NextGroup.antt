@@ -9,7 +9,7 @@ use Rattle.graft_model.specs.Parts.{Gift as GiftOf, Unmade as NoGift, To, Stays 
 use Rattle.graft_model.specs.OperatorRows.{BeginsGroup}
 use Rattle.graft_model.specs.Placements.{placement}
 use Rattle.graft_model.specs.Evacuations.{gift_by, gift_in_group, gift_or, gift_to}
-use Rattle.graft_model.proofs.Numbers.{place_of_graft}
+use Rattle.graft_model.proofs.Numbers.{index_of_graft}
 use Rattle.operator_core.specs.declared.grafts.Slot.{Slot}
 use Rattle.operator_core.specs.declared.grafts.Slot.TheVariants.{Unmade, Stays, Made}
 use Rattle.operator_core.specs.declared.groups.Task.{Task}
@@ -85,7 +85,7 @@ module _ (s : State) (keeps : OperatorInvariant s) (free : IsHeldUp s.setup (par
       others = others;
       settle = settle;
       all = keeps.slots.all;
-      each = λ i g slot at_place e. ready_slot i g slot e (keeps.slots.each i g slot at_place e);
+      each = λ i g slot at_index e. ready_slot i g slot e (keeps.slots.each i g slot at_index e);
       in_turn = keeps.slots.in_turn;
       seated = keeps.seats;
     }
@@ -182,7 +182,7 @@ module _ (s : State) (keeps : OperatorInvariant s) (free : IsHeldUp s.setup (par
         or_none (StaysAt r) = refl
 
         at_i : (i : ℕ) × (g.graft ≡ i + 1) × (slice_get (grafts_in s.setup) i ≡ Some g)
-        at_i = place_of_graft s.setup g.graft g known_g
+        at_i = index_of_graft s.setup g.graft g known_g
 
         unmade : (slot : Slot) → is_first (Some (EvacuateStep router)) slot ≡ true → given_of (Some (EvacuateStep router)) (Some slot) ≡ NoGift
         unmade Unmade e = refl

@@ -98,11 +98,11 @@ module _ (s : State) (keeps : OperatorInvariant s) (k : ℕ) (old : GraftEntry) 
   slots_stand : SlotsStand s.setup s.group s.waiting after.slots
   slots_stand = record {
     all = length_set s.slots k (Made new_entry) ∙ keeps.slots.all;
-    each = λ i x slot at_place e. elim (which i slot e) [
+    each = λ i x slot at_index e. elim (which i slot e) [
       | inl (is, new) ↦
-          let same : g ≡ x = one_member (slice_get (grafts_in s.setup) k) _ _ own.place (sym (ap (slice_get (grafts_in s.setup)) is) ∙ at_place) in
+          let same : g ≡ x = one_member (slice_get (grafts_in s.setup) k) _ _ own.index (sym (ap (slice_get (grafts_in s.setup)) is) ∙ at_index) in
           subst (λ (y : ScriptGraft). IsSlot s.setup s.group s.waiting y slot) same (subst (IsSlot s.setup s.group s.waiting g) (sym new) new_slot)
-      | inr (ne, there) ↦ keeps.slots.each i x slot at_place there
+      | inr (ne, there) ↦ keeps.slots.each i x slot at_index there
     ];
     in_turn = in_turn;
   }
@@ -152,17 +152,17 @@ module _ (s : State) (keeps : OperatorInvariant s) (k : ℕ) (old : GraftEntry) 
   same_target : (x : ScriptGraft) → target_in s.setup (with_slots s.setup after.slots) x ≡ target_in s.setup (with_slots s.setup s.slots) x
   same_target x = λ i. target_in s.setup (record { group = 0; issued = λ n. false; given = same_given i; source = source_in s.slots; outcome = outcome_in s.slots }) x
 
-  -- a graft of the script with this number is the one at this place
-  place_is : (j : ℕ) (x : ScriptGraft) → slice_get (grafts_in s.setup) j ≡ Some x → x.graft ≡ k + 1 → (j ≡ k) × (g ≡ x)
-  place_is j x there e =
+  -- a graft of the script with this number is the one at this index
+  index_is : (j : ℕ) (x : ScriptGraft) → slice_get (grafts_in s.setup) j ≡ Some x → x.graft ≡ k + 1 → (j ≡ k) × (g ≡ x)
+  index_is j x there e =
       let n : x.graft ≡ j + 1 = number s.setup s.slots j x there in
       let at_k : j ≡ k = omega arith in
-      (at_k, one_member (slice_get (grafts_in s.setup) k) _ _ own.place (sym (ap (slice_get (grafts_in s.setup)) at_k) ∙ there))
+      (at_k, one_member (slice_get (grafts_in s.setup) k) _ _ own.index (sym (ap (slice_get (grafts_in s.setup)) at_k) ∙ there))
 
   -- other peerings are placed as before
   other_place : (q : ℕ) → q ≢ old.peering.0 → placement s.setup (with_slots s.setup after.slots) q ≡ placement s.setup (with_slots s.setup s.slots) q
   other_place q ne = placed_alike s.setup q (with_slots s.setup after.slots) (with_slots s.setup s.slots)
-      (λ j x there of_q. ap is_accepted (other_outcome x.graft (λ same. ne (sym of_q ∙ sym (ap (λ (y : ScriptGraft). y.peering) (place_is j x there same).1) ∙ sym names.peering))))
+      (λ j x there of_q. ap is_accepted (other_outcome x.graft (λ same. ne (sym of_q ∙ sym (ap (λ (y : ScriptGraft). y.peering) (index_is j x there same).1) ∙ sym names.peering))))
       (λ j x there accepted. same_target x)
 
   is_seat : IsSeat s.setup s.slots old.peering.0 seat
@@ -170,9 +170,9 @@ module _ (s : State) (keeps : OperatorInvariant s) (k : ℕ) (old : GraftEntry) 
 
   -- the peering is placed at the target where it was accepted, else as before
   this_place : (o : Outcome) → outcome ≡ o → (place_after o seat.place old.target).0 ≡ placement s.setup (with_slots s.setup after.slots) old.peering.0
-  this_place Accepted e = sym (placed_at s.setup old.peering.0 (with_slots s.setup after.slots) k g old.target.0 own.place (sym names.peering)
-      (ap is_accepted (ap (outcome_in after.slots) (number s.setup s.slots k g own.place) ∙ this_outcome ∙ ap Some e)) later
-      (own_target s.setup after.slots k g own.place (Made new_entry) at_new new_slot.fits))
+  this_place Accepted e = sym (placed_at s.setup old.peering.0 (with_slots s.setup after.slots) k g old.target.0 own.index (sym names.peering)
+      (ap is_accepted (ap (outcome_in after.slots) (number s.setup s.slots k g own.index) ∙ this_outcome ∙ ap Some e)) later
+      (own_target s.setup after.slots k g own.index (Made new_entry) at_new new_slot.fits))
     where
       later : (j : ℕ) (x : ScriptGraft) → k < j → slice_get (grafts_in s.setup) j ≡ Some x → x.peering ≡ old.peering.0
           → is_accepted (outcome_in after.slots x.graft) ≡ false

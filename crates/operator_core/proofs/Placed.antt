@@ -91,7 +91,7 @@ module _ (setup : Setup) (p : ℕ) where
       (one_last None (counts part) (grafts_in setup) i g e (counts_is part g of_p accepted) (λ j x l there. counts_not part x (none j x l there)))
       ∙ ap (λ o. unwrap_or o (start_of setup p)) aims
 
-  -- outcomes that agree on the peering's grafts, and targets that agree on its accepted ones, place it alike
+  -- outcomes that agree on the peering's grafts, and targets that agree on its accepted ones, index it alike
   pub placed_alike : (part other : OperatorPart)
       → ((j : ℕ) (g : ScriptGraft) → slice_get (grafts_in setup) j ≡ Some g → g.peering ≡ p → is_accepted (part.outcome g.graft) ≡ is_accepted (other.outcome g.graft))
       → ((j : ℕ) (g : ScriptGraft) → slice_get (grafts_in setup) j ≡ Some g → is_accepted (other.outcome g.graft) ≡ true → target_in setup part g ≡ target_in setup other g)

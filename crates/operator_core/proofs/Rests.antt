@@ -10,7 +10,7 @@ use Rattle.graft_model.specs.Setups.{ScriptStep, SayStep, MoveStep, EvacuateStep
 use Rattle.graft_model.specs.Parts.{OperatorPart}
 use Rattle.graft_model.specs.Placements.{target_in}
 use Rattle.graft_model.specs.OperatorRows.{OperatorSent, OrdersSay, OrdersGraft}
-use Rattle.graft_model.proofs.Numbers.{place_of_graft, number_is}
+use Rattle.graft_model.proofs.Numbers.{index_of_graft, number_is}
 use Rattle.settled_check.specs.Firsts.{IsLowestOf}
 use Rattle.settled_check.specs.Left.{HasUnissued, IsOpen}
 use Rattle.operator_core.specs.declared.grafts.Slot.{Slot}
@@ -54,12 +54,12 @@ not_open slot e entry is = by_open (is_open entry.stage) refl (sym (ap open_graf
   by_open false is f = is
 
 pub record IsFirstOpen (slots : List Slot) (k : ℕ) : Type 0 where
-  pub place : ℕ
+  pub index : ℕ
   pub entry : GraftEntry
-  pub there : slice_get slots place ≡ Some (Made entry)
+  pub there : slice_get slots index ≡ Some (Made entry)
   pub graft : entry.graft ≡ k
   pub open_is : is_open entry.stage ≡ true
-  pub none_before : (i : ℕ) (one : GraftEntry) → i < place → slice_get slots i ≡ Some (Made one) → is_open one.stage ≡ false
+  pub none_before : (i : ℕ) (one : GraftEntry) → i < index → slice_get slots i ≡ Some (Made one) → is_open one.stage ≡ false
 
 pub none_open : (slots : List Slot) → first_open slots ≡ None → (i : ℕ) (entry : GraftEntry) → slice_get slots i ≡ Some (Made entry)
     → is_open entry.stage ≡ false
@@ -75,7 +75,7 @@ none_open (slot ∷ slots) e i entry there = by_first (open_graft slot) refl e (
 pub first_is_open : (slots : List Slot) (k : ℕ) → first_open slots ≡ Some k → IsFirstOpen slots k
 first_is_open [] k e = absurd cc
 first_is_open (slot ∷ slots) k e = by_first (open_graft slot) refl e (λ f. first_is_open slots k f) where
-  later : open_graft slot ≡ None → (r : IsFirstOpen slots k) → (i : ℕ) (one : GraftEntry) → i < suc r.place
+  later : open_graft slot ≡ None → (r : IsFirstOpen slots k) → (i : ℕ) (one : GraftEntry) → i < suc r.index
       → slice_get (slot ∷ slots) i ≡ Some (Made one) → is_open one.stage ≡ false
   later is r zero one l at = not_open slot is one (same_Some slot (Made one) at)
   later is r (suc i) one l at = r.none_before i one (omega (arith, l)) at
@@ -84,10 +84,10 @@ first_is_open (slot ∷ slots) k e = by_first (open_graft slot) refl e (λ f. fi
       → IsFirstOpen (slot ∷ slots) k
   by_first (Some j) is f rest =
       let o : IsOpenSlot slot j = open_slot slot j is in
-      record { place = 0; entry = o.entry; there = ap Some o.is; graft = o.graft ∙ same_Some j k f; open_is = o.open_is; none_before = λ i one l at. absurd (omega (arith, l)) }
+      record { index = 0; entry = o.entry; there = ap Some o.is; graft = o.graft ∙ same_Some j k f; open_is = o.open_is; none_before = λ i one l at. absurd (omega (arith, l)) }
   by_first None is f rest =
       let r : IsFirstOpen slots k = rest f in
-      record { place = suc r.place; entry = r.entry; there = r.there; graft = r.graft; open_is = r.open_is; none_before = later is r }
+      record { index = suc r.index; entry = r.entry; there = r.there; graft = r.graft; open_is = r.open_is; none_before = later is r }
 
 -- ---- tasks
 
@@ -124,27 +124,27 @@ module _ (s : State) (keeps : OperatorInvariant s) where
 
   -- the slot of a graft that is made has its entry
   record HasEntry (g : ScriptGraft) : Type 0 where
-    place : ℕ
-    at_place : slice_get (grafts_in s.setup) place ≡ Some g
+    index : ℕ
+    at_index : slice_get (grafts_in s.setup) index ≡ Some g
     entry : GraftEntry
-    there : slice_get s.slots place ≡ Some (Made entry)
+    there : slice_get s.slots index ≡ Some (Made entry)
     is : IsSlot s.setup s.group s.waiting g (Made entry)
 
   has_entry : (g : ScriptGraft) → graft_at s.setup g.graft ≡ Some g → target_in s.setup (part_of_state s) g ≢ None → HasEntry g
   has_entry g known made = by_slot found.0 found.1 found.2 where
-    place : (i : ℕ) × (g.graft ≡ i + 1) × (slice_get (grafts_in s.setup) i ≡ Some g)
-    place = place_of_graft s.setup g.graft g known
+    index : (i : ℕ) × (g.graft ≡ i + 1) × (slice_get (grafts_in s.setup) i ≡ Some g)
+    index = index_of_graft s.setup g.graft g known
 
-    found : (slot : Slot) × (slice_get s.slots place.0 ≡ Some slot) × IsSlot s.setup s.group s.waiting g slot
-    found = slot_there s.setup s.group s.waiting s.slots keeps.slots place.0 g place.2
+    found : (slot : Slot) × (slice_get s.slots index.0 ≡ Some slot) × IsSlot s.setup s.group s.waiting g slot
+    found = slot_there s.setup s.group s.waiting s.slots keeps.slots index.0 g index.2
 
-    no_target : (slot : Slot) → slice_get s.slots place.0 ≡ Some slot → IsSlot s.setup s.group s.waiting g slot → target_at slot ≡ None → HasEntry g
-    no_target slot at is none = absurd (made (own_target s.setup s.slots place.0 g place.2 slot at is.fits ∙ none))
+    no_target : (slot : Slot) → slice_get s.slots index.0 ≡ Some slot → IsSlot s.setup s.group s.waiting g slot → target_at slot ≡ None → HasEntry g
+    no_target slot at is none = absurd (made (own_target s.setup s.slots index.0 g index.2 slot at is.fits ∙ none))
 
-    by_slot : (slot : Slot) → slice_get s.slots place.0 ≡ Some slot → IsSlot s.setup s.group s.waiting g slot → HasEntry g
+    by_slot : (slot : Slot) → slice_get s.slots index.0 ≡ Some slot → IsSlot s.setup s.group s.waiting g slot → HasEntry g
     by_slot Unmade at is = no_target Unmade at is refl
     by_slot (Stays k p router) at is = no_target (Stays k p router) at is refl
-    by_slot (Made entry) at is = record { place = place.0; at_place = place.2; entry = entry; there = at; is = is }
+    by_slot (Made entry) at is = record { index = index.0; at_index = index.2; entry = entry; there = at; is = is }
 
   -- the graft of an entry is made
   entry_made : (i : ℕ) (g : ScriptGraft) (entry : GraftEntry) → slice_get (grafts_in s.setup) i ≡ Some g → slice_get s.slots i ≡ Some (Made entry)
@@ -153,7 +153,7 @@ module _ (s : State) (keeps : OperatorInvariant s) where
 
   -- an entry that wasn't ordered waits
   unordered_waits : (g : ScriptGraft) → (h : HasEntry g) → source_in s.slots g.graft ≡ None → is_waiting h.entry.stage ≡ true
-  unordered_waits g h none = (h.is.fits.made h.entry refl).source.0 (no_source h.entry (sym (own_source s.setup s.slots h.place g h.at_place h.entry h.there) ∙ none))
+  unordered_waits g h none = (h.is.fits.made h.entry refl).source.0 (no_source h.entry (sym (own_source s.setup s.slots h.index g h.at_index h.entry h.there) ∙ none))
 
   -- a graft of the group at work that wasn't ordered has a task
   has_its_task : (g : ScriptGraft) → group_of s.setup g.step ≡ s.group → (h : HasEntry g) → source_in s.slots g.graft ≡ None
@@ -197,9 +197,9 @@ module _ (s : State) (keeps : OperatorInvariant s) where
           let graft : g.graft ≡ task.graft = number_is s.setup task.graft g at in
           let known : graft_at s.setup g.graft ≡ Some g = ap (graft_at s.setup) graft ∙ at in
           let group : group_of s.setup g.step ≡ s.group = ap (group_of s.setup) step ∙ w.group_is in
-          let place = place_of_graft s.setup g.graft g known in
-          let found = slot_there s.setup s.group s.waiting s.slots keeps.slots place.0 g place.2 in
-          by_slot g place.0 known group place.2 found.0 found.1 found.2 (found.2.now group ∙ ap (λ n. has_task s.waiting n g.graft) step ∙ ap (has_task s.waiting task.step) graft ∙ has)
+          let index = index_of_graft s.setup g.graft g known in
+          let found = slot_there s.setup s.group s.waiting s.slots keeps.slots index.0 g index.2 in
+          by_slot g index.0 known group index.2 found.0 found.1 found.2 (found.2.now group ∙ ap (λ n. has_task s.waiting n g.graft) step ∙ ap (has_task s.waiting task.step) graft ∙ has)
 
     task_unissued : HasUnissued s.setup (part_of_state s)
     task_unissued =
@@ -231,13 +231,13 @@ module _ (s : State) (keeps : OperatorInvariant s) where
     g,
     its_number,
     record {
-      known = graft_there s.setup i g own.place;
+      known = graft_there s.setup i g own.index;
       group = by_group (compare (group_of s.setup g.step) s.group);
-      made = entry_made i g entry own.place there own.is;
-      unended = own_outcome s.setup s.slots i g own.place entry there ∙ open_has_no_outcome entry.stage open_is;
+      made = entry_made i g entry own.index there own.is;
+      unended = own_outcome s.setup s.slots i g own.index entry there ∙ open_has_no_outcome entry.stage open_is;
     },
     λ none. (
-        let unsourced : entry.source ≡ None = no_source entry (sym (own_source s.setup s.slots i g own.place entry there) ∙ ap (source_in s.slots) its_number ∙ none) in
+        let unsourced : entry.source ≡ None = no_source entry (sym (own_source s.setup s.slots i g own.index entry there) ∙ ap (source_in s.slots) its_number ∙ none) in
         let waits : is_waiting entry.stage ≡ true = (own.is.fits.made entry refl).source.0 unsourced in
         let e : true ≡ false = sym waits ∙ open_is_not_waiting entry.stage open_is in
         cc),
@@ -250,7 +250,7 @@ module _ (s : State) (keeps : OperatorInvariant s) where
       g = own.graft
 
       its_number : g.graft ≡ i + 1
-      its_number = number s.setup s.slots i g own.place
+      its_number = number s.setup s.slots i g own.index
 
       no_later : (o : Option ScriptStep) → is_first o (Made entry) ≡ true → is_waiting entry.stage ≡ true
       no_later None e = absurd cc
@@ -273,9 +273,9 @@ module _ (s : State) (keeps : OperatorInvariant s) where
       → (i : ℕ) × (entry : GraftEntry) × (slice_get s.slots i ≡ Some (Made entry)) × (is_open entry.stage ≡ true) × (i + 1 ≡ k)
   open_entry k (g, same, u, ordered) =
       let h : HasEntry g = has_entry g u.known u.made in
-      let none : outcome_at h.entry.stage ≡ None = sym (own_outcome s.setup s.slots h.place g h.at_place h.entry h.there) ∙ u.unended in
-      let its_number : h.place + 1 ≡ k = sym (number s.setup s.slots h.place g h.at_place) ∙ same in
-      (h.place, h.entry, h.there, by_stage h none (by_test (is_open h.entry.stage)) (by_test (is_waiting h.entry.stage)), its_number)
+      let none : outcome_at h.entry.stage ≡ None = sym (own_outcome s.setup s.slots h.index g h.at_index h.entry h.there) ∙ u.unended in
+      let its_number : h.index + 1 ≡ k = sym (number s.setup s.slots h.index g h.at_index) ∙ same in
+      (h.index, h.entry, h.there, by_stage h none (by_test (is_open h.entry.stage)) (by_test (is_waiting h.entry.stage)), its_number)
     where
       by_stage : (h : HasEntry g) → outcome_at h.entry.stage ≡ None → (is_open h.entry.stage ≡ true) ⊎ (is_open h.entry.stage ≡ false)
           → (is_waiting h.entry.stage ≡ true) ⊎ (is_waiting h.entry.stage ≡ false) → is_open h.entry.stage ≡ true
@@ -283,7 +283,7 @@ module _ (s : State) (keeps : OperatorInvariant s) where
       by_stage h none (inr f) (inr over) = absurd (ordered_has_ended h.entry.stage over f none)
       by_stage h none (inr f) (inl waits) =
           let unsourced : h.entry.source ≡ None = (h.is.fits.made h.entry refl).source.1 waits in
-          absurd (ordered (sym (ap (source_in s.slots) same) ∙ own_source s.setup s.slots h.place g h.at_place h.entry h.there ∙ ap (option_map (λ (r : RouterId). r.0)) unsourced))
+          absurd (ordered (sym (ap (source_in s.slots) same) ∙ own_source s.setup s.slots h.index g h.at_index h.entry h.there ∙ ap (option_map (λ (r : RouterId). r.0)) unsourced))
 
   pub lowest_open : IsLowestOf (IsOpen s.setup (part_of_state s)) (first_open s.slots)
   lowest_open = by_found (first_open s.slots) refl
@@ -295,12 +295,12 @@ module _ (s : State) (keeps : OperatorInvariant s) where
           cc)
       by_found (Some k) e =
           let r : IsFirstOpen s.slots k = first_is_open s.slots k e in
-          let own = owner s.setup s.group s.waiting s.slots keeps.slots r.place (Made r.entry) r.there in
-          let at_number : r.place + 1 ≡ k = sym (number s.setup s.slots r.place own.graft own.place) ∙ sym (own.is.fits.made r.entry refl).graft ∙ r.graft in (
-            subst (IsOpen s.setup (part_of_state s)) at_number (open_there r.place r.entry r.there r.open_is),
+          let own = owner s.setup s.group s.waiting s.slots keeps.slots r.index (Made r.entry) r.there in
+          let at_number : r.index + 1 ≡ k = sym (number s.setup s.slots r.index own.graft own.index) ∙ sym (own.is.fits.made r.entry refl).graft ∙ r.graft in (
+            subst (IsOpen s.setup (part_of_state s)) at_number (open_there r.index r.entry r.there r.open_is),
             λ j o. (
                 let q = open_entry j o in
-                elim (compare q.0 r.place) [
+                elim (compare q.0 r.index) [
                   | inl l ↦ let f : true ≡ false = sym q.3 ∙ r.none_before q.0 q.1 l q.2 in absurd cc
                   | inr (inl same) ↦ let j_is = q.4 in omega (arith, same, at_number, j_is)
                   | inr (inr more) ↦ let j_is = q.4 in omega (arith, more, at_number, j_is)
@@ -333,22 +333,22 @@ module _ (s : State) (keeps : OperatorInvariant s) where
 
       -- no graft of its peering is open: those before it have ended, and those behind it wait
       none_is_open : NoneIsOpen s.slots entry.peering.0
-      none_is_open i one there same = by_place (compare i has_own.place) where
+      none_is_open i one there same = by_index (compare i has_own.index) where
         own : IsOwned s.setup s.group s.waiting i (Made one)
         own = owner s.setup s.group s.waiting s.slots keeps.slots i (Made one) there
 
-        by_place : (i < has_own.place) ⊎ ((i ≡ has_own.place) ⊎ (has_own.place < i)) → is_open one.stage ≡ false
-        by_place (inl l) =
-            let before : own.graft.graft < g.graft = omega (arith, l, number s.setup s.slots i own.graft own.place, number s.setup s.slots has_own.place g has_own.at_place) in
+        by_index : (i < has_own.index) ⊎ ((i ≡ has_own.index) ⊎ (has_own.index < i)) → is_open one.stage ≡ false
+        by_index (inl l) =
+            let before : own.graft.graft < g.graft = omega (arith, l, number s.setup s.slots i own.graft own.index, number s.setup s.slots has_own.index g has_own.at_index) in
             let peering : own.graft.peering ≡ g.peering = sym (own.is.fits.made one refl).peering ∙ same ∙ of_peering in
             ended_is_not_open one.stage (λ none.
-            row.earlier own.graft (graft_there s.setup i own.graft own.place) peering before (entry_made i own.graft one own.place there own.is) (own_outcome s.setup s.slots i own.graft own.place one there ∙ none))
-        by_place (inr (inl here)) =
+            row.earlier own.graft (graft_there s.setup i own.graft own.index) peering before (entry_made i own.graft one own.index there own.is) (own_outcome s.setup s.slots i own.graft own.index one there ∙ none))
+        by_index (inr (inl here)) =
             let same_one : one ≡ entry = same_entry one entry (sym there ∙ (ap (slice_get s.slots) here ∙ has_own.there)) in
             waiting_is_not_open one.stage (ap (λ (x : GraftEntry). is_waiting x.stage) same_one ∙ waits)
-        by_place (inr (inr l)) = elim (by_test (is_open one.stage)) [
+        by_index (inr (inr l)) = elim (by_test (is_open one.stage)) [
           | inr f ↦ f
-          | inl f ↦ absurd (keeps.slots.in_turn has_own.place i entry one l has_own.there there (sym same) (open_is_not_waiting one.stage f) (waiting_has_no_outcome entry.stage waits))
+          | inl f ↦ absurd (keeps.slots.in_turn has_own.index i entry one l has_own.there there (sym same) (open_is_not_waiting one.stage f) (waiting_has_no_outcome entry.stage waits))
         ]
 
       no_graft : ⊥
@@ -357,7 +357,7 @@ module _ (s : State) (keeps : OperatorInvariant s) where
           let found = one_passes (is_task g.step g.graft) (IsGraftHeldUp s) s.waiting held (has_its_task g group has_own row.unordered) in
           let h : IsGraftHeldUp s found.0 = found.2 in
           let graft : found.0.graft ≡ g.graft = (task_names g.step g.graft found.0 found.1).1 in
-          let same : h.entry ≡ entry = same_entry h.entry entry (sym h.is ∙ (ap (slot_at s.slots) graft ∙ (own_slot s.setup s.slots has_own.place g has_own.at_place ∙ has_own.there))) in
+          let same : h.entry ≡ entry = same_entry h.entry entry (sym h.is ∙ (ap (slot_at s.slots) graft ∙ (own_slot s.setup s.slots has_own.index g has_own.at_index ∙ has_own.there))) in
           let still : h.seat.moving ≡ false = (keeps.seats.each h.entry.peering.0 h.seat h.seated).still.1 (subst (λ (x : GraftEntry). NoneIsOpen s.slots x.peering.0) (sym same) none_is_open) in
           let e : true ≡ false = sym h.moving ∙ still in
           cc

@@ -11,7 +11,7 @@ use Rattle.graft_model.specs.Points.{at}
 use Rattle.graft_model.specs.Setups.{Setup, ScriptStep, SayStep, MoveStep, EvacuateStep, SettleStep, ScriptGraft, peerings_in, moved_by, grafts_in, graft_at}
 use Rattle.graft_model.specs.Parts.{To}
 use Rattle.graft_model.specs.Placements.{target_by}
-use Rattle.graft_model.proofs.Numbers.{number_of_place, graft_by_place, IsOfStep, step_of_graft, peering_of_place}
+use Rattle.graft_model.proofs.Numbers.{number_of_index, graft_by_index, IsOfStep, step_of_graft, peering_of_index}
 use Rattle.operator_core.specs.declared.grafts.Slot.{Slot}
 use Rattle.operator_core.specs.declared.grafts.Slot.TheVariants.{Unmade, Stays, Made}
 use Rattle.operator_core.specs.declared.groups.Task.{Task}
@@ -92,7 +92,7 @@ module _ (slots : List Slot) (k : ℕ) (old entry : GraftEntry) (is : slice_get 
 -- ---- the slot of a graft
 
 pub graft_there : (setup : Setup) (i : ℕ) (g : ScriptGraft) → slice_get (grafts_in setup) i ≡ Some g → graft_at setup g.graft ≡ Some g
-graft_there setup i g at = let e : g.graft ≡ suc i = omega (arith, number_of_place setup i g at) in ap (graft_at setup) e ∙ graft_by_place setup i ∙ at
+graft_there setup i g at = let e : g.graft ≡ suc i = omega (arith, number_of_index setup i g at) in ap (graft_at setup) e ∙ graft_by_index setup i ∙ at
 
 -- the target of what is in a slot
 abbrev pub target_at : Slot → Option ℕ
@@ -129,9 +129,9 @@ slot_target setup g (Stays k p router) fits =
     stays_target (slice_get setup.steps g.step) k p router (λ none. let e : Some router.0 ≡ None = sym (fits.stays k p router refl).emptied ∙ none in cc)
 slot_target setup g (Made entry) fits = made_target (slice_get setup.steps g.step) entry (fits.made entry refl).target
 
-module _ (setup : Setup) (slots : List Slot) (i : ℕ) (g : ScriptGraft) (at_place : slice_get (grafts_in setup) i ≡ Some g) where
+module _ (setup : Setup) (slots : List Slot) (i : ℕ) (g : ScriptGraft) (at_index : slice_get (grafts_in setup) i ≡ Some g) where
   pub number : g.graft ≡ i + 1
-  number = number_of_place setup i g at_place
+  number = number_of_index setup i g at_index
 
   pub own_slot : slot_at slots g.graft ≡ slice_get slots i
   own_slot = ap (slot_at slots) number ∙ slot_next slots i
@@ -143,7 +143,7 @@ module _ (setup : Setup) (slots : List Slot) (i : ℕ) (g : ScriptGraft) (at_pla
   own_outcome entry e = ap outcome_of (own_slot ∙ e)
 
   pub own_step : scripted_step setup g.graft ≡ slice_get setup.steps g.step
-  own_step = ap (λ o. option_and_then (λ (x : ScriptGraft). slice_get setup.steps x.step) o) (graft_there setup i g at_place)
+  own_step = ap (λ o. option_and_then (λ (x : ScriptGraft). slice_get setup.steps x.step) o) (graft_there setup i g at_index)
 
   pub own_given : (slot : Slot) → slice_get slots i ≡ Some slot → given_in setup slots g.graft ≡ given_of (slice_get setup.steps g.step) (Some slot)
   own_given slot e = ap (λ o. given_of o (slot_at slots g.graft)) own_step ∙ ap (given_of (slice_get setup.steps g.step)) (own_slot ∙ e)
@@ -156,7 +156,7 @@ module _ (setup : Setup) (slots : List Slot) (i : ℕ) (g : ScriptGraft) (at_pla
 -- a slot and the graft whose it is
 pub record IsOwned (setup : Setup) (group : ℕ) (tasks : List Task) (i : ℕ) (slot : Slot) : Type 0 where
   pub graft : ScriptGraft
-  pub place : slice_get (grafts_in setup) i ≡ Some graft
+  pub index : slice_get (grafts_in setup) i ≡ Some graft
   pub is : IsSlot setup group tasks graft slot
 
 module _ (setup : Setup) (group : ℕ) (tasks : List Task) (slots : List Slot) (stand : SlotsStand setup group tasks slots) where
@@ -165,7 +165,7 @@ module _ (setup : Setup) (group : ℕ) (tasks : List Task) (slots : List Slot) (
       let l : i < length slots = slice_get_within slots i slot e in
       let all : length slots ≡ length (grafts_in setup) = stand.all in
       let found = there_is (grafts_in setup) i (omega arith) in
-      record { graft = found.0; place = found.1; is = stand.each i found.0 slot found.1 e }
+      record { graft = found.0; index = found.1; is = stand.each i found.0 slot found.1 e }
 
   -- the slot of a graft
   pub slot_there : (i : ℕ) (g : ScriptGraft) → slice_get (grafts_in setup) i ≡ Some g
@@ -183,15 +183,15 @@ peering_there setup sound g known = by_step of_step.step of_step.there of_step.m
     of_step : IsOfStep setup g
     of_step = step_of_graft setup g.graft g known
 
-    by_step : (step : ScriptStep) → slice_get setup.steps g.step ≡ Some step → slice_get (moved_by setup step) of_step.place ≡ Some g.peering
+    by_step : (step : ScriptStep) → slice_get setup.steps g.step ≡ Some step → slice_get (moved_by setup step) of_step.index ≡ Some g.peering
         → g.peering < peerings_in setup
     by_step (SayStep p bytes) e moved = absurd cc
-    by_step (MoveStep p target) e moved = subst (λ (q : ℕ). q < peerings_in setup) (only p of_step.place moved) (sound.moves g.step p target e).0
+    by_step (MoveStep p target) e moved = subst (λ (q : ℕ). q < peerings_in setup) (only p of_step.index moved) (sound.moves g.step p target e).0
       where
         only : (q i : ℕ) → slice_get (q ∷ []) i ≡ Some g.peering → q ≡ g.peering
         only q zero f = cc
         only q (suc i) f = absurd cc
-    by_step (EvacuateStep router) e moved = (peering_of_place setup of_step.place g.peering moved).1
+    by_step (EvacuateStep router) e moved = (peering_of_index setup of_step.index g.peering moved).1
     by_step SettleStep e moved = absurd cc
 
 pub same_entry : (one other : GraftEntry) → Some (Made one) ≡ Some (Made other) → one ≡ other

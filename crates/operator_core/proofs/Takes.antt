@@ -28,7 +28,7 @@ use Rattle.operator_core.specs.Slots.{source_at, slot_source, outcome_of, source
 use Rattle.operator_core.specs.States.{part_of_state}
 use Rattle.operator_core.specs.Keeps.{OperatorInvariant}
 use Rattle.operator_core.specs.Notes.{graft_noted}
-use Rattle.operator_core.specs.Progresses.{progress_state, own_part_of, IsKnown, ProgressInvariant, IsOpenPlace, Ends, TakesItem}
+use Rattle.operator_core.specs.Progresses.{progress_state, own_part_of, IsKnown, ProgressInvariant, IsOpenIndex, Ends, TakesItem}
 use Rattle.operator_core.proofs.SlotLaws.{owner, same_entry}
 use Rattle.operator_core.proofs.Steps.{as_many_routers}
 use Rattle.operator_core.proofs.Notes.{note_keeps, note_row, note_ordered, was_none}
@@ -45,7 +45,7 @@ TakesReports C = (session : C → SessionValue) (setup : Setup) (n k : ℕ) (par
 open_at : (slots : List Slot) (k : ℕ)
     → ((i : ℕ) (entry : GraftEntry) → slice_get slots i ≡ Some (Made entry) → (entry.source ≡ None) ↔ (is_waiting entry.stage ≡ true))
     → source_in slots k ≢ None → outcome_in slots k ≡ None
-    → (place : ℕ) × (entry : GraftEntry) × (slice_get slots place ≡ Some (Made entry)) × (place + 1 ≡ k) × (is_open entry.stage ≡ true)
+    → (index : ℕ) × (entry : GraftEntry) × (slice_get slots index ≡ Some (Made entry)) × (index + 1 ≡ k) × (is_open entry.stage ≡ true)
 open_at slots zero sources ordered unended = absurd (ordered refl)
 open_at slots (suc j) sources ordered unended = by_slot (slice_get slots j) refl
   where
@@ -59,7 +59,7 @@ open_at slots (suc j) sources ordered unended = by_slot (slice_get slots j) refl
         by_stage (Ended outcome) e = absurd (let f : Some outcome ≡ None = sym (ap outcome_at e) ∙ none in cc)
 
     by_slot : (o : Option Slot) → slice_get slots j ≡ o
-        → (place : ℕ) × (entry : GraftEntry) × (slice_get slots place ≡ Some (Made entry)) × (place + 1 ≡ suc j) × (is_open entry.stage ≡ true)
+        → (index : ℕ) × (entry : GraftEntry) × (slice_get slots index ≡ Some (Made entry)) × (index + 1 ≡ suc j) × (is_open entry.stage ≡ true)
     by_slot None e = absurd (ordered (ap slot_source e))
     by_slot (Some Unmade) e = absurd (ordered (ap slot_source e))
     by_slot (Some (Stays k p router)) e = absurd (ordered (ap slot_source e))
@@ -150,7 +150,7 @@ module _ {C : Type 0} where
       absurd (omega arith)
 
   pub closed_unwelcome : (p : Progress) (from k : ℕ) (x : Outcome) (session : C → SessionValue) → TakesReports C → ProgressInvariant p
-      → IsOpenPlace p.slots.items k None → ¬ IsWelcome session (own_part_of (progress_state p)) from (items.Report k x)
+      → IsOpenIndex p.slots.items k None → ¬ IsWelcome session (own_part_of (progress_state p)) from (items.Report k x)
   closed_unwelcome p from k x session law sound none welcome =
       let h = (law session p.known.setup from k (part_of_state (progress_state p)) x).0 welcome in
       let found = open_at p.slots.items k (λ i entry e. ((owner p.known.setup p.group (progress_state p).waiting p.slots.items sound.keeps.slots i (Made entry) e).is.fits.made entry refl).source) h.1 h.2 in
@@ -158,20 +158,20 @@ module _ {C : Type 0} where
       let opened : is_open found.1.stage ≡ true = found.4 in
       absurd cc
 
-  pub take_notes : (old new : Progress) (from k place : ℕ) (x : Outcome) (before after : Post (Item C)) → ActorsHaveNumbers → TakesReports C
-      → ProgressInvariant old → from < length old.script.rooms → IsOpenPlace old.slots.items k (Some place)
-      → WroteOne before (operator_code (Note from)) [] after → Ends old place x new → TakesItem from (items.Report k x) old before new after
-  take_notes old new from k place x before after numbers law sound l is_place wrote ends = record {
+  pub take_notes : (old new : Progress) (from k index : ℕ) (x : Outcome) (before after : Post (Item C)) → ActorsHaveNumbers → TakesReports C
+      → ProgressInvariant old → from < length old.script.rooms → IsOpenIndex old.slots.items k (Some index)
+      → WroteOne before (operator_code (Note from)) [] after → Ends old index x new → TakesItem from (items.Report k x) old before new after
+  take_notes old new from k index x before after numbers law sound l is_index wrote ends = record {
     deed = deed_of before (operator_code (Note from)) (Some (from, items.Report k x)) [];
     does = record {
       wrote = wrote (Some (from, items.Report k x));
       replay = λ session. (
-        own_part_of (graft_noted (progress_state old) place ends.entry x ends.seat),
-        notes session old.known.setup (part_of_state (progress_state old)) (part_of_state (graft_noted (progress_state old) place ends.entry x ends.seat)) (clock_of before + 1) (actor_of before) from k x there (welcome session) row,
+        own_part_of (graft_noted (progress_state old) index ends.entry x ends.seat),
+        notes session old.known.setup (part_of_state (progress_state old)) (part_of_state (graft_noted (progress_state old) index ends.entry x ends.seat)) (clock_of before + 1) (actor_of before) from k x there (welcome session) row,
         ap own_part_of ends.changes,
       );
       known = ends.same.known;
-      sound = record { known = known_still old new ends.same sound.known; keeps = subst OperatorInvariant (sym ends.changes) (note_keeps (progress_state old) sound.keeps place ends.entry ends.there open_is x ends.seat ends.seated) };
+      sound = record { known = known_still old new ends.same sound.known; keeps = subst OperatorInvariant (sym ends.changes) (note_keeps (progress_state old) sound.keeps index ends.entry ends.there open_is x ends.seat ends.seated) };
     };
     takes = refl;
   }
@@ -179,23 +179,23 @@ module _ {C : Type 0} where
       there : from < routers_in old.known.setup
       there = let e : length old.script.rooms ≡ routers_in old.known.setup = as_many_routers old.known.setup old.script sound.known.script in omega arith
 
-      entry_is : is_place.0 ≡ ends.entry
-      entry_is = same_entry is_place.0 ends.entry (sym is_place.1 ∙ ends.there)
+      entry_is : is_index.0 ≡ ends.entry
+      entry_is = same_entry is_index.0 ends.entry (sym is_index.1 ∙ ends.there)
 
       open_is : is_open ends.entry.stage ≡ true
-      open_is = sym (ap (λ (e : GraftEntry). is_open e.stage) entry_is) ∙ is_place.3
+      open_is = sym (ap (λ (e : GraftEntry). is_open e.stage) entry_is) ∙ is_index.3
 
-      row : Notes from (part_of_state (progress_state old)) (Some (ReportIn from (record { graft = k; outcome = x }))) [] (part_of_state (graft_noted (progress_state old) place ends.entry x ends.seat))
-      row = subst (λ (j : ℕ). Notes from (part_of_state (progress_state old)) (Some (ReportIn from (record { graft = j; outcome = x }))) [] (part_of_state (graft_noted (progress_state old) place ends.entry x ends.seat))) is_place.2
-          (note_row (progress_state old) sound.keeps place ends.entry ends.there open_is x ends.seat ends.seated from)
+      row : Notes from (part_of_state (progress_state old)) (Some (ReportIn from (record { graft = k; outcome = x }))) [] (part_of_state (graft_noted (progress_state old) index ends.entry x ends.seat))
+      row = subst (λ (j : ℕ). Notes from (part_of_state (progress_state old)) (Some (ReportIn from (record { graft = j; outcome = x }))) [] (part_of_state (graft_noted (progress_state old) index ends.entry x ends.seat))) is_index.2
+          (note_row (progress_state old) sound.keeps index ends.entry ends.there open_is x ends.seat ends.seated from)
 
       welcome : (session : C → SessionValue) → IsWelcome session (own_part_of (progress_state old)) from (items.Report k x)
       welcome session = (law session old.known.setup from k (part_of_state (progress_state old)) x).1 (
         (from, numbers old.known.setup (Router from) there),
-        subst (λ (j : ℕ). source_in old.slots.items j ≢ None) is_place.2 (note_ordered (progress_state old) sound.keeps place ends.entry ends.there open_is x ends.seat ends.seated),
-        subst (λ (j : ℕ). outcome_in old.slots.items j ≡ None) is_place.2 (was_none (progress_state old) sound.keeps place ends.entry ends.there open_is x ends.seat ends.seated),
+        subst (λ (j : ℕ). source_in old.slots.items j ≢ None) is_index.2 (note_ordered (progress_state old) sound.keeps index ends.entry ends.there open_is x ends.seat ends.seated),
+        subst (λ (j : ℕ). outcome_in old.slots.items j ≡ None) is_index.2 (was_none (progress_state old) sound.keeps index ends.entry ends.there open_is x ends.seat ends.seated),
       )
 
-pub not_open : (slots : List Slot) (k : ℕ) (o : Option ℕ) → ((place : ℕ) → o ≡ Some place → ⊥) → IsOpenPlace slots k o → IsOpenPlace slots k None
+pub not_open : (slots : List Slot) (k : ℕ) (o : Option ℕ) → ((index : ℕ) → o ≡ Some index → ⊥) → IsOpenIndex slots k o → IsOpenIndex slots k None
 not_open slots k None none is = is
-not_open slots k (Some place) none is = absurd (none place refl)
+not_open slots k (Some index) none is = absurd (none index refl)

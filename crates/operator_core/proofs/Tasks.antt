@@ -1,4 +1,4 @@
--- Tasks before and behind a place.
+-- Tasks before and behind an index.
 use Rattle.std.proofs.Common.{◌≡◌, ℕ, zero, suc, true, false, cond, ◌||◌, List, [], ◌∷◌, ◌++◌, length, take, drop, filter, Some, refl, sym, ap, ◌∙◌, inl, inr, arith}
 use Rattle.std.specs.Prelude.{◌≢◌, slice_get, slice_set, not, if◌then◌else◌}
 use Rattle.std.specs.List.{list_any, AllByRecursion}

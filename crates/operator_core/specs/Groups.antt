@@ -20,26 +20,26 @@ grafts_by peerings (Graft p target) = 1
 grafts_by peerings (Evacuate router) = peerings
 grafts_by peerings Settle = 0
 
--- the number at each place is one above the number of grafts before it
+-- the number at each index is one above the number of grafts before it
 pub record AreNumbers (peerings : ℕ) (steps : List ScriptStep) (numbers : List ℕ) : Type 0 where
   pub all : length numbers ≡ length steps
   pub each : (n : ℕ) → n < length steps → slice_index_or numbers n 0 ≡ sum_by (grafts_by peerings) (take n steps) + 1
 
--- each place has a number, and 256 numbers after it still fit in 32 bits
+-- each index has a number, and 256 numbers after it still fit in 32 bits
 pub record NumbersFit (steps : List ScriptStep) (numbers : List ℕ) : Type 0 where
   pub all : length numbers ≡ length steps
   pub each : (n : ℕ) → n < length steps → slice_index_or numbers n 0 + 256 < 2 ^ 32
 
 -- ---- a group
 
--- The first step from this place on that ends a group.
+-- The first step from this index on that ends a group.
 pub record EndsAfter (steps : List ScriptStep) (from end : ℕ) : Type 0 where
   pub behind : from ≤ end
   pub others : (n : ℕ) → from ≤ n → n < end → slice_get steps n ≢ Some Settle
   pub settle : slice_get steps end ≡ Some Settle
 
 module _ (script : Script) (numbers : List ℕ) (seats : List Seat) where
-  -- what the step at a place gives
+  -- what the step at an index gives
   abbrev pub gifts_of_step : ℕ → Option ScriptStep → List Gift
   gifts_of_step n None = []
   gifts_of_step n (Some step) = gifts_by seats (seat_loads seats (length script.rooms)) script.rooms (slice_index_or numbers n 0) step
@@ -54,7 +54,7 @@ module _ (script : Script) (numbers : List ℕ) (seats : List Seat) where
   abbrev pub tasks_at : ℕ → List Task
   tasks_at n = tasks_of_step n (slice_get script.steps n)
 
-  -- The group that begins at this place: the tasks of its steps in their order, and what they give. The next group begins after the step that ends
+  -- The group that begins at this index: the tasks of its steps in their order, and what they give. The next group begins after the step that ends
   -- it.
   pub record IsGroupFrom (from : ℕ) (group : Group) : Type 0 where
     pub len : ℕ

@@ -20,7 +20,7 @@ place_after (Refused refusal) place target = place
 abbrev pub still_seat : Outcome → RouterId → Seat → Seat
 still_seat outcome target seat = record { place = place_after outcome seat.place target; moving = false }
 
--- The state after the graft at a place has ended.
+-- The state after the graft at an index has ended.
 abbrev pub graft_noted : State → ℕ → GraftEntry → Outcome → Seat → State
-graft_noted s place entry outcome seat =
-    record s { slots = slice_set s.slots place (Made (ended_entry entry outcome)); seats = slice_set s.seats entry.peering.0 (still_seat outcome entry.target seat) }
+graft_noted s index entry outcome seat =
+    record s { slots = slice_set s.slots index (Made (ended_entry entry outcome)); seats = slice_set s.seats entry.peering.0 (still_seat outcome entry.target seat) }

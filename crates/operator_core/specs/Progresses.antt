@@ -65,16 +65,16 @@ pub record IsNewProgress (known : Known) (p : Progress) : Type 0 where
 
 -- the peerings of existing grafts have seats
 abbrev pub HaveSeats : Progress → Type 0
-HaveSeats p = (place : ℕ) (entry : GraftEntry) → slice_get p.slots.items place ≡ Some (Made entry) → entry.peering.0 < length p.seats.items
+HaveSeats p = (index : ℕ) (entry : GraftEntry) → slice_get p.slots.items index ≡ Some (Made entry) → entry.peering.0 < length p.seats.items
 
--- the slot at this place has a graft
+-- the slot at this index has a graft
 abbrev pub IsMadeAt : Progress → ℕ → Type 0
-IsMadeAt p place = (entry : GraftEntry) × (slice_get p.slots.items place ≡ Some (Made entry))
+IsMadeAt p index = (entry : GraftEntry) × (slice_get p.slots.items index ≡ Some (Made entry))
 
--- the place of the outstanding graft of this number, if there is one
-abbrev pub IsOpenPlace : List Slot → ℕ → Option ℕ → Type 0
-IsOpenPlace slots graft None = (place : ℕ) (entry : GraftEntry) → slice_get slots place ≡ Some (Made entry) → place + 1 ≡ graft → is_open entry.stage ≡ false
-IsOpenPlace slots graft (Some place) = (entry : GraftEntry) × (slice_get slots place ≡ Some (Made entry)) × (place + 1 ≡ graft) × (is_open entry.stage ≡ true)
+-- the index of the outstanding graft of this number, if there is one
+abbrev pub IsOpenIndex : List Slot → ℕ → Option ℕ → Type 0
+IsOpenIndex slots graft None = (index : ℕ) (entry : GraftEntry) → slice_get slots index ≡ Some (Made entry) → index + 1 ≡ graft → is_open entry.stage ≡ false
+IsOpenIndex slots graft (Some index) = (entry : GraftEntry) × (slice_get slots index ≡ Some (Made entry)) × (index + 1 ≡ graft) × (is_open entry.stage ≡ true)
 
 -- the graft number with which the order of a task is journaled
 abbrev pub IsNumberOf : Option ScriptStep → Task → ℕ → Type 0
@@ -93,19 +93,19 @@ pub record SameScript (old new : Progress) : Type 0 where
   pub group : new.group ≡ old.group
   pub next : new.next ≡ old.next
 
--- The graft at this place ends.
-pub record Ends (old : Progress) (place : ℕ) (outcome : Outcome) (new : Progress) : Type 0 where
+-- The graft at this index ends.
+pub record Ends (old : Progress) (index : ℕ) (outcome : Outcome) (new : Progress) : Type 0 where
   pub entry : GraftEntry
-  pub there : slice_get old.slots.items place ≡ Some (Made entry)
+  pub there : slice_get old.slots.items index ≡ Some (Made entry)
   pub seat : Seat
   pub seated : slice_get old.seats.items entry.peering.0 ≡ Some seat
   pub same : SameScript old new
   pub tasks : new.tasks.items ≡ old.tasks.items
-  pub changes : progress_state new ≡ graft_noted (progress_state old) place entry outcome seat
+  pub changes : progress_state new ≡ graft_noted (progress_state old) index entry outcome seat
 
--- of the tasks before this place, those that weren't issued are held up
+-- of the tasks before this index, those that weren't issued are held up
 abbrev pub HeldUpTo : Progress → ℕ → Type 0
-HeldUpTo p place = AllByRecursion (IsGraftHeldUp (progress_state p)) (unissued (take place p.tasks.items))
+HeldUpTo p index = AllByRecursion (IsGraftHeldUp (progress_state p)) (unissued (take index p.tasks.items))
 
 pub record IsUnchanged (old new : Progress) : Type 0 where
   pub same : SameScript old new
@@ -120,28 +120,28 @@ GivesEmptiedSessions setup before after = (g : ScriptGraft) (router : ℕ) → g
 module _ {C : Type 0} where
   -- The order of a task's graft goes to the router of its peering's seat, and is recorded in the graft's slot.
   pub record IssuesGraft (old : Progress) (task : Task) (moves : Move) (number : ℕ) (before : Post (Item C)) (new : Progress) (after : Post (Item C)) : Type 0 where
-    pub place : ℕ
-    pub is_place : place + 1 ≡ task.graft
+    pub index : ℕ
+    pub is_index : index + 1 ≡ task.graft
     pub entry : GraftEntry
-    pub there : slice_get old.slots.items place ≡ Some (Made entry)
+    pub there : slice_get old.slots.items index ≡ Some (Made entry)
     pub seat : Seat
     pub seated : slice_get old.seats.items entry.peering.0 ≡ Some seat
     pub same : SameScript old new
     pub tasks : new.tasks.items ≡ old.tasks.items
-    pub changes : progress_state new ≡ graft_issued (progress_state old) place entry seat
+    pub changes : progress_state new ≡ graft_issued (progress_state old) index entry seat
     pub wrote : Wrote before (deed_of before (operator_code (Order task.step number)) None ((seat.place.0, GraftOrder task.graft entry.peering entry.target) ∷ []) ∷ []) after
 
   -- A task is visited after those before it, which are issued or held up; it is then issued or held up too.
-  pub record VisitsTask (old : Progress) (place : ℕ) (before : Post (Item C)) (new : Progress) (after : Post (Item C)) : Type 0 where
+  pub record VisitsTask (old : Progress) (index : ℕ) (before : Post (Item C)) (new : Progress) (after : Post (Item C)) : Type 0 where
     pub deeds : List (Deed (Item C))
     pub wrote : Wrote before deeds after
     pub none : AllByRecursion TakesNone deeds
     pub no_go : BeginNoGroup deeds
     pub same : SameScript old new
     pub as_many : length new.tasks.items ≡ length old.tasks.items
-    pub keeps : IsKnown old → OperatorInvariant (progress_state old) → HeldUpTo old place → OperatorInvariant (progress_state new)
-    pub held : IsKnown old → OperatorInvariant (progress_state old) → HeldUpTo old place → HeldUpTo new (place + 1)
-    pub replay : IsKnown old → OperatorInvariant (progress_state old) → HeldUpTo old place → (session : C → SessionValue)
+    pub keeps : IsKnown old → OperatorInvariant (progress_state old) → HeldUpTo old index → OperatorInvariant (progress_state new)
+    pub held : IsKnown old → OperatorInvariant (progress_state old) → HeldUpTo old index → HeldUpTo new (index + 1)
+    pub replay : IsKnown old → OperatorInvariant (progress_state old) → HeldUpTo old index → (session : C → SessionValue)
         → Replay (acts session) (actor_of before) (own_part_of (progress_state old)) deeds (own_part_of (progress_state new))
 
   -- A whole call: what it wrote leads from the old part to the new one, and all stays sound.

@@ -31,9 +31,9 @@ abbrev pub given_tasks : ℕ → List Gift → List Task
 given_tasks step [] = []
 given_tasks step (gift ∷ gifts) = if is_some gift.target then task_of step gift.graft ∷ given_tasks step gifts else given_tasks step gifts
 
--- the tasks of the step at a place; its first graft has this number, and the list is what it gives
+-- the tasks of the step at an index; its first graft has this number, and the list is what it gives
 abbrev pub tasks_by : ℕ → ℕ → ScriptStep → List Gift → List Task
-tasks_by place number (Say p) gifts = task_of place 0 ∷ []
-tasks_by place number (Graft p target) gifts = task_of place number ∷ []
-tasks_by place number (Evacuate router) gifts = given_tasks place gifts
-tasks_by place number Settle gifts = []
+tasks_by index number (Say p) gifts = task_of index 0 ∷ []
+tasks_by index number (Graft p target) gifts = task_of index number ∷ []
+tasks_by index number (Evacuate router) gifts = given_tasks index gifts
+tasks_by index number Settle gifts = []

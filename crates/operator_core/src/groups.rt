@@ -12,7 +12,7 @@ use crate::script::{Script, ScriptStep};
 use graft_edge::{Items, NoMemory};
 use std::alloc::Global;
 
-/// One thing to be ordered in the current group: the place of its step in the script, the number of the graft (0 if a
+/// One thing to be ordered in the current group: the index of its step in the script, the number of the graft (0 if a
 /// remote is to say something), and whether it was ordered.
 #[derive(Clone, Copy, Debug, PartialEq, Eq, Hash)]
 pub(crate) struct Task {
@@ -67,22 +67,22 @@ fn add_given(tasks: &mut Vec<Task>, step: usize, gifts: &[Gift]) -> Result<(), N
     Ok(())
 }
 
-/// Adds the tasks of the step at a place of the script. Its first graft has number `number`, and `gifts` is what it
+/// Adds the tasks of the step at an index of the script. Its first graft has number `number`, and `gifts` is what it
 /// gives.
 fn add_tasks(
     tasks: &mut Vec<Task>,
-    place: usize,
+    index: usize,
     step: ScriptStep,
     number: u32,
     gifts: &[Gift],
 ) -> Result<(), NoMemory>
-    requires { place < 4097 }
-    ensures { OnOk result (tasks.new.items ≡ tasks.old.items ++ tasks_by place number step gifts.now) }
+    requires { index < 4097 }
+    ensures { OnOk result (tasks.new.items ≡ tasks.old.items ++ tasks_by index number step gifts.now) }
 {
     match step {
-        ScriptStep::Say { .. } => Ok(tasks.push(new_task(place, 0))?),
-        ScriptStep::Graft { .. } => Ok(tasks.push(new_task(place, number))?),
-        ScriptStep::Evacuate { .. } => add_given(tasks, place, gifts),
+        ScriptStep::Say { .. } => Ok(tasks.push(new_task(index, 0))?),
+        ScriptStep::Graft { .. } => Ok(tasks.push(new_task(index, number))?),
+        ScriptStep::Evacuate { .. } => add_given(tasks, index, gifts),
         ScriptStep::Settle => Ok(()),
     }
 }
@@ -112,21 +112,21 @@ fn step_gifts(
     }
 }
 
-/// Returns the place of the first step from `from` on that ends a group. The last step must end one.
+/// Returns the index of the first step from `from` on that ends a group. The last step must end one.
 fn group_end(steps: &[ScriptStep], from: usize) -> usize
     requires within { from < length steps.now }
     requires ended { slice_get steps.now (length steps.now - 1) ≡ Some ScriptStep.Settle }
     ensures { EndsAfter steps.now from result }
 {
-    for place in from..steps.len() {
-        if let ScriptStep::Settle = steps[place] {
-            return place;
+    for index in from..steps.len() {
+        if let ScriptStep::Settle = steps[index] {
+            return index;
         }
     }
     steps.len()
 }
 
-/// Returns the group that begins at the place `from` of the script, where sessions belong at these seats.
+/// Returns the group that begins at the index `from` of the script, where sessions belong at these seats.
 pub(crate) fn group_from(
     alloc: Global,
     script: &Script,
@@ -149,10 +149,10 @@ pub(crate) fn group_from(
     let end = group_end(steps, from);
     let mut tasks = Vec::new(alloc);
     let mut gifts = Items::new(alloc);
-    for place in from..end {
-        let (step, number) = (steps[place], numbers[place]);
+    for index in from..end {
+        let (step, number) = (steps[index], numbers[index]);
         let given = step_gifts(alloc, step, number, seats, loads, rooms)?;
-        add_tasks(&mut tasks, place, step, number, given.as_slice())?;
+        add_tasks(&mut tasks, index, step, number, given.as_slice())?;
         gifts.extend(given.as_slice())?;
     }
     Ok(Group {
@@ -173,7 +173,7 @@ fn grafts_by(step: ScriptStep, peerings: u32) -> u32
     }
 }
 
-/// Returns, for each place of the script, the number that the first graft there has or would have: one above the number
+/// Returns, for each index of the script, the number that the first graft there has or would have: one above the number
 /// of grafts before it.
 pub(crate) fn graft_numbers(
     alloc: Global,

@@ -31,7 +31,7 @@ pub(crate) struct Progress {
     pub(crate) alloc: Global,
     pub(crate) known: Known,
     pub(crate) script: Script,
-    /// By place of the script: the number that the first graft there has or would have.
+    /// By index of the script: the number that the first graft there has or would have.
     pub(crate) numbers: Items<u32>,
     /// The number of the current group, from 0, and where the steps after it begin.
     pub(crate) group: usize,
@@ -61,7 +61,7 @@ fn note_order<C: Drop>(
 impl Progress {
     ghost use Rattle.operator_core.specs.declared.groups.Task.{Task};
     ghost use Rattle.operator_core.specs.declared.grafts.Move.{Move};
-    ghost use Rattle.operator_core.specs.Progresses.{progress_state, IsKnown, ProgressInvariant, HaveSeats, IsMadeAt, IsOpenPlace, Ends, SameScript, IssuesGraft, IsUnchanged, VisitsTask, Turns, TakesItem, BeginsNextGroup, IsNewProgress, IsOrderOf};
+    ghost use Rattle.operator_core.specs.Progresses.{progress_state, IsKnown, ProgressInvariant, HaveSeats, IsMadeAt, IsOpenIndex, Ends, SameScript, IssuesGraft, IsUnchanged, VisitsTask, Turns, TakesItem, BeginsNextGroup, IsNewProgress, IsOrderOf};
     ghost use Rattle.settled_check.specs.Rests.{IsOperatorRest};
     ghost use Rattle.operator_core.specs.Grafts.{log_of};
     ghost use Rattle.operator_core.specs.States.{part_of_state};
@@ -140,47 +140,47 @@ impl Progress {
         Ok(())
     }
 
-    fn task(&self, place: usize) -> Task
-        requires { place < length self.now.tasks.items }
-        ensures { slice_get self.now.tasks.items place ≡ Some result }
+    fn task(&self, index: usize) -> Task
+        requires { index < length self.now.tasks.items }
+        ensures { slice_get self.now.tasks.items index ≡ Some result }
     {
-        self.tasks[place]
+        self.tasks[index]
     }
 
-    /// Marks the task at this place as issued.
-    fn mark(&mut self, place: usize, task: Task)
-        requires { place < length self.old.tasks.items }
+    /// Marks the task at this index as issued.
+    fn mark(&mut self, index: usize, task: Task)
+        requires { index < length self.old.tasks.items }
         ensures same { SameScript self.old self.new }
         ensures slots { self.new.slots.items ≡ self.old.slots.items }
         ensures seats { self.new.seats.items ≡ self.old.seats.items }
-        ensures tasks { self.new.tasks.items ≡ slice_set self.old.tasks.items place (task_issued task) }
+        ensures tasks { self.new.tasks.items ≡ slice_set self.old.tasks.items index (task_issued task) }
     {
-        self.tasks[place] = Task {
+        self.tasks[index] = Task {
             issued: true,
             ..task
         };
     }
 
-    /// Issues the task at this place, which has a remote say something.
+    /// Issues the task at this index, which has a remote say something.
     fn visit_say<C: Drop>(
         &mut self,
-        place: usize,
+        index: usize,
         task: Task,
         peering: PeeringId,
         post: &mut Post<Item<C>>,
     ) -> Result<(), NoMemory>
         requires known { IsKnown self.old }
-        requires task { slice_get self.old.tasks.items place ≡ Some task }
+        requires task { slice_get self.old.tasks.items index ≡ Some task }
         requires waits { task.issued ≡ false }
-        requires counted { place < length self.old.tasks.items }
+        requires counted { index < length self.old.tasks.items }
         requires is { slice_get self.old.script.steps task.step ≡ Some (ScriptStep.Say peering) }
-        ensures ok { OnOk result (VisitsTask self.old place post.old self.new post.new) }
+        ensures ok { OnOk result (VisitsTask self.old index post.old self.new post.new) }
         ensures err { OnErr result (IsUnchanged self.old self.new) }
         ensures edges { SameEdges post.old post.new }
     {
         actors_have_their_numbers();
         self.issue_say(task.step, peering, post)?;
-        self.mark(place, task);
+        self.mark(index, task);
         Ok(())
     }
 
@@ -188,8 +188,8 @@ impl Progress {
     fn moved(&self, graft: u32) -> Option<Move>
         ensures { result ≡ move_of (slot_at self.now.slots.items graft) }
     {
-        let place = (graft as usize).checked_sub(1)?;
-        moved(self.slots.get(place)?)
+        let index = (graft as usize).checked_sub(1)?;
+        moved(self.slots.get(index)?)
     }
 
     fn seat(&self, peering: PeeringId) -> Seat
@@ -199,22 +199,22 @@ impl Progress {
         self.seats[usize::from(peering.0)]
     }
 
-    /// Issues the task at this place, which orders a graft, unless it is held up. `number` is the graft's number in the
+    /// Issues the task at this index, which orders a graft, unless it is held up. `number` is the graft's number in the
     /// journal entry.
     fn visit_graft<C: Drop>(
         &mut self,
-        place: usize,
+        index: usize,
         task: Task,
         number: u32,
         post: &mut Post<Item<C>>,
     ) -> Result<(), NoMemory>
         requires known { IsKnown self.old }
-        requires task { slice_get self.old.tasks.items place ≡ Some task }
+        requires task { slice_get self.old.tasks.items index ≡ Some task }
         requires waits { task.issued ≡ false }
-        requires counted { place < length self.old.tasks.items }
+        requires counted { index < length self.old.tasks.items }
         requires seated { HaveSeats self.old }
         requires is { IsOrderOf self.old task number }
-        ensures ok { OnOk result (VisitsTask self.old place post.old self.new post.new) }
+        ensures ok { OnOk result (VisitsTask self.old index post.old self.new post.new) }
         ensures err { OnErr result (IsUnchanged self.old self.new) }
         ensures edges { SameEdges post.old post.new }
     {
@@ -227,31 +227,31 @@ impl Progress {
             return Ok(());
         }
         self.issue_graft(task, moves, number, post)?;
-        self.mark(place, task);
+        self.mark(index, task);
         Ok(())
     }
 
-    /// Issues the task at this place, unless it is held up.
+    /// Issues the task at this index, unless it is held up.
     fn visit<C: Drop>(
         &mut self,
-        place: usize,
+        index: usize,
         task: Task,
         post: &mut Post<Item<C>>,
     ) -> Result<(), NoMemory>
         requires known { IsKnown self.old }
-        requires task { slice_get self.old.tasks.items place ≡ Some task }
+        requires task { slice_get self.old.tasks.items index ≡ Some task }
         requires waits { task.issued ≡ false }
-        requires counted { place < length self.old.tasks.items }
+        requires counted { index < length self.old.tasks.items }
         requires within { task.step < length self.old.script.steps }
         requires seated { HaveSeats self.old }
-        ensures ok { OnOk result (VisitsTask self.old place post.old self.new post.new) }
+        ensures ok { OnOk result (VisitsTask self.old index post.old self.new post.new) }
         ensures err { OnErr result (IsUnchanged self.old self.new) }
         ensures edges { SameEdges post.old post.new }
     {
         match self.script.steps[task.step as usize] {
-            ScriptStep::Say { peering } => self.visit_say(place, task, peering, post),
-            ScriptStep::Graft { .. } => self.visit_graft(place, task, 0, post),
-            ScriptStep::Evacuate { .. } => self.visit_graft(place, task, task.graft, post),
+            ScriptStep::Say { peering } => self.visit_say(index, task, peering, post),
+            ScriptStep::Graft { .. } => self.visit_graft(index, task, 0, post),
+            ScriptStep::Evacuate { .. } => self.visit_graft(index, task, task.graft, post),
             ScriptStep::Settle => Ok(()),
         }
     }
@@ -263,10 +263,10 @@ impl Progress {
         ensures err { OnErr result (ProgressInvariant self.new) }
         ensures edges { SameEdges post.old post.new }
     {
-        for place in 0..self.tasks.len() {
-            let task = self.task(place);
+        for index in 0..self.tasks.len() {
+            let task = self.task(index);
             if !task.issued {
-                self.visit(place, task, post)?;
+                self.visit(index, task, post)?;
             }
         }
         self.forget_issued();
@@ -283,22 +283,22 @@ impl Progress {
         drop_issued(&mut self.tasks);
     }
 
-    /// Returns the place of a graft of this number that was ordered and hasn't ended.
-    fn open_place(&self, graft: u32) -> Option<usize>
-        ensures { IsOpenPlace self.now.slots.items graft result }
+    /// Returns the index of a graft of this number that was ordered and hasn't ended.
+    fn open_index(&self, graft: u32) -> Option<usize>
+        ensures { IsOpenIndex self.now.slots.items graft result }
     {
-        let place = (graft as usize).checked_sub(1)?;
-        let slot = self.slots.get(place)?;
-        open_graft(slot).is_some().then_some(place)
+        let index = (graft as usize).checked_sub(1)?;
+        let slot = self.slots.get(index)?;
+        open_graft(slot).is_some().then_some(index)
     }
 
-    /// Notes how the graft at this place ended.
-    fn end(&mut self, place: usize, outcome: Outcome)
-        requires made { IsMadeAt self.old place }
+    /// Notes how the graft at this index ended.
+    fn end(&mut self, index: usize, outcome: Outcome)
+        requires made { IsMadeAt self.old index }
         requires seated { HaveSeats self.old }
-        ensures { Ends self.old place outcome self.new }
+        ensures { Ends self.old index outcome self.new }
     {
-        let Some(Move { peering, target }) = moved(&self.slots[place]) else {
+        let Some(Move { peering, target }) = moved(&self.slots[index]) else {
             return;
         };
         let seat = usize::from(peering.0);
@@ -311,7 +311,7 @@ impl Progress {
             place: place_after,
             moving: false,
         };
-        end(&mut self.slots[place], outcome);
+        end(&mut self.slots[index], outcome);
     }
 
     /// Notes the report of an outstanding graft, from a router. Any other item is dropped.
@@ -334,12 +334,12 @@ impl Progress {
         if from >= self.script.rooms.len() {
             return note_dropped(post);
         }
-        let Some(place) = self.open_place(graft) else {
+        let Some(index) = self.open_index(graft) else {
             return note_dropped(post);
         };
         let router = from as u32;
         note_operator(post, OperatorEvent::Note { router })?;
-        self.end(place, outcome);
+        self.end(index, outcome);
         Ok(())
     }
 

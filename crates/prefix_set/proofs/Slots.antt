@@ -11,8 +11,8 @@ use Rattle.std.proofs.lemmas.List.{append-nil, take_all, take-set-le, take-appen
 use Rattle.bgp_types.specs.Prefixes.{PrefixValue}
 use Rattle.bgp_types.specs.Tables.{prefix_cmp, first_above}
 use Rattle.bgp_types.proofs.TableLaws.{prefix_total, exact_prefixes, find_above, rise_put, put_right, put_left}
-use Rattle.prefix_table.specs.Places.{AllBelow, AllAbove, IsPlaceOfPrefix}
-use Rattle.prefix_table.proofs.Places.{put_at}
+use Rattle.prefix_table.specs.Indices.{AllBelow, AllAbove, IsIndexOfPrefix}
+use Rattle.prefix_table.proofs.Indices.{put_at}
 use Rattle.prefix_trie.proofs.Nodes.{less_from_test}
 use Rattle.prefix_set.specs.Slots.{PrefixSet, Slot, with_slot, is_held, united, AreSlots, those_in, first_due_slot, lesser_of}
 use Rattle.prefix_set.proofs.Sets.{behind}
@@ -85,19 +85,19 @@ slots_push slots start p are below = record {
 }
 
 -- what was out comes in again
-pub slots_in : (slots : List Slot) (start at : ℕ) (p : PrefixValue) → AreSlots slots start → IsPlaceOfPrefix slots p at → start ≤ at
+pub slots_in : (slots : List Slot) (start at : ℕ) (p : PrefixValue) → AreSlots slots start → IsIndexOfPrefix slots p at → start ≤ at
     → AreSlots (set slots at (p, true)) start
-slots_in slots start at p are place h = record {
-  rise = subst (λ (es : List Slot). T (map.is_sorted prefix_cmp es)) (put_at slots p at place (p, true) true) (rise_put slots are.rise p true);
+slots_in slots start at p are index h = record {
+  rise = subst (λ (es : List Slot). T (map.is_sorted prefix_cmp es)) (put_at slots p at index (p, true) true) (rise_put slots are.rise p true);
   within = omega (arith, are.within, length-set slots at (p, true));
   out = subst (λ (es : List Slot). AllOut es) (sym (take-set-le start slots at (p, true) h)) are.out;
 }
 
 -- what was in goes out
-pub slots_out : (slots : List Slot) (start at : ℕ) (p : PrefixValue) → AreSlots slots start → IsPlaceOfPrefix slots p at
+pub slots_out : (slots : List Slot) (start at : ℕ) (p : PrefixValue) → AreSlots slots start → IsIndexOfPrefix slots p at
     → AreSlots (set slots at (p, false)) start
-slots_out slots start at p are place = record {
-  rise = subst (λ (es : List Slot). T (map.is_sorted prefix_cmp es)) (put_at slots p at place (p, false) false) (rise_put slots are.rise p false);
+slots_out slots start at p are index = record {
+  rise = subst (λ (es : List Slot). T (map.is_sorted prefix_cmp es)) (put_at slots p at index (p, false) false) (rise_put slots are.rise p false);
   within = omega (arith, are.within, length-set slots at (p, false));
   out = out_set slots start at p are.out;
 }

@@ -13,14 +13,14 @@ use std::marker::Model;
 
 /// A set of prefixes. Those that are added in ascending order stand in one list. A new prefix that is
 /// less than one added earlier goes to a second list, or to a third, so that three sources may come one
-/// after the other, each in ascending order. A prefix that finds no place in any list goes to a trie.
+/// after the other, each in ascending order. A prefix that fits in no list goes to a trie.
 ///
 /// If all prefixes are added in ascending order, each takes constant time, and so it does if those that
 /// are there are added again in that order; else it takes a binary search of each list that it passes.
 /// `remove` takes constant time for each list of which the prefix is the first, or is less than that,
 /// and else a binary search. `prefixes` takes a step for each prefix if all are in the first list, and
-/// `first` takes none beyond those by which a removal passes vacant places. For what is in the trie,
-/// see `TrieTable`. A prefix that is removed from a list keeps its place there until no prefix of the
+/// `first` takes none beyond those by which a removal passes vacant slots. For what is in the trie,
+/// see `TrieTable`. A prefix that is removed from a list keeps its slot there until no prefix of the
 /// list is in the set.
 #[derive(Drop)]
 pub struct PrefixSet {
@@ -28,7 +28,7 @@ pub struct PrefixSet {
     first: Run,
     second: Run,
     third: Run,
-    // Prefixes that were added too late for a place at the end of a list.
+    // Prefixes that were added too late for the end of a list.
     late: TrieTable<()>,
 }
 
@@ -104,7 +104,7 @@ impl PrefixSet {
         Err(NoMemory)
     }
 
-    /// Adds a prefix to the first list where it has a place, or to the trie. If memory runs out,
+    /// Adds a prefix to the first list where it fits, or to the trie. If memory runs out,
     /// nothing changes.
     fn add(&mut self, prefix: Prefix) -> Result<(), NoMemory>
         ensures ok { OnOk result (self.new ≡ map.insert self.old prefix tt) }

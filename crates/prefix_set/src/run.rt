@@ -3,11 +3,11 @@
 ghost use Rattle.std.specs.Prelude.{◌≡◌, ◌||◌, T, None, true, false, [], is_some, IsTrue, IfOk, IfErr, OnErr};
 ghost use Rattle.std.specs.FinMap as map;
 ghost use Rattle.bgp_types.specs.Tables.{prefix_cmp, first_above};
-ghost use Rattle.prefix_table.specs.Places.{AllBelow, IsGapForPrefix, IsPlaceOfPrefix};
+ghost use Rattle.prefix_table.specs.Indices.{AllBelow, IsGapForPrefix, IsIndexOfPrefix};
 ghost use Rattle.prefix_set.specs.Slots.{PrefixSet, AreSlots, first_due_slot, is_held, lesser_of, those_in, united, with_all};
 
 use bgp_types::{Items, NoMemory, Prefix, PrefixList};
-use prefix_table::place;
+use prefix_table::index_of;
 use std::alloc::Global;
 use std::marker::Model;
 
@@ -53,20 +53,20 @@ fn is_before(slots: &[(Prefix, bool)], start: usize, prefix: Prefix) -> bool
     start >= slots.len() || prefix < slots[start].0
 }
 
-/// Returns the place of a prefix in the slots, or as the error the place where it would be inserted. It
+/// Returns the index of a prefix in the slots, or as the error the index where it would be inserted. It
 /// finds a prefix in the slot `near` at once, and any other by binary search.
-fn place_near(slots: &[(Prefix, bool)], near: usize, prefix: Prefix) -> Result<usize, usize>
+fn index_near(slots: &[(Prefix, bool)], near: usize, prefix: Prefix) -> Result<usize, usize>
     requires { T (map.is_sorted prefix_cmp slots.now) }
-    ensures found { IfOk result (IsPlaceOfPrefix slots.now prefix) }
+    ensures found { IfOk result (IsIndexOfPrefix slots.now prefix) }
     ensures absent { IfErr result (IsGapForPrefix slots.now prefix) }
 {
     if near < slots.len() && slots[near].0 == prefix {
         return Ok(near);
     }
-    place(slots, prefix)
+    index_of(slots, prefix)
 }
 
-/// Returns the first place from `start` on whose prefix is in the set, or else the end.
+/// Returns the first index from `start` on whose prefix is in the set, or else the end.
 fn passed(slots: &[(Prefix, bool)], start: usize) -> usize
     requires { AreSlots slots.now start }
     ensures { AreSlots slots.now result }
@@ -134,7 +134,7 @@ impl Run {
             self.slots.push((prefix, true))?;
             return Ok(true);
         }
-        match place_near(&self.slots, self.near, prefix) {
+        match index_near(&self.slots, self.near, prefix) {
             Ok(at) if at >= self.start => {
                 self.slots[at] = (prefix, true);
                 self.near = at + 1;
@@ -151,7 +151,7 @@ impl Run {
         if is_before(&self.slots, self.start, prefix) {
             return;
         }
-        if let Ok(at) = place_near(&self.slots, self.start, prefix) {
+        if let Ok(at) = index_near(&self.slots, self.start, prefix) {
             self.slots[at] = (prefix, false);
             self.skip();
         }
@@ -176,7 +176,7 @@ impl Run {
         if is_before(&self.slots, self.start, prefix) {
             return false;
         }
-        match place_near(&self.slots, self.start, prefix) {
+        match index_near(&self.slots, self.start, prefix) {
             Ok(at) => self.slots[at].1,
             Err(_) => false,
         }

@@ -3,4 +3,4 @@
 
 mod sorted;
 
-pub use sorted::{SortedTable, place};
+pub use sorted::{SortedTable, index_of};

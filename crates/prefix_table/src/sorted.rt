@@ -3,7 +3,7 @@
 ghost use Rattle.std.specs.Prelude.{◌≡◌, ◌+◌, ◌≤◌, ℕ, T, IsOk, IsSome, IfOk, IfErr, OnOk, OnErr, option_copied};
 ghost use Rattle.std.specs.FinMap as map;
 ghost use Rattle.bgp_types.specs.Tables.{prefix_cmp, first_above};
-ghost use Rattle.prefix_table.specs.Places.{IsPlaceOfPrefix, IsGapForPrefix, first_prefix};
+ghost use Rattle.prefix_table.specs.Indices.{IsIndexOfPrefix, IsGapForPrefix, first_prefix};
 
 use bgp_types::{Prefix, Table};
 use std::alloc::Global;
@@ -48,14 +48,14 @@ impl<V: Drop> Table<V> for SortedTable<V> {
     ghost room = { λ t. 0 };
 
     fn get(&self, prefix: Prefix) -> Option<&V> {
-        match place(&self.entries, prefix) {
+        match index_of(&self.entries, prefix) {
             Ok(at) => Some(&self.entries[at].1),
             Err(_) => None,
         }
     }
 
     fn set(&mut self, prefix: Prefix, value: V) -> Result<Option<V>, V> {
-        match place(&self.entries, prefix) {
+        match index_of(&self.entries, prefix) {
             Ok(at) => Ok(Some(mem::replace(&mut self.entries[at].1, value))),
             Err(at) => {
                 if let Err(failed) = self.entries.insert(at, (prefix, value)) {
@@ -67,7 +67,7 @@ impl<V: Drop> Table<V> for SortedTable<V> {
     }
 
     fn remove(&mut self, prefix: Prefix) -> Option<V> {
-        match place(&self.entries, prefix) {
+        match index_of(&self.entries, prefix) {
             Ok(at) => Some(self.entries.remove(at).1),
             Err(_) => None,
         }
@@ -77,7 +77,7 @@ impl<V: Drop> Table<V> for SortedTable<V> {
         let Some(prefix) = prefix else {
             return first(&self.entries);
         };
-        match place(&self.entries, prefix) {
+        match index_of(&self.entries, prefix) {
             Ok(at) => first(&self.entries[at + 1..]),
             Err(at) => first(&self.entries[at..]),
         }
@@ -88,11 +88,11 @@ impl<V: Drop> Table<V> for SortedTable<V> {
     }
 }
 
-/// Returns the place of a prefix among entries in ascending order of prefix, or as the error the place
+/// Returns the index of a prefix among entries in ascending order of prefix, or as the error the index
 /// where it would be inserted. It uses binary search.
-pub fn place<V>(entries: &[(Prefix, V)], prefix: Prefix) -> Result<usize, usize>
+pub fn index_of<V>(entries: &[(Prefix, V)], prefix: Prefix) -> Result<usize, usize>
     requires { T (map.is_sorted prefix_cmp entries.now) }
-    ensures found { IfOk result (IsPlaceOfPrefix entries.now prefix) }
+    ensures found { IfOk result (IsIndexOfPrefix entries.now prefix) }
     ensures absent { IfErr result (IsGapForPrefix entries.now prefix) }
 {
     entries.binary_search_by_key(&prefix, |entry| entry.0)

@@ -1,4 +1,4 @@
--- A prefix that gets a node beside all that stands from a place down, below a fork.
+-- A prefix that gets a node beside all that stands from an index down, below a fork.
 use Rattle.std.proofs.Common.{◌≡◌, ◌≢◌, ℕ, ◌≤◌, ◌<◌, true, List, [], ◌∷◌, ◌++◌, length, Option, Some, None, refl, sym, ap, subst, ◌∙◌, arith, slice_get, inl, inr, ◌⊎◌}
 use Rattle.std.specs.Prelude.{IfSome, option_map}
 use Rattle.std.specs.List.{Contains}
@@ -8,7 +8,7 @@ use Rattle.prefix_trie.proofs.Sides.{ends_first, begins_later, ends_later}
 use Rattle.prefix_trie.specs.Halves.{middle, past, Within, IsFork}
 use Rattle.prefix_trie.proofs.Halves.{positive, middle_le_past, fork_low, fork_high}
 use Rattle.prefix_trie.specs.declared.node.Node.{Node}
-use Rattle.prefix_trie.specs.Arena.{nowhere, value_at, entries_at, places_at, AreApart}
+use Rattle.prefix_trie.specs.Arena.{nowhere, value_at, entries_at, indices_at, AreApart}
 use Rattle.prefix_trie.specs.Adding.{leaf, IsForkOf, IsHalf, CanAdd, IsAdded}
 use Rattle.prefix_trie.proofs.Apart.{both_apart, first_or_rest, in_none}
 use Rattle.prefix_trie.proofs.Deeper.{fork_early, fork_late}
@@ -33,48 +33,48 @@ fork_within q f low high a b is half fork from to = elim half [
       (fork_late q f a b is fork (omega (arith, start, from)) (omega (arith, end, to)) (omega (arith, start, from))))
 ]
 
-module _ (nodes fs : List Node) (p : PrefixValue) (fresh spare place : ℕ) (n m : Node) (was : slice_get nodes place ≡ Some n) (can : CanAdd nodes p fresh spare place) (many : length fs ≡ length nodes)
+module _ (nodes fs : List Node) (p : PrefixValue) (fresh spare index : ℕ) (n m : Node) (was : slice_get nodes index ≡ Some n) (can : CanAdd nodes p fresh spare index) (many : length fs ≡ length nodes)
     (others : (r : ℕ) → r ≢ fresh → r ≢ spare → slice_get fs r ≡ slice_get nodes r) (new : slice_get fs fresh ≡ Some (leaf p)) (there : slice_get fs spare ≡ Some m) where
   few_now : length fs ≤ nowhere
   few_now = let few = can.few in omega (arith, many, few)
 
-  not_fresh : (r : ℕ) → Contains (places_at nodes place) r → r ≢ fresh
-  not_fresh r inside e = can.apart.0 (subst (Contains (spare ∷ places_at nodes place)) e (Contains-append_right (spare ∷ []) (places_at nodes place) r inside))
+  not_fresh : (r : ℕ) → Contains (indices_at nodes index) r → r ≢ fresh
+  not_fresh r inside e = can.apart.0 (subst (Contains (spare ∷ indices_at nodes index)) e (Contains-append_right (spare ∷ []) (indices_at nodes index) r inside))
 
-  not_spare : (r : ℕ) → Contains (places_at nodes place) r → r ≢ spare
-  not_spare r inside e = can.apart.1.0 (subst (Contains (places_at nodes place)) e inside)
+  not_spare : (r : ℕ) → Contains (indices_at nodes index) r → r ≢ spare
+  not_spare r inside e = can.apart.1.0 (subst (Contains (indices_at nodes index)) e inside)
 
   fresh_not_spare : fresh ≡ spare → ⊥
   fresh_not_spare e = can.apart.0 (0, omega arith, sym e)
 
-  kept : (values : List (Option ℕ)) → Stays nodes fs values values place
-  kept values = stays nodes fs values values few_now place can.trie (λ r inside. record { node = others r (not_fresh r inside) (not_spare r inside); value = refl })
+  kept : (values : List (Option ℕ)) → Stays nodes fs values values index
+  kept values = stays nodes fs values values few_now index can.trie (λ r inside. record { node = others r (not_fresh r inside) (not_spare r inside); value = refl })
 
-  stood : (values : List (Option ℕ)) → Stands fs values place (entries_at nodes values place) (places_at nodes place)
-  stood values = let k = kept values in record { entries = k.entries; places = k.places; trie = k.trie }
+  stood : (values : List (Option ℕ)) → Stands fs values index (entries_at nodes values index) (indices_at nodes index)
+  stood values = let k = kept values in record { entries = k.entries; indices = k.indices; trie = k.trie }
 
   is_n : IsPrefix n.prefix
-  is_n = (at_node nodes place n was can.trie).branching.is
+  is_n = (at_node nodes index n was can.trie).branching.is
 
-  at_now : slice_get fs place ≡ Some n
+  at_now : slice_get fs index ≡ Some n
   at_now = (kept []).root ∙ was
 
-  -- whatever the order of the places
+  -- whatever the order of the indices
   forked_added : (ps : List ℕ)
-      → ((values : List (Option ℕ)) → value_at values fresh ≡ None → value_at values spare ≡ None → Stands fs values spare (entries_at nodes values place) (spare ∷ ps))
+      → ((values : List (Option ℕ)) → value_at values fresh ≡ None → value_at values spare ≡ None → Stands fs values spare (entries_at nodes values index) (spare ∷ ps))
       → Contains ps fresh → AreApart ps
-      → ((r : ℕ) → Contains ps r → (r ≡ fresh) ⊎ Contains (places_at nodes place) r)
+      → ((r : ℕ) → Contains ps r → (r ≡ fresh) ⊎ Contains (indices_at nodes index) r)
       → ((q : PrefixValue) (low high : ℕ) → IsPrefix q → IsHalf q low high → Within low high q.len p → Within low high q.len n.prefix → Within low high q.len m.prefix)
-      → IsAdded nodes fs p fresh spare place spare true
+      → IsAdded nodes fs p fresh spare index spare true
   forked_added ps stands has apart sub between =
       let s = stands [] refl refl in
       record {
         entries = λ values f g. (stands values f g).entries;
         trie = s.trie;
         node = ap (option_map (λ (m : Node). m.prefix)) new;
-        there = subst (λ (xs : List ℕ). Contains xs fresh) (sym s.places) (Contains-append_right (spare ∷ []) ps fresh has);
-        apart = subst AreApart (sym s.places) ((λ inside. elim (sub spare inside) [ inl e ↦ fresh_not_spare (sym e) | inr old ↦ not_spare spare old refl ]), apart);
-        among = λ r inside. elim (first_or_rest spare ps r (subst (λ (xs : List ℕ). Contains xs r) s.places inside)) [
+        there = subst (λ (xs : List ℕ). Contains xs fresh) (sym s.indices) (Contains-append_right (spare ∷ []) ps fresh has);
+        apart = subst AreApart (sym s.indices) ((λ inside. elim (sub spare inside) [ inl e ↦ fresh_not_spare (sym e) | inr old ↦ not_spare spare old refl ]), apart);
+        among = λ r inside. elim (first_or_rest spare ps r (subst (λ (xs : List ℕ). Contains xs r) s.indices inside)) [
           | inl e ↦ inr (inr (e, refl))
           | inr below ↦ elim (sub r below) [ inl e ↦ inr (inl e) | inr old ↦ inl old ]
         ];
@@ -85,22 +85,22 @@ module _ (nodes fs : List Node) (p : PrefixValue) (fresh spare place : ℕ) (n m
       }
 
   -- before what stands
-  before_added : m ≡ record { prefix = m.prefix; zero = fresh; one = place } → IsFork p.address n.prefix.address m.prefix
-      → p.address < n.prefix.address → past p ≤ n.prefix.address → IsAdded nodes fs p fresh spare place spare true
+  before_added : m ≡ record { prefix = m.prefix; zero = fresh; one = index } → IsFork p.address n.prefix.address m.prefix
+      → p.address < n.prefix.address → past p ≤ n.prefix.address → IsAdded nodes fs p fresh spare index spare true
   before_added named fork less ends =
-      let ps = places_at nodes place in
+      let ps = indices_at nodes index in
       forked_added (fresh ∷ ps)
-      (λ values f g. beside_early fs values few_now place spare n m.prefix fork.is (entries_at nodes values place) ps at_now g (stood values) fresh p can.is new f (there ∙ ap Some named) (fork_low p m.prefix n.prefix.address can.is fork ends) (fork_high n.prefix m.prefix p.address is_n fork less))
+      (λ values f g. beside_early fs values few_now index spare n m.prefix fork.is (entries_at nodes values index) ps at_now g (stood values) fresh p can.is new f (there ∙ ap Some named) (fork_low p m.prefix n.prefix.address can.is fork ends) (fork_high n.prefix m.prefix p.address is_n fork less))
       (0, omega arith, refl) ((λ inside. not_fresh fresh inside refl), can.apart.1.1) (λ r inside. first_or_rest fresh ps r inside)
       (λ q low high is half w u. let some = positive n.prefix in let from = w.from in let to = u.to in fork_within q m.prefix low high p.address n.prefix.address is half fork from (omega (arith, some, to)))
 
   -- behind what stands
-  behind_added : m ≡ record { prefix = m.prefix; zero = place; one = fresh } → IsFork n.prefix.address p.address m.prefix
-      → n.prefix.address < p.address → past n.prefix ≤ p.address → IsAdded nodes fs p fresh spare place spare true
+  behind_added : m ≡ record { prefix = m.prefix; zero = index; one = fresh } → IsFork n.prefix.address p.address m.prefix
+      → n.prefix.address < p.address → past n.prefix ≤ p.address → IsAdded nodes fs p fresh spare index spare true
   behind_added named fork less ends =
-      let ps = places_at nodes place in
+      let ps = indices_at nodes index in
       forked_added (ps ++ (fresh ∷ []))
-      (λ values f g. beside_late fs values few_now place spare n m.prefix fork.is (entries_at nodes values place) ps at_now g (stood values) fresh p can.is new f (there ∙ ap Some named) (fork_low n.prefix m.prefix p.address is_n fork ends) (fork_high p m.prefix n.prefix.address can.is fork less))
+      (λ values f g. beside_late fs values few_now index spare n m.prefix fork.is (entries_at nodes values index) ps at_now g (stood values) fresh p can.is new f (there ∙ ap Some named) (fork_low n.prefix m.prefix p.address is_n fork ends) (fork_high p m.prefix n.prefix.address can.is fork less))
       (Contains-append_right ps (fresh ∷ []) fresh (0, omega arith, refl))
       (both_apart ps (fresh ∷ []) can.apart.1.1 ((λ inside. in_none fresh inside), tt) (λ r left right. elim (first_or_rest fresh [] r right) [ inl e ↦ not_fresh r left e | inr no_more ↦ in_none r no_more ]))
       (λ r inside. elim (Contains-append_cases ps (fresh ∷ []) r inside) [
@@ -110,7 +110,7 @@ module _ (nodes fs : List Node) (p : PrefixValue) (fresh spare place : ℕ) (n m
       (λ q low high is half w u. let some = positive p in let from = u.from in let to = w.to in fork_within q m.prefix low high n.prefix.address p.address is half fork from (omega (arith, some, to)))
 
   -- A node beside one that stands, whose prefix neither covers nor is covered.
-  pub beside_added : (Covers n.prefix p → ⊥) → (Covers p n.prefix → ⊥) → IsForkOf p fresh n.prefix place m → IsAdded nodes fs p fresh spare place spare true
+  pub beside_added : (Covers n.prefix p → ⊥) → (Covers p n.prefix → ⊥) → IsForkOf p fresh n.prefix index m → IsAdded nodes fs p fresh spare index spare true
   beside_added above below order = elim order [
     | inl early ↦ before_added early.2 early.1 early.0 (ends_first n.prefix p is_n can.is above below early.0)
     | inr late ↦

@@ -19,7 +19,7 @@ use Rattle.prefix_trie.specs.declared.tree.Tree.{Tree}
 use Rattle.prefix_trie.specs.Arena.{value_at, entries_at, IsTrieAt}
 use Rattle.prefix_trie.specs.Trees.{entries, IsTrie}
 use Rattle.prefix_trie.proofs.Levels.{by_trie, node_entries, none_at}
-use Rattle.prefix_trie.proofs.Places.{halves_of}
+use Rattle.prefix_trie.proofs.Indices.{halves_of}
 use Rattle.prefix_trie.proofs.Halves.{positive}
 use Rattle.prefix_trie.proofs.Nodes.{every, every_both, later_address, branches_above, ones_above}
 
@@ -41,10 +41,10 @@ rising_node {V} p o zs os node rz ro =
 -- the entries of nodes, which are none or those of a node over its branches
 by_entries : {V : Type 0} (P : List (PrefixValue × V) → Type 0) (nodes : List Node) (values : List (Option V)) → P []
     → ((p : PrefixValue) (o : Option V) (zs os : List (PrefixValue × V)) → IsNode p zs os → P zs → P os → P (own p o ++ (zs ++ os)))
-    → (place : ℕ) → IsTrieAt nodes place → P (entries_at nodes values place)
+    → (index : ℕ) → IsTrieAt nodes index → P (entries_at nodes values index)
 by_entries P nodes values none over =
-    by_trie nodes (λ place. P (entries_at nodes values place)) (λ place is empty. subst P (sym (none_at nodes values place is)) none)
-    (λ place n at zeros ones. subst P (sym (node_entries nodes values place n at)) (over n.prefix (value_at values place) (entries_at nodes values n.zero) (entries_at nodes values n.one) (halves_of nodes values place n at) zeros ones))
+    by_trie nodes (λ index. P (entries_at nodes values index)) (λ index is empty. subst P (sym (none_at nodes values index is)) none)
+    (λ index n at zeros ones. subst P (sym (node_entries nodes values index n at)) (over n.prefix (value_at values index) (entries_at nodes values n.zero) (entries_at nodes values n.one) (halves_of nodes values index n at) zeros ones))
 
 pub rising_trie : {V : Type 0} (t : Tree V) → IsTrie t → T (is_sorted prefix_cmp (entries t))
 rising_trie t h = by_entries (λ es. T (is_sorted prefix_cmp es)) t.nodes.items t.values.items tt (λ p o zs os node a b. rising_node p o zs os node a b) t.root h.trie

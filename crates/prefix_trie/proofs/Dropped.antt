@@ -9,29 +9,29 @@ use Rattle.prefix_trie.specs.Trimming.{CanTrim, IsTrimmed}
 use Rattle.prefix_trie.proofs.Trimmed.{can_zero, can_one, still_zero, still_one, zero_trimmed, one_trimmed}
 
 module _ {V : Type 0} (nodes : List Node) (values : List (Option V)) (free : List ℕ) where
-  pub can_lead : (steps place q : ℕ) → CanTrim nodes free place → Leads nodes steps place q → CanTrim nodes free q
+  pub can_lead : (steps index q : ℕ) → CanTrim nodes free index → Leads nodes steps index q → CanTrim nodes free q
   unfolding Leads
-  can_lead zero place q can lead = subst (λ (at : ℕ). CanTrim nodes free at) (sym lead) can
-  can_lead (suc k) place q can lead = elim lead.2 [
-    | inl left ↦ can_lead k (lead.0).zero q (can_zero nodes values free place lead.0 lead.1 can) left
-    | inr right ↦ can_lead k (lead.0).one q (can_one nodes values free place lead.0 lead.1 can) right
+  can_lead zero index q can lead = subst (λ (at : ℕ). CanTrim nodes free at) (sym lead) can
+  can_lead (suc k) index q can lead = elim lead.2 [
+    | inl left ↦ can_lead k (lead.0).zero q (can_zero nodes values free index lead.0 lead.1 can) left
+    | inr right ↦ can_lead k (lead.0).one q (can_one nodes values free index lead.0 lead.1 can) right
   ]
 
   -- What was trimmed from a node down was trimmed of the trie.
   module _ (fs : List Node) (kept : List ℕ) (q : ℕ) (trimmed : IsTrimmed nodes fs values free kept q q) where
-    lift_trimmed : (steps place : ℕ) → CanTrim nodes free place → Leads nodes steps place q → IsTrimmed nodes fs values free kept place place
+    lift_trimmed : (steps index : ℕ) → CanTrim nodes free index → Leads nodes steps index q → IsTrimmed nodes fs values free kept index index
     unfolding Leads
-    lift_trimmed zero place can lead = subst (λ (at : ℕ). IsTrimmed nodes fs values free kept at at) lead trimmed
-    lift_trimmed (suc k) place can lead =
+    lift_trimmed zero index can lead = subst (λ (at : ℕ). IsTrimmed nodes fs values free kept at at) lead trimmed
+    lift_trimmed (suc k) index can lead =
         let n = lead.0 in
         let is = lead.1 in
         elim lead.2 [
           | inl left ↦
-              let t = lift_trimmed k n.zero (can_zero nodes values free place n is can) left in
-              zero_trimmed nodes values free place n is can fs fs kept n.zero refl (λ r e. refl) t (still_zero nodes values free place n is can fs kept n.zero t)
+              let t = lift_trimmed k n.zero (can_zero nodes values free index n is can) left in
+              zero_trimmed nodes values free index n is can fs fs kept n.zero refl (λ r e. refl) t (still_zero nodes values free index n is can fs kept n.zero t)
           | inr right ↦
-              let t = lift_trimmed k n.one (can_one nodes values free place n is can) right in
-              one_trimmed nodes values free place n is can fs fs kept n.one refl (λ r e. refl) t (still_one nodes values free place n is can fs kept n.one t)
+              let t = lift_trimmed k n.one (can_one nodes values free index n is can) right in
+              one_trimmed nodes values free index n is can fs fs kept n.one refl (λ r e. refl) t (still_one nodes values free index n is can fs kept n.one t)
         ]
 
   -- What stands where a prefix belongs was trimmed, below a node.

@@ -1,4 +1,4 @@
--- A trie whose nodes became more, or whose free places did.
+-- A trie whose nodes became more, or whose free indices did.
 use Rattle.std.proofs.Common.{◌≡◌, ◌≢◌, ℕ, zero, suc, ◌+◌, ◌≤◌, ◌<◌, List, [], ◌∷◌, ◌++◌, length, Option, None, refl, sym, ap, subst, ◌∙◌, arith, slice_get, inl, inr, ◌⊎◌, take, drop}
 use Rattle.std.specs.Prelude.{IfSome, option_and_then}
 use Rattle.std.specs.List.{Contains}
@@ -8,12 +8,12 @@ use Rattle.std.proofs.lemmas.Option.{slice_get_past}
 use Rattle.bgp_types.specs.Prefixes.{PrefixValue}
 use Rattle.prefix_trie.specs.declared.node.Node.{Node}
 use Rattle.prefix_trie.specs.declared.tree.Tree.{Tree}
-use Rattle.prefix_trie.specs.Arena.{nowhere, value_at, entries_at, places_at, AreApart, HasNone, IsTrieAt}
+use Rattle.prefix_trie.specs.Arena.{nowhere, value_at, entries_at, indices_at, AreApart, HasNone, IsTrieAt}
 use Rattle.prefix_trie.specs.Trees.{entries, IsTrie, IsGrown}
 use Rattle.prefix_trie.proofs.Apart.{both_apart, first_or_rest, in_none, left_apart}
 use Rattle.prefix_trie.proofs.Frames.{Stays, stays}
-use Rattle.prefix_trie.proofs.Levels.{empty_trie, no_places, none_at}
-use Rattle.prefix_trie.proofs.Places.{places_in}
+use Rattle.prefix_trie.proofs.Levels.{empty_trie, no_indices, none_at}
+use Rattle.prefix_trie.proofs.Indices.{indices_in}
 
 -- ---- one more at the end
 
@@ -22,7 +22,7 @@ pushed_before [] x q less = absurd (omega (arith, less))
 pushed_before (y ∷ xs) x zero less = refl
 pushed_before (y ∷ xs) x (suc q) less = pushed_before xs x q (omega (arith, less))
 
--- a place without a value more
+-- an index without a value more
 pub pushed_none : {V : Type 0} (values : List (Option V)) (q : ℕ) → value_at (values ++ None ∷ []) q ≡ value_at values q
 pushed_none [] zero = refl
 pushed_none [] (suc q) = refl
@@ -59,27 +59,27 @@ module _ {V : Type 0} (t : Tree V) where
   module _ (u : Tree V) (is : IsTrie t) (grown : IsGrown t u) (few : length u.nodes.items ≤ nowhere) where
     pub grown_stays : Stays t.nodes.items u.nodes.items t.values.items u.values.items t.root
     grown_stays = stays t.nodes.items u.nodes.items t.values.items u.values.items few t.root is.trie
-        (λ q inside. record { node = grown.nodes q (places_in t.nodes.items q t.root is.trie inside); value = grown.values q })
+        (λ q inside. record { node = grown.nodes q (indices_in t.nodes.items q t.root is.trie inside); value = grown.values q })
 
     pub grown_entries : entries u ≡ entries t
     grown_entries = ap (λ (root : ℕ). entries_at u.nodes.items u.values.items root) grown.root ∙ grown_stays.entries
 
-    pub grown_places : places_at u.nodes.items u.root ≡ places_at t.nodes.items t.root
-    grown_places = ap (λ (root : ℕ). places_at u.nodes.items root) grown.root ∙ grown_stays.places
+    pub grown_indices : indices_at u.nodes.items u.root ≡ indices_at t.nodes.items t.root
+    grown_indices = ap (λ (root : ℕ). indices_at u.nodes.items root) grown.root ∙ grown_stays.indices
 
     -- A prefix that had no node has none.
     pub grown_none : (p : PrefixValue) → HasNone t.nodes.items t.root p → HasNone u.nodes.items u.root p
     grown_none p none r inside =
-        let before : Contains (places_at t.nodes.items t.root) r = subst (λ (ps : List ℕ). Contains ps r) grown_places inside in
-        subst (λ (o : Option Node). IfSome o (λ n. n.prefix ≢ p)) (sym (grown.nodes r (places_in t.nodes.items r t.root is.trie before))) (none r before)
+        let before : Contains (indices_at t.nodes.items t.root) r = subst (λ (ps : List ℕ). Contains ps r) grown_indices inside in
+        subst (λ (o : Option Node). IfSome o (λ n. n.prefix ≢ p)) (sym (grown.nodes r (indices_in t.nodes.items r t.root is.trie before))) (none r before)
 
-    -- It is a trie where its free places are apart from those that it had.
-    pub grown_trie : length u.values.items ≡ length u.nodes.items → AreApart (places_at t.nodes.items t.root ++ u.free.items)
+    -- It is a trie where its free indices are apart from those that it had.
+    pub grown_trie : length u.values.items ≡ length u.nodes.items → AreApart (indices_at t.nodes.items t.root ++ u.free.items)
         → ((q : ℕ) → Contains u.free.items q → q < length u.nodes.items) → ((q : ℕ) → Contains u.free.items q → value_at t.values.items q ≡ None)
         → IsTrie u
     grown_trie valued apart inside bare = record {
       trie = subst (λ (root : ℕ). IsTrieAt u.nodes.items root) (sym grown.root) grown_stays.trie;
-      apart = subst (λ (ps : List ℕ). AreApart (ps ++ u.free.items)) (sym grown_places) apart;
+      apart = subst (λ (ps : List ℕ). AreApart (ps ++ u.free.items)) (sym grown_indices) apart;
       free_in = inside;
       free_bare = λ q free. grown.values q ∙ bare q free;
       few = few;
@@ -104,18 +104,18 @@ module _ {V : Type 0} (t : Tree V) where
 
     pub same_trie : u.free.items ≡ t.free.items → IsTrie u
     same_trie free = grown_trie u is grown_same few_same valued_same
-        (subst (λ (fs : List ℕ). AreApart (places_at t.nodes.items t.root ++ fs)) (sym free) is.apart)
+        (subst (λ (fs : List ℕ). AreApart (indices_at t.nodes.items t.root ++ fs)) (sym free) is.apart)
         (λ q inside. subst (λ (ns : List Node). q < length ns) (sym nodes) (is.free_in q (subst (λ (fs : List ℕ). Contains fs q) free inside)))
         (λ q inside. is.free_bare q (subst (λ (fs : List ℕ). Contains fs q) free inside))
 
     -- where only the first ones are free still
     pub taken_trie : (n : ℕ) → u.free.items ≡ take n t.free.items → IsTrie u
     taken_trie n free = grown_trie u is grown_same few_same valued_same
-        (subst (λ (fs : List ℕ). AreApart (places_at t.nodes.items t.root ++ fs)) (sym free) (taken_apart (places_at t.nodes.items t.root) t.free.items n is.apart))
+        (subst (λ (fs : List ℕ). AreApart (indices_at t.nodes.items t.root ++ fs)) (sym free) (taken_apart (indices_at t.nodes.items t.root) t.free.items n is.apart))
         (λ q inside. subst (λ (ns : List Node). q < length ns) (sym nodes) (is.free_in q (taken_in t.free.items n q (subst (λ (fs : List ℕ). Contains fs q) free inside))))
         (λ q inside. is.free_bare q (taken_in t.free.items n q (subst (λ (fs : List ℕ). Contains fs q) free inside)))
 
-  -- a node more, whose place is free
+  -- a node more, whose index is free
   module _ (u : Tree V) (is : IsTrie t) (node : Node) (root : u.root ≡ t.root) (nodes : u.nodes.items ≡ t.nodes.items ++ node ∷ []) (values : u.values.items ≡ t.values.items ++ None ∷ []) (free : u.free.items ≡ t.free.items ++ length t.nodes.items ∷ []) (room : length t.nodes.items < nowhere) where
     one_longer : length u.nodes.items ≡ length t.nodes.items + 1
     one_longer = ap (λ (ns : List Node). length ns) nodes ∙ length_push t.nodes.items node
@@ -140,9 +140,9 @@ module _ {V : Type 0} (t : Tree V) where
     pub node_trie : IsTrie u
     node_trie = grown_trie u is grown_node (let e = one_longer in omega (arith, e, room))
         (ap (λ (vs : List (Option V)). length vs) values ∙ (length_push t.values.items None ∙ (ap (λ (n : ℕ). n + 1) is.valued ∙ sym one_longer)))
-        (subst (λ (fs : List ℕ). AreApart (places_at t.nodes.items t.root ++ fs)) (sym free)
-        (pushed_apart (places_at t.nodes.items t.root) t.free.items (length t.nodes.items) is.apart
-        (λ inside. let less = places_in t.nodes.items (length t.nodes.items) t.root is.trie inside in omega (arith, less))
+        (subst (λ (fs : List ℕ). AreApart (indices_at t.nodes.items t.root ++ fs)) (sym free)
+        (pushed_apart (indices_at t.nodes.items t.root) t.free.items (length t.nodes.items) is.apart
+        (λ inside. let less = indices_in t.nodes.items (length t.nodes.items) t.root is.trie inside in omega (arith, less))
         (λ inside. let less = is.free_in (length t.nodes.items) inside in omega (arith, less))))
         (λ q inside. elim (last_or_free q inside) [
           | inl old ↦ let less = is.free_in q old in let e = one_longer in omega (arith, less, e)
@@ -165,7 +165,7 @@ module _ {V : Type 0} (t : Tree V) (root : t.root ≡ nowhere) (nodes : t.nodes.
   pub bare_trie : t.values.items ≡ [] → t.free.items ≡ [] → IsTrie t
   bare_trie values free = record {
     trie = empty_trie t.nodes.items t.root nothing_there root;
-    apart = subst (λ (ps : List ℕ). AreApart (ps ++ t.free.items)) (sym (no_places t.nodes.items t.root nothing_there)) (subst AreApart (sym free) tt);
+    apart = subst (λ (ps : List ℕ). AreApart (ps ++ t.free.items)) (sym (no_indices t.nodes.items t.root nothing_there)) (subst AreApart (sym free) tt);
     free_in = λ q inside. absurd (in_none q (subst (λ (fs : List ℕ). Contains fs q) free inside));
     free_bare = λ q inside. absurd (in_none q (subst (λ (fs : List ℕ). Contains fs q) free inside));
     few = let e = ap (λ (ns : List Node). length ns) nodes in omega (arith, e);

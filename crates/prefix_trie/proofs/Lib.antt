@@ -2,7 +2,7 @@ pub mod Halves
 pub mod Nodes
 pub mod Nexts
 pub mod Longests
-pub mod Places
+pub mod Indices
 pub mod Frames
 pub mod Apart
 pub mod Replaced

@@ -14,7 +14,7 @@ use Rattle.prefix_trie.specs.Longest.{LongestOf}
 use Rattle.prefix_trie.specs.Nodes.{own, IsNode}
 use Rattle.prefix_trie.proofs.Halves.{positive, middle_le_past, covered_from, covered_to, covers_in}
 use Rattle.prefix_trie.proofs.Nodes.{every, every_both, equal_from_test, apart, shorter_differs, find_here, find_early, find_late}
-use Rattle.prefix_trie.proofs.Places.{alone}
+use Rattle.prefix_trie.proofs.Indices.{alone}
 
 -- what a node has is under its prefix
 all_under : {V : Type 0} (p : PrefixValue) (o : Option V) (zs os : List (PrefixValue × V)) → IsNode p zs os

@@ -1,4 +1,4 @@
--- Entries whose values are the numbers of the places at which the values stand.
+-- Entries whose values are the numbers of the indices at which the values stand.
 use Rattle.std.proofs.Common.{◌≡◌, ℕ, zero, suc, ◌+◌, List, [], ◌∷◌, ◌++◌, Bool, Option, Some, None, refl, sym, ap, ◌∙◌, arith, slice_get}
 use Rattle.std.specs.Prelude.{option_map}
 use Rattle.std.specs.List.{flat_map}
@@ -36,26 +36,26 @@ module _ {V : Type 0} (values : List (Option V)) where
 
   module _ (nodes : List Node) where
     abbrev IsShown : ℕ → Type 0
-    IsShown place = entries_at nodes values place ≡ shown (entries_at nodes numbers place)
+    IsShown index = entries_at nodes values index ≡ shown (entries_at nodes numbers index)
 
-    none_shown : (place : ℕ) → slice_get nodes place ≡ None → place ≡ nowhere → IsShown place
-    none_shown place is empty = none_at nodes values place is ∙ ap shown (sym (none_at nodes numbers place is))
+    none_shown : (index : ℕ) → slice_get nodes index ≡ None → index ≡ nowhere → IsShown index
+    none_shown index is empty = none_at nodes values index is ∙ ap shown (sym (none_at nodes numbers index is))
 
-    node_shown : (place : ℕ) (n : Node) → AtNode nodes place n → IsShown n.zero → IsShown n.one → IsShown place
-    node_shown place n at zeros ones =
+    node_shown : (index : ℕ) (n : Node) → AtNode nodes index n → IsShown n.zero → IsShown n.one → IsShown index
+    node_shown index n at zeros ones =
         let h : PrefixValue × ℕ → List (PrefixValue × V) = λ e. own e.0 (value_at values e.1) in
-        let here = own n.prefix (value_at numbers place) in
+        let here = own n.prefix (value_at numbers index) in
         let zs = entries_at nodes numbers n.zero in
         let os = entries_at nodes numbers n.one in
-        node_entries nodes values place n at
-        ∙ (ap (λ (xs : List (PrefixValue × V)). xs ++ (entries_at nodes values n.zero ++ entries_at nodes values n.one)) (own_shown n.prefix place (value_at values place) refl ∙ ap (λ (o : Option ℕ). shown (own n.prefix o)) (sym (number_is place)))
+        node_entries nodes values index n at
+        ∙ (ap (λ (xs : List (PrefixValue × V)). xs ++ (entries_at nodes values n.zero ++ entries_at nodes values n.one)) (own_shown n.prefix index (value_at values index) refl ∙ ap (λ (o : Option ℕ). shown (own n.prefix o)) (sym (number_is index)))
         ∙ (ap (λ (xs : List (PrefixValue × V)). shown here ++ (xs ++ entries_at nodes values n.one)) zeros
         ∙ (ap (λ (xs : List (PrefixValue × V)). shown here ++ (shown zs ++ xs)) ones
         ∙ (ap (λ (xs : List (PrefixValue × V)). shown here ++ xs) (sym (flat_map-append h zs os))
         ∙ (sym (flat_map-append h here (zs ++ os))
-        ∙ ap shown (sym (node_entries nodes numbers place n at)))))))
+        ∙ ap shown (sym (node_entries nodes numbers index n at)))))))
 
-    entries_shown : (place : ℕ) → IsTrieAt nodes place → IsShown place
+    entries_shown : (index : ℕ) → IsTrieAt nodes index → IsShown index
     entries_shown = by_trie nodes IsShown none_shown node_shown
 
   -- Whatever the values are, the entries are the same where a prefix got a node.

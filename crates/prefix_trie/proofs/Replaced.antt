@@ -1,4 +1,4 @@
--- What a trie has once another value, or none, stands at one of its places.
+-- What a trie has once another value, or none, stands at one of its indices.
 use Rattle.std.proofs.Common.{◌≡◌, ◌≢◌, ℕ, ◌<◌, ◌≤◌, List, ◌++◌, length, Option, Some, None, refl, sym, ap, subst, ◌∙◌, arith, slice_get, inl, inr}
 use Rattle.std.specs.FinMap.{find, put}
 use Rattle.std.specs.List.{Contains}
@@ -9,12 +9,12 @@ use Rattle.bgp_types.specs.Tables.{prefix_cmp}
 use Rattle.bgp_types.proofs.TableLaws.{without}
 use Rattle.prefix_trie.specs.Halves.{middle, past, Within}
 use Rattle.prefix_trie.specs.Nodes.{own, IsNode}
-use Rattle.prefix_trie.proofs.Levels.{AtNode, by_trie, no_places, node_entries}
-use Rattle.prefix_trie.proofs.Places.{halves_of, place_within}
+use Rattle.prefix_trie.proofs.Levels.{AtNode, by_trie, no_indices, node_entries}
+use Rattle.prefix_trie.proofs.Indices.{halves_of, index_within}
 use Rattle.prefix_trie.proofs.Halves.{positive}
 use Rattle.prefix_trie.proofs.Nodes.{find_here, find_early, find_late, put_here, put_early, put_late, without_here, without_early, without_late, longer_later, shorter_differs}
 use Rattle.prefix_trie.specs.declared.node.Node.{Node}
-use Rattle.prefix_trie.specs.Arena.{nowhere, value_at, entries_at, places_at, IsTrieAt, AreApart}
+use Rattle.prefix_trie.specs.Arena.{nowhere, value_at, entries_at, indices_at, IsTrieAt, AreApart}
 use Rattle.prefix_trie.proofs.Apart.{first_or_rest, in_none, left_apart, right_apart, never_both}
 use Rattle.prefix_trie.proofs.Frames.{Stays, stays}
 
@@ -38,47 +38,47 @@ changed_late : {V : Type 0} (p : PrefixValue) (o : Option V) (zs os : List (Pref
 changed_late p o zs os node q w None = without_late p o zs os node q (shorter_differs p q w.longer) w.from
 changed_late p o zs os node q w (Some v) = let from = w.from in put_late p o zs os node q v (longer_later q p (omega arith) w.longer) w.from
 
-pub record Replaced {V : Type 0} (nodes : List Node) (values ws : List (Option V)) (p : PrefixValue) (old new : Option V) (place : ℕ) : Type 0 where
-  pub there : find prefix_cmp p (entries_at nodes values place) ≡ old
-  pub entries : entries_at nodes ws place ≡ changed p new (entries_at nodes values place)
+pub record Replaced {V : Type 0} (nodes : List Node) (values ws : List (Option V)) (p : PrefixValue) (old new : Option V) (index : ℕ) : Type 0 where
+  pub there : find prefix_cmp p (entries_at nodes values index) ≡ old
+  pub entries : entries_at nodes ws index ≡ changed p new (entries_at nodes values index)
 
 module _ {V : Type 0} (nodes : List Node) (values ws : List (Option V)) (few : length nodes ≤ nowhere) (q : ℕ) (held : Node) (named : slice_get nodes q ≡ Some held) (old new : Option V)
     (was : value_at values q ≡ old) (now : value_at ws q ≡ new) (others : (r : ℕ) → r ≢ q → value_at ws r ≡ value_at values r) where
-  -- no place among these is changed
-  untouched : (place : ℕ) → IsTrieAt nodes place → (Contains (places_at nodes place) q → ⊥) → Stays nodes nodes values ws place
-  untouched place trie away = stays nodes nodes values ws few place trie (λ r inside. record { node = refl; value = others r (λ is. away (subst (Contains (places_at nodes place)) is inside)) })
+  -- no index among these is changed
+  untouched : (index : ℕ) → IsTrieAt nodes index → (Contains (indices_at nodes index) q → ⊥) → Stays nodes nodes values ws index
+  untouched index trie away = stays nodes nodes values ws few index trie (λ r inside. record { node = refl; value = others r (λ is. away (subst (Contains (indices_at nodes index)) is inside)) })
 
   abbrev IsReplaced : ℕ → Type 0
-  IsReplaced place = AreApart (places_at nodes place) → Contains (places_at nodes place) q → Replaced nodes values ws held.prefix old new place
+  IsReplaced index = AreApart (indices_at nodes index) → Contains (indices_at nodes index) q → Replaced nodes values ws held.prefix old new index
 
-  none_replaced : (place : ℕ) → slice_get nodes place ≡ None → place ≡ nowhere → IsReplaced place
-  none_replaced place is empty apart inside = absurd (in_none q (subst (λ (ps : List ℕ). Contains ps q) (no_places nodes place is) inside))
+  none_replaced : (index : ℕ) → slice_get nodes index ≡ None → index ≡ nowhere → IsReplaced index
+  none_replaced index is empty apart inside = absurd (in_none q (subst (λ (ps : List ℕ). Contains ps q) (no_indices nodes index is) inside))
 
-  module _ (place : ℕ) (n : Node) (at : AtNode nodes place n) where
+  module _ (index : ℕ) (n : Node) (at : AtNode nodes index n) where
     node : IsNode n.prefix (entries_at nodes values n.zero) (entries_at nodes values n.one)
-    node = halves_of nodes values place n at
+    node = halves_of nodes values index n at
 
-    es_is : entries_at nodes values place ≡ own n.prefix (value_at values place) ++ (entries_at nodes values n.zero ++ entries_at nodes values n.one)
-    es_is = node_entries nodes values place n at
+    es_is : entries_at nodes values index ≡ own n.prefix (value_at values index) ++ (entries_at nodes values n.zero ++ entries_at nodes values n.one)
+    es_is = node_entries nodes values index n at
 
-    both : (value : Option V) (zs os : List (PrefixValue × V)) → value_at ws place ≡ value → entries_at nodes ws n.zero ≡ zs
-        → entries_at nodes ws n.one ≡ os → entries_at nodes ws place ≡ own n.prefix value ++ (zs ++ os)
-    both value zs os value_is zs_are os_are = node_entries nodes ws place n at
+    both : (value : Option V) (zs os : List (PrefixValue × V)) → value_at ws index ≡ value → entries_at nodes ws n.zero ≡ zs
+        → entries_at nodes ws n.one ≡ os → entries_at nodes ws index ≡ own n.prefix value ++ (zs ++ os)
+    both value zs os value_is zs_are os_are = node_entries nodes ws index n at
         ∙ (ap (λ (o : Option V). own n.prefix o ++ (entries_at nodes ws n.zero ++ entries_at nodes ws n.one)) value_is
         ∙ (ap (λ (es : List (PrefixValue × V)). own n.prefix value ++ (es ++ entries_at nodes ws n.one)) zs_are
         ∙ ap (λ (es : List (PrefixValue × V)). own n.prefix value ++ (zs ++ es)) os_are))
 
-    node_replaced : IsReplaced n.zero → IsReplaced n.one → IsReplaced place
+    node_replaced : IsReplaced n.zero → IsReplaced n.one → IsReplaced index
     node_replaced zeros_are ones_are apart inside =
         let p = held.prefix in
-        let Z = places_at nodes n.zero in
-        let O = places_at nodes n.one in
+        let Z = indices_at nodes n.zero in
+        let O = indices_at nodes n.one in
         let zs = entries_at nodes values n.zero in
         let os = entries_at nodes values n.one in
-        let val = value_at values place in
+        let val = value_at values index in
         let branching = at.branching in
-        let apart_is = subst AreApart at.places apart in
-        elim (first_or_rest place (Z ++ O) q (subst (λ (ps : List ℕ). Contains ps q) at.places inside)) [
+        let apart_is = subst AreApart at.indices apart in
+        elim (first_or_rest index (Z ++ O) q (subst (λ (ps : List ℕ). Contains ps q) at.indices inside)) [
           | inl here ↦ (
               let name : n.prefix ≡ p = ap (λ (m : Node). m.prefix) (same_Some n held (sym at.there ∙ (ap (slice_get nodes) (sym here) ∙ named))) in
               let away : Contains (Z ++ O) q → ⊥ = λ inside. apart_is.0 (subst (Contains (Z ++ O)) here inside) in
@@ -93,12 +93,12 @@ module _ {V : Type 0} (nodes : List Node) (values ws : List (Option V)) (few : l
                     ∙ ap (changed p new) (sym es_is)));
               })
           | inr below ↦ (
-              let kept : value_at ws place ≡ val = others place (λ e. apart_is.0 (subst (Contains (Z ++ O)) (sym e) below)) in
+              let kept : value_at ws index ≡ val = others index (λ e. apart_is.0 (subst (Contains (Z ++ O)) (sym e) below)) in
               elim (Contains-append_cases Z O q below) [
                 | inl left ↦ (
                     let r = zeros_are (left_apart Z O apart_is.1) left in
                     let ones = untouched n.one at.one_below (λ right. never_both Z O apart_is.1 q left right) in
-                    let w = place_within nodes q held named n.zero at.zero_below n.prefix.address (middle n.prefix) n.prefix.len branching.zero left in
+                    let w = index_within nodes q held named n.zero at.zero_below n.prefix.address (middle n.prefix) n.prefix.len branching.zero left in
                     let some = positive p in
                     let to = w.to in
                     let early : p.address < middle n.prefix = omega arith in
@@ -111,7 +111,7 @@ module _ {V : Type 0} (nodes : List Node) (values ws : List (Option V)) (few : l
                 | inr right ↦ (
                     let r = ones_are (right_apart Z O apart_is.1) right in
                     let zeros = untouched n.zero at.zero_below (λ left. never_both Z O apart_is.1 q left right) in
-                    let w = place_within nodes q held named n.one at.one_below (middle n.prefix) (past n.prefix) n.prefix.len branching.one right in
+                    let w = index_within nodes q held named n.one at.one_below (middle n.prefix) (past n.prefix) n.prefix.len branching.one right in
                     record {
                       there = ap (find prefix_cmp p) es_is ∙ (find_late n.prefix val zs os node p (shorter_differs n.prefix p w.longer) w.from ∙ r.there);
                       entries = both val zs (changed p new os) kept zeros.entries r.entries
@@ -121,6 +121,6 @@ module _ {V : Type 0} (nodes : List Node) (values ws : List (Option V)) (few : l
               ])
         ]
 
-  pub replaced : (place : ℕ) → IsTrieAt nodes place → AreApart (places_at nodes place) → Contains (places_at nodes place) q
-      → Replaced nodes values ws held.prefix old new place
+  pub replaced : (index : ℕ) → IsTrieAt nodes index → AreApart (indices_at nodes index) → Contains (indices_at nodes index) q
+      → Replaced nodes values ws held.prefix old new index
   replaced = by_trie nodes IsReplaced none_replaced node_replaced

@@ -1,29 +1,29 @@
--- What branches lead to from a place down.
+-- What branches lead to from an index down.
 use Rattle.std.proofs.Common.{◌≡◌, ◌≢◌, ℕ, zero, suc, ◌≤◌, ◌<◌, Bool, List, length, Some, refl, sym, ap, subst, ◌∙◌, arith, slice_get, inl, inr, ◌⊎◌}
 use Rattle.std.specs.List.{Contains}
 use Rattle.std.proofs.lemmas.Option.{same_Some}
 use Rattle.bgp_types.specs.Prefixes.{PrefixValue, IsPrefix}
 use Rattle.prefix_trie.specs.Halves.{middle, past, Within}
 use Rattle.prefix_trie.specs.declared.node.Node.{Node}
-use Rattle.prefix_trie.specs.Arena.{places_at, IsTrieAt, IsUnder, Leads}
+use Rattle.prefix_trie.specs.Arena.{indices_at, IsTrieAt, IsUnder, Leads}
 use Rattle.prefix_trie.specs.Adding.{CanAdd, IsAdded, IsBelow, IsLinked, IsWay}
 use Rattle.prefix_trie.proofs.Added.{can_zero, can_one, still_zero, still_one, zero_added, one_added}
 use Rattle.prefix_trie.proofs.Halves.{covered_from, covered_to, early_within, ends_within}
 use Rattle.prefix_trie.proofs.Levels.{at_node, in_one, in_zero}
-use Rattle.prefix_trie.proofs.Places.{place_within}
+use Rattle.prefix_trie.proofs.Indices.{index_within}
 
 module _ (nodes : List Node) where
-  -- no branch leads to the place itself
-  pub leads_here : (place q : ℕ) → q ≡ place → Leads nodes zero place q
+  -- no branch leads to the index itself
+  pub leads_here : (index q : ℕ) → q ≡ index → Leads nodes zero index q
   unfolding Leads
-  leads_here place q same = same
+  leads_here index q same = same
 
   -- one branch more leads to what a node names
-  pub leads_on : (steps place q : ℕ) (n : Node) → slice_get nodes q ≡ Some n → (to : ℕ) → (to ≡ n.zero) ⊎ (to ≡ n.one) → Leads nodes steps place q
-      → Leads nodes (suc steps) place to
+  pub leads_on : (steps index q : ℕ) (n : Node) → slice_get nodes q ≡ Some n → (to : ℕ) → (to ≡ n.zero) ⊎ (to ≡ n.one) → Leads nodes steps index q
+      → Leads nodes (suc steps) index to
   unfolding Leads
-  leads_on zero place q n there to side lead = (n, ap (slice_get nodes) (sym lead) ∙ there, side)
-  leads_on (suc k) place q n there to side lead = (
+  leads_on zero index q n there to side lead = (n, ap (slice_get nodes) (sym lead) ∙ there, side)
+  leads_on (suc k) index q n there to side lead = (
     lead.0,
     lead.1,
     elim lead.2 [
@@ -32,32 +32,32 @@ module _ (nodes : List Node) where
     ],
   )
 
-  pub leads_trie : (steps place q : ℕ) → IsTrieAt nodes place → Leads nodes steps place q → IsTrieAt nodes q
+  pub leads_trie : (steps index q : ℕ) → IsTrieAt nodes index → Leads nodes steps index q → IsTrieAt nodes q
   unfolding Leads
-  leads_trie zero place q trie lead = subst (λ (at : ℕ). IsTrieAt nodes at) (sym lead) trie
-  leads_trie (suc k) place q trie lead =
-      let at = at_node nodes place lead.0 lead.1 trie in
+  leads_trie zero index q trie lead = subst (λ (at : ℕ). IsTrieAt nodes at) (sym lead) trie
+  leads_trie (suc k) index q trie lead =
+      let at = at_node nodes index lead.0 lead.1 trie in
       elim lead.2 [
         | inl left ↦ leads_trie k (lead.0).zero q at.zero_below left
         | inr right ↦ leads_trie k (lead.0).one q at.one_below right
       ]
 
-  -- The places from there on are among all.
-  pub leads_places : (steps place q x : ℕ) → IsTrieAt nodes place → Leads nodes steps place q → Contains (places_at nodes q) x
-      → Contains (places_at nodes place) x
+  -- The indices from there on are among all.
+  pub leads_indices : (steps index q x : ℕ) → IsTrieAt nodes index → Leads nodes steps index q → Contains (indices_at nodes q) x
+      → Contains (indices_at nodes index) x
   unfolding Leads
-  leads_places zero place q x trie lead inside = subst (λ (at : ℕ). Contains (places_at nodes at) x) lead inside
-  leads_places (suc k) place q x trie lead inside =
-      let at = at_node nodes place lead.0 lead.1 trie in
+  leads_indices zero index q x trie lead inside = subst (λ (at : ℕ). Contains (indices_at nodes at) x) lead inside
+  leads_indices (suc k) index q x trie lead inside =
+      let at = at_node nodes index lead.0 lead.1 trie in
       elim lead.2 [
-        | inl left ↦ in_zero nodes place lead.0 at x (leads_places k (lead.0).zero q x at.zero_below left inside)
-        | inr right ↦ in_one nodes place lead.0 at x (leads_places k (lead.0).one q x at.one_below right inside)
+        | inl left ↦ in_zero nodes index lead.0 at x (leads_indices k (lead.0).zero q x at.zero_below left inside)
+        | inr right ↦ in_one nodes index lead.0 at x (leads_indices k (lead.0).one q x at.one_below right inside)
       ]
 
-  -- A node there is among the places.
-  pub leads_among : (steps place q : ℕ) (m : Node) → slice_get nodes q ≡ Some m → IsTrieAt nodes place → Leads nodes steps place q
-      → Contains (places_at nodes place) q
-  leads_among steps place q m there trie lead = leads_places steps place q q trie lead (at_node nodes q m there (leads_trie steps place q trie lead)).here
+  -- A node there is among the indices.
+  pub leads_among : (steps index q : ℕ) (m : Node) → slice_get nodes q ≡ Some m → IsTrieAt nodes index → Leads nodes steps index q
+      → Contains (indices_at nodes index) q
+  leads_among steps index q m there trie lead = leads_indices steps index q q trie lead (at_node nodes q m there (leads_trie steps index q trie lead)).here
 
   pub way_leads : (root : ℕ) (p : PrefixValue) (above at : ℕ) → IsWay nodes root p above at → (steps : ℕ) × Leads nodes steps root at
   way_leads root p above at way = elim way [
@@ -78,32 +78,32 @@ under_within low high len at p is under w =
 
 module _ (nodes : List Node) (p : PrefixValue) (fresh spare : ℕ) where
   -- What can be added to a trie can be added to a part of it.
-  pub can_lead : (steps place q : ℕ) → CanAdd nodes p fresh spare place → Leads nodes steps place q → CanAdd nodes p fresh spare q
+  pub can_lead : (steps index q : ℕ) → CanAdd nodes p fresh spare index → Leads nodes steps index q → CanAdd nodes p fresh spare q
   unfolding Leads
-  can_lead zero place q can lead = subst (λ (at : ℕ). CanAdd nodes p fresh spare at) (sym lead) can
-  can_lead (suc k) place q can lead = elim lead.2 [
-    | inl left ↦ can_lead k (lead.0).zero q (can_zero nodes p fresh spare place lead.0 lead.1 can) left
-    | inr right ↦ can_lead k (lead.0).one q (can_one nodes p fresh spare place lead.0 lead.1 can) right
+  can_lead zero index q can lead = subst (λ (at : ℕ). CanAdd nodes p fresh spare at) (sym lead) can
+  can_lead (suc k) index q can lead = elim lead.2 [
+    | inl left ↦ can_lead k (lead.0).zero q (can_zero nodes p fresh spare index lead.0 lead.1 can) left
+    | inr right ↦ can_lead k (lead.0).one q (can_one nodes p fresh spare index lead.0 lead.1 can) right
   ]
 
   -- What was added below a node, so that the node names it, was added to the trie.
   module _ (fs : List Node) (forked : Bool) (q : ℕ) (m : Node) (there : slice_get nodes q ≡ Some m) (under : IsUnder m.prefix p) (added : IsAdded nodes fs p fresh spare q q forked) where
-    lift_added : (steps place : ℕ) → CanAdd nodes p fresh spare place → Leads nodes steps place q → IsAdded nodes fs p fresh spare place place forked
+    lift_added : (steps index : ℕ) → CanAdd nodes p fresh spare index → Leads nodes steps index q → IsAdded nodes fs p fresh spare index index forked
     unfolding Leads
-    lift_added zero place can lead = subst (λ (at : ℕ). IsAdded nodes fs p fresh spare at at forked) lead added
-    lift_added (suc k) place can lead =
+    lift_added zero index can lead = subst (λ (at : ℕ). IsAdded nodes fs p fresh spare at at forked) lead added
+    lift_added (suc k) index can lead =
         let n = lead.0 in
         let is = lead.1 in
-        let at = at_node nodes place n is can.trie in
+        let at = at_node nodes index n is can.trie in
         elim lead.2 [
           | inl left ↦
-              let a = lift_added k n.zero (can_zero nodes p fresh spare place n is can) left in
-              zero_added nodes p fresh spare place n is can fs fs n.zero forked refl (λ r e. refl) a (still_zero nodes p fresh spare place n is can fs n.zero forked a)
-              (under_within n.prefix.address (middle n.prefix) n.prefix.len m.prefix p can.is under (place_within nodes q m there n.zero at.zero_below n.prefix.address (middle n.prefix) n.prefix.len at.branching.zero (leads_among nodes k n.zero q m there at.zero_below left)))
+              let a = lift_added k n.zero (can_zero nodes p fresh spare index n is can) left in
+              zero_added nodes p fresh spare index n is can fs fs n.zero forked refl (λ r e. refl) a (still_zero nodes p fresh spare index n is can fs n.zero forked a)
+              (under_within n.prefix.address (middle n.prefix) n.prefix.len m.prefix p can.is under (index_within nodes q m there n.zero at.zero_below n.prefix.address (middle n.prefix) n.prefix.len at.branching.zero (leads_among nodes k n.zero q m there at.zero_below left)))
           | inr right ↦
-              let a = lift_added k n.one (can_one nodes p fresh spare place n is can) right in
-              one_added nodes p fresh spare place n is can fs fs n.one forked refl (λ r e. refl) a (still_one nodes p fresh spare place n is can fs n.one forked a)
-              (under_within (middle n.prefix) (past n.prefix) n.prefix.len m.prefix p can.is under (place_within nodes q m there n.one at.one_below (middle n.prefix) (past n.prefix) n.prefix.len at.branching.one (leads_among nodes k n.one q m there at.one_below right)))
+              let a = lift_added k n.one (can_one nodes p fresh spare index n is can) right in
+              one_added nodes p fresh spare index n is can fs fs n.one forked refl (λ r e. refl) a (still_one nodes p fresh spare index n is can fs n.one forked a)
+              (under_within (middle n.prefix) (past n.prefix) n.prefix.len m.prefix p can.is under (index_within nodes q m there n.one at.one_below (middle n.prefix) (past n.prefix) n.prefix.len at.branching.one (leads_among nodes k n.one q m there at.one_below right)))
         ]
 
 -- Something was added where p belongs, below a node.

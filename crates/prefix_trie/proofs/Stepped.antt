@@ -20,6 +20,6 @@ covers_shorter p at is covers differ = elim (cases_lt p.len at.len) [
       absurd (differ (same_parts at p (sym is.clear ∙ (ap (λ (n : ℕ). cleared n at.address) (sym same) ∙ covers.front)) (sym same)))
 ]
 
-pub differs_there : (nodes : List Node) (p : PrefixValue) (fresh spare place : ℕ) (n : Node) → CanAdd nodes p fresh spare place
-    → slice_get nodes place ≡ Some n → n.prefix ≢ p
-differs_there nodes p fresh spare place n can there = subst (λ (o : Option Node). IfSome o (λ m. m.prefix ≢ p)) there (can.absent place (at_node nodes place n there can.trie).here)
+pub differs_there : (nodes : List Node) (p : PrefixValue) (fresh spare index : ℕ) (n : Node) → CanAdd nodes p fresh spare index
+    → slice_get nodes index ≡ Some n → n.prefix ≢ p
+differs_there nodes p fresh spare index n can there = subst (λ (o : Option Node). IfSome o (λ m. m.prefix ≢ p)) there (can.absent index (at_node nodes index n there can.trie).here)

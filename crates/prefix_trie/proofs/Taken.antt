@@ -9,7 +9,7 @@ use Rattle.prefix_trie.specs.declared.tree.Tree.{Tree}
 use Rattle.prefix_trie.specs.Arena.{value_at, entries_at}
 use Rattle.prefix_trie.specs.Trees.{entries, IsTrie}
 use Rattle.prefix_trie.specs.Trimming.{IsTrimmed}
-use Rattle.prefix_trie.proofs.Places.{places_in}
+use Rattle.prefix_trie.proofs.Indices.{indices_in}
 
 -- Without a prefix that has no value all stays.
 pub without_absent : {V : Type 0} (p : PrefixValue) (es : List (PrefixValue × V)) → find prefix_cmp p es ≡ None → without prefix_cmp p es ≡ es
@@ -29,7 +29,7 @@ module _ {V : Type 0} (t u : Tree V) (trie : IsTrie t) (trimmed : IsTrimmed t.no
     apart = trimmed.apart;
     free_in = λ q inside. elim (trimmed.freed q inside) [
       | inl before ↦ let lt = trie.free_in q before in omega (arith, lt, many)
-      | inr gone ↦ let lt = places_in t.nodes.items q t.root trie.trie gone.0 in omega (arith, lt, many)
+      | inr gone ↦ let lt = indices_in t.nodes.items q t.root trie.trie gone.0 in omega (arith, lt, many)
     ];
     free_bare = λ q inside. ap (λ (vs : List (Option V)). value_at vs q) values ∙ elim (trimmed.freed q inside) [
       | inl before ↦ trie.free_bare q before

@@ -1,4 +1,4 @@
--- Nodes that stand in a list and name each other by their places, and how their prefixes are arranged.
+-- Nodes that stand in a list and name each other by their indices, and how their prefixes are arranged.
 use Rattle.std.specs.Prelude.{◌≡◌, ◌≢◌, ◌⊎◌, ◌<◌, ℕ, zero, suc, ◌^◌, ◌-◌, List, [], ◌∷◌, ◌++◌, length, Option, None, Some, IfSome, IfNone, option_and_then, option_map, slice_get, unwrap_or}
 use Rattle.std.specs.List.{Contains}
 use Rattle.bgp_types.specs.Prefixes.{PrefixValue, IsPrefix, Covers}
@@ -6,23 +6,23 @@ use Rattle.prefix_trie.specs.Halves.{middle, past, Within}
 use Rattle.prefix_trie.specs.Nodes.{own}
 use Rattle.prefix_trie.specs.declared.node.Node.{Node}
 
--- the place that means no node, which an empty branch names
+-- the index that means no node, which an empty branch names
 abbrev pub nowhere : ℕ
 nowhere = 2 ^ 32 - 1
 
--- the value at a place, if there is one
+-- the value at an index, if there is one
 abbrev pub value_at : {V : Type 0} → List (Option V) → ℕ → Option V
-value_at values place = option_and_then (λ value. value) (slice_get values place)
+value_at values index = option_and_then (λ value. value) (slice_get values index)
 
--- the prefixes with their values on this many levels of nodes from a place down, each before those that it covers
+-- the prefixes with their values on this many levels of nodes from an index down, each before those that it covers
 unfoldable pub entries_over : {V : Type 0} → List Node → List (Option V) → ℕ → ℕ → List (PrefixValue × V)
-entries_over nodes values zero place = []
-entries_over nodes values (suc levels) place = unwrap_or (option_map (λ n. own n.prefix (value_at values place) ++ (entries_over nodes values levels n.zero ++ entries_over nodes values levels n.one)) (slice_get nodes place)) []
+entries_over nodes values zero index = []
+entries_over nodes values (suc levels) index = unwrap_or (option_map (λ n. own n.prefix (value_at values index) ++ (entries_over nodes values levels n.zero ++ entries_over nodes values levels n.one)) (slice_get nodes index)) []
 
--- the places of these nodes
-unfoldable pub places_over : List Node → ℕ → ℕ → List ℕ
-places_over nodes zero place = []
-places_over nodes (suc levels) place = unwrap_or (option_map (λ n. place ∷ (places_over nodes levels n.zero ++ places_over nodes levels n.one)) (slice_get nodes place)) []
+-- the indices of these nodes
+unfoldable pub indices_over : List Node → ℕ → ℕ → List ℕ
+indices_over nodes zero index = []
+indices_over nodes (suc levels) index = unwrap_or (option_map (λ n. index ∷ (indices_over nodes levels n.zero ++ indices_over nodes levels n.one)) (slice_get nodes index)) []
 
 -- A node has a prefix, and names nodes whose prefixes are longer ones of its two halves.
 pub record IsBranching (nodes : List Node) (n : Node) : Type 0 where
@@ -30,27 +30,27 @@ pub record IsBranching (nodes : List Node) (n : Node) : Type 0 where
   pub zero : IfSome (slice_get nodes n.zero) (λ m. Within n.prefix.address (middle n.prefix) n.prefix.len m.prefix)
   pub one : IfSome (slice_get nodes n.one) (λ m. Within (middle n.prefix) (past n.prefix) n.prefix.len m.prefix)
 
--- This many levels of nodes from a place down are all that there are; each node names nodes or nothing, and its prefix covers those below it, half by
+-- This many levels of nodes from an index down are all that there are; each node names nodes or nothing, and its prefix covers those below it, half by
 -- half.
 unfoldable pub IsTrieOver : List Node → ℕ → ℕ → Type 0
-IsTrieOver nodes zero place = (slice_get nodes place ≡ None) × (place ≡ nowhere)
-IsTrieOver nodes (suc levels) place = IfNone (slice_get nodes place) (place ≡ nowhere)
-    × IfSome (slice_get nodes place) (λ n. IsBranching nodes n × IsTrieOver nodes levels n.zero × IsTrieOver nodes levels n.one)
+IsTrieOver nodes zero index = (slice_get nodes index ≡ None) × (index ≡ nowhere)
+IsTrieOver nodes (suc levels) index = IfNone (slice_get nodes index) (index ≡ nowhere)
+    × IfSome (slice_get nodes index) (λ n. IsBranching nodes n × IsTrieOver nodes levels n.zero × IsTrieOver nodes levels n.one)
 
 -- The same on all levels: a prefix has one of 33 lengths, and is longer than the one above it, so that there are never more than 34.
 abbrev pub entries_at : {V : Type 0} → List Node → List (Option V) → ℕ → List (PrefixValue × V)
-entries_at nodes values place = entries_over nodes values 34 place
+entries_at nodes values index = entries_over nodes values 34 index
 
-abbrev pub places_at : List Node → ℕ → List ℕ
-places_at nodes place = places_over nodes 34 place
+abbrev pub indices_at : List Node → ℕ → List ℕ
+indices_at nodes index = indices_over nodes 34 index
 
 abbrev pub IsTrieAt : List Node → ℕ → Type 0
-IsTrieAt nodes place = IsTrieOver nodes 34 place
+IsTrieAt nodes index = IsTrieOver nodes 34 index
 
--- This many branches lead from a place down to q.
+-- This many branches lead from an index down to q.
 unfoldable pub Leads : List Node → ℕ → ℕ → ℕ → Type 0
-Leads nodes zero place q = q ≡ place
-Leads nodes (suc steps) place q = (n : Node) × (slice_get nodes place ≡ Some n) × (Leads nodes steps n.zero q ⊎ Leads nodes steps n.one q)
+Leads nodes zero index q = q ≡ index
+Leads nodes (suc steps) index q = (n : Node) × (slice_get nodes index ≡ Some n) × (Leads nodes steps n.zero q ⊎ Leads nodes steps n.one q)
 
 -- at is shorter than p, and covers it
 abbrev pub IsUnder : PrefixValue → PrefixValue → Type 0
@@ -61,16 +61,16 @@ abbrev pub AreApart : List ℕ → Type 0
 AreApart [] = Unit {0}
 AreApart (x ∷ xs) = (Contains xs x → ⊥) × AreApart xs
 
--- The node and the value at a place are the same in both.
+-- The node and the value at an index are the same in both.
 pub record IsSameAt {V : Type 0} (nodes fs : List Node) (values ws : List (Option V)) (q : ℕ) : Type 0 where
   pub node : slice_get fs q ≡ slice_get nodes q
   pub value : value_at ws q ≡ value_at values q
 
--- No node from a place down has the prefix.
+-- No node from an index down has the prefix.
 abbrev pub HasNone : List Node → ℕ → PrefixValue → Type 0
-HasNone nodes place p = (r : ℕ) → Contains (places_at nodes place) r → IfSome (slice_get nodes r) (λ n. n.prefix ≢ p)
+HasNone nodes index p = (r : ℕ) → Contains (indices_at nodes index) r → IfSome (slice_get nodes r) (λ n. n.prefix ≢ p)
 
--- A node is at a place, and the other nodes are unchanged.
+-- A node is at an index, and the other nodes are unchanged.
 pub record IsNodeSet (nodes fs : List Node) (q : ℕ) (n : Node) : Type 0 where
   pub node : slice_get fs q ≡ Some n
   pub others : (r : ℕ) → r ≢ q → slice_get fs r ≡ slice_get nodes r

@@ -1,18 +1,18 @@
--- A trie with its values, and the places that are kept for later nodes.
+-- A trie with its values, and the indices that are kept for later nodes.
 use Rattle.std.specs.Prelude.{◌≡◌, ℕ, ◌≤◌, ◌<◌, List, ◌++◌, length, None, slice_get}
 use Rattle.std.specs.List.{Contains}
 use Rattle.bgp_types.specs.Prefixes.{PrefixValue}
 use Rattle.prefix_trie.specs.declared.tree.Tree.{Tree}
-use Rattle.prefix_trie.specs.Arena.{nowhere, value_at, entries_at, places_at, AreApart, IsTrieAt}
+use Rattle.prefix_trie.specs.Arena.{nowhere, value_at, entries_at, indices_at, AreApart, IsTrieAt}
 
 -- its prefixes with their values, each before those that it covers
 abbrev pub entries : {V : Type 0} → Tree V → List (PrefixValue × V)
 entries t = entries_at t.nodes.items t.values.items t.root
 
--- No place is used twice, and at those that are free there is no value.
+-- No index is used twice, and at those that are free there is no value.
 pub record IsTrie {V : Type 0} (t : Tree V) : Type 0 where
   pub trie : IsTrieAt t.nodes.items t.root
-  pub apart : AreApart (places_at t.nodes.items t.root ++ t.free.items)
+  pub apart : AreApart (indices_at t.nodes.items t.root ++ t.free.items)
   pub free_in : (q : ℕ) → Contains t.free.items q → q < length t.nodes.items
   pub free_bare : (q : ℕ) → Contains t.free.items q → value_at t.values.items q ≡ None
   pub few : length t.nodes.items ≤ nowhere

@@ -1,5 +1,5 @@
-//! The nodes of a trie, which stand in one list. A node has a prefix, and names the places of its two
-//! branches. The value of a node stands at the same place of another list.
+//! The nodes of a trie, which stand in one list. A node has a prefix, and names the indices of its two
+//! branches. The value of a node stands at the same index of another list.
 
 ghost use Rattle.std.specs.Prelude.{◌↔◌, ◌⊎◌, ◌≢◌, ℕ, ◌≤◌, ◌/◌, ◌^◌, IsTrue, ◌≡◌, ◌++◌, if◌then◌else◌, ◌<◌, length, nat_lt, map, is_some, option_copied, option_map, slice_get, Some, None, IfNone, IfSome, IsSome, OnOk, OnSome};
 ghost use Rattle.std.specs.FinMap as table;
@@ -7,14 +7,14 @@ ghost use Rattle.std.specs.List.{Contains};
 ghost use Rattle.bgp_types.specs.Tables.{prefix_cmp, first_above};
 ghost use Rattle.prefix_trie.specs.Halves.{middle as middle_of, IsFork};
 ghost use Rattle.prefix_trie.specs.Longest.{LongestOf};
-ghost use Rattle.prefix_trie.specs.Arena.{entries_at, places_at, value_at, HasNone, IsTrieAt, IsNodeSet, IsUnder};
+ghost use Rattle.prefix_trie.specs.Arena.{entries_at, indices_at, value_at, HasNone, IsTrieAt, IsNodeSet, IsUnder};
 ghost use Rattle.prefix_trie.specs.Adding.{leaf as leaf_of, CanAdd, IsAdded, IsForkOf, IsLinked, IsOver, IsSpot, IsUpper, IsWay};
 ghost use Rattle.prefix_trie.specs.Trimming.{CanTrim, IsTrimmed};
 ghost use Rattle.bgp_types.specs.Prefixes.{Covers};
 
 use bgp_types::{NoMemory, Prefix, PrefixList};
 
-/// A prefix, and the places of its branches. A place without a node is that of an empty branch.
+/// A prefix, and the indices of its branches. An index without a node is that of an empty branch.
 #[derive(Clone, Copy)]
 pub struct Node {
     pub prefix: Prefix,
@@ -62,18 +62,18 @@ fn is_first_half(address: u32, prefix: Prefix) -> bool
     address - prefix.address() < half(prefix.len())
 }
 
-/// Returns the node at a place.
-pub fn node_at(nodes: &[Node], place: u32) -> Option<&Node>
-    ensures { option_copied result ≡ slice_get nodes.now place }
+/// Returns the node at an index.
+pub fn node_at(nodes: &[Node], index: u32) -> Option<&Node>
+    ensures { option_copied result ≡ slice_get nodes.now index }
 {
-    nodes.get(place as usize)
+    nodes.get(index as usize)
 }
 
-/// Returns the place of the node of a prefix, if there is one.
+/// Returns the index of the node of a prefix, if there is one.
 pub fn find(nodes: &[Node], root: u32, prefix: Prefix) -> Option<u32>
     requires { IsTrieAt nodes.now root }
-    ensures place { IfSome result (λ place. Contains (places_at nodes.now root) place) }
-    ensures node { IfSome result (λ place. option_map (λ n. n.prefix) (slice_get nodes.now place) ≡ Some prefix) }
+    ensures index { IfSome result (λ index. Contains (indices_at nodes.now root) index) }
+    ensures node { IfSome result (λ index. option_map (λ n. n.prefix) (slice_get nodes.now index) ≡ Some prefix) }
     ensures none { IfNone result (HasNone nodes.now root prefix) }
 {
     let mut at = root;
@@ -94,25 +94,25 @@ pub fn find(nodes: &[Node], root: u32, prefix: Prefix) -> Option<u32>
     None
 }
 
-/// Whether there is a value at a place.
-fn has_value<V>(values: &[Option<V>], place: u32) -> bool
-    ensures { result ≡ is_some (value_at values.now place) }
+/// Whether there is a value at an index.
+fn has_value<V>(values: &[Option<V>], index: u32) -> bool
+    ensures { result ≡ is_some (value_at values.now index) }
 {
-    match values.get(place as usize) {
+    match values.get(index as usize) {
         Some(value) => value.is_some(),
         None => false,
     }
 }
 
-/// Returns the least prefix in the subtree at a place.
-pub fn first<V>(nodes: &[Node], values: &[Option<V>], place: u32) -> Option<Prefix>
-    requires { IsTrieAt nodes.now place }
-    ensures { result ≡ first_above None (map (λ e. e.0) (entries_at nodes.now values.now place)) }
+/// Returns the least prefix in the subtree at an index.
+pub fn first<V>(nodes: &[Node], values: &[Option<V>], index: u32) -> Option<Prefix>
+    requires { IsTrieAt nodes.now index }
+    ensures { result ≡ first_above None (map (λ e. e.0) (entries_at nodes.now values.now index)) }
 {
-    match node_at(nodes, place) {
+    match node_at(nodes, index) {
         None => None,
         Some(node) => {
-            if has_value(values, place) {
+            if has_value(values, index) {
                 return Some(node.prefix);
             }
             match first(nodes, values, node.zero) {
@@ -123,18 +123,18 @@ pub fn first<V>(nodes: &[Node], values: &[Option<V>], place: u32) -> Option<Pref
     }
 }
 
-/// Adds the prefixes in the subtree at a place to a list, in ascending order.
+/// Adds the prefixes in the subtree at an index to a list, in ascending order.
 pub fn list<V>(
     nodes: &[Node],
     values: &[Option<V>],
-    place: u32,
+    index: u32,
     prefixes: &mut PrefixList,
 ) -> Result<(), NoMemory>
-    requires { IsTrieAt nodes.now place }
-    ensures { OnOk result (prefixes.new ≡ prefixes.old ++ map (λ e. e.0) (entries_at nodes.now values.now place)) }
+    requires { IsTrieAt nodes.now index }
+    ensures { OnOk result (prefixes.new ≡ prefixes.old ++ map (λ e. e.0) (entries_at nodes.now values.now index)) }
 {
-    if let Some(node) = node_at(nodes, place) {
-        if has_value(values, place) {
+    if let Some(node) = node_at(nodes, index) {
+        if has_value(values, index) {
             prefixes.push(node.prefix)?;
         }
         list(nodes, values, node.zero, prefixes)?;
@@ -143,16 +143,16 @@ pub fn list<V>(
     Ok(())
 }
 
-/// Returns the least prefix above another, in the subtree at a place.
-pub fn next<V>(nodes: &[Node], values: &[Option<V>], place: u32, prefix: Prefix) -> Option<Prefix>
-    requires { IsTrieAt nodes.now place }
-    ensures { result ≡ first_above (Some prefix) (map (λ e. e.0) (entries_at nodes.now values.now place)) }
+/// Returns the least prefix above another, in the subtree at an index.
+pub fn next<V>(nodes: &[Node], values: &[Option<V>], index: u32, prefix: Prefix) -> Option<Prefix>
+    requires { IsTrieAt nodes.now index }
+    ensures { result ≡ first_above (Some prefix) (map (λ e. e.0) (entries_at nodes.now values.now index)) }
 {
-    match node_at(nodes, place) {
+    match node_at(nodes, index) {
         None => None,
         Some(node) => {
             if prefix < node.prefix {
-                return first(nodes, values, place);
+                return first(nodes, values, index);
             }
             if is_early(prefix.address(), node.prefix) {
                 if let Some(after) = next(nodes, values, node.zero, prefix) {
@@ -193,15 +193,15 @@ pub fn longest<V>(nodes: &[Node], values: &[Option<V>], root: u32, host: Prefix)
     longest
 }
 
-/// Puts a node at a place.
-fn set_node(nodes: &mut [Node], place: u32, node: Node)
-    requires { place < length nodes.old }
-    ensures { IsNodeSet nodes.old nodes.new place node }
+/// Puts a node at an index.
+fn set_node(nodes: &mut [Node], index: u32, node: Node)
+    requires { index < length nodes.old }
+    ensures { IsNodeSet nodes.old nodes.new index node }
 {
-    nodes[place as usize] = node;
+    nodes[index as usize] = node;
 }
 
-/// The place of a trie's first node after a prefix got a node, and whether a fork was added above that
+/// The index of a trie's first node after a prefix got a node, and whether a fork was added above that
 /// node.
 #[derive(Clone, Copy)]
 pub struct Rooted {
@@ -209,7 +209,7 @@ pub struct Rooted {
     pub forked: bool,
 }
 
-/// The place that means no node.
+/// The index that means no node.
 pub const NOWHERE: u32 = u32::MAX;
 
 /// Returns a node of a prefix without branches.
@@ -223,19 +223,19 @@ pub fn leaf(prefix: Prefix) -> Node
     }
 }
 
-/// Returns a node of a prefix whose only branch is at a place, where the node has a prefix that it
+/// Returns a node of a prefix whose only branch is at an index, where the node has a prefix that it
 /// covers.
-fn over(prefix: Prefix, at: Prefix, place: u32) -> Node
-    ensures { IsOver prefix at place result }
+fn over(prefix: Prefix, at: Prefix, index: u32) -> Node
+    ensures { IsOver prefix at index result }
 {
     if is_early(at.address(), prefix) {
         return Node {
-            zero: place,
+            zero: index,
             ..leaf(prefix)
         };
     }
     Node {
-        one: place,
+        one: index,
         ..leaf(prefix)
     }
 }
@@ -251,42 +251,42 @@ fn fork_of(low: u32, high: u32) -> Prefix
     }
 }
 
-/// Returns a fork of two prefixes, neither of which covers the other: of one, whose node gets the place
-/// `fresh`, and of another, whose node is at a place.
-fn fork(prefix: Prefix, fresh: u32, at: Prefix, place: u32) -> Node
+/// Returns a fork of two prefixes, neither of which covers the other: of one, whose node gets the index
+/// `fresh`, and of another, whose node is at an index.
+fn fork(prefix: Prefix, fresh: u32, at: Prefix, index: u32) -> Node
     requires above { Covers at prefix → ⊥ }
     requires below { Covers prefix at → ⊥ }
-    ensures { IsForkOf prefix fresh at place result }
+    ensures { IsForkOf prefix fresh at index result }
 {
     if prefix.address() < at.address() {
         return Node {
             prefix: fork_of(prefix.address(), at.address()),
             zero: fresh,
-            one: place,
+            one: index,
         };
     }
     Node {
         prefix: fork_of(at.address(), prefix.address()),
-        zero: place,
+        zero: index,
         one: fresh,
     }
 }
 
-/// Returns a copy of the node at a place.
-fn copy_at(nodes: &[Node], place: u32) -> Option<Node>
-    ensures { result ≡ slice_get nodes.now place }
+/// Returns a copy of the node at an index.
+fn copy_at(nodes: &[Node], index: u32) -> Option<Node>
+    ensures { result ≡ slice_get nodes.now index }
 {
-    nodes.get(place as usize).copied()
+    nodes.get(index as usize).copied()
 }
 
-/// Adds a node of a prefix at the place where it belongs: the place is vacant, or its node's prefix
+/// Adds a node of a prefix at the index where it belongs: the index is vacant, or its node's prefix
 /// isn't a shorter one that covers it.
-fn add_at(nodes: &mut [Node], fresh: u32, spare: u32, place: u32, prefix: Prefix) -> Rooted
-    requires can { CanAdd nodes.old prefix fresh spare place }
-    requires stop { IfSome (slice_get nodes.old place) (λ n. IsUnder n.prefix prefix → ⊥) }
-    ensures { IsAdded nodes.old nodes.new prefix fresh spare place result.root result.forked }
+fn add_at(nodes: &mut [Node], fresh: u32, spare: u32, index: u32, prefix: Prefix) -> Rooted
+    requires can { CanAdd nodes.old prefix fresh spare index }
+    requires stop { IfSome (slice_get nodes.old index) (λ n. IsUnder n.prefix prefix → ⊥) }
+    ensures { IsAdded nodes.old nodes.new prefix fresh spare index result.root result.forked }
 {
-    let Some(node) = copy_at(nodes, place) else {
+    let Some(node) = copy_at(nodes, index) else {
         set_node(nodes, fresh, leaf(prefix));
         return Rooted {
             root: fresh,
@@ -295,21 +295,21 @@ fn add_at(nodes: &mut [Node], fresh: u32, spare: u32, place: u32, prefix: Prefix
     };
     let at = node.prefix;
     if prefix.covers(&at) {
-        set_node(nodes, fresh, over(prefix, at, place));
+        set_node(nodes, fresh, over(prefix, at, index));
         return Rooted {
             root: fresh,
             forked: false,
         };
     }
     set_node(nodes, fresh, leaf(prefix));
-    set_node(nodes, spare, fork(prefix, fresh, at, place));
+    set_node(nodes, spare, fork(prefix, fresh, at, index));
     Rooted {
         root: spare,
         forked: true,
     }
 }
 
-/// Where the node of a prefix belongs: at place `at`, below the node at `above`, which is below the one
+/// Where the node of a prefix belongs: at index `at`, below the node at `above`, which is below the one
 /// at `grand`.
 #[derive(Clone, Copy)]
 pub struct Spot {
@@ -342,17 +342,17 @@ pub fn seek(nodes: &[Node], root: u32, prefix: Prefix) -> Spot
     Spot { grand, above, at }
 }
 
-/// Whether the node at a place is that of a prefix.
-pub fn is_at(nodes: &[Node], place: u32, prefix: Prefix) -> bool
-    ensures { IsTrue result ↔ (option_map (λ n. n.prefix) (slice_get nodes.now place) ≡ Some prefix) }
+/// Whether the node at an index is that of a prefix.
+pub fn is_at(nodes: &[Node], index: u32, prefix: Prefix) -> bool
+    ensures { IsTrue result ↔ (option_map (λ n. n.prefix) (slice_get nodes.now index) ≡ Some prefix) }
 {
-    match node_at(nodes, place) {
+    match node_at(nodes, index) {
         Some(node) => node.prefix == prefix,
         None => false,
     }
 }
 
-/// Returns a node that names another place for the half in which a prefix lies.
+/// Returns a node that names another index for the half in which a prefix lies.
 fn linked(node: Node, prefix: Prefix, to: u32) -> Node
     ensures { IsLinked node prefix to result }
 {
@@ -362,8 +362,8 @@ fn linked(node: Node, prefix: Prefix, to: u32) -> Node
     Node { one: to, ..node }
 }
 
-/// Adds a node without a value for a prefix that has none, at the fresh place. If it needs a fork above
-/// it, the fork gets the spare place.
+/// Adds a node without a value for a prefix that has none, at the fresh index. If it needs a fork above
+/// it, the fork gets the spare index.
 pub fn add_node(
     nodes: &mut [Node],
     fresh: u32,
@@ -387,32 +387,32 @@ pub fn add_node(
     }
 }
 
-/// Returns the place that replaces that of a node: if the node has neither a value nor two branches,
-/// that of its only branch, else its own. In the first case its own place is kept for reuse, if the
-/// list of free places has room.
-fn tidy<V>(nodes: &[Node], values: &[Option<V>], free: &mut Vec<u32>, place: u32) -> u32
-    requires { CanTrim nodes.now free.old.items place }
-    ensures { IsTrimmed nodes.now nodes.now values.now free.old.items free.new.items place result }
+/// Returns the index that replaces that of a node: if the node has neither a value nor two branches,
+/// that of its only branch, else its own. In the first case its own index is kept for reuse, if the
+/// list of free indices has room.
+fn tidy<V>(nodes: &[Node], values: &[Option<V>], free: &mut Vec<u32>, index: u32) -> u32
+    requires { CanTrim nodes.now free.old.items index }
+    ensures { IsTrimmed nodes.now nodes.now values.now free.old.items free.new.items index result }
 {
-    let Some(node) = copy_at(nodes, place) else {
-        return place;
+    let Some(node) = copy_at(nodes, index) else {
+        return index;
     };
-    if has_value(values, place) {
-        return place;
+    if has_value(values, index) {
+        return index;
     }
     let branch = if node.zero == NOWHERE {
         node.one
     } else if node.one == NOWHERE {
         node.zero
     } else {
-        return place;
+        return index;
     };
-    let _ = free.push(place);
+    let _ = free.push(index);
     branch
 }
 
 /// Removes the node at `at`, on the way to where a prefix belongs, if it has neither a value nor two
-/// branches. Returns the place of the trie's first node.
+/// branches. Returns the index of the trie's first node.
 fn trim_at<V>(
     nodes: &mut [Node],
     values: &[Option<V>],

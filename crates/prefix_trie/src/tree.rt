@@ -1,4 +1,4 @@
-//! A trie with its values, and the places that are kept for later nodes.
+//! A trie with its values, and the indices that are kept for later nodes.
 
 ghost use Rattle.std.specs.Prelude.{◌≡◌, ◌+◌, ◌++◌, ◌≤◌, ◌/◌, ℕ, [], None, length, not, option_copied, IsOk, OnOk, OnErr};
 ghost use Rattle.std.specs.FinMap as table;
@@ -8,7 +8,7 @@ ghost use Rattle.std.specs.List.{Contains};
 ghost use Rattle.std.specs.Ordering.{eq_by_cmp};
 ghost use Rattle.bgp_types.specs.Prefixes.{IsPrefix};
 ghost use Rattle.bgp_types.specs.Tables.{prefix_cmp};
-ghost use Rattle.prefix_trie.specs.Arena.{places_at, value_at, AreApart, HasNone, IsTrieAt};
+ghost use Rattle.prefix_trie.specs.Arena.{indices_at, value_at, AreApart, HasNone, IsTrieAt};
 ghost use Rattle.prefix_trie.specs.Adding.{IsSpot};
 ghost use Rattle.prefix_trie.specs.Changes.{ChangeResult};
 ghost use Rattle.prefix_trie.specs.Nodes.{PutResult};
@@ -18,8 +18,8 @@ use crate::node::{NOWHERE, Node, Spot, add_node, find, is_at, leaf, node_at, see
 use bgp_types::{NoMemory, Prefix};
 use std::mem;
 
-/// The nodes of a trie, the value of each at its place in another list, the place of the first node,
-/// and the places that no node uses. The nodes are apart from the values, so that a descent reads
+/// The nodes of a trie, the value of each at its index in another list, the index of the first node,
+/// and the indices that no node uses. The nodes are apart from the values, so that a descent reads
 /// little memory, however large the values are.
 #[derive(Drop)]
 pub struct Tree<V> {
@@ -34,8 +34,8 @@ pub fn get<V>(tree: &Tree<V>, prefix: Prefix) -> Option<&V>
     requires { IsTrie tree.now }
     ensures { option_copied result ≡ table.find prefix_cmp prefix (entries tree.now) }
 {
-    let place = find(&tree.nodes, tree.root, prefix)?;
-    tree.values.get(place as usize)?.as_ref()
+    let index = find(&tree.nodes, tree.root, prefix)?;
+    tree.values.get(index as usize)?.as_ref()
 }
 
 /// Changes the value of a prefix in place, and returns what the change returns. If the prefix has no
@@ -51,8 +51,8 @@ pub fn change<V, R, F: FnOnce(&mut V) -> R>(
     ensures changed { ChangeResult (FnOnceReturnsAtMut F.FnOnce edit) prefix result (entries tree.old) (entries tree.new) }
     ensures free { tree.new.free ≡ tree.old.free }
 {
-    let place = find(&tree.nodes, tree.root, prefix)?;
-    match &mut tree.values[place as usize] {
+    let index = find(&tree.nodes, tree.root, prefix)?;
+    match &mut tree.values[index as usize] {
         Some(value) => Some(edit(value)),
         None => None,
     }
@@ -94,7 +94,7 @@ fn put_new<V: Drop>(
     Ok(None)
 }
 
-/// The same as `put`, for a prefix without a node where two places are free.
+/// The same as `put`, for a prefix without a node where two indices are free.
 fn put_free<V: Drop>(tree: &mut Tree<V>, spot: Spot, prefix: Prefix, value: V)
     requires trie { IsTrie tree.old }
     requires sound { IsPrefix prefix }
@@ -112,7 +112,7 @@ fn put_free<V: Drop>(tree: &mut Tree<V>, spot: Spot, prefix: Prefix, value: V)
     tree.values[fresh as usize] = Some(value);
     tree.root = added.root;
     if !added.forked {
-        // The list has room for a place that was just taken from it.
+        // The list has room for an index that was just taken from it.
         let _ = tree.free.push(spare);
     }
 }
@@ -142,7 +142,7 @@ pub fn take<V: Drop>(tree: &mut Tree<V>, prefix: Prefix) -> Option<V>
     value
 }
 
-/// Removes all prefixes, and keeps the places of their nodes for reuse.
+/// Removes all prefixes, and keeps the indices of their nodes for reuse.
 pub fn clear<V: Drop>(tree: &mut Tree<V>)
     requires { IsTrie tree.old }
     ensures trie { IsTrie tree.new }
@@ -153,24 +153,24 @@ pub fn clear<V: Drop>(tree: &mut Tree<V>)
     tree.root = NOWHERE;
 }
 
-/// Removes the values in the subtree at a place, and keeps the places of its nodes for reuse, as far as
-/// the list of free places has room.
-fn empty<V: Drop>(nodes: &[Node], values: &mut [Option<V>], free: &mut Vec<u32>, place: u32)
-    requires trie { IsTrieAt nodes.now place }
-    requires apart { AreApart (places_at nodes.now place ++ free.old.items) }
+/// Removes the values in the subtree at an index, and keeps the indices of its nodes for reuse, as far as
+/// the list of free indices has room.
+fn empty<V: Drop>(nodes: &[Node], values: &mut [Option<V>], free: &mut Vec<u32>, index: u32)
+    requires trie { IsTrieAt nodes.now index }
+    requires apart { AreApart (indices_at nodes.now index ++ free.old.items) }
     requires bare { (q : ℕ) → Contains free.old.items q → value_at values.old q ≡ None }
     requires valued { length values.old ≡ length nodes.now }
     ensures apart { AreApart free.new.items }
-    ensures among { (q : ℕ) → Contains free.new.items q → Contains (places_at nodes.now place ++ free.old.items) q }
+    ensures among { (q : ℕ) → Contains free.new.items q → Contains (indices_at nodes.now index ++ free.old.items) q }
     ensures bare { (q : ℕ) → Contains free.new.items q → value_at values.new q ≡ None }
     ensures valued { length values.new ≡ length nodes.now }
     ensures kept { length free.old.items ≤ length free.new.items }
 {
-    let Some(node) = node_at(nodes, place) else {
+    let Some(node) = node_at(nodes, index) else {
         return;
     };
-    values[place as usize] = None;
-    let _ = free.push(place);
+    values[index as usize] = None;
+    let _ = free.push(index);
     empty(nodes, values, free, node.zero);
     empty(nodes, values, free, node.one);
 }
@@ -178,7 +178,7 @@ fn empty<V: Drop>(nodes: &[Node], values: &mut [Option<V>], free: &mut Vec<u32>,
 /// The number of all prefixes: for each length from 0 to 32, one for each value of that many bits.
 const ALL_PREFIXES: usize = (1 << 33) - 1;
 
-/// Makes two free places for each of `more` prefixes. If memory runs out, as many places are free as
+/// Makes two free indices for each of `more` prefixes. If memory runs out, as many indices are free as
 /// before. A number that is greater than that of all prefixes is refused at once.
 pub fn reserve<V: Drop>(tree: &mut Tree<V>, more: usize) -> Result<(), NoMemory>
     requires { IsTrie tree.old }
@@ -199,7 +199,7 @@ pub fn reserve<V: Drop>(tree: &mut Tree<V>, more: usize) -> Result<(), NoMemory>
     let fresh = more * 2 - before;
     tree.nodes.reserve(fresh)?;
     tree.values.reserve(fresh)?;
-    // There is room for all places, so that none is lost when its node is removed.
+    // There is room for all indices, so that none is lost when its node is removed.
     tree.free.reserve(tree.nodes.len().saturating_add(fresh))?;
     match fill(tree, more * 2) {
         Ok(()) => Ok(()),
@@ -210,7 +210,7 @@ pub fn reserve<V: Drop>(tree: &mut Tree<V>, more: usize) -> Result<(), NoMemory>
     }
 }
 
-/// Makes free places until there are `count`.
+/// Makes free indices until there are `count`.
 fn fill<V: Drop>(tree: &mut Tree<V>, count: usize) -> Result<(), NoMemory>
     requires { IsTrie tree.old }
     ensures trie { IsTrie tree.new }
@@ -219,21 +219,21 @@ fn fill<V: Drop>(tree: &mut Tree<V>, count: usize) -> Result<(), NoMemory>
     ensures more { length tree.old.free.items ≤ length tree.new.free.items }
 {
     while tree.free.len() < count {
-        add_place(tree)?;
+        add_index(tree)?;
     }
     Ok(())
 }
 
-/// Makes one free place. If memory runs out, the same places are free as before.
-fn add_place<V: Drop>(tree: &mut Tree<V>) -> Result<(), NoMemory>
+/// Makes one free index. If memory runs out, the same indices are free as before.
+fn add_index<V: Drop>(tree: &mut Tree<V>) -> Result<(), NoMemory>
     requires { IsTrie tree.old }
     ensures trie { IsTrie tree.new }
     ensures grown { IsGrown tree.old tree.new }
     ensures ok { OnOk result (length tree.new.free.items ≡ length tree.old.free.items + 1) }
     ensures err { OnErr result (tree.new.free.items ≡ tree.old.free.items) }
 {
-    let place = tree.nodes.len();
-    if place >= NOWHERE as usize {
+    let index = tree.nodes.len();
+    if index >= NOWHERE as usize {
         return Err(NoMemory);
     }
     let Some(prefix) = Prefix::new(0, 0) else {
@@ -241,7 +241,7 @@ fn add_place<V: Drop>(tree: &mut Tree<V>) -> Result<(), NoMemory>
     };
     tree.nodes.reserve(1)?;
     tree.values.reserve(1)?;
-    tree.free.push(place as u32)?;
+    tree.free.push(index as u32)?;
     if tree.nodes.push(leaf(prefix)).is_err() || tree.values.push(None).is_err() {
         unreachable!();
     }

@@ -14,8 +14,8 @@ use bgp_types::{Items, NoMemory, Prefix, PrefixList, SpareTable, Table};
 use std::alloc::Global;
 use std::marker::Model;
 
-/// Prefixes with their values. The nodes stand in one list and name each other by their places in it. A
-/// removal keeps the places that it frees for later prefixes; it allocates nothing.
+/// Prefixes with their values. The nodes stand in one list and name each other by their indices in it. A
+/// removal keeps the indices that it frees for later prefixes; it allocates nothing.
 ///
 /// On a descent from the root each prefix is longer than the one before, so a descent visits at most 33
 /// nodes, however many prefixes there are. `get`, `set`, `change`, `remove` and `longest_match` make

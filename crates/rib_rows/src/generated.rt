@@ -12,9 +12,9 @@ const COMMANDS: u32 = 3_000;
 
 /// Returns one of 16 prefixes: 10.0.0.0/8, and 10.1.0.0/16 to 10.15.0.0/16.
 fn prefix(n: u32) -> Option<Prefix> {
-    let place = n % 16;
-    let len = if place == 0 { 8 } else { 16 };
-    Prefix::new(0x0A00_0000 + place * 0x1_0000, len)
+    let index = n % 16;
+    let len = if index == 0 { 8 } else { 16 };
+    Prefix::new(0x0A00_0000 + index * 0x1_0000, len)
 }
 
 /// Returns a route with a path of one or two ASes.

@@ -22,11 +22,11 @@ pub type Plain = Vec<Held>;
 
 /// Returns source `n` of the entries, in their order: 5 peerings, then routers 1 to 3.
 pub fn source(n: u32) -> From {
-    let place = (n % 8) as u8;
-    if place < 5 {
-        From::Peering(PeeringId(place))
+    let index = (n % 8) as u8;
+    if index < 5 {
+        From::Peering(PeeringId(index))
     } else {
-        From::Router(RouterId(place - 4))
+        From::Router(RouterId(index - 4))
     }
 }
 
@@ -86,7 +86,7 @@ pub fn best_at(alloc: Global, plain: &Plain, prefix: Prefix) -> Result<Option<&H
     let candidates = candidates(alloc, plain, prefix)?;
     let ranks: Vec<Rank> = candidates.iter().map(|held| rank_of(held)).collect(alloc)?;
     match best(ranks.as_slice()) {
-        Some(place) => Ok(candidates.get(place).copied()),
+        Some(index) => Ok(candidates.get(index).copied()),
         None => Ok(None),
     }
 }

@@ -44,8 +44,8 @@ fn of_config(
 /// Starts again, with the own networks that the row has from its second word on.
 fn begin(alloc: Global, rib: &mut Rib, words: &[&str]) -> Result<()> {
     let mut networks: Vec<Prefix> = Vec::new(alloc);
-    for place in 1..words.len() {
-        networks.push(prefix(words, place)?)?;
+    for index in 1..words.len() {
+        networks.push(prefix(words, index)?)?;
     }
     *rib = tables(alloc, networks.as_slice())?;
     Ok(())

@@ -18,9 +18,9 @@ pub fn address(words: &[&str], key: &str) -> Result<u32> {
     read_address(word).context("an address")
 }
 
-/// Returns the prefix at a place.
-pub fn prefix(words: &[&str], place: usize) -> Result<Prefix> {
-    read_prefix(word(words, place)).context("a prefix")
+/// Returns the prefix at an index.
+pub fn prefix(words: &[&str], index: usize) -> Result<Prefix> {
+    read_prefix(word(words, index)).context("a prefix")
 }
 
 /// Returns the source of a route: `peering N` or `router N` from the second word on.

@@ -52,7 +52,7 @@ module _ {A : Type 0} where
   pub at-itself : (f : ℕ → map.FinMap prefix_cmp A) (n : ℕ) → at f n (f n) ≡ f
   at-itself f n = λ i k. itself f n k (k == n) refl i
 
-  -- what is read at a place is the table there
+  -- what is read at an index is the table there
   pub read_is : (cs : List (map.FinMap prefix_cmp A)) (n : ℕ) (x : map.FinMap prefix_cmp A) → n < length cs → x ≡ get_or cs n x → table_at cs n ≡ x
   read_is [] n x h is = absurd (omega (arith, h))
   read_is (y ∷ cs) zero x h is = sym is

@@ -31,7 +31,7 @@ pub record RibStore : Type 0 where
   pub best : BestRoutes
   pub dirty : Prefixes
 
--- the table at a place, which is empty past the last
+-- the table at an index, which is empty past the last
 abbrev pub table_at : {A : Type 0} → List (map.FinMap prefix_cmp A) → ℕ → map.FinMap prefix_cmp A
 table_at tables n = unwrap_or (slice_get tables n) map.empty
 

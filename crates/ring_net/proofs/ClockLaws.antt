@@ -92,17 +92,17 @@ module _ {A I : Type 0} where
   pub keeps_pause : (cells : List (Cell A I)) (k : ℕ) (x y : Cell A I) → k < length cells → slice_get cells k ≡ Some x → PausesCell x y
       → KeepsEnds cells (set cells k y)
   keeps_pause cells k x y k_in is p = record {
-    outs = λ a b. by_place a (λ n. out_end (set cells k y) n b ≡ out_end cells n b) (rw (here, is, ap (λ (z : Cell A I). z.rings) p.only) refl) (λ ne. ap (λ o. out_of o b) (slice_get-set_other cells k a y ne));
-    ins = λ a b. by_place b (λ n. in_end (set cells k y) a n ≡ in_end cells a n) (rw (here, is, ap (λ (z : Cell A I). z.ins) p.only) refl) (λ ne. ap (λ o. in_of o a) (slice_get-set_other cells k b y ne));
-    boxes = λ a b. by_place a (λ n. box_of (slice_get (set cells k y) n) b ≡ box_of (slice_get cells n) b) (rw (here, is) (p.edges.edges b)) (λ ne. ap (λ o. box_of o b) (slice_get-set_other cells k a y ne));
-    numbers = λ n. by_place n (λ n. cell_number (slice_get (set cells k y) n) n ≡ cell_number (slice_get cells n) n) (rw (here, is) p.edges.actor) (λ ne. ap (λ o. cell_number o n) (slice_get-set_other cells k n y ne));
+    outs = λ a b. by_index a (λ n. out_end (set cells k y) n b ≡ out_end cells n b) (rw (here, is, ap (λ (z : Cell A I). z.rings) p.only) refl) (λ ne. ap (λ o. out_of o b) (slice_get-set_other cells k a y ne));
+    ins = λ a b. by_index b (λ n. in_end (set cells k y) a n ≡ in_end cells a n) (rw (here, is, ap (λ (z : Cell A I). z.ins) p.only) refl) (λ ne. ap (λ o. in_of o a) (slice_get-set_other cells k b y ne));
+    boxes = λ a b. by_index a (λ n. box_of (slice_get (set cells k y) n) b ≡ box_of (slice_get cells n) b) (rw (here, is) (p.edges.edges b)) (λ ne. ap (λ o. box_of o b) (slice_get-set_other cells k a y ne));
+    numbers = λ n. by_index n (λ n. cell_number (slice_get (set cells k y) n) n ≡ cell_number (slice_get cells n) n) (rw (here, is) p.edges.actor) (λ ne. ap (λ o. cell_number o n) (slice_get-set_other cells k n y ne));
   }
     where
       here : slice_get (set cells k y) k ≡ Some y
       here = slice_get-set_same cells k y k_in
 
-      by_place : (n : ℕ) (Q : ℕ → Type 0) → Q k → (n ≢ k → Q n) → Q n
-      by_place n Q h f = elim (eqb_tells n k) [ inl s ↦ subst (λ m. Q m) (sym s.1) h | inr ne ↦ f ne.1 ]
+      by_index : (n : ℕ) (Q : ℕ → Type 0) → Q k → (n ≢ k → Q n) → Q n
+      by_index n Q h f = elim (eqb_tells n k) [ inl s ↦ subst (λ m. Q m) (sym s.1) h | inr ne ↦ f ne.1 ]
 
   pub net_keeps : (old new : List (Cell A I)) (edges : List (ℕ × ℕ)) → KeepsEnds old new → IsNet old edges → IsNet new edges
   net_keeps old new edges k h = record {
@@ -277,7 +277,7 @@ module _ {A P I : Type 0} (part : A → P) (makes : Makes P I) (moves : A → Li
       aside a b ne = ap (λ o. ring_known o ++ waits_of (slice_get second a) b) (kept.ins a b)
           ∙ ap (λ o. ring_known (in_end p.first a b) ++ waits_of o b) (slice_get-set_other p.first k a p.cell ne)
 
-  -- the cell is paused at its place, between two levellings
+  -- the cell is paused at its index, between two levellings
   pub pauses_at : (old first new : List (Cell A I)) (k : ℕ) (d y : Cell A I) (answer : Bool) → k < length old → LevelsAll old first
       → PausesCell (get_or first k d) y
       → Pauses part makes moves (get_or first k d).actor (get_or first k d).post y.actor y.post answer → LevelsAll (set first k y) new

@@ -14,8 +14,8 @@ use Rattle.ring_net.specs.Fresh.{EdgesOnce}
 use Rattle.ring_net.specs.Left.{items_left, actors_of, journals_of, WithoutRing, WithoutBox, DrainsChannel}
 use Rattle.ring_net.proofs.EdgeReads.{slice_get-set_same, slice_get-set_other}
 
-by_place : (k n : ℕ) (Q : ℕ → Type 0) → (n ≡ k → Q k) → (n ≢ k → Q n) → Q n
-by_place k n Q h f = elim (eqb_tells n k) [ inl s ↦ subst (λ m. Q m) (sym s.1) (h s.1) | inr ne ↦ f ne.1 ]
+by_index : (k n : ℕ) (Q : ℕ → Type 0) → (n ≡ k → Q k) → (n ≢ k → Q n) → Q n
+by_index k n Q h f = elim (eqb_tells n k) [ inl s ↦ subst (λ m. Q m) (sym s.1) (h s.1) | inr ne ↦ f ne.1 ]
 
 module _ {A I : Type 0} where
   -- a field that one written cell keeps
@@ -29,7 +29,7 @@ module _ {A I : Type 0} where
   without_ring : (cells : List (Cell A I)) (a b : ℕ) (c d : Cell A I) → b < length cells → slice_get cells b ≡ Some c → WithoutRing a c d
       → DrainsChannel a b cells (set cells b d)
   without_ring cells a b c d b_in is w = record {
-    rings = λ x y ne. by_place b y (λ y. (x ≡ a → y ≡ b → ⊥) → ring_known (in_end (set cells b d) x y) ≡ ring_known (in_end cells x y))
+    rings = λ x y ne. by_index b y (λ y. (x ≡ a → y ≡ b → ⊥) → ring_known (in_end (set cells b d) x y) ≡ ring_known (in_end cells x y))
         (λ s apart. rw (here, is) (ap ring_known (w.others x (λ e. apart e refl))))
         (λ other apart. ap (λ o. ring_known (in_of o x)) (slice_get-set_other cells b y d other)) ne;
     boxes = λ x y ne. boxes x y;
@@ -41,13 +41,13 @@ module _ {A I : Type 0} where
       here = slice_get-set_same cells b d b_in
 
       boxes : (x y : ℕ) → waits_of (slice_get (set cells b d) x) y ≡ waits_of (slice_get cells x) y
-      boxes x y = by_place b x (λ x. waits_of (slice_get (set cells b d) x) y ≡ waits_of (slice_get cells x) y)
+      boxes x y = by_index b x (λ x. waits_of (slice_get (set cells b d) x) y ≡ waits_of (slice_get cells x) y)
           (λ s. rw (here, is, ap (λ (z : Cell A I). z.post) w.only) refl)
           (λ ne. ap (λ o. waits_of o y) (slice_get-set_other cells b x d ne))
 
   pub ring_boxes : (cells : List (Cell A I)) (a b : ℕ) (c d : Cell A I) → b < length cells → slice_get cells b ≡ Some c → WithoutRing a c d
       → (x y : ℕ) → waits_of (slice_get (set cells b d) x) y ≡ waits_of (slice_get cells x) y
-  ring_boxes cells a b c d b_in is w x y = by_place b x (λ x. waits_of (slice_get (set cells b d) x) y ≡ waits_of (slice_get cells x) y)
+  ring_boxes cells a b c d b_in is w x y = by_index b x (λ x. waits_of (slice_get (set cells b d) x) y ≡ waits_of (slice_get cells x) y)
       (λ s. rw (slice_get-set_same cells b d b_in, is, ap (λ (z : Cell A I). z.post) w.only) refl)
       (λ ne. ap (λ o. waits_of o y) (slice_get-set_other cells b x d ne))
 
@@ -55,10 +55,10 @@ module _ {A I : Type 0} where
   without_box : (cells : List (Cell A I)) (a b : ℕ) (c d : Cell A I) → a < length cells → slice_get cells a ≡ Some c → WithoutBox b c d
       → DrainsChannel a b cells (set cells a d)
   without_box cells a b c d a_in is w = record {
-    rings = λ x y ne. by_place a y (λ y. ring_known (in_end (set cells a d) x y) ≡ ring_known (in_end cells x y))
+    rings = λ x y ne. by_index a y (λ y. ring_known (in_end (set cells a d) x y) ≡ ring_known (in_end cells x y))
         (λ s. rw (here, is, ap (λ (z : Cell A I). z.ins) w.only) refl)
         (λ other. ap (λ o. ring_known (in_of o x)) (slice_get-set_other cells a y d other));
-    boxes = λ x y ne. by_place a x (λ x. (x ≡ a → y ≡ b → ⊥) → waits_of (slice_get (set cells a d) x) y ≡ waits_of (slice_get cells x) y)
+    boxes = λ x y ne. by_index a x (λ x. (x ≡ a → y ≡ b → ⊥) → waits_of (slice_get (set cells a d) x) y ≡ waits_of (slice_get cells x) y)
         (λ s apart. rw (here, is) (w.others y (λ e. apart refl e)))
         (λ other apart. ap (λ o. waits_of o y) (slice_get-set_other cells a x d other)) ne;
     actors = map_kept (λ (z : Cell A I). z.actor) cells a d c is (ap (λ (z : Cell A I). z.actor) w.only);

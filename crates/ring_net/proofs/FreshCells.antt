@@ -18,7 +18,7 @@ use Rattle.ring_net.specs.Phases.{is_edge}
 use Rattle.ring_net.specs.Fresh.{IsBlank, BlankAt, AllBlank, AddsOut, AddsIn, Connects, Fresh}
 use Rattle.ring_net.proofs.EdgeReads.{slice_get-set_same, slice_get-set_other}
 
--- what a list with one more at its end has at a place
+-- what a list with one more at its end has at an index
 pub slice_get-snoc : {X : Type 0} (xs : List X) (x : X) (k : ℕ)
     → ((k ≡ length xs) × (slice_get (xs ++ x ∷ []) k ≡ Some x)) ⊎ (slice_get (xs ++ x ∷ []) k ≡ slice_get xs k)
 slice_get-snoc [] x zero = inl (refl, refl)

@@ -34,7 +34,7 @@ edge_here (x ∷ xs) (suc i) e h is = rw (edge_here xs i e (omega arith) is) (or
     or_true true = refl
     or_true false = refl
 
--- what stands at a place of the list is an edge
+-- what stands at an index of the list is an edge
 pub edge_at : (edges : List (ℕ × ℕ)) (i a b : ℕ) → i < length edges → a ≡ (get_or edges i (0, 0)).0 → b ≡ (get_or edges i (0, 0)).1 → is_edge edges a b ≡ true
 edge_at edges i a b h is_a is_b = rw (is_a, is_b) (edge_here edges i (get_or edges i (0, 0)) h (get_or_default edges i (get_or edges i (0, 0)) (0, 0) h))
 

@@ -15,7 +15,7 @@ use Rattle.ring_net.specs.declared.entry.Stamped.{Stamped}
 use Rattle.ring_net.specs.declared.post.Post.{Post}
 use Rattle.ring_net.specs.Deeds.{Deed, Makes, ClimbsTo, deeds, senders, taken_from}
 use Rattle.ring_net.specs.Ends.{Emptied, Flushed, SameIn, SameOut}
-use Rattle.ring_net.specs.Peers.{ListsFrom, ListsPlaces, Ascends, AddsPeer}
+use Rattle.ring_net.specs.Peers.{ListsFrom, ListsIndices, Ascends, AddsPeer}
 use Rattle.ring_net.specs.Nets.{LookedOut, LookedIn}
 use Rattle.ring_net.specs.Takes.{TookOne, TookEach}
 use Rattle.ring_net.proofs.Lists.{get_or-append_default}
@@ -37,34 +37,34 @@ not_falling ps h i j l m = elim (below_or_not i j) [
 ]
 
 pub stood_there : (ps : List ℕ) (peer i : ℕ) → Ascends ps → i < length ps → get_or ps i 0 ≡ peer → AddsPeer peer ps ps
-stood_there ps peer i h within is = record { place = i; below = λ k l. omega (arith, h k i l within, is); stands = inl (within, (is, refl)) }
+stood_there ps peer i h within is = record { index = i; below = λ k l. omega (arith, h k i l within, is); stands = inl (within, (is, refl)) }
 
 pub was_put : (ps qs : List ℕ) (peer i : ℕ) → i ≤ length ps → ((k : ℕ) → k < i → get_or ps k 0 < peer)
     → ((k : ℕ) → i ≤ k → k < length ps → peer < get_or ps k 0) → qs ≡ insert ps i peer → AddsPeer peer ps qs
-was_put ps qs peer i within below rest e = record { place = i; below = below; stands = inr (within, (λ l. rest i (omega arith) l, e)) }
+was_put ps qs peer i within below rest e = record { index = i; below = below; stands = inr (within, (λ l. rest i (omega arith) l, e)) }
 
 module _ {T : Type 0} where
-  -- nothing more stands at the places
+  -- nothing more stands at the indices
   pub lists_kept : (xs ys : List (Option T)) (n : ℕ) (ps : List ℕ) → length xs ≤ length ys
       → ((k : ℕ) → n ≤ k → is_some (get_or xs k None) ≡ false → is_some (get_or ys k None) ≡ false)
       → ListsFrom xs n ps → ListsFrom ys n ps
   lists_kept xs ys n [] len f h = λ k l. f k l (h k l)
   lists_kept xs ys n (p ∷ ps) len f h = (h.0, (omega (arith, h.1.0, len), (λ k l m. f k l (h.1.1.0 k l m), lists_kept xs ys (p + 1) ps len (λ k l. f k (omega (arith, h.0, l))) h.1.1.1)))
 
-  -- something is put at a place that the list has
-  pub lists_put : (xs ys : List (Option T)) (n : ℕ) (ps : List ℕ) (place peer : ℕ) → length xs ≤ length ys
+  -- something is put at an index that the list has
+  pub lists_put : (xs ys : List (Option T)) (n : ℕ) (ps : List ℕ) (index peer : ℕ) → length xs ≤ length ys
       → ((k : ℕ) → k ≢ peer → is_some (get_or xs k None) ≡ false → is_some (get_or ys k None) ≡ false)
-      → ((k : ℕ) → k < place → get_or ps k 0 < peer) → place < length ps → get_or ps place 0 ≡ peer → ListsFrom xs n ps → ListsFrom ys n ps
-  lists_put xs ys n [] place peer len f below within is h = absurd (omega arith)
+      → ((k : ℕ) → k < index → get_or ps k 0 < peer) → index < length ps → get_or ps index 0 ≡ peer → ListsFrom xs n ps → ListsFrom ys n ps
+  lists_put xs ys n [] index peer len f below within is h = absurd (omega arith)
   lists_put xs ys n (p ∷ ps) zero peer len f below within is h = (h.0, (omega (arith, h.1.0, len), (λ k l m. f k (omega (arith, m, is)) (h.1.1.0 k l m), lists_kept xs ys (p + 1) ps len (λ k l. f k (omega (arith, l, is))) h.1.1.1)))
   lists_put xs ys n (p ∷ ps) (suc j) peer len f below within is h = let first : p < peer = below 0 (omega arith) in
       (h.0, (omega (arith, h.1.0, len), (λ k l m. f k (omega (arith, m, first)) (h.1.1.0 k l m), lists_put xs ys (p + 1) ps j peer len f (λ k l. below (suc k) (omega arith)) (omega (arith, within)) is h.1.1.1)))
 
-  -- something is put at a place that the list has from now on
-  pub lists_insert : (xs ys : List (Option T)) (n : ℕ) (ps : List ℕ) (place peer : ℕ) → length xs ≤ length ys → peer < length ys → n ≤ peer
+  -- something is put at an index that the list has from now on
+  pub lists_insert : (xs ys : List (Option T)) (n : ℕ) (ps : List ℕ) (index peer : ℕ) → length xs ≤ length ys → peer < length ys → n ≤ peer
       → ((k : ℕ) → k ≢ peer → is_some (get_or xs k None) ≡ false → is_some (get_or ys k None) ≡ false)
-      → ((k : ℕ) → k < place → get_or ps k 0 < peer) → place ≤ length ps → (place < length ps → peer < get_or ps place 0) → ListsFrom xs n ps
-      → ListsFrom ys n (insert ps place peer)
+      → ((k : ℕ) → k < index → get_or ps k 0 < peer) → index ≤ length ps → (index < length ps → peer < get_or ps index 0) → ListsFrom xs n ps
+      → ListsFrom ys n (insert ps index peer)
   lists_insert xs ys n [] zero peer len in_ys low f below within rest h = (low, (in_ys, (λ k l m. f k (omega (arith, m)) (h k l), λ k l. f k (omega (arith, l)) (h k (omega (arith, l, low))))))
   lists_insert xs ys n [] (suc j) peer len in_ys low f below within rest h = absurd (omega arith)
   lists_insert xs ys n (p ∷ ps) zero peer len in_ys low f below within rest h = let over : peer < p = rest (omega arith) in (
@@ -99,16 +99,16 @@ module _ {T : Type 0} where
   lists_ascend xs n (p ∷ ps) h zero (suc j) l m = omega (arith, lists_low xs (p + 1) ps j (omega arith) h.1.1.1)
   lists_ascend xs n (p ∷ ps) h (suc i) (suc j) l m = lists_ascend xs (p + 1) ps h.1.1.1 i j (omega arith) (omega arith)
 
-  -- something is put at a place, and the list has it
+  -- something is put at an index, and the list has it
   pub lists_added : (xs ys : List (Option T)) (ps ps' : List ℕ) (peer : ℕ) → length xs ≤ length ys → peer < length ys
       → ((k : ℕ) → k ≢ peer → is_some (get_or xs k None) ≡ false → is_some (get_or ys k None) ≡ false)
-      → AddsPeer peer ps ps' → ListsPlaces xs ps → ListsPlaces ys ps'
+      → AddsPeer peer ps ps' → ListsIndices xs ps → ListsIndices ys ps'
   lists_added xs ys ps ps' peer len in_ys f a h = elim a.stands [
-    | inl e ↦ subst (λ zs. ListsPlaces ys zs) (sym e.1.1) (lists_put xs ys 0 ps a.place peer len f a.below e.0 e.1.0 h)
-    | inr e ↦ subst (λ zs. ListsPlaces ys zs) (sym e.1.1) (lists_insert xs ys 0 ps a.place peer len in_ys (omega arith) f a.below e.0 e.1.0 h)
+    | inl e ↦ subst (λ zs. ListsIndices ys zs) (sym e.1.1) (lists_put xs ys 0 ps a.index peer len f a.below e.0 e.1.0 h)
+    | inr e ↦ subst (λ zs. ListsIndices ys zs) (sym e.1.1) (lists_insert xs ys 0 ps a.index peer len in_ys (omega arith) f a.below e.0 e.1.0 h)
   ]
 
-  -- one place is written
+  -- one index is written
   set_other : (xs : List (Option T)) (b : ℕ) (v : Option T) (k : ℕ) → k ≢ b → is_some (get_or xs k None) ≡ false → is_some (get_or (set xs b v) k None) ≡ false
   set_other [] b v k ne h = h
   set_other (x ∷ xs) zero v zero ne h = absurd (ne refl)
@@ -125,19 +125,19 @@ module _ {T : Type 0} where
   set_less (x ∷ xs) (suc b) v f (suc k) h = set_less xs b v f k h
 
   pub lists_set : (xs : List (Option T)) (b : ℕ) (v : Option T) (ps : List ℕ) → (is_some (get_or xs b None) ≡ false → is_some v ≡ false)
-      → ListsPlaces xs ps → ListsPlaces (set xs b v) ps
+      → ListsIndices xs ps → ListsIndices (set xs b v) ps
   lists_set xs b v ps f h = lists_kept xs (set xs b v) 0 ps (omega (arith, length-set xs b v)) (λ k l. set_less xs b v f k) h
 
-  pub lists_set_added : (xs : List (Option T)) (b : ℕ) (v : Option T) (ps ps' : List ℕ) → b < length xs → AddsPeer b ps ps' → ListsPlaces xs ps
-      → ListsPlaces (set xs b v) ps'
+  pub lists_set_added : (xs : List (Option T)) (b : ℕ) (v : Option T) (ps ps' : List ℕ) → b < length xs → AddsPeer b ps ps' → ListsIndices xs ps
+      → ListsIndices (set xs b v) ps'
   lists_set_added xs b v ps ps' b_in a h = lists_added xs (set xs b v) ps ps' b (omega (arith, length-set xs b v)) (omega (arith, b_in, length-set xs b v)) (λ k ne. set_other xs b v k ne) a h
 
-  -- an empty place more at the end, or none
-  pub lists_longer : (xs ys : List (Option T)) (t : Bool) (ps : List ℕ) → ys ≡ (if t then xs ++ None ∷ [] else xs) → ListsPlaces xs ps → ListsPlaces ys ps
-  lists_longer xs ys true ps e h = subst (λ zs. ListsPlaces zs ps) (sym e) (lists_kept xs (xs ++ None ∷ []) 0 ps (omega (arith, length-append xs (None ∷ []))) (λ k l g. ap is_some (get_or-append_default xs k None) ∙ g) h)
-  lists_longer xs ys false ps e h = subst (λ zs. ListsPlaces zs ps) (sym e) h
+  -- an empty index more at the end, or none
+  pub lists_longer : (xs ys : List (Option T)) (t : Bool) (ps : List ℕ) → ys ≡ (if t then xs ++ None ∷ [] else xs) → ListsIndices xs ps → ListsIndices ys ps
+  lists_longer xs ys true ps e h = subst (λ zs. ListsIndices zs ps) (sym e) (lists_kept xs (xs ++ None ∷ []) 0 ps (omega (arith, length-append xs (None ∷ []))) (λ k l g. ap is_some (get_or-append_default xs k None) ∙ g) h)
+  lists_longer xs ys false ps e h = subst (λ zs. ListsIndices zs ps) (sym e) h
 
-  -- the next place of the list
+  -- the next index of the list
   pub lists_next : (xs : List (Option T)) (n i : ℕ) (ps : List ℕ) → i < length ps → ListsFrom xs n (drop i ps)
       → ListsFrom xs n (get_or ps i 0 ∷ drop (i + 1) ps)
   lists_next xs n i ps h l = rw add-one (rw (drop-cons ps i 0 h) at l)
@@ -174,11 +174,11 @@ module _ {T : Type 0} where
   same_out_none (Some p) b h e = absurd cc
 
   pub lists_ins : (xs ys : List (Option (Consumer T Global AnyItems))) (ps : List ℕ) → length ys ≡ length xs
-      → ((k : ℕ) → SameIn (get_or xs k None) (get_or ys k None)) → ListsPlaces xs ps → ListsPlaces ys ps
+      → ((k : ℕ) → SameIn (get_or xs k None) (get_or ys k None)) → ListsIndices xs ps → ListsIndices ys ps
   lists_ins xs ys ps len f h = lists_kept xs ys 0 ps (omega (arith, len)) (λ k l. same_in_none (get_or xs k None) (get_or ys k None) (f k)) h
 
   pub lists_outs : (xs ys : List (Option (Producer T Global AnyItems))) (ps : List ℕ) → length ys ≡ length xs
-      → ((k : ℕ) → SameOut (get_or xs k None) (get_or ys k None)) → ListsPlaces xs ps → ListsPlaces ys ps
+      → ((k : ℕ) → SameOut (get_or xs k None) (get_or ys k None)) → ListsIndices xs ps → ListsIndices ys ps
   lists_outs xs ys ps len f h = lists_kept xs ys 0 ps (omega (arith, len)) (λ k l. same_out_none (get_or xs k None) (get_or ys k None) (f k)) h
 
 climbs_more : (low n m : ℕ) (xs : List ℕ) → n ≤ m → ClimbsTo low xs n → ClimbsTo low xs m
@@ -210,7 +210,7 @@ module _ {A P I : Type 0} (part : A → P) (makes : Makes P I) (took : A → ℕ
     pub left : ListsFrom rings next (drop i peers)
     pub taking : TakingEach part makes took old before rings next new after rings'
 
-  pub walking_none : (peers : List ℕ) (a : A) (old : Post I) (rings : List (Option (Consumer (Stamped I) Global AnyItems))) → ListsPlaces rings peers
+  pub walking_none : (peers : List ℕ) (a : A) (old : Post I) (rings : List (Option (Consumer (Stamped I) Global AnyItems))) → ListsIndices rings peers
       → WalkingEach peers 0 a old rings a old rings
   walking_none peers a old rings h = record { next = 0; within = omega arith; left = h; taking = taking_each_none part makes took a old rings }
 

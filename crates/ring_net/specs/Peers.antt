@@ -11,21 +11,21 @@ Ascends ps = (i j : ℕ) → i < j → j < length ps → slice_index_or ps i 0 <
 
 -- The peer is in the list behind all lower ones. It was there before, or was added there.
 pub record AddsPeer (peer : ℕ) (old new : List ℕ) : Type 0 where
-  pub place : ℕ
-  pub below : (k : ℕ) → k < place → slice_index_or old k 0 < peer
-  pub stands : ((place < length old) × ((slice_index_or old place 0 ≡ peer) × (new ≡ old)))
-      ⊎ ((place ≤ length old) × ((place < length old → peer < slice_index_or old place 0) × (new ≡ insert old place peer)))
+  pub index : ℕ
+  pub below : (k : ℕ) → k < index → slice_index_or old k 0 < peer
+  pub stands : ((index < length old) × ((slice_index_or old index 0 ≡ peer) × (new ≡ old)))
+      ⊎ ((index ≤ length old) × ((index < length old → peer < slice_index_or old index 0) × (new ≡ insert old index peer)))
 
 module _ {T : Type 0} where
-  -- From this place on, there is nothing at a place that isn't in the list, and the list ascends.
+  -- From this index on, there is nothing at an index that isn't in the list, and the list ascends.
   abbrev pub ListsFrom : List (Option T) → ℕ → List ℕ → Type 0
   ListsFrom slots n [] = (k : ℕ) → n ≤ k → is_some (slice_index_or slots k None) ≡ false
   ListsFrom slots n (p ∷ ps) = (n ≤ p) × ((p < length slots) × (((k : ℕ) → n ≤ k → k < p → is_some (slice_index_or slots k None) ≡ false) × ListsFrom slots (p + 1) ps))
 
-  -- the places at which there is something are in the list, in ascending order
-  abbrev pub ListsPlaces : List (Option T) → List ℕ → Type 0
-  ListsPlaces slots places = ListsFrom slots 0 places
+  -- the indices at which there is something are in the list, in ascending order
+  abbrev pub ListsIndices : List (Option T) → List ℕ → Type 0
+  ListsIndices slots indices = ListsFrom slots 0 indices
 
-  pub ListsFrom-prop : (slots : List (Option T)) (n : ℕ) (places : List ℕ) → IsProp (ListsFrom slots n places)
+  pub ListsFrom-prop : (slots : List (Option T)) (n : ℕ) (indices : List ℕ) → IsProp (ListsFrom slots n indices)
   ListsFrom-prop slots n [] = Π_prop (λ k. Π_prop (λ h. Bool-set _ _))
   ListsFrom-prop slots n (p ∷ ps) = ×_prop le_prop (×_prop le_prop (×_prop (Π_prop (λ k. Π_prop (λ h. Π_prop (λ l. Bool-set _ _)))) (ListsFrom-prop slots (p + 1) ps)))

@@ -4,7 +4,7 @@ ghost use Rattle.std.specs.Prelude.{◌≡◌, ◌≢◌, ◌≤◌, ◌<◌, �
 ghost use Rattle.rtrb.specs.Ring.{sent, received, known_free, SameProducer, SameConsumer, consumer_capacity};
 ghost use Rattle.ring_net.specs.Posts.{box_items, SameEdges};
 ghost use Rattle.ring_net.specs.Ends.{Flushed, SameIn, SameOut};
-ghost use Rattle.ring_net.specs.Peers.{ListsPlaces};
+ghost use Rattle.ring_net.specs.Peers.{ListsIndices};
 
 use crate::actor::Actor;
 use crate::ends::Ends;
@@ -78,7 +78,7 @@ fn flush_each<I: Drop>(
     rings: &mut [Option<Producer<Stamped<I>>>],
     boxes: &mut [Option<VecDeque<Stamped<I>>>],
 )
-    requires { ListsPlaces rings.old receivers.now }
+    requires { ListsIndices rings.old receivers.now }
     ensures { (b : ℕ) → Flushed (slice_index_or rings.old b None) (slice_index_or boxes.old b None) (slice_index_or rings.new b None) (slice_index_or boxes.new b None) }
 {
     for b in receivers {
@@ -180,7 +180,7 @@ fn take_each<A: Actor>(
     ins: &mut [Option<Consumer<Stamped<A::Item>>>],
     post: &mut Post<A::Item>,
 ) -> Result<(), NoMemory>
-    requires { ListsPlaces ins.old senders.now }
+    requires { ListsIndices ins.old senders.now }
     ensures rings { (a : ℕ) → SameIn (slice_index_or ins.old a None) (slice_index_or ins.new a None) }
     ensures edges { SameEdges post.old post.new }
     ensures took { OnOk result (TookEach A.part A.makes A.took actor.old post.old ins.old actor.new post.new ins.new) }

@@ -40,7 +40,7 @@ fn read_both<I: Drop>(
 
 ghost use Rattle.ring_net.specs.Cells.{ring_to, ring_from};
 
-/// Reads both ends of the ring between two peers, at their places.
+/// Reads both ends of the ring between two peers, at their indices.
 fn read_slots<I: Drop>(
     rings: &mut Ends<Producer<Stamped<I>>>,
     a: usize,

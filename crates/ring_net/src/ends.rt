@@ -1,7 +1,7 @@
 //! The ends of the rings of one cell.
 
 ghost use Rattle.std.specs.Prelude.{◌≡◌, ◌≢◌, ◌==◌, ℕ, [], None, Some, if◌then◌else◌, slice_index_or, OnOk, OnErr};
-ghost use Rattle.ring_net.specs.Peers.{ListsPlaces, ListsFrom-prop, Ascends, AddsPeer};
+ghost use Rattle.ring_net.specs.Peers.{ListsIndices, ListsFrom-prop, Ascends, AddsPeer};
 
 use graft_edge::NoMemory;
 use std::alloc::Global;
@@ -11,9 +11,9 @@ use std::alloc::Global;
 #[derive(Drop)]
 pub struct Ends<T> {
     pub(crate) slots: Vec<Option<T>>,
-    // These include all places where an end is, in ascending order.
+    // These include all indices where an end is, in ascending order.
     pub(crate) peers: Vec<usize>,
-    ghost listed: { ListsPlaces slots.items peers.items } by { ListsFrom-prop slots.items 0 peers.items },
+    ghost listed: { ListsIndices slots.items peers.items } by { ListsFrom-prop slots.items 0 peers.items },
 }
 
 /// Adds a peer to peers in ascending order, unless it is there. If memory runs out, nothing changes.
@@ -24,7 +24,7 @@ fn add_peer(peers: &mut Vec<usize>, peer: usize) -> Result<(), NoMemory>
 {
     match peers.binary_search(&peer) {
         Ok(_) => Ok(()),
-        Err(place) => Ok(peers.insert(place, peer)?),
+        Err(index) => Ok(peers.insert(index, peer)?),
     }
 }
 
@@ -39,7 +39,7 @@ impl<T: Drop> Ends<T> {
         }
     }
 
-    /// Puts the end of a ring at this peer's place.
+    /// Puts the end of a ring at this peer's index.
     pub(crate) fn put(&mut self, peer: usize, end: T) -> Result<(), NoMemory>
         ensures { OnOk result ((x : ℕ) → slice_index_or self.new.slots.items x None ≡ (if x == peer then Some end else slice_index_or self.old.slots.items x None)) }
     {
@@ -51,7 +51,7 @@ impl<T: Drop> Ends<T> {
         Ok(())
     }
 
-    /// Removes and returns the end at this peer's place.
+    /// Removes and returns the end at this peer's index.
     pub(crate) fn take(&mut self, peer: usize) -> Option<T>
         ensures end { result ≡ slice_index_or self.old.slots.items peer None }
         ensures others { (x : ℕ) → x ≢ peer → slice_index_or self.new.slots.items x None ≡ slice_index_or self.old.slots.items x None }

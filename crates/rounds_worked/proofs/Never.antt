@@ -48,8 +48,8 @@ above_ten m n len k size is = omega (arith, size, is)
 -- behind such a slice more than 10 octets are emitted
 some_emitted : (e after : Endpoint) (segment : PlacedSegment) → EmitsAt 10 19 e segment after → 10 < after.emitted
 some_emitted e after segment emits = elim emits.emits [
-  | inl slice ↦ let size = emits.size in let rises : after.emitted ≡ max e.emitted (segment.place + length segment.bytes) = ap (λ (x : Endpoint). x.emitted)
-      slice.rises in above_ten e.emitted segment.place (length segment.bytes) after.emitted size rises
+  | inl slice ↦ let size = emits.size in let rises : after.emitted ≡ max e.emitted (segment.offset + length segment.bytes) = ap (λ (x : Endpoint). x.emitted)
+      slice.rises in above_ten e.emitted segment.offset (length segment.bytes) after.emitted size rises
   | inr empty ↦ let none : length segment.bytes ≡ 0 = ap (λ (s : PlacedSegment). length s.bytes) empty.empty in let size = emits.size in absurd
       (omega (arith, none, size))
 ]

@@ -218,7 +218,7 @@ pub emits_at : (e : Endpoint) (from len : ℕ) → e.acked ≤ from → from ≤
     → from + len ≤ e.acked + 15360
     → length (take len (drop from e.stream)) ≡ len → EmitsAt from len e (slice_at e from len) (record e { emitted = max e.emitted (from + len) })
 emits_at e from len above to some short within flight size = record {
-  place = refl;
+  offset = refl;
   size = size;
   emits = inl (record {
     from = above;

@@ -86,7 +86,7 @@ FalseAloneInFar but setup round start before events end after = RealFarBut but s
 abbrev pub saying : ℕ → FarPart
 saying emitted = record idle_far { end = record fresh_endpoint { stream = 1 ∷ 2 ∷ []; emitted = emitted } }
 
--- and it has sent `len` more octets from a place on, which are in the link to home
+-- and it has sent `len` more octets from an offset on, which are in the link to home
 abbrev pub with_slice_sent : FarPart → (from len : ℕ) → FarPart
 with_slice_sent part from len = record part {
   end = record part.end { emitted = max part.end.emitted (from + len) };
@@ -126,7 +126,7 @@ one_gone = home_links (record { plans = []; put = 1 })
 
 -- a segment of a router is in the link to the remote; and one was put there and lost
 abbrev pub a_segment : PlacedSegment
-a_segment = record { place = 0; bytes = []; ack = 0 }
+a_segment = record { offset = 0; bytes = []; ack = 0 }
 
 abbrev pub with_taken : FarPart
 with_taken = record idle_far { remoteward = a_segment ∷ [] }

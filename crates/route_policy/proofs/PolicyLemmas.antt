@@ -47,21 +47,21 @@ holds_some_as-is path as_number wanted answer is h = rw is (holds_as-is path as_
 tried : {X : Type 0} (b : Bool) (x y z : X) → b ≡ false → y ≡ z → cond b x y ≡ z
 tried b x y z h is = rw h is
 
-policy-first : (rules : List Rule) (prefix : PrefixValue) (as_number : ℕ) (route : Route) (place : ℕ) (d : Rule) → place < length rules
-    → matches (get_or rules place d) prefix route ≡ true → ((k : ℕ) → k < place → matches (get_or rules k d) prefix route ≡ false)
-    → policy rules prefix as_number route ≡ decision (get_or rules place d) as_number route
-policy-first [] prefix as_number route place d within here before = absurd (omega arith)
+policy-first : (rules : List Rule) (prefix : PrefixValue) (as_number : ℕ) (route : Route) (index : ℕ) (d : Rule) → index < length rules
+    → matches (get_or rules index d) prefix route ≡ true → ((k : ℕ) → k < index → matches (get_or rules k d) prefix route ≡ false)
+    → policy rules prefix as_number route ≡ decision (get_or rules index d) as_number route
+policy-first [] prefix as_number route index d within here before = absurd (omega arith)
 policy-first (rule ∷ rules) prefix as_number route zero d within here before = rw here refl
-policy-first (rule ∷ rules) prefix as_number route (suc place) d within here before =
-    tried (matches rule prefix route) (decision rule as_number route) (policy rules prefix as_number route) (decision (get_or rules place d) as_number route) (before 0 (omega arith))
-    (policy-first rules prefix as_number route place d (omega (arith, within)) here (λ k below. before (suc k) (omega (arith, below))))
+policy-first (rule ∷ rules) prefix as_number route (suc index) d within here before =
+    tried (matches rule prefix route) (decision rule as_number route) (policy rules prefix as_number route) (decision (get_or rules index d) as_number route) (before 0 (omega arith))
+    (policy-first rules prefix as_number route index d (omega (arith, within)) here (λ k below. before (suc k) (omega (arith, below))))
 
-pub policy-matching : (rules : List Rule) (prefix : PrefixValue) (as_number : ℕ) (route : Route) (place : ℕ) (d : Rule)
-    → position (λ rule. matches rule prefix route) rules ≡ Some place
-    → policy rules prefix as_number route ≡ decision (get_or rules place d) as_number route
-policy-matching rules prefix as_number route place d is =
-    let found = position-Some (λ rule. matches rule prefix route) rules place d is in
-    policy-first rules prefix as_number route place d found.0 found.1 found.2
+pub policy-matching : (rules : List Rule) (prefix : PrefixValue) (as_number : ℕ) (route : Route) (index : ℕ) (d : Rule)
+    → position (λ rule. matches rule prefix route) rules ≡ Some index
+    → policy rules prefix as_number route ≡ decision (get_or rules index d) as_number route
+policy-matching rules prefix as_number route index d is =
+    let found = position-Some (λ rule. matches rule prefix route) rules index d is in
+    policy-first rules prefix as_number route index d found.0 found.1 found.2
 
 none_found : {X : Type 0} (b : Bool) (x : X) (o : Option X) → cond b (Some x) o ≡ None → (b ≡ false) × (o ≡ None)
 none_found true x o h = cc

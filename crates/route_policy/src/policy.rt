@@ -34,7 +34,7 @@ impl Policy {
         Policy { rules }
     }
 
-    /// Returns the place, counted from 0, of the first rule all of whose parts match. It allocates
+    /// Returns the index, counted from 0, of the first rule all of whose parts match. It allocates
     /// nothing.
     pub fn matching(&self, prefix: Prefix, route: &Route) -> Option<usize>
         ensures { result ≡ position (λ rule. matches_lem rule prefix route.now) self.now }
@@ -57,7 +57,7 @@ impl Policy {
         ensures { IfOk result (λ answer. answer ≡ policy_lem self.now prefix as_number route) }
     {
         match self.matching(prefix, &route) {
-            Some(place) => decide(&self.rules[place], route, as_number),
+            Some(index) => decide(&self.rules[index], route, as_number),
             None => Ok(Some(route)),
         }
     }

@@ -51,11 +51,11 @@ abbrev pub WroteBy : Outlet → Segment → Post (Item RunningSession) → Post 
 WroteBy outlet segment p q = WritesEvent p (Emit outlet.place (offset_from segment.seq.0 outlet.first.0) (length segment.bytes)) ((outlet.to, items.Seg segment) ∷ []) q
 
 module _ (f : Fields) (n : ℕ) (outlet : Outlet) (is : IsOutletOf f n outlet) (p q : Post (Item RunningSession)) (segment : Segment) where
-  pub wrote_by : (s : SessionValue) (from len : ℕ) → IsOfPeering f.known.setup n s → (sent_as s.config segment).place ≡ from
+  pub wrote_by : (s : SessionValue) (from len : ℕ) → IsOfPeering f.known.setup n s → (sent_as s.config segment).offset ≡ from
       → length segment.bytes ≡ len → WroteBy outlet segment p q
       → WritesEvent p (Emit n from len) ((routers_in f.known.setup + n, items.Seg segment) ∷ []) q
-  wrote_by s from len of place size wrote =
-      let seen : offset_from segment.seq.0 outlet.first.0 ≡ from = ap (offset_from segment.seq.0) (is.first ∙ sym of.sends) ∙ place in
+  wrote_by s from len of offset size wrote =
+      let seen : offset_from segment.seq.0 outlet.first.0 ≡ from = ap (offset_from segment.seq.0) (is.first ∙ sym of.sends) ∙ offset in
       subst (λ (m : ℕ). WritesEvent p (Emit n from m) ((routers_in f.known.setup + n, items.Seg segment) ∷ []) q) size
       (subst (λ (m : ℕ). WritesEvent p (Emit n m (length segment.bytes)) ((routers_in f.known.setup + n, items.Seg segment) ∷ []) q) seen
       (subst (λ (m : ℕ). WritesEvent p (Emit n (offset_from segment.seq.0 outlet.first.0) (length segment.bytes)) ((m, items.Seg segment) ∷ []) q) is.to
@@ -151,7 +151,7 @@ module _ (f g : Fields) (p q : Post (Item RunningSession)) (n : ℕ) (x : Option
         let out : e.acked < e.emitted = omega (arith, some) in
         let level : IsLevel s u = running_is u s.session e.acked (sent.step.effect ∙ ap (λ (d : Endpoint). let v : SessionValue = record s.session { end = d } in v) sent.step.step.stays) sent.turned in
         visits_emitted f g p q n s u o segment e.acked (again_length e) keeps there is same (items_for (Some (Live u o)) x_is) gives (careful_again e some) sent.slice.step.short
-        (wrote_by f n outlet outlet_is p q segment s.session e.acked (again_length e) (keeps_here f n keeps (Some (Live s o)) is).0 gives.at.place gives.at.size wrote)
+        (wrote_by f n outlet outlet_is p q segment s.session e.acked (again_length e) (keeps_here f n keeps (Some (Live s o)) is).0 gives.at.offset gives.at.size wrote)
         sending_again refl (emit_here n e.acked (again_length e) ∙ sym (again_is s o late some), (u, refl, level))
         (λ t. counted_again e (again_length e) t some out ∙ ap (λ (m : ℕ). let v : Tally = record t { again = t.again + m } in v) (sym (again_is s o late some))) same
 
@@ -172,7 +172,7 @@ module _ (f g : Fields) (p q : Post (Item RunningSession)) (n : ℕ) (x : Option
         (sent.step.effect ∙ ap (λ (d : Endpoint). let v : SessionValue = record s.session { end = d } in v) sent.step.step.rises) sent.same_turn in
         let out : SlicesOut s u = subst (SlicesOut s) (sym rises) refl in
         visits_emitted f g p q n s u o segment e.emitted (next_length e) keeps there is same (items_for (Some (Live u o)) x_is) gives (careful_next e some) sent.slice.step.short
-        (wrote_by f n outlet outlet_is p q segment s.session e.emitted (next_length e) (keeps_here f n keeps (Some (Live s o)) is).0 gives.at.place gives.at.size wrote)
+        (wrote_by f n outlet outlet_is p q segment s.session e.emitted (next_length e) (keeps_here f n keeps (Some (Live s o)) is).0 gives.at.offset gives.at.size wrote)
         slicing refl (no_answer n n e.emitted (next_length e) some, (u, refl, out)) (λ t. counted_next e (next_length e) t some) same
 
     pub next_some : (y : Option Place) → place_at f.places.places n ≡ y → AtPlace SentNext y (Some segment) x → Visits slicing n f p g q
@@ -190,7 +190,7 @@ module _ (f g : Fields) (p q : Post (Item RunningSession)) (n : ℕ) (x : Option
         (sent.step.effect ∙ ap (λ (d : Endpoint). let v : SessionValue = record s.session { end = d } in v) sent.step.step.answer.given) sent.same_turn in
         let one : answer_at (Some (Live s o)) ≡ 1 = ap (λ (b : Bool). let m : ℕ = if b then 1 else 0 in m) sent.step.step.owed in
         visits_emitted f g p q n s u o segment e.emitted 0 keeps there is same (items_for (Some (Live u o)) x_is) gives sent.step.step.owed (omega (arith, at.size))
-        (wrote_by f n outlet outlet_is p q segment s.session e.emitted 0 (keeps_here f n keeps (Some (Live s o)) is).0 at.place at.size wrote)
+        (wrote_by f n outlet outlet_is p q segment s.session e.emitted 0 (keeps_here f n keeps (Some (Live s o)) is).0 at.offset at.size wrote)
         answering refl (answer_here n e.emitted ∙ sym one, (u, refl, given)) (λ t. ap (λ (m : ℕ). let v : Tally = record t { answers = t.answers + m } in v) (sym one)) same
 
     pub answer_some : (y : Option Place) → place_at f.places.places n ≡ y → AtPlace SessionSentAnswer y (Some segment) x → Visits answering n f p g q

@@ -74,15 +74,15 @@ impl Bench {
         Ok(Bench { stations, remotes })
     }
 
-    /// Returns the router whose number is at a place of a row.
-    fn station(&mut self, words: &[&str], place: usize) -> Result<&mut Station> {
-        let n = number(words, place)?;
+    /// Returns the router whose number is at an index of a row.
+    fn station(&mut self, words: &[&str], index: usize) -> Result<&mut Station> {
+        let n = number(words, index)?;
         self.stations.get_mut(n as usize).context("a router")
     }
 
-    /// Returns the remote of the peering whose number is at a place of a row.
-    fn remote(&mut self, words: &[&str], place: usize) -> Result<&mut End> {
-        let n = number(words, place)?;
+    /// Returns the remote of the peering whose number is at an index of a row.
+    fn remote(&mut self, words: &[&str], index: usize) -> Result<&mut End> {
+        let n = number(words, index)?;
         self.remotes.get_mut(n as usize).context("a peering")
     }
 
@@ -191,12 +191,12 @@ impl Bench {
         }
     }
 
-    /// Returns what the remote of a peering received, from a place on: `received PEERING PLACE`.
+    /// Returns what the remote of a peering received, from an offset on: `received PEERING OFFSET`.
     fn received(&mut self, alloc: Global, words: &[&str]) -> Result<String> {
-        let place = number(words, 2)? as usize;
+        let offset = number(words, 2)? as usize;
         let remote = self.remote(words, 1)?;
         let bytes = remote.ready();
-        let behind = bytes.get(place..).context("a place")?;
+        let behind = bytes.get(offset..).context("a place")?;
         Ok(hex::encode_upper(alloc, behind)?)
     }
 

@@ -95,9 +95,9 @@ pub fn item_text(alloc: Global, item: &Item<Capsule>) -> Result<String> {
 /// Returns the best routes, in ascending order of prefix.
 pub fn best_text(alloc: Global, rib: &Rib) -> Result<String> {
     let mut text = String::new(alloc);
-    let mut place = rib.next_best(None);
+    let mut next = rib.next_best(None);
     for _n in 0..100u32 {
-        let Some(prefix) = place else {
+        let Some(prefix) = next else {
             break;
         };
         if !text.is_empty() {
@@ -107,7 +107,7 @@ pub fn best_text(alloc: Global, rib: &Rib) -> Result<String> {
             write!(text, "{prefix} {:?} ", best.from)?;
             put_route(&mut text, &best.route)?;
         }
-        place = rib.next_best(Some(prefix));
+        next = rib.next_best(Some(prefix));
     }
     if text.is_empty() {
         text.push_str("none")?;

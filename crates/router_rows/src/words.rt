@@ -9,11 +9,11 @@ use row_harness::{number, small, word};
 use std::alloc::Global;
 use tcp_seq::{Segment, Seq, Way};
 
-/// Returns the octets that the words of a row spell in hexadecimal, from a place on; `*` stands for sixteen octets of
+/// Returns the octets that the words of a row spell in hexadecimal, from an index on; `*` stands for sixteen octets of
 /// all ones.
-pub fn octets(alloc: Global, words: &[&str], place: usize) -> Result<Vec<u8>> {
+pub fn octets(alloc: Global, words: &[&str], index: usize) -> Result<Vec<u8>> {
     let mut text = String::new(alloc);
-    for word in words.iter().skip(place) {
+    for word in words.iter().skip(index) {
         match word.strip_prefix('*') {
             Some(rest) => write!(text, "FFFFFFFFFFFFFFFFFFFFFFFFFFFFFFFF{rest}")?,
             None => text.push_str(word)?,

@@ -30,16 +30,16 @@ pub struct Opening {
 }
 
 impl Opening {
-    /// Reads the opening that a row says from a place on.
-    pub fn read(words: &[&str], place: usize) -> Result<Opening>
-        requires { place ≤ 3 }
+    /// Reads the opening that a row says from an index on.
+    pub fn read(words: &[&str], index: usize) -> Result<Opening>
+        requires { index ≤ 3 }
     {
-        let (offered, unicast) = capabilities(word(words, place + 1))?;
+        let (offered, unicast) = capabilities(word(words, index + 1))?;
         Ok(Opening {
-            first: number(words, place)?,
+            first: number(words, index)?,
             offered,
             unicast,
-            hold: number(words, place + 2)?,
+            hold: number(words, index + 2)?,
         })
     }
 }

@@ -42,9 +42,9 @@ impl Link {
     /// Removes and returns one of the first segments.
     pub fn next(&mut self, random: &mut Random) -> Option<Segment> {
         let first = self.segments.len().min(REACH);
-        let place = random.below(first as u32) as usize;
-        if place < self.segments.len() {
-            Some(self.segments.remove(place))
+        let index = random.below(first as u32) as usize;
+        if index < self.segments.len() {
+            Some(self.segments.remove(index))
         } else {
             None
         }

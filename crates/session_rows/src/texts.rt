@@ -8,8 +8,8 @@ use std::alloc::Global;
 use tcp_seq::Segment;
 
 /// Reads octets in hexadecimal; `-` for none.
-pub fn octets(alloc: Global, words: &[&str], place: usize) -> Result<Vec<u8>> {
-    match word(words, place) {
+pub fn octets(alloc: Global, words: &[&str], index: usize) -> Result<Vec<u8>> {
+    match word(words, index) {
         "-" => Ok(Vec::new(alloc)),
         word => Ok(hex::decode(alloc, word)?),
     }

@@ -10,11 +10,11 @@ use Rattle.std.specs.Cmp.Lexicographic.{slice_cmp, nat_list_cmp_total}
 use Rattle.std.proofs.lemmas.Cmp.{on_total, then_total}
 use Rattle.std.proofs.lemmas.Bool.Decides.{nat_tests}
 use Rattle.graft_steps.specs.declared.rest.Pending.{Pending}
-use Rattle.graft_steps.specs.Pendings.{pending_cmp, kind_place, numbers_of}
+use Rattle.graft_steps.specs.Pendings.{pending_cmp, kind_index, numbers_of}
 use Rattle.settled_check.specs.Firsts.{IsFirstOf, IsLowestOf, IsEither}
 
 pending_total : IsTotalOrder pending_cmp
-pending_total = then_total (on_total kind_place nat_cmp_total) (on_total numbers_of nat_list_cmp_total)
+pending_total = then_total (on_total kind_index nat_cmp_total) (on_total numbers_of nat_list_cmp_total)
 
 -- not after a thing that is not after a third: not after the third
 pub not_after : (x y z : Pending) → pending_cmp x y ≢ Greater → pending_cmp y z ≢ Greater → pending_cmp x z ≢ Greater

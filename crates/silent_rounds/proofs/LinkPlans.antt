@@ -23,7 +23,7 @@ use Rattle.graft_model.specs.First.{first_far}
 use Rattle.graft_model.specs.FarRows.{without}
 use Rattle.graft_model.specs.declared.event.FarEvent.{FarEvent}
 use Rattle.graft_model.specs.declared.event.FarEvent.TheVariants.{Say, Send, Take, Point, Beat}
-use Rattle.far_side.specs.Links.{act_in, is_gone, last_turn, older, left_in_link, home_act, home_event, home_events, remote_act, remote_event, remote_events, pass_events, next_place}
+use Rattle.far_side.specs.Links.{act_in, is_gone, last_turn, older, left_in_link, home_act, home_event, home_events, remote_act, remote_event, remote_events, pass_events, next_index}
 use Rattle.far_side.specs.Turns.{FarRetransmits, SendsNew, SendsAnswer, SendsNone, FarGoes}
 use Rattle.far_side.specs.declared.link.InLink.{InLink}
 use Rattle.far_side.specs.declared.link.Act.{Act}
@@ -165,11 +165,11 @@ module _ (setup : Setup) (p : ℕ) (event : ℕ → InLink → List FarEvent) (H
       → Behind setup p (λ part. Has part (n + length (left_in_link plans))) es b
   passes_hold index [] es a b n has goes = record { part = a; has = has; rest = goes }
   passes_hold index (x ∷ xs) es a b n has goes =
-      let first : Behind setup p (λ part. Has part ((n + length xs) + kept (act_in x))) (pass_events event (next_place index x) xs ++ es) b
-      = one index x (pass_events event (next_place index x) xs ++ es) a b (n + length xs) (subst (Has a) (omega arith) has)
-      (subst (λ (fs : List FarEvent). FarGoes setup p SendsNone a fs b) (append_assoc (event index x) (pass_events event (next_place index x) xs) es) goes) in
+      let first : Behind setup p (λ part. Has part ((n + length xs) + kept (act_in x))) (pass_events event (next_index index x) xs ++ es) b
+      = one index x (pass_events event (next_index index x) xs ++ es) a b (n + length xs) (subst (Has a) (omega arith) has)
+      (subst (λ (fs : List FarEvent). FarGoes setup p SendsNone a fs b) (append_assoc (event index x) (pass_events event (next_index index x) xs) es) goes) in
       let others : Behind setup p (λ part. Has part ((n + kept (act_in x)) + length (left_in_link xs))) es b
-      = passes_hold (next_place index x) xs es first.part b (n + kept (act_in x)) (subst (Has first.part) (omega arith) first.has) first.rest in
+      = passes_hold (next_index index x) xs es first.part b (n + kept (act_in x)) (subst (Has first.part) (omega arith) first.has) first.rest in
       record { part = others.part; has = subst (Has others.part) (omega (arith, length_left x xs)) others.has; rest = others.rest }
 
 ends_with : (setup : Setup) (p : ℕ) (b : FarPart) (h n r : ℕ) → n ≡ r → Behind setup p (λ part. Holds part h n) [] b → Holds b h r

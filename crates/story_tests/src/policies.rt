@@ -49,8 +49,8 @@ fn range(ge: u8, le: u8) -> Rule {
     }
 }
 
-/// Returns the place of the rule that matches the prefix of this address and length.
-fn place(alloc: Global, rules: &[Rule], address: u32, len: u8) -> Result<Option<usize>, NoMemory> {
+/// Returns the index of the rule that matches the prefix of this address and length.
+fn index_of(alloc: Global, rules: &[Rule], address: u32, len: u8) -> Result<Option<usize>, NoMemory> {
     let Some(prefix) = Prefix::new(address, len) else {
         return Ok(None);
     };
@@ -91,10 +91,10 @@ fn the_first_rule_whose_parts_all_match(rt: HostRuntime) -> Result<(), Fail> {
         ANY,
     ];
     for (len, wanted) in [(10, 3), (11, 2), (24, 2), (25, 4), (32, 4)] {
-        let found = place(rt.alloc(), &rules, 0x0A40_0000, len)?;
+        let found = index_of(rt.alloc(), &rules, 0x0A40_0000, len)?;
         assert_eq!(rt; found, Some(wanted), "length {len}");
     }
-    assert_eq!(rt; place(rt.alloc(), &[range(8, 32)], 0x0B00_0000, 12)?, None);
+    assert_eq!(rt; index_of(rt.alloc(), &[range(8, 32)], 0x0B00_0000, 12)?, None);
     Ok(())
 }
 

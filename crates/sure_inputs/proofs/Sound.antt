@@ -120,9 +120,9 @@ module _ (input : LabInput) (from : IsAccepted input) (sure : is_sure input ≡ 
   grafted : (g : ScriptGraft) → graft_at setup g.graft ≡ Some g → IsSureGraft g
   grafted g found =
       let by = step_of_graft setup g.graft g found in
-      let from_step = made g.step by.step by.there (λ e. none_is g.peering (sym (ap (λ s. slice_get (moved_by setup s) by.place) e) ∙ by.moved)) in
+      let from_step = made g.step by.step by.there (λ e. none_is g.peering (sym (ap (λ s. slice_get (moved_by setup s) by.index) e) ∙ by.moved)) in
       graft_of g from_step.x (sure_at g.step from_step.x from_step.there)
-      (moves input.peerings setup by.place g.peering from_step.x (ap (λ s. slice_get (moved_by setup s) by.place) from_step.is ∙ by.moved))
+      (moves input.peerings setup by.index g.peering from_step.x (ap (λ s. slice_get (moved_by setup s) by.index) from_step.is ∙ by.moved))
 
   later : (g : ScriptGraft) → graft_at setup g.graft ≡ Some g → 0 < group_of setup g.step
   later g found = subst (λ steps. 0 < length (filter ends_group (take g.step steps))) (sym (steps_are input))

@@ -63,11 +63,11 @@ module _ (peerings : List PeeringInput) where
   Moves p (Evacuate router) = Unit {0}
   Moves p _ = ⊥
 
-  pub moves : (setup : Setup) (place p : ℕ) (step : Step) → slice_get (moved_by setup (of step)) place ≡ Some p → Moves p step
-  moves setup place p (Announce q prefixes a) moved = none_is p moved
-  moves setup place p (Withdraw q prefixes) moved = none_is p moved
-  moves setup place p (Raw q bytes) moved = none_is p moved
+  pub moves : (setup : Setup) (index p : ℕ) (step : Step) → slice_get (moved_by setup (of step)) index ≡ Some p → Moves p step
+  moves setup index p (Announce q prefixes a) moved = none_is p moved
+  moves setup index p (Withdraw q prefixes) moved = none_is p moved
+  moves setup index p (Raw q bytes) moved = none_is p moved
   moves setup zero p (Graft q target) moved = some_is q.0 p moved
-  moves setup (suc place) p (Graft q target) moved = absurd (none_is p moved)
-  moves setup place p (Settle rounds least) moved = none_is p moved
-  moves setup place p (Evacuate router) moved = tt
+  moves setup (suc index) p (Graft q target) moved = absurd (none_is p moved)
+  moves setup index p (Settle rounds least) moved = none_is p moved
+  moves setup index p (Evacuate router) moved = tt

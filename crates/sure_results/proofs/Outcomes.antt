@@ -226,13 +226,13 @@ module _ (setup : Setup) (ok : IsSetup setup) (sure : IsSure setup) (up : StaysU
     begun : (g : ScriptGraft) → graft_at setup g.graft ≡ Some g → group_of setup g.step < groups_in setup
     begun g known =
         let is = step_of_graft setup g.graft g known in
-        in_ended None setup.steps g.step is.step is.there (no_settle is.step is.place is.moved) ok.ended
+        in_ended None setup.steps g.step is.step is.there (no_settle is.step is.index is.moved) ok.ended
       where
-        no_settle : (step : ScriptStep) (place : ℕ) → slice_get (moved_by setup step) place ≡ Some g.peering → is_settle step ≡ false
-        no_settle (SayStep q bytes) place e = refl
-        no_settle (MoveStep q target) place e = refl
-        no_settle (EvacuateStep router) place e = refl
-        no_settle SettleStep place e = absurd cc
+        no_settle : (step : ScriptStep) (index : ℕ) → slice_get (moved_by setup step) index ≡ Some g.peering → is_settle step ≡ false
+        no_settle (SayStep q bytes) index e = refl
+        no_settle (MoveStep q target) index e = refl
+        no_settle (EvacuateStep router) index e = refl
+        no_settle SettleStep index e = absurd cc
 
     all_ended : (g : ScriptGraft) → graft_at setup g.graft ≡ Some g → HasOutcome w.operator g
     all_ended g known = by_group (cases_eq (group_of setup g.step) w.operator.group) where

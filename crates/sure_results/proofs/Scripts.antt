@@ -42,13 +42,13 @@ module _ (setup : Setup) (moves : OnlyMoves setup) where
 
   -- and each graft has one
   pub has_target : (g : ScriptGraft) → graft_at setup g.graft ≡ Some g → (target : ℕ) × (target_named setup g ≡ Some target)
-  has_target g known = let is = step_of_graft setup g.graft g known in by_step is.step is.place is.there is.moved where
-    by_step : (step : ScriptStep) (place : ℕ) → slice_get setup.steps g.step ≡ Some step → slice_get (moved_by setup step) place ≡ Some g.peering
+  has_target g known = let is = step_of_graft setup g.graft g known in by_step is.step is.index is.there is.moved where
+    by_step : (step : ScriptStep) (index : ℕ) → slice_get setup.steps g.step ≡ Some step → slice_get (moved_by setup step) index ≡ Some g.peering
         → (target : ℕ) × (target_named setup g ≡ Some target)
-    by_step (MoveStep q t) place there moved = (t, ap (λ (s : Option ScriptStep). target_by s Unmade) there)
-    by_step (EvacuateStep r) place there moved = absurd (moves g.step r there)
-    by_step (SayStep q bytes) place there moved = absurd cc
-    by_step SettleStep place there moved = absurd cc
+    by_step (MoveStep q t) index there moved = (t, ap (λ (s : Option ScriptStep). target_by s Unmade) there)
+    by_step (EvacuateStep r) index there moved = absurd (moves g.step r there)
+    by_step (SayStep q bytes) index there moved = absurd cc
+    by_step SettleStep index there moved = absurd cc
 
 -- ---- the targets before a graft
 

@@ -8,7 +8,7 @@ use Rattle.std.proofs.lemmas.Bool.{cases_lt, lt-ltb, le-ltb, le-leb}
 use Rattle.std.proofs.lemmas.List.{drop-drop, drop-append-le}
 use Rattle.std.proofs.lemmas.Option.{slice_get-get_or}
 use Rattle.tcp_seq.specs.Numbers.{offset_from, number}
-use Rattle.tcp_seq.specs.Rules.{Acceptable, AcceptablePlace, IsAck, IsInStream}
+use Rattle.tcp_seq.specs.Rules.{Acceptable, AcceptableOffset, IsAck, IsInStream}
 use Rattle.tcp_seq.specs.declared.rules.AckKind.TheVariants.{New, Beyond}
 use Rattle.tcp_seq.specs.Endpoint.{Endpoint, PlacedSegment, received, received_bytes, bytes_in_order, byte_from, byte_brought, TakesSegment, IsAcceptable, IsBeyond, IsInStreams}
 use Rattle.tcp_seq.specs.declared.segment.Segment.{Segment}
@@ -27,16 +27,16 @@ use Rattle.tcp_end.specs.declared.arrival.Arrival.{Arrival}
 use Rattle.tcp_end.specs.declared.arrival.Arrival.TheVariants.{Outside, Ahead, Duplicate, Accepted}
 use Rattle.graft_edge.specs.declared.memory.NoMemory.{NoMemory}
 use Rattle.tcp_end.proofs.Steps.{owes, stream_is, received_is}
-use Rattle.tcp_end.proofs.Places.{brought_place, held_from, acceptable_place, place_acceptable, beyond_place, place_beyond, newly_place, new_place}
+use Rattle.tcp_end.proofs.Offsets.{brought_offset, held_from, acceptable_offset, offset_acceptable, beyond_offset, offset_beyond, newly_offset, new_offset}
 
--- the byte that a placed segment brings to a place below the window's end
+-- the byte that a placed segment brings to an offset below the window's end
 abbrev pub brought_to : EndState → PlacedSegment → ℕ → Option ℕ
-brought_to s p k = if nat_lt k (got s + 16384) then byte_from p.place p.bytes k else None
+brought_to s p k = if nat_lt k (got s + 16384) then byte_from p.offset p.bytes k else None
 
 abbrev pub with_ : EndState → PlacedSegment → ℕ → Option ℕ
 with_ s p k = option_or (held s.ahead k) (brought_to s p k)
 
--- what is received, by places
+-- what is received, by offsets
 record Hears (s after : EndState) (p : PlacedSegment) (given : List ℕ) : Type 0 where
   received : got after ≡ got s + length given
   ready : after.ready ≡ s.ready ++ given
@@ -44,28 +44,28 @@ record Hears (s after : EndState) (p : PlacedSegment) (given : List ℕ) : Type 
   ends : with_ s p (got s + length given) ≡ None
   ahead : (k : ℕ) → held after.ahead (got after + k) ≡ with_ s p (got s + (length given + k))
 
--- the byte at a place, from the one that numbers give
+-- the byte at an offset, from the one that numbers give
 pub byte_then_is : (s : EndState) (g : Segment) (p : PlacedSegment) (k : ℕ) → IsEndState s → Numbered s.receive_first.0 s.send_first.0 g p
-    → p.place < 2 ^ 30 → length p.bytes < 2 ^ 16
+    → p.offset < 2 ^ 30 → length p.bytes < 2 ^ 16
     → byte_then (ahead_of s) g.seq.0 g.bytes k ≡ with_ s p (got s + k)
 byte_then_is s g p k rests numbered fits short =
     let small : got s % 2 ^ 32 ≡ got s = omega (arith, rests.received) in
     let old : held (counted_from (got s % 2 ^ 32) s.ahead) k ≡ held s.ahead (got s + k) =
     ap (λ (n : ℕ). held (counted_from n s.ahead) k) small
     ∙ held_from (got s) (got s + 1) (got s + 16384) s.ahead k (omega arith) (omega (arith, rests.received)) rests.ahead in
-    let new : brought (expected s) g.seq.0 g.bytes k ≡ (if nat_lt k 16384 then byte_from p.place p.bytes (got s + k) else None) =
+    let new : brought (expected s) g.seq.0 g.bytes k ≡ (if nat_lt k 16384 then byte_from p.offset p.bytes (got s + k) else None) =
     ap (λ (n : ℕ). brought (expected s) n g.bytes k) numbered.seq
-    ∙ ap (λ (xs : List ℕ). brought (expected s) (number s.receive_first.0 p.place) xs k) numbered.bytes
-    ∙ brought_place s.receive_first.0 (got s) p.place p.bytes k (omega (arith, rests.received)) fits short in
+    ∙ ap (λ (xs : List ℕ). brought (expected s) (number s.receive_first.0 p.offset) xs k) numbered.bytes
+    ∙ brought_offset s.receive_first.0 (got s) p.offset p.bytes k (omega (arith, rests.received)) fits short in
     let window : nat_lt k 16384 ≡ nat_lt (got s + k) (got s + 16384) = elim (cases_lt k 16384) [
       | inl below ↦ lt-ltb k 16384 below ∙ sym (lt-ltb (got s + k) (got s + 16384) (omega (arith, below)))
       | inr past ↦ le-ltb k 16384 past ∙ sym (le-ltb (got s + k) (got s + 16384) (omega (arith, past)))
     ] in
     ap (λ o. option_or o (brought (expected s) g.seq.0 g.bytes k)) old
-    ∙ ap (option_or (held s.ahead (got s + k))) (new ∙ ap (λ (b : Bool). if b then byte_from p.place p.bytes (got s + k) else None) window)
+    ∙ ap (option_or (held s.ahead (got s + k))) (new ∙ ap (λ (b : Bool). if b then byte_from p.offset p.bytes (got s + k) else None) window)
 
 hears : (s after : EndState) (g : Segment) (p : PlacedSegment) → IsEndState s → IsEndState after → Numbered s.receive_first.0 s.send_first.0 g p
-    → p.place < 2 ^ 30 → length p.bytes < 2 ^ 16 → after.taken ≡ s.taken
+    → p.offset < 2 ^ 30 → length p.bytes < 2 ^ 16 → after.taken ≡ s.taken
     → (r : Receives (ahead_of s) (ahead_of after) s.ready after.ready g.seq.0 g.bytes) → Hears s after p r.given
 hears s after g p rests rests_after numbered fits short same r =
     let n : length after.ready ≡ length s.ready + length r.given = ap length r.appended ∙ length-append s.ready r.given in
@@ -79,13 +79,13 @@ hears s after g p rests rests_after numbered fits short same r =
           ∙ sym (ap (λ (m : ℕ). held (counted_from m after.ahead) k) small) ∙ r.ahead k ∙ byte_then_is s g p (length r.given + k) rests numbered fits short;
     }
 
--- The places that have a byte then
+-- The offsets that have a byte then
 
 -- the byte that a segment brings, for the endpoint and for the state
 pub brought_is : (s : EndState) (e : Endpoint) (p : PlacedSegment) (k : ℕ) → received e ≡ got s → got s ≤ k → byte_brought e p k ≡ brought_to s p k
 brought_is s e p k all from =
-    ap (λ (b : Bool). if b && nat_lt k (received e + 16384) then byte_from p.place p.bytes k else None) (le-leb (received e) k (omega (arith, all, from)))
-    ∙ ap (λ (n : ℕ). if nat_lt k (n + 16384) then byte_from p.place p.bytes k else None) all
+    ap (λ (b : Bool). if b && nat_lt k (received e + 16384) then byte_from p.offset p.bytes k else None) (le-leb (received e) k (omega (arith, all, from)))
+    ∙ ap (λ (n : ℕ). if nat_lt k (n + 16384) then byte_from p.offset p.bytes k else None) all
 
 accepted_from : (s : EndState) (e : Endpoint) (p : PlacedSegment) (k : ℕ) → EndStands s e → got s ≤ k → map.get (accepted e p) k ≡ with_ s p k
 accepted_from s e p k stands from =
@@ -103,10 +103,10 @@ accepted_below s e p k stands below =
     get-accepted e p k ∙ stays_some (map.get e.arrived k) (byte_brought e p k) (some_in_order e.arrived k below) ∙ sym (byte_in_order e.arrived k below)
 
 -- No byte stands past the streams
-brought_in : (b : Bool) (p : PlacedSegment) (k : ℕ) → IsInStreams p → IsSome (if b then byte_from p.place p.bytes k else None) → IsInStream (k + 1)
-brought_in true p k streams some = elim (cases_lt k (p.place + length p.bytes)) [
+brought_in : (b : Bool) (p : PlacedSegment) (k : ℕ) → IsInStreams p → IsSome (if b then byte_from p.offset p.bytes k else None) → IsInStream (k + 1)
+brought_in true p k streams some = elim (cases_lt k (p.offset + length p.bytes)) [
   | inl below ↦ omega (arith, below, streams.end)
-  | inr past ↦ absurd (some_none (byte_from p.place p.bytes k) some (byte_past p.place p.bytes k past))
+  | inr past ↦ absurd (some_none (byte_from p.offset p.bytes k) some (byte_past p.offset p.bytes k past))
 ]
 brought_in false p k streams some = let e : false ≡ true = some in cc
 
@@ -150,25 +150,25 @@ received_then s after e p given stands h =
     ])
     (ap (map.get (accepted e p)) n ∙ accepted_from s e p (got s + length given) stands (omega arith) ∙ h.ends)
 
--- The tests of numbers and of places
+-- The tests of numbers and of offsets
 pub acceptable_to : (s : EndState) (e : Endpoint) (g : Segment) (p : PlacedSegment) → EndStands s e → Numbered s.receive_first.0 s.send_first.0 g p
     → IsInStreams p → length g.bytes < 2 ^ 16 → IsAcceptable e p → IsAcceptableTo s g
 acceptable_to s e g p stands numbered streams short is =
     let n : length g.bytes ≡ length p.bytes = ap length numbered.bytes in
-    let by_number : Acceptable (number s.receive_first.0 (got s)) 16384 (number s.receive_first.0 p.place) (length p.bytes) =
-    place_acceptable s.receive_first.0 (got s) p.place (length p.bytes) (omega (arith, stands.sound.received)) (omega (arith, streams.end)) (omega (arith, n, short))
-    (subst (λ (m : ℕ). AcceptablePlace m 16384 p.place (length p.bytes)) (received_is s e stands) is) in
+    let by_number : Acceptable (number s.receive_first.0 (got s)) 16384 (number s.receive_first.0 p.offset) (length p.bytes) =
+    offset_acceptable s.receive_first.0 (got s) p.offset (length p.bytes) (omega (arith, stands.sound.received)) (omega (arith, streams.end)) (omega (arith, n, short))
+    (subst (λ (m : ℕ). AcceptableOffset m 16384 p.offset (length p.bytes)) (received_is s e stands) is) in
     subst (λ (m : ℕ). Acceptable (expected s) 16384 m (length g.bytes)) (sym numbered.seq)
-    (subst (λ (m : ℕ). Acceptable (expected s) 16384 (number s.receive_first.0 p.place) m) (sym n) by_number)
+    (subst (λ (m : ℕ). Acceptable (expected s) 16384 (number s.receive_first.0 p.offset) m) (sym n) by_number)
 
 pub acceptable_for : (s : EndState) (e : Endpoint) (g : Segment) (p : PlacedSegment) → EndStands s e → Numbered s.receive_first.0 s.send_first.0 g p
     → IsInStreams p → length g.bytes < 2 ^ 16 → IsAcceptableTo s g → IsAcceptable e p
 acceptable_for s e g p stands numbered streams short is =
     let n : length g.bytes ≡ length p.bytes = ap length numbered.bytes in
-    let by_number : Acceptable (number s.receive_first.0 (got s)) 16384 (number s.receive_first.0 p.place) (length p.bytes) =
+    let by_number : Acceptable (number s.receive_first.0 (got s)) 16384 (number s.receive_first.0 p.offset) (length p.bytes) =
     subst (λ (m : ℕ). Acceptable (expected s) 16384 m (length p.bytes)) numbered.seq (subst (λ (m : ℕ). Acceptable (expected s) 16384 g.seq.0 m) n is) in
-    subst (λ (m : ℕ). AcceptablePlace m 16384 p.place (length p.bytes)) (sym (received_is s e stands))
-    (acceptable_place s.receive_first.0 (got s) p.place (length p.bytes) (omega (arith, stands.sound.received)) (omega (arith, streams.end)) (omega (arith, n, short)) by_number)
+    subst (λ (m : ℕ). AcceptableOffset m 16384 p.offset (length p.bytes)) (sym (received_is s e stands))
+    (acceptable_offset s.receive_first.0 (got s) p.offset (length p.bytes) (omega (arith, stands.sound.received)) (omega (arith, streams.end)) (omega (arith, n, short)) by_number)
 
 emitted_small : (s : EndState) → IsSending s → s.sent < 2 ^ 30
 emitted_small s sending = omega (arith, sending.emitted, sending.stream)
@@ -179,7 +179,7 @@ ack_small p streams = omega (arith, streams.ack)
 pub beyond_for : (s : EndState) (e : Endpoint) (g : Segment) (p : PlacedSegment) → EndStands s e → Numbered s.receive_first.0 s.send_first.0 g p
     → IsInStreams p → SaysAck Beyond s g → IsBeyond e p
 beyond_for s e g p stands numbered streams is =
-    let past : s.sent < p.ack = beyond_place s.send_first.0 s.acked s.sent p.ack stands.sound.sending.acked (emitted_small s stands.sound.sending) (ack_small p streams)
+    let past : s.sent < p.ack = beyond_offset s.send_first.0 s.acked s.sent p.ack stands.sound.sending.acked (emitted_small s stands.sound.sending) (ack_small p streams)
     (subst (λ (m : ℕ). IsAck Beyond (own_number s s.acked) (own_number s s.sent) m) numbered.ack is) in
     omega (arith, past, stands.emitted)
 
@@ -187,7 +187,7 @@ pub beyond_to : (s : EndState) (e : Endpoint) (g : Segment) (p : PlacedSegment) 
     → IsInStreams p → IsBeyond e p → SaysAck Beyond s g
 beyond_to s e g p stands numbered streams is =
     subst (λ (m : ℕ). IsAck Beyond (own_number s s.acked) (own_number s s.sent) m) (sym numbered.ack)
-    (place_beyond s.send_first.0 s.acked s.sent p.ack stands.sound.sending.acked (emitted_small s stands.sound.sending) (ack_small p streams) (omega (arith, is, stands.emitted)))
+    (offset_beyond s.send_first.0 s.acked s.sent p.ack stands.sound.sending.acked (emitted_small s stands.sound.sending) (ack_small p streams) (omega (arith, is, stands.emitted)))
 
 pub within_sent : (s : EndState) (e : Endpoint) (g : Segment) (p : PlacedSegment) → EndStands s e → Numbered s.receive_first.0 s.send_first.0 g p
     → IsInStreams p → ¬ SaysAck Beyond s g → p.ack ≤ s.sent
@@ -222,7 +222,7 @@ right_some : (a b : Option ℕ) → IsSome b → IsSome (option_or a b)
 right_some None b some = some
 right_some (Some x) b some = refl
 
--- Where nothing new is brought, each place has what it had
+-- Where nothing new is brought, each offset has what it had
 pub nothing_new : (s : EndState) (e : Endpoint) (g : Segment) (p : PlacedSegment) (k : ℕ) → EndStands s e
     → Numbered s.receive_first.0 s.send_first.0 g p → IsInStreams p → length g.bytes < 2 ^ 16 → ¬ BringsNewByte s g → map.get e.arrived k ≡ None
     → byte_brought e p k ≡ None
@@ -255,7 +255,7 @@ repeated : (s after : EndState) (g : Segment) (e : Endpoint) (p : PlacedSegment)
     → IsArrival Duplicate s g → ChangesByArrival Duplicate s g after → Becomes (λ e' e''. TakesSegment e' p e'') e after
 repeated s after g e p stands numbered streams short is leaves =
     let within : p.ack ≤ s.sent = within_sent s e g p stands numbered streams is.1 in
-    let old : p.ack ≤ s.acked = new_place s.send_first.0 s.acked s.sent p.ack stands.sound.sending.acked (emitted_small s stands.sound.sending) (ack_small p streams) within
+    let old : p.ack ≤ s.acked = new_offset s.send_first.0 s.acked s.sent p.ack stands.sound.sending.acked (emitted_small s stands.sound.sending) (ack_small p streams) within
     (λ new. is.2 (subst (λ (m : ℕ). IsAck New (own_number s s.acked) (own_number s s.sent) m) (sym numbered.ack) new)) in
     let same : max e.acked p.ack ≡ e.acked = omega (arith, old, stands.acked) in
     let owed : (e.owed || nat_lt 0 (length p.bytes)) ≡ (s.owed || nat_lt 0 (length g.bytes)) = owed_is s e g p stands numbered.bytes in
@@ -278,7 +278,7 @@ taken_in : (s after : EndState) (g : Segment) (e : Endpoint) (p : PlacedSegment)
     → Becomes (λ e' e''. TakesSegment e' p e'') e after
 taken_in s after g e p stands numbered streams short is takes at_rest =
     let n : length g.bytes ≡ length p.bytes = ap length numbered.bytes in
-    let fits : p.place < 2 ^ 30 = omega (arith, streams.end) in
+    let fits : p.offset < 2 ^ 30 = omega (arith, streams.end) in
     let r = takes.received in
     let each : (k : ℕ) → k < length r.given → with_ s p (got s + k) ≡ slice_get r.given k =
     λ k below. sym (byte_then_is s g p k stands.sound numbered fits (omega (arith, n, short))) ∙ r.each k below in
@@ -293,7 +293,7 @@ taken_in s after g e p stands numbered streams short is takes at_rest =
     let within : p.ack ≤ s.sent = within_sent s e g p stands numbered streams is.1 in
     let acked : s.acked + newly_acked s g ≡ max e.acked p.ack =
     ap (λ (m : ℕ). s.acked + (let ahead = offset_from m (own_number s s.acked) in if nat_le ahead (s.sent - s.acked) then ahead else 0)) numbered.ack
-    ∙ newly_place s.send_first.0 s.acked s.sent p.ack stands.sound.sending.acked (emitted_small s stands.sound.sending) (ack_small p streams) within
+    ∙ newly_offset s.send_first.0 s.acked s.sent p.ack stands.sound.sending.acked (emitted_small s stands.sound.sending) (ack_small p streams) within
     ∙ ap (λ (m : ℕ). max m p.ack) (sym stands.acked) in
     record {
       end = record e { acked = max e.acked p.ack; arrived = accepted e p; owed = e.owed || nat_lt 0 (length p.bytes) };
@@ -315,12 +315,12 @@ taken_in s after g e p stands numbered streams short is takes at_rest =
         read_within = omega (arith, stands.read_within, count, all, h.received);
         ready = h.ready ∙ ap (λ (xs : List ℕ). xs ++ r.given) stands.ready
             ∙ sym (drop-append-le e.read (received_bytes e) r.given stands.read_within) ∙ ap (drop e.read) (sym now);
-        ahead = λ place from.
-            let j = place - got after in
-            let at : got after + j ≡ place = omega (arith, from, count) in
-            let same : got s + (length r.given + j) ≡ place = omega (arith, at, h.received) in
-            accepted_from s e p place stands (omega (arith, same)) ∙ ap (with_ s p) (sym same) ∙ sym (h.ahead j) ∙ ap (held after.ahead) at;
-        in_stream = λ place some. accepted_in s e p place stands streams some;
+        ahead = λ offset from.
+            let j = offset - got after in
+            let at : got after + j ≡ offset = omega (arith, from, count) in
+            let same : got s + (length r.given + j) ≡ offset = omega (arith, at, h.received) in
+            accepted_from s e p offset stands (omega (arith, same)) ∙ ap (with_ s p) (sym same) ∙ sym (h.ahead j) ∙ ap (held after.ahead) at;
+        in_stream = λ offset some. accepted_in s e p offset stands streams some;
       };
     }
 

@@ -39,8 +39,8 @@ fresh_stands way peering send_first receive_first = record {
   waiting = refl;
   read_within = omega arith;
   ready = sym (bytes_are map.empty [] (λ k below. absurd (omega (arith, below))) (map.get-empty nat_cmp 0));
-  ahead = λ place from. map.get-empty nat_cmp place;
-  in_stream = λ place some. absurd (some_none (map.get fresh_endpoint.arrived place) some (map.get-empty nat_cmp place));
+  ahead = λ offset from. map.get-empty nat_cmp offset;
+  in_stream = λ offset some. absurd (some_none (map.get fresh_endpoint.arrived offset) some (map.get-empty nat_cmp offset));
 }
 
 -- What a side becomes by a call
@@ -129,7 +129,7 @@ side_emits theirs mine before after stands all (answer, inr (inl again), adds) =
 side_emits theirs mine before after stands all (answer, inr (inr given), adds) =
     side_emits_by EmitsAnswer theirs mine before after answer stands all (λ p e step. inr step.answer) given.numbers (given.becomes mine.end stands) adds
 
--- what arrives has places of the streams
+-- what arrives has offsets of the streams
 in_streams : (mine theirs : Side) (p : PlacedSegment) → IsCarried mine theirs → IsCarried theirs mine → Contains theirs.emitted p → IsInStreams p
 in_streams mine theirs p there back here =
     emitted_in_streams theirs.end mine.end p (record { there = back.flows; back = there.flows }) (back.segments p here)

@@ -20,17 +20,17 @@ use Rattle.tcp_end.proofs.Counted.{held-counted}
 use Rattle.tcp_end.proofs.Filled.{Fills, fills}
 use Rattle.tcp_end.specs.Receiving.{BringsByte, byte_then, Receives, made_ready, ReceivesRun}
 
--- the run of bytes from the place expected next on
+-- the run of bytes from the offset expected next on
 pub run_fills : (bytes : List ℕ) (ps : List Piece) → length bytes ≤ 16384 → AreRuns 1 ps → Fills bytes 0 ps (reached (length bytes) ps)
 run_fills bytes ps fits runs =
     let e : max 0 (length bytes) ≡ length bytes = omega arith in
     subst (λ (n : ℕ). Fills bytes 0 ps (reached n ps)) e (fills bytes 0 ps (omega arith) fits (runs_from 0 1 ps (omega arith) runs))
 
 -- a hole that bytes fill is a byte that they bring
-pub brings_hole : (r : Reassembly) (seq : ℕ) (bytes kept : List ℕ) (place to : ℕ) → to ≡ place + length kept
-    → ((k : ℕ) → byte_from place kept k ≡ brought r.next seq bytes k) → HasHole r.pieces place to → BringsByte r seq bytes
-brings_hole r seq bytes kept place to ends same (k, low, high, none) =
-    (k, none, subst IsSome (sym (byte_within place kept k low (omega (arith, high, ends))) ∙ same k) refl)
+pub brings_hole : (r : Reassembly) (seq : ℕ) (bytes kept : List ℕ) (offset to : ℕ) → to ≡ offset + length kept
+    → ((k : ℕ) → byte_from offset kept k ≡ brought r.next seq bytes k) → HasHole r.pieces offset to → BringsByte r seq bytes
+brings_hole r seq bytes kept offset to ends same (k, low, high, none) =
+    (k, none, subst IsSome (sym (byte_within offset kept k low (omega (arith, high, ends))) ∙ same k) refl)
 
 held_cut : (c : ℕ) (ps : List Piece) (k : ℕ) → held ps k ≡ option_or (held (take c ps) k) (held (drop c ps) k)
 held_cut c ps k = ap (λ (qs : List Piece). held qs k) (sym (take-append-drop c ps)) ∙ held-append (take c ps) (drop c ps) k
@@ -60,7 +60,7 @@ runs_behind ps bytes c all =
     let run = filled bytes 0 (take c ps) in
     subst (λ (n : ℕ). AreRuns (n + 1) (drop c ps)) (let e : 0 + length run ≡ length run = omega arith in e) all.runs
 
--- bytes from the place expected next on
+-- bytes from the offset expected next on
 pub receives_run : (before after : Reassembly) (ready ready' : List ℕ) (seq : ℕ) (bytes kept : List ℕ) → length kept ≤ 16384 → AreRuns 1 before.pieces
     → ((k : ℕ) → byte_from 0 kept k ≡ brought before.next seq bytes k) → ReceivesRun before after ready ready' kept
     → Receives before after ready ready' seq bytes
@@ -83,32 +83,32 @@ receives_run before after ready ready' seq bytes kept fits runs same is =
           ∙ ap (option_or (held ps (length run + k))) (same (length run + k));
     }
 
--- bytes behind the place expected next
-pub receives_ahead : (before after : Reassembly) (ready : List ℕ) (seq : ℕ) (bytes kept : List ℕ) (place : ℕ) → AreRuns 1 before.pieces
-    → before.next < 2 ^ 32 → 0 < place
-    → ((k : ℕ) → byte_from place kept k ≡ brought before.next seq bytes k) → Puts before after seq bytes → Receives before after ready ready seq bytes
-receives_ahead before after ready seq bytes kept place runs fits above same puts = record {
+-- bytes behind the offset expected next
+pub receives_ahead : (before after : Reassembly) (ready : List ℕ) (seq : ℕ) (bytes kept : List ℕ) (offset : ℕ) → AreRuns 1 before.pieces
+    → before.next < 2 ^ 32 → 0 < offset
+    → ((k : ℕ) → byte_from offset kept k ≡ brought before.next seq bytes k) → Puts before after seq bytes → Receives before after ready ready seq bytes
+receives_ahead before after ready seq bytes kept offset runs fits above same puts = record {
   given = [];
   appended = sym (append-nil ready);
   each = λ k below. absurd (omega (arith, below));
   ends = ap (λ o. option_or o (brought before.next seq bytes 0)) (held_below 1 before.pieces 0 runs (omega arith)) ∙ sym (same 0)
-      ∙ byte_below place kept 0 above;
+      ∙ byte_below offset kept 0 above;
   next = puts.next ∙ (let e : before.next ≡ plus before.next 0 = omega (arith, fits) in e);
   ahead = λ k. puts.ahead k ∙ ap (byte_then before seq bytes) (let e : k ≡ 0 + k = omega arith in e);
 }
 
--- pieces none of which has the place expected next
+-- pieces none of which has the offset expected next
 runs_above : (ps : List Piece) → AreRuns 0 ps → held ps 0 ≡ None → AreRuns 1 ps
 runs_above [] runs none = tt
-runs_above (p ∷ ps) runs none = elim (cases_lt 0 p.place) [
+runs_above (p ∷ ps) runs none = elim (cases_lt 0 p.offset) [
   | inl above ↦ (omega (arith, above), runs.1, runs.2, runs.3)
-  | inr at ↦ let there : None ≡ Some (get_or p.bytes (0 - p.place) 0) = sym none ∙ held_here p ps 0 at (omega (arith, runs.1)) in cc
+  | inr at ↦ let there : None ≡ Some (get_or p.bytes (0 - p.offset) 0) = sym none ∙ held_here p ps 0 at (omega (arith, runs.1)) in cc
 ]
 
-pub runs_ahead : (before after : Reassembly) (seq : ℕ) (bytes kept : List ℕ) (place : ℕ) → AreRuns 1 before.pieces → 0 < place
-    → ((k : ℕ) → byte_from place kept k ≡ brought before.next seq bytes k) → Puts before after seq bytes → AreRuns 0 after.pieces → AreRuns 1 after.pieces
-runs_ahead before after seq bytes kept place runs above same puts left = runs_above after.pieces left
-    (puts.ahead 0 ∙ ap (λ o. option_or o (brought before.next seq bytes 0)) (held_below 1 before.pieces 0 runs (omega arith)) ∙ sym (same 0) ∙ byte_below place kept 0 above)
+pub runs_ahead : (before after : Reassembly) (seq : ℕ) (bytes kept : List ℕ) (offset : ℕ) → AreRuns 1 before.pieces → 0 < offset
+    → ((k : ℕ) → byte_from offset kept k ≡ brought before.next seq bytes k) → Puts before after seq bytes → AreRuns 0 after.pieces → AreRuns 1 after.pieces
+runs_ahead before after seq bytes kept offset runs above same puts left = runs_above after.pieces left
+    (puts.ahead 0 ∙ ap (λ o. option_or o (brought before.next seq bytes 0)) (held_below 1 before.pieces 0 runs (omega arith)) ∙ sym (same 0) ∙ byte_below offset kept 0 above)
 
 -- how many bytes were added by a run
 pub run_count : (before : Reassembly) (bytes ready ready' : List ℕ) (old_len new_len few : ℕ) (cut : List Piece) → old_len ≡ length ready
@@ -133,7 +133,7 @@ run_behind before bytes count few fits runs counts reaches =
     (subst (λ (n : ℕ). AreRuns (length (made_ready before bytes) + 1) (drop n before.pieces)) (sym reaches) behind)
 
 -- the number expected next, as it was read
-pub same_bytes : (place : ℕ) (kept : List ℕ) (next next' seq : ℕ) (bytes : List ℕ) → next ≡ next'
-    → ((k : ℕ) → byte_from place kept k ≡ brought next seq bytes k)
-    → (k : ℕ) → byte_from place kept k ≡ brought next' seq bytes k
-same_bytes place kept next next' seq bytes is same k = same k ∙ ap (λ (n : ℕ). brought n seq bytes k) is
+pub same_bytes : (offset : ℕ) (kept : List ℕ) (next next' seq : ℕ) (bytes : List ℕ) → next ≡ next'
+    → ((k : ℕ) → byte_from offset kept k ≡ brought next seq bytes k)
+    → (k : ℕ) → byte_from offset kept k ≡ brought next' seq bytes k
+same_bytes offset kept next next' seq bytes is same k = same k ∙ ap (λ (n : ℕ). brought n seq bytes k) is

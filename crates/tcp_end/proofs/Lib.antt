@@ -5,7 +5,7 @@ pub mod InOrder
 pub mod Handed
 pub mod Taken
 pub mod Steps
-pub mod Places
+pub mod Offsets
 pub mod Arrives
 pub mod Followed
 pub mod Wholes

@@ -53,24 +53,24 @@ sends s after bytes fits is e stands =
     }
 
 -- the segment that is emitted stands for the slice of the stream
-pub slice_is : (s : EndState) (e : Endpoint) (place len : ℕ) → EndStands s e → s.acked ≤ place
-    → Numbered s.send_first.0 s.receive_first.0 (segment_at s place len) (slice_at e place len)
-slice_is s e place len stands from =
-    let at : e.acked + (place - s.acked) ≡ place = omega (arith, from, stands.acked) in
+pub slice_is : (s : EndState) (e : Endpoint) (offset len : ℕ) → EndStands s e → s.acked ≤ offset
+    → Numbered s.send_first.0 s.receive_first.0 (segment_at s offset len) (slice_at e offset len)
+slice_is s e offset len stands from =
+    let at : e.acked + (offset - s.acked) ≡ offset = omega (arith, from, stands.acked) in
     record {
       seq = refl;
       ack = ap (number s.receive_first.0) (sym (received_is s e stands));
-      bytes = ap (λ (xs : List ℕ). take len (drop (place - s.acked) xs)) stands.waiting
-          ∙ ap (take len) (drop-drop (place - s.acked) e.acked e.stream ∙ ap (λ (n : ℕ). drop n e.stream) at);
+      bytes = ap (λ (xs : List ℕ). take len (drop (offset - s.acked) xs)) stands.waiting
+          ∙ ap (take len) (drop-drop (offset - s.acked) e.acked e.stream ∙ ap (λ (n : ℕ). drop n e.stream) at);
     }
 
 -- a segment at the state's own equation
-pub slice_at_is : (s : EndState) (g : Segment) (e : Endpoint) (place place' len len' : ℕ) → g ≡ segment_at s place len → place ≡ place' → len ≡ len'
-    → EndStands s e → s.acked ≤ place → Numbered s.send_first.0 s.receive_first.0 g (slice_at e place' len')
-slice_at_is s g e place place' len len' is places lens stands from =
-    subst (λ (n : ℕ). Numbered s.send_first.0 s.receive_first.0 g (slice_at e place' n)) lens
-    (subst (λ (n : ℕ). Numbered s.send_first.0 s.receive_first.0 g (slice_at e n len)) places
-    (rw is (slice_is s e place len stands from)))
+pub slice_at_is : (s : EndState) (g : Segment) (e : Endpoint) (offset offset' len len' : ℕ) → g ≡ segment_at s offset len → offset ≡ offset' → len ≡ len'
+    → EndStands s e → s.acked ≤ offset → Numbered s.send_first.0 s.receive_first.0 g (slice_at e offset' len')
+slice_at_is s g e offset offset' len len' is offsets lens stands from =
+    subst (λ (n : ℕ). Numbered s.send_first.0 s.receive_first.0 g (slice_at e offset' n)) lens
+    (subst (λ (n : ℕ). Numbered s.send_first.0 s.receive_first.0 g (slice_at e n len)) offsets
+    (rw is (slice_is s e offset len stands from)))
 
 pub next_length_is : (s : EndState) (e : Endpoint) → EndStands s e → next_length_of e ≡ end_next_length s
 next_length_is s e stands = omega (arith, stream_is s e stands, stands.acked, stands.emitted, stands.sound.sending.acked, stands.sound.sending.flight)

@@ -20,7 +20,7 @@ use Rattle.tcp_seq.specs.declared.rules.AckKind.TheVariants.{New, Old, Beyond}
 use Rattle.tcp_end.specs.declared.end.End.TheInside.{Inside}
 use Rattle.tcp_reasm.proofs.Held.{held_below}
 use Rattle.tcp_end.proofs.Handed.{ahead_is, lies}
-use Rattle.tcp_end.proofs.Places.{flight_offset}
+use Rattle.tcp_end.proofs.Offsets.{flight_offset}
 
 none_or : {X : Type 0} (o : Option X) → ¬ IsSome o → o ≡ None
 none_or None h = refl

@@ -30,31 +30,31 @@ find_joined k (e ∷ es) fs =
     ∙ or_by_test (k == e.0) e.1 (find nat_cmp k es) (find nat_cmp k fs) (find nat_cmp k (es ++ fs)) (find_joined k es fs)
     ∙ ap (λ (b : Bool). option_or (cond b (Some e.1) (find nat_cmp k es)) (find nat_cmp k fs)) (sym (unsigned_tied k e.0))
 
--- the byte at a place
-find_numbered : (k place : ℕ) (bytes : List ℕ) → find nat_cmp k (numbered_from place bytes) ≡ byte_from place bytes k
-find_numbered k place [] = elim (cases_lt k place) [ inl below ↦ sym (byte_below place [] k below) | inr there ↦ sym (byte_there place [] k there) ]
-find_numbered k place (b ∷ bs) =
-    let rest : find nat_cmp k (numbered_from (place + 1) bs) ≡ byte_from (place + 1) bs k = find_numbered k (place + 1) bs in
-    elim (cases_eq k place) [
-      | inl is ↦ ap (λ (t : Bool). cond t (Some b) (find nat_cmp k (numbered_from (place + 1) bs))) (unsigned_tied k place ∙ (let t : (k == place) ≡ true = grind (arith, nat_tests) in t))
-          ∙ sym (byte_there place (b ∷ bs) k (omega (arith, is)) ∙ ap (slice_get (b ∷ bs)) (let e : k - place ≡ zero = omega (arith, is) in e))
-      | inr not ↦ ap (λ (t : Bool). cond t (Some b) (find nat_cmp k (numbered_from (place + 1) bs))) (unsigned_tied k place ∙ (let t : (k == place) ≡ false = grind (arith, nat_tests) in t))
+-- the byte at an offset
+find_numbered : (k offset : ℕ) (bytes : List ℕ) → find nat_cmp k (numbered_from offset bytes) ≡ byte_from offset bytes k
+find_numbered k offset [] = elim (cases_lt k offset) [ inl below ↦ sym (byte_below offset [] k below) | inr there ↦ sym (byte_there offset [] k there) ]
+find_numbered k offset (b ∷ bs) =
+    let rest : find nat_cmp k (numbered_from (offset + 1) bs) ≡ byte_from (offset + 1) bs k = find_numbered k (offset + 1) bs in
+    elim (cases_eq k offset) [
+      | inl is ↦ ap (λ (t : Bool). cond t (Some b) (find nat_cmp k (numbered_from (offset + 1) bs))) (unsigned_tied k offset ∙ (let t : (k == offset) ≡ true = grind (arith, nat_tests) in t))
+          ∙ sym (byte_there offset (b ∷ bs) k (omega (arith, is)) ∙ ap (slice_get (b ∷ bs)) (let e : k - offset ≡ zero = omega (arith, is) in e))
+      | inr not ↦ ap (λ (t : Bool). cond t (Some b) (find nat_cmp k (numbered_from (offset + 1) bs))) (unsigned_tied k offset ∙ (let t : (k == offset) ≡ false = grind (arith, nat_tests) in t))
           ∙ rest ∙ later not
     ]
   where
-    later : k ≢ place → byte_from (place + 1) bs k ≡ byte_from place (b ∷ bs) k
-    later not = elim (cases_lt k place) [
-      | inl below ↦ byte_below (place + 1) bs k (omega (arith, below)) ∙ sym (byte_below place (b ∷ bs) k below)
-      | inr from ↦ byte_there (place + 1) bs k (omega (arith, from, not))
-          ∙ sym (byte_there place (b ∷ bs) k from ∙ ap (slice_get (b ∷ bs)) (let e : k - place ≡ suc (k - (place + 1)) = omega (arith, from, not) in e))
+    later : k ≢ offset → byte_from (offset + 1) bs k ≡ byte_from offset (b ∷ bs) k
+    later not = elim (cases_lt k offset) [
+      | inl below ↦ byte_below (offset + 1) bs k (omega (arith, below)) ∙ sym (byte_below offset (b ∷ bs) k below)
+      | inr from ↦ byte_there (offset + 1) bs k (omega (arith, from, not))
+          ∙ sym (byte_there offset (b ∷ bs) k from ∙ ap (slice_get (b ∷ bs)) (let e : k - offset ≡ suc (k - (offset + 1)) = omega (arith, from, not) in e))
     ]
 
 find_pieces : (k : ℕ) (pieces : List Piece) → find nat_cmp k (numbered_in pieces) ≡ held pieces k
 find_pieces k [] = refl
 find_pieces k (p ∷ ps) =
-    find_joined k (numbered_from p.place p.bytes) (numbered_in ps)
-    ∙ ap (λ (o : Option ℕ). option_or o (find nat_cmp k (numbered_in ps))) (find_numbered k p.place p.bytes)
-    ∙ ap (option_or (byte_from p.place p.bytes k)) (find_pieces k ps)
+    find_joined k (numbered_from p.offset p.bytes) (numbered_in ps)
+    ∙ ap (λ (o : Option ℕ). option_or o (find nat_cmp k (numbered_in ps))) (find_numbered k p.offset p.bytes)
+    ∙ ap (option_or (byte_from p.offset p.bytes k)) (find_pieces k ps)
 
 pub get-arrived_of : (bytes : List ℕ) (pieces : List Piece) (k : ℕ) → map.get (arrived_of bytes pieces) k ≡ option_or (byte_from 0 bytes k) (held pieces k)
 get-arrived_of bytes pieces k =
@@ -67,7 +67,7 @@ or_there : (o more : Option ℕ) → (o ≡ None → ⊥) → option_or o more �
 or_there None more there = absurd (there refl)
 or_there (Some x) more there = refl
 
--- what arrived, place by place
+-- what arrived, offset by offset
 same_byte : (s : EndState) (e : Endpoint) (bytes : List ℕ) → EndStands s e → received_bytes e ≡ bytes → (k : ℕ)
     → map.get e.arrived k ≡ map.get (arrived_of bytes s.ahead) k
 same_byte s e bytes stands is k = elim (cases_lt k (received e)) [

@@ -12,7 +12,7 @@ use Rattle.tcp_end.specs.State.{got, own_number, expected, counted_from}
 use Rattle.tcp_end.specs.declared.arrival.Arrival.{Arrival}
 use Rattle.tcp_end.specs.declared.arrival.Arrival.TheVariants.{Outside, Ahead, Duplicate, Accepted}
 
--- the pieces ahead of a hole, with their places counted from the one expected next
+-- the pieces ahead of a hole, with their offsets counted from the one expected next
 abbrev pub ahead_of : EndState → Reassembly
 ahead_of s = record { next = expected s; pieces = counted_from (got s % 2 ^ 32) s.ahead }
 
@@ -24,7 +24,7 @@ IsAcceptableTo s g = Acceptable (expected s) 16384 g.seq.0 (length g.bytes)
 abbrev pub SaysAck : AckKind → EndState → Segment → Type 0
 SaysAck kind s g = IsAck kind (own_number s s.acked) (own_number s s.sent) g.ack.0
 
--- a segment brings a byte for a place of the window that has none
+-- a segment brings a byte for an offset of the window that has none
 abbrev pub BringsNewByte : EndState → Segment → Type 0
 BringsNewByte s g = BringsByte (ahead_of s) g.seq.0 g.bytes
 

@@ -5,7 +5,7 @@ use Rattle.tcp_reasm.specs.Runs.{AreRuns}
 use Rattle.tcp_end.specs.State.{IsSending, expected, raised}
 use Rattle.tcp_end.specs.declared.end.End.TheInside.{Inside}
 
--- the pieces ahead of a hole have their places in the stream
+-- the pieces ahead of a hole have their offsets in the stream
 abbrev pub end_state : Inside → EndState
 end_state e = record {
   way = e.way;

@@ -6,15 +6,15 @@ use Rattle.tcp_reasm.specs.Reassembly.{Reassembly, byte_ahead, brought}
 use Rattle.tcp_end.specs.Filling.{reached, filled}
 use Rattle.tcp_end.specs.State.{counted_from}
 
--- some of the bytes from a sequence number on belong to a place of the window that has no byte
+-- some of the bytes from a sequence number on belong to an offset of the window that has no byte
 abbrev pub BringsByte : Reassembly → ℕ → List ℕ → Type 0
 BringsByte r seq bytes = (k : ℕ) × (byte_ahead r k ≡ None) × IsSome (brought r.next seq bytes k)
 
--- the byte at the k-th place from the one expected next afterwards: the one that was there before, or else the one that is brought
+-- the byte at the k-th offset from the one expected next afterwards: the one that was there before, or else the one that is brought
 abbrev pub byte_then : Reassembly → ℕ → List ℕ → ℕ → Option ℕ
 byte_then r seq bytes k = option_or (byte_ahead r k) (brought r.next seq bytes k)
 
--- All bytes in order from the place expected next, up to the first place without one, become ready. The others stand ahead.
+-- All bytes in order from the offset expected next, up to the first offset without one, become ready. The others stand ahead.
 pub record Receives (before after : Reassembly) (ready ready' : List ℕ) (seq : ℕ) (bytes : List ℕ) : Type 0 where
   pub given : List ℕ
   pub appended : ready' ≡ ready ++ given
@@ -28,7 +28,7 @@ abbrev pub Received : Bool → Reassembly → Reassembly → List ℕ → List �
 Received true before after ready ready' seq bytes = BringsByte before seq bytes × Receives before after ready ready' seq bytes
 Received false before after ready ready' seq bytes = (¬ BringsByte before seq bytes) × (after ≡ before) × (ready' ≡ ready)
 
--- what becomes ready when bytes stand from the place expected next on: those bytes, and those of the pieces that they reach
+-- what becomes ready when bytes stand from the offset expected next on: those bytes, and those of the pieces that they reach
 abbrev pub made_ready : Reassembly → List ℕ → List ℕ
 made_ready r bytes = filled bytes 0 (take (reached (length bytes) r.pieces) r.pieces)
 

@@ -22,14 +22,14 @@ pub record EndStands (s : EndState) (e : Endpoint) : Type 0 where
   -- what is ready is the received bytes behind those that were read
   pub read_within : e.read ≤ received e
   pub ready : s.ready ≡ ready_bytes e
-  -- from the received length on, a place has the byte that a piece has there
-  pub ahead : (place : ℕ) → received e ≤ place → map.get e.arrived place ≡ held s.ahead place
+  -- from the received length on, an offset has the byte that a piece has there
+  pub ahead : (offset : ℕ) → received e ≤ offset → map.get e.arrived offset ≡ held s.ahead offset
   -- and no byte is past a stream of at most 1 MiB and a window at its end
-  pub in_stream : (place : ℕ) → IsSome (map.get e.arrived place) → IsInStream (place + 1)
+  pub in_stream : (offset : ℕ) → IsSome (map.get e.arrived offset) → IsInStream (offset + 1)
 
--- a segment has the numbers of a place and of an acknowledged length, and its bytes
+-- a segment has the numbers of an offset and of an acknowledged length, and its bytes
 pub record Numbered (seq_first ack_first : ℕ) (g : Segment) (p : PlacedSegment) : Type 0 where
-  pub seq : g.seq.0 ≡ number seq_first p.place
+  pub seq : g.seq.0 ≡ number seq_first p.offset
   pub ack : g.ack.0 ≡ number ack_first p.ack
   pub bytes : g.bytes ≡ p.bytes
 
@@ -66,7 +66,7 @@ pub record EndEmitsBy (Step : Endpoint → PlacedSegment → Endpoint → Type 0
   pub numbers : SameNumbers before after
   pub becomes : (e : Endpoint) → EndStands before e → BecomesBy Step before e answer after
 
--- The same for a segment that arrives, whatever bytes it has, if its numbers are those of places of streams of at most 1 MiB, or of a window at their
+-- The same for a segment that arrives, whatever bytes it has, if its numbers are those of offsets of streams of at most 1 MiB, or of a window at their
 -- end.
 pub record TakesBy (before : EndState) (g : Segment) (after : EndState) : Type 0 where
   pub numbers : SameNumbers before after

@@ -45,28 +45,28 @@ got s = s.taken + length s.ready
 
 -- the number of a byte of the stream that it sends
 abbrev pub own_number : EndState → ℕ → ℕ
-own_number s place = number s.send_first.0 place
+own_number s offset = number s.send_first.0 offset
 
 -- the number expected next
 abbrev pub expected : EndState → ℕ
 expected s = number s.receive_first.0 (got s)
 
--- pieces with their places counted from another place, modulo 2^32, and back
+-- pieces with their offsets counted from another offset, modulo 2^32, and back
 abbrev pub counted_from : ℕ → List Piece → List Piece
-counted_from base ps = map {A = Piece} (λ p. record p { place = offset_from p.place base }) ps
+counted_from base ps = map {A = Piece} (λ p. record p { offset = offset_from p.offset base }) ps
 
 abbrev pub raised : ℕ → List Piece → List Piece
-raised base ps = map {A = Piece} (λ p. record p { place = plus p.place base }) ps
+raised base ps = map {A = Piece} (λ p. record p { offset = plus p.offset base }) ps
 
--- the segment with this many bytes from a place of the stream on, and the number expected next
+-- the segment with this many bytes from an offset of the stream on, and the number expected next
 abbrev pub segment_at : EndState → ℕ → ℕ → Segment
-segment_at s place len = record {
+segment_at s offset len = record {
   peering = s.peering;
   way = s.way;
-  seq = record { 0 = own_number s place };
+  seq = record { 0 = own_number s offset };
   ack = record { 0 = expected s };
   window = 16384;
-  bytes = take len (drop (place - s.acked) s.waiting);
+  bytes = take len (drop (offset - s.acked) s.waiting);
 }
 
 -- how many bytes the next slice has: those that are unsent and fit in the flight of 15,360, at most 1,024
@@ -85,15 +85,15 @@ pub record IsSending (s : EndState) : Type 0 where
   pub stream : stream_length s ≤ 2 ^ 20
   pub at_turn : s.acked_at_turn ≤ s.acked
 
--- Pieces from a place on: none is empty, each begins at or above the end of the one before it, and ends at or below `high`.
+-- Pieces from an offset on: none is empty, each begins at or above the end of the one before it, and ends at or below `high`.
 abbrev pub LieFrom : ℕ → ℕ → List Piece → Type 0
 LieFrom low high [] = Unit {0}
 LieFrom low high (p ∷ ps) =
-    (low ≤ p.place) × (0 < length p.bytes) × (p.place + length p.bytes ≤ high) × LieFrom (p.place + length p.bytes) high ps
+    (low ≤ p.offset) × (0 < length p.bytes) × (p.offset + length p.bytes ≤ high) × LieFrom (p.offset + length p.bytes) high ps
 
 -- what a state at rest satisfies
 pub record IsEndState (s : EndState) : Type 0 where
   pub sending : IsSending s
   pub received : IsInStream (got s)
-  -- the pieces are above the place expected next, which has no byte, and in the window
+  -- the pieces are above the offset expected next, which has no byte, and in the window
   pub ahead : LieFrom (got s + 1) (got s + 16384) s.ahead

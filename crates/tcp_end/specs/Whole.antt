@@ -5,17 +5,17 @@ use Rattle.tcp_seq.specs.Endpoint.{Bytes, Endpoint}
 use Rattle.tcp_seq.specs.declared.state.Piece.{Piece}
 use Rattle.tcp_seq.specs.declared.state.EndState.{EndState}
 
--- bytes with their places, from this place on
+-- bytes with their offsets, from this offset on
 abbrev pub numbered_from : ℕ → List ℕ → List (ℕ × ℕ)
-numbered_from place [] = []
-numbered_from place (b ∷ bs) = (place, b) ∷ numbered_from (place + 1) bs
+numbered_from offset [] = []
+numbered_from offset (b ∷ bs) = (offset, b) ∷ numbered_from (offset + 1) bs
 
--- the bytes of pieces with their places
+-- the bytes of pieces with their offsets
 abbrev pub numbered_in : List Piece → List (ℕ × ℕ)
 numbered_in [] = []
-numbered_in (p ∷ ps) = numbered_from p.place p.bytes ++ numbered_in ps
+numbered_in (p ∷ ps) = numbered_from p.offset p.bytes ++ numbered_in ps
 
--- what arrived: these bytes from place 0 on, and those of the pieces
+-- what arrived: these bytes from offset 0 on, and those of the pieces
 abbrev pub arrived_of : List ℕ → List Piece → Bytes
 arrived_of bytes pieces = map.from_entries (numbered_from 0 bytes ++ numbered_in pieces)
 

@@ -16,12 +16,12 @@ use std::mem;
 use tcp_reasm::{Reasm, in_window, part, remove_front};
 use tcp_seq::{Piece, Pieces, Seq};
 
-/// Returns the place up to which pieces go on from a place without a gap.
+/// Returns the offset up to which pieces go on from an offset without a gap.
 fn end_of_run(pieces: &[Piece], from: usize) -> usize
     ensures { result ≡ fold end_from from pieces.now }
 {
     pieces.iter().fold(from, |end, piece| {
-        if piece.place as usize <= end {
+        if piece.offset as usize <= end {
             end.max(piece.end())
         } else {
             end
@@ -29,7 +29,7 @@ fn end_of_run(pieces: &[Piece], from: usize) -> usize
     })
 }
 
-/// Whether a place from `from` up to `to` has no byte.
+/// Whether an offset from `from` up to `to` has no byte.
 fn has_hole(pieces: &[Piece], from: usize, to: usize) -> bool
     requires some { from < to }
     requires runs { AreRuns 0 pieces.now }
@@ -39,21 +39,21 @@ fn has_hole(pieces: &[Piece], from: usize, to: usize) -> bool
     end_of_run(pieces, from) < to
 }
 
-/// Returns how many of the first pieces are reached from a place on without a gap.
+/// Returns how many of the first pieces are reached from an offset on without a gap.
 fn reached_count(pieces: &[Piece], from: usize) -> usize
     ensures count { result ≡ reached from pieces.now }
     ensures within { result ≤ length pieces.now }
 {
     let mut end = from;
     let mut count = 0;
-    while count < pieces.len() && pieces[count].place as usize <= end {
+    while count < pieces.len() && pieces[count].offset as usize <= end {
         end = end.max(pieces[count].end());
         count += 1;
     }
     count
 }
 
-/// Adds bytes from the place expected next on, and those of the pieces that they reach. If memory runs
+/// Adds bytes from the offset expected next on, and those of the pieces that they reach. If memory runs
 /// out, some of them may have been added.
 fn add_some(ready: &mut ByteQueue, pieces: &[Piece], bytes: &[u8]) -> Result<(), NoMemory>
     ensures ok { OnOk result (ready.new ≡ ready.old ++ filled bytes.now 0 pieces.now) }
@@ -62,14 +62,14 @@ fn add_some(ready: &mut ByteQueue, pieces: &[Piece], bytes: &[u8]) -> Result<(),
 {
     let mut at = 0;
     for piece in pieces {
-        ready.extend(part(bytes, at, piece.place as usize))?;
+        ready.extend(part(bytes, at, piece.offset as usize))?;
         ready.extend(piece.bytes.as_slice())?;
         at = piece.end();
     }
     ready.extend(part(bytes, at, bytes.len()))
 }
 
-/// Adds bytes from the place expected next on, and those of the pieces that they reach. If memory runs
+/// Adds bytes from the offset expected next on, and those of the pieces that they reach. If memory runs
 /// out, nothing changes.
 fn add_in_order(ready: &mut ByteQueue, pieces: &[Piece], bytes: &[u8]) -> Result<(), NoMemory>
     ensures ok { OnOk result (ready.new ≡ ready.old ++ filled bytes.now 0 pieces.now) }
@@ -85,25 +85,25 @@ fn add_in_order(ready: &mut ByteQueue, pieces: &[Piece], bytes: &[u8]) -> Result
     }
 }
 
-/// Counts the places of pieces from place `base` of the stream, modulo 2^32.
+/// Counts the offsets of pieces from offset `base` of the stream, modulo 2^32.
 pub(crate) fn count_from(pieces: &mut Vec<Piece>, base: u32)
     ensures { pieces.new.items ≡ counted_from base pieces.old.items }
 {
     for piece in pieces.iter_mut() {
-        piece.place = piece.place.wrapping_sub(base);
+        piece.offset = piece.offset.wrapping_sub(base);
     }
 }
 
-/// Counts the places of pieces from the stream's first byte, modulo 2^32.
+/// Counts the offsets of pieces from the stream's first byte, modulo 2^32.
 pub(crate) fn raise(pieces: &mut Vec<Piece>, base: u32)
     ensures { pieces.new.items ≡ raised base pieces.old.items }
 {
     for piece in pieces.iter_mut() {
-        piece.place = piece.place.wrapping_add(base);
+        piece.offset = piece.offset.wrapping_add(base);
     }
 }
 
-/// Removes the first `count` pieces, and expects the place `by` further on.
+/// Removes the first `count` pieces, and expects the offset `by` further on.
 fn skipped(ahead: Reasm, count: usize, by: u32) -> Reasm
     requires some { count ≤ length ahead.pieces }
     requires runs { AreRuns (by + 1) (drop count ahead.pieces) }
@@ -118,7 +118,7 @@ fn skipped(ahead: Reasm, count: usize, by: u32) -> Reasm
     Reasm::from_pieces(next, Items::from_vec(pieces))
 }
 
-/// Makes bytes from the place expected next on ready, and those of the pieces that they reach. If
+/// Makes bytes from the offset expected next on ready, and those of the pieces that they reach. If
 /// memory runs out, nothing changes.
 fn receive_in_order(ready: &mut ByteQueue, ahead: &mut Reasm, bytes: &[u8]) -> Result<(), NoMemory>
     requires len { length bytes.now ≤ 16384 }
@@ -137,7 +137,7 @@ fn receive_in_order(ready: &mut ByteQueue, ahead: &mut Reasm, bytes: &[u8]) -> R
     Ok(())
 }
 
-/// Keeps those of the bytes from a sequence number on that are in the window and whose places have no
+/// Keeps those of the bytes from a sequence number on that are in the window and whose offsets have no
 /// byte yet, and returns whether there is one. If memory runs out, nothing changes.
 pub(crate) fn receive(
     ready: &mut ByteQueue,
@@ -152,8 +152,8 @@ pub(crate) fn receive(
     ensures err { OnErr result (ahead.new ≡ ahead.old) }
     ensures unready { OnErr result (ready.new ≡ ready.old) }
 {
-    let (place, kept) = in_window(ahead.next(), seq, bytes);
-    let from = place as usize;
+    let (offset, kept) = in_window(ahead.next(), seq, bytes);
+    let from = offset as usize;
     let to = from + kept.len();
     if from == to || !has_hole(ahead.pieces(), from, to) {
         return Ok(false);

@@ -165,18 +165,18 @@ impl End {
         self.waiting.truncate(self.waiting.len() - n);
     }
 
-    /// Returns the segment with `len` bytes from a place of the stream on.
-    fn segment_at(&self, place: u32, len: u32) -> Result<Segment, NoMemory>
-        requires from { self.now.acked ≤ place }
-        requires to { place + len ≤ stream_length self.now }
-        ensures { IfOk result (λ segment. segment ≡ segment_at self.now place len) }
+    /// Returns the segment with `len` bytes from an offset of the stream on.
+    fn segment_at(&self, offset: u32, len: u32) -> Result<Segment, NoMemory>
+        requires from { self.now.acked ≤ offset }
+        requires to { offset + len ≤ stream_length self.now }
+        ensures { IfOk result (λ segment. segment ≡ segment_at self.now offset len) }
     {
-        let from = (place - self.acked) as usize;
+        let from = (offset - self.acked) as usize;
         let bytes = &self.waiting.as_slice()[from..from + len as usize];
         Ok(Segment {
             peering: self.peering,
             way: self.way,
-            seq: self.send_first.plus(place),
+            seq: self.send_first.plus(offset),
             ack: self.ahead.next(),
             window: WINDOW as u16,
             bytes: Octets::from_slice(self.waiting.allocator(), bytes)?,
@@ -305,8 +305,8 @@ impl End {
 
     /// Takes a segment that arrives. It has to be of this end's peering, sent to this end's side, with
     /// at most 65,535 bytes. A segment that isn't acceptable, or that acknowledges bytes that weren't
-    /// emitted, is dropped. Of any other segment, the bytes in the window of 16,384 places from the one
-    /// expected next on are kept, where a place that has a byte keeps it, and a new acknowledgement
+    /// emitted, is dropped. Of any other segment, the bytes in the window of 16,384 bytes from the one
+    /// expected next on are kept, where an offset that has a byte keeps it, and a new acknowledgement
     /// counts. An acknowledgement is owed if the segment is dropped or has bytes (RFC 9293, section
     /// 3.10.7.4). If memory runs out, nothing changes.
     pub fn arrive(&mut self, segment: &Segment) -> Result<Arrival, NoMemory>
@@ -384,8 +384,8 @@ impl End {
     /// `sent`, which is at most the stream's length and at most `acked` plus 15,360. The stream has at
     /// most 1,048,576 bytes, and `acked_at_turn` is at most `acked`. At most 1,114,112 bytes were
     /// received, counting those that were read and those that are ready. Each piece of `ahead` has
-    /// bytes, begins above the place expected next and at or above the end of the piece before it, and
-    /// ends at or below the 16,384th place from the one expected next on.
+    /// bytes, begins above the offset expected next and at or above the end of the piece before it, and
+    /// ends at or below the 16,384th offset from the one expected next on.
     pub fn import(state: EndState) -> End
         requires { IsEndState state }
         ensures same { result ≡ state }

@@ -11,9 +11,9 @@ use std::alloc::Global;
 use std::marker::Model;
 use tcp_seq::{Piece, Pieces, Seq};
 
-/// The bytes of a stream that arrived and weren't given out yet, in the window of 16,384 places from
+/// The bytes of a stream that arrived and weren't given out yet, in the window of 16,384 bytes from
 /// the one expected next on. Contracts see the number expected next and the pieces in the window, each
-/// with its place counted from the one expected next. The pieces are in ascending order, none overlaps
+/// with its offset counted from the one expected next. The pieces are in ascending order, none overlaps
 /// another, and none is empty.
 #[derive(Debug, Drop)]
 pub struct Reasm {
@@ -33,7 +33,7 @@ impl Model for Reasm {
 }
 
 /// Returns the part of the bytes from a sequence number on, at most 65,535, that is in the window of
-/// 16,384 places from `next` on, with its place counted from there.
+/// 16,384 bytes from `next` on, with its offset counted from there.
 pub fn in_window(next: Seq, seq: Seq, bytes: &[u8]) -> (u32, &[u8])
     requires { length bytes.now < 2 ^ 16 }
     ensures within { result.0 + length result.1.now ≤ 16384 }
@@ -68,8 +68,8 @@ impl Reasm {
         self.next
     }
 
-    /// Keeps those bytes from a sequence number on that are in the window: from the place expected next
-    /// up to, and not including, the 16,384th after it. A place that has a byte keeps it. `bytes` has
+    /// Keeps those bytes from a sequence number on that are in the window: from the offset expected next
+    /// up to, and not including, the 16,384th after it. An offset that has a byte keeps it. `bytes` has
     /// at most 65,535 bytes. If memory runs out, nothing changes.
     pub fn put(&mut self, seq: Seq, bytes: &[u8]) -> Result<(), NoMemory>
         requires { length bytes.now < 2 ^ 16 }
@@ -77,8 +77,8 @@ impl Reasm {
         ensures err { OnErr result (self.new ≡ self.old) }
         ensures runs { AreRuns 0 self.new.pieces }
     {
-        let (place, kept) = in_window(self.next, seq, bytes);
-        insert(&mut self.pieces, place, kept)
+        let (offset, kept) = in_window(self.next, seq, bytes);
+        insert(&mut self.pieces, offset, kept)
     }
 
     /// Appends to `out` all bytes that are in order from the number expected next, and expects the
@@ -96,7 +96,7 @@ impl Reasm {
         Ok(len)
     }
 
-    /// Returns the pieces that stand ahead of the number expected next, each with its place counted
+    /// Returns the pieces that stand ahead of the number expected next, each with its offset counted
     /// from there.
     pub fn pieces(&self) -> &[Piece]
         ensures pieces { result.now ≡ self.now.pieces }
@@ -114,9 +114,9 @@ impl Reasm {
         Items::from_vec(pieces)
     }
 
-    /// Returns a reassembly that expects this number next and has these pieces, each with its place
+    /// Returns a reassembly that expects this number next and has these pieces, each with its offset
     /// counted from there. They have to be in ascending order, none overlaps another or is empty, and
-    /// each ends in the window of 16,384 places. It allocates nothing.
+    /// each ends in the window of 16,384 bytes. It allocates nothing.
     pub fn from_pieces(next: Seq, pieces: Pieces) -> Reasm
         requires { AreRuns 0 pieces }
         ensures { result ≡ record { next = next.0; pieces = pieces } }

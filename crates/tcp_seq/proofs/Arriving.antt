@@ -7,13 +7,13 @@ use Rattle.std.specs.FinMap as map
 use Rattle.std.proofs.lemmas.Bool.Decides.{nat_tests}
 use Rattle.std.proofs.lemmas.Bool.{cases_lt, cases_eq, lt-ltb, le-ltb}
 use Rattle.tcp_seq.specs.Endpoint.{Bytes, Endpoint, PlacedSegment, received, received_bytes, byte_from, byte_brought, IsAcceptable, IsBeyond, TakesSegment, IsTaken}
-use Rattle.tcp_seq.specs.Rules.{AcceptablePlace, IsPlaceInWindow}
-use Rattle.tcp_seq.specs.Rules.{AcceptablePlace, IsPlaceInWindow}
+use Rattle.tcp_seq.specs.Rules.{AcceptableOffset, IsOffsetInWindow}
+use Rattle.tcp_seq.specs.Rules.{AcceptableOffset, IsOffsetInWindow}
 use Rattle.tcp_seq.proofs.Lookups.{or_none}
 use Rattle.tcp_seq.proofs.ByteFrom.{byte_past}
 use Rattle.tcp_seq.proofs.Received.{in_order_grows}
 
--- A byte put at a place where there is none
+-- A byte put at an offset where there is none
 put_one : Option ℕ → ℕ → Bytes → Bytes
 put_one None k m = m
 put_one (Some byte) k m = if is_some (map.get m k) then m else map.insert m k byte
@@ -41,7 +41,7 @@ unfolding put_one
 put_other None k q m not = refl
 put_other (Some byte) k q m not = put_other_by (is_some (map.get m k)) byte k q m not
 
--- The same at all places below n
+-- The same at all offsets below n
 put_below : (ℕ → Option ℕ) → ℕ → Bytes → Bytes
 put_below f zero m = m
 put_below f (suc n) m = put_one (f n) n (put_below f n m)
@@ -69,7 +69,7 @@ get-put_below f (suc n) m q = put_next f n m (put_below f n m) (get-put_below f 
 
 -- what has arrived after a segment was accepted
 pub accepted : Endpoint → PlacedSegment → Bytes
-accepted e p = put_below (byte_brought e p) (p.place + length p.bytes) e.arrived
+accepted e p = put_below (byte_brought e p) (p.offset + length p.bytes) e.arrived
 
 none_if : (b : Bool) (o : Option ℕ) → o ≡ None → (if b then o else None) ≡ None
 none_if true o is = is
@@ -78,23 +78,23 @@ none_if false o is = refl
 pub get-accepted : (e : Endpoint) (p : PlacedSegment) (k : ℕ) → map.get (accepted e p) k ≡ option_or (map.get e.arrived k) (byte_brought e p k)
 unfolding accepted
 get-accepted e p k =
-    let n = p.place + length p.bytes in
+    let n = p.offset + length p.bytes in
     get-put_below (byte_brought e p) n e.arrived k
     ∙ ap (option_or (map.get e.arrived k)) (elim (cases_lt k n) as (λ _. (if nat_lt k n then byte_brought e p k else None) ≡ byte_brought e p k) [
       | inl below ↦ ap (λ (b : Bool). if b then byte_brought e p k else None) (lt-ltb k n below)
       | inr past ↦ ap (λ (b : Bool). if b then byte_brought e p k else None) (le-ltb k n past)
-          ∙ sym (none_if (nat_le (received e) k && nat_lt k (received e + 16384)) (byte_from p.place p.bytes k) (byte_past p.place p.bytes k past))
+          ∙ sym (none_if (nat_le (received e) k && nat_lt k (received e + 16384)) (byte_from p.offset p.bytes k) (byte_past p.offset p.bytes k past))
     ])
 
--- A place keeps its byte
+-- An offset keeps its byte
 stays_or : (o more : Option ℕ) (byte : ℕ) → o ≡ Some byte → option_or o more ≡ Some byte
 stays_or o more byte is = ap (λ (p : Option ℕ). option_or p more) is
 
-pub byte_stays : (before after : Endpoint) (segment : PlacedSegment) (place byte : ℕ) → TakesSegment before segment after
-    → map.get before.arrived place ≡ Some byte → map.get after.arrived place ≡ Some byte
-byte_stays before after segment place byte (inl drops) is = ap (λ (e : Endpoint). map.get e.arrived place) drops.stays ∙ is
-byte_stays before after segment place byte (inr accepts) is = accepts.arrived place
-    ∙ stays_or (map.get before.arrived place) (byte_brought before segment place) byte is
+pub byte_stays : (before after : Endpoint) (segment : PlacedSegment) (offset byte : ℕ) → TakesSegment before segment after
+    → map.get before.arrived offset ≡ Some byte → map.get after.arrived offset ≡ Some byte
+byte_stays before after segment offset byte (inl drops) is = ap (λ (e : Endpoint). map.get e.arrived offset) drops.stays ∙ is
+byte_stays before after segment offset byte (inr accepts) is = accepts.arrived offset
+    ∙ stays_or (map.get before.arrived offset) (byte_brought before segment offset) byte is
 
 pub received_stays : (before after : Endpoint) (segment : PlacedSegment) → TakesSegment before segment after
     → received_bytes before ≡ take (received before) (received_bytes after)
@@ -112,38 +112,38 @@ leaves_one before a b segment (inr accepts) (inr accepts') =
     ∙ sym accepts'.changed
 
 -- And there is one
-in_window_or : (next place : ℕ) → IsPlaceInWindow next 16384 place ⊎ (¬ IsPlaceInWindow next 16384 place)
-in_window_or next place = elim (cases_lt place next) [
+in_window_or : (next offset : ℕ) → IsOffsetInWindow next 16384 offset ⊎ (¬ IsOffsetInWindow next 16384 offset)
+in_window_or next offset = elim (cases_lt offset next) [
   | inl below ↦ inr (λ is. omega (arith, below, is.0))
-  | inr from ↦ elim (cases_lt place (next + 16384)) [
+  | inr from ↦ elim (cases_lt offset (next + 16384)) [
     | inl within ↦ inl (from, within)
     | inr past ↦ inr (λ is. omega (arith, past, is.1))
   ]
 ]
 
-no_bytes : (next place len : ℕ) → len ≡ 0 → ¬ IsPlaceInWindow next 16384 place → AcceptablePlace next 16384 place len → ⊥
-no_bytes next place len none not (inl closed) = omega (arith, closed.1)
-no_bytes next place len none not (inr (inl empty)) = not empty.2
-no_bytes next place len none not (inr (inr bytes)) = omega (arith, none, bytes.0)
+no_bytes : (next offset len : ℕ) → len ≡ 0 → ¬ IsOffsetInWindow next 16384 offset → AcceptableOffset next 16384 offset len → ⊥
+no_bytes next offset len none not (inl closed) = omega (arith, closed.1)
+no_bytes next offset len none not (inr (inl empty)) = not empty.2
+no_bytes next offset len none not (inr (inr bytes)) = omega (arith, none, bytes.0)
 
-neither_in : (next place len : ℕ) → 0 < len → ¬ IsPlaceInWindow next 16384 place → ¬ IsPlaceInWindow next 16384 (place + len - 1)
-    → AcceptablePlace next 16384 place len → ⊥
-neither_in next place len some first last (inl closed) = omega (arith, closed.1)
-neither_in next place len some first last (inr (inl empty)) = omega (arith, some, empty.0)
-neither_in next place len some first last (inr (inr bytes)) = elim bytes.2 [ inl is ↦ first is | inr is ↦ last is ]
+neither_in : (next offset len : ℕ) → 0 < len → ¬ IsOffsetInWindow next 16384 offset → ¬ IsOffsetInWindow next 16384 (offset + len - 1)
+    → AcceptableOffset next 16384 offset len → ⊥
+neither_in next offset len some first last (inl closed) = omega (arith, closed.1)
+neither_in next offset len some first last (inr (inl empty)) = omega (arith, some, empty.0)
+neither_in next offset len some first last (inr (inr bytes)) = elim bytes.2 [ inl is ↦ first is | inr is ↦ last is ]
 
-acceptable_or : (next place len : ℕ) → AcceptablePlace next 16384 place len ⊎ (¬ AcceptablePlace next 16384 place len)
-acceptable_or next place len = elim (cases_lt 0 len) [
-  | inl some ↦ elim (in_window_or next place) [
+acceptable_or : (next offset len : ℕ) → AcceptableOffset next 16384 offset len ⊎ (¬ AcceptableOffset next 16384 offset len)
+acceptable_or next offset len = elim (cases_lt 0 len) [
+  | inl some ↦ elim (in_window_or next offset) [
     | inl is ↦ inl (inr (inr (some, omega arith, inl is)))
-    | inr first ↦ elim (in_window_or next (place + len - 1)) [
+    | inr first ↦ elim (in_window_or next (offset + len - 1)) [
       | inl is ↦ inl (inr (inr (some, omega arith, inr is)))
-      | inr last ↦ inr (neither_in next place len some first last)
+      | inr last ↦ inr (neither_in next offset len some first last)
     ]
   ]
-  | inr none ↦ elim (in_window_or next place) [
+  | inr none ↦ elim (in_window_or next offset) [
     | inl is ↦ inl (inr (inl (omega (arith, none), omega arith, is)))
-    | inr not ↦ inr (no_bytes next place len (omega (arith, none)) not)
+    | inr not ↦ inr (no_bytes next offset len (omega (arith, none)) not)
   ]
 ]
 
@@ -151,7 +151,7 @@ drops : (before : Endpoint) (segment : PlacedSegment) → (¬ IsAcceptable befor
 drops before segment cause = record { after = record before { owed = true }; takes = inl (record { cause = cause; stays = refl }) }
 
 pub some_after : (before : Endpoint) (segment : PlacedSegment) → IsTaken before segment
-some_after before segment = elim (acceptable_or (received before) segment.place (length segment.bytes)) [
+some_after before segment = elim (acceptable_or (received before) segment.offset (length segment.bytes)) [
   | inr not ↦ drops before segment (inl not)
   | inl is ↦ elim (cases_lt before.emitted segment.ack) [
     | inl beyond ↦ drops before segment (inr beyond)

@@ -1,4 +1,4 @@
--- The bytes that stand from a place on.
+-- The bytes that stand from an offset on.
 use Rattle.std.proofs.Common.{◌≡◌, ℕ, ◌+◌, ◌-◌, ◌<◌, ◌≤◌, List, length, Some, None, ap, ◌∙◌, arith, get_or}
 use Rattle.std.specs.Prelude.{if◌then◌else◌}
 use Rattle.std.proofs.lemmas.Bool.{lt-ltb, le-ltb}
@@ -6,14 +6,14 @@ use Rattle.std.proofs.lemmas.Option.{slice_get_past, slice_get-get_or}
 use Rattle.std.specs.List.{slice_get}
 use Rattle.tcp_seq.specs.Endpoint.{byte_from}
 
-pub byte_below : (place : ℕ) (bytes : List ℕ) (k : ℕ) → k < place → byte_from place bytes k ≡ None
-byte_below place bytes k below = ap (λ b. if b then None else slice_get bytes (k - place)) (lt-ltb k place below)
+pub byte_below : (offset : ℕ) (bytes : List ℕ) (k : ℕ) → k < offset → byte_from offset bytes k ≡ None
+byte_below offset bytes k below = ap (λ b. if b then None else slice_get bytes (k - offset)) (lt-ltb k offset below)
 
-pub byte_there : (place : ℕ) (bytes : List ℕ) (k : ℕ) → place ≤ k → byte_from place bytes k ≡ slice_get bytes (k - place)
-byte_there place bytes k from = ap (λ b. if b then None else slice_get bytes (k - place)) (le-ltb k place from)
+pub byte_there : (offset : ℕ) (bytes : List ℕ) (k : ℕ) → offset ≤ k → byte_from offset bytes k ≡ slice_get bytes (k - offset)
+byte_there offset bytes k from = ap (λ b. if b then None else slice_get bytes (k - offset)) (le-ltb k offset from)
 
-pub byte_past : (place : ℕ) (bytes : List ℕ) (k : ℕ) → place + length bytes ≤ k → byte_from place bytes k ≡ None
-byte_past place bytes k past = byte_there place bytes k (omega (arith, past)) ∙ slice_get_past bytes (k - place) (omega (arith, past))
+pub byte_past : (offset : ℕ) (bytes : List ℕ) (k : ℕ) → offset + length bytes ≤ k → byte_from offset bytes k ≡ None
+byte_past offset bytes k past = byte_there offset bytes k (omega (arith, past)) ∙ slice_get_past bytes (k - offset) (omega (arith, past))
 
-pub byte_within : (place : ℕ) (bytes : List ℕ) (k : ℕ) → place ≤ k → k < place + length bytes → byte_from place bytes k ≡ Some (get_or bytes (k - place) 0)
-byte_within place bytes k from below = byte_there place bytes k from ∙ slice_get-get_or bytes (k - place) 0 (omega (arith, from, below))
+pub byte_within : (offset : ℕ) (bytes : List ℕ) (k : ℕ) → offset ≤ k → k < offset + length bytes → byte_from offset bytes k ≡ Some (get_or bytes (k - offset) 0)
+byte_within offset bytes k from below = byte_there offset bytes k from ∙ slice_get-get_or bytes (k - offset) 0 (omega (arith, from, below))

@@ -20,25 +20,25 @@ no_segment x x' y both stays same emits = record {
   there = record {
     flows = stays.linked.there;
     segments = λ p here. stays.still p (both.there.segments p (subst (λ (ps : List PlacedSegment). Contains ps p) emits here));
-    all = λ place below. subst (λ (ps : List PlacedSegment). IsAmong ps place) (sym emits) (both.there.all place (omega (arith, below, same)));
+    all = λ offset below. subst (λ (ps : List PlacedSegment). IsAmong ps offset) (sym emits) (both.there.all offset (omega (arith, below, same)));
   };
   back = record { flows = stays.linked.back; segments = both.back.segments; all = both.back.all };
 }
 
--- an earlier segment has a place, or the last one
-among : (segments : List PlacedSegment) (p : PlacedSegment) (place : ℕ)
-    → IsAmong segments place ⊎ ((p.place ≤ place) × (place < p.place + length p.bytes)) → IsAmong (segments ++ p ∷ []) place
-among segments p place (inl is) = record {
+-- an earlier segment has an offset, or the last one
+among : (segments : List PlacedSegment) (p : PlacedSegment) (offset : ℕ)
+    → IsAmong segments offset ⊎ ((p.offset ≤ offset) × (offset < p.offset + length p.bytes)) → IsAmong (segments ++ p ∷ []) offset
+among segments p offset (inl is) = record {
   segment = is.segment;
   there = Contains-append_left segments (p ∷ []) is.segment is.there;
   from = is.from;
   below = is.below;
 }
-among segments p place (inr within) = record { segment = p; there = Contains-push segments p; from = within.0; below = within.1 }
+among segments p offset (inr within) = record { segment = p; there = Contains-push segments p; from = within.0; below = within.1 }
 
 -- the acting side emits a segment
 one_segment : (x x' y : Side) (p : PlacedSegment) → Both x y → StaysLinked x.end x'.end y.end → IsEmittedBy x'.end p → x'.emitted ≡ x.emitted ++ p ∷ []
-    → ((place : ℕ) → x.end.emitted ≤ place → place < x'.end.emitted → (p.place ≤ place) × (place < p.place + length p.bytes)) → Both x' y
+    → ((offset : ℕ) → x.end.emitted ≤ offset → offset < x'.end.emitted → (p.offset ≤ offset) × (offset < p.offset + length p.bytes)) → Both x' y
 one_segment x x' y p both stays emitted emits new = record {
   there = record {
     flows = stays.linked.there;
@@ -46,9 +46,9 @@ one_segment x x' y p both stays emitted emits new = record {
       | inl old ↦ stays.still q (both.there.segments q old)
       | inr same ↦ subst (IsEmittedBy x'.end) same emitted
     ];
-    all = λ place below. subst (λ (ps : List PlacedSegment). IsAmong ps place) (sym emits) (among x.emitted p place (elim (cases_lt place x.end.emitted) [
-      | inl early ↦ inl (both.there.all place early)
-      | inr late ↦ inr (new place late below)
+    all = λ offset below. subst (λ (ps : List PlacedSegment). IsAmong ps offset) (sym emits) (among x.emitted p offset (elim (cases_lt offset x.end.emitted) [
+      | inl early ↦ inl (both.there.all offset early)
+      | inr late ↦ inr (new offset late below)
     ]));
   };
   back = record { flows = stays.linked.back; segments = both.back.segments; all = both.back.all };
@@ -57,12 +57,12 @@ one_segment x x' y p both stays emitted emits new = record {
 acts_emits : (x x' y : Side) → Both x y → SideEmits x x' → Both x' y
 acts_emits x x' y both (p, inl emits, adds) =
     let next = emits_linked x.end x'.end y.end p (both_linked x y both) (inl emits) in
-    let rises : x'.end.emitted ≡ max x.end.emitted (p.place + length p.bytes) = ap (λ (e : Endpoint). e.emitted) emits.rises in
-    one_segment x x' y p both next.0 next.1 adds (λ place from below. (omega (arith, emits.to, from), omega (arith, from, below, rises)))
+    let rises : x'.end.emitted ≡ max x.end.emitted (p.offset + length p.bytes) = ap (λ (e : Endpoint). e.emitted) emits.rises in
+    one_segment x x' y p both next.0 next.1 adds (λ offset from below. (omega (arith, emits.to, from), omega (arith, from, below, rises)))
 acts_emits x x' y both (p, inr empty, adds) =
     let next = emits_linked x.end x'.end y.end p (both_linked x y both) (inr empty) in
     let same : x'.end.emitted ≡ x.end.emitted = ap (λ (e : Endpoint). e.emitted) empty.given in
-    one_segment x x' y p both next.0 next.1 adds (λ place from below. absurd (omega (arith, from, below, same)))
+    one_segment x x' y p both next.0 next.1 adds (λ offset from below. absurd (omega (arith, from, below, same)))
 
 emitted_stays : (x after : Endpoint) (p : PlacedSegment) → TakesSegment x p after → after.emitted ≡ x.emitted
 emitted_stays x after p (inl drops) = ap (λ (e : Endpoint). e.emitted) drops.stays
@@ -94,7 +94,7 @@ at_start : IsCarried fresh_side fresh_side
 at_start = record {
   flows = fresh_linked.there;
   segments = λ p (i, below, is). absurd (omega (arith, below));
-  all = λ place below. absurd (omega (arith, below));
+  all = λ offset below. absurd (omega (arith, below));
 }
 
 pub at_fresh : IsConnection fresh_connection

@@ -3,19 +3,19 @@ use Rattle.std.proofs.Common.{◌≡◌, ℕ, ◌+◌, ◌≤◌, List, length, 
 use Rattle.std.proofs.lemmas.List.{length-drop, length-take}
 use Rattle.tcp_seq.specs.Endpoint.{Endpoint, PlacedSegment, slice_at, next_length, again_length, EmitsNext, EmitsAgain, EmitsSlice}
 
-slice_length : (stream : List ℕ) (place n : ℕ) → place + n ≤ length stream → length (take n (drop place stream)) ≡ n
-slice_length stream place n within = omega (arith, within, length-take n (drop place stream), length-drop place stream)
+slice_length : (stream : List ℕ) (offset n : ℕ) → offset + n ≤ length stream → length (take n (drop offset stream)) ≡ n
+slice_length stream offset n within = omega (arith, within, length-take n (drop offset stream), length-drop offset stream)
 
--- a slice by its own place and length
-itself : (e : Endpoint) (p : PlacedSegment) (place n : ℕ) → p.place ≡ place → length p.bytes ≡ n → p ≡ slice_at e place n
-    → p ≡ slice_at e p.place (length p.bytes)
-itself e p place n at len is = is ∙ sym (ap (λ (m : ℕ). slice_at e m n) at) ∙ sym (ap (slice_at e p.place) len)
+-- a slice by its own offset and length
+itself : (e : Endpoint) (p : PlacedSegment) (offset n : ℕ) → p.offset ≡ offset → length p.bytes ≡ n → p ≡ slice_at e offset n
+    → p ≡ slice_at e p.offset (length p.bytes)
+itself e p offset n at len is = is ∙ sym (ap (λ (m : ℕ). slice_at e m n) at) ∙ sym (ap (slice_at e p.offset) len)
 
 pub next_is_slice : (before after : Endpoint) (p : PlacedSegment) → before.acked ≤ before.emitted → EmitsNext before p after → EmitsSlice before p after
 next_is_slice before after p acked next =
     let n = next_length before in
     let within : before.emitted + n ≤ length before.stream = omega (arith, next.some) in
-    let at : p.place ≡ before.emitted = ap (λ (q : PlacedSegment). q.place) next.slice in
+    let at : p.offset ≡ before.emitted = ap (λ (q : PlacedSegment). q.offset) next.slice in
     let len : length p.bytes ≡ n = ap (λ (q : PlacedSegment). length q.bytes) next.slice ∙ slice_length before.stream before.emitted n within in
     record {
       from = omega (arith, at, acked);
@@ -26,7 +26,7 @@ next_is_slice before after p acked next =
       flight = omega (arith, at, len, next.some);
       slice = itself before p before.emitted n at len next.slice;
       rises = next.rises
-          ∙ ap (λ (m : ℕ). let e : Endpoint = record before { emitted = m } in e) (let e : before.emitted + n ≡ max before.emitted (p.place + length p.bytes) = omega (arith, at, len) in e);
+          ∙ ap (λ (m : ℕ). let e : Endpoint = record before { emitted = m } in e) (let e : before.emitted + n ≡ max before.emitted (p.offset + length p.bytes) = omega (arith, at, len) in e);
     }
 
 pub again_is_slice : (before after : Endpoint) (p : PlacedSegment) → before.emitted ≤ length before.stream → before.emitted ≤ before.acked + 15360
@@ -34,7 +34,7 @@ pub again_is_slice : (before after : Endpoint) (p : PlacedSegment) → before.em
 again_is_slice before after p emitted flight again =
     let n = again_length before in
     let within : before.acked + n ≤ before.emitted = omega (arith, again.some) in
-    let at : p.place ≡ before.acked = ap (λ (q : PlacedSegment). q.place) again.slice in
+    let at : p.offset ≡ before.acked = ap (λ (q : PlacedSegment). q.offset) again.slice in
     let len : length p.bytes ≡ n = ap (λ (q : PlacedSegment). length q.bytes) again.slice ∙ slice_length before.stream before.acked n (omega (arith, within, emitted)) in
     record {
       from = omega (arith, at);
@@ -45,5 +45,5 @@ again_is_slice before after p emitted flight again =
       flight = omega (arith, at, len, within, flight);
       slice = itself before p before.acked n at len again.slice;
       rises = again.stays
-          ∙ ap (λ (m : ℕ). let e : Endpoint = record before { emitted = m } in e) (let e : before.emitted ≡ max before.emitted (p.place + length p.bytes) = omega (arith, at, len, within) in e);
+          ∙ ap (λ (m : ℕ). let e : Endpoint = record before { emitted = m } in e) (let e : before.emitted ≡ max before.emitted (p.offset + length p.bytes) = omega (arith, at, len, within) in e);
     }

@@ -17,7 +17,7 @@ use Rattle.tcp_seq.proofs.Arriving.{received_stays}
 
 -- a byte stands where the stream has it, below what was emitted
 abbrev Stands : Endpoint → ℕ → ℕ → Type 0
-Stands from place byte = (place < from.emitted) × (slice_get from.stream place ≡ Some byte)
+Stands from offset byte = (offset < from.emitted) × (slice_get from.stream offset ≡ Some byte)
 
 -- what flows, but for what follows from the rest
 record Carries (from to : Endpoint) : Type 0 where
@@ -26,7 +26,7 @@ record Carries (from to : Endpoint) : Type 0 where
   stream : length from.stream ≤ 2 ^ 20
   flight : from.emitted ≤ from.acked + 15360
   read : to.read ≤ received to
-  arrived : (place byte : ℕ) → map.get to.arrived place ≡ Some byte → Stands from place byte
+  arrived : (offset byte : ℕ) → map.get to.arrived offset ≡ Some byte → Stands from offset byte
 
 carries_flows : (from to : Endpoint) → Flows from to → Carries from to
 carries_flows from to f = record { acked = f.acked; emitted = f.emitted; stream = f.stream; flight = f.flight; read = f.read; arrived = f.arrived }
@@ -71,9 +71,9 @@ from_sends from to bytes c fits = record {
   stream = omega (arith, fits, length-append from.stream bytes);
   flight = c.flight;
   read = c.read;
-  arrived = λ place byte is. (
-    (c.arrived place byte is).0,
-    get-append_left from.stream bytes place (omega (arith, (c.arrived place byte is).0, c.emitted)) ∙ (c.arrived place byte is).1,
+  arrived = λ offset byte is. (
+    (c.arrived offset byte is).0,
+    get-append_left from.stream bytes offset (omega (arith, (c.arrived offset byte is).0, c.emitted)) ∙ (c.arrived offset byte is).1,
   );
 }
 
@@ -82,7 +82,7 @@ still_sends : (e : Endpoint) (bytes : List ℕ) (p : PlacedSegment) → e.emitte
 still_sends e bytes p within is = record {
   within = is.within;
   short = is.short;
-  bytes = is.bytes ∙ sym (slice_grows p.place (length p.bytes) e.stream bytes (omega (arith, is.within, within)));
+  bytes = is.bytes ∙ sym (slice_grows p.offset (length p.bytes) e.stream bytes (omega (arith, is.within, within)));
   ack = is.ack;
 }
 
@@ -96,7 +96,7 @@ from_emits from to emitted owed c more within flight = record {
   stream = c.stream;
   flight = flight;
   read = c.read;
-  arrived = λ place byte there. (omega (arith, (c.arrived place byte there).0, more), (c.arrived place byte there).1);
+  arrived = λ offset byte there. (omega (arith, (c.arrived offset byte there).0, more), (c.arrived offset byte there).1);
 }
 
 still_emits : (e : Endpoint) (emitted : ℕ) (owed : Bool) (p : PlacedSegment) → e.emitted ≤ emitted → IsEmittedBy e p
@@ -138,11 +138,11 @@ to_same from to e c same read =
       stream = c.stream;
       flight = c.flight;
       read = omega (arith, read, n);
-      arrived = λ place byte there. c.arrived place byte (ap (λ (m : Bytes). map.get m place) (sym same) ∙ there);
+      arrived = λ offset byte there. c.arrived offset byte (ap (λ (m : Bytes). map.get m offset) (sym same) ∙ there);
     }
 
 -- bytes arrive
-to_arrived : (from to e : Endpoint) → Carries from to → ((place byte : ℕ) → map.get e.arrived place ≡ Some byte → Stands from place byte)
+to_arrived : (from to e : Endpoint) → Carries from to → ((offset byte : ℕ) → map.get e.arrived offset ≡ Some byte → Stands from offset byte)
     → received to ≤ received e → e.read ≡ to.read → Carries from e
 to_arrived from to e c stands grows same = record {
   acked = omega (arith, c.acked, grows);
@@ -154,21 +154,21 @@ to_arrived from to e c stands grows same = record {
 }
 
 -- the byte that a segment brings is the stream's
-slice_stands : (from : Endpoint) (p : PlacedSegment) (k byte : ℕ) → IsEmittedBy from p → byte_from p.place p.bytes k ≡ Some byte → Stands from k byte
-slice_stands from p k byte is there = elim (cases_lt k p.place) [
-  | inl below ↦ let e : Some byte ≡ None = sym there ∙ byte_below p.place p.bytes k below in cc
+slice_stands : (from : Endpoint) (p : PlacedSegment) (k byte : ℕ) → IsEmittedBy from p → byte_from p.offset p.bytes k ≡ Some byte → Stands from k byte
+slice_stands from p k byte is there = elim (cases_lt k p.offset) [
+  | inl below ↦ let e : Some byte ≡ None = sym there ∙ byte_below p.offset p.bytes k below in cc
   | inr above ↦
-      let here : slice_get p.bytes (k - p.place) ≡ Some byte = sym (byte_there p.place p.bytes k above) ∙ there in
-      let inside : k - p.place < length p.bytes = slice_get_within p.bytes (k - p.place) byte here in (
+      let here : slice_get p.bytes (k - p.offset) ≡ Some byte = sym (byte_there p.offset p.bytes k above) ∙ there in
+      let inside : k - p.offset < length p.bytes = slice_get_within p.bytes (k - p.offset) byte here in (
         omega (arith, inside, above, is.within),
-        sym (get-drop p.place from.stream (k - p.place) k (omega (arith, above)))
-            ∙ sym (get-take (length p.bytes) (drop p.place from.stream) (k - p.place) inside)
-            ∙ ap (λ (xs : List ℕ). slice_get xs (k - p.place)) (sym is.bytes) ∙ here,
+        sym (get-drop p.offset from.stream (k - p.offset) k (omega (arith, above)))
+            ∙ sym (get-take (length p.bytes) (drop p.offset from.stream) (k - p.offset) inside)
+            ∙ ap (λ (xs : List ℕ). slice_get xs (k - p.offset)) (sym is.bytes) ∙ here,
       )
 ]
 
 brought_stands : (b : Bool) (from : Endpoint) (p : PlacedSegment) (k byte : ℕ) → IsEmittedBy from p
-    → (if b then byte_from p.place p.bytes k else None) ≡ Some byte → Stands from k byte
+    → (if b then byte_from p.offset p.bytes k else None) ≡ Some byte → Stands from k byte
 brought_stands true from p k byte is there = slice_stands from p k byte is there
 brought_stands false from p k byte is there = cc
 
@@ -207,7 +207,7 @@ emitted_on x y emitted owed is more within flight =
     }
 
 slice_emitted : (e : Endpoint) (p : PlacedSegment) (after : Endpoint) → EmitsSlice e p after
-    → IsEmittedBy (record e { emitted = max e.emitted (p.place + length p.bytes); owed = e.owed }) p
+    → IsEmittedBy (record e { emitted = max e.emitted (p.offset + length p.bytes); owed = e.owed }) p
 slice_emitted e p after emits = record {
   within = omega arith;
   short = emits.short;
@@ -218,11 +218,11 @@ slice_emitted e p after emits = record {
 empty_emitted : (e : Endpoint) (p : PlacedSegment) (after : Endpoint) → EmitsEmpty e p after → IsEmittedBy (record e { emitted = e.emitted; owed = false }) p
 empty_emitted e p after empty =
     let none : length p.bytes ≡ 0 = ap (λ (q : PlacedSegment). length q.bytes) empty.empty in
-    let at : p.place ≡ e.emitted = ap (λ (q : PlacedSegment). q.place) empty.empty in
+    let at : p.offset ≡ e.emitted = ap (λ (q : PlacedSegment). q.offset) empty.empty in
     record {
       within = omega (arith, none, at);
       short = omega (arith, none);
-      bytes = ap (λ (q : PlacedSegment). q.bytes) empty.empty ∙ sym (ap (λ (n : ℕ). take n (drop p.place e.stream)) none);
+      bytes = ap (λ (q : PlacedSegment). q.bytes) empty.empty ∙ sym (ap (λ (n : ℕ). take n (drop p.offset e.stream)) none);
       ack = omega (arith, ap (λ (q : PlacedSegment). q.ack) empty.empty);
     }
 
@@ -230,7 +230,7 @@ pub emits_linked : (x after y : Endpoint) (p : PlacedSegment) → AreLinked x y 
     → StaysLinked x after y × IsEmittedBy after p
 emits_linked x after y p is (inl emits) = (
   stays_as x after _ y emits.rises
-      (emitted_on x y (max x.emitted (p.place + length p.bytes)) x.owed is (omega arith) (omega (arith, is.there.emitted, emits.within)) (omega (arith, is.there.flight, emits.flight))),
+      (emitted_on x y (max x.emitted (p.offset + length p.bytes)) x.owed is (omega arith) (omega (arith, is.there.emitted, emits.within)) (omega (arith, is.there.flight, emits.flight))),
   subst (λ (a : Endpoint). IsEmittedBy a p) (sym emits.rises) (slice_emitted x p after emits),
 )
 emits_linked x after y p is (inr empty) = (
@@ -259,17 +259,17 @@ takes_linked x after y p is emitted (inr accepts) =
     stays_as x after e y accepts.changed (record {
       linked = linked e y (from_acked x y p.ack after.arrived owed (carries_flows x y is.there) emitted.ack)
           (to_arrived y x e (carries_flows y x is.back)
-          (λ place byte there. either_stands (map.get x.arrived place) (byte_brought x p place) y place byte
-          (is.back.arrived place byte)
-          (λ new. brought_stands (nat_le (received x) place && nat_lt place (received x + 16384)) y p place byte emitted new)
-          (sym (accepts.arrived place) ∙ there))
+          (λ offset byte there. either_stands (map.get x.arrived offset) (byte_brought x p offset) y offset byte
+          (is.back.arrived offset byte)
+          (λ new. brought_stands (nat_le (received x) offset && nat_lt offset (received x + 16384)) y p offset byte emitted new)
+          (sym (accepts.arrived offset) ∙ there))
           grows refl);
       still = λ q old. still_acked x (max x.acked p.ack) after.arrived owed q grows old;
     })
 
 -- nothing was sent
-nothing_arrived : (place byte : ℕ) → map.get fresh_endpoint.arrived place ≡ Some byte → ⊥
-nothing_arrived place byte is = let none : None ≡ Some byte = sym (map.get-empty nat_cmp place) ∙ is in cc
+nothing_arrived : (offset byte : ℕ) → map.get fresh_endpoint.arrived offset ≡ Some byte → ⊥
+nothing_arrived offset byte is = let none : None ≡ Some byte = sym (map.get-empty nat_cmp offset) ∙ is in cc
 
 nothing_flows : Flows fresh_endpoint fresh_endpoint
 nothing_flows = flows fresh_endpoint fresh_endpoint (record {
@@ -278,7 +278,7 @@ nothing_flows = flows fresh_endpoint fresh_endpoint (record {
   stream = omega arith;
   flight = omega arith;
   read = omega arith;
-  arrived = λ place byte is. absurd (nothing_arrived place byte is);
+  arrived = λ offset byte is. absurd (nothing_arrived offset byte is);
 })
 
 pub fresh_linked : AreLinked fresh_endpoint fresh_endpoint

@@ -33,7 +33,7 @@ pub or_none : {X : Type 0} (a : Option X) → option_or a None ≡ a
 or_none None = refl
 or_none (Some x) = refl
 
--- two that aren't both there change places
+-- two that aren't both there change offsets
 pub or_swap : {X : Type 0} (a b c : Option X) → (b ≡ None) ⊎ (c ≡ None) → option_or (option_or a b) c ≡ option_or (option_or a c) b
 or_swap (Some x) b c apart = refl
 or_swap None b c (inl e) = ap (λ o. option_or o c) e ∙ sym (ap (option_or c) e ∙ or_none c)

@@ -1,4 +1,4 @@
--- The bytes that stand from place 0 on without a gap.
+-- The bytes that stand from offset 0 on without a gap.
 use Rattle.std.proofs.Common.{◌≡◌, ◌≢◌, ℕ, zero, suc, ◌+◌, ◌<◌, ◌≤◌, List, [], ◌∷◌, length, take, get_or, refl, sym, ap, subst, ◌∙◌, arith, inl, inr, Option, None, Some, cond, Bool, true, false}
 use Rattle.std.specs.Prelude.{IsSome, T, ◌==◌, ◌&&◌}
 use Rattle.std.specs.List.{slice_get}
@@ -14,7 +14,7 @@ use Rattle.std.proofs.lemmas.Option.{slice_get-get_or, get_or_from_slice_get}
 use Rattle.tcp_seq.specs.Endpoint.{Bytes, IsReceived, run_from, bytes_in_order}
 use Rattle.tcp_seq.proofs.Lookups.{get-take}
 
--- entries whose places are at least n, and each above the one before it
+-- entries whose offsets are at least n, and each above the one before it
 abbrev Rises : ℕ → List (ℕ × ℕ) → Type 0
 Rises n [] = Unit {0}
 Rises n (e ∷ es) = (n ≤ e.0) × Rises (e.0 + 1) es
@@ -55,14 +55,14 @@ find_low n k [] rises below = refl
 find_low n k (e ∷ es) rises below =
     find_later k e es (λ is. omega (arith, rises.0, below, is)) ∙ find_low (e.0 + 1) k es rises.1 (omega (arith, rises.0, below))
 
--- One step: the next place is there, or it isn't
+-- One step: the next offset is there, or it isn't
 run_on : (n : ℕ) (e : ℕ × ℕ) (es : List (ℕ × ℕ)) → e.0 ≡ n → run_from n (e ∷ es) ≡ e.1 ∷ run_from (n + 1) es
 run_on n e es is = ap (λ (b : Bool). cond b (e.1 ∷ run_from (n + 1) es) []) (let t : (e.0 == n) ≡ true = grind (arith, nat_tests) in t)
 
 run_stops : (n : ℕ) (e : ℕ × ℕ) (es : List (ℕ × ℕ)) → e.0 ≢ n → run_from n (e ∷ es) ≡ []
 run_stops n e es not = ap (λ (b : Bool). cond b (e.1 ∷ run_from (n + 1) es) []) (let t : (e.0 == n) ≡ false = grind (arith, nat_tests) in t)
 
--- the run's bytes, and the place behind it
+-- the run's bytes, and the offset behind it
 record IsRun (n : ℕ) (es : List (ℕ × ℕ)) (run : List ℕ) : Type 0 where
   each : (j : ℕ) → j < length run → slice_get run j ≡ find nat_cmp (n + j) es
   ends : find nat_cmp (n + length run) es ≡ None
@@ -94,7 +94,7 @@ run_is n (e ∷ es) rises =
 whole : (m : Bytes) → IsRun 0 (map.entries m) (bytes_in_order m)
 whole m = run_is 0 (map.entries m) (rises_all (map.entries m) (map.entries_sorted m))
 
--- The same by places
+-- The same by offsets
 pub byte_in_order : (m : Bytes) (k : ℕ) → k < length (bytes_in_order m) → slice_get (bytes_in_order m) k ≡ map.get m k
 byte_in_order m k below =
     (whole m).each k below ∙ ap (λ (j : ℕ). find nat_cmp j (map.entries m)) (let same : 0 + k ≡ k = omega arith in same) ∙ sym (map.get-entries m k)
@@ -128,7 +128,7 @@ first_bytes xs ys within same =
     ext_get_or 0 xs (take (length xs) ys) n
     (λ i below. sym (get_or_from_slice_get (take (length xs) ys) i (get_or xs i 0) 0 (get-take (length xs) ys i below ∙ sym (same i below) ∙ slice_get-get_or xs i 0 below)))
 
--- the bytes in order are those that stand at their places up to one that has none
+-- the bytes in order are those that stand at their offsets up to one that has none
 pub bytes_are : (m : Bytes) (xs : List ℕ) → ((k : ℕ) → k < length xs → slice_get xs k ≡ map.get m k) → map.get m (length xs) ≡ None → bytes_in_order m ≡ xs
 bytes_are m xs each ends =
     let run = bytes_in_order m in

@@ -56,17 +56,17 @@ ConnectionRun before (next ∷ rest) after = ConnectionStep before next × Conne
 -- What each segment is that an endpoint emitted: a slice of its stream, which ends at or below the emitted length, has at most 1,024 bytes and
 -- acknowledges at most what the endpoint received.
 pub record IsEmittedBy (e : Endpoint) (segment : PlacedSegment) : Type 0 where
-  pub within : segment.place + length segment.bytes ≤ e.emitted
+  pub within : segment.offset + length segment.bytes ≤ e.emitted
   pub short : length segment.bytes ≤ 1024
-  pub bytes : segment.bytes ≡ take (length segment.bytes) (drop segment.place e.stream)
+  pub bytes : segment.bytes ≡ take (length segment.bytes) (drop segment.offset e.stream)
   pub ack : segment.ack ≤ received e
 
--- one of the segments has this place
-pub record IsAmong (segments : List PlacedSegment) (place : ℕ) : Type 0 where
+-- one of the segments has this offset
+pub record IsAmong (segments : List PlacedSegment) (offset : ℕ) : Type 0 where
   pub segment : PlacedSegment
   pub there : Contains segments segment
-  pub from : segment.place ≤ place
-  pub below : place < segment.place + length segment.bytes
+  pub from : segment.offset ≤ offset
+  pub below : offset < segment.offset + length segment.bytes
 
 -- What one endpoint has of the stream that another sends.
 pub record Flows (from to : Endpoint) : Type 0 where
@@ -77,9 +77,9 @@ pub record Flows (from to : Endpoint) : Type 0 where
   pub stream : length from.stream ≤ 2 ^ 20
   pub flight : from.emitted ≤ from.acked + 15360
   pub read : to.read ≤ received to
-  -- the received bytes are the first ones of the stream, and each byte that arrived is the one that the stream has at its place
+  -- the received bytes are the first ones of the stream, and each byte that arrived is the one that the stream has at its offset
   pub bytes : received_bytes to ≡ take (received to) from.stream
-  pub arrived : (place byte : ℕ) → map.get to.arrived place ≡ Some byte → (place < from.emitted) × (slice_get from.stream place ≡ Some byte)
+  pub arrived : (offset byte : ℕ) → map.get to.arrived offset ≡ Some byte → (offset < from.emitted) × (slice_get from.stream offset ≡ Some byte)
 
 -- Two endpoints that are joined by segments, wherever these are: to each of them flows the stream of the other.
 pub record AreLinked (x y : Endpoint) : Type 0 where
@@ -91,12 +91,12 @@ pub record StaysLinked (before after other : Endpoint) : Type 0 where
   pub linked : AreLinked after other
   pub still : (segment : PlacedSegment) → IsEmittedBy before segment → IsEmittedBy after segment
 
--- What one side has of the stream that the other sends, and the segments that the other ever emitted; for each place below the emitted length there
+-- What one side has of the stream that the other sends, and the segments that the other ever emitted; for each offset below the emitted length there
 -- is one that has it.
 pub record IsCarried (from to : Side) : Type 0 where
   pub flows : Flows from.end to.end
   pub segments : (segment : PlacedSegment) → Contains from.emitted segment → IsEmittedBy from.end segment
-  pub all : (place : ℕ) → place < from.end.emitted → IsAmong from.emitted place
+  pub all : (offset : ℕ) → offset < from.end.emitted → IsAmong from.emitted offset
 
 -- what a connection keeps, in both directions
 pub record IsConnection (c : Connection) : Type 0 where

@@ -1,4 +1,4 @@
--- The endpoint of a connection over whole numbers: it has places of streams instead of numbers that wrap around, and the byte that each place of the
+-- The endpoint of a connection over whole numbers: it has offsets of streams instead of numbers that wrap around, and the byte that each offset of the
 -- other stream got first instead of buffers (RFC 9293, sections 3.4, 3.8 and 3.10.7.4, with this project's window, flight, payload and retransmission
 -- turn).
 use Rattle.std.specs.Prelude.{ℕ, ◌≡◌, ◌⊎◌, ◌<◌, ◌≤◌, ◌+◌, ◌-◌, ◌^◌, ◌==◌, ◌||◌, ◌&&◌, nat_lt, nat_le, min, max, if◌then◌else◌, Bool, true, false, List, [], ◌∷◌, ◌++◌, length, take, drop, Option, None, IsSome, slice_get}
@@ -6,9 +6,9 @@ use Rattle.std.specs.Option.{option_or}
 use Rattle.std.specs.Ordering.{nat_cmp}
 use Rattle.std.specs.FinMap as map
 use Rattle.tcp_seq.specs.declared.rules.AckKind.TheVariants.{Beyond}
-use Rattle.tcp_seq.specs.Rules.{AcceptablePlace, IsPlaceAck, IsInStream}
+use Rattle.tcp_seq.specs.Rules.{AcceptableOffset, IsOffsetAck, IsInStream}
 
--- bytes by their places in a stream
+-- bytes by their offsets in a stream
 abbrev pub Bytes : Type 0
 Bytes = map.FinMap nat_cmp ℕ
 
@@ -22,9 +22,9 @@ pub record Endpoint : Type 0 where
   pub read : ℕ
   pub owed : Bool
 
--- a place, the bytes from there on, and an acknowledged length
+-- an offset, the bytes from there on, and an acknowledged length
 pub record PlacedSegment : Type 0 where
-  pub place : ℕ
+  pub offset : ℕ
   pub bytes : List ℕ
   pub ack : ℕ
 
@@ -32,17 +32,17 @@ pub record PlacedSegment : Type 0 where
 abbrev pub fresh_endpoint : Endpoint
 fresh_endpoint = record { stream = []; emitted = 0; acked = 0; arrived = map.empty; read = 0; owed = false }
 
--- the greatest n such that all places below n have a byte
+-- the greatest n such that all offsets below n have a byte
 pub record IsReceived (arrived : Bytes) (n : ℕ) : Type 0 where
   pub all : (k : ℕ) → k < n → IsSome (map.get arrived k)
   pub greatest : (m : ℕ) → ((k : ℕ) → k < m → IsSome (map.get arrived k)) → m ≤ n
 
--- the bytes of entries in ascending order of place, as far as the places go on from n without a gap
+-- the bytes of entries in ascending order of offset, as far as the offsets go on from n without a gap
 abbrev pub run_from : ℕ → List (ℕ × ℕ) → List ℕ
 run_from n [] = []
 run_from n (e ∷ es) = if e.0 == n then e.1 ∷ run_from (n + 1) es else []
 
--- the bytes that stand from place 0 on without a gap
+-- the bytes that stand from offset 0 on without a gap
 abbrev pub bytes_in_order : Bytes → List ℕ
 bytes_in_order arrived = run_from 0 (map.entries arrived)
 
@@ -56,9 +56,9 @@ received e = length (received_bytes e)
 abbrev pub ready_bytes : Endpoint → List ℕ
 ready_bytes e = drop e.read (received_bytes e)
 
--- the segment with this many bytes of the stream from a place on, and the received length at this moment
+-- the segment with this many bytes of the stream from an offset on, and the received length at this moment
 abbrev pub slice_at : Endpoint → ℕ → ℕ → PlacedSegment
-slice_at e place len = record { place = place; bytes = take len (drop place e.stream); ack = received e }
+slice_at e offset len = record { offset = offset; bytes = take len (drop offset e.stream); ack = received e }
 
 -- how many bytes the next slice has: those that are unsent and fit in the flight of 15,360, at most 1,024
 abbrev pub next_length : Endpoint → ℕ
@@ -85,7 +85,7 @@ pub record EmitsAgain (before : Endpoint) (segment : PlacedSegment) (after : End
   pub slice : segment ≡ slice_at before before.acked (again_length before)
   pub stays : after ≡ before
 
--- A segment without bytes is emitted, at the place that is emitted next. Then no answer is owed.
+-- A segment without bytes is emitted, at the offset that is emitted next. Then no answer is owed.
 pub record EmitsEmpty (before : Endpoint) (segment : PlacedSegment) (after : Endpoint) : Type 0 where
   pub empty : segment ≡ slice_at before before.emitted 0
   pub given : after ≡ record before { owed = false }
@@ -95,50 +95,50 @@ pub record EmitsAnswer (before : Endpoint) (segment : PlacedSegment) (after : En
   pub owed : before.owed ≡ true
   pub answer : EmitsEmpty before segment after
 
--- Any slice is emitted that begins at a place from the acknowledged to the emitted one, has 1 to 1,024 bytes, and ends within the stream and within
--- the flight of 15,360 from the acknowledged place on.
+-- Any slice is emitted that begins at an offset from the acknowledged to the emitted one, has 1 to 1,024 bytes, and ends within the stream and within
+-- the flight of 15,360 from the acknowledged offset on.
 pub record EmitsSlice (before : Endpoint) (segment : PlacedSegment) (after : Endpoint) : Type 0 where
-  pub from : before.acked ≤ segment.place
-  pub to : segment.place ≤ before.emitted
+  pub from : before.acked ≤ segment.offset
+  pub to : segment.offset ≤ before.emitted
   pub some : 0 < length segment.bytes
   pub short : length segment.bytes ≤ 1024
-  pub within : segment.place + length segment.bytes ≤ length before.stream
-  pub flight : segment.place + length segment.bytes ≤ before.acked + 15360
-  pub slice : segment ≡ slice_at before segment.place (length segment.bytes)
-  pub rises : after ≡ record before { emitted = max before.emitted (segment.place + length segment.bytes) }
+  pub within : segment.offset + length segment.bytes ≤ length before.stream
+  pub flight : segment.offset + length segment.bytes ≤ before.acked + 15360
+  pub slice : segment ≡ slice_at before segment.offset (length segment.bytes)
+  pub rises : after ≡ record before { emitted = max before.emitted (segment.offset + length segment.bytes) }
 
 -- Bytes that are ready are read.
 pub record ReadsBytes (before : Endpoint) (n : ℕ) (after : Endpoint) : Type 0 where
   pub there : before.read + n ≤ received before
   pub read : after ≡ record before { read = before.read + n }
 
--- what an arriving segment is checked against: the place expected next, and a window of 16,384
+-- what an arriving segment is checked against: the offset expected next, and a window of 16,384
 abbrev pub IsAcceptable : Endpoint → PlacedSegment → Type 0
-IsAcceptable e segment = AcceptablePlace (received e) 16384 segment.place (length segment.bytes)
+IsAcceptable e segment = AcceptableOffset (received e) 16384 segment.offset (length segment.bytes)
 
 abbrev pub IsBeyond : Endpoint → PlacedSegment → Type 0
-IsBeyond e segment = IsPlaceAck Beyond e.acked e.emitted segment.ack
+IsBeyond e segment = IsOffsetAck Beyond e.acked e.emitted segment.ack
 
--- the byte at a place, among bytes that stand from a place on
+-- the byte at an offset, among bytes that stand from an offset on
 abbrev pub byte_from : ℕ → List ℕ → ℕ → Option ℕ
-byte_from place bytes k = if nat_lt k place then None else slice_get bytes (k - place)
+byte_from offset bytes k = if nat_lt k offset then None else slice_get bytes (k - offset)
 
--- the byte that a segment brings to a place: the one that it has for it, if the place is in the window
+-- the byte that a segment brings to an offset: the one that it has for it, if the offset is in the window
 abbrev pub byte_brought : Endpoint → PlacedSegment → ℕ → Option ℕ
-byte_brought e segment place =
-    if nat_le (received e) place && nat_lt place (received e + 16384) then byte_from segment.place segment.bytes place else None
+byte_brought e segment offset =
+    if nat_le (received e) offset && nat_lt offset (received e + 16384) then byte_from segment.offset segment.bytes offset else None
 
 -- A segment that isn't acceptable, or that acknowledges what wasn't emitted, is dropped. An answer is owed.
 pub record DropsSegment (before : Endpoint) (segment : PlacedSegment) (after : Endpoint) : Type 0 where
   pub cause : (¬ IsAcceptable before segment) ⊎ IsBeyond before segment
   pub stays : after ≡ record before { owed = true }
 
--- Any other segment is accepted: the acknowledged length rises to the segment's if that is above, each place keeps its byte or else gets the one that
+-- Any other segment is accepted: the acknowledged length rises to the segment's if that is above, each offset keeps its byte or else gets the one that
 -- is brought to it, and an answer is owed if the segment has bytes.
 pub record AcceptsSegment (before : Endpoint) (segment : PlacedSegment) (after : Endpoint) : Type 0 where
   pub acceptable : IsAcceptable before segment
   pub within : ¬ IsBeyond before segment
-  pub arrived : (place : ℕ) → map.get after.arrived place ≡ option_or (map.get before.arrived place) (byte_brought before segment place)
+  pub arrived : (offset : ℕ) → map.get after.arrived offset ≡ option_or (map.get before.arrived offset) (byte_brought before segment offset)
   pub changed : after ≡ record before {
     acked = max before.acked segment.ack;
     arrived = after.arrived;
@@ -154,7 +154,7 @@ pub record IsTaken (before : Endpoint) (segment : PlacedSegment) : Type 0 where
   pub after : Endpoint
   pub takes : TakesSegment before segment after
 
--- A segment's places, and the length that it acknowledges, are those of streams of at most 1 MiB, or of a window at their end.
+-- A segment's offsets, and the length that it acknowledges, are those of streams of at most 1 MiB, or of a window at their end.
 pub record IsInStreams (segment : PlacedSegment) : Type 0 where
-  pub end : IsInStream (segment.place + length segment.bytes)
+  pub end : IsInStream (segment.offset + length segment.bytes)
   pub ack : IsInStream segment.ack

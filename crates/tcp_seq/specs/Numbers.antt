@@ -9,6 +9,6 @@ plus number n = (number + n) % 2 ^ 32
 abbrev pub offset_from : ℕ → ℕ → ℕ
 offset_from number first = (number + (2 ^ 32 - first)) % 2 ^ 32
 
--- the number of the byte at a place of a stream whose byte at place 0 has the number `first`
+-- the number of the byte at an offset of a stream whose byte at offset 0 has the number `first`
 abbrev pub number : ℕ → ℕ → ℕ
-number first place = plus first place
+number first offset = plus first offset

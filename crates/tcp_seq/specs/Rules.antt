@@ -1,4 +1,4 @@
--- Acceptable segments and acknowledgements, by numbers and by places of a stream (RFC 9293, sections 3.4
+-- Acceptable segments and acknowledgements, by numbers and by offsets of a stream (RFC 9293, sections 3.4
 -- and 3.10.7.4).
 use Rattle.std.specs.Prelude.{ℕ, ◌≡◌, ◌⊎◌, ◌<◌, ◌≤◌, ◌+◌, ◌-◌, ◌^◌}
 use Rattle.tcp_seq.specs.declared.rules.AckKind.{AckKind}
@@ -27,23 +27,23 @@ IsAck New una nxt ack = (0 < offset_from ack una) × (offset_from ack una ≤ of
 IsAck Old una nxt ack = (offset_from ack una ≡ 0) ⊎ (2 ^ 31 ≤ offset_from ack una)
 IsAck Beyond una nxt ack = (offset_from nxt una < offset_from ack una) × (offset_from ack una < 2 ^ 31)
 
--- The same without any modulus, on places of a stream
+-- The same without any modulus, on offsets of a stream
 
--- a place in the window that begins at the place expected next
-abbrev pub IsPlaceInWindow : ℕ → ℕ → ℕ → Type 0
-IsPlaceInWindow next window place = (next ≤ place) × (place < next + window)
+-- an offset in the window that begins at the offset expected next
+abbrev pub IsOffsetInWindow : ℕ → ℕ → ℕ → Type 0
+IsOffsetInWindow next window offset = (next ≤ offset) × (offset < next + window)
 
-abbrev pub AcceptablePlace : ℕ → ℕ → ℕ → ℕ → Type 0
-AcceptablePlace next window place len =
-    ((len ≡ 0) × (window ≡ 0) × (place ≡ next))
-    ⊎ ((len ≡ 0) × (0 < window) × IsPlaceInWindow next window place)
-    ⊎ ((0 < len) × (0 < window) × (IsPlaceInWindow next window place ⊎ IsPlaceInWindow next window (place + len - 1)))
+abbrev pub AcceptableOffset : ℕ → ℕ → ℕ → ℕ → Type 0
+AcceptableOffset next window offset len =
+    ((len ≡ 0) × (window ≡ 0) × (offset ≡ next))
+    ⊎ ((len ≡ 0) × (0 < window) × IsOffsetInWindow next window offset)
+    ⊎ ((0 < len) × (0 < window) × (IsOffsetInWindow next window offset ⊎ IsOffsetInWindow next window (offset + len - 1)))
 
-abbrev pub IsPlaceAck : AckKind → ℕ → ℕ → ℕ → Type 0
-IsPlaceAck New acked emitted ack = (acked < ack) × (ack ≤ emitted)
-IsPlaceAck Old acked emitted ack = ack ≤ acked
-IsPlaceAck Beyond acked emitted ack = emitted < ack
+abbrev pub IsOffsetAck : AckKind → ℕ → ℕ → ℕ → Type 0
+IsOffsetAck New acked emitted ack = (acked < ack) × (ack ≤ emitted)
+IsOffsetAck Old acked emitted ack = ack ≤ acked
+IsOffsetAck Beyond acked emitted ack = emitted < ack
 
--- a place of a stream of at most 1 MiB, or one in a window at its end
+-- an offset of a stream of at most 1 MiB, or one in a window at its end
 abbrev pub IsInStream : ℕ → Type 0
-IsInStream place = place ≤ 2 ^ 20 + 2 ^ 16
+IsInStream offset = offset ≤ 2 ^ 20 + 2 ^ 16

@@ -26,22 +26,22 @@ pub struct Segment {
     pub bytes: Octets,
 }
 
-/// The last place that a byte can have, or that can be acknowledged, in a stream of at most 1 MiB or in
+/// The last offset that a byte can have, or that can be acknowledged, in a stream of at most 1 MiB or in
 /// a window of at most 65,536 at its end.
-const LAST_PLACE: u32 = 1_114_112;
+const LAST_OFFSET: u32 = 1_114_112;
 
 impl Segment {
-    /// Whether its numbers are those of places in streams of at most 1 MiB, or in a window at their
+    /// Whether its numbers are those of offsets in streams of at most 1 MiB, or in a window at their
     /// end. `seq_first` is the number of the first byte of the stream that its bytes are of, and
     /// `ack_first` that of the stream that it acknowledges.
     pub fn is_in_streams(&self, seq_first: Seq, ack_first: Seq) -> bool
         ensures { MatchBool result (IsInStreams (placed seq_first.0 ack_first.0 self.now)) (¬ IsInStreams (placed seq_first.0 ack_first.0 self.now)) }
     {
-        let place = self.seq.offset_from(seq_first);
+        let offset = self.seq.offset_from(seq_first);
         let acknowledged = self.ack.offset_from(ack_first);
-        let most = LAST_PLACE as usize;
+        let most = LAST_OFFSET as usize;
         let len = self.bytes.as_slice().len();
-        acknowledged <= LAST_PLACE && len <= most && place as usize <= most - len
+        acknowledged <= LAST_OFFSET && len <= most && offset as usize <= most - len
     }
 }
 

@@ -6,12 +6,12 @@ use crate::segment::Way;
 use crate::seq::Seq;
 use graft_edge::{Items, NoMemory, Octets, PeeringId, TryCopy};
 
-/// Consecutive bytes of a stream, from a place on.
+/// Consecutive bytes of a stream, from an offset on.
 #[derive(Debug, Drop)]
 pub struct Piece {
-    /// The place of the first byte. In an [`EndState`] it is counted from the stream's first byte, and in a
+    /// The offset of the first byte. In an [`EndState`] it is counted from the stream's first byte, and in a
     /// reassembly from the byte expected next.
-    pub place: u32,
+    pub offset: u32,
     pub bytes: Octets,
 }
 
@@ -19,11 +19,11 @@ pub struct Piece {
 pub type Pieces = Items<Piece>;
 
 impl Piece {
-    /// Returns the place after its last byte.
+    /// Returns the offset after its last byte.
     pub fn end(&self) -> usize
-        ensures { result ≡ self.now.place + length self.now.bytes }
+        ensures { result ≡ self.now.offset + length self.now.bytes }
     {
-        self.place as usize + self.bytes.as_slice().len()
+        self.offset as usize + self.bytes.as_slice().len()
     }
 }
 
@@ -31,14 +31,14 @@ impl TryCopy for Piece {
     fn copy(&self) -> Result<Piece, NoMemory> {
         let bytes = self.bytes.copy()?;
         Ok(Piece {
-            place: self.place,
+            offset: self.offset,
             bytes,
         })
     }
 }
 
-/// An endpoint at rest, as it moves from one router to another. Places are counted from the first byte of a
-/// stream, which has place 0 and the number `send_first` or `receive_first`.
+/// An endpoint at rest, as it moves from one router to another. Offsets are counted from the first byte of a
+/// stream, which has offset 0 and the number `send_first` or `receive_first`.
 #[derive(Debug, Drop)]
 pub struct EndState {
     /// The side that it sends to.
@@ -49,14 +49,14 @@ pub struct EndState {
     pub acked: u32,
     /// The number of bytes that it emitted at least once.
     pub sent: u32,
-    /// The bytes to be sent or acknowledged, from place `acked` to the stream's end.
+    /// The bytes to be sent or acknowledged, from offset `acked` to the stream's end.
     pub waiting: Octets,
     pub receive_first: Seq,
     /// The number of received bytes that were read.
     pub taken: u32,
     /// The bytes that were received in order and not yet read.
     pub ready: Octets,
-    /// The bytes that arrived ahead of a hole, by their places in the stream.
+    /// The bytes that arrived ahead of a hole, by their offsets in the stream.
     pub ahead: Pieces,
     /// The value of `acked` at the last retransmission turn.
     pub acked_at_turn: u32,

@@ -102,8 +102,8 @@ fn long_stream(alloc: Global) -> Result<String, AllocError> {
 /// Returns the 256 /24 prefixes of one /16, in the wire format of an UPDATE, in hex.
 fn part_hex(alloc: Global, part: u32) -> Result<String, AllocError> {
     let mut hex = String::new(alloc);
-    for place in 0..256u32 {
-        write!(hex, "180a{part:02x}{place:02x}")?;
+    for index in 0..256u32 {
+        write!(hex, "180a{part:02x}{index:02x}")?;
     }
     Ok(hex)
 }
@@ -131,10 +131,10 @@ fn group(alloc: Global, announces: bool) -> Result<String, AllocError> {
 /// Appends eight routers, with a remote at the first one.
 fn push_eight_routers(text: &mut String) -> Result<(), AllocError> {
     text.push_str("home_as = 65000\n\n")?;
-    for place in 0..8u32 {
+    for index in 0..8u32 {
         write!(
             text,
-            "[[router]]\nname = \"r{place}\"\nid = \"10.255.{place}.1\"\nsessions = 4\n\n"
+            "[[router]]\nname = \"r{index}\"\nid = \"10.255.{index}.1\"\nsessions = 4\n\n"
         )?;
     }
     text.push_str(REMOTE)

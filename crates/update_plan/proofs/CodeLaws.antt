@@ -8,7 +8,7 @@ use Rattle.bgp_types.specs.declared.attrs.Origin.TheVariants.{Igp, Egp, Incomple
 use Rattle.bgp_types.specs.declared.attrs.RawAttr.{RawAttr}
 use Rattle.bgp_types.specs.declared.path.PathPart.{PathPart}
 use Rattle.bgp_types.specs.declared.path.PathPart.TheVariants.{Set, Sequence}
-use Rattle.update_plan.specs.Codes.{listed, part_code, path_code, flag, raw_code, raws_code, origin_place, med_code, aggregator_code, head_code, value_code}
+use Rattle.update_plan.specs.Codes.{listed, part_code, path_code, flag, raw_code, raws_code, origin_index, med_code, aggregator_code, head_code, value_code}
 
 -- ---- codes that end by themselves
 
@@ -115,7 +115,7 @@ raw-starts raw = record { number = raw.kind; further = flag raw.partial ∷ list
 raws-splits : Splits raws_code
 raws-splits = ended-splits raw_code raw-splits raw-starts
 
-origin-same : (a b : Origin) → origin_place a ≡ origin_place b → a ≡ b
+origin-same : (a b : Origin) → origin_index a ≡ origin_index b → a ≡ b
 origin-same Igp Igp e = refl
 origin-same Igp Egp e = absurd cc
 origin-same Igp Incomplete e = absurd cc
@@ -156,7 +156,7 @@ attrs-same a b e =
     let path = path-splits a.path b.path (raws_code a.unknown ++ head_code a) (raws_code b.unknown ++ head_code b) e in
     let unknown = raws-splits a.unknown b.unknown (head_code a) (head_code b) path.1 in
     let head = unknown.1 in
-    let origin : origin_place a.origin ≡ origin_place b.origin = cc in
+    let origin : origin_index a.origin ≡ origin_index b.origin = cc in
     let next_hop : a.next_hop ≡ b.next_hop = cc in
     let atomic : flag a.atomic ≡ flag b.atomic = cc in
     let med = med-splits a.med b.med (aggregator_code a.aggregator) (aggregator_code b.aggregator) cc in

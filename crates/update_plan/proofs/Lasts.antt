@@ -1,4 +1,4 @@
--- The last UPDATE that tells something, in a list that changes at one place.
+-- The last UPDATE that tells something, in a list that changes at one index.
 use Rattle.std.proofs.Common.{◌≡◌, ◌≢◌, List, [], ◌∷◌, ◌++◌, length, Option, refl, sym, ap, ◌∙◌, subst, arith}
 use Rattle.std.proofs.lemmas.List.Elements.{All-nil, All-cons, All-head, All-tail, All-append}
 use Rattle.bgp_types.specs.declared.attrs.Attrs.{Attrs}
@@ -40,7 +40,7 @@ one_last attrs (x ∷ xs) [] after after' batch batch' e told none told' none' =
     absurd (none_there attrs xs after batch (subst (NoneTells attrs) tail none') told)
 one_last attrs (x ∷ xs) (y ∷ ys) after after' batch batch' e told none told' none' = let tail : xs ++ batch ∷ after ≡ ys ++ batch' ∷ after' = cc in one_last attrs xs ys after after' batch batch' tail told none told' none'
 
--- the place of one, where another changed
+-- the index of one, where another changed
 pub record StillLast (attrs : Option Attrs) (batches before : List Batch) (batch : Batch) : Type 0 where
   pub front : List Batch
   pub after : List Batch

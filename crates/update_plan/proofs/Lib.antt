@@ -1,6 +1,6 @@
 pub mod CodeLaws
 pub mod Sizes
-pub mod Places
+pub mod Indices
 pub mod Lasts
 pub mod Adding
 pub mod Listed

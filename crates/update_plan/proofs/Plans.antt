@@ -17,7 +17,7 @@ use Rattle.update_plan.specs.Codes.{value_code}
 use Rattle.update_plan.specs.Gathering.{NoneTells, LastThatTells, AddsToUpdates, with_prefix}
 use Rattle.update_plan.specs.Plans.{IsLeastPrefix, IsNext, IsPlan, Without, octets}
 use Rattle.update_plan.proofs.Listed.{neither, neither_is, same_itself, is_same, not_below_itself, below_not_above, above_all, rising_apart, rising_push, one_rises, member_has, back_has}
-use Rattle.update_plan.proofs.Places.{found_here, found_other}
+use Rattle.update_plan.proofs.Indices.{found_here, found_other}
 
 -- ---- kinds of prefixes
 

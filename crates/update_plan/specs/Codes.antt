@@ -28,10 +28,10 @@ raw_code raw = (raw.kind + 1) ∷ flag raw.partial ∷ listed raw.bytes
 abbrev pub raws_code : List RawAttr → List ℕ
 raws_code raws = flat_map raw_code raws ++ 0 ∷ []
 
-abbrev pub origin_place : Origin → ℕ
-origin_place Igp = 0
-origin_place Egp = 1
-origin_place Incomplete = 2
+abbrev pub origin_index : Origin → ℕ
+origin_index Igp = 0
+origin_index Egp = 1
+origin_index Incomplete = 2
 
 abbrev pub med_code : Option ℕ → List ℕ
 med_code None = 0 ∷ []
@@ -42,7 +42,7 @@ aggregator_code None = 0 ∷ []
 aggregator_code (Some a) = (a.as_number + 1) ∷ a.address ∷ flag a.partial ∷ []
 
 abbrev pub head_code : Attrs → List ℕ
-head_code a = origin_place a.origin ∷ a.next_hop ∷ flag a.atomic ∷ med_code a.med ++ aggregator_code a.aggregator
+head_code a = origin_index a.origin ∷ a.next_hop ∷ flag a.atomic ∷ med_code a.med ++ aggregator_code a.aggregator
 
 -- attributes, or none
 abbrev pub value_code : Option Attrs → List ℕ

@@ -48,17 +48,17 @@ Gathers wide told to_tell prefix old new = ((told ≡ to_tell prefix) × (new �
 
 -- ---- how the UPDATEs that may be joined are found
 
--- the place of the last UPDATE that tells this
-pub record IsPlaceOfUpdate (attrs : Option Attrs) (batches : List Batch) (number : ℕ) : Type 0 where
+-- the index of the last UPDATE that tells this
+pub record IsIndexOfUpdate (attrs : Option Attrs) (batches : List Batch) (number : ℕ) : Type 0 where
   pub before : List Batch
   pub batch : Batch
   pub after : List Batch
   pub there : LastThatTells attrs batches before batch after
   pub is_number : number ≡ length before
 
-abbrev pub PlaceFor : Option Attrs → List Batch → Option ℕ → Type 0
-PlaceFor attrs batches None = NoneTells attrs batches
-PlaceFor attrs batches (Some number) = IsPlaceOfUpdate attrs batches number
+abbrev pub IndexFor : Option Attrs → List Batch → Option ℕ → Type 0
+IndexFor attrs batches None = NoneTells attrs batches
+IndexFor attrs batches (Some number) = IsIndexOfUpdate attrs batches number
 
 -- the number of octets in the UPDATE that tells a batch
 abbrev pub batch_octets : Bool → Batch → ℕ
@@ -66,7 +66,7 @@ batch_octets wide batch = octets wide batch.attrs batch.prefixes
 
 -- For each value that can be told, the last UPDATE that tells it is found by its code. The octets of each UPDATE are counted.
 pub record GatheredInvariant (gathered : Gathered) : Type 0 where
-  pub found : (attrs : Option Attrs) → PlaceFor attrs gathered.batches.items (get (slice_cmp nat_cmp) gathered.places (value_code attrs))
+  pub found : (attrs : Option Attrs) → IndexFor attrs gathered.batches.items (get (slice_cmp nat_cmp) gathered.indices (value_code attrs))
   pub counted : gathered.octets.items ≡ map (batch_octets gathered.wide) gathered.batches.items
 
 -- All prefixes in UPDATEs are valid prefixes.

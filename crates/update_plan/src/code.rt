@@ -2,7 +2,7 @@
 
 ghost use Rattle.std.specs.Prelude.{◌≡◌, ◌++◌, Some, IfOk, OnOk};
 ghost use Rattle.route_policy.specs.Paths.{prepend};
-ghost use Rattle.update_plan.specs.Codes.{listed, part_code, path_code, raw_code, raws_code, origin_place, med_code, aggregator_code, head_code, value_code};
+ghost use Rattle.update_plan.specs.Codes.{listed, part_code, path_code, raw_code, raws_code, origin_index, med_code, aggregator_code, head_code, value_code};
 ghost use Rattle.update_plan.specs.Passing.{passed_on};
 
 use crate::path::split;
@@ -164,7 +164,7 @@ fn push_raws(code: &mut Vec<u64>, raws: &RawAttrs) -> Result<(), NoMemory>
 
 /// Returns the number of an origin.
 fn origin_number(origin: Origin) -> u64
-    ensures { result ≡ origin_place origin }
+    ensures { result ≡ origin_index origin }
 {
     match origin {
         Origin::Igp => 0,

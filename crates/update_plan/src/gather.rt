@@ -32,8 +32,8 @@ pub(crate) struct Gathered {
     batches: Vec<Batch>,
     /// The number of octets of each UPDATE.
     octets: Vec<usize>,
-    /// For each code, the place of the last UPDATE that tells its value.
-    places: BTreeMap<Code, usize>,
+    /// For each code, the index of the last UPDATE that tells its value.
+    indices: BTreeMap<Code, usize>,
 }
 
 /// Returns the number of octets in which a prefix is written.
@@ -56,7 +56,7 @@ impl Gathered {
             wide,
             batches: Vec::new(alloc),
             octets: Vec::new(alloc),
-            places: BTreeMap::new(alloc),
+            indices: BTreeMap::new(alloc),
         }
     }
 
@@ -67,15 +67,15 @@ impl Gathered {
         Items::from_vec(self.batches)
     }
 
-    /// Returns the place of the last UPDATE that tells the value of a code, if it has room for `len`
+    /// Returns the index of the last UPDATE that tells the value of a code, if it has room for `len`
     /// more octets.
     fn room_for(&self, code: &Code, len: usize) -> Option<usize>
-        requires counted { (number : _) → get (slice_cmp nat_cmp) self.now.places code.now ≡ Some number → number < length self.now.octets.items }
+        requires counted { (number : _) → get (slice_cmp nat_cmp) self.now.indices code.now ≡ Some number → number < length self.now.octets.items }
         requires len { len ≤ 4096 }
-        ensures some { (number : _) → result ≡ Some number → (get (slice_cmp nat_cmp) self.now.places code.now ≡ Some number) × (slice_index self.now.octets.items number + len ≤ 4096) }
-        ensures none { (number : _) → result ≡ None → get (slice_cmp nat_cmp) self.now.places code.now ≡ Some number → 4096 < slice_index self.now.octets.items number + len }
+        ensures some { (number : _) → result ≡ Some number → (get (slice_cmp nat_cmp) self.now.indices code.now ≡ Some number) × (slice_index self.now.octets.items number + len ≤ 4096) }
+        ensures none { (number : _) → result ≡ None → get (slice_cmp nat_cmp) self.now.indices code.now ≡ Some number → 4096 < slice_index self.now.octets.items number + len }
     {
-        let number = *self.places.get(code)?;
+        let number = *self.indices.get(code)?;
         if self.octets[number] > LIMIT - len {
             return None;
         }
@@ -91,7 +91,7 @@ impl Gathered {
         ensures batches { (before : _) (batch : _) (after : _) → self.old.batches.items ≡ before ++ batch ∷ after → length before ≡ number
             → OnOk result (self.new.batches.items ≡ before ++ with_prefix batch prefix ∷ after) }
         ensures octets { OnOk result (self.new.octets.items ≡ slice_set self.old.octets.items number (slice_index self.old.octets.items number + len)) }
-        ensures places { OnOk result (self.new.places ≡ self.old.places) }
+        ensures indices { OnOk result (self.new.indices ≡ self.old.indices) }
     {
         let batch = &mut self.batches[number];
         batch.prefixes.push(prefix)?;
@@ -105,12 +105,12 @@ impl Gathered {
         ensures wide { OnOk result (self.new.wide ≡ self.old.wide) }
         ensures batches { OnOk result (self.new.batches.items ≡ self.old.batches.items ++ record { attrs = attrs; prefixes = prefix ∷ [] } ∷ []) }
         ensures octets { OnOk result (self.new.octets.items ≡ self.old.octets.items ++ octets_lem self.old.wide attrs (prefix ∷ []) ∷ []) }
-        ensures places { OnOk result (Updates (slice_cmp nat_cmp) self.old.places self.new.places code (Some (length self.old.batches.items))) }
+        ensures indices { OnOk result (Updates (slice_cmp nat_cmp) self.old.indices self.new.indices code (Some (length self.old.batches.items))) }
     {
         let prefixes = Items::one(self.alloc, prefix)?;
         let batch = Batch { attrs, prefixes };
         let octets = batch.octets(self.wide);
-        self.places.insert(code, self.batches.len())?;
+        self.indices.insert(code, self.batches.len())?;
         self.batches.push(batch)?;
         self.octets.push(octets)?;
         Ok(())

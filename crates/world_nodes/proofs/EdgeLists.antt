@@ -9,9 +9,9 @@ use Rattle.ring_net.specs.Phases.{is_edge}
 use Rattle.ring_net.specs.Fresh.{AreEdges}
 
 -- a list with one more has it at its end, and else what it had
-at_place : (edges : List (ℕ × ℕ)) (e : ℕ × ℕ) (i : ℕ) → i < length (edges ++ e ∷ [])
+at_index : (edges : List (ℕ × ℕ)) (e : ℕ × ℕ) (i : ℕ) → i < length (edges ++ e ∷ [])
     → ((i < length edges) × (get_or (edges ++ e ∷ []) i (0, 0) ≡ get_or edges i (0, 0))) ⊎ ((i ≡ length edges) × (get_or (edges ++ e ∷ []) i (0, 0) ≡ e))
-at_place edges e i i_in = elim (below i (length edges)) [
+at_index edges e i i_in = elim (below i (length edges)) [
   | inl l ↦ inl (l, get_or-append edges (e ∷ []) (0, 0) i l)
   | inr h ↦ let last : i ≡ length edges = omega (arith, h, i_in, length-append edges (e ∷ [])) in inr (last, rw last (get_or-append_seam edges e [] (0, 0)))
 ]
@@ -19,7 +19,7 @@ at_place edges e i i_in = elim (below i (length edges)) [
     below : (i n : ℕ) → (i < n) ⊎ (n ≤ i)
     below i n = grind arith
 
--- what stands at a place of the list is an edge of it
+-- what stands at an index of the list is an edge of it
 stands_is_edge : (edges : List (ℕ × ℕ)) (i : ℕ) (e : ℕ × ℕ) → i < length edges → get_or edges i (0, 0) ≡ e → is_edge edges e.0 e.1 ≡ true
 stands_is_edge edges i e i_in is = list_any_at (λ (x : ℕ × ℕ). x.0 == e.0 && x.1 == e.1) edges i (0, 0) i_in (rw is (both e.0 e.1))
   where
@@ -29,15 +29,15 @@ stands_is_edge edges i e i_in is = list_any_at (λ (x : ℕ × ℕ). x.0 == e.0 
 pub one_edge_more : (count : ℕ) (edges : List (ℕ × ℕ)) (a b : ℕ) → AreEdges count edges → a < count → b < count → a ≢ b → is_edge edges a b ≡ false
     → AreEdges count (edges ++ (a, b) ∷ [])
 one_edge_more count edges a b are a_in b_in apart new = record {
-  from = λ i i_in. elim (at_place edges (a, b) i i_in) [ inl h ↦ rw (h.1) (are.from i h.0) | inr h ↦ rw (h.1) a_in ];
-  to = λ i i_in. elim (at_place edges (a, b) i i_in) [ inl h ↦ rw (h.1) (are.to i h.0) | inr h ↦ rw (h.1) b_in ];
-  apart = λ i i_in. elim (at_place edges (a, b) i i_in) [ inl h ↦ rw (h.1) (are.apart i h.0) | inr h ↦ rw (h.1) apart ];
-  once = λ i j i_in j_in same. elim (at_place edges (a, b) i i_in) [
-    | inl h ↦ elim (at_place edges (a, b) j j_in) [
+  from = λ i i_in. elim (at_index edges (a, b) i i_in) [ inl h ↦ rw (h.1) (are.from i h.0) | inr h ↦ rw (h.1) a_in ];
+  to = λ i i_in. elim (at_index edges (a, b) i i_in) [ inl h ↦ rw (h.1) (are.to i h.0) | inr h ↦ rw (h.1) b_in ];
+  apart = λ i i_in. elim (at_index edges (a, b) i i_in) [ inl h ↦ rw (h.1) (are.apart i h.0) | inr h ↦ rw (h.1) apart ];
+  once = λ i j i_in j_in same. elim (at_index edges (a, b) i i_in) [
+    | inl h ↦ elim (at_index edges (a, b) j j_in) [
       | inl k ↦ are.once i j h.0 k.0 (sym h.1 ∙ same ∙ k.1)
       | inr k ↦ absurd (twice i h.0 (sym h.1 ∙ same ∙ k.1))
     ]
-    | inr h ↦ elim (at_place edges (a, b) j j_in) [
+    | inr h ↦ elim (at_index edges (a, b) j j_in) [
       | inl k ↦ absurd (twice j k.0 (sym k.1 ∙ sym same ∙ h.1))
       | inr k ↦ h.0 ∙ sym k.0
     ]

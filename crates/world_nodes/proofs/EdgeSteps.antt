@@ -131,15 +131,15 @@ row_same routers peerings from to first edges not row = record {
 pub row_all : (routers peerings from : ℕ) (first edges : List (ℕ × ℕ)) → RowUpTo routers peerings from (routers + peerings + 1) first edges
     → (setup : Setup) → HasCounts setup (routers, peerings) → AddsEdgesFrom setup from first edges
 row_all routers peerings from first edges row setup counts a b = row.added setup counts a b
-    ∙ ap (λ t. is_edge first a b || (a == from && t)) (by_place (below b (routers + peerings + 1)))
+    ∙ ap (λ t. is_edge first a b || (a == from && t)) (by_number (below b (routers + peerings + 1)))
   where
     below : (b n : ℕ) → (nat_lt b n ≡ true) ⊎ (n ≤ b)
     below b n = grind (arith, nat_tests)
 
-    by_place : ((nat_lt b (routers + peerings + 1) ≡ true) ⊎ (routers + peerings + 1 ≤ b))
+    by_number : ((nat_lt b (routers + peerings + 1) ≡ true) ⊎ (routers + peerings + 1 ≤ b))
         → (nat_lt b (routers + peerings + 1) && has_channel setup a b) ≡ has_channel setup a b
-    by_place (inl l) = rw l refl
-    by_place (inr past) = rw (to_nobody setup routers peerings a b counts past, not_below (routers + peerings + 1) b past) refl
+    by_number (inl l) = rw l refl
+    by_number (inr past) = rw (to_nobody setup routers peerings a b counts past, not_below (routers + peerings + 1) b past) refl
 
 pub row_ahead : (routers peerings from : ℕ) (first edges : List (ℕ × ℕ)) → RowUpTo routers peerings from (routers + peerings + 1) first edges
     → NoneFrom (from + 1) edges
@@ -172,13 +172,13 @@ pub rows_all : (routers peerings : ℕ) (edges : List (ℕ × ℕ)) → RowsUpTo
     → HasCounts setup (routers, peerings) → AreEdgesOf setup edges
 rows_all routers peerings edges rows setup counts = record {
   sound = rw (counts.routers, counts.peerings) (rows.sound);
-  each = λ a b. rows.each setup counts a b ∙ by_place a b (below a (routers + peerings + 1));
+  each = λ a b. rows.each setup counts a b ∙ by_number a b (below a (routers + peerings + 1));
 }
   where
     below : (b n : ℕ) → (nat_lt b n ≡ true) ⊎ (n ≤ b)
     below b n = grind (arith, nat_tests)
 
-    by_place : (a b : ℕ) → ((nat_lt a (routers + peerings + 1) ≡ true) ⊎ (routers + peerings + 1 ≤ a))
+    by_number : (a b : ℕ) → ((nat_lt a (routers + peerings + 1) ≡ true) ⊎ (routers + peerings + 1 ≤ a))
         → (nat_lt a (routers + peerings + 1) && has_channel setup a b) ≡ has_channel setup a b
-    by_place a b (inl l) = rw l refl
-    by_place a b (inr past) = rw (from_nobody setup routers peerings a b counts past, not_below (routers + peerings + 1) a past) refl
+    by_number a b (inl l) = rw l refl
+    by_number a b (inr past) = rw (from_nobody setup routers peerings a b counts past, not_below (routers + peerings + 1) a past) refl

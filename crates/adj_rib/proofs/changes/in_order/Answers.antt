@@ -8,7 +8,7 @@ use Rattle.bgp_types.specs.Prefixes.{PrefixValue, same_prefix}
 use Rattle.bgp_types.specs.Tables.{prefix_cmp}
 use Rattle.bgp_types.proofs.OnceLaws.{is_same}
 use Rattle.bgp_types.proofs.TableLaws.{prefix_total}
-use Rattle.adj_rib.proofs.Places.{one_test, any_once}
+use Rattle.adj_rib.proofs.Indices.{one_test, any_once}
 use Rattle.adj_rib.proofs.changes.in_order.Goals as goal
 
 pub returns-clause-rising : goal.returns-clause-rising

@@ -1,5 +1,5 @@
 use Rattle.std.proofs.Common.{◌∙◌}
-use Rattle.adj_rib.proofs.Places.{searched}
+use Rattle.adj_rib.proofs.Indices.{searched}
 use Rattle.adj_rib.proofs.changes.is_among.Goals as goal
 
 pub returns : goal.returns

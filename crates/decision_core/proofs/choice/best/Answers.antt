@@ -5,21 +5,21 @@ use Rattle.decision_core.proofs.NineRules.{nearest_more, no_rank, chosen, passed
 use Rattle.decision_core.proofs.choice.best.Goals as goal
 use Rattle.decision_core.proofs.choice.best.Goals.{then-is_next, else-is_next}
 
-pub loop-place-preserved : goal.loop-place-preserved
-loop-place-preserved c = elim c.if-is_next.branch [
-  | then-is_next w ↦ nearest_more c.in_ok-leader.leader c.args.list.now c.loop-place.place no_rank _ _ c.loop-place-test.true c.loop-place.invariant (chosen _ _ _ _ (sym c.is_next.ensures ∙ w.if-is_next.true) w.nearest-is)
-  | else-is_next w ↦ nearest_more c.in_ok-leader.leader c.args.list.now c.loop-place.place no_rank _ _ c.loop-place-test.true c.loop-place.invariant (passed_over _ _ _ _ (sym c.is_next.ensures ∙ w.if-is_next.false) w.nearest-is)
+pub loop-index-preserved : goal.loop-index-preserved
+loop-index-preserved c = elim c.if-is_next.branch [
+  | then-is_next w ↦ nearest_more c.in_ok-leader.leader c.args.list.now c.loop-index.index no_rank _ _ c.loop-index-test.true c.loop-index.invariant (chosen _ _ _ _ (sym c.is_next.ensures ∙ w.if-is_next.true) w.nearest-is)
+  | else-is_next w ↦ nearest_more c.in_ok-leader.leader c.args.list.now c.loop-index.index no_rank _ _ c.loop-index-test.true c.loop-index.invariant (passed_over _ _ _ _ (sym c.is_next.ensures ∙ w.if-is_next.false) w.nearest-is)
 ]
 
 pub returns-clause-choice : goal.returns-clause-choice
 returns-clause-choice c =
-    let place : c.map.result ≡ option_map (λ (x : ℕ × Rank). x.0) c.loop-place.nearest = search rules in
-    place ∙ choice-all _ c.in_ok-leader.leader _ _ (sym c.in_ok-leader.ensures) c.loop-place-test.false c.loop-place.invariant
+    let index : c.map.result ≡ option_map (λ (x : ℕ × Rank). x.0) c.loop-index.nearest = search rules in
+    index ∙ choice-all _ c.in_ok-leader.leader _ _ (sym c.in_ok-leader.ensures) c.loop-index-test.false c.loop-index.invariant
 
 pub returns-clause-empty : goal.returns-clause-empty
 returns-clause-empty c =
-    let place : c.map.result ≡ option_map (λ (x : ℕ × Rank). x.0) c.loop-place.nearest = search rules in
-    empty_exactly _ _ (place ∙ choice-all _ c.in_ok-leader.leader _ _ (sym c.in_ok-leader.ensures) c.loop-place-test.false c.loop-place.invariant)
+    let index : c.map.result ≡ option_map (λ (x : ℕ × Rank). x.0) c.loop-index.nearest = search rules in
+    empty_exactly _ _ (index ∙ choice-all _ c.in_ok-leader.leader _ _ (sym c.in_ok-leader.ensures) c.loop-index-test.false c.loop-index.invariant)
 
 pub returns-in_err-leader-clause-choice : goal.returns-in_err-leader-clause-choice
 returns-in_err-leader-clause-choice c = choice-no_leader _ _ c.from_residual.ensures (sym c.in_err-leader.ensures)

@@ -7,7 +7,7 @@ use Rattle.lab_setup.specs.Setups.{setup_of, peering_setup}
 use Rattle.lab_tables.specs.declared.input.PeeringInput.{PeeringInput}
 use Rattle.even_inputs.specs.Evenness.{meds_by, Med}
 use Rattle.lab_answers.proofs.Adding.{adds_none, adds_both, adds_same}
-use Rattle.lab_answers.proofs.Meant.{at_place, peerings_over}
+use Rattle.lab_answers.proofs.Meant.{at_index, peerings_over}
 use Rattle.lab_answers.proofs.evenness.note_peerings.Goals as goal
 
 pub note_peering-requires-clause-there : goal.note_peering-requires-clause-there
@@ -16,7 +16,7 @@ note_peering-requires-clause-there c =
     let same : c.deref-peering-items.result.now ≡ ps = c.deref-peering-items.ensures in
     let count : length c.deref-peering-items.result.now ≡ length ps = ap length same in
     let below : c.loop-i.i < length ps = omega (arith, c.loop-i-test.true, count) in
-    at_place ps c.loop-i.i c.peering-item.result below
+    at_index ps c.loop-i.i c.peering-item.result below
     (c.peering-item.is ∙ ap (λ (xs : List PeeringInput). slice_index_or xs c.loop-i.i c.peering-item.result) same)
 
 pub loop-i-init : goal.loop-i-init

@@ -20,8 +20,8 @@ returns c =
     let at : List (List ℕ) → Option BadInput = λ known. unknown known (text_at (codes "at") t) in
     let remote = repeated_if c.args.again.remote (address_text (remote_address_of t)) in
     let rest = first_of (unknown_at policies (maybe_text (codes "import") t) ∷ unknown_at policies (maybe_text (codes "export") t) ∷ []) in
-    let place : c.in_ok-place.place ≡ option_or name (option_or (at names) (option_or remote None)) =
-    c.in_ok-place.ensures ∙ ap (λ known. option_or name (option_or (at known) (option_or remote None))) c.requires in
-    c.first.ensures ∙ ap (λ o. option_or o c.in_ok-policy.policy) place
+    let identity : c.in_ok-identity.identity ≡ option_or name (option_or (at names) (option_or remote None)) =
+    c.in_ok-identity.ensures ∙ ap (λ known. option_or name (option_or (at known) (option_or remote None))) c.requires in
+    c.first.ensures ∙ ap (λ o. option_or o c.in_ok-policy.policy) identity
     ∙ ap (option_or (option_or name (option_or (at names) (option_or remote None)))) c.in_ok-policy.ensures
     ∙ first_of_parts name (at names) remote rest

@@ -3,7 +3,7 @@ use Rattle.std.specs.Prelude.{Option}
 use Rattle.toml.specs.Data.{Data}
 use Rattle.toml.specs.View.{view}
 use Rattle.lab_keys.specs.declared.flaw.Flaw.{Flaw}
-use Rattle.lab_keys.specs.Places.{KeyPlace, place, member_of}
+use Rattle.lab_keys.specs.Spots.{KeySpot, spot_of, member_of}
 use Rattle.lab_keys.specs.Kinds.{kind_flaw, bounded_array_flaw}
 use Rattle.lab_keys.specs.Keys.{value_flaw}
 use Rattle.lab_keys.proofs.Walks.{array_seen}
@@ -11,7 +11,7 @@ use Rattle.lab_keys.proofs.keys.value_flaw.Goals as goal
 
 pub returns : goal.returns
 returns c =
-    let at : KeyPlace = place c.args.at c.args.key.now in
+    let at : KeySpot = spot_of c.args.at c.args.key.now in
     let flaw : ℕ → Data → Option Flaw = λ i. kind_flaw c.args.kind (member_of at i) in
     let low = c.in-Some.counts.low in
     let high = c.in-Some.counts.high in

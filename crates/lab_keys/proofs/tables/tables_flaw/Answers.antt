@@ -3,7 +3,7 @@ use Rattle.std.specs.Prelude.{Option}
 use Rattle.toml.specs.Data.{Data}
 use Rattle.toml.specs.View.{view}
 use Rattle.lab_keys.specs.declared.flaw.Flaw.{Flaw}
-use Rattle.lab_keys.specs.Places.{KeyPlace, place, member_of}
+use Rattle.lab_keys.specs.Spots.{KeySpot, spot_of, member_of}
 use Rattle.lab_keys.specs.Kinds.{bounded_array_flaw, beyond, each_from, array_flaw, table_flaw}
 use Rattle.lab_keys.specs.Keys.{present}
 use Rattle.lab_keys.proofs.Walks.{array_seen, counted_stops, counted_goes_on}
@@ -11,7 +11,7 @@ use Rattle.lab_keys.proofs.tables.tables_flaw.Goals as goal
 
 pub returns-in-Some-beyond : goal.returns-in-Some-beyond
 returns-in-Some-beyond g c =
-    let at : KeyPlace = place c.args.at.table c.args.key.now in
+    let at : KeySpot = spot_of c.args.at.table c.args.key.now in
     let flaw : ℕ → Data → Option Flaw = λ i. table_flaw (member_of at i) (g.K.TableKind.flaw_of c.args.kind.now i) in
     let low = c.args.at.low in
     let high = c.args.at.high in
@@ -22,7 +22,7 @@ returns-in-Some-beyond g c =
 
 pub returns : goal.returns
 returns g c =
-    let at : KeyPlace = place c.args.at.table c.args.key.now in
+    let at : KeySpot = spot_of c.args.at.table c.args.key.now in
     let flaw : ℕ → Data → Option Flaw = λ i. table_flaw (member_of at i) (g.K.TableKind.flaw_of c.args.kind.now i) in
     let low = c.args.at.low in
     let high = c.args.at.high in

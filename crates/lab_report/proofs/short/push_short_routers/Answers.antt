@@ -5,11 +5,11 @@ use Rattle.lab_report.specs.Summary.{short_router_line}
 use Rattle.lab_report.proofs.short.push_short_routers.Goals as goal
 
 -- the lines so far, and behind them that of one router more
-pub loop-place-preserved : goal.loop-place-preserved
-loop-place-preserved c =
-    let below : c.loop-place.place < length c.args.routers.now = omega (arith, c.loop-place-test.true) in
-    let lines = flat_map (short_router_line c.args.tables.now) (enumerate_from 0 (take c.loop-place.place c.args.routers.now)) in
-    let piece = short_router_line c.args.tables.now (c.loop-place.place, c.index-routers-place.result) in
-    let more = flat_map_numbered (short_router_line c.args.tables.now) c.args.routers.now c.loop-place.place c.index-routers-place.result below c.index-routers-place.is in
-    c.in_ok-push_short_router.ensures ∙ ap (λ t. t ++ piece) c.loop-place.invariant ∙ append_assoc (string_bytes c.args.text.now) lines piece
+pub loop-index-preserved : goal.loop-index-preserved
+loop-index-preserved c =
+    let below : c.loop-index.index < length c.args.routers.now = omega (arith, c.loop-index-test.true) in
+    let lines = flat_map (short_router_line c.args.tables.now) (enumerate_from 0 (take c.loop-index.index c.args.routers.now)) in
+    let piece = short_router_line c.args.tables.now (c.loop-index.index, c.index-routers-index.result) in
+    let more = flat_map_numbered (short_router_line c.args.tables.now) c.args.routers.now c.loop-index.index c.index-routers-index.result below c.index-routers-index.is in
+    c.in_ok-push_short_router.ensures ∙ ap (λ t. t ++ piece) c.loop-index.invariant ∙ append_assoc (string_bytes c.args.text.now) lines piece
     ∙ ap (λ l. string_bytes c.args.text.now ++ l) (sym more)

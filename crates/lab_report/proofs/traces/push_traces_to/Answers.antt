@@ -3,17 +3,17 @@ use Rattle.lab_report.proofs.Walked.{none_walked, walked_more}
 use Rattle.lab_report.proofs.traces.push_traces_to.Goals as goal
 
 -- the number of a router fits an octet
-pub overflow_cast-place : goal.overflow_cast-place
-overflow_cast-place c =
+pub overflow_cast-index : goal.overflow_cast-index
+overflow_cast-index c =
     let numbered : length c.numbered-routers.result.now ≡ min 256 (length c.as_slice.result.now) = ap length c.numbered-routers.ensures ∙ length-take 256 c.as_slice.result.now in
-    omega (arith, numbered, c.loop-place-test.true)
+    omega (arith, numbered, c.loop-index-test.true)
 
-pub loop-place-init : goal.loop-place-init
-loop-place-init c = none_walked c.args.input.now c.args.forwarder.now c.args.address (string_bytes c.args.text.now)
+pub loop-index-init : goal.loop-index-init
+loop-index-init c = none_walked c.args.input.now c.args.forwarder.now c.args.address (string_bytes c.args.text.now)
 
 -- the lines so far, and behind them that of one router more
-pub loop-place-preserved : goal.loop-place-preserved
-loop-place-preserved c =
-    let below : c.loop-place.place < length c.numbered-routers.result.now = omega (arith, c.loop-place-test.true) in
-    walked_more c.args.input.now c.args.forwarder.now c.args.address c.numbered-routers.result.now c.loop-place.place c.index-routers-place.result c.walk-walk.result
-    below c.index-routers-place.is c.walk-walk.ensures.ends _ _ _ c.loop-place.invariant c.in_ok-push_trace.ensures
+pub loop-index-preserved : goal.loop-index-preserved
+loop-index-preserved c =
+    let below : c.loop-index.index < length c.numbered-routers.result.now = omega (arith, c.loop-index-test.true) in
+    walked_more c.args.input.now c.args.forwarder.now c.args.address c.numbered-routers.result.now c.loop-index.index c.index-routers-index.result c.walk-walk.result
+    below c.index-routers-index.is c.walk-walk.ensures.ends _ _ _ c.loop-index.invariant c.in_ok-push_trace.ensures

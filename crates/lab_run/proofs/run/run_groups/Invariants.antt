@@ -5,10 +5,10 @@ use Rattle.world_nodes.specs.RunningLabs.{stand, counts, AllWork}
 use Rattle.lab_run.specs.Stories.{GroupsGo}
 use Rattle.lab_run.proofs.run.run_groups.Given as goal
 
-abbrev pub invariant-loop-place : goal.invariant-loop-place
-invariant-loop-place g l = record {
+abbrev pub invariant-loop-index : goal.invariant-loop-index
+invariant-loop-index g l = record {
   works : AllWork l.running;
   same : counts l.running ≡ counts l.fn.running;
   goes : (setup : Setup) → IsSetup setup → HasCounts setup (counts l.fn.running)
-      → GroupsGo setup (stand l.fn.running) (take l.place l.budgets) l.made (stand l.running);
+      → GroupsGo setup (stand l.fn.running) (take l.index l.budgets) l.made (stand l.running);
 }

@@ -6,7 +6,7 @@ use Rattle.toml.specs.Data.{Data}
 use Rattle.toml.specs.View.{view}
 use Rattle.lab_keys.specs.declared.flaw.Flaw.{Flaw}
 use Rattle.lab_keys.specs.declared.table_at.TableAt.TheVariants.{Top}
-use Rattle.lab_keys.specs.Places.{KeyPlace, place, member_of}
+use Rattle.lab_keys.specs.Spots.{KeySpot, spot_of, member_of}
 use Rattle.lab_keys.specs.Kinds.{each_from, table_flaw}
 use Rattle.lab_keys.proofs.Walks.{each_goes_on}
 use Rattle.lab_tables.specs.Scripts.{is_word, is_settle_word, is_evacuate, evacuates, group_before, group_from, grouped_flaw}
@@ -35,7 +35,7 @@ loop-i-preserved c =
     ap (λ ys. list_any (λ w. is_word is_evacuate (view w)) (before_first (λ w. S (view w)) ys)) (rest_whole steps (i + 1))
     ∙ any_mapped S (is_word is_evacuate) view (drop (i + 1) steps)
     ∙ ap (λ ys. evacuates (before_first S ys)) (sym (mapped_drop view steps (i + 1))) in
-    let spot : KeyPlace = member_of (place Top (codes "step")) i in
+    let spot : KeySpot = member_of (spot_of Top (codes "step")) i in
     let none : None ≡ step_at xs i d =
     c.in_default.ensures
     ∙ ap (λ (b : Bool). table_flaw spot (grouped_flaw b c.loop-i.whole i) d) at.before_is

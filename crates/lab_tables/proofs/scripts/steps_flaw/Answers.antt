@@ -4,7 +4,7 @@ use Rattle.toml.specs.Data.{Data, get_member}
 use Rattle.toml.specs.View.{view, table_view}
 use Rattle.lab_keys.specs.declared.flaw.Flaw.{Flaw}
 use Rattle.lab_keys.specs.declared.table_at.TableAt.TheVariants.{Top}
-use Rattle.lab_keys.specs.Places.{KeyPlace, place, member_of}
+use Rattle.lab_keys.specs.Spots.{KeySpot, spot_of, member_of}
 use Rattle.lab_keys.specs.Kinds.{bounded_array_flaw, beyond, each_from, array_flaw, table_flaw}
 use Rattle.lab_keys.specs.Keys.{present, tables_flaw}
 use Rattle.lab_keys.specs.Values.{items_at}
@@ -13,11 +13,11 @@ use Rattle.lab_tables.specs.Scripts.{step_flaw}
 use Rattle.lab_tables.proofs.scripts.steps_flaw.Goals as goal
 
 abbrev flaw_in : List Data → ℕ → Data → Option Flaw
-flaw_in ds i = table_flaw (member_of (place Top (codes "step")) i) (step_flaw ds i)
+flaw_in ds i = table_flaw (member_of (spot_of Top (codes "step")) i) (step_flaw ds i)
 
 pub returns-in-Some-beyond : goal.returns-in-Some-beyond
 returns-in-Some-beyond c =
-    let at : KeyPlace = place Top (codes "step") in
+    let at : KeySpot = spot_of Top (codes "step") in
     let doc = table_view c.args.doc.now in
     let values = c.in-Some.array.now.items in
     let flaw : ℕ → Data → Option Flaw = flaw_in (items_at (codes "step") doc) in
@@ -28,7 +28,7 @@ returns-in-Some-beyond c =
 
 pub returns : goal.returns
 returns c =
-    let at : KeyPlace = place Top (codes "step") in
+    let at : KeySpot = spot_of Top (codes "step") in
     let doc = table_view c.args.doc.now in
     let values = c.in-Some.array.now.items in
     let flaw : ℕ → Data → Option Flaw = flaw_in (map view values) in

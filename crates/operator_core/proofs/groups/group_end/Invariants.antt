@@ -3,5 +3,5 @@ use Rattle.std.specs.Prelude.{◌≢◌, slice_get}
 use Rattle.operator_core.specs.declared.script.ScriptStep.TheVariants.{Settle}
 use Rattle.operator_core.proofs.groups.group_end.Given as goal
 
-abbrev pub invariant-loop-place : goal.invariant-loop-place
-invariant-loop-place l = (n : ℕ) → l.from ≤ n → n < l.place → slice_get l.steps n ≢ Some Settle
+abbrev pub invariant-loop-index : goal.invariant-loop-index
+invariant-loop-index l = (n : ℕ) → l.from ≤ n → n < l.index → slice_get l.steps n ≢ Some Settle

@@ -2,7 +2,7 @@ use Rattle.std.proofs.Common.{◌≡◌, [], ◌∷◌, length, slice_get, ◌-�
 use Rattle.std.specs.Prelude.{T}
 use Rattle.std.specs.FinMap as map
 use Rattle.bgp_types.specs.Tables.{prefix_cmp}
-use Rattle.prefix_table.specs.Places.{AllBelow}
+use Rattle.prefix_table.specs.Indices.{AllBelow}
 use Rattle.prefix_set.proofs.Slots.{above_last}
 use Rattle.prefix_trie.proofs.Nodes.{lt_same}
 use Rattle.std.specs.Ordering.{nat_cmp}

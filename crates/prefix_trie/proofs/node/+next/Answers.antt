@@ -8,19 +8,19 @@ use Rattle.prefix_trie.proofs.Nodes.{lt_same, less_from_test, is_before, is_past
 use Rattle.prefix_trie.proofs.Nexts.{keys, next_before, next_early, next_late}
 use Rattle.prefix_trie.specs.Arena.{value_at, entries_at, IsTrieAt}
 use Rattle.prefix_trie.proofs.Levels.{left, none_at, one_less, zero_less}
-use Rattle.prefix_trie.proofs.Places.{at_place}
+use Rattle.prefix_trie.proofs.Indices.{at_index}
 use Rattle.prefix_trie.proofs.node.+next.Goals as goal
 
 pub returns-in-None : goal.returns-in-None
-returns-in-None g t c = sym (ap (λ (es : List (PrefixValue × g.row.V.Denot)). first_above (Some c.args.prefix) (keys es)) (none_at c.args.nodes.now c.args.values.now c.args.place (sym c.node_at.ensures ∙ ap option_copied c.in-None.is)))
+returns-in-None g t c = sym (ap (λ (es : List (PrefixValue × g.row.V.Denot)). first_above (Some c.args.prefix) (keys es)) (none_at c.args.nodes.now c.args.values.now c.args.index (sym c.node_at.ensures ∙ ap option_copied c.in-None.is)))
 
 pub returns-then-lt : goal.returns-then-lt
 returns-then-lt g t c =
     let n = c.in-Some.node.now in
     let p = c.args.prefix in
     let es = entries_at c.args.nodes.now c.args.values.now in
-    let v = value_at c.args.values.now c.args.place in
-    let f = at_place c.args.nodes.now c.args.values.now c.args.place n (sym c.node_at.ensures ∙ ap option_copied c.in-Some.is) c.requires in
+    let v = value_at c.args.values.now c.args.index in
+    let f = at_index c.args.nodes.now c.args.values.now c.args.index n (sym c.node_at.ensures ∙ ap option_copied c.in-Some.is) c.requires in
     let whole = ap (λ (es : List (PrefixValue × g.row.V.Denot)). first_above (Some p) (keys es)) f.is in
     c.first.ensures
     ∙ (ap (λ (es : List (PrefixValue × g.row.V.Denot)). first_above None (keys es)) f.is
@@ -28,9 +28,9 @@ returns-then-lt g t c =
 
 pub next-requires : goal.next-requires
 next-requires g t c =
-    let f = at_place c.args.nodes.now c.args.values.now c.args.place c.in-Some.node.now (sym c.node_at.ensures ∙ ap option_copied c.in-Some.is) c.requires in
+    let f = at_index c.args.nodes.now c.args.values.now c.args.index c.in-Some.node.now (sym c.node_at.ensures ∙ ap option_copied c.in-Some.is) c.requires in
     let trie : IsTrieAt c.args.nodes.now c.in-Some.node.now.zero = f.at.zero_below in
-    let falls = zero_less c.args.nodes.now c.args.place c.in-Some.node.now (sym c.node_at.ensures ∙ ap option_copied c.in-Some.is) c.requires in
+    let falls = zero_less c.args.nodes.now c.args.index c.in-Some.node.now (sym c.node_at.ensures ∙ ap option_copied c.in-Some.is) c.requires in
     let less : left c.args.nodes.now c.in-Some.node.now.zero < t = omega (arith, falls, c.decreases) in
     search rules
 
@@ -39,8 +39,8 @@ returns-in-Some-next g t c =
     let n = c.in-Some.node.now in
     let p = c.args.prefix in
     let es = entries_at c.args.nodes.now c.args.values.now in
-    let v = value_at c.args.values.now c.args.place in
-    let f = at_place c.args.nodes.now c.args.values.now c.args.place n (sym c.node_at.ensures ∙ ap option_copied c.in-Some.is) c.requires in
+    let v = value_at c.args.values.now c.args.index in
+    let f = at_index c.args.nodes.now c.args.values.now c.args.index n (sym c.node_at.ensures ∙ ap option_copied c.in-Some.is) c.requires in
     let whole = ap (λ (es : List (PrefixValue × g.row.V.Denot)). first_above (Some p) (keys es)) f.is in
     sym (whole
     ∙ (next_early n.prefix v (es n.zero) (es n.one) f.node p (sym (lt_same (nat_cmp p.address n.prefix.address) (nat_cmp p.len n.prefix.len)) ∙ (sym c.lt.ensures ∙ c.if-lt.false)) (is_before c.is_early.result c.address.result p.address (middle n.prefix) c.address.ensures.value c.is_early.ensures c.if-is_early.true)
@@ -48,7 +48,7 @@ returns-in-Some-next g t c =
 
 pub first-requires-then-is_early : goal.first-requires-then-is_early
 first-requires-then-is_early g t c =
-    let f = at_place c.args.nodes.now c.args.values.now c.args.place c.in-Some.node.now (sym c.node_at.ensures ∙ ap option_copied c.in-Some.is) c.requires in
+    let f = at_index c.args.nodes.now c.args.values.now c.args.index c.in-Some.node.now (sym c.node_at.ensures ∙ ap option_copied c.in-Some.is) c.requires in
     f.at.one_below
 
 pub returns-then-is_early : goal.returns-then-is_early
@@ -56,8 +56,8 @@ returns-then-is_early g t c =
     let n = c.in-Some.node.now in
     let p = c.args.prefix in
     let es = entries_at c.args.nodes.now c.args.values.now in
-    let v = value_at c.args.values.now c.args.place in
-    let f = at_place c.args.nodes.now c.args.values.now c.args.place n (sym c.node_at.ensures ∙ ap option_copied c.in-Some.is) c.requires in
+    let v = value_at c.args.values.now c.args.index in
+    let f = at_index c.args.nodes.now c.args.values.now c.args.index n (sym c.node_at.ensures ∙ ap option_copied c.in-Some.is) c.requires in
     let whole = ap (λ (es : List (PrefixValue × g.row.V.Denot)). first_above (Some p) (keys es)) f.is in
     c.first-then-is_early.ensures
     ∙ sym (whole
@@ -66,9 +66,9 @@ returns-then-is_early g t c =
 
 pub next-requires-in-Some : goal.next-requires-in-Some
 next-requires-in-Some g t c =
-    let f = at_place c.args.nodes.now c.args.values.now c.args.place c.in-Some.node.now (sym c.node_at.ensures ∙ ap option_copied c.in-Some.is) c.requires in
+    let f = at_index c.args.nodes.now c.args.values.now c.args.index c.in-Some.node.now (sym c.node_at.ensures ∙ ap option_copied c.in-Some.is) c.requires in
     let trie : IsTrieAt c.args.nodes.now c.in-Some.node.now.one = f.at.one_below in
-    let falls = one_less c.args.nodes.now c.args.place c.in-Some.node.now (sym c.node_at.ensures ∙ ap option_copied c.in-Some.is) c.requires in
+    let falls = one_less c.args.nodes.now c.args.index c.in-Some.node.now (sym c.node_at.ensures ∙ ap option_copied c.in-Some.is) c.requires in
     let less : left c.args.nodes.now c.in-Some.node.now.one < t = omega (arith, falls, c.decreases) in
     search rules
 
@@ -77,7 +77,7 @@ returns-else-is_early g t c =
     let n = c.in-Some.node.now in
     let p = c.args.prefix in
     let es = entries_at c.args.nodes.now c.args.values.now in
-    let v = value_at c.args.values.now c.args.place in
-    let f = at_place c.args.nodes.now c.args.values.now c.args.place n (sym c.node_at.ensures ∙ ap option_copied c.in-Some.is) c.requires in
+    let v = value_at c.args.values.now c.args.index in
+    let f = at_index c.args.nodes.now c.args.values.now c.args.index n (sym c.node_at.ensures ∙ ap option_copied c.in-Some.is) c.requires in
     let whole = ap (λ (es : List (PrefixValue × g.row.V.Denot)). first_above (Some p) (keys es)) f.is in
     c.next-in-Some.ensures ∙ sym (whole ∙ next_late n.prefix v (es n.zero) (es n.one) f.node p (sym (lt_same (nat_cmp p.address n.prefix.address) (nat_cmp p.len n.prefix.len)) ∙ (sym c.lt.ensures ∙ c.if-lt.false)) (is_past c.is_early.result c.address.result p.address (middle n.prefix) c.address.ensures.value c.is_early.ensures c.if-is_early.false))

@@ -8,8 +8,8 @@ use Rattle.prefix_trie.proofs.Nodes.{same_prefix, other_prefix, is_before, is_pa
 use Rattle.prefix_trie.proofs.Outside.{none_longer, none_there}
 use Rattle.prefix_trie.proofs.node.find.Goals as goal
 
-pub returns-then-eq-clause-place : goal.returns-then-eq-clause-place
-returns-then-eq-clause-place c =
+pub returns-then-eq-clause-index : goal.returns-then-eq-clause-index
+returns-then-eq-clause-index c =
     let l = c.loop-node in
     l.invariant.inside l.at (at_node c.args.nodes.now l.at c.in-Some.node.now (sym c.node_at.ensures ∙ ap option_copied c.in-Some.is) l.invariant.trie).here
 

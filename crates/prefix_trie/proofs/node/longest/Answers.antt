@@ -6,7 +6,7 @@ use Rattle.prefix_trie.proofs.Nodes.{is_before, is_past}
 use Rattle.prefix_trie.proofs.Longests.{untrue, Has, Walk, walk_begins, walk_ends, none_in_leaf, none_below, step_early, step_late}
 use Rattle.prefix_trie.specs.Arena.{value_at, entries_at}
 use Rattle.prefix_trie.proofs.Levels.{none_at, one_less, zero_less}
-use Rattle.prefix_trie.proofs.Places.{at_place}
+use Rattle.prefix_trie.proofs.Indices.{at_index}
 use Rattle.prefix_trie.proofs.node.longest.Goals as goal
 
 pub loop-node-smaller-then-is_early : goal.loop-node-smaller-then-is_early
@@ -23,7 +23,7 @@ returns-then-not-covers g c =
     let n = c.in-Some.node.now in
     let l = c.loop-node in
     let es = entries_at c.args.nodes.now c.args.values.now in
-    let f = at_place c.args.nodes.now c.args.values.now l.at n (sym c.node_at.ensures ∙ ap option_copied c.in-Some.is) l.invariant.trie in
+    let f = at_index c.args.nodes.now c.args.values.now l.at n (sym c.node_at.ensures ∙ ap option_copied c.in-Some.is) l.invariant.trie in
     walk_ends c.args.host (es c.args.root) (es l.at) l.longest l.invariant.walk (λ q h k.
     none_below n.prefix (value_at c.args.values.now l.at) (es n.zero) (es n.one) f.node c.args.host (λ covers. untrue c.covers.result c.if-not-covers.true (c.covers.ensures.1 covers)) q
     (subst (λ (here : List (PrefixValue × g.row.V.Denot)). Has here q) f.is h) k)
@@ -34,7 +34,7 @@ loop-node-preserved-then-is_early g c =
     let l = c.loop-node in
     let es = entries_at c.args.nodes.now c.args.values.now in
     let v = value_at c.args.values.now l.at in
-    let f = at_place c.args.nodes.now c.args.values.now l.at n (sym c.node_at.ensures ∙ ap option_copied c.in-Some.is) l.invariant.trie in
+    let f = at_index c.args.nodes.now c.args.values.now l.at n (sym c.node_at.ensures ∙ ap option_copied c.in-Some.is) l.invariant.trie in
     let walk = subst (λ (here : List (PrefixValue × g.row.V.Denot)). Walk c.args.host (es c.args.root) here l.longest) f.is l.invariant.walk in
     let best = sym (c.chosen-longest.ensures ∙ ap (λ (t : Bool). cond t (Some n.prefix) l.longest) c.has_value.ensures) in
     let covers = c.covers.ensures.0 c.if-not-covers.false in
@@ -51,7 +51,7 @@ loop-node-preserved g c =
     let l = c.loop-node in
     let es = entries_at c.args.nodes.now c.args.values.now in
     let v = value_at c.args.values.now l.at in
-    let f = at_place c.args.nodes.now c.args.values.now l.at n (sym c.node_at.ensures ∙ ap option_copied c.in-Some.is) l.invariant.trie in
+    let f = at_index c.args.nodes.now c.args.values.now l.at n (sym c.node_at.ensures ∙ ap option_copied c.in-Some.is) l.invariant.trie in
     let walk = subst (λ (here : List (PrefixValue × g.row.V.Denot)). Walk c.args.host (es c.args.root) here l.longest) f.is l.invariant.walk in
     let best = sym (c.chosen-longest.ensures ∙ ap (λ (t : Bool). cond t (Some n.prefix) l.longest) c.has_value.ensures) in
     let covers = c.covers.ensures.0 c.if-not-covers.false in

@@ -7,11 +7,11 @@ use Rattle.prefix_trie.specs.Trimming.{IsTrimmed}
 use Rattle.prefix_trie.proofs.Apart.{left_apart}
 use Rattle.prefix_trie.proofs.Kept.{way_kept}
 use Rattle.prefix_trie.proofs.Trimmed.{both_trimmed}
-use Rattle.prefix_trie.specs.Arena.{places_at}
+use Rattle.prefix_trie.specs.Arena.{indices_at}
 use Rattle.prefix_trie.proofs.node.trim.Goals as goal
 
-nowhere_empty : (nodes : List Node) (place : ℕ) (n : Node) → length nodes ≤ nowhere → slice_get nodes place ≡ Some n → place ≡ nowhere → ⊥
-nowhere_empty nodes place n few there is = let e : None ≡ Some n = sym (slice_get_past nodes place (omega (arith, few, is))) ∙ there in cc
+nowhere_empty : (nodes : List Node) (index : ℕ) (n : Node) → length nodes ≤ nowhere → slice_get nodes index ≡ Some n → index ≡ nowhere → ⊥
+nowhere_empty nodes index n few there is = let e : None ≡ Some n = sym (slice_get_past nodes index (omega (arith, few, is))) ∙ there in cc
 
 pub trim_at-requires-clause-way : goal.trim_at-requires-clause-way
 trim_at-requires-clause-way g c =
@@ -22,10 +22,10 @@ trim_at-requires-clause-way g c =
     let few : length fs ≤ nowhere = let few = c.requires.can.few in let many = c.trim_at-begin.ensures.trimmed.as_many in omega (arith, few, many) in
     let somewhere = nowhere_empty fs s.above c.in-Some.node.now few there in
     elim c.requires.upper [
-      | inl no_place ↦ absurd (somewhere no_place)
+      | inl no_index ↦ absurd (somewhere no_index)
       | inr way ↦ elim c.requires.spot.way [
         | inl top ↦ absurd (somewhere top.0)
-        | inr b ↦ way_kept a.nodes.now fs a.root a.prefix s.grand s.above b.node b.there c.requires.can.trie (left_apart (places_at a.nodes.now a.root) a.free.now.items c.requires.can.apart) c.trim_at-begin.ensures.others way
+        | inr b ↦ way_kept a.nodes.now fs a.root a.prefix s.grand s.above b.node b.there c.requires.can.trie (left_apart (indices_at a.nodes.now a.root) a.free.now.items c.requires.can.apart) c.trim_at-begin.ensures.others way
       ]
     ]
 

@@ -10,30 +10,30 @@ use Rattle.prefix_trie.specs.Arena.{entries_at, HasNone}
 use Rattle.prefix_trie.proofs.Settled.{exchanged, found_valued}
 use Rattle.prefix_trie.proofs.tree.change.Goals as goal
 
-pub returns-in_err-place-clause-changed : goal.returns-in_err-place-clause-changed
-returns-in_err-place-clause-changed g c =
+pub returns-in_err-index-clause-changed : goal.returns-in_err-index-clause-changed
+returns-in_err-index-clause-changed g c =
     let t = c.args.tree.now in
-    let absent : find prefix_cmp c.args.prefix (entries t) ≡ None = none_found t.nodes.items t.values.items c.args.prefix t.root c.requires.trie.trie (subst (λ (ns : List Node). HasNone ns t.root c.args.prefix) c.deref.ensures.value c.in_err-place.ensures.none) in
+    let absent : find prefix_cmp c.args.prefix (entries t) ≡ None = none_found t.nodes.items t.values.items c.args.prefix t.root c.requires.trie.trie (subst (λ (ns : List Node). HasNone ns t.root c.args.prefix) c.deref.ensures.value c.in_err-index.ensures.none) in
     search rules
 
 pub index_mut-requires : goal.index_mut-requires
 index_mut-requires g c =
-    let lt = found_valued c.args.tree.now c.args.prefix c.deref.result.now c.in_ok-place.place c.requires.trie c.deref.ensures.value c.in_ok-place.ensures.place c.in_ok-place.ensures.node in
+    let lt = found_valued c.args.tree.now c.args.prefix c.deref.result.now c.in_ok-index.index c.requires.trie c.deref.ensures.value c.in_ok-index.ensures.index c.in_ok-index.ensures.node in
     omega (arith, lt)
 
 pub returns-in-Some-clause-trie : goal.returns-in-Some-clause-trie
 returns-in-Some-clause-trie g c =
     let t = c.args.tree.now in
-    let q = c.in_ok-place.place in
-    (exchanged t c.args.prefix c.deref.result.now q c.requires.trie c.deref.ensures.value c.in_ok-place.ensures.place c.in_ok-place.ensures.node
+    let q = c.in_ok-index.index in
+    (exchanged t c.args.prefix c.deref.result.now q c.requires.trie c.deref.ensures.value c.in_ok-index.ensures.index c.in_ok-index.ensures.node
     (record { nodes = t.nodes; values = with_item t.values q (Some c.edit.new.arg2); free = t.free; root = t.root })
     c.index_mut.result.now (Some c.edit.new.arg2) c.index_mut.ensures.value refl refl refl refl).trie
 
 pub returns-in-Some-clause-changed : goal.returns-in-Some-clause-changed
 returns-in-Some-clause-changed g c =
     let t = c.args.tree.now in
-    let q = c.in_ok-place.place in
-    let same = exchanged t c.args.prefix c.deref.result.now q c.requires.trie c.deref.ensures.value c.in_ok-place.ensures.place c.in_ok-place.ensures.node
+    let q = c.in_ok-index.index in
+    let same = exchanged t c.args.prefix c.deref.result.now q c.requires.trie c.deref.ensures.value c.in_ok-index.ensures.index c.in_ok-index.ensures.node
     (record { nodes = t.nodes; values = with_item t.values q (Some c.edit.new.arg2); free = t.free; root = t.root })
     c.index_mut.result.now (Some c.edit.new.arg2) c.index_mut.ensures.value refl refl refl refl in
     record {
@@ -47,8 +47,8 @@ returns-in-Some-clause-changed g c =
 pub returns-in-None-clause-changed : goal.returns-in-None-clause-changed
 returns-in-None-clause-changed g c =
     let t = c.args.tree.now in
-    let q = c.in_ok-place.place in
-    let same = exchanged t c.args.prefix c.deref.result.now q c.requires.trie c.deref.ensures.value c.in_ok-place.ensures.place c.in_ok-place.ensures.node
+    let q = c.in_ok-index.index in
+    let same = exchanged t c.args.prefix c.deref.result.now q c.requires.trie c.deref.ensures.value c.in_ok-index.ensures.index c.in_ok-index.ensures.node
     (record { nodes = t.nodes; values = with_item t.values q c.index_mut.result.now; free = t.free; root = t.root })
     c.index_mut.result.now c.index_mut.result.now c.index_mut.ensures.value refl refl refl refl in
     record {

@@ -10,5 +10,5 @@ returns-in-Ok-clause-ok c =
 
 pub returns-in_ok-insert-in-Err-clause-ok : goal.returns-in_ok-insert-in-Err-clause-ok
 returns-in_ok-insert-in-Err-clause-ok c =
-    let missing = searched c.args.peers.now.items c.args.peer (Err c.in-Err.place) (rw (← c.deref.ensures.value) c.in-Err.ensures.position) (not_falling c.args.peers.now.items c.requires) in
-    was_put c.args.peers.now.items c.insert.new.self.items c.args.peer c.in-Err.place missing.0 missing.1 missing.2 c.in_ok-insert-in-Err.ensures.items
+    let missing = searched c.args.peers.now.items c.args.peer (Err c.in-Err.index) (rw (← c.deref.ensures.value) c.in-Err.ensures.position) (not_falling c.args.peers.now.items c.requires) in
+    was_put c.args.peers.now.items c.insert.new.self.items c.args.peer c.in-Err.index missing.0 missing.1 missing.2 c.in_ok-insert-in-Err.ensures.items

@@ -5,6 +5,6 @@ use Rattle.tcp_reasm.proofs.piece.runs_outside.Given as goal
 -- the runs so far, and then those that are still to come, are all
 abbrev pub invariant-loop-piece : goal.invariant-loop-piece
 invariant-loop-piece l = record {
-  from : l.place ≤ l.at;
-  more : l.runs.items ++ runs_outside l.place l.bytes l.at (drop l.piece-index l.pieces) ≡ runs_outside l.place l.bytes l.place l.pieces;
+  from : l.offset ≤ l.at;
+  more : l.runs.items ++ runs_outside l.offset l.bytes l.at (drop l.piece-index l.pieces) ≡ runs_outside l.offset l.bytes l.offset l.pieces;
 }

@@ -4,7 +4,7 @@ use Rattle.std.specs.List as list
 use Rattle.std.specs.Ordering.{nat_cmp}
 use Rattle.decision_groups.specs.Order.{RankedSource, with_rank}
 use Rattle.decision_groups.specs.Groups.{NumberedGroup, AreNumbered, group_at, members_of}
-use Rattle.decision_groups.proofs.Places.{place-within, gap-within}
+use Rattle.decision_groups.proofs.Indices.{index-within, gap-within}
 use Rattle.decision_groups.proofs.Numbered.{changed_numbers, group-changed, made_numbers, group-made}
 use Rattle.decision_groups.proofs.groups.Groups.join.Goals as goal
 
@@ -18,7 +18,7 @@ pub index_mut-requires : goal.index_mut-requires
 index_mut-requires c =
     let entries = c.self.inside.entries in
     let here = rw c.deref.ensures.value at c.in-Ok.ensures.found in
-    omega (arith, entries.ok.0, place-within nat_cmp c.args.rank.neighbour entries.items c.in-Ok.at here)
+    omega (arith, entries.ok.0, index-within nat_cmp c.args.rank.neighbour entries.items c.in-Ok.at here)
 
 pub invariant_of-self : goal.invariant_of-self
 invariant_of-self c =

@@ -2,7 +2,7 @@ use Rattle.std.proofs.Common.{◌≡◌, ◌==◌, cond, [], refl, sym, ap, ◌�
 use Rattle.std.specs.Ordering.{nat_cmp}
 use Rattle.decision_groups.specs.Order.{without_source}
 use Rattle.decision_groups.specs.Groups.{AreNumbered, group_at, members_of, some_members}
-use Rattle.decision_groups.proofs.Places.{place-within}
+use Rattle.decision_groups.proofs.Indices.{index-within}
 use Rattle.decision_groups.proofs.Numbered.{changed_numbers, gone_numbers, group-stays, group-gone, group-none}
 use Rattle.decision_groups.proofs.groups.Groups.leave.Goals as goal
 
@@ -22,13 +22,13 @@ pub index_mut-requires : goal.index_mut-requires
 index_mut-requires c =
     let entries = c.self.inside.entries in
     let here = rw c.deref.ensures.value at c.in-Ok.ensures.found in
-    omega (arith, entries.ok.0, place-within nat_cmp c.args.neighbour entries.items c.in-Ok.at here)
+    omega (arith, entries.ok.0, index-within nat_cmp c.args.neighbour entries.items c.in-Ok.at here)
 
 pub remove-requires-then-is_empty : goal.remove-requires-then-is_empty
 remove-requires-then-is_empty c =
     let entries = c.self.inside.entries in
     let here = rw c.deref.ensures.value at c.in-Ok.ensures.found in
-    omega (arith, entries.ok.0, place-within nat_cmp c.args.neighbour entries.items c.in-Ok.at here)
+    omega (arith, entries.ok.0, index-within nat_cmp c.args.neighbour entries.items c.in-Ok.at here)
 
 pub invariant_of-self : goal.invariant_of-self
 invariant_of-self c =

@@ -1,20 +1,20 @@
 use Rattle.std.proofs.Common.{Some, sym, ap, ◌∙◌, arith}
 use Rattle.decision_groups.specs.Order.{RankedSource, from_order, rank_at}
-use Rattle.decision_groups.proofs.Places.{place-within, lookup_place, lookup_gap}
+use Rattle.decision_groups.proofs.Indices.{index-within, lookup_index, lookup_gap}
 use Rattle.decision_groups.proofs.ranks.Ranks.get.Goals as goal
 
 pub index-requires : goal.index-requires
 index-requires c =
     let entries = c.self.inside.entries in
     let here = rw c.deref.ensures.value at c.in-Ok.ensures.found in
-    omega (arith, entries.ok.0, place-within from_order c.args.from entries.items c.in-Ok.at here)
+    omega (arith, entries.ok.0, index-within from_order c.args.from entries.items c.in-Ok.at here)
 
 pub returns-in-Ok : goal.returns-in-Ok
 returns-in-Ok c =
     let es = c.self.inside.entries.items in
     let here = rw c.deref.ensures.value at c.in-Ok.ensures.found in
     ap (λ (e : RankedSource). Some e.1) c.index.ensures
-    ∙ (sym (lookup_place from_order c.args.from es c.in-Ok.at c.index.result.now here)
+    ∙ (sym (lookup_index from_order c.args.from es c.in-Ok.at c.index.result.now here)
     ∙ ap (λ cs. rank_at cs c.args.from) c.self.view_is)
 
 pub returns-in-Err : goal.returns-in-Err

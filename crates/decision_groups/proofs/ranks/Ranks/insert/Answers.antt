@@ -2,7 +2,7 @@ use Rattle.std.proofs.Common.{◌≡◌, Some, None, sym, ap, ◌∙◌, subst, 
 use Rattle.decision_groups.specs.Order.{RankedSource, from_order, IsInOrder, rank_at, with_rank}
 use Rattle.decision_groups.proofs.OrderLaws.{from_order_total}
 use Rattle.decision_groups.proofs.Entries.{sorted-insert}
-use Rattle.decision_groups.proofs.Places.{place-within, gap-within, lookup_place, insert_over, lookup_gap, insert_gap}
+use Rattle.decision_groups.proofs.Indices.{index-within, gap-within, lookup_index, insert_over, lookup_gap, insert_gap}
 use Rattle.decision_groups.proofs.ranks.Ranks.insert.Goals as goal
 
 -- ---- where a rank was
@@ -11,7 +11,7 @@ pub index_mut-requires : goal.index_mut-requires
 index_mut-requires c =
     let entries = c.self.inside.entries in
     let here = rw c.deref.ensures.value at c.in-Ok.ensures.found in
-    omega (arith, entries.ok.0, place-within from_order c.args.from entries.items c.in-Ok.at here)
+    omega (arith, entries.ok.0, index-within from_order c.args.from entries.items c.in-Ok.at here)
 
 pub invariant_of-self : goal.invariant_of-self
 invariant_of-self c =
@@ -25,7 +25,7 @@ returns-in-Ok-clause-replaced c =
     let es = c.self.inside.entries.items in
     let here = rw c.deref.ensures.value at c.in-Ok.ensures.found in
     ap Some (c.replace.ensures.value ∙ ap (λ (e : RankedSource). e.1) c.index_mut.ensures.value)
-    ∙ (sym (lookup_place from_order c.args.from es c.in-Ok.at c.index_mut.result.now here)
+    ∙ (sym (lookup_index from_order c.args.from es c.in-Ok.at c.index_mut.result.now here)
     ∙ ap (λ cs. rank_at cs c.args.from) c.self.view_is)
 
 pub returns-in-Ok-clause-ok : goal.returns-in-Ok-clause-ok

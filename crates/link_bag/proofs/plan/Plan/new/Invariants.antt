@@ -8,7 +8,7 @@ use Rattle.link_bag.specs.Fates.{fate_by}
 use Rattle.link_bag.specs.Planned.{is_fault_for}
 use Rattle.link_bag.proofs.plan.Plan.new.Given as goal
 
--- the map has the fates of the faults from the place on
+-- the map has the fates of the faults from the index on
 abbrev pub invariant-loop-left : goal.invariant-loop-left
 invariant-loop-left l = record {
   within : l.left ≤ length l.faults;

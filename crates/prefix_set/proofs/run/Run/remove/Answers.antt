@@ -1,8 +1,8 @@
 use Rattle.std.proofs.Common.{◌≡◌, false, List, refl, sym, ap, ◌∙◌, subst}
 use Rattle.std.specs.FinMap as map
 use Rattle.bgp_types.specs.Tables.{prefix_cmp}
-use Rattle.prefix_table.specs.Places.{IsPlaceOfPrefix, IsGapForPrefix}
-use Rattle.prefix_table.proofs.Places.{put_at, find_gap}
+use Rattle.prefix_table.specs.Indices.{IsIndexOfPrefix, IsGapForPrefix}
+use Rattle.prefix_table.proofs.Indices.{put_at, find_gap}
 use Rattle.prefix_set.specs.Slots.{Slot, is_held, united}
 use Rattle.prefix_set.proofs.Sets.{remove_slot, remove_out}
 use Rattle.prefix_set.proofs.Slots.{slots_out}
@@ -15,13 +15,13 @@ returns-then-is_before c beside =
 
 pub invariant_of-self : goal.invariant_of-self
 invariant_of-self c =
-    let here = subst (λ (xs : List Slot). IsPlaceOfPrefix xs c.args.prefix c.in-Ok.at) c.deref-2.ensures.value c.in-Ok.ensures.found in
+    let here = subst (λ (xs : List Slot). IsIndexOfPrefix xs c.args.prefix c.in-Ok.at) c.deref-2.ensures.value c.in-Ok.ensures.found in
     slots_out c.self.inside.slots.items c.self.inside.start c.in-Ok.at c.args.prefix c.self.invariant here
 
 pub returns-in-Ok : goal.returns-in-Ok
 returns-in-Ok c beside =
     let es = c.self.inside.slots.items in
-    let here = subst (λ (xs : List Slot). IsPlaceOfPrefix xs c.args.prefix c.in-Ok.at) c.deref-2.ensures.value c.in-Ok.ensures.found in
+    let here = subst (λ (xs : List Slot). IsIndexOfPrefix xs c.args.prefix c.in-Ok.at) c.deref-2.ensures.value c.in-Ok.ensures.found in
     c.skip.ensures (map.remove beside c.args.prefix)
     ∙ (ap (λ (xs : List Slot). united xs (map.remove beside c.args.prefix)) (sym (put_at es c.args.prefix c.in-Ok.at here (c.args.prefix, false) false))
     ∙ (remove_slot es c.self.invariant.rise beside c.args.prefix

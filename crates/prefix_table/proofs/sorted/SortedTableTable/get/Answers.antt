@@ -3,14 +3,14 @@ use Rattle.std.specs.FinMap as map
 use Rattle.bgp_types.specs.Prefixes.{PrefixValue}
 use Rattle.bgp_types.specs.Tables.{prefix_cmp}
 use Rattle.bgp_types.proofs.TableLaws.{table_get}
-use Rattle.prefix_table.specs.Places.{IsPlaceOfPrefix, IsGapForPrefix}
-use Rattle.prefix_table.proofs.Places.{find_at, find_gap}
+use Rattle.prefix_table.specs.Indices.{IsIndexOfPrefix, IsGapForPrefix}
+use Rattle.prefix_table.proofs.Indices.{find_at, find_gap}
 use Rattle.prefix_table.proofs.sorted.SortedTableTable.get.Goals as goal
 
 pub returns-in-Ok : goal.returns-in-Ok
 returns-in-Ok g c =
     let es = c.self.inside.entries.items in
-    let here = subst (λ (xs : List (PrefixValue × g.row.V.Denot)). IsPlaceOfPrefix xs c.args.prefix c.in-Ok.at) c.deref.ensures.value c.in-Ok.ensures.found in
+    let here = subst (λ (xs : List (PrefixValue × g.row.V.Denot)). IsIndexOfPrefix xs c.args.prefix c.in-Ok.at) c.deref.ensures.value c.in-Ok.ensures.found in
     ap (λ (e : PrefixValue × g.row.V.Denot). Some e.1) c.index.ensures
     ∙ (sym (find_at es c.args.prefix c.in-Ok.at here c.index.result.now)
     ∙ (sym (table_get es c.self.invariant c.args.prefix)

@@ -4,8 +4,8 @@ use Rattle.std.proofs.lemmas.List.{take_rest}
 use Rattle.bgp_types.specs.Prefixes.{PrefixValue}
 use Rattle.bgp_types.specs.Tables.{first_above}
 use Rattle.bgp_types.proofs.TableLaws.{table_keys}
-use Rattle.prefix_table.specs.Places.{IsPlaceOfPrefix, IsGapForPrefix, first_prefix}
-use Rattle.prefix_table.proofs.Places.{first_of_all, first_in_gap, first_past}
+use Rattle.prefix_table.specs.Indices.{IsIndexOfPrefix, IsGapForPrefix, first_prefix}
+use Rattle.prefix_table.proofs.Indices.{first_of_all, first_in_gap, first_past}
 use Rattle.prefix_table.proofs.sorted.SortedTableTable.next_after.Goals as goal
 
 pub returns-in_default : goal.returns-in_default
@@ -22,7 +22,7 @@ returns-in-Ok g c =
     let es = c.self.inside.entries.items in
     let p = c.in-Some.prefix in
     let at = c.in-Ok.at in
-    let here = subst (λ (xs : List (PrefixValue × g.row.V.Denot)). IsPlaceOfPrefix xs p at) c.deref-2.ensures.value c.in-Ok.ensures.found in
+    let here = subst (λ (xs : List (PrefixValue × g.row.V.Denot)). IsIndexOfPrefix xs p at) c.deref-2.ensures.value c.in-Ok.ensures.found in
     c.first-in-Ok.ensures
     ∙ (ap first_prefix (take_rest c.deref-in-Ok.result.now (at + 1))
     ∙ (ap (λ (xs : List (PrefixValue × g.row.V.Denot)). first_prefix (drop (at + 1) xs)) c.deref-in-Ok.ensures.value

@@ -17,7 +17,7 @@ pub returns-in-Some-clause-keeps : goal.returns-in-Some-clause-keeps
 returns-in-Some-clause-keeps c =
     let some = c.room_for.ensures.some c.in-Some.number c.in-Some.is in
     keeps_joins c.args.self.now c.args.attrs c.in_ok-code.code c.requires.keeps c.in_ok-code.ensures c.join.new.self c.args.prefix c.prefix_len-len.result c.prefix_len-len.ensures.octets c.in-Some.number some.0
-    c.join.result c.join.ensures.batches c.join.ensures.wide c.join.ensures.octets c.join.ensures.places
+    c.join.result c.join.ensures.batches c.join.ensures.wide c.join.ensures.octets c.join.ensures.indices
 
 pub returns-in-Some-clause-adds : goal.returns-in-Some-clause-adds
 returns-in-Some-clause-adds c =
@@ -28,7 +28,7 @@ returns-in-Some-clause-adds c =
 pub returns-in-None-clause-keeps : goal.returns-in-None-clause-keeps
 returns-in-None-clause-keeps c =
     keeps_begins c.args.self.now c.args.attrs c.in_ok-code.code c.requires.keeps c.in_ok-code.ensures c.begin.new.self c.args.prefix c.prefix_len-len.result c.prefix_len-len.ensures.octets
-    (λ number at. c.room_for.ensures.none number c.in-None.is at) c.begin.result c.begin.ensures.batches c.begin.ensures.wide c.begin.ensures.octets c.begin.ensures.places
+    (λ number at. c.room_for.ensures.none number c.in-None.is at) c.begin.result c.begin.ensures.batches c.begin.ensures.wide c.begin.ensures.octets c.begin.ensures.indices
 
 pub returns-in-None-clause-adds : goal.returns-in-None-clause-adds
 returns-in-None-clause-adds c =

@@ -45,7 +45,7 @@ returns-in-Some-clause-keeps c =
     let is = code_is told c.args.attrs.now c.args.rib.now.config.home_as c.home_as.result c.args.view.now.local_address c.in_ok-code.code c.home_as.ensures c.requires.passes c.in_ok-code.ensures in
     let some = c.room_for.ensures.some c.in-Some.number c.in-Some.is in
     keeps_joins c.args.self.now told c.in_ok-code.code c.requires.keeps is c.join.new.self c.args.prefix c.prefix_len-len.result c.prefix_len-len.ensures.octets c.in-Some.number some.0
-    c.join.result c.join.ensures.batches c.join.ensures.wide c.join.ensures.octets c.join.ensures.places
+    c.join.result c.join.ensures.batches c.join.ensures.wide c.join.ensures.octets c.join.ensures.indices
 
 pub returns-in-Some-clause-adds : goal.returns-in-Some-clause-adds
 returns-in-Some-clause-adds c =
@@ -64,7 +64,7 @@ returns-in_ok-told-in-None-clause-keeps c =
     let told = c.in_ok-told-in-None.told in
     let is = code_is told c.args.attrs.now c.args.rib.now.config.home_as c.home_as.result c.args.view.now.local_address c.in_ok-code.code c.home_as.ensures (c.in_ok-told-in-None.ensures ∙ c.requires.passes) c.in_ok-code.ensures in
     keeps_begins c.args.self.now told c.in_ok-code.code c.requires.keeps is c.begin.new.self c.args.prefix c.prefix_len-len.result c.prefix_len-len.ensures.octets
-    (λ number at. c.room_for.ensures.none number c.in-None.is at) c.begin.result c.begin.ensures.batches c.begin.ensures.wide c.begin.ensures.octets c.begin.ensures.places
+    (λ number at. c.room_for.ensures.none number c.in-None.is at) c.begin.result c.begin.ensures.batches c.begin.ensures.wide c.begin.ensures.octets c.begin.ensures.indices
 
 pub returns-in_ok-told-in-None-clause-adds : goal.returns-in_ok-told-in-None-clause-adds
 returns-in_ok-told-in-None-clause-adds c =

@@ -4,15 +4,15 @@ use Rattle.lab_keys.specs.declared.table_at.TableAt.{TableAt}
 use Rattle.lab_keys.specs.declared.table_at.TableAt.TheVariants.{Top, Router, Policy, Rule, Cost, Peering, Fault, Step}
 
 -- a key of a table and, for a member of the array at that key, its index
-pub record KeyPlace : Type 0 where
+pub record KeySpot : Type 0 where
   pub table : TableAt
   pub key : List ℕ
   pub member : Option ℕ
 
-abbrev pub place : TableAt → List ℕ → KeyPlace
-place at key = record { table = at; key = key; member = None }
+abbrev pub spot_of : TableAt → List ℕ → KeySpot
+spot_of at key = record { table = at; key = key; member = None }
 
-abbrev pub member_of : KeyPlace → ℕ → KeyPlace
+abbrev pub member_of : KeySpot → ℕ → KeySpot
 member_of p i = record p { member = Some i }
 
 -- ---- paths, with indices from 0, like `router[0].policy[1].rule[0].ge` or `step[3].prefixes[2]`
@@ -34,5 +34,5 @@ abbrev pub member_text : Option ℕ → List ℕ
 member_text None = []
 member_text (Some i) = index_text i
 
-abbrev pub key_place_text : KeyPlace → List ℕ
-key_place_text p = table_text p.table ++ p.key ++ member_text p.member
+abbrev pub key_spot_text : KeySpot → List ℕ
+key_spot_text p = table_text p.table ++ p.key ++ member_text p.member

@@ -1,4 +1,4 @@
--- The place of a key among entries in the order of their keys.
+-- The index of a key among entries in the order of their keys.
 use Rattle.std.specs.Prelude.{◌≡◌, ℕ, zero, suc, List, [], ◌∷◌}
 use Rattle.std.specs.List.{AllByRecursion}
 use Rattle.std.specs.Map.{keys_of}
@@ -10,10 +10,10 @@ abbrev pub IsBelowAll : {K X : Type 0} → (K → K → Ordering) → K → List
 IsBelowAll R k es = AllByRecursion (λ q. R k q ≡ Less) (keys_of es)
 
 -- the key is that of the entry at this index, and above those of the entries before it
-abbrev pub IsPlaceOfKey : {K X : Type 0} → (K → K → Ordering) → K → List (K × X) → ℕ → Type 0
-IsPlaceOfKey R k [] at = ⊥
-IsPlaceOfKey R k (e ∷ es) zero = R k e.0 ≡ Equal
-IsPlaceOfKey R k (e ∷ es) (suc at) = (R k e.0 ≡ Greater) × IsPlaceOfKey R k es at
+abbrev pub IsIndexOfKey : {K X : Type 0} → (K → K → Ordering) → K → List (K × X) → ℕ → Type 0
+IsIndexOfKey R k [] at = ⊥
+IsIndexOfKey R k (e ∷ es) zero = R k e.0 ≡ Equal
+IsIndexOfKey R k (e ∷ es) (suc at) = (R k e.0 ≡ Greater) × IsIndexOfKey R k es at
 
 -- the key is above those of the entries before this index, and below those of the others
 abbrev pub IsGapForKey : {K X : Type 0} → (K → K → Ordering) → K → List (K × X) → ℕ → Type 0

@@ -10,11 +10,11 @@ use std::marker::Model;
 
 /// A list of names, each of which stands for its index.
 #[derive(Drop)]
-pub struct Places {
+pub struct NameIndex {
     names: Items<Name>,
 }
 
-impl Model for Places {
+impl Model for NameIndex {
     ghost use Rattle.std.specs.Prelude.{ℕ, List, length, ◌<◌};
 
     ghost Value = { List (List ℕ) };
@@ -32,22 +32,22 @@ fn is_name_of(text: &str, name: &Name) -> bool
 }
 
 /// Returns the index of the first of these names that equals a text.
-fn place_in(text: &str, names: &[Name]) -> Option<usize>
+fn index_in(text: &str, names: &[Name]) -> Option<usize>
     ensures { result ≡ position (bytes_eq text.now) names.now }
 {
     names.iter().position(|name| is_name_of(text, name))
 }
 
-impl Places {
+impl NameIndex {
     /// Returns a list of these names. More than 255 of them are refused with `NoMemory`; no input that meets the rules
     /// has so many.
-    pub fn of(names: Items<Name>) -> Result<Places, NoMemory>
-        ensures { IfOk result (λ places. places ≡ names) }
+    pub fn of(names: Items<Name>) -> Result<NameIndex, NoMemory>
+        ensures { IfOk result (λ index. index ≡ names) }
     {
         if names.len() > 255 {
             return Err(NoMemory);
         }
-        Ok(Places { names })
+        Ok(NameIndex { names })
     }
 
     /// Returns whether the list has this name.
@@ -61,8 +61,8 @@ impl Places {
     pub fn number_of(&self, text: &str) -> u8
         ensures { result ≡ index_of_name self.now text.now }
     {
-        match place_in(text, &self.names) {
-            Some(place) => place as u8,
+        match index_in(text, &self.names) {
+            Some(index) => index as u8,
             None => 0,
         }
     }

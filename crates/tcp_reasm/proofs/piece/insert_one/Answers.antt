@@ -1,7 +1,7 @@
 use Rattle.std.proofs.Common.{◌∙◌}
 use Rattle.std.specs.Prelude.{insert}
 use Rattle.tcp_reasm.proofs.Placed.{placed_at, if_ok}
-use Rattle.tcp_reasm.proofs.piece.place_one.Goals as goal
+use Rattle.tcp_reasm.proofs.piece.insert_one.Goals as goal
 
 pub returns-clause-runs : goal.returns-clause-runs
 returns-clause-runs c = (placed_at c.args.piece c.args.pieces.now.items c.as_slice.result.now c.insert.new.self.items c.begun_count-index.result

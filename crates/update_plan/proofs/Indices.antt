@@ -16,24 +16,24 @@ use Rattle.bgp_types.specs.Lengths.{prefix_size}
 use Rattle.bgp_types.specs.Prefixes.{PrefixValue}
 use Rattle.update_plan.specs.declared.batch.Batch.{Batch}
 use Rattle.update_plan.specs.Codes.{value_code}
-use Rattle.update_plan.specs.Gathering.{NoneTells, LastThatTells, IsPlaceOfUpdate, PlaceFor, AddsToUpdates, with_prefix, batch_octets}
+use Rattle.update_plan.specs.Gathering.{NoneTells, LastThatTells, IsIndexOfUpdate, IndexFor, AddsToUpdates, with_prefix, batch_octets}
 use Rattle.update_plan.specs.Plans.{octets}
 use Rattle.update_plan.proofs.CodeLaws.{value-same}
 use Rattle.update_plan.proofs.Lasts.{none_replaced, none_there, one_last, still_last}
 use Rattle.update_plan.proofs.Sizes.{one_more}
 
-abbrev pub Places : Type 0
-Places = BTreeMap (List ℕ) ℕ
+abbrev pub Indices : Type 0
+Indices = BTreeMap (List ℕ) ℕ
 
-abbrev pub found : Places → Option Attrs → Option ℕ
-found places attrs = get (slice_cmp nat_cmp) places (value_code attrs)
+abbrev pub found : Indices → Option Attrs → Option ℕ
+found indices attrs = get (slice_cmp nat_cmp) indices (value_code attrs)
 
 equal : (o : Ordering) → is_eq o ≡ true → o ≡ Equal
 equal Less e = absurd (false≢true e)
 equal Equal e = refl
 equal Greater e = absurd (false≢true e)
 
--- one value has another place, and each other value the one that it had
+-- one value has another index, and each other value the one that it had
 pub found_here : (attrs v : Option Attrs) → is_at (slice_cmp nat_cmp (value_code attrs)) (value_code v) ≡ true → attrs ≡ v
 found_here attrs v e = value-same attrs v (exact_bytes (value_code attrs) (value_code v) (equal (slice_cmp nat_cmp (value_code attrs) (value_code v)) e))
 
@@ -43,23 +43,23 @@ found_other attrs v e same =
     false≢true (sym e ∙ (ap (λ (w : Option Attrs). is_at (slice_cmp nat_cmp (value_code attrs)) (value_code w)) (sym same) ∙ ap is_eq itself))
 
 -- what is found for each value, where it is right for one and stays right for the others
-module _ (attrs : Option Attrs) (old new : List Batch) (places places' : Places) (number : ℕ) where
+module _ (attrs : Option Attrs) (old new : List Batch) (indices indices' : Indices) (number : ℕ) where
   abbrev FoundThen : Type 0
-  FoundThen = (v : Option Attrs) → found places' v ≡ cond (is_at (slice_cmp nat_cmp (value_code attrs)) (value_code v)) (Some number) (found places v)
+  FoundThen = (v : Option Attrs) → found indices' v ≡ cond (is_at (slice_cmp nat_cmp (value_code attrs)) (value_code v)) (Some number) (found indices v)
 
-  pub found_then : FoundThen → IsPlaceOfUpdate attrs new number → ((v : Option Attrs) (o : Option ℕ) → attrs ≢ v → PlaceFor v old o → PlaceFor v new o)
-      → ((v : Option Attrs) → PlaceFor v old (found places v)) → (v : Option Attrs) → PlaceFor v new (found places' v)
+  pub found_then : FoundThen → IsIndexOfUpdate attrs new number → ((v : Option Attrs) (o : Option ℕ) → attrs ≢ v → IndexFor v old o → IndexFor v new o)
+      → ((v : Option Attrs) → IndexFor v old (found indices v)) → (v : Option Attrs) → IndexFor v new (found indices' v)
   found_then then here others before v =
-      elim (is_at (slice_cmp nat_cmp (value_code attrs)) (value_code v)) as (λ b. is_at (slice_cmp nat_cmp (value_code attrs)) (value_code v) ≡ b → found places' v ≡ cond b (Some number) (found places v) → PlaceFor v new (found places' v)) [
-        | true ↦ λ at is. subst (PlaceFor v new) (sym is) (subst (λ (w : Option Attrs). IsPlaceOfUpdate w new number) (found_here attrs v at) here)
-        | false ↦ λ at is. subst (PlaceFor v new) (sym is) (others v (found places v) (found_other attrs v at) (before v))
+      elim (is_at (slice_cmp nat_cmp (value_code attrs)) (value_code v)) as (λ b. is_at (slice_cmp nat_cmp (value_code attrs)) (value_code v) ≡ b → found indices' v ≡ cond b (Some number) (found indices v) → IndexFor v new (found indices' v)) [
+        | true ↦ λ at is. subst (IndexFor v new) (sym is) (subst (λ (w : Option Attrs). IsIndexOfUpdate w new number) (found_here attrs v at) here)
+        | false ↦ λ at is. subst (IndexFor v new) (sym is) (others v (found indices v) (found_other attrs v at) (before v))
       ] refl (then v)
 
-found_still : (attrs : Option Attrs) (places : Places) (number : ℕ) → found places attrs ≡ Some number → (v : Option Attrs)
-    → found places v ≡ cond (is_at (slice_cmp nat_cmp (value_code attrs)) (value_code v)) (Some number) (found places v)
-found_still attrs places number is v =
-    elim (is_at (slice_cmp nat_cmp (value_code attrs)) (value_code v)) as (λ b. is_at (slice_cmp nat_cmp (value_code attrs)) (value_code v) ≡ b → found places v ≡ cond b (Some number) (found places v)) [
-      | true ↦ λ at. subst (λ (w : Option Attrs). found places w ≡ Some number) (found_here attrs v at) is
+found_still : (attrs : Option Attrs) (indices : Indices) (number : ℕ) → found indices attrs ≡ Some number → (v : Option Attrs)
+    → found indices v ≡ cond (is_at (slice_cmp nat_cmp (value_code attrs)) (value_code v)) (Some number) (found indices v)
+found_still attrs indices number is v =
+    elim (is_at (slice_cmp nat_cmp (value_code attrs)) (value_code v)) as (λ b. is_at (slice_cmp nat_cmp (value_code attrs)) (value_code v) ≡ b → found indices v ≡ cond b (Some number) (found indices v)) [
+      | true ↦ λ at. subst (λ (w : Option Attrs). found indices w ≡ Some number) (found_here attrs v at) is
       | false ↦ λ at. refl
     ] refl
 
@@ -85,11 +85,11 @@ module _ (wide : Bool) (before after : List Batch) (batch : Batch) (n : ℕ) (at
 
 -- ---- a prefix joins
 
-pub place_is : (attrs : Option Attrs) (batches : List Batch) (o : Option ℕ) (number : ℕ) → o ≡ Some number → PlaceFor attrs batches o
-    → IsPlaceOfUpdate attrs batches number
-place_is attrs batches o number e p = subst (PlaceFor attrs batches) e p
+pub index_is : (attrs : Option Attrs) (batches : List Batch) (o : Option ℕ) (number : ℕ) → o ≡ Some number → IndexFor attrs batches o
+    → IsIndexOfUpdate attrs batches number
+index_is attrs batches o number e p = subst (IndexFor attrs batches) e p
 
-pub number_in : (attrs : Option Attrs) (batches : List Batch) (number : ℕ) → IsPlaceOfUpdate attrs batches number → number < length batches
+pub number_in : (attrs : Option Attrs) (batches : List Batch) (number : ℕ) → IsIndexOfUpdate attrs batches number → number < length batches
 number_in attrs batches number is =
     let a = ap length is.there.is in
     let b = length-append is.before (is.batch ∷ is.after) in
@@ -97,13 +97,13 @@ number_in attrs batches number is =
     omega arith
 
 joined_other : (before after : List Batch) (batch : Batch) (prefix : PrefixValue) (v : Option Attrs) (o : Option ℕ) → batch.attrs ≢ v
-    → PlaceFor v (before ++ batch ∷ after) o → PlaceFor v (before ++ with_prefix batch prefix ∷ after) o
+    → IndexFor v (before ++ batch ∷ after) o → IndexFor v (before ++ with_prefix batch prefix ∷ after) o
 joined_other before after batch prefix v None apart none = none_replaced v before after batch (with_prefix batch prefix) apart none
 joined_other before after batch prefix v (Some number) apart is =
     let s = still_last v before is.before after is.after batch (with_prefix batch prefix) is.batch apart apart is.there.is is.there.told is.there.last in
     record { before = s.front; batch = is.batch; after = s.after; there = s.there; is_number = is.is_number ∙ sym s.number }
 
-module _ (wide : Bool) (attrs : Option Attrs) (prefix : PrefixValue) (old : List Batch) (counts : List ℕ) (counted : counts ≡ map (batch_octets wide) old) (number : ℕ) (is : IsPlaceOfUpdate attrs old number) where
+module _ (wide : Bool) (attrs : Option Attrs) (prefix : PrefixValue) (old : List Batch) (counts : List ℕ) (counted : counts ≡ map (batch_octets wide) old) (number : ℕ) (is : IsIndexOfUpdate attrs old number) where
   count_is : get_or counts number 0 ≡ batch_octets wide is.batch
   count_is = ap (λ (l : List ℕ). get_or l number 0) (counted ∙ ap (map (batch_octets wide)) is.there.is)
       ∙ octets_at wide is.before is.after is.batch number (sym is.is_number)
@@ -130,7 +130,7 @@ module _ (wide : Bool) (attrs : Option Attrs) (prefix : PrefixValue) (old : List
         ∙ (octets_set wide is.before is.after is.batch number (sym is.is_number) (with_prefix is.batch prefix) (get_or counts number 0 + prefix_size prefix) more
         ∙ ap (map (batch_octets wide)) (sym effect))
 
-    joined_here : IsPlaceOfUpdate attrs new number
+    joined_here : IsIndexOfUpdate attrs new number
     joined_here = record {
       before = is.before;
       batch = with_prefix is.batch prefix;
@@ -139,15 +139,15 @@ module _ (wide : Bool) (attrs : Option Attrs) (prefix : PrefixValue) (old : List
       is_number = is.is_number;
     }
 
-    pub found_joined : (places : Places) → found places attrs ≡ Some number → ((v : Option Attrs) → PlaceFor v old (found places v))
-        → (v : Option Attrs) → PlaceFor v new (found places v)
-    found_joined places at before = found_then attrs old new places places number (found_still attrs places number at) joined_here
-        (λ v o apart p. subst (λ (l : List Batch). PlaceFor v l o) (sym effect) (joined_other is.before is.after is.batch prefix v o (λ e. apart (sym is.there.told ∙ e)) (subst (λ (l : List Batch). PlaceFor v l o) is.there.is p)))
+    pub found_joined : (indices : Indices) → found indices attrs ≡ Some number → ((v : Option Attrs) → IndexFor v old (found indices v))
+        → (v : Option Attrs) → IndexFor v new (found indices v)
+    found_joined indices at before = found_then attrs old new indices indices number (found_still attrs indices number at) joined_here
+        (λ v o apart p. subst (λ (l : List Batch). IndexFor v l o) (sym effect) (joined_other is.before is.after is.batch prefix v o (λ e. apart (sym is.there.told ∙ e)) (subst (λ (l : List Batch). IndexFor v l o) is.there.is p)))
         before
 
 -- ---- a prefix begins an UPDATE
 
-begun_other : (old : List Batch) (batch : Batch) (v : Option Attrs) (o : Option ℕ) → batch.attrs ≢ v → PlaceFor v old o → PlaceFor v (old ++ batch ∷ []) o
+begun_other : (old : List Batch) (batch : Batch) (v : Option Attrs) (o : Option ℕ) → batch.attrs ≢ v → IndexFor v old o → IndexFor v (old ++ batch ∷ []) o
 begun_other old batch v None apart none = All-push (λ b. b.attrs ≢ v) old batch none apart
 begun_other old batch v (Some number) apart is = record {
   before = is.before;
@@ -162,21 +162,21 @@ begun_other old batch v (Some number) apart is = record {
 }
 
 module _ (wide : Bool) (attrs : Option Attrs) (prefix : PrefixValue) (old : List Batch) (counts : List ℕ) (counted : counts ≡ map (batch_octets wide) old) where
-  full_place : (before after : List Batch) (batch : Batch) (o : Option ℕ)
+  full_index : (before after : List Batch) (batch : Batch) (o : Option ℕ)
       → ((number : ℕ) → o ≡ Some number → 4096 < get_or counts number 0 + prefix_size prefix)
-      → PlaceFor attrs old o → LastThatTells attrs old before batch after → 4096 < octets wide attrs (batch.prefixes ++ prefix ∷ [])
-  full_place before after batch None full none last = absurd (none_there attrs before after batch (subst (NoneTells attrs) last.is none) last.told)
-  full_place before after batch (Some number) full is last =
+      → IndexFor attrs old o → LastThatTells attrs old before batch after → 4096 < octets wide attrs (batch.prefixes ++ prefix ∷ [])
+  full_index before after batch None full none last = absurd (none_there attrs before after batch (subst (NoneTells attrs) last.is none) last.told)
+  full_index before after batch (Some number) full is last =
       let same : is.batch ≡ batch = one_last attrs is.before before is.after after is.batch batch (sym is.there.is ∙ last.is) is.there.told is.there.last last.told last.last in
       let size : octets wide attrs (batch.prefixes ++ prefix ∷ []) ≡ get_or counts number 0 + prefix_size prefix =
       ap (λ (b : Batch). octets wide attrs (b.prefixes ++ prefix ∷ [])) (sym same) ∙ grown wide attrs prefix old counts counted number is in
       subst (λ n. 4096 < n) (sym size) (full number refl)
 
-  module _ (new : List Batch) (places : Places) (effect : new ≡ old ++ record { attrs = attrs; prefixes = prefix ∷ [] } ∷ []) where
-    pub begins : ((number : ℕ) → found places attrs ≡ Some number → 4096 < get_or counts number 0 + prefix_size prefix)
-        → ((v : Option Attrs) → PlaceFor v old (found places v)) → AddsToUpdates wide attrs prefix old new
+  module _ (new : List Batch) (indices : Indices) (effect : new ≡ old ++ record { attrs = attrs; prefixes = prefix ∷ [] } ∷ []) where
+    pub begins : ((number : ℕ) → found indices attrs ≡ Some number → 4096 < get_or counts number 0 + prefix_size prefix)
+        → ((v : Option Attrs) → IndexFor v old (found indices v)) → AddsToUpdates wide attrs prefix old new
     begins full before = inr (record {
-      full = λ front batch after last. full_place front after batch (found places attrs) full (before attrs) last;
+      full = λ front batch after last. full_index front after batch (found indices attrs) full (before attrs) last;
       effect = effect;
     })
 
@@ -185,7 +185,7 @@ module _ (wide : Bool) (attrs : Option Attrs) (prefix : PrefixValue) (old : List
         ap (λ (l : List ℕ). l ++ octets wide attrs (prefix ∷ []) ∷ []) counted
         ∙ (sym (map-append (batch_octets wide) old (record { attrs = attrs; prefixes = prefix ∷ [] } ∷ [])) ∙ ap (map (batch_octets wide)) (sym effect))
 
-    begun_here : IsPlaceOfUpdate attrs new (length old)
+    begun_here : IsIndexOfUpdate attrs new (length old)
     begun_here = record {
       before = old;
       batch = record { attrs = attrs; prefixes = prefix ∷ [] };
@@ -194,8 +194,8 @@ module _ (wide : Bool) (attrs : Option Attrs) (prefix : PrefixValue) (old : List
       is_number = refl;
     }
 
-    pub found_begun : (places' : Places) → Updates (slice_cmp nat_cmp) places places' (value_code attrs) (Some (length old))
-        → ((v : Option Attrs) → PlaceFor v old (found places v)) → (v : Option Attrs) → PlaceFor v new (found places' v)
-    found_begun places' updates before = found_then attrs old new places places' (length old) (λ v. updates.0 (value_code v)) begun_here
-        (λ v o apart p. subst (λ (l : List Batch). PlaceFor v l o) (sym effect) (begun_other old (record { attrs = attrs; prefixes = prefix ∷ [] }) v o apart p))
+    pub found_begun : (indices' : Indices) → Updates (slice_cmp nat_cmp) indices indices' (value_code attrs) (Some (length old))
+        → ((v : Option Attrs) → IndexFor v old (found indices v)) → (v : Option Attrs) → IndexFor v new (found indices' v)
+    found_begun indices' updates before = found_then attrs old new indices indices' (length old) (λ v. updates.0 (value_code v)) begun_here
+        (λ v o apart p. subst (λ (l : List Batch). IndexFor v l o) (sym effect) (begun_other old (record { attrs = attrs; prefixes = prefix ∷ [] }) v o apart p))
         before

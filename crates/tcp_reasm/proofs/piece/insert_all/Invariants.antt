@@ -2,7 +2,7 @@ use Rattle.std.proofs.Common.{◌≡◌, ℕ, ◌≤◌, ◌+◌, None, true, ve
 use Rattle.std.specs.Prelude.{is_some, vec_capacity}
 use Rattle.std.specs.Option.{option_or}
 use Rattle.tcp_reasm.specs.Runs.{held, AreRuns}
-use Rattle.tcp_reasm.proofs.piece.place_all.Given as goal
+use Rattle.tcp_reasm.proofs.piece.insert_all.Given as goal
 
 abbrev pub invariant-loop-piece : goal.invariant-loop-piece
 invariant-loop-piece l = record {

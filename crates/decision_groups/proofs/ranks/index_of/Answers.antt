@@ -5,8 +5,8 @@ use Rattle.std.specs.List.Sorted.{IsBinarySearchResult}
 use Rattle.std.specs.declared.cmp.Ordering.{Ordering}
 use Rattle.decision_groups.specs.Order.{RankedSource}
 use Rattle.decision_groups.proofs.OrderLaws.{from_order_total, derived_order}
-use Rattle.decision_groups.proofs.Places.{searched}
-use Rattle.decision_groups.proofs.ranks.place.Goals as goal
+use Rattle.decision_groups.proofs.Indices.{searched}
+use Rattle.decision_groups.proofs.ranks.index_of.Goals as goal
 
 -- the closure gives an entry's source
 pub returns-clause-found : goal.returns-clause-found

@@ -1,7 +1,7 @@
 use Rattle.std.proofs.Common.{sym, ◌∙◌, ap}
 use Rattle.std.specs.Prelude.{if◌then◌else◌, Some, None}
 use Rattle.tcp_reasm.proofs.Covered.{ahead, given_same}
-use Rattle.tcp_reasm.proofs.laws.same_places_same_bytes.Goals as goal
+use Rattle.tcp_reasm.proofs.laws.same_offsets_same_bytes.Goals as goal
 
 pub returns-clause-ahead : goal.returns-clause-ahead
 returns-clause-ahead c = ahead

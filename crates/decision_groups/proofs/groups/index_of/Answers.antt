@@ -1,8 +1,8 @@
 use Rattle.std.proofs.Common.{rules}
 use Rattle.std.proofs.lemmas.Cmp.{nat_cmp_total}
 use Rattle.std.proofs.lemmas.List.Sorted.{answers_always}
-use Rattle.decision_groups.proofs.Places.{searched}
-use Rattle.decision_groups.proofs.groups.place.Goals as goal
+use Rattle.decision_groups.proofs.Indices.{searched}
+use Rattle.decision_groups.proofs.groups.index_of.Goals as goal
 
 -- the closure gives an entry's number
 pub returns-clause-found : goal.returns-clause-found

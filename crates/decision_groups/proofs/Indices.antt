@@ -13,25 +13,25 @@ use Rattle.std.proofs.lemmas.List.{get_or-map}
 use Rattle.std.proofs.lemmas.List.Sorted.{searchable_from_sorted}
 use Rattle.std.proofs.lemmas.Map.Entries.{length-keys_of}
 use Rattle.std.proofs.lemmas.Map.Keys.{sorted_head, sorted_tail, Less-from_sorted}
-use Rattle.decision_groups.specs.Places.{IsBelowAll, IsPlaceOfKey, IsGapForKey}
+use Rattle.decision_groups.specs.Indices.{IsBelowAll, IsIndexOfKey, IsGapForKey}
 use Rattle.decision_groups.proofs.Entries.{insert_below, lookup_below}
 
 -- ---- what a search finds
 
 module _ {K X : Type 0} {R : K → K → Ordering} (o : IsTotalOrder R) (k : K) where
   -- a key that is below those of all entries is below the one that stands among them
-  below_place : (j : K) (es : List (K × X)) (at : ℕ) → IsBelowAll R j es → IsPlaceOfKey R k es at → R k j ≡ Greater
-  below_place j [] at below here = absurd here
-  below_place j (e ∷ es) zero below here = o.congr k e.0 j here ∙ (o.antisymm e.0 j ∙ ap ordering_reverse below.0)
-  below_place j (e ∷ es) (suc at) below here = below_place j es at below.1 here.1
+  below_index : (j : K) (es : List (K × X)) (at : ℕ) → IsBelowAll R j es → IsIndexOfKey R k es at → R k j ≡ Greater
+  below_index j [] at below here = absurd here
+  below_index j (e ∷ es) zero below here = o.congr k e.0 j here ∙ (o.antisymm e.0 j ∙ ap ordering_reverse below.0)
+  below_index j (e ∷ es) (suc at) below here = below_index j es at below.1 here.1
 
-  place_of : (es : List (K × X)) (at : ℕ) → IsStrictlySortedBy R (keys_of es) → at < length es → ((d : K × X) → R (get_or es at d).0 k ≡ Equal)
-      → IsPlaceOfKey R k es at
-  place_of [] at s within equal = absurd (omega (arith, within))
-  place_of (e ∷ es) zero s within equal = tied_back o e.0 k (equal e)
-  place_of (e ∷ es) (suc at) s within equal =
-      let further = place_of es at (sorted_tail R e.0 (keys_of es) s) (omega (arith, within)) equal in
-      (below_place e.0 es at (sorted_head R e.0 (keys_of es) s) further, further)
+  index_is : (es : List (K × X)) (at : ℕ) → IsStrictlySortedBy R (keys_of es) → at < length es → ((d : K × X) → R (get_or es at d).0 k ≡ Equal)
+      → IsIndexOfKey R k es at
+  index_is [] at s within equal = absurd (omega (arith, within))
+  index_is (e ∷ es) zero s within equal = tied_back o e.0 k (equal e)
+  index_is (e ∷ es) (suc at) s within equal =
+      let further = index_is es at (sorted_tail R e.0 (keys_of es) s) (omega (arith, within)) equal in
+      (below_index e.0 es at (sorted_head R e.0 (keys_of es) s) further, further)
 
   below_of : (es : List (K × X)) → ((i : ℕ) (d : K × X) → i < length es → R (get_or es i d).0 k ≡ Greater) → IsBelowAll R k es
   below_of [] above = tt
@@ -59,8 +59,8 @@ module _ {K X : Type 0} {R : K → K → Ordering} (o : IsTotalOrder R) (k : K) 
 
   -- a search by halves ends where the key stands, or would stand
   pub searched : (es : List (K × X)) → IsStrictlySortedBy R (keys_of es) → (r : Result ℕ ℕ) → IsSearchInRange r (length es)
-      → IsBinarySearchResult (λ e. R e.0 k) es r → record { found : IfOk r (IsPlaceOfKey R k es); absent : IfErr r (IsGapForKey R k es) }
-  searched es s (Ok at) within equal = record { found = place_of es at s within equal; absent = tt }
+      → IsBinarySearchResult (λ e. R e.0 k) es r → record { found : IfOk r (IsIndexOfKey R k es); absent : IfErr r (IsGapForKey R k es) }
+  searched es s (Ok at) within equal = record { found = index_is es at s within equal; absent = tt }
   searched es s (Err at) within parted =
       let parts = parted (searchable_from_sorted o (λ e. e.0) es k (λ i d low high. neighbours es s i d high)) in
       record {
@@ -71,38 +71,38 @@ module _ {K X : Type 0} {R : K → K → Ordering} (o : IsTotalOrder R) (k : K) 
 -- ---- what is there, and what a change leaves
 
 module _ {K X : Type 0} (R : K → K → Ordering) (k : K) where
-  pub place-within : (es : List (K × X)) (at : ℕ) → IsPlaceOfKey R k es at → at < length es
-  place-within [] at here = absurd here
-  place-within (e ∷ es) zero here = omega arith
-  place-within (e ∷ es) (suc at) here = omega (arith, place-within es at here.1)
+  pub index-within : (es : List (K × X)) (at : ℕ) → IsIndexOfKey R k es at → at < length es
+  index-within [] at here = absurd here
+  index-within (e ∷ es) zero here = omega arith
+  index-within (e ∷ es) (suc at) here = omega (arith, index-within es at here.1)
 
   pub gap-within : (es : List (K × X)) (at : ℕ) → IsGapForKey R k es at → at ≤ length es
   gap-within es zero gap = omega arith
   gap-within [] (suc at) gap = absurd gap
   gap-within (e ∷ es) (suc at) gap = omega (arith, gap-within es at gap.1)
 
-  pub lookup_place : (es : List (K × X)) (at : ℕ) (d : K × X) → IsPlaceOfKey R k es at → lookup (is_at (R k)) es ≡ Some (get_or es at d).1
-  lookup_place [] at d here = absurd here
-  lookup_place (e ∷ es) zero d here = rw here refl
-  lookup_place (e ∷ es) (suc at) d here = rw here.0 (lookup_place es at d here.1)
+  pub lookup_index : (es : List (K × X)) (at : ℕ) (d : K × X) → IsIndexOfKey R k es at → lookup (is_at (R k)) es ≡ Some (get_or es at d).1
+  lookup_index [] at d here = absurd here
+  lookup_index (e ∷ es) zero d here = rw here refl
+  lookup_index (e ∷ es) (suc at) d here = rw here.0 (lookup_index es at d here.1)
 
   -- the entry there keeps its key
-  insert_place : (es : List (K × X)) (at : ℕ) (d : K × X) (v : X) → IsPlaceOfKey R k es at → insert_entry R es k v ≡ set es at ((get_or es at d).0, v)
-  insert_place [] at d v here = absurd here
-  insert_place (e ∷ es) zero d v here = rw here refl
-  insert_place (e ∷ es) (suc at) d v here = rw here.0 (ap (λ (fs : List (K × X)). e ∷ fs) (insert_place es at d v here.1))
+  insert_index : (es : List (K × X)) (at : ℕ) (d : K × X) (v : X) → IsIndexOfKey R k es at → insert_entry R es k v ≡ set es at ((get_or es at d).0, v)
+  insert_index [] at d v here = absurd here
+  insert_index (e ∷ es) zero d v here = rw here refl
+  insert_index (e ∷ es) (suc at) d v here = rw here.0 (ap (λ (fs : List (K × X)). e ∷ fs) (insert_index es at d v here.1))
 
   -- e is the entry there, as it was read
-  pub insert_over : (es : List (K × X)) (at : ℕ) (e : K × X) (v : X) → e ≡ get_or es at e → IsPlaceOfKey R k es at → insert_entry R es k v ≡ set es at (e.0, v)
-  insert_over es at e v is here = insert_place es at e v here ∙ ap (λ (f : K × X). set es at (f.0, v)) (sym is)
+  pub insert_over : (es : List (K × X)) (at : ℕ) (e : K × X) (v : X) → e ≡ get_or es at e → IsIndexOfKey R k es at → insert_entry R es k v ≡ set es at (e.0, v)
+  insert_over es at e v is here = insert_index es at e v here ∙ ap (λ (f : K × X). set es at (f.0, v)) (sym is)
 
-  pub remove_place : (es : List (K × X)) (at : ℕ) → IsPlaceOfKey R k es at → remove_entry (is_at (R k)) es ≡ list.remove es at
-  remove_place [] at here = absurd here
-  remove_place (e ∷ es) zero here = rw here refl
-  remove_place (e ∷ es) (suc at) here = rw here.0 (ap (λ (fs : List (K × X)). e ∷ fs) (remove_place es at here.1))
+  pub remove_index : (es : List (K × X)) (at : ℕ) → IsIndexOfKey R k es at → remove_entry (is_at (R k)) es ≡ list.remove es at
+  remove_index [] at here = absurd here
+  remove_index (e ∷ es) zero here = rw here refl
+  remove_index (e ∷ es) (suc at) here = rw here.0 (ap (λ (fs : List (K × X)). e ∷ fs) (remove_index es at here.1))
 
   -- what was written over an entry is gone with it
-  pub remove_over : (es : List (K × X)) (at : ℕ) (e : K × X) → IsPlaceOfKey R k es at → list.remove (set es at e) at ≡ list.remove es at
+  pub remove_over : (es : List (K × X)) (at : ℕ) (e : K × X) → IsIndexOfKey R k es at → list.remove (set es at e) at ≡ list.remove es at
   remove_over [] at e here = absurd here
   remove_over (f ∷ es) zero e here = refl
   remove_over (f ∷ es) (suc at) e here = ap (λ (fs : List (K × X)). f ∷ fs) (remove_over es at e here.1)

@@ -1,7 +1,7 @@
 use Rattle.std.proofs.Common.{rules}
 use Rattle.std.proofs.lemmas.List.Sorted.{answers_always}
-use Rattle.prefix_table.proofs.Places.{searched}
-use Rattle.prefix_table.proofs.sorted.place.Goals as goal
+use Rattle.prefix_table.proofs.Indices.{searched}
+use Rattle.prefix_table.proofs.sorted.index_of.Goals as goal
 
 -- the closure gives an entry's prefix
 pub returns-clause-found : goal.returns-clause-found

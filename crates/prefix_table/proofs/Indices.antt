@@ -15,7 +15,7 @@ use Rattle.std.specs.Cmp.{tied_itself}
 use Rattle.bgp_types.specs.Prefixes.{PrefixValue}
 use Rattle.bgp_types.specs.Tables.{prefix_cmp, first_above}
 use Rattle.bgp_types.proofs.TableLaws.{prefix_total, exact_prefixes, without, put_right, put_left, find_right, find_above, without_right, without_above, rising_parts, next_right, below_not_above}
-use Rattle.prefix_table.specs.Places.{AllBelow, AllAbove, IsPlaceOfPrefix, IsGapForPrefix, first_prefix}
+use Rattle.prefix_table.specs.Indices.{AllBelow, AllAbove, IsIndexOfPrefix, IsGapForPrefix, first_prefix}
 
 module _ {A : Type 0} (P : A → Type 0) where
   each_taken : (xs : List A) (i : ℕ) → ((k : ℕ) (d : A) → k < i → k < length xs → P (get_or xs k d)) → AllByRecursion P (take i xs)
@@ -42,9 +42,9 @@ module _ {V : Type 0} where
       (All-from_recursion (λ x. prefix_cmp (get_or es k d).0 x.0 ≡ Less) (drop (suc k) es) parts.1 0 d (omega (arith, length-drop (suc k) es))) in
       ap is_lt (prefix_total.antisymm (get_or es (k + 1) d).0 (get_or es k d).0 ∙ ap ordering_reverse less)
 
-  -- where a prefix stands is its place
+  -- where a prefix stands is its index
   pub placed : (es : List (PrefixValue × V)) → T (is_sorted prefix_cmp es) → (p : PrefixValue) (at : ℕ) → at < length es
-      → ((d : PrefixValue × V) → (get_or es at d).0 ≡ p) → IsPlaceOfPrefix es p at
+      → ((d : PrefixValue × V) → (get_or es at d).0 ≡ p) → IsIndexOfPrefix es p at
   placed [] rise p at h has = absurd (omega arith)
   placed (e ∷ es) rise p at h has =
       let all = e ∷ es in
@@ -58,7 +58,7 @@ module _ {V : Type 0} where
 
   -- a search by halves ends where the prefix stands, or would stand
   pub searched : (es : List (PrefixValue × V)) → T (is_sorted prefix_cmp es) → (p : PrefixValue) (r : Result ℕ ℕ) → IsSearchInRange r (length es)
-      → IsBinarySearchResult (λ e. prefix_cmp e.0 p) es r → record { found : IfOk r (IsPlaceOfPrefix es p); absent : IfErr r (IsGapForPrefix es p) }
+      → IsBinarySearchResult (λ e. prefix_cmp e.0 p) es r → record { found : IfOk r (IsIndexOfPrefix es p); absent : IfErr r (IsGapForPrefix es p) }
   searched es rise p (Ok at) in_range equal = record { found = placed es rise p at in_range (λ d. exact_prefixes _ _ (equal d)); absent = tt }
   searched es rise p (Err at) in_range parted =
       let parts = parted (searchable_from_sorted prefix_total (λ e. e.0) es p (λ k d low high. neighbours es rise k d high)) in
@@ -73,7 +73,7 @@ module _ {V : Type 0} where
 
   -- ---- at the prefix
 
-  module _ (es : List (PrefixValue × V)) (p : PrefixValue) (at : ℕ) (here : IsPlaceOfPrefix es p at) where
+  module _ (es : List (PrefixValue × V)) (p : PrefixValue) (at : ℕ) (here : IsIndexOfPrefix es p at) where
     split : (d : PrefixValue × V) → es ≡ take at es ++ (p, (get_or es at d).1) ∷ drop (at + 1) es
     split d = split_at es at d here.in_range
         ∙ ap (λ (e : PrefixValue × V). take at es ++ e ∷ drop (suc at) es) (ap (λ (q : PrefixValue). (q, (get_or es at d).1)) (here.has d))
@@ -143,7 +143,7 @@ module _ {V : Type 0} where
       ∙ (next_right p (take at es) (drop at es) (below_not_above p (take at es) gap.before)
       ∙ first_of_above p (drop at es) gap.after)
 
-  pub first_past : (es : List (PrefixValue × V)) (p : PrefixValue) (at : ℕ) → IsPlaceOfPrefix es p at
+  pub first_past : (es : List (PrefixValue × V)) (p : PrefixValue) (at : ℕ) → IsIndexOfPrefix es p at
       → first_above (Some p) (map (λ e. e.0) es) ≡ first_prefix (drop (at + 1) es)
   first_past [] p at here = absurd (omega (arith, here.in_range))
   first_past (e ∷ es) p at here =

@@ -1,9 +1,9 @@
 use Rattle.std.proofs.Common.{Bool, sym, ap, ◌∙◌}
 use Rattle.std.proofs.lemmas.List.{get_or_default}
-use Rattle.prefix_table.proofs.Places.{placed}
+use Rattle.prefix_table.proofs.Indices.{placed}
 use Rattle.prefix_trie.proofs.Nodes.{same_prefix}
 use Rattle.prefix_set.specs.Slots.{Slot}
-use Rattle.prefix_set.proofs.run.place_near.Goals as goal
+use Rattle.prefix_set.proofs.run.index_near.Goals as goal
 
 pub returns-then-eq-clause-found : goal.returns-then-eq-clause-found
 returns-then-eq-clause-found c =

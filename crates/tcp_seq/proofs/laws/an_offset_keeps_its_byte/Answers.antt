@@ -1,4 +1,4 @@
-use Rattle.tcp_seq.proofs.laws.a_place_keeps_its_byte.Goals as goal
+use Rattle.tcp_seq.proofs.laws.an_offset_keeps_its_byte.Goals as goal
 use Rattle.tcp_seq.proofs.Arriving.{byte_stays, received_stays}
 
 pub returns-clause-byte : goal.returns-clause-byte
