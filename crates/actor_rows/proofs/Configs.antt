@@ -38,7 +38,7 @@ says_are opening first second third (suc (suc (suc (suc (suc (suc (suc (suc (suc
 
 pub is_config : (opening first second third : List ℕ) (says : List Say) (plan : Plan) → length opening ≤ 4096 → says ≡ says_of first second third
     → IsFarConfigOf (laboratory opening first second third)
-    (record { routers = 3; peerings = 2; peering = record { 0 = 0 }; pointer = record { 0 = 0 }; send_first = record { 0 = 5000 }; receive_first = record { 0 = 1000 }; opening = opening; says = says; plan = plan; wide = false; beat = 5 })
+    (record { routers = 3; peerings = 2; peering = record { 0 = 0 }; pointer = record { 0 = 0 }; send_first = record { 0 = 5000 }; receive_first = record { 0 = 1000 }; opening = opening; says = says; plan = plan; beat = 5 })
 is_config opening first second third says plan short said = record {
   peering = _;
   is = refl;

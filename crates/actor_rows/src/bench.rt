@@ -142,7 +142,7 @@ impl Bench {
     }
 
     /// Returns the first thing that it still has to do.
-    fn rest(&self, alloc: Global) -> Result<String> {
+    fn first_pending(&self, alloc: Global) -> Result<String> {
         let first = match &self.actor {
             Actor::FarSide(far) => far_rest(&far.rest()),
             Actor::TheOperator(operator) => operator_rest(&operator.rest()),
@@ -200,7 +200,7 @@ impl Bench {
     /// Returns the answer to a row that looks at the actor.
     fn look(&mut self, alloc: Global, words: &[&str]) -> Result<String> {
         match word(words, 0) {
-            "rest" => self.rest(alloc),
+            "rest" => self.first_pending(alloc),
             "log" => self.log(alloc),
             "state" => self.state(alloc),
             "sent" => self.sent(alloc, words),

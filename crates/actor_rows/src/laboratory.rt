@@ -82,7 +82,6 @@ pub fn far_side(alloc: Global, faults: &[Fault]) -> Result<Far, NoMemory> {
         opening,
         says,
         plan,
-        wide: false,
         beat: 5,
     };
     Far::new(alloc, known, config)

@@ -60,7 +60,7 @@ module _ (config : SessionConfig) (alloc : Global) (valid : IsPeering (peering_o
   first_state = fresh_end Remote config.peering config.send_first config.receive_first
 
   abbrev pub made : StoryValue → Routes → Routes → EndState → Parts
-  made story heard told end = record { alloc = alloc; config = config; story = story; heard = heard; told = told; end = end; opened = None; left = 0; next_round = 0 }
+  made story adj_rib_in adj_rib_out end = record { alloc = alloc; config = config; story = story; adj_rib_in = adj_rib_in; adj_rib_out = adj_rib_out; end = end; opened = None; left = 0; next_round = 0 }
 
   abbrev first_made : Parts
   first_made = made (record { lines = lines; remote_as = config.remote_as }) map.empty map.empty (with_sent first_state octets)
@@ -90,12 +90,12 @@ module _ (config : SessionConfig) (alloc : Global) (valid : IsPeering (peering_o
     next_round = refl;
   }
 
-  pub begins : (story : StoryValue) (heard told : Routes) (end : EndState) → story ≡ record { lines = lines; remote_as = config.remote_as }
-      → heard ≡ map.empty → told ≡ map.empty → end ≡ with_sent first_state octets
-      → (value_of (made story heard told end) ≡ begun config) × SessionInvariant (made story heard told end)
-  begins story heard told end a b c d =
-      subst (λ (x : StoryValue). (value_of (made x heard told end) ≡ begun config) × SessionInvariant (made x heard told end)) (sym a)
-      (subst (λ (x : Routes). (value_of (made (record { lines = lines; remote_as = config.remote_as }) x told end) ≡ begun config) × SessionInvariant (made (record { lines = lines; remote_as = config.remote_as }) x told end)) (sym b)
+  pub begins : (story : StoryValue) (adj_rib_in adj_rib_out : Routes) (end : EndState) → story ≡ record { lines = lines; remote_as = config.remote_as }
+      → adj_rib_in ≡ map.empty → adj_rib_out ≡ map.empty → end ≡ with_sent first_state octets
+      → (value_of (made story adj_rib_in adj_rib_out end) ≡ begun config) × SessionInvariant (made story adj_rib_in adj_rib_out end)
+  begins story adj_rib_in adj_rib_out end a b c d =
+      subst (λ (x : StoryValue). (value_of (made x adj_rib_in adj_rib_out end) ≡ begun config) × SessionInvariant (made x adj_rib_in adj_rib_out end)) (sym a)
+      (subst (λ (x : Routes). (value_of (made (record { lines = lines; remote_as = config.remote_as }) x adj_rib_out end) ≡ begun config) × SessionInvariant (made (record { lines = lines; remote_as = config.remote_as }) x adj_rib_out end)) (sym b)
       (subst (λ (x : Routes). (value_of (made (record { lines = lines; remote_as = config.remote_as }) map.empty x end) ≡ begun config) × SessionInvariant (made (record { lines = lines; remote_as = config.remote_as }) map.empty x end)) (sym c)
       (subst (λ (x : EndState). (value_of (made (record { lines = lines; remote_as = config.remote_as }) map.empty map.empty x) ≡ begun config) × SessionInvariant (made (record { lines = lines; remote_as = config.remote_as }) map.empty map.empty x)) (sym d)
       (refl, first_keeps))))

@@ -84,10 +84,10 @@ reply_numbers n (Err _) = refl
 -- ---- the parts after something was got and answered
 
 abbrev pub gotten : Parts → List ℕ → List Line → Routes → Routes → Option Opened → ℕ → Parts
-gotten parts bytes answer heard told opened left = record parts {
+gotten parts bytes answer adj_rib_in adj_rib_out opened left = record parts {
   story = record parts.story { lines = parts.story.lines ++ Got bytes ∷ answer };
-  heard = heard;
-  told = told;
+  adj_rib_in = adj_rib_in;
+  adj_rib_out = adj_rib_out;
   end = with_read (with_sent parts.end (flat_map (put_in false) answer)) (length bytes);
   opened = opened;
   left = left;
@@ -157,13 +157,13 @@ module _ (parts : Parts) (bytes : List ℕ) (answer : List Line) (next : Session
       ∙ (read_is (with_sent parts.end octets) (put_bytes p lines ++ octets) (got_bytes lines) bytes front.rest sent front.front
       ∙ ap (λ (xs : List ℕ). sending xs (cases.having_read (length bytes) (value_of parts).end)) (sym octets_are)))
 
-  module _ (heard told : Routes) (opened : Option Opened) (left : ℕ)
-      (hears : heard ≡ unless_closed next (apply_if parts.heard (update_in (read_in_session parts bytes))))
-      (tells : told ≡ unless_closed next parts.told)
+  module _ (adj_rib_in adj_rib_out : Routes) (opened : Option Opened) (left : ℕ)
+      (hears : adj_rib_in ≡ unless_closed next (apply_if parts.adj_rib_in (update_in (read_in_session parts bytes))))
+      (tells : adj_rib_out ≡ unless_closed next parts.adj_rib_out)
       (opens : opened ≡ option_map (opened_by p.first) (got_open p lines'))
       (lefts : left ≡ hold_of opened) where
     abbrev pub after : Parts
-    after = gotten parts bytes answer heard told opened left
+    after = gotten parts bytes answer adj_rib_in adj_rib_out opened left
 
     pub gets : GetsFrame (value_of parts) bytes (value_of after)
     gets = record {
@@ -175,9 +175,9 @@ module _ (parts : Parts) (bytes : List ℕ) (answer : List Line) (next : Session
       next = next;
       reply = reply;
       effect =
-          ap (λ (e : Endpoint). record (value_of parts) { story = lines'; heard = heard; told = told; end = e }) end_is
-          ∙ (ap (λ (x : Routes). record (value_of parts) { story = lines'; heard = x; told = told; end = sending (put_by (value_of parts) lines' answer) (cases.having_read (length bytes) (value_of parts).end) }) hears
-          ∙ ap (λ (x : Routes). record (value_of parts) { story = lines'; heard = unless_closed next (apply_if parts.heard (update_in (read_in_session parts bytes))); told = x; end = sending (put_by (value_of parts) lines' answer) (cases.having_read (length bytes) (value_of parts).end) }) tells);
+          ap (λ (e : Endpoint). record (value_of parts) { story = lines'; adj_rib_in = adj_rib_in; adj_rib_out = adj_rib_out; end = e }) end_is
+          ∙ (ap (λ (x : Routes). record (value_of parts) { story = lines'; adj_rib_in = x; adj_rib_out = adj_rib_out; end = sending (put_by (value_of parts) lines' answer) (cases.having_read (length bytes) (value_of parts).end) }) hears
+          ∙ ap (λ (x : Routes). record (value_of parts) { story = lines'; adj_rib_in = unless_closed next (apply_if parts.adj_rib_in (update_in (read_in_session parts bytes))); adj_rib_out = x; end = sending (put_by (value_of parts) lines' answer) (cases.having_read (length bytes) (value_of parts).end) }) tells);
     }
 
     silent : silence lines' ≡ 0

@@ -33,8 +33,8 @@ pub length_is : (parts : Parts) (update : Update) → SessionInvariant parts
 length_is parts update keeps = omega (arith, stream_is parts.end (value_of parts).end keeps.stands)
 
 -- the tables are no part of what is kept
-pub keeps_heard : (parts : Parts) (heard : Routes) → SessionInvariant parts → SessionInvariant (record parts { heard = heard })
-keeps_heard parts heard k = record {
+pub keeps_heard : (parts : Parts) (adj_rib_in : Routes) → SessionInvariant parts → SessionInvariant (record parts { adj_rib_in = adj_rib_in })
+keeps_heard parts adj_rib_in k = record {
   stands = k.stands;
   tied = record { allowed = k.tied.allowed; put = k.tied.put; room = k.tied.room; read = k.tied.read; got = k.tied.got };
   peering = k.peering;
@@ -51,9 +51,9 @@ keeps_heard parts heard k = record {
 
 -- the parts after an UPDATE was put
 abbrev pub offered : Parts → Update → Routes → Parts
-offered parts update told = record parts {
+offered parts update adj_rib_out = record parts {
   story = record parts.story { lines = parts.story.lines ++ Put (UpdateMsg update) ∷ [] };
-  told = told;
+  adj_rib_out = adj_rib_out;
   end = with_sent parts.end (spell (UpdateMsg update) (is_wide (peering_of parts.config) parts.story.lines));
 }
 
@@ -110,9 +110,9 @@ module _ (parts : Parts) (update : Update) (k : SessionInvariant parts) (establi
   up : is_up (state_of lines) ≡ true
   up = ap is_up established
 
-  module _ (told : Routes) (changes : Changes parts.told update) (tells : told ≡ apply parts.told update) where
+  module _ (adj_rib_out : Routes) (changes : Changes parts.adj_rib_out update) (tells : adj_rib_out ≡ apply parts.adj_rib_out update) where
     abbrev pub after : Parts
-    after = offered parts update told
+    after = offered parts update adj_rib_out
 
     pub puts : PutsUpdate (value_of parts) update (value_of after)
     puts = record {
@@ -121,8 +121,8 @@ module _ (parts : Parts) (update : Update) (k : SessionInvariant parts) (establi
       changes = changes;
       room = fits;
       effect =
-          ap (λ (e : Endpoint). record (value_of parts) { story = lines'; told = told; end = e }) end_is
-          ∙ ap (λ (x : Routes). record (value_of parts) { story = lines'; told = x; end = sending octets (value_of parts).end }) tells;
+          ap (λ (e : Endpoint). record (value_of parts) { story = lines'; adj_rib_out = adj_rib_out; end = e }) end_is
+          ∙ ap (λ (x : Routes). record (value_of parts) { story = lines'; adj_rib_out = x; end = sending octets (value_of parts).end }) tells;
     }
 
     pub keeps : SessionInvariant after
@@ -150,13 +150,13 @@ offered_fits parts update stream len wide k s w l fits =
     let same = ap (λ (b : Bool). length (spell (UpdateMsg update) b)) w in
     omega (arith, length_is parts update k, s, l, fits, same)
 
-pub offers_to : (parts : Parts) (update : Update) (told : Routes) (octets : List ℕ) (then' : Parts) → SessionInvariant parts
-    → state_of parts.story.lines ≡ Established → IsOneWay update (is_wide (peering_of parts.config) parts.story.lines) → Changes parts.told update
-    → offered_length (value_of parts) update ≤ 1044480 → told ≡ apply parts.told update
+pub offers_to : (parts : Parts) (update : Update) (adj_rib_out : Routes) (octets : List ℕ) (then' : Parts) → SessionInvariant parts
+    → state_of parts.story.lines ≡ Established → IsOneWay update (is_wide (peering_of parts.config) parts.story.lines) → Changes parts.adj_rib_out update
+    → offered_length (value_of parts) update ≤ 1044480 → adj_rib_out ≡ apply parts.adj_rib_out update
     → octets ≡ spell (UpdateMsg update) (is_wide (peering_of parts.config) parts.story.lines)
-    → then' ≡ record parts { story = record parts.story { lines = parts.story.lines ++ Put (UpdateMsg update) ∷ [] }; told = told; end = with_sent parts.end octets }
+    → then' ≡ record parts { story = record parts.story { lines = parts.story.lines ++ Put (UpdateMsg update) ∷ [] }; adj_rib_out = adj_rib_out; end = with_sent parts.end octets }
     → PutsUpdate (value_of parts) update (value_of then') × SessionInvariant then'
-offers_to parts update told octets then' k established one_way changes fits tells written is =
+offers_to parts update adj_rib_out octets then' k established one_way changes fits tells written is =
     subst (λ (m : Parts). PutsUpdate (value_of parts) update (value_of m) × SessionInvariant m)
-    (sym (is ∙ ap (λ (xs : List ℕ). let m : Parts = record parts { story = record parts.story { lines = parts.story.lines ++ Put (UpdateMsg update) ∷ [] }; told = told; end = with_sent parts.end xs } in m) written))
-    (puts parts update k established one_way fits told changes tells, keeps parts update k established one_way fits told changes tells)
+    (sym (is ∙ ap (λ (xs : List ℕ). let m : Parts = record parts { story = record parts.story { lines = parts.story.lines ++ Put (UpdateMsg update) ∷ [] }; adj_rib_out = adj_rib_out; end = with_sent parts.end xs } in m) written))
+    (puts parts update k established one_way fits adj_rib_out changes tells, keeps parts update k established one_way fits adj_rib_out changes tells)

@@ -42,7 +42,7 @@ use Rattle.bgp_session.proofs.Opens.{open_kept, open_read}
 
 -- what is written down of something that is got
 abbrev pub taken_down : Parts → List ℕ → List Line → Parts
-taken_down parts bytes answer = gotten parts bytes answer parts.heard parts.told parts.opened (hold_of parts.opened)
+taken_down parts bytes answer = gotten parts bytes answer parts.adj_rib_in parts.adj_rib_out parts.opened (hold_of parts.opened)
 
 -- the session reads by this step, and keeps what it keeps
 abbrev pub ReadsTo : Parts → ReadStep → Parts → Type 0
@@ -101,8 +101,8 @@ module _ (parts : Parts) (bytes : List ℕ) (front : AtFront parts bytes) where
     confirm_reply : reply_to (read_in_session parts bytes) ≡ (Put KeepaliveMsg ∷ [], OpenConfirm)
     confirm_reply = ap reply_to reads
 
-    confirm_hears : parts.heard ≡ unless_closed OpenConfirm (apply_if parts.heard (update_in (read_in_session parts bytes)))
-    confirm_hears = sym (ap (λ (m : Result Message Notice). apply_if parts.heard (update_in m)) reads)
+    confirm_hears : parts.adj_rib_in ≡ unless_closed OpenConfirm (apply_if parts.adj_rib_in (update_in (read_in_session parts bytes)))
+    confirm_hears = sym (ap (λ (m : Result Message Notice). apply_if parts.adj_rib_in (update_in m)) reads)
 
     confirm_opens : (opened : Opened) → opened ≡ opened_by p.first theirs
         → Some opened ≡ option_map (opened_by p.first) (got_open p (lines ++ Got bytes ∷ (Put KeepaliveMsg ∷ [])))
@@ -114,11 +114,11 @@ module _ (parts : Parts) (bytes : List ℕ) (front : AtFront parts bytes) where
     confirms opened left mid opens lefts is = subst (λ (m : Parts). ReadsTo parts steps.Opened (record m { opened = Some opened; left = left })) (sym is) (
       record {
         bytes = bytes;
-        gets = gets parts bytes (Put KeepaliveMsg ∷ []) OpenConfirm front confirm_reply parts.heard parts.told (Some opened) left confirm_hears refl (confirm_opens opened opens) lefts;
+        gets = gets parts bytes (Put KeepaliveMsg ∷ []) OpenConfirm front confirm_reply parts.adj_rib_in parts.adj_rib_out (Some opened) left confirm_hears refl (confirm_opens opened opens) lefts;
         tells = (only_open state (read_of expected bytes (OpenMsg theirs) reads).in_state, next_is (Put KeepaliveMsg ∷ []) OpenConfirm confirm_reply);
         same_turn = refl;
       },
-      keeps parts bytes (Put KeepaliveMsg ∷ []) OpenConfirm front confirm_reply parts.heard parts.told (Some opened) left confirm_hears refl (confirm_opens opened opens) lefts,
+      keeps parts bytes (Put KeepaliveMsg ∷ []) OpenConfirm front confirm_reply parts.adj_rib_in parts.adj_rib_out (Some opened) left confirm_hears refl (confirm_opens opened opens) lefts,
     )
 
   -- a KEEPALIVE
@@ -126,8 +126,8 @@ module _ (parts : Parts) (bytes : List ℕ) (front : AtFront parts bytes) where
     alive_reply : reply_to (read_in_session parts bytes) ≡ ([], Established)
     alive_reply = ap reply_to reads
 
-    alive_hears : parts.heard ≡ unless_closed Established (apply_if parts.heard (update_in (read_in_session parts bytes)))
-    alive_hears = sym (ap (λ (m : Result Message Notice). apply_if parts.heard (update_in m)) reads)
+    alive_hears : parts.adj_rib_in ≡ unless_closed Established (apply_if parts.adj_rib_in (update_in (read_in_session parts bytes)))
+    alive_hears = sym (ap (λ (m : Result Message Notice). apply_if parts.adj_rib_in (update_in m)) reads)
 
     alive_opens : parts.opened ≡ option_map (opened_by p.first) (got_open p (lines ++ Got bytes ∷ []))
     alive_opens = opened_stays [] (ap open_in reads)
@@ -137,56 +137,61 @@ module _ (parts : Parts) (bytes : List ℕ) (front : AtFront parts bytes) where
     alive_as step mid is tells = subst (λ (m : Parts). ReadsTo parts step m) (sym is) (
       record {
         bytes = bytes;
-        gets = gets parts bytes [] Established front alive_reply parts.heard parts.told parts.opened (hold_of parts.opened) alive_hears refl alive_opens refl;
+        gets = gets parts bytes [] Established front alive_reply parts.adj_rib_in parts.adj_rib_out parts.opened
+            (hold_of parts.opened) alive_hears refl alive_opens refl;
         tells = tells;
         same_turn = refl;
       },
-      keeps parts bytes [] Established front alive_reply parts.heard parts.told parts.opened (hold_of parts.opened) alive_hears refl alive_opens refl,
+      keeps parts bytes [] Established front alive_reply parts.adj_rib_in parts.adj_rib_out parts.opened
+          (hold_of parts.opened) alive_hears refl alive_opens refl,
     )
 
     pub establishes : (mid : Parts) → mid ≡ taken_down parts bytes [] → state ≡ OpenConfirm → ReadsTo parts steps.Established mid
     establishes mid is confirmed = alive_as steps.Established mid is (confirmed, next_is [] Established alive_reply)
 
     pub stays_established : (mid : Parts) → mid ≡ taken_down parts bytes [] → state ≢ OpenConfirm → ReadsTo parts (steps.Changed []) mid
-    stays_established mid is other = alive_as (steps.Changed []) mid is (takes_keepalive state (read_of expected bytes KeepaliveMsg reads).in_state other, next_is [] Established alive_reply, none_changed parts.heard)
+    stays_established mid is other = alive_as (steps.Changed []) mid is (takes_keepalive state (read_of expected bytes KeepaliveMsg reads).in_state other, next_is [] Established alive_reply, none_changed parts.adj_rib_in)
 
   -- an UPDATE
   module _ (update : Update) (reads : read_in_session parts bytes ≡ Ok (UpdateMsg update)) where
     hear_reply : reply_to (read_in_session parts bytes) ≡ ([], Established)
     hear_reply = ap reply_to reads
 
-    hear_hears : (heard : Routes) → heard ≡ apply parts.heard update
-        → heard ≡ unless_closed Established (apply_if parts.heard (update_in (read_in_session parts bytes)))
-    hear_hears heard is = is ∙ sym (ap (λ (m : Result Message Notice). apply_if parts.heard (update_in m)) reads)
+    hear_hears : (adj_rib_in : Routes) → adj_rib_in ≡ apply parts.adj_rib_in update
+        → adj_rib_in ≡ unless_closed Established (apply_if parts.adj_rib_in (update_in (read_in_session parts bytes)))
+    hear_hears adj_rib_in is = is ∙ sym (ap (λ (m : Result Message Notice). apply_if parts.adj_rib_in (update_in m)) reads)
 
     hear_opens : parts.opened ≡ option_map (opened_by p.first) (got_open p (lines ++ Got bytes ∷ []))
     hear_opens = opened_stays [] (ap open_in reads)
 
-    pub hears_changes : (changed : List PrefixValue) (heard : Routes) (mid : Parts) → mid ≡ taken_down parts bytes []
-        → heard ≡ apply mid.heard update → Changed mid.heard heard changed → ReadsTo parts (steps.Changed changed) (record mid { heard = heard })
-    hears_changes changed heard mid is = subst (λ (m : Parts). heard ≡ apply m.heard update → Changed m.heard heard changed → ReadsTo parts (steps.Changed changed) (record m { heard = heard })) (sym is) (λ applied changes. (
+    pub hears_changes : (changed : List PrefixValue) (adj_rib_in : Routes) (mid : Parts) → mid ≡ taken_down parts bytes []
+        → adj_rib_in ≡ apply mid.adj_rib_in update → Changed mid.adj_rib_in adj_rib_in changed
+        → ReadsTo parts (steps.Changed changed) (record mid { adj_rib_in = adj_rib_in })
+    hears_changes changed adj_rib_in mid is = subst (λ (m : Parts). adj_rib_in ≡ apply m.adj_rib_in update → Changed m.adj_rib_in adj_rib_in changed → ReadsTo parts (steps.Changed changed) (record m { adj_rib_in = adj_rib_in })) (sym is) (λ applied changes. (
       record {
         bytes = bytes;
-        gets = gets parts bytes [] Established front hear_reply heard parts.told parts.opened (hold_of parts.opened) (hear_hears heard applied) refl hear_opens refl;
+        gets = gets parts bytes [] Established front hear_reply adj_rib_in parts.adj_rib_out parts.opened (hold_of parts.opened) (hear_hears adj_rib_in applied) refl hear_opens refl;
         tells = (takes_update state (read_of expected bytes (UpdateMsg update) reads).in_state, next_is [] Established hear_reply, changes);
         same_turn = refl;
       },
-      keeps parts bytes [] Established front hear_reply heard parts.told parts.opened (hold_of parts.opened) (hear_hears heard applied) refl hear_opens refl,
+      keeps parts bytes [] Established front hear_reply adj_rib_in parts.adj_rib_out parts.opened (hold_of parts.opened)
+          (hear_hears adj_rib_in applied) refl hear_opens refl,
     ))
 
     -- also where the routes are left in any way
-    pub hears_keeps : (heard : Routes) (mid : Parts) → mid ≡ taken_down parts bytes [] → SessionInvariant (record mid { heard = heard })
-    hears_keeps heard mid is = subst (λ (m : Parts). SessionInvariant (record m { heard = heard })) (sym is)
-        (keeps_heard (gotten parts bytes [] (apply parts.heard update) parts.told parts.opened (hold_of parts.opened)) heard
-        (keeps parts bytes [] Established front hear_reply (apply parts.heard update) parts.told parts.opened (hold_of parts.opened) (hear_hears (apply parts.heard update) refl) refl hear_opens refl))
+    pub hears_keeps : (adj_rib_in : Routes) (mid : Parts) → mid ≡ taken_down parts bytes [] → SessionInvariant (record mid { adj_rib_in = adj_rib_in })
+    hears_keeps adj_rib_in mid is = subst (λ (m : Parts). SessionInvariant (record m { adj_rib_in = adj_rib_in })) (sym is)
+        (keeps_heard (gotten parts bytes [] (apply parts.adj_rib_in update) parts.adj_rib_out parts.opened (hold_of parts.opened)) adj_rib_in
+        (keeps parts bytes [] Established front hear_reply (apply parts.adj_rib_in update) parts.adj_rib_out parts.opened (hold_of parts.opened) (hear_hears (apply parts.adj_rib_in update) refl) refl hear_opens refl))
 
   -- the session closes
   pub closes : (answer : List Line) (prefixes : List PrefixValue) (mid after : Parts) → reply_to (read_in_session parts bytes) ≡ (answer, Closed)
       → mid ≡ taken_down parts bytes answer
-      → after ≡ record mid { heard = map.empty; told = map.empty } → prefixes ≡ map.keys parts.heard → ReadsTo parts (steps.Closed prefixes) after
+      → after ≡ record mid { adj_rib_in = map.empty; adj_rib_out = map.empty } → prefixes ≡ map.keys parts.adj_rib_in
+      → ReadsTo parts (steps.Closed prefixes) after
   closes answer prefixes mid after reply is drops keys =
       let none : open_in (read_in_session parts bytes) ≡ None = closed_none (read_in_session parts bytes) answer reply in
-      subst (λ (m : Parts). ReadsTo parts (steps.Closed prefixes) m) (sym (drops ∙ ap (λ (m : Parts). let d : Parts = record m { heard = map.empty; told = map.empty } in d) is)) (
+      subst (λ (m : Parts). ReadsTo parts (steps.Closed prefixes) m) (sym (drops ∙ ap (λ (m : Parts). let d : Parts = record m { adj_rib_in = map.empty; adj_rib_out = map.empty } in d) is)) (
         record {
           bytes = bytes;
           gets = gets parts bytes answer Closed front reply map.empty map.empty parts.opened (hold_of parts.opened) refl refl (opened_stays answer none) refl;

@@ -27,7 +27,7 @@ use Rattle.bgp_story.proofs.Grows.{hold_stays, open_stays}
 use Rattle.session_value.specs.Cases.{PassesRound, put_by, sending}
 use Rattle.session_value.specs.Sessions.{peering_of}
 use Rattle.session_value.proofs.Rounds as lines_passed
-use Rattle.session_value.proofs.Rounds.{Answers, ends, beats, stays, answers_are}
+use Rattle.session_value.proofs.Rounds.{Answers, ends, says_keepalive, stays, answers_are}
 use Rattle.session_value.proofs.RoundTies.{passes_tied}
 use Rattle.session_value.proofs.Replies.{up_open, while_unclosed}
 use Rattle.session_value.proofs.Rooms.{passed_has_room, most_any}
@@ -47,7 +47,7 @@ round_alike : (wide : Bool) (state : SessionState) (answer : List Line) (next : 
     → flat_map (put_in wide) answer ≡ flat_map (put_in false) answer
 unfolding spell
 round_alike wide state _ _ ends = refl
-round_alike wide state _ _ beats = refl
+round_alike wide state _ _ says_keepalive = refl
 round_alike wide state _ _ stays = refl
 
 expired_writable : IsWritable (NoticeMsg hold_expired) false
@@ -58,17 +58,17 @@ round_writable_by : (state : SessionState) (lines : List Line) (next : SessionSt
     → lines ≡ answer_lines answer → IfSome answer (λ m. IsWritable m false)
 round_writable_by state _ _ None a e = tt
 round_writable_by state _ _ (Some m) ends e = subst (λ (x : Message). IsWritable x false) (same_line (NoticeMsg hold_expired) m e) expired_writable
-round_writable_by state _ _ (Some m) beats e = subst (λ (x : Message). IsWritable x false) (same_line KeepaliveMsg m e) keepalive_writable
+round_writable_by state _ _ (Some m) says_keepalive e = subst (λ (x : Message). IsWritable x false) (same_line KeepaliveMsg m e) keepalive_writable
 round_writable_by state _ _ (Some m) stays e = absurd cc
 
 round_silent : (state : SessionState) (answer : List Line) (next : SessionState) (n : ℕ) → Answers state answer next → fold count_round n answer ≡ n
 round_silent state _ _ n ends = refl
-round_silent state _ _ n beats = refl
+round_silent state _ _ n says_keepalive = refl
 round_silent state _ _ n stays = refl
 
 round_numbers : (state : SessionState) (answer : List Line) (next : SessionState) (n : ℕ) → Answers state answer next → fold after_line n answer ≡ n
 round_numbers state _ _ n ends = refl
-round_numbers state _ _ n beats = refl
+round_numbers state _ _ n says_keepalive = refl
 round_numbers state _ _ n stays = refl
 
 -- ---- which answer it is
@@ -85,10 +85,10 @@ round_passes h c round state more third =
 -- ---- the parts after a round
 
 abbrev pub passed : Parts → ℕ → List Line → Routes → Routes → ℕ → Parts
-passed parts round answer heard told left = record parts {
+passed parts round answer adj_rib_in adj_rib_out left = record parts {
   story = record parts.story { lines = parts.story.lines ++ Tick round ∷ answer };
-  heard = heard;
-  told = told;
+  adj_rib_in = adj_rib_in;
+  adj_rib_out = adj_rib_out;
   end = with_sent parts.end (flat_map (put_in false) answer);
   left = left;
   next_round = round + 1;
@@ -155,12 +155,12 @@ module _ (parts : Parts) (round : ℕ) (answer : List Line) (next : SessionState
       ∙ (ap (λ (xs : List ℕ). endpoint_of (put_bytes p lines ++ octets) xs (with_sent parts.end octets)) got_is
       ∙ ap (λ (xs : List ℕ). sending xs (value_of parts).end) (sym octets_are))
 
-  module _ (heard told : Routes) (left : ℕ)
-      (hears : heard ≡ unless_closed next parts.heard)
-      (tells : told ≡ unless_closed next parts.told)
+  module _ (adj_rib_in adj_rib_out : Routes) (left : ℕ)
+      (hears : adj_rib_in ≡ unless_closed next parts.adj_rib_in)
+      (tells : adj_rib_out ≡ unless_closed next parts.adj_rib_out)
       (lefts : left ≡ parts.left - 1) where
     abbrev pub after : Parts
-    after = passed parts round answer heard told left
+    after = passed parts round answer adj_rib_in adj_rib_out left
 
     pub passes : PassesRound (value_of parts) round (value_of after)
     passes = record {
@@ -172,9 +172,9 @@ module _ (parts : Parts) (round : ℕ) (answer : List Line) (next : SessionState
       next = next;
       reply = reply;
       effect =
-          ap (λ (e : Endpoint). record (value_of parts) { story = lines'; heard = heard; told = told; end = e }) end_is
-          ∙ (ap (λ (x : Routes). record (value_of parts) { story = lines'; heard = x; told = told; end = sending (put_by (value_of parts) lines' answer) (value_of parts).end }) hears
-          ∙ ap (λ (x : Routes). record (value_of parts) { story = lines'; heard = unless_closed next parts.heard; told = x; end = sending (put_by (value_of parts) lines' answer) (value_of parts).end }) tells);
+          ap (λ (e : Endpoint). record (value_of parts) { story = lines'; adj_rib_in = adj_rib_in; adj_rib_out = adj_rib_out; end = e }) end_is
+          ∙ (ap (λ (x : Routes). record (value_of parts) { story = lines'; adj_rib_in = x; adj_rib_out = adj_rib_out; end = sending (put_by (value_of parts) lines' answer) (value_of parts).end }) hears
+          ∙ ap (λ (x : Routes). record (value_of parts) { story = lines'; adj_rib_in = unless_closed next parts.adj_rib_in; adj_rib_out = x; end = sending (put_by (value_of parts) lines' answer) (value_of parts).end }) tells);
     }
 
     silent : silence lines' ≡ silence lines + 1
@@ -204,21 +204,23 @@ module _ (parts : Parts) (round : ℕ) (answer : List Line) (next : SessionState
     }
 
   -- what the session is after the round
-  pub ticks : (step : TickStep) (mid : Parts) → mid ≡ passed parts round answer parts.heard parts.told (parts.left - 1) → next ≢ Closed
-      → TellsRound step (value_of parts) round (value_of (passed parts round answer parts.heard parts.told (parts.left - 1)))
+  pub ticks : (step : TickStep) (mid : Parts) → mid ≡ passed parts round answer parts.adj_rib_in parts.adj_rib_out (parts.left - 1) → next ≢ Closed
+      → TellsRound step (value_of parts) round (value_of (passed parts round answer parts.adj_rib_in parts.adj_rib_out (parts.left - 1)))
       → SessionTicks step (running parts) round (running mid) × SessionInvariant mid
   ticks step mid is o tells = subst (λ (m : Parts). SessionTicks step (running parts) round (running m) × SessionInvariant m) (sym is) (
     record {
-      passes = passes parts.heard parts.told (parts.left - 1) (sym (while_unclosed next parts.heard o)) (sym (while_unclosed next parts.told o)) refl;
+      passes = passes parts.adj_rib_in parts.adj_rib_out (parts.left - 1) (sym (while_unclosed next parts.adj_rib_in o))
+          (sym (while_unclosed next parts.adj_rib_out o)) refl;
       tells = tells;
       same_turn = refl;
     },
-    keeps parts.heard parts.told (parts.left - 1) (sym (while_unclosed next parts.heard o)) (sym (while_unclosed next parts.told o)) refl,
+    keeps parts.adj_rib_in parts.adj_rib_out (parts.left - 1) (sym (while_unclosed next parts.adj_rib_in o))
+        (sym (while_unclosed next parts.adj_rib_out o)) refl,
   )
 
 -- what is written down of a round
 abbrev pub passed_down : Parts → ℕ → List Line → Parts
-passed_down parts round answer = passed parts round answer parts.heard parts.told (parts.left - 1)
+passed_down parts round answer = passed parts round answer parts.adj_rib_in parts.adj_rib_out (parts.left - 1)
 
 module _ (parts : Parts) (round : ℕ) (at : AtRound parts round) where
   -- the hold time has a third
@@ -242,11 +244,11 @@ module _ (parts : Parts) (round : ℕ) (at : AtRound parts round) where
 
   pub expires_to : (prefixes : List PrefixValue) (mid then' : Parts) → round_reply parts round ≡ (Put (NoticeMsg hold_expired) ∷ [], Closed)
       → mid ≡ passed_down parts round (Put (NoticeMsg hold_expired) ∷ [])
-      → then' ≡ record mid { heard = map.empty; told = map.empty } → prefixes ≡ map.keys parts.heard
+      → then' ≡ record mid { adj_rib_in = map.empty; adj_rib_out = map.empty } → prefixes ≡ map.keys parts.adj_rib_in
       → SessionTicks (tick.Expired prefixes) (running parts) round (running then') × SessionInvariant then'
   expires_to prefixes mid then' reply is drops same =
       let answer : List Line = Put (NoticeMsg hold_expired) ∷ [] in
-      subst (λ (m : Parts). SessionTicks (tick.Expired prefixes) (running parts) round (running m) × SessionInvariant m) (sym (drops ∙ ap (λ (m : Parts). let d : Parts = record m { heard = map.empty; told = map.empty } in d) is)) (
+      subst (λ (m : Parts). SessionTicks (tick.Expired prefixes) (running parts) round (running m) × SessionInvariant m) (sym (drops ∙ ap (λ (m : Parts). let d : Parts = record m { adj_rib_in = map.empty; adj_rib_out = map.empty } in d) is)) (
         record {
           passes = passes parts round answer Closed at reply map.empty map.empty (parts.left - 1) refl refl refl;
           tells = (lines_passed.state_next (peering_of parts.config) parts.story.lines round answer Closed at.may.up at.may.runs at.may.later reply at.keeps.tied.allowed, same);

@@ -30,8 +30,8 @@ abbrev pub coded_session : Coded SessionValue
 coded_session =
     code_by (SessionConfig × (List Line × (Routes × (Routes × Endpoint))))
     (coded× config.the_row.coded (coded× (coded_list line.the_row.coded) (coded× coded_routes (coded× coded_routes coded_endpoint))))
-    (λ s. (s.config, (s.story, (s.heard, (s.told, s.end)))))
-    (λ p. record { config = p.0; story = p.1.0; heard = p.1.1.0; told = p.1.1.1.0; end = p.1.1.1.1 })
+    (λ s. (s.config, (s.story, (s.adj_rib_in, (s.adj_rib_out, s.end)))))
+    (λ p. record { config = p.0; story = p.1.0; adj_rib_in = p.1.1.0; adj_rib_out = p.1.1.1.0; end = p.1.1.1.1 })
     (λ _. refl)
 
 abbrev pub coded_running : Coded RunningSession

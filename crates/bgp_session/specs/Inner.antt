@@ -28,8 +28,8 @@ abbrev pub value_of : Parts → SessionValue
 value_of parts = record {
   config = parts.config;
   story = parts.story.lines;
-  heard = parts.heard;
-  told = parts.told;
+  adj_rib_in = parts.adj_rib_in;
+  adj_rib_out = parts.adj_rib_out;
   end = endpoint_of (put_bytes (peering_of parts.config) parts.story.lines) (got_bytes parts.story.lines) parts.end;
 }
 

@@ -33,8 +33,8 @@ use Rattle.bgp_session.specs.declared.answers.TickStep.TheVariants.{Plain, Beat,
 abbrev pub TellsRead : ReadStep → SessionValue → SessionValue → Type 0
 TellsRead Opened before after = (state before ≡ states.OpenSent) × (state after ≡ states.OpenConfirm)
 TellsRead Established before after = (state before ≡ states.OpenConfirm) × (state after ≡ states.Established)
-TellsRead (Changed prefixes) before after = (state before ≡ states.Established) × (state after ≡ states.Established) × ChangedRoutes before.heard after.heard prefixes
-TellsRead (Closed prefixes) before after = (state after ≡ states.Closed) × (prefixes ≡ map.keys before.heard)
+TellsRead (Changed prefixes) before after = (state before ≡ states.Established) × (state after ≡ states.Established) × ChangedRoutes before.adj_rib_in after.adj_rib_in prefixes
+TellsRead (Closed prefixes) before after = (state after ≡ states.Closed) × (prefixes ≡ map.keys before.adj_rib_in)
 
 pub record ReadsFrame (step : ReadStep) (before after : RunningSession) : Type 0 where
   pub bytes : List ℕ
@@ -61,7 +61,7 @@ pub record MayPass (session : SessionValue) (round : ℕ) : Type 0 where
 abbrev pub TellsRound : TickStep → SessionValue → ℕ → SessionValue → Type 0
 TellsRound Plain before round after = after.story ≡ before.story ++ Tick round ∷ []
 TellsRound Beat before round after = after.story ≡ before.story ++ Tick round ∷ Put KeepaliveMsg ∷ []
-TellsRound (Expired prefixes) before round after = (state after ≡ states.Closed) × (prefixes ≡ map.keys before.heard)
+TellsRound (Expired prefixes) before round after = (state after ≡ states.Closed) × (prefixes ≡ map.keys before.adj_rib_in)
 
 pub record SessionTicks (step : TickStep) (before : RunningSession) (round : ℕ) (after : RunningSession) : Type 0 where
   pub passes : PassesRound before.session round after.session

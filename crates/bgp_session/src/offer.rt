@@ -22,11 +22,11 @@ use bgp_wire::write_message;
 const MOST_PUT: usize = 1_044_480;
 
 /// Applies a message to the routes that were told. Only an UPDATE changes them.
-fn tell(told: &mut AdjRib, message: &Message) -> Result<(), NoMemory>
-    ensures { OnOk result (told.new ≡ apply_if told.old (update_in (Ok message.now))) }
+fn tell(adj_rib_out: &mut AdjRib, message: &Message) -> Result<(), NoMemory>
+    ensures { OnOk result (adj_rib_out.new ≡ apply_if adj_rib_out.old (update_in (Ok message.now))) }
 {
     if let Message::UpdateMsg(update) = message {
-        told.apply(update)?;
+        adj_rib_out.apply(update)?;
     }
     Ok(())
 }
@@ -37,7 +37,7 @@ impl Parts {
         requires keeps { SessionInvariant self.old }
         requires established { state_of self.old.story.lines ≡ states.Established }
         requires one_way { IsOneWay update (is_wide (peering_of self.old.config) self.old.story.lines) }
-        requires changes { Changes self.old.told update }
+        requires changes { Changes self.old.adj_rib_out update }
         ensures ok { OnOk result (PutsUpdate (value_of self.old) update (value_of self.new)) }
         ensures full { 1044480 < offered_length (value_of self.old) update → result ≡ Err (OfferStop.StreamFull (offered_length (value_of self.old) update)) }
         ensures only_full { (n : ℕ) → result ≡ Err (OfferStop.StreamFull n) → (n ≡ offered_length (value_of self.old) update) × (1044480 < n) × (self.new ≡ self.old) }
@@ -51,7 +51,7 @@ impl Parts {
             return Err(OfferStop::StreamFull { length });
         }
         let octets = write_message(self.alloc, &message, wide)?;
-        tell(&mut self.told, &message)?;
+        tell(&mut self.adj_rib_out, &message)?;
         self.write_down(octets.as_slice(), Line::Put(message), None)?;
         Ok(())
     }

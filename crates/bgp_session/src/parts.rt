@@ -35,8 +35,8 @@ pub(crate) struct Parts {
     pub alloc: Global,
     pub config: SessionConfig,
     pub story: Story,
-    pub heard: AdjRib,
-    pub told: AdjRib,
+    pub adj_rib_in: AdjRib,
+    pub adj_rib_out: AdjRib,
     pub end: End,
     pub opened: Option<Opened>,
     /// The number of rounds left until the hold time expires.

@@ -101,15 +101,15 @@ impl Parts {
         ensures keeps { SessionInvariant self.new }
     {
         self.take_down(bytes, None)?;
-        Ok(ReadStep::Changed(self.heard.apply(update)?))
+        Ok(ReadStep::Changed(self.adj_rib_in.apply(update)?))
     }
 
     /// Removes all routes, those heard and those told.
     pub(crate) fn drop_routes(&mut self)
-        ensures { self.new ≡ record self.old { heard = map.empty; told = map.empty } }
+        ensures { self.new ≡ record self.old { adj_rib_in = map.empty; adj_rib_out = map.empty } }
     {
-        self.heard.clear();
-        self.told.clear();
+        self.adj_rib_in.clear();
+        self.adj_rib_out.clear();
     }
 
     /// Takes a NOTIFICATION. It has no answer, and closes the session.
@@ -119,7 +119,7 @@ impl Parts {
         ensures step { IfOk result (λ step. ReadsFrame step (running self.old) (running self.new)) }
         ensures keeps { SessionInvariant self.new }
     {
-        let heard = self.heard.prefixes()?;
+        let heard = self.adj_rib_in.prefixes()?;
         self.take_down(bytes, None)?;
         self.drop_routes();
         Ok(ReadStep::Closed(heard))
@@ -132,7 +132,7 @@ impl Parts {
         ensures step { IfOk result (λ step. ReadsFrame step (running self.old) (running self.new)) }
         ensures keeps { SessionInvariant self.new }
     {
-        let heard = self.heard.prefixes()?;
+        let heard = self.adj_rib_in.prefixes()?;
         self.take_down(bytes, Some(Message::NoticeMsg(notice)))?;
         self.drop_routes();
         Ok(ReadStep::Closed(heard))

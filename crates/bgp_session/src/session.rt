@@ -87,7 +87,7 @@ impl Session {
     pub fn offer(&mut self, update: Update) -> Result<(), OfferStop>
         requires established { state self.old.session ≡ states.Established }
         requires one_way { IsOneWay update (is_wide (peering_of self.old.session.config) self.old.session.story) }
-        requires changes { Changes self.old.session.told update }
+        requires changes { Changes self.old.session.adj_rib_out update }
         ensures ok { OnOk result (PutsUpdate self.old.session update self.new.session) }
 
         // The stream is full exactly where it would pass 1,044,480 bytes. Then the error has that length, and nothing
@@ -158,16 +158,16 @@ impl Session {
 
     /// Returns the Adj-RIB-In: the routes that were heard and not withdrawn.
     pub fn heard(&self) -> &AdjRib
-        ensures { result.now ≡ self.now.session.heard }
+        ensures { result.now ≡ self.now.session.adj_rib_in }
     {
-        &self.parts.heard
+        &self.parts.adj_rib_in
     }
 
     /// Returns the Adj-RIB-Out: the routes that were told and not withdrawn.
     pub fn told(&self) -> &AdjRib
-        ensures { result.now ≡ self.now.session.told }
+        ensures { result.now ≡ self.now.session.adj_rib_out }
     {
-        &self.parts.told
+        &self.parts.adj_rib_out
     }
 
     /// Returns the story, to which the endpoint is tied.

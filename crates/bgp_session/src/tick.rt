@@ -66,7 +66,7 @@ impl Parts {
         ensures step { IfOk result (λ step. SessionTicks step (running self.old) round (running self.new)) }
         ensures keeps { SessionInvariant self.new }
     {
-        let heard = self.heard.prefixes()?;
+        let heard = self.adj_rib_in.prefixes()?;
         let notice = hold_over(self.alloc);
         self.pass_down(round, Some(Message::NoticeMsg(notice)))?;
         self.drop_routes();
@@ -74,7 +74,7 @@ impl Parts {
     }
 
     /// Puts a KEEPALIVE.
-    fn beat(&mut self, round: u32) -> Result<TickStep, NoMemory>
+    fn send_keepalive(&mut self, round: u32) -> Result<TickStep, NoMemory>
         requires at { AtRound self.old round }
         requires reply { round_reply self.old round ≡ (lines.Put messages.KeepaliveMsg ∷ [], state_of self.old.story.lines) }
         ensures step { IfOk result (λ step. SessionTicks step (running self.old) round (running self.new)) }
@@ -121,9 +121,9 @@ impl Parts {
         if self.left == 1 {
             return self.expire(round);
         }
-        let beat = self.hold_so_far() / 3;
-        if round % beat == 0 {
-            self.beat(round)
+        let keepalive_interval = self.hold_so_far() / 3;
+        if round % keepalive_interval == 0 {
+            self.send_keepalive(round)
         } else {
             self.pass(round)
         }

@@ -64,7 +64,7 @@ module _ (peering : PeeringSetup) where
 
   -- what a story tells of its session
   abbrev pub told_by : List Line → SessionState → Reading
-  told_by lines state = record { state = state; opened = got_open own lines; heard = heard own lines }
+  told_by lines state = record { state = state; opened = got_open own lines; adj_rib_in = heard own lines }
 
   expected_so : (lines : List Line) (state : SessionState) → expected_by peering (told_by lines state) ≡ expected_next own lines state
   expected_so lines state =
@@ -136,14 +136,14 @@ module _ (peering : PeeringSetup) where
         ∙ ap (λ (s : SessionState). record {
           state = s;
           opened = opened_with state (got_open own before) (open_in read);
-          heard = unless_closed (reply_to read).1 (apply_if (heard own before) (update_in read));
+          adj_rib_in = unless_closed (reply_to read).1 (apply_if (heard own before) (update_in read));
         }) (next_is read answer next reply)
         ∙ ap (λ (o : Option open_type.OpenMsg). record {
           state = next;
           opened = o;
-          heard = unless_closed (reply_to read).1 (apply_if (heard own before) (update_in read));
+          adj_rib_in = unless_closed (reply_to read).1 (apply_if (heard own before) (update_in read));
         }) opened_next
-        ∙ ap (λ (t : Routes). record { state = next; opened = got_open own lines; heard = t }) heard_next
+        ∙ ap (λ (t : Routes). record { state = next; opened = got_open own lines; adj_rib_in = t }) heard_next
 
   -- ---- a story
 
@@ -162,9 +162,9 @@ module _ (peering : PeeringSetup) where
       let after : state_of (before ++ step) ≡ Established = ap state_of (sym e) ∙ state_is own lines Established (updated before u lines l w c e) in
       ap (fold (read_next peering) nothing_read) (none_got before lines (Put (UpdateMsg u)) refl e)
       ∙ reads_gots before Established l (timeless_parts before step lines e n).0
-      ∙ ap (λ (o : Option open_type.OpenMsg). record { state = Established; opened = o; heard = heard own before })
+      ∙ ap (λ (o : Option open_type.OpenMsg). record { state = Established; opened = o; adj_rib_in = heard own before })
       (sym (open_stays own before step Established l refl) ∙ ap (got_open own) (sym e))
-      ∙ ap (λ (t : Routes). record { state = Established; opened = got_open own lines; heard = t })
+      ∙ ap (λ (t : Routes). record { state = Established; opened = got_open own lines; adj_rib_in = t })
       (sym (heard_grows own before step Established (state_is own before Established l) l (λ f. absurd cc)
       (λ f. (let g : Established ≡ Closed = sym after ∙ f in absurd cc))) ∙ ap (heard own) (sym e))
   reads_gots _ _ (passed before state round answer next lines l up h a r e) n = absurd (timeless_parts before (Tick round ∷ answer) lines e n).1.0

@@ -124,16 +124,16 @@ module _ (setup : Setup) (even : is_even setup ≡ true) where
         route = session_route setup r has.session prefix
 
         brought_even : IfSome (meshes.session_brings (prefix_mesh setup w prefix) route) IsEvenly
-        brought_even = of_route route (imported setup.home_as prefix route route.heard) (by_heard (finmap.get has.session.heard prefix) refl)
+        brought_even = of_route route (imported setup.home_as prefix route route.adj_rib_in) (by_heard (finmap.get has.session.adj_rib_in prefix) refl)
           where
-            by_heard : (o : Option Attrs) → finmap.get has.session.heard prefix ≡ o
+            by_heard : (o : Option Attrs) → finmap.get has.session.adj_rib_in prefix ≡ o
                 → IfSome (option_map (med_of setup.home_as prefix) (imported setup.home_as prefix route o)) IsFirst
             by_heard None e = tt
             by_heard (Some attrs) e = imported_first peering attrs
                 (heard_has peering (AreFirst peering) (said_in_all setup p peering) (announced_firsts p peering is)
                 has.session.story (state has.session) has.reads.all.rest
                 (allowed_of (peering_of peering.config) has.session.story (state has.session) has.reads.legal) has.reads.all.is
-                prefix attrs (ap (λ t. finmap.get t prefix) (sym has.heard) ∙ e)) r l route
+                prefix attrs (ap (λ t. finmap.get t prefix) (sym has.adj_rib_in) ∙ e)) r l route
                 (ap (λ (c : SessionConfig). c.remote_as) has.config) (ap (λ (c : SessionConfig). rules_for setup r c.import) has.config)
 
         abbrev routes_at : Place → List SessionRoute

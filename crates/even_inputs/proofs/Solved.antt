@@ -56,15 +56,15 @@ module _ (setup : Setup) (w : World) (ok : IsSetup setup) (timer : HasNoTimer se
       session = has.session;
       here = has.here;
       state_is = ap (λ (x : Reading). x.state) (sym read);
-      heard = has.heard ∙ ap (λ (x : Reading). x.heard) (sym read);
+      adj_rib_in = has.adj_rib_in ∙ ap (λ (x : Reading). x.adj_rib_in) (sym read);
     }
 
     module _ (r : ℕ) (prefix : PrefixValue) where
       route_is : session_route setup r has.session prefix ≡ read_route setup r prefix (p, peering)
       route_is =
-          ap (λ (c : SessionConfig). route_by setup r c (got_open (peering_of c) has.session.story) has.session.heard prefix) has.config
-          ∙ ap (λ (t : Routes). route_by setup r peering.config (got_open (peering_of peering.config) has.session.story) t prefix) has.heard
-          ∙ ap (λ (x : Reading). route_by setup r peering.config x.opened x.heard prefix) (sym read)
+          ap (λ (c : SessionConfig). route_by setup r c (got_open (peering_of c) has.session.story) has.session.adj_rib_in prefix) has.config
+          ∙ ap (λ (t : Routes). route_by setup r peering.config (got_open (peering_of peering.config) has.session.story) t prefix) has.adj_rib_in
+          ∙ ap (λ (x : Reading). route_by setup r peering.config x.opened x.adj_rib_in prefix) (sym read)
 
       abbrev routes_at : Place → List SessionRoute
       routes_at place = map (λ session. session_route setup r session prefix) (claims.sessions_at place)

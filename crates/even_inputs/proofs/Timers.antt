@@ -10,7 +10,7 @@ use Rattle.bgp_types.specs.FirstFault.{message_of, with_header}
 use Rattle.bgp_types.specs.Header.{frame_at, header_fault}
 use Rattle.bgp_types.proofs.FrameLaws.{front_frame}
 use Rattle.bgp_story.specs.Legal.{IsGot, open_in}
-use Rattle.graft_model.specs.Setups.{Setup, PeeringSetup, beat_of}
+use Rattle.graft_model.specs.Setups.{Setup, PeeringSetup, keepalive_interval_of}
 use Rattle.one_answer.specs.Settled.{said_in_all, HasNoTimer}
 use Rattle.even_inputs.specs.Announced.{open_at_front}
 use Rattle.even_inputs.specs.Timers.{hold_offered, has_no_timer_on, has_no_timer}
@@ -46,7 +46,7 @@ module _ (peering : PeeringSetup) where
 
 module _ (setup : Setup) (none : has_no_timer setup ≡ true) where
   on : (p : ℕ) (peering : PeeringSetup) → slice_get setup.peerings p ≡ Some peering
-      → ((min peering.config.home_hold (hold_offered peering (said_in_all setup p peering)) == 0) ≡ true) × ((beat_of peering == 0) ≡ true)
+      → ((min peering.config.home_hold (hold_offered peering (said_in_all setup p peering)) == 0) ≡ true) × ((keepalive_interval_of peering == 0) ≡ true)
   on p peering is = both _ _ (at_number (λ (x : ℕ × PeeringSetup). has_no_timer_on setup x ≡ true) setup.peerings p peering (all_true _ _ none) is)
 
   pub no_timer : HasNoTimer setup

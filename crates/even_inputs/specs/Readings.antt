@@ -19,11 +19,11 @@ use Rattle.graft_model.specs.Setups.{PeeringSetup}
 pub record Reading : Type 0 where
   pub state : SessionState
   pub opened : Option open_type.OpenMsg
-  pub heard : Routes
+  pub adj_rib_in : Routes
 
 -- a session that put its OPEN and got nothing
 abbrev pub nothing_read : Reading
-nothing_read = record { state = OpenSent; opened = None; heard = map.empty }
+nothing_read = record { state = OpenSent; opened = None; adj_rib_in = map.empty }
 
 -- as what its next message is read
 abbrev pub expected_by : PeeringSetup → Reading → Expected
@@ -46,7 +46,7 @@ abbrev pub with_message : Reading → Result Message Notice → Reading
 with_message r got = record {
   state = (reply_to got).1;
   opened = opened_with r.state r.opened (open_in got);
-  heard = unless_closed (reply_to got).1 (apply_if r.heard (update_in got));
+  adj_rib_in = unless_closed (reply_to got).1 (apply_if r.adj_rib_in (update_in got));
 }
 
 abbrev pub unless_ended : SessionState → Reading → Reading → Reading

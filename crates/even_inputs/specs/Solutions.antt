@@ -25,7 +25,7 @@ read_route setup r prefix p = record {
   identifier = unwrap_or (option_map (λ opened. opened.identifier) (reading_in setup p).opened) 0;
   address = p.1.config.remote_address;
   import_rules = rules_for setup r p.1.config.import;
-  heard = finmap.get (reading_in setup p).heard prefix;
+  heard = finmap.get (reading_in setup p).adj_rib_in prefix;
 }
 
 -- The home routers and what they have by themselves for a prefix, where each peering's session is placed so.
@@ -49,7 +49,7 @@ pub record IsLiveAsRead (setup : Setup) (w : World) (r p : ℕ) (peering : Peeri
   pub session : SessionValue
   pub here : (w.router r).places p ≡ Live session None
   pub state_is : state session ≡ (reading_in setup (p, peering)).state
-  pub heard : session.heard ≡ (reading_in setup (p, peering)).heard
+  pub adj_rib_in : session.adj_rib_in ≡ (reading_in setup (p, peering)).adj_rib_in
 
 -- Tables and sessions are those that the script gives for the places of the sessions by the log.
 pub record IsTheSolution (setup : Setup) (w : World) : Type 0 where

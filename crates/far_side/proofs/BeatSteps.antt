@@ -1,4 +1,4 @@
--- What is said by the beat, and what a far side begins with.
+-- The KEEPALIVE that is said, and what a far side begins with.
 use Rattle.std.proofs.Common.{◌≡◌, ℕ, ◌+◌, List, [], ◌∷◌, refl, sym, ap, inl, inr, false}
 use Rattle.ring_net.specs.declared.post.Post.{Post}
 use Rattle.graft_steps.specs.declared.item.Item.{Item}
@@ -25,15 +25,15 @@ pub sends_keepalive : (r : RemoteValue)
     → (let v : RemoteValue = record r { end = sending (255 ∷ 255 ∷ 255 ∷ 255 ∷ 255 ∷ 255 ∷ 255 ∷ 255 ∷ 255 ∷ 255 ∷ 255 ∷ 255 ∷ 255 ∷ 255 ∷ 255 ∷ 255 ∷ 0 ∷ 19 ∷ 4 ∷ []) r.end } in v) ≡ record r { end = sending (spell KeepaliveMsg false) r.end }
 sends_keepalive r = ap (λ (xs : List ℕ). let v : RemoteValue = record r { end = sending xs r.end } in v) (sym keepalive_is)
 
--- with another remote after a beat
+-- with another remote after a KEEPALIVE
 abbrev beaten_by : Fields → RemoteValue → Fields
-beaten_by f r = record f { remote = r; beats = f.beats + 1; last_beat = f.turns }
+beaten_by f r = record f { remote = r; keepalives = f.keepalives + 1; last_keepalive = f.turns }
 
 module _ {C : Type 0} (f : Fields) (p : Post (Item C)) (keeps : FarSideInvariant f) where
   pub not_due_each : (IsDue f → ⊥) → ForEach (λ (session : C → SessionValue). Beaten session f p f p) f
   not_due_each not = record {
     keeps = keeps;
-    each = λ session. record { events = []; did = λ t. did_same session f f p t refl refl refl; beats = inr (not, refl, refl); keeps = keeps };
+    each = λ session. record { events = []; did = λ t. did_same session f f p t refl refl refl; keepalives = inr (not, refl, refl); keeps = keeps };
   }
 
   keeps_beaten : (r : RemoteValue) → r ≡ record f.remote { end = sending (spell KeepaliveMsg false) f.remote.end } → FarSideInvariant (beaten_by f r)
@@ -42,14 +42,14 @@ module _ {C : Type 0} (f : Fields) (p : Post (Item C)) (keeps : FarSideInvariant
 
   pub due_each : (q : Post (Item C)) (r : RemoteValue) → IsDue f → r ≡ record f.remote { end = sending (spell KeepaliveMsg false) f.remote.end }
       → WroteOne p (far_code (Beat f.turns)) [] q
-      → ForEach (λ (session : C → SessionValue). Beaten session f p (let g : Fields = record f { remote = r; beats = f.beats + 1; last_beat = f.turns } in g) q) (let g : Fields = record f { remote = r; beats = f.beats + 1; last_beat = f.turns } in g)
+      → ForEach (λ (session : C → SessionValue). Beaten session f p (let g : Fields = record f { remote = r; keepalives = f.keepalives + 1; last_keepalive = f.turns } in g) q) (let g : Fields = record f { remote = r; keepalives = f.keepalives + 1; last_keepalive = f.turns } in g)
   due_each q r due same wrote = record {
     keeps = keeps_beaten r same;
     each = λ session. record {
       events = Beat f.turns ∷ [];
       did = λ t. did_one session f (beaten_by f r) p q t (Beat f.turns) refl refl wrote
-          (record { beat = f.beat; is = keeps.beat; some = due.some; multiple = due.multiple; later = due.later; few = due.few; takes = refl; sends = refl; effect = ap (λ (v : RemoteValue). far_part (beaten_by f v)) same }) tt;
-      beats = inl (due, refl, ap (beaten_by f) same);
+          (record { keepalive_interval = f.keepalive_interval; is = keeps.keepalive_interval; some = due.some; multiple = due.multiple; later = due.later; few = due.few; takes = refl; sends = refl; effect = ap (λ (v : RemoteValue). far_part (beaten_by f v)) same }) tt;
+      keepalives = inl (due, refl, ap (beaten_by f) same);
       keeps = keeps_beaten r same;
     };
   }

@@ -4,7 +4,7 @@ use Rattle.std.specs.Prelude.{option_map, unwrap_or}
 use Rattle.std.proofs.lemmas.Option.{slice_get_within}
 use Rattle.tcp_seq.specs.Endpoint.{fresh_endpoint}
 use Rattle.tcp_seq.specs.declared.segment.Way.TheVariants.{Home, Remote}
-use Rattle.graft_model.specs.Setups.{PeeringSetup, beat_of}
+use Rattle.graft_model.specs.Setups.{PeeringSetup, keepalive_interval_of}
 use Rattle.graft_actors.specs.Items.{home_first, remote_first}
 use Rattle.graft_actors.specs.declared.known.Known.{Known}
 use Rattle.far_side.specs.Remotes.{RemoteValue}
@@ -25,15 +25,15 @@ begun known config table r home remote = record {
   peering = config.peering;
   says = table;
   plan = config.plan;
-  beat = config.beat;
+  keepalive_interval = config.beat;
   remote = r;
   homeward = home;
   remoteward = remote;
   pointer = config.pointer;
   followed = 0;
   turns = 0;
-  beats = 0;
-  last_beat = 0;
+  keepalives = 0;
+  last_keepalive = 0;
 }
 
 module _ (known : Known) (config : FarConfig) (table : SayTable) (r : RemoteValue) (home remote : LinkValue) (is : IsFarConfigOf known.setup config)
@@ -55,7 +55,7 @@ module _ (known : Known) (config : FarConfig) (table : SayTable) (r : RemoteValu
     few = is.few;
     peerings = is.peerings;
     there = slice_get_within known.setup.peerings config.peering.0 is.peering is.is;
-    beat = ap (option_map beat_of) is.is ∙ ap Some (sym is.beat);
+    keepalive_interval = ap (option_map keepalive_interval_of) is.is ∙ ap Some (sym is.beat);
     says = λ step. says step ∙ is.says step;
     remote = ap (λ (v : RemoteValue). v.peering) r_is;
     sends = ap (λ (v : RemoteValue). v.send_first) r_is ∙ sends;

@@ -57,7 +57,7 @@ silent_deliveries pointer xs ys = all-append Silent (home_events pointer xs) (re
     (silent_passes (home_event pointer) (λ n x. silent_home pointer n x (act_in x)) 0 xs)
     (silent_passes remote_event (λ n x. silent_remote n (act_in x)) 0 ys)
 
--- nor does the beat
+-- nor does the KEEPALIVE
 pub silent_beats : (f g : Fields) (es : List FarEvent) → Beats f es g → AllByRecursion Silent es
 silent_beats f g es (inl (due, is, same)) = subst (AllByRecursion Silent) (sym is) ((λ part. tt), tt)
 silent_beats f g es (inr (not, is, same)) = subst (AllByRecursion Silent) (sym is) tt

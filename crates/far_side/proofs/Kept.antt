@@ -58,7 +58,7 @@ keeps_home f link k same points = record {
   few = k.few;
   peerings = k.peerings;
   there = k.there;
-  beat = k.beat;
+  keepalive_interval = k.keepalive_interval;
   says = k.says;
   remote = k.remote;
   sends = k.sends;
@@ -75,7 +75,7 @@ keeps_remoteward f link k same = record {
   few = k.few;
   peerings = k.peerings;
   there = k.there;
-  beat = k.beat;
+  keepalive_interval = k.keepalive_interval;
   says = k.says;
   remote = k.remote;
   sends = k.sends;
@@ -93,7 +93,7 @@ keeps_remote f r k p s a = record {
   few = k.few;
   peerings = k.peerings;
   there = k.there;
-  beat = k.beat;
+  keepalive_interval = k.keepalive_interval;
   says = k.says;
   remote = p ∙ k.remote;
   sends = s ∙ k.sends;
@@ -111,7 +111,7 @@ keeps_pointer f g k below = record {
   few = k.few;
   peerings = k.peerings;
   there = k.there;
-  beat = k.beat;
+  keepalive_interval = k.keepalive_interval;
   says = k.says;
   remote = k.remote;
   sends = k.sends;
@@ -122,14 +122,15 @@ keeps_pointer f g k below = record {
   pointed = k.pointed;
 }
 
--- the counts of turns and beats are nothing that it keeps
-pub keeps_counts : (f g : Fields) → FarSideInvariant f → FarSideInvariant (record f { turns = g.turns; beats = g.beats; last_beat = g.last_beat })
+-- the counts of turns and KEEPALIVEs are nothing that it keeps
+pub keeps_counts : (f g : Fields) → FarSideInvariant f
+    → FarSideInvariant (record f { turns = g.turns; keepalives = g.keepalives; last_keepalive = g.last_keepalive })
 keeps_counts f g k = record {
   routers = k.routers;
   few = k.few;
   peerings = k.peerings;
   there = k.there;
-  beat = k.beat;
+  keepalive_interval = k.keepalive_interval;
   says = k.says;
   remote = k.remote;
   sends = k.sends;

@@ -24,8 +24,8 @@ some_session = record {
     export = None;
   };
   story = [];
-  heard = map.empty;
-  told = map.empty;
+  adj_rib_in = map.empty;
+  adj_rib_out = map.empty;
   end = fresh_endpoint;
 }
 

@@ -21,10 +21,10 @@ use Rattle.far_side.proofs.Dids.{did_same, did_then}
 use Rattle.far_side.proofs.EmitSteps.{plans_put-append}
 use Rattle.far_side.proofs.Goes.{silent_goes, silent_deliveries, silent_beats, again_goes, fresh_goes, answer_goes, round_by}
 
--- what a beat leaves alone
+-- what a KEEPALIVE leaves alone
 beats_same : (f g : Fields) (events : List FarEvent) → Beats f events g
     → (g.homeward ≡ f.homeward) × (g.remoteward ≡ f.remoteward) × (g.plan ≡ f.plan) × (g.pointer ≡ f.pointer) × (g.turns ≡ f.turns) × (g.remote.at_turn ≡ f.remote.at_turn)
-    × (g ≡ record f { remote = g.remote; beats = g.beats; last_beat = g.last_beat })
+    × (g ≡ record f { remote = g.remote; keepalives = g.keepalives; last_keepalive = g.last_keepalive })
 beats_same f g events (inl b) = let is = b.2 in (
   ap (λ (h : Fields). h.homeward) is,
   ap (λ (h : Fields). h.remoteward) is,
@@ -32,7 +32,7 @@ beats_same f g events (inl b) = let is = b.2 in (
   ap (λ (h : Fields). h.pointer) is,
   ap (λ (h : Fields). h.turns) is,
   ap (λ (h : Fields). h.remote.at_turn) is,
-  subst (λ (h : Fields). h ≡ record f { remote = h.remote; beats = h.beats; last_beat = h.last_beat }) (sym is) refl,
+  subst (λ (h : Fields). h ≡ record f { remote = h.remote; keepalives = h.keepalives; last_keepalive = h.last_keepalive }) (sym is) refl,
 )
 beats_same f g events (inr b) = let is = b.2 in (
   ap (λ (h : Fields). h.homeward) is,
@@ -41,10 +41,10 @@ beats_same f g events (inr b) = let is = b.2 in (
   ap (λ (h : Fields). h.pointer) is,
   ap (λ (h : Fields). h.turns) is,
   ap (λ (h : Fields). h.remote.at_turn) is,
-  subst (λ (h : Fields). h ≡ record f { remote = h.remote; beats = h.beats; last_beat = h.last_beat }) (sym is) refl,
+  subst (λ (h : Fields). h ≡ record f { remote = h.remote; keepalives = h.keepalives; last_keepalive = h.last_keepalive }) (sym is) refl,
 )
 
--- f0 is the far side before the turn, a after its turn was counted, b and c after the two passes, d after the retransmission turn, e after the beat,
+-- f0 is the far side before the turn, a after its turn was counted, b and c after the two passes, d after the retransmission turn, e after the KEEPALIVE,
 -- g after the new slices, h after the answer
 module _ {C : Type 0} (session : C → SessionValue) (f0 a b c d e g h : Fields) (p0 p1 p2 p3 p4 p5 p6 : Post (Item C)) (counted : a ≡ record f0 { turns = f0.turns + 1 })
     (home : LinkPass session Home a p0 b p1) (remote : LinkPass session Remote b p1 c p2) (again : SentAgain session c p2 d p3) (beaten : Beaten session d p3 e p4) (fresh : SentFresh session e p4 g p5) (answer : SentAnswer session g p5 h p6) where
@@ -132,14 +132,17 @@ module _ {C : Type 0} (session : C → SessionValue) (f0 b c d e g h : Fields) (
   d_same : d ≡ record f0 { turns = f0.turns + 1; remote = d.remote; homeward = d.homeward; remoteward = c.remoteward }
   d_same = (again.sent zero_tally).same ∙ ap (λ (k : Fields). let m : Fields = record k { remote = d.remote; homeward = d.homeward } in m) c_same
 
-  e_same : e ≡ record f0 { turns = f0.turns + 1; remote = e.remote; homeward = d.homeward; remoteward = c.remoteward; beats = e.beats; last_beat = e.last_beat }
-  e_same = (beats_same d e beaten.events beaten.beats).6
-      ∙ ap (λ (k : Fields). let m : Fields = record k { remote = e.remote; beats = e.beats; last_beat = e.last_beat } in m) d_same
+  e_same : e ≡ record f0 { turns = f0.turns + 1; remote = e.remote; homeward = d.homeward; remoteward = c.remoteward; keepalives = e.keepalives;
+      last_keepalive = e.last_keepalive }
+  e_same = (beats_same d e beaten.events beaten.keepalives).6
+      ∙ ap (λ (k : Fields). let m : Fields = record k { remote = e.remote; keepalives = e.keepalives; last_keepalive = e.last_keepalive } in m) d_same
 
-  g_same : g ≡ record f0 { turns = f0.turns + 1; remote = g.remote; homeward = g.homeward; remoteward = c.remoteward; beats = e.beats; last_beat = e.last_beat }
+  g_same : g ≡ record f0 { turns = f0.turns + 1; remote = g.remote; homeward = g.homeward; remoteward = c.remoteward; keepalives = e.keepalives;
+      last_keepalive = e.last_keepalive }
   g_same = (fresh.sent zero_tally).same ∙ ap (λ (k : Fields). let m : Fields = record k { remote = g.remote; homeward = g.homeward } in m) e_same
 
-  h_same : h ≡ record f0 { turns = f0.turns + 1; remote = h.remote; homeward = h.homeward; remoteward = c.remoteward; beats = e.beats; last_beat = e.last_beat }
+  h_same : h ≡ record f0 { turns = f0.turns + 1; remote = h.remote; homeward = h.homeward; remoteward = c.remoteward; keepalives = e.keepalives;
+      last_keepalive = e.last_keepalive }
   h_same = (answer.sent zero_tally).same ∙ ap (λ (k : Fields). let m : Fields = record k { remote = h.remote; homeward = h.homeward } in m) g_same
 
   -- the links
@@ -155,7 +158,7 @@ module _ {C : Type 0} (session : C → SessionValue) (f0 b c d e g h : Fields) (
       (puts_by f0 c c.homeward d.homeward (length (again_events c.remote)) first_fates x.0, fates_on f0 c d first_fates x.1)
 
   beat_fates : SameFates d e
-  beat_fates = let s = beats_same d e beaten.events beaten.beats in record {
+  beat_fates = let s = beats_same d e beaten.events beaten.keepalives in record {
     fates = ap (λ pl. fates_in pl e.homeward) s.2 ∙ ap (λ (l : LinkValue). fates_in d.plan l) s.0;
     router = ap (λ r. r.0) s.3;
   }
@@ -167,7 +170,7 @@ module _ {C : Type 0} (session : C → SessionValue) (f0 b c d e g h : Fields) (
       let y = sent_puts session g h p5 p6 zero_tally _ (answer_events g.remote.end) (answer.sent zero_tally) in
       let second : Puts (fates_in f0.plan f0.homeward) f0.pointer.0 e.homeward g.homeward (length fresh.events) = puts_by f0 e e.homeward g.homeward (length fresh.events) before x.0 in
       let third : Puts (fates_in f0.plan f0.homeward) f0.pointer.0 g.homeward h.homeward (length (answer_events g.remote.end)) = puts_by f0 g g.homeward h.homeward (length (answer_events g.remote.end)) (fates_on f0 e g before x.1) y.0 in
-      let start : Puts (fates_in f0.plan f0.homeward) f0.pointer.0 d.homeward g.homeward (length fresh.events) = subst (λ (l : LinkValue). Puts (fates_in f0.plan f0.homeward) f0.pointer.0 l g.homeward (length fresh.events)) (beats_same d e beaten.events beaten.beats).0 second in
+      let start : Puts (fates_in f0.plan f0.homeward) f0.pointer.0 d.homeward g.homeward (length fresh.events) = subst (λ (l : LinkValue). Puts (fates_in f0.plan f0.homeward) f0.pointer.0 l g.homeward (length fresh.events)) (beats_same d e beaten.events beaten.keepalives).0 second in
       puts_on _ _ c.homeward d.homeward h.homeward _ _ first_puts.0 (puts_on _ _ d.homeward g.homeward h.homeward _ _ start third)
 
   homeward_link : SameLink f0.homeward h.homeward
@@ -175,7 +178,7 @@ module _ {C : Type 0} (session : C → SessionValue) (f0 b c d e g h : Fields) (
       link_then f0.homeward b.homeward h.homeward (link_with f0.homeward b.homeward _ _ _ home.link)
       (link_then b.homeward c.homeward h.homeward (link_with b.homeward c.homeward _ _ _ (ap (λ (k : Fields). k.homeward) c_same))
       (link_then c.homeward d.homeward h.homeward (link_with c.homeward d.homeward _ _ _ (again.sent zero_tally).link)
-      (link_then d.homeward e.homeward h.homeward (link_with d.homeward e.homeward _ _ _ (beats_same d e beaten.events beaten.beats).0)
+      (link_then d.homeward e.homeward h.homeward (link_with d.homeward e.homeward _ _ _ (beats_same d e beaten.events beaten.keepalives).0)
       (link_then e.homeward g.homeward h.homeward (link_with e.homeward g.homeward _ _ _ (fresh.sent zero_tally).link) (link_with g.homeward h.homeward _ _ _ (answer.sent zero_tally).link)))))
 
   remoteward_link : SameLink f0.remoteward h.remoteward
@@ -203,7 +206,8 @@ module _ {C : Type 0} (session : C → SessionValue) (f0 b c d e g h : Fields) (
       (round_by session f0 c d p2 p3 zero_tally u (again_events c.remote) (ap (λ (k : Fields). k.known.setup) c_same) (ap (λ (k : Fields). k.peering) c_same) (again.sent zero_tally).did) (omega arith)
 
   says : GoesBy SendsNone d beaten.events e
-  says = silent_goes f0.known.setup f0.peering.0 (far_part d) (far_part e) zero_tally zero_tally beaten.events (silent_beats d e beaten.events beaten.beats)
+  says =
+      silent_goes f0.known.setup f0.peering.0 (far_part d) (far_part e) zero_tally zero_tally beaten.events (silent_beats d e beaten.events beaten.keepalives)
       (round_by session f0 d e p3 p4 zero_tally zero_tally beaten.events (ap (λ (k : Fields). k.known.setup) d_same) (ap (λ (k : Fields). k.peering) d_same) (beaten.did zero_tally))
 
   sends : GoesBy SendsNew e fresh.events g
@@ -232,15 +236,15 @@ module _ {C : Type 0} (session : C → SessionValue) (f0 b c d e g h : Fields) (
           none = did.none;
           replay = did.replay;
           moved = record {
-            beats = beaten.events;
+            keepalives = beaten.events;
             fresh = fresh.events;
             reached = c.remote;
             before = d;
             beaten = e;
             sent = g.remote.end;
             is_reached = subst (λ (v : RemoteValue). SameRemote v c.remote) home.remote remote.remote;
-            is_before = (again.remote, ap (λ (k : Fields). k.turns) d_same, ap (λ (k : Fields). k.beat) d_same, ap (λ (k : Fields). k.beats) d_same, ap (λ (k : Fields). k.last_beat) d_same);
-            is_beat = beaten.beats;
+            is_before = (again.remote, ap (λ (k : Fields). k.turns) d_same, ap (λ (k : Fields). k.keepalive_interval) d_same, ap (λ (k : Fields). k.keepalives) d_same, ap (λ (k : Fields). k.last_keepalive) d_same);
+            are_keepalives = beaten.keepalives;
             is_fresh = fresh.fresh;
             events = did.coded;
             delivered = far_part c;
@@ -254,7 +258,7 @@ module _ {C : Type 0} (session : C → SessionValue) (f0 b c d e g h : Fields) (
             answers = answers;
             end = end_is;
             rested = record { emitted = ap (λ (x : Endpoint). x.emitted) end_is ∙ fresh.all ∙ sym (ap reach_of end_is); answered = ap (λ (x : Endpoint). x.owed) end_is };
-            at_turn = ap (λ (v : RemoteValue). v.at_turn) answer.remote ∙ fresh.at_turn ∙ (beats_same d e beaten.events beaten.beats).5
+            at_turn = ap (λ (v : RemoteValue). v.at_turn) answer.remote ∙ fresh.at_turn ∙ (beats_same d e beaten.events beaten.keepalives).5
                 ∙ ap (λ (v : RemoteValue). v.at_turn) again.remote;
             homeward = all_puts.plans
                 ∙ ap (λ (xs : List InLink). xs ++ plans_put (fates_in f0.plan f0.homeward) f0.pointer.0 c.homeward.put (length (again_events c.remote) + (length fresh.events + length (answer_events g.remote.end))))
@@ -267,7 +271,7 @@ module _ {C : Type 0} (session : C → SessionValue) (f0 b c d e g h : Fields) (
             );
             links = (homeward_link, remoteward_link);
             turns = ap (λ (k : Fields). k.turns) h_same;
-            same = subst (λ (k : Fields). k ≡ record f0 { remote = k.remote; homeward = k.homeward; remoteward = k.remoteward; turns = k.turns; beats = k.beats; last_beat = k.last_beat }) (sym h_same) refl;
+            same = subst (λ (k : Fields). k ≡ record f0 { remote = k.remote; homeward = k.homeward; remoteward = k.remoteward; turns = k.turns; keepalives = k.keepalives; last_keepalive = k.last_keepalive }) (sym h_same) refl;
           };
         };
         keeps = (answer.sent zero_tally).keeps;

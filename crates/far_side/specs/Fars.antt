@@ -2,7 +2,7 @@
 use Rattle.std.specs.Prelude.{ℕ, ◌≡◌, ◌<◌, ◌≤◌, List, [], length, Some, slice_get}
 use Rattle.ring_net.specs.Deeds.{Deed}
 use Rattle.graft_steps.specs.declared.item.Item.{Item}
-use Rattle.graft_model.specs.Setups.{Setup, PeeringSetup, beat_of, routers_in, peerings_in}
+use Rattle.graft_model.specs.Setups.{Setup, PeeringSetup, keepalive_interval_of, routers_in, peerings_in}
 use Rattle.graft_model.specs.Parts.{FarPart}
 use Rattle.graft_model.specs.First.{first_far}
 use Rattle.graft_actors.specs.Actors.{FarSide, FarIs}
@@ -39,7 +39,7 @@ pub record IsFarConfigOf (setup : Setup) (config : FarConfig) : Type 0 where
   pub opening : config.opening ≡ peering.opening
   pub short : length config.opening ≤ 4096
   pub says : (step : ℕ) → bytes_to_say config.says step ≡ say_by config.peering.0 (slice_get setup.steps step)
-  pub beat : config.beat ≡ beat_of peering
+  pub beat : config.beat ≡ keepalive_interval_of peering
 
 -- The far side is that of its peering in the first world, with empty links and before its first turn.
 pub record IsNewFar (setup : Setup) (config : FarConfig) (far : Far) : Type 0 where
@@ -49,7 +49,7 @@ pub record IsNewFar (setup : Setup) (config : FarConfig) (far : Far) : Type 0 wh
   pub homeward : (far.fields.homeward.plans ≡ []) × (far.fields.homeward.put ≡ 0)
   pub remoteward : (far.fields.remoteward.plans ≡ []) × (far.fields.remoteward.put ≡ 0)
   pub turns : far.fields.turns ≡ 0
-  pub beat : far.fields.beat ≡ config.beat
+  pub keepalive_interval : far.fields.keepalive_interval ≡ config.beat
   pub plan : far.fields.plan ≡ config.plan
 
 -- what a take and a turn promise beside their events

@@ -4,7 +4,7 @@ use Rattle.std.specs.List.{AllByRecursion}
 use Rattle.tcp_seq.specs.declared.segment.Way.{Way}
 use Rattle.tcp_seq.specs.declared.segment.Way.TheVariants.{Home, Remote}
 use Rattle.session_value.specs.Sessions.{SessionValue}
-use Rattle.graft_model.specs.Setups.{ScriptStep, SayStep, MoveStep, EvacuateStep, SettleStep, beat_of, routers_in, peerings_in}
+use Rattle.graft_model.specs.Setups.{ScriptStep, SayStep, MoveStep, EvacuateStep, SettleStep, keepalive_interval_of, routers_in, peerings_in}
 use Rattle.graft_model.specs.Parts.{FarPart}
 use Rattle.graft_actors.specs.Actors.{FarSide, FarIs}
 use Rattle.graft_actors.specs.Items.{home_first, remote_first}
@@ -20,8 +20,8 @@ far_part f = record {
   remoteward = f.remoteward.segments;
   pointer = f.pointer.0;
   followed = f.followed;
-  beats = f.beats;
-  last_beat = f.last_beat;
+  keepalives = f.keepalives;
+  last_keepalive = f.last_keepalive;
 }
 
 abbrev pub own_part : Fields → OwnPart
@@ -65,7 +65,7 @@ pub record FarSideInvariant (f : Fields) : Type 0 where
   pub few : f.routers ≤ 256
   pub peerings : f.peerings ≡ peerings_in f.known.setup
   pub there : f.peering.0 < peerings_in f.known.setup
-  pub beat : option_map beat_of (slice_get f.known.setup.peerings f.peering.0) ≡ Some f.beat
+  pub keepalive_interval : option_map keepalive_interval_of (slice_get f.known.setup.peerings f.peering.0) ≡ Some f.keepalive_interval
   pub says : (step : ℕ) → bytes_at f.says step ≡ say_by f.peering.0 (slice_get f.known.setup.steps step)
   -- the remote and both links are its peering's
   pub remote : f.remote.peering ≡ f.peering.0

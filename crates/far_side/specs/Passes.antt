@@ -139,10 +139,10 @@ answer_events e = if e.owed then Send e.emitted 0 ∷ [] else []
 
 -- A KEEPALIVE of the remote is due in this turn, and there is room for it.
 pub record IsDue (f : Fields) : Type 0 where
-  pub some : 0 < f.beat
-  pub multiple : f.turns % f.beat ≡ 0
-  pub later : f.last_beat < f.turns
-  pub few : f.beats < 27594
+  pub some : 0 < f.keepalive_interval
+  pub multiple : f.turns % f.keepalive_interval ≡ 0
+  pub later : f.last_keepalive < f.turns
+  pub few : f.keepalives < 27594
   pub room : length f.remote.end.stream + 19 ≤ 2 ^ 20
 
 -- the retransmission turn
@@ -168,11 +168,11 @@ pub record SentAnswer {C : Type 0} (session : C → SessionValue) (old : Fields)
 -- A KEEPALIVE is said if it is due; otherwise nothing happens.
 abbrev pub Beats : Fields → List FarEvent → Fields → Type 0
 Beats old events new =
-    (IsDue old × (events ≡ Beat old.turns ∷ []) × (new ≡ record old { remote = record old.remote { end = sending (spell KeepaliveMsg false) old.remote.end }; beats = old.beats + 1; last_beat = old.turns }))
+    (IsDue old × (events ≡ Beat old.turns ∷ []) × (new ≡ record old { remote = record old.remote { end = sending (spell KeepaliveMsg false) old.remote.end }; keepalives = old.keepalives + 1; last_keepalive = old.turns }))
     ⊎ ((¬ IsDue old) × (events ≡ []) × (new ≡ old))
 
 pub record Beaten {C : Type 0} (session : C → SessionValue) (old : Fields) (before : Post (Item C)) (new : Fields) (after : Post (Item C)) : Type 0 where
   pub events : List FarEvent
   pub did : (t : Tally) → DidAsFar session old before t events new after t
-  pub beats : Beats old events new
+  pub keepalives : Beats old events new
   pub keeps : FarSideInvariant new

@@ -22,26 +22,26 @@ use Rattle.graft_model.specs.Codes.{far_code}
 -- One turn. Its events are, in this order: those that the plan has for the link to home and for the link to the remote, the first outstanding slice
 -- again, a KEEPALIVE if one is due, all new slices, and the owed acknowledgement.
 pub record FarTurned {C : Type 0} (old : Fields) (deeds : List (Deed (Item C))) (new : Fields) : Type 0 where
-  pub beats : List FarEvent
+  pub keepalives : List FarEvent
   pub fresh : List FarEvent
-  -- the remote after the deliveries, the far side before and after its beat, and the endpoint that has emitted all new slices
+  -- the remote after the deliveries, the far side before and after its KEEPALIVE, and the endpoint that has emitted all new slices
   pub reached : RemoteValue
   pub before : Fields
   pub beaten : Fields
   pub sent : Endpoint
   pub is_reached : SameRemote old.remote reached
-  pub is_before : (before.remote ≡ record reached { at_turn = reached.end.acked }) × (before.turns ≡ old.turns + 1) × (before.beat ≡ old.beat) × (before.beats ≡ old.beats) × (before.last_beat ≡ old.last_beat)
-  pub is_beat : Beats before beats beaten
+  pub is_before : (before.remote ≡ record reached { at_turn = reached.end.acked }) × (before.turns ≡ old.turns + 1) × (before.keepalive_interval ≡ old.keepalive_interval) × (before.keepalives ≡ old.keepalives) × (before.last_keepalive ≡ old.last_keepalive)
+  pub are_keepalives : Beats before keepalives beaten
   pub is_fresh : FreshEvents beaten.remote.end fresh sent
-  pub events : AreDeeds far_code (home_events old.pointer.0 old.homeward.plans ++ (remote_events old.remoteward.plans ++ (again_events reached ++ (beats ++ (fresh ++ answer_events sent))))) deeds
-  -- after the deliveries only an old slice is sent; after the beat only new slices, and then only the owed acknowledgement
+  pub events : AreDeeds far_code (home_events old.pointer.0 old.homeward.plans ++ (remote_events old.remoteward.plans ++ (again_events reached ++ (keepalives ++ (fresh ++ answer_events sent))))) deeds
+  -- after the deliveries only an old slice is sent; after the KEEPALIVE only new slices, and then only the owed acknowledgement
   pub delivered : FarPart
   pub resent : FarPart
   pub said : FarPart
   pub level : FarPart
   pub delivers : FarGoes old.known.setup old.peering.0 SendsNone (far_part old) (home_events old.pointer.0 old.homeward.plans ++ remote_events old.remoteward.plans) delivered
   pub resends : FarGoes old.known.setup old.peering.0 FarRetransmits delivered (again_events reached) resent
-  pub says : FarGoes old.known.setup old.peering.0 SendsNone resent beats said
+  pub says : FarGoes old.known.setup old.peering.0 SendsNone resent keepalives said
   pub sends : FarGoes old.known.setup old.peering.0 SendsNew said fresh level
   pub answers : FarGoes old.known.setup old.peering.0 SendsAnswer level (answer_events sent) (far_part new)
   -- At its end all that may be emitted is emitted, and no acknowledgement is owed.
@@ -55,7 +55,7 @@ pub record FarTurned {C : Type 0} (old : Fields) (deeds : List (Deed (Item C))) 
   pub remoteward : (new.remoteward.plans ≡ left_in_link old.remoteward.plans) × (new.remoteward.put ≡ old.remoteward.put)
   pub links : SameLink old.homeward new.homeward × SameLink old.remoteward new.remoteward
   pub turns : new.turns ≡ old.turns + 1
-  pub same : new ≡ record old { remote = new.remote; homeward = new.homeward; remoteward = new.remoteward; turns = new.turns; beats = new.beats; last_beat = new.last_beat }
+  pub same : new ≡ record old { remote = new.remote; homeward = new.homeward; remoteward = new.remoteward; turns = new.turns; keepalives = new.keepalives; last_keepalive = new.last_keepalive }
 
 -- a turn, after which the far side is sound
 pub record FarTurnsOnce {C : Type 0} (session : C → SessionValue) (old : Fields) (before : Post (Item C)) (new : Fields) (after : Post (Item C)) : Type 0 where

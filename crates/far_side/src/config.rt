@@ -24,9 +24,6 @@ pub struct FarConfig {
     pub says: Says,
     /// The plan of faults: what happens to each segment.
     pub plan: Plan,
-    /// Whether the peering uses AS numbers of four octets (RFC 6793). The opening and the says are already written in
-    /// this width.
-    pub wide: bool,
     /// KEEPALIVE interval of the remote in turns; 0 for none.
     pub beat: u32,
 }

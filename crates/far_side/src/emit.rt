@@ -28,7 +28,7 @@ const KEEPALIVE: [u8; 19] = [
 ];
 
 /// The most KEEPALIVEs that are said at the interval.
-const MOST_BEATS: u32 = 27_594;
+const MOST_KEEPALIVES: u32 = 27_594;
 
 /// Puts a segment of the remote that begins at an offset into the link to home.
 fn send<C: Drop>(
@@ -97,19 +97,19 @@ pub(crate) fn send_answer<C: Drop>(
     send(far, from, segment, post)
 }
 
-/// Returns whether a KEEPALIVE is to be said in this turn.
+/// Returns whether a KEEPALIVE is to be sent in this turn.
 fn is_due(far: &Fields) -> bool
     ensures { IsTrue result ↔ IsDue far.now }
 {
-    far.beat > 0
-        && far.turns % far.beat == 0
-        && far.last_beat < far.turns
-        && far.beats < MOST_BEATS
+    far.keepalive_interval > 0
+        && far.turns % far.keepalive_interval == 0
+        && far.last_keepalive < far.turns
+        && far.keepalives < MOST_KEEPALIVES
         && far.remote.has_room(KEEPALIVE.len())
 }
 
-/// Says a KEEPALIVE if one is due.
-pub(crate) fn beat<C: Drop>(far: &mut Fields, post: &mut Post<Item<C>>) -> Result<(), NoMemory>
+/// Sends a KEEPALIVE if one is due.
+pub(crate) fn send_keepalive<C: Drop>(far: &mut Fields, post: &mut Post<Item<C>>) -> Result<(), NoMemory>
     requires { FarSideInvariant far.old }
     ensures edges { SameEdges post.old post.new }
     ensures beaten { OnOk result (ForEach (λ (session : C → SessionValue). Beaten session far.old post.old far.new post.new) far.new) }
@@ -119,7 +119,7 @@ pub(crate) fn beat<C: Drop>(far: &mut Fields, post: &mut Post<Item<C>>) -> Resul
     }
     note_far(post, FarEvent::Beat { round: far.turns })?;
     far.remote.say(&KEEPALIVE)?;
-    far.beats += 1;
-    far.last_beat = far.turns;
+    far.keepalives += 1;
+    far.last_keepalive = far.turns;
     Ok(())
 }

@@ -52,8 +52,7 @@ impl Far {
             opening,
             says,
             plan,
-            wide: _,
-            beat,
+            beat: keepalive_interval,
         } = config;
         Ok(Far {
             fields: Fields {
@@ -63,15 +62,15 @@ impl Far {
                 peering,
                 says: SayTable::new(alloc, says)?,
                 plan,
-                beat,
+                keepalive_interval,
                 remote: Remote::new(alloc, peering, send_first, receive_first, opening)?,
                 homeward: Link::new(alloc, Way::Home, peering, send_first, receive_first),
                 remoteward: Link::new(alloc, Way::Remote, peering, receive_first, send_first),
                 pointer,
                 followed: 0,
                 turns: 0,
-                beats: 0,
-                last_beat: 0,
+                keepalives: 0,
+                last_keepalive: 0,
             },
             has_failed: false,
         })

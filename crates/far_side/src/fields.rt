@@ -19,7 +19,7 @@ pub struct Fields {
     pub(crate) says: SayTable,
     pub(crate) plan: Plan,
     /// KEEPALIVE interval in turns; 0 for none.
-    pub(crate) beat: u32,
+    pub(crate) keepalive_interval: u32,
     pub(crate) remote: Remote,
     pub(crate) homeward: Link,
     pub(crate) remoteward: Link,
@@ -29,8 +29,8 @@ pub struct Fields {
     /// The number of turns made.
     pub(crate) turns: u32,
     /// The number of KEEPALIVEs said at the interval, and the turn of the last one.
-    pub(crate) beats: u32,
-    pub(crate) last_beat: u32,
+    pub(crate) keepalives: u32,
+    pub(crate) last_keepalive: u32,
 }
 
 impl Fields {

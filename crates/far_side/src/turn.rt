@@ -6,7 +6,7 @@ ghost use Rattle.session_value.specs.Sessions.{SessionValue};
 ghost use Rattle.far_side.specs.Parts.{FarSideInvariant, ForEach};
 ghost use Rattle.far_side.specs.Turned.{FarTurnsOnce};
 
-use crate::emit::{beat, send_again, send_answer, send_fresh};
+use crate::emit::{send_keepalive, send_again, send_answer, send_fresh};
 use crate::fields::Fields;
 use crate::pass::pass;
 use graft_edge::NoMemory;
@@ -28,7 +28,7 @@ pub(crate) fn turn<C: Drop>(far: &mut Fields, post: &mut Post<Item<C>>) -> Resul
     pass(far, Way::Home, post)?;
     pass(far, Way::Remote, post)?;
     send_again(far, post)?;
-    beat(far, post)?;
+    send_keepalive(far, post)?;
     send_fresh(far, post)?;
     send_answer(far, post)
 }

@@ -98,27 +98,27 @@ module _ (setup : Setup) (r : ℕ) (before after : RouterPart) (d : Answered set
   -- what was told on this session there, of these best routes
   abbrev Told : SessionValue → Prefixes → Type 0
   Told session due = state session ≡ Established → (x : PrefixValue) → has due x ≡ false
-      → map.get session.told x ≡ tells_of setup r before.best session.config x
+      → map.get session.adj_rib_out x ≡ tells_of setup r before.best session.config x
 
   -- one place changes
   at_place : (p : ℕ) → OnePeering p before after → ((s : SessionValue) (o : Option Errand) → after.places p ≡ Live s o → Told s (after.due_out p))
       → Answered setup r after
-  at_place p one own = record { told = λ n s o live up x clean. by_number n s o live up x clean (cases_eq n p) } where
+  at_place p one own = record { adj_rib_out = λ n s o live up x clean. by_number n s o live up x clean (cases_eq n p) } where
     now : (s : SessionValue) (x : PrefixValue) → tells_of setup r before.best s.config x ≡ to_tell setup r after s x
     now s x = ap (λ (b : BestRoutes). tells_of setup r b s.config x) (sym one.best)
 
     by_number : (n : ℕ) (s : SessionValue) (o : Option Errand) → after.places n ≡ Live s o → state s ≡ Established → (x : PrefixValue)
-        → has (after.due_out n) x ≡ false → (n ≡ p) ⊎ (n ≢ p) → map.get s.told x ≡ to_tell setup r after s x
+        → has (after.due_out n) x ≡ false → (n ≡ p) ⊎ (n ≢ p) → map.get s.adj_rib_out x ≡ to_tell setup r after s x
     by_number n s o live up x clean (inl is) =
         own s o (ap after.places (sym is) ∙ live) up x (ap (λ (m : ℕ). has (after.due_out m) x) (sym is) ∙ clean) ∙ now s x
     by_number n s o live up x clean (inr other) =
-        d.told n s o (sym (one.places n other) ∙ live) up x (ap (λ (xs : Prefixes). has xs x) (sym (one.due_out n other)) ∙ clean) ∙ now s x
+        d.adj_rib_out n s o (sym (one.places n other) ∙ live) up x (ap (λ (xs : Prefixes). has xs x) (sym (one.due_out n other)) ∙ clean) ∙ now s x
 
   -- nothing of it changes
   unchanged : after.places ≡ before.places → after.due_out ≡ before.due_out → after.best ≡ before.best → Answered setup r after
   unchanged places due best = record {
-    told = λ n s o live up x clean.
-        d.told n s o (ap (λ (f : ℕ → Place). f n) (sym places) ∙ live) up x (ap (λ (f : ℕ → Prefixes). has (f n) x) (sym due) ∙ clean)
+    adj_rib_out = λ n s o live up x clean.
+        d.adj_rib_out n s o (ap (λ (f : ℕ → Place). f n) (sym places) ∙ live) up x (ap (λ (f : ℕ → Prefixes). has (f n) x) (sym due) ∙ clean)
         ∙ ap (λ (b : BestRoutes). tells_of setup r b s.config x) (sym best);
   }
 
@@ -128,33 +128,33 @@ module _ (setup : Setup) (r : ℕ) (before after : RouterPart) (d : Answered set
   live_becomes p next errand one now own = at_place p one (λ s o live. subst (λ (z : SessionValue). Told z (after.due_out p)) (same_session next s errand o (sym now ∙ live)) own)
 
   -- the same session as before, with another errand or end
-  same_told : (p : ℕ) (s next : SessionValue) (o : Option Errand) → before.places p ≡ Live s o → next.told ≡ s.told → next.config ≡ s.config
+  same_told : (p : ℕ) (s next : SessionValue) (o : Option Errand) → before.places p ≡ Live s o → next.adj_rib_out ≡ s.adj_rib_out → next.config ≡ s.config
       → (state next ≡ Established → state s ≡ Established) → (due : Prefixes) → due ≡ before.due_out p → Told next due
   same_told p s next o live told_is config up due is established x clean =
-      ap (λ (t : Routes). map.get t x) told_is ∙ d.told p s o live (up established) x (ap (λ (xs : Prefixes). has xs x) (sym is) ∙ clean)
+      ap (λ (t : Routes). map.get t x) told_is ∙ d.adj_rib_out p s o live (up established) x (ap (λ (xs : Prefixes). has xs x) (sym is) ∙ clean)
       ∙ ap (λ (c : SessionConfig). tells_of setup r before.best c x) (sym config)
 
   -- told again: what isn't due was not told, and isn't best
   due_again : (s : SessionValue) (due : Prefixes) → DueAgain before s due → Told s due
   due_again s due again up x clean =
-      let both = none_of (is_some (map.get s.told x)) (is_some (map.get before.best x)) (sym (again.members x) ∙ clean) in
-      none_there (map.get s.told x) both.0
+      let both = none_of (is_some (map.get s.adj_rib_out x)) (is_some (map.get before.best x)) (sym (again.members x) ∙ clean) in
+      none_there (map.get s.adj_rib_out x) both.0
       ∙ sym (ap (λ (b : Option _). Rattle.route_policy.specs.Telling.tell_out setup.home_as (out_side setup r s.config) x b) (none_there (map.get before.best x) both.1))
 
   -- a session changes by itself
   follows : (p : ℕ) (s next : SessionValue) (o : Option Errand) → OnePeering p before after → after.places p ≡ Live next o
       → Follows setup r p before s next o after → before.places p ≡ Live s o → IsOfStory s → state s ≢ Closed
       → (state next ≡ Established → state s ≢ OpenSent)
-      → (state next ≡ Established → next.told ≡ s.told) → next.config ≡ s.config → Answered setup r after
+      → (state next ≡ Established → next.adj_rib_out ≡ s.adj_rib_out) → next.config ≡ s.config → Answered setup r after
   follows p s next o one now row live story open_yet sent told_is config =
       live_becomes p next o one now
       (λ up x clean. by_due up x clean (due_cases (state s) (state next) before.best (before.due_out p) (after.due_out p) row.due up (sent up) open_yet))
     where
       by_due : state next ≡ Established → (x : PrefixValue) → has (after.due_out p) x ≡ false
           → ((state s ≡ OpenConfirm) × ((y : PrefixValue) → has (after.due_out p) y ≡ is_some (map.get before.best y))) ⊎ ((state s ≡ Established) × (after.due_out p ≡ before.due_out p))
-          → map.get next.told x ≡ tells_of setup r before.best next.config x
+          → map.get next.adj_rib_out x ≡ tells_of setup r before.best next.config x
       by_due up x clean (inl first) =
-          let untold : s.told ≡ map.empty = told_none s story (λ e. let f : OpenConfirm ≡ Established = sym first.0 ∙ e in cc) in
+          let untold : s.adj_rib_out ≡ map.empty = told_none s story (λ e. let f : OpenConfirm ≡ Established = sym first.0 ∙ e in cc) in
           ap (λ (t : Routes). map.get t x) (told_is up ∙ untold) ∙ map.get-empty prefix_cmp x
           ∙ sym (ap (λ (b : Option _). Rattle.route_policy.specs.Telling.tell_out setup.home_as (out_side setup r next.config) x b) (none_there (map.get before.best x) (sym (first.1 x) ∙ clean)))
       by_due up x clean (inr later) = same_told p s next o live (told_is up) config (λ e. later.0) (after.due_out p) later.1 up x clean
@@ -165,7 +165,7 @@ module _ (setup : Setup) (r : ℕ) (before after : RouterPart) (d : Answered set
       let after_is : state next ≡ g.next = ap state g.effect ∙ gets.state_next (peering_of s.config) s.story bytes g.answer g.next g.unclosed g.got g.reply story.tied.allowed in
       follows p s next o one now row live story g.unclosed
       (λ up. established_from (expected_next (peering_of s.config) s.story (state s)) bytes g.answer (g.reply ∙ ap (λ (n : SessionState). (g.answer, n)) (sym after_is ∙ up)))
-      (λ up. ap (λ (v : SessionValue). v.told) g.effect ∙ ap (λ (n : SessionState). unless_closed n s.told) (sym after_is ∙ up))
+      (λ up. ap (λ (v : SessionValue). v.adj_rib_out) g.effect ∙ ap (λ (n : SessionState). unless_closed n s.adj_rib_out) (sym after_is ∙ up))
       (ap (λ (v : SessionValue). v.config) g.effect)
 
   ticks_row : (p : ℕ) (s next : SessionValue) (o : Option Errand) (round : ℕ) → OnePeering p before after → after.places p ≡ Live next o
@@ -174,7 +174,7 @@ module _ (setup : Setup) (r : ℕ) (before after : RouterPart) (d : Answered set
       let after_is : state next ≡ g.next = ap state g.effect ∙ rounds.state_next (peering_of s.config) s.story round g.answer g.next g.up g.runs g.later g.reply story.tied.allowed in
       follows p s next o one now row live story (Rattle.session_value.proofs.Replies.up_open (state s) g.up)
       (λ up. λ e. (let f : Rattle.bgp_story.specs.Legal.is_up OpenSent ≡ true = ap Rattle.bgp_story.specs.Legal.is_up (sym e) ∙ g.up in cc))
-      (λ up. ap (λ (v : SessionValue). v.told) g.effect ∙ ap (λ (n : SessionState). unless_closed n s.told) (sym after_is ∙ up))
+      (λ up. ap (λ (v : SessionValue). v.adj_rib_out) g.effect ∙ ap (λ (n : SessionState). unless_closed n s.adj_rib_out) (sym after_is ∙ up))
       (ap (λ (v : SessionValue). v.config) g.effect)
 
   -- what is due was told as it is to be
@@ -187,9 +187,10 @@ module _ (setup : Setup) (r : ℕ) (before after : RouterPart) (d : Answered set
     where
       by_due : state row.session ≡ Established → (x : PrefixValue) (t u : Bool) → has (before.due_out p) x ≡ t → has before.dirty x ≡ u
           → (has (before.due_out p) x && not (not (has before.dirty x))) ≡ false
-          → map.get row.session.told x ≡ tells_of setup r before.best row.session.config x
-      by_due up x false u e f g = d.told p row.session row.errand row.live.is up x e
-      by_due up x true false e f g = not_other (map.get row.session.told x) (to_tell setup r before row.session x) (λ differs. row.nothing x ((e, f), differs))
+          → map.get row.session.adj_rib_out x ≡ tells_of setup r before.best row.session.config x
+      by_due up x false u e f g = d.adj_rib_out p row.session row.errand row.live.is up x e
+      by_due up x true false e f g =
+          not_other (map.get row.session.adj_rib_out x) (to_tell setup r before row.session x) (λ differs. row.nothing x ((e, f), differs))
       by_due up x true true e f g =
           let h : (has (before.due_out p) x && not (not (has before.dirty x))) ≡ true = ap (λ (t : Bool). t && not (not (has before.dirty x))) e ∙ ap (λ (t : Bool). not (not t)) f in
           let k : true ≡ false = sym h ∙ g in absurd cc
@@ -214,16 +215,17 @@ module _ (setup : Setup) (r : ℕ) (before after : RouterPart) (d : Answered set
       put = record {
         legal = subst (λ (z : SessionState). IsLegal (peering_of s.config) s.story z) row.puts.established story.legal;
         way = row.puts.one_way;
-        changes = subst (λ (z : Routes). Changes z u) story.told row.puts.changes;
+        changes = subst (λ (z : Routes). Changes z u) story.adj_rib_out row.puts.changes;
       }
 
-      now_told : (x : PrefixValue) → map.get row.next.told x ≡ map.get (told (s.story ++ updates.more (peering_of s.config) s.story u row.puts.established)) x
+      now_told : (x : PrefixValue)
+          → map.get row.next.adj_rib_out x ≡ map.get (told (s.story ++ updates.more (peering_of s.config) s.story u row.puts.established)) x
       now_told x =
-          ap (λ (v : SessionValue). map.get v.told x) row.puts.effect ∙ ap (λ (z : Routes). map.get (apply z u) x) story.told
+          ap (λ (v : SessionValue). map.get v.adj_rib_out x) row.puts.effect ∙ ap (λ (z : Routes). map.get (apply z u) x) story.adj_rib_out
           ∙ sym (ap (λ (z : Routes). map.get z x) (updates.told_then (peering_of s.config) s.story u row.puts.established row.puts.one_way story.tied.allowed))
 
-      config_is : (x : PrefixValue) → map.get row.next.told x ≡ tells_of setup r before.best s.config x
-          → map.get row.next.told x ≡ tells_of setup r before.best row.next.config x
+      config_is : (x : PrefixValue) → map.get row.next.adj_rib_out x ≡ tells_of setup r before.best s.config x
+          → map.get row.next.adj_rib_out x ≡ tells_of setup r before.best row.next.config x
       config_is x e = e ∙ ap (λ (c : SessionConfig). tells_of setup r before.best c x) (sym (ap (λ (v : SessionValue). v.config) row.puts.effect))
 
       each : AllByRecursion (λ x. to_tell setup r before s x ≡ row.attrs) row.prefixes
@@ -246,15 +248,15 @@ module _ (setup : Setup) (r : ℕ) (before after : RouterPart) (d : Answered set
 
       by_among : (x : PrefixValue) (t : Bool) → list_any (same_prefix x) row.prefixes ≡ t
           → (has (before.due_out p) x && not (list_any (same_prefix x) row.prefixes)) ≡ false
-          → map.get row.next.told x ≡ tells_of setup r before.best s.config x
+          → map.get row.next.adj_rib_out x ≡ tells_of setup r before.best s.config x
       by_among x true e clean =
           let here = among (λ y. to_tell setup r before s y ≡ row.attrs) row.prefixes x e each in
           now_told x ∙ told_of row.attrs x refl here.0 ∙ sym here.1
       by_among x false e clean =
           now_told x
           ∙ told_others (peering_of s.config) s.story u x put (λ there. let f : true ≡ false = sym (in_any row.prefixes x (in_update row.attrs x there)) ∙ e in cc)
-          ∙ ap (λ (z : Routes). map.get z x) (sym story.told)
-          ∙ d.told p s row.errand row.live.is row.puts.established x (not_due (has (before.due_out p) x) (ap (λ (t : Bool). has (before.due_out p) x && not t) (sym e) ∙ clean))
+          ∙ ap (λ (z : Routes). map.get z x) (sym story.adj_rib_out)
+          ∙ d.adj_rib_out p s row.errand row.live.is row.puts.established x (not_due (has (before.due_out p) x) (ap (λ (t : Bool). has (before.due_out p) x && not t) (sym e) ∙ clean))
         where
           not_due : (t : Bool) → (t && true) ≡ false → t ≡ false
           not_due true f = f
@@ -264,7 +266,7 @@ module _ (setup : Setup) (r : ℕ) (before after : RouterPart) (d : Answered set
   decide_row : (prefix : PrefixValue) (taken : Option RouterTaken) (sent : List RouterSent) → Decides setup r prefix before taken sent after
       → Answered setup r after
   decide_row prefix taken sent row = record {
-    told = λ n s o live up x clean. by_due n s o (sym (ap (λ (v : RouterPart). v.places n) row.effect) ∙ live) up x clean row.due;
+    adj_rib_out = λ n s o live up x clean. by_due n s o (sym (ap (λ (v : RouterPart). v.places n) row.effect) ∙ live) up x clean row.due;
   } where
     now : (s : SessionValue) (x : PrefixValue) → (same_prefix prefix x ≡ false) ⊎ (chosen setup r before prefix ≡ map.get before.best prefix)
         → tells_of setup r before.best s.config x ≡ to_tell setup r after s x
@@ -273,14 +275,15 @@ module _ (setup : Setup) (r : ℕ) (before after : RouterPart) (d : Answered set
     by_due : (n : ℕ) (s : SessionValue) (o : Option Errand) → before.places n ≡ Live s o → state s ≡ Established → (x : PrefixValue)
         → has (after.due_out n) x ≡ false
         → ((chosen setup r before prefix ≡ map.get before.best prefix) × (after.due_in ≡ before.due_in) × (after.due_out ≡ before.due_out)) ⊎ ((chosen setup r before prefix ≢ map.get before.best prefix) × DueEverywhere setup r prefix before after)
-        → map.get s.told x ≡ to_tell setup r after s x
-    by_due n s o live up x clean (inl stays) = d.told n s o live up x (ap (λ (f : ℕ → Prefixes). has (f n) x) (sym stays.2) ∙ clean) ∙ now s x (inr stays.0)
+        → map.get s.adj_rib_out x ≡ to_tell setup r after s x
+    by_due n s o live up x clean (inl stays) = d.adj_rib_out n s o live up x (ap (λ (f : ℕ → Prefixes). has (f n) x) (sym stays.2) ∙ clean)
+        ∙ now s x (inr stays.0)
     by_due n s o live up x clean (inr due) =
         let held : holds_established (before.places n) ≡ true = ap holds_established live ∙ ap is_established up in
         let member : has (after.due_out n) x ≡ (has (before.due_out n) x || (same_prefix prefix x && true)) =
         (due.1.peerings n).members x ∙ ap (λ (t : Bool). has (before.due_out n) x || (same_prefix prefix x && t)) held in
         let both = none_of (has (before.due_out n) x) (same_prefix prefix x && true) (sym member ∙ clean) in
-        d.told n s o live up x both.0 ∙ now s x (inl (not_it (same_prefix prefix x) both.1))
+        d.adj_rib_out n s o live up x both.0 ∙ now s x (inl (not_it (same_prefix prefix x) both.1))
       where
         not_it : (t : Bool) → (t && true) ≡ false → t ≡ false
         not_it true e = e
@@ -318,4 +321,4 @@ first_sent r (Some peering) s errand e = by_test (peering.start == r) e where
   by_test false e = absurd cc
 
 pub first_answered : (setup : Setup) (r : ℕ) → Answered setup r (first_router setup r)
-first_answered setup r = record { told = λ p s o live up x clean. let f : OpenSent ≡ Established = sym (first_sent r _ s o live) ∙ up in absurd cc }
+first_answered setup r = record { adj_rib_out = λ p s o live up x clean. let f : OpenSent ≡ Established = sym (first_sent r _ s o live) ∙ up in absurd cc }

@@ -41,19 +41,19 @@ open_stays p (Got _ ∷ lines) m = refl
 -- two sessions that bring in the same
 record BringSame (s t : SessionValue) : Type 0 where
   config : t.config ≡ s.config
-  heard : t.heard ≡ s.heard
+  adj_rib_in : t.adj_rib_in ≡ s.adj_rib_in
   got : got_open (peering_of t.config) t.story ≡ got_open (peering_of s.config) s.story
 
 same_entry : (setup : Setup) (r : ℕ) (s t : SessionValue) (x : PrefixValue) → BringSame s t → entry_of setup r t x ≡ entry_of setup r s x
 same_entry setup r s t x same =
-    ap (λ (c : SessionConfig). part_brings setup r c (got_open (peering_of t.config) t.story) (map.get t.heard x) x) same.config
-    ∙ ap (λ (o : Option open_type.OpenMsg). part_brings setup r s.config o (map.get t.heard x) x) same.got
-    ∙ ap (λ (h : map.FinMap prefix_cmp Attrs). part_brings setup r s.config (got_open (peering_of s.config) s.story) (map.get h x) x) same.heard
+    ap (λ (c : SessionConfig). part_brings setup r c (got_open (peering_of t.config) t.story) (map.get t.adj_rib_in x) x) same.config
+    ∙ ap (λ (o : Option open_type.OpenMsg). part_brings setup r s.config o (map.get t.adj_rib_in x) x) same.got
+    ∙ ap (λ (h : map.FinMap prefix_cmp Attrs). part_brings setup r s.config (got_open (peering_of s.config) s.story) (map.get h x) x) same.adj_rib_in
 
 puts_same : (s t : SessionValue) (u : Update) → PutsUpdate s u t → BringSame s t
 puts_same s t u puts = record {
   config = ap (λ (v : SessionValue). v.config) puts.effect;
-  heard = ap (λ (v : SessionValue). v.heard) puts.effect;
+  adj_rib_in = ap (λ (v : SessionValue). v.adj_rib_in) puts.effect;
   got = ap (λ (v : SessionValue). got_open (peering_of v.config) v.story) puts.effect ∙ open_stays (peering_of s.config) s.story _;
 }
 
@@ -112,7 +112,7 @@ module _ (setup : Setup) (w v : World) (p : ℕ) where
   }
 
   rests : (phase : Phase) (s : SessionValue) → SameEntries p w v → Entered setup w p phase s → Entered setup v p phase s
-  rests phase s entries is = stays phase phase s s (λ r. refl) (λ r e. e) (record { config = refl; heard = refl; got = refl }) entries is
+  rests phase s entries is = stays phase phase s s (λ r. refl) (λ r e. e) (record { config = refl; adj_rib_in = refl; got = refl }) entries is
 
   -- a live session changes by itself
   follows : (phase : Phase) (s next : SessionValue) (o : Option Errand) (r : ℕ) → place_by phase s r ≡ Live s o → IsOfStory s → state s ≢ Closed
@@ -137,7 +137,7 @@ module _ (setup : Setup) (w v : World) (p : ℕ) where
   changes : (phase next : Phase) (s t : SessionValue) → InBounds setup phase → IsOfStory s → Change setup w v p phase s next t
       → Entered setup w p phase s → Entered setup v p next t
   changes phase _ s _ bounds story (Rests line entries) is = rests phase s entries is
-  changes phase next s _ bounds story (Grafts move line entries) is = stays phase next s s (same_holder move) (same_late move) (record { config = refl; heard = refl; got = refl }) entries is
+  changes phase next s _ bounds story (Grafts move line entries) is = stays phase next s s (same_holder move) (same_late move) (record { config = refl; adj_rib_in = refl; got = refl }) entries is
   changes _ _ s _ bounds story (Lands {q = q} {k = k} {t = t} admitted line enters) is = record {
     here = λ r there x. let e : r ≡ t = grind (arith, nat_tests) in subst (λ (m : ℕ). map.get ((v.router m).entries p) x ≡ entry_of setup m s x) (sym e) (enters.here x);
     elsewhere = λ r none early.
@@ -157,8 +157,8 @@ module _ (setup : Setup) (w v : World) (p : ℕ) where
       by_number r none (inl e) = ap (λ (m : ℕ). (v.router m).entries p) e ∙ drops.here
       by_number r none (inr other) = drops.others r other ∙ is.elsewhere r none (let f : (r == q) ≡ false = grind (arith, nat_tests) in f)
   changes phase _ s next bounds story (Acts r errand live (Puts update puts told line entries)) is = stays phase phase s next (λ n. refl) (λ n e. e) (puts_same s next update puts) entries is
-  changes phase _ s _ bounds story (Acts r errand live (Emits from len segment end emits line entries)) is = stays phase phase s (record s { end = end }) (λ n. refl) (λ n e. e) (record { config = refl; heard = refl; got = refl }) entries is
-  changes phase _ s _ bounds story (Acts r errand live (Arrives segment end arrives line entries)) is = stays phase phase s (record s { end = end }) (λ n. refl) (λ n e. e) (record { config = refl; heard = refl; got = refl }) entries is
+  changes phase _ s _ bounds story (Acts r errand live (Emits from len segment end emits line entries)) is = stays phase phase s (record s { end = end }) (λ n. refl) (λ n e. e) (record { config = refl; adj_rib_in = refl; got = refl }) entries is
+  changes phase _ s _ bounds story (Acts r errand live (Arrives segment end arrives line entries)) is = stays phase phase s (record s { end = end }) (λ n. refl) (λ n e. e) (record { config = refl; adj_rib_in = refl; got = refl }) entries is
   changes phase _ s next bounds story (Acts r errand live (Gets bytes gets line enters)) is = follows phase s next errand r live story gets.unclosed (gets_on s next bytes gets) enters is
   changes phase _ s next bounds story (Acts r errand live (Ticks round passes line enters)) is = follows phase s next errand r live story (up_unclosed s passes.up) (round_on s next round passes) enters is
   changes phase _ s _ bounds story (Strays r segment line entries) is = rests phase s entries is

@@ -119,7 +119,7 @@ module _ (w : World) (p : ℕ) (x : Endpoint) (s : Streams w p x) where
       → Beats setup p round far taken sent part → Fits far x part
   beats_fits setup round taken sent part room row =
       subst (Fits far x) (sym row.effect) (end_fits (sending (spell KeepaliveMsg false) far.end)
-      (record far { end = sending (spell KeepaliveMsg false) far.end; beats = far.beats + 1; last_beat = round }) (more_said (spell KeepaliveMsg false) room) refl refl s.remoteward)
+      (record far { end = sending (spell KeepaliveMsg false) far.end; keepalives = far.keepalives + 1; last_keepalive = round }) (more_said (spell KeepaliveMsg false) room) refl refl s.remoteward)
 
   sends_fits : (from len : ℕ) (taken : Option FarTaken) (sent : List FarSent) (part : FarPart) → SendsSegment from len far taken sent part → Fits far x part
   sends_fits from len taken sent part row =

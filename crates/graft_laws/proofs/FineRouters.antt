@@ -189,13 +189,13 @@ module _ (setup : Setup) (ranges : IsInRange setup) (r : ℕ) (before after : Ro
   entries_stay p same = subst AreFineEntries (sym same) (fine.entries p)
 
   brings : (s : SessionValue) (entries : Entries) → IsFine s → BringsIn setup r s entries → AreFineEntries entries
-  brings s entries own is x entry e = entry_sendable setup ranges r s x entry own.remote_as (own.heard x) (sym (is x) ∙ e)
+  brings s entries own is x entry e = entry_sendable setup ranges r s x entry own.remote_as (own.adj_rib_in x) (sym (is x) ∙ e)
 
   follows : (p : ℕ) (s next : SessionValue) (o : Option Errand) → IsFine next → Follows setup r p before s next o after → AreFineEntries (after.entries p)
   follows p s next o own row x entry e = by_heard (row.entries x) where
     by_heard : FollowsHeard setup r s next (before.entries p) (after.entries p) x → IsFineEntry entry
     by_heard (inl stays) = fine.entries p x entry (sym stays.1 ∙ e)
-    by_heard (inr other) = entry_sendable setup ranges r next x entry own.remote_as (own.heard x) (sym other.1 ∙ e)
+    by_heard (inr other) = entry_sendable setup ranges r next x entry own.remote_as (own.adj_rib_in x) (sym other.1 ∙ e)
 
   decides : (prefix : PrefixValue) (taken : Option RouterTaken) (sent : List RouterSent) → Decides setup r prefix before taken sent after → Finely after sent
   decides prefix taken sent row = record {
@@ -246,12 +246,12 @@ module _ (setup : Setup) (ranges : IsInRange setup) (r : ℕ) (before after : Ro
     by_change : (p : ℕ) → OnePeering p before after → PeeringChange setup r p before taken sent after → IsFinePart after
     by_change p one (Keeping session errand end live holds entries due) =
         let own : IsFine session = live_fine p session errand live in
-        placed p one (held_fine (after.places p) _ holds (record { heard = own.heard; remote_as = own.remote_as })) (entries_stay p entries)
+        placed p one (held_fine (after.places p) _ holds (record { adj_rib_in = own.adj_rib_in; remote_as = own.remote_as })) (entries_stay p entries)
     by_change p one (PuttingNothing row) =
         placed p one (subst (λ (u : RouterPart). IsFinePlace (u.places p)) (sym row.effect) (fine.places p)) (entries_stay p (ap (λ (u : RouterPart). u.entries p) row.effect))
     by_change p one (PuttingSome n row now) =
         let own : IsFine row.session = live_fine p row.session row.errand row.live.is in
-        let next : IsFine row.next = subst IsFine (sym row.puts.effect) (record { heard = own.heard; remote_as = own.remote_as }) in
+        let next : IsFine row.next = subst IsFine (sym row.puts.effect) (record { adj_rib_in = own.adj_rib_in; remote_as = own.remote_as }) in
         placed p one (subst IsFinePlace (sym now) next) (entries_stay p (ap (λ (u : RouterPart). u.entries p) row.effect))
     by_change p one (Following s next o live now by row) =
         let own : IsFine next = itself_fine s next by (octets p s o live) (live_fine p s o live) in

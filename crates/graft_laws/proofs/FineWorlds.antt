@@ -85,7 +85,7 @@ module _ (setup : Setup) (sound : IsSetup setup) (ranges : IsInRange setup) wher
   first_place r p None is = tt
   first_place r p (Some peering) is = by_start (peering.start == r) where
     by_start : (t : Bool) → IsFinePlace (cond t (Live (begun peering.config) None) Vacant)
-    by_start true = record { heard = all_of_none IsSendable; remote_as = ranges.remote_as p peering.config (ap (option_map (λ (x : PeeringSetup). x.config)) is) }
+    by_start true = record { adj_rib_in = all_of_none IsSendable; remote_as = ranges.remote_as p peering.config (ap (option_map (λ (x : PeeringSetup). x.config)) is) }
     by_start false = tt
 
   first_fine : AreFine (first_world setup)

@@ -44,8 +44,8 @@ open_alone p _ _ (passed before now round answer next lines l up_now h a r e) s 
     let u : is_up OpenSent ≡ true = ap is_up (sym s ∙ is.same) ∙ up_now in
     absurd cc
 
-heard_none : (s : SessionValue) → IsOfStory s → state s ≡ OpenSent → s.heard ≡ map.empty
-heard_none s is e = is.heard ∙ ap (heard (peering_of s.config)) (open_alone (peering_of s.config) s.story (state s) is.tied.allowed e)
+heard_none : (s : SessionValue) → IsOfStory s → state s ≡ OpenSent → s.adj_rib_in ≡ map.empty
+heard_none s is e = is.adj_rib_in ∙ ap (heard (peering_of s.config)) (open_alone (peering_of s.config) s.story (state s) is.tied.allowed e)
 
 -- ---- what a session brings in
 
@@ -64,7 +64,7 @@ part_brings setup r config theirs hears x =
       heard = hears;
     }) hears)
 
-brings_none : (setup : Setup) (r : ℕ) (s : SessionValue) (x : PrefixValue) → map.get s.heard x ≡ None → entry_of setup r s x ≡ None
+brings_none : (setup : Setup) (r : ℕ) (s : SessionValue) (x : PrefixValue) → map.get s.adj_rib_in x ≡ None → entry_of setup r s x ≡ None
 brings_none setup r s x e = ap (λ (h : Option Attrs). part_brings setup r s.config (got_open (peering_of s.config) s.story) h x) e
 
 -- a session that goes on hears the same of a prefix
@@ -82,19 +82,19 @@ open_same s next is on up =
 
 brings_same : (setup : Setup) (r : ℕ) (s next : SessionValue) (x : PrefixValue) → GoesOn s next
     → got_open (peering_of next.config) next.story ≡ got_open (peering_of s.config) s.story
-    → map.get next.heard x ≡ map.get s.heard x → entry_of setup r next x ≡ entry_of setup r s x
+    → map.get next.adj_rib_in x ≡ map.get s.adj_rib_in x → entry_of setup r next x ≡ entry_of setup r s x
 brings_same setup r s next x on opening same =
-    ap (λ (c : SessionConfig). part_brings setup r c (got_open (peering_of next.config) next.story) (map.get next.heard x) x) on.config
-    ∙ ap (λ (o : Option open_type.OpenMsg). part_brings setup r s.config o (map.get next.heard x) x) opening
+    ap (λ (c : SessionConfig). part_brings setup r c (got_open (peering_of next.config) next.story) (map.get next.adj_rib_in x) x) on.config
+    ∙ ap (λ (o : Option open_type.OpenMsg). part_brings setup r s.config o (map.get next.adj_rib_in x) x) opening
     ∙ ap (λ (h : Option Attrs). part_brings setup r s.config (got_open (peering_of s.config) s.story) h x) same
 
 pub entry_stays : (setup : Setup) (r : ℕ) (s next : SessionValue) (x : PrefixValue) → IsOfStory s → state s ≢ Closed → GoesOn s next
-    → map.get next.heard x ≡ map.get s.heard x
+    → map.get next.adj_rib_in x ≡ map.get s.adj_rib_in x
     → entry_of setup r next x ≡ entry_of setup r s x
 entry_stays setup r s next x is unclosed on same = by_state (state s) refl where
   by_state : (now : SessionState) → state s ≡ now → entry_of setup r next x ≡ entry_of setup r s x
   by_state OpenSent e =
-      let none : map.get s.heard x ≡ None = ap (λ (h : map.FinMap prefix_cmp Attrs). map.get h x) (heard_none s is e) ∙ map.get-empty prefix_cmp x in
+      let none : map.get s.adj_rib_in x ≡ None = ap (λ (h : map.FinMap prefix_cmp Attrs). map.get h x) (heard_none s is e) ∙ map.get-empty prefix_cmp x in
       brings_none setup r next x (same ∙ none) ∙ sym (brings_none setup r s x none)
   by_state OpenConfirm e = brings_same setup r s next x on (open_same s next is on (ap is_up e)) same
   by_state Established e = brings_same setup r s next x on (open_same s next is on (ap is_up e)) same

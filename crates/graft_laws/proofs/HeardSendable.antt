@@ -33,7 +33,7 @@ AreSendable routes = AllRoutes IsSendable routes
 
 -- what a session heard can be written, and the AS of its remote has 32 bits
 pub record IsFine (s : SessionValue) : Type 0 where
-  pub heard : AreSendable s.heard
+  pub adj_rib_in : AreSendable s.adj_rib_in
   pub remote_as : s.config.remote_as < 2 ^ 32
 
 -- ---- messages
@@ -72,13 +72,13 @@ gets_fine s next bytes octets g fine =
     let e : Expected = expected_next (peering_of s.config) s.story (state s) in
     let own : AreOctets bytes = AreOctets-front bytes g.rest (subst AreOctets g.front octets) in
     record {
-      heard = subst AreSendable (sym (ap (λ (v : SessionValue). v.heard) g.effect))
-          (unclosed IsSendable g.next (apply_if s.heard (update_in (message_of e bytes))) (applied e bytes s.heard (message_of e bytes) g.got own refl fine.heard));
+      adj_rib_in = subst AreSendable (sym (ap (λ (v : SessionValue). v.adj_rib_in) g.effect))
+          (unclosed IsSendable g.next (apply_if s.adj_rib_in (update_in (message_of e bytes))) (applied e bytes s.adj_rib_in (message_of e bytes) g.got own refl fine.adj_rib_in));
       remote_as = subst (λ (v : SessionValue). v.config.remote_as < 2 ^ 32) (sym g.effect) fine.remote_as;
     }
 
 pub passes_fine : (s next : SessionValue) (round : ℕ) → PassesRound s round next → IsFine s → IsFine next
 passes_fine s next round g fine = record {
-  heard = subst AreSendable (sym (ap (λ (v : SessionValue). v.heard) g.effect)) (unclosed IsSendable g.next s.heard fine.heard);
+  adj_rib_in = subst AreSendable (sym (ap (λ (v : SessionValue). v.adj_rib_in) g.effect)) (unclosed IsSendable g.next s.adj_rib_in fine.adj_rib_in);
   remote_as = subst (λ (v : SessionValue). v.config.remote_as < 2 ^ 32) (sym g.effect) fine.remote_as;
 }

@@ -12,7 +12,7 @@ use Rattle.tcp_seq.specs.Endpoint.{Endpoint}
 use Rattle.session_value.proofs.Rooms.{keepalive_size}
 use Rattle.session_value.proofs.Ties.{emits_same, takes_same}
 use Rattle.graft_model.specs.Points.{at}
-use Rattle.graft_model.specs.Setups.{Setup, PeeringSetup, ScriptStep, SayStep, IsPeeringSetup, beat_of, said_by}
+use Rattle.graft_model.specs.Setups.{Setup, PeeringSetup, ScriptStep, SayStep, IsPeeringSetup, keepalive_interval_of, said_by}
 use Rattle.graft_model.specs.Parts.{FarPart, OperatorPart, World}
 use Rattle.tcp_seq.specs.declared.segment.Way.TheVariants.{Home, Remote}
 use Rattle.graft_model.specs.FarRows.{FarTaken, OutwardIn, SayIn, FarSent, Says, Beats}
@@ -33,23 +33,23 @@ use Rattle.graft_laws.proofs.Unissued.{unissued_at, none_issued, said_by_other, 
 
 module _ (setup : Setup) (p : ℕ) (peering : PeeringSetup) where
   -- the same numbers of the far side, the operator and its channel
-  same : (w v : World) → (v.far p).end.stream ≡ (w.far p).end.stream → (v.far p).beats ≡ (w.far p).beats → v.operator.issued ≡ w.operator.issued
+  same : (w v : World) → (v.far p).end.stream ≡ (w.far p).end.stream → (v.far p).keepalives ≡ (w.far p).keepalives → v.operator.issued ≡ w.operator.issued
       → v.says p ≡ w.says p → Said setup p peering w → Said setup p peering v
-  same w v stream beats issued says is = record {
+  same w v stream keepalives issued says is = record {
     sum =
         let a : length (v.far p).end.stream ≡ length (w.far p).end.stream = ap (λ (xs : List ℕ). length xs) stream in
         let b : sum_by (size_at setup p) (v.says p) ≡ sum_by (size_at setup p) (w.says p) = ap (λ (xs : List ℕ). sum_by (size_at setup p) xs) says in
         let c : unissued_octets v.operator.issued p 0 setup.steps ≡ unissued_octets w.operator.issued p 0 setup.steps = ap (λ (f : ℕ → Bool). unissued_octets f p 0 setup.steps) issued in
-        omega (arith, is.sum, a, b, c, beats);
+        omega (arith, is.sum, a, b, c, keepalives);
     orders = all_is (IsSayOf setup p) (w.says p) (v.says p) says is.orders;
-    few = omega (arith, is.few, beats);
-    beats = λ some. is.beats (omega (arith, some, beats));
+    few = omega (arith, is.few, keepalives);
+    keepalives = λ some. is.keepalives (omega (arith, some, keepalives));
   }
 
   by_router : (w v : World) (r : ℕ) (event : RouterEvent) → RouterStep setup r event w v → Said setup p peering w → Said setup p peering v
   by_router w v r event x is =
       let m = router_moves setup r event w v x in
-      same w v (ap (λ (f : ℕ → FarPart). (f p).end.stream) m.far) (ap (λ (f : ℕ → FarPart). (f p).beats) m.far) (ap (λ (o : OperatorPart). o.issued) m.operator) (ap (λ (f : ℕ → List ℕ). f p) m.says) is
+      same w v (ap (λ (f : ℕ → FarPart). (f p).end.stream) m.far) (ap (λ (f : ℕ → FarPart). (f p).keepalives) m.far) (ap (λ (o : OperatorPart). o.issued) m.operator) (ap (λ (f : ℕ → List ℕ). f p) m.says) is
 
   -- ---- the far side's own events
 
@@ -58,8 +58,9 @@ module _ (setup : Setup) (p : ℕ) (peering : PeeringSetup) where
     here = ap (λ (f : ℕ → FarPart). f p) m.far ∙ Rattle.graft_laws.proofs.FarLines.at_here w.far p part
 
     -- nothing is said
-    silent : part.end.stream ≡ (w.far p).end.stream → part.beats ≡ (w.far p).beats → ((xs : List ℕ) → says_taken p taken p ++ xs ≡ xs) → Said setup p peering v
-    silent stream beats none = same w v (ap (λ (f : FarPart). f.end.stream) here ∙ stream) (ap (λ (f : FarPart). f.beats) here ∙ beats) (ap (λ (o : OperatorPart). o.issued) m.operator) (sym (none (v.says p)) ∙ m.says p) is
+    silent : part.end.stream ≡ (w.far p).end.stream → part.keepalives ≡ (w.far p).keepalives → ((xs : List ℕ) → says_taken p taken p ++ xs ≡ xs)
+        → Said setup p peering v
+    silent stream keepalives none = same w v (ap (λ (f : FarPart). f.end.stream) here ∙ stream) (ap (λ (f : FarPart). f.keepalives) here ∙ keepalives) (ap (λ (o : OperatorPart). o.issued) m.operator) (sym (none (v.says p)) ∙ m.says p) is
 
     takes_none : taken ≡ None → (xs : List ℕ) → says_taken p taken p ++ xs ≡ xs
     takes_none e xs = ap (λ (t : Option FarTaken). says_taken p t p ++ xs) e
@@ -76,13 +77,13 @@ module _ (setup : Setup) (p : ℕ) (peering : PeeringSetup) where
         let waits : sum_by (size_at setup p) (w.says p) ≡ size_at setup p step + sum_by (size_at setup p) (v.says p) = ap (λ (xs : List ℕ). sum_by (size_at setup p) xs) (sym head) ∙ sum_by-cons (size_at setup p) step (v.says p) in
         let part_is : part ≡ record (w.far p) { end = Rattle.session_value.specs.Cases.sending row.bytes (w.far p).end } = row.effect in
         let stream : length (v.far p).end.stream ≡ length (w.far p).end.stream + length row.bytes = ap (λ (f : FarPart). length f.end.stream) (here ∙ part_is) ∙ length-append (w.far p).end.stream row.bytes in
-        let beats : (v.far p).beats ≡ (w.far p).beats = ap (λ (f : FarPart). f.beats) (here ∙ part_is) in
+        let keepalives : (v.far p).keepalives ≡ (w.far p).keepalives = ap (λ (f : FarPart). f.keepalives) (here ∙ part_is) in
         let issued : unissued_octets v.operator.issued p 0 setup.steps ≡ unissued_octets w.operator.issued p 0 setup.steps = ap (λ (o : OperatorPart). unissued_octets o.issued p 0 setup.steps) m.operator in
         record {
-          sum = omega (arith, is.sum, size, waits, stream, beats, issued);
+          sum = omega (arith, is.sum, size, waits, stream, keepalives, issued);
           orders = all.1;
-          few = omega (arith, is.few, beats);
-          beats = λ some. is.beats (omega (arith, some, beats));
+          few = omega (arith, is.few, keepalives);
+          keepalives = λ some. is.keepalives (omega (arith, some, keepalives));
         }
 
     beats_said : (round : ℕ) → slice_get setup.peerings p ≡ Some peering → Beats setup p round (w.far p) taken sent part → Said setup p peering v
@@ -91,35 +92,35 @@ module _ (setup : Setup) (p : ℕ) (peering : PeeringSetup) where
         let size = keepalive_size false in
         let stream : length (v.far p).end.stream ≡ length (w.far p).end.stream + length (spell KeepaliveMsg false) =
         ap (λ (f : FarPart). length f.end.stream) (here ∙ row.effect) ∙ length-append (w.far p).end.stream (spell KeepaliveMsg false) in
-        let beats : (v.far p).beats ≡ (w.far p).beats + 1 = ap (λ (f : FarPart). f.beats) (here ∙ row.effect) in
+        let keepalives : (v.far p).keepalives ≡ (w.far p).keepalives + 1 = ap (λ (f : FarPart). f.keepalives) (here ∙ row.effect) in
         let waits : sum_by (size_at setup p) (v.says p) ≡ sum_by (size_at setup p) (w.says p) = ap (λ (xs : List ℕ). sum_by (size_at setup p) xs) none in
         let issued : unissued_octets v.operator.issued p 0 setup.steps ≡ unissued_octets w.operator.issued p 0 setup.steps = ap (λ (o : OperatorPart). unissued_octets o.issued p 0 setup.steps) m.operator in
-        let beat : beat_of peering ≡ row.beat = Rattle.std.proofs.lemmas.Option.same_Some _ _ (sym (ap (Rattle.std.specs.Prelude.option_map beat_of) known) ∙ row.is) in
+        let keepalive_interval : keepalive_interval_of peering ≡ row.keepalive_interval = Rattle.std.proofs.lemmas.Option.same_Some _ _ (sym (ap (Rattle.std.specs.Prelude.option_map keepalive_interval_of) known) ∙ row.is) in
         record {
-          sum = omega (arith, is.sum, size, waits, stream, beats, issued);
+          sum = omega (arith, is.sum, size, waits, stream, keepalives, issued);
           orders = all_is (IsSayOf setup p) (w.says p) (v.says p) none is.orders;
-          few = omega (arith, row.few, beats);
-          beats = λ some. omega (arith, row.some, beat);
+          few = omega (arith, row.few, keepalives);
+          keepalives = λ some. omega (arith, row.some, keepalive_interval);
         }
 
-    stays_said : (end : Endpoint) → part.end.stream ≡ end.stream → end.stream ≡ (w.far p).end.stream → part.beats ≡ (w.far p).beats → taken ≡ None
+    stays_said : (end : Endpoint) → part.end.stream ≡ end.stream → end.stream ≡ (w.far p).end.stream → part.keepalives ≡ (w.far p).keepalives → taken ≡ None
         → Said setup p peering v
-    stays_said end a b beats none = silent (a ∙ b) beats (takes_none none)
+    stays_said end a b keepalives none = silent (a ∙ b) keepalives (takes_none none)
 
     own_event : (event : FarEvent) → slice_get setup.peerings p ≡ Some peering → far_row setup p event (w.far p) taken sent part → Said setup p peering v
     own_event (Say step) known row = says_said step row
     own_event (Beat round) known row = beats_said round known row
     own_event (Send from len) known row =
-        stays_said row.end (ap (λ (f : FarPart). f.end.stream) row.effect) (emits_same (w.far p).end row.segment row.end row.emits.emits).stream (ap (λ (f : FarPart). f.beats) row.effect) row.takes
+        stays_said row.end (ap (λ (f : FarPart). f.end.stream) row.effect) (emits_same (w.far p).end row.segment row.end row.emits.emits).stream (ap (λ (f : FarPart). f.keepalives) row.effect) row.takes
     own_event (Take router) known row =
-        silent (ap (λ (f : FarPart). f.end.stream) row.effect) (ap (λ (f : FarPart). f.beats) row.effect) (takes_item router _ row.takes)
-    own_event (Pass index keep router) known row = silent (ap (λ (f : FarPart). f.end.stream) row.effect) (ap (λ (f : FarPart). f.beats) row.effect) (takes_none row.takes)
+        silent (ap (λ (f : FarPart). f.end.stream) row.effect) (ap (λ (f : FarPart). f.keepalives) row.effect) (takes_item router _ row.takes)
+    own_event (Pass index keep router) known row = silent (ap (λ (f : FarPart). f.end.stream) row.effect) (ap (λ (f : FarPart). f.keepalives) row.effect) (takes_none row.takes)
     own_event (Reach index keep) known row =
-        stays_said row.end (ap (λ (f : FarPart). f.end.stream) row.effect) (takes_same (w.far p).end row.segment row.end row.arrives).stream (ap (λ (f : FarPart). f.beats) row.effect) row.takes
-    own_event (Lose Home index) known row = silent (ap (λ (f : FarPart). f.end.stream) row.effect) (ap (λ (f : FarPart). f.beats) row.effect) (takes_none row.takes)
-    own_event (Lose Remote index) known row = silent (ap (λ (f : FarPart). f.end.stream) row.effect) (ap (λ (f : FarPart). f.beats) row.effect) (takes_none row.takes)
+        stays_said row.end (ap (λ (f : FarPart). f.end.stream) row.effect) (takes_same (w.far p).end row.segment row.end row.arrives).stream (ap (λ (f : FarPart). f.keepalives) row.effect) row.takes
+    own_event (Lose Home index) known row = silent (ap (λ (f : FarPart). f.end.stream) row.effect) (ap (λ (f : FarPart). f.keepalives) row.effect) (takes_none row.takes)
+    own_event (Lose Remote index) known row = silent (ap (λ (f : FarPart). f.end.stream) row.effect) (ap (λ (f : FarPart). f.keepalives) row.effect) (takes_none row.takes)
     own_event (Point router) known row =
-        silent (ap (λ (f : FarPart). f.end.stream) row.effect) (ap (λ (f : FarPart). f.beats) row.effect) (takes_item router _ row.takes)
+        silent (ap (λ (f : FarPart). f.end.stream) row.effect) (ap (λ (f : FarPart). f.keepalives) row.effect) (takes_item router _ row.takes)
 
   -- ---- another far side's events
 
@@ -127,7 +128,7 @@ module _ (setup : Setup) (p : ℕ) (peering : PeeringSetup) where
       → Said setup p peering w → Said setup p peering v
   other_far w v q taken sent part other m is =
       let there : v.far p ≡ w.far p = ap (λ (f : ℕ → FarPart). f p) m.far ∙ elsewhere w.far q p part other in
-      same w v (ap (λ (f : FarPart). f.end.stream) there) (ap (λ (f : FarPart). f.beats) there) (ap (λ (o : OperatorPart). o.issued) m.operator) (by_taken taken (m.says p)) is
+      same w v (ap (λ (f : FarPart). f.end.stream) there) (ap (λ (f : FarPart). f.keepalives) there) (ap (λ (o : OperatorPart). o.issued) m.operator) (by_taken taken (m.says p)) is
     where
       elsewhere : (f : ℕ → FarPart) (j n : ℕ) (x : FarPart) → j ≢ n → at f j x n ≡ f n
       elsewhere f j n x ne = grind (arith, nat_tests)
@@ -160,7 +161,7 @@ module _ (setup : Setup) (p : ℕ) (peering : PeeringSetup) where
       → AllByRecursion (IsSayOf setup p) more → Said setup p peering w → Said setup p peering v
   issues w v step s more there not far issued says size all is =
       let a : length (v.far p).end.stream ≡ length (w.far p).end.stream = ap (λ (f : ℕ → FarPart). length (f p).end.stream) far in
-      let b : (v.far p).beats ≡ (w.far p).beats = ap (λ (f : ℕ → FarPart). (f p).beats) far in
+      let b : (v.far p).keepalives ≡ (w.far p).keepalives = ap (λ (f : ℕ → FarPart). (f p).keepalives) far in
       let c : sum_by (size_at setup p) (v.says p) ≡ sum_by (size_at setup p) (w.says p) + sum_by (size_at setup p) more = ap (λ (xs : List ℕ). sum_by (size_at setup p) xs) says ∙ sum_by-append (size_at setup p) (w.says p) more in
       let d = unissued_at w.operator.issued p 0 step step setup.steps s (omega arith) there not in
       let e : unissued_octets v.operator.issued p 0 setup.steps ≡ unissued_octets (at w.operator.issued step true) p 0 setup.steps = ap (λ (f : ℕ → Bool). unissued_octets f p 0 setup.steps) issued in
@@ -168,7 +169,7 @@ module _ (setup : Setup) (p : ℕ) (peering : PeeringSetup) where
         sum = omega (arith, is.sum, a, b, c, d, e, size);
         orders = all_is (IsSayOf setup p) (w.says p ++ more) (v.says p) says (all_join (IsSayOf setup p) (w.says p) more is.orders all);
         few = omega (arith, is.few, b);
-        beats = λ some. is.beats (omega (arith, some, b));
+        keepalives = λ some. is.keepalives (omega (arith, some, b));
       }
 
   sent_says : (q step : ℕ) (sent : List OperatorSent) (v w : World) → sent ≡ SayTo q step ∷ [] → v.says p ≡ w.says p ++ says_sent sent p
@@ -209,7 +210,7 @@ module _ (setup : Setup) (p : ℕ) (peering : PeeringSetup) where
 
     unchanged : x.part.issued ≡ w.operator.issued → says_sent x.sent p ≡ [] → Said setup p peering v
     unchanged issued none =
-        same w v (ap (λ (f : ℕ → FarPart). (f p).end.stream) m.far) (ap (λ (f : ℕ → FarPart). (f p).beats) m.far) (issued_by w.operator.issued issued) (nothing_sent x.sent v w none (m.says p)) is
+        same w v (ap (λ (f : ℕ → FarPart). (f p).end.stream) m.far) (ap (λ (f : ℕ → FarPart). (f p).keepalives) m.far) (issued_by w.operator.issued issued) (nothing_sent x.sent v w none (m.says p)) is
 
     by_row : (event : OperatorEvent) → operator_row setup event w.operator x.taken x.sent x.part → Said setup p peering v
     by_row (Order step number) (inl row) =
@@ -229,13 +230,13 @@ module _ (setup : Setup) (p : ℕ) (peering : PeeringSetup) where
   first_said known =
       let far : Rattle.graft_model.specs.First.first_far (slice_get setup.peerings p) ≡ Rattle.graft_model.specs.First.first_far (Some peering) = ap Rattle.graft_model.specs.First.first_far known in
       let stream : length (Rattle.graft_model.specs.First.first_far (slice_get setup.peerings p)).end.stream ≡ length peering.opening = ap (λ (f : FarPart). length f.end.stream) far in
-      let beats : (Rattle.graft_model.specs.First.first_far (slice_get setup.peerings p)).beats ≡ 0 = ap (λ (f : FarPart). f.beats) far in
+      let keepalives : (Rattle.graft_model.specs.First.first_far (slice_get setup.peerings p)).keepalives ≡ 0 = ap (λ (f : FarPart). f.keepalives) far in
       let steps = none_issued p 0 setup.steps in
       record {
-        sum = omega (arith, stream, beats, steps);
+        sum = omega (arith, stream, keepalives, steps);
         orders = tt;
-        few = omega (arith, beats);
-        beats = λ some. absurd (omega (arith, some, beats));
+        few = omega (arith, keepalives);
+        keepalives = λ some. absurd (omega (arith, some, keepalives));
       }
 
 -- ---- what follows
@@ -243,14 +244,14 @@ module _ (setup : Setup) (p : ℕ) (peering : PeeringSetup) where
 -- a remote says at most 1 MiB
 pub said_fits : (setup : Setup) (p : ℕ) (peering : PeeringSetup) (w : World) → IsPeeringSetup setup p peering → Said setup p peering w
     → length (w.far p).end.stream + sum_by (size_at setup p) (w.says p) ≤ 2 ^ 20
-said_fits setup p peering w sound is = by_beats (cases_eq (w.far p).beats 0) where
-  by_beats : ((w.far p).beats ≡ 0) ⊎ ((w.far p).beats ≢ 0) → length (w.far p).end.stream + sum_by (size_at setup p) (w.says p) ≤ 2 ^ 20
+said_fits setup p peering w sound is = by_beats (cases_eq (w.far p).keepalives 0) where
+  by_beats : ((w.far p).keepalives ≡ 0) ⊎ ((w.far p).keepalives ≢ 0) → length (w.far p).end.stream + sum_by (size_at setup p) (w.says p) ≤ 2 ^ 20
   by_beats (inl none) = omega (arith, is.sum, sound.said, none)
-  by_beats (inr some) = omega (arith, is.sum, is.few, sound.beats (is.beats (omega (arith, some))))
+  by_beats (inr some) = omega (arith, is.sum, is.few, sound.beats (is.keepalives (omega (arith, some))))
 
 -- a timer's KEEPALIVE has room
 pub beat_fits : (setup : Setup) (p : ℕ) (peering : PeeringSetup) (w : World) → IsPeeringSetup setup p peering → Said setup p peering w
-    → 0 < beat_of peering → (w.far p).beats < 27594
+    → 0 < keepalive_interval_of peering → (w.far p).keepalives < 27594
     → length (w.far p).end.stream + length (spell KeepaliveMsg false) ≤ 2 ^ 20
 beat_fits setup p peering w sound is some few = omega (arith, is.sum, few, sound.beats some, keepalive_size false)
 

@@ -108,22 +108,22 @@ rules_in_range setup ranges r (Some name) = unwrapped (rules_named setup r name)
 -- ---- entries
 
 pub entry_sendable : (setup : Setup) → IsInRange setup → (r : ℕ) (s : SessionValue) (x : PrefixValue) (entry : Entry) → s.config.remote_as < 2 ^ 32
-    → ((a : Attrs) → finmap.get s.heard x ≡ Some a → IsSendable a)
+    → ((a : Attrs) → finmap.get s.adj_rib_in x ≡ Some a → IsSendable a)
     → entry_of setup r s x ≡ Some entry → IsSendable entry.route.attrs
-entry_sendable setup ranges r s x entry below heard e = by_heard (finmap.get s.heard x) refl e where
+entry_sendable setup ranges r s x entry below heard e = by_heard (finmap.get s.adj_rib_in x) refl e where
   by_route : (o : Option Route) → ((route : Route) → o ≡ Some route → IsSendable route.attrs)
       → option_map (λ route. record { route = route; identifier = remote_identifier s; address = s.config.remote_address }) o ≡ Some entry
       → IsSendable entry.route.attrs
   by_route None each f = absurd cc
   by_route (Some route) each f = subst (λ (v : Entry). IsSendable v.route.attrs) (same_Some (record { route = route; identifier = remote_identifier s; address = s.config.remote_address }) entry f) (each route refl)
 
-  by_loop : (a : Attrs) → finmap.get s.heard x ≡ Some a → (t : Bool) (route : Route)
+  by_loop : (a : Attrs) → finmap.get s.adj_rib_in x ≡ Some a → (t : Bool) (route : Route)
       → cond t None (policy (unwrap_or (rules_for setup r s.config.import) []) x s.config.remote_as (record { attrs = a; pref = 100 })) ≡ Some route
       → IsSendable route.attrs
   by_loop a is true route f = absurd cc
   by_loop a is false route f = policy_sendable (unwrap_or (rules_for setup r s.config.import) []) x s.config.remote_as (record { attrs = a; pref = 100 }) route below (rules_in_range setup ranges r s.config.import) (heard a is) f
 
-  by_heard : (h : Option Attrs) → finmap.get s.heard x ≡ h
+  by_heard : (h : Option Attrs) → finmap.get s.adj_rib_in x ≡ h
       → option_map (λ route. record { route = route; identifier = remote_identifier s; address = s.config.remote_address }) (imported setup.home_as x (session_route setup r s x) h) ≡ Some entry
       → IsSendable entry.route.attrs
   by_heard None is f = absurd cc

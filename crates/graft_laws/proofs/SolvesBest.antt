@@ -94,7 +94,8 @@ module _ (setup : Setup) (w : World) (r p q : ℕ) (x : PrefixValue) (s : Sessio
       let here : map.get ((w.router r).entries p) x ≡ entry_of setup r s x = entered.here r (let e : (r == q) ≡ true = grind (arith, nat_tests) in e) x in
       let place = ap (λ (n : ℕ). (w.router n).places p) is ∙ placed_there setup w p q s b in
       ap (λ (o : Option Entry). listed (entry_candidate setup.home_as p o)) here
-      ∙ (ap (λ (o : Option Candidate). listed o) (entry_session setup r p x s (imported setup.home_as x (session_route setup r s x) (map.get s.heard x)) own)
+      ∙ (ap (λ (o : Option Candidate). listed o)
+      (entry_session setup r p x s (imported setup.home_as x (session_route setup r s x) (map.get s.adj_rib_in x)) own)
       ∙ ap (λ (y : Place). filter_map (candidate_of setup x) (routes_at y)) (sym place))
 
   entries_there : r ≢ q

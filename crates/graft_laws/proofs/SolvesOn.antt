@@ -55,13 +55,13 @@ module _ (setup : Setup) (w : World) (p q : ℕ) (s : SessionValue) (b : Stands 
   }
 
   -- what was told is what is to be told
-  told_all : Answered setup q (w.router q) → (x : PrefixValue) → map.get s.told x ≡ while_established (state s) (to_tell setup q (w.router q) s x)
+  told_all : Answered setup q (w.router q) → (x : PrefixValue) → map.get s.adj_rib_out x ≡ while_established (state s) (to_tell setup q (w.router q) s x)
   told_all answered x = by_state (state s) refl where
-    none : state s ≢ Established → map.get s.told x ≡ None
+    none : state s ≢ Established → map.get s.adj_rib_out x ≡ None
     none up = ap (λ (t : Routes). map.get t x) (told_none s unbroken.story up) ∙ map.get-empty prefix_cmp x
 
-    by_state : (now : SessionState) → state s ≡ now → map.get s.told x ≡ while_established now (to_tell setup q (w.router q) s x)
-    by_state Established up = answered.told p s None (placed_there setup w p q s b) up x (none_there ((w.router q).due_out p) x (quiet.told_out q p))
+    by_state : (now : SessionState) → state s ≡ now → map.get s.adj_rib_out x ≡ while_established now (to_tell setup q (w.router q) s x)
+    by_state Established up = answered.adj_rib_out p s None (placed_there setup w p q s b) up x (none_there ((w.router q).due_out p) x (quiet.told_out q p))
     by_state OpenSent now = none (λ (up : state s ≡ Established). (let e : OpenSent ≡ Established = sym now ∙ up in absurd cc))
     by_state OpenConfirm now = none (λ (up : state s ≡ Established). (let e : OpenConfirm ≡ Established = sym now ∙ up in absurd cc))
     by_state Closed now = none (λ (up : state s ≡ Established). (let e : Closed ≡ Established = sym now ∙ up in absurd cc))
@@ -76,7 +76,7 @@ solves_on setup w p s quiet b unbroken points entered answered =
       session = s;
       placed = placed_there setup w p q s b;
       linked = linked setup w p q s points (quiet.outward q p);
-      told = told_all setup w p q s b quiet unbroken answered;
+      adj_rib_out = told_all setup w p q s b quiet unbroken answered;
       received = all_put setup w p q s b quiet unbroken;
       got = all_got setup w p q s b quiet unbroken;
       elsewhere = λ r l ne. (vacant_else setup w p q r s b ne, entered.elsewhere r (let e : (r == q) ≡ false = grind (arith, nat_tests) in e) refl);

@@ -8,7 +8,7 @@ use Rattle.bgp_types.specs.Spelling.{spell}
 use Rattle.graft_model.specs.FarRows.{FarTaken, FarSent, Beats}
 use Rattle.graft_model.specs.Claims.{Transparent}
 use Rattle.graft_model.specs.Parts.{FarPart, World}
-use Rattle.graft_model.specs.Setups.{Setup, PeeringSetup, SayStep, IsSetup, beat_of, peerings_in}
+use Rattle.graft_model.specs.Setups.{Setup, PeeringSetup, SayStep, IsSetup, keepalive_interval_of, peerings_in}
 use Rattle.graft_laws.specs.Keeps.{Reached, IsInvariant, Has}
 use Rattle.graft_laws.specs.Said.{Said, IsSayOf}
 use Rattle.graft_laws.specs.Streams.{IsUnbroken, ArePlaced}
@@ -39,12 +39,12 @@ beat_has_room : (setup : Setup) (p round : ℕ) (w : World) (taken : Option FarT
     → Reached setup w → Beats setup p round (w.far p) taken sent part
     → length (w.far p).end.stream + length (spell KeepaliveMsg false) ≤ 2 ^ 20
 beat_has_room setup p round w taken sent part sound reached row = by_peering (slice_get setup.peerings p) refl row.is where
-  by_peering : (o : Option PeeringSetup) → slice_get setup.peerings p ≡ o → option_map beat_of o ≡ Some row.beat
+  by_peering : (o : Option PeeringSetup) → slice_get setup.peerings p ≡ o → option_map keepalive_interval_of o ≡ Some row.keepalive_interval
       → length (w.far p).end.stream + length (spell KeepaliveMsg false) ≤ 2 ^ 20
   by_peering None known e = absurd cc
   by_peering (Some peering) known e =
       beat_fits setup p peering w (sound.peerings p peering known) (said_is setup p peering w known reached)
-      (subst (λ (n : ℕ). 0 < n) (sym (same_Some (beat_of peering) row.beat e)) row.some) row.few
+      (subst (λ (n : ℕ). 0 < n) (sym (same_Some (keepalive_interval_of peering) row.keepalive_interval e)) row.some) row.few
 
 pub keeps_unbroken : (setup : Setup) → IsSetup setup → IsInvariant setup (IsUnbroken setup)
 keeps_unbroken setup sound = record {

@@ -92,5 +92,5 @@ open_none p lines OpenSent is allowed up = ap (λ (x : SessionState). unless_clo
 open_none p lines OpenConfirm is allowed up = ap (λ (x : SessionState). unless_closed x (fold tell map.empty lines)) is
     ∙ folds_none map.empty lines (no_updates p lines (state_of lines) allowed (λ (f : state_of lines ≡ Established). up (sym is ∙ f)) (λ (f : state_of lines ≡ Closed). (let g : OpenConfirm ≡ Closed = sym is ∙ f in absurd cc)))
 
-pub told_none : (session : SessionValue) → IsOfStory session → state session ≢ Established → session.told ≡ map.empty
-told_none session is up = is.told ∙ open_none (peering_of session.config) session.story (state session) refl is.tied.allowed up
+pub told_none : (session : SessionValue) → IsOfStory session → state session ≢ Established → session.adj_rib_out ≡ map.empty
+told_none session is up = is.adj_rib_out ∙ open_none (peering_of session.config) session.story (state session) refl is.tied.allowed up

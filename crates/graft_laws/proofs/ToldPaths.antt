@@ -21,7 +21,7 @@ abbrev Avoids : ℕ → Attrs → Type 0
 Avoids remote_as attrs = holds_as attrs.path remote_as ≡ false
 
 abbrev AllAvoid : Setup → SessionValue → Type 0
-AllAvoid setup session = setup.home_as ≢ session.config.remote_as → AllRoutes (Avoids session.config.remote_as) session.told
+AllAvoid setup session = setup.home_as ≢ session.config.remote_as → AllRoutes (Avoids session.config.remote_as) session.adj_rib_out
 
 avoids_then : {setup : Setup} {w v : World} {p : ℕ} {phase next : Phase} {s t : SessionValue} → Change setup w v p phase s next t
     → AllAvoid setup s → AllAvoid setup t
@@ -31,11 +31,11 @@ avoids_then {setup = setup} {w = w} {s = s} (Acts r errand there (Puts update pu
     announces P update.attrs
     (λ attrs e. told_avoids setup.home_as (out_side setup r s.config) told.prefix (map.get (w.router r).best told.prefix) attrs differ
     (sym told.attrs ∙ e))
-    update.nlri (fold map.remove s.told update.withdrawn) (removes P update.withdrawn s.told (all differ)))
+    update.nlri (fold map.remove s.adj_rib_out update.withdrawn) (removes P update.withdrawn s.adj_rib_out (all differ)))
 avoids_then {setup = setup} {s = s} (Acts r errand there (Gets bytes gets line entries)) all =
-    subst (AllAvoid setup) (sym gets.effect) (λ differ. unclosed (Avoids s.config.remote_as) gets.next s.told (all differ))
+    subst (AllAvoid setup) (sym gets.effect) (λ differ. unclosed (Avoids s.config.remote_as) gets.next s.adj_rib_out (all differ))
 avoids_then {setup = setup} {s = s} (Acts r errand there (Ticks round passes line entries)) all =
-    subst (AllAvoid setup) (sym passes.effect) (λ differ. unclosed (Avoids s.config.remote_as) passes.next s.told (all differ))
+    subst (AllAvoid setup) (sym passes.effect) (λ differ. unclosed (Avoids s.config.remote_as) passes.next s.adj_rib_out (all differ))
 avoids_then _ all = all
 
 keeps_avoiding : (setup : Setup) → IsInvariant setup (AvoidsRemote setup)

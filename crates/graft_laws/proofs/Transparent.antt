@@ -41,6 +41,6 @@ transparent_is setup w p phase s one is = record {
   legal = is.story.legal;
   received = remote_received setup w p phase s is;
   got = remote_said setup w p phase s is;
-  heard = is.story.heard;
-  told = is.story.told;
+  adj_rib_in = is.story.adj_rib_in;
+  adj_rib_out = is.story.adj_rib_out;
 }

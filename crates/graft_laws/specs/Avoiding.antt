@@ -11,5 +11,5 @@ use Rattle.graft_laws.specs.Phases.{Phase}
 
 -- If the remote is in another AS than the home routers, no path that was told on the session has the remote's AS, in any world and phase.
 pub record AvoidsRemote (setup : Setup) (w : World) (p : ℕ) (phase : Phase) (session : SessionValue) : Type 0 where
-  pub avoids : setup.home_as ≢ session.config.remote_as → (x : PrefixValue) (attrs : Attrs) → map.get session.told x ≡ Some attrs
+  pub avoids : setup.home_as ≢ session.config.remote_as → (x : PrefixValue) (attrs : Attrs) → map.get session.adj_rib_out x ≡ Some attrs
       → holds_as attrs.path session.config.remote_as ≡ false

@@ -1,7 +1,7 @@
 -- The number of bytes that a remote has said, and is still to say.
 use Rattle.std.specs.Prelude.{ℕ, ◌≡◌, ◌<◌, ◌≤◌, ◌+◌, ◌*◌, Bool, List, [], ◌∷◌, length, sum_by, Option, Some, None, if◌then◌else◌, slice_get}
 use Rattle.std.specs.List.{AllByRecursion}
-use Rattle.graft_model.specs.Setups.{Setup, PeeringSetup, ScriptStep, SayStep, beat_of, said_by, said_length}
+use Rattle.graft_model.specs.Setups.{Setup, PeeringSetup, ScriptStep, SayStep, keepalive_interval_of, said_by, said_length}
 use Rattle.graft_model.specs.Parts.{World}
 
 -- the bytes that a step has a remote say, if there is one
@@ -26,7 +26,7 @@ pub record IsSayOf (setup : Setup) (p n : ℕ) : Type 0 where
 -- What a remote has said, is ordered to say, and says in steps that weren't issued has the length of its opening, what it says over the script, and a
 -- KEEPALIVE of 19 bytes for each time that its timer ran. Each step number that it is sent is that of a step in which it says something.
 pub record Said (setup : Setup) (p : ℕ) (peering : PeeringSetup) (w : World) : Type 0 where
-  pub sum : length (w.far p).end.stream + sum_by (size_at setup p) (w.says p) + unissued_octets w.operator.issued p 0 setup.steps ≡ said_length setup p peering + 19 * (w.far p).beats
+  pub sum : length (w.far p).end.stream + sum_by (size_at setup p) (w.says p) + unissued_octets w.operator.issued p 0 setup.steps ≡ said_length setup p peering + 19 * (w.far p).keepalives
   pub orders : AllByRecursion (IsSayOf setup p) (w.says p)
-  pub few : (w.far p).beats ≤ 27594
-  pub beats : 0 < (w.far p).beats → 0 < beat_of peering
+  pub few : (w.far p).keepalives ≤ 27594
+  pub keepalives : 0 < (w.far p).keepalives → 0 < keepalive_interval_of peering

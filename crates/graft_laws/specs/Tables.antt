@@ -71,8 +71,8 @@ pub record Informed (setup : Setup) (a b : ℕ) (w : World) : Type 0 where
 
 -- For each prefix that isn't due on a live established session, what was told on it is what is to be told of the best route.
 pub record Answered (setup : Setup) (r : ℕ) (part : RouterPart) : Type 0 where
-  pub told : (p : ℕ) (session : SessionValue) (errand : Option Errand) → part.places p ≡ Live session errand → state session ≡ Established
-      → (x : PrefixValue) → has (part.due_out p) x ≡ false → map.get session.told x ≡ to_tell setup r part session x
+  pub adj_rib_out : (p : ℕ) (session : SessionValue) (errand : Option Errand) → part.places p ≡ Live session errand → state session ≡ Established
+      → (x : PrefixValue) → has (part.due_out p) x ≡ false → map.get session.adj_rib_out x ≡ to_tell setup r part session x
 
 -- What is due on a peering is due at a place where an established session is held, live or frozen.
 pub record DueIsHeld (part : RouterPart) : Type 0 where

@@ -126,16 +126,16 @@ same_answer x a b s t e f = sym e ∙ f
 abbrev got_with : SessionValue → List ℕ → List Line × SessionState → SessionValue
 got_with s bytes x = record s {
   story = s.story ++ Got bytes ∷ x.0;
-  heard = unless_closed x.1 (apply_if s.heard (update_in (message_of (expected_next (peering_of s.config) s.story (state s)) bytes)));
-  told = unless_closed x.1 s.told;
+  adj_rib_in = unless_closed x.1 (apply_if s.adj_rib_in (update_in (message_of (expected_next (peering_of s.config) s.story (state s)) bytes)));
+  adj_rib_out = unless_closed x.1 s.adj_rib_out;
   end = sending (put_by s (s.story ++ Got bytes ∷ x.0) x.0) (having_read (length bytes) s.end);
 }
 
 abbrev round_with : SessionValue → ℕ → List Line × SessionState → SessionValue
 round_with s round x = record s {
   story = s.story ++ Tick round ∷ x.0;
-  heard = unless_closed x.1 s.heard;
-  told = unless_closed x.1 s.told;
+  adj_rib_in = unless_closed x.1 s.adj_rib_in;
+  adj_rib_out = unless_closed x.1 s.adj_rib_out;
   end = sending (put_by s (s.story ++ Tick round ∷ x.0) x.0) s.end;
 }
 

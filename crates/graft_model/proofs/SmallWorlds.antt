@@ -72,7 +72,8 @@ never_put t =
     let first : ◌≡◌ {A = List ℕ} (255 ∷ []) (0 ∷ []) = sym marked ∙ (ap (take 1) is.is ∙ ap (λ (front : List ℕ). take 1 (front ++ is.rest)) octet_received) in cc
 
 pub never_heard : Transparent pair (with_session hearing) 0 → ⊥
-never_heard t = empty_or_one (subst (λ (s : SessionValue). s.heard ≡ heard (peering_of s.config) s.story) (sym (same hearing t.session t.one)) t.heard)
+never_heard t =
+    empty_or_one (subst (λ (s : SessionValue). s.adj_rib_in ≡ heard (peering_of s.config) s.story) (sym (same hearing t.session t.one)) t.adj_rib_in)
 
 -- ---- solved
 

@@ -58,8 +58,8 @@ pub record Transparent (setup : Setup) (w : World) (p : ℕ) : Type 0 where
   pub legal : IsLegal (peering_of session.config) session.story (state session)
   pub received : AreFirst (received_bytes (w.far p).end) (put_bytes (peering_of session.config) session.story)
   pub got : AreFirst (got_bytes session.story) (w.far p).end.stream
-  pub heard : session.heard ≡ heard (peering_of session.config) session.story
-  pub told : session.told ≡ told session.story
+  pub adj_rib_in : session.adj_rib_in ≡ heard (peering_of session.config) session.story
+  pub adj_rib_out : session.adj_rib_out ≡ told session.story
 
 -- ---- unchanged
 
@@ -174,7 +174,7 @@ pub record SolvesOn (setup : Setup) (w : World) (p : ℕ) : Type 0 where
   pub session : SessionValue
   pub placed : (w.router (placement setup w.operator p)).places p ≡ Live session None
   pub linked : (w.far p).pointer ≡ placement setup w.operator p
-  pub told : (prefix : PrefixValue) → map.get session.told prefix
+  pub adj_rib_out : (prefix : PrefixValue) → map.get session.adj_rib_out prefix
       ≡ while_established (state session) (to_tell setup (placement setup w.operator p) (w.router (placement setup w.operator p)) session prefix)
   pub received : received_bytes (w.far p).end ≡ put_bytes (peering_of session.config) session.story
   pub got : GotAll session (w.far p).end.stream

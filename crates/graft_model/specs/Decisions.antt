@@ -31,14 +31,14 @@ session_route setup r session prefix = record {
   identifier = remote_identifier session;
   address = session.config.remote_address;
   import_rules = rules_for setup r session.config.import;
-  heard = map.get session.heard prefix;
+  heard = map.get session.adj_rib_in prefix;
 }
 
 -- the entry that the router makes of it, by its own import policy
 abbrev pub entry_of : Setup → ℕ → SessionValue → PrefixValue → Option Entry
 entry_of setup r session prefix = option_map
     (λ route. record { route = route; identifier = remote_identifier session; address = session.config.remote_address })
-    (imported setup.home_as prefix (session_route setup r session prefix) (map.get session.heard prefix))
+    (imported setup.home_as prefix (session_route setup r session prefix) (map.get session.adj_rib_in prefix))
 
 -- ---- deciding
 

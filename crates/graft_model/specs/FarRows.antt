@@ -7,7 +7,7 @@ use Rattle.tcp_seq.specs.declared.segment.Way.{Way}
 use Rattle.tcp_seq.specs.declared.segment.Way.TheVariants.{Home, Remote}
 use Rattle.session_value.specs.Cases.{sending}
 use Rattle.graft_model.specs.Slices.{EmitsAt}
-use Rattle.graft_model.specs.Setups.{Setup, SayStep, beat_of, routers_in}
+use Rattle.graft_model.specs.Setups.{Setup, SayStep, keepalive_interval_of, routers_in}
 use Rattle.graft_model.specs.Parts.{FarPart, Outward, Seg, PointAt}
 
 -- an item that a far side may take: the next item of a router's channel, or the next step of the operator's
@@ -48,15 +48,15 @@ pub record Says (setup : Setup) (p step : ℕ) (before : FarPart) (taken : Optio
 -- The remote says a KEEPALIVE in a round that is a multiple of its interval (RFC 4271, section 4.4). The stream has room, as the number of them is
 -- limited.
 pub record Beats (setup : Setup) (p round : ℕ) (before : FarPart) (taken : Option FarTaken) (sent : List FarSent) (after : FarPart) : Type 0 where
-  pub beat : ℕ
-  pub is : option_map beat_of (slice_get setup.peerings p) ≡ Some beat
-  pub some : 0 < beat
-  pub multiple : round % beat ≡ 0
-  pub later : before.last_beat < round
-  pub few : before.beats < 27594
+  pub keepalive_interval : ℕ
+  pub is : option_map keepalive_interval_of (slice_get setup.peerings p) ≡ Some keepalive_interval
+  pub some : 0 < keepalive_interval
+  pub multiple : round % keepalive_interval ≡ 0
+  pub later : before.last_keepalive < round
+  pub few : before.keepalives < 27594
   pub takes : taken ≡ None
   pub sends : sent ≡ []
-  pub effect : after ≡ record before { end = sending (spell KeepaliveMsg false) before.end; beats = before.beats + 1; last_beat = round }
+  pub effect : after ≡ record before { end = sending (spell KeepaliveMsg false) before.end; keepalives = before.keepalives + 1; last_keepalive = round }
 
 -- A slice of what was said, or a segment without bytes at the offset that is emitted next, goes into the link.
 pub record SendsSegment (from len : ℕ) (before : FarPart) (taken : Option FarTaken) (sent : List FarSent) (after : FarPart) : Type 0 where

@@ -84,7 +84,7 @@ pub record Comes (setup : Setup) (q : ℕ) (before : RouterPart) (taken : Option
 
 -- what is due again on a session that is live again: what was told on it, and what is best
 pub record DueAgain (part : RouterPart) (session : SessionValue) (due : Prefixes) : Type 0 where
-  pub members : (x : PrefixValue) → has due x ≡ (is_some (map.get session.told x) || is_some (map.get part.best x))
+  pub members : (x : PrefixValue) → has due x ≡ (is_some (map.get session.adj_rib_out x) || is_some (map.get part.best x))
 
 -- The session lands: its routes are taken in by the target's own policies, and the far side is told to point here. Word of the landing is owed to the
 -- source.

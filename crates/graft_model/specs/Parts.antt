@@ -66,8 +66,8 @@ pub record FarPart : Type 0 where
   pub remoteward : List PlacedSegment
   pub pointer : ℕ
   pub followed : ℕ
-  pub beats : ℕ
-  pub last_beat : ℕ
+  pub keepalives : ℕ
+  pub last_keepalive : ℕ
 
 -- ---- the operator
 

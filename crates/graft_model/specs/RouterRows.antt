@@ -49,7 +49,7 @@ WaitsOnPeering part p prefix = (has (part.due_out p) prefix ≡ true) × (has pa
 
 -- it is due and not dirty, and what was told of it isn't what is to be told now
 abbrev pub IsToTell : Setup → ℕ → RouterPart → ℕ → SessionValue → PrefixValue → Type 0
-IsToTell setup r part p session prefix = WaitsOnPeering part p prefix × (map.get session.told prefix ≢ to_tell setup r part session prefix)
+IsToTell setup r part p session prefix = WaitsOnPeering part p prefix × (map.get session.adj_rib_out prefix ≢ to_tell setup r part session prefix)
 
 -- Everything that is due and not dirty was told as it is to be; it is no longer due.
 pub record PutsNothing (setup : Setup) (r p : ℕ) (before : RouterPart) (taken : Option RouterTaken) (sent : List RouterSent) (after : RouterPart) : Type 0 where
@@ -135,8 +135,8 @@ DueThen from to best before after = after ≡ before
 -- the same.
 abbrev pub FollowsHeard : Setup → ℕ → SessionValue → SessionValue → Entries → Entries → PrefixValue → Type 0
 FollowsHeard setup r session next before after x =
-    ((map.get next.heard x ≡ map.get session.heard x) × (map.get after x ≡ map.get before x))
-    ⊎ ((map.get next.heard x ≢ map.get session.heard x) × (map.get after x ≡ entry_of setup r next x))
+    ((map.get next.adj_rib_in x ≡ map.get session.adj_rib_in x) × (map.get after x ≡ map.get before x))
+    ⊎ ((map.get next.adj_rib_in x ≢ map.get session.adj_rib_in x) × (map.get after x ≡ entry_of setup r next x))
 
 -- a session changed by itself: its entries follow it, and the prefixes whose entries changed are dirty
 pub record Follows (setup : Setup) (r p : ℕ) (before : RouterPart) (session next : SessionValue) (errand : Option Errand) (after : RouterPart) : Type 0 where

@@ -33,8 +33,8 @@ pub record PeeringSetup : Type 0 where
   pub beats : Bool
 
 -- KEEPALIVE interval of the remote in rounds: a third of the hold time in force (RFC 4271, section 4.4), 0 for none.
-abbrev pub beat_of : PeeringSetup → ℕ
-beat_of peering = if peering.beats then min peering.config.home_hold peering.hold / 3 else 0
+abbrev pub keepalive_interval_of : PeeringSetup → ℕ
+keepalive_interval_of peering = if peering.beats then min peering.config.home_hold peering.hold / 3 else 0
 
 -- a step of the script: a remote says bytes, a graft of a peering to a target, grafts of all peerings of a router to others, or the end of a group
 pub data ScriptStep : Type 0 where
@@ -187,7 +187,7 @@ pub record IsPeeringSetup (setup : Setup) (p : ℕ) (peering : PeeringSetup) : T
   pub next_hop : is_no_host peering.config.local_address ≡ false
   pub opening : length peering.opening ≤ 4096
   pub said : said_length setup p peering ≤ 2 ^ 20
-  pub beats : 0 < beat_of peering → said_length setup p peering ≤ 524288
+  pub beats : 0 < keepalive_interval_of peering → said_length setup p peering ≤ 524288
 
 -- how many of the peerings start at a router
 abbrev pub starting_at : Setup → ℕ → ℕ

@@ -97,7 +97,7 @@ abbrev pub one_route : Routes
 one_route = map.insert map.empty ten (attrs_over [])
 
 abbrev pub hearing : SessionValue
-hearing = record session { heard = one_route }
+hearing = record session { adj_rib_in = one_route }
 
 -- ---- not solved
 

@@ -10,7 +10,7 @@ ghost use Rattle.session_value.specs.declared.config.SessionConfig.{SessionConfi
 ghost use Rattle.session_value.specs.Sessions.{SessionValue, state, hold_time};
 ghost use Rattle.session_value.specs.Sets.{has};
 ghost use Rattle.graft_steps.specs.Landings.{IsNextToAsk, AreAllAsked};
-ghost use Rattle.graft_model.specs.Setups.{Setup, PeeringSetup, ScriptGraft, SayStep, MoveStep, EvacuateStep, peerings_in, routers_in, room_of, missing_policy, group_of, groups_in, grafts_in, grafts_before, graft_at, beat_of, rules_named};
+ghost use Rattle.graft_model.specs.Setups.{Setup, PeeringSetup, ScriptGraft, SayStep, MoveStep, EvacuateStep, peerings_in, routers_in, room_of, missing_policy, group_of, groups_in, grafts_in, grafts_before, graft_at, keepalive_interval_of, rules_named};
 ghost use Rattle.graft_model.specs.Parts.{RouterPart, FarPart, OperatorPart, World, GraftOrder, Errand, Vacant, Live, Frozen, Shadow, Leaving, Owing, Moved, Back, Asked, Done, PointAt, Unmade};
 ghost use Rattle.graft_model.specs.RouterRows.{RouterTaken, OrderIn, MeshIn, RouterSent, MeshTo, ReportOut};
 ghost use Rattle.graft_model.specs.FarRows.{FarTaken, OutwardIn, FarSent};
@@ -199,7 +199,8 @@ pub fn emptied_routers_give_by_plan()
 pub fn beats_are_few_and_later()
     ensures { (setup : Setup) (p round : ℕ) (peering : PeeringSetup) (before after : FarPart) (taken : Option FarTaken) (sent : List FarSent)
         → slice_get setup.peerings p ≡ Some peering → far_row setup p (Beat round) before taken sent after
-        → (0 < beat_of peering) × (round % beat_of peering ≡ 0) × (before.last_beat < round) × (before.beats + 1 ≤ 27594) × (after.beats ≡ before.beats + 1) }
+        → (0 < keepalive_interval_of peering) × (round % keepalive_interval_of peering ≡ 0) × (before.last_keepalive < round)
+            × (before.keepalives + 1 ≤ 27594) × (after.keepalives ≡ before.keepalives + 1) }
 {}
 
 /// In a quiet world each session that a router holds is live and has no errand, and it and its remote received and

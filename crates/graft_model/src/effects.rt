@@ -46,22 +46,22 @@ pub fn another_best_route_is_due()
 pub fn moved_sessions_are_told_again()
     ensures told { (setup : Setup) (r q k p : ℕ) (session : SessionValue) (x : PrefixValue) (before after : RouterPart) (sent : List RouterSent)
         → router_row setup r (Land q) before (Some (MeshIn q (Moved k p session))) sent after
-        → map.get session.told x ≢ None → has (after.due_out p) x ≡ true }
+        → map.get session.adj_rib_out x ≢ None → has (after.due_out p) x ≡ true }
     ensures best { (setup : Setup) (r q k p : ℕ) (session : SessionValue) (x : PrefixValue) (before after : RouterPart) (sent : List RouterSent)
         → router_row setup r (Land q) before (Some (MeshIn q (Moved k p session))) sent after
         → map.get before.best x ≢ None → has (after.due_out p) x ≡ true }
     ensures neither { (setup : Setup) (r q k p : ℕ) (session : SessionValue) (x : PrefixValue) (before after : RouterPart) (sent : List RouterSent)
         → router_row setup r (Land q) before (Some (MeshIn q (Moved k p session))) sent after
-        → map.get session.told x ≡ None → map.get before.best x ≡ None → has (after.due_out p) x ≡ false }
+        → map.get session.adj_rib_out x ≡ None → map.get before.best x ≡ None → has (after.due_out p) x ≡ false }
     ensures back_told { (setup : Setup) (r q k p : ℕ) (session : SessionValue) (refusal : Refusal) (x : PrefixValue) (before after : RouterPart) (sent : List RouterSent)
         → router_row setup r (Return q) before (Some (MeshIn q (Back k p session refusal))) sent after
-        → map.get session.told x ≢ None → has (after.due_out p) x ≡ true }
+        → map.get session.adj_rib_out x ≢ None → has (after.due_out p) x ≡ true }
     ensures back_best { (setup : Setup) (r q k p : ℕ) (session : SessionValue) (refusal : Refusal) (x : PrefixValue) (before after : RouterPart) (sent : List RouterSent)
         → router_row setup r (Return q) before (Some (MeshIn q (Back k p session refusal))) sent after
         → map.get before.best x ≢ None → has (after.due_out p) x ≡ true }
     ensures back_neither { (setup : Setup) (r q k p : ℕ) (session : SessionValue) (refusal : Refusal) (x : PrefixValue) (before after : RouterPart) (sent : List RouterSent)
         → router_row setup r (Return q) before (Some (MeshIn q (Back k p session refusal))) sent after
-        → map.get session.told x ≡ None → map.get before.best x ≡ None → has (after.due_out p) x ≡ false }
+        → map.get session.adj_rib_out x ≡ None → map.get before.best x ≡ None → has (after.due_out p) x ≡ false }
 {}
 
 /// When a session leaves, its entries and all tables stay the same, and nothing is due on its peering.

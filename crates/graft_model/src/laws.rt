@@ -111,7 +111,7 @@ pub fn claims_can_be_false()
     ensures one { ¬ Transparent small.pair small.with_session_lost 0 }
     ensures legal { ¬ Transparent small.pair (small.with_session small.opened_twice) 0 }
     ensures received { ¬ Transparent small.pair small.with_octet_received 0 }
-    ensures heard { ¬ Transparent small.pair (small.with_session small.hearing) 0 }
+    ensures adj_rib_in { ¬ Transparent small.pair (small.with_session small.hearing) 0 }
     ensures linked { ¬ Solves small.pair small.with_link_elsewhere }
     ensures all_received { ¬ SolvesOn small.pair small.with_nothing_received 0 }
     ensures elsewhere { ¬ SolvesOn small.pair small.with_shadow_left 0 }

@@ -30,7 +30,7 @@ use Rattle.graft_worked.specs.Graft.{put_all, said_all, over_router, session, a_
 use Rattle.graft_model.specs.Parts.{Vacant, Live, FarPart, World}
 use Rattle.graft_model.specs.OperatorRows.{placement}
 use Rattle.graft_worked.proofs.Setup.{below_two, below_one}
-use Rattle.graft_worked.specs.Alone.{AloneField, One, Linked, Tellings, TransparentBut, SolvesBut, Own, Legal, Received, Got, Heard, Told, Placed, Elsewhere, Best}
+use Rattle.graft_worked.specs.Alone.{AloneField, One, Linked, Tellings, TransparentBut, SolvesBut, Own, Legal, Received, Got, AdjRibIn, AdjRibOut, Placed, Elsewhere, Best}
 use Rattle.graft_worked.specs.Puts.{with_link_at_source}
 use Rattle.graft_worked.specs.Wrong.{with_session_kept, with_telling_on_its_way}
 use Rattle.graft_worked.specs.Weaker.{with_far, with_session, interrupted, with_empty_line, addressed, opened_twice, unhearing, telling, with_other_address, with_second_open, with_octet_received, with_update_unsaid, with_route_unheard, with_route_told, with_word_owed, with_keepalive_missing, with_keepalive_said, with_shadow_left, with_best_missing}
@@ -59,8 +59,8 @@ one_alone = record {
   legal = λ other. legal_after;
   received = λ other. received_after;
   got = λ other. record { rest = []; is = refl };
-  heard = λ other. sym (heard_routes 0);
-  told = λ other. sym none_told;
+  adj_rib_in = λ other. sym (heard_routes 0);
+  adj_rib_out = λ other. sym none_told;
 }
 
 pub own_alone : TransparentBut Own with_other_address addressed
@@ -70,8 +70,8 @@ own_alone = record {
   legal = λ other. legal_after;
   received = λ other. received_after;
   got = λ other. record { rest = []; is = refl };
-  heard = λ other. sym (heard_routes 0);
-  told = λ other. sym none_told;
+  adj_rib_in = λ other. sym (heard_routes 0);
+  adj_rib_out = λ other. sym none_told;
 }
 
 pub legal_alone : TransparentBut Legal with_second_open opened_twice
@@ -81,8 +81,8 @@ legal_alone = record {
   legal = λ other. absurd (other refl);
   received = λ other. record { rest = home_open_bytes; is = puts_twice ∙ ap (λ (bytes : List ℕ). bytes ++ home_open_bytes) (sym remote_received) };
   got = λ other. record { rest = []; is = refl };
-  heard = λ other. sym (heard_as_before ∙ heard_routes 0);
-  told = λ other. sym told_as_before;
+  adj_rib_in = λ other. sym (heard_as_before ∙ heard_routes 0);
+  adj_rib_out = λ other. sym told_as_before;
 }
 
 -- of the last world with another far side
@@ -95,8 +95,8 @@ far_transparent but far received got = record {
   legal = λ other. legal_after;
   received = received;
   got = got;
-  heard = λ other. sym (heard_routes 0);
-  told = λ other. sym none_told;
+  adj_rib_in = λ other. sym (heard_routes 0);
+  adj_rib_out = λ other. sym none_told;
 }
 
 pub received_alone : TransparentBut Received with_octet_received session
@@ -107,23 +107,24 @@ got_alone = far_transparent Got (with_update_unsaid.far 0) (λ other. received_a
 
 -- of the last world with other tables of the session's
 tables_transparent : (but : AloneField) (heard_in told_out : Routes)
-    → (but ≢ Heard → heard_in ≡ heard (peering_of config) (heard_lines 0)) → (but ≢ Told → told_out ≡ told (heard_lines 0))
-    → TransparentBut but (with_session (record session { heard = heard_in; told = told_out })) (record session { heard = heard_in; told = told_out })
+    → (but ≢ AdjRibIn → heard_in ≡ heard (peering_of config) (heard_lines 0)) → (but ≢ AdjRibOut → told_out ≡ told (heard_lines 0))
+    → TransparentBut but (with_session (record session { adj_rib_in = heard_in; adj_rib_out = told_out }))
+    (record session { adj_rib_in = heard_in; adj_rib_out = told_out })
 tables_transparent but heard_in told_out heard_is told_is = record {
   one = λ other. refl;
   own = λ other. refl;
   legal = λ other. legal_after;
   received = λ other. received_after;
   got = λ other. record { rest = []; is = refl };
-  heard = heard_is;
-  told = told_is;
+  adj_rib_in = heard_is;
+  adj_rib_out = told_is;
 }
 
-pub heard_alone : TransparentBut Heard with_route_unheard unhearing
-heard_alone = tables_transparent Heard unhearing.heard session.told (λ other. absurd (other refl)) (λ other. sym none_told)
+pub heard_alone : TransparentBut AdjRibIn with_route_unheard unhearing
+heard_alone = tables_transparent AdjRibIn unhearing.adj_rib_in session.adj_rib_out (λ other. absurd (other refl)) (λ other. sym none_told)
 
-pub told_alone : TransparentBut Told with_route_told telling
-told_alone = tables_transparent Told session.heard telling.told (λ other. sym (heard_routes 0)) (λ other. absurd (other refl))
+pub told_alone : TransparentBut AdjRibOut with_route_told telling
+told_alone = tables_transparent AdjRibOut session.adj_rib_in telling.adj_rib_out (λ other. sym (heard_routes 0)) (λ other. absurd (other refl))
 
 pub transparent_of : (w : World) (s : SessionValue) → TransparentBut Best w s → Transparent base w 0
 transparent_of w s b = record {
@@ -133,8 +134,8 @@ transparent_of w s b = record {
   legal = b.legal (λ e. cc);
   received = b.received (λ e. cc);
   got = b.got (λ e. cc);
-  heard = b.heard (λ e. cc);
-  told = b.told (λ e. cc);
+  adj_rib_in = b.adj_rib_in (λ e. cc);
+  adj_rib_out = b.adj_rib_out (λ e. cc);
 }
 
 pub of_transparent : (but : AloneField) (w : World) (t : Transparent base w 0) → TransparentBut but w t.session
@@ -144,8 +145,8 @@ of_transparent but w t = record {
   legal = λ other. t.legal;
   received = λ other. t.received;
   got = λ other. t.got;
-  heard = λ other. t.heard;
-  told = λ other. t.told;
+  adj_rib_in = λ other. t.adj_rib_in;
+  adj_rib_out = λ other. t.adj_rib_out;
 }
 
 -- ---- solved
@@ -154,7 +155,7 @@ of_transparent but w t = record {
 tells_alike : (prefix : PrefixValue) → tell_in (map.get a_after.best prefix) ≡ tell_in (map.get (empty {A = best_type.Best}) prefix)
 tells_alike prefix = ap tell_in (got_ten (over_router 1) prefix) ∙ (sym (told_to_b (is_ten prefix)) ∙ sym (ap tell_in (got_none {A = best_type.Best} prefix)))
 
-told_rightly : (prefix : PrefixValue) → map.get session.told prefix ≡ while_established (state session) (to_tell base 1 b_after session prefix)
+told_rightly : (prefix : PrefixValue) → map.get session.adj_rib_out prefix ≡ while_established (state session) (to_tell base 1 b_after session prefix)
 told_rightly prefix = got_none prefix ∙ nothing_told prefix
 
 best_still : (prefix : PrefixValue) → map.get b_after.best prefix
@@ -185,7 +186,7 @@ routed but = (λ other prefix. solves_after.best 0 prefix (lit< tt), (λ prefix.
 solved_but : (but : AloneField) (w : World) (s : SessionValue) → placement base w.operator 0 ≡ 1 → Routed but w
     → (but ≢ Placed → (w.router 1).places 0 ≡ Live s None)
     → (but ≢ Linked → (w.far 0).pointer ≡ 1)
-    → (but ≢ Told → (prefix : PrefixValue) → map.get s.told prefix ≡ while_established (state s) (to_tell base 1 (w.router 1) s prefix))
+    → (but ≢ AdjRibOut → (prefix : PrefixValue) → map.get s.adj_rib_out prefix ≡ while_established (state s) (to_tell base 1 (w.router 1) s prefix))
     → (but ≢ Received → received_bytes (w.far 0).end ≡ put_bytes (peering_of s.config) s.story)
     → (but ≢ Got → GotAll s (w.far 0).end.stream)
     → (but ≢ Elsewhere → ((w.router 0).places 0 ≡ Vacant) × ((w.router 0).entries 0 ≡ map.empty))
@@ -198,7 +199,7 @@ solved_but but w s logged routes placed linked told received got elsewhere = rec
   logged = logged;
   placed = placed;
   linked = linked;
-  told = told;
+  adj_rib_out = told;
   received = received;
   got = got;
   elsewhere = elsewhere;
@@ -231,8 +232,8 @@ pub elsewhere_alone : SolvesBut Elsewhere with_shadow_left session
 elsewhere_alone = solved_but Elsewhere with_shadow_left session refl (routed Elsewhere)
     (λ other. refl) (λ other. refl) (λ other. told_rightly) (λ other. all_received) (λ other. got_all) (λ other. absurd (other refl))
 
-pub all_told_alone : SolvesBut Told with_route_told telling
-all_told_alone = solved_but Told with_route_told telling refl (routed Told)
+pub all_told_alone : SolvesBut AdjRibOut with_route_told telling
+all_told_alone = solved_but AdjRibOut with_route_told telling refl (routed AdjRibOut)
     (λ other. refl) (λ other. refl) (λ other. absurd (other refl)) (λ other. all_received)
     (λ other. record { rest = got_all.rest; is = got_all.is; whole = got_all.whole; end = got_all.end }) (λ other. (refl, refl))
 
@@ -254,7 +255,7 @@ still_up : state interrupted ≡ Established
 unfolding header_fault
 still_up = refl
 
-told_interrupted : (prefix : PrefixValue) → map.get session.told prefix ≡ while_established (state interrupted) (to_tell base 1 b_after session prefix)
+told_interrupted : (prefix : PrefixValue) → map.get session.adj_rib_out prefix ≡ while_established (state interrupted) (to_tell base 1 b_after session prefix)
 told_interrupted prefix = got_none prefix ∙ sym (ap (λ s. while_established s (to_tell base 1 b_after session prefix)) still_up ∙ tells_none prefix)
 
 pub all_whole_alone : SolvesBut Got with_empty_line interrupted
@@ -267,7 +268,7 @@ solves_on w s b = record {
   session = s;
   placed = subst (λ r. (w.router r).places 0 ≡ Live s None) (sym b.logged) (b.placed (λ e. cc));
   linked = b.linked (λ e. cc) ∙ sym b.logged;
-  told = λ prefix. subst (λ r. map.get s.told prefix ≡ while_established (state s) (to_tell base r (w.router r) s prefix)) (sym b.logged) (b.told (λ e. cc) prefix);
+  adj_rib_out = λ prefix. subst (λ r. map.get s.adj_rib_out prefix ≡ while_established (state s) (to_tell base r (w.router r) s prefix)) (sym b.logged) (b.adj_rib_out (λ e. cc) prefix);
   received = b.received (λ e. cc);
   got = b.got (λ e. cc);
   elsewhere = below_two (λ r. r ≢ placement base w.operator 0 → ((w.router r).places 0 ≡ Vacant) × ((w.router r).entries 0 ≡ map.empty))

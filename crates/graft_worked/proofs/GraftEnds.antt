@@ -178,8 +178,8 @@ transparent_after = record {
   legal = legal_after;
   received = received_after;
   got = record { rest = []; is = refl };
-  heard = sym (heard_routes 0);
-  told = sym none_told;
+  adj_rib_in = sym (heard_routes 0);
+  adj_rib_out = sym none_told;
 }
 
 -- ---- solves
@@ -214,14 +214,14 @@ unfolding from_b
 routes_at_a prefix = refl
 
 routes_at_b : (prefix : PrefixValue)
-    → choice (candidates 65000 prefix (has_network base 1 prefix) (session_routes base after_graft 1 prefix) (router_routes base after_graft 1 prefix)) ≡ from_both prefix (map.get session.heard prefix) (map.get a_after.best prefix)
+    → choice (candidates 65000 prefix (has_network base 1 prefix) (session_routes base after_graft 1 prefix) (router_routes base after_graft 1 prefix)) ≡ from_both prefix (map.get session.adj_rib_in prefix) (map.get a_after.best prefix)
 unfolding from_both
 routes_at_b prefix = refl
 
 best_at_a : (prefix : PrefixValue) → map.get a_after.best prefix ≡ from_b prefix (map.get b_after.best prefix)
 best_at_a prefix = got_ten (over_router 1) prefix ∙ sym (ap (from_b prefix) (got_ten over_peering prefix) ∙ from_b_is prefix (is_ten prefix))
 
-best_at_b : (prefix : PrefixValue) → map.get b_after.best prefix ≡ from_both prefix (map.get session.heard prefix) (map.get a_after.best prefix)
+best_at_b : (prefix : PrefixValue) → map.get b_after.best prefix ≡ from_both prefix (map.get session.adj_rib_in prefix) (map.get a_after.best prefix)
 best_at_b prefix = got_ten over_peering prefix
     ∙ sym ((λ i. from_both prefix (got_ten heard_attrs prefix i) (got_ten (over_router 1) prefix i)) ∙ from_both_is prefix (is_ten prefix))
 
@@ -245,7 +245,7 @@ peering_solves = record {
   session = session;
   placed = refl;
   linked = refl;
-  told = λ prefix. got_none prefix ∙ nothing_told prefix;
+  adj_rib_out = λ prefix. got_none prefix ∙ nothing_told prefix;
   received = all_received;
   got = got_all;
   elsewhere = below_two (λ r. r ≢ 1 → ((after_graft.router r).places 0 ≡ Vacant) × ((after_graft.router r).entries 0 ≡ map.empty)) (λ other. (refl, refl)) (λ other. absurd (other refl));

@@ -152,7 +152,7 @@ unfolding brought message_of header_fault frame_at body_of open_of many many_wit
 brings x = got_ten entry x ∙ sym (ap (brought 1 x) (got_ten heard_attrs x) ∙ map_cond (brought 1 x) (is_ten x) heard_attrs entry refl refl)
 
 -- nothing was told on the session, and 10.0.0.0/8 has a best route
-pub due_again : (best : Best) (x : PrefixValue) → has ten_alone x ≡ (is_some (map.get session.told x) || is_some (map.get (at_ten best) x))
+pub due_again : (best : Best) (x : PrefixValue) → has ten_alone x ≡ (is_some (map.get session.adj_rib_out x) || is_some (map.get (at_ten best) x))
 due_again best x = some_at_ten tt x ∙ (sym (some_at_ten best x) ∙ ap (λ told. told || is_some (map.get (at_ten best) x)) (sym (some_in_none _ x)))
 
 -- with any endpoint

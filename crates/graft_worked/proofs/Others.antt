@@ -53,15 +53,15 @@ loses = record { there = lit< tt; takes = refl; sends = refl; effect = refl }
 pub may_lose : Step base (ByFar 0 (Lose Home 0)) with_segment without_segment
 may_lose = far_alone base base_small a_first idle_router far_sent operator_before nothing_on_the_way (Lose Home 0) far_emitted loses
 
--- ---- at the end no group is left, and the remote doesn't beat
+-- ---- at the end no group is left, and the remote says no KEEPALIVE
 
 pub no_go : (after : World) → Step base (ByOperator Go) after_graft after → ⊥
 no_go after step = let further : 2 < 2 = step.row.further in absurd (omega arith)
 
 pub no_beat : (round : ℕ) (after : World) → Step base (ByFar 0 (Beat round)) after_graft after → ⊥
 no_beat round after step =
-    let none : ◌≡◌ {A = ℕ} 0 step.row.beat = ap (λ o. unwrap_or o 0) step.row.is in
-    let some : 0 < step.row.beat = step.row.some in
+    let none : ◌≡◌ {A = ℕ} 0 step.row.keepalive_interval = ap (λ o. unwrap_or o 0) step.row.is in
+    let some : 0 < step.row.keepalive_interval = step.row.some in
     absurd (omega arith)
 
 held_hold : Place → ℕ
@@ -86,12 +86,13 @@ little_moves event after step = still base event after_graft after quiet_after s
 beating_small : IsSmall beating
 beating_small = record { a = lit< tt; b = lit< tt; c = lit< tt }
 
-beats : Beats beating 0 30 far_before None [] (record far_before { end = record remote_end { stream = said_all ++ keepalive_bytes }; beats = 1; last_beat = 30 })
+beats : Beats beating 0 30 far_before None [] (record far_before { end = record remote_end { stream = said_all ++ keepalive_bytes }; keepalives = 1; last_keepalive = 30 })
 unfolding spell
-beats = record { beat = 30; is = refl; some = lit< tt; multiple = refl; later = lit< tt; few = lit< tt; takes = refl; sends = refl; effect = refl }
+beats =
+    record { keepalive_interval = 30; is = refl; some = lit< tt; multiple = refl; later = lit< tt; few = lit< tt; takes = refl; sends = refl; effect = refl }
 
 pub may_beat : Step beating (ByFar 0 (Beat 30)) before_graft with_beat
-may_beat = far_alone beating beating_small a_before b_before far_before operator_before nothing_on_the_way (Beat 30) (record far_before { end = record remote_end { stream = said_all ++ keepalive_bytes }; beats = 1; last_beat = 30 }) beats
+may_beat = far_alone beating beating_small a_before b_before far_before operator_before nothing_on_the_way (Beat 30) (record far_before { end = record remote_end { stream = said_all ++ keepalive_bytes }; keepalives = 1; last_keepalive = 30 }) beats
 
 round_passes : PassesRound session_timed 1 session_ticked
 unfolding message_of header_fault frame_at body_of open_of many many_within cap_at caps_of params_of

@@ -74,7 +74,7 @@ to_tell_ten = ap (tell_out 65000 (out_side base 0 config) ten) (got_it own_at_b)
 pub some_is_some : {A : Type 0} (v : A) (o : Option A) → o ≡ Some v → None ≢ o
 some_is_some v o is none = let apart : ◌≡◌ {A = Bool} false true = ap is_some (none ∙ is) in cc
 
-untold : map.get session_joined.told ten ≢ to_tell base 0 a_to_put session_joined ten
+untold : map.get session_joined.adj_rib_out ten ≢ to_tell base 0 a_to_put session_joined ten
 untold e = some_is_some (attrs_over (65000 ∷ [])) (to_tell base 0 a_to_put session_joined ten) to_tell_ten (sym (got_none ten) ∙ e)
 
 pub due_ten : has ten_alone ten ≡ true
@@ -98,8 +98,9 @@ drops true x e = subst (λ z. false ≡ not (list_any (same_prefix z) (ten ∷ [
 
 -- ---- the row
 
-changes : Changes session_joined.told (announcement_over (65000 ∷ []))
-changes = All-cons (λ prefix. map.get (apply session_joined.told (announcement_over (65000 ∷ []))) prefix ≢ map.get session_joined.told prefix) ten []
+changes : Changes session_joined.adj_rib_out (announcement_over (65000 ∷ []))
+changes =
+    All-cons (λ prefix. map.get (apply session_joined.adj_rib_out (announcement_over (65000 ∷ []))) prefix ≢ map.get session_joined.adj_rib_out prefix) ten []
     (λ e. some_is_some (attrs_over (65000 ∷ [])) (map.get (at_ten (attrs_over (65000 ∷ []))) ten) (got_it (attrs_over (65000 ∷ []))) (sym (got_none ten) ∙ sym e)) (All-nil _)
 
 pub puts_update : PutsUpdate session_joined (announcement_over (65000 ∷ [])) session_told

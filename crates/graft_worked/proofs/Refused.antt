@@ -131,7 +131,7 @@ turns_back = record {
 }
 
 -- nothing was told on it, and there is no best route
-nothing_due : (x : PrefixValue) → has empty x ≡ (is_some (map.get session_joined.told x) || is_some (map.get idle_router.best x))
+nothing_due : (x : PrefixValue) → has empty x ≡ (is_some (map.get session_joined.adj_rib_out x) || is_some (map.get idle_router.best x))
 nothing_due x = some_in_none _ x ∙ sym (ap (λ told. told || is_some (map.get idle_router.best x)) (some_in_none _ x) ∙ some_in_none _ x)
 
 returns : Returns 1 (holding idle_router (Shadow 1)) (Some (MeshIn 1 (Back 1 0 session_joined (RouterFull 0)))) (ReportOut (refusal_report (RouterFull 0)) ∷ []) (a_with session_joined)

@@ -83,12 +83,12 @@ never_said t = too_long (got_bytes (heard_lines 0)) (open_bytes ++ keepalive_byt
 
 pub unheard : Transparent base with_route_unheard 0 → ⊥
 unheard t = empty_or_ten heard_attrs
-    (subst (λ (s : SessionValue). s.heard ≡ heard (peering_of s.config) s.story) (sym (only_one unhearing t.session t.one)) t.heard ∙ heard_routes 0)
+    (subst (λ (s : SessionValue). s.adj_rib_in ≡ heard (peering_of s.config) s.story) (sym (only_one unhearing t.session t.one)) t.adj_rib_in ∙ heard_routes 0)
 
 pub told_without : Transparent base with_route_told 0 → ⊥
 told_without t =
     let same = only_one telling t.session t.one in
-    empty_or_ten (attrs_over (65000 ∷ [])) (sym (subst (λ (s : SessionValue). s.told ≡ told s.story) (sym same) t.told ∙ none_told))
+    empty_or_ten (attrs_over (65000 ∷ [])) (sym (subst (λ (s : SessionValue). s.adj_rib_out ≡ told s.story) (sym same) t.adj_rib_out ∙ none_told))
 
 -- ---- not solved
 
@@ -105,7 +105,8 @@ pub not_to_tell : Solves base with_route_told → ⊥
 not_to_tell s =
     let p = on_it with_route_told s in
     let same : telling ≡ p.session = same_session telling p.session None None p.placed in
-    let is = subst (λ (x : SessionValue). map.get x.told ten ≡ while_established (state x) (to_tell base 1 b_after x ten)) (sym same) (p.told ten) in
+    let is =
+        subst (λ (x : SessionValue). map.get x.adj_rib_out ten ≡ while_established (state x) (to_tell base 1 b_after x ten)) (sym same) (p.adj_rib_out ten) in
     not_both (attrs_over (65000 ∷ [])) (nothing_told ten ∙ (sym is ∙ got_it (attrs_over (65000 ∷ []))))
 
 open_received : length (received_bytes (record remote_end { arrived = from_zero home_open_bytes })) ≡ 29

@@ -23,8 +23,8 @@ pub data AloneField : Type 0 where
   Legal : AloneField
   Received : AloneField
   Got : AloneField
-  Heard : AloneField
-  Told : AloneField
+  AdjRibIn : AloneField
+  AdjRibOut : AloneField
   Placed : AloneField
   Linked : AloneField
   Elsewhere : AloneField
@@ -38,8 +38,8 @@ pub record TransparentBut (but : AloneField) (w : World) (s : SessionValue) : Ty
   pub legal : but ≢ Legal → IsLegal (peering_of s.config) s.story (state s)
   pub received : but ≢ Received → AreFirst (received_bytes (w.far 0).end) (put_bytes (peering_of s.config) s.story)
   pub got : but ≢ Got → AreFirst (got_bytes s.story) (w.far 0).end.stream
-  pub heard : but ≢ Heard → s.heard ≡ heard (peering_of s.config) s.story
-  pub told : but ≢ Told → s.told ≡ told s.story
+  pub adj_rib_in : but ≢ AdjRibIn → s.adj_rib_in ≡ heard (peering_of s.config) s.story
+  pub adj_rib_out : but ≢ AdjRibOut → s.adj_rib_out ≡ told s.story
 
 -- `Solves`, of routers a and b and of this session
 pub record SolvesBut (but : AloneField) (w : World) (s : SessionValue) : Type 0 where
@@ -52,7 +52,7 @@ pub record SolvesBut (but : AloneField) (w : World) (s : SessionValue) : Type 0 
   pub logged : placement base w.operator 0 ≡ 1
   pub placed : but ≢ Placed → (w.router 1).places 0 ≡ Live s None
   pub linked : but ≢ Linked → (w.far 0).pointer ≡ 1
-  pub told : but ≢ Told → (prefix : PrefixValue) → map.get s.told prefix ≡ while_established (state s) (to_tell base 1 (w.router 1) s prefix)
+  pub adj_rib_out : but ≢ AdjRibOut → (prefix : PrefixValue) → map.get s.adj_rib_out prefix ≡ while_established (state s) (to_tell base 1 (w.router 1) s prefix)
   pub received : but ≢ Received → received_bytes (w.far 0).end ≡ put_bytes (peering_of s.config) s.story
   pub got : but ≢ Got → GotAll s (w.far 0).end.stream
   pub elsewhere : but ≢ Elsewhere → ((w.router 0).places 0 ≡ Vacant) × ((w.router 0).entries 0 ≡ map.empty)

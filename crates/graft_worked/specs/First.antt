@@ -16,7 +16,8 @@ home_open_bytes = framed 1 (0x04 ∷ 0xFD ∷ 0xE8 ∷ 0x00 ∷ 0x00 ∷ 0x0A �
 
 -- the session has put its OPEN, and none of it was emitted
 abbrev pub session_first : SessionValue
-session_first = record { config = config; story = sent_lines 0; heard = map.empty; told = map.empty; end = record fresh_endpoint { stream = home_open_bytes } }
+session_first =
+    record { config = config; story = sent_lines 0; adj_rib_in = map.empty; adj_rib_out = map.empty; end = record fresh_endpoint { stream = home_open_bytes } }
 
 -- Router a holds it, and nothing is dirty or due.
 abbrev pub a_first : RouterPart

@@ -67,7 +67,7 @@ over_router r = record { from = from.Router (record { 0 = r }); route = route }
 
 -- the established session, which heard one route and told none
 abbrev pub session : SessionValue
-session = record { config = config; story = heard_lines 0; heard = at_ten heard_attrs; told = map.empty; end = home_end }
+session = record { config = config; story = heard_lines 0; adj_rib_in = at_ten heard_attrs; adj_rib_out = map.empty; end = home_end }
 
 -- ---- the parts
 
@@ -96,7 +96,7 @@ b_before = record {
 }
 
 abbrev pub far_before : FarPart
-far_before = record { end = remote_end; homeward = []; remoteward = []; pointer = 0; followed = 0; beats = 0; last_beat = 0 }
+far_before = record { end = remote_end; homeward = []; remoteward = []; pointer = 0; followed = 0; keepalives = 0; last_keepalive = 0 }
 
 -- the first step, that the remote is to announce, was ordered
 abbrev pub operator_before : OperatorPart

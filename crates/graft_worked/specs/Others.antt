@@ -26,7 +26,7 @@ abbrev pub beating : Setup
 beating = record base { peerings = record peering_c { config = record config { home_hold = 90 }; beats = true } ∷ [] }
 
 abbrev pub with_beat : World
-with_beat = world_of a_before b_before (record far_before { end = record remote_end { stream = said_all ++ keepalive_bytes }; beats = 1; last_beat = 30 }) operator_before nothing_on_the_way
+with_beat = world_of a_before b_before (record far_before { end = record remote_end { stream = said_all ++ keepalive_bytes }; keepalives = 1; last_keepalive = 30 }) operator_before nothing_on_the_way
 
 -- the link to home holds all that the remote said; and nothing
 abbrev pub with_segment : World
@@ -40,8 +40,8 @@ abbrev pub session_timed : SessionValue
 session_timed = record {
   config = record config { home_hold = 90 };
   story = joined_lines 90;
-  heard = map.empty;
-  told = map.empty;
+  adj_rib_in = map.empty;
+  adj_rib_out = map.empty;
   end = record home_end { stream = framed 1 (0x04 ∷ 0xFD ∷ 0xE8 ∷ 0x00 ∷ 0x5A ∷ 0x0A ∷ 0xFF ∷ 0x00 ∷ 0x01 ∷ 0x00 ∷ []) ++ keepalive_bytes };
 }
 

@@ -27,7 +27,7 @@ holding part place = record part { places = at (λ p. Vacant) 0 place }
 
 -- a far side that said nothing
 abbrev pub idle_far : FarPart
-idle_far = record { end = fresh_endpoint; homeward = []; remoteward = []; pointer = 0; followed = 0; beats = 0; last_beat = 0 }
+idle_far = record { end = fresh_endpoint; homeward = []; remoteward = []; pointer = 0; followed = 0; keepalives = 0; last_keepalive = 0 }
 
 -- What is on its way: between the two routers, from each of them to the far side, from the far side to a, and between the operator and a,
 -- or the far side.

@@ -29,7 +29,7 @@ abbrev pub announced_bytes : List ℕ
 announced_bytes = framed 2 (0x00 ∷ 0x00 ∷ 0x00 ∷ 0x12 ∷ 0x40 ∷ 0x01 ∷ 0x01 ∷ 0x00 ∷ 0x40 ∷ 0x02 ∷ 0x04 ∷ 0x02 ∷ 0x01 ∷ 0xFD ∷ 0xE8 ∷ 0x40 ∷ 0x03 ∷ 0x04 ∷ 0xC0 ∷ 0x00 ∷ 0x02 ∷ 0x02 ∷ 0x08 ∷ 0x0A ∷ [])
 
 abbrev pub session_told : SessionValue
-session_told = record session_joined { story = told_lines 0; told = at_ten (attrs_over (65000 ∷ [])); end = end_with (put_all ++ announced_bytes) 48 }
+session_told = record session_joined { story = told_lines 0; adj_rib_out = at_ten (attrs_over (65000 ∷ [])); end = end_with (put_all ++ announced_bytes) 48 }
 
 abbrev pub a_has_put : RouterPart
 a_has_put = record a_to_put { places = at (λ p. Vacant) 0 (Live session_told None); due_out = λ p. map.empty }

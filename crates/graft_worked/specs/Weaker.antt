@@ -59,14 +59,14 @@ with_update_unsaid = with_remote (record remote_end { stream = open_bytes ++ kee
 
 -- heard: the route isn't in the table
 abbrev pub unhearing : SessionValue
-unhearing = record session { heard = map.empty }
+unhearing = record session { adj_rib_in = map.empty }
 
 abbrev pub with_route_unheard : World
 with_route_unheard = with_session unhearing
 
 -- told: a route is in the table, and no UPDATE was put. No route is to be told, so this one doesn't solve either, by its own field of this name.
 abbrev pub telling : SessionValue
-telling = record session { told = at_ten (attrs_over (65000 ∷ [])) }
+telling = record session { adj_rib_out = at_ten (attrs_over (65000 ∷ [])) }
 
 abbrev pub with_route_told : World
 with_route_told = with_session telling

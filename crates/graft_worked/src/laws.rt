@@ -158,8 +158,8 @@ pub fn each_field_of_a_claim_can_be_false()
     ensures legal { ¬ Transparent base weaker.with_second_open 0 }
     ensures received { ¬ Transparent base weaker.with_octet_received 0 }
     ensures got { ¬ Transparent base weaker.with_update_unsaid 0 }
-    ensures heard { ¬ Transparent base weaker.with_route_unheard 0 }
-    ensures told { ¬ Transparent base weaker.with_route_told 0 }
+    ensures adj_rib_in { ¬ Transparent base weaker.with_route_unheard 0 }
+    ensures adj_rib_out { ¬ Transparent base weaker.with_route_told 0 }
     ensures placed { ¬ Solves base weaker.with_word_owed }
     ensures all_told { ¬ Solves base weaker.with_route_told }
     ensures all_received { ¬ Solves base weaker.with_keepalive_missing }
@@ -181,10 +181,10 @@ pub fn fields_are_false_alone()
     ensures legal { alone.TransparentBut alone.Legal weaker.with_second_open weaker.opened_twice }
     ensures received { alone.TransparentBut alone.Received weaker.with_octet_received session }
     ensures got { alone.TransparentBut alone.Got weaker.with_update_unsaid session }
-    ensures heard { alone.TransparentBut alone.Heard weaker.with_route_unheard weaker.unhearing }
-    ensures told { alone.TransparentBut alone.Told weaker.with_route_told weaker.telling }
+    ensures adj_rib_in { alone.TransparentBut alone.AdjRibIn weaker.with_route_unheard weaker.unhearing }
+    ensures adj_rib_out { alone.TransparentBut alone.AdjRibOut weaker.with_route_told weaker.telling }
     ensures placed { alone.SolvesBut alone.Placed weaker.with_word_owed session }
-    ensures all_told { alone.SolvesBut alone.Told weaker.with_route_told weaker.telling }
+    ensures all_told { alone.SolvesBut alone.AdjRibOut weaker.with_route_told weaker.telling }
     ensures all_received { alone.SolvesBut alone.Received weaker.with_keepalive_missing session }
     ensures all_got { alone.SolvesBut alone.Got weaker.with_keepalive_said session }
     ensures all_said { alone.SolvesBut alone.Got weaker.with_update_unsaid session }

@@ -7,7 +7,7 @@ use Rattle.tcp_seq.specs.declared.segment.Way.{Way}
 use Rattle.link_bag.specs.declared.plan.Fault.{Fault}
 use Rattle.link_bag.specs.declared.plan.Plan.{Plan}
 use Rattle.link_bag.specs.Planned.{fate_in, fate_of}
-use Rattle.graft_model.specs.Setups.{Setup, beat_of}
+use Rattle.graft_model.specs.Setups.{Setup, keepalive_interval_of}
 use Rattle.graft_actors.specs.Actors.{ActorName, Router, FarSide, Operator}
 use Rattle.graft_actors.specs.Acts.{OwnPart}
 use Rattle.router_core.specs.Routers as routers
@@ -44,10 +44,10 @@ module _ (setup : Setup) (faults : List Fault) (peering : PeeringId) (config : F
   number_is : far.fields.peering ≡ peering
   number_is = same_id far.fields.peering peering (ap (λ (o : OwnPart). peering_of o.name) own_is)
 
-  beat_is : option_map beat_of (slice_get setup.peerings far.fields.peering.0) ≡ Some far.fields.beat
-  beat_is =
-      ap (λ (p : PeeringId). option_map beat_of (slice_get setup.peerings p.0)) (number_is ∙ sym its)
-      ∙ ap (option_map beat_of) of.is ∙ ap Some (sym of.beat) ∙ ap Some (sym new.beat)
+  interval_is : option_map keepalive_interval_of (slice_get setup.peerings far.fields.peering.0) ≡ Some far.fields.keepalive_interval
+  interval_is =
+      ap (λ (p : PeeringId). option_map keepalive_interval_of (slice_get setup.peerings p.0)) (number_is ∙ sym its)
+      ∙ ap (option_map keepalive_interval_of) of.is ∙ ap Some (sym of.beat) ∙ ap Some (sym new.keepalive_interval)
 
   -- with the plan of these faults it is the first far side of its peering
   pub far_first : ((way : Way) (segment : ℕ) → fate_in config.plan peering way segment ≡ fate_of faults peering way segment)
@@ -61,7 +61,7 @@ module _ (setup : Setup) (faults : List Fault) (peering : PeeringId) (config : F
       links = new.links;
       homeward = new.homeward;
       remoteward = new.remoteward;
-      beat = beat_is;
+      keepalive_interval = interval_is;
       fates = λ way segment. ap (λ (plan : Plan). fate_in plan far.fields.peering way segment) new.plan
           ∙ ap (λ (p : PeeringId). fate_in config.plan p way segment) number_is
           ∙ planned way segment

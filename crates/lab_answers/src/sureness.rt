@@ -2,7 +2,7 @@
 
 ghost use Rattle.std.specs.Prelude.{ℕ, ◌≡◌, ◌≤◌, ◌==◌, ◌&&◌, min, false, Some, IfOk, map, take, length, slice_get, unwrap_or};
 ghost use Rattle.std.specs.List.{enumerate_from, list_any, list_all};
-ghost use Rattle.graft_model.specs.Setups.{beat_of as beat_of_lem};
+ghost use Rattle.graft_model.specs.Setups.{keepalive_interval_of as keepalive_interval_of_lem};
 ghost use Rattle.lab_tables.specs.declared.input.LabInput.{LabInput};
 ghost use Rattle.lab_tables.specs.declared.input.PeeringInput.{PeeringInput};
 ghost use Rattle.lab_tables.specs.Scripts.{is_settle_step};
@@ -14,7 +14,7 @@ ghost use Rattle.lab_answers.specs.PlainPeerings.{plain_in};
 
 use crate::said::{opened_by, said_over};
 use graft_edge::{Items, NoMemory, PeeringId};
-use lab_setup::beat_of;
+use lab_setup::keepalive_interval_of;
 use lab_tables::{LabInput, PeeringInput, RouterInput, Step, default_opening};
 use std::alloc::Global;
 
@@ -44,9 +44,10 @@ fn hold_offered(alloc: Global, peering: &PeeringInput, said: &[u8]) -> Result<u1
 
 /// Whether one of the hold times that both sides offer is 0, where the remote offers this one, and the remote says no KEEPALIVE by a timer.
 fn needs_no_timer(peering: &PeeringInput, hold: u16) -> bool
-    ensures { (input : LabInput) (p : ℕ) → result ≡ ((min peering.now.home_hold hold == 0) && (beat_of_lem (peering_setup input (p, peering.now)) == 0)) }
+    ensures { (input : LabInput) (p : ℕ)
+        → result ≡ ((min peering.now.home_hold hold == 0) && (keepalive_interval_of_lem (peering_setup input (p, peering.now)) == 0)) }
 {
-    peering.home_hold.min(hold) == 0 && beat_of(peering) == 0
+    peering.home_hold.min(hold) == 0 && keepalive_interval_of(peering) == 0
 }
 
 /// Whether no timer runs on the session of a peering: one of the hold times that both sides offer is 0, and the remote says no

@@ -61,7 +61,7 @@ fn limit(running: &RunningLab) -> Result<Option<RunEnd>, NoMemory>
 }
 
 /// Where no limit of the whole run is met: whether the world is quiet, or the budget is made.
-fn rest(running: &RunningLab, budget: Budget, step: u32, rounds: u32) -> Verdict
+fn budget_verdict(running: &RunningLab, budget: Budget, step: u32, rounds: u32) -> Verdict
     requires works { AllWork running.now }
     requires sound { budget.least ≤ budget.rounds }
     ensures { (setup : Setup) (w : World) (c : MarkCounts) → IsSetup setup → HasCounts setup (counts running.now) → IsWorldAt setup (stand running.now) w → c.step ≡ step → c.rounds ≡ rounds
@@ -103,6 +103,6 @@ pub(crate) fn mark_names(
 {
     match limit(running)? {
         Some(end) => Ok(Verdict::Ends(end)),
-        None => Ok(rest(running, budget, step, rounds)),
+        None => Ok(budget_verdict(running, budget, step, rounds)),
     }
 }

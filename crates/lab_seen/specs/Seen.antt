@@ -24,7 +24,7 @@ use Rattle.lab_report.specs.declared.lab.ToldEntry.{ToldEntry}
 
 -- a session's story, and the sizes of its tables
 abbrev pub session_view : SessionValue → SessionView
-session_view s = record { story = record { lines = s.story; remote_as = s.config.remote_as }; heard = table.len s.heard; told = table.len s.told }
+session_view s = record { story = record { lines = s.story; remote_as = s.config.remote_as }; heard = table.len s.adj_rib_in; told = table.len s.adj_rib_out }
 
 -- where the session of a peering is: held by that router, or by none
 abbrev pub IsSessionPlace : World → ℕ → Place → Type 0

@@ -153,9 +153,9 @@ module _ (input : LabInput) where
 
 -- ---- the peerings of the setup
 
-beats_kept : (beats : Bool) (beat said : ℕ) → said ≤ (if beats then 524288 else 1048576) → 0 < (if beats then beat else 0) → said ≤ 524288
-beats_kept true beat said few some = few
-beats_kept false beat said few some = absurd (omega arith)
+beats_kept : (beats : Bool) (interval said : ℕ) → said ≤ (if beats then 524288 else 1048576) → 0 < (if beats then interval else 0) → said ≤ 524288
+beats_kept true interval said few some = few
+beats_kept false interval said few some = absurd (omega arith)
 
 module _ (doc : Members) (tables : HasTables doc) (names : HasNames doc) (counts : HasCounts (lab_of doc)) where
   abbrev input : LabInput

@@ -1,7 +1,7 @@
 //! How the remote of a peering speaks.
 
 ghost use Rattle.std.specs.Prelude.{ℕ, ◌≡◌};
-ghost use Rattle.graft_model.specs.Setups.{beat_of as beat_of_lem};
+ghost use Rattle.graft_model.specs.Setups.{keepalive_interval_of as keepalive_interval_of_lem};
 ghost use Rattle.lab_tables.specs.declared.input.LabInput.{LabInput};
 ghost use Rattle.lab_input.specs.Counts.{is_wide as is_wide_lem};
 ghost use Rattle.lab_setup.specs.Setups.{peering_setup};
@@ -16,8 +16,8 @@ pub fn is_wide(peering: &PeeringInput) -> bool
 }
 
 /// After how many turns the remote says a KEEPALIVE again: a third of the hold time in force, or 0 where it doesn't.
-pub fn beat_of(peering: &PeeringInput) -> u32
-    ensures { (input : LabInput) (p : ℕ) → result ≡ beat_of_lem (peering_setup input (p, peering.now)) }
+pub fn keepalive_interval_of(peering: &PeeringInput) -> u32
+    ensures { (input : LabInput) (p : ℕ) → result ≡ keepalive_interval_of_lem (peering_setup input (p, peering.now)) }
 {
     if peering.beats {
         u32::from(peering.home_hold.min(peering.hold) / 3)

@@ -2,7 +2,7 @@
 use Rattle.std.proofs.Common.{◌≡◌, ℕ, ◌≤◌, Bool, false, List, length, sym, ap, ◌∙◌, subst, arith}
 use Rattle.std.specs.Prelude.{Some, option_map, unwrap_or, slice_get}
 use Rattle.graft_edge.specs.declared.ids.RouterId.{RouterId}
-use Rattle.graft_model.specs.Setups.{IsPeeringSetup, beat_of}
+use Rattle.graft_model.specs.Setups.{IsPeeringSetup, keepalive_interval_of}
 use Rattle.lab_tables.specs.declared.input.LabInput.{LabInput}
 use Rattle.lab_tables.specs.declared.input.PeeringInput.{PeeringInput}
 use Rattle.lab_input.specs.Counts.{is_wide}
@@ -18,7 +18,7 @@ use Rattle.lab_setup.proofs.Ready.{as_many_routers, as_many_peerings}
 use Rattle.lab_setup.proofs.Setups.{peering_there, steps_are}
 use Rattle.node_configs.proofs.Said.{says_are}
 
-pub width : (input : LabInput) (p : ℕ) (x : PeeringInput) → slice_get input.peerings p ≡ Some x → is_wide x ≡ is_wide_at input.peerings p
+width : (input : LabInput) (p : ℕ) (x : PeeringInput) → slice_get input.peerings p ≡ Some x → is_wide x ≡ is_wide_at input.peerings p
 width input p x there = sym (ap (λ o. unwrap_or (option_map is_wide o) false) there)
 
 module _ (input : LabInput) (accepted : IsAccepted input) (config : FarConfig) (x : PeeringInput) (there : slice_get input.peerings config.peering.0 ≡ Some x) where
@@ -27,7 +27,7 @@ module _ (input : LabInput) (accepted : IsAccepted input) (config : FarConfig) (
 
   pub is_config : config.routers ≡ length input.routers → config.peerings ≡ length input.peerings → config.pointer ≡ x.at
       → config.send_first.0 ≡ x.remote_seq → config.receive_first.0 ≡ x.home_seq
-      → config.opening ≡ x.opening → config.says ≡ says_of (is_wide x) p input.steps → config.beat ≡ beat_of (peering_setup input (p, x))
+      → config.opening ≡ x.opening → config.says ≡ says_of (is_wide x) p input.steps → config.beat ≡ keepalive_interval_of (peering_setup input (p, x))
       → IsFarConfigOf (setup_of input) config
   is_config routers peerings pointer sends receives opening said beat =
       let counts : HasFew input = few input accepted in

@@ -3,7 +3,7 @@
 ghost use Rattle.std.specs.Prelude.{ℕ, ◌≡◌, ◌<◌, length, IfOk};
 ghost use Rattle.tcp_seq.specs.declared.segment.Way.{Way};
 ghost use Rattle.link_bag.specs.Planned.{fate_of, fate_in};
-ghost use Rattle.lab_setup.specs.Setups.{setup_of, is_wide_at};
+ghost use Rattle.lab_setup.specs.Setups.{setup_of};
 ghost use Rattle.far_side.specs.Fars.{IsFarConfigOf};
 ghost use Rattle.node_configs.specs.Accepted.{IsAccepted};
 
@@ -11,7 +11,7 @@ use crate::counted::counts;
 use crate::says::says_of;
 use far_side::FarConfig;
 use graft_edge::{NoMemory, PeeringId, TryCopy};
-use lab_setup::{beat_of, is_wide};
+use lab_setup::{keepalive_interval_of, is_wide};
 use lab_tables::LabInput;
 use link_bag::Plan;
 use std::alloc::Global;
@@ -28,7 +28,6 @@ pub fn far_config(
     requires there { peering.0 < length input.now.peerings }
     ensures config { IfOk result (IsFarConfigOf (setup_of input.now)) }
     ensures peering { IfOk result (λ config. config.peering ≡ peering) }
-    ensures wide { IfOk result (λ config. config.wide ≡ is_wide_at input.now.peerings peering.0) }
     ensures plan { IfOk result (λ config. (way : Way) (segment : ℕ)
         → fate_in config.plan peering way segment ≡ fate_of input.now.faults peering way segment) }
 {
@@ -45,7 +44,6 @@ pub fn far_config(
         opening: there.opening.copy()?,
         says: says_of(alloc, &input.steps, wide, peering)?,
         plan: Plan::new(alloc, &input.faults)?,
-        wide,
-        beat: beat_of(there),
+        beat: keepalive_interval_of(there),
     })
 }

@@ -36,9 +36,9 @@ pub record Held (setup : Setup) (w : World) (p : ℕ) (peering : PeeringSetup) :
   pub known : placement setup w.operator p < routers_in setup
   pub elsewhere : (r : ℕ) → r < routers_in setup → r ≢ placement setup w.operator p → (w.router r).places p ≡ Vacant
   pub config : session.config ≡ peering.config
-  pub heard : session.heard ≡ heard (peering_of peering.config) session.story
+  pub adj_rib_in : session.adj_rib_in ≡ heard (peering_of peering.config) session.story
   pub reads : StoryReads (peering_of peering.config) (said_in_all setup p peering) session.story (state session)
-  pub told : (prefix : PrefixValue) → map.get session.told prefix
+  pub adj_rib_out : (prefix : PrefixValue) → map.get session.adj_rib_out prefix
       ≡ while_established (state session) (to_tell setup (placement setup w.operator p) (w.router (placement setup w.operator p)) session prefix)
 
 module _ (setup : Setup) (ok : IsSetup setup) (timer : HasNoTimer setup) (w : World) (reached : Reached setup w) (settled : IsSettled setup w)
@@ -87,11 +87,11 @@ module _ (setup : Setup) (ok : IsSetup setup) (timer : HasNoTimer setup) (w : Wo
     known = subst (InBounds setup) (quiet_phase setup w p has.phase has.session settled.quiet has.stands) has.stands.bounds;
     elsewhere = λ r l ne. (solves.elsewhere r l ne).0;
     config = config;
-    heard = unbroken.story.heard ∙ ap (λ (c : SessionConfig). heard (peering_of c) session.story) config;
+    adj_rib_in = unbroken.story.adj_rib_in ∙ ap (λ (c : SessionConfig). heard (peering_of c) session.story) config;
     reads = record {
       legal = legal;
       timeless = timeless own session.story (state session) (allowed_of own session.story (state session) legal) no_hold;
       all = record { rest = solves.got.rest; is = said ∙ solves.got.is; end = solves.got.end };
     };
-    told = solves.told;
+    adj_rib_out = solves.adj_rib_out;
   }

@@ -72,8 +72,8 @@ module _ (setup : Setup) (w v : World) (p : ℕ) (peering : PeeringSetup) (one :
       alike (peering_of peering.config) (said_in_all setup p peering) one.session.story other.session.story (state one.session) (state other.session)
       one.reads other.reads
 
-  same_heard : other.session.heard ≡ one.session.heard
-  same_heard = other.heard ∙ alike_there.heard ∙ sym one.heard
+  same_heard : other.session.adj_rib_in ≡ one.session.adj_rib_in
+  same_heard = other.adj_rib_in ∙ alike_there.adj_rib_in ∙ sym one.adj_rib_in
 
   same_config : other.session.config ≡ one.session.config
   same_config = other.config ∙ sym one.config
@@ -86,8 +86,9 @@ module _ (setup : Setup) (w v : World) (p : ℕ) (peering : PeeringSetup) (one :
 
   same_route : (r : ℕ) (prefix : PrefixValue) → session_route setup r other.session prefix ≡ session_route setup r one.session prefix
   same_route r prefix =
-      ap (λ (c : SessionConfig). route_by setup r c (got_open (peering_of other.session.config) other.session.story) other.session.heard prefix) same_config
-      ∙ ap (λ (o : Option open_type.OpenMsg). route_by setup r one.session.config o other.session.heard prefix) same_open
+      ap (λ (c : SessionConfig). route_by setup r c
+          (got_open (peering_of other.session.config) other.session.story) other.session.adj_rib_in prefix) same_config
+      ∙ ap (λ (o : Option open_type.OpenMsg). route_by setup r one.session.config o other.session.adj_rib_in prefix) same_open
       ∙ ap (λ (t : Routes). route_by setup r one.session.config (got_open (peering_of one.session.config) one.session.story) t prefix) same_heard
 
   abbrev routes_at : ℕ → PrefixValue → Place → List SessionRoute
@@ -113,14 +114,14 @@ module _ (setup : Setup) (w v : World) (p : ℕ) (peering : PeeringSetup) (one :
     there = other.here;
     placed = placed;
     states = alike_there.state;
-    heard = same_heard;
-    told = λ prefix.
-        other.told prefix
+    adj_rib_in = same_heard;
+    adj_rib_out = λ prefix.
+        other.adj_rib_out prefix
         ∙ ap (λ (s : SessionState). told_by setup prefix s other.session.config there (map.get (v.router there).best prefix)) alike_there.state
         ∙ ap (λ (c : SessionConfig). told_by setup prefix (state one.session) c there (map.get (v.router there).best prefix)) same_config
         ∙ ap (λ (q : ℕ). told_by setup prefix (state one.session) one.session.config q (map.get (v.router q).best prefix)) placed
         ∙ ap (λ (b : Option Best). told_by setup prefix (state one.session) one.session.config here b) (best here prefix one.known)
-        ∙ sym (one.told prefix);
+        ∙ sym (one.adj_rib_out prefix);
   }
 
 module _ (setup : Setup) (w v : World) (ok : IsSetup setup) (timer : HasNoTimer setup) (reached : Reached setup w) (reached_other : Reached setup v)

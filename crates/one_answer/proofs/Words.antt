@@ -11,7 +11,7 @@ use Rattle.tcp_seq.specs.declared.segment.Way.TheVariants.{Home, Remote}
 use Rattle.session_value.specs.Fronts.{AreFirst}
 use Rattle.session_value.proofs.Ties.{emits_same, takes_same}
 use Rattle.graft_model.specs.Points.{at}
-use Rattle.graft_model.specs.Setups.{Setup, PeeringSetup, SayStep, IsSetup, beat_of, group_of, groups_in}
+use Rattle.graft_model.specs.Setups.{Setup, PeeringSetup, SayStep, IsSetup, keepalive_interval_of, group_of, groups_in}
 use Rattle.graft_model.specs.Parts.{FarPart, OperatorPart, Outward, World}
 use Rattle.graft_model.specs.First.{first_world, first_far}
 use Rattle.graft_model.specs.FarRows.{FarTaken, OutwardIn, SayIn, FarSent, Says}
@@ -110,12 +110,14 @@ module _ (setup : Setup) (p : ℕ) (peering : PeeringSetup) where
           earlier = λ n other there before. ap (λ (f : ℕ → Bool). f n) issued ∙ is.earlier n other there (omega (arith, before, group));
         }
 
-    own_event : (event : FarEvent) → slice_get setup.peerings p ≡ Some peering → beat_of peering ≡ 0 → far_row setup p event (w.far p) taken sent part
+    own_event : (event : FarEvent) → slice_get setup.peerings p ≡ Some peering → keepalive_interval_of peering ≡ 0
+        → far_row setup p event (w.far p) taken sent part
         → Words v
     own_event (Say step) known still row = says_said step row
     own_event (Beat round) known still row =
-        let beat : beat_of peering ≡ row.beat = same_Some _ _ (sym (ap (option_map beat_of) known) ∙ row.is) in
-        absurd (omega (arith, row.some, beat, still))
+        let keepalive_interval : keepalive_interval_of peering ≡ row.keepalive_interval =
+            same_Some _ _ (sym (ap (option_map keepalive_interval_of) known) ∙ row.is) in
+        absurd (omega (arith, row.some, keepalive_interval, still))
     own_event (Send from len) known still row =
         silent (ap (λ (f : FarPart). f.end.stream) row.effect ∙ (emits_same (w.far p).end row.segment row.end row.emits.emits).stream) (takes_none row.takes)
     own_event (Take router) known still row = silent (ap (λ (f : FarPart). f.end.stream) row.effect) (takes_item router _ row.takes)
@@ -145,7 +147,8 @@ module _ (setup : Setup) (p : ℕ) (peering : PeeringSetup) where
       by_taken (Some (OutwardIn r item)) e = e
       by_taken (Some (SayIn step)) e = ap (λ (xs : List ℕ). xs ++ v.says p) (sym (none step)) ∙ e
 
-  by_far : (w v : World) (q : ℕ) (event : FarEvent) → slice_get setup.peerings p ≡ Some peering → beat_of peering ≡ 0 → FarStep setup q event w v → Words w
+  by_far : (w v : World) (q : ℕ) (event : FarEvent) → slice_get setup.peerings p ≡ Some peering → keepalive_interval_of peering ≡ 0
+      → FarStep setup q event w v → Words w
       → Words v
   by_far w v q event known still x is = elim (cases_eq q p) [
     | inl here ↦ own w v q event here x is
@@ -283,7 +286,8 @@ module _ (setup : Setup) (p : ℕ) (peering : PeeringSetup) where
 
   -- ---- runs
 
-  keeps_words : slice_get setup.peerings p ≡ Some peering → beat_of peering ≡ 0 → (event : Event) (w v : World) → Reached setup w → Step setup event w v
+  keeps_words : slice_get setup.peerings p ≡ Some peering → keepalive_interval_of peering ≡ 0 → (event : Event) (w v : World) → Reached setup w
+      → Step setup event w v
       → Words w → Words v
   keeps_words known still (ByRouter r event) w v reached x is = by_router w v r event x is
   keeps_words known still (ByFar q event) w v reached x is = by_far w v q event known still x is
@@ -296,11 +300,11 @@ module _ (setup : Setup) (p : ℕ) (peering : PeeringSetup) where
     earlier = λ n bytes there before. absurd (omega (arith, before));
   }
 
-  always_words : slice_get setup.peerings p ≡ Some peering → beat_of peering ≡ 0 → (w : World) → Reached setup w → Words w
+  always_words : slice_get setup.peerings p ≡ Some peering → keepalive_interval_of peering ≡ 0 → (w : World) → Reached setup w → Words w
   always_words known still w reached = carried setup Words (first_words known) (keeps_words known still) w reached
 
   -- What the remote has said are the first of its words.
-  pub begins_said : slice_get setup.peerings p ≡ Some peering → beat_of peering ≡ 0 → (w : World) → Reached setup w
+  pub begins_said : slice_get setup.peerings p ≡ Some peering → keepalive_interval_of peering ≡ 0 → (w : World) → Reached setup w
       → AreFirst (w.far p).end.stream (said_in_all setup p peering)
   begins_said known still w reached = record {
     rest = flat_map bytes_at (w.says p) ++ unsaid p w.operator.issued 0 setup.steps;
@@ -308,7 +312,8 @@ module _ (setup : Setup) (p : ℕ) (peering : PeeringSetup) where
   }
 
   -- In a settled world the remote has said all.
-  pub all_said : IsSetup setup → slice_get setup.peerings p ≡ Some peering → beat_of peering ≡ 0 → (w : World) → Reached setup w → IsSettled setup w
+  pub all_said : IsSetup setup → slice_get setup.peerings p ≡ Some peering → keepalive_interval_of peering ≡ 0 → (w : World) → Reached setup w
+      → IsSettled setup w
       → (w.far p).end.stream ≡ said_in_all setup p peering
   all_said ok known still w reached settled =
       let is = always_words known still w reached in

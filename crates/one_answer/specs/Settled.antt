@@ -8,7 +8,7 @@ use Rattle.bgp_types.specs.FirstFault.{message_of}
 use Rattle.bgp_types.specs.Prefixes.{PrefixValue}
 use Rattle.bgp_story.specs.Legal.{IsGot, open_in}
 use Rattle.session_value.specs.Sessions.{SessionValue, state}
-use Rattle.graft_model.specs.Setups.{Setup, PeeringSetup, beat_of, groups_in, said_by, routers_in, peerings_in}
+use Rattle.graft_model.specs.Setups.{Setup, PeeringSetup, keepalive_interval_of, groups_in, said_by, routers_in, peerings_in}
 use Rattle.graft_model.specs.Parts.{Live, World}
 use Rattle.graft_model.specs.OperatorRows.{placement}
 use Rattle.graft_model.specs.Quiet.{Quiet}
@@ -25,7 +25,7 @@ pub record HasNoTimer (setup : Setup) : Type 0 where
       → open_in (message_of (record { state = OpenSent; remote_as = peering.config.remote_as; offered = peering.config.offered; wide = false }) front)
       ≡ Some opened
       → min peering.config.home_hold opened.hold ≡ 0
-  pub beats : (p : ℕ) (peering : PeeringSetup) → slice_get setup.peerings p ≡ Some peering → beat_of peering ≡ 0
+  pub beats : (p : ℕ) (peering : PeeringSetup) → slice_get setup.peerings p ≡ Some peering → keepalive_interval_of peering ≡ 0
 
 -- the last group of the script is at its end
 pub record IsSettled (setup : Setup) (w : World) : Type 0 where
@@ -44,8 +44,8 @@ pub record HaveOneSession (setup : Setup) (w v : World) (p : ℕ) : Type 0 where
   pub there : (v.router (placement setup v.operator p)).places p ≡ Live other None
   pub placed : placement setup v.operator p ≡ placement setup w.operator p
   pub states : state other ≡ state one
-  pub heard : other.heard ≡ one.heard
-  pub told : (prefix : PrefixValue) → map.get other.told prefix ≡ map.get one.told prefix
+  pub adj_rib_in : other.adj_rib_in ≡ one.adj_rib_in
+  pub adj_rib_out : (prefix : PrefixValue) → map.get other.adj_rib_out prefix ≡ map.get one.adj_rib_out prefix
 
 -- Every router has the same best routes and was told the same, and every peering's session is the same but for its bytes.
 pub record HaveOneAnswer (setup : Setup) (w v : World) : Type 0 where

@@ -108,6 +108,6 @@ impl Operator {
     pub fn rest(&self) -> OperatorRest
         ensures { IsOperatorRest (operator_setup self.now) (operator_part self.now) result }
     {
-        self.progress.rest()
+        self.progress.outstanding()
     }
 }

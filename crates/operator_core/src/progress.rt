@@ -392,7 +392,7 @@ impl Progress {
     }
 
     /// Returns what is left to do.
-    pub(crate) fn rest(&self) -> OperatorRest
+    pub(crate) fn outstanding(&self) -> OperatorRest
         requires { ProgressInvariant self.now }
         ensures { IsOperatorRest self.now.known.setup (part_of_state (progress_state self.now)) result }
     {

@@ -9,7 +9,7 @@ use Rattle.link_bag.specs.Planned.{fate_in, fate_of}
 use Rattle.tcp_seq.specs.Endpoint.{Endpoint, next_length, again_length}
 use Rattle.tcp_seq.specs.declared.segment.Way.{Way}
 use Rattle.tcp_seq.specs.declared.segment.Way.TheVariants.{Home, Remote}
-use Rattle.graft_model.specs.Setups.{beat_of}
+use Rattle.graft_model.specs.Setups.{keepalive_interval_of}
 use Rattle.graft_model.specs.Parts.{FarPart}
 use Rattle.graft_model.specs.declared.event.FarEvent.{FarEvent}
 use Rattle.graft_model.specs.declared.event.FarEvent.TheVariants.{Send, Beat}
@@ -42,7 +42,7 @@ pub record FarAt (faults : List Fault) (n : ℕ) (f : Fields) : Type 0 where
   pub turns : f.turns ≡ n
   pub level : f.remote.at_turn ≡ f.remote.end.acked
   pub links : HasLinks f
-  pub beat : option_map beat_of (slice_get f.known.setup.peerings f.peering.0) ≡ Some f.beat
+  pub keepalive_interval : option_map keepalive_interval_of (slice_get f.known.setup.peerings f.peering.0) ≡ Some f.keepalive_interval
   pub fates : (way : Way) (segment : ℕ) → fate_in f.plan f.peering way segment ≡ fate_of faults f.peering way segment
 
 -- the plan's fates are those of the faults
@@ -83,7 +83,7 @@ beaten_acked a b events (inr h) = ap (λ (x : Fields). x.remote.end.acked) h.2
 
 module _ (keep : FarTurnsKeepLinks) (faults : List Fault) (a b c : Fields) (ds es : List (Deed Mail)) (took : TookFar a ds b) (turned : FarTurned b es c) (n : ℕ) (at : FarAt faults n a) where
   abbrev pub rest : List FarEvent
-  rest = again_events turned.reached ++ (turned.beats ++ (turned.fresh ++ answer_events turned.sent))
+  rest = again_events turned.reached ++ (turned.keepalives ++ (turned.fresh ++ answer_events turned.sent))
 
   abbrev pub turn : List FarEvent
   turn = home_events b.pointer.0 b.homeward.plans ++ (remote_events b.remoteward.plans ++ rest)
@@ -110,7 +110,7 @@ module _ (keep : FarTurnsKeepLinks) (faults : List Fault) (a b c : Fields) (ds e
 
   end_acked : c.remote.end.acked ≡ turned.reached.end.acked
   end_acked = ap (λ (x : Endpoint). x.acked) turned.end ∙ fresh_acked turned.beaten.remote.end turned.sent turned.fresh turned.is_fresh
-      ∙ beaten_acked turned.before turned.beaten turned.beats turned.is_beat
+      ∙ beaten_acked turned.before turned.beaten turned.keepalives turned.are_keepalives
       ∙ ap (λ (x : RemoteValue). x.end.acked) turned.is_before.0
 
   stood : AcksOrResends a.remote.end c.remote.end (length (again_events turned.reached))
@@ -120,10 +120,10 @@ module _ (keep : FarTurnsKeepLinks) (faults : List Fault) (a b c : Fields) (ds e
   -- the timer
   due : passes.IsDue turned.before → IsKeepaliveDue a.known.setup a.peering.0 (n + 1) (far_part b)
   due d = record {
-    beat = turned.before.beat;
-    is = at.beat ∙ ap (λ (k : ℕ). Some k) (sym (turned.is_before.2 ∙ took.beat));
+    keepalive_interval = turned.before.keepalive_interval;
+    is = at.keepalive_interval ∙ ap (λ (k : ℕ). Some k) (sym (turned.is_before.2 ∙ took.keepalive_interval));
     some = d.some;
-    multiple = subst (λ (k : ℕ). k % turned.before.beat ≡ 0) round_is d.multiple;
+    multiple = subst (λ (k : ℕ). k % turned.before.keepalive_interval ≡ 0) round_is d.multiple;
     later = omega (arith, d.later, turned.is_before.4, round_is);
     few = omega (arith, d.few, turned.is_before.3);
     fits = subst (λ (k : ℕ). k + 19 ≤ 2 ^ 20) stream_is d.room;
@@ -137,8 +137,8 @@ module _ (keep : FarTurnsKeepLinks) (faults : List Fault) (a b c : Fields) (ds e
 
   undue : IsKeepaliveDue a.known.setup a.peering.0 (n + 1) (far_part b) → passes.IsDue turned.before
   undue d = record {
-    some = omega (arith, d.some, beat_is);
-    multiple = subst (λ (k : ℕ). turned.before.turns % k ≡ 0) (sym beat_is) (subst (λ (k : ℕ). k % d.beat ≡ 0) (sym round_is) d.multiple);
+    some = omega (arith, d.some, interval_is);
+    multiple = subst (λ (k : ℕ). turned.before.turns % k ≡ 0) (sym interval_is) (subst (λ (k : ℕ). k % d.keepalive_interval ≡ 0) (sym round_is) d.multiple);
     later = omega (arith, d.later, turned.is_before.4, round_is);
     few = omega (arith, d.few, turned.is_before.3);
     room = subst (λ (k : ℕ). k + 19 ≤ 2 ^ 20) (sym stream_is) d.fits;
@@ -147,8 +147,8 @@ module _ (keep : FarTurnsKeepLinks) (faults : List Fault) (a b c : Fields) (ds e
       same : {x y : ℕ} → Some x ≡ Some y → x ≡ y
       same h = cc
 
-      beat_is : turned.before.beat ≡ d.beat
-      beat_is = turned.is_before.2 ∙ took.beat ∙ same (sym at.beat ∙ d.is)
+      interval_is : turned.before.keepalive_interval ≡ d.keepalive_interval
+      interval_is = turned.is_before.2 ∙ took.keepalive_interval ∙ same (sym at.keepalive_interval ∙ d.is)
 
       round_is : turned.before.turns ≡ n + 1
       round_is = omega (arith, turned.is_before.1, took.turns, at.turns)
@@ -156,8 +156,8 @@ module _ (keep : FarTurnsKeepLinks) (faults : List Fault) (a b c : Fields) (ds e
       stream_is : length turned.before.remote.end.stream ≡ length b.remote.end.stream
       stream_is = ap (λ (x : RemoteValue). length x.end.stream) turned.is_before.0 ∙ ap (λ (xs : List ℕ). length xs) turned.is_reached.stream
 
-  beats_due : BeatsIfDue a.known.setup a.peering.0 (n + 1) (far_part b) turned.beats
-  beats_due = elim (turned.is_beat) [
+  beats_due : BeatsIfDue a.known.setup a.peering.0 (n + 1) (far_part b) turned.keepalives
+  beats_due = elim (turned.are_keepalives) [
     | inl h ↦ inl (due h.0, h.1 ∙ ap (λ (k : ℕ). Beat k ∷ []) (let e : turned.before.turns ≡ n + 1 = omega (arith, turned.is_before.1, took.turns, at.turns) in e))
     | inr h ↦ inr (λ d. h.0 (undue d), h.1)
   ]
@@ -190,7 +190,7 @@ module _ (keep : FarTurnsKeepLinks) (faults : List Fault) (a b c : Fields) (ds e
   real_far = record {
     taken = took.events;
     again = again_events turned.reached;
-    beats = turned.beats;
+    keepalives = turned.keepalives;
     fresh = turned.fresh;
     answers = answer_events turned.sent;
     took = took.took;
@@ -204,7 +204,7 @@ module _ (keep : FarTurnsKeepLinks) (faults : List Fault) (a b c : Fields) (ds e
     takes = took.goes;
     delivers = delivers;
     resends = piece FarRetransmits turned.delivered turned.resent (again_events turned.reached) turned.resends;
-    says = piece SendsNone turned.resent turned.said turned.beats turned.says;
+    says = piece SendsNone turned.resent turned.said turned.keepalives turned.says;
     sends = piece SendsNew turned.said turned.level turned.fresh turned.sends;
     replies = piece SendsAnswer turned.level (far_part c) (answer_events turned.sent) turned.answers;
     due = beats_due;
@@ -231,8 +231,8 @@ module _ (keep : FarTurnsKeepLinks) (faults : List Fault) (a b c : Fields) (ds e
       );
       remoteward = ((keep b c es turned).1.way ∙ took.link.way ∙ at.links.remoteward.0, (keep b c es turned).1.peering ∙ took.link.peering ∙ at.links.remoteward.1 ∙ own);
     };
-    beat = (λ i. option_map beat_of (slice_get (setup_is i).peerings (peering_is i).0)) ∙ at.beat
-        ∙ ap (λ (k : ℕ). Some k) (sym (ap (λ (x : Fields). x.beat) turned.same ∙ took.beat));
+    keepalive_interval = (λ i. option_map keepalive_interval_of (slice_get (setup_is i).peerings (peering_is i).0)) ∙ at.keepalive_interval
+        ∙ ap (λ (k : ℕ). Some k) (sym (ap (λ (x : Fields). x.keepalive_interval) turned.same ∙ took.keepalive_interval));
     fates = λ way segment. (λ i. fate_in (plan_is i) (peering_is i) way segment) ∙ at.fates way segment ∙ (λ i. fate_of faults (sym peering_is i) way segment);
   }
     where

@@ -94,7 +94,7 @@ pub record TookFar (a : Fields) (ds : List (Deed Mail)) (b : Fields) : Type 0 wh
   pub emitted : b.remote.end.emitted ≡ a.remote.end.emitted
   pub at_turn : b.remote.at_turn ≡ a.remote.at_turn
   pub turns : b.turns ≡ a.turns
-  pub beat : b.beat ≡ a.beat
+  pub keepalive_interval : b.keepalive_interval ≡ a.keepalive_interval
   pub plan : b.plan ≡ a.plan
 
 pub far_none : (a : Fields) → TookFar a [] a
@@ -114,7 +114,7 @@ far_none a = record {
   emitted = refl;
   at_turn = refl;
   turns = refl;
-  beat = refl;
+  keepalive_interval = refl;
   plan = refl;
 }
 
@@ -166,7 +166,7 @@ one_more a b from item d links took first act kept =
       emitted = ap (λ x. x.end.emitted) took.remote;
       at_turn = ap (λ x. x.at_turn) took.remote;
       turns = ap (λ (x : Fields). x.turns) took.same;
-      beat = ap (λ (x : Fields). x.beat) took.same;
+      keepalive_interval = ap (λ (x : Fields). x.keepalive_interval) took.same;
       plan = ap (λ (x : Fields). x.plan) took.same;
     }
 
@@ -208,7 +208,7 @@ far_then a b c ds es x y = record {
   emitted = y.emitted ∙ x.emitted;
   at_turn = y.at_turn ∙ x.at_turn;
   turns = y.turns ∙ x.turns;
-  beat = y.beat ∙ x.beat;
+  keepalive_interval = y.keepalive_interval ∙ x.keepalive_interval;
   plan = y.plan ∙ x.plan;
 }
   where

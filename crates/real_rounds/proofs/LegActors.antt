@@ -18,7 +18,7 @@ use Rattle.graft_model.specs.Codes.{router_code, far_code, operator_code}
 use Rattle.graft_model.specs.First.{place_in, first_router, first_far}
 use Rattle.graft_model.specs.Parts as model
 use Rattle.graft_model.specs.Parts.{World, RouterPart, FarPart, OperatorPart}
-use Rattle.graft_model.specs.Setups.{Setup, PeeringSetup, beat_of, routers_in, peerings_in}
+use Rattle.graft_model.specs.Setups.{Setup, PeeringSetup, keepalive_interval_of, routers_in, peerings_in}
 use Rattle.graft_model.specs.declared.event.FarEvent.{FarEvent}
 use Rattle.graft_actors.specs.Actors as names
 use Rattle.graft_actors.specs.Actors.{RouterIs, FarIs, OperatorIs}
@@ -276,7 +276,7 @@ module _ (law : CallsSay) (setup : Setup) (faults : List Fault) (a b : Stand) (b
         turns = new.turns;
         level = new.at_turn ∙ sym (ap (λ (part : FarPart). part.end.acked) (far_is (ap (λ (o : OwnPart). o.part) own_first)));
         links = new.links;
-        beat = (λ i. option_map beat_of (slice_get (own_first i).setup.peerings x.fields.peering.0)) ∙ new.beat;
+        keepalive_interval = (λ i. option_map keepalive_interval_of (slice_get (own_first i).setup.peerings x.fields.peering.0)) ∙ new.keepalive_interval;
         fates = new.fates;
       }
     where

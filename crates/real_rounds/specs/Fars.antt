@@ -6,7 +6,7 @@ use Rattle.link_bag.specs.declared.plan.Fate.{Fate}
 use Rattle.link_bag.specs.Planned.{fate_of}
 use Rattle.tcp_seq.specs.declared.segment.Way.{Way}
 use Rattle.tcp_seq.specs.declared.segment.Way.TheVariants.{Home, Remote}
-use Rattle.graft_model.specs.Setups.{Setup, beat_of}
+use Rattle.graft_model.specs.Setups.{Setup, keepalive_interval_of}
 use Rattle.graft_model.specs.Parts.{FarPart}
 use Rattle.graft_model.specs.declared.event.FarEvent.{FarEvent}
 use Rattle.graft_model.specs.declared.event.FarEvent.TheVariants.{Say, Take, Point, Beat}
@@ -62,12 +62,12 @@ PointAt router plans = AllByRecursion (λ x. x.pointed.0 ≡ router) plans
 
 -- A KEEPALIVE of the remote is due in this round, and there is room for it.
 pub record IsKeepaliveDue (setup : Setup) (p round : ℕ) (part : FarPart) : Type 0 where
-  pub beat : ℕ
-  pub is : option_map beat_of (slice_get setup.peerings p) ≡ Some beat
-  pub some : 0 < beat
-  pub multiple : round % beat ≡ 0
-  pub later : part.last_beat < round
-  pub few : part.beats < 27594
+  pub keepalive_interval : ℕ
+  pub is : option_map keepalive_interval_of (slice_get setup.peerings p) ≡ Some keepalive_interval
+  pub some : 0 < keepalive_interval
+  pub multiple : round % keepalive_interval ≡ 0
+  pub later : part.last_keepalive < round
+  pub few : part.keepalives < 27594
   pub fits : length part.end.stream + 19 ≤ 2 ^ 20
 
 -- the remote says one exactly if it is due
@@ -82,13 +82,13 @@ BeatsIfDue setup p round part events = (IsKeepaliveDue setup p round part × (ev
 pub record RealFar (setup : Setup) (faults : List Fault) (p round : ℕ) (start : FarPart) (before : Links) (events : List FarEvent) (end : FarPart) (after : Links) : Type 0 where
   pub taken : List FarEvent
   pub again : List FarEvent
-  pub beats : List FarEvent
+  pub keepalives : List FarEvent
   pub fresh : List FarEvent
   pub answers : List FarEvent
   -- segments that were taken in are put into the link to the remote before the turn, and those that the remote sends into the link to home during it
   pub took : List InLink
   pub sent : List InLink
-  pub is : events ≡ taken ++ (home_events end.pointer before.home.plans ++ (remote_events (before.remote.plans ++ took) ++ (again ++ (beats ++ (fresh ++ answers)))))
+  pub is : events ≡ taken ++ (home_events end.pointer before.home.plans ++ (remote_events (before.remote.plans ++ took) ++ (again ++ (keepalives ++ (fresh ++ answers)))))
   -- the parts after its takes, and after each piece of its turn
   pub turning : FarPart
   pub delivered : FarPart
@@ -98,10 +98,10 @@ pub record RealFar (setup : Setup) (faults : List Fault) (p round : ℕ) (start 
   pub takes : FarGoes setup p IsFarTake start taken turning
   pub delivers : FarGoes setup p SendsNone turning (home_events end.pointer before.home.plans ++ remote_events (before.remote.plans ++ took)) delivered
   pub resends : FarGoes setup p FarRetransmits delivered again resent
-  pub says : FarGoes setup p SendsNone resent beats said
+  pub says : FarGoes setup p SendsNone resent keepalives said
   pub sends : FarGoes setup p SendsNew said fresh level
   pub replies : FarGoes setup p SendsAnswer level answers end
-  pub due : BeatsIfDue setup p round turning beats
+  pub due : BeatsIfDue setup p round turning keepalives
   pub rested : IsRested end.end
   pub few : length again ≤ 1
   pub goes_on : AcksOrResends start.end end.end (length again)

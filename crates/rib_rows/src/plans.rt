@@ -37,8 +37,8 @@ fn written(
         local_address: 0xC000_0206,
         export: None,
     };
-    let told = AdjRib::new(alloc);
-    let batches = plan(alloc, rib, due, &told, &view, false)?;
+    let adj_rib_out = AdjRib::new(alloc);
+    let batches = plan(alloc, rib, due, &adj_rib_out, &view, false)?;
     if batches.len() != 1 {
         return Ok(None);
     }

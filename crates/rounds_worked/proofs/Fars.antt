@@ -34,7 +34,7 @@ pub far_of : (setup : Setup) (faults : List Fault) (p round : ℕ) (start : FarP
 far_of setup faults p round start before events end after b = record {
   taken = b.taken;
   again = b.again;
-  beats = b.beats;
+  keepalives = b.keepalives;
   fresh = b.fresh;
   answers = b.answers;
   took = b.took;
@@ -67,7 +67,7 @@ pub of_far : (but : FarField) (setup : Setup) (faults : List Fault) (p round : �
 of_far but setup faults p round start before events end after h = record {
   taken = h.taken;
   again = h.again;
-  beats = h.beats;
+  keepalives = h.keepalives;
   fresh = h.fresh;
   answers = h.answers;
   took = h.took;
@@ -107,26 +107,26 @@ none_took faults p from (x ∷ took) are = let e = are.fates in absurd cc
 
 never_due : (round : ℕ) (part : FarPart) → IsKeepaliveDue base 0 round part → ⊥
 never_due round part due =
-    let none : ◌≡◌ {A = ℕ} 0 due.beat = ap (λ o. unwrap_or o 0) due.is in
+    let none : ◌≡◌ {A = ℕ} 0 due.keepalive_interval = ap (λ o. unwrap_or o 0) due.is in
     let some = due.some in absurd (omega (arith, none, some))
 
 -- the first segment is an old slice, a new one, or an owed answer
 abbrev SendsAny : FarPart → FarEvent → Type 0
 SendsAny part x = FarRetransmits part x ⊎ (SendsNew part x ⊎ SendsAnswer part x)
 
-no_beat : (round : ℕ) (part : FarPart) (y : FarEvent) (beats : List FarEvent) → fars.BeatsIfDue base 0 round part (y ∷ beats) → ⊥
-no_beat round part y beats (inl due) = never_due round part due.0
-no_beat round part y beats (inr none) = let e : y ∷ beats ≡ [] = none.1 in absurd cc
+no_beat : (round : ℕ) (part : FarPart) (y : FarEvent) (keepalives : List FarEvent) → fars.BeatsIfDue base 0 round part (y ∷ keepalives) → ⊥
+no_beat round part y keepalives (inl due) = never_due round part due.0
+no_beat round part y keepalives (inr none) = let e : y ∷ keepalives ≡ [] = none.1 in absurd cc
 
-turn_from : (round : ℕ) (x : FarEvent) (start turning delivered resent said level end : FarPart) (xs again beats fresh answers : List FarEvent)
-    → x ∷ xs ≡ again ++ (beats ++ (fresh ++ answers))
-    → fars.BeatsIfDue base 0 round turning beats → turning ≡ start → delivered ≡ turning → FarGoes base 0 FarRetransmits delivered again resent
-    → FarGoes base 0 SendsNone resent beats said
+turn_from : (round : ℕ) (x : FarEvent) (start turning delivered resent said level end : FarPart) (xs again keepalives fresh answers : List FarEvent)
+    → x ∷ xs ≡ again ++ (keepalives ++ (fresh ++ answers))
+    → fars.BeatsIfDue base 0 round turning keepalives → turning ≡ start → delivered ≡ turning → FarGoes base 0 FarRetransmits delivered again resent
+    → FarGoes base 0 SendsNone resent keepalives said
     → FarGoes base 0 SendsNew said fresh level → FarGoes base 0 SendsAnswer level answers end → SendsAny start x
-turn_from round x start turning delivered resent said level end xs (y ∷ again) beats fresh answers e due takes delivers resends says sends replies =
+turn_from round x start turning delivered resent said level end xs (y ∷ again) keepalives fresh answers e due takes delivers resends says sends replies =
     inl (subst (FarRetransmits start) (sym (heads _ _ _ _ e)) (subst (λ part. FarRetransmits part y) (delivers ∙ takes) resends.4))
-turn_from round x start turning delivered resent said level end xs [] (y ∷ beats) fresh answers e due takes delivers resends says sends replies = absurd
-    (no_beat round turning y beats due)
+turn_from round x start turning delivered resent said level end xs [] (y ∷ keepalives) fresh answers e due takes delivers resends says sends replies = absurd
+    (no_beat round turning y keepalives due)
 turn_from round x start turning delivered resent said level end xs [] [] (y ∷ fresh) answers e due takes delivers resends says sends replies =
     inr (inl (subst (SendsNew start) (sym (heads _ _ _ _ e)) (subst (λ part. SendsNew part y) (says ∙ (resends ∙ (delivers ∙ takes))) sends.4)))
 turn_from round x start turning delivered resent said level end xs [] [] [] (y ∷ answers) e due takes delivers resends says sends replies =
@@ -134,44 +134,45 @@ turn_from round x start turning delivered resent said level end xs [] [] [] (y �
     replies.4)))
 turn_from round x start turning delivered resent said level end xs [] [] [] [] e due takes delivers resends says sends replies = absurd cc
 
-first_from : (pointer round from len : ℕ) (start turning delivered resent said level end : FarPart) (xs taken again beats fresh answers : List FarEvent)
+first_from : (pointer round from len : ℕ) (start turning delivered resent said level end : FarPart) (xs taken again keepalives fresh answers : List FarEvent)
     (took : List InLink)
-    → Send from len ∷ xs ≡ taken ++ (home_events pointer [] ++ (remote_events ([] ++ took) ++ (again ++ (beats ++ (fresh ++ answers)))))
-    → ArePut [] 0 way.Remote 0 (length (filter is_take taken)) took → fars.BeatsIfDue base 0 round turning beats
+    → Send from len ∷ xs ≡ taken ++ (home_events pointer [] ++ (remote_events ([] ++ took) ++ (again ++ (keepalives ++ (fresh ++ answers)))))
+    → ArePut [] 0 way.Remote 0 (length (filter is_take taken)) took → fars.BeatsIfDue base 0 round turning keepalives
     → FarGoes base 0 fars.IsFarTake start taken turning → FarGoes base 0 SendsNone turning (home_events pointer [] ++ remote_events ([] ++ took)) delivered
     → FarGoes base 0 FarRetransmits delivered again resent
-    → FarGoes base 0 SendsNone resent beats said → FarGoes base 0 SendsNew said fresh level → FarGoes base 0 SendsAnswer level answers end
+    → FarGoes base 0 SendsNone resent keepalives said → FarGoes base 0 SendsNew said fresh level → FarGoes base 0 SendsAnswer level answers end
     → SendsAny start (Send from len)
-first_from pointer round from len start turning delivered resent said level end xs (y ∷ taken) again beats fresh answers took e are due takes delivers
+first_from pointer round from len start turning delivered resent said level end xs (y ∷ taken) again keepalives fresh answers took e are due takes delivers
     resends says sends replies =
     absurd (subst (fars.IsFarTake start) (sym (heads _ _ _ _ e)) takes.4)
-first_from pointer round from len start turning delivered resent said level end xs [] again beats fresh answers (y ∷ took) e are due takes delivers resends
+first_from pointer round from len start turning delivered resent said level end xs [] again keepalives fresh answers (y ∷ took) e are due takes delivers resends
     says sends replies =
     absurd (not_empty y took (none_took [] 0 0 (y ∷ took) are))
-first_from pointer round from len start turning delivered resent said level end xs [] again beats fresh answers [] e are due takes delivers resends says
+first_from pointer round from len start turning delivered resent said level end xs [] again keepalives fresh answers [] e are due takes delivers resends says
     sends replies =
-    turn_from round (Send from len) start turning delivered resent said level end xs again beats fresh answers e due takes delivers resends says sends replies
+    turn_from round (Send from len) start turning delivered resent said level end xs again keepalives fresh answers
+        e due takes delivers resends says sends replies
 
 first_is : (round from len : ℕ) (start end : FarPart) (xs : List FarEvent) (after : Links)
     → RealFar base [] 0 round start empty_links (Send from len ∷ xs) end after → SendsAny start (Send from len)
 first_is round from len start end xs after h = first_from end.pointer round from len start h.turning h.delivered h.resent h.said h.level end xs h.taken
-    h.again h.beats h.fresh h.answers h.took
+    h.again h.keepalives h.fresh h.answers h.took
     h.is h.are_taken h.due h.takes h.delivers h.resends h.says h.sends h.replies
 
 -- where nothing happens, nothing is taken or sent again, and the remote says nothing by its timer
-nothing_from : (setup : Setup) (pointer : ℕ) (start turning : FarPart) (taken again beats fresh answers : List FarEvent) (took : List InLink)
-    → [] ≡ taken ++ (home_events pointer [] ++ (remote_events ([] ++ took) ++ (again ++ (beats ++ (fresh ++ answers)))))
+nothing_from : (setup : Setup) (pointer : ℕ) (start turning : FarPart) (taken again keepalives fresh answers : List FarEvent) (took : List InLink)
+    → [] ≡ taken ++ (home_events pointer [] ++ (remote_events ([] ++ took) ++ (again ++ (keepalives ++ (fresh ++ answers)))))
     → ArePut [] 0 way.Remote 0 (length (filter is_take taken)) took → FarGoes setup 0 fars.IsFarTake start taken turning → (took ≡ []) × (again ≡ [])
-    × (beats ≡ []) × (turning ≡ start)
-nothing_from setup pointer start turning (y ∷ taken) again beats fresh answers took e are takes = absurd cc
-nothing_from setup pointer start turning [] again beats fresh answers (y ∷ took) e are takes = absurd (not_empty y took (none_took [] 0 0 (y ∷ took) are))
-nothing_from setup pointer start turning [] (y ∷ again) beats fresh answers [] e are takes = absurd cc
-nothing_from setup pointer start turning [] [] (y ∷ beats) fresh answers [] e are takes = absurd cc
+    × (keepalives ≡ []) × (turning ≡ start)
+nothing_from setup pointer start turning (y ∷ taken) again keepalives fresh answers took e are takes = absurd cc
+nothing_from setup pointer start turning [] again keepalives fresh answers (y ∷ took) e are takes = absurd (not_empty y took (none_took [] 0 0 (y ∷ took) are))
+nothing_from setup pointer start turning [] (y ∷ again) keepalives fresh answers [] e are takes = absurd cc
+nothing_from setup pointer start turning [] [] (y ∷ keepalives) fresh answers [] e are takes = absurd cc
 nothing_from setup pointer start turning [] [] [] fresh answers [] e are takes = (refl, refl, refl, takes)
 
 nothing_is : (setup : Setup) (round : ℕ) (start end : FarPart) (after : Links) (h : RealFar setup [] 0 round start empty_links [] end after)
-    → (h.took ≡ []) × (h.again ≡ []) × (h.beats ≡ []) × (h.turning ≡ start)
-nothing_is setup round start end after h = nothing_from setup end.pointer start h.turning h.taken h.again h.beats h.fresh h.answers h.took h.is h.are_taken
+    → (h.took ≡ []) × (h.again ≡ []) × (h.keepalives ≡ []) × (h.turning ≡ start)
+nothing_is setup round start end after h = nothing_from setup end.pointer start h.turning h.taken h.again h.keepalives h.fresh h.answers h.took h.is h.are_taken
     h.takes
 
 -- what lies in the link to home at the end, where nothing lay there at the start
@@ -202,7 +203,7 @@ plain but setup round start events end after resent level again fresh answers se
     record {
       taken = [];
       again = again;
-      beats = [];
+      keepalives = [];
       fresh = fresh;
       answers = answers;
       took = [];
@@ -369,7 +370,7 @@ not_sent_again = (
 -- ---- the timer
 
 is_due : IsKeepaliveDue beating 0 30 idle_far
-is_due = record { beat = 30; is = refl; some = lit< tt; multiple = refl; later = lit< tt; few = lit< tt; fits = lit≤ tt }
+is_due = record { keepalive_interval = 30; is = refl; some = lit< tt; multiple = refl; later = lit< tt; few = lit< tt; fits = lit≤ tt }
 
 nothing_said : fars.BeatsIfDue beating 0 30 idle_far [] → ⊥
 nothing_said (inl due) = let e = due.1 in absurd cc
@@ -378,7 +379,7 @@ nothing_said (inr none) = none.0 is_due
 no_keepalive : RealFar beating [] 0 30 idle_far empty_links [] idle_far empty_links → ⊥
 no_keepalive h =
     let n = nothing_is beating 30 idle_far idle_far empty_links h in
-    nothing_said (subst (fars.BeatsIfDue beating 0 30 idle_far) n.2 (subst (λ part. fars.BeatsIfDue beating 0 30 part h.beats) n.3 h.due))
+    nothing_said (subst (fars.BeatsIfDue beating 0 30 idle_far) n.2 (subst (λ part. fars.BeatsIfDue beating 0 30 part h.keepalives) n.3 h.due))
 
 pub keepalive_unsaid : FalseAloneInFar Due beating 30 idle_far empty_links [] idle_far empty_links
 keepalive_unsaid = (
@@ -457,7 +458,7 @@ delivers_nothing = (
   record {
     taken = [];
     again = [];
-    beats = [];
+    keepalives = [];
     fresh = [];
     answers = [];
     took = [];
@@ -504,24 +505,26 @@ passes_one (x ∷ []) rest are e = loss_or_reach (heads _ _ _ _ (e ∙ ap (λ (t
     × ℕ). (remote_act 0 (act_of t.0 t.1) ++ []) ++ rest) (heads _ _ _ _ are.fates)))
 passes_one (x ∷ y ∷ took) rest are e = let none = tails _ _ _ _ are.fates in absurd cc
 
-lost_from : (pointer : ℕ) (turning delivered resent said level end : FarPart) (taken again beats fresh answers : List FarEvent) (took : List InLink)
-    → a_take ∷ a_loss ∷ [] ≡ taken ++ (home_events pointer [] ++ (remote_events ([] ++ took) ++ (again ++ (beats ++ (fresh ++ answers)))))
-    → ArePut [] 0 way.Remote 0 (length (filter is_take taken)) took → fars.BeatsIfDue base 0 1 turning beats
+lost_from : (pointer : ℕ) (turning delivered resent said level end : FarPart) (taken again keepalives fresh answers : List FarEvent) (took : List InLink)
+    → a_take ∷ a_loss ∷ [] ≡ taken ++ (home_events pointer [] ++ (remote_events ([] ++ took) ++ (again ++ (keepalives ++ (fresh ++ answers)))))
+    → ArePut [] 0 way.Remote 0 (length (filter is_take taken)) took → fars.BeatsIfDue base 0 1 turning keepalives
     → FarGoes base 0 fars.IsFarTake idle_far taken turning → FarGoes base 0 SendsNone turning (home_events pointer [] ++ remote_events ([] ++ took)) delivered
     → FarGoes base 0 FarRetransmits delivered again resent
-    → FarGoes base 0 SendsNone resent beats said → FarGoes base 0 SendsNew said fresh level → FarGoes base 0 SendsAnswer level answers end → ⊥
-lost_from pointer turning delivered resent said level end [] again beats fresh answers (y ∷ took) e are due takes delivers resends says sends replies =
+    → FarGoes base 0 SendsNone resent keepalives said → FarGoes base 0 SendsNew said fresh level → FarGoes base 0 SendsAnswer level answers end → ⊥
+lost_from pointer turning delivered resent said level end [] again keepalives fresh answers (y ∷ took) e are due takes delivers resends says sends replies =
     not_empty y took (none_took [] 0 0 (y ∷ took) are)
-lost_from pointer turning delivered resent said level end [] again beats fresh answers [] e are due takes delivers resends says sends replies =
-    not_of_turn (turn_from 1 a_take idle_far turning delivered resent said level end (a_loss ∷ []) again beats fresh answers e due takes delivers resends
+lost_from pointer turning delivered resent said level end [] again keepalives fresh answers [] e are due takes delivers resends says sends replies =
+    not_of_turn (turn_from 1 a_take idle_far turning delivered resent said level end (a_loss ∷ []) again keepalives fresh answers e due takes delivers resends
     says sends replies)
-lost_from pointer turning delivered resent said level end (y ∷ []) again beats fresh answers took e are due takes delivers resends says sends replies =
+lost_from pointer turning delivered resent said level end (y ∷ []) again keepalives fresh answers took e are due takes delivers resends says sends replies =
     passes_one took _ (subst (λ x. ArePut [] 0 way.Remote 0 (length (filter is_take (x ∷ []))) took) (sym (heads _ _ _ _ e)) are) (tails _ _ _ _ e)
-lost_from pointer turning delivered resent said level end (y ∷ z ∷ taken) again beats fresh answers took e are due takes delivers resends says sends replies =
+lost_from pointer turning delivered resent said level end
+    (y ∷ z ∷ taken) again keepalives fresh answers took e are due takes delivers resends says sends replies =
     subst (fars.IsFarTake takes.2) (sym (heads _ _ _ _ (tails _ _ _ _ e))) takes.5.4
 
 lost_unplanned : RealFar base [] 0 1 idle_far empty_links (a_take ∷ a_loss ∷ []) idle_far one_taken → ⊥
-lost_unplanned h = lost_from 0 h.turning h.delivered h.resent h.said h.level idle_far h.taken h.again h.beats h.fresh h.answers h.took h.is h.are_taken h.due
+lost_unplanned h =
+    lost_from 0 h.turning h.delivered h.resent h.said h.level idle_far h.taken h.again h.keepalives h.fresh h.answers h.took h.is h.are_taken h.due
     h.takes h.delivers h.resends h.says h.sends h.replies
 
 takes_one : FarGoes base 0 fars.IsFarTake idle_far (a_take ∷ []) with_taken
@@ -535,7 +538,7 @@ lost_by_no_fault = (
   record {
     taken = a_take ∷ [];
     again = [];
-    beats = [];
+    keepalives = [];
     fresh = [];
     answers = [];
     took = put_now fate.Lose 0 ∷ [];
@@ -577,27 +580,29 @@ both [] ys of_xs of_ys = of_ys
 both (x ∷ xs) ys of_xs of_ys = (of_xs.0, both xs ys of_xs.1 of_ys)
 
 -- no event of a turn is one that the operator or a router has a far side make
-turn_without : (turning delivered resent said level end : FarPart) (again beats fresh answers events : List FarEvent)
-    → events ≡ again ++ (beats ++ (fresh ++ answers)) → fars.BeatsIfDue base 0 1 turning beats
+turn_without : (turning delivered resent said level end : FarPart) (again keepalives fresh answers events : List FarEvent)
+    → events ≡ again ++ (keepalives ++ (fresh ++ answers)) → fars.BeatsIfDue base 0 1 turning keepalives
     → FarGoes base 0 FarRetransmits delivered again resent → FarGoes base 0 SendsNew said fresh level → FarGoes base 0 SendsAnswer level answers end
     → AllByRecursion (λ y. y ≢ a_point) events
-turn_without turning delivered resent said level end again (y ∷ beats) fresh answers events e due resends sends replies = absurd (no_beat 1 turning y beats due)
+turn_without turning delivered resent said level end again (y ∷ keepalives) fresh answers events e due resends sends replies =
+    absurd (no_beat 1 turning y keepalives due)
 turn_without turning delivered resent said level end again [] fresh answers events e due resends sends replies = subst (AllByRecursion (λ y. y ≢ a_point))
     (sym e)
     (both again (fresh ++ answers) (none_is a_point FarRetransmits (λ part x. x) delivered resent again resends)
     (both fresh answers (none_is a_point SendsNew (λ part x. x) said level fresh sends) (none_is a_point SendsAnswer (λ part x. x) level end answers replies)))
 
-point_from : (pointer : ℕ) (turning delivered resent said level last : FarPart) (taken again beats fresh answers : List FarEvent) (took : List InLink)
-    → both_octets ∷ a_point ∷ [] ≡ taken ++ (home_events pointer [] ++ (remote_events ([] ++ took) ++ (again ++ (beats ++ (fresh ++ answers)))))
-    → ArePut [] 0 way.Remote 0 (length (filter is_take taken)) took → fars.BeatsIfDue base 0 1 turning beats
+point_from : (pointer : ℕ) (turning delivered resent said level last : FarPart) (taken again keepalives fresh answers : List FarEvent) (took : List InLink)
+    → both_octets ∷ a_point ∷ [] ≡ taken ++ (home_events pointer [] ++ (remote_events ([] ++ took) ++ (again ++ (keepalives ++ (fresh ++ answers)))))
+    → ArePut [] 0 way.Remote 0 (length (filter is_take taken)) took → fars.BeatsIfDue base 0 1 turning keepalives
     → FarGoes base 0 fars.IsFarTake (saying 0) taken turning → FarGoes base 0 FarRetransmits delivered again resent → FarGoes base 0 SendsNew said fresh level
     → FarGoes base 0 SendsAnswer level answers last → ⊥
-point_from pointer turning delivered resent said level last (y ∷ taken) again beats fresh answers took e are due takes resends sends replies = subst
+point_from pointer turning delivered resent said level last (y ∷ taken) again keepalives fresh answers took e are due takes resends sends replies = subst
     (fars.IsFarTake (saying 0)) (sym (heads _ _ _ _ e)) takes.4
-point_from pointer turning delivered resent said level last [] again beats fresh answers (y ∷ took) e are due takes resends sends replies = not_empty y took
+point_from pointer turning delivered resent said level last [] again keepalives fresh answers (y ∷ took) e are due takes resends sends replies =
+    not_empty y took
     (none_took [] 0 0 (y ∷ took) are)
-point_from pointer turning delivered resent said level last [] again beats fresh answers [] e are due takes resends sends replies =
-    (turn_without turning delivered resent said level last again beats fresh answers (both_octets ∷ a_point ∷ []) e due resends sends replies).1.0 refl
+point_from pointer turning delivered resent said level last [] again keepalives fresh answers [] e are due takes resends sends replies =
+    (turn_without turning delivered resent said level last again keepalives fresh answers (both_octets ∷ a_point ∷ []) e due resends sends replies).1.0 refl
 
 -- both octets are sent, and put into no link
 pub sent_among_takes : FalseAloneInFar Takes base 1 (saying 0) empty_links (both_octets ∷ a_point ∷ []) (saying 2) empty_links
@@ -605,7 +610,7 @@ sent_among_takes = (
   record {
     taken = both_octets ∷ a_point ∷ [];
     again = [];
-    beats = [];
+    keepalives = [];
     fresh = [];
     answers = [];
     took = [];
@@ -631,7 +636,8 @@ sent_among_takes = (
     home = λ other. refl;
     remote = λ other. refl;
   },
-  λ h. point_from 0 h.turning h.delivered h.resent h.said h.level (saying 2) h.taken h.again h.beats h.fresh h.answers h.took h.is h.are_taken h.due h.takes
+  λ h. point_from 0 h.turning h.delivered h.resent h.said h.level
+      (saying 2) h.taken h.again h.keepalives h.fresh h.answers h.took h.is h.are_taken h.due h.takes
       h.resends h.sends h.replies,
 )
 
@@ -643,26 +649,27 @@ no_less n e = absurd (omega (arith, e))
 no_events : (y : FarEvent) (events : List FarEvent) → [] ≡ y ∷ events → ⊥
 no_events y events e = cc
 
-said_from : (pointer : ℕ) (turning delivered resent said level : FarPart) (taken again beats fresh answers : List FarEvent) (took : List InLink)
-    → a_beat ∷ [] ≡ taken ++ (home_events pointer [] ++ (remote_events ([] ++ took) ++ (again ++ (beats ++ (fresh ++ answers)))))
+said_from : (pointer : ℕ) (turning delivered resent said level : FarPart) (taken again keepalives fresh answers : List FarEvent) (took : List InLink)
+    → a_beat ∷ [] ≡ taken ++ (home_events pointer [] ++ (remote_events ([] ++ took) ++ (again ++ (keepalives ++ (fresh ++ answers)))))
     → ArePut [] 0 way.Remote 0 (length (filter is_take taken)) took → FarGoes beating 0 fars.IsFarTake idle_far taken turning
     → FarGoes beating 0 FarRetransmits delivered again resent
-    → FarGoes beating 0 SendsNone resent beats said → FarGoes beating 0 SendsNew said fresh level → FarGoes beating 0 SendsAnswer level answers idle_far → ⊥
-said_from pointer turning delivered resent said level (y ∷ taken) again beats fresh answers took e are takes resends says sends replies = subst
+    → FarGoes beating 0 SendsNone resent keepalives said → FarGoes beating 0 SendsNew said fresh level
+    → FarGoes beating 0 SendsAnswer level answers idle_far → ⊥
+said_from pointer turning delivered resent said level (y ∷ taken) again keepalives fresh answers took e are takes resends says sends replies = subst
     (fars.IsFarTake idle_far) (sym (heads _ _ _ _ e)) takes.4
-said_from pointer turning delivered resent said level [] again beats fresh answers (y ∷ took) e are takes resends says sends replies = not_empty y took
+said_from pointer turning delivered resent said level [] again keepalives fresh answers (y ∷ took) e are takes resends says sends replies = not_empty y took
     (none_took [] 0 0 (y ∷ took) are)
-said_from pointer turning delivered resent said level [] (y ∷ again) beats fresh answers [] e are takes resends says sends replies = subst
+said_from pointer turning delivered resent said level [] (y ∷ again) keepalives fresh answers [] e are takes resends says sends replies = subst
     (FarRetransmits delivered) (sym (heads _ _ _ _ e)) resends.4
-said_from pointer turning delivered resent said level [] [] (y ∷ z ∷ beats) fresh answers [] e are takes resends says sends replies = no_events z
-    (beats ++ (fresh ++ answers)) (tails _ _ _ _ e)
+said_from pointer turning delivered resent said level [] [] (y ∷ z ∷ keepalives) fresh answers [] e are takes resends says sends replies = no_events z
+    (keepalives ++ (fresh ++ answers)) (tails _ _ _ _ e)
 said_from pointer turning delivered resent said level [] [] (y ∷ []) (z ∷ fresh) answers [] e are takes resends says sends replies = no_events z
     (fresh ++ answers) (tails _ _ _ _ e)
 said_from pointer turning delivered resent said level [] [] (y ∷ []) [] (z ∷ answers) [] e are takes resends says sends replies = no_events z answers
     (tails _ _ _ _ e)
 said_from pointer turning delivered resent said level [] [] (y ∷ []) [] [] [] e are takes resends says sends replies =
     let row = subst (λ x. far_row beating 0 x resent says.0 says.1 says.2) (sym (heads _ _ _ _ e)) says.3 in
-    no_less resent.beats (ap (λ (part : FarPart). part.beats) (replies ∙ (sends ∙ (says.5 ∙ row.effect))))
+    no_less resent.keepalives (ap (λ (part : FarPart). part.keepalives) (replies ∙ (sends ∙ (says.5 ∙ row.effect))))
 said_from pointer turning delivered resent said level [] [] [] (y ∷ fresh) answers [] e are takes resends says sends replies = subst (SendsNew said)
     (sym (heads _ _ _ _ e)) sends.4
 said_from pointer turning delivered resent said level [] [] [] [] (y ∷ answers) [] e are takes resends says sends replies = subst (SendsAnswer level)
@@ -674,7 +681,7 @@ beat_without_words = (
   record {
     taken = [];
     again = [];
-    beats = a_beat ∷ [];
+    keepalives = a_beat ∷ [];
     fresh = [];
     answers = [];
     took = [];
@@ -700,7 +707,7 @@ beat_without_words = (
     home = λ other. refl;
     remote = λ other. refl;
   },
-  λ h. said_from 0 h.turning h.delivered h.resent h.said h.level h.taken h.again h.beats h.fresh h.answers h.took h.is h.are_taken h.takes h.resends h.says
+  λ h. said_from 0 h.turning h.delivered h.resent h.said h.level h.taken h.again h.keepalives h.fresh h.answers h.took h.is h.are_taken h.takes h.resends h.says
       h.sends h.replies,
 )
 

@@ -43,13 +43,13 @@ pub record RealFarBut (but : FarField) (setup : Setup) (faults : List Fault) (p 
     (end : FarPart) (after : Links) : Type 0 where
   pub taken : List FarEvent
   pub again : List FarEvent
-  pub beats : List FarEvent
+  pub keepalives : List FarEvent
   pub fresh : List FarEvent
   pub answers : List FarEvent
   pub took : List InLink
   pub sent : List InLink
   pub is : but ≢ Is → events ≡ taken ++ (home_events end.pointer before.home.plans
-      ++ (remote_events (before.remote.plans ++ took) ++ (again ++ (beats ++ (fresh ++ answers)))))
+      ++ (remote_events (before.remote.plans ++ took) ++ (again ++ (keepalives ++ (fresh ++ answers)))))
   pub turning : FarPart
   pub delivered : FarPart
   pub resent : FarPart
@@ -59,10 +59,10 @@ pub record RealFarBut (but : FarField) (setup : Setup) (faults : List Fault) (p 
   pub delivers : but ≢ Delivers → FarGoes setup p SendsNone turning (home_events end.pointer before.home.plans
       ++ remote_events (before.remote.plans ++ took)) delivered
   pub resends : but ≢ Resends → FarGoes setup p FarRetransmits delivered again resent
-  pub says : but ≢ Says → FarGoes setup p SendsNone resent beats said
+  pub says : but ≢ Says → FarGoes setup p SendsNone resent keepalives said
   pub sends : but ≢ Sends → FarGoes setup p SendsNew said fresh level
   pub replies : but ≢ Replies → FarGoes setup p SendsAnswer level answers end
-  pub due : but ≢ Due → fars.BeatsIfDue setup p round turning beats
+  pub due : but ≢ Due → fars.BeatsIfDue setup p round turning keepalives
   pub rested : but ≢ Rested → IsRested end.end
   pub few : but ≢ Few → length again ≤ 1
   pub goes_on : but ≢ GoesOn → ends.AcksOrResends start.end end.end (length again)

@@ -68,7 +68,7 @@ refusal_is f s keeps = λ i. admit_refusal (taken_is f keeps i) (keeps.room i) (
 
 -- ---- what lands brings in
 
-none_brought : (f : Fields) (s : SessionValue) (x : PrefixValue) → map.get s.heard x ≡ None → entry_of f.known.setup f.number.0 s x ≡ None
+none_brought : (f : Fields) (s : SessionValue) (x : PrefixValue) → map.get s.adj_rib_in x ≡ None → entry_of f.known.setup f.number.0 s x ≡ None
 none_brought f s x e = ap (λ (h : Option Attrs). option_map (λ route. let v : Entry = record { route = route; identifier = remote_identifier s; address = s.config.remote_address } in v) (imported f.known.setup.home_as x (session_route f.known.setup f.number.0 s x) h)) e
 
 no_value : {A : Type 0} (o : Option A) → is_some o ≡ false → o ≡ None
@@ -76,14 +76,14 @@ no_value None e = refl
 no_value (Some a) e = absurd (let z : ⊥ = cc in z)
 
 pub brings_in : (f : Fields) (s : SessionValue) (after : RibValue) → RouterInvariant f → HasNoEntry ((rib_of f.rib).entries s.config.peering.0)
-    → EntersAll (rib_of f.rib) s.config.peering.0 (entry_here f.home_as f.policies s) (map.keys s.heard) after
+    → EntersAll (rib_of f.rib) s.config.peering.0 (entry_here f.home_as f.policies s) (map.keys s.adj_rib_in) after
     → BringsIn f.known.setup f.number.0 s (after.entries s.config.peering.0)
-brings_in f s after keeps none entered x = by_test (is_some (map.get s.heard x)) refl
+brings_in f s after keeps none entered x = by_test (is_some (map.get s.adj_rib_in x)) refl
   where
-    by_test : (b : Bool) → is_some (map.get s.heard x) ≡ b → map.get (after.entries s.config.peering.0) x ≡ entry_of f.known.setup f.number.0 s x
-    by_test true e = entered.each x (keys_any s.heard x ∙ e) ∙ entry_is f s x keeps
-    by_test false e = entered.others x (keys_any s.heard x ∙ e) ∙ no_value (map.get ((rib_of f.rib).entries s.config.peering.0) x) (none x)
-        ∙ sym (none_brought f s x (no_value (map.get s.heard x) e))
+    by_test : (b : Bool) → is_some (map.get s.adj_rib_in x) ≡ b → map.get (after.entries s.config.peering.0) x ≡ entry_of f.known.setup f.number.0 s x
+    by_test true e = entered.each x (keys_any s.adj_rib_in x ∙ e) ∙ entry_is f s x keeps
+    by_test false e = entered.others x (keys_any s.adj_rib_in x ∙ e) ∙ no_value (map.get ((rib_of f.rib).entries s.config.peering.0) x) (none x)
+        ∙ sym (none_brought f s x (no_value (map.get s.adj_rib_in x) e))
 
 -- a session that isn't refused finds room
 pub has_room : (held room : ℕ) (missing : Option (List ℕ)) → admit_refusal held room missing ≡ None → held < room

@@ -43,9 +43,10 @@ due_best best set adds = record { members = λ x. adds.members x ∙ ap (λ (b :
     none_in : (x : PrefixValue) → has map.empty x ≡ false
     none_in x = ap (λ (o : Option (Unit {0})). is_some o) (map.get-empty prefix_cmp x)
 
-pub due_again_is : (told : Routes) (best : BestRoutes) (a set : Prefixes) → IsDueBest best a → AddsAll a (map.keys told) set → IsDueAgain told best set
-due_again_is told best a set due adds = record {
-  members = λ x. adds.members x ∙ (λ i. due.members x i || keys_any told x i) ∙ either (is_some (map.get best x)) (is_some (map.get told x));
+pub due_again_is : (adj_rib_out : Routes) (best : BestRoutes) (a set : Prefixes) → IsDueBest best a → AddsAll a (map.keys adj_rib_out) set
+    → IsDueAgain adj_rib_out best set
+due_again_is adj_rib_out best a set due adds = record {
+  members = λ x. adds.members x ∙ (λ i. due.members x i || keys_any adj_rib_out x i) ∙ either (is_some (map.get best x)) (is_some (map.get adj_rib_out x));
 }
   where
     either : (b c : Bool) → (b || c) ≡ (c || b)

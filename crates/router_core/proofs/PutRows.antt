@@ -188,7 +188,7 @@ module _ (f g : Fields) (p q : Post (Item RunningSession)) (n : ℕ) (s u : Runn
   told_then : SessionValue
   told_then = record s.session {
     story = s.session.story ++ PutLine (UpdateMsg (update_for batch.attrs batch.prefixes)) ∷ [];
-    told = apply s.session.told (update_for batch.attrs batch.prefixes);
+    adj_rib_out = apply s.session.adj_rib_out (update_for batch.attrs batch.prefixes);
     end = sending (spell (UpdateMsg (update_for batch.attrs batch.prefixes)) (is_wide (peering_of s.session.config) s.session.story)) s.session.end;
   }
 
@@ -204,7 +204,7 @@ module _ (f g : Fields) (p q : Post (Item RunningSession)) (n : ℕ) (s u : Runn
       subst (λ (h : Fields). PlannedAt h.known.setup h.number.0 (router_part h) n (Some (Live u o)) batches) (sym same)
       (subst (λ (w : Bool). IsPlan (IsToTell f.known.setup f.number.0 (router_part then) n u.session) (to_tell f.known.setup f.number.0 (router_part then) u.session) w batches) (sym (wide_then s.session u.session batch put.puts))
       (subst (λ (v : SessionValue). IsPlan (IsToTell f.known.setup f.number.0 (router_part then) n v) (to_tell f.known.setup f.number.0 (router_part then) v) (is_wide (peering_of s.session.config) s.session.story) batches) (sym put.puts.effect)
-      (rest (table_at f.due_out n) (table_at g.due_out n) f.rib.dirty s.session.told (to_tell f.known.setup f.number.0 (router_part f) s.session) (is_wide (peering_of s.session.config) s.session.story) batch less_due_then batches plan)))
+      (rest (table_at f.due_out n) (table_at g.due_out n) f.rib.dirty s.session.adj_rib_out (to_tell f.known.setup f.number.0 (router_part f) s.session) (is_wide (peering_of s.session.config) s.session.story) batch less_due_then batches plan)))
 
   -- ---- what stands then
 
@@ -282,5 +282,5 @@ pub can_offer : (setup : Setup) (r n : ℕ) (part : RouterPart) (s : SessionValu
 can_offer setup r n part s batch established next sound writable = record {
   established = established;
   one_way = one_way (IsToTell setup r part n s) (to_tell setup r part s) (is_wide (peering_of s.config) s.story) batch next sound writable;
-  changes = changes (part.due_out n) part.dirty s.told (to_tell setup r part s) (is_wide (peering_of s.config) s.story) batch next;
+  changes = changes (part.due_out n) part.dirty s.adj_rib_out (to_tell setup r part s) (is_wide (peering_of s.config) s.story) batch next;
 }

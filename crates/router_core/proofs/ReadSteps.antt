@@ -46,7 +46,7 @@ use Rattle.router_core.specs.declared.fields.Fields.{Fields}
 entry_by : ℕ → Option (List Rule) → SessionValue → PrefixValue → Option Entry
 entry_by home_as rules s x = option_map
     (λ route. record { route = route; identifier = remote_identifier s; address = s.config.remote_address })
-    (imported home_as x (record { peering = s.config.peering; remote_as = s.config.remote_as; identifier = remote_identifier s; address = s.config.remote_address; import_rules = rules; heard = map.get s.heard x }) (map.get s.heard x))
+    (imported home_as x (record { peering = s.config.peering; remote_as = s.config.remote_as; identifier = remote_identifier s; address = s.config.remote_address; import_rules = rules; heard = map.get s.adj_rib_in x }) (map.get s.adj_rib_in x))
 
 rules_is : {Each : ℕ → Type 0} (f : Fields) (name : Option (List ℕ)) → KeepsWith Each f → rules_by f.policies name ≡ rules_for f.known.setup f.number.0 name
 rules_is f None k = refl
@@ -104,8 +104,9 @@ module _ (s u : SessionValue) (bytes : List ℕ) (tied_to : IsTied s) (gets : Ge
   next_is : state u ≡ gets.next
   next_is = ap state gets.effect ∙ state_next (peering_of s.config) s.story bytes gets.answer gets.next gets.unclosed gets.got gets.reply tied_to.allowed
 
-  heard_is : u.heard ≡ unless_closed gets.next (apply_if s.heard (update_in (message_of (expected_next (peering_of s.config) s.story (state s)) bytes)))
-  heard_is = ap (λ (v : SessionValue). v.heard) gets.effect
+  heard_is : u.adj_rib_in ≡ unless_closed gets.next
+      (apply_if s.adj_rib_in (update_in (message_of (expected_next (peering_of s.config) s.story (state s)) bytes)))
+  heard_is = ap (λ (v : SessionValue). v.adj_rib_in) gets.effect
 
   -- an UPDATE is taken in Established alone
   updates_none : state s ≢ states.Established → update_in (message_of (expected_next (peering_of s.config) s.story (state s)) bytes) ≡ None
@@ -117,14 +118,14 @@ module _ (s u : SessionValue) (bytes : List ℕ) (tied_to : IsTied s) (gets : Ge
     by_message (Ok KeepaliveMsg) e = refl
     by_message (Err n) e = refl
 
-  pub heard_stays : state s ≢ states.Established → state u ≢ states.Closed → u.heard ≡ s.heard
+  pub heard_stays : state s ≢ states.Established → state u ≢ states.Closed → u.adj_rib_in ≡ s.adj_rib_in
   heard_stays not unclosed =
-      heard_is ∙ ap (λ (o : Option Update). unless_closed gets.next (apply_if s.heard o)) (updates_none not)
-      ∙ while_unclosed gets.next s.heard (λ e. unclosed (next_is ∙ e))
+      heard_is ∙ ap (λ (o : Option Update). unless_closed gets.next (apply_if s.adj_rib_in o)) (updates_none not)
+      ∙ while_unclosed gets.next s.adj_rib_in (λ e. unclosed (next_is ∙ e))
 
-  pub heard_none : state u ≡ states.Closed → (x : PrefixValue) → map.get u.heard x ≡ None
+  pub heard_none : state u ≡ states.Closed → (x : PrefixValue) → map.get u.adj_rib_in x ≡ None
   heard_none closed x =
-      ap (λ (t : Routes). map.get t x) (heard_is ∙ ap (λ (st : SessionState). unless_closed st (apply_if s.heard (update_in (message_of (expected_next (peering_of s.config) s.story (state s)) bytes)))) (sym next_is ∙ closed))
+      ap (λ (t : Routes). map.get t x) (heard_is ∙ ap (λ (st : SessionState). unless_closed st (apply_if s.adj_rib_in (update_in (message_of (expected_next (peering_of s.config) s.story (state s)) bytes)))) (sym next_is ∙ closed))
       ∙ map.get-empty prefix_cmp x
 
   -- less is left to read
@@ -143,24 +144,24 @@ module _ (s u : SessionValue) (bytes : List ℕ) (tied_to : IsTied s) (gets : Ge
   pub follows_heard : (entry : PrefixValue → Option Entry) (before after : Entries) (st : ReadStep) → TellsRead st s u
       → ((x : PrefixValue) → list_any (same_prefix x) (prefixes_in st) ≡ true → map.get after x ≡ entry x)
       → ((x : PrefixValue) → list_any (same_prefix x) (prefixes_in st) ≡ false → map.get after x ≡ map.get before x) → (x : PrefixValue)
-      → ((map.get u.heard x ≡ map.get s.heard x) × (map.get after x ≡ map.get before x)) ⊎ ((map.get u.heard x ≢ map.get s.heard x) × (map.get after x ≡ entry x))
+      → ((map.get u.adj_rib_in x ≡ map.get s.adj_rib_in x) × (map.get after x ≡ map.get before x)) ⊎ ((map.get u.adj_rib_in x ≢ map.get s.adj_rib_in x) × (map.get after x ≡ entry x))
   follows_heard entry before after steps.Opened tells each others x =
       inl (ap (λ (t : Routes). map.get t x) (heard_stays (λ is. sent_up (sym tells.0 ∙ is)) (λ is. confirm_closed (sym tells.1 ∙ is))), others x refl)
   follows_heard entry before after steps.Established tells each others x =
       inl (ap (λ (t : Routes). map.get t x) (heard_stays (λ is. confirm_up (sym tells.0 ∙ is)) (λ is. up_closed (sym tells.1 ∙ is))), others x refl)
   follows_heard entry before after (steps.Changed ps) tells each others x = by_test (list_any (same_prefix x) ps) refl where
     by_test : (b : Bool) → list_any (same_prefix x) ps ≡ b
-        → ((map.get u.heard x ≡ map.get s.heard x) × (map.get after x ≡ map.get before x)) ⊎ ((map.get u.heard x ≢ map.get s.heard x) × (map.get after x ≡ entry x))
-    by_test true e = inr (All-contains (λ p. map.get u.heard p ≢ map.get s.heard p) ps x tells.2.changed (Contains-from_any is_same x ps e), each x e)
+        → ((map.get u.adj_rib_in x ≡ map.get s.adj_rib_in x) × (map.get after x ≡ map.get before x)) ⊎ ((map.get u.adj_rib_in x ≢ map.get s.adj_rib_in x) × (map.get after x ≡ entry x))
+    by_test true e = inr (All-contains (λ p. map.get u.adj_rib_in p ≢ map.get s.adj_rib_in p) ps x tells.2.changed (Contains-from_any is_same x ps e), each x e)
     by_test false e = inl (tells.2.others x e, others x e)
   follows_heard entry before after (steps.Closed ps) tells each others x = by_test (list_any (same_prefix x) ps) refl where
-    had : list_any (same_prefix x) ps ≡ is_some (map.get s.heard x)
-    had = ap (λ (ks : List PrefixValue). list_any (same_prefix x) ks) tells.1 ∙ keys_any s.heard x
+    had : list_any (same_prefix x) ps ≡ is_some (map.get s.adj_rib_in x)
+    had = ap (λ (ks : List PrefixValue). list_any (same_prefix x) ks) tells.1 ∙ keys_any s.adj_rib_in x
 
     by_test : (b : Bool) → list_any (same_prefix x) ps ≡ b
-        → ((map.get u.heard x ≡ map.get s.heard x) × (map.get after x ≡ map.get before x)) ⊎ ((map.get u.heard x ≢ map.get s.heard x) × (map.get after x ≡ entry x))
-    by_test true e = inr ((λ same. none_some (map.get s.heard x) (sym same ∙ heard_none tells.0 x) (sym had ∙ e)), each x e)
-    by_test false e = inl (heard_none tells.0 x ∙ sym (is_none (map.get s.heard x) (sym had ∙ e)), others x e)
+        → ((map.get u.adj_rib_in x ≡ map.get s.adj_rib_in x) × (map.get after x ≡ map.get before x)) ⊎ ((map.get u.adj_rib_in x ≢ map.get s.adj_rib_in x) × (map.get after x ≡ entry x))
+    by_test true e = inr ((λ same. none_some (map.get s.adj_rib_in x) (sym same ∙ heard_none tells.0 x) (sym had ∙ e)), each x e)
+    by_test false e = inl (heard_none tells.0 x ∙ sym (is_none (map.get s.adj_rib_in x) (sym had ∙ e)), others x e)
 
   -- what is due then
   pub due_then : (best : BestRoutes) (before after : Prefixes) (st : ReadStep) → TellsRead st s u → DueBy st best before after

@@ -38,7 +38,7 @@ module _ (f mid h : Fields) (a b c : Post (Item RunningSession)) (from k to : �
     (below : from < f.routers) (there : s.session.config.peering.0 < length f.places.places) (away : IsShadowOf (place_at f.places.places s.session.config.peering.0) k) (way : IsOnItsWay f.known.setup s.session)
     (to_is : to ≡ f.routers + length f.places.places) (wrote : WritesEvent a (Return from) ((to, items.Report k (Refused refusal)) ∷ []) b)
     (same : mid ≡ record f { places = mid.places; due_out = mid.due_out }) (held : mid.places ≡ with_place f.places s.session.config.peering.0 (Some (Live s None)))
-    (sets : OneSet f.due_out s.session.config.peering.0 mid.due_out) (due : IsDueAgain s.session.told f.rib.best (table_at mid.due_out s.session.config.peering.0)) where
+    (sets : OneSet f.due_out s.session.config.peering.0 mid.due_out) (due : IsDueAgain s.session.adj_rib_out f.rib.best (table_at mid.due_out s.session.config.peering.0)) where
   abbrev p : ℕ
   p = s.session.config.peering.0
 

@@ -26,7 +26,7 @@ use Rattle.session_value.specs.Fronts.{BeginsNothing}
 use Rattle.session_value.specs.Sessions.{SessionValue, hold_time, state, unread}
 use Rattle.session_value.specs.Sets.{BestRoutes, Entries, Prefixes, has}
 use Rattle.session_value.proofs.Replies.{up_open, while_unclosed}
-use Rattle.session_value.proofs.Rounds.{Answers, ends, beats, stays, answers_are}
+use Rattle.session_value.proofs.Rounds.{Answers, ends, says_keepalive, stays, answers_are}
 use Rattle.bgp_session.specs.Running.{RunningSession}
 use Rattle.bgp_session.specs.Steps.{MayPass, SessionTicks, TellsRound}
 use Rattle.bgp_session.specs.declared.answers.TickStep.{TickStep}
@@ -75,12 +75,12 @@ same_tail (y ∷ xs) x ys zs e = same_tail xs x ys zs (let f : xs ++ x ∷ ys �
 
 plain_stays : (st : SessionState) (answer : List Line) (next : SessionState) → Answers st answer next → answer ≡ [] → next ≡ st
 plain_stays st _ _ ends e = absurd (let x : ⊥ = cc in x)
-plain_stays st _ _ beats e = refl
+plain_stays st _ _ says_keepalive e = refl
 plain_stays st _ _ stays e = refl
 
 beat_stays : (st : SessionState) (answer : List Line) (next : SessionState) → Answers st answer next → answer ≡ Put KeepaliveMsg ∷ [] → next ≡ st
 beat_stays st _ _ ends e = absurd (let x : ⊥ = cc in x)
-beat_stays st _ _ beats e = refl
+beat_stays st _ _ says_keepalive e = refl
 beat_stays st _ _ stays e = refl
 
 same_due : (st : SessionState) (best : BestRoutes) (due : Prefixes) → is_up st ≡ true → DueThen st st best due due
@@ -105,7 +105,7 @@ keeps_up Closed up = absurd (let x : ⊥ = cc in x)
 round_ends : (st : SessionState) (round : ℕ) (answer : List Line) (next : SessionState) → is_up st ≡ true → Answers st answer next
     → fold after st (Tick round ∷ answer) ≡ next
 round_ends st round _ _ up ends = refl
-round_ends st round _ _ up beats = keeps_up st up
+round_ends st round _ _ up says_keepalive = keeps_up st up
 round_ends st round _ _ up stays = refl
 
 module _ (s u : SessionValue) (round : ℕ) (passes : PassesRound s round u) where
@@ -125,12 +125,12 @@ module _ (s u : SessionValue) (round : ℕ) (passes : PassesRound s round u) whe
   beat_state tells = next_is
       ∙ beat_stays (state s) passes.answer passes.next answers (same_tail s.story (Tick round) passes.answer (Put KeepaliveMsg ∷ []) (sym (ap (λ (v : SessionValue). v.story) passes.effect) ∙ tells))
 
-  heard_stays : state u ≡ state s → u.heard ≡ s.heard
-  heard_stays same = ap (λ (v : SessionValue). v.heard) passes.effect
-      ∙ while_unclosed passes.next s.heard (λ e. up_open (state s) passes.up (sym same ∙ next_is ∙ e))
+  heard_stays : state u ≡ state s → u.adj_rib_in ≡ s.adj_rib_in
+  heard_stays same = ap (λ (v : SessionValue). v.adj_rib_in) passes.effect
+      ∙ while_unclosed passes.next s.adj_rib_in (λ e. up_open (state s) passes.up (sym same ∙ next_is ∙ e))
 
-  heard_none : state u ≡ Closed → (x : PrefixValue) → map.get u.heard x ≡ None
-  heard_none closed x = ap (λ (t : Routes). map.get t x) (ap (λ (v : SessionValue). v.heard) passes.effect ∙ ap (λ (st : SessionState). unless_closed st s.heard) (sym next_is ∙ closed))
+  heard_none : state u ≡ Closed → (x : PrefixValue) → map.get u.adj_rib_in x ≡ None
+  heard_none closed x = ap (λ (t : Routes). map.get t x) (ap (λ (v : SessionValue). v.adj_rib_in) passes.effect ∙ ap (λ (st : SessionState). unless_closed st s.adj_rib_in) (sym next_is ∙ closed))
       ∙ map.get-empty _ x
 
   unread_same : unread u ≡ unread s
@@ -140,23 +140,23 @@ module _ (s u : SessionValue) (round : ℕ) (passes : PassesRound s round u) whe
 
   stays_heard : (entry : PrefixValue → Option _) (before after : Entries) → state u ≡ state s
       → ((x : PrefixValue) → map.get after x ≡ map.get before x) → (x : PrefixValue)
-      → ((map.get u.heard x ≡ map.get s.heard x) × (map.get after x ≡ map.get before x)) ⊎ ((map.get u.heard x ≢ map.get s.heard x) × (map.get after x ≡ entry x))
+      → ((map.get u.adj_rib_in x ≡ map.get s.adj_rib_in x) × (map.get after x ≡ map.get before x)) ⊎ ((map.get u.adj_rib_in x ≢ map.get s.adj_rib_in x) × (map.get after x ≡ entry x))
   stays_heard entry before after same others x = inl (ap (λ (t : Routes). map.get t x) (heard_stays same), others x)
 
   follows_round : (entry : PrefixValue → Option _) (before after : Entries) (st : TickStep) → TellsRound st s round u
       → ((x : PrefixValue) → list_any (same_prefix x) (prefixes_in (followed st)) ≡ true → map.get after x ≡ entry x)
       → ((x : PrefixValue) → list_any (same_prefix x) (prefixes_in (followed st)) ≡ false → map.get after x ≡ map.get before x) → (x : PrefixValue)
-      → ((map.get u.heard x ≡ map.get s.heard x) × (map.get after x ≡ map.get before x)) ⊎ ((map.get u.heard x ≢ map.get s.heard x) × (map.get after x ≡ entry x))
+      → ((map.get u.adj_rib_in x ≡ map.get s.adj_rib_in x) × (map.get after x ≡ map.get before x)) ⊎ ((map.get u.adj_rib_in x ≢ map.get s.adj_rib_in x) × (map.get after x ≡ entry x))
   follows_round entry before after Plain tells each others x = stays_heard entry before after (plain_state tells) (λ y. others y refl) x
   follows_round entry before after Beat tells each others x = stays_heard entry before after (beat_state tells) (λ y. others y refl) x
   follows_round entry before after (Expired ps) tells each others x = by_test (list_any (same_prefix x) ps) refl where
-    had : list_any (same_prefix x) ps ≡ is_some (map.get s.heard x)
-    had = ap (λ (ks : List PrefixValue). list_any (same_prefix x) ks) tells.1 ∙ keys_any s.heard x
+    had : list_any (same_prefix x) ps ≡ is_some (map.get s.adj_rib_in x)
+    had = ap (λ (ks : List PrefixValue). list_any (same_prefix x) ks) tells.1 ∙ keys_any s.adj_rib_in x
 
     by_test : (b : Bool) → list_any (same_prefix x) ps ≡ b
-        → ((map.get u.heard x ≡ map.get s.heard x) × (map.get after x ≡ map.get before x)) ⊎ ((map.get u.heard x ≢ map.get s.heard x) × (map.get after x ≡ entry x))
+        → ((map.get u.adj_rib_in x ≡ map.get s.adj_rib_in x) × (map.get after x ≡ map.get before x)) ⊎ ((map.get u.adj_rib_in x ≢ map.get s.adj_rib_in x) × (map.get after x ≡ entry x))
     by_test true e = inr ((λ same. false_true (sym (ap is_some (sym same ∙ heard_none tells.0 x)) ∙ (sym had ∙ e))), each x e)
-    by_test false e = inl (heard_none tells.0 x ∙ sym (none_of (map.get s.heard x) (sym had ∙ e)), others x e)
+    by_test false e = inl (heard_none tells.0 x ∙ sym (none_of (map.get s.adj_rib_in x) (sym had ∙ e)), others x e)
 
   stays_due : (best : BestRoutes) (before after : Prefixes) → state u ≡ state s → after ≡ before → DueThen (state s) (state u) best before after
   stays_due best before after same due = subst (λ (y : SessionState). DueThen (state s) y best before after) (sym same) (subst (λ (d : Prefixes). DueThen (state s) (state s) best before d) (sym due) (same_due (state s) best before passes.up))

@@ -31,14 +31,14 @@ route_here policies session prefix = record {
   identifier = remote_identifier session;
   address = session.config.remote_address;
   import_rules = rules_by policies session.config.import;
-  heard = map.get session.heard prefix;
+  heard = map.get session.adj_rib_in prefix;
 }
 
 -- the entry that a router of this AS makes of it
 abbrev pub entry_here : ℕ → List NamedPolicy → SessionValue → PrefixValue → Option Entry
 entry_here home_as policies session prefix = option_map
     (λ route. record { route = route; identifier = remote_identifier session; address = session.config.remote_address })
-    (imported home_as prefix (route_here policies session prefix) (map.get session.heard prefix))
+    (imported home_as prefix (route_here policies session prefix) (map.get session.adj_rib_in prefix))
 
 -- This is the entry that the session brings in for this prefix.
 pub record IsBrought (home_as : ℕ) (policies : List NamedPolicy) (session : SessionValue) (x : PrefixValue) (entry : InEntry) : Type 0 where

@@ -36,7 +36,7 @@ use Rattle.router_core.specs.declared.place.Place.TheVariants.{Live, Shadow}
 pub record CanOffer (session : SessionValue) (update : Update) : Type 0 where
   pub established : state session ≡ Established
   pub one_way : IsOneWay update (is_wide (peering_of session.config) session.story)
-  pub changes : Changes session.told update
+  pub changes : Changes session.adj_rib_out update
 
 abbrev pub OffersAt : Option Place → Update → Type 0
 OffersAt None update = ⊥

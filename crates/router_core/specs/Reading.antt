@@ -48,8 +48,8 @@ pub record IsDueBest (best : BestRoutes) (due : Prefixes) : Type 0 where
   pub members : (x : PrefixValue) → has due x ≡ is_some (map.get best x)
 
 -- what was told or has a best route is due
-pub record IsDueAgain (told : Routes) (best : BestRoutes) (due : Prefixes) : Type 0 where
-  pub members : (x : PrefixValue) → has due x ≡ (is_some (map.get told x) || is_some (map.get best x))
+pub record IsDueAgain (adj_rib_out : Routes) (best : BestRoutes) (due : Prefixes) : Type 0 where
+  pub members : (x : PrefixValue) → has due x ≡ (is_some (map.get adj_rib_out x) || is_some (map.get best x))
 
 -- ---- at a place
 
@@ -112,16 +112,16 @@ pub record MakesLive (old : Fields) (p : ℕ) (s : RunningSession) (errand : Opt
   pub same : new ≡ record old { places = new.places; due_out = new.due_out }
   pub held : new.places ≡ with_place old.places p (Some (Live s errand))
   pub sets : OneSet old.due_out p new.due_out
-  pub due : IsDueAgain s.session.told old.rib.best (table_at new.due_out p)
+  pub due : IsDueAgain s.session.adj_rib_out old.rib.best (table_at new.due_out p)
 
 -- A session lands in a graft: its routes are taken in, it is live, and routers are to be asked and then its source told.
 pub record SettlesIn (old : Fields) (s : RunningSession) (landed : Landing) (new : Fields) : Type 0 where
   pub same : new ≡ record old { places = new.places; rib = new.rib; due_out = new.due_out }
   pub entered : EntersAll (rib_of old.rib) s.session.config.peering.0 (entry_here old.home_as old.policies s.session)
-      (map.keys s.session.heard) (rib_of new.rib)
+      (map.keys s.session.adj_rib_in) (rib_of new.rib)
   pub held : new.places ≡ with_place old.places s.session.config.peering.0 (Some (Live s (Some (Owing landed))))
   pub sets : OneSet old.due_out s.session.config.peering.0 new.due_out
-  pub due : IsDueAgain s.session.told old.rib.best (table_at new.due_out s.session.config.peering.0)
+  pub due : IsDueAgain s.session.adj_rib_out old.rib.best (table_at new.due_out s.session.config.peering.0)
 
 -- ---- what a router keeps meanwhile
 

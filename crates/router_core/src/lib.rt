@@ -6,7 +6,7 @@ mod config;
 mod due;
 mod fields;
 mod place;
-mod rest;
+mod outstanding;
 mod router;
 mod stages;
 mod takes;

@@ -7,7 +7,7 @@ ghost use Rattle.router_core.specs.FieldProps.{RouterInvariant-prop-if};
 use crate::config::RouterConfig;
 use crate::fields::Fields;
 use crate::place::{Place, sessions_of};
-use crate::rest::{nothing_left, rest};
+use crate::outstanding::{nothing_left, outstanding};
 use crate::stages::{stuck, turn};
 use crate::takes;
 use bgp_session::{Capsule, Session};
@@ -148,7 +148,7 @@ impl Router {
         if self.has_failed {
             return nothing_left(self.fields.number);
         }
-        rest(&self.fields)
+        outstanding(&self.fields)
     }
 
     /// Consumes the router, and returns the sessions that it holds, in ascending order of peering.

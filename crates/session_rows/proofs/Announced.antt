@@ -45,16 +45,16 @@ each a before xs routes none = from xs routes (λ p e. e) none where
       (apart y _ (then' y (stays a ys (map.insert rs y a) y (itself a rs y))) (All-head (λ p. map.get before p ≡ None) y ys free))
       (from ys (map.insert rs y a) then' (All-tail (λ p. map.get before p ≡ None) y ys free))
 
-changes_by : (told : Routes) (attrs : Option Attrs) (nlri : List PrefixValue) → HasAttrsFor attrs nlri → nlri ≢ []
-    → All (λ p. map.get told p ≡ None) nlri → All (λ p. map.get (fold (announce attrs) told nlri) p ≢ map.get told p) nlri
-changes_by told None nlri has some none = absurd (some has)
-changes_by told (Some a) nlri has some none = each a told nlri told none
+changes_by : (adj_rib_out : Routes) (attrs : Option Attrs) (nlri : List PrefixValue) → HasAttrsFor attrs nlri → nlri ≢ []
+    → All (λ p. map.get adj_rib_out p ≡ None) nlri → All (λ p. map.get (fold (announce attrs) adj_rib_out nlri) p ≢ map.get adj_rib_out p) nlri
+changes_by adj_rib_out None nlri has some none = absurd (some has)
+changes_by adj_rib_out (Some a) nlri has some none = each a adj_rib_out nlri adj_rib_out none
 
-pub announced_changes : (told : Routes) (update : Update) (wide : Bool) → IsOneWay update wide → update.withdrawn ≡ []
-    → All (λ p. map.get told p ≡ None) update.nlri → Changes told update
-announced_changes told update wide way alone none =
-    subst (λ (ws : List PrefixValue). All (λ p. map.get (fold (announce update.attrs) (fold map.remove told ws) update.nlri) p ≢ map.get told p) (ws ++ update.nlri)) (sym alone)
-    (changes_by told update.attrs update.nlri way.writable.body.attrs (announces way.one_way) none) where
+pub announced_changes : (adj_rib_out : Routes) (update : Update) (wide : Bool) → IsOneWay update wide → update.withdrawn ≡ []
+    → All (λ p. map.get adj_rib_out p ≡ None) update.nlri → Changes adj_rib_out update
+announced_changes adj_rib_out update wide way alone none =
+    subst (λ (ws : List PrefixValue). All (λ p. map.get (fold (announce update.attrs) (fold map.remove adj_rib_out ws) update.nlri) p ≢ map.get adj_rib_out p) (ws ++ update.nlri)) (sym alone)
+    (changes_by adj_rib_out update.attrs update.nlri way.writable.body.attrs (announces way.one_way) none) where
       announces : ((update.withdrawn ≢ []) × (update.nlri ≡ [])) ⊎ ((update.withdrawn ≡ []) × (update.nlri ≢ [])) → update.nlri ≢ []
       announces (inl w) = absurd (w.0 alone)
       announces (inr w) = w.1

@@ -43,9 +43,9 @@ module _ (before after : SessionValue) (bytes : List ℕ) (g : GetsFrame before 
     tied = gets_tied is.tied;
     legal = subst (λ (s : SessionValue). IsLegal (peering_of s.config) s.story (state s)) (sym g.effect)
         (gets.legal_then p before.story bytes g.answer g.next g.unclosed g.got g.reply is.tied.allowed ChangesTold is.legal);
-    heard = subst (λ (s : SessionValue). s.heard ≡ heard (peering_of s.config) s.story) (sym g.effect)
-        (ap (λ (x : Routes). unless_closed g.next (apply_if x (update_in (message_of (expected_next p before.story (state before)) bytes)))) is.heard
+    adj_rib_in = subst (λ (s : SessionValue). s.adj_rib_in ≡ heard (peering_of s.config) s.story) (sym g.effect)
+        (ap (λ (x : Routes). unless_closed g.next (apply_if x (update_in (message_of (expected_next p before.story (state before)) bytes)))) is.adj_rib_in
         ∙ sym (gets.heard_then p before.story bytes g.answer g.next g.unclosed g.got g.reply is.tied.allowed));
-    told = subst (λ (s : SessionValue). s.told ≡ told s.story) (sym g.effect)
-        (ap (unless_closed g.next) is.told ∙ sym (gets.told_then p before.story bytes g.answer g.next g.unclosed g.got g.reply is.tied.allowed));
+    adj_rib_out = subst (λ (s : SessionValue). s.adj_rib_out ≡ told s.story) (sym g.effect)
+        (ap (unless_closed g.next) is.adj_rib_out ∙ sym (gets.told_then p before.story bytes g.answer g.next g.unclosed g.got g.reply is.tied.allowed));
   }

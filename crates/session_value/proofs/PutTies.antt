@@ -33,16 +33,16 @@ module _ (before after : SessionValue) (u : Update) (g : PutsUpdate before u aft
     got = tied.got ∙ sym (updates.got_then p before.story u g.established g.one_way tied.allowed);
   })
 
-  changes : before.told ≡ told before.story → ChangesTold before.story u
+  changes : before.adj_rib_out ≡ told before.story → ChangesTold before.story u
   changes is = subst (λ (x : Routes). Changes x u) is g.changes
 
   pub puts_of_story : IsOfStory before → IsOfStory after
   puts_of_story is = record {
     tied = puts_tied is.tied;
     legal = subst (λ (s : SessionValue). IsLegal (peering_of s.config) s.story (state s)) (sym g.effect)
-        (updates.legal_then p before.story u g.established g.one_way is.tied.allowed ChangesTold (changes is.told) is.legal);
-    heard = subst (λ (s : SessionValue). s.heard ≡ heard (peering_of s.config) s.story) (sym g.effect)
-        (is.heard ∙ sym (updates.heard_then p before.story u g.established g.one_way is.tied.allowed));
-    told = subst (λ (s : SessionValue). s.told ≡ told s.story) (sym g.effect)
-        (ap (λ (x : Routes). apply x u) is.told ∙ sym (updates.told_then p before.story u g.established g.one_way is.tied.allowed));
+        (updates.legal_then p before.story u g.established g.one_way is.tied.allowed ChangesTold (changes is.adj_rib_out) is.legal);
+    adj_rib_in = subst (λ (s : SessionValue). s.adj_rib_in ≡ heard (peering_of s.config) s.story) (sym g.effect)
+        (is.adj_rib_in ∙ sym (updates.heard_then p before.story u g.established g.one_way is.tied.allowed));
+    adj_rib_out = subst (λ (s : SessionValue). s.adj_rib_out ≡ told s.story) (sym g.effect)
+        (ap (λ (x : Routes). apply x u) is.adj_rib_out ∙ sym (updates.told_then p before.story u g.established g.one_way is.tied.allowed));
   }

@@ -27,7 +27,7 @@ use Rattle.session_value.specs.Sessions.{SessionValue, peering_of, state, hold_t
 use Rattle.session_value.specs.Ties.{IsTied, most_put}
 use Rattle.session_value.proofs.Replies.{only_open, up_open}
 use Rattle.session_value.proofs.Openings.{only_opened}
-use Rattle.session_value.proofs.Rounds.{Answers, ends, beats, stays, answers_are}
+use Rattle.session_value.proofs.Rounds.{Answers, ends, says_keepalive, stays, answers_are}
 
 -- ---- lengths
 
@@ -116,7 +116,7 @@ round_room stream wide state _ _ ends up fits =
     let one = put_one wide (NoticeMsg hold_expired) in
     let size = expired_size wide in
     omega (arith, fits, one, size)
-round_room stream wide state _ _ beats up fits =
+round_room stream wide state _ _ says_keepalive up fits =
     let one = put_one wide KeepaliveMsg in
     let size = keepalive_size wide in
     omega (arith, fits, one, size, most_unclosed state (up_open state up))

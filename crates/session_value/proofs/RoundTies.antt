@@ -38,8 +38,8 @@ module _ (before after : SessionValue) (round : ℕ) (g : PassesRound before rou
     tied = passes_tied is.tied;
     legal = subst (λ (s : SessionValue). IsLegal (peering_of s.config) s.story (state s)) (sym g.effect)
         (rounds.legal_then p before.story round g.answer g.next g.up g.runs g.later g.reply is.tied.allowed ChangesTold is.legal);
-    heard = subst (λ (s : SessionValue). s.heard ≡ heard (peering_of s.config) s.story) (sym g.effect)
-        (ap (unless_closed g.next) is.heard ∙ sym (rounds.heard_then p before.story round g.answer g.next g.up g.runs g.later g.reply is.tied.allowed));
-    told = subst (λ (s : SessionValue). s.told ≡ told s.story) (sym g.effect)
-        (ap (unless_closed g.next) is.told ∙ sym (rounds.told_then p before.story round g.answer g.next g.up g.runs g.later g.reply is.tied.allowed));
+    adj_rib_in = subst (λ (s : SessionValue). s.adj_rib_in ≡ heard (peering_of s.config) s.story) (sym g.effect)
+        (ap (unless_closed g.next) is.adj_rib_in ∙ sym (rounds.heard_then p before.story round g.answer g.next g.up g.runs g.later g.reply is.tied.allowed));
+    adj_rib_out = subst (λ (s : SessionValue). s.adj_rib_out ≡ told s.story) (sym g.effect)
+        (ap (unless_closed g.next) is.adj_rib_out ∙ sym (rounds.told_then p before.story round g.answer g.next g.up g.runs g.later g.reply is.tied.allowed));
   }

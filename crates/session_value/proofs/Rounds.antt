@@ -23,13 +23,13 @@ use Rattle.session_value.proofs.Gets.{by_closed}
 -- what answers a round: the end of the session, a KEEPALIVE or nothing
 pub data Answers (state : SessionState) : List Line → SessionState → Type 0 where
   ends : Answers state (Put (NoticeMsg hold_expired) ∷ []) Closed
-  beats : Answers state (Put KeepaliveMsg ∷ []) state
+  says_keepalive : Answers state (Put KeepaliveMsg ∷ []) state
   stays : Answers state [] state
 
 by_tests : (t u : Bool) (state : SessionState) →
     let r : List Line × SessionState = cond t (Put (NoticeMsg hold_expired) ∷ [], Closed) (cond u (Put KeepaliveMsg ∷ [], state) ([], state)) in Answers state r.0 r.1
 by_tests true u state = ends
-by_tests false true state = beats
+by_tests false true state = says_keepalive
 by_tests false false state = stays
 
 pub answers_are : (h count round : ℕ) (state : SessionState) (answer : List Line) (next : SessionState)
@@ -39,19 +39,19 @@ answers_are h count round state answer next e =
 
 round_gets : (state : SessionState) (answer : List Line) (next : SessionState) → Answers state answer next → got_bytes answer ≡ []
 round_gets state _ _ ends = refl
-round_gets state _ _ beats = refl
+round_gets state _ _ says_keepalive = refl
 round_gets state _ _ stays = refl
 
 round_tells : (state : SessionState) (answer : List Line) (next : SessionState) → Answers state answer next → (routes : Routes)
     → fold tell routes answer ≡ routes
 round_tells state _ _ ends routes = refl
-round_tells state _ _ beats routes = refl
+round_tells state _ _ says_keepalive routes = refl
 round_tells state _ _ stays routes = refl
 
 round_hears : (e : Expected) (state : SessionState) (answer : List Line) (next : SessionState) → Answers state answer next → (routes : Routes)
     → fold (hear e) routes answer ≡ routes
 round_hears e state _ _ ends routes = refl
-round_hears e state _ _ beats routes = refl
+round_hears e state _ _ says_keepalive routes = refl
 round_hears e state _ _ stays routes = refl
 
 -- ---- the story

@@ -28,8 +28,8 @@ begun_is config valid =
     record {
       tied = record { allowed = Legal.opened lines valid refl; put = refl; room = omega (arith, size, one); read = omega arith; got = refl };
       legal = Legal.opened lines valid refl;
-      heard = refl;
-      told = refl;
+      adj_rib_in = refl;
+      adj_rib_out = refl;
     }
 
 -- ---- an endpoint that sends and has read the same
@@ -51,7 +51,7 @@ module _ (session : SessionValue) (end : Endpoint)
       }
 
   pub of_story_with : IsOfStory session → IsOfStory (record session { end = end })
-  of_story_with is = record { tied = tied_with is.tied; legal = is.legal; heard = is.heard; told = is.told }
+  of_story_with is = record { tied = tied_with is.tied; legal = is.legal; adj_rib_in = is.adj_rib_in; adj_rib_out = is.adj_rib_out }
 
 all_received : (e : Endpoint) → received_bytes e ≡ take (received e) (received_bytes e)
 all_received e = sym (take-length (received_bytes e))

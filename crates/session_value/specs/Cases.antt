@@ -40,8 +40,9 @@ pub record GetsFrame (before : SessionValue) (bytes : List ℕ) (after : Session
   pub reply : reply_to (message_of (expected_next (peering_of before.config) before.story (state before)) bytes) ≡ (answer, next)
   pub effect : after ≡ record before {
     story = before.story ++ Got bytes ∷ answer;
-    heard = unless_closed next (apply_if before.heard (update_in (message_of (expected_next (peering_of before.config) before.story (state before)) bytes)));
-    told = unless_closed next before.told;
+    adj_rib_in =
+        unless_closed next (apply_if before.adj_rib_in (update_in (message_of (expected_next (peering_of before.config) before.story (state before)) bytes)));
+    adj_rib_out = unless_closed next before.adj_rib_out;
     end = sending (put_by before (before.story ++ Got bytes ∷ answer) answer) (having_read (length bytes) before.end);
   }
 
@@ -59,11 +60,11 @@ Changes table update = All (λ prefix. map.get (apply table update) prefix ≢ m
 pub record PutsUpdate (before : SessionValue) (update : Update) (after : SessionValue) : Type 0 where
   pub established : state before ≡ Established
   pub one_way : IsOneWay update (is_wide (peering_of before.config) before.story)
-  pub changes : Changes before.told update
+  pub changes : Changes before.adj_rib_out update
   pub room : length before.end.stream + length (spell (UpdateMsg update) (is_wide (peering_of before.config) before.story)) ≤ 1044480
   pub effect : after ≡ record before {
     story = before.story ++ Put (UpdateMsg update) ∷ [];
-    told = apply before.told update;
+    adj_rib_out = apply before.adj_rib_out update;
     end = sending (spell (UpdateMsg update) (is_wide (peering_of before.config) before.story)) before.end;
   }
 
@@ -79,7 +80,7 @@ pub record PassesRound (before : SessionValue) (round : ℕ) (after : SessionVal
   pub reply : reply_at (hold_time before) (silence before.story + 1) round (state before) ≡ (answer, next)
   pub effect : after ≡ record before {
     story = before.story ++ Tick round ∷ answer;
-    heard = unless_closed next before.heard;
-    told = unless_closed next before.told;
+    adj_rib_in = unless_closed next before.adj_rib_in;
+    adj_rib_out = unless_closed next before.adj_rib_out;
     end = sending (put_by before (before.story ++ Tick round ∷ answer) answer) before.end;
   }

@@ -19,8 +19,8 @@ use Rattle.session_value.specs.declared.config.SessionConfig.{SessionConfig}
 pub record SessionValue : Type 0 where
   pub config : SessionConfig
   pub story : List Line
-  pub heard : Routes
-  pub told : Routes
+  pub adj_rib_in : Routes
+  pub adj_rib_out : Routes
   pub end : Endpoint
 
 -- what the stories of a session depend on: the OPEN that it puts, and the AS of the remote
@@ -50,7 +50,7 @@ abbrev pub begun : SessionConfig → SessionValue
 begun config = let story : List Line = Put (OpenMsg (peering_of config).first) ∷ [] in record {
   config = config;
   story = story;
-  heard = map.empty;
-  told = map.empty;
+  adj_rib_in = map.empty;
+  adj_rib_out = map.empty;
   end = record fresh_endpoint { stream = put_bytes (peering_of config) story };
 }

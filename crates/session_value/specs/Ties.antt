@@ -28,5 +28,5 @@ pub record IsTied (session : SessionValue) : Type 0 where
 pub record IsOfStory (session : SessionValue) : Type 0 where
   pub tied : IsTied session
   pub legal : IsLegal (peering_of session.config) session.story (state session)
-  pub heard : session.heard ≡ heard (peering_of session.config) session.story
-  pub told : session.told ≡ told session.story
+  pub adj_rib_in : session.adj_rib_in ≡ heard (peering_of session.config) session.story
+  pub adj_rib_out : session.adj_rib_out ≡ told session.story

@@ -269,7 +269,7 @@ module _ (setup : Setup) (faults : List Fault) (short : AreShort faults) (p roun
   ended : Holds end (((left + length real.again) + length real.fresh) + length real.answers) others
   ended = sends_hold setup p SendsAnswer only_answers real.level end real.answers ((left + length real.again) + length real.fresh) others real.replies
       (sends_hold setup p SendsNew only_new real.said real.level real.fresh (left + length real.again) others real.sends
-      (beats_hold setup p round real.turning real.resent real.said real.beats (left + length real.again) others real.due real.says
+      (beats_hold setup p round real.turning real.resent real.said real.keepalives (left + length real.again) others real.due real.says
       (sends_hold setup p FarRetransmits only_old real.delivered real.resent real.again left others real.resends delivered)))
 
   home_is : after.home.plans ≡ left_in_link before.home.plans ++ real.sent

@@ -133,17 +133,17 @@ none_long : {A : Type 0} (xs : List A) → xs ≡ [] → length xs ≡ 0
 none_long {A = A} xs none = ap (λ (ys : List A). length ys) none
 
 module _ (setup : Setup) (faults : List Fault) (p round : ℕ) (start end : FarPart) (before after : Links) (events : List FarEvent) (real : RealFar setup faults p round start before events end after) (none : events ≡ []) where
-  turn_none : home_events end.pointer before.home.plans ++ (remote_events (before.remote.plans ++ real.took) ++ (real.again ++ (real.beats ++ (real.fresh ++ real.answers)))) ≡ []
+  turn_none : home_events end.pointer before.home.plans ++ (remote_events (before.remote.plans ++ real.took) ++ (real.again ++ (real.keepalives ++ (real.fresh ++ real.answers)))) ≡ []
   turn_none = nil_back real.taken _ (sym real.is ∙ none)
 
-  link_none : remote_events (before.remote.plans ++ real.took) ++ (real.again ++ (real.beats ++ (real.fresh ++ real.answers))) ≡ []
+  link_none : remote_events (before.remote.plans ++ real.took) ++ (real.again ++ (real.keepalives ++ (real.fresh ++ real.answers))) ≡ []
   link_none = nil_back (home_events end.pointer before.home.plans) _ turn_none
 
-  sends_none : real.again ++ (real.beats ++ (real.fresh ++ real.answers)) ≡ []
+  sends_none : real.again ++ (real.keepalives ++ (real.fresh ++ real.answers)) ≡ []
   sends_none = nil_back (remote_events (before.remote.plans ++ real.took)) _ link_none
 
   last_none : real.fresh ++ real.answers ≡ []
-  last_none = nil_back real.beats _ (nil_back real.again _ sends_none)
+  last_none = nil_back real.keepalives _ (nil_back real.again _ sends_none)
 
   took_none : real.took ≡ []
   took_none = no_put faults p _ before.remote.put (length (filter is_take real.taken)) real.took real.are_taken (ap (λ (es : List FarEvent). length (filter is_take es)) (nil_front real.taken _ (sym real.is ∙ none)))

@@ -139,7 +139,7 @@ module _ (setup : Setup) (ok : IsSetup setup) (timer : HasNoTimer setup) (p : �
   opening_first w reached none =
       let stream : List ℕ = (w.far p).end.stream in
       let later : ℕ = unissued_octets w.operator.issued p 0 setup.steps in
-      let sum : length stream + sum_by (size_at setup p) [] + later ≡ said_length setup p peering + 19 * (w.far p).beats =
+      let sum : length stream + sum_by (size_at setup p) [] + later ≡ said_length setup p peering + 19 * (w.far p).keepalives =
       ap (λ (xs : List ℕ). length stream + sum_by (size_at setup p) xs + later) (sym none) ∙ (said_is setup p peering w is reached).sum in
       let most = unissued_most w.operator.issued p 0 setup.steps in
       let front = said_first w reached in

@@ -49,20 +49,20 @@ all_of_update : (P : PrefixValue → Type 0) (attrs : Option Attrs) (prefixes : 
 all_of_update P None prefixes h = subst (All P) (sym (append-nil prefixes)) h
 all_of_update P (Some a) prefixes h = h
 
-module _ (due dirty : Prefixes) (told : Routes) (to_tell : PrefixValue → Option Attrs) (wide : Bool) (batch : Batch) where
+module _ (due dirty : Prefixes) (adj_rib_out : Routes) (to_tell : PrefixValue → Option Attrs) (wide : Bool) (batch : Batch) where
   abbrev ToTell : PrefixValue → Type 0
-  ToTell x = IsPrefixToTell due dirty told to_tell x
+  ToTell x = IsPrefixToTell due dirty adj_rib_out to_tell x
 
   changed : (p : PrefixValue) → (ToTell p × (to_tell p ≡ batch.attrs)) × (list_any (same_prefix p) batch.prefixes ≡ true)
-      → map.get (apply told (update_for batch.attrs batch.prefixes)) p ≢ map.get told p
-  changed p h e = h.0.0.1 (sym e ∙ (value_of_listed batch.attrs batch.prefixes told p h.1 ∙ sym h.0.1))
+      → map.get (apply adj_rib_out (update_for batch.attrs batch.prefixes)) p ≢ map.get adj_rib_out p
+  changed p h e = h.0.0.1 (sym e ∙ (value_of_listed batch.attrs batch.prefixes adj_rib_out p h.1 ∙ sym h.0.1))
 
-  pub changes : IsNext ToTell to_tell wide batch → Changes told (update_for batch.attrs batch.prefixes)
+  pub changes : IsNext ToTell to_tell wide batch → Changes adj_rib_out (update_for batch.attrs batch.prefixes)
   changes next =
       let first = front_all (λ x. ToTell x × (to_tell x ≡ batch.attrs)) batch.prefixes next.later next.alike.each in
       let listed = all_listed (λ x. ToTell x × (to_tell x ≡ batch.attrs)) batch.prefixes batch.prefixes first (λ p e. e) in
-      all_of_update (λ p. map.get (apply told (update_for batch.attrs batch.prefixes)) p ≢ map.get told p) batch.attrs batch.prefixes
-      (All-weaker (λ p. (ToTell p × (to_tell p ≡ batch.attrs)) × (list_any (same_prefix p) batch.prefixes ≡ true)) (λ p. map.get (apply told (update_for batch.attrs batch.prefixes)) p ≢ map.get told p) changed batch.prefixes listed)
+      all_of_update (λ p. map.get (apply adj_rib_out (update_for batch.attrs batch.prefixes)) p ≢ map.get adj_rib_out p) batch.attrs batch.prefixes
+      (All-weaker (λ p. (ToTell p × (to_tell p ≡ batch.attrs)) × (list_any (same_prefix p) batch.prefixes ≡ true)) (λ p. map.get (apply adj_rib_out (update_for batch.attrs batch.prefixes)) p ≢ map.get adj_rib_out p) changed batch.prefixes listed)
 
 -- ---- it is one way
 
@@ -109,21 +109,22 @@ both_true true true e f = absurd (false≢true (sym f))
 both_true true false e f = refl
 both_true false b e f = e
 
-module _ (due then_due dirty : Prefixes) (told : Routes) (to_tell : PrefixValue → Option Attrs) (wide : Bool) (batch : Batch)
+module _ (due then_due dirty : Prefixes) (adj_rib_out : Routes) (to_tell : PrefixValue → Option Attrs) (wide : Bool) (batch : Batch)
     (less_due : (x : PrefixValue) → has then_due x ≡ (has due x && not (list_any (same_prefix x) batch.prefixes))) where
   abbrev Left : PrefixValue → Type 0
-  Left x = Without (λ y. IsPrefixToTell due dirty told to_tell y) batch.prefixes x
+  Left x = Without (λ y. IsPrefixToTell due dirty adj_rib_out to_tell y) batch.prefixes x
 
   abbrev Then : PrefixValue → Type 0
-  Then x = IsPrefixToTell then_due dirty (apply told (update_for batch.attrs batch.prefixes)) to_tell x
+  Then x = IsPrefixToTell then_due dirty (apply adj_rib_out (update_for batch.attrs batch.prefixes)) to_tell x
 
   forth : (x : PrefixValue) → Left x → Then x
-  forth x h = ((less_due x ∙ both_true (has due x) (list_any (same_prefix x) batch.prefixes) h.0.0.0 h.1, h.0.0.1), λ e. h.0.1 (sym (value_of_other batch.attrs batch.prefixes told x h.1) ∙ e))
+  forth x h = ((less_due x ∙ both_true (has due x) (list_any (same_prefix x) batch.prefixes) h.0.0.0 h.1, h.0.0.1), λ e. h.0.1 (sym (value_of_other batch.attrs batch.prefixes adj_rib_out x h.1) ∙ e))
 
   back : (x : PrefixValue) → Then x → Left x
   back x h =
       let b = both (has due x) (list_any (same_prefix x) batch.prefixes) (sym (less_due x) ∙ h.0.0) in
-      (((b.0, h.0.1), λ e. h.1 (value_of_other batch.attrs batch.prefixes told x b.1 ∙ e)), b.1)
+      (((b.0, h.0.1), λ e. h.1 (value_of_other batch.attrs batch.prefixes adj_rib_out x b.1 ∙ e)), b.1)
 
-  pub rest : (batches : List Batch) → IsPlan (λ y. IsPrefixToTell due dirty told to_tell y) to_tell wide (batch ∷ batches) → IsPlan Then to_tell wide batches
+  pub rest : (batches : List Batch) → IsPlan (λ y. IsPrefixToTell due dirty adj_rib_out to_tell y) to_tell wide (batch ∷ batches)
+      → IsPlan Then to_tell wide batches
   rest batches plan = plan_of_same to_tell wide Left Then forth back batches plan.1

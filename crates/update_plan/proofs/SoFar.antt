@@ -19,14 +19,14 @@ use Rattle.update_plan.proofs.Listed.{same_itself, is_same, before_below}
 use Rattle.update_plan.proofs.Plans.{Plus, plan_of_same, plan_adds}
 
 -- those that stand in a list, aren't to be decided again, and were told otherwise
-pub record Among (dirty : Prefixes) (told : map.FinMap prefix_cmp Attrs) (to_tell : PrefixValue → Option Attrs) (ps : List PrefixValue) (x : PrefixValue) : Type 0 where
+pub record Among (dirty : Prefixes) (adj_rib_out : map.FinMap prefix_cmp Attrs) (to_tell : PrefixValue → Option Attrs) (ps : List PrefixValue) (x : PrefixValue) : Type 0 where
   pub clean : has dirty x ≡ false
-  pub other : map.get told x ≢ to_tell x
+  pub other : map.get adj_rib_out x ≢ to_tell x
   pub listed : list_any (same_prefix x) ps ≡ true
 
-module _ (dirty : Prefixes) (told : map.FinMap prefix_cmp Attrs) (to_tell : PrefixValue → Option Attrs) (wide : Bool) where
+module _ (dirty : Prefixes) (adj_rib_out : map.FinMap prefix_cmp Attrs) (to_tell : PrefixValue → Option Attrs) (wide : Bool) where
   abbrev Is : List PrefixValue → PrefixValue → Type 0
-  Is ps x = Among dirty told to_tell ps x
+  Is ps x = Among dirty adj_rib_out to_tell ps x
 
   abbrev pub PlanAmong : List PrefixValue → List Batch → Type 0
   PlanAmong ps batches = IsPlan (Is ps) to_tell wide batches
@@ -71,7 +71,7 @@ module _ (dirty : Prefixes) (told : map.FinMap prefix_cmp Attrs) (to_tell : Pref
     passes_dirty batches dirties plan = passes batches (λ is. false≢true (sym is.clean ∙ dirties)) plan
 
     gathers : (old new : List Batch) → IsStrictlySortedBy prefix_cmp (ps ++ p ∷ []) → has dirty p ≡ false → octets wide (to_tell p) (p ∷ []) ≤ 4096
-        → Gathers wide (map.get told p) to_tell p old new → PlanAmong ps old → PlanAmong (ps ++ p ∷ []) new
+        → Gathers wide (map.get adj_rib_out p) to_tell p old new → PlanAmong ps old → PlanAmong (ps ++ p ∷ []) new
     gathers old new rises clean fits (inl h) plan = subst (PlanAmong (ps ++ p ∷ [])) (sym h.1) (passes old (λ is. is.other h.0) plan)
     gathers old new rises clean fits (inr h) plan =
         let here : Is (ps ++ p ∷ []) p = record { clean = clean; other = h.0; listed = listed_more p ∙ last (list_any (same_prefix p) ps) (same_prefix p p) (same_itself p) } in
@@ -93,16 +93,16 @@ module _ (dirty : Prefixes) (told : map.FinMap prefix_cmp Attrs) (to_tell : Pref
     plan_passes batches dirties plan = subst (λ (ps : List PrefixValue). PlanAmong ps batches) (sym more) (passes_dirty (take i ks) p batches dirties plan)
 
     pub plan_then : (due : Prefixes) → ks ≡ map.keys due → (old new : List Batch) → has dirty p ≡ false → octets wide (to_tell p) (p ∷ []) ≤ 4096
-        → Gathers wide (map.get told p) to_tell p old new → PlanAmong (take i ks) old → PlanAmong (take (i + 1) ks) new
+        → Gathers wide (map.get adj_rib_out p) to_tell p old new → PlanAmong (take i ks) old → PlanAmong (take (i + 1) ks) new
     plan_then due keys old new clean fits gathered plan =
         let rises : IsStrictlySortedBy prefix_cmp (take (i + 1) ks) = subst (λ (l : List PrefixValue). IsStrictlySortedBy prefix_cmp (take (i + 1) l)) (sym keys) (first_keys_rise due (i + 1)) in
         subst (λ (ps : List PrefixValue). PlanAmong ps new) (sym more) (gathers (take i ks) p old new (subst (IsStrictlySortedBy prefix_cmp) more rises) clean fits gathered plan)
 
   pub plan_ends : (due : Prefixes) (ks : List PrefixValue) → ks ≡ map.keys due → (i : ℕ) → length ks ≤ i → (batches : List Batch)
-      → PlanAmong (take i ks) batches → IsPlan (IsPrefixToTell due dirty told to_tell) to_tell wide batches
+      → PlanAmong (take i ks) batches → IsPlan (IsPrefixToTell due dirty adj_rib_out to_tell) to_tell wide batches
   plan_ends due ks keys i past batches plan =
       let all : PlanAmong (map.keys due) batches = subst (λ (ps : List PrefixValue). PlanAmong ps batches) (take_all i ks past ∙ keys) plan in
-      plan_of_same to_tell wide (Is (map.keys due)) (IsPrefixToTell due dirty told to_tell)
+      plan_of_same to_tell wide (Is (map.keys due)) (IsPrefixToTell due dirty adj_rib_out to_tell)
       (λ x among. ((sym (keys_any due x) ∙ among.listed, among.clean), among.other))
       (λ x untold. record { clean = untold.0.1; other = untold.1; listed = keys_any due x ∙ untold.0.0 })
       batches all

@@ -14,7 +14,7 @@ IsDueAndClean due dirty prefix = (has due prefix ≡ true) × (has dirty prefix 
 
 -- the prefix waits, and what was told of it isn't what is to be told now
 abbrev pub IsPrefixToTell : Prefixes → Prefixes → Routes → (PrefixValue → Option Attrs) → PrefixValue → Type 0
-IsPrefixToTell due dirty told to_tell prefix = IsDueAndClean due dirty prefix × (map.get told prefix ≢ to_tell prefix)
+IsPrefixToTell due dirty adj_rib_out to_tell prefix = IsDueAndClean due dirty prefix × (map.get adj_rib_out prefix ≢ to_tell prefix)
 
 -- what a router tells of a prefix on a session
 abbrev pub rib_to_tell : RibValue → OutSide → PrefixValue → Option Attrs

@@ -33,7 +33,7 @@ fn is_told(told: Option<&Attrs>, attrs: &Option<Attrs>) -> bool
 /// Adds a prefix whose attributes to be told have to be made, unless they were told.
 fn gather_made(
     rib: &Rib,
-    told: &AdjRib,
+    adj_rib_out: &AdjRib,
     view: &OutView<'_>,
     prefix: Prefix,
     gathered: &mut Gathered,
@@ -41,11 +41,11 @@ fn gather_made(
     requires { GatheredInvariant gathered.old }
     ensures keeps { OnOk result (GatheredInvariant gathered.new) }
     ensures wide { OnOk result (gathered.new.wide ≡ gathered.old.wide) }
-    ensures gathers { OnOk result (Gathers gathered.old.wide (map.get told.now prefix) (rib_to_tell (rib_of rib.now) (out_side_of_view view.now)) prefix gathered.old.batches.items gathered.new.batches.items) }
+    ensures gathers { OnOk result (Gathers gathered.old.wide (map.get adj_rib_out.now prefix) (rib_to_tell (rib_of rib.now) (out_side_of_view view.now)) prefix gathered.old.batches.items gathered.new.batches.items) }
     ensures sound { OnOk result (AreSound gathered.old.batches.items → AreSound gathered.new.batches.items) }
 {
     let attrs = rib.tell_out(prefix, view)?;
-    if is_told(told.get(prefix), &attrs) {
+    if is_told(adj_rib_out.get(prefix), &attrs) {
         return Ok(());
     }
     gathered.add(prefix, attrs)
@@ -54,7 +54,7 @@ fn gather_made(
 /// Adds a prefix whose best route is passed on with these attributes, unless they were told.
 fn gather_passing(
     rib: &Rib,
-    told: &AdjRib,
+    adj_rib_out: &AdjRib,
     view: &OutView<'_>,
     prefix: Prefix,
     attrs: &Attrs,
@@ -64,10 +64,10 @@ fn gather_passing(
     requires passes { TellsPassedOn (rib_of rib.now) (out_side_of_view view.now) prefix attrs.now }
     ensures keeps { OnOk result (GatheredInvariant gathered.new) }
     ensures wide { OnOk result (gathered.new.wide ≡ gathered.old.wide) }
-    ensures gathers { OnOk result (Gathers gathered.old.wide (map.get told.now prefix) (rib_to_tell (rib_of rib.now) (out_side_of_view view.now)) prefix gathered.old.batches.items gathered.new.batches.items) }
+    ensures gathers { OnOk result (Gathers gathered.old.wide (map.get adj_rib_out.now prefix) (rib_to_tell (rib_of rib.now) (out_side_of_view view.now)) prefix gathered.old.batches.items gathered.new.batches.items) }
     ensures sound { OnOk result (AreSound gathered.old.batches.items → AreSound gathered.new.batches.items) }
 {
-    if is_told_on(told.get(prefix), attrs, rib.home_as(), view.local_address) {
+    if is_told_on(adj_rib_out.get(prefix), attrs, rib.home_as(), view.local_address) {
         return Ok(());
     }
     gathered.add_passing(rib, view, prefix, attrs)
@@ -76,7 +76,7 @@ fn gather_passing(
 /// Adds a prefix that is due and isn't dirty, unless what was told of it is what is to be told.
 fn gather(
     rib: &Rib,
-    told: &AdjRib,
+    adj_rib_out: &AdjRib,
     view: &OutView<'_>,
     prefix: Prefix,
     gathered: &mut Gathered,
@@ -84,12 +84,12 @@ fn gather(
     requires { GatheredInvariant gathered.old }
     ensures keeps { OnOk result (GatheredInvariant gathered.new) }
     ensures wide { OnOk result (gathered.new.wide ≡ gathered.old.wide) }
-    ensures gathers { OnOk result (Gathers gathered.old.wide (map.get told.now prefix) (rib_to_tell (rib_of rib.now) (out_side_of_view view.now)) prefix gathered.old.batches.items gathered.new.batches.items) }
+    ensures gathers { OnOk result (Gathers gathered.old.wide (map.get adj_rib_out.now prefix) (rib_to_tell (rib_of rib.now) (out_side_of_view view.now)) prefix gathered.old.batches.items gathered.new.batches.items) }
     ensures sound { OnOk result (AreSound gathered.old.batches.items → AreSound gathered.new.batches.items) }
 {
     match passing(rib, view, prefix) {
-        Some(attrs) => gather_passing(rib, told, view, prefix, attrs, gathered),
-        None => gather_made(rib, told, view, prefix, gathered),
+        Some(attrs) => gather_passing(rib, adj_rib_out, view, prefix, attrs, gathered),
+        None => gather_made(rib, adj_rib_out, view, prefix, gathered),
     }
 }
 
@@ -105,11 +105,11 @@ pub fn plan(
     alloc: Global,
     rib: &Rib,
     due: &PrefixSet,
-    told: &AdjRib,
+    adj_rib_out: &AdjRib,
     view: &OutView<'_>,
     wide: bool,
 ) -> Result<Items<Batch>, NoMemory>
-    ensures planned { IfOk result (λ batches. IsPlan (IsPrefixToTell due.now rib.now.dirty told.now (rib_to_tell (rib_of rib.now) (out_side_of_view view.now))) (rib_to_tell (rib_of rib.now) (out_side_of_view view.now)) wide batches) }
+    ensures planned { IfOk result (λ batches. IsPlan (IsPrefixToTell due.now rib.now.dirty adj_rib_out.now (rib_to_tell (rib_of rib.now) (out_side_of_view view.now))) (rib_to_tell (rib_of rib.now) (out_side_of_view view.now)) wide batches) }
     ensures sound { IfOk result AreSound }
 {
     let prefixes = due.prefixes()?;
@@ -118,7 +118,7 @@ pub fn plan(
         if rib.is_dirty(*prefix) {
             continue;
         }
-        gather(rib, told, view, *prefix, &mut gathered)?;
+        gather(rib, adj_rib_out, view, *prefix, &mut gathered)?;
     }
     Ok(gathered.into_batches())
 }

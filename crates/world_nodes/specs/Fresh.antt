@@ -5,7 +5,7 @@ use Rattle.link_bag.specs.Planned.{fate_in, fate_of}
 use Rattle.tcp_seq.specs.declared.segment.Way.{Way}
 use Rattle.bgp_session.specs.Running.{RunningSession}
 use Rattle.router_core.specs.declared.place.Errand.{Errand}
-use Rattle.graft_model.specs.Setups.{Setup, beat_of}
+use Rattle.graft_model.specs.Setups.{Setup, keepalive_interval_of}
 use Rattle.router_core.specs.Places.{RunsAt}
 use Rattle.router_core.specs.declared.router as routers
 use Rattle.far_side.specs.Parts.{HasLinks}
@@ -25,7 +25,7 @@ pub record IsFreshFar (setup : Setup) (faults : List Fault) (far : fars.Far.Far)
   pub links : HasLinks far.fields
   pub homeward : (far.fields.homeward.plans ≡ []) × (far.fields.homeward.put ≡ 0)
   pub remoteward : (far.fields.remoteward.plans ≡ []) × (far.fields.remoteward.put ≡ 0)
-  pub beat : option_map beat_of (slice_get setup.peerings far.fields.peering.0) ≡ Some far.fields.beat
+  pub keepalive_interval : option_map keepalive_interval_of (slice_get setup.peerings far.fields.peering.0) ≡ Some far.fields.keepalive_interval
   pub fates : (way : Way) (segment : ℕ) → fate_in far.fields.plan far.fields.peering way segment ≡ fate_of faults far.fields.peering way segment
 
 abbrev pub IsFresh : Setup → List Fault → Node → Type 0

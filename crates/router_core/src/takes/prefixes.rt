@@ -31,7 +31,7 @@ pub(crate) fn all_best(alloc: Global, rib: &Rib) -> Result<PrefixSet, NoMemory>
 /// Returns the set of the prefixes that were told on a session or have a best route: those that are due on a session
 /// that is live again.
 pub(crate) fn due_again(alloc: Global, rib: &Rib, session: &Session) -> Result<PrefixSet, NoMemory>
-    ensures { IfOk result (λ set. IsDueAgain session.now.session.told rib.now.best set) }
+    ensures { IfOk result (λ set. IsDueAgain session.now.session.adj_rib_out rib.now.best set) }
 {
     let mut set = all_best(alloc, rib)?;
     add_all(&mut set, session.told().prefixes()?.as_slice())?;

@@ -8,4 +8,4 @@ returns-in-Some c = λ setup w d sound has at step_is rounds_is total. subst (λ
 
 pub returns-in-None : goal.returns-in-None
 returns-in-None c = λ setup w d sound has at step_is rounds_is total.
-    c.rest.ensures setup w d sound has at step_is rounds_is (subst (λ (o : Option RunEnd). LimitNames setup w c.args.budget d o) c.in-None.is (c.in_ok-end.ensures setup w c.args.budget d has at total))
+    c.budget_verdict.ensures setup w d sound has at step_is rounds_is (subst (λ (o : Option RunEnd). LimitNames setup w c.args.budget d o) c.in-None.is (c.in_ok-end.ensures setup w c.args.budget d has at total))

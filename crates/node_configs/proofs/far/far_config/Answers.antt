@@ -8,7 +8,7 @@ use Rattle.lab_input.specs.Said.{step_update}
 use Rattle.node_configs.specs.Says.{says_of}
 use Rattle.node_configs.proofs.Accepted.{few, writable}
 use Rattle.lab_setup.proofs.Lists.{read_at}
-use Rattle.node_configs.proofs.Fars.{width, is_config}
+use Rattle.node_configs.proofs.Fars.{is_config}
 use Rattle.node_configs.proofs.far.far_config.Goals as goal
 
 pub says_of-requires-clause-few : goal.says_of-requires-clause-few
@@ -23,7 +23,7 @@ says_of-requires-clause-writable c =
     (writable c.args.input.now c.requires.accepted c.is_wide-wide.result)
 
 -- the peering of the number
-there : (c : goal.After-beat_of) → slice_get c.args.input.now.peerings c.args.peering.0 ≡ Some c.index-deref-from.result
+there : (c : goal.After-keepalive_interval_of) → slice_get c.args.input.now.peerings c.args.peering.0 ≡ Some c.index-deref-from.result
 there c = read_at c.args.input.now.peerings c.deref.result.now c.from.result c.args.peering.0 c.index-deref-from.result c.deref.ensures c.from.ensures c.requires.there c.index-deref-from.is
 
 pub returns-clause-config : goal.returns-clause-config
@@ -31,7 +31,4 @@ returns-clause-config c =
     is_config c.args.input.now c.requires.accepted _ c.index-deref-from.result (there c) c.counts-routers.ensures.routers c.counts-routers.ensures.peerings refl refl refl c.in_ok-copy.ensures
     (c.in_ok-says_of.ensures ∙ ap (λ (w : Bool). says_of w c.args.peering.0 c.deref-2.result.now) c.is_wide-wide.ensures
     ∙ ap (λ (steps : List Step). says_of (is_wide c.index-deref-from.result) c.args.peering.0 steps) c.deref-2.ensures)
-    (c.beat_of.ensures c.args.input.now c.args.peering.0)
-
-pub returns-clause-wide : goal.returns-clause-wide
-returns-clause-wide c = c.is_wide-wide.ensures ∙ width c.args.input.now c.args.peering.0 c.index-deref-from.result (there c)
+    (c.keepalive_interval_of.ensures c.args.input.now c.args.peering.0)

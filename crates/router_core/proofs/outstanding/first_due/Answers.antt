@@ -2,7 +2,7 @@ use Rattle.std.proofs.Common.{rules, ◌≡◌, true, false, is_some, arith}
 use Rattle.settled_check.specs.Left.{HasSome}
 use Rattle.rib_stages.specs.Values.{table_at}
 use Rattle.router_core.proofs.RestSteps.{lowest_is, lowest_none, none_behind, none_due, none_next, some_due}
-use Rattle.router_core.proofs.rest.first_due.Goals as goal
+use Rattle.router_core.proofs.outstanding.first_due.Goals as goal
 
 pub returns-then-is_some : goal.returns-then-is_some
 returns-then-is_some c =

@@ -1,6 +1,6 @@
 use Rattle.std.proofs.Common.{◌≡◌, true, false, refl, ◌∙◌}
 use Rattle.far_side.proofs.BeatSteps.{not_due_each, due_each, sends_keepalive}
-use Rattle.far_side.proofs.emit.beat.Goals as goal
+use Rattle.far_side.proofs.emit.send_keepalive.Goals as goal
 
 pub returns-then-not-is_due-clause-beaten : goal.returns-then-not-is_due-clause-beaten
 returns-then-not-is_due-clause-beaten g c = not_due_each c.args.far.now c.args.post.now c.requires

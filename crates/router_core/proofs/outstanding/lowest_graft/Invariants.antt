@@ -1,5 +1,5 @@
 use Rattle.router_core.proofs.RestSteps.{LowestBelow}
-use Rattle.router_core.proofs.rest.lowest_graft.Given as goal
+use Rattle.router_core.proofs.outstanding.lowest_graft.Given as goal
 
 -- the lowest number of a graft at the first so many
 abbrev pub invariant-loop-n : goal.invariant-loop-n

@@ -1,6 +1,6 @@
 use Rattle.std.proofs.Common.{ℕ, Option, ◌+◌, sym, subst, arith}
 use Rattle.router_core.proofs.RestSteps.{LowestBelow, lowest_all, lowest_first, lowest_next}
-use Rattle.router_core.proofs.rest.lowest_graft.Goals as goal
+use Rattle.router_core.proofs.outstanding.lowest_graft.Goals as goal
 
 pub loop-n-init : goal.loop-n-init
 loop-n-init c = lowest_first c.args.places.now.places

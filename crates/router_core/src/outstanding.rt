@@ -130,7 +130,7 @@ fn peering_of(number: Option<u8>) -> Option<PeeringId>
 }
 
 /// Returns what is left to do.
-pub(crate) fn rest(router: &Fields) -> RouterRest
+pub(crate) fn outstanding(router: &Fields) -> RouterRest
     requires { RouterInvariant router.now }
     ensures { IsRouterRest router.now.number.0 (router_part router.now) result }
 {

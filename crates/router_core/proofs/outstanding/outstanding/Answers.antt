@@ -5,7 +5,7 @@ use Rattle.settled_check.specs.Left.{HasSome, HasStream}
 use Rattle.router_core.specs.Parts.{router_part}
 use Rattle.router_core.specs.Places.{place_of, place_at}
 use Rattle.router_core.proofs.RestSteps.{has_some, lowest_in}
-use Rattle.router_core.proofs.rest.rest.Goals as goal
+use Rattle.router_core.proofs.outstanding.outstanding.Goals as goal
 
 pub returns : goal.returns
 returns c =

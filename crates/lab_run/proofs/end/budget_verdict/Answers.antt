@@ -1,5 +1,5 @@
 use Rattle.std.proofs.Common.{refl, sym, arith}
-use Rattle.lab_run.proofs.end.rest.Goals as goal
+use Rattle.lab_run.proofs.end.budget_verdict.Goals as goal
 
 pub returns-then-budget-rounds : goal.returns-then-budget-rounds
 returns-then-budget-rounds c = λ setup w d sound has at step_is rounds_is below. (below, record { quiet = (c.in-None.ensures.quiet setup w has sound at).0 refl; enough = omega (arith, c.if-budget-rounds.true, rounds_is) })

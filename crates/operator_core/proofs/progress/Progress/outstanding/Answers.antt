@@ -6,7 +6,7 @@ use Rattle.operator_core.specs.Slots.{first_open}
 use Rattle.operator_core.specs.States.{part_of_state}
 use Rattle.operator_core.specs.Progresses.{progress_state}
 use Rattle.operator_core.proofs.Rests.{some_unissued, unissued_there, lowest_open, some_or_none}
-use Rattle.operator_core.proofs.progress.Progress.rest.Goals as goal
+use Rattle.operator_core.proofs.progress.Progress.outstanding.Goals as goal
 
 pub returns : goal.returns
 returns c = record {
