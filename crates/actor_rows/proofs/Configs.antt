@@ -15,7 +15,8 @@ says_of first second third = record { step = 0; bytes = first } ∷ record { ste
 -- what is found of a step by whether it is the first, the second or the third
 abbrev found : (first second third : List ℕ) (a b c : Bool) → Option (List ℕ)
 found first second third a b c = option_map (λ (say : Say). say.bytes)
-    (if a then Some (record { step = 0; bytes = first }) else if b then Some (record { step = 2; bytes = second }) else if c then Some (record { step = 7; bytes = third }) else None)
+    (if a then Some (record { step = 0; bytes = first }) else if b then Some
+    (record { step = 2; bytes = second }) else if c then Some (record { step = 7; bytes = third }) else None)
 
 says_are : (opening first second third : List ℕ) (step : ℕ)
     → bytes_to_say (says_of first second third) step ≡ say_by 0 (slice_get (laboratory opening first second third).steps step)
@@ -38,7 +39,18 @@ says_are opening first second third (suc (suc (suc (suc (suc (suc (suc (suc (suc
 
 pub is_config : (opening first second third : List ℕ) (says : List Say) (plan : Plan) → length opening ≤ 4096 → says ≡ says_of first second third
     → IsFarConfigOf (laboratory opening first second third)
-    (record { routers = 3; peerings = 2; peering = record { 0 = 0 }; pointer = record { 0 = 0 }; send_first = record { 0 = 5000 }; receive_first = record { 0 = 1000 }; opening = opening; says = says; plan = plan; beat = 5 })
+    (record {
+      routers = 3;
+      peerings = 2;
+      peering = record { 0 = 0 };
+      pointer = record { 0 = 0 };
+      send_first = record { 0 = 5000 };
+      receive_first = record { 0 = 1000 };
+      opening = opening;
+      says = says;
+      plan = plan;
+      beat = 5;
+    })
 is_config opening first second third says plan short said = record {
   peering = _;
   is = refl;

@@ -1,5 +1,6 @@
 -- Prefixes among others in rising order.
-use Rattle.std.proofs.Common.{◌≡◌, ℕ, ◌+◌, ◌<◌, ◌≤◌, ◌⊎◌, Bool, true, false, cond, ◌||◌, List, [], ◌∷◌, length, get_or, Result, Ok, Err, inl, inr, refl, sym, ap, ◌∙◌, arith}
+use Rattle.std.proofs.Common.{◌≡◌, ℕ, ◌+◌, ◌<◌, ◌≤◌, ◌⊎◌, Bool, true, false, cond, ◌||◌, List, [], ◌∷◌}
+use Rattle.std.proofs.Common.{length, get_or, Result, Ok, Err, inl, inr, refl, sym, ap, ◌∙◌, arith}
 use Rattle.std.specs.Prelude.{is_ok}
 use Rattle.std.specs.declared.cmp.Ordering.{Ordering}
 use Rattle.std.specs.declared.cmp.Ordering.TheVariants.{Less, Equal, Greater}
@@ -35,10 +36,11 @@ twice false b = refl
 module _ {A : Type 0} (same : A → A → Bool) (tells : (x y : A) → same x y ≡ true → x ≡ y) (test : A → Bool) where
   any_from : (k : A) (xs : List A) → list_any test (dedup_from same k xs) ≡ (test k || list_any test xs)
   any_from k [] = refl
-  any_from k (x ∷ xs) = elim (same x k) as (λ b. same x k ≡ b → list_any test (cond b (dedup_from same k xs) (k ∷ dedup_from same x xs)) ≡ (test k || (test x || list_any test xs))) [
-    | true ↦ λ e. any_from k xs ∙ (twice (test k) (list_any test xs) ∙ ap (λ (y : A). test k || (test y || list_any test xs)) (sym (tells x k e)))
-    | false ↦ λ e. ap (λ (b : Bool). test k || b) (any_from x xs)
-  ] refl
+  any_from k (x ∷ xs) = elim (same x k)
+      as (λ b. same x k ≡ b → list_any test (cond b (dedup_from same k xs) (k ∷ dedup_from same x xs)) ≡ (test k || (test x || list_any test xs))) [
+        | true ↦ λ e. any_from k xs ∙ (twice (test k) (list_any test xs) ∙ ap (λ (y : A). test k || (test y || list_any test xs)) (sym (tells x k e)))
+        | false ↦ λ e. ap (λ (b : Bool). test k || b) (any_from x xs)
+      ] refl
 
   -- what stands in a list stands there without repeats
   pub any_once : (xs : List A) → list_any test (dedup same xs) ≡ list_any test xs

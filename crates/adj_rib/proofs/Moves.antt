@@ -71,16 +71,19 @@ module _ (to : PrefixValue → Option Attrs) (before r s : Routes) (prefixes : L
 
       changed_there : (q : PrefixValue) → (list_any (same_prefix q) prefixes || (same_prefix q p || false)) ≡ true
           → (map.get s q ≡ to q) × (map.get s q ≢ map.get before q)
-      changed_there q = elim (same_prefix q p) as (λ b. same_prefix q p ≡ b → (list_any (same_prefix q) prefixes || (b || false)) ≡ true → (map.get s q ≡ to q) × (map.get s q ≢ map.get before q)) [
-        | true ↦ λ e l. subst (λ (x : PrefixValue). (map.get s x ≡ to x) × (map.get s x ≢ map.get before x)) (sym (is_same q p e)) changed_here
-        | false ↦ λ e l. let was = m.moved q (sym (nothing_more (list_any (same_prefix q) prefixes)) ∙ l) in (set_others q e ∙ was.0, λ f. was.1 (sym (set_others q e) ∙ f))
-      ] refl
+      changed_there q = elim (same_prefix q p) as (λ b. same_prefix q p ≡ b
+          → (list_any (same_prefix q) prefixes || (b || false)) ≡ true → (map.get s q ≡ to q) × (map.get s q ≢ map.get before q)) [
+            | true ↦ λ e l. subst (λ (x : PrefixValue). (map.get s x ≡ to x) × (map.get s x ≢ map.get before x)) (sym (is_same q p e)) changed_here
+            | false ↦ λ e l. let was = m.moved q (sym (nothing_more (list_any (same_prefix q) prefixes)) ∙ l) in
+                (set_others q e ∙ was.0, λ f. was.1 (sym (set_others q e) ∙ f))
+          ] refl
 
       pub moves : RoutesMoved to before s (prefixes ++ p ∷ [])
       moves = record {
         moved = λ q e. changed_there q (sym (list_any-append (same_prefix q) prefixes (p ∷ [])) ∙ e);
         others = λ q e.
-            let h = neither (list_any (same_prefix q) prefixes) (list_any (same_prefix q) (p ∷ [])) (sym (list_any-append (same_prefix q) prefixes (p ∷ [])) ∙ e) in
+            let h = neither (list_any (same_prefix q) prefixes) (list_any (same_prefix q) (p ∷ []))
+            (sym (list_any-append (same_prefix q) prefixes (p ∷ [])) ∙ e) in
             set_others q (neither (same_prefix q p) false h.1).0 ∙ m.others q h.0;
       }
 
@@ -122,10 +125,11 @@ none_of p ps q out in' = elim (same_prefix p q) as (λ b. same_prefix p q ≡ b 
 -- withdrawals that leave what is announced leave a prefix that isn't as all withdrawals do
 module _ (announced : List PrefixValue) (p : PrefixValue) (out : list_any (same_prefix p) announced ≡ false) where
   one_withdrawn : (r s : Routes) (q : PrefixValue) → map.get r p ≡ map.get s p → map.get (withdraw_unless announced r q) p ≡ map.get (map.remove s q) p
-  one_withdrawn r s q e = elim (list_any (same_prefix q) announced) as (λ b. list_any (same_prefix q) announced ≡ b → map.get (cond b r (map.remove r q)) p ≡ map.get (map.remove s q) p) [
-    | true ↦ λ f. e ∙ sym (get_remove s q p ∙ ap (λ (b : Bool). cond b None (map.get s p)) (none_of p announced q out f))
-    | false ↦ λ f. get_remove r q p ∙ (ap (cond (same_prefix p q) None) e ∙ sym (get_remove s q p))
-  ] refl
+  one_withdrawn r s q e = elim (list_any (same_prefix q) announced)
+      as (λ b. list_any (same_prefix q) announced ≡ b → map.get (cond b r (map.remove r q)) p ≡ map.get (map.remove s q) p) [
+        | true ↦ λ f. e ∙ sym (get_remove s q p ∙ ap (λ (b : Bool). cond b None (map.get s p)) (none_of p announced q out f))
+        | false ↦ λ f. get_remove r q p ∙ (ap (cond (same_prefix p q) None) e ∙ sym (get_remove s q p))
+      ] refl
 
   all_withdrawn : (ps : List PrefixValue) (r s : Routes) → map.get r p ≡ map.get s p
       → map.get (fold (withdraw_unless announced) r ps) p ≡ map.get (fold map.remove s ps) p
@@ -162,7 +166,8 @@ alike None nlri r s p same = ap (λ (x : Routes). map.get x p) (none_announced r
     ∙ (same (none_given (list_any (same_prefix p) nlri) None refl) ∙ ap (λ (x : Routes). map.get x p) (sym (none_announced s nlri)))
 alike (Some a) nlri r s p same =
     some_announced a nlri r p
-    ∙ (elim (list_any (same_prefix p) nlri) as (λ b. (is_some (cond b (Some a) None) ≡ false → map.get r p ≡ map.get s p) → cond b (Some a) (map.get r p) ≡ cond b (Some a) (map.get s p)) [
+    ∙ (elim (list_any (same_prefix p) nlri)
+    as (λ b. (is_some (cond b (Some a) None) ≡ false → map.get r p ≡ map.get s p) → cond b (Some a) (map.get r p) ≡ cond b (Some a) (map.get s p)) [
       | true ↦ λ h. refl
       | false ↦ λ h. h refl
     ] same
@@ -172,7 +177,8 @@ alike (Some a) nlri r s p same =
 applied : (old : Routes) (u : Update) (announced : List PrefixValue)
     → ((p : PrefixValue) → list_any (same_prefix p) announced ≡ is_some (given_by_update u p))
     → fold (announce u.attrs) (fold (withdraw_unless announced) old u.withdrawn) u.nlri ≡ apply old u
-applied old u announced among = map.same_map prefix_total exact_prefixes _ _ (λ p. alike u.attrs u.nlri _ _ p (λ none. all_withdrawn announced p (among p ∙ none) u.withdrawn old old refl))
+applied old u announced among = map.same_map prefix_total exact_prefixes _ _
+    (λ p. alike u.attrs u.nlri _ _ p (λ none. all_withdrawn announced p (among p ∙ none) u.withdrawn old old refl))
 
 -- withdrawals that leave what is announced leave the announcements to be made, and so do none
 pub all_but_announced : (old middle : Routes) (u : Update) (announced : List PrefixValue)
@@ -206,7 +212,8 @@ or_true false b e = e
 
 all_of : (P : PrefixValue → Type 0) (ps : List PrefixValue) → ((p : PrefixValue) → list_any (same_prefix p) ps ≡ true → P p) → All P ps
 all_of P [] h = All-nil P
-all_of P (p ∷ ps) h = All-cons P p ps (h p (ap (λ (b : Bool). b || list_any (same_prefix p) ps) (same_itself p))) (all_of P ps (λ q e. h q (or_true (same_prefix q p) (list_any (same_prefix q) ps) e)))
+all_of P (p ∷ ps) h = All-cons P p ps (h p (ap (λ (b : Bool). b || list_any (same_prefix p) ps) (same_itself p)))
+    (all_of P ps (λ q e. h q (or_true (same_prefix q p) (list_any (same_prefix q) ps) e)))
 
 pub listed : (to : PrefixValue → Option Attrs) (before now : Routes) (changed prefixes : List PrefixValue) → RoutesMoved to before now changed
     → IsStrictlySortedBy prefix_cmp prefixes

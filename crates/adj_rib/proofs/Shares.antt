@@ -22,10 +22,11 @@ module _ {V W : Type 0} (f : V → W) where
 
   find_seen : (q : PrefixValue) (es : List (PrefixValue × V)) → table.find prefix_cmp q (map (λ e. (e.0, f e.1)) es) ≡ option_map f (table.find prefix_cmp q es)
   find_seen q [] = refl
-  find_seen q (e ∷ es) = elim (eq_by_cmp prefix_cmp q e.0) as (λ b. cond b (Some (f e.1)) (table.find prefix_cmp q (map (λ e. (e.0, f e.1)) es)) ≡ option_map f (cond b (Some e.1) (table.find prefix_cmp q es))) [
-    | true ↦ refl
-    | false ↦ find_seen q es
-  ]
+  find_seen q (e ∷ es) = elim (eq_by_cmp prefix_cmp q e.0) as (λ b.
+      cond b (Some (f e.1)) (table.find prefix_cmp q (map (λ e. (e.0, f e.1)) es)) ≡ option_map f (cond b (Some e.1) (table.find prefix_cmp q es))) [
+        | true ↦ refl
+        | false ↦ find_seen q es
+      ]
 
   keys_seen : (es : List (PrefixValue × V)) → map (λ (x : PrefixValue × W). x.0) (map (λ e. (e.0, f e.1)) es) ≡ map (λ e. e.0) es
   keys_seen [] = refl
@@ -82,4 +83,5 @@ module _ {V W : Type 0} (f : V → W) where
       ∙ sym (table.get-remove prefix_total (each_value f m) p q)))))
 
   pub each_empty : each_value f table.empty ≡ table.empty
-  each_empty = table.same_map prefix_total exact_prefixes _ _ (λ q. each_get table.empty q ∙ (ap (option_map f) (table.get-empty prefix_cmp q) ∙ sym (table.get-empty prefix_cmp q)))
+  each_empty = table.same_map prefix_total exact_prefixes _ _
+      (λ q. each_get table.empty q ∙ (ap (option_map f) (table.get-empty prefix_cmp q) ∙ sym (table.get-empty prefix_cmp q)))

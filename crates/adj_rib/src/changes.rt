@@ -85,7 +85,8 @@ fn withdraw(
 ) -> Result<(), NoMemory>
     requires { IsStrictlySortedBy prefix_cmp announced.now }
     ensures routes { OnOk result (routes.new ≡ fold (withdraw_unless announced.now) routes.old prefixes.now) }
-    ensures changed { OnOk result ((before : Routes) (to : PrefixValue → Option Attrs) → ((p : PrefixValue) → list_any (same_prefix p) announced.now ≡ is_some (to p))
+    ensures changed { OnOk result
+        ((before : Routes) (to : PrefixValue → Option Attrs) → ((p : PrefixValue) → list_any (same_prefix p) announced.now ≡ is_some (to p))
         → RoutesMoved to before routes.old changed.old → RoutesMoved to before routes.new changed.new) }
 {
     for prefix in prefixes {
@@ -103,7 +104,8 @@ pub fn withdraw_all(
     changed: &mut PrefixList,
 ) -> Result<(), NoMemory>
     ensures routes { OnOk result (fold (announced update.now.attrs) routes.new update.now.nlri ≡ apply routes.old update.now) }
-    ensures changed { OnOk result ((before : Routes) → RoutesMoved (given_by_update update.now) before routes.old changed.old → RoutesMoved (given_by_update update.now) before routes.new changed.new) }
+    ensures changed { OnOk result ((before : Routes) → RoutesMoved (given_by_update update.now) before routes.old changed.old
+        → RoutesMoved (given_by_update update.now) before routes.new changed.new) }
 {
     if update.withdrawn.is_empty() {
         return Ok(());
@@ -161,7 +163,8 @@ pub fn announce(
     changed: &mut PrefixList,
 ) -> Result<(), NoMemory>
     ensures routes { OnOk result (routes.new ≡ fold (announced (Some attrs.now)) routes.old prefixes.now) }
-    ensures changed { OnOk result ((before : Routes) (to : PrefixValue → Option Attrs) → ((p : PrefixValue) → list_any (same_prefix p) prefixes.now ≡ true → to p ≡ Some attrs.now)
+    ensures changed { OnOk result
+        ((before : Routes) (to : PrefixValue → Option Attrs) → ((p : PrefixValue) → list_any (same_prefix p) prefixes.now ≡ true → to p ≡ Some attrs.now)
         → RoutesMoved to before routes.old changed.old → RoutesMoved to before routes.new changed.new) }
 {
     let shared = Arc::new(alloc, attrs.copy()?)?;

@@ -1,5 +1,6 @@
 -- What reading attributes from left to right keeps.
-use Rattle.std.proofs.Common.{◌≡◌, ℕ, ◌<◌, List, [], ◌∷◌, ◌++◌, length, get_or, Bool, true, false, cond, eqb, Option, Some, None, Result, Ok, refl, sym, ap, ◌∙◌, arith, subst, append_assoc, get_or-set_other, get_or-set_same}
+use Rattle.std.proofs.Common.{◌≡◌, ℕ, ◌<◌, List, [], ◌∷◌, ◌++◌, length, get_or, Bool, true, false, cond, eqb, Option, Some, None}
+use Rattle.std.proofs.Common.{Result, Ok, refl, sym, ap, ◌∙◌, arith, subst, append_assoc, get_or-set_other, get_or-set_same}
 use Rattle.std.specs.Prelude.{◌≢◌, is_some}
 use Rattle.std.proofs.Math.ListN.{set}
 use Rattle.std.proofs.lemmas.List.{append-nil}
@@ -35,7 +36,8 @@ pub record SoFar (wide : Bool) (bytes rest : List ℕ) (said : Said) (seen : Lis
 
 pub begins : (wide : Bool) (bytes : List ℕ) (said : Said) (seen : List Bool) → said ≡ attributes_said wide [] → length seen ≡ 256
     → ((k : ℕ) → k < 256 → get_or seen k false ≡ false) → SoFar wide bytes bytes said seen
-begins wide bytes said seen s size none = record { before = []; cut = refl; clean = λ others left. refl; said_is = s; table = record { size = size; at = none } }
+begins wide bytes said seen s size none =
+    record { before = []; cut = refl; clean = λ others left. refl; said_is = s; table = record { size = size; at = none } }
 
 is_none : {A : Type 0} (o : Option A) → is_some o ≡ false → o ≡ None
 is_none None e = refl
@@ -50,7 +52,8 @@ table_more : (seen seen' : List Bool) (before : List WireAttr) (a : WireAttr) �
     → seen' ≡ set seen a.kind true → length seen' ≡ 256 → IsTable seen' (before ++ a ∷ [])
 table_more seen seen' before a t lt none e size = record { size = size; at = at } where
   by_test : (k : ℕ) → k < 256 → (b : Bool) → eqb a.kind k ≡ b → get_or (set seen a.kind true) k false ≡ cond b true (is_some (attr_of k before))
-  by_test k below true f = let same : a.kind ≡ k = eqb-true _ _ f in let inside : a.kind < length seen = let size = t.size in omega arith in subst (λ (j : ℕ). get_or (set seen a.kind true) j false ≡ true) same (rw get_or-set_same refl)
+  by_test k below true f = let same : a.kind ≡ k = eqb-true _ _ f in let inside : a.kind < length seen = let size = t.size in omega arith in
+      subst (λ (j : ℕ). get_or (set seen a.kind true) j false ≡ true) same (rw get_or-set_same refl)
   by_test k below false f = let ne : k ≢ a.kind = (λ same. grind (arith, nat_tests)) in rw get_or-set_other (t.at k below)
 
   at : (k : ℕ) → k < 256 → get_or seen' k false ≡ is_some (attr_of k (before ++ a ∷ []))
@@ -87,7 +90,8 @@ rest_fault wide bytes rest said seen s =
     ∙ (ap (λ (m : List WireAttr × List ℕ). attrs_fault wide [] m.0 m.1) (sym s.cut) ∙ s.clean (many attr_at rest).0 (many attr_at rest).1)
 
 -- the fault of the attribute at the front
-front_fault : (wide : Bool) (bytes rest : List ℕ) (said : Said) (seen : List Bool) (s : SoFar wide bytes rest said seen) (a : WireAttr) (later : List ℕ) (n : Notice)
+front_fault : (wide : Bool) (bytes rest : List ℕ) (said : Said) (seen : List Bool)
+    (s : SoFar wide bytes rest said seen) (a : WireAttr) (later : List ℕ) (n : Notice)
     → attr_at rest ≡ Some (a, later) → fault_after wide s.before a ≡ Some n → fault_in (all_said wide bytes) ≡ Some n
 unfolding attrs_fault
 front_fault wide bytes rest said seen s a later n e f =
@@ -102,7 +106,8 @@ repeats wide bytes rest said seen s a later e lt old =
     let f : fault_after wide s.before a ≡ Some (bare 1) = rw n refl in
     front_fault wide bytes rest said seen s a later (bare 1) e f
 
-pub fails : (wide : Bool) (bytes rest : List ℕ) (said : Said) (seen : List Bool) (s : SoFar wide bytes rest said seen) (a : WireAttr) (later : List ℕ) (stop : CodecFault)
+pub fails : (wide : Bool) (bytes rest : List ℕ) (said : Said) (seen : List Bool)
+    (s : SoFar wide bytes rest said seen) (a : WireAttr) (later : List ℕ) (stop : CodecFault)
     → attr_at rest ≡ Some (a, later) → a.kind < 256 → get_or seen a.kind false ≡ false → Stops stop (own_fault wide a)
     → Stops stop (fault_in (all_said wide bytes))
 fails wide bytes rest said seen s a later stops.NoMemory e lt new f = tt
@@ -143,9 +148,11 @@ same_fault wide bytes =
 
 unless_ok : (o : Option Notice) (said said' : Said) (found : FoundAttrs) → found ≡ found_of said
     → (let r : Result Said Notice = unless o said in r) ≡ Ok said' → (let r : Result FoundAttrs Notice = unless o found in r) ≡ Ok (found_of said')
-unless_ok None said said' found f e = let same : said ≡ said' = cc in ap (λ (x : FoundAttrs). (let r : Result FoundAttrs Notice = Ok x in r)) (f ∙ ap found_of same)
+unless_ok None said said' found f e =
+    let same : said ≡ said' = cc in ap (λ (x : FoundAttrs). (let r : Result FoundAttrs Notice = Ok x in r)) (f ∙ ap found_of same)
 unless_ok (Some n) said said' found f e = absurd cc
 
 pub said_together : (wide : Bool) (bytes : List ℕ) (said : Said) → all_said wide bytes ≡ Ok said → attrs_in wide bytes ≡ Ok (found_of said)
 unfolding all_said attrs_in
-said_together wide bytes said e = unless_ok (attrs_fault wide [] (many attr_at bytes).0 (many attr_at bytes).1) (attributes_said wide (many attr_at bytes).0) said (found_in wide (many attr_at bytes).0) (found_is wide (many attr_at bytes).0) e
+said_together wide bytes said e = unless_ok (attrs_fault wide [] (many attr_at bytes).0 (many attr_at bytes).1)
+    (attributes_said wide (many attr_at bytes).0) said (found_in wide (many attr_at bytes).0) (found_is wide (many attr_at bytes).0) e

@@ -116,7 +116,18 @@ shape : (n : Says) (s : Said) (k : ℕ) → field_by_field k n s ≡ by_kind k n
 shape n s =
     kind_cases (λ k. field_by_field k n s ≡ by_kind k n s) refl refl refl refl refl refl refl refl refl
     (λ k n1 n2 n3 n4 n5 n6 n7 n17 n18.
-    rw (not_eq k 1 n1, not_eq k 2 n2, not_eq k 3 n3, not_eq k 4 n4, not_eq k 5 n5, not_eq k 6 n6, not_eq k 7 n7, not_eq k 17 n17, not_eq k 18 n18, is_unknown k n1 n2 n3 n4 n5 n6 n7 n17 n18) refl)
+    rw (
+      not_eq k 1 n1,
+      not_eq k 2 n2,
+      not_eq k 3 n3,
+      not_eq k 4 n4,
+      not_eq k 5 n5,
+      not_eq k 6 n6,
+      not_eq k 7 n7,
+      not_eq k 17 n17,
+      not_eq k 18 n18,
+      is_unknown k n1 n2 n3 n4 n5 n6 n7 n17 n18,
+    ) refl)
 
 pub said_step : (wide : Bool) (before : List WireAttr) (a : WireAttr) → attr_of a.kind before ≡ None
     → attributes_said wide (before ++ a ∷ []) ≡ with_attr wide a (attributes_said wide before)
@@ -158,4 +169,15 @@ pub with_other : (wide : Bool) (a : WireAttr) (s : Said) (u : List RawAttr) → 
     → a.kind ≢ 6 → a.kind ≢ 7 → a.kind ≢ 17 → a.kind ≢ 18 → u ≡ with_kept (kept_raw a) s.unknown
     → (let r : Said = record s { unknown = u } in r) ≡ with_attr wide a s
 unfolding with_attr
-with_other wide a s u n1 n2 n3 n4 n5 n6 n7 n17 n18 e = rw (not_eq a.kind 1 n1, not_eq a.kind 2 n2, not_eq a.kind 3 n3, not_eq a.kind 4 n4, not_eq a.kind 5 n5, not_eq a.kind 6 n6, not_eq a.kind 7 n7, not_eq a.kind 17 n17, not_eq a.kind 18 n18, e) refl
+with_other wide a s u n1 n2 n3 n4 n5 n6 n7 n17 n18 e = rw (
+  not_eq a.kind 1 n1,
+  not_eq a.kind 2 n2,
+  not_eq a.kind 3 n3,
+  not_eq a.kind 4 n4,
+  not_eq a.kind 5 n5,
+  not_eq a.kind 6 n6,
+  not_eq a.kind 7 n7,
+  not_eq a.kind 17 n17,
+  not_eq a.kind 18 n18,
+  e,
+) refl

@@ -75,27 +75,32 @@ module _ {A : Type 0} (key : A → ℕ) where
     by_test : (t : Bool) → ltb (key y) (key x) ≡ t → key x ≤ key y
     by_test false f = ltb-false (key y) (key x) f
     by_test true f =
-        let none : [] ≡ y ∷ filter (tied y) ys = sym (no_ties y (key x) (x ∷ xs) (omega arith, all) (ltb-true (key y) (key x) f)) ∙ (e ∙ ap (λ t. cond t (y ∷ filter (tied y) ys) (filter (tied y) ys)) (same_tied y y refl)) in
+        let none : [] ≡ y ∷ filter (tied y) ys = sym (no_ties y (key x) (x ∷ xs) (omega arith, all) (ltb-true (key y) (key x) f))
+        ∙ (e ∙ ap (λ t. cond t (y ∷ filter (tied y) ys) (filter (tied y) ys)) (same_tied y y refl)) in
         absurd cc
 
   same_lists : (xs ys : List A) → IsSorted xs → IsSorted ys → ((x : A) → filter (tied x) xs ≡ filter (tied x) ys) → xs ≡ ys
   same_lists [] [] r s h = refl
-  same_lists [] (y ∷ ys) r s h = let none : [] ≡ y ∷ filter (tied y) ys = h y ∙ ap (λ t. cond t (y ∷ filter (tied y) ys) (filter (tied y) ys)) (same_tied y y refl) in absurd cc
-  same_lists (x ∷ xs) [] r s h = let none : [] ≡ x ∷ filter (tied x) xs = sym (h x) ∙ ap (λ t. cond t (x ∷ filter (tied x) xs) (filter (tied x) xs)) (same_tied x x refl) in absurd cc
+  same_lists [] (y ∷ ys) r s h =
+      let none : [] ≡ y ∷ filter (tied y) ys = h y ∙ ap (λ t. cond t (y ∷ filter (tied y) ys) (filter (tied y) ys)) (same_tied y y refl) in absurd cc
+  same_lists (x ∷ xs) [] r s h = let none : [] ≡ x ∷ filter (tied x) xs =
+      sym (h x) ∙ ap (λ t. cond t (x ∷ filter (tied x) xs) (filter (tied x) xs)) (same_tied x x refl) in absurd cc
   same_lists (x ∷ xs) (y ∷ ys) r s h = ap (λ z. z ∷ xs) first ∙ ap (λ l. y ∷ l) (same_lists xs ys r.1 s.1 rest) where
     alike : key x ≡ key y
     alike = let low = first_low x y xs ys r.0 (h y) in let high = first_low y x ys xs s.0 (sym (h x)) in omega (arith, low, high)
 
     first : x ≡ y
     first = first_same x y (filter (tied x) xs) (filter (tied x) ys)
-        (ap (λ t. cond t (x ∷ filter (tied x) xs) (filter (tied x) xs)) (sym (same_tied x x refl)) ∙ (h x ∙ ap (λ t. cond t (y ∷ filter (tied x) ys) (filter (tied x) ys)) (same_tied x y alike)))
+        (ap (λ t. cond t (x ∷ filter (tied x) xs) (filter (tied x) xs)) (sym (same_tied x x refl))
+        ∙ (h x ∙ ap (λ t. cond t (y ∷ filter (tied x) ys) (filter (tied x) ys)) (same_tied x y alike)))
 
     drop_first : (t : Bool) (ls ms : List A) → cond t (x ∷ ls) ls ≡ cond t (y ∷ ms) ms → ls ≡ ms
     drop_first true ls ms e = rest_same x y ls ms e
     drop_first false ls ms e = e
 
     rest : (z : A) → filter (tied z) xs ≡ filter (tied z) ys
-    rest z = drop_first (tied z x) (filter (tied z) xs) (filter (tied z) ys) (h z ∙ ap (λ w. cond (tied z w) (y ∷ filter (tied z) ys) (filter (tied z) ys)) (sym first))
+    rest z = drop_first (tied z x) (filter (tied z) xs) (filter (tied z) ys)
+        (h z ∙ ap (λ w. cond (tied z w) (y ∷ filter (tied z) ys) (filter (tied z) ys)) (sym first))
 
   -- ---- the list in rising order
 

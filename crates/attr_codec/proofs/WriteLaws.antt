@@ -1,5 +1,6 @@
 -- Attributes that are written, group by group, in rising type.
-use Rattle.std.proofs.Common.{◌≡◌, ℕ, zero, suc, ◌^◌, ◌<◌, ◌≤◌, List, [], ◌∷◌, ◌++◌, length, take, drop, get_or, map, Bool, true, false, cond, Option, Some, None, refl, sym, ap, ◌∙◌, arith, subst, append_assoc, length-append}
+use Rattle.std.proofs.Common.{◌≡◌, ℕ, zero, suc, ◌^◌, ◌<◌, ◌≤◌, List, [], ◌∷◌, ◌++◌, length, take, drop, get_or, map, Bool, true, false}
+use Rattle.std.proofs.Common.{cond, Option, Some, None, refl, sym, ap, ◌∙◌, arith, subst, append_assoc, length-append}
 use Rattle.std.specs.Prelude.{◌≢◌, All, sum_by, ◌&&◌, not}
 use Rattle.std.specs.List.{flat_map, AllByRecursion}
 use Rattle.std.specs.Int.{w16, to_be_bytes}
@@ -17,7 +18,8 @@ use Rattle.bgp_types.specs.Lengths.{attr_size, attrs_size, attr_size_of, part_si
 use Rattle.bgp_types.specs.PathOctets.{part_octets, path_octets, narrow_as, narrow_part, path_in_width, has_long_as, is_long_as}
 use Rattle.bgp_types.specs.Paths.{ases_of}
 use Rattle.bgp_types.specs.Rising.{insert_by, in_rising, IsRising}
-use Rattle.bgp_types.specs.Spelling.{origin_written, path_written, next_hop_written, med_written, atomic_written, aggregator_written, as4_path_written, aggregator_octets, as4_aggregator_written, other_written, attrs_written, spell_attrs}
+use Rattle.bgp_types.specs.Spelling.{origin_written, path_written, next_hop_written, med_written, atomic_written, aggregator_written}
+use Rattle.bgp_types.specs.Spelling.{as4_path_written, aggregator_octets, as4_aggregator_written, other_written, attrs_written, spell_attrs}
 use Rattle.bgp_types.specs.Values.{is_other, other_kind}
 use Rattle.bgp_types.specs.WireAttrs.{WireAttr, wire_kind, size_width, attr_octets, written}
 use Rattle.bgp_types.specs.Writable.{IsPart, IsOther}
@@ -139,8 +141,11 @@ rising_append : (m : ℕ) (xs ys : List WireAttr) → IsRising wire_kind xs → 
     → AllByRecursion (λ y. m ≤ wire_kind y) ys → IsRising wire_kind (xs ++ ys)
 rising_append m [] ys r q low high = q
 rising_append m (x ∷ xs) ys r q low high =
-    let lt = low.0 in
-    (all_append (λ y. wire_kind x < wire_kind y) xs ys r.0 (all_weaker (λ y. m ≤ wire_kind y) (λ y. wire_kind x < wire_kind y) ys (λ y h. omega arith) high), rising_append m xs ys r.1 q low.1 high)
+    let lt = low.0 in (
+      all_append (λ y. wire_kind x < wire_kind y) xs ys r.0
+          (all_weaker (λ y. m ≤ wire_kind y) (λ y. wire_kind x < wire_kind y) ys (λ y h. omega arith) high),
+      rising_append m xs ys r.1 q low.1 high,
+    )
 
 append_ranged : (low mid high : ℕ) (xs ys : List WireAttr) → low ≤ mid → mid ≤ high → Ranged low mid xs → Ranged mid high ys → Ranged low high (xs ++ ys)
 append_ranged low mid high xs ys l h r q = record {
@@ -152,7 +157,8 @@ append_ranged low mid high xs ys l h r q = record {
 apart : (m : ℕ) (xs ys : List WireAttr) → AllByRecursion (λ x. m ≤ wire_kind x) xs → AllByRecursion (λ y. wire_kind y < m) ys
     → AllByRecursion (λ x. AllByRecursion (λ y. wire_kind y ≢ wire_kind x) ys) xs
 apart m [] ys high low = tt
-apart m (x ∷ xs) ys high low = let le = high.0 in (all_weaker (λ y. wire_kind y < m) (λ y. wire_kind y ≢ wire_kind x) ys (λ y h. λ e. omega arith) low, apart m xs ys high.1 low)
+apart m (x ∷ xs) ys high low = let le = high.0 in
+    (all_weaker (λ y. wire_kind y < m) (λ y. wire_kind y ≢ wire_kind x) ys (λ y h. λ e. omega arith) low, apart m xs ys high.1 low)
 
 rising_past : (x : WireAttr) (ys zs : List WireAttr) → AllByRecursion (λ y. wire_kind y ≢ wire_kind x) ys
     → in_rising wire_kind (x ∷ (ys ++ zs)) ≡ in_rising wire_kind (ys ++ x ∷ zs)
@@ -220,7 +226,8 @@ rising_written (u ∷ us) r = (all_written (λ k. other_kind u < k) us r.0, risi
 
 others_ranged : (low high : ℕ) (us : List RawAttr) → IsRising other_kind us → AllByRecursion (λ u. low ≤ other_kind u) us
     → AllByRecursion (λ u. other_kind u < high) us → Ranged low high (map other_written us)
-others_ranged low high us r from below = record { rising = rising_written us r; from = all_written (λ k. low ≤ k) us from; below = all_written (λ k. k < high) us below }
+others_ranged low high us r from below =
+    record { rising = rising_written us r; from = all_written (λ k. low ≤ k) us from; below = all_written (λ k. k < high) us below }
 
 -- a type that isn't known, from 1 or from 17 on
 past_known : (k : ℕ) → is_other k ≡ true → 1 ≤ k → 8 ≤ k
@@ -234,7 +241,8 @@ both P Q R [] h p q = tt
 both P Q R (u ∷ us) h p q = (h u p.0 q.0, both P Q R us h p.1 q.1)
 
 pub spelled_in_parts : (wide : Bool) (a : Attrs) (first middle last : List RawAttr) → AreParts a.unknown first middle last
-    → spell_attrs wide a ≡ flat_map attr_octets (map other_written first) ++ (flat_map attr_octets (known_written wide a) ++ (flat_map attr_octets (map other_written middle) ++ (flat_map attr_octets (as4_written wide a) ++ flat_map attr_octets (map other_written last))))
+    → spell_attrs wide a ≡ flat_map attr_octets (map other_written first) ++ (flat_map attr_octets (known_written wide a)
+    ++ (flat_map attr_octets (map other_written middle) ++ (flat_map attr_octets (as4_written wide a) ++ flat_map attr_octets (map other_written last))))
 unfolding spell_attrs attrs_written
 spelled_in_parts wide a first middle last p =
     let F : List WireAttr = map other_written first in
@@ -243,8 +251,10 @@ spelled_in_parts wide a first middle last p =
     let K : List WireAttr = known_written wide a in
     let Q : List WireAttr = as4_written wide a in
     let f : Ranged 0 1 F = others_ranged 0 1 first p.rising.0 (all_weaker IsOther (λ u. 0 ≤ other_kind u) first (λ u h. omega arith) p.kinds.0) p.first_below in
-    let d : Ranged 8 17 D = others_ranged 8 17 middle p.rising.1 (both IsOther (λ u. 1 ≤ other_kind u) (λ u. 8 ≤ other_kind u) middle (λ u o le. past_known u.kind o.other le) p.kinds.1 p.middle_from) p.middle_below in
-    let l : Ranged 19 256 L = others_ranged 19 256 last p.rising.2 (both IsOther (λ u. 17 ≤ other_kind u) (λ u. 19 ≤ other_kind u) last (λ u o le. past_as4 u.kind o.other le) p.kinds.2 p.last_from) (all_weaker IsOther (λ u. other_kind u < 256) last (λ u o. o.kind) p.kinds.2) in
+    let d : Ranged 8 17 D = others_ranged 8 17 middle p.rising.1
+    (both IsOther (λ u. 1 ≤ other_kind u) (λ u. 8 ≤ other_kind u) middle (λ u o le. past_known u.kind o.other le) p.kinds.1 p.middle_from) p.middle_below in
+    let l : Ranged 19 256 L = others_ranged 19 256 last p.rising.2 (both IsOther (λ u. 17 ≤ other_kind u) (λ u. 19 ≤ other_kind u) last
+    (λ u o le. past_as4 u.kind o.other le) p.kinds.2 p.last_from) (all_weaker IsOther (λ u. other_kind u < 256) last (λ u o. o.kind) p.kinds.2) in
     let k = known_ranged wide a in
     let q = as4_ranged wide a in
     let all : Ranged 0 256 (F ++ (K ++ (D ++ (Q ++ L)))) =
@@ -252,12 +262,17 @@ spelled_in_parts wide a first middle last p =
     (append_ranged 1 8 256 K (D ++ (Q ++ L)) (omega arith) (omega arith) k
     (append_ranged 8 17 256 D (Q ++ L) (omega arith) (omega arith) d
     (append_ranged 17 19 256 Q L (omega arith) (omega arith) q l))) in
-    let others : map other_written a.unknown ≡ F ++ (D ++ L) = ap (map other_written) p.parts ∙ (map-append other_written first (middle ++ last) ∙ ap (λ (xs : List WireAttr). F ++ xs) (map-append other_written middle last)) in
-    let regrouped : attrs_written wide a ≡ K ++ (Q ++ (F ++ (D ++ L))) = rw others (groups (med_written a.med) (atomic_written a.atomic) (aggregator_written wide a.aggregator) (as4_path_written wide a.path) (as4_aggregator_written wide a.aggregator) (F ++ (D ++ L)) (origin_written a.origin ∷ path_written wide a.path ∷ next_hop_written a.next_hop ∷ [])) in
+    let others : map other_written a.unknown ≡ F ++ (D ++ L) = ap (map other_written) p.parts
+    ∙ (map-append other_written first (middle ++ last) ∙ ap (λ (xs : List WireAttr). F ++ xs) (map-append other_written middle last)) in
+    let regrouped : attrs_written wide a ≡ K ++ (Q ++ (F ++ (D ++ L))) =
+    rw others (groups (med_written a.med) (atomic_written a.atomic) (aggregator_written wide a.aggregator) (as4_path_written wide a.path)
+    (as4_aggregator_written wide a.aggregator) (F ++ (D ++ L)) (origin_written a.origin ∷ path_written wide a.path ∷ next_hop_written a.next_hop ∷ [])) in
     let ordered : in_rising wire_kind (K ++ (Q ++ (F ++ (D ++ L)))) ≡ F ++ (K ++ (D ++ (Q ++ L))) =
-    rising_after K (Q ++ (F ++ (D ++ L))) (F ++ (Q ++ (D ++ L))) (rising_swap Q F (D ++ L) (apart 1 Q F (all_weaker (λ x. 17 ≤ wire_kind x) (λ x. 1 ≤ wire_kind x) Q (λ x h. omega arith) q.from) f.below))
+    rising_after K (Q ++ (F ++ (D ++ L))) (F ++ (Q ++ (D ++ L)))
+    (rising_swap Q F (D ++ L) (apart 1 Q F (all_weaker (λ x. 17 ≤ wire_kind x) (λ x. 1 ≤ wire_kind x) Q (λ x h. omega arith) q.from) f.below))
     ∙ (rising_swap K F (Q ++ (D ++ L)) (apart 1 K F k.from f.below)
-    ∙ (rising_after F (K ++ (Q ++ (D ++ L))) (K ++ (D ++ (Q ++ L))) (rising_after K (Q ++ (D ++ L)) (D ++ (Q ++ L)) (rising_swap Q D L (apart 17 Q D q.from d.below)))
+    ∙ (rising_after F (K ++ (Q ++ (D ++ L))) (K ++ (D ++ (Q ++ L)))
+    (rising_after K (Q ++ (D ++ L)) (D ++ (Q ++ L)) (rising_swap Q D L (apart 17 Q D q.from d.below)))
     ∙ rising_same wire_kind (F ++ (K ++ (D ++ (Q ++ L)))) all.rising)) in
     ap (λ (xs : List WireAttr). flat_map attr_octets (in_rising wire_kind xs)) regrouped
     ∙ (ap (flat_map attr_octets) ordered
@@ -277,8 +292,10 @@ pub known_put : (o0 o1 o2 o3 o4 o5 o6 : List ℕ) (x y z : WireAttr) (ms ts gs :
     → o6 ≡ o0 ++ flat_map attr_octets (x ∷ y ∷ z ∷ [] ++ (ms ++ (ts ++ gs)))
 known_put o0 o1 o2 o3 o4 o5 o6 x y z ms ts gs e1 e2 e3 e4 e5 e6 =
     e6
-    ∙ (rw (e5, e4, e3, e2, e1) (regroup o0 (attr_octets x) (attr_octets y) (attr_octets z) (flat_map attr_octets ms) (flat_map attr_octets ts) (flat_map attr_octets gs))
-    ∙ ap (λ (w : List ℕ). o0 ++ (attr_octets x ++ (attr_octets y ++ (attr_octets z ++ w)))) (sym (flat_map-append attr_octets ms (ts ++ gs) ∙ ap (λ (w : List ℕ). flat_map attr_octets ms ++ w) (flat_map-append attr_octets ts gs))))
+    ∙ (rw (e5, e4, e3, e2, e1)
+    (regroup o0 (attr_octets x) (attr_octets y) (attr_octets z) (flat_map attr_octets ms) (flat_map attr_octets ts) (flat_map attr_octets gs))
+    ∙ ap (λ (w : List ℕ). o0 ++ (attr_octets x ++ (attr_octets y ++ (attr_octets z ++ w))))
+    (sym (flat_map-append attr_octets ms (ts ++ gs) ∙ ap (λ (w : List ℕ). flat_map attr_octets ms ++ w) (flat_map-append attr_octets ts gs))))
   where
     regroup : (o a b c d e f : List ℕ) → (((((o ++ a) ++ b) ++ c) ++ d) ++ e) ++ f ≡ o ++ (a ++ (b ++ (c ++ (d ++ (e ++ f)))))
     regroup o a b c d e f = simp append_assoc
@@ -317,7 +334,8 @@ parted others first rest middle last n m rising kinds f r d l first_below rest_f
     let from = all_take (λ u. 1 ≤ other_kind u) m rest (recursion_from_All (λ u. 1 ≤ other_kind u) rest rest_from) in
     record {
       parts = sym (take-append-drop n others)
-          ∙ (ap (λ (xs : List RawAttr). xs ++ drop n others) (sym f) ∙ ap (λ (xs : List RawAttr). first ++ xs) (sym r ∙ (sym (take-append-drop m rest) ∙ (ap (λ (xs : List RawAttr). xs ++ drop m rest) (sym d) ∙ ap (λ (xs : List RawAttr). middle ++ xs) (sym l)))));
+          ∙ (ap (λ (xs : List RawAttr). xs ++ drop n others) (sym f) ∙ ap (λ (xs : List RawAttr). first ++ xs) (sym r
+          ∙ (sym (take-append-drop m rest) ∙ (ap (λ (xs : List RawAttr). xs ++ drop m rest) (sym d) ∙ ap (λ (xs : List RawAttr). middle ++ xs) (sym l)))));
       rising = (first_rising, subst (IsRising other_kind) (sym d) rs2.0, subst (IsRising other_kind) (sym l) rs2.1);
       kinds = (first_kinds, subst (AllByRecursion IsOther) (sym d) ks2.0, subst (AllByRecursion IsOther) (sym l) ks2.1);
       first_below = recursion_from_All (λ u. other_kind u < 1) first first_below;

@@ -13,4 +13,12 @@ pub record FitsField (attrs : Attrs) (wide : Bool) : Type 0 where
 
 -- attributes with all that an announcement needs
 abbrev pub all_found : Attrs → FoundAttrs
-all_found a = record { origin = Some a.origin; path = Some a.path; next_hop = Some a.next_hop; med = a.med; atomic = a.atomic; aggregator = a.aggregator; unknown = a.unknown }
+all_found a = record {
+  origin = Some a.origin;
+  path = Some a.path;
+  next_hop = Some a.next_hop;
+  med = a.med;
+  atomic = a.atomic;
+  aggregator = a.aggregator;
+  unknown = a.unknown;
+}

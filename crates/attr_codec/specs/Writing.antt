@@ -8,7 +8,8 @@ use Rattle.bgp_types.specs.declared.path.PathPart.{PathPart}
 use Rattle.bgp_types.specs.declared.path.PathPart.TheVariants.{Set, Sequence}
 use Rattle.bgp_types.specs.PathOctets.{as_width, narrow_as, has_long_as}
 use Rattle.bgp_types.specs.Rising.{IsRising}
-use Rattle.bgp_types.specs.Spelling.{origin_written, path_written, next_hop_written, med_written, atomic_written, aggregator_written, as4_path_written, as4_aggregator_written}
+use Rattle.bgp_types.specs.Spelling.{origin_written, path_written, next_hop_written, med_written, atomic_written}
+use Rattle.bgp_types.specs.Spelling.{aggregator_written, as4_path_written, as4_aggregator_written}
 use Rattle.bgp_types.specs.Values.{other_kind}
 use Rattle.bgp_types.specs.WireAttrs.{WireAttr}
 use Rattle.bgp_types.specs.Writable.{IsOther}

@@ -2,7 +2,8 @@
 
 ghost use Rattle.std.specs.Prelude.{◌≡◌, ◌==◌, ◌+◌, bit_and, length, not, Some, IfOk};
 ghost use Rattle.std.specs.Int.{byte_len};
-ghost use Rattle.bgp_types.specs.Faults.{about, fault_in, is_partial, is_transitive, origin_in, path_in, next_hop_in, med_in, atomic_in, aggregator_of, aggregator_in, other_in};
+ghost use Rattle.bgp_types.specs.Faults.{about, fault_in, is_partial, is_transitive, origin_in, path_in, next_hop_in};
+ghost use Rattle.bgp_types.specs.Faults.{med_in, atomic_in, aggregator_of, aggregator_in, other_in};
 ghost use Rattle.bgp_types.specs.Found.{as4_path_in, as4_aggregator_in, unless_wide};
 ghost use Rattle.bgp_types.specs.PathOctets.{as_width};
 ghost use Rattle.bgp_types.specs.WireAttrs.{attr_octets};

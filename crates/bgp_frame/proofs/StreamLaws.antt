@@ -36,7 +36,8 @@ asked_keeps s (Some x) e k =
         ∙ (ap (λ (y : List ℕ). g ++ y) (append_assoc-flat given frame rest) ∙ sym (append_assoc g (flat_map (λ (f : List ℕ). f) given) (frame ++ rest)))
 
 called_keeps : (s : Stream) (c : Call) → Kept s → Kept (after_call s c)
-called_keeps s (Feed bytes) k = record { joined = sym (append_assoc (flat_map (λ (f : List ℕ). f) s.given) s.held bytes) ∙ ap (λ (y : List ℕ). y ++ bytes) k.joined; each = k.each }
+called_keeps s (Feed bytes) k =
+    record { joined = sym (append_assoc (flat_map (λ (f : List ℕ). f) s.given) s.held bytes) ∙ ap (λ (y : List ℕ). y ++ bytes) k.joined; each = k.each }
 called_keeps s Ask k = asked_keeps s (frame_at s.held) refl k
 
 all_keep : (s : Stream) (calls : List Call) → Kept s → Kept (all_called s calls)

@@ -10,7 +10,8 @@ use Rattle.bgp_frame.specs.declared.framer.FrameStop.TheVariants as stops
 -- The bytes begin with no whole message and no faulty header, with a whole message of this type and length, or with a faulty header.
 abbrev pub IsFrontOf : Result (Option FrontFrame) HeaderFault → List ℕ → Type 0
 IsFrontOf (Ok None) bytes = (frame_at bytes ≡ None) × (19 ≤ length bytes → header_fault bytes ≡ None)
-IsFrontOf (Ok (Some front)) bytes = (frame_at bytes ≡ Some (take front.len bytes, drop front.len bytes)) × (front.kind ≡ kind_in bytes) × (19 ≤ front.len) × (front.len ≤ length bytes) × (header_fault bytes ≡ None)
+IsFrontOf (Ok (Some front)) bytes = (frame_at bytes ≡ Some (take front.len bytes, drop front.len bytes))
+    × (front.kind ≡ kind_in bytes) × (19 ≤ front.len) × (front.len ≤ length bytes) × (header_fault bytes ≡ None)
 IsFrontOf (Err fault) bytes = (19 ≤ length bytes) × (header_fault bytes ≡ Some fault)
 
 -- the bytes begin with a whole message or a faulty header

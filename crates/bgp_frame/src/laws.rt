@@ -13,5 +13,6 @@ pub fn any_pieces()
 
 /// A faulty header is the answer from then on, and no further frame is given.
 pub fn fault_stays()
-    ensures { (before : Stream) (calls : List Call) (fault : HeaderFault) → HasFaultAtFront fault before before → HasFaultAtFront fault before (all_called before calls) }
+    ensures { (before : Stream) (calls : List Call) (fault : HeaderFault)
+        → HasFaultAtFront fault before before → HasFaultAtFront fault before (all_called before calls) }
 {}

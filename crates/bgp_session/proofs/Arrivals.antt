@@ -28,7 +28,8 @@ new_ack : (f acked emitted ack : ℕ) → acked ≤ emitted → emitted < 2 ^ 30
 new_ack f acked emitted ack le small fits is = elim (cases_lt acked ack) [
   | inl above ↦ above
   | inr not ↦ elim (cases_lt ack acked) [
-    | inl below ↦ absurd (omega (arith, behind_offset f acked ack below (omega (arith, le, small)), ahead_offset f acked emitted le (omega (arith, small)), is.1, le, small, below))
+    | inl below ↦ absurd (omega
+        (arith, behind_offset f acked ack below (omega (arith, le, small)), ahead_offset f acked emitted le (omega (arith, small)), is.1, le, small, below))
     | inr same ↦ absurd (omega (arith, ahead_offset f acked ack same (omega (arith, fits)), is.0, not))
   ]
 ]
@@ -37,17 +38,20 @@ some_or : (o more then' : Option ℕ) → o ≡ None → option_or o more ≡ op
 some_or None more then' e same some = subst (λ (x : Option ℕ). IsSome x) same some
 some_or (Some x) more then' e same some = absurd cc
 
-module _ (s : EndState) (e : Endpoint) (g : Segment) (p : PlacedSegment) (stands : EndStands s e) (numbered : Numbered s.receive_first.0 s.send_first.0 g p) (streams : IsInStreams p) (short : length g.bytes < 2 ^ 16) where
+module _ (s : EndState) (e : Endpoint) (g : Segment) (p : PlacedSegment) (stands : EndStands s e)
+    (numbered : Numbered s.receive_first.0 s.send_first.0 g p) (streams : IsInStreams p) (short : length g.bytes < 2 ^ 16) where
   old_ack : ¬ SaysAck New s g → ¬ SaysAck Beyond s g → p.ack ≤ e.acked
   old_ack old within =
-      let le : p.ack ≤ s.acked = new_offset s.send_first.0 s.acked s.sent p.ack stands.sound.sending.acked (omega (arith, stands.sound.sending.emitted, stands.sound.sending.stream)) (omega (arith, streams.ack))
+      let le : p.ack ≤ s.acked = new_offset s.send_first.0 s.acked s.sent p.ack stands.sound.sending.acked
+      (omega (arith, stands.sound.sending.emitted, stands.sound.sending.stream)) (omega (arith, streams.ack))
       (within_sent s e g p stands numbered streams within)
       (λ new. old (subst (λ (m : ℕ). IsAck New (own_number s s.acked) (own_number s s.sent) m) (sym numbered.ack) new)) in
       omega (arith, le, stands.acked)
 
   above_acked : SaysAck New s g → e.acked < p.ack
   above_acked new =
-      let lt : s.acked < p.ack = new_ack s.send_first.0 s.acked s.sent p.ack stands.sound.sending.acked (omega (arith, stands.sound.sending.emitted, stands.sound.sending.stream)) (omega (arith, streams.ack))
+      let lt : s.acked < p.ack = new_ack s.send_first.0 s.acked s.sent p.ack stands.sound.sending.acked
+      (omega (arith, stands.sound.sending.emitted, stands.sound.sending.stream)) (omega (arith, streams.ack))
       (subst (λ (m : ℕ). IsAck New (own_number s s.acked) (own_number s s.sent) m) numbered.ack new) in
       omega (arith, lt, stands.acked)
 
@@ -75,5 +79,14 @@ module _ (s : EndState) (e : Endpoint) (g : Segment) (p : PlacedSegment) (stands
   pub arrives_as : (arrival : Arrival) → IsArrival arrival s g → ArrivesAs arrival e p g.ack
   arrives_as Outside is = λ acceptable. is (acceptable_to s e g p stands numbered streams short acceptable)
   arrives_as (Ahead ack) is = (acceptable_for s e g p stands numbered streams short is.0, beyond_for s e g p stands numbered streams is.1, is.2)
-  arrives_as Duplicate is = (acceptable_for s e g p stands numbered streams short is.0, (λ beyond. is.1 (beyond_to s e g p stands numbered streams beyond)), old_ack is.2 is.1, brings_none is.3)
-  arrives_as Accepted is = (acceptable_for s e g p stands numbered streams short is.0, (λ beyond. is.1 (beyond_to s e g p stands numbered streams beyond)), elim is.2 [ inl new ↦ inl (above_acked new) | inr b ↦ inr (brings b) ])
+  arrives_as Duplicate is = (
+    acceptable_for s e g p stands numbered streams short is.0,
+    (λ beyond. is.1 (beyond_to s e g p stands numbered streams beyond)),
+    old_ack is.2 is.1,
+    brings_none is.3,
+  )
+  arrives_as Accepted is = (
+    acceptable_for s e g p stands numbered streams short is.0,
+    (λ beyond. is.1 (beyond_to s e g p stands numbered streams beyond)),
+    elim is.2 [ inl new ↦ inl (above_acked new) | inr b ↦ inr (brings b) ],
+  )

@@ -45,11 +45,18 @@ params_short home_as false false = omega arith
 
 pub first_writable : (config : SessionConfig) → IsPeering (peering_of config) → IsWritable (OpenMsg (peering_of config).first) false
 first_writable config valid = record {
-  body = record { as_number = (field_range (peering_of config).first valid.home).1; hold = valid.home.hold_fits; hold_time = valid.home.hold_time; identifier = valid.home.host; params = params_short config.home_as config.offered config.unicast };
+  body = record {
+    as_number = (field_range (peering_of config).first valid.home).1;
+    hold = valid.home.hold_fits;
+    hold_time = valid.home.hold_time;
+    identifier = valid.home.host;
+    params = params_short config.home_as config.offered config.unicast;
+  };
   size = let short = first_short config false valid in omega (arith, short);
 }
 
-module _ (config : SessionConfig) (alloc : Global) (valid : IsPeering (peering_of config)) (send : config.send_first.0 < 2 ^ 32) (receive : config.receive_first.0 < 2 ^ 32) where
+module _ (config : SessionConfig) (alloc : Global) (valid : IsPeering (peering_of config))
+    (send : config.send_first.0 < 2 ^ 32) (receive : config.receive_first.0 < 2 ^ 32) where
   abbrev octets : List ℕ
   octets = spell (OpenMsg (peering_of config).first) false
 
@@ -60,7 +67,17 @@ module _ (config : SessionConfig) (alloc : Global) (valid : IsPeering (peering_o
   first_state = fresh_end Remote config.peering config.send_first config.receive_first
 
   abbrev pub made : StoryValue → Routes → Routes → EndState → Parts
-  made story adj_rib_in adj_rib_out end = record { alloc = alloc; config = config; story = story; adj_rib_in = adj_rib_in; adj_rib_out = adj_rib_out; end = end; opened = None; left = 0; next_round = 0 }
+  made story adj_rib_in adj_rib_out end = record {
+    alloc = alloc;
+    config = config;
+    story = story;
+    adj_rib_in = adj_rib_in;
+    adj_rib_out = adj_rib_out;
+    end = end;
+    opened = None;
+    left = 0;
+    next_round = 0;
+  }
 
   abbrev first_made : Parts
   first_made = made (record { lines = lines; remote_as = config.remote_as }) map.empty map.empty (with_sent first_state octets)
@@ -95,7 +112,10 @@ module _ (config : SessionConfig) (alloc : Global) (valid : IsPeering (peering_o
       → (value_of (made story adj_rib_in adj_rib_out end) ≡ begun config) × SessionInvariant (made story adj_rib_in adj_rib_out end)
   begins story adj_rib_in adj_rib_out end a b c d =
       subst (λ (x : StoryValue). (value_of (made x adj_rib_in adj_rib_out end) ≡ begun config) × SessionInvariant (made x adj_rib_in adj_rib_out end)) (sym a)
-      (subst (λ (x : Routes). (value_of (made (record { lines = lines; remote_as = config.remote_as }) x adj_rib_out end) ≡ begun config) × SessionInvariant (made (record { lines = lines; remote_as = config.remote_as }) x adj_rib_out end)) (sym b)
-      (subst (λ (x : Routes). (value_of (made (record { lines = lines; remote_as = config.remote_as }) map.empty x end) ≡ begun config) × SessionInvariant (made (record { lines = lines; remote_as = config.remote_as }) map.empty x end)) (sym c)
-      (subst (λ (x : EndState). (value_of (made (record { lines = lines; remote_as = config.remote_as }) map.empty map.empty x) ≡ begun config) × SessionInvariant (made (record { lines = lines; remote_as = config.remote_as }) map.empty map.empty x)) (sym d)
+      (subst (λ (x : Routes). (value_of (made (record { lines = lines; remote_as = config.remote_as }) x adj_rib_out end) ≡ begun config)
+      × SessionInvariant (made (record { lines = lines; remote_as = config.remote_as }) x adj_rib_out end)) (sym b)
+      (subst (λ (x : Routes). (value_of (made (record { lines = lines; remote_as = config.remote_as }) map.empty x end) ≡ begun config)
+      × SessionInvariant (made (record { lines = lines; remote_as = config.remote_as }) map.empty x end)) (sym c)
+      (subst (λ (x : EndState). (value_of (made (record { lines = lines; remote_as = config.remote_as }) map.empty map.empty x) ≡ begun config)
+      × SessionInvariant (made (record { lines = lines; remote_as = config.remote_as }) map.empty map.empty x)) (sym d)
       (refl, first_keeps))))

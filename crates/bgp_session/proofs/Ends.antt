@@ -21,7 +21,8 @@ with_read s n = record s { taken = plus s.taken n; ready = drop n s.ready }
 pub sent_stands : (s : EndState) (put got bytes : List ℕ) → EndStands s (endpoint_of put got s) → stream_length s + length bytes ≤ 2 ^ 20
     → EndStands (with_sent s bytes) (endpoint_of (put ++ bytes) got (with_sent s bytes))
 sent_stands s put got bytes stands fits =
-    let b : Becomes (λ e e'. SendsBytes e bytes e') (endpoint_of put got s) (with_sent s bytes) = sends s (with_sent s bytes) bytes fits refl (endpoint_of put got s) stands in
+    let b : Becomes (λ e e'. SendsBytes e bytes e') (endpoint_of put got s) (with_sent s bytes) =
+    sends s (with_sent s bytes) bytes fits refl (endpoint_of put got s) stands in
     subst (EndStands (with_sent s bytes)) b.step.sent b.stands
 
 module _ (s : EndState) (put got' bytes rest : List ℕ) (stands : EndStands s (endpoint_of put got' s)) (front : s.ready ≡ bytes ++ rest) where
@@ -39,13 +40,15 @@ module _ (s : EndState) (put got' bytes rest : List ℕ) (stands : EndStands s (
 
   pub read_is : endpoint_of put (got' ++ bytes) (with_read s (length bytes)) ≡ having_read (length bytes) (endpoint_of put got' s)
   read_is =
-      ap (λ (m : Bytes). record (endpoint_of put got' s) { arrived = m; read = plus s.taken (length bytes) }) (ap (λ (xs : List ℕ). arrived_of xs s.ahead) bytes_are)
+      ap (λ (m : Bytes). record (endpoint_of put got' s) { arrived = m; read = plus s.taken (length bytes) })
+      (ap (λ (xs : List ℕ). arrived_of xs s.ahead) bytes_are)
       ∙ ap (λ (n : ℕ). record (endpoint_of put got' s) { read = n }) taken_is
 
   pub read_stands : EndStands (with_read s (length bytes)) (endpoint_of put (got' ++ bytes) (with_read s (length bytes)))
   read_stands =
       let within : length bytes ≤ length s.ready = omega (arith, ap (λ (xs : List ℕ). length xs) front, length-append bytes rest) in
-      let b : Becomes (λ e e'. ReadsBytes e (length bytes) e') (endpoint_of put got' s) (with_read s (length bytes)) = (reads_by s (with_read s (length bytes)) (length bytes) within refl).becomes (endpoint_of put got' s) stands in
+      let b : Becomes (λ e e'. ReadsBytes e (length bytes) e') (endpoint_of put got' s) (with_read s (length bytes)) =
+      (reads_by s (with_read s (length bytes)) (length bytes) within refl).becomes (endpoint_of put got' s) stands in
       subst (EndStands (with_read s (length bytes))) (b.step.read ∙ sym read_is) b.stands
 
 -- bytes that were just sent can be taken back, and then the end is as before

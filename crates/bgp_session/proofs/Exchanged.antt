@@ -1,5 +1,6 @@
 -- What a segment that arrives or is emitted leaves.
-use Rattle.std.proofs.Common.{◌≡◌, ℕ, ◌+◌, ◌^◌, ◌<◌, ◌≤◌, Bool, true, List, length, drop, length-take, Option, Some, None, refl, sym, ap, ◌∙◌, subst, arith, inl, inr}
+use Rattle.std.proofs.Common.{◌≡◌, ℕ, ◌+◌, ◌^◌, ◌<◌, ◌≤◌, Bool, true, List, length, drop, length-take}
+use Rattle.std.proofs.Common.{Option, Some, None, refl, sym, ap, ◌∙◌, subst, arith, inl, inr}
 use Rattle.std.specs.Prelude.{◌⊎◌, ◌↔◌, min, IfOk, IfNone, IfSome, IsNone, OnErr, OnOk, Result, Ok, Err}
 use Rattle.std.proofs.lemmas.Bool.{cases_lt}
 use Rattle.graft_edge.specs.declared.memory.NoMemory.{NoMemory}
@@ -79,7 +80,8 @@ placed_is send receive g p a b numbered within =
     let bytes : p.bytes ≡ g.bytes = sym numbered.bytes in
     ap (λ (n : ℕ). let q : PlacedSegment = record { offset = n; bytes = p.bytes; ack = p.ack } in q) offset
     ∙ (ap (λ (n : ℕ). let q : PlacedSegment = record { offset = (placed send receive g).offset; bytes = p.bytes; ack = n } in q) ack
-    ∙ ap (λ (bs : List ℕ). let q : PlacedSegment = record { offset = (placed send receive g).offset; bytes = bs; ack = (placed send receive g).ack } in q) bytes)
+    ∙ ap (λ (bs : List ℕ). let q : PlacedSegment = record { offset = (placed send receive g).offset; bytes = bs; ack = (placed send receive g).ack } in q)
+    bytes)
 
 -- the end goes on with the same peering, way and numbers
 pub record Goes (before after : EndState) : Type 0 where
@@ -109,7 +111,8 @@ module _ (Step : Endpoint → PlacedSegment → Endpoint → Type 0) (parts : Pa
     (is_of : IsOf parts.end g) (goes : Goes parts.end after) where
   placed_here : b.segment ≡ sent_as parts.config g
   placed_here =
-      let first : (send receive : ℕ) → send ≡ parts.config.send_first.0 → receive ≡ parts.config.receive_first.0 → Numbered send receive g b.segment → b.segment ≡ sent_as parts.config g = λ send receive a c numbered.
+      let first : (send receive : ℕ) → send ≡ parts.config.send_first.0 → receive ≡ parts.config.receive_first.0
+      → Numbered send receive g b.segment → b.segment ≡ sent_as parts.config g = λ send receive a c numbered.
       placed_is parts.config.send_first.0 parts.config.receive_first.0 g b.segment k.send_fits k.receive_fits
       (subst (λ (n : ℕ). Numbered n parts.config.receive_first.0 g b.segment) a (subst (λ (n : ℕ). Numbered send n g b.segment) c numbered)) within in
       first parts.end.send_first.0 parts.end.receive_first.0 (ap (λ x. x.0) k.send_first) (ap (λ x. x.0) k.receive_first) b.numbered
@@ -146,7 +149,8 @@ pub record Emission (Step : Endpoint → PlacedSegment → Endpoint → Type 0) 
   pub keeps : SessionInvariant (with_end parts after)
 
 -- without a segment it is the same session
-module _ (Step : Endpoint → PlacedSegment → Endpoint → Type 0) (parts : Parts) (after : EndState) (k : SessionInvariant parts) (stands : EndStands after (value_of parts).end) (goes : Goes parts.end after) where
+module _ (Step : Endpoint → PlacedSegment → Endpoint → Type 0) (parts : Parts) (after : EndState)
+    (k : SessionInvariant parts) (stands : EndStands after (value_of parts).end) (goes : Goes parts.end after) where
   pub emits_none : Emission Step parts None after
   emits_none = record {
     step = value_is parts after (value_of parts).end k stands k.tied;
@@ -181,21 +185,25 @@ answer_within parts end p k step =
 pub next_emits : (parts : Parts) (after : EndState) (answer : Option Segment) → SessionInvariant parts → Goes parts.end after
     → IfSome answer (λ g. g ≡ segment_at parts.end parts.end.sent (end_next_length parts.end)) → EndEmitsBy EmitsNext parts.end answer after
     → Emission EmitsNext parts answer after × Emission EmitsSlice parts answer after
-next_emits parts after None k goes slice by = let stands = by.becomes (value_of parts).end k.stands in (emits_none EmitsNext parts after k stands goes, emits_none EmitsSlice parts after k stands goes)
+next_emits parts after None k goes slice by = let stands = by.becomes (value_of parts).end k.stands in
+    (emits_none EmitsNext parts after k stands goes, emits_none EmitsSlice parts after k stands goes)
 next_emits parts after (Some g) k goes slice by =
     let e = (value_of parts).end in
     let b : BecomesEmitting EmitsNext parts.end e g after = by.becomes e k.stands in
     let any : EmitsSlice e b.segment b.end = next_is_slice e b.end b.segment k.stands.sound.sending.acked b.step in
     let within : IsInStreams b.segment = next_within parts b.end b.segment k b.step in
     let is_of : IsOf parts.end g = of_slice parts.end g parts.end.sent (end_next_length parts.end) slice in
-    let keeps : SessionInvariant (with_end parts after) = emitted_keeps EmitsNext parts after g k b within (inl any) is_of goes in
-    (record { step = emits EmitsNext parts after g k b within (inl any) is_of goes; keeps = keeps }, record { step = emits_slice EmitsNext parts after g k b within (inl any) is_of goes any; keeps = keeps })
+    let keeps : SessionInvariant (with_end parts after) = emitted_keeps EmitsNext parts after g k b within (inl any) is_of goes in (
+      record { step = emits EmitsNext parts after g k b within (inl any) is_of goes; keeps = keeps },
+      record { step = emits_slice EmitsNext parts after g k b within (inl any) is_of goes any; keeps = keeps },
+    )
 
 -- the first slice again
 pub again_emits : (parts : Parts) (after : EndState) (answer : Option Segment) → SessionInvariant parts → Goes parts.end after
     → IfSome answer (λ g. g ≡ segment_at parts.end parts.end.acked (end_again_length parts.end)) → EndEmitsBy EmitsAgain parts.end answer after
     → Emission EmitsAgain parts answer after × Emission EmitsSlice parts answer after
-again_emits parts after None k goes slice by = let stands = by.becomes (value_of parts).end k.stands in (emits_none EmitsAgain parts after k stands goes, emits_none EmitsSlice parts after k stands goes)
+again_emits parts after None k goes slice by = let stands = by.becomes (value_of parts).end k.stands in
+    (emits_none EmitsAgain parts after k stands goes, emits_none EmitsSlice parts after k stands goes)
 again_emits parts after (Some g) k goes slice by =
     let e = (value_of parts).end in
     let n = stream_is parts.end e k.stands in
@@ -204,8 +212,10 @@ again_emits parts after (Some g) k goes slice by =
     let any : EmitsSlice e b.segment b.end = again_is_slice e b.end b.segment (omega (arith, n, emitted)) k.stands.sound.sending.flight b.step in
     let within : IsInStreams b.segment = again_within parts b.end b.segment k b.step in
     let is_of : IsOf parts.end g = of_slice parts.end g parts.end.acked (end_again_length parts.end) slice in
-    let keeps : SessionInvariant (with_end parts after) = emitted_keeps EmitsAgain parts after g k b within (inl any) is_of goes in
-    (record { step = emits EmitsAgain parts after g k b within (inl any) is_of goes; keeps = keeps }, record { step = emits_slice EmitsAgain parts after g k b within (inl any) is_of goes any; keeps = keeps })
+    let keeps : SessionInvariant (with_end parts after) = emitted_keeps EmitsAgain parts after g k b within (inl any) is_of goes in (
+      record { step = emits EmitsAgain parts after g k b within (inl any) is_of goes; keeps = keeps },
+      record { step = emits_slice EmitsAgain parts after g k b within (inl any) is_of goes any; keeps = keeps },
+    )
 
 -- the answer
 pub answer_emits : (parts : Parts) (after : EndState) (answer : Option Segment) → SessionInvariant parts → Goes parts.end after
@@ -224,13 +234,28 @@ answer_emits parts after (Some g) k goes slice by =
 -- ---- by results
 
 pub sent_more : (s after : EndState) (n : ℕ) → after ≡ record s { sent = n } → Goes s after
-sent_more s after n is = record { peering = ap (λ (x : EndState). x.peering) is; way = ap (λ (x : EndState). x.way) is; send_first = ap (λ (x : EndState). x.send_first) is; receive_first = ap (λ (x : EndState). x.receive_first) is }
+sent_more s after n is = record {
+  peering = ap (λ (x : EndState). x.peering) is;
+  way = ap (λ (x : EndState). x.way) is;
+  send_first = ap (λ (x : EndState). x.send_first) is;
+  receive_first = ap (λ (x : EndState). x.receive_first) is;
+}
 
 pub turned : (s after : EndState) (n : ℕ) → after ≡ record s { acked_at_turn = n } → Goes s after
-turned s after n is = record { peering = ap (λ (x : EndState). x.peering) is; way = ap (λ (x : EndState). x.way) is; send_first = ap (λ (x : EndState). x.send_first) is; receive_first = ap (λ (x : EndState). x.receive_first) is }
+turned s after n is = record {
+  peering = ap (λ (x : EndState). x.peering) is;
+  way = ap (λ (x : EndState). x.way) is;
+  send_first = ap (λ (x : EndState). x.send_first) is;
+  receive_first = ap (λ (x : EndState). x.receive_first) is;
+}
 
 pub owing : (s after : EndState) (owed : Bool) → after ≡ record s { owed = owed } → Goes s after
-owing s after owed is = record { peering = ap (λ (x : EndState). x.peering) is; way = ap (λ (x : EndState). x.way) is; send_first = ap (λ (x : EndState). x.send_first) is; receive_first = ap (λ (x : EndState). x.receive_first) is }
+owing s after owed is = record {
+  peering = ap (λ (x : EndState). x.peering) is;
+  way = ap (λ (x : EndState). x.way) is;
+  send_first = ap (λ (x : EndState). x.send_first) is;
+  receive_first = ap (λ (x : EndState). x.receive_first) is;
+}
 
 pub next_result : (parts : Parts) (after : EndState) (r : Result (Option Segment) NoMemory) → SessionInvariant parts
     → IfOk r (λ answer. IfSome answer (λ g. g ≡ segment_at parts.end parts.end.sent (end_next_length parts.end)))
@@ -272,7 +297,8 @@ next_none parts r k none =
     let le = k.stands.sound.sending.acked in
     if_ok r (λ answer n. (
       (λ is. elim (n.0 is) [ inl all ↦ omega (arith, same, all) | inr full ↦ omega (arith, same, full) ]),
-      (λ zero. n.1 (elim (cases_lt 0 (unsent parts.end)) [ inl some ↦ inr (omega (arith, same, zero, some, flight, le)) | inr not ↦ inl (omega (arith, not)) ])),
+      (λ zero.
+          n.1 (elim (cases_lt 0 (unsent parts.end)) [ inl some ↦ inr (omega (arith, same, zero, some, flight, le)) | inr not ↦ inl (omega (arith, not)) ])),
     )) none
 
 -- with no segment, all is emitted that may be
@@ -326,14 +352,17 @@ leaves_turn s after g (Ahead ack) is = ap (λ (x : EndState). x.acked_at_turn) i
 leaves_turn s after g Duplicate is = ap (λ (x : EndState). x.acked_at_turn) is
 leaves_turn s after g Accepted is = ap (λ (x : EndState). x.acked_at_turn) is.changed
 
-module _ (parts : Parts) (after : EndState) (g : Segment) (k : SessionInvariant parts) (streams : IsInStreams (received_as parts.config g)) (short : length g.bytes < 2 ^ 16) (seq : g.seq.0 < 2 ^ 32) (ack : g.ack.0 < 2 ^ 32) where
+module _ (parts : Parts) (after : EndState) (g : Segment) (k : SessionInvariant parts) (streams : IsInStreams (received_as parts.config g))
+    (short : length g.bytes < 2 ^ 16) (seq : g.seq.0 < 2 ^ 32) (ack : g.ack.0 < 2 ^ 32) where
   abbrev p : PlacedSegment
   p = received_as parts.config g
 
   numbered_here : Numbered parts.end.receive_first.0 parts.end.send_first.0 g p
   numbered_here =
-      let n : Numbered parts.config.receive_first.0 parts.config.send_first.0 g p = record { seq = omega (arith, seq, k.receive_fits); ack = omega (arith, ack, k.send_fits); bytes = refl } in
-      subst (λ (m : ℕ). Numbered m parts.end.send_first.0 g p) (ap (λ x. x.0) (sym k.receive_first)) (subst (λ (m : ℕ). Numbered parts.config.receive_first.0 m g p) (ap (λ x. x.0) (sym k.send_first)) n)
+      let n : Numbered parts.config.receive_first.0 parts.config.send_first.0 g p =
+      record { seq = omega (arith, seq, k.receive_fits); ack = omega (arith, ack, k.send_fits); bytes = refl } in
+      subst (λ (m : ℕ). Numbered m parts.end.send_first.0 g p) (ap (λ x. x.0) (sym k.receive_first))
+      (subst (λ (m : ℕ). Numbered parts.config.receive_first.0 m g p) (ap (λ x. x.0) (sym k.send_first)) n)
 
   module _ (arrival : Arrival) (is : IsArrival arrival parts.end g) (leaves : ChangesByArrival arrival parts.end g after) (by : TakesBy parts.end g after) where
     b : Becomes (λ e' e''. TakesSegment e' p e'') (value_of parts).end after
@@ -351,8 +380,10 @@ module _ (parts : Parts) (after : EndState) (g : Segment) (k : SessionInvariant 
         is = arrives_as parts.end (value_of parts).end g p k.stands numbered_here streams short arrival is;
         end = b.end;
         takes = b.step;
-        effect = ap (λ (v : SessionValue). let r : RunningSession = record { session = v; acked_at_turn = after.acked_at_turn } in r) (value_is parts after b.end k b.stands tied_then)
-            ∙ ap (λ (n : ℕ). let r : RunningSession = record { session = record (value_of parts) { end = b.end }; acked_at_turn = n } in r) (leaves_turn parts.end after g arrival leaves);
+        effect = ap (λ (v : SessionValue). let r : RunningSession = record { session = v; acked_at_turn = after.acked_at_turn } in r)
+            (value_is parts after b.end k b.stands tied_then)
+            ∙ ap (λ (n : ℕ). let r : RunningSession = record { session = record (value_of parts) { end = b.end }; acked_at_turn = n } in r)
+            (leaves_turn parts.end after g arrival leaves);
       },
       end_keeps parts after b.end k b.stands tied_then goes.peering goes.way goes.send_first goes.receive_first,
     )

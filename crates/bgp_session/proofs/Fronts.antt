@@ -1,5 +1,6 @@
 -- Whether something stands at the front of bytes.
-use Rattle.std.proofs.Common.{◌≡◌, ℕ, ◌≤◌, List, [], length, length-append, length-take, take, drop, take-append-drop, append-nil, Option, Some, None, Err, refl, sym, ap, ◌∙◌, subst, inl, inr, arith}
+use Rattle.std.proofs.Common.{◌≡◌, ℕ, ◌≤◌, List, [], length, length-append, length-take, take, drop, take-append-drop}
+use Rattle.std.proofs.Common.{append-nil, Option, Some, None, Err, refl, sym, ap, ◌∙◌, subst, inl, inr, arith}
 use Rattle.std.specs.Prelude.{IsSome}
 use Rattle.bgp_types.specs.declared.fault.Expected.{Expected}
 use Rattle.bgp_types.specs.declared.fault.HeaderFault.{HeaderFault}
@@ -32,7 +33,8 @@ first_frame bytes len e =
     record { front = take len bytes; rest = drop len bytes; is = f.0; got = inl (ap frame_at (sym (append-nil (take len bytes))) ∙ f.1 []) }
 
 pub some_fault : (bytes : List ℕ) (fault : HeaderFault) → 19 ≤ length bytes → header_fault bytes ≡ Some fault → BeginsSome bytes
-some_fault bytes fault long faulty = record { front = take 19 bytes; rest = drop 19 bytes; is = sym (take-append-drop 19 bytes); got = header_got bytes fault long faulty }
+some_fault bytes fault long faulty =
+    record { front = take 19 bytes; rest = drop 19 bytes; is = sym (take-append-drop 19 bytes); got = header_got bytes fault long faulty }
 
 -- without a whole message and a faulty header nothing can be got
 pub begins_nothing : (bytes : List ℕ) → frame_at bytes ≡ None → (19 ≤ length bytes → header_fault bytes ≡ None) → BeginsNothing bytes

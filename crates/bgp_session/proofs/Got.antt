@@ -1,5 +1,6 @@
 -- What is got leaves a session that is tied, by the case of a frame.
-use Rattle.std.proofs.Common.{◌≡◌, ℕ, ◌+◌, ◌^◌, ◌≤◌, Bool, false, List, [], ◌∷◌, ◌++◌, length, Option, Some, None, Result, Ok, Err, refl, sym, ap, ◌∙◌, subst, append-nil, length-append, lit≤, arith}
+use Rattle.std.proofs.Common.{◌≡◌, ℕ, ◌+◌, ◌^◌, ◌≤◌, Bool, false, List, [], ◌∷◌, ◌++◌, length, Option, Some, None, Result}
+use Rattle.std.proofs.Common.{Ok, Err, refl, sym, ap, ◌∙◌, subst, append-nil, length-append, lit≤, arith}
 use Rattle.std.specs.Prelude.{IfSome, fold}
 use Rattle.std.specs.Option.{option_map}
 use Rattle.std.specs.List.{flat_map}
@@ -63,7 +64,8 @@ reply_writable e bytes (Ok (OpenMsg _)) (Some m) g f = subst (λ (x : Message). 
 reply_writable e bytes (Ok (UpdateMsg _)) (Some m) g f = absurd cc
 reply_writable e bytes (Ok (NoticeMsg _)) (Some m) g f = absurd cc
 reply_writable e bytes (Ok KeepaliveMsg) (Some m) g f = absurd cc
-reply_writable e bytes (Err n) (Some m) g f = subst (λ (x : Message). IsWritable x false) (same_line (NoticeMsg n) m f) (fault_writable bytes e n false (ap fault_in g))
+reply_writable e bytes (Err n) (Some m) g f =
+    subst (λ (x : Message). IsWritable x false) (same_line (NoticeMsg n) m f) (fault_writable bytes e n false (ap fault_in g))
 
 -- no round passed since
 reply_silent : (r : Result Message Notice) → fold count_round 0 (reply_to r).0 ≡ 0
@@ -93,7 +95,8 @@ gotten parts bytes answer adj_rib_in adj_rib_out opened left = record parts {
   left = left;
 }
 
-module _ (parts : Parts) (bytes : List ℕ) (answer : List Line) (next : SessionState) (front : AtFront parts bytes) (reply : reply_to (read_in_session parts bytes) ≡ (answer, next)) where
+module _ (parts : Parts) (bytes : List ℕ) (answer : List Line) (next : SessionState)
+    (front : AtFront parts bytes) (reply : reply_to (read_in_session parts bytes) ≡ (answer, next)) where
   abbrev p : Peering
   p = peering_of parts.config
 
@@ -130,7 +133,8 @@ module _ (parts : Parts) (bytes : List ℕ) (answer : List Line) (next : Session
     remote = sym front.keeps.remote_as;
     rest = [];
     state = next;
-    legal = subst (λ (xs : List Line). Allowed p xs next) (sym (append-nil lines')) (lines_got.legal_next p lines bytes answer next front.unclosed front.got reply (λ _ _. Unit {0}) allowed);
+    legal = subst (λ (xs : List Line). Allowed p xs next) (sym (append-nil lines'))
+        (lines_got.legal_next p lines bytes answer next front.unclosed front.got reply (λ _ _. Unit {0}) allowed);
   }
 
   pub got_room : stream_length parts.end + length octets ≤ 2 ^ 20
@@ -146,7 +150,8 @@ module _ (parts : Parts) (bytes : List ℕ) (answer : List Line) (next : Session
   sent : EndStands (with_sent parts.end octets) (endpoint_of (put_bytes p lines ++ octets) (got_bytes lines) (with_sent parts.end octets))
   sent = sent_stands parts.end (put_bytes p lines) (got_bytes lines) octets front.keeps.stands got_room
 
-  end_stands : EndStands (with_read (with_sent parts.end octets) (length bytes)) (endpoint_of (put_bytes p lines') (got_bytes lines') (with_read (with_sent parts.end octets) (length bytes)))
+  end_stands : EndStands (with_read (with_sent parts.end octets) (length bytes))
+      (endpoint_of (put_bytes p lines') (got_bytes lines') (with_read (with_sent parts.end octets) (length bytes)))
   end_stands = rw (put_is, got_is) (read_stands (with_sent parts.end octets) (put_bytes p lines ++ octets) (got_bytes lines) bytes front.rest sent front.front)
 
   end_is : endpoint_of (put_bytes p lines') (got_bytes lines') (with_read (with_sent parts.end octets) (length bytes))
@@ -176,8 +181,18 @@ module _ (parts : Parts) (bytes : List ℕ) (answer : List Line) (next : Session
       reply = reply;
       effect =
           ap (λ (e : Endpoint). record (value_of parts) { story = lines'; adj_rib_in = adj_rib_in; adj_rib_out = adj_rib_out; end = e }) end_is
-          ∙ (ap (λ (x : Routes). record (value_of parts) { story = lines'; adj_rib_in = x; adj_rib_out = adj_rib_out; end = sending (put_by (value_of parts) lines' answer) (cases.having_read (length bytes) (value_of parts).end) }) hears
-          ∙ ap (λ (x : Routes). record (value_of parts) { story = lines'; adj_rib_in = unless_closed next (apply_if parts.adj_rib_in (update_in (read_in_session parts bytes))); adj_rib_out = x; end = sending (put_by (value_of parts) lines' answer) (cases.having_read (length bytes) (value_of parts).end) }) tells);
+          ∙ (ap (λ (x : Routes). record (value_of parts) {
+            story = lines';
+            adj_rib_in = x;
+            adj_rib_out = adj_rib_out;
+            end = sending (put_by (value_of parts) lines' answer) (cases.having_read (length bytes) (value_of parts).end);
+          }) hears
+          ∙ ap (λ (x : Routes). record (value_of parts) {
+            story = lines';
+            adj_rib_in = unless_closed next (apply_if parts.adj_rib_in (update_in (read_in_session parts bytes)));
+            adj_rib_out = x;
+            end = sending (put_by (value_of parts) lines' answer) (cases.having_read (length bytes) (value_of parts).end);
+          }) tells);
     }
 
     silent : silence lines' ≡ 0
@@ -201,7 +216,8 @@ module _ (parts : Parts) (bytes : List ℕ) (answer : List Line) (next : Session
       opened = opens;
       left = omega (arith, lefts, hold_is, silent);
       next_round = front.keeps.next_round
-          ∙ sym (numbers_then lines (Got bytes) answer (λ n. ap (λ (xs : List Line). fold after_line n xs) (sym answer_is) ∙ reply_numbers n (read_in_session parts bytes)));
+          ∙ sym (numbers_then lines (Got bytes) answer
+          (λ n. ap (λ (xs : List Line). fold after_line n xs) (sym answer_is) ∙ reply_numbers n (read_in_session parts bytes)));
     }
 
 -- ---- by the answer

@@ -87,7 +87,8 @@ module _ (parts : Parts) (update : Update) (k : SessionInvariant parts) (establi
     remote = sym k.remote_as;
     rest = [];
     state = Established;
-    legal = subst (λ (xs : List Line). Allowed p xs Established) (sym (append-nil lines')) (lines_put.legal_next p lines update established (λ _ _. Unit {0}) one_way tt allowed);
+    legal = subst (λ (xs : List Line). Allowed p xs Established) (sym (append-nil lines'))
+        (lines_put.legal_next p lines update established (λ _ _. Unit {0}) one_way tt allowed);
   }
 
   pub offered_room : stream_length parts.end + length octets ≤ 2 ^ 20
@@ -154,9 +155,17 @@ pub offers_to : (parts : Parts) (update : Update) (adj_rib_out : Routes) (octets
     → state_of parts.story.lines ≡ Established → IsOneWay update (is_wide (peering_of parts.config) parts.story.lines) → Changes parts.adj_rib_out update
     → offered_length (value_of parts) update ≤ 1044480 → adj_rib_out ≡ apply parts.adj_rib_out update
     → octets ≡ spell (UpdateMsg update) (is_wide (peering_of parts.config) parts.story.lines)
-    → then' ≡ record parts { story = record parts.story { lines = parts.story.lines ++ Put (UpdateMsg update) ∷ [] }; adj_rib_out = adj_rib_out; end = with_sent parts.end octets }
+    → then' ≡ record parts {
+      story = record parts.story { lines = parts.story.lines ++ Put (UpdateMsg update) ∷ [] };
+      adj_rib_out = adj_rib_out;
+      end = with_sent parts.end octets;
+    }
     → PutsUpdate (value_of parts) update (value_of then') × SessionInvariant then'
 offers_to parts update adj_rib_out octets then' k established one_way changes fits tells written is =
     subst (λ (m : Parts). PutsUpdate (value_of parts) update (value_of m) × SessionInvariant m)
-    (sym (is ∙ ap (λ (xs : List ℕ). let m : Parts = record parts { story = record parts.story { lines = parts.story.lines ++ Put (UpdateMsg update) ∷ [] }; adj_rib_out = adj_rib_out; end = with_sent parts.end xs } in m) written))
+    (sym (is ∙ ap (λ (xs : List ℕ). let m : Parts = record parts {
+      story = record parts.story { lines = parts.story.lines ++ Put (UpdateMsg update) ∷ [] };
+      adj_rib_out = adj_rib_out;
+      end = with_sent parts.end xs;
+    } in m) written))
     (puts parts update k established one_way fits adj_rib_out changes tells, keeps parts update k established one_way fits adj_rib_out changes tells)

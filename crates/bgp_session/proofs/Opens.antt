@@ -1,5 +1,6 @@
 -- What the two OPENs settled.
-use Rattle.std.proofs.Common.{◌≡◌, ℕ, ◌<◌, ◌≤◌, Bool, true, false, cond, eqb, List, [], ◌∷◌, ◌++◌, drop, Option, Some, None, Result, Ok, Err, refl, sym, ap, ◌∙◌, arith}
+use Rattle.std.proofs.Common.{◌≡◌, ℕ, ◌<◌, ◌≤◌, Bool, true, false, cond, eqb, List, [], ◌∷◌, ◌++◌, drop}
+use Rattle.std.proofs.Common.{Option, Some, None, Result, Ok, Err, refl, sym, ap, ◌∙◌, arith}
 use Rattle.std.specs.Prelude.{◌≢◌, ◌==◌, ◌&&◌, not}
 use Rattle.std.specs.Option.{option_map}
 use Rattle.std.proofs.lemmas.Bool.Decides.{nat_tests}
@@ -15,7 +16,8 @@ use Rattle.bgp_types.specs.declared.message.SessionState.TheVariants.{OpenSent, 
 use Rattle.bgp_types.specs.declared.message.Update.{Update}
 use Rattle.bgp_types.specs.FirstFault.{is_in_state, open_message, update_message, notice_of, body_of, state_fault, with_header, message_of}
 use Rattle.bgp_types.specs.Header.{header_fault, kind_in}
-use Rattle.bgp_types.specs.OpenBody.{open_fault, open_of, open_with, with_said, unless_fault, hold_in, identifier_in, version_in, is_field, is_said, as_in, as_said, with_params, params_of}
+use Rattle.bgp_types.specs.OpenBody.{open_fault, open_of, open_with, with_said, unless_fault, hold_in, identifier_in}
+use Rattle.bgp_types.specs.OpenBody.{version_in, is_field, is_said, as_in, as_said, with_params, params_of}
 use Rattle.bgp_types.specs.UpdateBody.{update_of}
 use Rattle.bgp_types.specs.Values.{is_no_host, is_short_hold}
 use Rattle.bgp_story.specs.declared.line.Line.{Line}
@@ -77,15 +79,18 @@ said_hold e body (Ok caps) o f =
 
 open_hold : (e : Expected) (body : List ℕ) (o : OpenMsg) → open_of e body ≡ Ok o → is_short_hold o.hold ≡ false
 unfolding open_of
-open_hold e body o f = tests (not (version_in body == 4)) (not e.offered && not (is_field e.remote_as (as_in body))) (is_short_hold (hold_in body)) (is_no_host (identifier_in body)) refl f where
-  tests : (t u v w : Bool) → is_short_hold (hold_in body) ≡ v
-      → unless_fault t (record { code = 2; subcode = 1; info = 0 ∷ 4 ∷ [] }) (unless_fault u (open_fault 2) (unless_fault v (open_fault 6) (unless_fault w (open_fault 3) (with_said e body (with_params (params_of (drop 9 body))))))) ≡ Ok o
-      → is_short_hold o.hold ≡ false
-  tests true u v w h g = absurd cc
-  tests false true v w h g = absurd cc
-  tests false false true w h g = absurd cc
-  tests false false false true h g = absurd cc
-  tests false false false false h g = ap is_short_hold (sym (said_hold e body (with_params (params_of (drop 9 body))) o g)) ∙ h
+open_hold e body o f = tests (not (version_in body == 4)) (not e.offered && not (is_field e.remote_as (as_in body)))
+    (is_short_hold (hold_in body)) (is_no_host (identifier_in body)) refl f
+  where
+    tests : (t u v w : Bool) → is_short_hold (hold_in body) ≡ v
+        → unless_fault t (record { code = 2; subcode = 1; info = 0 ∷ 4 ∷ [] }) (unless_fault u (open_fault 2)
+        (unless_fault v (open_fault 6) (unless_fault w (open_fault 3) (with_said e body (with_params (params_of (drop 9 body))))))) ≡ Ok o
+        → is_short_hold o.hold ≡ false
+    tests true u v w h g = absurd cc
+    tests false true v w h g = absurd cc
+    tests false false true w h g = absurd cc
+    tests false false false true h g = absurd cc
+    tests false false false false h g = ap is_short_hold (sym (said_hold e body (with_params (params_of (drop 9 body))) o g)) ∙ h
 
 open_of_message : (r : Result OpenMsg Notice) (o : OpenMsg) → open_message r ≡ Ok (messages.OpenMsg o) → r ≡ Ok o
 open_of_message (Err n) o e = absurd cc
@@ -99,7 +104,8 @@ body_hold : (e : Expected) (kind : ℕ) (body : List ℕ) (o : OpenMsg) → body
 unfolding body_of
 body_hold e kind body o f = tests (eqb kind 1) (eqb kind 2) (eqb kind 3) f where
   tests : (t u v : Bool)
-      → cond t (open_message (open_of e body)) (cond u (update_message (update_of e.wide body)) (cond v (Ok (messages.NoticeMsg (notice_of body))) (Ok messages.KeepaliveMsg))) ≡ Ok (messages.OpenMsg o)
+      → cond t (open_message (open_of e body)) (cond u (update_message (update_of e.wide body))
+      (cond v (Ok (messages.NoticeMsg (notice_of body))) (Ok messages.KeepaliveMsg))) ≡ Ok (messages.OpenMsg o)
       → is_short_hold o.hold ≡ false
   tests true u v g = open_hold e body o (open_of_message (open_of e body) o g)
   tests false true v g = absurd (no_update_open (update_of e.wide body) o g)

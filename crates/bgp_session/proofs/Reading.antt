@@ -1,5 +1,6 @@
 -- What a session is after each kind of message.
-use Rattle.std.proofs.Common.{◌≡◌, ℕ, ◌≤◌, true, List, [], ◌∷◌, ◌++◌, length, take, drop, take-append-drop, inl, inr, Some, None, Result, Ok, Err, refl, sym, ap, ◌∙◌, subst}
+use Rattle.std.proofs.Common.{◌≡◌, ℕ, ◌≤◌, true, List, [], ◌∷◌, ◌++◌, length, take, drop, take-append-drop}
+use Rattle.std.proofs.Common.{inl, inr, Some, None, Result, Ok, Err, refl, sym, ap, ◌∙◌, subst}
 use Rattle.std.specs.Prelude.{◌≢◌}
 use Rattle.std.specs.FinMap as map
 use Rattle.std.specs.List.Sorted.{IsStrictlySortedBy}
@@ -91,7 +92,8 @@ module _ (parts : Parts) (bytes : List ℕ) (front : AtFront parts bytes) where
       → parts.opened ≡ option_map (opened_by (peering_of parts.config).first) (got_open (peering_of parts.config) (lines ++ Got bytes ∷ answer))
   opened_stays answer none =
       front.keeps.opened
-      ∙ ap (option_map (opened_by (peering_of parts.config).first)) (sym (open_kept (peering_of parts.config) lines bytes answer state front.keeps.tied.allowed front.unclosed none))
+      ∙ ap (option_map (opened_by (peering_of parts.config).first))
+      (sym (open_kept (peering_of parts.config) lines bytes answer state front.keeps.tied.allowed front.unclosed none))
 
   abbrev p : Peering
   p = peering_of parts.config
@@ -114,11 +116,13 @@ module _ (parts : Parts) (bytes : List ℕ) (front : AtFront parts bytes) where
     confirms opened left mid opens lefts is = subst (λ (m : Parts). ReadsTo parts steps.Opened (record m { opened = Some opened; left = left })) (sym is) (
       record {
         bytes = bytes;
-        gets = gets parts bytes (Put KeepaliveMsg ∷ []) OpenConfirm front confirm_reply parts.adj_rib_in parts.adj_rib_out (Some opened) left confirm_hears refl (confirm_opens opened opens) lefts;
+        gets = gets parts bytes (Put KeepaliveMsg ∷ []) OpenConfirm front confirm_reply parts.adj_rib_in parts.adj_rib_out
+            (Some opened) left confirm_hears refl (confirm_opens opened opens) lefts;
         tells = (only_open state (read_of expected bytes (OpenMsg theirs) reads).in_state, next_is (Put KeepaliveMsg ∷ []) OpenConfirm confirm_reply);
         same_turn = refl;
       },
-      keeps parts bytes (Put KeepaliveMsg ∷ []) OpenConfirm front confirm_reply parts.adj_rib_in parts.adj_rib_out (Some opened) left confirm_hears refl (confirm_opens opened opens) lefts,
+      keeps parts bytes (Put KeepaliveMsg ∷ []) OpenConfirm front confirm_reply parts.adj_rib_in parts.adj_rib_out
+          (Some opened) left confirm_hears refl (confirm_opens opened opens) lefts,
     )
 
   -- a KEEPALIVE
@@ -150,7 +154,11 @@ module _ (parts : Parts) (bytes : List ℕ) (front : AtFront parts bytes) where
     establishes mid is confirmed = alive_as steps.Established mid is (confirmed, next_is [] Established alive_reply)
 
     pub stays_established : (mid : Parts) → mid ≡ taken_down parts bytes [] → state ≢ OpenConfirm → ReadsTo parts (steps.Changed []) mid
-    stays_established mid is other = alive_as (steps.Changed []) mid is (takes_keepalive state (read_of expected bytes KeepaliveMsg reads).in_state other, next_is [] Established alive_reply, none_changed parts.adj_rib_in)
+    stays_established mid is other = alive_as (steps.Changed []) mid is (
+      takes_keepalive state (read_of expected bytes KeepaliveMsg reads).in_state other,
+      next_is [] Established alive_reply,
+      none_changed parts.adj_rib_in,
+    )
 
   -- an UPDATE
   module _ (update : Update) (reads : read_in_session parts bytes ≡ Ok (UpdateMsg update)) where
@@ -167,22 +175,25 @@ module _ (parts : Parts) (bytes : List ℕ) (front : AtFront parts bytes) where
     pub hears_changes : (changed : List PrefixValue) (adj_rib_in : Routes) (mid : Parts) → mid ≡ taken_down parts bytes []
         → adj_rib_in ≡ apply mid.adj_rib_in update → Changed mid.adj_rib_in adj_rib_in changed
         → ReadsTo parts (steps.Changed changed) (record mid { adj_rib_in = adj_rib_in })
-    hears_changes changed adj_rib_in mid is = subst (λ (m : Parts). adj_rib_in ≡ apply m.adj_rib_in update → Changed m.adj_rib_in adj_rib_in changed → ReadsTo parts (steps.Changed changed) (record m { adj_rib_in = adj_rib_in })) (sym is) (λ applied changes. (
-      record {
-        bytes = bytes;
-        gets = gets parts bytes [] Established front hear_reply adj_rib_in parts.adj_rib_out parts.opened (hold_of parts.opened) (hear_hears adj_rib_in applied) refl hear_opens refl;
-        tells = (takes_update state (read_of expected bytes (UpdateMsg update) reads).in_state, next_is [] Established hear_reply, changes);
-        same_turn = refl;
-      },
-      keeps parts bytes [] Established front hear_reply adj_rib_in parts.adj_rib_out parts.opened (hold_of parts.opened)
-          (hear_hears adj_rib_in applied) refl hear_opens refl,
-    ))
+    hears_changes changed adj_rib_in mid is = subst (λ (m : Parts). adj_rib_in ≡ apply m.adj_rib_in update → Changed m.adj_rib_in adj_rib_in changed
+        → ReadsTo parts (steps.Changed changed) (record m { adj_rib_in = adj_rib_in })) (sym is) (λ applied changes. (
+          record {
+            bytes = bytes;
+            gets = gets parts bytes [] Established front hear_reply adj_rib_in parts.adj_rib_out parts.opened
+                (hold_of parts.opened) (hear_hears adj_rib_in applied) refl hear_opens refl;
+            tells = (takes_update state (read_of expected bytes (UpdateMsg update) reads).in_state, next_is [] Established hear_reply, changes);
+            same_turn = refl;
+          },
+          keeps parts bytes [] Established front hear_reply adj_rib_in parts.adj_rib_out parts.opened (hold_of parts.opened)
+              (hear_hears adj_rib_in applied) refl hear_opens refl,
+        ))
 
     -- also where the routes are left in any way
     pub hears_keeps : (adj_rib_in : Routes) (mid : Parts) → mid ≡ taken_down parts bytes [] → SessionInvariant (record mid { adj_rib_in = adj_rib_in })
     hears_keeps adj_rib_in mid is = subst (λ (m : Parts). SessionInvariant (record m { adj_rib_in = adj_rib_in })) (sym is)
         (keeps_heard (gotten parts bytes [] (apply parts.adj_rib_in update) parts.adj_rib_out parts.opened (hold_of parts.opened)) adj_rib_in
-        (keeps parts bytes [] Established front hear_reply (apply parts.adj_rib_in update) parts.adj_rib_out parts.opened (hold_of parts.opened) (hear_hears (apply parts.adj_rib_in update) refl) refl hear_opens refl))
+        (keeps parts bytes [] Established front hear_reply (apply parts.adj_rib_in update) parts.adj_rib_out parts.opened
+        (hold_of parts.opened) (hear_hears (apply parts.adj_rib_in update) refl) refl hear_opens refl))
 
   -- the session closes
   pub closes : (answer : List Line) (prefixes : List PrefixValue) (mid after : Parts) → reply_to (read_in_session parts bytes) ≡ (answer, Closed)
@@ -191,7 +202,8 @@ module _ (parts : Parts) (bytes : List ℕ) (front : AtFront parts bytes) where
       → ReadsTo parts (steps.Closed prefixes) after
   closes answer prefixes mid after reply is drops keys =
       let none : open_in (read_in_session parts bytes) ≡ None = closed_none (read_in_session parts bytes) answer reply in
-      subst (λ (m : Parts). ReadsTo parts (steps.Closed prefixes) m) (sym (drops ∙ ap (λ (m : Parts). let d : Parts = record m { adj_rib_in = map.empty; adj_rib_out = map.empty } in d) is)) (
+      subst (λ (m : Parts). ReadsTo parts (steps.Closed prefixes) m)
+      (sym (drops ∙ ap (λ (m : Parts). let d : Parts = record m { adj_rib_in = map.empty; adj_rib_out = map.empty } in d) is)) (
         record {
           bytes = bytes;
           gets = gets parts bytes answer Closed front reply map.empty map.empty parts.opened (hold_of parts.opened) refl refl (opened_stays answer none) refl;
@@ -227,7 +239,8 @@ pub header_read : (parts : Parts) (bytes : List ℕ) (fault : HeaderFault) (noti
     → header_fault parts.end.ready ≡ Some fault → bytes ≡ take 19 parts.end.ready → notice ≡ header_notice fault
     → read_in_session parts bytes ≡ Err notice
 header_read parts bytes fault notice long faulty is told =
-    header_reads (expected_next (peering_of parts.config) parts.story.lines (state_of parts.story.lines)) bytes fault (ap header_fault is ∙ front_fault parts.end.ready fault long faulty)
+    header_reads (expected_next (peering_of parts.config) parts.story.lines (state_of parts.story.lines)) bytes fault
+    (ap header_fault is ∙ front_fault parts.end.ready fault long faulty)
     ∙ ap (λ (n : Notice). Err n) (sym told)
 
 -- ---- whether there is something

@@ -1,5 +1,6 @@
 -- A round leaves a session that is tied.
-use Rattle.std.proofs.Common.{◌≡◌, ℕ, ◌+◌, ◌-◌, ◌/◌, ◌%◌, ◌^◌, ◌≤◌, Bool, true, false, cond, eqb, List, [], ◌∷◌, ◌++◌, length, Option, Some, None, refl, sym, ap, ◌∙◌, subst, append-nil, lit≤, arith}
+use Rattle.std.proofs.Common.{◌≡◌, ℕ, ◌+◌, ◌-◌, ◌/◌, ◌%◌, ◌^◌, ◌≤◌, Bool, true, false, cond, eqb, List, [], ◌∷◌, ◌++◌}
+use Rattle.std.proofs.Common.{length, Option, Some, None, refl, sym, ap, ◌∙◌, subst, append-nil, lit≤, arith}
 use Rattle.std.specs.Prelude.{◌≢◌, ◌<◌, leb, IfSome, MatchBool, fold}
 use Rattle.std.specs.FinMap as map
 use Rattle.bgp_types.specs.Prefixes.{PrefixValue}
@@ -79,7 +80,8 @@ not_over h c more = grind (arith, nat_tests)
 pub round_passes : (h c round : ℕ) (state : SessionState) → h - c ≢ 1 → round % (h / 3) ≢ 0 → reply_at h (c + 1) round state ≡ ([], state)
 round_passes h c round state more third =
     let u : eqb (round % (h / 3)) 0 ≡ false = grind (arith, nat_tests) in
-    ap (λ (b : Bool). cond b (Put (NoticeMsg hold_expired) ∷ [], Closed) (cond (eqb (round % (h / 3)) 0) (Put KeepaliveMsg ∷ [], state) ([], state))) (not_over h c more)
+    ap (λ (b : Bool). cond b (Put (NoticeMsg hold_expired) ∷ [], Closed) (cond (eqb (round % (h / 3)) 0) (Put KeepaliveMsg ∷ [], state) ([], state)))
+    (not_over h c more)
     ∙ ap (λ (b : Bool). cond b (Put KeepaliveMsg ∷ [], state) ([], state)) u
 
 -- ---- the parts after a round
@@ -94,7 +96,8 @@ passed parts round answer adj_rib_in adj_rib_out left = record parts {
   next_round = round + 1;
 }
 
-module _ (parts : Parts) (round : ℕ) (answer : List Line) (next : SessionState) (at : AtRound parts round) (reply : round_reply parts round ≡ (answer, next)) where
+module _ (parts : Parts) (round : ℕ) (answer : List Line) (next : SessionState)
+    (at : AtRound parts round) (reply : round_reply parts round ≡ (answer, next)) where
   abbrev p : Peering
   p = peering_of parts.config
 
@@ -132,7 +135,8 @@ module _ (parts : Parts) (round : ℕ) (answer : List Line) (next : SessionState
     remote = sym at.keeps.remote_as;
     rest = [];
     state = next;
-    legal = subst (λ (xs : List Line). Allowed p xs next) (sym (append-nil lines')) (lines_passed.legal_next p lines round answer next at.may.up at.may.runs at.may.later reply (λ _ _. Unit {0}) allowed);
+    legal = subst (λ (xs : List Line). Allowed p xs next) (sym (append-nil lines'))
+        (lines_passed.legal_next p lines round answer next at.may.up at.may.runs at.may.later reply (λ _ _. Unit {0}) allowed);
   }
 
   pub passed_room : stream_length parts.end + length octets ≤ 2 ^ 20
@@ -149,7 +153,8 @@ module _ (parts : Parts) (round : ℕ) (answer : List Line) (next : SessionState
   end_stands : EndStands (with_sent parts.end octets) (endpoint_of (put_bytes p lines') (got_bytes lines') (with_sent parts.end octets))
   end_stands = rw (put_is, got_is) sent
 
-  end_is : endpoint_of (put_bytes p lines') (got_bytes lines') (with_sent parts.end octets) ≡ sending (put_by (value_of parts) lines' answer) (value_of parts).end
+  end_is : endpoint_of (put_bytes p lines') (got_bytes lines') (with_sent parts.end octets)
+      ≡ sending (put_by (value_of parts) lines' answer) (value_of parts).end
   end_is =
       ap (λ (xs : List ℕ). endpoint_of xs (got_bytes lines') (with_sent parts.end octets)) put_is
       ∙ (ap (λ (xs : List ℕ). endpoint_of (put_bytes p lines ++ octets) xs (with_sent parts.end octets)) got_is
@@ -173,8 +178,18 @@ module _ (parts : Parts) (round : ℕ) (answer : List Line) (next : SessionState
       reply = reply;
       effect =
           ap (λ (e : Endpoint). record (value_of parts) { story = lines'; adj_rib_in = adj_rib_in; adj_rib_out = adj_rib_out; end = e }) end_is
-          ∙ (ap (λ (x : Routes). record (value_of parts) { story = lines'; adj_rib_in = x; adj_rib_out = adj_rib_out; end = sending (put_by (value_of parts) lines' answer) (value_of parts).end }) hears
-          ∙ ap (λ (x : Routes). record (value_of parts) { story = lines'; adj_rib_in = unless_closed next parts.adj_rib_in; adj_rib_out = x; end = sending (put_by (value_of parts) lines' answer) (value_of parts).end }) tells);
+          ∙ (ap (λ (x : Routes). record (value_of parts) {
+            story = lines';
+            adj_rib_in = x;
+            adj_rib_out = adj_rib_out;
+            end = sending (put_by (value_of parts) lines' answer) (value_of parts).end;
+          }) hears
+          ∙ ap (λ (x : Routes). record (value_of parts) {
+            story = lines';
+            adj_rib_in = unless_closed next parts.adj_rib_in;
+            adj_rib_out = x;
+            end = sending (put_by (value_of parts) lines' answer) (value_of parts).end;
+          }) tells);
     }
 
     silent : silence lines' ≡ silence lines + 1
@@ -225,7 +240,11 @@ passed_down parts round answer = passed parts round answer parts.adj_rib_in part
 module _ (parts : Parts) (round : ℕ) (at : AtRound parts round) where
   -- the hold time has a third
   pub tick_long : 3 ≤ hold_of parts.opened
-  tick_long = omega (arith, kept_hold parts at.keeps, hold_long (peering_of parts.config) parts.story.lines (state_of parts.story.lines) at.keeps.tied.allowed at.may.runs)
+  tick_long = omega (
+    arith,
+    kept_hold parts at.keeps,
+    hold_long (peering_of parts.config) parts.story.lines (state_of parts.story.lines) at.keeps.tied.allowed at.may.runs,
+  )
 
   pub reply_of : (answer : Option Message) → (round_reply parts round).0 ≡ answer_lines answer
       → round_reply parts round ≡ (answer_lines answer, (round_reply parts round).1)
@@ -248,10 +267,15 @@ module _ (parts : Parts) (round : ℕ) (at : AtRound parts round) where
       → SessionTicks (tick.Expired prefixes) (running parts) round (running then') × SessionInvariant then'
   expires_to prefixes mid then' reply is drops same =
       let answer : List Line = Put (NoticeMsg hold_expired) ∷ [] in
-      subst (λ (m : Parts). SessionTicks (tick.Expired prefixes) (running parts) round (running m) × SessionInvariant m) (sym (drops ∙ ap (λ (m : Parts). let d : Parts = record m { adj_rib_in = map.empty; adj_rib_out = map.empty } in d) is)) (
+      subst (λ (m : Parts). SessionTicks (tick.Expired prefixes) (running parts) round (running m) × SessionInvariant m)
+      (sym (drops ∙ ap (λ (m : Parts). let d : Parts = record m { adj_rib_in = map.empty; adj_rib_out = map.empty } in d) is)) (
         record {
           passes = passes parts round answer Closed at reply map.empty map.empty (parts.left - 1) refl refl refl;
-          tells = (lines_passed.state_next (peering_of parts.config) parts.story.lines round answer Closed at.may.up at.may.runs at.may.later reply at.keeps.tied.allowed, same);
+          tells = (
+            lines_passed.state_next (peering_of parts.config) parts.story.lines round answer
+                Closed at.may.up at.may.runs at.may.later reply at.keeps.tied.allowed,
+            same,
+          );
           same_turn = refl;
         },
         keeps parts round answer Closed at reply map.empty map.empty (parts.left - 1) refl refl refl,

@@ -35,4 +35,5 @@ coded_session =
     (λ _. refl)
 
 abbrev pub coded_running : Coded RunningSession
-coded_running = code_by (SessionValue × ℕ) (coded× coded_session coded_ℕ) (λ r. (r.session, r.acked_at_turn)) (λ p. record { session = p.0; acked_at_turn = p.1 }) (λ _. refl)
+coded_running = code_by (SessionValue × ℕ) (coded× coded_session coded_ℕ)
+    (λ r. (r.session, r.acked_at_turn)) (λ p. record { session = p.0; acked_at_turn = p.1 }) (λ _. refl)

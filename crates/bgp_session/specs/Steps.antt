@@ -33,7 +33,8 @@ use Rattle.bgp_session.specs.declared.answers.TickStep.TheVariants.{Plain, Beat,
 abbrev pub TellsRead : ReadStep → SessionValue → SessionValue → Type 0
 TellsRead Opened before after = (state before ≡ states.OpenSent) × (state after ≡ states.OpenConfirm)
 TellsRead Established before after = (state before ≡ states.OpenConfirm) × (state after ≡ states.Established)
-TellsRead (Changed prefixes) before after = (state before ≡ states.Established) × (state after ≡ states.Established) × ChangedRoutes before.adj_rib_in after.adj_rib_in prefixes
+TellsRead (Changed prefixes) before after =
+    (state before ≡ states.Established) × (state after ≡ states.Established) × ChangedRoutes before.adj_rib_in after.adj_rib_in prefixes
 TellsRead (Closed prefixes) before after = (state after ≡ states.Closed) × (prefixes ≡ map.keys before.adj_rib_in)
 
 pub record ReadsFrame (step : ReadStep) (before after : RunningSession) : Type 0 where

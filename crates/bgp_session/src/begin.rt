@@ -85,7 +85,8 @@ fn first_octets(alloc: Global, config: &SessionConfig) -> Result<Octets, NoMemor
 /// Returns the endpoint of a new session, with these octets waiting to be sent.
 fn first_end(alloc: Global, config: &SessionConfig, octets: &[u8]) -> Result<End, NoMemory>
     requires { length octets.now ≤ 2 ^ 20 }
-    ensures { IfOk result (λ end. end ≡ record (fresh_end ways.Remote config.now.peering config.now.send_first config.now.receive_first) { waiting = octets.now }) }
+    ensures { IfOk result
+        (λ end. end ≡ record (fresh_end ways.Remote config.now.peering config.now.send_first config.now.receive_first) { waiting = octets.now }) }
 {
     let mut end = End::new(
         alloc,

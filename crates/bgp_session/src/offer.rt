@@ -40,7 +40,8 @@ impl Parts {
         requires changes { Changes self.old.adj_rib_out update }
         ensures ok { OnOk result (PutsUpdate (value_of self.old) update (value_of self.new)) }
         ensures full { 1044480 < offered_length (value_of self.old) update → result ≡ Err (OfferStop.StreamFull (offered_length (value_of self.old) update)) }
-        ensures only_full { (n : ℕ) → result ≡ Err (OfferStop.StreamFull n) → (n ≡ offered_length (value_of self.old) update) × (1044480 < n) × (self.new ≡ self.old) }
+        ensures only_full { (n : ℕ) → result ≡ Err (OfferStop.StreamFull n)
+            → (n ≡ offered_length (value_of self.old) update) × (1044480 < n) × (self.new ≡ self.old) }
         ensures same_turn { self.new.end.acked_at_turn ≡ self.old.end.acked_at_turn }
         ensures keeps { SessionInvariant self.new }
     {

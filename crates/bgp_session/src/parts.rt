@@ -84,7 +84,10 @@ impl Parts {
         requires begins { BeginsStory self.old.story.remote_as (self.old.story.lines ++ line ∷ answer_lines answer) }
         requires room { stream_length self.old.end + length octets.now ≤ 2 ^ 20 }
         requires emitted { self.old.end.sent ≤ stream_length self.old.end }
-        ensures ok { OnOk result (self.new ≡ record self.old { story = record self.old.story { lines = self.old.story.lines ++ line ∷ answer_lines answer }; end = record self.old.end { waiting = self.old.end.waiting ++ octets.now } }) }
+        ensures ok { OnOk result (self.new ≡ record self.old {
+          story = record self.old.story { lines = self.old.story.lines ++ line ∷ answer_lines answer };
+          end = record self.old.end { waiting = self.old.end.waiting ++ octets.now };
+        }) }
         ensures err { OnErr result (self.new ≡ self.old) }
     {
         send(&mut self.end, octets)?;

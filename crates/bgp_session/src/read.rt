@@ -39,7 +39,15 @@ impl Parts {
     fn take_down(&mut self, bytes: Octets, answer: Option<Message>) -> Result<(), NoMemory>
         requires front { AtFront self.old bytes }
         requires reply { (reply_to (read_in_session self.old bytes)).0 ≡ answer_lines answer }
-        ensures ok { OnOk result (self.new ≡ record self.old { story = record self.old.story { lines = self.old.story.lines ++ lines.Got bytes ∷ answer_lines answer }; end = record self.old.end { waiting = self.old.end.waiting ++ flat_map (put_in false) (answer_lines answer); taken = plus self.old.end.taken (length bytes); ready = drop (length bytes) self.old.end.ready }; left = hold_of self.old.opened }) }
+        ensures ok { OnOk result (self.new ≡ record self.old {
+          story = record self.old.story { lines = self.old.story.lines ++ lines.Got bytes ∷ answer_lines answer };
+          end = record self.old.end {
+            waiting = self.old.end.waiting ++ flat_map (put_in false) (answer_lines answer);
+            taken = plus self.old.end.taken (length bytes);
+            ready = drop (length bytes) self.old.end.ready;
+          };
+          left = hold_of self.old.opened;
+        }) }
         ensures err { OnErr result (self.new ≡ self.old) }
     {
         let octets = written(self.alloc, &answer)?;

@@ -31,7 +31,8 @@ impl Parts {
     pub(crate) fn next_segment(&mut self) -> Result<Option<Segment>, NoMemory>
         requires { SessionInvariant self.old }
         ensures none { IfOk result (λ answer. IsNone answer ↔ (next_length (value_of self.old).end ≡ 0)) }
-        ensures all { IfOk result (λ answer. IfNone answer ((value_of self.old).end.emitted ≡ min (length (value_of self.old).end.stream) ((value_of self.old).end.acked + 15360))) }
+        ensures all { IfOk result (λ answer.
+            IfNone answer ((value_of self.old).end.emitted ≡ min (length (value_of self.old).end.stream) ((value_of self.old).end.acked + 15360))) }
         ensures step { IfOk result (λ answer. SessionEmitsIfAny EmitsNext (value_of self.old) answer (value_of self.new)) }
         ensures slice { IfOk result (λ answer. SessionEmitsIfAny EmitsSlice (value_of self.old) answer (value_of self.new)) }
         ensures same_turn { OnOk result (self.new.end.acked_at_turn ≡ self.old.end.acked_at_turn) }
@@ -43,7 +44,8 @@ impl Parts {
     /// Makes a retransmission turn.
     pub(crate) fn turn(&mut self) -> Result<Option<Segment>, NoMemory>
         requires { SessionInvariant self.old }
-        ensures none { IfOk result (λ answer. IsNone answer ↔ ((again_length (value_of self.old).end ≡ 0) ⊎ (self.old.end.acked_at_turn < (value_of self.old).end.acked))) }
+        ensures none { IfOk result
+            (λ answer. IsNone answer ↔ ((again_length (value_of self.old).end ≡ 0) ⊎ (self.old.end.acked_at_turn < (value_of self.old).end.acked))) }
         ensures step { IfOk result (λ answer. SessionEmitsIfAny EmitsAgain (value_of self.old) answer (value_of self.new)) }
         ensures slice { IfOk result (λ answer. SessionEmitsIfAny EmitsSlice (value_of self.old) answer (value_of self.new)) }
         ensures within { (value_of self.old).end.emitted ≤ length (value_of self.old).end.stream }

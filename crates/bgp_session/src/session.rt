@@ -10,7 +10,8 @@ ghost use Rattle.session_value.specs.Sessions.{state, hold_time, peering_of, beg
 ghost use Rattle.session_value.specs.Cases.{Changes, PutsUpdate};
 ghost use Rattle.session_value.specs.Ties.{IsTied};
 ghost use Rattle.bgp_session.specs.Fronts.{CanRead, CantRead};
-ghost use Rattle.bgp_session.specs.Steps.{ReadsFrameIfAny, MayPass, SessionTicks, SessionEmitsIfAny, SegmentArrives, identifier_of, offered_length, received_as, remote_open};
+ghost use Rattle.bgp_session.specs.Steps.{ReadsFrameIfAny, MayPass, SessionTicks, SessionEmitsIfAny, SegmentArrives};
+ghost use Rattle.bgp_session.specs.Steps.{identifier_of, offered_length, received_as, remote_open};
 
 use crate::answers::{OfferStop, ReadStep, TickStep};
 use crate::begin::first_parts;
@@ -93,7 +94,8 @@ impl Session {
         // The stream is full exactly where it would pass 1,044,480 bytes. Then the error has that length, and nothing
         // changes.
         ensures full { 1044480 < offered_length self.old.session update → result ≡ Err (OfferStop.StreamFull (offered_length self.old.session update)) }
-        ensures only_full { (n : ℕ) → result ≡ Err (OfferStop.StreamFull n) → (n ≡ offered_length self.old.session update) × (1044480 < n) × (self.new ≡ self.old) }
+        ensures only_full { (n : ℕ) → result ≡ Err (OfferStop.StreamFull n)
+            → (n ≡ offered_length self.old.session update) × (1044480 < n) × (self.new ≡ self.old) }
         ensures same_turn { OnOk result (self.new.acked_at_turn ≡ self.old.acked_at_turn) }
     {
         self.parts.offer(update)
@@ -119,7 +121,8 @@ impl Session {
     /// bytes leaves room for. Returns `None` if all that may be emitted was emitted.
     pub fn next_segment(&mut self) -> Result<Option<Segment>, NoMemory>
         ensures none { IfOk result (λ answer. IsNone answer ↔ (next_length self.old.session.end ≡ 0)) }
-        ensures all { IfOk result (λ answer. IfNone answer (self.old.session.end.emitted ≡ min (length self.old.session.end.stream) (self.old.session.end.acked + 15360))) }
+        ensures all { IfOk result
+            (λ answer. IfNone answer (self.old.session.end.emitted ≡ min (length self.old.session.end.stream) (self.old.session.end.acked + 15360))) }
         ensures step { IfOk result (λ answer. SessionEmitsIfAny EmitsNext self.old.session answer self.new.session) }
         ensures slice { IfOk result (λ answer. SessionEmitsIfAny EmitsSlice self.old.session answer self.new.session) }
         ensures same_turn { OnOk result (self.new.acked_at_turn ≡ self.old.acked_at_turn) }
@@ -130,7 +133,8 @@ impl Session {
     /// Makes a retransmission turn: emits the first 1,024 outstanding bytes again, or all if there are fewer, unless
     /// some were acknowledged since the last turn.
     pub fn turn(&mut self) -> Result<Option<Segment>, NoMemory>
-        ensures none { IfOk result (λ answer. IsNone answer ↔ ((again_length self.old.session.end ≡ 0) ⊎ (self.old.acked_at_turn < self.old.session.end.acked))) }
+        ensures none { IfOk result
+            (λ answer. IsNone answer ↔ ((again_length self.old.session.end ≡ 0) ⊎ (self.old.acked_at_turn < self.old.session.end.acked))) }
         ensures step { IfOk result (λ answer. SessionEmitsIfAny EmitsAgain self.old.session answer self.new.session) }
         ensures slice { IfOk result (λ answer. SessionEmitsIfAny EmitsSlice self.old.session answer self.new.session) }
         ensures within { self.old.session.end.emitted ≤ length self.old.session.end.stream }

@@ -49,7 +49,12 @@ impl Parts {
     fn pass_down(&mut self, round: u32, answer: Option<Message>) -> Result<(), NoMemory>
         requires at { AtRound self.old round }
         requires reply { (round_reply self.old round).0 ≡ answer_lines answer }
-        ensures ok { OnOk result (self.new ≡ record self.old { story = record self.old.story { lines = self.old.story.lines ++ lines.Tick round ∷ answer_lines answer }; end = record self.old.end { waiting = self.old.end.waiting ++ flat_map (put_in false) (answer_lines answer) }; left = self.old.left - 1; next_round = round + 1 }) }
+        ensures ok { OnOk result (self.new ≡ record self.old {
+          story = record self.old.story { lines = self.old.story.lines ++ lines.Tick round ∷ answer_lines answer };
+          end = record self.old.end { waiting = self.old.end.waiting ++ flat_map (put_in false) (answer_lines answer) };
+          left = self.old.left - 1;
+          next_round = round + 1;
+        }) }
         ensures err { OnErr result (self.new ≡ self.old) }
     {
         let octets = written(self.alloc, &answer)?;

@@ -16,7 +16,8 @@ use Rattle.bgp_types.specs.FirstFault.{message_of}
 use Rattle.bgp_types.specs.Spelling.{spell}
 use Rattle.bgp_story.specs.declared.line.Line.{Line}
 use Rattle.bgp_story.specs.declared.line.Line.TheVariants.{Put, Got, Tick}
-use Rattle.bgp_story.specs.Legal.{Peering, Allowed, opened, got, updated, passed, got_open, open_in, both_offer, smaller_hold, is_wide, hold, is_up, expected_next, reply_to}
+use Rattle.bgp_story.specs.Legal.{Peering, Allowed, opened, got, updated, passed, got_open, open_in, both_offer}
+use Rattle.bgp_story.specs.Legal.{smaller_hold, is_wide, hold, is_up, expected_next, reply_to}
 use Rattle.bgp_story.specs.Opens.{offers}
 use Rattle.bgp_story.specs.Readings.{Routes, put_in, put_bytes, got_in, got_bytes, tell, hear, unless_closed, told, heard}
 use Rattle.bgp_story.specs.States.{state_of}
@@ -67,16 +68,20 @@ first_got p bytes answer next lines (Ok (OpenMsg o)) g f a e = joined o (ap (got
 first_got p bytes answer next lines (Ok (UpdateMsg u)) g f a e = let r = (read_of (first_expected p) bytes (UpdateMsg u) g).in_state in absurd cc
 first_got p bytes answer next lines (Ok KeepaliveMsg) g f a e = let r = (read_of (first_expected p) bytes KeepaliveMsg g).in_state in absurd cc
 first_got p bytes answer next lines (Ok (NoticeMsg n)) g f a e =
-    failed (subst (λ (x : List Line). AllByRecursion PutsNoUpdate x) (sym e) (tt, (tt, all_weaken IsAnswer PutsNoUpdate answer_no_update answer a))) (sym (ap (λ (x : List Line × SessionState). x.1) f))
+    failed (subst (λ (x : List Line). AllByRecursion PutsNoUpdate x) (sym e) (tt, (tt, all_weaken IsAnswer PutsNoUpdate answer_no_update answer a)))
+    (sym (ap (λ (x : List Line × SessionState). x.1) f))
 first_got p bytes answer next lines (Err n) g f a e =
-    failed (subst (λ (x : List Line). AllByRecursion PutsNoUpdate x) (sym e) (tt, (tt, all_weaken IsAnswer PutsNoUpdate answer_no_update answer a))) (sym (ap (λ (x : List Line × SessionState). x.1) f))
+    failed (subst (λ (x : List Line). AllByRecursion PutsNoUpdate x) (sym e) (tt, (tt, all_weaken IsAnswer PutsNoUpdate answer_no_update answer a)))
+    (sym (ap (λ (x : List Line × SessionState). x.1) f))
 
 alone_got : (p : Peering) (before : List Line) (state : SessionState) (bytes : List ℕ) (answer : List Line) (next : SessionState) (lines : List Line)
     → before ≡ Put (OpenMsg p.first) ∷ [] → state ≡ OpenSent → reply_to (message_of (expected_next p before state) bytes) ≡ (answer, next)
     → lines ≡ before ++ Got bytes ∷ answer → Stage p lines next
 alone_got p before state bytes answer next lines f g r e =
-    let same : expected_next p before state ≡ first_expected p = ap (λ (x : List Line). expected_next p x state) f ∙ ap (λ (x : SessionState). expected_next p (Put (OpenMsg p.first) ∷ []) x) g in
-    first_got p bytes answer next lines (message_of (first_expected p) bytes) refl (ap (λ (x : Expected). reply_to (message_of x bytes)) (sym same) ∙ r) (got_answers p before state bytes answer next r) (e ∙ ap (λ (x : List Line). x ++ Got bytes ∷ answer) f)
+    let same : expected_next p before state ≡ first_expected p =
+    ap (λ (x : List Line). expected_next p x state) f ∙ ap (λ (x : SessionState). expected_next p (Put (OpenMsg p.first) ∷ []) x) g in
+    first_got p bytes answer next lines (message_of (first_expected p) bytes) refl (ap (λ (x : Expected). reply_to (message_of x bytes)) (sym same) ∙ r)
+    (got_answers p before state bytes answer next r) (e ∙ ap (λ (x : List Line). x ++ Got bytes ∷ answer) f)
 
 stage : (p : Peering) (lines : List Line) (state : SessionState) → Allowed p lines state → Stage p lines state
 stage p _ _ (opened lines h e) = alone e refl
@@ -134,7 +139,8 @@ puts_same w v (line ∷ lines) a =
 
 front_same : (p : Peering) (lines more : List Line) (state : SessionState) → Stage p lines state
     → flat_map (put_in (is_wide p (lines ++ more))) lines ≡ put_bytes p lines
-front_same p lines more state (joined o f) = ap (λ (x : Option open_type.OpenMsg). flat_map (put_in (both_offer p.first x)) lines) (got_open-append p lines more o f ∙ sym f)
+front_same p lines more state (joined o f) =
+    ap (λ (x : Option open_type.OpenMsg). flat_map (put_in (both_offer p.first x)) lines) (got_open-append p lines more o f ∙ sym f)
 front_same p lines more state (alone f g) = puts_same _ _ lines (subst (λ (x : List Line). AllByRecursion PutsNoUpdate x) (sym f) (tt, tt))
 front_same p lines more state (failed f g) = puts_same _ _ lines f
 
@@ -163,7 +169,9 @@ told_grows lines more o q =
 
 heard_front : (p : Peering) (lines more : List Line) (state : SessionState) → Stage p lines state → state ≢ Closed
     → fold (hear (expected_next p (lines ++ more) Established)) map.empty lines ≡ fold (hear (expected_next p lines Established)) map.empty lines
-heard_front p lines more state (joined o f) c = ap (λ (x : Option open_type.OpenMsg). fold (hear (record { state = Established; remote_as = p.remote_as; offered = offers p.first; wide = both_offer p.first x })) map.empty lines) (got_open-append p lines more o f ∙ sym f)
+heard_front p lines more state (joined o f) c = ap (λ (x : Option open_type.OpenMsg).
+    fold (hear (record { state = Established; remote_as = p.remote_as; offered = offers p.first; wide = both_offer p.first x })) map.empty lines)
+    (got_open-append p lines more o f ∙ sym f)
 heard_front p lines more state (alone f g) c = only_open (expected_next p (lines ++ more) Established)
     ∙ sym (only_open (expected_next p lines Established)) where
       only_open : (e : Expected) → fold (hear e) map.empty lines ≡ map.empty
@@ -176,7 +184,8 @@ heard_grows p lines more state s l o q =
     let e : Expected = expected_next p (lines ++ more) Established in
     while_open (state_of (lines ++ more)) q (fold (hear e) map.empty (lines ++ more))
     ∙ (fold-append (hear e) map.empty lines more
-    ∙ ap (λ (x : Routes). fold (hear e) x more) (heard_front p lines more state (stage p lines state l) o ∙ sym (while_open (state_of lines) (λ c. o (sym s ∙ c)) (fold (hear (expected_next p lines Established)) map.empty lines))))
+    ∙ ap (λ (x : Routes). fold (hear e) x more) (heard_front p lines more state (stage p lines state l) o
+    ∙ sym (while_open (state_of lines) (λ c. o (sym s ∙ c)) (fold (hear (expected_next p lines Established)) map.empty lines))))
 
 pub none_told : (lines : List Line) → state_of lines ≡ Closed → told lines ≡ map.empty
 none_told lines e = ap (λ (x : SessionState). unless_closed x (fold tell map.empty lines)) e

@@ -1,5 +1,6 @@
 -- What a message that is read tells of the header.
-use Rattle.std.proofs.Common.{◌≡◌, ℕ, ◌≤◌, List, [], length, drop, Bool, true, false, cond, eqb, leb, Option, Some, None, Result, Ok, Err, refl, sym, ap, ◌∙◌, inl, inr, arith}
+use Rattle.std.proofs.Common.{◌≡◌, ℕ, ◌≤◌, List, [], length, drop, Bool, true, false, cond, eqb, leb, Option}
+use Rattle.std.proofs.Common.{Some, None, Result, Ok, Err, refl, sym, ap, ◌∙◌, inl, inr, arith}
 use Rattle.std.specs.Prelude.{◌&&◌, is_none}
 use Rattle.std.proofs.lemmas.Bool.{eqb-true}
 use Rattle.std.proofs.lemmas.Bool.Decides.{nat_tests}
@@ -50,7 +51,8 @@ body_kind : (e : Expected) (kind : ℕ) (body : List ℕ) (m : Message) → is_i
 unfolding body_of
 body_kind e kind body m s g = tests (eqb kind 1) (eqb kind 2) (eqb kind 3) refl refl refl g where
   tests : (t u v : Bool) → eqb kind 1 ≡ t → eqb kind 2 ≡ u → eqb kind 3 ≡ v
-      → cond t (open_message (open_of e body)) (cond u (update_message (update_of e.wide body)) (cond v (Ok (messages.NoticeMsg (notice_of body))) (Ok messages.KeepaliveMsg))) ≡ Ok m
+      → cond t (open_message (open_of e body))
+      (cond u (update_message (update_of e.wide body)) (cond v (Ok (messages.NoticeMsg (notice_of body))) (Ok messages.KeepaliveMsg))) ≡ Ok m
       → kind ≡ kind_of m
   tests true u v a b c h = eqb-true _ _ a ∙ sym (open_kind (open_of e body) m h)
   tests false true v a b c h = eqb-true _ _ b ∙ sym (update_kind (update_of e.wide body) m h)

@@ -62,6 +62,7 @@ said_home home_as as_number false false fits e = absurd cc
 pub said_range : (first : OpenMsg) → IsHomeOpen first → (as_number : ℕ) → as_said first.caps ≡ Some as_number
     → (0 < as_number) × (as_number < 2 ^ 32) × (first.as_number ≡ narrow_as as_number)
 said_range first is as_number e =
-    let same : as_number ≡ is.home_as = said_home is.home_as as_number is.offered is.unicast is.as_number.fits (sym (ap (λ (o : OpenMsg). as_said o.caps) is.is) ∙ e) in
+    let same : as_number ≡ is.home_as =
+    said_home is.home_as as_number is.offered is.unicast is.as_number.fits (sym (ap (λ (o : OpenMsg). as_said o.caps) is.is) ∙ e) in
     let field : first.as_number ≡ narrow_as is.home_as = ap (λ (o : OpenMsg). o.as_number) is.is in
     subst (λ (n : ℕ). (0 < n) × (n < 2 ^ 32) × (first.as_number ≡ narrow_as n)) (sym same) (is.as_number.some, is.as_number.fits, field)

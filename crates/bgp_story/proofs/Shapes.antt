@@ -20,7 +20,8 @@ pub allowed_of : (p : Peering) (lines : List Line) (state : SessionState) → Is
 allowed_of p _ _ (opened lines h e) = opened lines h e
 allowed_of p _ _ (got before state bytes answer next lines l o w r e) = got before state bytes answer next lines (allowed_of p before state l) o w r e
 allowed_of p _ _ (updated before u lines l w c e) = updated before u lines (allowed_of p before Established l) w tt e
-allowed_of p _ _ (passed before state round answer next lines l up h a r e) = passed before state round answer next lines (allowed_of p before state l) up h a r e
+allowed_of p _ _ (passed before state round answer next lines l up h a r e) =
+    passed before state round answer next lines (allowed_of p before state l) up h a r e
 
 -- ---- answers are short: a KEEPALIVE, a NOTIFICATION or none
 
@@ -41,7 +42,8 @@ reply_answers (Ok KeepaliveMsg) = tt
 reply_answers (Err _) = (tt, tt)
 
 round_answers : (t u : Bool) (state : SessionState) →
-    let r : List Line × SessionState = cond t (Put (NoticeMsg hold_expired) ∷ [], Closed) (cond u (Put KeepaliveMsg ∷ [], state) ([], state)) in AllByRecursion IsAnswer r.0
+    let r : List Line × SessionState = cond t (Put (NoticeMsg hold_expired) ∷ [], Closed) (cond u (Put KeepaliveMsg ∷ [], state) ([], state)) in
+    AllByRecursion IsAnswer r.0
 round_answers true u state = (tt, tt)
 round_answers false true state = (tt, tt)
 round_answers false false state = tt
@@ -96,7 +98,8 @@ opens_once_is p _ _ (got before state bytes answer next lines l o w r e) =
     once_more p before (Got bytes ∷ answer) lines e (tt, no_open answer (got_answers p before state bytes answer next r)) (opens_once_is p before state l)
 opens_once_is p _ _ (updated before u lines l w c e) = once_more p before (Put (UpdateMsg u) ∷ []) lines e (tt, tt) (opens_once_is p before Established l)
 opens_once_is p _ _ (passed before state round answer next lines l up h a r e) =
-    once_more p before (Tick round ∷ answer) lines e (tt, no_open answer (passed_answers (hold p before) (silence before + 1) round state answer next r)) (opens_once_is p before state l)
+    once_more p before (Tick round ∷ answer) lines e
+    (tt, no_open answer (passed_answers (hold p before) (silence before + 1) round state answer next r)) (opens_once_is p before state l)
 
 -- ---- frames
 
@@ -110,4 +113,5 @@ got_in_frames_is p _ _ (got before state bytes answer next lines l o w r e) =
     frames_more before (Got bytes ∷ answer) lines e (w, no_got answer (got_answers p before state bytes answer next r)) (got_in_frames_is p before state l)
 got_in_frames_is p _ _ (updated before u lines l w c e) = frames_more before (Put (UpdateMsg u) ∷ []) lines e (tt, tt) (got_in_frames_is p before Established l)
 got_in_frames_is p _ _ (passed before state round answer next lines l up h a r e) =
-    frames_more before (Tick round ∷ answer) lines e (tt, no_got answer (passed_answers (hold p before) (silence before + 1) round state answer next r)) (got_in_frames_is p before state l)
+    frames_more before (Tick round ∷ answer) lines e
+    (tt, no_got answer (passed_answers (hold p before) (silence before + 1) round state answer next r)) (got_in_frames_is p before state l)

@@ -46,7 +46,8 @@ got_step : (e : Expected) (bytes : List ℕ) → IsGot bytes → (r : Result Mes
 got_step e bytes w (Err n) g = refl
 got_step e bytes w (Ok (OpenMsg o)) g =
     let r = read_of e bytes (OpenMsg o) g in
-    ap with_keepalive_put (after_is e.state bytes false false (read_type 3 e bytes (OpenMsg o) w r) (read_type 4 e bytes (OpenMsg o) w r) ∙ takes_open e.state r.in_state)
+    ap with_keepalive_put
+    (after_is e.state bytes false false (read_type 3 e bytes (OpenMsg o) w r) (read_type 4 e bytes (OpenMsg o) w r) ∙ takes_open e.state r.in_state)
 got_step e bytes w (Ok (UpdateMsg u)) g =
     let r = read_of e bytes (UpdateMsg u) g in
     after_is e.state bytes false false (read_type 3 e bytes (UpdateMsg u) w r) (read_type 4 e bytes (UpdateMsg u) w r) ∙ takes_update e.state r.in_state
@@ -64,7 +65,8 @@ stays_up Established e = refl
 stays_up Closed e = absurd cc
 
 round_step : (t u : Bool) (state : SessionState) (round : ℕ) → is_up state ≡ true →
-    let r : List Line × SessionState = cond t (Put (NoticeMsg hold_expired) ∷ [], Closed) (cond u (Put KeepaliveMsg ∷ [], state) ([], state)) in fold after state (Tick round ∷ r.0) ≡ r.1
+    let r : List Line × SessionState = cond t (Put (NoticeMsg hold_expired) ∷ [], Closed) (cond u (Put KeepaliveMsg ∷ [], state) ([], state)) in
+    fold after state (Tick round ∷ r.0) ≡ r.1
 round_step true u state round e = refl
 round_step false true state round e = stays_up state e
 round_step false false state round e = refl

@@ -1,5 +1,6 @@
 -- The UPDATEs that a legal story puts, and what they change.
-use Rattle.std.proofs.Common.{◌≡◌, ◌≢◌, ◌+◌, List, [], ◌∷◌, ◌++◌, Bool, true, false, cond, ◌||◌, Option, Some, None, refl, sym, ap, ◌∙◌, ◌⊎◌, inl, inr, subst, arith}
+use Rattle.std.proofs.Common.{◌≡◌, ◌≢◌, ◌+◌, List, [], ◌∷◌, ◌++◌, Bool, true, false, cond, ◌||◌, Option}
+use Rattle.std.proofs.Common.{Some, None, refl, sym, ap, ◌∙◌, ◌⊎◌, inl, inr, subst, arith}
 use Rattle.std.specs.Prelude.{fold, Contains, IsSome}
 use Rattle.std.specs.FinMap as map
 use Rattle.std.specs.Cmp.{eq_by_cmp_equiv}
@@ -7,7 +8,8 @@ use Rattle.std.specs.List.{AllByRecursion, list_any}
 use Rattle.std.specs.Ordering.{eq_by_cmp}
 use Rattle.std.proofs.lemmas.Bool.{false≢true}
 use Rattle.std.proofs.lemmas.List.{append-nil}
-use Rattle.std.proofs.lemmas.List.Elements.{All-contains, Contains-append_left, Contains-append_right, Contains-append_cases, Contains-push, Contains-push_cases}
+use Rattle.std.proofs.lemmas.List.Elements.{All-contains, Contains-append_left, Contains-append_right}
+use Rattle.std.proofs.lemmas.List.Elements.{Contains-append_cases, Contains-push, Contains-push_cases}
 use Rattle.bgp_types.specs.declared.attrs.Attrs.{Attrs}
 use Rattle.bgp_types.specs.declared.message.Message.TheVariants.{UpdateMsg}
 use Rattle.bgp_types.specs.declared.message.SessionState.{SessionState}
@@ -70,11 +72,13 @@ pub put_update : (p : Peering) (lines : List Line) (state : SessionState) → Is
     → lines ≡ xs ++ Put (UpdateMsg u) ∷ ys → PutUpdate p xs u
 put_update p _ _ (opened lines h e) u xs ys f = absurd (none_put u xs ys (subst (AllByRecursion PutsNoUpdate) (sym e ∙ f) (tt, tt)))
 put_update p _ _ (got before state bytes answer next lines l o w r e) u xs ys f =
-    other_step p u xs ys before (Got bytes ∷ answer) (tt, no_update answer (got_answers p before state bytes answer next r)) (put_update p before state l u) (sym f ∙ e)
+    other_step p u xs ys before (Got bytes ∷ answer)
+    (tt, no_update answer (got_answers p before state bytes answer next r)) (put_update p before state l u) (sym f ∙ e)
 put_update p _ _ (updated before v lines l w c e) u xs ys f =
     update_step p u v xs ys before (record { legal = l; way = w; changes = c }) (put_update p before Established l u) (sym f ∙ e)
 put_update p _ _ (passed before state round answer next lines l up h a r e) u xs ys f =
-    other_step p u xs ys before (Tick round ∷ answer) (tt, no_update answer (passed_answers (hold p before) (silence before + 1) round state answer next r)) (put_update p before state l u) (sym f ∙ e)
+    other_step p u xs ys before (Tick round ∷ answer)
+    (tt, no_update answer (passed_answers (hold p before) (silence before + 1) round state answer next r)) (put_update p before state l u) (sym f ∙ e)
 
 -- ---- what is told after it
 
@@ -200,6 +204,7 @@ pub told_others : (p : Peering) (lines : List Line) (u : Update) (prefix : Prefi
     → ¬ Contains (u.withdrawn ++ u.nlri) prefix → map.get (told (lines ++ Put (UpdateMsg u) ∷ [])) prefix ≡ map.get (told lines) prefix
 told_others p lines u prefix k n =
     ap (λ (r : Routes). map.get r prefix) (told_after p lines u k.legal)
-    ∙ (untouched u.attrs u.nlri (fold map.remove (told lines) u.withdrawn) prefix (not_among prefix u.nlri (λ c. n (Contains-append_right u.withdrawn u.nlri prefix c)))
+    ∙ (untouched u.attrs u.nlri (fold map.remove (told lines) u.withdrawn) prefix
+    (not_among prefix u.nlri (λ c. n (Contains-append_right u.withdrawn u.nlri prefix c)))
     ∙ (get_removed u.withdrawn (told lines) prefix
     ∙ ap (λ (t : Bool). cond t None (map.get (told lines) prefix)) (not_among prefix u.withdrawn (λ c. n (Contains-append_left u.withdrawn u.nlri prefix c)))))

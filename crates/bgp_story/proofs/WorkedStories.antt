@@ -30,7 +30,11 @@ use Rattle.bgp_story.specs.declared.line.Line.{Line}
 use Rattle.bgp_story.specs.declared.line.Line.TheVariants.{Put, Got, Tick}
 use Rattle.bgp_story.specs.Legal.{IsPeering, IsOneWay, opened, got, updated, passed, IsEarlier, hold_expired, hold, is_wide}
 use Rattle.bgp_story.specs.Readings.{Routes, IsLegal, put_bytes, apply, told, heard}
-use Rattle.bgp_story.specs.WorkedSessions.{worked_peering, open_bytes, keepalive_bytes, update_bytes, cease_bytes, sent_lines, confirmed_lines, joined_lines, heard_lines, ten, attrs_over, announcement_over, withdrawal, told_lines, withdrawn_lines, expired_lines, wide_home, wide_peering, wide_open_bytes, wide_lines, wide_put_bytes, heard_attrs, beaten_lines, offering_peering, offering_lines, unicast_home, unicast_peering, unicast_lines, unicast_put_bytes, both_home, both_peering, both_open_bytes, both_lines, both_put_bytes}
+use Rattle.bgp_story.specs.WorkedSessions.{worked_peering, open_bytes, keepalive_bytes, update_bytes, cease_bytes, sent_lines, confirmed_lines}
+use Rattle.bgp_story.specs.WorkedSessions.{joined_lines, heard_lines, ten, attrs_over, announcement_over, withdrawal, told_lines, withdrawn_lines}
+use Rattle.bgp_story.specs.WorkedSessions.{expired_lines, wide_home, wide_peering, wide_open_bytes, wide_lines, wide_put_bytes, heard_attrs}
+use Rattle.bgp_story.specs.WorkedSessions.{beaten_lines, offering_peering, offering_lines, unicast_home, unicast_peering, unicast_lines}
+use Rattle.bgp_story.specs.WorkedSessions.{unicast_put_bytes, both_home, both_peering, both_open_bytes, both_lines, both_put_bytes}
 use Rattle.bgp_story.specs.States.{BeginsStory}
 use Rattle.bgp_story.proofs.Shapes.{allowed_of}
 
@@ -48,7 +52,8 @@ sent hold is = opened _ is refl
 
 pub confirmed : (hold : ℕ) → IsPeering (worked_peering hold) → IsLegal (worked_peering hold) (confirmed_lines hold) OpenConfirm
 unfolding message_of header_fault frame_at body_of open_of many many_within cap_at caps_of params_of
-confirmed hold is = got (sent_lines hold) OpenSent open_bytes (Put KeepaliveMsg ∷ []) OpenConfirm (confirmed_lines hold) (sent hold is) not_sent (inl refl) refl refl
+confirmed hold is =
+    got (sent_lines hold) OpenSent open_bytes (Put KeepaliveMsg ∷ []) OpenConfirm (confirmed_lines hold) (sent hold is) not_sent (inl refl) refl refl
 
 pub ceased : (hold : ℕ) → IsPeering (worked_peering hold) → IsLegal (worked_peering hold) (sent_lines hold ++ Got cease_bytes ∷ []) Closed
 unfolding message_of header_fault frame_at body_of
@@ -56,28 +61,49 @@ ceased hold is = got (sent_lines hold) OpenSent cease_bytes [] Closed (sent_line
 
 pub joined : (hold : ℕ) → IsPeering (worked_peering hold) → IsLegal (worked_peering hold) (joined_lines hold) Established
 unfolding message_of header_fault frame_at body_of open_of many many_within cap_at caps_of params_of
-joined hold is = got (confirmed_lines hold) OpenConfirm keepalive_bytes [] Established (joined_lines hold) (confirmed hold is) not_confirmed (inl refl) refl refl
+joined hold is =
+    got (confirmed_lines hold) OpenConfirm keepalive_bytes [] Established (joined_lines hold) (confirmed hold is) not_confirmed (inl refl) refl refl
 
 pub heard_all : (hold : ℕ) → IsPeering (worked_peering hold) → IsLegal (worked_peering hold) (heard_lines hold) Established
-unfolding message_of header_fault frame_at body_of open_of update_of fields_of prefixes_of prefix_at many many_within attrs_in attrs_fault own_fault origin_in path_in next_hop_in med_in atomic_in aggregator_in other_in found_in all_known part_at attr_at cap_at caps_of params_of merged_path
+unfolding message_of header_fault frame_at body_of open_of update_of fields_of prefixes_of prefix_at many many_within attrs_in attrs_fault own_fault
+    origin_in path_in next_hop_in med_in atomic_in aggregator_in other_in found_in all_known part_at attr_at cap_at caps_of params_of merged_path
 heard_all hold is = got (joined_lines hold) Established update_bytes [] Established (heard_lines hold) (joined hold is) not_established (inl refl) refl refl
 
 -- what was heard
 pub heard_routes : (hold : ℕ) → heard (worked_peering hold) (heard_lines hold) ≡ map.insert map.empty ten heard_attrs
-unfolding message_of header_fault frame_at body_of open_of update_of fields_of prefixes_of prefix_at many many_within attrs_in attrs_fault own_fault origin_in path_in next_hop_in med_in atomic_in aggregator_in other_in found_in all_known part_at attr_at cap_at caps_of params_of merged_path
+unfolding message_of header_fault frame_at body_of open_of update_of fields_of prefixes_of prefix_at many many_within attrs_in attrs_fault own_fault
+    origin_in path_in next_hop_in med_in atomic_in aggregator_in other_in found_in all_known part_at attr_at cap_at caps_of params_of merged_path
 heard_routes hold = refl
 
 -- ---- the peerings
 
 pub peering_is : (hold : ℕ) → hold < 2 ^ 16 → is_short_hold hold ≡ false → IsPeering (worked_peering hold)
 peering_is hold fits long = record {
-  home = record { home_as = 65000; offered = false; unicast = false; is = refl; as_number = record { some = lit≤ tt; fits = lit< tt }; hold_fits = fits; hold_time = long; host = refl };
+  home = record {
+    home_as = 65000;
+    offered = false;
+    unicast = false;
+    is = refl;
+    as_number = record { some = lit≤ tt; fits = lit< tt };
+    hold_fits = fits;
+    hold_time = long;
+    host = refl;
+  };
   remote_as = record { some = lit≤ tt; fits = lit< tt };
 }
 
 wide_is : IsPeering wide_peering
 wide_is = record {
-  home = record { home_as = 4200000000; offered = true; unicast = false; is = refl; as_number = record { some = lit≤ tt; fits = lit< tt }; hold_fits = lit< tt; hold_time = refl; host = refl };
+  home = record {
+    home_as = 4200000000;
+    offered = true;
+    unicast = false;
+    is = refl;
+    as_number = record { some = lit≤ tt; fits = lit< tt };
+    hold_fits = lit< tt;
+    hold_time = refl;
+    host = refl;
+  };
   remote_as = record { some = lit≤ tt; fits = lit< tt };
 }
 
@@ -86,7 +112,8 @@ wide_is = record {
 -- with hold time 90, a KEEPALIVE is put in round 30
 pub beaten : IsLegal (worked_peering 90) beaten_lines OpenConfirm
 unfolding message_of header_fault frame_at body_of open_of many many_within cap_at caps_of params_of
-beaten = passed (confirmed_lines 90) OpenConfirm 30 (Put KeepaliveMsg ∷ []) OpenConfirm beaten_lines (confirmed 90 (peering_is 90 (lit< tt) refl)) refl (lit< tt) (All-from_recursion (IsEarlier 30) (confirmed_lines 90) (tt, (tt, (tt, tt)))) refl refl
+beaten = passed (confirmed_lines 90) OpenConfirm 30 (Put KeepaliveMsg ∷ []) OpenConfirm beaten_lines (confirmed 90 (peering_is 90 (lit< tt) refl))
+    refl (lit< tt) (All-from_recursion (IsEarlier 30) (confirmed_lines 90) (tt, (tt, (tt, tt)))) refl refl
 
 one_round : List Line
 one_round = confirmed_lines 3 ++ Tick 1 ∷ Put KeepaliveMsg ∷ []
@@ -96,16 +123,19 @@ two_rounds = confirmed_lines 3 ++ Tick 1 ∷ Put KeepaliveMsg ∷ Tick 2 ∷ Put
 
 first_round : IsLegal (worked_peering 3) one_round OpenConfirm
 unfolding one_round message_of header_fault frame_at body_of open_of many many_within cap_at caps_of params_of
-first_round = passed (confirmed_lines 3) OpenConfirm 1 (Put KeepaliveMsg ∷ []) OpenConfirm one_round (confirmed 3 (peering_is 3 (lit< tt) refl)) refl (lit< tt) (All-from_recursion (IsEarlier 1) (confirmed_lines 3) (tt, (tt, (tt, tt)))) refl refl
+first_round = passed (confirmed_lines 3) OpenConfirm 1 (Put KeepaliveMsg ∷ []) OpenConfirm one_round
+    (confirmed 3 (peering_is 3 (lit< tt) refl)) refl (lit< tt) (All-from_recursion (IsEarlier 1) (confirmed_lines 3) (tt, (tt, (tt, tt)))) refl refl
 
 second_round : IsLegal (worked_peering 3) two_rounds OpenConfirm
 unfolding one_round two_rounds message_of header_fault frame_at body_of open_of many many_within cap_at caps_of params_of
-second_round = passed one_round OpenConfirm 2 (Put KeepaliveMsg ∷ []) OpenConfirm two_rounds first_round refl (lit< tt) (All-from_recursion (IsEarlier 2) one_round (tt, (tt, (tt, (lit< tt, (tt, tt)))))) refl refl
+second_round = passed one_round OpenConfirm 2 (Put KeepaliveMsg ∷ []) OpenConfirm two_rounds first_round refl
+    (lit< tt) (All-from_recursion (IsEarlier 2) one_round (tt, (tt, (tt, (lit< tt, (tt, tt)))))) refl refl
 
 -- the hold time of 3 seconds is over in the third round
 pub expired : IsLegal (worked_peering 3) expired_lines Closed
 unfolding one_round two_rounds message_of header_fault frame_at body_of open_of many many_within cap_at caps_of params_of
-expired = passed two_rounds OpenConfirm 3 (Put (NoticeMsg hold_expired) ∷ []) Closed expired_lines second_round refl (lit< tt) (All-from_recursion (IsEarlier 3) two_rounds (tt, (tt, (tt, (lit< tt, (tt, (lit< tt, (tt, tt)))))))) refl refl
+expired = passed two_rounds OpenConfirm 3 (Put (NoticeMsg hold_expired) ∷ []) Closed expired_lines second_round refl
+    (lit< tt) (All-from_recursion (IsEarlier 3) two_rounds (tt, (tt, (tt, (lit< tt, (tt, (lit< tt, (tt, tt)))))))) refl refl
 
 -- ---- updates
 
@@ -142,7 +172,10 @@ wide_announcement_is = record { writable = record { body = announced_is 42000000
 
 withdrawal_is : IsOneWay withdrawal false
 unfolding spell
-withdrawal_is = record { writable = record { body = record { withdrawn = ten_is; nlri = All-nil IsPrefix; once = ten_once; attrs = refl }; size = lit≤ tt }; one_way = inl ((λ e. cc), refl) }
+withdrawal_is = record {
+  writable = record { body = record { withdrawn = ten_is; nlri = All-nil IsPrefix; once = ten_once; attrs = refl }; size = lit≤ tt };
+  one_way = inl ((λ e. cc), refl);
+}
 
 -- an announcement changes an empty table, and a withdrawal changes a table that has the prefix
 abbrev no_routes : Routes
@@ -163,12 +196,14 @@ is_gone a e = let apart : ◌≡◌ {A = Option Attrs} None (Some a) = sym (map.
 pub told_all : (hold : ℕ) → IsPeering (worked_peering hold) → IsLegal (worked_peering hold) (told_lines hold) Established
 unfolding message_of header_fault frame_at body_of open_of many many_within cap_at caps_of params_of
 told_all hold is = updated (joined_lines hold) (announcement_over (65000 ∷ [])) (told_lines hold) (joined hold is) announcement_is
-    (All-from_recursion (λ prefix. map.get (apply (told (joined_lines hold)) (announcement_over (65000 ∷ []))) prefix ≢ map.get (told (joined_lines hold)) prefix) (ten ∷ []) (is_new _, tt)) refl
+    (All-from_recursion (λ prefix. map.get (apply (told (joined_lines hold)) (announcement_over (65000 ∷ []))) prefix
+    ≢ map.get (told (joined_lines hold)) prefix) (ten ∷ []) (is_new _, tt)) refl
 
 pub withdrawn_all : (hold : ℕ) → IsPeering (worked_peering hold) → IsLegal (worked_peering hold) (withdrawn_lines hold) Established
 unfolding message_of header_fault frame_at body_of open_of many many_within cap_at caps_of params_of
 withdrawn_all hold is = updated (told_lines hold) withdrawal (withdrawn_lines hold) (told_all hold is) withdrawal_is
-    (All-from_recursion (λ prefix. map.get (apply (told (told_lines hold)) withdrawal) prefix ≢ map.get (told (told_lines hold)) prefix) (ten ∷ []) (is_gone _, tt)) refl
+    (All-from_recursion (λ prefix. map.get (apply (told (told_lines hold)) withdrawal) prefix ≢ map.get (told (told_lines hold)) prefix)
+    (ten ∷ []) (is_gone _, tt)) refl
 
 -- ---- the wide session
 
@@ -182,7 +217,9 @@ wide_joined =
 pub wide_all : IsLegal wide_peering wide_lines Established
 unfolding message_of header_fault frame_at body_of open_of many many_within cap_at caps_of params_of
 wide_all = updated _ (announcement_over (4200000000 ∷ [])) wide_lines wide_joined wide_announcement_is
-    (All-from_recursion (λ prefix. map.get (apply (told (Put (OpenMsg wide_home) ∷ Got wide_open_bytes ∷ Put KeepaliveMsg ∷ Got keepalive_bytes ∷ [])) (announcement_over (4200000000 ∷ []))) prefix ≢ map.get (told (Put (OpenMsg wide_home) ∷ Got wide_open_bytes ∷ Put KeepaliveMsg ∷ Got keepalive_bytes ∷ [])) prefix) (ten ∷ []) (is_new _, tt)) refl
+    (All-from_recursion (λ prefix. map.get (apply (told (Put (OpenMsg wide_home) ∷ Got wide_open_bytes ∷ Put KeepaliveMsg ∷ Got keepalive_bytes ∷ []))
+    (announcement_over (4200000000 ∷ []))) prefix
+    ≢ map.get (told (Put (OpenMsg wide_home) ∷ Got wide_open_bytes ∷ Put KeepaliveMsg ∷ Got keepalive_bytes ∷ [])) prefix) (ten ∷ []) (is_new _, tt)) refl
 
 pub wide_puts : put_bytes wide_peering wide_lines ≡ wide_put_bytes
 unfolding message_of header_fault frame_at body_of open_of many many_within cap_at caps_of params_of spell spell_attrs attrs_written path_octets
@@ -192,13 +229,31 @@ wide_puts = refl
 
 unicast_is : IsPeering unicast_peering
 unicast_is = record {
-  home = record { home_as = 65000; offered = false; unicast = true; is = refl; as_number = record { some = lit≤ tt; fits = lit< tt }; hold_fits = lit< tt; hold_time = refl; host = refl };
+  home = record {
+    home_as = 65000;
+    offered = false;
+    unicast = true;
+    is = refl;
+    as_number = record { some = lit≤ tt; fits = lit< tt };
+    hold_fits = lit< tt;
+    hold_time = refl;
+    host = refl;
+  };
   remote_as = record { some = lit≤ tt; fits = lit< tt };
 }
 
 both_is : IsPeering both_peering
 both_is = record {
-  home = record { home_as = 65000; offered = true; unicast = true; is = refl; as_number = record { some = lit≤ tt; fits = lit< tt }; hold_fits = lit< tt; hold_time = refl; host = refl };
+  home = record {
+    home_as = 65000;
+    offered = true;
+    unicast = true;
+    is = refl;
+    as_number = record { some = lit≤ tt; fits = lit< tt };
+    hold_fits = lit< tt;
+    hold_time = refl;
+    host = refl;
+  };
   remote_as = record { some = lit≤ tt; fits = lit< tt };
 }
 
@@ -212,7 +267,9 @@ unicast_joined =
 pub unicast_all : IsLegal unicast_peering unicast_lines Established
 unfolding message_of header_fault frame_at body_of open_of many many_within cap_at caps_of params_of
 unicast_all = updated _ (announcement_over (65000 ∷ [])) unicast_lines unicast_joined announcement_is
-    (All-from_recursion (λ prefix. map.get (apply (told (Put (OpenMsg unicast_home) ∷ Got open_bytes ∷ Put KeepaliveMsg ∷ Got keepalive_bytes ∷ [])) (announcement_over (65000 ∷ []))) prefix ≢ map.get (told (Put (OpenMsg unicast_home) ∷ Got open_bytes ∷ Put KeepaliveMsg ∷ Got keepalive_bytes ∷ [])) prefix) (ten ∷ []) (is_new _, tt)) refl
+    (All-from_recursion (λ prefix. map.get
+    (apply (told (Put (OpenMsg unicast_home) ∷ Got open_bytes ∷ Put KeepaliveMsg ∷ Got keepalive_bytes ∷ [])) (announcement_over (65000 ∷ []))) prefix
+    ≢ map.get (told (Put (OpenMsg unicast_home) ∷ Got open_bytes ∷ Put KeepaliveMsg ∷ Got keepalive_bytes ∷ [])) prefix) (ten ∷ []) (is_new _, tt)) refl
 
 pub unicast_puts : put_bytes unicast_peering unicast_lines ≡ unicast_put_bytes
 unfolding message_of header_fault frame_at body_of open_of many many_within cap_at caps_of params_of spell spell_attrs attrs_written path_octets
@@ -224,7 +281,8 @@ unicast_stays_narrow = refl
 
 pub both_all : IsLegal both_peering both_lines OpenConfirm
 unfolding message_of header_fault frame_at body_of open_of many many_within cap_at caps_of params_of
-both_all = got (Put (OpenMsg both_home) ∷ []) OpenSent both_open_bytes (Put KeepaliveMsg ∷ []) OpenConfirm both_lines (opened _ both_is refl) not_sent (inl refl) refl refl
+both_all = got (Put (OpenMsg both_home) ∷ []) OpenSent both_open_bytes
+    (Put KeepaliveMsg ∷ []) OpenConfirm both_lines (opened _ both_is refl) not_sent (inl refl) refl refl
 
 pub both_puts : put_bytes both_peering both_lines ≡ both_put_bytes
 unfolding message_of header_fault frame_at body_of open_of many many_within cap_at caps_of params_of spell spell_attrs attrs_written path_octets
@@ -246,7 +304,8 @@ stays_narrow = refl
 
 pub offered_in_vain : IsLegal offering_peering offering_lines OpenConfirm
 unfolding message_of header_fault frame_at body_of open_of many many_within cap_at caps_of params_of
-offered_in_vain = got (Put (OpenMsg wide_home) ∷ []) OpenSent open_bytes (Put KeepaliveMsg ∷ []) OpenConfirm offering_lines (opened _ (record { home = wide_is.home; remote_as = record { some = lit≤ tt; fits = lit< tt } }) refl) not_sent (inl refl) refl refl
+offered_in_vain = got (Put (OpenMsg wide_home) ∷ []) OpenSent open_bytes (Put KeepaliveMsg ∷ []) OpenConfirm offering_lines
+    (opened _ (record { home = wide_is.home; remote_as = record { some = lit≤ tt; fits = lit< tt } }) refl) not_sent (inl refl) refl refl
 
 -- ---- what was told
 

@@ -22,7 +22,8 @@ home_caps home_as offered unicast = (if unicast then unicast_cap ∷ [] else [])
 
 -- It has the home AS, or AS_TRANS, 23456, if that doesn't fit into two octets; the hold time; the identifier; and the capabilities.
 abbrev pub home_open : (home_as hold identifier : ℕ) → (offered unicast : Bool) → OpenMsg
-home_open home_as hold identifier offered unicast = record { as_number = narrow_as home_as; hold = hold; identifier = identifier; caps = home_caps home_as offered unicast }
+home_open home_as hold identifier offered unicast =
+    record { as_number = narrow_as home_as; hold = hold; identifier = identifier; caps = home_caps home_as offered unicast }
 
 -- the number of an AS: 0 is none (RFC 7607, section 2), and it fits into four octets (RFC 6793, section 3)
 pub record IsAsNumber (as_number : ℕ) : Type 0 where

@@ -32,10 +32,14 @@ pub fn legal_is_allowed()
 /// 4271, section 4.2; RFC 6793, section 4.1; RFC 7607, section 2).
 pub fn open_is_in_range()
     ensures home { (p : Peering) (lines : List Line) (state : SessionState) → Allowed p lines state → IsHomeOpen p.first }
-    ensures hold { (p : Peering) (lines : List Line) (state : SessionState) → Allowed p lines state → (p.first.hold ≡ 0) ⊎ ((3 ≤ p.first.hold) × (p.first.hold < 2 ^ 16)) }
-    ensures identifier { (p : Peering) (lines : List Line) (state : SessionState) → Allowed p lines state → (0 < p.first.identifier) × (p.first.identifier < 224 * 2 ^ 24) }
-    ensures home_as { (p : Peering) (lines : List Line) (state : SessionState) → Allowed p lines state → (0 < p.first.as_number) × (p.first.as_number < 2 ^ 16) }
-    ensures wide_as { (p : Peering) (lines : List Line) (state : SessionState) (as_number : ℕ) → Allowed p lines state → as_said p.first.caps ≡ Some as_number → (0 < as_number) × (as_number < 2 ^ 32) × (p.first.as_number ≡ narrow_as as_number) }
+    ensures hold { (p : Peering) (lines : List Line) (state : SessionState) → Allowed p lines state
+        → (p.first.hold ≡ 0) ⊎ ((3 ≤ p.first.hold) × (p.first.hold < 2 ^ 16)) }
+    ensures identifier { (p : Peering) (lines : List Line) (state : SessionState)
+        → Allowed p lines state → (0 < p.first.identifier) × (p.first.identifier < 224 * 2 ^ 24) }
+    ensures home_as { (p : Peering) (lines : List Line) (state : SessionState)
+        → Allowed p lines state → (0 < p.first.as_number) × (p.first.as_number < 2 ^ 16) }
+    ensures wide_as { (p : Peering) (lines : List Line) (state : SessionState) (as_number : ℕ) → Allowed p lines state
+        → as_said p.first.caps ≡ Some as_number → (0 < as_number) × (as_number < 2 ^ 32) × (p.first.as_number ≡ narrow_as as_number) }
     ensures remote_as { (p : Peering) (lines : List Line) (state : SessionState) → Allowed p lines state → (0 < p.remote_as) × (p.remote_as < 2 ^ 32) }
 {}
 
@@ -63,36 +67,50 @@ pub fn closed_is_the_end()
 /// A NOTIFICATION is put only after a message with its fault was got, or when the hold time has
 /// expired.
 pub fn notifications_have_causes()
-    ensures { (p : Peering) (lines more : List Line) (n : Notice) (state : SessionState) → Allowed p (lines ++ Put (NoticeMsg n) ∷ more) state → HasCause p lines n }
+    ensures { (p : Peering) (lines more : List Line) (n : Notice) (state : SessionState)
+        → Allowed p (lines ++ Put (NoticeMsg n) ∷ more) state → HasCause p lines n }
 {}
 
 /// An UPDATE is put in Established. It either withdraws or announces, and it can be written in the
 /// session's width of AS numbers.
 pub fn updates_are_one_way()
-    ensures before { (p : Peering) (lines more : List Line) (u : Update) (state : SessionState) → IsLegal p (lines ++ Put (UpdateMsg u) ∷ more) state → IsLegal p lines Established }
-    ensures one_way { (p : Peering) (lines more : List Line) (u : Update) (state : SessionState) → IsLegal p (lines ++ Put (UpdateMsg u) ∷ more) state → ((u.withdrawn ≢ []) × (u.nlri ≡ [])) ⊎ ((u.withdrawn ≡ []) × (u.nlri ≢ [])) }
-    ensures writable { (p : Peering) (lines more : List Line) (u : Update) (state : SessionState) → IsLegal p (lines ++ Put (UpdateMsg u) ∷ more) state → IsWritable (UpdateMsg u) (is_wide p lines) }
+    ensures before { (p : Peering) (lines more : List Line) (u : Update) (state : SessionState)
+        → IsLegal p (lines ++ Put (UpdateMsg u) ∷ more) state → IsLegal p lines Established }
+    ensures one_way { (p : Peering) (lines more : List Line) (u : Update) (state : SessionState)
+        → IsLegal p (lines ++ Put (UpdateMsg u) ∷ more) state → ((u.withdrawn ≢ []) × (u.nlri ≡ [])) ⊎ ((u.withdrawn ≡ []) × (u.nlri ≢ [])) }
+    ensures writable { (p : Peering) (lines more : List Line) (u : Update) (state : SessionState)
+        → IsLegal p (lines ++ Put (UpdateMsg u) ∷ more) state → IsWritable (UpdateMsg u) (is_wide p lines) }
 {}
 
 /// An UPDATE that is put changes what was told for each of its prefixes, and for no other prefix: after
 /// it an announced prefix has its attributes, and a withdrawn one has none (RFC 4271, section 3.1).
 pub fn updates_change_what_was_told()
-    ensures changed { (p : Peering) (lines more : List Line) (u : Update) (state : SessionState) (prefix : PrefixValue) → IsLegal p (lines ++ Put (UpdateMsg u) ∷ more) state → Contains (u.withdrawn ++ u.nlri) prefix → map.get (told (lines ++ Put (UpdateMsg u) ∷ [])) prefix ≢ map.get (told lines) prefix }
-    ensures announced { (p : Peering) (lines more : List Line) (u : Update) (state : SessionState) (prefix : PrefixValue) → IsLegal p (lines ++ Put (UpdateMsg u) ∷ more) state → Contains u.nlri prefix → map.get (told (lines ++ Put (UpdateMsg u) ∷ [])) prefix ≡ u.attrs }
-    ensures attributes { (p : Peering) (lines more : List Line) (u : Update) (state : SessionState) (prefix : PrefixValue) → IsLegal p (lines ++ Put (UpdateMsg u) ∷ more) state → Contains u.nlri prefix → IsSome u.attrs }
-    ensures withdrawn { (p : Peering) (lines more : List Line) (u : Update) (state : SessionState) (prefix : PrefixValue) → IsLegal p (lines ++ Put (UpdateMsg u) ∷ more) state → Contains u.withdrawn prefix → map.get (told (lines ++ Put (UpdateMsg u) ∷ [])) prefix ≡ None }
-    ensures others { (p : Peering) (lines more : List Line) (u : Update) (state : SessionState) (prefix : PrefixValue) → IsLegal p (lines ++ Put (UpdateMsg u) ∷ more) state → ¬ Contains (u.withdrawn ++ u.nlri) prefix → map.get (told (lines ++ Put (UpdateMsg u) ∷ [])) prefix ≡ map.get (told lines) prefix }
+    ensures changed { (p : Peering) (lines more : List Line) (u : Update) (state : SessionState) (prefix : PrefixValue)
+        → IsLegal p (lines ++ Put (UpdateMsg u) ∷ more) state → Contains (u.withdrawn ++ u.nlri) prefix
+        → map.get (told (lines ++ Put (UpdateMsg u) ∷ [])) prefix ≢ map.get (told lines) prefix }
+    ensures announced { (p : Peering) (lines more : List Line) (u : Update) (state : SessionState) (prefix : PrefixValue)
+        → IsLegal p (lines ++ Put (UpdateMsg u) ∷ more) state → Contains u.nlri prefix → map.get (told (lines ++ Put (UpdateMsg u) ∷ [])) prefix ≡ u.attrs }
+    ensures attributes { (p : Peering) (lines more : List Line) (u : Update) (state : SessionState) (prefix : PrefixValue)
+        → IsLegal p (lines ++ Put (UpdateMsg u) ∷ more) state → Contains u.nlri prefix → IsSome u.attrs }
+    ensures withdrawn { (p : Peering) (lines more : List Line) (u : Update) (state : SessionState) (prefix : PrefixValue)
+        → IsLegal p (lines ++ Put (UpdateMsg u) ∷ more) state → Contains u.withdrawn prefix → map.get (told (lines ++ Put (UpdateMsg u) ∷ [])) prefix ≡ None }
+    ensures others { (p : Peering) (lines more : List Line) (u : Update) (state : SessionState) (prefix : PrefixValue)
+        → IsLegal p (lines ++ Put (UpdateMsg u) ∷ more) state → ¬ Contains (u.withdrawn ++ u.nlri) prefix
+        → map.get (told (lines ++ Put (UpdateMsg u) ∷ [])) prefix ≡ map.get (told lines) prefix }
 {}
 
 /// Once the OPEN of the remote is accepted, the width of AS numbers and the hold time no longer change.
 pub fn width_and_hold_stay()
-    ensures width { (p : Peering) (lines more : List Line) (state : SessionState) → Allowed p lines state → is_up state ≡ true → is_wide p (lines ++ more) ≡ is_wide p lines }
-    ensures hold { (p : Peering) (lines more : List Line) (state : SessionState) → Allowed p lines state → is_up state ≡ true → hold p (lines ++ more) ≡ hold p lines }
+    ensures width { (p : Peering) (lines more : List Line) (state : SessionState)
+        → Allowed p lines state → is_up state ≡ true → is_wide p (lines ++ more) ≡ is_wide p lines }
+    ensures hold { (p : Peering) (lines more : List Line) (state : SessionState)
+        → Allowed p lines state → is_up state ≡ true → hold p (lines ++ more) ≡ hold p lines }
 {}
 
 /// The octets put so far are the first part of the octets put later; the same holds for the octets got.
 pub fn octets_grow()
-    ensures put { (p : Peering) (lines more : List Line) (state : SessionState) → Allowed p lines state → put_bytes p (lines ++ more) ≡ put_bytes p lines ++ flat_map (put_in (is_wide p (lines ++ more))) more }
+    ensures put { (p : Peering) (lines more : List Line) (state : SessionState) → Allowed p lines state
+        → put_bytes p (lines ++ more) ≡ put_bytes p lines ++ flat_map (put_in (is_wide p (lines ++ more))) more }
     ensures got { (lines more : List Line) → got_bytes (lines ++ more) ≡ got_bytes lines ++ got_bytes more }
 {}
 
@@ -100,7 +118,8 @@ pub fn octets_grow()
 /// are empty.
 pub fn tables_grow()
     ensures told { (lines more : List Line) → state_of lines ≢ Closed → state_of (lines ++ more) ≢ Closed → told (lines ++ more) ≡ fold tell (told lines) more }
-    ensures heard { (p : Peering) (lines more : List Line) (state : SessionState) → Allowed p lines state → state ≢ Closed → state_of (lines ++ more) ≢ Closed → heard p (lines ++ more) ≡ fold (hear (expected_next p (lines ++ more) Established)) (heard p lines) more }
+    ensures heard { (p : Peering) (lines more : List Line) (state : SessionState) → Allowed p lines state → state ≢ Closed
+        → state_of (lines ++ more) ≢ Closed → heard p (lines ++ more) ≡ fold (hear (expected_next p (lines ++ more) Established)) (heard p lines) more }
     ensures none_told { (lines : List Line) → state_of lines ≡ Closed → told lines ≡ map.empty }
     ensures none_heard { (p : Peering) (lines : List Line) → state_of lines ≡ Closed → heard p lines ≡ map.empty }
 {}

@@ -1,5 +1,6 @@
 -- An attribute that is read stands there as it is spelled, and what is spelled is read.
-use Rattle.std.proofs.Common.{◌≡◌, ℕ, ◌+◌, ◌^◌, ◌<◌, ◌≤◌, List, [], ◌∷◌, ◌++◌, length, take, drop, Bool, true, false, cond, eqb, ltb, Option, Some, None, refl, sym, ap, ◌∙◌, arith, subst, append_assoc, length-drop, inl, inr}
+use Rattle.std.proofs.Common.{◌≡◌, ℕ, ◌+◌, ◌^◌, ◌<◌, ◌≤◌, List, [], ◌∷◌, ◌++◌, length, take, drop, Bool, true, false, cond, eqb, ltb}
+use Rattle.std.proofs.Common.{Option, Some, None, refl, sym, ap, ◌∙◌, arith, subst, append_assoc, length-drop, inl, inr}
 use Rattle.std.specs.Prelude.{bit_and}
 use Rattle.std.specs.Int.{Width, w8, w16, w32, byte_len, from_be_bytes, to_be_bytes}
 use Rattle.std.proofs.lemmas.Bool.{cases_lt, ltb-false, le-ltb}
@@ -123,7 +124,8 @@ attr_takes (f ∷ k ∷ bytes) x fits e =
       sound = record { flags = fits 0; kind = fits 1; size = subst (λ (m : ℕ). m < size_limit f) (sym len) (wide.below (take (byte_len w) bytes) front_fits) };
       rest_fits = AreOctets-drop n rest (AreOctets-drop (byte_len w) bytes bytes_fit);
     } in
-    let there : TakesAttr (f ∷ k ∷ bytes) (attr_with f k a.0.0) a.0.1 = subst (λ (v : List ℕ × List ℕ). TakesAttr (f ∷ k ∷ bytes) (attr_with f k v.0) v.1) value here in
+    let there : TakesAttr (f ∷ k ∷ bytes) (attr_with f k a.0.0) a.0.1 =
+    subst (λ (v : List ℕ × List ℕ). TakesAttr (f ∷ k ∷ bytes) (attr_with f k v.0) v.1) value here in
     subst (λ (y : WireAttr × List ℕ). TakesAttr (f ∷ k ∷ bytes) y.0 y.1) a.2 there
 
 pub number_again : (w : Width) (limit : ℕ) → IsWide w limit → (n : ℕ) (rest : List ℕ) → n < limit → number_at w (to_be_bytes w n ++ rest) ≡ Some (n, rest)
@@ -142,7 +144,8 @@ unfolding attr_at
 attr_again a rest fits =
     let w = size_width a.flags in
     ap (λ (y : List ℕ). attr_with_value a.flags a.kind (told_at (number_at w y))) (append_assoc (to_be_bytes w (length a.value)) a.value rest)
-    ∙ (ap (λ (o : Option (ℕ × List ℕ)). attr_with_value a.flags a.kind (told_at o)) (number_again w (size_limit a.flags) (wide_size a.flags) (length a.value) (a.value ++ rest) fits.size)
+    ∙ (ap (λ (o : Option (ℕ × List ℕ)). attr_with_value a.flags a.kind (told_at o))
+    (number_again w (size_limit a.flags) (wide_size a.flags) (length a.value) (a.value ++ rest) fits.size)
     ∙ ap (attr_with_value a.flags a.kind) (told_again a.value rest))
 
 told_shorter : (n : Option (ℕ × List ℕ)) (len : ℕ) (v : List ℕ × List ℕ) → ((x : ℕ × List ℕ) → n ≡ Some x → length x.1 ≤ len) → told_at n ≡ Some v
@@ -171,7 +174,8 @@ unfolding attr_at
 attr_shorter [] x e = absurd cc
 attr_shorter (f ∷ []) x e = absurd cc
 attr_shorter (f ∷ k ∷ bytes) x e =
-    let h = value_shorter f k (told_at (number_at (size_width f) bytes)) (length bytes) x (λ y d. told_shorter (number_at (size_width f) bytes) (length bytes) y (number_shorter f bytes) d) e in
+    let h = value_shorter f k (told_at (number_at (size_width f) bytes)) (length bytes) x
+    (λ y d. told_shorter (number_at (size_width f) bytes) (length bytes) y (number_shorter f bytes) d) e in
     omega arith
 
 attr_shortens : Shortens attr_at

@@ -20,7 +20,8 @@ use Rattle.bgp_types.proofs.TakesLaws.{TakesMany, many_takes}
 use Rattle.bgp_types.proofs.OrderLaws.{clean_alone, all_both}
 
 attrs_take : (bytes : List ℕ) → AreOctets bytes → TakesMany attr_octets IsWireAttr bytes (many attr_at bytes)
-attrs_take bytes b = many_takes AreOctets attr_at attr_octets IsWireAttr (λ c x d e. let t = attr_takes c x d e in record { parts = t.parts; fits = t.sound; rest = t.rest_fits }) bytes b
+attrs_take bytes b = many_takes AreOctets attr_at attr_octets IsWireAttr
+    (λ c x d e. let t = attr_takes c x d e in record { parts = t.parts; fits = t.sound; rest = t.rest_fits }) bytes b
 
 -- ---- no fault
 
@@ -61,8 +62,14 @@ is_clean wide before (a ∷ others) rest e =
     record {
       nothing_left = c.nothing_left;
       own = (g.1, c.own);
-      fresh = (g.0, weaker (λ x. attr_of x.kind (before ++ a ∷ []) ≡ None) (λ x. attr_of x.kind before ≡ None) others (λ x h. (last_none x.kind before a h).0) c.fresh);
-      differ = (weaker (λ x. attr_of x.kind (before ++ a ∷ []) ≡ None) (λ x. wire_kind x ≢ wire_kind a) others (λ x h. (last_none x.kind before a h).1) c.fresh, c.differ);
+      fresh = (
+        g.0,
+        weaker (λ x. attr_of x.kind (before ++ a ∷ []) ≡ None) (λ x. attr_of x.kind before ≡ None) others (λ x h. (last_none x.kind before a h).0) c.fresh,
+      );
+      differ = (
+        weaker (λ x. attr_of x.kind (before ++ a ∷ []) ≡ None) (λ x. wire_kind x ≢ wire_kind a) others (λ x h. (last_none x.kind before a h).1) c.fresh,
+        c.differ,
+      );
     }
   where
     weaker : (P Q : WireAttr → Type 0) (xs : List WireAttr) → ((x : WireAttr) → P x → Q x) → AllByRecursion P xs → AllByRecursion Q xs
@@ -91,7 +98,9 @@ attrs_read wide bytes found b e =
 pub attrs_are : (wide : Bool) (bytes : List ℕ) (found : FoundAttrs) → ReadsAttrs wide bytes found → attrs_in wide bytes ≡ Ok found
 unfolding attrs_in
 attrs_are wide bytes found r =
-    let cut : many attr_at bytes ≡ (r.attrs, []) = ap (many attr_at) (r.octets ∙ sym (append-nil (flat_map attr_octets r.attrs))) ∙ many_again attr_at attr_octets IsWireAttr attr_reads r.attrs [] r.each no_attr in
+    let cut : many attr_at bytes ≡ (r.attrs, []) = ap (many attr_at) (r.octets ∙ sym (append-nil (flat_map attr_octets r.attrs)))
+    ∙ many_again attr_at attr_octets IsWireAttr attr_reads r.attrs [] r.each no_attr in
     let clean : attrs_fault wide [] r.attrs [] ≡ None = clean_alone wide r.attrs r.sound r.once in
     ap (λ (m : List WireAttr × List ℕ). unless (attrs_fault wide [] m.0 m.1) (found_in wide m.0)) cut
-    ∙ (ap (λ (o : Option Notice). unless o (found_in wide r.attrs)) clean ∙ ap (λ (f : FoundAttrs). (let x : Result FoundAttrs Notice = Ok f in x)) (sym r.says))
+    ∙ (ap (λ (o : Option Notice). unless o (found_in wide r.attrs)) clean
+    ∙ ap (λ (f : FoundAttrs). (let x : Result FoundAttrs Notice = Ok f in x)) (sym r.says))

@@ -1,5 +1,6 @@
 -- Attributes that are written read back.
-use Rattle.std.proofs.Common.{◌≡◌, ℕ, ◌+◌, ◌-◌, ◌^◌, ◌<◌, ◌≤◌, List, [], ◌∷◌, length, map, Bool, true, false, cond, eqb, ltb, Option, Some, None, Result, Ok, Err, refl, sym, ap, ◌∙◌, arith, subst}
+use Rattle.std.proofs.Common.{◌≡◌, ℕ, ◌+◌, ◌-◌, ◌^◌, ◌<◌, ◌≤◌, List, [], ◌∷◌, length, map, Bool, true, false, cond, eqb}
+use Rattle.std.proofs.Common.{ltb, Option, Some, None, Result, Ok, Err, refl, sym, ap, ◌∙◌, arith, subst}
 use Rattle.std.specs.Prelude.{◌≢◌, All, IfSome, bit_and, ◌||◌, ◌&&◌, not, sum_by, is_some}
 use Rattle.std.specs.List.{flat_map, AllByRecursion, list_any}
 use Rattle.std.specs.Int.{w32, to_be_bytes}
@@ -17,7 +18,8 @@ use Rattle.bgp_types.specs.declared.fault.FoundAttrs.{FoundAttrs}
 use Rattle.bgp_types.specs.declared.message.Notice.{Notice}
 use Rattle.bgp_types.specs.declared.path.PathPart.{PathPart}
 use Rattle.bgp_types.specs.declared.path.PathPart.TheVariants as parts
-use Rattle.bgp_types.specs.Faults.{about, fault_in, ok_in, host_in, origin_in, path_in, next_hop_in, med_in, atomic_in, aggregator_in, aggregator_of, other_in, kept_raw, own_fault, attr_of}
+use Rattle.bgp_types.specs.Faults.{about, fault_in, ok_in, host_in, origin_in, path_in, next_hop_in, med_in, atomic_in}
+use Rattle.bgp_types.specs.Faults.{aggregator_in, aggregator_of, other_in, kept_raw, own_fault, attr_of}
 use Rattle.bgp_types.specs.Found.{said, join, kept, as4_path_in, as4_aggregator_in, unless_wide, if_some_part, found_in}
 use Rattle.bgp_types.specs.Lengths.{attrs_size, attr_size_of, part_size}
 use Rattle.bgp_types.specs.Merge.{lead, meet, merged_path, merged_aggregator, is_stale, path_with}
@@ -25,7 +27,8 @@ use Rattle.bgp_types.specs.PathOctets.{path_octets, is_long_as, narrow_as, narro
 use Rattle.bgp_types.specs.Paths.{ases_of, part_count, path_count}
 use Rattle.bgp_types.specs.Reads.{Differ, ReadsAttrs}
 use Rattle.bgp_types.specs.Rising.{in_rising}
-use Rattle.bgp_types.specs.Spelling.{origin_written, path_written, next_hop_written, med_written, atomic_written, passed_flags, aggregator_octets, aggregator_written, as4_path_written, as4_aggregator_written, other_written, attrs_written, spell_attrs}
+use Rattle.bgp_types.specs.Spelling.{origin_written, path_written, next_hop_written, med_written, atomic_written, passed_flags, aggregator_octets}
+use Rattle.bgp_types.specs.Spelling.{aggregator_written, as4_path_written, as4_aggregator_written, other_written, attrs_written, spell_attrs}
 use Rattle.bgp_types.specs.Values.{is_no_host, is_other, other_kind}
 use Rattle.bgp_types.specs.WireAttrs.{WireAttr, IsWireAttr, wire_kind, attr_octets, written}
 use Rattle.bgp_types.specs.Writable.{IsPart, IsOther, IsAggregator, IsWritableAttrs}
@@ -83,7 +86,8 @@ path_said wide path fits = by_test (ltb 255 (length (path_octets wide path))) wh
 path_good : (wide : Bool) (path : List PathPart) → All (IsPartIn wide) path → length (path_octets wide path) < 65536
     → IsGood wide (written 64 2 (path_octets wide path))
 unfolding own_fault
-path_good wide path fits size = record { sound = written_sound 64 2 (path_octets wide path) flags64 (omega arith) size; own = ap fault_in (path_said wide path fits) }
+path_good wide path fits size =
+    record { sound = written_sound 64 2 (path_octets wide path) flags64 (omega arith) size; own = ap fault_in (path_said wide path fits) }
 
 host_small : (n : ℕ) → is_no_host n ≡ false → n < 2 ^ 32
 host_small n host = grind (arith, nat_tests)
@@ -96,7 +100,8 @@ next_hop_said n host =
 
 next_hop_good : (wide : Bool) (n : ℕ) → is_no_host n ≡ false → IsGood wide (next_hop_written n)
 unfolding own_fault
-next_hop_good wide n host = record { sound = written_sound 64 3 (to_be_bytes w32 n) flags64 (omega arith) (omega arith); own = ap fault_in (next_hop_said n host) }
+next_hop_good wide n host =
+    record { sound = written_sound 64 3 (to_be_bytes w32 n) flags64 (omega arith) (omega arith); own = ap fault_in (next_hop_said n host) }
 
 med_said : (n : ℕ) → n < 2 ^ 32 → med_in (written 128 4 (to_be_bytes w32 n)) ≡ Ok n
 unfolding med_in
@@ -105,7 +110,8 @@ med_said n lt = ap (λ (m : ℕ). (let r : Result ℕ Notice = Ok m in r)) (wide
 med_slot : (wide : Bool) (med : Option ℕ) → IfSome med (λ n. n < 2 ^ 32) → IsSlot wide 4 (med_written med)
 unfolding own_fault
 med_slot wide None f = none
-med_slot wide (Some n) f = one (written 128 4 (to_be_bytes w32 n)) refl (record { sound = written_sound 128 4 (to_be_bytes w32 n) flags128 (omega arith) (omega arith); own = ap fault_in (med_said n f) })
+med_slot wide (Some n) f = one (written 128 4 (to_be_bytes w32 n)) refl
+    (record { sound = written_sound 128 4 (to_be_bytes w32 n) flags128 (omega arith) (omega arith); own = ap fault_in (med_said n f) })
 
 med_found : (med : Option ℕ) → IfSome med (λ n. n < 2 ^ 32) → said med_in (head_of (med_written med)) ≡ med
 med_found None f = refl
@@ -119,7 +125,8 @@ atomic_slot wide false = none
 -- ---- the aggregator
 
 aggregator_said : (wide partial : Bool) (kind as_number address : ℕ) → as_number < (cond wide (2 ^ 32) (2 ^ 16)) → address < 2 ^ 32 →
-    aggregator_of wide (written (passed_flags partial) kind (aggregator_octets wide as_number address)) ≡ record { as_number = as_number; address = address; partial = partial }
+    aggregator_of wide (written (passed_flags partial) kind (aggregator_octets wide as_number address))
+    ≡ record { as_number = as_number; address = address; partial = partial }
 aggregator_said true true kind n address a b = same_aggregator _ _ _ _ _ (wide32.again n a) (wide32.again address b) where
   same_aggregator : (n n' d d' : ℕ) (p : Bool) → n ≡ n' → d ≡ d'
       → (let a : Aggregator = record { as_number = n; address = d; partial = p } in a) ≡ record { as_number = n'; address = d'; partial = p }
@@ -167,7 +174,8 @@ aggregator_slot : (wide : Bool) (a : Option Aggregator) → IsSlot wide 7 (aggre
 unfolding own_fault
 aggregator_slot wide None = none
 aggregator_slot wide (Some a) = one (written (passed_flags a.partial) 7 (aggregator_octets wide (as_in_width wide a.as_number) a.address)) refl (record {
-  sound = written_sound (passed_flags a.partial) 7 (aggregator_octets wide (as_in_width wide a.as_number) a.address) (passed a.partial) (omega arith) (aggregator_size wide (as_in_width wide a.as_number) a.address);
+  sound = written_sound (passed_flags a.partial) 7 (aggregator_octets wide (as_in_width wide a.as_number) a.address)
+      (passed a.partial) (omega arith) (aggregator_size wide (as_in_width wide a.as_number) a.address);
   own = ap fault_in (aggregator_reads wide a.partial (as_in_width wide a.as_number) a.address);
 })
 
@@ -180,7 +188,8 @@ aggregator_found : (wide : Bool) (a : Option Aggregator) → IfSome a IsAggregat
     → said (aggregator_in wide) (head_of (aggregator_written wide a)) ≡ aggregator_in_width wide a
 aggregator_found wide None f = refl
 aggregator_found wide (Some a) f = ap ok_in (aggregator_reads wide a.partial (as_in_width wide a.as_number) a.address)
-    ∙ ap (λ (b : Aggregator). Some b) (aggregator_said wide a.partial 7 (as_in_width wide a.as_number) a.address (in_width_small wide a.as_number f.as_number) f.address)
+    ∙ ap (λ (b : Aggregator). Some b)
+    (aggregator_said wide a.partial 7 (as_in_width wide a.as_number) a.address (in_width_small wide a.as_number f.as_number) f.address)
 
 -- ---- AS4_PATH and AS4_AGGREGATOR
 
@@ -219,7 +228,8 @@ as4_aggregator_slot : (wide : Bool) (a : Option Aggregator) → IsSlot wide 18 (
 as4_aggregator_slot wide None = none
 as4_aggregator_slot wide (Some a) = by_test (not wide && is_long_as a.as_number) where
   by_test : (t : Bool) → IsSlot wide 18 (cond t (written 192 18 (aggregator_octets true a.as_number a.address) ∷ []) [])
-  by_test true = one (written 192 18 (aggregator_octets true a.as_number a.address)) refl (passed_good wide false 18 (aggregator_octets true a.as_number a.address) refl (omega arith) (aggregator_size true a.as_number a.address))
+  by_test true = one (written 192 18 (aggregator_octets true a.as_number a.address)) refl
+      (passed_good wide false 18 (aggregator_octets true a.as_number a.address) refl (omega arith) (aggregator_size true a.as_number a.address))
   by_test false = none
 
 -- ---- paths in a width
@@ -235,8 +245,12 @@ ases_narrow : (part : PathPart) → IsPart part → AreAses false (map narrow_as
 ases_narrow part p =
     let len = length-map (ases_of part) narrow_as in
     let some = p.some in
-    let count = p.count in
-    (omega arith, omega arith, All-from_recursion _ (map narrow_as (ases_of part)) (all_map (λ n. n < 2 ^ 32) (λ n. n < 2 ^ 16) narrow_as (ases_of part) (λ n lt. narrow_small n) (recursion_from_All _ (ases_of part) p.each)))
+    let count = p.count in (
+      omega arith,
+      omega arith,
+      All-from_recursion _ (map narrow_as (ases_of part))
+          (all_map (λ n. n < 2 ^ 32) (λ n. n < 2 ^ 16) narrow_as (ases_of part) (λ n lt. narrow_small n) (recursion_from_All _ (ases_of part) p.each)),
+    )
 
 part_wide : (part : PathPart) → IsPart part → IsPartIn true part
 part_wide (parts.Set ases) p = ases_wide (parts.Set ases) p
@@ -331,12 +345,14 @@ path_found false path all = by_test (has_long_as path) refl where
   by_test false e = ap (λ (ps : List PathPart). Some ps) (narrow_path_same path e)
 
 as4_aggregator_found : (a : Aggregator) → IsAggregator a
-    → as4_aggregator_in (Some (written 192 18 (aggregator_octets true a.as_number a.address))) ≡ Some (record { as_number = a.as_number; address = a.address; partial = false })
+    → as4_aggregator_in (Some (written 192 18 (aggregator_octets true a.as_number a.address)))
+    ≡ Some (record { as_number = a.as_number; address = a.address; partial = false })
 as4_aggregator_found a f = ap (λ (b : Aggregator). Some b) (aggregator_said true false 18 a.as_number a.address f.as_number f.address)
 
 -- the aggregator that is found, and whether AS4 attributes are stale
 merged_found : (wide : Bool) (a : Option Aggregator) → IfSome a IsAggregator →
-    (let as4 : Option Aggregator = unless_wide wide (as4_aggregator_in (head_of (as4_aggregator_written wide a))) in (merged_aggregator (aggregator_in_width wide a) as4 ≡ a) × (is_stale (aggregator_in_width wide a) as4 ≡ false))
+    (let as4 : Option Aggregator = unless_wide wide (as4_aggregator_in (head_of (as4_aggregator_written wide a))) in
+    (merged_aggregator (aggregator_in_width wide a) as4 ≡ a) × (is_stale (aggregator_in_width wide a) as4 ≡ false))
 merged_found true None f = (refl, refl)
 merged_found false None f = (refl, refl)
 merged_found true (Some a) f = (refl, refl)
@@ -388,10 +404,14 @@ other_said a = by_test a.partial refl (ltb 255 (length a.bytes)) where
 others_good : (wide : Bool) (us : List RawAttr) → AllByRecursion IsOther us → AllByRecursion (λ (o : RawAttr). length o.bytes < 65536) us
     → AllByRecursion (IsGood wide) (map other_written us)
 others_good wide [] all room = tt
-others_good wide (u ∷ us) all room = let o = all.0 in (passed_good wide u.partial u.kind u.bytes (either (is_other u.kind) (eqb u.kind 17 || eqb u.kind 18) o.other) o.kind room.0, others_good wide us all.1 room.1) where
-  either : (t v : Bool) → t ≡ true → (t || v) ≡ true
-  either true v e = refl
-  either false v e = absurd cc
+others_good wide (u ∷ us) all room = let o = all.0 in (
+  passed_good wide u.partial u.kind u.bytes (either (is_other u.kind) (eqb u.kind 17 || eqb u.kind 18) o.other) o.kind room.0,
+  others_good wide us all.1 room.1,
+)
+  where
+    either : (t v : Bool) → t ≡ true → (t || v) ≡ true
+    either true v e = refl
+    either false v e = absurd cc
 
 others_are : (us : List RawAttr) → AllByRecursion IsOther us → AllByRecursion (λ (r : WireAttr). is_other r.kind ≡ true) (map other_written us)
 others_are [] all = tt
@@ -467,13 +487,22 @@ are_slots wide a w r = (
 
 -- what the attributes say
 abbrev pub all_found : Attrs → FoundAttrs
-all_found a = record { origin = Some a.origin; path = Some a.path; next_hop = Some a.next_hop; med = a.med; atomic = a.atomic; aggregator = a.aggregator; unknown = a.unknown }
+all_found a = record {
+  origin = Some a.origin;
+  path = Some a.path;
+  next_hop = Some a.next_hop;
+  med = a.med;
+  atomic = a.atomic;
+  aggregator = a.aggregator;
+  unknown = a.unknown;
+}
 
 look : (wide : Bool) (a : Attrs) (k : ℕ) → is_other k ≡ false → IsWritableAttrs a → HasRoom wide a
     → attr_of k (in_rising wire_kind (joined (slots wide a) (map other_written a.unknown))) ≡ slot_of k kinds (slots wide a)
 look wide a k o w r =
     find_rising k (joined (slots wide a) (map other_written a.unknown))
-    ∙ find_slot wide k kinds (slots wide a) (map other_written a.unknown) o (are_slots wide a w r) (others_are a.unknown (recursion_from_All IsOther a.unknown w.unknown))
+    ∙ find_slot wide k kinds (slots wide a) (map other_written a.unknown) o (are_slots wide a w r)
+    (others_are a.unknown (recursion_from_All IsOther a.unknown w.unknown))
 
 atomic_found : (atomic : Bool) → is_some (head_of (atomic_written atomic)) ≡ atomic
 atomic_found true = refl
@@ -481,11 +510,13 @@ atomic_found false = refl
 
 same_found : (o o' : Option Origin) (p p' : Option (List PathPart)) (n n' m m' : Option ℕ) (t t' : Bool) (g g' : Option Aggregator) (u u' : List RawAttr)
     → o ≡ o' → p ≡ p' → n ≡ n' → m ≡ m' → t ≡ t' → g ≡ g' → u ≡ u' →
-    (let x : FoundAttrs = record { origin = o; path = p; next_hop = n; med = m; atomic = t; aggregator = g; unknown = u } in let y : FoundAttrs = record { origin = o'; path = p'; next_hop = n'; med = m'; atomic = t'; aggregator = g'; unknown = u' } in x ≡ y)
+    (let x : FoundAttrs = record { origin = o; path = p; next_hop = n; med = m; atomic = t; aggregator = g; unknown = u } in
+    let y : FoundAttrs = record { origin = o'; path = p'; next_hop = n'; med = m'; atomic = t'; aggregator = g'; unknown = u' } in x ≡ y)
 same_found o o' p p' n n' m m' t t' g g' u u' e1 e2 e3 e4 e5 e6 e7 = grind arith
 
 paths_found : (wide : Bool) (a : Attrs) → IsWritableAttrs a → (g as4 : Option Aggregator) → is_stale g as4 ≡ false →
-    path_with (is_stale g as4) (said (path_in wide) (Some (path_written wide a.path))) (unless_wide wide (as4_path_in (head_of (as4_path_written wide a.path)))) ≡ Some a.path
+    path_with (is_stale g as4) (said (path_in wide) (Some (path_written wide a.path)))
+    (unless_wide wide (as4_path_in (head_of (as4_path_written wide a.path)))) ≡ Some a.path
 paths_found wide a w g as4 fresh =
     let as4_path : Option (List PathPart) = unless_wide wide (as4_path_in (head_of (as4_path_written wide a.path))) in
     ap (λ (t : Bool). path_with t (said (path_in wide) (Some (path_written wide a.path))) as4_path) fresh
@@ -498,23 +529,33 @@ unfolding found_in
 all_are_found wide a w r =
     let xs : List WireAttr = in_rising wire_kind (joined (slots wide a) (map other_written a.unknown)) in
     let find : (k : ℕ) → is_other k ≡ false → attr_of k xs ≡ slot_of k kinds (slots wide a) = λ k o. look wide a k o w r in
-    let g : said (aggregator_in wide) (attr_of 7 xs) ≡ aggregator_in_width wide a.aggregator = ap (said (aggregator_in wide)) (find 7 refl) ∙ aggregator_found wide a.aggregator w.aggregator in
-    let as4 : unless_wide wide (as4_aggregator_in (attr_of 18 xs)) ≡ unless_wide wide (as4_aggregator_in (head_of (as4_aggregator_written wide a.aggregator))) = ap (λ (o : Option WireAttr). unless_wide wide (as4_aggregator_in o)) (find 18 refl) in
+    let g : said (aggregator_in wide) (attr_of 7 xs) ≡ aggregator_in_width wide a.aggregator =
+    ap (said (aggregator_in wide)) (find 7 refl) ∙ aggregator_found wide a.aggregator w.aggregator in
+    let as4 : unless_wide wide (as4_aggregator_in (attr_of 18 xs))
+    ≡ unless_wide wide (as4_aggregator_in (head_of (as4_aggregator_written wide a.aggregator))) =
+    ap (λ (o : Option WireAttr). unless_wide wide (as4_aggregator_in o)) (find 18 refl) in
     let merged = merged_found wide a.aggregator w.aggregator in
-    let fresh : is_stale (said (aggregator_in wide) (attr_of 7 xs)) (unless_wide wide (as4_aggregator_in (attr_of 18 xs))) ≡ false = ap (λ (o : Option Aggregator). is_stale o (unless_wide wide (as4_aggregator_in (attr_of 18 xs)))) g ∙ (ap (is_stale (aggregator_in_width wide a.aggregator)) as4 ∙ merged.1) in
-    let path = ap (λ (o : Option WireAttr). path_with (is_stale (said (aggregator_in wide) (attr_of 7 xs)) (unless_wide wide (as4_aggregator_in (attr_of 18 xs)))) (said (path_in wide) o) (unless_wide wide (as4_path_in (attr_of 17 xs)))) (find 2 refl) in
-    let path2 = ap (λ (o : Option WireAttr). path_with (is_stale (said (aggregator_in wide) (attr_of 7 xs)) (unless_wide wide (as4_aggregator_in (attr_of 18 xs)))) (said (path_in wide) (Some (path_written wide a.path))) (unless_wide wide (as4_path_in o))) (find 17 refl) in
+    let fresh : is_stale (said (aggregator_in wide) (attr_of 7 xs)) (unless_wide wide (as4_aggregator_in (attr_of 18 xs))) ≡ false =
+    ap (λ (o : Option Aggregator). is_stale o (unless_wide wide (as4_aggregator_in (attr_of 18 xs)))) g
+    ∙ (ap (is_stale (aggregator_in_width wide a.aggregator)) as4 ∙ merged.1) in
+    let path = ap (λ (o : Option WireAttr). path_with (is_stale (said (aggregator_in wide) (attr_of 7 xs))
+    (unless_wide wide (as4_aggregator_in (attr_of 18 xs)))) (said (path_in wide) o) (unless_wide wide (as4_path_in (attr_of 17 xs)))) (find 2 refl) in
+    let path2 =
+    ap (λ (o : Option WireAttr). path_with (is_stale (said (aggregator_in wide) (attr_of 7 xs)) (unless_wide wide (as4_aggregator_in (attr_of 18 xs))))
+    (said (path_in wide) (Some (path_written wide a.path))) (unless_wide wide (as4_path_in o))) (find 17 refl) in
     let us = recursion_from_All IsOther a.unknown w.unknown in
     let kept_are : in_rising other_kind (kept xs) ≡ a.unknown =
     kept_rising (joined (slots wide a) (map other_written a.unknown))
-    ∙ (ap (in_rising other_kind) (kept_slots wide kinds (slots wide a) (map other_written a.unknown) (are_slots wide a w r) ∙ others_kept a.unknown us) ∙ rising_same other_kind a.unknown w.rising) in
+    ∙ (ap (in_rising other_kind) (kept_slots wide kinds (slots wide a) (map other_written a.unknown) (are_slots wide a w r) ∙ others_kept a.unknown us)
+    ∙ rising_same other_kind a.unknown w.rising) in
     same_found _ _ _ _ _ _ _ _ _ _ _ _ _ _
     (ap (said origin_in) (find 1 refl) ∙ origin_said a.origin)
     (path ∙ (path2 ∙ paths_found wide a w (said (aggregator_in wide) (attr_of 7 xs)) (unless_wide wide (as4_aggregator_in (attr_of 18 xs))) fresh))
     (ap (said next_hop_in) (find 3 refl) ∙ ap ok_in (next_hop_said a.next_hop w.next_hop))
     (ap (said med_in) (find 4 refl) ∙ med_found a.med w.med)
     (ap is_some (find 6 refl) ∙ atomic_found a.atomic)
-    (ap (λ (o : Option Aggregator). merged_aggregator o (unless_wide wide (as4_aggregator_in (attr_of 18 xs)))) g ∙ (ap (merged_aggregator (aggregator_in_width wide a.aggregator)) as4 ∙ merged.0))
+    (ap (λ (o : Option Aggregator). merged_aggregator o (unless_wide wide (as4_aggregator_in (attr_of 18 xs)))) g
+    ∙ (ap (merged_aggregator (aggregator_in_width wide a.aggregator)) as4 ∙ merged.0))
     kept_are
 
 good_parts : (wide : Bool) (xs : List WireAttr) → AllByRecursion (IsGood wide) xs
@@ -531,7 +572,8 @@ attrs_again wide a w lt =
     let ss = are_slots wide a w r in
     let all : List WireAttr = joined (slots wide a) (map other_written a.unknown) in
     let good = all_good wide kinds (slots wide a) (map other_written a.unknown) ss (others_good wide a.unknown us r.others) in
-    let differ = all_differ wide kinds (slots wide a) (map other_written a.unknown) ss (others_are a.unknown us) (others_differ a.unknown (rising_differ other_kind a.unknown w.rising)) in
+    let differ = all_differ wide kinds (slots wide a) (map other_written a.unknown) ss
+    (others_are a.unknown us) (others_differ a.unknown (rising_differ other_kind a.unknown w.rising)) in
     let parts = good_parts wide (in_rising wire_kind all) (all_rising (IsGood wide) wire_kind all good) in
     record {
       attrs = in_rising wire_kind all;

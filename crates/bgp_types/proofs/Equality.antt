@@ -105,15 +105,21 @@ raws a b e =
 
 attrs_same : Tells attrs_eq.eq-value.it
 attrs_same a b e =
-    let h0 = both (sameb origin.the_type a.origin b.origin) (pointwise part_eq.eq-value.it a.path b.path && (nat_eq a.next_hop b.next_hop && (option_eq nat_eq a.med b.med && (beq a.atomic b.atomic && (option_eq aggregator_eq.eq-value.it a.aggregator b.aggregator && (pointwise raw_eq.eq-value.it a.unknown b.unknown)))))) e in
+    let h0 = both (sameb origin.the_type a.origin b.origin)
+    (pointwise part_eq.eq-value.it a.path b.path && (nat_eq a.next_hop b.next_hop && (option_eq nat_eq a.med b.med && (beq a.atomic b.atomic
+    && (option_eq aggregator_eq.eq-value.it a.aggregator b.aggregator && (pointwise raw_eq.eq-value.it a.unknown b.unknown)))))) e in
     let is_origin = origins a.origin b.origin h0.0 in
-    let h1 = both (pointwise part_eq.eq-value.it a.path b.path) (nat_eq a.next_hop b.next_hop && (option_eq nat_eq a.med b.med && (beq a.atomic b.atomic && (option_eq aggregator_eq.eq-value.it a.aggregator b.aggregator && (pointwise raw_eq.eq-value.it a.unknown b.unknown))))) h0.1 in
+    let h1 = both (pointwise part_eq.eq-value.it a.path b.path) (nat_eq a.next_hop b.next_hop && (option_eq nat_eq a.med b.med && (beq a.atomic b.atomic
+    && (option_eq aggregator_eq.eq-value.it a.aggregator b.aggregator && (pointwise raw_eq.eq-value.it a.unknown b.unknown))))) h0.1 in
     let is_path = lists part_eq.eq-value.it parts a.path b.path h1.0 in
-    let h2 = both (nat_eq a.next_hop b.next_hop) (option_eq nat_eq a.med b.med && (beq a.atomic b.atomic && (option_eq aggregator_eq.eq-value.it a.aggregator b.aggregator && (pointwise raw_eq.eq-value.it a.unknown b.unknown)))) h1.1 in
+    let h2 = both (nat_eq a.next_hop b.next_hop) (option_eq nat_eq a.med b.med && (beq a.atomic b.atomic
+    && (option_eq aggregator_eq.eq-value.it a.aggregator b.aggregator && (pointwise raw_eq.eq-value.it a.unknown b.unknown)))) h1.1 in
     let is_next_hop = numbers a.next_hop b.next_hop h2.0 in
-    let h3 = both (option_eq nat_eq a.med b.med) (beq a.atomic b.atomic && (option_eq aggregator_eq.eq-value.it a.aggregator b.aggregator && (pointwise raw_eq.eq-value.it a.unknown b.unknown))) h2.1 in
+    let h3 = both (option_eq nat_eq a.med b.med)
+    (beq a.atomic b.atomic && (option_eq aggregator_eq.eq-value.it a.aggregator b.aggregator && (pointwise raw_eq.eq-value.it a.unknown b.unknown))) h2.1 in
     let is_med = options nat_eq numbers a.med b.med h3.0 in
-    let h4 = both (beq a.atomic b.atomic) (option_eq aggregator_eq.eq-value.it a.aggregator b.aggregator && (pointwise raw_eq.eq-value.it a.unknown b.unknown)) h3.1 in
+    let h4 = both (beq a.atomic b.atomic)
+    (option_eq aggregator_eq.eq-value.it a.aggregator b.aggregator && (pointwise raw_eq.eq-value.it a.unknown b.unknown)) h3.1 in
     let is_atomic = booleans a.atomic b.atomic h4.0 in
     let h5 = both (option_eq aggregator_eq.eq-value.it a.aggregator b.aggregator) (pointwise raw_eq.eq-value.it a.unknown b.unknown) h4.1 in
     let is_aggregator = options aggregator_eq.eq-value.it aggregators a.aggregator b.aggregator h5.0 in
@@ -136,7 +142,8 @@ caps a b e =
 
 opens : Tells open_eq.eq-value.it
 opens a b e =
-    let h0 = both (nat_eq a.as_number b.as_number) (nat_eq a.hold b.hold && (nat_eq a.identifier b.identifier && (pointwise cap_eq.eq-value.it a.caps b.caps))) e in
+    let h0 = both (nat_eq a.as_number b.as_number)
+    (nat_eq a.hold b.hold && (nat_eq a.identifier b.identifier && (pointwise cap_eq.eq-value.it a.caps b.caps))) e in
     let is_as_number = numbers a.as_number b.as_number h0.0 in
     let h1 = both (nat_eq a.hold b.hold) (nat_eq a.identifier b.identifier && (pointwise cap_eq.eq-value.it a.caps b.caps)) h0.1 in
     let is_hold = numbers a.hold b.hold h1.0 in
@@ -147,7 +154,8 @@ opens a b e =
 
 updates : Tells update_eq.eq-value.it
 updates a b e =
-    let h0 = both (pointwise prefix_eq.eq-value.it a.withdrawn b.withdrawn) (option_eq attrs_eq.eq-value.it a.attrs b.attrs && (pointwise prefix_eq.eq-value.it a.nlri b.nlri)) e in
+    let h0 = both (pointwise prefix_eq.eq-value.it a.withdrawn b.withdrawn)
+    (option_eq attrs_eq.eq-value.it a.attrs b.attrs && (pointwise prefix_eq.eq-value.it a.nlri b.nlri)) e in
     let is_withdrawn = lists prefix_eq.eq-value.it prefixes a.withdrawn b.withdrawn h0.0 in
     let h1 = both (option_eq attrs_eq.eq-value.it a.attrs b.attrs) (pointwise prefix_eq.eq-value.it a.nlri b.nlri) h0.1 in
     let is_attrs = options attrs_eq.eq-value.it attrs_same a.attrs b.attrs h1.0 in

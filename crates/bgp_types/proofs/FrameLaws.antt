@@ -1,5 +1,6 @@
 -- A message at the front of bytes stands there whatever follows.
-use Rattle.std.proofs.Common.{◌≡◌, ℕ, ◌-◌, ◌≤◌, List, ◌++◌, length, take, drop, get_or, eqb, subst, length-append, length-drop, Option, Some, None, Bool, true, false, cond, ltb, refl, sym, ap, ◌∙◌, arith}
+use Rattle.std.proofs.Common.{◌≡◌, ℕ, ◌-◌, ◌≤◌, List, ◌++◌, length, take, drop, get_or, eqb, subst, length-append}
+use Rattle.std.proofs.Common.{length-drop, Option, Some, None, Bool, true, false, cond, ltb, refl, sym, ap, ◌∙◌, arith}
 use Rattle.std.specs.Prelude.{is_some, ◌||◌}
 use Rattle.std.specs.List.{list_all}
 use Rattle.std.specs.Int.{w16, from_be_bytes}
@@ -27,7 +28,8 @@ frame_is bytes x e =
 kind_long : (k len : ℕ) → fault_of_kind k len ≡ None → 19 ≤ len
 kind_long k len e = by_test (ltb len 19) refl e where
   by_test : (t : Bool) → ltb len 19 ≡ t
-      → cond (t || ltb 4096 len) (Some (BadLength len)) (cond ((eqb k 0) || ltb 4 k) (Some (BadType k)) (cond (has_room k len) None (Some (BadLength len)))) ≡ None
+      → cond (t || ltb 4096 len) (Some (BadLength len))
+      (cond ((eqb k 0) || ltb 4 k) (Some (BadType k)) (cond (has_room k len) None (Some (BadLength len)))) ≡ None
       → 19 ≤ len
   by_test true f e = absurd cc
   by_test false f e = ltb-false _ _ f
@@ -62,7 +64,16 @@ unfolding frame_at
 frame_of frame le sound len rest =
     let short : ltb (length (frame ++ rest)) 19 ≡ false = le-ltb _ _ (omega (arith, length-append frame rest)) in
     let long : ltb (length (frame ++ rest)) (length frame) ≡ false = le-ltb _ _ (omega (arith, length-append frame rest)) in
-    rw (short, header_same frame rest le, sound, len_same frame rest le, len, long, take_at frame rest (length frame) refl, drop_at frame rest (length frame) refl) refl
+    rw (
+      short,
+      header_same frame rest le,
+      sound,
+      len_same frame rest le,
+      len,
+      long,
+      take_at frame rest (length frame) refl,
+      drop_at frame rest (length frame) refl,
+    ) refl
 
 -- the frame at the front
 pub front_frame : (bytes : List ℕ) (x : List ℕ × List ℕ) → frame_at bytes ≡ Some x → (bytes ≡ x.0 ++ x.1) × IsFrame x.0
@@ -74,7 +85,8 @@ front_frame bytes x e =
     let parts : bytes ≡ take n bytes ++ drop n bytes = sym (take-append-drop n bytes) in
     let le2 : 19 ≤ length (take n bytes) = rw size le in
     let sound : header_fault (take n bytes) ≡ None = sym (header_same (take n bytes) (drop n bytes) le2) ∙ (ap header_fault (sym parts) ∙ h.1) in
-    let len : len_in (take n bytes) ≡ length (take n bytes) = sym (len_same (take n bytes) (drop n bytes) le2) ∙ (ap (λ (y : List ℕ). len_in y) (sym parts) ∙ sym size) in
+    let len : len_in (take n bytes) ≡ length (take n bytes) =
+    sym (len_same (take n bytes) (drop n bytes) le2) ∙ (ap (λ (y : List ℕ). len_in y) (sym parts) ∙ sym size) in
     let frame = frame_of (take n bytes) le2 sound len in
     (subst (λ (y : List ℕ × List ℕ). bytes ≡ y.0 ++ y.1) h.3 parts, subst (λ (y : List ℕ × List ℕ). IsFrame y.0) h.3 frame)
 

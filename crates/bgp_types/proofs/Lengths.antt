@@ -18,7 +18,9 @@ use Rattle.bgp_types.specs.PathOctets.{as_width, part_octets, path_octets, narro
 use Rattle.bgp_types.specs.Paths.{ases_of}
 use Rattle.bgp_types.specs.Rising.{insert_by, in_rising}
 use Rattle.bgp_types.specs.Prefixes.{prefix_octets}
-use Rattle.bgp_types.specs.Spelling.{passed_flags, origin_written, path_written, next_hop_written, med_written, atomic_written, aggregator_written, as4_path_written, as4_aggregator_written, other_written, attrs_written, spell, spell_attrs, spell_some_attrs, spell_prefixes, spell_update, length_prefixed, param_octets, cap_octets, framed}
+use Rattle.bgp_types.specs.Spelling.{passed_flags, origin_written, path_written, next_hop_written, med_written, atomic_written}
+use Rattle.bgp_types.specs.Spelling.{aggregator_written, as4_path_written, as4_aggregator_written, other_written, attrs_written, spell}
+use Rattle.bgp_types.specs.Spelling.{spell_attrs, spell_some_attrs, spell_prefixes, spell_update, length_prefixed, param_octets, cap_octets, framed}
 use Rattle.bgp_types.specs.WireAttrs.{WireAttr, wire_kind, size_width, attr_octets, written}
 
 -- ---- paths
@@ -35,7 +37,8 @@ part_size_is wide (parts.Sequence ases) = let h = ases_size wide ases in omega a
 
 narrow_part_size : (part : PathPart) → part_size false (narrow_part part) ≡ part_size false part
 narrow_part_size (parts.Set ases) = ap (λ n. suc (suc n)) (ases_size false (map narrow_as ases) ∙ (rw (length-map ases narrow_as) (sym (ases_size false ases))))
-narrow_part_size (parts.Sequence ases) = ap (λ n. suc (suc n)) (ases_size false (map narrow_as ases) ∙ (rw (length-map ases narrow_as) (sym (ases_size false ases))))
+narrow_part_size (parts.Sequence ases) =
+    ap (λ n. suc (suc n)) (ases_size false (map narrow_as ases) ∙ (rw (length-map ases narrow_as) (sym (ases_size false ases))))
 
 narrow_path_size : (path : List PathPart) → sum_by (part_size false) (map narrow_part path) ≡ sum_by (part_size false) path
 narrow_path_size [] = refl
@@ -82,7 +85,8 @@ pub as4_path_size : (wide : Bool) (path : List PathPart)
     → attrs_size (as4_path_written wide path) ≡ (if not wide && has_long_as path then attr_size_of (sum_by (part_size true) path) else 0)
 as4_path_size wide path = by_test (not wide && has_long_as path) where
   by_test : (t : Bool) → attrs_size (cond t (written 192 17 (path_octets true path) ∷ []) []) ≡ cond t (attr_size_of (sum_by (part_size true) path)) 0
-  by_test true = let h : attr_size (written 192 17 (path_octets true path)) ≡ attr_size_of (sum_by (part_size true) path) = sized 192 17 (path_octets true path) refl refl ∙ ap attr_size_of (path_size_is true path) in omega arith
+  by_test true = let h : attr_size (written 192 17 (path_octets true path)) ≡ attr_size_of (sum_by (part_size true) path) =
+      sized 192 17 (path_octets true path) refl refl ∙ ap attr_size_of (path_size_is true path) in omega arith
   by_test false = refl
 
 pub other_size : (a : RawAttr) → attr_size (other_written a) ≡ attr_size_of (length a.bytes)
@@ -99,7 +103,9 @@ others_size (a ∷ others) =
 
 -- all attributes of an announcement
 pub spelled_attrs_size : (wide : Bool) (a : Attrs) → length (spell_attrs wide a)
-    ≡ 11 + attrs_size (med_written a.med) + attrs_size (atomic_written a.atomic) + (attrs_size (aggregator_written wide a.aggregator) + attrs_size (as4_aggregator_written wide a.aggregator)) + attr_size_of (sum_by (part_size wide) a.path) + attrs_size (as4_path_written wide a.path) + sum_by (λ other. attr_size_of (length other.bytes)) a.unknown
+    ≡ 11 + attrs_size (med_written a.med) + attrs_size (atomic_written a.atomic)
+    + (attrs_size (aggregator_written wide a.aggregator) + attrs_size (as4_aggregator_written wide a.aggregator)) + attr_size_of
+    (sum_by (part_size wide) a.path) + attrs_size (as4_path_written wide a.path) + sum_by (λ other. attr_size_of (length other.bytes)) a.unknown
 unfolding spell_attrs attrs_written
 spelled_attrs_size wide a =
     let others = map other_written a.unknown in
@@ -110,13 +116,20 @@ spelled_attrs_size wide a =
     let med = med_written a.med in
     let e1 : attrs_size (second ++ others) ≡ attrs_size second + attrs_size others = sum_by-append attr_size second others in
     let e2 : attrs_size (long ++ (second ++ others)) ≡ attrs_size long + attrs_size (second ++ others) = sum_by-append attr_size long (second ++ others) in
-    let e3 : attrs_size (first ++ (long ++ (second ++ others))) ≡ attrs_size first + attrs_size (long ++ (second ++ others)) = sum_by-append attr_size first (long ++ (second ++ others)) in
-    let e4 : attrs_size (atomic ++ (first ++ (long ++ (second ++ others)))) ≡ attrs_size atomic + attrs_size (first ++ (long ++ (second ++ others))) = sum_by-append attr_size atomic (first ++ (long ++ (second ++ others))) in
-    let e5 : attrs_size (med ++ (atomic ++ (first ++ (long ++ (second ++ others))))) ≡ attrs_size med + attrs_size (atomic ++ (first ++ (long ++ (second ++ others)))) = sum_by-append attr_size med (atomic ++ (first ++ (long ++ (second ++ others)))) in
-    let all : length (flat_map attr_octets (in_rising wire_kind (attrs_written wide a))) ≡ attrs_size (attrs_written wide a) = length-flat_map attr_octets (in_rising wire_kind (attrs_written wide a)) ∙ rising_size (attrs_written wide a) in
+    let e3 : attrs_size (first ++ (long ++ (second ++ others))) ≡ attrs_size first + attrs_size (long ++ (second ++ others)) =
+    sum_by-append attr_size first (long ++ (second ++ others)) in
+    let e4 : attrs_size (atomic ++ (first ++ (long ++ (second ++ others)))) ≡ attrs_size atomic + attrs_size (first ++ (long ++ (second ++ others))) =
+    sum_by-append attr_size atomic (first ++ (long ++ (second ++ others))) in
+    let e5 : attrs_size (med ++ (atomic ++ (first ++ (long ++ (second ++ others)))))
+    ≡ attrs_size med + attrs_size (atomic ++ (first ++ (long ++ (second ++ others)))) =
+    sum_by-append attr_size med (atomic ++ (first ++ (long ++ (second ++ others)))) in
+    let all : length (flat_map attr_octets (in_rising wire_kind (attrs_written wide a))) ≡ attrs_size (attrs_written wide a) =
+    length-flat_map attr_octets (in_rising wire_kind (attrs_written wide a)) ∙ rising_size (attrs_written wide a) in
     let path = path_written_size wide a.path in
     let rest = others_size a.unknown in
-    let e6 : attrs_size (attrs_written wide a) ≡ 4 + attr_size (path_written wide a.path) + 7 + attrs_size (med ++ (atomic ++ (first ++ (long ++ (second ++ others))))) = three (origin_written a.origin) (path_written wide a.path) (next_hop_written a.next_hop) (med ++ (atomic ++ (first ++ (long ++ (second ++ others))))) in
+    let e6 : attrs_size (attrs_written wide a)
+    ≡ 4 + attr_size (path_written wide a.path) + 7 + attrs_size (med ++ (atomic ++ (first ++ (long ++ (second ++ others))))) =
+    three (origin_written a.origin) (path_written wide a.path) (next_hop_written a.next_hop) (med ++ (atomic ++ (first ++ (long ++ (second ++ others))))) in
     all ∙ omega arith
   where
     three : (x y z : WireAttr) (xs : List WireAttr) → attrs_size (x ∷ y ∷ z ∷ xs) ≡ attr_size x + attr_size y + attr_size z + attrs_size xs
@@ -134,7 +147,8 @@ update_fields_size wide u =
     let withdrawn = spell_prefixes u.withdrawn in
     let attrs = spell_some_attrs wide u.attrs in
     let nlri = spell_prefixes u.nlri in
-    let e1 : length (length_prefixed withdrawn ++ (length_prefixed attrs ++ nlri)) ≡ length (length_prefixed withdrawn) + length (length_prefixed attrs ++ nlri) = length-append (length_prefixed withdrawn) (length_prefixed attrs ++ nlri) in
+    let e1 : length (length_prefixed withdrawn ++ (length_prefixed attrs ++ nlri)) ≡ length (length_prefixed withdrawn)
+    + length (length_prefixed attrs ++ nlri) = length-append (length_prefixed withdrawn) (length_prefixed attrs ++ nlri) in
     let e2 : length (length_prefixed attrs ++ nlri) ≡ length (length_prefixed attrs) + length nlri = length-append (length_prefixed attrs) nlri in
     let c1 = counted_size withdrawn in
     let c2 = counted_size attrs in

@@ -1,5 +1,6 @@
 -- What holds of things that stand one after another, whatever they are.
-use Rattle.std.proofs.Common.{◌≡◌, ℕ, zero, suc, ◌<◌, ◌≤◌, List, [], ◌∷◌, ◌++◌, length, Bool, true, false, cond, Option, Some, None, refl, sym, ap, ◌∙◌, append_assoc, arith}
+use Rattle.std.proofs.Common.{◌≡◌, ℕ, zero, suc, ◌<◌, ◌≤◌, List, [], ◌∷◌, ◌++◌, length, Bool, true, false}
+use Rattle.std.proofs.Common.{cond, Option, Some, None, refl, sym, ap, ◌∙◌, append_assoc, arith}
 use Rattle.std.specs.Prelude.{◌||◌}
 use Rattle.std.specs.List.{flat_map, AllByRecursion}
 use Rattle.std.proofs.lemmas.List.{append-nil}
@@ -36,7 +37,8 @@ enough one s zero (suc m) (b ∷ bytes) l k = absurd (omega arith)
 enough one s (suc n) zero [] l k = none_more (one []) [] (many_within one n) (λ x e. omega (arith, s.shorter [] x e))
 enough one s (suc n) zero (b ∷ bytes) l k = absurd (omega arith)
 enough one s (suc n) (suc m) bytes l k =
-    same_more (one bytes) bytes (many_within one n) (many_within one m) (λ x e. enough one s n m x.1 (omega (arith, s.shorter bytes x e)) (omega (arith, s.shorter bytes x e)))
+    same_more (one bytes) bytes (many_within one n) (many_within one m)
+    (λ x e. enough one s n m x.1 (omega (arith, s.shorter bytes x e)) (omega (arith, s.shorter bytes x e)))
 
 pub many_none : {A : Type 0} (one : List ℕ → Option (A × List ℕ)) (bytes : List ℕ) → one bytes ≡ None → many one bytes ≡ ([], bytes)
 unfolding many many_within

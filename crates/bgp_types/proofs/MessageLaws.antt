@@ -1,5 +1,7 @@
 -- A whole frame reads as a message exactly where it has no fault.
-use Rattle.std.proofs.Common.{◌≡◌, ℕ, zero, suc, ◌+◌, ◌-◌, ◌≤◌, List, [], ◌∷◌, ◌++◌, length, take, drop, Bool, true, false, cond, eqb, ltb, leb, Option, Some, None, Result, Ok, Err, refl, sym, ap, ◌∙◌, arith, length-append, length-drop, length-take-le, subst, drop-cons}
+use Rattle.std.proofs.Common.{◌≡◌, ℕ, zero, suc, ◌+◌, ◌-◌, ◌≤◌, List, [], ◌∷◌, ◌++◌, length, take, drop, Bool, true}
+use Rattle.std.proofs.Common.{false, cond, eqb, ltb, leb, Option, Some, None, Result, Ok, Err, refl, sym, ap, ◌∙◌}
+use Rattle.std.proofs.Common.{arith, length-append, length-drop, length-take-le, subst, drop-cons}
 use Rattle.std.specs.Prelude.{◌||◌, ◌&&◌, replicate}
 use Rattle.std.specs.List.{list_all}
 use Rattle.std.specs.Int.{w16, to_be_bytes}
@@ -72,7 +74,8 @@ room_is kind len e = by_test (ltb len 19) (ltb 4096 len) (eqb kind 0) (ltb 4 kin
   by_test false false true w x a b c d f e = absurd cc
   by_test false false false true x a b c d f e = absurd cc
   by_test false false false false false a b c d f e = absurd cc
-  by_test false false false false true a b c d f e = record { low = ltb-false _ _ a; high = ltb-false _ _ b; some = grind (arith, nat_tests); known = ltb-false _ _ d; room = f }
+  by_test false false false false true a b c d f e =
+      record { low = ltb-false _ _ a; high = ltb-false _ _ b; some = grind (arith, nat_tests); known = ltb-false _ _ d; room = f }
 
 -- a whole frame is a frame of its type
 pub record IsWhole (frame : List ℕ) : Type 0 where
@@ -95,11 +98,14 @@ whole_is frame b e =
     let body : 19 + length (drop 19 frame) ≡ n = omega (arith, length-drop 19 frame) in
     let front : take 16 frame ≡ marker = all_ff 16 frame (omega arith) s.marked in
     let two : length (take 2 (drop 16 frame)) ≡ 2 = length-take-le 2 (drop 16 frame) (rw (length-drop 16 frame) (omega arith)) in
-    let told : to_be_bytes w16 (19 + length (drop 19 frame)) ≡ take 2 (drop 16 frame) = ap (to_be_bytes w16) body ∙ wide16.back (take 2 (drop 16 frame)) two (AreOctets-take 2 (drop 16 frame) (AreOctets-drop 16 frame b)) in
+    let told : to_be_bytes w16 (19 + length (drop 19 frame)) ≡ take 2 (drop 16 frame) =
+    ap (to_be_bytes w16) body ∙ wide16.back (take 2 (drop 16 frame)) two (AreOctets-take 2 (drop 16 frame) (AreOctets-drop 16 frame b)) in
     let last : drop 2 (drop 16 frame) ≡ kind_in frame ∷ drop 19 frame = drop-drop 2 16 frame ∙ drop-cons frame 18 0 (omega arith) in
     record {
       sound = f.1;
-      octets = joined frame (take 16 frame) (take 2 (drop 16 frame)) (kind_in frame ∷ drop 19 frame) (sym (take-append-drop 16 frame) ∙ ap (λ (y : List ℕ). take 16 frame ++ y) (sym (take-append-drop 2 (drop 16 frame)) ∙ ap (λ (y : List ℕ). take 2 (drop 16 frame) ++ y) last)) front (sym told);
+      octets = joined frame (take 16 frame) (take 2 (drop 16 frame)) (kind_in frame ∷ drop 19 frame)
+          (sym (take-append-drop 16 frame) ∙ ap (λ (y : List ℕ). take 16 frame ++ y)
+          (sym (take-append-drop 2 (drop 16 frame)) ∙ ap (λ (y : List ℕ). take 2 (drop 16 frame) ++ y) last)) front (sym told);
       size = let high = r.high in omega arith;
       room = rw body r;
     }
@@ -169,11 +175,14 @@ body_read : (expected : Expected) (kind : ℕ) (body : List ℕ) (m : Message) �
 unfolding body_of
 body_read expected kind body m b room e = by_test (eqb kind 1) refl (eqb kind 2) refl (eqb kind 3) refl e where
   by_test : (t : Bool) → eqb kind 1 ≡ t → (u : Bool) → eqb kind 2 ≡ u → (v : Bool) → eqb kind 3 ≡ v
-      → cond t (open_message (open_of expected body)) (cond u (update_message (update_of expected.wide body)) (cond v (Ok (messages.NoticeMsg (notice_of body))) (Ok messages.KeepaliveMsg))) ≡ Ok m
+      → cond t (open_message (open_of expected body))
+      (cond u (update_message (update_of expected.wide body)) (cond v (Ok (messages.NoticeMsg (notice_of body))) (Ok messages.KeepaliveMsg))) ≡ Ok m
       → IsBody expected kind body m
-  by_test true f u g v h e = let k = eqb-true _ _ f in let le = (room_for kind (19 + length body) room).0 k in open_body expected kind body m k b (omega arith) e
+  by_test true f u g v h e =
+      let k = eqb-true _ _ f in let le = (room_for kind (19 + length body) room).0 k in open_body expected kind body m k b (omega arith) e
   by_test false f true g v h e = update_body expected kind body m (eqb-true _ _ g) b e
-  by_test false f false g true h e = let k = eqb-true _ _ h in let le = (room_for kind (19 + length body) room).1 k in notice_body expected kind body m k (omega arith) e
+  by_test false f false g true h e =
+      let k = eqb-true _ _ h in let le = (room_for kind (19 + length body) room).1 k in notice_body expected kind body m k (omega arith) e
   by_test false f false g false h e =
       let low = room.some in
       let high = room.known in
@@ -245,10 +254,26 @@ update_length wide body u r =
 
 has_body : (expected : Expected) (m : Message) (body : List ℕ) → ReadsBody body m expected.wide → is_from expected m ≡ true → HasBody expected m body
 unfolding body_of
-has_body expected (messages.OpenMsg o) body r from = let le = open_length expected body o r in record { some = omega arith; known = omega arith; room = at_least 29 (19 + length body) (omega arith); read = ap open_message (open_are expected body o r from) }
-has_body expected (messages.UpdateMsg u) body r from = let le = update_length expected.wide body u r in record { some = omega arith; known = omega arith; room = at_least 23 (19 + length body) (omega arith); read = ap update_message (update_are expected.wide body u r) }
-has_body expected (messages.NoticeMsg n) body r from = record { some = omega arith; known = omega arith; room = at_least 21 (19 + length body) (rw r (omega arith)); read = ap (λ (y : List ℕ). (let x : Result Message Notice = Ok (messages.NoticeMsg (notice_of y)) in x)) r }
-has_body expected messages.KeepaliveMsg body r from = record { some = omega arith; known = omega arith; room = ap (λ (y : List ℕ). has_room 4 (19 + length y)) r; read = refl }
+has_body expected (messages.OpenMsg o) body r from = let le = open_length expected body o r in record {
+  some = omega arith;
+  known = omega arith;
+  room = at_least 29 (19 + length body) (omega arith);
+  read = ap open_message (open_are expected body o r from);
+}
+has_body expected (messages.UpdateMsg u) body r from = let le = update_length expected.wide body u r in record {
+  some = omega arith;
+  known = omega arith;
+  room = at_least 23 (19 + length body) (omega arith);
+  read = ap update_message (update_are expected.wide body u r);
+}
+has_body expected (messages.NoticeMsg n) body r from = record {
+  some = omega arith;
+  known = omega arith;
+  room = at_least 21 (19 + length body) (rw r (omega arith));
+  read = ap (λ (y : List ℕ). (let x : Result Message Notice = Ok (messages.NoticeMsg (notice_of y)) in x)) r;
+}
+has_body expected messages.KeepaliveMsg body r from =
+    record { some = omega arith; known = omega arith; room = ap (λ (y : List ℕ). has_room 4 (19 + length y)) r; read = refl }
 
 pub message_are : (expected : Expected) (frame : List ℕ) (m : Message) → Reads frame m expected.wide → IsExpected expected m → message_of expected frame ≡ Ok m
 unfolding message_of

@@ -1,5 +1,6 @@
 -- Whatever fault is answered, the NOTIFICATION has room for its data.
-use Rattle.std.proofs.Common.{◌≡◌, ℕ, ◌+◌, ◌≤◌, Bool, true, false, cond, eqb, List, [], ◌∷◌, ◌++◌, length, length-take, Option, Some, None, Result, Ok, Err, refl, subst, arith}
+use Rattle.std.proofs.Common.{◌≡◌, ℕ, ◌+◌, ◌≤◌, Bool, true, false, cond, eqb, List, [], ◌∷◌, ◌++◌, length}
+use Rattle.std.proofs.Common.{length-take, Option, Some, None, Result, Ok, Err, refl, subst, arith}
 use Rattle.std.specs.Prelude.{not, ◌&&◌, get_or, drop}
 use Rattle.std.specs.Int.{w32, from_be_bytes, byte_len}
 use Rattle.std.proofs.lemmas.Bool.Decides.{nat_tests}
@@ -14,11 +15,14 @@ use Rattle.bgp_types.specs.declared.message.Notice.{Notice}
 use Rattle.bgp_types.specs.declared.message.OpenMsg.{OpenMsg}
 use Rattle.bgp_types.specs.declared.message.Update.{Update}
 use Rattle.bgp_types.specs.FirstFault.{first_fault, message_of, body_of, with_header, open_message, update_message, state_fault, notice_of}
-use Rattle.bgp_types.specs.Faults.{fault_in, bare, about, or_fault, with_flags, with_size, origin_of, origin_in, path_in, host_in, next_hop_in, med_in, atomic_in, aggregator_in, aggregator_of, other_in, kept_raw, own_fault, fault_after, earlier_notice, attrs_fault}
+use Rattle.bgp_types.specs.Faults.{fault_in, bare, about, or_fault, with_flags, with_size, origin_of, origin_in, path_in}
+use Rattle.bgp_types.specs.Faults.{host_in, next_hop_in, med_in, atomic_in, aggregator_in, aggregator_of, other_in}
+use Rattle.bgp_types.specs.Faults.{kept_raw, own_fault, fault_after, earlier_notice, attrs_fault}
 use Rattle.bgp_types.specs.Found.{attrs_in, found_in, unless}
 use Rattle.bgp_types.specs.Header.{header_fault, header_notice, kind_in}
 use Rattle.bgp_types.specs.Many.{all_of, many}
-use Rattle.bgp_types.specs.OpenBody.{cap_at, open_fault, with_caps, caps_of, params_of, with_params, as_said, is_field, is_said, unless_fault, with_said, open_with, open_of, version_in, as_in, hold_in}
+use Rattle.bgp_types.specs.OpenBody.{cap_at, open_fault, with_caps, caps_of, params_of, with_params, as_said, is_field, is_said}
+use Rattle.bgp_types.specs.OpenBody.{unless_fault, with_said, open_with, open_of, version_in, as_in, hold_in}
 use Rattle.bgp_types.specs.OpenBody as opens
 use Rattle.bgp_types.specs.PathOctets.{path_of, as_width}
 use Rattle.bgp_types.specs.Prefixes.{PrefixValue, prefixes_of}
@@ -113,7 +117,8 @@ own_short : (wide : Bool) (a : WireAttr) → ShortFault (own_fault wide a)
 unfolding own_fault
 own_short wide a = by_kind (eqb a.kind 1) (eqb a.kind 2) (eqb a.kind 3) (eqb a.kind 4) (eqb a.kind 5) (eqb a.kind 6) (eqb a.kind 7) where
   by_kind : (t u v w x y z : Bool)
-      → ShortFault (cond t (fault_in (origin_in a)) (cond u (fault_in (path_in wide a)) (cond v (fault_in (next_hop_in a)) (cond w (fault_in (med_in a)) (cond x None (cond y (fault_in (atomic_in a)) (cond z (fault_in (aggregator_in wide a)) (fault_in (other_in a)))))))))
+      → ShortFault (cond t (fault_in (origin_in a)) (cond u (fault_in (path_in wide a)) (cond v (fault_in (next_hop_in a))
+      (cond w (fault_in (med_in a)) (cond x None (cond y (fault_in (atomic_in a)) (cond z (fault_in (aggregator_in wide a)) (fault_in (other_in a)))))))))
   by_kind true u v w x y z = fault_short (origin_in a) (origin_short a)
   by_kind false true v w x y z = fault_short (path_in wide a) (path_short wide a)
   by_kind false false true w x y z = fault_short (next_hop_in a) (next_hop_short a)
@@ -141,10 +146,12 @@ attrs_short wide before (a ∷ others) rest = first_short _ _ (after_short wide 
 
 read_short : (wide : Bool) (bytes : List ℕ) → Short (attrs_in wide bytes)
 unfolding attrs_in
-read_short wide bytes = of (attrs_fault wide [] (many attr_at bytes).0 (many attr_at bytes).1) (attrs_short wide [] (many attr_at bytes).0 (many attr_at bytes).1) where
-  of : (o : Option Notice) → ShortFault o → Short (unless o (found_in wide (many attr_at bytes).0))
-  of None s = tt
-  of (Some n) s = s
+read_short wide bytes =
+    of (attrs_fault wide [] (many attr_at bytes).0 (many attr_at bytes).1) (attrs_short wide [] (many attr_at bytes).0 (many attr_at bytes).1)
+  where
+    of : (o : Option Notice) → ShortFault o → Short (unless o (found_in wide (many attr_at bytes).0))
+    of None s = tt
+    of (Some n) s = s
 
 -- ---- bodies
 
@@ -186,7 +193,8 @@ with_short (Some caps) (Ok later) s = tt
 caps_short : (params : List Cap) → Short (caps_of params)
 unfolding caps_of
 caps_short [] = tt
-caps_short (param ∷ params) = if_short (eqb param.code 2) (with_caps (all_of cap_at param.bytes) (caps_of params)) (open_fault 4) (with_short (all_of cap_at param.bytes) (caps_of params) (caps_short params)) (none_short 2 4)
+caps_short (param ∷ params) = if_short (eqb param.code 2) (with_caps (all_of cap_at param.bytes) (caps_of params))
+    (open_fault 4) (with_short (all_of cap_at param.bytes) (caps_of params) (caps_short params)) (none_short 2 4)
 
 params_short : (o : Option (List Cap)) → Short (with_params o)
 params_short None = none_short 2 0
@@ -194,7 +202,8 @@ params_short (Some ps) = caps_short ps
 
 said_short : (expected : Expected) (body : List ℕ) (r : Result (List Cap) Notice) → Short r → Short (with_said expected body r)
 said_short expected body (Err n) s = s
-said_short expected body (Ok caps) s = unless_short (expected.offered && not (is_said expected.remote_as (as_in body) (as_said caps))) (open_fault 2) (Ok (open_with body caps)) (none_short 2 2) tt
+said_short expected body (Ok caps) s = unless_short (expected.offered && not (is_said expected.remote_as (as_in body) (as_said caps)))
+    (open_fault 2) (Ok (open_with body caps)) (none_short 2 2) tt
 
 open_short : (expected : Expected) (body : List ℕ) → Short (open_of expected body)
 unfolding open_of
@@ -219,7 +228,8 @@ body_short expected kind body = by_kind (eqb kind 1) (eqb kind 2) (eqb kind 3) w
   updated (Err n) s = s
 
   by_kind : (t u v : Bool)
-      → Short (cond t (open_message (open_of expected body)) (cond u (update_message (update_of expected.wide body)) (cond v (Ok (messages.NoticeMsg (notice_of body))) (Ok messages.KeepaliveMsg))))
+      → Short (cond t (open_message (open_of expected body))
+      (cond u (update_message (update_of expected.wide body)) (cond v (Ok (messages.NoticeMsg (notice_of body))) (Ok messages.KeepaliveMsg))))
   by_kind true u v = opened (open_of expected body) (open_short expected body)
   by_kind false true v = updated (update_of expected.wide body) (update_short expected.wide body)
   by_kind false false true = tt

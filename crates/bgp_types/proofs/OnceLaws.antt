@@ -1,5 +1,6 @@
 -- A list of prefixes, each once, where it first stands.
-use Rattle.std.proofs.Common.{◌≡◌, ℕ, suc, ◌+◌, ◌-◌, ◌*◌, ◌/◌, ◌^◌, ◌<◌, ◌≤◌, List, [], ◌∷◌, ◌++◌, length, Bool, true, false, cond, eqb, refl, sym, ap, ◌∙◌, subst, arith, append_assoc}
+use Rattle.std.proofs.Common.{◌≡◌, ℕ, suc, ◌+◌, ◌-◌, ◌*◌, ◌/◌, ◌^◌, ◌<◌, ◌≤◌, List, [], ◌∷◌, ◌++◌, length, Bool}
+use Rattle.std.proofs.Common.{true, false, cond, eqb, refl, sym, ap, ◌∙◌, subst, arith, append_assoc}
 use Rattle.std.specs.Prelude.{◌&&◌, ◌↔◌, ◌⊎◌, Contains, not}
 use Rattle.std.specs.List.{AllByRecursion, IsDistinct, list_any, position_or_len}
 use Rattle.std.proofs.Common.{inl, inr}
@@ -109,7 +110,8 @@ module _ {A : Type 0} where
     heads : (y ≡ x) ⊎ Contains ys x → (x ≡ y) ⊎ Contains xs y → x ≡ y
     heads (inl e) there = sym e
     heads (inr c) (inl e) = e
-    heads (inr c) (inr d) = absurd (let up : f y < f x = of_each (λ z. f y < f z) ys x s.0 c in let down : f x < f y = of_each (λ z. f x < f z) xs y r.0 d in omega arith)
+    heads (inr c) (inr d) =
+        absurd (let up : f y < f x = of_each (λ z. f y < f z) ys x s.0 c in let down : f x < f y = of_each (λ z. f x < f z) xs y r.0 d in omega arith)
 
     same : x ≡ y
     same = heads (first_or y ys x (h x (first_in x xs))) (first_or x xs y (k y (first_in y ys)))
@@ -179,7 +181,8 @@ module _ (front seen : List PrefixValue) (p : PrefixValue) (so_far : EachOnce fr
     by_test : (t : Bool) → list_any (same_prefix p) front ≡ t → t ≡ false
     by_test false f = refl
     by_test true f =
-        let low : position_or_len (same_prefix p) seen < length seen = found (same_prefix p) seen p (same_itself p) ((so_far.members p).1 (Contains-from_any is_same p front f)) in
+        let low : position_or_len (same_prefix p) seen < length seen =
+        found (same_prefix p) seen p (same_itself p) ((so_far.members p).1 (Contains-from_any is_same p front f)) in
         let none : position_or_len (same_prefix p) seen ≡ length seen = missed (same_prefix p) seen e in
         absurd (omega arith)
 
@@ -228,9 +231,14 @@ unfolding IsDistinct
 EachOnce-none = record { members = λ p. (λ c. c, λ c. c); distinct = tt; in_order = tt }
 
 pub each_once : (prefixes once : List PrefixValue) → (once ≡ once_after [] prefixes) ↔ EachOnce prefixes once
-each_once prefixes once = (λ e. subst (λ (xs : List PrefixValue). EachOnce prefixes xs) (sym e) is, λ other. one_list (first_index prefixes) once (once_after [] prefixes) other.in_order is.in_order (λ z c. (is.members z).1 ((other.members z).0 c)) (λ z c. (other.members z).1 ((is.members z).0 c))) where
-  is : EachOnce prefixes (once_after [] prefixes)
-  is = each_from [] [] prefixes EachOnce-none
+each_once prefixes once = (
+  λ e. subst (λ (xs : List PrefixValue). EachOnce prefixes xs) (sym e) is,
+  λ other. one_list (first_index prefixes) once (once_after [] prefixes) other.in_order is.in_order
+      (λ z c. (is.members z).1 ((other.members z).0 c)) (λ z c. (other.members z).1 ((is.members z).0 c)),
+)
+  where
+    is : EachOnce prefixes (once_after [] prefixes)
+    is = each_from [] [] prefixes EachOnce-none
 
 -- ---- each is a prefix
 

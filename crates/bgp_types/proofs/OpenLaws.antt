@@ -1,5 +1,6 @@
 -- An OPEN reads as what its octets say.
-use Rattle.std.proofs.Common.{◌≡◌, ℕ, zero, suc, ◌^◌, ◌≤◌, ◌<◌, List, [], ◌∷◌, ◌++◌, length, take, drop, Bool, true, false, cond, eqb, ltb, Option, Some, None, Result, Ok, Err, refl, sym, ap, ◌∙◌, arith, length-drop, length-append, subst}
+use Rattle.std.proofs.Common.{◌≡◌, ℕ, zero, suc, ◌^◌, ◌≤◌, ◌<◌, List, [], ◌∷◌, ◌++◌, length, take, drop, Bool, true, false, cond, eqb, ltb}
+use Rattle.std.proofs.Common.{Option, Some, None, Result, Ok, Err, refl, sym, ap, ◌∙◌, arith, length-drop, length-append, subst}
 use Rattle.std.specs.Prelude.{not, ◌&&◌}
 use Rattle.std.specs.List.{flat_map, AllByRecursion}
 use Rattle.std.specs.Int.{w16, w32, from_be_bytes, to_be_bytes}
@@ -14,7 +15,8 @@ use Rattle.bgp_types.specs.declared.message.OpenMsg.{OpenMsg}
 use Rattle.bgp_types.specs.Expect.{is_remote_as}
 use Rattle.bgp_types.specs.Many.{all_of}
 use Rattle.bgp_types.specs.OctetLists.{AreOctets}
-use Rattle.bgp_types.specs.OpenBody.{cap_at, open_fault, with_caps, caps_of, params_of, with_params, as_said, is_field, is_said, version_in, as_in, hold_in, identifier_in, open_with, unless_fault, with_said, open_of}
+use Rattle.bgp_types.specs.OpenBody.{cap_at, open_fault, with_caps, caps_of, params_of, with_params, as_said, is_field, is_said}
+use Rattle.bgp_types.specs.OpenBody.{version_in, as_in, hold_in, identifier_in, open_with, unless_fault, with_said, open_of}
 use Rattle.bgp_types.specs.Reads.{ReadsOpen}
 use Rattle.bgp_types.specs.Spelling.{cap_octets, param_octets, open_octets}
 use Rattle.bgp_types.specs.Values.{is_no_host, is_short_hold}
@@ -156,7 +158,8 @@ record Fields (body : List ℕ) : Type 0 where
   all : body ≡ version ∷ a ∷ b ∷ c ∷ d ∷ e ∷ f ∷ g ∷ h ∷ size ∷ params
 
 fields : (body : List ℕ) → 10 ≤ length body → Fields body
-fields (v ∷ a ∷ b ∷ c ∷ d ∷ e ∷ f ∷ g ∷ h ∷ size ∷ params) le = record { version = v; a = a; b = b; c = c; d = d; e = e; f = f; g = g; h = h; size = size; params = params; all = refl }
+fields (v ∷ a ∷ b ∷ c ∷ d ∷ e ∷ f ∷ g ∷ h ∷ size ∷ params) le =
+    record { version = v; a = a; b = b; c = c; d = d; e = e; f = f; g = g; h = h; size = size; params = params; all = refl }
 fields [] le = absurd (omega arith)
 fields (v ∷ []) le = absurd (omega arith)
 fields (v ∷ a ∷ []) le = absurd (omega arith)
@@ -210,8 +213,12 @@ open_passes expected body o e =
     let field = unless_ok _ _ _ o version.1 in
     let hold = unless_ok _ _ _ o field.1 in
     let host = unless_ok _ _ _ o hold.1 in
-    let said = said_ok expected body (with_params (params_of (drop 9 body))) o host.1 in
-    (said.0, record { version = eqb-true _ _ (not_false _ version.0); hold = hold.0; host = host.0; params = said.1 }, both_tests expected.offered (is_field expected.remote_as (as_in body)) (is_said expected.remote_as (as_in body) (as_said said.0)) field.0 said.2, said.3)
+    let said = said_ok expected body (with_params (params_of (drop 9 body))) o host.1 in (
+      said.0,
+      record { version = eqb-true _ _ (not_false _ version.0); hold = hold.0; host = host.0; params = said.1 },
+      both_tests expected.offered (is_field expected.remote_as (as_in body)) (is_said expected.remote_as (as_in body) (as_said said.0)) field.0 said.2,
+      said.3,
+    )
 
 passes_open : (expected : Expected) (body : List ℕ) (caps : List Cap) → Passes expected body caps → is_remote_as expected (as_in body) caps ≡ true
     → open_of expected body ≡ Ok (open_with body caps)
@@ -249,7 +256,8 @@ open_spelled v a b c d e f g h size params caps expected bytes p =
     let body : List ℕ = v ∷ a ∷ b ∷ c ∷ d ∷ e ∷ f ∷ g ∷ h ∷ size ∷ params in
     let told = params_told size params caps p.params in
     let read = params_read told.1 caps told.3 in
-    let octets : params ≡ flat_map (λ cs. param_octets (flat_map cap_octets cs)) read.0 = caps_taken params told.1 told.2 ∙ (ap (λ (ps : List Cap). flat_map cap_octets ps) read.1 ∙ params_octets read.0) in
+    let octets : params ≡ flat_map (λ cs. param_octets (flat_map cap_octets cs)) read.0 =
+    caps_taken params told.1 told.2 ∙ (ap (λ (ps : List Cap). flat_map cap_octets ps) read.1 ∙ params_octets read.0) in
     let below : size < 256 = bytes 9 in
     let two = two_octets a b (bytes 1) (bytes 2) in
     let hold = two_octets c d (bytes 3) (bytes 4) in
@@ -281,13 +289,16 @@ with_fields expected body caps f bytes p =
 pub open_read : (expected : Expected) (body : List ℕ) (o : OpenMsg) → AreOctets body → 10 ≤ length body → open_of expected body ≡ Ok o
     → ReadsOpen body o × (is_remote_as expected o.as_number o.caps ≡ true)
 open_read expected body o bytes le e =
-    let s = open_passes expected body o e in
-    (subst (λ (m : OpenMsg). ReadsOpen body m) s.3 (with_fields expected body s.0 (fields body le) bytes s.1), subst (λ (m : OpenMsg). is_remote_as expected m.as_number m.caps ≡ true) s.3 s.2)
+    let s = open_passes expected body o e in (
+      subst (λ (m : OpenMsg). ReadsOpen body m) s.3 (with_fields expected body s.0 (fields body le) bytes s.1),
+      subst (λ (m : OpenMsg). is_remote_as expected m.as_number m.caps ≡ true) s.3 s.2,
+    )
 
 -- ---- what is spelled is read
 
 params_again : (params : List (List Cap))
-    → (let octets : List ℕ = flat_map (λ caps. param_octets (flat_map cap_octets caps)) params in with_params (params_of (length octets ∷ octets)) ≡ Ok (all_caps params))
+    → (let octets : List ℕ = flat_map (λ caps. param_octets (flat_map cap_octets caps)) params in
+    with_params (params_of (length octets ∷ octets)) ≡ Ok (all_caps params))
 unfolding params_of
 params_again params =
     let octets : List ℕ = flat_map (λ caps. param_octets (flat_map cap_octets caps)) params in
@@ -296,7 +307,8 @@ params_again params =
     rw (same, cut) (caps_of_again params)
 
 opened : (as_number hold identifier : ℕ) (params : List (List Cap)) → as_number < 2 ^ 16 → hold < 2 ^ 16 → identifier < 2 ^ 32 →
-    (let body : List ℕ = open_octets as_number hold identifier (flat_map (λ caps. param_octets (flat_map cap_octets caps)) params) in (as_in body ≡ as_number) × (hold_in body ≡ hold) × (identifier_in body ≡ identifier))
+    (let body : List ℕ = open_octets as_number hold identifier (flat_map (λ caps. param_octets (flat_map cap_octets caps)) params) in
+    (as_in body ≡ as_number) × (hold_in body ≡ hold) × (identifier_in body ≡ identifier))
 opened as_number hold identifier params a h i = (wide16.again as_number a, wide16.again hold h, wide32.again identifier i)
 
 pub open_are : (expected : Expected) (body : List ℕ) (o : OpenMsg) → ReadsOpen body o → is_remote_as expected o.as_number o.caps ≡ true
@@ -313,7 +325,8 @@ open_are expected body o r is =
     } in
     let as_is : is_remote_as expected (as_in spelled) (all_caps r.params) ≡ true = rw (n.0, sym r.caps) is in
     ap (open_of expected) r.octets
-    ∙ (passes_open expected spelled (all_caps r.params) passes as_is ∙ ap (λ (m : OpenMsg). (let x : Result OpenMsg Notice = Ok m in x)) (same_open _ _ _ _ o n.0 n.1 n.2 (sym r.caps)))
+    ∙ (passes_open expected spelled (all_caps r.params) passes as_is
+    ∙ ap (λ (m : OpenMsg). (let x : Result OpenMsg Notice = Ok m in x)) (same_open _ _ _ _ o n.0 n.1 n.2 (sym r.caps)))
   where
     same_open : (a h i : ℕ) (caps : List Cap) (o : OpenMsg) → a ≡ o.as_number → h ≡ o.hold → i ≡ o.identifier → caps ≡ o.caps
         → (let m : OpenMsg = record { as_number = a; hold = h; identifier = i; caps = caps } in m ≡ o)

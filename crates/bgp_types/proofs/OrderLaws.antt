@@ -98,7 +98,8 @@ clean_differ wide before (a ∷ others) own differ fresh =
     let no_fault : fault_after wide before a ≡ None = rw (fresh.0, own.0) refl in
     ap (λ (o : Option Notice). earlier_notice o (attrs_fault wide (before ++ a ∷ []) others [])) no_fault
     ∙ clean_differ wide (before ++ a ∷ []) others own.1 differ.1
-    (all_both (λ b. wire_kind b ≢ wire_kind a) (λ b. attr_of b.kind before ≡ None) (λ b. attr_of b.kind (before ++ a ∷ []) ≡ None) others (λ b n none. none_last b.kind before a none (λ e. n (sym e))) differ.0 fresh.1)
+    (all_both (λ b. wire_kind b ≢ wire_kind a) (λ b. attr_of b.kind before ≡ None) (λ b. attr_of b.kind (before ++ a ∷ []) ≡ None) others
+    (λ b n none. none_last b.kind before a none (λ e. n (sym e))) differ.0 fresh.1)
 
 nothing_before : (raws : List WireAttr) → AllByRecursion (λ a. attr_of a.kind [] ≡ None) raws
 nothing_before [] = tt

@@ -1,5 +1,6 @@
 -- A part that is spelled is read.
-use Rattle.std.proofs.Common.{◌≡◌, ℕ, zero, suc, ◌+◌, ◌*◌, ◌^◌, ◌<◌, ◌≤◌, List, [], ◌∷◌, ◌++◌, length, take, drop, Bool, true, false, cond, eqb, ltb, Option, Some, None, refl, sym, ap, subst, ◌∙◌, arith, append_assoc, length-drop, inl, inr}
+use Rattle.std.proofs.Common.{◌≡◌, ℕ, zero, suc, ◌+◌, ◌*◌, ◌^◌, ◌<◌, ◌≤◌, List, [], ◌∷◌, ◌++◌, length, take, drop, Bool, true, false, cond, eqb}
+use Rattle.std.proofs.Common.{ltb, Option, Some, None, refl, sym, ap, subst, ◌∙◌, arith, append_assoc, length-drop, inl, inr}
 use Rattle.std.specs.Prelude.{All, ◌||◌, ◌⊎◌, if◌then◌else◌}
 use Rattle.std.specs.List.{flat_map, AllByRecursion}
 use Rattle.std.specs.Int.{Width, byte_len, to_be_bytes}
@@ -46,7 +47,12 @@ numbers_again w limit wide [] rest fits = refl
 numbers_again w limit wide (a ∷ ases) rest fits =
     let tail : List ℕ = flat_map (to_be_bytes w) ases ++ rest in
     ap (numbers w (suc (length ases))) (append_assoc (to_be_bytes w a) (flat_map (to_be_bytes w) ases) rest)
-    ∙ rw (take_at (to_be_bytes w a) tail (byte_len w) (wide.len a), drop_at (to_be_bytes w a) tail (byte_len w) (wide.len a), wide.again a fits.0, numbers_again w limit wide ases rest fits.1) refl
+    ∙ rw (
+      take_at (to_be_bytes w a) tail (byte_len w) (wide.len a),
+      drop_at (to_be_bytes w a) tail (byte_len w) (wide.len a),
+      wide.again a fits.0,
+      numbers_again w limit wide ases rest fits.1,
+    ) refl
 
 ases_again : (wide : Bool) (kind : ℕ) (ases rest : List ℕ) → AreAses wide ases
     → part_at wide (kind ∷ length ases ∷ flat_map (to_be_bytes (as_width wide)) ases ++ rest) ≡ with_rest (path_part kind ases) rest
@@ -57,7 +63,12 @@ ases_again wide kind ases rest fits =
     let len : length bytes ≡ length ases * byte_len w = ases_length w (as_limit wide) (wide_as wide) ases in
     let some : eqb (length ases) 0 ≡ false = let lt = fits.0 in grind (arith, nat_tests) in
     let long : ltb (length (bytes ++ rest)) (length ases * byte_len w) ≡ false = le-ltb _ _ (omega (arith, length-append bytes rest)) in
-    rw (some, long, numbers_again w (as_limit wide) (wide_as wide) ases rest (recursion_from_All _ ases fits.2), drop_at bytes rest (length ases * byte_len w) len) refl
+    rw (
+      some,
+      long,
+      numbers_again w (as_limit wide) (wide_as wide) ases rest (recursion_from_All _ ases fits.2),
+      drop_at bytes rest (length ases * byte_len w) len,
+    ) refl
 
 part_again : (wide : Bool) (p : PathPart) (rest : List ℕ) → IsPartIn wide p → part_at wide (part_octets wide p ++ rest) ≡ Some (p, rest)
 part_again wide (parts.Set ases) rest fits = ases_again wide 1 ases rest fits
@@ -69,12 +80,14 @@ no_part wide = refl
 
 pub path_again : (wide : Bool) (path : List PathPart) → All (IsPartIn wide) path → path_of wide (path_octets wide path) ≡ Some path
 unfolding path_octets
-path_again wide path fits = all_again (part_at wide) (part_octets wide) (IsPartIn wide) (record { shortens = part_shortens wide; again = part_again wide }) path (recursion_from_All _ path fits) (no_part wide)
+path_again wide path fits = all_again (part_at wide) (part_octets wide) (IsPartIn wide)
+    (record { shortens = part_shortens wide; again = part_again wide }) path (recursion_from_All _ path fits) (no_part wide)
 
 -- ---- what is read is spelled so
 
 ases_take : (w : Width) (limit : ℕ) → IsWide w limit → (count : ℕ) (bytes : List ℕ) → AreOctets bytes → count * byte_len w ≤ length bytes
-    → (take (count * byte_len w) bytes ≡ flat_map (to_be_bytes w) (numbers w count bytes)) × (length (numbers w count bytes) ≡ count) × AllByRecursion (λ a. a < limit) (numbers w count bytes)
+    → (take (count * byte_len w) bytes ≡ flat_map (to_be_bytes w) (numbers w count bytes))
+    × (length (numbers w count bytes) ≡ count) × AllByRecursion (λ a. a < limit) (numbers w count bytes)
 ases_take w limit wide zero bytes b le = (rw (zero-mul (byte_len w)) refl, refl, tt)
 ases_take w limit wide (suc count) bytes b le =
     let k : suc count * byte_len w ≡ byte_len w + count * byte_len w = suc-mul count (byte_len w) ∙ omega arith in
@@ -82,7 +95,8 @@ ases_take w limit wide (suc count) bytes b le =
     let ih = ases_take w limit wide count (drop (byte_len w) bytes) (AreOctets-drop (byte_len w) bytes b) (rw (length-drop (byte_len w) bytes) (omega arith)) in
     let front_bytes = AreOctets-take (byte_len w) bytes b in (
       ap (λ (n : ℕ). take n bytes) k
-          ∙ (take-add (byte_len w) (count * byte_len w) bytes ∙ rw (ih.0, wide.back (take (byte_len w) bytes) (length-take-le (byte_len w) bytes first) front_bytes) refl),
+          ∙ (take-add (byte_len w) (count * byte_len w) bytes
+          ∙ rw (ih.0, wide.back (take (byte_len w) bytes) (length-take-le (byte_len w) bytes first) front_bytes) refl),
       ap suc ih.1,
       (wide.below (take (byte_len w) bytes) front_bytes, ih.2),
     )
@@ -100,7 +114,8 @@ part_kind kind ases p e = by_test (eqb kind 1) refl (eqb kind 2) refl e where
 
 with_rest_some : (o : Option PathPart) (rest : List ℕ) (x : PathPart × List ℕ) → with_rest o rest ≡ Some x → (o ≡ Some x.0) × (rest ≡ x.1)
 with_rest_some None rest x e = absurd cc
-with_rest_some (Some p) rest x e = let s = same_Some _ x e in (ap (λ (y : PathPart × List ℕ). (let o : Option PathPart = Some y.0 in o)) s, ap (λ (y : PathPart × List ℕ). y.1) s)
+with_rest_some (Some p) rest x e =
+    let s = same_Some _ x e in (ap (λ (y : PathPart × List ℕ). (let o : Option PathPart = Some y.0 in o)) s, ap (λ (y : PathPart × List ℕ). y.1) s)
 
 pub part_takes : (wide : Bool) (bytes : List ℕ) (x : PathPart × List ℕ) → AreOctets bytes → part_at wide bytes ≡ Some x
     → TakesOne AreOctets (part_at wide) (part_octets wide) (IsPartIn wide) bytes x
@@ -119,18 +134,21 @@ part_takes wide (kind ∷ count ∷ bytes) x b e =
     let some : 0 < count = let n = t.0 in grind (arith, nat_tests) in
     let below : count < 256 = b 1 in
     let good : AreAses wide ases = (rw a.1 some, rw a.1 below, All-from_recursion _ ases a.2) in
-    let parted : bytes ≡ flat_map (to_be_bytes w) ases ++ x.1 = sym (take-append-drop size bytes) ∙ (ap (λ (y : List ℕ). y ++ drop size bytes) a.0 ∙ ap (λ (y : List ℕ). flat_map (to_be_bytes w) ases ++ y) r.1) in
+    let parted : bytes ≡ flat_map (to_be_bytes w) ases ++ x.1 =
+    sym (take-append-drop size bytes) ∙ (ap (λ (y : List ℕ). y ++ drop size bytes) a.0 ∙ ap (λ (y : List ℕ). flat_map (to_be_bytes w) ases ++ y) r.1) in
     let rest_fits : AreOctets x.1 = subst AreOctets r.1 (AreOctets-drop size bytes bytes_fit) in
     elim (part_kind kind ases x.0 r.0) [
       | inl h ↦ record {
         parts = ap (λ (n : ℕ). n ∷ count ∷ bytes) h.0
-            ∙ (ap (λ (n : ℕ). 1 ∷ n ∷ bytes) (sym a.1) ∙ (ap (λ (y : List ℕ). 1 ∷ length ases ∷ y) parted ∙ ap (λ (p : PathPart). part_octets wide p ++ x.1) (sym h.1)));
+            ∙ (ap (λ (n : ℕ). 1 ∷ n ∷ bytes) (sym a.1)
+            ∙ (ap (λ (y : List ℕ). 1 ∷ length ases ∷ y) parted ∙ ap (λ (p : PathPart). part_octets wide p ++ x.1) (sym h.1)));
         fits = subst (IsPartIn wide) (sym h.1) good;
         rest = rest_fits;
       }
       | inr h ↦ record {
         parts = ap (λ (n : ℕ). n ∷ count ∷ bytes) h.0
-            ∙ (ap (λ (n : ℕ). 2 ∷ n ∷ bytes) (sym a.1) ∙ (ap (λ (y : List ℕ). 2 ∷ length ases ∷ y) parted ∙ ap (λ (p : PathPart). part_octets wide p ++ x.1) (sym h.1)));
+            ∙ (ap (λ (n : ℕ). 2 ∷ n ∷ bytes) (sym a.1)
+            ∙ (ap (λ (y : List ℕ). 2 ∷ length ases ∷ y) parted ∙ ap (λ (p : PathPart). part_octets wide p ++ x.1) (sym h.1)));
         fits = subst (IsPartIn wide) (sym h.1) good;
         rest = rest_fits;
       }

@@ -1,5 +1,6 @@
 -- Prefixes, one after another.
-use Rattle.std.proofs.Common.{◌≡◌, ℕ, ◌<◌, List, [], ◌∷◌, ◌++◌, length, take, drop, map, false, ltb, Option, Some, None, refl, sym, ap, ◌∙◌, arith, length-drop, length-append, subst}
+use Rattle.std.proofs.Common.{◌≡◌, ℕ, ◌<◌, List, [], ◌∷◌, ◌++◌, length, take, drop, map, false, ltb, Option, Some}
+use Rattle.std.proofs.Common.{None, refl, sym, ap, ◌∙◌, arith, length-drop, length-append, subst}
 use Rattle.std.specs.Prelude.{◌||◌}
 use Rattle.std.specs.Option.{option_map}
 use Rattle.std.proofs.lemmas.Option.{same_Some}
@@ -72,5 +73,6 @@ pub prefixes_are : (field : List ℕ) (prefixes : List PrefixValue) → ReadsPre
 unfolding prefixes_of
 prefixes_are field prefixes r =
     ap (λ (y : List ℕ). option_map (λ spelled. once_after [] (map prefix_said spelled)) (all_of prefix_at y)) r.octets
-    ∙ (ap (option_map (λ spelled. once_after [] (map prefix_said spelled))) (all_again prefix_at wire_octets IsWirePrefix prefix_reads r.spelled r.each no_prefix)
+    ∙ (ap (option_map (λ spelled. once_after [] (map prefix_said spelled)))
+    (all_again prefix_at wire_octets IsWirePrefix prefix_reads r.spelled r.each no_prefix)
     ∙ ap (λ (ps : List PrefixValue). Some ps) (sym r.says))

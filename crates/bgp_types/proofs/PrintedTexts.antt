@@ -36,7 +36,8 @@ IsPrefixText_unique text p q one other =
     sym (append_assoc (address_text one.address) (47 ∷ []) (decimal p.len)) ∙ sym one.text ∙ other.text
     ∙ append_assoc (address_text other.address) (47 ∷ []) (decimal q.len) in
     let texts : address_text one.address ≡ address_text other.address = front _ _ _ _ (NoSlash-address one.address) (NoSlash-address other.address) joined in
-    let address : one.address ≡ other.address = IsAddressText_unique (address_text one.address) one.address other.address (record { fits = one.fits; text = refl }) (record { fits = other.fits; text = texts }) in
+    let address : one.address ≡ other.address = IsAddressText_unique (address_text one.address) one.address other.address
+    (record { fits = one.fits; text = refl }) (record { fits = other.fits; text = texts }) in
     let decimals : decimal p.len ≡ decimal q.len = back (address_text one.address) _ _ (joined ∙ ap (λ t. t ++ 47 ∷ decimal q.len) (sym texts)) in
     let len : p.len ≡ q.len = decimal_injective p.len q.len (omega (arith, one.short)) (omega (arith, other.short)) decimals in
     one.prefix ∙ ap (λ l. prefix_of l one.address) len ∙ ap (λ a. prefix_of q.len a) address ∙ sym other.prefix

@@ -37,7 +37,8 @@ same_field n lt =
     rw short (let same : eqb n n ≡ true = grind (arith, nat_tests) in same)
 
 from_field : (m : Message) (body : List ℕ) (wide : Bool) → ReadsBody body m wide → is_from (expecting (kind_of m) (as_in body) wide) m ≡ true
-from_field (messages.OpenMsg o) body wide r = let n : ℕ = o.as_number in subst (λ (x : ℕ). is_field x n ≡ true) (sym (as_again body o r)) (same_field n r.as_number)
+from_field (messages.OpenMsg o) body wide r =
+    let n : ℕ = o.as_number in subst (λ (x : ℕ). is_field x n ≡ true) (sym (as_again body o r)) (same_field n r.as_number)
 from_field (messages.UpdateMsg u) body wide r = refl
 from_field (messages.NoticeMsg n) body wide r = refl
 from_field messages.KeepaliveMsg body wide r = refl

@@ -56,7 +56,8 @@ pub all_good : (wide : Bool) (kinds : List ℕ) (slots : List (List WireAttr)) (
 all_good wide [] [] others s all = all
 all_good wide [] (slot ∷ slots) others s all = absurd s
 all_good wide (k ∷ kinds) [] others s all = absurd s
-all_good wide (k ∷ kinds) (slot ∷ slots) others s all = all_slot (IsGood wide) wide k slot (joined slots others) s.0 (λ a e g. g) (all_good wide kinds slots others s.3 all)
+all_good wide (k ∷ kinds) (slot ∷ slots) others s all =
+    all_slot (IsGood wide) wide k slot (joined slots others) s.0 (λ a e g. g) (all_good wide kinds slots others s.3 all)
 
 -- ---- types differ
 
@@ -81,7 +82,8 @@ apart wide k (j ∷ kinds) [] others o fresh s all = absurd s
 apart wide k (j ∷ kinds) (slot ∷ slots) others o fresh s all =
     let f = not_fresh k j kinds fresh in
     let differs = f.0 in
-    all_slot (λ a. wire_kind a ≢ k) wide j slot (joined slots others) s.0 (λ a e g. λ same. absurd (grind (arith, nat_tests))) (apart wide k kinds slots others o f.1 s.3 all)
+    all_slot (λ a. wire_kind a ≢ k) wide j slot (joined slots others) s.0
+    (λ a e g. λ same. absurd (grind (arith, nat_tests))) (apart wide k kinds slots others o f.1 s.3 all)
 
 differ_slot : (wide : Bool) (k : ℕ) (slot rest : List WireAttr) → IsSlot wide k slot → AllByRecursion (λ a. wire_kind a ≢ k) rest
     → Differ wire_kind rest → Differ wire_kind (slot ++ rest)
@@ -124,7 +126,8 @@ find_slot wide k (j ∷ kinds) [] others o s all = absurd s
 find_slot wide k (j ∷ kinds) (slot ∷ slots) others o s all = by_test (eqb j k) refl (find_slot wide k kinds slots others o s.3 all) where
   by_test : (t : Bool) → eqb j k ≡ t → attr_of k (joined slots others) ≡ slot_of k kinds slots
       → attr_of k (slot ++ joined slots others) ≡ cond t (head_of slot) (slot_of k kinds slots)
-  by_test true f ih = let e : j ≡ k = grind (arith, nat_tests) in subst (λ (n : ℕ). attr_of n (slot ++ joined slots others) ≡ head_of slot) e (find_here wide j slot (joined slots others) s.0 (apart wide j kinds slots others s.1 s.2 s.3 all))
+  by_test true f ih = let e : j ≡ k = grind (arith, nat_tests) in subst (λ (n : ℕ). attr_of n (slot ++ joined slots others) ≡ head_of slot) e
+      (find_here wide j slot (joined slots others) s.0 (apart wide j kinds slots others s.1 s.2 s.3 all))
   by_test false f ih = find_past wide j k slot (joined slots others) s.0 f ∙ ih
 
 -- ---- the unknown ones

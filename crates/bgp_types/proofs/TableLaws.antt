@@ -6,7 +6,9 @@ use Rattle.std.specs.declared.cmp.Ordering.TheVariants.{Less, Equal, Greater}
 use Rattle.std.specs.Ordering.{nat_cmp, eq_by_cmp, is_eq, is_lt, ordering_reverse}
 use Rattle.std.specs.List.{AllByRecursion}
 use Rattle.std.specs.Cmp.{IsTotalOrder, nat_cmp_total, eq_by_cmp_equiv, alike_right}
-use Rattle.std.specs.FinMap.{IsAntisymmetric, get, insert, remove, keys, len, from_sorted, is_sorted, find, put, same_map, same_entries_map, entries-from_sorted, entries-insert, get-from_sorted, len-entries, get-empty, get-insert, get-remove, len-empty, len-insert, len-remove}
+use Rattle.std.specs.FinMap.{IsAntisymmetric, get, insert, remove, keys, len, from_sorted, is_sorted, find, put}
+use Rattle.std.specs.FinMap.{same_map, same_entries_map, entries-from_sorted, entries-insert, get-from_sorted}
+use Rattle.std.specs.FinMap.{len-entries, get-empty, get-insert, get-remove, len-empty, len-insert, len-remove}
 use Rattle.std.specs.FinMap.Entries.{by_order, below_all, where_key, find-where_key, is_sorted-put, is_sorted-where_key}
 use Rattle.std.proofs.lemmas.Cmp.{on_total, then_total}
 use Rattle.std.proofs.lemmas.Map.Lookups.{exact_pairs, exact_unsigned}
@@ -18,7 +20,8 @@ prefix_total = then_total (on_total (λ p. p.address) nat_cmp_total) (on_total (
 
 -- prefixes that compare alike are one
 pub exact_prefixes : IsAntisymmetric prefix_cmp
-exact_prefixes p q e = ap (λ (x : ℕ × ℕ). record { address = x.0; len = x.1 }) (exact_pairs nat_cmp nat_cmp exact_unsigned exact_unsigned (p.address, p.len) (q.address, q.len) e)
+exact_prefixes p q e = ap (λ (x : ℕ × ℕ). record { address = x.0; len = x.1 })
+    (exact_pairs nat_cmp nat_cmp exact_unsigned exact_unsigned (p.address, p.len) (q.address, q.len) e)
 
 equal : (o : Ordering) → is_eq o ≡ true → o ≡ Equal
 equal Less e = absurd cc
@@ -57,7 +60,8 @@ module _ {K X : Type 0} (R : K → K → Ordering) where
   pub put_left : (k : K) (v : X) (xs ys : List (K × X)) → AllAbove k ys → put R k v (xs ++ ys) ≡ put R k v xs ++ ys
   put_left k v [] ys a = put_first k v ys a
   put_left k v (x ∷ xs) ys a =
-      elim (R k x.0) as (λ o. by_order o ((k, v) ∷ x ∷ (xs ++ ys)) ((x.0, v) ∷ (xs ++ ys)) (x ∷ put R k v (xs ++ ys)) ≡ by_order o ((k, v) ∷ x ∷ xs) ((x.0, v) ∷ xs) (x ∷ put R k v xs) ++ ys) [
+      elim (R k x.0) as (λ o. by_order o ((k, v) ∷ x ∷ (xs ++ ys)) ((x.0, v) ∷ (xs ++ ys)) (x ∷ put R k v (xs ++ ys))
+      ≡ by_order o ((k, v) ∷ x ∷ xs) ((x.0, v) ∷ xs) (x ∷ put R k v xs) ++ ys) [
         | Less ↦ refl
         | Equal ↦ refl
         | Greater ↦ ap (λ (es : List (K × X)). x ∷ es) (put_left k v xs ys a)
@@ -173,7 +177,8 @@ module _ {X : Type 0} (es : List (PrefixValue × X)) (rise : T (is_sorted prefix
   pub table_without : (p : PrefixValue) → from_sorted {R = prefix_cmp} (without prefix_cmp p es) ≡ remove (from_sorted es) p
   table_without p = same_map prefix_total exact_prefixes _ _ (λ q.
       get-from_sorted prefix_cmp (without prefix_cmp p es) q (rise_without p)
-      ∙ (find-where_key prefix_cmp (λ x. not (eq_by_cmp prefix_cmp p x)) q (λ x t. ap (λ (o : Ordering). not (is_eq o)) (sym (alike_right prefix_total q x p t))) es
+      ∙ (find-where_key prefix_cmp (λ x. not (eq_by_cmp prefix_cmp p x)) q
+      (λ x t. ap (λ (o : Ordering). not (is_eq o)) (sym (alike_right prefix_total q x p t))) es
       ∙ (turned (eq_by_cmp prefix_cmp p q) (find prefix_cmp q es) None
       ∙ (ap (λ (b : Bool). cond b None (find prefix_cmp q es)) ((eq_by_cmp_equiv prefix_total).symm p q)
       ∙ (ap (cond (eq_by_cmp prefix_cmp q p) None) (sym (table_get q))

@@ -1,5 +1,6 @@
 -- Texts of addresses and prefixes.
-use Rattle.std.proofs.Common.{◌≡◌, ◌≢◌, ℕ, ◌+◌, ◌/◌, ◌%◌, ◌^◌, ◌<◌, ◌≤◌, zero, suc, false, eqb, List, [], ◌∷◌, ◌++◌, length, get_or, refl, sym, ap, ◌∙◌, subst, Result, Ok, Err, arith, append_assoc, decimal, ◌⊎◌, inl, inr, rules}
+use Rattle.std.proofs.Common.{◌≡◌, ◌≢◌, ℕ, ◌+◌, ◌/◌, ◌%◌, ◌^◌, ◌<◌, ◌≤◌, zero, suc, false, eqb, List, [], ◌∷◌, ◌++◌, length, get_or, refl}
+use Rattle.std.proofs.Common.{sym, ap, ◌∙◌, subst, Result, Ok, Err, arith, append_assoc, decimal, ◌⊎◌, inl, inr, rules}
 use Rattle.std.specs.Prelude.{codes, Option, Some, None, MatchOption, IsSome, IfSome, ◌↔◌}
 use Rattle.std.proofs.Math.Dec.{lit<}
 use Rattle.std.specs.List.{AllByRecursion}
@@ -49,7 +50,8 @@ pub no_length : (E : Type 0) (e : E) (text : List ℕ) (len : ℕ) → ParsesUns
 no_length E e text len read is = let r : Result ℕ E = Err e in let same : r ≡ Ok len = read-IsLengthText text r len read is in cc
 
 BeginsPlainly-decimal : (len : ℕ) → len ≤ 32 → (len < 10) ⊎ (10 ≤ len) → BeginsPlainly (decimal len)
-BeginsPlainly-decimal len small (inl one) = rw (decimal_digit len one) (record { some = omega arith; digit_from = omega arith; digit_to = omega arith; zero_alone = λ _. refl })
+BeginsPlainly-decimal len small (inl one) =
+    rw (decimal_digit len one) (record { some = omega arith; digit_from = omega arith; digit_to = omega arith; zero_alone = λ _. refl })
 BeginsPlainly-decimal len small (inr two) =
     let tens : len / 10 < 10 = omega arith in
     rw (decimal_step len two (omega arith), decimal_digit (len / 10) tens)
@@ -83,13 +85,15 @@ IsAddressText-dotted text octets address fits is dotted =
 pub IsDotted-address : (text : List ℕ) (address : ℕ) → IsAddressText text address → IsDotted text (to_be_bytes w32 address)
 IsDotted-address text address is =
     let octets = to_be_bytes w32 address in
-    let bytes = bytes_4 (address / 16777216 % 256) (address / 65536 % 256) (address / 256 % 256) (address % 256) (omega arith) (omega arith) (omega arith) (omega arith) in
+    let bytes = bytes_4 (address / 16777216 % 256) (address / 65536 % 256) (address / 256 % 256)
+    (address % 256) (omega arith) (omega arith) (omega arith) (omega arith) in
     subst (λ t. IsDotted t octets) (sym is.text) (IsDotted-ipv4_text octets refl bytes)
 
 -- a text writes one address at most
 pub IsAddressText_unique : (text : List ℕ) (a b : ℕ) → IsAddressText text a → IsAddressText text b → a ≡ b
 IsAddressText_unique text a b first second =
-    let same = IsIpv4Text_unique text (record { octets = to_be_bytes w32 a }) (record { octets = to_be_bytes w32 b }) (IsDotted-address text a first) (IsDotted-address text b second) in
+    let same = IsIpv4Text_unique text (record { octets = to_be_bytes w32 a })
+    (record { octets = to_be_bytes w32 b }) (IsDotted-address text a first) (IsDotted-address text b second) in
     sym (from_be_bytes-to_be_bytes_4 a first.fits) ∙ ap (λ x. from_be_bytes w32 (ipv4_octets x)) same ∙ from_be_bytes-to_be_bytes_4 b second.fits
 
 -- ---- the slash
@@ -106,7 +110,8 @@ is_digit : (n : ℕ) → n < 10 → eqb (48 + n) 47 ≡ false
 is_digit n h = grind (arith, nat_tests)
 
 NoSlash-decimal : (n : ℕ) → n < 2 ^ 64 → NoSlash (decimal n)
-NoSlash-decimal = decimal_by_steps (λ n ds. NoSlash ds) (λ n h. (is_digit n h, tt)) (λ n ds h rest. NoSlash-append ds ((48 + n % 10) ∷ []) rest (is_digit (n % 10) (omega arith), tt))
+NoSlash-decimal = decimal_by_steps (λ n ds. NoSlash ds) (λ n h. (is_digit n h, tt))
+    (λ n ds h rest. NoSlash-append ds ((48 + n % 10) ∷ []) rest (is_digit (n % 10) (omega arith), tt))
 
 NoSlash-dotted : (a b c d : ℕ) → a < 256 → b < 256 → c < 256 → d < 256 → NoSlash (dotted_text a b c d)
 NoSlash-dotted a b c d fa fb fc fd =
@@ -118,7 +123,8 @@ NoSlash-dotted a b c d fa fb fc fd =
     NoSlash-append _ _ (NoSlash-append _ _ (NoSlash-append _ _ (NoSlash-append _ _ (NoSlash-append _ _ (NoSlash-append _ _ da dot) db) dot) dc) dot) dd
 
 pub NoSlash-address : (address : ℕ) → NoSlash (address_text address)
-NoSlash-address address = NoSlash-dotted (address / 16777216 % 256) (address / 65536 % 256) (address / 256 % 256) (address % 256) (omega arith) (omega arith) (omega arith) (omega arith)
+NoSlash-address address = NoSlash-dotted (address / 16777216 % 256) (address / 65536 % 256)
+    (address / 256 % 256) (address % 256) (omega arith) (omega arith) (omega arith) (omega arith)
 
 no_slash_at : (xs : List ℕ) → NoSlash xs → (i : ℕ) → i < length xs → get_or xs i 0 ≢ 47
 no_slash_at [] free i h = absurd (omega arith)

@@ -1,5 +1,6 @@
 -- An UPDATE reads as what its octets say.
-use Rattle.std.proofs.Common.{◌≡◌, ℕ, ◌^◌, ◌≤◌, ◌<◌, List, [], ◌∷◌, ◌++◌, length, take, drop, map, Bool, true, false, cond, Option, Some, None, Result, Ok, Err, refl, sym, ap, ◌∙◌, arith, length-append, subst, append_assoc}
+use Rattle.std.proofs.Common.{◌≡◌, ℕ, ◌^◌, ◌≤◌, ◌<◌, List, [], ◌∷◌, ◌++◌, length, take, drop, map, Bool, true, false, cond, Option}
+use Rattle.std.proofs.Common.{Some, None, Result, Ok, Err, refl, sym, ap, ◌∙◌, arith, length-append, subst, append_assoc}
 use Rattle.std.specs.Prelude.{◌≢◌}
 use Rattle.std.specs.List.{flat_map, list_any}
 use Rattle.std.specs.Int.{w16, from_be_bytes, to_be_bytes}
@@ -17,7 +18,8 @@ use Rattle.bgp_types.specs.OctetLists.{AreOctets}
 use Rattle.bgp_types.specs.Prefixes.{PrefixValue, WirePrefix, wire_octets, prefix_said, same_prefix, put_once, once_after, prefix_at, prefixes_of}
 use Rattle.bgp_types.specs.Reads.{ReadsPrefixes, ReadsUpdate, SaysAttributes}
 use Rattle.bgp_types.specs.Spelling.{length_prefixed}
-use Rattle.bgp_types.specs.UpdateBody.{Fields, with_attrs_field, with_withdrawn_field, fields_of, with_known, all_known, apart, with_nlri, with_found, with_withdrawn, with_fields, update_of}
+use Rattle.bgp_types.specs.UpdateBody.{Fields, with_attrs_field, with_withdrawn_field, fields_of, with_known, all_known}
+use Rattle.bgp_types.specs.UpdateBody.{apart, with_nlri, with_found, with_withdrawn, with_fields, update_of}
 use Rattle.bgp_types.proofs.AttrLaws.{AreOctets-drop, AreOctets-take, wide16, number_is, told_is, number_again, told_again}
 use Rattle.bgp_types.proofs.AttrsReads.{attrs_read, attrs_are}
 use Rattle.bgp_types.proofs.PrefixLaws.{prefixes_read, prefixes_are}
@@ -45,7 +47,8 @@ field_takes bytes v b e =
     sym (take-append-drop 2 bytes) ∙ (ap (λ (y : List ℕ). y ++ rest) (sym size) ∙ (ap (λ (y : List ℕ). to_be_bytes w16 n ++ y) (sym (take-append-drop n rest))
     ∙ (sym (append_assoc (to_be_bytes w16 n) (take n rest) (drop n rest)) ∙ ap (λ (m : ℕ). (to_be_bytes w16 m ++ take n rest) ++ drop n rest) (sym len)))) in
     let below : n < 2 ^ 16 = wide16.below (take 2 bytes) front in
-    let here : TakesField bytes (take n rest, drop n rest) = record { parts = parts; room = rw len below; field = AreOctets-take n rest rest_fits; rest = AreOctets-drop n rest rest_fits } in
+    let here : TakesField bytes (take n rest, drop n rest) =
+    record { parts = parts; room = rw len below; field = AreOctets-take n rest rest_fits; rest = AreOctets-drop n rest rest_fits } in
     let value : (take n rest, drop n rest) ≡ v = ap (λ (y : ℕ × List ℕ). (take y.0 y.1, drop y.0 y.1)) c.1 ∙ t.3 in
     subst (λ (y : List ℕ × List ℕ). TakesField bytes y) value here
 
@@ -99,7 +102,15 @@ fields_again withdrawn attrs nlri w a =
 
 -- an announcement's attributes are all found
 abbrev found_for : Attrs → FoundAttrs
-found_for a = record { origin = Some a.origin; path = Some a.path; next_hop = Some a.next_hop; med = a.med; atomic = a.atomic; aggregator = a.aggregator; unknown = a.unknown }
+found_for a = record {
+  origin = Some a.origin;
+  path = Some a.path;
+  next_hop = Some a.next_hop;
+  med = a.med;
+  atomic = a.atomic;
+  aggregator = a.aggregator;
+  unknown = a.unknown;
+}
 
 known_is : (o : Option Origin) (p : Option (List PathPart)) (n : Option ℕ) (found : FoundAttrs) (a : Attrs) → found.origin ≡ o → found.path ≡ p
     → found.next_hop ≡ n → with_known o p n found ≡ Ok a → found ≡ found_for a
@@ -111,7 +122,9 @@ known_is (Some o) (Some p) (Some n) found a e1 e2 e3 e = same_found o p n found 
   same_Ok x y e = cc
 
   same_found : (o : Origin) (p : List PathPart) (n : ℕ) (found : FoundAttrs) (a : Attrs) → found.origin ≡ Some o → found.path ≡ Some p → found.next_hop ≡ Some n
-      → (let b : Attrs = record { origin = o; path = p; next_hop = n; med = found.med; atomic = found.atomic; aggregator = found.aggregator; unknown = found.unknown } in b) ≡ a → found ≡ found_for a
+      → (let b : Attrs =
+      record { origin = o; path = p; next_hop = n; med = found.med; atomic = found.atomic; aggregator = found.aggregator; unknown = found.unknown } in b)
+      ≡ a → found ≡ found_for a
   same_found o p n found a e1 e2 e3 e = grind arith
 
 all_known_is : (found : FoundAttrs) (a : Attrs) → all_known found ≡ Ok a → found ≡ found_for a
@@ -173,7 +186,8 @@ nlri_is prefixes found (Err n) b rest o u fits k p e = absurd cc
 nlri_is prefixes found (Ok a) b rest None u fits k p e = absurd cc
 nlri_is prefixes found (Ok a) b rest (Some nlri) u fits k p e =
     let reads = prefixes_read (b ∷ rest) nlri fits p in
-    let here : IsFound prefixes found (b ∷ rest) (record { withdrawn = apart prefixes nlri; attrs = Some a; nlri = nlri }) = record { announced = (some_prefix b rest nlri reads, all_known_is found a k); reads_nlri = reads; others = refl } in
+    let here : IsFound prefixes found (b ∷ rest) (record { withdrawn = apart prefixes nlri; attrs = Some a; nlri = nlri }) =
+    record { announced = (some_prefix b rest nlri reads, all_known_is found a k); reads_nlri = reads; others = refl } in
     subst (λ (v : Update). IsFound prefixes found (b ∷ rest) v) (same_Ok _ u e) here
   where
     same_Ok : (x y : Update) → (let r : Result Update Notice = Ok x in r) ≡ Ok y → x ≡ y
@@ -183,7 +197,8 @@ found_read : (prefixes : List PrefixValue) (r : Result FoundAttrs Notice) (nlri 
     → with_found prefixes r nlri ≡ Ok u → (found : FoundAttrs) × (r ≡ Ok found) × IsFound prefixes found nlri u
 found_read prefixes (Err n) nlri u fits e = absurd cc
 found_read prefixes (Ok found) [] u fits e =
-    let here : IsFound prefixes found [] (record { withdrawn = prefixes; attrs = None; nlri = [] }) = record { announced = refl; reads_nlri = prefixes_read [] [] fits no_prefixes; others = sym (apart_nil prefixes) } in
+    let here : IsFound prefixes found [] (record { withdrawn = prefixes; attrs = None; nlri = [] }) =
+    record { announced = refl; reads_nlri = prefixes_read [] [] fits no_prefixes; others = sym (apart_nil prefixes) } in
     (found, refl, subst (λ (v : Update). IsFound prefixes found [] v) (same_Ok _ u e) here)
   where
     same_Ok : (x y : Update) → (let r : Result Update Notice = Ok x in r) ≡ Ok y → x ≡ y
@@ -234,6 +249,7 @@ unfolding update_of
 update_are wide body u r =
     ap (λ (y : List ℕ). with_fields wide (fields_of y)) r.fields
     ∙ (ap (with_fields wide) (fields_again r.withdrawn r.attrs r.nlri r.withdrawn_room r.attrs_room)
-    ∙ (ap (λ (o : Option (List PrefixValue)). with_withdrawn wide o (record { withdrawn = r.withdrawn; attrs = r.attrs; nlri = r.nlri })) (prefixes_are r.withdrawn r.prefixes r.reads_withdrawn)
+    ∙ (ap (λ (o : Option (List PrefixValue)). with_withdrawn wide o (record { withdrawn = r.withdrawn; attrs = r.attrs; nlri = r.nlri }))
+    (prefixes_are r.withdrawn r.prefixes r.reads_withdrawn)
     ∙ (ap (λ (x : Result FoundAttrs Notice). with_found r.prefixes x r.nlri) (attrs_are wide r.attrs r.found r.reads_attrs)
     ∙ found_are r.prefixes r.found r.nlri u.withdrawn u.attrs u.nlri r.announced r.reads_nlri r.others)))

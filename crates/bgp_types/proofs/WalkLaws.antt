@@ -1,5 +1,6 @@
 -- A walk over the prefixes of a table, each the next one above the last, in rising order.
-use Rattle.std.proofs.Common.{◌≡◌, ◌<◌, ◌≤◌, ◌⊎◌, Bool, true, false, cond, ◌&&◌, List, [], ◌∷◌, ◌++◌, append_assoc, append-nil, Option, Some, None, refl, sym, ap, ◌∙◌, subst, inl, inr, arith}
+use Rattle.std.proofs.Common.{◌≡◌, ◌<◌, ◌≤◌, ◌⊎◌, Bool, true, false, cond, ◌&&◌, List, [], ◌∷◌, ◌++◌, append_assoc}
+use Rattle.std.proofs.Common.{append-nil, Option, Some, None, refl, sym, ap, ◌∙◌, subst, inl, inr, arith}
 use Rattle.std.specs.Prelude.{T, map, length}
 use Rattle.std.specs.declared.cmp.Ordering.{Ordering}
 use Rattle.std.specs.declared.cmp.Ordering.TheVariants.{Less, Equal, Greater}
@@ -73,7 +74,8 @@ module _ (k : PrefixValue) (xs ys : List PrefixValue) where
 fewer_or_same : (last : Option PrefixValue) (p : PrefixValue) → is_above last p ≡ true → (ks : List PrefixValue)
     → length (filter (is_above (Some p)) ks) ≤ length (filter (is_above last) ks)
 fewer_or_same last p a [] = omega arith
-fewer_or_same last p a (k ∷ ks) = step_le k (filter (is_above (Some p)) ks) (filter (is_above last) ks) (is_above (Some p) k) (is_above last k) (above_too last p k a) (fewer_or_same last p a ks)
+fewer_or_same last p a (k ∷ ks) = step_le k (filter (is_above (Some p)) ks) (filter (is_above last) ks)
+    (is_above (Some p) k) (is_above last k) (above_too last p k a) (fewer_or_same last p a ks)
 
 -- there are fewer prefixes above the next one
 pub fewer : (last : Option PrefixValue) (p : PrefixValue) (ks : List PrefixValue) → first_above last ks ≡ Some p
@@ -81,9 +83,12 @@ pub fewer : (last : Option PrefixValue) (p : PrefixValue) (ks : List PrefixValue
 fewer last p [] e = absurd cc
 fewer last p (k ∷ ks) e =
     let a = next_passes last p (k ∷ ks) e in
-    elim (is_above last k) as (λ b. is_above last k ≡ b → cond b (Some k) (first_above last ks) ≡ Some p → length (filter (is_above (Some p)) (k ∷ ks)) < length (filter (is_above last) (k ∷ ks))) [
-      | true ↦ λ f g. first_lt k (filter (is_above (Some p)) ks) (filter (is_above last) ks) (is_above (Some p) k) (is_above last k) (ap (is_above (Some p)) (same_Some k p g) ∙ not_itself p) f (fewer_or_same last p a ks)
-      | false ↦ λ f g. step_lt k (filter (is_above (Some p)) ks) (filter (is_above last) ks) (is_above (Some p) k) (is_above last k) (above_too last p k a) (fewer last p ks g)
+    elim (is_above last k) as (λ b. is_above last k ≡ b → cond b (Some k) (first_above last ks) ≡ Some p
+    → length (filter (is_above (Some p)) (k ∷ ks)) < length (filter (is_above last) (k ∷ ks))) [
+      | true ↦ λ f g. first_lt k (filter (is_above (Some p)) ks) (filter (is_above last) ks) (is_above (Some p) k)
+          (is_above last k) (ap (is_above (Some p)) (same_Some k p g) ∙ not_itself p) f (fewer_or_same last p a ks)
+      | false ↦ λ f g. step_lt k (filter (is_above (Some p)) ks) (filter (is_above last) ks)
+          (is_above (Some p) k) (is_above last k) (above_too last p k a) (fewer last p ks g)
     ] refl e
 
 rest_rises : (b c : Bool) → T (b && c) → T c
@@ -109,7 +114,8 @@ module _ {X : Type 0} where
       → first_above last (map (λ e. e.0) es) ≡ None → table.find prefix_cmp q es ≡ None
   none_past last q a [] e = refl
   none_past last q a (x ∷ es) e =
-      elim (is_above last x.0) as (λ b. is_above last x.0 ≡ b → cond b (Some x.0) (first_above last (map (λ e. e.0) es)) ≡ None → table.find prefix_cmp q (x ∷ es) ≡ None) [
+      elim (is_above last x.0)
+      as (λ b. is_above last x.0 ≡ b → cond b (Some x.0) (first_above last (map (λ e. e.0) es)) ≡ None → table.find prefix_cmp q (x ∷ es) ≡ None) [
         | true ↦ λ f g. absurd cc
         | false ↦ λ f g. miss (eq_by_cmp prefix_cmp q x.0) x.1 (table.find prefix_cmp q es) (another last q x.0 a f) (none_past last q a es g)
       ] refl e
@@ -179,7 +185,8 @@ module _ {X : Type 0} where
   pub none_left : (last : Option PrefixValue) (es : List (PrefixValue × X)) → first_above last (map (λ e. e.0) es) ≡ None → kept last es ≡ []
   none_left last [] e = refl
   none_left last (x ∷ es) e =
-      elim (is_above last x.0) as (λ b. is_above last x.0 ≡ b → cond b (Some x.0) (first_above last (map (λ e. e.0) es)) ≡ None → cond b (x ∷ kept last es) (kept last es) ≡ []) [
+      elim (is_above last x.0)
+      as (λ b. is_above last x.0 ≡ b → cond b (Some x.0) (first_above last (map (λ e. e.0) es)) ≡ None → cond b (x ∷ kept last es) (kept last es) ≡ []) [
         | true ↦ λ a f. absurd cc
         | false ↦ λ a f. none_left last es f
       ] refl e

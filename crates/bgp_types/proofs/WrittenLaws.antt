@@ -1,5 +1,6 @@
 -- A message that is written reads as itself.
-use Rattle.std.proofs.Common.{◌≡◌, ℕ, zero, suc, ◌+◌, ◌-◌, ◌*◌, ◌/◌, ◌^◌, ◌<◌, ◌≤◌, List, [], ◌∷◌, ◌++◌, length, take, map, Bool, false, cond, eqb, Option, Some, None, refl, sym, ap, ◌∙◌, arith, subst, append_assoc}
+use Rattle.std.proofs.Common.{◌≡◌, ℕ, zero, suc, ◌+◌, ◌-◌, ◌*◌, ◌/◌, ◌^◌, ◌<◌, ◌≤◌, List, [], ◌∷◌, ◌++◌, length, take, map, Bool}
+use Rattle.std.proofs.Common.{false, cond, eqb, Option, Some, None, refl, sym, ap, ◌∙◌, arith, subst, append_assoc}
 use Rattle.std.specs.Prelude.{◌&&◌, ◌||◌, not}
 use Rattle.std.specs.List.{flat_map, AllByRecursion, list_any, IsDistinct}
 use Rattle.std.specs.Int.{w32, to_be_bytes}
@@ -16,9 +17,11 @@ use Rattle.bgp_types.specs.declared.message.OpenMsg.{OpenMsg}
 use Rattle.bgp_types.specs.declared.message.Update.{Update}
 use Rattle.bgp_types.specs.declared.fault.FoundAttrs.{FoundAttrs}
 use Rattle.bgp_types.specs.Found.{found_in}
-use Rattle.bgp_types.specs.Prefixes.{PrefixValue, IsPrefix, cleared, octets_for, prefix_octets, address_of, WirePrefix, IsWirePrefix, wire_octets, prefix_said, same_prefix, once_after}
+use Rattle.bgp_types.specs.Prefixes.{PrefixValue, IsPrefix, cleared, octets_for, prefix_octets, address_of, WirePrefix}
+use Rattle.bgp_types.specs.Prefixes.{IsWirePrefix, wire_octets, prefix_said, same_prefix, once_after}
 use Rattle.bgp_types.specs.Reads.{Reads, ReadsBody, ReadsPrefixes, ReadsAttrs, ReadsUpdate, ReadsOpen, SaysAttributes}
-use Rattle.bgp_types.specs.Spelling.{cap_octets, param_octets, spell_prefixes, spell_some_attrs, spell_update, open_octets, spell_open, spell_body, kind_of, spell}
+use Rattle.bgp_types.specs.Spelling.{cap_octets, param_octets, spell_prefixes, spell_some_attrs}
+use Rattle.bgp_types.specs.Spelling.{spell_update, open_octets, spell_open, spell_body, kind_of, spell}
 use Rattle.bgp_types.specs.UpdateBody.{apart}
 use Rattle.bgp_types.specs.Values.{is_no_host}
 use Rattle.bgp_types.specs.Writable.{IsWritableOpen, HasAttrsFor, IsWritableUpdate, IsWritableBody, IsWritable}
@@ -30,8 +33,10 @@ use Rattle.bgp_types.proofs.Lengths.{framed_size, update_fields_size}
 multiple : (len a t : ℕ) → t ≤ 32 - len → cleared len a ≡ a → (m : ℕ) × (a ≡ m * 2 ^ t)
 multiple len a t le h =
     let s : ℕ = 32 - len in
-    let k : s ≡ (s - t) + t = omega arith in
-    (a / 2 ^ s * 2 ^ (s - t), sym h ∙ (ap (λ (x : ℕ). a / 2 ^ s * x) (ap (λ (y : ℕ). 2 ^ y) k ∙ pow-add 2 (s - t) t) ∙ sym (mul_assoc (a / 2 ^ s) (2 ^ (s - t)) (2 ^ t))))
+    let k : s ≡ (s - t) + t = omega arith in (
+      a / 2 ^ s * 2 ^ (s - t),
+      sym h ∙ (ap (λ (x : ℕ). a / 2 ^ s * x) (ap (λ (y : ℕ). 2 ^ y) k ∙ pow-add 2 (s - t) t) ∙ sym (mul_assoc (a / 2 ^ s) (2 ^ (s - t)) (2 ^ t))),
+    )
 
 -- the octets that are written make up the address
 same_address : (n len a : ℕ) → n ≡ octets_for len → len ≤ 32 → a < 2 ^ 32 → cleared len a ≡ a → address_of (take n (to_be_bytes w32 a)) ≡ a
@@ -50,7 +55,8 @@ wire_fits p fits = let le = fits.len in record { len = fits.len; octets = length
 
 wire_said : (p : PrefixValue) → IsPrefix p → prefix_said (wire_of p) ≡ p
 wire_said p fits =
-    ap (λ (a : ℕ). (let q : PrefixValue = record { address = cleared p.len a; len = p.len } in q)) (same_address (octets_for p.len) p.len p.address refl fits.len fits.address fits.clear)
+    ap (λ (a : ℕ). (let q : PrefixValue = record { address = cleared p.len a; len = p.len } in q))
+    (same_address (octets_for p.len) p.len p.address refl fits.len fits.address fits.clear)
     ∙ ap (λ (a : ℕ). (let q : PrefixValue = record { address = a; len = p.len } in q)) fits.clear
 
 wires_octets : (ps : List PrefixValue) → spell_prefixes ps ≡ flat_map wire_octets (map wire_of ps)
@@ -77,12 +83,14 @@ distinct_parts (x ∷ xs) ys d = let h = distinct_parts xs ys d.1 in ((front xs 
   front (z ∷ zs) ys all = (all.0, front zs ys all.1)
 
 pub same_turned : (p q : PrefixValue) → same_prefix p q ≡ same_prefix q p
-same_turned p q = both (eqb p.address q.address) (eqb q.address p.address) (eqb p.len q.len) (eqb q.len p.len) (turned p.address q.address) (turned p.len q.len) where
-  turned : (m n : ℕ) → eqb m n ≡ eqb n m
-  turned m n = grind (arith, nat_tests)
+same_turned p q =
+    both (eqb p.address q.address) (eqb q.address p.address) (eqb p.len q.len) (eqb q.len p.len) (turned p.address q.address) (turned p.len q.len)
+  where
+    turned : (m n : ℕ) → eqb m n ≡ eqb n m
+    turned m n = grind (arith, nat_tests)
 
-  both : (a b c d : Bool) → a ≡ b → c ≡ d → (a && c) ≡ (b && d)
-  both a b c d e f = cc
+    both : (a b c d : Bool) → a ≡ b → c ≡ d → (a && c) ≡ (b && d)
+    both a b c d e f = cc
 
 -- none of a list is the prefix
 none_is : (p : PrefixValue) (ps : List PrefixValue) → AllByRecursion (λ q. same_prefix p q ≡ false) ps → list_any (same_prefix p) ps ≡ false
@@ -135,7 +143,8 @@ record ReadsSome (wide : Bool) (a : Option Attrs) (nlri : List PrefixValue) : Ty
   says : SaysAttributes found a nlri
 
 some_again : (wide : Bool) (a : Option Attrs) (nlri : List PrefixValue) → HasAttrsFor a nlri → length (spell_some_attrs wide a) < 65536 → ReadsSome wide a nlri
-some_again wide None nlri h lt = record { found = found_in wide []; reads = record { attrs = []; octets = refl; each = tt; sound = tt; once = tt; says = refl }; says = h }
+some_again wide None nlri h lt =
+    record { found = found_in wide []; reads = record { attrs = []; octets = refl; each = tt; sound = tt; once = tt; says = refl }; says = h }
 some_again wide (Some a) nlri h lt = record { found = all_found a; reads = attrs_again wide a h.1 lt; says = (h.0, refl) }
 
 pub update_written : (wide : Bool) (u : Update) → IsWritableUpdate u → length (spell_update wide u) < 65536 → ReadsUpdate wide (spell_update wide u) u

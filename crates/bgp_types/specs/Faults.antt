@@ -1,5 +1,6 @@
 -- What each attribute gives, or its fault (RFC 4271, section 6.3).
-use Rattle.std.specs.Prelude.{ℕ, ◌+◌, ◌==◌, List, [], ◌∷◌, ◌++◌, length, take, drop, get_or, Option, Some, None, Result, Ok, Err, Bool, not, bit_and, if◌then◌else◌, is_some}
+use Rattle.std.specs.Prelude.{ℕ, ◌+◌, ◌==◌, List, [], ◌∷◌, ◌++◌, length, take, drop, get_or, Option, Some}
+use Rattle.std.specs.Prelude.{None, Result, Ok, Err, Bool, not, bit_and, if◌then◌else◌, is_some}
 use Rattle.std.specs.Int.{w32, from_be_bytes, byte_len}
 use Rattle.bgp_types.specs.declared.attrs.Aggregator.{Aggregator}
 use Rattle.bgp_types.specs.declared.attrs.Origin.{Origin}

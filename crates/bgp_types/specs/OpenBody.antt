@@ -1,5 +1,6 @@
 -- The body of an OPEN (RFC 4271, sections 4.2 and 6.2; RFC 5492, section 4; RFC 6793, section 4.1).
-use Rattle.std.specs.Prelude.{ℕ, ◌==◌, List, [], ◌∷◌, ◌++◌, length, take, drop, get_or, Option, Some, None, Result, Ok, Err, Bool, not, nat_lt, ◌&&◌, if◌then◌else◌}
+use Rattle.std.specs.Prelude.{ℕ, ◌==◌, List, [], ◌∷◌, ◌++◌, length, take, drop, get_or, Option, Some}
+use Rattle.std.specs.Prelude.{None, Result, Ok, Err, Bool, not, nat_lt, ◌&&◌, if◌then◌else◌}
 use Rattle.std.specs.Int.{w16, w32, from_be_bytes}
 use Rattle.bgp_types.specs.declared.fault.Expected.{Expected}
 use Rattle.bgp_types.specs.declared.message.Cap.{Cap}

@@ -1,5 +1,6 @@
 -- Prefixes of addresses (RFC 4271, section 4.3).
-use Rattle.std.specs.Prelude.{map, [], ◌++◌, ◌==◌, ◌||◌, ◌&&◌, length, drop, Option, Some, None, Bool, nat_lt, if◌then◌else◌, ◌≡◌, ℕ, ◌+◌, ◌-◌, ◌*◌, ◌/◌, ◌^◌, ◌<◌, ◌≤◌, List, ◌∷◌, take, Contains, ◌↔◌}
+use Rattle.std.specs.Prelude.{map, [], ◌++◌, ◌==◌, ◌||◌, ◌&&◌, length, drop, Option, Some, None, Bool, nat_lt}
+use Rattle.std.specs.Prelude.{if◌then◌else◌, ◌≡◌, ℕ, ◌+◌, ◌-◌, ◌*◌, ◌/◌, ◌^◌, ◌<◌, ◌≤◌, List, ◌∷◌, take, Contains, ◌↔◌}
 use Rattle.std.specs.Int.{w32, from_be_bytes, to_be_bytes}
 use Rattle.std.specs.List.{list_any, position_or_len, IsDistinct}
 use Rattle.std.specs.Option.{option_map}

@@ -45,7 +45,15 @@ pub record ReadsAttrs (wide : Bool) (field : List ℕ) (found : FoundAttrs) : Ty
 -- an announcement has an origin, a path and a next hop; without one the attributes are dropped
 abbrev pub SaysAttributes : FoundAttrs → Option Attrs → List PrefixValue → Type 0
 SaysAttributes found None nlri = nlri ≡ []
-SaysAttributes found (Some a) nlri = (nlri ≢ []) × (found ≡ record { origin = Some a.origin; path = Some a.path; next_hop = Some a.next_hop; med = a.med; atomic = a.atomic; aggregator = a.aggregator; unknown = a.unknown })
+SaysAttributes found (Some a) nlri = (nlri ≢ []) × (found ≡ record {
+  origin = Some a.origin;
+  path = Some a.path;
+  next_hop = Some a.next_hop;
+  med = a.med;
+  atomic = a.atomic;
+  aggregator = a.aggregator;
+  unknown = a.unknown;
+})
 
 -- ---- messages
 

@@ -51,7 +51,8 @@ aggregator_octets wide as_number address = to_be_bytes (as_width wide) as_number
 
 abbrev pub aggregator_written : Bool → Option Aggregator → List WireAttr
 aggregator_written wide None = []
-aggregator_written wide (Some a) = written (passed_flags a.partial) 7 (aggregator_octets wide (if wide then a.as_number else narrow_as a.as_number) a.address) ∷ []
+aggregator_written wide (Some a) =
+    written (passed_flags a.partial) 7 (aggregator_octets wide (if wide then a.as_number else narrow_as a.as_number) a.address) ∷ []
 
 -- AS4_PATH with the whole path, in a narrow message whose path has an AS that doesn't fit into two octets
 abbrev pub as4_path_written : Bool → List PathPart → List WireAttr

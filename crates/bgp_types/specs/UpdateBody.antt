@@ -35,7 +35,8 @@ abbrev pub with_known : Option Origin → Option (List PathPart) → Option ℕ 
 with_known None path next_hop found = Err (about 3 (1 ∷ []))
 with_known (Some o) None next_hop found = Err (about 3 (2 ∷ []))
 with_known (Some o) (Some p) None found = Err (about 3 (3 ∷ []))
-with_known (Some o) (Some p) (Some n) found = Ok (record { origin = o; path = p; next_hop = n; med = found.med; atomic = found.atomic; aggregator = found.aggregator; unknown = found.unknown })
+with_known (Some o) (Some p) (Some n) found =
+    Ok (record { origin = o; path = p; next_hop = n; med = found.med; atomic = found.atomic; aggregator = found.aggregator; unknown = found.unknown })
 
 unfoldable pub all_known : FoundAttrs → Result Attrs Notice
 all_known found = with_known found.origin found.path found.next_hop found

@@ -50,7 +50,8 @@ pub fn reads_once()
 /// A session takes a message from octets that are a whole frame with a sound header if and only if they
 /// read as that message in the session's width of AS numbers and the session expects it.
 pub fn reads_exactly()
-    ensures { (frame : List ℕ) (expected : Expected) (message : Message) → AreOctets frame → ((frame_at frame ≡ Some (frame, [])) × (message_of expected frame ≡ Ok message)) ↔ (Reads frame message expected.wide × IsExpected expected message) }
+    ensures { (frame : List ℕ) (expected : Expected) (message : Message) → AreOctets frame
+        → ((frame_at frame ≡ Some (frame, [])) × (message_of expected frame ≡ Ok message)) ↔ (Reads frame message expected.wide × IsExpected expected message) }
 {}
 
 /// A message that is writable in a width of AS numbers has a written form that reads as itself.
@@ -60,5 +61,6 @@ pub fn written_reads()
 
 /// The NOTIFICATION that answers a fault is writable in both widths of AS numbers: its data fits.
 pub fn fault_is_writable()
-    ensures { (frame : List ℕ) (expected : Expected) (notice : Notice) (wide : Bool) → first_fault frame expected ≡ Some notice → IsWritable (NoticeMsg notice) wide }
+    ensures { (frame : List ℕ) (expected : Expected) (notice : Notice) (wide : Bool)
+        → first_fault frame expected ≡ Some notice → IsWritable (NoticeMsg notice) wide }
 {}

@@ -6,7 +6,8 @@ ghost use Rattle.bgp_types.specs.Lengths.{prefix_size, part_size, cap_size, attr
 ghost use Rattle.bgp_types.specs.PathOctets.{has_long_as, is_long_as};
 ghost use Rattle.bgp_types.specs.Paths.{ases_of};
 ghost use Rattle.bgp_types.specs.declared.message.Message.TheVariants.{UpdateMsg};
-ghost use Rattle.bgp_types.specs.Spelling.{med_written, atomic_written, aggregator_written, as4_path_written, as4_aggregator_written, spell, spell_attrs, spell_some_attrs};
+ghost use Rattle.bgp_types.specs.Spelling.{med_written, atomic_written, aggregator_written, as4_path_written};
+ghost use Rattle.bgp_types.specs.Spelling.{as4_aggregator_written, spell, spell_attrs, spell_some_attrs};
 
 use crate::as_number::{as_size, has_long_as, is_long_as};
 use crate::attrs::{Aggregator, Attrs, RawAttr};
@@ -182,7 +183,8 @@ fn some_attrs_len(attrs: Option<&Attrs>, wide: bool) -> usize
 /// `message_len` does. It allocates nothing.
 #[tactic(auto, using(crate::proofs::Lengths::update_size))]
 pub fn update_len(withdrawn: &[Prefix], attrs: Option<&Attrs>, nlri: &[Prefix], wide: bool) -> usize
-    ensures { result ≡ min (length (spell (UpdateMsg (record { withdrawn = withdrawn.now; attrs = option_copied attrs.entry; nlri = nlri.now })) wide)) (2 ^ 64 - 1) }
+    ensures { result
+        ≡ min (length (spell (UpdateMsg (record { withdrawn = withdrawn.now; attrs = option_copied attrs.entry; nlri = nlri.now })) wide)) (2 ^ 64 - 1) }
 {
     prefixes_len(withdrawn)
         .saturating_add(some_attrs_len(attrs, wide))

@@ -1,5 +1,6 @@
 -- Parameters and capabilities, read one after another.
-use Rattle.std.proofs.Common.{◌≡◌, ℕ, ◌<◌, List, [], ◌∷◌, ◌++◌, length, drop, Bool, true, false, cond, eqb, ltb, Option, Some, None, Result, Ok, Err, refl, sym, ap, subst, ◌∙◌, arith, append_assoc, length-drop}
+use Rattle.std.proofs.Common.{◌≡◌, ℕ, ◌<◌, List, [], ◌∷◌, ◌++◌, length, drop, Bool, true, false, cond, eqb, ltb, Option, Some}
+use Rattle.std.proofs.Common.{None, Result, Ok, Err, refl, sym, ap, subst, ◌∙◌, arith, append_assoc, length-drop}
 use Rattle.std.specs.Prelude.{is_some}
 use Rattle.std.proofs.lemmas.List.{append-nil}
 use Rattle.std.proofs.lemmas.Option.{same_Some}
@@ -36,7 +37,8 @@ pub begins : (octets : List ℕ) → SoFar octets octets
 begins octets = record { before = []; cut = refl }
 
 pub goes_on : (octets rest : List ℕ) (cap : Cap) (later : List ℕ) → SoFar octets rest → cap_at rest ≡ Some (cap, later) → SoFar octets later
-goes_on octets rest cap later s e = record { before = s.before ++ cap ∷ []; cut = after_more cap_at cap_shortens s.before rest (cap, later) (many cap_at octets) e s.cut }
+goes_on octets rest cap later s e =
+    record { before = s.before ++ cap ∷ []; cut = after_more cap_at cap_shortens s.before rest (cap, later) (many cap_at octets) e s.cut }
 
 pub stops_short : (octets rest : List ℕ) → SoFar octets rest → cap_at rest ≡ None → 0 < length rest → all_of cap_at octets ≡ None
 stops_short octets rest s e lt = stopped cap_at s.before rest (many cap_at octets) e lt s.cut
@@ -103,7 +105,8 @@ pub other_type : (params rest : List ℕ) (caps : List Cap) (param : Cap) (later
     → cap_at rest ≡ Some (param, later) → eqb param.code 2 ≡ false → fault_in (with_params (all_of cap_at params)) ≡ Some (open_fault 4)
 unfolding caps_of
 other_type params rest caps param later r e code =
-    let first : caps_of (many cap_at rest).0 ≡ Err (open_fault 4) = ap (λ (m : List Cap × List ℕ). caps_of m.0) (front_is rest param later e) ∙ not_eq (eqb param.code 2) (with_caps (all_of cap_at param.bytes) (caps_of (many cap_at later).0)) (open_fault 4) code in
+    let first : caps_of (many cap_at rest).0 ≡ Err (open_fault 4) = ap (λ (m : List Cap × List ℕ). caps_of m.0) (front_is rest param later e)
+    ∙ not_eq (eqb param.code 2) (with_caps (all_of cap_at param.bytes) (caps_of (many cap_at later).0)) (open_fault 4) code in
     ap fault_in (sym r.result ∙ ap (caps_after caps) first)
 
 front_caps : (rest : List ℕ) (param : Cap) (later : List ℕ) → cap_at rest ≡ Some (param, later) → eqb param.code 2 ≡ true
@@ -111,7 +114,8 @@ front_caps : (rest : List ℕ) (param : Cap) (later : List ℕ) → cap_at rest 
 unfolding caps_of
 front_caps rest param later e code =
     ap (λ (m : List Cap × List ℕ). caps_of m.0) (front_is rest param later e)
-    ∙ ap (λ (b : Bool). (let s : Result (List Cap) Notice = cond b (with_caps (all_of cap_at param.bytes) (caps_of (many cap_at later).0)) (Err (open_fault 4)) in s)) code
+    ∙ ap (λ (b : Bool).
+    (let s : Result (List Cap) Notice = cond b (with_caps (all_of cap_at param.bytes) (caps_of (many cap_at later).0)) (Err (open_fault 4)) in s)) code
 
 pub caps_fail : (params rest : List ℕ) (caps : List Cap) (param : Cap) (later : List ℕ) (stop : CodecFault) → Reading params rest caps
     → cap_at rest ≡ Some (param, later) → eqb param.code 2 ≡ true → Stops stop (caps_fault (all_of cap_at param.bytes))
@@ -134,7 +138,8 @@ reads_one params rest caps param later caps' r e code added = record {
 } where
   joined : (o : Option (List Cap)) (later : Result (List Cap) Notice) → AddsCaps caps caps' o → caps_after caps' later ≡ caps_after caps (with_caps o later)
   joined None later a = absurd a
-  joined (Some more) (Ok others) a = ap (λ (xs : List Cap). (let r : Result (List Cap) Notice = Ok (xs ++ others) in r)) a ∙ ap (λ (xs : List Cap). (let r : Result (List Cap) Notice = Ok xs in r)) (append_assoc caps more others)
+  joined (Some more) (Ok others) a = ap (λ (xs : List Cap). (let r : Result (List Cap) Notice = Ok (xs ++ others) in r)) a
+      ∙ ap (λ (xs : List Cap). (let r : Result (List Cap) Notice = Ok xs in r)) (append_assoc caps more others)
   joined (Some more) (Err n) a = refl
 
 pub reads_all : (params rest : List ℕ) (caps : List Cap) → Reading params rest caps → cap_at rest ≡ None → with_params (all_of cap_at params) ≡ Ok caps

@@ -1,5 +1,6 @@
 -- How long a frame of a type is, and how long the fields of a message are.
-use Rattle.std.proofs.Common.{◌≡◌, ℕ, ◌+◌, ◌<◌, ◌≤◌, List, [], ◌∷◌, ◌++◌, length, take, drop, Bool, true, false, cond, eqb, Option, Some, None, ap, arith, subst, length-append, length-drop}
+use Rattle.std.proofs.Common.{◌≡◌, ℕ, ◌+◌, ◌<◌, ◌≤◌, List, [], ◌∷◌, ◌++◌, length, take, drop, Bool, true, false, cond}
+use Rattle.std.proofs.Common.{eqb, Option, Some, None, ap, arith, subst, length-append, length-drop}
 use Rattle.std.specs.Prelude.{All}
 use Rattle.std.specs.List.{list_all, flat_map, AllByRecursion}
 use Rattle.std.proofs.lemmas.Bool.Decides.{nat_tests}
@@ -47,7 +48,12 @@ sound_is frame e =
     let back = f.2 in
     let same : len_in frame ≡ length frame = omega arith in
     let room : has_room (kind_in frame) (length frame) ≡ true = subst (λ (n : ℕ). has_room (kind_in frame) n ≡ true) same (sound_room frame f.1) in
-    record { long = f.0; header = f.1; open_long = open_room (kind_in frame) (length frame) room; notice_long = notice_room (kind_in frame) (length frame) room }
+    record {
+      long = f.0;
+      header = f.1;
+      open_long = open_room (kind_in frame) (length frame) room;
+      notice_long = notice_room (kind_in frame) (length frame) room;
+    }
 
 -- ---- fields of a message that is written
 
@@ -77,7 +83,8 @@ caps_below : (caps : List Cap) → length (flat_map (λ cap. param_octets (cap_o
 caps_below [] lt = tt
 caps_below (cap ∷ caps) lt =
     let rest : List ℕ = flat_map (λ (c : Cap). param_octets (cap_octets c)) caps in
-    let all : length (param_octets (cap_octets cap) ++ rest) ≡ length (param_octets (cap_octets cap)) + length rest = length-append (param_octets (cap_octets cap)) rest in
+    let all : length (param_octets (cap_octets cap) ++ rest) ≡ length (param_octets (cap_octets cap)) + length rest =
+    length-append (param_octets (cap_octets cap)) rest in
     (omega arith, caps_below caps (omega arith))
 
 pub each_below : (caps : List Cap) → length (flat_map (λ cap. param_octets (cap_octets cap)) caps) < 256 → All (λ (cap : Cap). length cap.bytes + 2 < 256) caps

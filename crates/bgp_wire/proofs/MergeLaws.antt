@@ -1,5 +1,6 @@
 -- The parts of a path that is merged with that of AS4_PATH.
-use Rattle.std.proofs.Common.{◌≡◌, ℕ, ◌+◌, ◌-◌, ◌^◌, ◌<◌, List, [], ◌∷◌, ◌++◌, length, Bool, true, false, cond, eqb, ltb, leb, refl, arith, length-append, length-take}
+use Rattle.std.proofs.Common.{◌≡◌, ℕ, ◌+◌, ◌-◌, ◌^◌, ◌<◌, List, [], ◌∷◌, ◌++◌, length, Bool, true, false}
+use Rattle.std.proofs.Common.{cond, eqb, ltb, leb, refl, arith, length-append, length-take}
 use Rattle.std.specs.List.{AllByRecursion}
 use Rattle.std.proofs.lemmas.Bool.{leb-true}
 use Rattle.std.proofs.lemmas.Bool.Decides.{nat_tests}
@@ -39,8 +40,14 @@ joined_is xs ys p q = by_test (leb (length xs + length ys) 255) refl where
   by_test : (t : Bool) → leb (length xs + length ys) 255 ≡ t → Parts (cond t (parts.Sequence (xs ++ ys) ∷ []) (parts.Sequence xs ∷ parts.Sequence ys ∷ []))
   by_test true e =
       let few = leb-true _ _ e in
-      let some = p.some in
-      (record { some = omega (arith, length-append xs ys); count = omega (arith, length-append xs ys); each = All-append (λ n. n < 2 ^ 32) xs ys p.each q.each }, tt)
+      let some = p.some in (
+        record {
+          some = omega (arith, length-append xs ys);
+          count = omega (arith, length-append xs ys);
+          each = All-append (λ n. n < 2 ^ 32) xs ys p.each q.each;
+        },
+        tt,
+      )
   by_test false e = (p, (q, tt))
 
 join_is : (one other : PathPart) → IsPart one → IsPart other → Parts (join_parts one other)

@@ -24,7 +24,8 @@ no_octets (suc (suc (suc (suc i)))) = omega arith
 said_is : (w : WirePrefix) → IsWirePrefix w → AreOctets w.octets → IsPrefix (prefix_said w)
 said_is w fits octets =
     let address : ℕ = address_of w.octets in
-    let below : address < 2 ^ 32 = wide32.below (w.octets ++ drop (length w.octets) (0 ∷ 0 ∷ 0 ∷ 0 ∷ [])) (AreOctets-append w.octets _ octets (AreOctets-drop (length w.octets) (0 ∷ 0 ∷ 0 ∷ 0 ∷ []) no_octets)) in
+    let below : address < 2 ^ 32 = wide32.below (w.octets ++ drop (length w.octets) (0 ∷ 0 ∷ 0 ∷ 0 ∷ []))
+    (AreOctets-append w.octets _ octets (AreOctets-drop (length w.octets) (0 ∷ 0 ∷ 0 ∷ 0 ∷ []) no_octets)) in
     IsPrefix-prefix_of w.len address fits.len below
 
 all_said : (ws : List WirePrefix) → AreOctets (flat_map wire_octets ws) → AllByRecursion IsWirePrefix ws → AllByRecursion IsPrefix (map prefix_said ws)
@@ -71,7 +72,11 @@ apart_distinct (p ∷ ps) nlri d e = by_test (list_any (same_prefix p) nlri) ref
   by_test : (t : Bool) → list_any (same_prefix p) nlri ≡ t → IsDistinct same_prefix (apart ps nlri ++ nlri)
       → IsDistinct same_prefix (cond (not t) (p ∷ apart ps nlri) (apart ps nlri) ++ nlri)
   by_test true f rest = rest
-  by_test false f rest = (all_joined (λ q. same_prefix p q ≡ false) (apart ps nlri) nlri (all_kept (λ q. same_prefix p q ≡ false) (λ q. not (list_any (same_prefix q) nlri)) ps d.0) (unlike_any p nlri f), rest)
+  by_test false f rest = (
+    all_joined (λ q. same_prefix p q ≡ false) (apart ps nlri) nlri
+        (all_kept (λ q. same_prefix p q ≡ false) (λ q. not (list_any (same_prefix q) nlri)) ps d.0) (unlike_any p nlri f),
+    rest,
+  )
 
 -- what an UPDATE's prefixes are
 pub record AreApart (ps qs : List PrefixValue) : Type 0 where

@@ -17,11 +17,15 @@ pub begins : (field : List ℕ) (prefixes : List PrefixValue) → prefixes ≡ [
 begins field prefixes e = record { said = ap (λ (ps : List PrefixValue). once_after ps (map prefix_said (many prefix_at field).0)) e; left = refl }
 
 some_front : (o : Option (WirePrefix × List ℕ)) (p : PrefixValue) (later : List ℕ)
-    → option_map (λ (x : WirePrefix × List ℕ). (let y : PrefixValue × List ℕ = (prefix_said x.0, x.1) in y)) o ≡ Some (p, later) → (w : WirePrefix) × (o ≡ Some (w, later)) × (prefix_said w ≡ p)
+    → option_map (λ (x : WirePrefix × List ℕ). (let y : PrefixValue × List ℕ = (prefix_said x.0, x.1) in y)) o ≡ Some (p, later)
+    → (w : WirePrefix) × (o ≡ Some (w, later)) × (prefix_said w ≡ p)
 some_front None p later e = absurd cc
 some_front (Some x) p later e =
-    let s = same_Some (prefix_said x.0, x.1) (p, later) e in
-    (x.0, ap (λ (b : List ℕ). (let o : Option (WirePrefix × List ℕ) = Some (x.0, b) in o)) (ap (λ (y : PrefixValue × List ℕ). y.1) s), ap (λ (y : PrefixValue × List ℕ). y.0) s)
+    let s = same_Some (prefix_said x.0, x.1) (p, later) e in (
+      x.0,
+      ap (λ (b : List ℕ). (let o : Option (WirePrefix × List ℕ) = Some (x.0, b) in o)) (ap (λ (y : PrefixValue × List ℕ). y.1) s),
+      ap (λ (y : PrefixValue × List ℕ). y.0) s,
+    )
 
 none_front : (o : Option (WirePrefix × List ℕ))
     → option_map (λ (x : WirePrefix × List ℕ). (let y : PrefixValue × List ℕ = (prefix_said x.0, x.1) in y)) o ≡ None → o ≡ None
@@ -54,7 +58,8 @@ pub stops : (field rest : List ℕ) (prefixes : List PrefixValue) → Reading fi
     → prefixes_of field ≡ None
 unfolding prefixes_of
 stops field rest prefixes s e lt =
-    let last : rest ≡ (many prefix_at field).1 = sym (ap (λ (m : List WirePrefix × List ℕ). m.1) (many_none prefix_at rest (none_front (prefix_at rest) e))) ∙ s.left in
+    let last : rest ≡ (many prefix_at field).1 =
+    sym (ap (λ (m : List WirePrefix × List ℕ). m.1) (many_none prefix_at rest (none_front (prefix_at rest) e))) ∙ s.left in
     ap (λ (y : List ℕ). all_said ((many prefix_at field).0, y)) (sym last) ∙ not_whole (many prefix_at field).0 rest lt
 
 pub ends : (field rest : List ℕ) (prefixes : List PrefixValue) → Reading field rest prefixes → length rest ≡ 0 → prefixes_of field ≡ Some prefixes
@@ -63,5 +68,6 @@ ends field (b ∷ rest) prefixes s e = absurd (omega arith)
 ends field [] prefixes s e =
     let cut : many prefix_at [] ≡ ([], []) = many_none prefix_at [] no_prefix in
     let left : (many prefix_at field).1 ≡ [] = sym s.left ∙ ap (λ (m : List WirePrefix × List ℕ). m.1) cut in
-    let said : once_after [] (map prefix_said (many prefix_at field).0) ≡ prefixes = sym s.said ∙ ap (λ (m : List WirePrefix × List ℕ). once_after prefixes (map prefix_said m.0)) cut in
+    let said : once_after [] (map prefix_said (many prefix_at field).0) ≡ prefixes =
+    sym s.said ∙ ap (λ (m : List WirePrefix × List ℕ). once_after prefixes (map prefix_said m.0)) cut in
     ap (λ (y : List ℕ). all_said ((many prefix_at field).0, y)) left ∙ ap (λ (ps : List PrefixValue). (let o : Option (List PrefixValue) = Some ps in o)) said

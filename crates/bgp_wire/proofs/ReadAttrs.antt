@@ -1,5 +1,6 @@
 -- Attributes that a frame reads as can be written.
-use Rattle.std.proofs.Common.{◌≡◌, ℕ, ◌+◌, ◌^◌, ◌<◌, List, [], ◌∷◌, length, take, drop, Bool, true, false, cond, eqb, Option, Some, None, Result, Ok, Err, refl, sym, ap, ◌∙◌, subst, arith}
+use Rattle.std.proofs.Common.{◌≡◌, ℕ, ◌+◌, ◌^◌, ◌<◌, List, [], ◌∷◌, length, take, drop, Bool, true, false, cond, eqb}
+use Rattle.std.proofs.Common.{Option, Some, None, Result, Ok, Err, refl, sym, ap, ◌∙◌, subst, arith}
 use Rattle.std.specs.Prelude.{◌≢◌, bit_and, IfSome, ◌&&◌}
 use Rattle.std.specs.List.{flat_map, AllByRecursion}
 use Rattle.std.specs.Int.{w32, byte_len, from_be_bytes, to_be_bytes}
@@ -11,7 +12,8 @@ use Rattle.bgp_types.specs.declared.fault.FoundAttrs.{FoundAttrs}
 use Rattle.bgp_types.specs.declared.message.Notice.{Notice}
 use Rattle.bgp_types.specs.declared.path.PathPart.{PathPart}
 use Rattle.bgp_types.specs.declared.path.PathPart.TheVariants as parts
-use Rattle.bgp_types.specs.Faults.{ok_in, about, or_fault, with_flags, with_size, host_in, path_in, next_hop_in, med_in, aggregator_in, aggregator_of, is_transitive, kept_raw, attr_of, bare}
+use Rattle.bgp_types.specs.Faults.{ok_in, about, or_fault, with_flags, with_size, host_in, path_in, next_hop_in, med_in}
+use Rattle.bgp_types.specs.Faults.{aggregator_in, aggregator_of, is_transitive, kept_raw, attr_of, bare}
 use Rattle.bgp_types.specs.Found.{said, if_some_part, as4_path_in, as4_aggregator_in, unless_wide, join, kept, found_in}
 use Rattle.bgp_types.specs.Merge.{merged_aggregator, is_stale, path_with}
 use Rattle.bgp_types.specs.OctetLists.{AreOctets}
@@ -93,10 +95,12 @@ path_parts wide value octets = by_answer (path_of wide value) refl where
 
 path_said : (wide : Bool) (a : WireAttr) → IsCut a → Where Parts (ok_in (path_in wide a))
 unfolding path_in
-path_said wide a cut = of_flags Parts 64 a (or_fault (path_of wide a.value) (bare 11)) (by_answer (path_of wide a.value) (path_parts wide a.value cut.octets)) where
-  by_answer : (o : Option (List PathPart)) → Where Parts o → Where Parts (ok_in (or_fault o (bare 11)))
-  by_answer None p = tt
-  by_answer (Some path) p = p
+path_said wide a cut =
+    of_flags Parts 64 a (or_fault (path_of wide a.value) (bare 11)) (by_answer (path_of wide a.value) (path_parts wide a.value cut.octets))
+  where
+    by_answer : (o : Option (List PathPart)) → Where Parts o → Where Parts (ok_in (or_fault o (bare 11)))
+    by_answer None p = tt
+    by_answer (Some path) p = p
 
 as4_said : (o : Option WireAttr) → Where IsCut o → Where Parts (as4_path_in o)
 as4_said None cut = tt
@@ -128,24 +132,31 @@ IsHost address = is_no_host address ≡ false
 
 host_said : (a : WireAttr) → Where IsHost (ok_in (next_hop_in a))
 unfolding next_hop_in
-host_said a = of_flags IsHost 64 a (with_size 4 a (host_in a (from_be_bytes w32 a.value))) (of_size IsHost 4 a (host_in a (from_be_bytes w32 a.value)) (by_test (is_no_host (from_be_bytes w32 a.value)) refl)) where
-  by_test : (t : Bool) → is_no_host (from_be_bytes w32 a.value) ≡ t
-      → Where IsHost (ok_in (let r : Result ℕ Notice = cond t (Err (about 8 (attr_octets a))) (Ok (from_be_bytes w32 a.value)) in r))
-  by_test true e = tt
-  by_test false e = e
+host_said a = of_flags IsHost 64 a (with_size 4 a (host_in a (from_be_bytes w32 a.value)))
+    (of_size IsHost 4 a (host_in a (from_be_bytes w32 a.value)) (by_test (is_no_host (from_be_bytes w32 a.value)) refl))
+  where
+    by_test : (t : Bool) → is_no_host (from_be_bytes w32 a.value) ≡ t
+        → Where IsHost (ok_in (let r : Result ℕ Notice = cond t (Err (about 8 (attr_octets a))) (Ok (from_be_bytes w32 a.value)) in r))
+    by_test true e = tt
+    by_test false e = e
 
 med_said : (a : WireAttr) → IsCut a → Where (λ n. n < 2 ^ 32) (ok_in (med_in a))
 unfolding med_in
-med_said a cut = of_flags (λ n. n < 2 ^ 32) 128 a (with_size 4 a (Ok (from_be_bytes w32 a.value))) (of_size (λ n. n < 2 ^ 32) 4 a (Ok (from_be_bytes w32 a.value)) (wide32.below a.value cut.octets))
+med_said a cut = of_flags (λ n. n < 2 ^ 32) 128 a (with_size 4 a (Ok (from_be_bytes w32 a.value)))
+    (of_size (λ n. n < 2 ^ 32) 4 a (Ok (from_be_bytes w32 a.value)) (wide32.below a.value cut.octets))
 
 aggregator_is : (wide : Bool) (a : WireAttr) → IsCut a → IsAggregator (aggregator_of wide a)
 aggregator_is wide a cut =
     let size : ℕ = byte_len (as_width wide) in
-    record { as_number = in_four wide _ ((wide_as wide).below (take size a.value) (AreOctets-take size a.value cut.octets)); address = wide32.below (drop size a.value) (AreOctets-drop size a.value cut.octets) }
+    record {
+      as_number = in_four wide _ ((wide_as wide).below (take size a.value) (AreOctets-take size a.value cut.octets));
+      address = wide32.below (drop size a.value) (AreOctets-drop size a.value cut.octets);
+    }
 
 aggregator_said : (wide : Bool) (a : WireAttr) → IsCut a → Where IsAggregator (ok_in (aggregator_in wide a))
 unfolding aggregator_in
-aggregator_said wide a cut = of_flags IsAggregator 192 a (with_size (byte_len (as_width wide) + 4) a (Ok (aggregator_of wide a))) (of_size IsAggregator (byte_len (as_width wide) + 4) a (Ok (aggregator_of wide a)) (aggregator_is wide a cut))
+aggregator_said wide a cut = of_flags IsAggregator 192 a (with_size (byte_len (as_width wide) + 4) a (Ok (aggregator_of wide a)))
+    (of_size IsAggregator (byte_len (as_width wide) + 4) a (Ok (aggregator_of wide a)) (aggregator_is wide a cut))
 
 as4_aggregator_said : (o : Option WireAttr) → Where IsCut o → Where IsAggregator (as4_aggregator_in o)
 as4_aggregator_said None cut = tt
@@ -181,15 +192,17 @@ kept_unlike kind (a ∷ attrs) all = by_test (is_other a.kind) (kept_raw a) refl
 
 others_are : (attrs : List WireAttr) → AllByRecursion IsCut attrs → Differ wire_kind attrs → AreOthers attrs
 others_are [] cut differ = record { each = tt; differ = tt }
-others_are (a ∷ attrs) cut differ = let both = by_test (is_other a.kind) refl (kept_raw a) refl (others_are attrs cut.1 differ.1) in record { each = both.0; differ = both.1 } where
-  by_test : (t : Bool) → is_other a.kind ≡ t → (o : Option RawAttr) → kept_raw a ≡ o → AreOthers attrs
-      → AllByRecursion IsOther (cond t (join o (kept attrs)) (kept attrs)) × Differ other_kind (cond t (join o (kept attrs)) (kept attrs))
-  by_test true e None f rest = (rest.each, rest.differ)
-  by_test true e (Some r) f rest =
-      let k : other_kind r ≡ a.kind = kept_kind a r f in
-      let other : IsOther r = record { other = ap is_other k ∙ e; kind = subst (λ n. n < 256) (sym k) cut.0.kind } in
-      ((other, rest.each), (subst (λ n. AllByRecursion (λ s. other_kind s ≢ n) (kept attrs)) (sym k) (kept_unlike a.kind attrs differ.0), rest.differ))
-  by_test false e o f rest = (rest.each, rest.differ)
+others_are (a ∷ attrs) cut differ =
+    let both = by_test (is_other a.kind) refl (kept_raw a) refl (others_are attrs cut.1 differ.1) in record { each = both.0; differ = both.1 }
+  where
+    by_test : (t : Bool) → is_other a.kind ≡ t → (o : Option RawAttr) → kept_raw a ≡ o → AreOthers attrs
+        → AllByRecursion IsOther (cond t (join o (kept attrs)) (kept attrs)) × Differ other_kind (cond t (join o (kept attrs)) (kept attrs))
+    by_test true e None f rest = (rest.each, rest.differ)
+    by_test true e (Some r) f rest =
+        let k : other_kind r ≡ a.kind = kept_kind a r f in
+        let other : IsOther r = record { other = ap is_other k ∙ e; kind = subst (λ n. n < 256) (sym k) cut.0.kind } in
+        ((other, rest.each), (subst (λ n. AllByRecursion (λ s. other_kind s ≢ n) (kept attrs)) (sym k) (kept_unlike a.kind attrs differ.0), rest.differ))
+    by_test false e o f rest = (rest.each, rest.differ)
 
 -- ---- all of them
 
@@ -211,10 +224,12 @@ found_good wide attrs cut differ =
     let as4 : Option Aggregator = unless_wide wide (as4_aggregator_in (attr_of 18 attrs)) in
     record {
       path = of_merge (is_stale aggregator as4) (said (path_in wide) (attr_of 2 attrs)) (unless_wide wide (as4_path_in (attr_of 17 attrs)))
-          (of_said Parts (path_in wide) (attr_of 2 attrs) (at 2) (path_said wide)) (of_width Parts wide (as4_path_in (attr_of 17 attrs)) (as4_said (attr_of 17 attrs) (at 17)));
+          (of_said Parts (path_in wide) (attr_of 2 attrs) (at 2) (path_said wide))
+          (of_width Parts wide (as4_path_in (attr_of 17 attrs)) (as4_said (attr_of 17 attrs) (at 17)));
       next_hop = of_said IsHost next_hop_in (attr_of 3 attrs) (at 3) (λ a cut. host_said a);
       med = of_said (λ n. n < 2 ^ 32) med_in (attr_of 4 attrs) (at 4) med_said;
-      aggregator = of_merged aggregator as4 (of_said IsAggregator (aggregator_in wide) (attr_of 7 attrs) (at 7) (aggregator_said wide)) (of_width IsAggregator wide (as4_aggregator_in (attr_of 18 attrs)) (as4_aggregator_said (attr_of 18 attrs) (at 18)));
+      aggregator = of_merged aggregator as4 (of_said IsAggregator (aggregator_in wide) (attr_of 7 attrs) (at 7) (aggregator_said wide))
+          (of_width IsAggregator wide (as4_aggregator_in (attr_of 18 attrs)) (as4_aggregator_said (attr_of 18 attrs) (at 18)));
       unknown = all_rising IsOther other_kind (kept attrs) others.each;
       rising = rising_of other_kind (kept attrs) others.differ;
     }

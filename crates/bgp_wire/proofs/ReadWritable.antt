@@ -27,7 +27,8 @@ update_is : (wide : Bool) (body : List ℕ) (u : Update) → AreOctets body → 
 update_is wide body u octets r =
     let all : AreOctets (length_prefixed r.withdrawn ++ (length_prefixed r.attrs ++ r.nlri)) = subst AreOctets r.fields octets in
     let rest : AreOctets (length_prefixed r.attrs ++ r.nlri) = AreOctets-back (length_prefixed r.withdrawn) (length_prefixed r.attrs ++ r.nlri) all in
-    let withdrawn : AreOctets r.withdrawn = AreOctets-back (to_be_bytes w16 (length r.withdrawn)) r.withdrawn (AreOctets-front (length_prefixed r.withdrawn) (length_prefixed r.attrs ++ r.nlri) all) in
+    let withdrawn : AreOctets r.withdrawn = AreOctets-back (to_be_bytes w16 (length r.withdrawn)) r.withdrawn
+    (AreOctets-front (length_prefixed r.withdrawn) (length_prefixed r.attrs ++ r.nlri) all) in
     let attrs : AreOctets r.attrs = AreOctets-back (to_be_bytes w16 (length r.attrs)) r.attrs (AreOctets-front (length_prefixed r.attrs) r.nlri rest) in
     let nlri : AreOctets r.nlri = AreOctets-back (length_prefixed r.attrs) r.nlri rest in
     let prefixes = apart_is r.prefixes u.nlri (read_is r.withdrawn r.prefixes withdrawn r.reads_withdrawn) (read_is r.nlri u.nlri nlri r.reads_nlri) in
@@ -48,7 +49,8 @@ open_size o = omega arith
 
 body_is : (m : Message) (body : List ℕ) (wide other : Bool) → AreOctets body → ReadsBody body m wide → length (spell m other) ≤ written_limit m
     → IsWritableBody m
-body_is (messages.OpenMsg o) body wide other octets r le = let total = spelled_size (messages.OpenMsg o) other in let size = open_size o in open_is body o r (omega arith)
+body_is (messages.OpenMsg o) body wide other octets r le =
+    let total = spelled_size (messages.OpenMsg o) other in let size = open_size o in open_is body o r (omega arith)
 body_is (messages.UpdateMsg u) body wide other octets r le = update_is wide body u octets r
 body_is (messages.NoticeMsg n) body wide other octets r le = tt
 body_is messages.KeepaliveMsg body wide other octets r le = tt
@@ -61,7 +63,8 @@ within_all messages.KeepaliveMsg n le = le
 
 -- a message that is writable keeps within its limit
 limit_kept : (m : Message) (wide : Bool) → IsWritable m wide → length (spell m wide) ≤ written_limit m
-limit_kept (messages.OpenMsg o) wide w = let params = w.body.params in let total = spelled_size (messages.OpenMsg o) wide in let size = open_size o in omega arith
+limit_kept (messages.OpenMsg o) wide w =
+    let params = w.body.params in let total = spelled_size (messages.OpenMsg o) wide in let size = open_size o in omega arith
 limit_kept (messages.UpdateMsg u) wide w = w.size
 limit_kept (messages.NoticeMsg n) wide w = w.size
 limit_kept messages.KeepaliveMsg wide w = w.size

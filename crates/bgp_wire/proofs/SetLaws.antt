@@ -22,11 +22,13 @@ any_last p q [] = by_test (same_prefix p q) where
   by_test : (t : Bool) → (t || false) ≡ cond t true false
   by_test true = refl
   by_test false = refl
-any_last p q (x ∷ ps) = by_test (same_prefix p x) (same_prefix p q) (list_any (same_prefix p) (ps ++ q ∷ [])) (list_any (same_prefix p) ps) (any_last p q ps) where
-  by_test : (t u v w : Bool) → v ≡ cond u true w → (t || v) ≡ cond u true (t || w)
-  by_test true true v w e = refl
-  by_test true false v w e = refl
-  by_test false u v w e = e
+any_last p q (x ∷ ps) =
+    by_test (same_prefix p x) (same_prefix p q) (list_any (same_prefix p) (ps ++ q ∷ [])) (list_any (same_prefix p) ps) (any_last p q ps)
+  where
+    by_test : (t u v w : Bool) → v ≡ cond u true w → (t || v) ≡ cond u true (t || w)
+    by_test true true v w e = refl
+    by_test true false v w e = refl
+    by_test false u v w e = e
 
 -- a set after a prefix was put in
 abbrev pub IsPut : SeenPrefixes → SeenPrefixes → PrefixValue → Type 0

@@ -14,13 +14,16 @@ ghost use Rattle.bgp_wire.specs.Written.{written_limit};
 
 /// The written form of a message reads as that message, in a session of its width that expects it.
 pub fn written_message_reads()
-    ensures { (message : Message) (expected : Expected) → IsWritable message expected.wide → IsExpected expected message → message_of expected (spell message expected.wide) ≡ Ok message }
+    ensures { (message : Message) (expected : Expected) → IsWritable message expected.wide
+        → IsExpected expected message → message_of expected (spell message expected.wide) ≡ Ok message }
 {}
 
 /// A message that was read is writable in each width of AS numbers if and only if its written form
 /// fits: in 4,096 octets, and for an OPEN in 284, since each of its capabilities is written in a
 /// parameter of its own.
 pub fn read_message_is_writable()
-    ensures any_spelling { (frame : List ℕ) (message : Message) (wide : Bool) (other : Bool) → AreOctets frame → Reads frame message wide → (IsWritable message other ↔ (length (spell message other) ≤ written_limit message)) }
-    ensures answered { (frame : List ℕ) (expected : Expected) (message : Message) (other : Bool) → AreOctets frame → frame_at frame ≡ Some (frame, []) → message_of expected frame ≡ Ok message → (IsWritable message other ↔ (length (spell message other) ≤ written_limit message)) }
+    ensures any_spelling { (frame : List ℕ) (message : Message) (wide : Bool) (other : Bool) → AreOctets frame
+        → Reads frame message wide → (IsWritable message other ↔ (length (spell message other) ≤ written_limit message)) }
+    ensures answered { (frame : List ℕ) (expected : Expected) (message : Message) (other : Bool) → AreOctets frame → frame_at frame ≡ Some (frame, [])
+        → message_of expected frame ≡ Ok message → (IsWritable message other ↔ (length (spell message other) ≤ written_limit message)) }
 {}

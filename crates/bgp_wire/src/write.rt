@@ -2,7 +2,8 @@
 
 ghost use Rattle.std.specs.Prelude.{◌≡◌, ◌+◌, ◌^◌, ◌<◌, ◌++◌, ◌∷◌, length, All, IfOk, OnOk};
 ghost use Rattle.std.specs.List.{flat_map};
-ghost use Rattle.bgp_types.specs.Spelling.{length_prefixed, cap_octets, param_octets, spell_open, spell_some_attrs, spell_update, kind_of, spell_body, framed, spell};
+ghost use Rattle.bgp_types.specs.Spelling.{length_prefixed, cap_octets, param_octets, spell_open};
+ghost use Rattle.bgp_types.specs.Spelling.{spell_some_attrs, spell_update, kind_of, spell_body, framed, spell};
 ghost use Rattle.bgp_types.specs.Writable.{IsWritableOpen, IsWritableUpdate, IsWritable};
 ghost use Rattle.bgp_wire.specs.Written.{FitsSome, FitsUpdate, FitsBody};
 

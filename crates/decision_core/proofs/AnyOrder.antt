@@ -1,15 +1,20 @@
 -- The order of a list doesn't matter to what the rules leave.
-use Rattle.std.proofs.Common.{◌≡◌, ℕ, zero, suc, ◌+◌, ◌<◌, Bool, true, false, not, ◌||◌, ◌&&◌, cond, List, [], ◌∷◌, get_or, set, length, Some, refl, sym, ap, ◌∙◌, subst, arith}
+use Rattle.std.proofs.Common.{◌≡◌, ℕ, zero, suc, ◌+◌, ◌<◌, Bool, true, false, not, ◌||◌, ◌&&◌, cond, List, []}
+use Rattle.std.proofs.Common.{◌∷◌, get_or, set, length, Some, refl, sym, ap, ◌∙◌, subst, arith}
 use Rattle.std.specs.Prelude.{map, IsPermutation, Contains, All, slice_get, swap, ◌==◌, nat_lt, option_map, option_and_then}
 use Rattle.std.specs.List.{list_any, filter, enumerate_from}
 use Rattle.std.proofs.lemmas.List.{set-get_or}
-use Rattle.std.proofs.lemmas.List.Elements.{filter_agree, filter_passes, All-filter, All-contains, All-contains_itself, Contains-get_or, All-from_get_or, All-head}
+use Rattle.std.proofs.lemmas.List.Elements.{filter_agree, filter_passes, All-filter, All-contains}
+use Rattle.std.proofs.lemmas.List.Elements.{All-contains_itself, Contains-get_or, All-from_get_or, All-head}
 use Rattle.std.proofs.lemmas.List.FromFn.{length-enumerate_from, get_or-enumerate_from}
 use Rattle.std.proofs.lemmas.List.Folds.{list_any_at}
-use Rattle.std.proofs.lemmas.List.Sorted.{IsPermutation-refl, IsPermutation-cons, IsPermutation-middle, IsPermutation-trans, IsPermutation-keeps, list_any-IsPermutation}
+use Rattle.std.proofs.lemmas.List.Sorted.{IsPermutation-refl, IsPermutation-cons, IsPermutation-middle}
+use Rattle.std.proofs.lemmas.List.Sorted.{IsPermutation-trans, IsPermutation-keeps, list_any-IsPermutation}
 use Rattle.std.proofs.lemmas.Bool.Decides.{nat_tests}
 use Rattle.bgp_types.specs.declared.rank.Rank.{Rank}
-use Rattle.decision_core.specs.Choice.{is_own, has_higher_preference, has_shorter_path, has_lower_origin, has_lower_med, is_external, has_lower_cost, has_lower_identifier, has_lower_address, keep, left_of, first, choice, ranks_by_index, ranks_left, AreEqual}
+use Rattle.decision_core.specs.Choice.{is_own, has_higher_preference, has_shorter_path, has_lower_origin, has_lower_med}
+use Rattle.decision_core.specs.Choice.{is_external, has_lower_cost, has_lower_identifier, has_lower_address, keep}
+use Rattle.decision_core.specs.Choice.{left_of, first, choice, ranks_by_index, ranks_left, AreEqual}
 use Rattle.decision_core.specs.Search.{leads, is_nearer}
 use Rattle.decision_core.proofs.NineRules.{on, left_of-in_three, no_rank}
 
@@ -46,7 +51,8 @@ filter-exchange p d (x ∷ xs) zero zero up within = absurd (omega arith)
 filter-exchange p d (x ∷ xs) zero (suc j) up within = filter-exchange_first p x d xs j (omega (arith, within))
 filter-exchange p d (x ∷ xs) (suc i) zero up within = absurd (omega arith)
 filter-exchange p d (x ∷ xs) (suc i) (suc j) up within =
-    filter_cons (p x) x (filter p xs) (filter p (set (set xs i (get_or xs j d)) j (get_or xs i d))) (filter-exchange p d xs i j (omega (arith, up)) (omega (arith, within)))
+    filter_cons (p x) x (filter p xs) (filter p (set (set xs i (get_or xs j d)) j (get_or xs i d)))
+    (filter-exchange p d xs i j (omega (arith, up)) (omega (arith, within)))
 
 set-set_apart : {X : Type 0} (xs : List X) (i j : ℕ) (a b : X) → i < j → set (set xs i a) j b ≡ set (set xs j b) i a
 set-set_apart [] i j a b up = refl
@@ -64,7 +70,8 @@ at_list_right xs ys zs same h = subst (λ ws. IsPermutation xs ws) same h
 at_one : {X : Type 0} (p : X → Bool) (d : X) (xs : List X) (i j : ℕ) → i ≡ j
     → IsPermutation (filter p xs) (filter p (set (set xs i (get_or xs j d)) j (get_or xs i d)))
 at_one p d xs i j same =
-    let unchanged : xs ≡ set (set xs i (get_or xs j d)) j (get_or xs i d) = rw same (sym (ap (λ ys. set ys j (get_or xs j d)) (set-get_or xs j d) ∙ set-get_or xs j d)) in
+    let unchanged : xs ≡ set (set xs i (get_or xs j d)) j (get_or xs i d) =
+    rw same (sym (ap (λ ys. set ys j (get_or xs j d)) (set-get_or xs j d) ∙ set-get_or xs j d)) in
     at_list p xs xs (set (set xs i (get_or xs j d)) j (get_or xs i d)) unchanged (IsPermutation-refl (filter p xs))
 
 first_of_three : {C : Type 0} (i j : ℕ) → (i < j → C) → (i ≡ j → C) → (j < i → C) → C
@@ -79,7 +86,8 @@ filter-swap p d xs i j first second =
     first_of_three i j
     (λ up. filter-exchange p d xs i j up second)
     (λ same. at_one p d xs i j same)
-    (λ down. at_list p xs (set (set xs j (get_or xs i d)) i (get_or xs j d)) (set (set xs i (get_or xs j d)) j (get_or xs i d)) (set-set_apart xs j i (get_or xs i d) (get_or xs j d) down) (filter-exchange p d xs j i down first))
+    (λ down. at_list p xs (set (set xs j (get_or xs i d)) i (get_or xs j d)) (set (set xs i (get_or xs j d)) j (get_or xs i d))
+    (set-set_apart xs j i (get_or xs i d) (get_or xs j d) down) (filter-exchange p d xs j i down first))
 
 filter-swapped : {X : Type 0} (p : X → Bool) (xs : List X) (i j : ℕ) → i < length xs → j < length xs → IsPermutation (filter p xs) (filter p (swap xs i j))
 filter-swapped p [] i j first second = IsPermutation-refl []
@@ -87,7 +95,8 @@ filter-swapped p (x ∷ xs) i j first second = filter-swap p x (x ∷ xs) i j fi
 
 IsPermutation-filter : {X : Type 0} (p : X → Bool) (xs ys : List X) → IsPermutation xs ys → IsPermutation (filter p xs) (filter p ys)
 IsPermutation-filter p xs ys h =
-    IsPermutation-keeps xs (λ zs. IsPermutation (filter p xs) (filter p zs)) (IsPermutation-refl (filter p xs)) (λ zs i j first second so_far. IsPermutation-trans (filter p xs) (filter p zs) (filter p (swap zs i j)) so_far (filter-swapped p zs i j first second)) ys h
+    IsPermutation-keeps xs (λ zs. IsPermutation (filter p xs) (filter p zs)) (IsPermutation-refl (filter p xs)) (λ zs i j first second so_far.
+    IsPermutation-trans (filter p xs) (filter p zs) (filter p (swap zs i j)) so_far (filter-swapped p zs i j first second)) ys h
 
 IsPermutation-keep : {X : Type 0} (rule : X → X → Bool) (xs ys : List X) → IsPermutation xs ys → IsPermutation (keep rule xs) (keep rule ys)
 unfolding keep
@@ -113,7 +122,8 @@ list_any-map f p (x ∷ xs) = ap (λ b. p (f x) || b) (list_any-map f p xs)
 map-keep : {X Y : Type 0} (f : X → Y) (rule : Y → Y → Bool) (xs : List X) → map f (keep (λ a b. rule (f a) (f b)) xs) ≡ keep rule (map f xs)
 unfolding keep
 map-keep f rule xs =
-    ap (map f) (filter_agree (λ x. not (list_any (λ y. rule (f y) (f x)) xs)) (λ x. not (list_any (λ y. rule y (f x)) (map f xs))) (λ x. ap not (list_any-map f (λ y. rule y (f x)) xs)) xs)
+    ap (map f) (filter_agree (λ x. not (list_any (λ y. rule (f y) (f x)) xs))
+    (λ x. not (list_any (λ y. rule y (f x)) (map f xs))) (λ x. ap not (list_any-map f (λ y. rule y (f x)) xs)) xs)
     ∙ map-filter f (λ y. not (list_any (λ z. rule z y) (map f xs))) xs
 
 map-numbered : (n : ℕ) (ranks : List Rank) → map (λ c. c.1) (enumerate_from n ranks) ≡ ranks
@@ -124,7 +134,8 @@ ranks_left-in_three : (ranks : List Rank) → ranks_left ranks ≡ keep is_neare
 ranks_left-in_three ranks =
     ap (map (λ c. c.1)) (left_of-in_three (ranks_by_index ranks))
     ∙ map-keep (λ c. c.1) is_nearer (keep (on has_lower_med) (keep (on leads) (ranks_by_index ranks)))
-    ∙ ap (keep is_nearer) (map-keep (λ c. c.1) has_lower_med (keep (on leads) (ranks_by_index ranks)) ∙ ap (keep has_lower_med) (map-keep (λ c. c.1) leads (ranks_by_index ranks) ∙ ap (keep leads) (map-numbered 0 ranks)))
+    ∙ ap (keep is_nearer) (map-keep (λ c. c.1) has_lower_med (keep (on leads) (ranks_by_index ranks))
+    ∙ ap (keep has_lower_med) (map-keep (λ c. c.1) leads (ranks_by_index ranks) ∙ ap (keep leads) (map-numbered 0 ranks)))
 
 pub ranks_left-IsPermutation : (ranks others : List Rank) → IsPermutation ranks others → IsPermutation (ranks_left ranks) (ranks_left others)
 ranks_left-IsPermutation ranks others h =
@@ -233,7 +244,8 @@ index_read ranks i d within c is = rw is (let index : 0 + i ≡ i = omega arith 
 
 ranks_by_index-indices : (ranks : List Rank) → All (IsAtIndex ranks) (ranks_by_index ranks)
 ranks_by_index-indices ranks = All-from_get_or (IsAtIndex ranks) (ranks_by_index ranks) (0, no_rank)
-    (λ i within. let below : i < length ranks = (let e = length-enumerate_from 0 ranks in omega (arith, within)) in index_read ranks i no_rank below (get_or (ranks_by_index ranks) i (0, no_rank)) (get_or-enumerate_from 0 ranks i (0, no_rank) below))
+    (λ i within. let below : i < length ranks = (let e = length-enumerate_from 0 ranks in omega (arith, within)) in
+    index_read ranks i no_rank below (get_or (ranks_by_index ranks) i (0, no_rank)) (get_or-enumerate_from 0 ranks i (0, no_rank) below))
 
 All-keep : {X : Type 0} (rule : X → X → Bool) (P : X → Type 0) (xs : List X) → All P xs → All P (keep rule xs)
 unfolding keep
@@ -249,4 +261,5 @@ unfolding choice
 ranks_left-first ranks =
     first_index ranks (left_of (ranks_by_index ranks))
     (rw left_of-in_three (All-keep (on is_nearer) (IsAtIndex ranks) (keep (on has_lower_med) (keep (on leads) (ranks_by_index ranks)))
-    (All-keep (on has_lower_med) (IsAtIndex ranks) (keep (on leads) (ranks_by_index ranks)) (All-keep (on leads) (IsAtIndex ranks) (ranks_by_index ranks) (ranks_by_index-indices ranks)))))
+    (All-keep (on has_lower_med) (IsAtIndex ranks) (keep (on leads) (ranks_by_index ranks))
+    (All-keep (on leads) (IsAtIndex ranks) (ranks_by_index ranks) (ranks_by_index-indices ranks)))))

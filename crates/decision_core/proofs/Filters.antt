@@ -21,7 +21,8 @@ in_turn-chain rxy ryx ryz rzy rxz rzx sxy syz sxz a b c d h k = grind arith
 pub IsStrictWeakOrder-in_turn : {X : Type 0} (r s : X → X → Bool) → IsStrictWeakOrder r → IsStrictWeakOrder s → IsStrictWeakOrder (in_turn r s)
 IsStrictWeakOrder-in_turn r s o p = record {
   one_way = λ x y. in_turn-one_way (r x y) (r y x) (s x y) (s y x) (o.one_way x y) (p.one_way x y);
-  chain = λ x y z. in_turn-chain (r x y) (r y x) (r y z) (r z y) (r x z) (r z x) (s x y) (s y z) (s x z) (o.chain x y z) (o.chain y z x) (o.chain z x y) (p.chain x y z);
+  chain = λ x y z. in_turn-chain (r x y) (r y x) (r y z) (r z y) (r x z) (r z x) (s x y)
+      (s y z) (s x z) (o.chain x y z) (o.chain y z x) (o.chain z x y) (p.chain x y z);
 }
 
 flag-one_way : (a b : Bool) → (a && not b) ≡ true → (b && not a) ≡ false
@@ -99,7 +100,8 @@ or_true-cases false b h left right = right h
 -- what passes none of one test passes none of a narrower one
 pub list_any-narrower : {X : Type 0} (p q : X → Bool) → ((x : X) → p x ≡ false → q x ≡ false) → (xs : List X) → list_any p xs ≡ false → list_any q xs ≡ false
 list_any-narrower p q weak [] h = refl
-list_any-narrower p q weak (x ∷ xs) h = or_false (q x) (list_any q xs) (weak x (or_false-left (p x) (list_any p xs) h)) (list_any-narrower p q weak xs (or_false-right (p x) (list_any p xs) h))
+list_any-narrower p q weak (x ∷ xs) h = or_false (q x) (list_any q xs) (weak x (or_false-left (p x) (list_any p xs) h))
+    (list_any-narrower p q weak xs (or_false-right (p x) (list_any p xs) h))
 
 same_cons : {X : Type 0} (b c : Bool) (x : X) (ys zs : List X) → b ≡ c → ys ≡ zs → cond b (x ∷ ys) ys ≡ cond c (x ∷ zs) zs
 same_cons b c x ys zs h k = rw (h, k) refl
@@ -109,7 +111,8 @@ pub filter_agree_where : {X : Type 0} (bad p q : X → Bool) → ((x : X) → ba
     → filter p xs ≡ filter q xs
 filter_agree_where bad p q same [] h = refl
 filter_agree_where bad p q same (x ∷ xs) h =
-    same_cons (p x) (q x) x (filter p xs) (filter q xs) (same x (or_false-left (bad x) (list_any bad xs) h)) (filter_agree_where bad p q same xs (or_false-right (bad x) (list_any bad xs) h))
+    same_cons (p x) (q x) x (filter p xs) (filter q xs) (same x (or_false-left (bad x) (list_any bad xs) h))
+    (filter_agree_where bad p q same xs (or_false-right (bad x) (list_any bad xs) h))
 
 -- ---- the best of a list
 
@@ -184,9 +187,11 @@ best_step lt o x y ys false is h =
       is = h.is;
       tops = record {
         least = or_false (lt x b) (lt y b || list_any (λ z. lt z b) ys) least (or_false (lt y b) (list_any (λ z. lt z b) ys) least_y others);
-        there = λ p holds. or_true-cases (p x) (list_any p ys) (h.tops.there p holds) (λ k. or_true-left (p x) (p y || list_any p ys) k) (λ k. or_true-right (p x) (p y || list_any p ys) (or_true-right (p y) (list_any p ys) k));
+        there = λ p holds. or_true-cases (p x) (list_any p ys) (h.tops.there p holds) (λ k. or_true-left (p x) (p y || list_any p ys) k)
+            (λ k. or_true-right (p x) (p y || list_any p ys) (or_true-right (p y) (list_any p ys) k));
       };
-      leads = skip_second (not (lt b x)) (not (lt b y)) x y (filter (λ z. not (lt b z)) ys) (Some b) (λ k. not_true (lt b y) (dropped_too lt o b x y (sym is) (double_not (lt b x) k) (lt b y) refl)) h.leads;
+      leads = skip_second (not (lt b x)) (not (lt b y)) x y (filter (λ z. not (lt b z)) ys) (Some b)
+          (λ k. not_true (lt b y) (dropped_too lt o b x y (sym is) (double_not (lt b x) k) (lt b y) refl)) h.leads;
     }
 
 best_from : {X : Type 0} (lt : X → X → Bool) → IsStrictWeakOrder lt → (x : X) (xs : List X) → BestFrom lt x xs (x ∷ xs)
@@ -213,7 +218,8 @@ beaten_cases false r where_true where_false = where_false refl
 pub beaten_by_top : {X : Type 0} (lt : X → X → Bool) → IsStrictWeakOrder lt → (top : X) (xs : List X) → Tops lt top xs → (x : X)
     → list_any (λ y. lt y x) xs ≡ lt top x
 beaten_by_top lt o top xs t x =
-    beaten_cases (lt top x) (list_any (λ y. lt y x) xs) (t.there (λ y. lt y x)) (λ apart. list_any-narrower (λ y. lt y top) (λ y. lt y x) (λ y below. o.chain y top x below apart) xs t.least)
+    beaten_cases (lt top x) (list_any (λ y. lt y x) xs) (t.there (λ y. lt y x))
+    (λ apart. list_any-narrower (λ y. lt y top) (λ y. lt y x) (λ y below. o.chain y top x below apart) xs t.least)
 
 pub keep-by_top : {X : Type 0} (lt : X → X → Bool) → IsStrictWeakOrder lt → (top : X) (xs : List X) → Tops lt top xs
     → keep lt xs ≡ filter (λ x. not (lt top x)) xs
@@ -261,7 +267,8 @@ keep-keep {X} r s o p (x ∷ xs) =
     ap (keep s) (keep-by_top r o b.best all by_first)
     ∙ keep-by_top s p b.best left (Tops-in_turn_second r s o b.best all b.tops)
     ∙ filter-filter (λ z. not (s b.best z)) (λ z. not (r b.best z)) all
-    ∙ filter_agree_where (λ z. r z b.best) (λ z. not (r b.best z) && not (s b.best z)) (λ z. not (in_turn r s b.best z)) (λ z h. neither (r b.best z) (r z b.best) (s b.best z) h) all by_first.least
+    ∙ filter_agree_where (λ z. r z b.best) (λ z. not (r b.best z) && not (s b.best z))
+    (λ z. not (in_turn r s b.best z)) (λ z h. neither (r b.best z) (r z b.best) (s b.best z) h) all by_first.least
     ∙ sym (keep-by_top (in_turn r s) both b.best all b.tops)
 
 some_same : {X : Type 0} (x y : X) → Some x ≡ Some y → x ≡ y
@@ -301,7 +308,8 @@ keep-none rule lt o weaker [] h = refl
 keep-none {X} rule lt o weaker (x ∷ xs) h =
     let all : List X = x ∷ xs in
     let b = best_from lt o x xs in
-    let stays = not_false (list_any (λ y. rule y b.best) all) (list_any-narrower (λ y. lt y b.best) (λ y. rule y b.best) (λ y. weaker y b.best) all b.tops.least) in
+    let stays = not_false (list_any (λ y. rule y b.best) all)
+    (list_any-narrower (λ y. lt y b.best) (λ y. rule y b.best) (λ y. weaker y b.best) all b.tops.least) in
     let some = b.tops.there (λ z. not (list_any (λ y. rule y z) all)) stays in
     let none = filter-none (λ z. not (list_any (λ y. rule y z) all)) all h in
     cc

@@ -1,5 +1,6 @@
 -- The nine rules as two orders with MED between them.
-use Rattle.std.proofs.Common.{◌≡◌, ℕ, zero, suc, ◌+◌, ◌<◌, ◌≤◌, ◌==◌, nat_lt, Bool, true, false, not, ◌&&◌, ◌||◌, List, [], ◌∷◌, ◌++◌, cond, get_or, length, take, Option, Some, None, refl, sym, ap, ◌∙◌, arith}
+use Rattle.std.proofs.Common.{◌≡◌, ℕ, zero, suc, ◌+◌, ◌<◌, ◌≤◌, ◌==◌, nat_lt, Bool, true, false, not, ◌&&◌, ◌||◌, List, [], ◌∷◌}
+use Rattle.std.proofs.Common.{◌++◌, cond, get_or, length, take, Option, Some, None, refl, sym, ap, ◌∙◌, arith}
 use Rattle.std.specs.Prelude.{option_map, IsNone}
 use Rattle.std.specs.List.{list_any, filter, enumerate_from}
 use Rattle.std.specs.Cmp.{IsStrictWeakOrder}
@@ -8,9 +9,11 @@ use Rattle.std.proofs.lemmas.List.Elements.{filter_agree, filter_more}
 use Rattle.std.proofs.lemmas.List.FromFn.{length-enumerate_from, get_or-enumerate_from}
 use Rattle.std.proofs.lemmas.Grind.{fold-append}
 use Rattle.bgp_types.specs.declared.rank.Rank.{Rank}
-use Rattle.decision_core.specs.Choice.{Rule, is_own, has_higher_preference, has_shorter_path, has_lower_origin, has_lower_med, is_external, has_lower_cost, has_lower_identifier, has_lower_address, keep, left_of, first, choice, ranks_by_index}
+use Rattle.decision_core.specs.Choice.{Rule, is_own, has_higher_preference, has_shorter_path, has_lower_origin, has_lower_med, is_external}
+use Rattle.decision_core.specs.Choice.{has_lower_cost, has_lower_identifier, has_lower_address, keep, left_of, first, choice, ranks_by_index}
 use Rattle.decision_core.specs.Search.{in_turn, leads, is_nearer, pick, best_by, takes_out, is_taken_out, is_left, improves, is_next}
-use Rattle.decision_core.proofs.Filters.{IsStrictWeakOrder-in_turn, IsStrictWeakOrder-by_flag, IsStrictWeakOrder-on, Tops, list_any-filter, filter-filter, beaten_by_top, first-keep, keep-keep, best_by-tops, best_by-none, keep-none}
+use Rattle.decision_core.proofs.Filters.{IsStrictWeakOrder-in_turn, IsStrictWeakOrder-by_flag, IsStrictWeakOrder-on, Tops, list_any-filter}
+use Rattle.decision_core.proofs.Filters.{filter-filter, beaten_by_top, first-keep, keep-keep, best_by-tops, best_by-none, keep-none}
 
 pub own_order : IsStrictWeakOrder is_own
 own_order = IsStrictWeakOrder-by_flag (λ rank. rank.own)
@@ -74,12 +77,14 @@ unfolding left_of
 left_of-in_three cs =
     ap (λ rest. keep (on has_lower_address) (keep (on has_lower_identifier) (keep (on has_lower_cost) (keep (on is_external) (keep (on has_lower_med) rest)))))
     (keep_four is_own has_higher_preference has_shorter_path has_lower_origin own_order preference_order path_order origin_order cs)
-    ∙ keep_four is_external has_lower_cost has_lower_identifier has_lower_address external_order cost_order identifier_order address_order (keep (on has_lower_med) (keep (on leads) cs))
+    ∙ keep_four is_external has_lower_cost has_lower_identifier has_lower_address external_order cost_order identifier_order address_order
+    (keep (on has_lower_med) (keep (on leads) cs))
 
 pub choice-in_three : {K : Type 0} (cs : List (K × Rank))
     → choice cs ≡ option_map (λ c. c.0) (best_by (on is_nearer) (keep (on has_lower_med) (keep (on leads) cs)))
 unfolding choice
-choice-in_three cs = ap (option_map (λ c. c.0)) (ap first (left_of-in_three cs) ∙ first-keep (on is_nearer) (on_order is_nearer is_nearer_order) (keep (on has_lower_med) (keep (on leads) cs)))
+choice-in_three cs = ap (option_map (λ c. c.0))
+    (ap first (left_of-in_three cs) ∙ first-keep (on is_nearer) (on_order is_nearer is_nearer_order) (keep (on has_lower_med) (keep (on leads) cs)))
 
 -- ---- candidates that are named by their indices
 
@@ -106,12 +111,15 @@ keep-med : (ranks : List Rank) (leader : Rank) → Tops leads leader ranks
 unfolding keep
 keep-med ranks leader t =
     ap (keep (on has_lower_med)) (keep-leads ranks leader t)
-    ∙ filter-filter (λ c. not (list_any (λ d. has_lower_med d.1 c.1) (filter (λ d. not (leads leader d.1)) (ranks_by_index ranks)))) (λ c. not (leads leader c.1)) (ranks_by_index ranks)
-    ∙ filter_agree (λ c. not (leads leader c.1) && not (list_any (λ d. has_lower_med d.1 c.1) (filter (λ d. not (leads leader d.1)) (ranks_by_index ranks)))) (λ c. is_left leader ranks c.1)
+    ∙ filter-filter (λ c. not (list_any (λ d. has_lower_med d.1 c.1) (filter (λ d. not (leads leader d.1)) (ranks_by_index ranks))))
+    (λ c. not (leads leader c.1)) (ranks_by_index ranks)
+    ∙ filter_agree (λ c. not (leads leader c.1)
+    && not (list_any (λ d. has_lower_med d.1 c.1) (filter (λ d. not (leads leader d.1)) (ranks_by_index ranks)))) (λ c. is_left leader ranks c.1)
     (λ c. ap (λ b. not (leads leader c.1) && not b)
     (list_any-filter (λ d. has_lower_med d.1 c.1) (λ d. not (leads leader d.1)) (ranks_by_index ranks)
     ∙ list_any-enumerate (λ other. not (leads leader other) && has_lower_med other c.1) 0 ranks
-    ∙ list_any-same (λ other. not (leads leader other) && has_lower_med other c.1) (λ other. takes_out leader other c.1) (λ other. swap_tests (not (leads leader other)) (has_lower_med other c.1)) ranks))
+    ∙ list_any-same (λ other. not (leads leader other) && has_lower_med other c.1) (λ other. takes_out leader other c.1)
+    (λ other. swap_tests (not (leads leader other)) (has_lower_med other c.1)) ranks))
     (ranks_by_index ranks)
 
 -- what the loop finds is the choice
@@ -133,8 +141,10 @@ med_within same m n h = grind arith
 pub choice-none : {K : Type 0} (cs : List (K × Rank)) → choice cs ≡ None → cs ≡ []
 choice-none {K} cs h =
     let after_med : List (K × Rank) = keep (on has_lower_med) (keep (on leads) cs) in
-    let none = best_by-none (on is_nearer) (on_order is_nearer is_nearer_order) after_med (option_map-none (λ c. c.0) (best_by (on is_nearer) after_med) (sym (choice-in_three cs) ∙ h)) in
-    let before_med = keep-none (on has_lower_med) (λ c d. nat_lt c.1.med d.1.med) (IsStrictWeakOrder-by_number (λ c. c.1.med)) (λ c d. med_within (c.1.neighbour == d.1.neighbour) c.1.med d.1.med) (keep (on leads) cs) none in
+    let none = best_by-none (on is_nearer) (on_order is_nearer is_nearer_order) after_med
+    (option_map-none (λ c. c.0) (best_by (on is_nearer) after_med) (sym (choice-in_three cs) ∙ h)) in
+    let before_med = keep-none (on has_lower_med) (λ c d. nat_lt c.1.med d.1.med) (IsStrictWeakOrder-by_number (λ c. c.1.med))
+    (λ c d. med_within (c.1.neighbour == d.1.neighbour) c.1.med d.1.med) (keep (on leads) cs) none in
     keep-none (on leads) (on leads) (on_order leads leads_order) (λ c d k. k) cs before_med
 
 enumerate-none : (ranks : List Rank) → ranks_by_index ranks ≡ [] → ranks ≡ []
@@ -196,7 +206,8 @@ nearest_more leader ranks i d old new within before after =
     let rank = get_or ranks i d in
     after ∙ nearest_step (not (leads leader rank)) (is_taken_out leader ranks rank) i rank old
     ∙ ap (λ o. cond (is_left leader ranks rank) (pick (on is_nearer) o (i, rank)) o) before
-    ∙ sym (best_more (on is_nearer) (λ c. is_left leader ranks c.1) (ranks_by_index ranks) i (i, d) (i, rank) (rw length-enumerate_from within) (get_or-enumerate_from 0 ranks i (i, d) within ∙ index_shown (0 + i) i rank (omega arith)))
+    ∙ sym (best_more (on is_nearer) (λ c. is_left leader ranks c.1) (ranks_by_index ranks) i (i, d) (i, rank)
+    (rw length-enumerate_from within) (get_or-enumerate_from 0 ranks i (i, d) within ∙ index_shown (0 + i) i rank (omega arith)))
 
 pub chosen : {X : Type 0} (b : Bool) (x y z : X) → b ≡ true → z ≡ x → z ≡ cond b x y
 chosen true x y z h is = is
@@ -222,5 +233,6 @@ pub choice-all : (ranks : List Rank) (leader : Rank) (n : ℕ) (nearest : Option
     → option_map (λ c. c.0) nearest ≡ choice (ranks_by_index ranks)
 choice-all ranks leader n nearest is all before =
     let whole : length (ranks_by_index ranks) ≤ n = rw length-enumerate_from all in
-    ap (option_map (λ c. c.0)) (before ∙ ap (λ cs. best_by (on is_nearer) (filter (λ c. is_left leader ranks c.1) cs)) (take_whole n (ranks_by_index ranks) whole))
+    ap (option_map (λ c. c.0))
+    (before ∙ ap (λ cs. best_by (on is_nearer) (filter (λ c. is_left leader ranks c.1) cs)) (take_whole n (ranks_by_index ranks) whole))
     ∙ sym (choice-numbered ranks leader is)

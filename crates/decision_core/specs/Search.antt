@@ -2,7 +2,8 @@
 use Rattle.std.specs.Prelude.{ℕ, Bool, true, not, ◌&&◌, ◌||◌, List, fold, Option, Some, None, cond}
 use Rattle.std.specs.List.{list_any}
 use Rattle.bgp_types.specs.declared.rank.Rank.{Rank}
-use Rattle.decision_core.specs.Choice.{Rule, is_own, has_higher_preference, has_shorter_path, has_lower_origin, has_lower_med, is_external, has_lower_cost, has_lower_identifier, has_lower_address}
+use Rattle.decision_core.specs.Choice.{Rule, is_own, has_higher_preference, has_shorter_path, has_lower_origin, has_lower_med}
+use Rattle.decision_core.specs.Choice.{is_external, has_lower_cost, has_lower_identifier, has_lower_address}
 
 -- better by the first rule, or equal by it and better by the second
 abbrev pub in_turn : {X : Type 0} → (X → X → Bool) → (X → X → Bool) → X → X → Bool

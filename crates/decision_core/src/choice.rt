@@ -4,7 +4,8 @@
 
 ghost use Rattle.std.specs.Prelude.{◌≡◌, ◌↔◌, [], IsNone, IsPermutation, AllPairs, option_map, option_and_then, slice_get};
 ghost use Rattle.decision_core.specs.Choice.{choice as choice_of, ranks_by_index, ranks_left, first, AreEqual, has_lower_med as has_lower_med_lem};
-ghost use Rattle.decision_core.specs.Search.{leads as leads_lem, is_nearer as is_nearer_lem, best_by, takes_out as takes_out_lem, is_taken_out as is_taken_out_lem, improves as improves_lem, is_next as is_next_lem};
+ghost use Rattle.decision_core.specs.Search.{leads as leads_lem, is_nearer as is_nearer_lem, best_by, takes_out as takes_out_lem};
+ghost use Rattle.decision_core.specs.Search.{is_taken_out as is_taken_out_lem, improves as improves_lem, is_next as is_next_lem};
 
 use bgp_types::Rank;
 

@@ -20,10 +20,13 @@ use Rattle.decision_core.proofs.NineRules.{on, on_order, choice-none}
 use Rattle.decision_core.proofs.AnyOrder.{Contains-keep, keep-unbeaten}
 use Rattle.decision_groups.specs.Order.{RankedSource, from_order, IsInOrder}
 use Rattle.decision_groups.specs.Champions.{neighbour_group}
-use Rattle.decision_groups.specs.Groups.{beats_in_group, beats_without_med, comes_first, champion_of, better_of, some_members, NumberedGroup, AreNumbered, group_at, AreGroupsOf}
+use Rattle.decision_groups.specs.Groups.{beats_in_group, beats_without_med, comes_first, champion_of, better_of}
+use Rattle.decision_groups.specs.Groups.{some_members, NumberedGroup, AreNumbered, group_at, AreGroupsOf}
 use Rattle.decision_groups.proofs.OrderLaws.{from_order_total, from_order_exact}
-use Rattle.decision_groups.proofs.Members.{Contains-head, Contains-first, nothing_in_none, map-contains, map-contained, filter_map-contains, filter_map-contained}
-use Rattle.decision_groups.proofs.Chosen.{is_earlier, sorted-filter, IsChosen, choice-chosen, champion-chosen, champions-decide, beats_order, in_own_group, of_group}
+use Rattle.decision_groups.proofs.Members.{Contains-head, Contains-first, nothing_in_none, map-contains}
+use Rattle.decision_groups.proofs.Members.{map-contained, filter_map-contains, filter_map-contained}
+use Rattle.decision_groups.proofs.Chosen.{is_earlier, sorted-filter, IsChosen, choice-chosen, champion-chosen}
+use Rattle.decision_groups.proofs.Chosen.{champions-decide, beats_order, in_own_group, of_group}
 use Rattle.decision_groups.proofs.Law.{beats_without_med_order, choice-of_none}
 
 -- ---- one more group
@@ -33,7 +36,8 @@ best_made cs None = fold-append (pick comes_first) None cs []
 best_made cs (Some c) = fold-append (pick comes_first) None cs (c ∷ [])
 
 pub best_more : (groups : List (List RankedSource)) (members : List RankedSource)
-    → best_by comes_first (filter_map champion_of (groups ++ members ∷ [])) ≡ better_of (best_by comes_first (filter_map champion_of groups)) (champion_of members)
+    → best_by comes_first (filter_map champion_of (groups ++ members ∷ []))
+    ≡ better_of (best_by comes_first (filter_map champion_of groups)) (champion_of members)
 best_more groups members = ap (best_by comes_first) (filter_map-append champion_of groups (members ∷ []))
     ∙ best_made (filter_map champion_of groups) (champion_of members)
 
@@ -52,7 +56,8 @@ group_is : (es : List RankedSource) (groups : List NumberedGroup) (members : Lis
     → Contains (values_of groups) members → (n : ℕ) × (neighbour_group n es ≡ members)
 group_is es groups members are ordered there =
     let entry = map-contained (λ e. e.1) groups members there in
-    let found : group_at groups entry.0.0 ≡ Some entry.0.1 = lookup-from_Contains (eq_by_cmp_equiv nat_cmp_total) entry.0.0 entry.0.1 groups (IsDistinct-from_sorted nat_cmp (keys_of groups) ordered) entry.1 in
+    let found : group_at groups entry.0.0 ≡ Some entry.0.1 =
+    lookup-from_Contains (eq_by_cmp_equiv nat_cmp_total) entry.0.0 entry.0.1 groups (IsDistinct-from_sorted nat_cmp (keys_of groups) ordered) entry.1 in
     (entry.0.0, some_is (neighbour_group entry.0.0 es) entry.0.1 (sym (are.each entry.0.0) ∙ found) ∙ entry.2)
 
 -- the candidates of each neighbour AS that there are have their group
@@ -67,7 +72,8 @@ group_there es groups d are there =
 
 champion_is_chosen : (es : List RankedSource) (n : ℕ) (c : RankedSource) → IsInOrder es → champion_of (neighbour_group n es) ≡ Some c
     → IsChosen from_order (neighbour_group n es) c
-champion_is_chosen es n c s is = champion-chosen from_order_total n (neighbour_group n es) c (sorted-filter from_order (λ d. d.1.neighbour == n) es s) (of_group es n) is
+champion_is_chosen es n c s is =
+    champion-chosen from_order_total n (neighbour_group n es) c (sorted-filter from_order (λ d. d.1.neighbour == n) es s) (of_group es n) is
 
 record HasHead (es : List RankedSource) (groups : List NumberedGroup) (d : RankedSource) : Type 0 where
   pub head : RankedSource
@@ -89,7 +95,8 @@ has_head : (es : List RankedSource) (groups : List NumberedGroup) (d : RankedSou
 has_head es groups d are there = head_cases es groups d are there (champion_of (neighbour_group d.1.neighbour es)) refl
 
 comes_first_order : IsStrictWeakOrder comes_first
-comes_first_order = IsStrictWeakOrder-in_turn (on beats_without_med) (is_earlier from_order) (on_order beats_without_med beats_without_med_order) (ranks_by from_order_total (λ (c : RankedSource). c.0))
+comes_first_order = IsStrictWeakOrder-in_turn (on beats_without_med) (is_earlier from_order)
+    (on_order beats_without_med beats_without_med_order) (ranks_by from_order_total (λ (c : RankedSource). c.0))
 
 -- ---- the best of them
 
@@ -102,7 +109,8 @@ best-some es groups w are ordered h =
     let made = filter_map-contained champion_of (values_of groups) w (Contains-keep comes_first heads w in_kept) in
     let group = group_is es groups made.0 are ordered made.1 in
     let a = champion_is_chosen es group.0 w are.in_order (ap champion_of group.1 ∙ made.2) in
-    let own : IsChosen from_order (neighbour_group w.1.neighbour es) w = subst (λ n. IsChosen from_order (neighbour_group n es) w) (sym (of_group es group.0 w a.there)) a in
+    let own : IsChosen from_order (neighbour_group w.1.neighbour es) w =
+    subst (λ n. IsChosen from_order (neighbour_group n es) w) (sym (of_group es group.0 w a.there)) a in
     choice-chosen from_order_total from_order_exact es w are.in_order
     (champions-decide from_order_total es w own
     (λ d there. let e = has_head es groups d are there in

@@ -1,5 +1,6 @@
 -- What the choice is, said of each candidate beside it, and that the champions of the groups decide it.
-use Rattle.std.proofs.Common.{◌≡◌, ℕ, ◌==◌, nat_lt, Bool, true, false, not, ◌&&◌, ◌||◌, cond, List, [], ◌∷◌, Option, Some, None, refl, sym, ap, ◌∙◌, subst, arith}
+use Rattle.std.proofs.Common.{◌≡◌, ℕ, ◌==◌, nat_lt, Bool, true, false, not, ◌&&◌, ◌||◌, cond, List, []}
+use Rattle.std.proofs.Common.{◌∷◌, Option, Some, None, refl, sym, ap, ◌∙◌, subst, arith}
 use Rattle.std.specs.Prelude.{Contains, option_map}
 use Rattle.std.specs.List.{filter, list_any, AllByRecursion}
 use Rattle.std.specs.List.Sorted.{IsStrictlySortedBy}
@@ -71,7 +72,8 @@ pub sorted-filter : {K X : Type 0} (R : K → K → Ordering) (p : K × X → Bo
     → IsStrictlySortedBy R (keys_of (filter p es))
 sorted-filter R p [] s = s
 sorted-filter R p (e ∷ es) s =
-    sorted_of_cond R (p e) e (filter p es) (keys_of-filter (λ q. R e.0 q ≡ Less) p es (sorted_head R e.0 (keys_of es) s)) (sorted-filter R p es (sorted_tail R e.0 (keys_of es) s))
+    sorted_of_cond R (p e) e (filter p es) (keys_of-filter (λ q. R e.0 q ≡ Less) p es (sorted_head R e.0 (keys_of es) s))
+    (sorted-filter R p es (sorted_tail R e.0 (keys_of es) s))
 
 sorted-keep : {K X : Type 0} (R : K → K → Ordering) (rule : K × X → K × X → Bool) (es : List (K × X)) → IsStrictlySortedBy R (keys_of es)
     → IsStrictlySortedBy R (keys_of (keep rule es))
@@ -123,13 +125,16 @@ chosen {K} {R} o cs c s h =
     let in_led = Contains-keep (on has_lower_med) led c in_least in
     let in_all = Contains-keep (on leads) cs c in_led in
     let unled = λ (d : K × Rank) (there : Contains cs d). keep-unbeaten (on leads) cs c d in_led there in
-    let leads_too = λ (d : K × Rank) (there : Contains cs d) (apart : leads c.1 d.1 ≡ false). keep-contains (on leads) cs d there (λ y y_there. leads_order.chain y.1 c.1 d.1 (unled y y_there) apart) in
+    let leads_too = λ (d : K × Rank) (there : Contains cs d) (apart : leads c.1 d.1 ≡ false).
+    keep-contains (on leads) cs d there (λ y y_there. leads_order.chain y.1 c.1 d.1 (unled y y_there) apart) in
     record {
       there = in_all;
       unled = unled;
       med = λ d there apart. keep-unbeaten (on has_lower_med) led c d in_least (leads_too d there apart);
-      nearest = λ d l. first-unbeaten o (on is_nearer) (on_order is_nearer is_nearer_order) least c d (sorted-keep R (on has_lower_med) led (sorted-keep R (on leads) cs s)) is
-          (keep-contains (on has_lower_med) led d (leads_too d l.there l.unled) (λ e in_led_e. l.med e (Contains-keep (on leads) cs e in_led_e) (keep-unbeaten (on leads) cs e c in_led_e in_all)));
+      nearest = λ d l. first-unbeaten o (on is_nearer) (on_order is_nearer is_nearer_order) least c d
+          (sorted-keep R (on has_lower_med) led (sorted-keep R (on leads) cs s)) is
+          (keep-contains (on has_lower_med) led d (leads_too d l.there l.unled)
+          (λ e in_led_e. l.med e (Contains-keep (on leads) cs e in_led_e) (keep-unbeaten (on leads) cs e c in_led_e in_all)));
     }
 
 neither_less : (a : Ordering) → is_lt a ≡ false → is_lt (ordering_reverse a) ≡ false → a ≡ Equal
@@ -147,7 +152,8 @@ also_left R cs c d a b = record {
 pub one_chosen : {K : Type 0} {R : K → K → Ordering} → IsTotalOrder R → CmpEqualImpliesEq R → (cs : List (K × Rank)) (c d : K × Rank)
     → IsChosen R cs c → IsChosen R cs d → c.0 ≡ d.0
 one_chosen {R = R} o exact cs c d a b =
-    let equal = in_turn-equal (is_nearer c.1 d.1) (is_nearer d.1 c.1) (is_earlier R c d) (is_earlier R d c) (b.nearest c (also_left R cs d c b a)) (a.nearest d (also_left R cs c d a b)) in
+    let equal = in_turn-equal (is_nearer c.1 d.1) (is_nearer d.1 c.1) (is_earlier R c d)
+    (is_earlier R d c) (b.nearest c (also_left R cs d c b a)) (a.nearest d (also_left R cs c d a b)) in
     exact c.0 d.0 (neither_less (R c.0 d.0) equal.2 (ap is_lt (sym (o.antisymm d.0 c.0)) ∙ equal.3))
 
 pub left-none : {K : Type 0} (cs : List (K × Rank)) → first (left_of cs) ≡ None → cs ≡ []
@@ -170,7 +176,8 @@ by_med : IsStrictWeakOrder (λ (a b : Rank). nat_lt a.med b.med)
 by_med = IsStrictWeakOrder-by_number (λ rank. rank.med)
 
 pub beats_order : IsStrictWeakOrder beats_in_group
-beats_order = IsStrictWeakOrder-in_turn leads (in_turn (λ a b. nat_lt a.med b.med) is_nearer) leads_order (IsStrictWeakOrder-in_turn (λ a b. nat_lt a.med b.med) is_nearer by_med is_nearer_order)
+beats_order = IsStrictWeakOrder-in_turn leads (in_turn (λ a b. nat_lt a.med b.med) is_nearer) leads_order
+    (IsStrictWeakOrder-in_turn (λ a b. nat_lt a.med b.med) is_nearer by_med is_nearer_order)
 
 -- what it says that the first of two isn't better by the nine rules, or equal and earlier
 unbeaten_leads : (a b l l' n n' f : Bool) → ((a || (not b && (l || (not l' && n)))) || (not (b || (not a && (l' || (not l && n')))) && f)) ≡ false → a ≡ false
@@ -208,10 +215,14 @@ champion-chosen {K} {R} o n cs c s one_neighbour h =
     let unbeaten = λ (d : K × Rank) (d_there : Contains cs d). first-unbeaten o (on beats_in_group) order cs c d s is d_there in
     record {
       there = there;
-      unled = λ d d_there. unbeaten_leads (leads d.1 c.1) (leads c.1 d.1) (nat_lt d.1.med c.1.med) (nat_lt c.1.med d.1.med) (is_nearer d.1 c.1) (is_nearer c.1 d.1) (is_earlier R d c) (unbeaten d d_there);
-      med = λ d d_there apart. lower_within d.1.neighbour c.1.neighbour (nat_lt d.1.med c.1.med) (unbeaten_med (leads d.1 c.1) (leads c.1 d.1) (nat_lt d.1.med c.1.med) (nat_lt c.1.med d.1.med) (is_nearer d.1 c.1) (is_nearer c.1 d.1) (is_earlier R d c) (unbeaten d d_there) apart);
-      nearest = λ d l. unbeaten_nearer (leads d.1 c.1) (leads c.1 d.1) (nat_lt d.1.med c.1.med) (nat_lt c.1.med d.1.med) (is_nearer d.1 c.1) (is_nearer c.1 d.1) (is_earlier R d c) (unbeaten d l.there) l.unled
-          (lower_same c.1.neighbour d.1.neighbour (nat_lt c.1.med d.1.med) (one_neighbour c there ∙ sym (one_neighbour d l.there)) (l.med c there (irreflexive leads leads_order c.1)));
+      unled = λ d d_there. unbeaten_leads (leads d.1 c.1) (leads c.1 d.1) (nat_lt d.1.med c.1.med)
+          (nat_lt c.1.med d.1.med) (is_nearer d.1 c.1) (is_nearer c.1 d.1) (is_earlier R d c) (unbeaten d d_there);
+      med = λ d d_there apart. lower_within d.1.neighbour c.1.neighbour (nat_lt d.1.med c.1.med) (unbeaten_med (leads d.1 c.1) (leads c.1 d.1)
+          (nat_lt d.1.med c.1.med) (nat_lt c.1.med d.1.med) (is_nearer d.1 c.1) (is_nearer c.1 d.1) (is_earlier R d c) (unbeaten d d_there) apart);
+      nearest = λ d l. unbeaten_nearer (leads d.1 c.1) (leads c.1 d.1) (nat_lt d.1.med c.1.med) (nat_lt c.1.med d.1.med)
+          (is_nearer d.1 c.1) (is_nearer c.1 d.1) (is_earlier R d c) (unbeaten d l.there) l.unled
+          (lower_same c.1.neighbour d.1.neighbour (nat_lt c.1.med d.1.med)
+          (one_neighbour c there ∙ sym (one_neighbour d l.there)) (l.med c there (irreflexive leads leads_order c.1)));
     }
 
 -- ---- the champions decide
@@ -258,16 +269,19 @@ nearer_order {K} {R} o = IsStrictWeakOrder-in_turn (on is_nearer) (is_earlier R)
 pub champions-decide : {K : Type 0} {R : K → K → Ordering} → IsTotalOrder R → (cs : List (K × Rank)) (w : K × Rank)
     → IsChosen R (neighbour_group w.1.neighbour cs) w → ((d : K × Rank) → Contains cs d → IsHeaded R cs w d) → IsChosen R cs w
 champions-decide {K} {R} o cs w own headed =
-    let head_unled = λ (d : K × Rank) (e : IsHeaded R cs w d). not_before_leads (leads e.head.1 w.1) (leads w.1 e.head.1) (is_nearer e.head.1 w.1) (is_nearer w.1 e.head.1) (is_earlier R e.head w) e.not_before in
+    let head_unled = λ (d : K × Rank) (e : IsHeaded R cs w d). not_before_leads (leads e.head.1 w.1)
+    (leads w.1 e.head.1) (is_nearer e.head.1 w.1) (is_nearer w.1 e.head.1) (is_earlier R e.head w) e.not_before in
     record {
       there = out_of_group cs w.1.neighbour w own.there;
       unled = λ d there. let e = headed d there in
           leads_order.chain d.1 e.head.1 w.1 (e.is_chosen.unled d (in_own_group cs d.1.neighbour d there refl)) (head_unled d e);
-      med = λ d there apart. under_test (d.1.neighbour == w.1.neighbour) (nat_lt d.1.med w.1.med) (λ same. own.med d (filter-contains (λ c. c.1.neighbour == w.1.neighbour) cs d there same) apart);
+      med = λ d there apart. under_test (d.1.neighbour == w.1.neighbour) (nat_lt d.1.med w.1.med)
+          (λ same. own.med d (filter-contains (λ c. c.1.neighbour == w.1.neighbour) cs d there same) apart);
       nearest = λ d l. let e = headed d l.there in
           let in_group = in_own_group cs d.1.neighbour d l.there refl in
           let led_head : leads w.1 e.head.1 ≡ false = leads_order.chain w.1 d.1 e.head.1 l.unled (e.is_chosen.unled d in_group) in
-          let nearer_head = not_before_nearer (leads e.head.1 w.1) (leads w.1 e.head.1) (is_nearer e.head.1 w.1) (is_nearer w.1 e.head.1) (is_earlier R e.head w) e.not_before led_head in
+          let nearer_head = not_before_nearer (leads e.head.1 w.1) (leads w.1 e.head.1)
+          (is_nearer e.head.1 w.1) (is_nearer w.1 e.head.1) (is_earlier R e.head w) e.not_before led_head in
           let left : IsLeft (neighbour_group d.1.neighbour cs) e.head d = record {
             there = in_group;
             unled = leads_order.chain e.head.1 w.1 d.1 (head_unled d e) l.unled;

@@ -81,9 +81,11 @@ kept_greater R k v e ys zs false is h = h
 kept_step : {K X : Type 0} {R : K → K → Ordering} → IsTotalOrder R → CmpEqualImpliesEq R → (p : X → Bool) (k : K) (v : X) → p v ≡ true
     → (e : K × X) (es : List (K × X)) → AllByRecursion (λ q. R e.0 q ≡ Less) (keys_of es) → (a : Ordering) → R k e.0 ≡ a
     → filter (λ c. p c.1) (insert_entry R es k v) ≡ insert_entry R (filter (λ c. p c.1) es) k v
-    → filter (λ c. p c.1) (match_ordering a ((k, v) ∷ (e ∷ es)) ((e.0, v) ∷ es) (e ∷ insert_entry R es k v)) ≡ insert_entry R (cond (p e.1) (e ∷ filter (λ c. p c.1) es) (filter (λ c. p c.1) es)) k v
+    → filter (λ c. p c.1) (match_ordering a ((k, v) ∷ (e ∷ es)) ((e.0, v) ∷ es) (e ∷ insert_entry R es k v))
+    ≡ insert_entry R (cond (p e.1) (e ∷ filter (λ c. p c.1) es) (filter (λ c. p c.1) es)) k v
 kept_step {R = R} o exact p k v passes e es above Less is rest =
-    rw passes (sym (insert_below R k v (filter (λ c. p c.1) (e ∷ es)) (below_filter R k (λ c. p c.1) (e ∷ es) (is, below_further o k e.0 is (keys_of es) above))))
+    rw passes
+    (sym (insert_below R k v (filter (λ c. p c.1) (e ∷ es)) (below_filter R k (λ c. p c.1) (e ∷ es) (is, below_further o k e.0 is (keys_of es) above))))
 kept_step {R = R} o exact p k v passes e es above Equal is rest =
     rw passes (kept_equal R exact k v e (filter (λ c. p c.1) es) (p e.1) is (below_filter R k (λ c. p c.1) es (below_equal o k e.0 is (keys_of es) above)))
 kept_step {R = R} o exact p k v passes e es above Greater is rest =
@@ -94,7 +96,8 @@ pub filter-insert_kept : {K X : Type 0} {R : K → K → Ordering} → IsTotalOr
     → filter (λ c. p c.1) (insert_entry R es k v) ≡ insert_entry R (filter (λ c. p c.1) es) k v
 filter-insert_kept o exact p k v passes [] s = rw passes refl
 filter-insert_kept {R = R} o exact p k v passes (e ∷ es) s =
-    kept_step o exact p k v passes e es (sorted_head R e.0 (keys_of es) s) (R k e.0) refl (filter-insert_kept o exact p k v passes es (sorted_tail R e.0 (keys_of es) s))
+    kept_step o exact p k v passes e es (sorted_head R e.0 (keys_of es) s) (R k e.0) refl
+    (filter-insert_kept o exact p k v passes es (sorted_tail R e.0 (keys_of es) s))
 
 -- ---- a filter that doesn't keep what is put in
 
@@ -111,9 +114,11 @@ lost_other test e ys zs false is h = h
 lost_step : {K X : Type 0} {R : K → K → Ordering} → IsTotalOrder R → (p : X → Bool) (k : K) (v : X) → p v ≡ false → (e : K × X) (es : List (K × X))
     → AllByRecursion (λ q. R e.0 q ≡ Less) (keys_of es) → (a : Ordering) → R k e.0 ≡ a
     → filter (λ c. p c.1) (insert_entry R es k v) ≡ remove_entry (is_at (R k)) (filter (λ c. p c.1) es)
-    → filter (λ c. p c.1) (match_ordering a ((k, v) ∷ (e ∷ es)) ((e.0, v) ∷ es) (e ∷ insert_entry R es k v)) ≡ remove_entry (is_at (R k)) (cond (p e.1) (e ∷ filter (λ c. p c.1) es) (filter (λ c. p c.1) es))
+    → filter (λ c. p c.1) (match_ordering a ((k, v) ∷ (e ∷ es)) ((e.0, v) ∷ es) (e ∷ insert_entry R es k v))
+    ≡ remove_entry (is_at (R k)) (cond (p e.1) (e ∷ filter (λ c. p c.1) es) (filter (λ c. p c.1) es))
 lost_step {R = R} o p k v fails e es above Less is rest =
-    rw fails (sym (remove_absent (is_at (R k)) (filter (λ c. p c.1) (e ∷ es)) (lookup_below R k (filter (λ c. p c.1) (e ∷ es)) (below_filter R k (λ c. p c.1) (e ∷ es) (is, below_further o k e.0 is (keys_of es) above)))))
+    rw fails (sym (remove_absent (is_at (R k)) (filter (λ c. p c.1) (e ∷ es))
+    (lookup_below R k (filter (λ c. p c.1) (e ∷ es)) (below_filter R k (λ c. p c.1) (e ∷ es) (is, below_further o k e.0 is (keys_of es) above)))))
 lost_step {R = R} o p k v fails e es above Equal is rest =
     rw fails (lost_equal R k e (filter (λ c. p c.1) es) (p e.1) is (below_filter R k (λ c. p c.1) es (below_equal o k e.0 is (keys_of es) above)))
 lost_step {R = R} o p k v fails e es above Greater is rest =
@@ -130,7 +135,8 @@ filter-insert_lost {R = R} o p k v fails (e ∷ es) s =
 removed_step : {K X : Type 0} {R : K → K → Ordering} → IsTotalOrder R → (p : X → Bool) (k : K) (e : K × X) (es : List (K × X))
     → AllByRecursion (λ q. R e.0 q ≡ Less) (keys_of es) → (a : Ordering) → R k e.0 ≡ a
     → filter (λ c. p c.1) (remove_entry (is_at (R k)) es) ≡ remove_entry (is_at (R k)) (filter (λ c. p c.1) es)
-    → filter (λ c. p c.1) (cond (is_eq a) es (e ∷ remove_entry (is_at (R k)) es)) ≡ remove_entry (is_at (R k)) (cond (p e.1) (e ∷ filter (λ c. p c.1) es) (filter (λ c. p c.1) es))
+    → filter (λ c. p c.1) (cond (is_eq a) es (e ∷ remove_entry (is_at (R k)) es))
+    ≡ remove_entry (is_at (R k)) (cond (p e.1) (e ∷ filter (λ c. p c.1) es) (filter (λ c. p c.1) es))
 removed_step {R = R} o p k e es above Less is rest =
     lost_other (is_at (R k)) e (filter (λ c. p c.1) es) (filter (λ c. p c.1) (remove_entry (is_at (R k)) es)) (p e.1) (ap is_eq is) rest
 removed_step {R = R} o p k e es above Equal is rest =

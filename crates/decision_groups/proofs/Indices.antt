@@ -1,5 +1,6 @@
 -- What a search by halves finds among entries in the order of their keys, and what a change there leaves.
-use Rattle.std.proofs.Common.{◌≡◌, ℕ, zero, suc, ◌+◌, ◌<◌, ◌≤◌, false, List, [], ◌∷◌, length, get_or, set, Some, None, Result, Ok, Err, IfOk, IfErr, refl, sym, ap, ◌∙◌, arith}
+use Rattle.std.proofs.Common.{◌≡◌, ℕ, zero, suc, ◌+◌, ◌<◌, ◌≤◌, false, List, [], ◌∷◌, length, get_or, set}
+use Rattle.std.proofs.Common.{Some, None, Result, Ok, Err, IfOk, IfErr, refl, sym, ap, ◌∙◌, arith}
 use Rattle.std.specs.List as list
 use Rattle.std.specs.List.Sorted.{IsStrictlySortedBy, IsSearchInRange, IsBinarySearchResult}
 use Rattle.std.specs.Map.{lookup, keys_of, remove_entry}
@@ -35,7 +36,8 @@ module _ {K X : Type 0} {R : K → K → Ordering} (o : IsTotalOrder R) (k : K) 
 
   below_of : (es : List (K × X)) → ((i : ℕ) (d : K × X) → i < length es → R (get_or es i d).0 k ≡ Greater) → IsBelowAll R k es
   below_of [] above = tt
-  below_of (e ∷ es) above = (o.antisymm k e.0 ∙ ap ordering_reverse (above 0 e (omega arith)), below_of es (λ i d within. above (suc i) d (omega (arith, within))))
+  below_of (e ∷ es) above =
+      (o.antisymm k e.0 ∙ ap ordering_reverse (above 0 e (omega arith)), below_of es (λ i d within. above (suc i) d (omega (arith, within))))
 
   gap_of : (es : List (K × X)) (at : ℕ) → at ≤ length es → ((i : ℕ) (d : K × X) → i < at → R (get_or es i d).0 k ≡ Less)
       → ((i : ℕ) (d : K × X) → at ≤ i → i < length es → R (get_or es i d).0 k ≡ Greater) → IsGapForKey R k es at
@@ -43,7 +45,8 @@ module _ {K X : Type 0} {R : K → K → Ordering} (o : IsTotalOrder R) (k : K) 
   gap_of [] (suc at) within before after = absurd (omega (arith, within))
   gap_of (e ∷ es) (suc at) within before after = (
     o.antisymm k e.0 ∙ ap ordering_reverse (before 0 e (omega arith)),
-    gap_of es at (omega (arith, within)) (λ i d lt. before (suc i) d (omega (arith, lt))) (λ i d le in_range. after (suc i) d (omega (arith, le)) (omega (arith, in_range))),
+    gap_of es at (omega (arith, within)) (λ i d lt. before (suc i) d (omega (arith, lt)))
+        (λ i d le in_range. after (suc i) d (omega (arith, le)) (omega (arith, in_range))),
   )
 
   -- neighbours rise
@@ -53,7 +56,8 @@ module _ {K X : Type 0} {R : K → K → Ordering} (o : IsTotalOrder R) (k : K) 
       let keys = keys_of es in
       let low : get_or keys i d.0 ≡ (get_or es i d).0 = get_or-map (λ (e : K × X). e.0) es i d d.0 (omega (arith, within)) in
       let high : get_or keys (i + 1) d.0 ≡ (get_or es (i + 1) d).0 = get_or-map (λ (e : K × X). e.0) es (i + 1) d d.0 within in
-      let rise : R (get_or keys i d.0) (get_or keys (i + 1) d.0) ≡ Less = Less-from_sorted R keys i (i + 1) d.0 s (omega arith) (omega (arith, within, length-keys_of es)) in
+      let rise : R (get_or keys i d.0) (get_or keys (i + 1) d.0) ≡ Less =
+      Less-from_sorted R keys i (i + 1) d.0 s (omega arith) (omega (arith, within, length-keys_of es)) in
       let less : R (get_or es i d).0 (get_or es (i + 1) d).0 ≡ Less = rw (low, high) at rise in
       ap is_lt (o.antisymm (get_or es (i + 1) d).0 (get_or es i d).0 ∙ ap ordering_reverse less)
 

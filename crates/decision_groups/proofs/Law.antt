@@ -11,17 +11,20 @@ use Rattle.std.proofs.lemmas.Cmp.{tied_itself}
 use Rattle.std.proofs.lemmas.List.Elements.{filter_passes, All-contains}
 use Rattle.bgp_types.specs.declared.rank.From.{From}
 use Rattle.bgp_types.specs.declared.rank.Rank.{Rank}
-use Rattle.decision_core.specs.Choice.{is_own, has_higher_preference, has_shorter_path, has_lower_origin, is_external, has_lower_cost, has_lower_identifier, has_lower_address, keep, left_of, first, choice}
+use Rattle.decision_core.specs.Choice.{is_own, has_higher_preference, has_shorter_path, has_lower_origin, is_external}
+use Rattle.decision_core.specs.Choice.{has_lower_cost, has_lower_identifier, has_lower_address, keep, left_of, first, choice}
 use Rattle.decision_core.specs.Search.{leads, is_nearer}
 use Rattle.decision_core.proofs.Filters.{IsStrictWeakOrder-in_turn, keep-none}
-use Rattle.decision_core.proofs.NineRules.{on, on_order, keep_on, keep_four, leads_order, is_nearer_order, own_order, preference_order, path_order, origin_order, external_order, cost_order, identifier_order, address_order}
+use Rattle.decision_core.proofs.NineRules.{on, on_order, keep_on, keep_four, leads_order, is_nearer_order, own_order, preference_order}
+use Rattle.decision_core.proofs.NineRules.{path_order, origin_order, external_order, cost_order, identifier_order, address_order}
 use Rattle.decision_core.proofs.AnyOrder.{Contains-filter, Contains-keep}
 use Rattle.decision_groups.specs.Order.{RankedSource, from_order, IsInOrder}
 use Rattle.decision_groups.specs.Champions.{neighbour_group, is_champion, champions, choice_without_med}
 use Rattle.decision_groups.specs.Groups.{beats_without_med}
 use Rattle.decision_groups.proofs.OrderLaws.{from_order_total, from_order_exact}
 use Rattle.decision_groups.proofs.Members.{Contains-head, Contains-first, nothing_in_none, filter-contains}
-use Rattle.decision_groups.proofs.Chosen.{sorted-filter, first-unbeaten, IsChosen, chosen, left-none, choice-chosen, champions-decide, in_own_group, out_of_group, of_group, same_name}
+use Rattle.decision_groups.proofs.Chosen.{sorted-filter, first-unbeaten, IsChosen, chosen, left-none, choice-chosen}
+use Rattle.decision_groups.proofs.Chosen.{champions-decide, in_own_group, out_of_group, of_group, same_name}
 
 pub beats_without_med_order : IsStrictWeakOrder beats_without_med
 beats_without_med_order = IsStrictWeakOrder-in_turn leads is_nearer leads_order is_nearer_order
@@ -87,7 +90,8 @@ champion_cases cs d s there None is =
 champion_cases cs d s there (Some e) is =
     let a = chosen from_order_total (neighbour_group d.1.neighbour cs) e (group_sorted d.1.neighbour cs s) is in
     let of : e.1.neighbour ≡ d.1.neighbour = of_group cs d.1.neighbour e a.there in
-    let test : is_champion cs e ≡ true = subst (λ n. option_map_or (λ from. is_at (from_order from) e.0) (choice (neighbour_group n cs)) false ≡ true) (sym of) (names (neighbour_group d.1.neighbour cs) e is) in
+    let test : is_champion cs e ≡ true = subst (λ n. option_map_or (λ from. is_at (from_order from) e.0) (choice (neighbour_group n cs)) false ≡ true)
+    (sym of) (names (neighbour_group d.1.neighbour cs) e is) in
     record {
       head = e;
       there = filter-contains (is_champion cs) cs e (out_of_group cs d.1.neighbour e a.there) test;
@@ -116,7 +120,8 @@ choice-of_none cs h = rw h refl
 law_cases : (cs : List RankedSource) → IsInOrder cs → (o : Option RankedSource) → first (keep (on beats_without_med) (champions cs)) ≡ o
     → choice cs ≡ option_map (λ c. c.0) o
 law_cases cs s None is =
-    choice-of_none cs (no_champions cs s (keep-none (on beats_without_med) (on beats_without_med) (on_order beats_without_med beats_without_med_order) (λ c d k. k) (champions cs) (first-none (keep (on beats_without_med) (champions cs)) is)))
+    choice-of_none cs (no_champions cs s (keep-none (on beats_without_med) (on beats_without_med)
+    (on_order beats_without_med beats_without_med_order) (λ c d k. k) (champions cs) (first-none (keep (on beats_without_med) (champions cs)) is)))
 law_cases cs s (Some w) is =
     let order = on_order beats_without_med beats_without_med_order in
     let there = Contains-keep (on beats_without_med) (champions cs) w (Contains-first (keep (on beats_without_med) (champions cs)) w is) in
@@ -124,7 +129,11 @@ law_cases cs s (Some w) is =
     choice-chosen from_order_total from_order_exact cs w s
     (champions-decide from_order_total cs w (champion_is_chosen cs w s there)
     (λ d d_there. let e = has_champion cs d s d_there in
-    record { head = e.head; is_chosen = e.is_chosen; not_before = first-unbeaten from_order_total (on beats_without_med) order (champions cs) w e.head sorted is e.there }))
+    record {
+      head = e.head;
+      is_chosen = e.is_chosen;
+      not_before = first-unbeaten from_order_total (on beats_without_med) order (champions cs) w e.head sorted is e.there;
+    }))
 
 pub choice-by_champions : (cs : List RankedSource) → IsInOrder cs → choice cs ≡ choice_without_med (champions cs)
 choice-by_champions cs s = law_cases cs s (first (keep (on beats_without_med) (champions cs))) refl ∙ sym (choice_without_med-in_one (champions cs))

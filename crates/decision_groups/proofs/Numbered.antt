@@ -39,7 +39,8 @@ module _ (es : List NumberedGroup) (neighbour at : ℕ) (e : NumberedGroup) (is 
   members_there n same = ap (members_of es) (same_number n neighbour same) ∙ ap (λ (o : Option (List RankedSource)). unwrap_or o []) group_there
 
   pub changed_numbers : AreNumbered es → (members : List RankedSource) → AreNumbered (set es at (e.0, members))
-  changed_numbers numbered members = subst AreNumbered (insert_over nat_cmp neighbour es at e members is here) (sorted-insert nat_cmp_total neighbour members es numbered)
+  changed_numbers numbered members =
+      subst AreNumbered (insert_over nat_cmp neighbour es at e members is here) (sorted-insert nat_cmp_total neighbour members es numbered)
 
   changed_group : (n : ℕ) (members : List RankedSource) → group_at (set es at (e.0, members)) n ≡ cond (n == neighbour) (Some members) (group_at es n)
   changed_group n members =
@@ -55,8 +56,10 @@ module _ (es : List NumberedGroup) (neighbour at : ℕ) (e : NumberedGroup) (is 
   gone_group : AreNumbered es → (n : ℕ) (members : List RankedSource)
       → group_at (list.remove (set es at (e.0, members)) at) n ≡ cond (n == neighbour) None (group_at es n)
   gone_group numbered n members =
-      ap (λ (gs : List NumberedGroup). group_at gs n) (remove_over nat_cmp neighbour es at (e.0, members) here ∙ sym (remove_index nat_cmp neighbour es at here))
-      ∙ (lookup-remove_entry (eq_by_cmp_equiv nat_cmp_total) (is_at (nat_cmp neighbour)) (λ x y passes. ap is_eq (nat_cmp_total.congr neighbour x y ((Equal-is (nat_cmp neighbour x)).0 passes))) n es (IsDistinct-from_sorted nat_cmp (keys_of es) numbered)
+      ap (λ (gs : List NumberedGroup). group_at gs n)
+      (remove_over nat_cmp neighbour es at (e.0, members) here ∙ sym (remove_index nat_cmp neighbour es at here))
+      ∙ (lookup-remove_entry (eq_by_cmp_equiv nat_cmp_total) (is_at (nat_cmp neighbour)) (λ x y passes. ap is_eq
+      (nat_cmp_total.congr neighbour x y ((Equal-is (nat_cmp neighbour x)).0 passes))) n es (IsDistinct-from_sorted nat_cmp (keys_of es) numbered)
       ∙ ap (λ b. cond b None (group_at es n)) (number_at n neighbour))
 
   by_number : (b : Bool) (n : ℕ) (f : List RankedSource → Option (List RankedSource)) → (n == neighbour) ≡ b
@@ -94,7 +97,8 @@ module _ (es : List NumberedGroup) (neighbour at : ℕ) (gap : IsGapForKey nat_c
   made_numbers numbered members = subst AreNumbered (insert_gap nat_cmp neighbour es at members gap) (sorted-insert nat_cmp_total neighbour members es numbered)
 
   no_members : (n : ℕ) → (n == neighbour) ≡ true → [] ≡ members_of es n
-  no_members n same = sym (ap (members_of es) (same_number n neighbour same) ∙ ap (λ (o : Option (List RankedSource)). unwrap_or o []) (lookup_gap nat_cmp neighbour es at gap))
+  no_members n same = sym (ap (members_of es) (same_number n neighbour same)
+      ∙ ap (λ (o : Option (List RankedSource)). unwrap_or o []) (lookup_gap nat_cmp neighbour es at gap))
 
   no_group : (n : ℕ) → (n == neighbour) ≡ true → group_at es n ≡ None
   no_group n same = ap (group_at es) (same_number n neighbour same) ∙ lookup_gap nat_cmp neighbour es at gap

@@ -36,7 +36,8 @@ same_order (Router r) (Peering q) = refl
 same_order (Router r) (Router s) = refl
 
 pub from_order_total : IsTotalOrder from_order
-from_order_total = subst IsTotalOrder (fun_ext (λ a. fun_ext (λ b. same_order a b))) (then_total (on_total kind_of nat_cmp_total) (on_total number_of nat_cmp_total))
+from_order_total =
+    subst IsTotalOrder (fun_ext (λ a. fun_ext (λ b. same_order a b))) (then_total (on_total kind_of nat_cmp_total) (on_total number_of nat_cmp_total))
 
 pub from_order_exact : CmpEqualImpliesEq from_order
 from_order_exact Own Own h = refl

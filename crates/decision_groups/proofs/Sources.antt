@@ -10,7 +10,8 @@ use Rattle.std.proofs.lemmas.Cmp.{tied_itself}
 use Rattle.std.proofs.lemmas.Map.Keys.{sorted_head, sorted_tail}
 use Rattle.bgp_types.specs.declared.rank.From.{From}
 use Rattle.bgp_types.specs.declared.rank.Rank.{Rank}
-use Rattle.decision_core.specs.Choice.{Rule, is_own, has_higher_preference, has_shorter_path, has_lower_origin, has_lower_med, is_external, has_lower_cost, has_lower_identifier, has_lower_address, keep, left_of, first, choice}
+use Rattle.decision_core.specs.Choice.{Rule, is_own, has_higher_preference, has_shorter_path, has_lower_origin, has_lower_med, is_external}
+use Rattle.decision_core.specs.Choice.{has_lower_cost, has_lower_identifier, has_lower_address, keep, left_of, first, choice}
 use Rattle.decision_core.proofs.NineRules.{on}
 use Rattle.decision_core.proofs.AnyOrder.{Contains-keep}
 use Rattle.decision_groups.specs.Order.{from_order, IsInOrder}
@@ -42,7 +43,8 @@ module _ {K : Type 0} (source : K → From) where
   keep-sources : (rule : Rule) (cs : List (K × Rank)) → keep (on rule) (ranked_sources source cs) ≡ ranked_sources source (keep (on rule) cs)
   unfolding keep
   keep-sources rule cs =
-      filter-map (λ (c : K × Rank). (source c.0, c.1)) (λ x. not (list_any (λ y. on rule y x) (ranked_sources source cs))) (λ x. not (list_any (λ y. on rule y x) cs))
+      filter-map (λ (c : K × Rank). (source c.0, c.1))
+      (λ x. not (list_any (λ y. on rule y x) (ranked_sources source cs))) (λ x. not (list_any (λ y. on rule y x) cs))
       (λ x. ap not (any-map (λ (c : K × Rank). (source c.0, c.1)) (λ y. on rule y (source x.0, x.1)) cs)) cs
 
   -- one rule more
@@ -69,19 +71,22 @@ module _ {K : Type 0} (source : K → From) where
   of_source : (P : From → Type 0) (cs : List (K × Rank)) (e : K × Rank) → Rattle.std.specs.List.AllByRecursion P (keys_of (ranked_sources source cs))
       → Contains cs e → P (source e.0)
   of_source P [] e h there = nothing_in_none e there
-  of_source P (c ∷ cs) e h there = Contains-cases c e cs there (λ same. subst (λ (d : K × Rank). P (source d.0)) same h.0) (λ further. of_source P cs e h.1 further)
+  of_source P (c ∷ cs) e h there =
+      Contains-cases c e cs there (λ same. subst (λ (d : K × Rank). P (source d.0)) same h.0) (λ further. of_source P cs e h.1 further)
 
   found-first : (c e : K × Rank) (cs : List (K × Rank)) (b : Bool) → is_at (from_order (source e.0)) (source c.0) ≡ b → c ≡ e
       → cond b (Some c) (find (λ d. is_at (from_order (source e.0)) (source d.0)) cs) ≡ Some e
   found-first c e cs true is same = ap Some same
   found-first c e cs false is same =
-      let itself : is_at (from_order (source e.0)) (source c.0) ≡ true = ap (λ (d : K × Rank). is_at (from_order (source e.0)) (source d.0)) same ∙ ap is_eq (tied_itself from_order_total (source e.0)) in
+      let itself : is_at (from_order (source e.0)) (source c.0) ≡ true =
+      ap (λ (d : K × Rank). is_at (from_order (source e.0)) (source d.0)) same ∙ ap is_eq (tied_itself from_order_total (source e.0)) in
       cc
 
   found-later : (c e : K × Rank) (found : Option (K × Rank)) → from_order (source c.0) (source e.0) ≡ Less → found ≡ Some e
       → cond (is_at (from_order (source e.0)) (source c.0)) (Some c) found ≡ Some e
   found-later c e found less is =
-      let other : is_at (from_order (source e.0)) (source c.0) ≡ false = ap is_eq (from_order_total.antisymm (source e.0) (source c.0) ∙ ap ordering_reverse less) in
+      let other : is_at (from_order (source e.0)) (source c.0) ≡ false =
+      ap is_eq (from_order_total.antisymm (source e.0) (source c.0) ∙ ap ordering_reverse less) in
       ap (λ b. cond b (Some c) found) other ∙ is
 
   found : (cs : List (K × Rank)) (e : K × Rank) → IsInOrder (ranked_sources source cs) → Contains cs e
@@ -90,7 +95,8 @@ module _ {K : Type 0} (source : K → From) where
   found (c ∷ cs) e s there =
       Contains-cases c e cs there
       (λ same. found-first c e cs _ refl same)
-      (λ further. found-later c e _ (of_source (λ q. from_order (source c.0) q ≡ Less) cs e (sorted_head from_order (source c.0) (keys_of (ranked_sources source cs)) s) further)
+      (λ further. found-later c e _
+      (of_source (λ q. from_order (source c.0) q ≡ Less) cs e (sorted_head from_order (source c.0) (keys_of (ranked_sources source cs)) s) further)
       (found cs e (sorted_tail from_order (source c.0) (keys_of (ranked_sources source cs)) s) further))
 
   by_first : (cs : List (K × Rank)) → IsInOrder (ranked_sources source cs) → (o : Option (K × Rank)) → ((e : K × Rank) → o ≡ Some e → Contains cs e)
@@ -101,8 +107,10 @@ module _ {K : Type 0} (source : K → From) where
   left-there : (cs : List (K × Rank)) (e : K × Rank) → Contains (left_of cs) e → Contains cs e
   unfolding left_of
   left-there cs e there =
-      Contains-keep (on is_own) cs e (Contains-keep (on has_higher_preference) _ e (Contains-keep (on has_shorter_path) _ e (Contains-keep (on has_lower_origin) _ e (Contains-keep (on has_lower_med) _ e
-      (Contains-keep (on is_external) _ e (Contains-keep (on has_lower_cost) _ e (Contains-keep (on has_lower_identifier) _ e (Contains-keep (on has_lower_address) _ e there))))))))
+      Contains-keep (on is_own) cs e (Contains-keep (on has_higher_preference) _ e
+      (Contains-keep (on has_shorter_path) _ e (Contains-keep (on has_lower_origin) _ e (Contains-keep (on has_lower_med) _ e
+      (Contains-keep (on is_external) _ e
+      (Contains-keep (on has_lower_cost) _ e (Contains-keep (on has_lower_identifier) _ e (Contains-keep (on has_lower_address) _ e there))))))))
 
   pub candidate-chosen : (cs : List (K × Rank)) → IsInOrder (ranked_sources source cs)
       → option_and_then (candidate_from source cs) (choice (ranked_sources source cs)) ≡ choice cs

@@ -5,7 +5,8 @@ ghost use Rattle.std.specs.Ordering.{nat_cmp};
 ghost use Rattle.std.specs.Map.{values_of};
 ghost use Rattle.decision_core.specs.Search.{best_by};
 ghost use Rattle.decision_groups.specs.Order.{with_rank, without_source};
-ghost use Rattle.decision_groups.specs.Groups.{NumberedGroup, AreNumbered, group_at, members_of, some_members, champion_of, comes_first as comes_first_lem, better_of};
+ghost use Rattle.decision_groups.specs.Groups.{NumberedGroup, AreNumbered, group_at, members_of, some_members};
+ghost use Rattle.decision_groups.specs.Groups.{champion_of, comes_first as comes_first_lem, better_of};
 ghost use Rattle.decision_groups.specs.Indices.{IsIndexOfKey, IsGapForKey};
 
 use crate::group::Group;
@@ -81,7 +82,8 @@ impl Groups {
     /// Adds a rank to the group of its neighbour AS, which is created if it doesn't exist. If memory
     /// runs out, no group changes.
     pub fn join(&mut self, alloc: Global, from: From, rank: Rank) -> Result<(), NoMemory>
-        ensures ok { OnOk result ((n : ℕ) → group_at self.new n ≡ (if n == rank.neighbour then Some (with_rank (members_of self.old n) from rank) else group_at self.old n)) }
+        ensures ok { OnOk result
+            ((n : ℕ) → group_at self.new n ≡ (if n == rank.neighbour then Some (with_rank (members_of self.old n) from rank) else group_at self.old n)) }
         ensures err { OnErr result ((n : ℕ) → group_at self.new n ≡ group_at self.old n) }
     {
         match index_of(&self.entries, rank.neighbour) {

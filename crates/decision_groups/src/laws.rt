@@ -19,6 +19,8 @@ pub fn champions_decide()
 /// the source that `GroupSet::best` returns is that of the chosen candidate, and the candidate with
 /// that source is the chosen one.
 pub fn choice_by_sources<K>()
-    ensures source { (source : K → from.From) (candidates : List (K × rank.Rank)) → choice (ranked_sources source candidates) ≡ option_map source (choice candidates) }
-    ensures candidate { (source : K → from.From) (candidates : List (K × rank.Rank)) → IsInOrder (ranked_sources source candidates) → option_and_then (candidate_from source candidates) (choice (ranked_sources source candidates)) ≡ choice candidates }
+    ensures source { (source : K → from.From) (candidates : List (K × rank.Rank))
+        → choice (ranked_sources source candidates) ≡ option_map source (choice candidates) }
+    ensures candidate { (source : K → from.From) (candidates : List (K × rank.Rank)) → IsInOrder (ranked_sources source candidates)
+        → option_and_then (candidate_from source candidates) (choice (ranked_sources source candidates)) ≡ choice candidates }
 {}

@@ -94,7 +94,8 @@ module _ (rooms : List ℕ) (from : ℕ) where
           | inr within ↦ inr (λ r some.
               let same = load_after-one_more loads target targets least.free.in_range r in
               elim (first_or_later r target targets some) [
-                | inl first ↦ omega (arith, one_more_load-same loads target.0 least.free.in_range, ap (slice_index (one_more_load loads target.0)) first.0, first.1)
+                | inl first ↦
+                    omega (arith, one_more_load-same loads target.0 least.free.in_range, ap (slice_index (one_more_load loads target.0)) first.0, first.1)
                 | inr later ↦ omega (arith, within r later)
               ])
         ]

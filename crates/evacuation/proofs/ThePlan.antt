@@ -6,7 +6,8 @@ use Rattle.std.specs.List.{range_with_len}
 use Rattle.std.specs.Option.{option_map}
 use Rattle.std.proofs.lemmas.Bool.{cases_eq, cases_lt, cond_both, and_parts, and_from, ltb-true, lt-ltb, leb-true, leb-false, eq-eqb, ne_eqb, true≢false}
 use Rattle.graft_edge.specs.declared.ids.RouterId.{RouterId}
-use Rattle.evacuation.specs.Plans.{TargetList, IsLessLoaded, IsFree, IsLeastLoaded, Plan, Done, Given, NotGiven, lesser, least_of, next_router, loads_with, plan_for}
+use Rattle.evacuation.specs.Plans.{TargetList, IsLessLoaded, IsFree, IsLeastLoaded, Plan, Done, Given}
+use Rattle.evacuation.specs.Plans.{NotGiven, lesser, least_of, next_router, loads_with, plan_for}
 
 -- ---- the least loaded of `n` routers from a number on
 

@@ -144,9 +144,11 @@ module _ (setup : Setup) (even : is_even setup ≡ true) where
         place_even = by_place (cases_eq r (placement setup w.operator p)) where
           by_place : (r ≡ placement setup w.operator p) ⊎ (r ≢ placement setup w.operator p)
               → AllByRecursion (λ s. IfSome (meshes.session_brings (prefix_mesh setup w prefix) s) IsEvenly) (routes_at ((w.router r).places p))
-          by_place (inl e) = subst (λ (place : Place). AllByRecursion (λ s. IfSome (meshes.session_brings (prefix_mesh setup w prefix) s) IsEvenly) (routes_at place))
+          by_place (inl e) =
+              subst (λ (place : Place). AllByRecursion (λ s. IfSome (meshes.session_brings (prefix_mesh setup w prefix) s) IsEvenly) (routes_at place))
               (sym (ap (λ (q : ℕ). (w.router q).places p) e ∙ has.here)) (brought_even, tt)
-          by_place (inr ne) = subst (λ (place : Place). AllByRecursion (λ s. IfSome (meshes.session_brings (prefix_mesh setup w prefix) s) IsEvenly) (routes_at place))
+          by_place (inr ne) =
+              subst (λ (place : Place). AllByRecursion (λ s. IfSome (meshes.session_brings (prefix_mesh setup w prefix) s) IsEvenly) (routes_at place))
               (sym (has.elsewhere r l ne)) tt
 
       at_each : (r : ℕ) → r < routers_in setup → (p : ℕ) → p < peerings_in setup

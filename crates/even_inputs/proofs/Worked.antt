@@ -28,27 +28,33 @@ abbrev thrice : (announced let_in : Med) → List Med
 thrice announced let_in = announced ∷ let_in ∷ let_in ∷ []
 
 uneven_meds : meds_in (even_laboratory (with_med 0) (with_med 1) []) ≡ thrice (of 65001 0) (of 65001 0) ++ thrice (of 65001 1) (of 65001 1)
-unfolding message_of header_fault frame_at body_of open_of update_of fields_of prefixes_of prefix_at many many_within attrs_in attrs_fault own_fault origin_in path_in next_hop_in med_in atomic_in aggregator_in other_in found_in all_known part_at attr_at cap_at caps_of params_of merged_path
+unfolding message_of header_fault frame_at body_of open_of update_of fields_of prefixes_of prefix_at many many_within attrs_in attrs_fault own_fault
+    origin_in path_in next_hop_in med_in atomic_in aggregator_in other_in found_in all_known part_at attr_at cap_at caps_of params_of merged_path
 uneven_meds = refl
 
 absent_meds : meds_in (even_laboratory update_bytes (with_med 0) []) ≡ thrice (of 65001 0) (of 65001 0) ++ thrice (of 65001 0) (of 65001 0)
-unfolding message_of header_fault frame_at body_of open_of update_of fields_of prefixes_of prefix_at many many_within attrs_in attrs_fault own_fault origin_in path_in next_hop_in med_in atomic_in aggregator_in other_in found_in all_known part_at attr_at cap_at caps_of params_of merged_path
+unfolding message_of header_fault frame_at body_of open_of update_of fields_of prefixes_of prefix_at many many_within attrs_in attrs_fault own_fault
+    origin_in path_in next_hop_in med_in atomic_in aggregator_in other_in found_in all_known part_at attr_at cap_at caps_of params_of merged_path
 absent_meds = refl
 
 another_meds : meds_in (even_laboratory (with_med 0) (from_another 1) []) ≡ thrice (of 65001 0) (of 65001 0) ++ thrice (of 65002 1) (of 65002 1)
-unfolding message_of header_fault frame_at body_of open_of update_of fields_of prefixes_of prefix_at many many_within attrs_in attrs_fault own_fault origin_in path_in next_hop_in med_in atomic_in aggregator_in other_in found_in all_known part_at attr_at cap_at caps_of params_of merged_path
+unfolding message_of header_fault frame_at body_of open_of update_of fields_of prefixes_of prefix_at many many_within attrs_in attrs_fault own_fault
+    origin_in path_in next_hop_in med_in atomic_in aggregator_in other_in found_in all_known part_at attr_at cap_at caps_of params_of merged_path
 another_meds = refl
 
 prefixes_meds : meds_in (even_laboratory (with_med 0) (of_eleven 1) []) ≡ thrice (of 65001 0) (of 65001 0) ++ thrice eleven eleven
-unfolding message_of header_fault frame_at body_of open_of update_of fields_of prefixes_of prefix_at many many_within attrs_in attrs_fault own_fault origin_in path_in next_hop_in med_in atomic_in aggregator_in other_in found_in all_known part_at attr_at cap_at caps_of params_of merged_path
+unfolding message_of header_fault frame_at body_of open_of update_of fields_of prefixes_of prefix_at many many_within attrs_in attrs_fault own_fault
+    origin_in path_in next_hop_in med_in atomic_in aggregator_in other_in found_in all_known part_at attr_at cap_at caps_of params_of merged_path
 prefixes_meds = refl
 
 set_meds : meds_in (even_laboratory (with_med 0) (with_med 0) (sets_med ∷ [])) ≡ thrice (of 65001 0) (of 65001 5) ++ thrice (of 65001 0) (of 65001 5)
-unfolding message_of header_fault frame_at body_of open_of update_of fields_of prefixes_of prefix_at many many_within attrs_in attrs_fault own_fault origin_in path_in next_hop_in med_in atomic_in aggregator_in other_in found_in all_known part_at attr_at cap_at caps_of params_of merged_path
+unfolding message_of header_fault frame_at body_of open_of update_of fields_of prefixes_of prefix_at many many_within attrs_in attrs_fault own_fault
+    origin_in path_in next_hop_in med_in atomic_in aggregator_in other_in found_in all_known part_at attr_at cap_at caps_of params_of merged_path
 set_meds = refl
 
 same_meds : meds_in (even_laboratory (with_med 5) (with_med 5) (sets_med ∷ [])) ≡ thrice (of 65001 5) (of 65001 5) ++ thrice (of 65001 5) (of 65001 5)
-unfolding message_of header_fault frame_at body_of open_of update_of fields_of prefixes_of prefix_at many many_within attrs_in attrs_fault own_fault origin_in path_in next_hop_in med_in atomic_in aggregator_in other_in found_in all_known part_at attr_at cap_at caps_of params_of merged_path
+unfolding message_of header_fault frame_at body_of open_of update_of fields_of prefixes_of prefix_at many many_within attrs_in attrs_fault own_fault
+    origin_in path_in next_hop_in med_in atomic_in aggregator_in other_in found_in all_known part_at attr_at cap_at caps_of params_of merged_path
 same_meds = refl
 
 pub uneven : is_even (even_laboratory (with_med 0) (with_med 1) []) ≡ false

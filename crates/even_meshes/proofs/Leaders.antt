@@ -8,7 +8,8 @@ use Rattle.decision_core.specs.Search.{pick, best_by}
 use Rattle.route_policy.specs.declared.best.Best.{Best}
 use Rattle.route_policy.specs.Candidates.{Candidate}
 use Rattle.route_policy.specs.Telling.{inside, tell_in}
-use Rattle.even_meshes.specs.Meshes.{PrefixMesh, candidates_alone, decided, rank_anywhere, beats_before_med, beats_as, is_own_source, choice_alone, leader_route, IsEven}
+use Rattle.even_meshes.specs.Meshes.{PrefixMesh, candidates_alone, decided, rank_anywhere, beats_before_med}
+use Rattle.even_meshes.specs.Meshes.{beats_as, is_own_source, choice_alone, leader_route, IsEven}
 use Rattle.even_meshes.proofs.Folds.{IfAny, all_append, all_imply, all_each, picks_all, picks_stay, picks_new, none_where, none_of}
 use Rattle.even_meshes.proofs.Choices.{named, better, IsEvenBy, choice_even, best_by-append}
 use Rattle.even_meshes.proofs.Bases.{IsBase, all_base, told_by, OfTold, heard, heard_all, hits, hit, heard_any, better_told}

@@ -40,8 +40,10 @@ module _ (m : PrefixMesh) (even : IsEven m) where
     would_be b outer e route d = subst (IsEvenRoute m even) (same_some b.route route (sym outer ∙ d)) e
 
     base_would : (q : ℕ) → HasEvenBase m even q → AllByRecursion (λ c. WouldBeEven c.0) (candidates_alone m q)
-    base_would q h = all_imply (λ c. IsBase m.home_as c × IsEvenRoute m even c.0.route) (λ c. WouldBeEven c.0) (λ c k. would_be c.0 k.0.outer k.1) (candidates_alone m q)
-        (all_both (IsBase m.home_as) (λ c. IsEvenRoute m even c.0.route) (candidates_alone m q) (all_base m q) (even_base m even (candidates_alone m q) (all_base m q) h))
+    base_would q h = all_imply (λ c. IsBase m.home_as c × IsEvenRoute m even c.0.route)
+        (λ c. WouldBeEven c.0) (λ c k. would_be c.0 k.0.outer k.1) (candidates_alone m q)
+        (all_both (IsBase m.home_as) (λ c. IsEvenRoute m even c.0.route) (candidates_alone m q)
+        (all_base m q) (even_base m even (candidates_alone m q) (all_base m q) h))
 
     hears_would : (q : ℕ) → AllByRecursion (λ c. WouldBeEven c.0) (hears m even told best q)
     hears_would q = heard_all (λ c. WouldBeEven c.0) m told q m.routers

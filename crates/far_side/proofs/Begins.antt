@@ -38,9 +38,31 @@ begun known config table r home remote = record {
 
 module _ (known : Known) (config : FarConfig) (table : SayTable) (r : RemoteValue) (home remote : LinkValue) (is : IsFarConfigOf known.setup config)
     (says : (step : ℕ) → bytes_at table step ≡ bytes_to_say config.says step)
-    (r_is : r ≡ record { end = record fresh_endpoint { stream = config.opening }; at_turn = 0; peering = config.peering.0; send_first = config.send_first.0; receive_first = config.receive_first.0 })
-    (home_is : home ≡ record { way = Home; peering = config.peering.0; seq_first = config.send_first.0; ack_first = config.receive_first.0; segments = []; plans = []; put = 0 })
-    (remote_is : remote ≡ record { way = Remote; peering = config.peering.0; seq_first = config.receive_first.0; ack_first = config.send_first.0; segments = []; plans = []; put = 0 }) where
+    (r_is : r ≡ record {
+      end = record fresh_endpoint { stream = config.opening };
+      at_turn = 0;
+      peering = config.peering.0;
+      send_first = config.send_first.0;
+      receive_first = config.receive_first.0;
+    })
+    (home_is : home ≡ record {
+      way = Home;
+      peering = config.peering.0;
+      seq_first = config.send_first.0;
+      ack_first = config.receive_first.0;
+      segments = [];
+      plans = [];
+      put = 0;
+    })
+    (remote_is : remote ≡ record {
+      way = Remote;
+      peering = config.peering.0;
+      seq_first = config.receive_first.0;
+      ack_first = config.send_first.0;
+      segments = [];
+      plans = [];
+      put = 0;
+    }) where
   sends : config.send_first.0 ≡ remote_first known.setup config.peering.0
   sends = ap (λ s. s.0) is.sends
       ∙ sym (ap (λ (o : Option PeeringSetup). unwrap_or (option_map (λ c. c.receive_first.0) (option_map (λ q. q.config) o)) 0) is.is)
@@ -60,8 +82,18 @@ module _ (known : Known) (config : FarConfig) (table : SayTable) (r : RemoteValu
     remote = ap (λ (v : RemoteValue). v.peering) r_is;
     sends = ap (λ (v : RemoteValue). v.send_first) r_is ∙ sends;
     receives = ap (λ (v : RemoteValue). v.receive_first) r_is ∙ receives;
-    homeward = record { way = ap (λ (l : LinkValue). l.way) home_is; peering = ap (λ (l : LinkValue). l.peering) home_is; seq_first = ap (λ (l : LinkValue). l.seq_first) home_is ∙ sends; ack_first = ap (λ (l : LinkValue). l.ack_first) home_is ∙ receives };
-    remoteward = record { way = ap (λ (l : LinkValue). l.way) remote_is; peering = ap (λ (l : LinkValue). l.peering) remote_is; seq_first = ap (λ (l : LinkValue). l.seq_first) remote_is ∙ receives; ack_first = ap (λ (l : LinkValue). l.ack_first) remote_is ∙ sends };
+    homeward = record {
+      way = ap (λ (l : LinkValue). l.way) home_is;
+      peering = ap (λ (l : LinkValue). l.peering) home_is;
+      seq_first = ap (λ (l : LinkValue). l.seq_first) home_is ∙ sends;
+      ack_first = ap (λ (l : LinkValue). l.ack_first) home_is ∙ receives;
+    };
+    remoteward = record {
+      way = ap (λ (l : LinkValue). l.way) remote_is;
+      peering = ap (λ (l : LinkValue). l.peering) remote_is;
+      seq_first = ap (λ (l : LinkValue). l.seq_first) remote_is ∙ receives;
+      ack_first = ap (λ (l : LinkValue). l.ack_first) remote_is ∙ sends;
+    };
     pointer = rw is.pointer is.known;
     pointed = rw home_is tt;
   }

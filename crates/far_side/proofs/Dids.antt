@@ -23,8 +23,10 @@ use Rattle.graft_actors.proofs.Deeds.{are_deeds-append}
 
 rounds_append : (setup : Setup) (p : ℕ) (a b c : FarPart) (t u w : Tally) (es fs : List FarEvent) → FarRound setup p a t es b u
     → FarRound setup p b u fs c w → FarRound setup p a t (es ++ fs) c w
-rounds_append setup p a b c t u w [] fs h k = subst (λ (x : FarPart). FarRound setup p x t fs c w) h.0 (subst (λ (x : Tally). FarRound setup p b x fs c w) h.1 k)
-rounds_append setup p a b c t u w (e ∷ es) fs (taken, sent, m, row, careful, rest) k = (taken, sent, m, row, careful, rounds_append setup p m b c (far_tally a e t) u w es fs rest k)
+rounds_append setup p a b c t u w [] fs h k =
+    subst (λ (x : FarPart). FarRound setup p x t fs c w) h.0 (subst (λ (x : Tally). FarRound setup p b x fs c w) h.1 k)
+rounds_append setup p a b c t u w (e ∷ es) fs (taken, sent, m, row, careful, rest) k =
+    (taken, sent, m, row, careful, rounds_append setup p m b c (far_tally a e t) u w es fs rest k)
 
 module _ {C : Type 0} (session : C → SessionValue) where
   -- nothing that the model sees changes
@@ -50,9 +52,11 @@ module _ {C : Type 0} (session : C → SessionValue) where
     wrote = wrote_then p q r x.deeds y.deeds x.wrote y.wrote;
     none = all-append TakesNone x.deeds y.deeds x.none y.none;
     coded = are_deeds-append far_code es fs x.deeds y.deeds x.coded y.coded;
-    replay = replay-append (acts session) (actor_of p) (own_part a) (own_part b) (own_part c) x.deeds y.deeds x.replay (subst (λ (n : ℕ). Replay (acts session) n (own_part b) y.deeds (own_part c)) x.wrote.actor y.replay);
+    replay = replay-append (acts session) (actor_of p) (own_part a) (own_part b) (own_part c) x.deeds y.deeds x.replay
+        (subst (λ (n : ℕ). Replay (acts session) n (own_part b) y.deeds (own_part c)) x.wrote.actor y.replay);
     round = rounds_append a.known.setup a.peering.0 (far_part a) (far_part b) (far_part c) t u w es fs x.round
-        (subst (λ (s : Setup). FarRound s a.peering.0 (far_part b) u fs (far_part c) w) x.setup (subst (λ (n : ℕ). FarRound b.known.setup n (far_part b) u fs (far_part c) w) (ap (λ k. k.0) x.peering) y.round));
+        (subst (λ (s : Setup). FarRound s a.peering.0 (far_part b) u fs (far_part c) w) x.setup
+        (subst (λ (n : ℕ). FarRound b.known.setup n (far_part b) u fs (far_part c) w) (ap (λ k. k.0) x.peering) y.round));
   }
 
   -- one event that takes and sends nothing
@@ -74,7 +78,16 @@ module _ {C : Type 0} (session : C → SessionValue) where
         name = ap (λ k. FarSide k.0) peering;
         does = inl (record {
           welcome = tt;
-          row = record { event = event; coded = record { kind = refl; a = refl; b = refl; c = refl }; took = None; gave = []; holds = row; is_taken = refl; is_sent = refl; there = tt };
+          row = record {
+            event = event;
+            coded = record { kind = refl; a = refl; b = refl; c = refl };
+            took = None;
+            gave = [];
+            holds = row;
+            is_taken = refl;
+            is_sent = refl;
+            there = tt;
+          };
           fit = tt;
         });
       },

@@ -32,12 +32,14 @@ Silent event = (part : FarPart) → SendsNone part event
 pub silent_goes : (setup : Setup) (p : ℕ) (a b : FarPart) (t u : Tally) (es : List FarEvent) → AllByRecursion Silent es → FarRound setup p a t es b u
     → FarGoes setup p SendsNone a es b
 silent_goes setup p a b t u [] none round = round.0
-silent_goes setup p a b t u (e ∷ es) none (taken, sent, m, row, careful, rest) = (taken, sent, m, row, none.0 a, silent_goes setup p m b (far_tally a e t) u es none.1 rest)
+silent_goes setup p a b t u (e ∷ es) none (taken, sent, m, row, careful, rest) =
+    (taken, sent, m, row, none.0 a, silent_goes setup p m b (far_tally a e t) u es none.1 rest)
 
 silent_passes : (event : ℕ → InLink → List FarEvent) → ((n : ℕ) (x : InLink) → AllByRecursion Silent (event n x)) → (n : ℕ) (xs : List InLink)
     → AllByRecursion Silent (pass_events event n xs)
 silent_passes event each n [] = tt
-silent_passes event each n (x ∷ xs) = all-append Silent (event n x) (pass_events event (next_index n x) xs) (each n x) (silent_passes event each (next_index n x) xs)
+silent_passes event each n (x ∷ xs) =
+    all-append Silent (event n x) (pass_events event (next_index n x) xs) (each n x) (silent_passes event each (next_index n x) xs)
 
 silent_home : (pointer n : ℕ) (x : InLink) (act : Act) → AllByRecursion Silent (home_act pointer n x act)
 silent_home pointer n x Stays = tt
@@ -71,10 +73,12 @@ counted_old e from (suc n) (inl old) again = old
 counted_old e from (suc n) (inr new) again = absurd (omega (arith, none))
   where
     none : 0 < 0
-    none = subst (λ (b : Bool). 0 < (let u : Tally = if b then record { again = 0 + 1; answers = 0 } else zero_tally in u).again) (le-ltb from e.emitted (omega (arith, new.next))) again
+    none = subst (λ (b : Bool). 0 < (let u : Tally = if b then record { again = 0 + 1; answers = 0 } else zero_tally in u).again)
+        (le-ltb from e.emitted (omega (arith, new.next))) again
 
 old_goes : (setup : Setup) (p : ℕ) (a b : FarPart) (raised some : Bool) (from len : ℕ) (u : Tally)
-    → (let es : List FarEvent = if raised then [] else (if some then Send from len ∷ [] else []) in FarRound setup p a zero_tally es b u → u.again ≡ length es → FarGoes setup p FarRetransmits a es b)
+    → (let es : List FarEvent = if raised then [] else (if some then Send from len ∷ [] else []) in
+    FarRound setup p a zero_tally es b u → u.again ≡ length es → FarGoes setup p FarRetransmits a es b)
 old_goes setup p a b true some from len u round again = round.0
 old_goes setup p a b false true from len u (taken, sent, m, row, careful, rest) again =
     (taken, sent, m, row, counted_old a.end from len careful (omega (arith, ap (λ (t : Tally). t.again) rest.1, again)), rest.0)
@@ -91,7 +95,13 @@ again_goes setup p a b r u = old_goes setup p a b (nat_lt r.at_turn r.end.acked)
 new_slice : (a : FarPart) (from len : ℕ) (t : Tally) → 0 < len → IsCareful a.end from len
     → (t.again ≤ (tallied a.end from len t).again) × ((tallied a.end from len t).again ≤ t.again → SendsNew a (Send from len))
 new_slice a from zero t some careful = absurd (omega (arith, some))
-new_slice a from (suc n) t some (inr new) = (omega (arith, ap (λ (b : Bool). (let u : Tally = if b then record t { again = t.again + 1 } else t in u).again) (le-ltb from a.end.emitted (omega (arith, new.next)))), λ none. new)
+new_slice a from (suc n) t some (inr new) = (
+  omega (
+    arith,
+    ap (λ (b : Bool). (let u : Tally = if b then record t { again = t.again + 1 } else t in u).again) (le-ltb from a.end.emitted (omega (arith, new.next))),
+  ),
+  λ none. new,
+)
 new_slice a from (suc n) t some (inl old) = (omega (arith, raised), λ none. absurd (omega (arith, raised, none)))
   where
     raised : (tallied a.end from (suc n) t).again ≡ t.again + 1
@@ -100,13 +110,15 @@ new_slice a from (suc n) t some (inl old) = (omega (arith, raised), λ none. abs
 new_event : (a : FarPart) (event : FarEvent) (from len : ℕ) (t : Tally) → event ≡ Send from len → 0 < len → CarefulFar a event
     → (t.again ≤ (far_tally a event t).again) × ((far_tally a event t).again ≤ t.again → SendsNew a event)
 new_event a event from len t is some careful =
-    subst (λ (x : FarEvent). (t.again ≤ (far_tally a x t).again) × ((far_tally a x t).again ≤ t.again → SendsNew a x)) (sym is) (new_slice a from len t some (subst (CarefulFar a) is careful))
+    subst (λ (x : FarEvent). (t.again ≤ (far_tally a x t).again) × ((far_tally a x t).again ≤ t.again → SendsNew a x))
+    (sym is) (new_slice a from len t some (subst (CarefulFar a) is careful))
 
 pub fresh_goes : (setup : Setup) (p : ℕ) (e f : Endpoint) (a b : FarPart) (t u : Tally) (es : List FarEvent) → FreshEvents e es f
     → FarRound setup p a t es b u → (t.again ≤ u.again) × (u.again ≤ t.again → FarGoes setup p SendsNew a es b)
 fresh_goes setup p e f a b t u [] fresh round = (omega (arith, ap (λ (w : Tally). w.again) round.1), λ none. round.0)
 fresh_goes setup p e f a b t u (event ∷ es) (some, is, more) (taken, sent, m, row, careful, rest) =
-    let one : (t.again ≤ (far_tally a event t).again) × ((far_tally a event t).again ≤ t.again → SendsNew a event) = new_event a event e.emitted (next_length e) t is some careful in
+    let one : (t.again ≤ (far_tally a event t).again) × ((far_tally a event t).again ≤ t.again → SendsNew a event) =
+    new_event a event e.emitted (next_length e) t is some careful in
     let others : ((far_tally a event t).again ≤ u.again) × (u.again ≤ (far_tally a event t).again → FarGoes setup p SendsNew m es b)
     = fresh_goes setup p (record e { emitted = e.emitted + next_length e }) f m b (far_tally a event t) u es more rest in
     (omega (arith, one.0, others.0), λ none. (taken, sent, m, row, one.1 (omega (arith, others.0, none)), others.1 (omega (arith, one.0, none))))
@@ -129,4 +141,5 @@ pub round_by : {C : Type 0} (session : C → SessionValue) (first f g : Fields) 
     → f.known.setup ≡ first.known.setup → f.peering ≡ first.peering → DidAsFar session f p t es g q u
     → FarRound first.known.setup first.peering.0 (far_part f) t es (far_part g) u
 round_by session first f g p q t u es setup peering did =
-    subst (λ (s : Setup). FarRound s first.peering.0 (far_part f) t es (far_part g) u) setup (subst (λ (n : ℕ). FarRound f.known.setup n (far_part f) t es (far_part g) u) (ap (λ k. k.0) peering) did.round)
+    subst (λ (s : Setup). FarRound s first.peering.0 (far_part f) t es (far_part g) u) setup
+    (subst (λ (n : ℕ). FarRound f.known.setup n (far_part f) t es (far_part g) u) (ap (λ k. k.0) peering) did.round)

@@ -14,7 +14,12 @@ use Rattle.far_side.specs.declared.link.InLink.{InLink}
 use Rattle.far_side.proofs.PassLists.{without_is}
 
 leads_on : (old new : LinkValue) (way : Way) (p s a : ℕ) → SameLink old new → LinkLeads old way p s a → LinkLeads new way p s a
-leads_on old new way p s a same leads = record { way = same.way ∙ leads.way; peering = same.peering ∙ leads.peering; seq_first = same.seq_first ∙ leads.seq_first; ack_first = same.ack_first ∙ leads.ack_first }
+leads_on old new way p s a same leads = record {
+  way = same.way ∙ leads.way;
+  peering = same.peering ∙ leads.peering;
+  seq_first = same.seq_first ∙ leads.seq_first;
+  ack_first = same.ack_first ∙ leads.ack_first;
+}
 
 -- ---- the routers that the link pointed at
 

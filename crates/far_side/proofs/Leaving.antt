@@ -29,7 +29,8 @@ gone_is (Stray after) turns = gone_later (turns == 0) (nat_le after turns) Copie
 
 pub leaves_then : (fate : Fate) (turns : ℕ) → turns ≤ last_turn fate → IsTrue (is_gone (act_of fate turns)) ↔ (turns ≡ last_turn fate)
 leaves_then fate turns h = (
-  (λ gone. let e : nat_le (last_turn fate) turns ≡ true = sym (gone_is fate turns) ∙ gone in let le : last_turn fate ≤ turns = grind (arith, nat_tests) in omega (arith, le, h)),
+  (λ gone. let e : nat_le (last_turn fate) turns ≡ true = sym (gone_is fate turns) ∙ gone in
+      let le : last_turn fate ≤ turns = grind (arith, nat_tests) in omega (arith, le, h)),
   (λ last. gone_is fate turns ∙ (let e : nat_le (last_turn fate) turns ≡ true = grind (arith, nat_tests) in e)),
 )
 

@@ -46,13 +46,18 @@ seen_at l index g is = slice_get-map (placed l.seq_first.0 l.ack_first.0) l.bag 
 
 -- the other segments stay ones of the link
 pub own_others : (l : Inside) (index : ℕ) → LinkInvariant l → All (IsOn (link_of l)) (remove l.bag index)
-own_others l index keeps = All-from_recursion (IsOn (link_of l)) (remove l.bag index) (all_removed (IsOn (link_of l)) index l.bag (recursion_from_All (IsOn (link_of l)) l.bag keeps.own))
+own_others l index keeps = All-from_recursion (IsOn (link_of l)) (remove l.bag index)
+    (all_removed (IsOn (link_of l)) index l.bag (recursion_from_All (IsOn (link_of l)) l.bag keeps.own))
 
 -- a segment more
 put_seen : (l : Inside) (bag : List Segment) (plans : List InLink) (number : ℕ) (g : Segment) (x : InLink) → bag ≡ l.bag ++ g ∷ []
     → plans ≡ l.plans.items ++ x ∷ [] → number ≡ l.put + 1
     → let v : LinkValue = record (link_of l) { segments = map (placed l.seq_first.0 l.ack_first.0) bag; plans = plans; put = number } in
-    v ≡ record (link_of l) { segments = (link_of l).segments ++ placed l.seq_first.0 l.ack_first.0 g ∷ []; plans = (link_of l).plans ++ x ∷ []; put = (link_of l).put + 1 }
+    v ≡ record (link_of l) {
+      segments = (link_of l).segments ++ placed l.seq_first.0 l.ack_first.0 g ∷ [];
+      plans = (link_of l).plans ++ x ∷ [];
+      put = (link_of l).put + 1;
+    }
 put_seen l bag plans number g x is more next = λ i. record {
   way = l.way;
   peering = l.peering.0;
@@ -69,7 +74,9 @@ pub put_then : (l : Inside) (v : LinkValue) (bag : List Segment) (plans : List I
     → let w : LinkValue = record (link_of l) { segments = map (placed l.seq_first.0 l.ack_first.0) bag; plans = plans; put = number } in
     w ≡ record v { segments = v.segments ++ placed v.seq_first v.ack_first g ∷ []; plans = v.plans ++ y ∷ []; put = v.put + 1 }
 put_then l v bag plans number g x y seen is more next same =
-    subst (λ (u : LinkValue). let w : LinkValue = record (link_of l) { segments = map (placed l.seq_first.0 l.ack_first.0) bag; plans = plans; put = number } in w ≡ record u { segments = u.segments ++ placed u.seq_first u.ack_first g ∷ []; plans = u.plans ++ y ∷ []; put = u.put + 1 }) seen
+    subst
+    (λ (u : LinkValue). let w : LinkValue = record (link_of l) { segments = map (placed l.seq_first.0 l.ack_first.0) bag; plans = plans; put = number } in
+    w ≡ record u { segments = u.segments ++ placed u.seq_first u.ack_first g ∷ []; plans = u.plans ++ y ∷ []; put = u.put + 1 }) seen
     (put_seen l bag plans number g y is (more ∙ ap (λ (z : InLink). l.plans.items ++ z ∷ []) same) next)
 
 -- the link as it is seen without the segment at an index
@@ -78,7 +85,8 @@ pub removed_then : (l : Inside) (v : LinkValue) (bag : List Segment) (plans : Li
     → let w : LinkValue = record (link_of l) { segments = map (placed l.seq_first.0 l.ack_first.0) bag; plans = plans } in
     w ≡ record v { segments = without index v.segments; plans = without index v.plans }
 removed_then l v bag plans index seen is less =
-    subst (λ (u : LinkValue). let w : LinkValue = record (link_of l) { segments = map (placed l.seq_first.0 l.ack_first.0) bag; plans = plans } in w ≡ record u { segments = without index u.segments; plans = without index u.plans }) seen
+    subst (λ (u : LinkValue). let w : LinkValue = record (link_of l) { segments = map (placed l.seq_first.0 l.ack_first.0) bag; plans = plans } in
+    w ≡ record u { segments = without index u.segments; plans = without index u.plans }) seen
     (λ i. record {
       way = l.way;
       peering = l.peering.0;
@@ -92,7 +100,8 @@ removed_then l v bag plans index seen is less =
 length_removed : {A : Type 0} (xs : List A) (index : ℕ) → index < length xs → length (remove xs index) + 1 ≡ length xs
 length_removed [] index below = absurd (omega (arith, below))
 length_removed (x ∷ xs) zero below = let e : length xs + 1 ≡ suc (length xs) = add-one (length xs) in e
-length_removed (x ∷ xs) (suc index) below = let h : length (remove xs index) + 1 ≡ length xs = length_removed xs index (omega (arith, below)) in omega (arith, h)
+length_removed (x ∷ xs) (suc index) below =
+    let h : length (remove xs index) + 1 ≡ length xs = length_removed xs index (omega (arith, below)) in omega (arith, h)
 
 -- what its fields keep
 pub keeps_removed : (l l' : Inside) (index : ℕ) → LinkInvariant l → index < length l.bag → l'.bag ≡ remove l.bag index
@@ -102,7 +111,9 @@ keeps_removed l l' index keeps below bag plans way peering first other = record 
   own = subst (λ (gs : List Segment). All (IsOn (link_of l')) gs) (sym bag) (All-from_recursion (IsOn (link_of l')) (remove l.bag index)
       (all_same (remove l.bag index) (recursion_from_All (IsOn (link_of l)) (remove l.bag index) (own_others l index keeps))));
   planned = ap length plans
-      ∙ (let e : length (remove l.plans.items index) ≡ length (remove l.bag index) = omega (arith, length_removed l.plans.items index (omega (arith, keeps.planned, below)), length_removed l.bag index below, keeps.planned) in e) ∙ sym (ap length bag);
+      ∙ (let e : length (remove l.plans.items index) ≡ length (remove l.bag index) =
+      omega (arith, length_removed l.plans.items index (omega (arith, keeps.planned, below)), length_removed l.bag index below, keeps.planned) in e)
+      ∙ sym (ap length bag);
   few = omega (arith, ap length bag, length_removed l.bag index below, keeps.few);
 }
   where
@@ -110,7 +121,8 @@ keeps_removed l l' index keeps below bag plans way peering first other = record 
     same_on g on = record {
       way = on.way ∙ sym way;
       peering = on.peering ∙ sym (ap (λ p. p.0) peering);
-      in_streams = subst (λ (n : ℕ). IsInStreams (placed n l'.ack_first.0 g)) (sym (ap (λ s. s.0) first)) (subst (λ (n : ℕ). IsInStreams (placed l.seq_first.0 n g)) (sym (ap (λ s. s.0) other)) on.in_streams);
+      in_streams = subst (λ (n : ℕ). IsInStreams (placed n l'.ack_first.0 g)) (sym (ap (λ s. s.0) first))
+          (subst (λ (n : ℕ). IsInStreams (placed l.seq_first.0 n g)) (sym (ap (λ s. s.0) other)) on.in_streams);
       short = on.short;
     }
 

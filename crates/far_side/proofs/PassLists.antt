@@ -1,5 +1,6 @@
 -- One turn over the plans of a link, index by index.
-use Rattle.std.proofs.Common.{◌≡◌, ℕ, zero, suc, ◌+◌, ◌<◌, ◌≤◌, List, [], ◌∷◌, ◌++◌, length, take, drop, map, filter, Some, None, Bool, true, false, refl, sym, ap, ◌∙◌, arith, append_assoc, add-one}
+use Rattle.std.proofs.Common.{◌≡◌, ℕ, zero, suc, ◌+◌, ◌<◌, ◌≤◌, List, [], ◌∷◌, ◌++◌, length, take, drop, map, filter, Some}
+use Rattle.std.proofs.Common.{None, Bool, true, false, refl, sym, ap, ◌∙◌, arith, append_assoc, add-one}
 use Rattle.std.specs.Prelude.{slice_get, slice_set, not, if◌then◌else◌}
 use Rattle.graft_model.specs.FarRows.{without}
 use Rattle.graft_model.specs.declared.event.FarEvent.{FarEvent}
@@ -67,7 +68,8 @@ drop_more (suc i) (y ∷ ys) x xs is = drop_more i ys x xs is
 left_by : Bool → InLink → List InLink → List InLink
 left_by gone x xs = map older (if not gone then x ∷ filter (λ y. not (is_gone (act_in y))) xs else filter (λ y. not (is_gone (act_in y))) xs)
 
-module _ (event : ℕ → InLink → List FarEvent) (first plans plans' : List InLink) (index next i : ℕ) (es : List FarEvent) (x : InLink) (passed : Passed event first plans index i es) (is : slice_get plans index ≡ Some x) where
+module _ (event : ℕ → InLink → List FarEvent) (first plans plans' : List InLink) (index next i : ℕ) (es : List FarEvent)
+    (x : InLink) (passed : Passed event first plans index i es) (is : slice_get plans index ≡ Some x) where
   behind : List InLink
   behind = drop (suc index) plans
 
@@ -106,7 +108,8 @@ module _ (event : ℕ → InLink → List FarEvent) (first plans plans' : List I
   by_gone false g e m n = ends (take index plans ++ older x ∷ [])
       (ap (λ (k : ℕ). take k plans') (m ∙ add-one index) ∙ ap (take (suc index)) e ∙ set_take index plans x (older x) is)
       (ap (λ (k : ℕ). drop k plans') (m ∙ add-one index) ∙ ap (drop (suc index)) e ∙ set_drop index plans x (older x) is)
-      n (append_assoc (take index plans) (older x ∷ []) (left_in_link (drop (suc index) plans)) ∙ ap (λ (b : Bool). take index plans ++ left_by b x (drop (suc index) plans)) (sym g))
+      n (append_assoc (take index plans) (older x ∷ []) (left_in_link (drop (suc index) plans))
+      ∙ ap (λ (b : Bool). take index plans ++ left_by b x (drop (suc index) plans)) (sym g))
 
   -- one more plan had its turn
   pub passed_more : plans' ≡ plans_after index x plans → next ≡ next_index index x → Passed event first plans' next (i + 1) (es ++ event index x)
@@ -151,4 +154,5 @@ within (suc n) (p ∷ ps) h = let k : n < length ps = within n ps h in omega (ar
 -- an index is that of a plan while some had no turn
 pub index_within : (event : ℕ → InLink → List FarEvent) (first plans : List InLink) (index i : ℕ) (es : List FarEvent)
     → Passed event first plans index i es → i < length first → index < length plans
-index_within event first plans index i es passed more = within index plans (omega (arith, drop_some i first more, ap (λ (xs : List InLink). length xs) passed.rest))
+index_within event first plans index i es passed more =
+    within index plans (omega (arith, drop_some i first more, ap (λ (xs : List InLink). length xs) passed.rest))

@@ -61,8 +61,13 @@ lost_row Remote f index there = record { there = there; takes = refl; sends = re
 -- a segment that arrives leaves what was emitted, and at least as much is acknowledged
 taken : (old new : Endpoint) (segment : PlacedSegment) → TakesSegment old segment new
     → (new.stream ≡ old.stream) × (new.emitted ≡ old.emitted) × (old.acked ≤ new.acked)
-taken old new segment (inl drops) = (ap (λ (e : Endpoint). e.stream) drops.stays, ap (λ (e : Endpoint). e.emitted) drops.stays, omega (arith, ap (λ (e : Endpoint). e.acked) drops.stays))
-taken old new segment (inr accepts) = (ap (λ (e : Endpoint). e.stream) accepts.changed, ap (λ (e : Endpoint). e.emitted) accepts.changed, omega (arith, ap (λ (e : Endpoint). e.acked) accepts.changed))
+taken old new segment (inl drops) =
+    (ap (λ (e : Endpoint). e.stream) drops.stays, ap (λ (e : Endpoint). e.emitted) drops.stays, omega (arith, ap (λ (e : Endpoint). e.acked) drops.stays))
+taken old new segment (inr accepts) = (
+  ap (λ (e : Endpoint). e.stream) accepts.changed,
+  ap (λ (e : Endpoint). e.emitted) accepts.changed,
+  omega (arith, ap (λ (e : Endpoint). e.acked) accepts.changed),
+)
 
 handed_none : (way : Way) (r : RemoteValue) → HandedTo way r r
 handed_none Home r = refl
@@ -80,25 +85,30 @@ handed_then Remote a b c x y = record {
 handed : {C : Type 0} (way : Way) (l : LinkValue) (index : ℕ) (keep : Bool) (router : ℕ) (r s : RemoteValue) (p q : Post (Item C))
     → Hands way l index keep router r p s q → HandedTo way r s
 handed Home l index keep router r s p q hands = hands.1
-handed Remote l index keep router r s p q hands = let t = taken r.end s.end hands.1.segment hands.1.takes in record { is = hands.1.same; stream = t.0; emitted = t.1; acked = t.2 }
+handed Remote l index keep router r s p q hands =
+    let t = taken r.end s.end hands.1.segment hands.1.takes in record { is = hands.1.same; stream = t.0; emitted = t.1; acked = t.2 }
 
 -- ---- the far side stays sound
 
 keeps_handed : (way : Way) (f : Fields) (r : RemoteValue) → HandedTo way f.remote r → FarSideInvariant f → FarSideInvariant (record f { remote = r })
 keeps_handed Home f r is keeps = subst (λ (v : RemoteValue). FarSideInvariant (record f { remote = v })) (sym is) keeps
-keeps_handed Remote f r same keeps = keeps_remote f r keeps (ap (λ (v : RemoteValue). v.peering) same.is) (ap (λ (v : RemoteValue). v.send_first) same.is) (ap (λ (v : RemoteValue). v.receive_first) same.is)
+keeps_handed Remote f r same keeps = keeps_remote f r keeps (ap (λ (v : RemoteValue). v.peering) same.is)
+    (ap (λ (v : RemoteValue). v.send_first) same.is) (ap (λ (v : RemoteValue). v.receive_first) same.is)
 
 keeps_after : (way : Way) (f : Fields) (index : ℕ) (x : InLink) → slice_get (link_to f way).plans index ≡ Some x → FarSideInvariant f
     → FarSideInvariant (with_link f way (link_after index x (link_to f way)))
-keeps_after Home f index x is keeps = keeps_home f (link_after index x f.homeward) keeps (record { way = refl; peering = refl; seq_first = refl; ack_first = refl })
+keeps_after Home f index x is keeps =
+    keeps_home f (link_after index x f.homeward) keeps (record { way = refl; peering = refl; seq_first = refl; ack_first = refl })
     (all_after (λ y. y.pointed.0 < routers_in f.known.setup) index f.homeward.plans x is (λ h. h) keeps.pointed)
-keeps_after Remote f index x is keeps = keeps_remoteward f (link_after index x f.remoteward) keeps (record { way = refl; peering = refl; seq_first = refl; ack_first = refl })
+keeps_after Remote f index x is keeps =
+    keeps_remoteward f (link_after index x f.remoteward) keeps (record { way = refl; peering = refl; seq_first = refl; ack_first = refl })
 
 -- the router that a link to home pointed at exists
 pointed_at : (way : Way) (f : Fields) (index : ℕ) (x : InLink) → slice_get (link_to f way).plans index ≡ Some x → FarSideInvariant f → way ≡ Home
     → x.pointed.0 < routers_in f.known.setup
 pointed_at way f index x is keeps home =
-    all_at (λ y. y.pointed.0 < routers_in f.known.setup) index f.homeward.plans x (subst (λ (w : Way). slice_get (link_to f w).plans index ≡ Some x) home is) keeps.pointed
+    all_at (λ y. y.pointed.0 < routers_in f.known.setup) index f.homeward.plans x
+    (subst (λ (w : Way). slice_get (link_to f w).plans index ≡ Some x) home is) keeps.pointed
 
 -- ---- a delivery
 
@@ -125,7 +135,8 @@ module _ {C : Type 0} (session : C → SessionValue) (f : Fields) (index : ℕ) 
       let thing : (w : Way) → w ≡ Home → segment_thing w (segment_of f.known.setup seg) ≡ SegmentItem (placed f.homeward.seq_first f.homeward.ack_first seg) =
       λ w h. ap (λ v. segment_thing v (segment_of f.known.setup seg)) h ∙ ap SegmentItem (home_segment f seg keeps sends.own) in
       let at : actor_at f.known.setup router ≡ Some (Router router) = numbers.there f.known.setup (Router router) known in
-      let row : Passes f.known.setup index keep router (far_part f) None (record { router = router; segment = placed f.homeward.seq_first f.homeward.ack_first seg } ∷ []) (far_part g) =
+      let row : Passes f.known.setup index keep router (far_part f) None
+      (record { router = router; segment = placed f.homeward.seq_first f.homeward.ack_first seg } ∷ []) (far_part g) =
       record {
         segment = placed f.homeward.seq_first f.homeward.ack_first seg;
         there = sends.is;
@@ -183,7 +194,8 @@ module _ {C : Type 0} (session : C → SessionValue) (f : Fields) (index : ℕ) 
       → g ≡ with_link (record f { remote = r }) way l → l.segments ≡ left_by keep index (link_to f way).segments → (t : Tally)
       → DidAsFar session f p t (handed_event way index keep router ∷ []) g q t
   unfolding handed_event
-  delivers Home g q keep router r l known hands same segments t = passes g q keep router l (known refl) hands.0 (same ∙ ap (λ (v : RemoteValue). let h : Fields = record f { remote = v; homeward = l } in h) hands.1) segments t
+  delivers Home g q keep router r l known hands same segments t = passes g q keep router l (known refl) hands.0
+      (same ∙ ap (λ (v : RemoteValue). let h : Fields = record f { remote = v; homeward = l } in h) hands.1) segments t
   delivers Remote g q keep router r l known hands same segments t =
       did_one session f g p q t (Reach index keep) (ap (λ (h : Fields). h.known.setup) same) (ap (λ (h : Fields). h.peering) same) hands.0
       (record {
@@ -226,7 +238,8 @@ left_is : (keep : Bool) (index : ℕ) (gs : List PlacedSegment) → (if not keep
 left_is true index gs = refl
 left_is false index gs = refl
 
-module _ {C : Type 0} (way : Way) (f g : Fields) (index next : ℕ) (p q : Post (Item C)) (x : InLink) (keeps : FarSideInvariant f) (is : slice_get (link_to f way).plans index ≡ Some x) where
+module _ {C : Type 0} (way : Way) (f g : Fields) (index next : ℕ) (p q : Post (Item C)) (x : InLink)
+    (keeps : FarSideInvariant f) (is : slice_get (link_to f way).plans index ≡ Some x) where
   stepped : (r : RemoteValue) (act : Act) → act_in x ≡ act → next ≡ (if is_gone act then index else index + 1) → HandedTo way f.remote r
       → g ≡ with_link (record f { remote = r }) way (after_act act index x (link_to f way))
       → ((session : C → SessionValue) (t : Tally) → DidAsFar session f p t (act_events way f.pointer.0 index x act) g q t)
@@ -235,7 +248,8 @@ module _ {C : Type 0} (way : Way) (f g : Fields) (index next : ℕ) (p q : Post 
       (λ session. record {
         plan = x;
         is = is;
-        did = λ t. subst (λ (es : List FarEvent). DidAsFar session f p t es g q t) (events_are way f.pointer.0 index x act ∙ ap (link_act way f.pointer.0 index x) (sym e)) (did session t);
+        did = λ t. subst (λ (es : List FarEvent). DidAsFar session f p t es g q t)
+            (events_are way f.pointer.0 index x act ∙ ap (link_act way f.pointer.0 index x) (sym e)) (did session t);
         next_is = next_is ∙ ap (λ (a : Act). if is_gone a then index else index + 1) (sym e);
         remote = subst (λ (h : Fields). HandedTo way f.remote h.remote) (sym same) to;
         same = subst (λ (h : Fields). h ≡ with_link (record f { remote = h.remote }) way (link_after index x (link_to f way))) (sym after) refl;
@@ -262,7 +276,8 @@ module _ {C : Type 0} (way : Way) (f g : Fields) (index next : ℕ) (p q : Post 
       → ForEach (λ (session : C → SessionValue). LinkStep session way f index p g next q) g
   unfolding act_events
   delivered_each r keep e n hands same = stepped r (Delivered keep) e n (handed way (link_to f way) index keep f.pointer.0 f.remote r p q hands) same
-      (λ session. delivers session f index p keeps way g q keep f.pointer.0 r (after_act (Delivered keep) index x (link_to f way)) (λ home. keeps.pointer) hands same (left_is keep index (link_to f way).segments))
+      (λ session. delivers session f index p keeps way g q keep f.pointer.0 r (after_act (Delivered keep) index x (link_to f way))
+      (λ home. keeps.pointer) hands same (left_is keep index (link_to f way).segments))
 
   -- it is delivered, and kept for another turn
   pub again_each : (mid : Fields) → act_in x ≡ Delivered true → next ≡ index + 1
@@ -274,7 +289,8 @@ module _ {C : Type 0} (way : Way) (f g : Fields) (index next : ℕ) (p q : Post 
       let seen : link_to mid way ≡ link_to f way = ap (λ (k : Fields). link_to k way) same ∙ linked way (record f { remote = mid.remote }) (link_to f way) in
       delivered_each mid.remote true e n hands
       (kept x (subst (λ (l : LinkValue). slice_get l.plans index ≡ Some x) (sym seen) is) ∙ ap (λ (l : LinkValue). with_link mid way (aged index x l)) seen
-      ∙ ap (λ (k : Fields). with_link k way (aged index x (link_to f way))) same ∙ replaced way f mid.remote mid.remote (link_to f way) (aged index x (link_to f way)))
+      ∙ ap (λ (k : Fields). with_link k way (aged index x (link_to f way))) same
+      ∙ replaced way f mid.remote mid.remote (link_to f way) (aged index x (link_to f way)))
 
   -- a copy goes astray
   pub copied_each : (r : RemoteValue) → act_in x ≡ Copied → next ≡ index → Hands way (link_to f way) index false x.pointed.0 f.remote p r q
@@ -282,7 +298,8 @@ module _ {C : Type 0} (way : Way) (f g : Fields) (index next : ℕ) (p q : Post 
       → ForEach (λ (session : C → SessionValue). LinkStep session way f index p g next q) g
   unfolding act_events
   copied_each r e n hands same = stepped r Copied e n (handed way (link_to f way) index false x.pointed.0 f.remote r p q hands) same
-      (λ session. delivers session f index p keeps way g q false x.pointed.0 r (removed index (link_to f way)) (pointed_at way f index x is keeps) hands same refl)
+      (λ session. delivers session f index p keeps way g q false x.pointed.0 r
+      (removed index (link_to f way)) (pointed_at way f index x is keeps) hands same refl)
 
 -- it stays
 pub stays_each : {C : Type 0} (way : Way) (f g : Fields) (index next : ℕ) (p : Post (Item C)) (x : InLink) → FarSideInvariant f
@@ -293,7 +310,8 @@ unfolding act_events
 stays_each way f g index next p x keeps is e n kept =
     let same : g ≡ with_link f way (aged index x (link_to f way)) = kept x is in
     stepped way f g index next p p x keeps is f.remote Stays e n (handed_none way f.remote) same
-    (λ session t. did_same session f g p t (ap (λ (h : Fields). h.known.setup) same) (ap (λ (h : Fields). h.peering) same) (ap far_part same ∙ aged_part way f index x))
+    (λ session t. did_same session f g p t (ap (λ (h : Fields). h.known.setup) same)
+    (ap (λ (h : Fields). h.peering) same) (ap far_part same ∙ aged_part way f index x))
 
 -- what holds of the value and what holds if there is one
 pub if_both : {T E : Type 0} (r : Result T E) (P R : T → Type 0) (Q : Type 0) → ((x : T) → P x → Q → R x) → IfOk r P → OnOk r Q → IfOk r R
@@ -303,7 +321,8 @@ if_both (Err e) P R Q so p q = tt
 -- ---- all of them
 
 -- so many of them had their turn
-pub record Passing {C : Type 0} (session : C → SessionValue) (way : Way) (f : Fields) (p : Post (Item C)) (g : Fields) (q : Post (Item C)) (index i : ℕ) : Type 0 where
+pub record Passing {C : Type 0} (session : C → SessionValue) (way : Way) (f : Fields)
+    (p : Post (Item C)) (g : Fields) (q : Post (Item C)) (index i : ℕ) : Type 0 where
   pub events : List FarEvent
   pub did : (t : Tally) → DidAsFar session f p t events g q t
   pub passed : Passed (link_event way f.pointer.0) (link_to f way).plans (link_to g way).plans index i events
@@ -333,11 +352,14 @@ module _ {C : Type 0} (session : C → SessionValue) (way : Way) where
   passing_more f g h p q r index next i pass step =
       let event : ℕ → InLink → List FarEvent = link_event way f.pointer.0 in
       let pointer : g.pointer.0 ≡ f.pointer.0 = ap (λ (k : Fields). k.pointer.0) pass.same in
-      let link : link_to h way ≡ link_after index step.plan (link_to g way) = ap (λ (k : Fields). link_to k way) step.same ∙ linked way (record g { remote = h.remote }) (link_after index step.plan (link_to g way)) in
+      let link : link_to h way ≡ link_after index step.plan (link_to g way) =
+      ap (λ (k : Fields). link_to k way) step.same ∙ linked way (record g { remote = h.remote }) (link_after index step.plan (link_to g way)) in
       record {
         events = pass.events ++ event index step.plan;
-        did = λ t. did_then session f g h p q r t t t pass.events (event index step.plan) (pass.did t) (subst (λ (n : ℕ). DidAsFar session g q t (link_event way n index step.plan) h r t) pointer (step.did t));
-        passed = passed_more event (link_to f way).plans (link_to g way).plans (link_to h way).plans index next i pass.events step.plan pass.passed step.is (ap (λ (l : LinkValue). l.plans) link) step.next_is;
+        did = λ t. did_then session f g h p q r t t t pass.events (event index step.plan) (pass.did t)
+            (subst (λ (n : ℕ). DidAsFar session g q t (link_event way n index step.plan) h r t) pointer (step.did t));
+        passed = passed_more event (link_to f way).plans (link_to g way).plans
+            (link_to h way).plans index next i pass.events step.plan pass.passed step.is (ap (λ (l : LinkValue). l.plans) link) step.next_is;
         link = subst (λ (l : LinkValue). l ≡ record (link_to g way) { segments = l.segments; plans = l.plans }) (sym link) refl
             ∙ ap (λ (l : LinkValue). let m : LinkValue = record l { segments = (link_to h way).segments; plans = (link_to h way).plans } in m) pass.link;
         remote = handed_then way f.remote g.remote h.remote pass.remote step.remote;
@@ -371,7 +393,8 @@ passing_first way f p keeps = for_each _ _ (λ session. passing_none session way
 pub passing_next : {C : Type 0} (way : Way) (f g h : Fields) (p q r : Post (Item C)) (index next i : ℕ) → PassingEach way f p g q index i
     → ForEach (λ (session : C → SessionValue). LinkStep session way g index q h next r) h
     → PassingEach way f p h r next (i + 1)
-passing_next way f g h p q r index next i pass step = for_each _ _ (λ session. passing_more session way f g h p q r index next i (pass.each session) (step.each session)) (λ session h. h.keeps)
+passing_next way f g h p q r index next i pass step =
+    for_each _ _ (λ session. passing_more session way f g h p q r index next i (pass.each session) (step.each session)) (λ session h. h.keeps)
 
 pub passing_last : {C : Type 0} (way : Way) (f g : Fields) (p q : Post (Item C)) (index i : ℕ) → PassingEach way f p g q index i
     → length (link_to f way).plans ≤ i → ForEach (λ (session : C → SessionValue). LinkPass session way f p g q) g

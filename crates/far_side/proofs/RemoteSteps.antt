@@ -29,7 +29,8 @@ pub record SameOthers (s t : EndState) : Type 0 where
   pub taken : t.taken ≡ s.taken
 
 -- a remote whose end becomes another state, for which an endpoint of this stream stands
-module _ (r : Inside) (s : EndState) (said : List ℕ) (e : Endpoint) (keeps : RemoteInvariant r) (same : SameOthers r.end s) (stands : EndStands s e) (stream : e.stream ≡ said) where
+module _ (r : Inside) (s : EndState) (said : List ℕ) (e : Endpoint) (keeps : RemoteInvariant r)
+    (same : SameOthers r.end s) (stands : EndStands s e) (stream : e.stream ≡ said) where
   read_none : e.read ≡ 0
   read_none = stands.read ∙ same.taken ∙ keeps.unread
 
@@ -50,10 +51,46 @@ module _ (r : Inside) (s : EndState) (said : List ℕ) (e : Endpoint) (keeps : R
 -- what a segment leaves
 leaves_same : (arrival : Arrival) (s : EndState) (g : Segment) (t : EndState) → ChangesByArrival arrival s g t
     → SameOthers s t × (t.acked_at_turn ≡ s.acked_at_turn)
-leaves_same Outside s g t is = (record { peering = ap (λ (u : EndState). u.peering) is; way = ap (λ (u : EndState). u.way) is; send_first = ap (λ (u : EndState). u.send_first) is; receive_first = ap (λ (u : EndState). u.receive_first) is; taken = ap (λ (u : EndState). u.taken) is }, ap (λ (u : EndState). u.acked_at_turn) is)
-leaves_same (Ahead ack) s g t is = (record { peering = ap (λ (u : EndState). u.peering) is; way = ap (λ (u : EndState). u.way) is; send_first = ap (λ (u : EndState). u.send_first) is; receive_first = ap (λ (u : EndState). u.receive_first) is; taken = ap (λ (u : EndState). u.taken) is }, ap (λ (u : EndState). u.acked_at_turn) is)
-leaves_same Duplicate s g t is = (record { peering = ap (λ (u : EndState). u.peering) is; way = ap (λ (u : EndState). u.way) is; send_first = ap (λ (u : EndState). u.send_first) is; receive_first = ap (λ (u : EndState). u.receive_first) is; taken = ap (λ (u : EndState). u.taken) is }, ap (λ (u : EndState). u.acked_at_turn) is)
-leaves_same Accepted s g t takes = let is = takes.changed in (record { peering = ap (λ (u : EndState). u.peering) is; way = ap (λ (u : EndState). u.way) is; send_first = ap (λ (u : EndState). u.send_first) is; receive_first = ap (λ (u : EndState). u.receive_first) is; taken = ap (λ (u : EndState). u.taken) is }, ap (λ (u : EndState). u.acked_at_turn) is)
+leaves_same Outside s g t is = (
+  record {
+    peering = ap (λ (u : EndState). u.peering) is;
+    way = ap (λ (u : EndState). u.way) is;
+    send_first = ap (λ (u : EndState). u.send_first) is;
+    receive_first = ap (λ (u : EndState). u.receive_first) is;
+    taken = ap (λ (u : EndState). u.taken) is;
+  },
+  ap (λ (u : EndState). u.acked_at_turn) is,
+)
+leaves_same (Ahead ack) s g t is = (
+  record {
+    peering = ap (λ (u : EndState). u.peering) is;
+    way = ap (λ (u : EndState). u.way) is;
+    send_first = ap (λ (u : EndState). u.send_first) is;
+    receive_first = ap (λ (u : EndState). u.receive_first) is;
+    taken = ap (λ (u : EndState). u.taken) is;
+  },
+  ap (λ (u : EndState). u.acked_at_turn) is,
+)
+leaves_same Duplicate s g t is = (
+  record {
+    peering = ap (λ (u : EndState). u.peering) is;
+    way = ap (λ (u : EndState). u.way) is;
+    send_first = ap (λ (u : EndState). u.send_first) is;
+    receive_first = ap (λ (u : EndState). u.receive_first) is;
+    taken = ap (λ (u : EndState). u.taken) is;
+  },
+  ap (λ (u : EndState). u.acked_at_turn) is,
+)
+leaves_same Accepted s g t takes = let is = takes.changed in (
+  record {
+    peering = ap (λ (u : EndState). u.peering) is;
+    way = ap (λ (u : EndState). u.way) is;
+    send_first = ap (λ (u : EndState). u.send_first) is;
+    receive_first = ap (λ (u : EndState). u.receive_first) is;
+    taken = ap (λ (u : EndState). u.taken) is;
+  },
+  ap (λ (u : EndState). u.acked_at_turn) is,
+)
 
 -- the numbers of a segment are those of its own offsets
 number_back : (first offset : ℕ) → first < 2 ^ 32 → offset ≤ 2 ^ 20 + 2 ^ 16 → offset_from (number first offset) first ≡ offset
@@ -97,20 +134,24 @@ taken_stays e f p (inl drops) = (ap (λ (x : Endpoint). x.stream) drops.stays, a
 taken_stays e f p (inr accepts) = (ap (λ (x : Endpoint). x.stream) accepts.changed, ap (λ (x : Endpoint). x.read) accepts.changed)
 
 -- what a segment that arrives leaves of a remote
-module _ (r : Inside) (s : EndState) (arrival : Arrival) (g : Segment) (keeps : RemoteInvariant r) (streams : IsInStreams (placed r.receive_first.0 r.send_first.0 g)) (seq : g.seq.0 < 2 ^ 32) (ack : g.ack.0 < 2 ^ 32)
+module _ (r : Inside) (s : EndState) (arrival : Arrival) (g : Segment) (keeps : RemoteInvariant r)
+    (streams : IsInStreams (placed r.receive_first.0 r.send_first.0 g)) (seq : g.seq.0 < 2 ^ 32) (ack : g.ack.0 < 2 ^ 32)
     (leaves : ChangesByArrival arrival r.end g s) (by : TakesBy r.end g s) where
   becomes : Becomes (λ e f. TakesSegment e (placed r.receive_first.0 r.send_first.0 g) f) (endpoint_of r.said [] r.end) s
   becomes = by.becomes (endpoint_of r.said [] r.end) (placed r.receive_first.0 r.send_first.0 g) keeps.stands
       (subst (λ (n : Seq). Numbered n.0 r.end.send_first.0 g (placed r.receive_first.0 r.send_first.0 g)) (sym keeps.receives)
-      (subst (λ (n : Seq). Numbered r.receive_first.0 n.0 g (placed r.receive_first.0 r.send_first.0 g)) (sym keeps.sends) (numbered_placed r.receive_first.0 r.send_first.0 g keeps.receive_fits keeps.send_fits seq ack))) streams
+      (subst (λ (n : Seq). Numbered r.receive_first.0 n.0 g (placed r.receive_first.0 r.send_first.0 g)) (sym keeps.sends)
+      (numbered_placed r.receive_first.0 r.send_first.0 g keeps.receive_fits keeps.send_fits seq ack))) streams
 
   others : SameOthers r.end s
   others = (leaves_same arrival r.end g s leaves).0
 
   pub keeps_arrived : RemoteInvariant (record r { end = s })
-  keeps_arrived = keeps_then r s r.said becomes.end keeps others becomes.stands (taken_stays (endpoint_of r.said [] r.end) becomes.end (placed r.receive_first.0 r.send_first.0 g) becomes.step).0
+  keeps_arrived = keeps_then r s r.said becomes.end keeps others becomes.stands
+      (taken_stays (endpoint_of r.said [] r.end) becomes.end (placed r.receive_first.0 r.send_first.0 g) becomes.step).0
 
   pub takes_arrived : TakesSegment (endpoint_of r.said [] r.end) (placed r.receive_first.0 r.send_first.0 g) (endpoint_of r.said [] s)
   takes_arrived = subst (TakesSegment (endpoint_of r.said [] r.end) (placed r.receive_first.0 r.send_first.0 g))
-      (unread_is s becomes.end r.said becomes.stands (taken_stays (endpoint_of r.said [] r.end) becomes.end (placed r.receive_first.0 r.send_first.0 g) becomes.step).0
+      (unread_is s becomes.end r.said becomes.stands
+      (taken_stays (endpoint_of r.said [] r.end) becomes.end (placed r.receive_first.0 r.send_first.0 g) becomes.step).0
       (becomes.stands.read ∙ others.taken ∙ keeps.unread)) becomes.step

@@ -1,5 +1,6 @@
 -- What a far side takes, and what it drops.
-use Rattle.std.proofs.Common.{◌≡◌, ◌≢◌, ℕ, ◌+◌, ◌<◌, ◌≤◌, ◌^◌, List, [], ◌∷◌, ◌++◌, length, Option, Some, None, Bool, true, false, refl, sym, ap, subst, ◌∙◌, arith, inl, inr}
+use Rattle.std.proofs.Common.{◌≡◌, ◌≢◌, ℕ, ◌+◌, ◌<◌, ◌≤◌, ◌^◌, List, [], ◌∷◌, ◌++◌, length, Option, Some, None}
+use Rattle.std.proofs.Common.{Bool, true, false, refl, sym, ap, subst, ◌∙◌, arith, inl, inr}
 use Rattle.std.specs.Prelude.{slice_get, nat_lt, max, if◌then◌else◌, ◌==◌}
 use Rattle.std.proofs.lemmas.List.{append-nil}
 use Rattle.std.proofs.lemmas.Bool.Decides.{nat_tests}
@@ -107,7 +108,8 @@ module _ {C : Type 0} (session : C → SessionValue) where
   took_nothing f from item deeds one none = record {
     one = one;
     link = record { way = refl; peering = refl; seq_first = refl; ack_first = refl };
-    plans = sym (ap (λ (n : ℕ). f.remoteward.plans ++ plans_put (fates_in f.plan f.remoteward) f.pointer.0 f.remoteward.put n) none ∙ append-nil f.remoteward.plans);
+    plans = sym (ap (λ (n : ℕ). f.remoteward.plans ++ plans_put (fates_in f.plan f.remoteward) f.pointer.0 f.remoteward.put n) none
+        ∙ append-nil f.remoteward.plans);
     put = let e : f.remoteward.put ≡ f.remoteward.put + segments_taken_in deeds = omega (arith, none) in e;
     remote = refl;
     same = refl;
@@ -117,7 +119,11 @@ module _ {C : Type 0} (session : C → SessionValue) where
   pub drops : (f : Fields) (p q : Post (Item C)) (from : ℕ) (item : Item C) → FarSideInvariant f → WroteOne p dropped [] q
       → (IsWelcome session (own_part f) from item → ⊥) → FarTakesIt session from item f p f q
   drops f p q from item keeps wrote not = took_one f f p q from dropped item wrote
-      (record { setup = refl; name = refl; does = inr (record { from = from; item = item; takes = refl; unwelcome = not; kind = refl; a = refl; b = refl; c = refl; sends = refl; stays = refl }) })
+      (record {
+        setup = refl;
+        name = refl;
+        does = inr (record { from = from; item = item; takes = refl; unwelcome = not; kind = refl; a = refl; b = refl; c = refl; sends = refl; stays = refl });
+      })
       (took_nothing f from item (deed_of p dropped (Some (from, item)) [] ∷ []) refl refl) keeps
 
   -- ---- items that aren't welcome
@@ -167,7 +173,8 @@ module _ {C : Type 0} (session : C → SessionValue) where
   pub segment_unwelcome : (f : Fields) (from : ℕ) (g : Segment)
       → (from < routers_in f.known.setup → IsSegmentOf f.known.setup f.peering.0 Remote g → ⊥) → IsWelcome session (own_part f) from (items.Seg g) → ⊥
   segment_unwelcome f from g not w =
-      let is : (r : ℕ) × (actor_at f.known.setup from ≡ Some (Router r)) × IsSegmentOf f.known.setup f.peering.0 Remote g = (far_segment session f.known.setup from f.peering.0 (far_part f) g).0 w in
+      let is : (r : ℕ) × (actor_at f.known.setup from ≡ Some (Router r)) × IsSegmentOf f.known.setup f.peering.0 Remote g =
+      (far_segment session f.known.setup from f.peering.0 (far_part f) g).0 w in
       let at : (is.0 < routers_in f.known.setup) × (from ≡ is.0) = of_number f.known.setup from (Router is.0) is.1 in
       not (omega (arith, at.0, at.1)) is.2
 
@@ -179,7 +186,8 @@ module _ {C : Type 0} (session : C → SessionValue) where
 
   -- an order that isn't the operator's, or of a step that the remote can't say
   pub order_unwelcome : (f : Fields) (from step : ℕ)
-      → (from ≡ routers_in f.known.setup + peerings_in f.known.setup → (bytes : List ℕ) → slice_get f.known.setup.steps step ≡ Some (SayStep f.peering.0 bytes) → length f.remote.end.stream + length bytes ≤ 2 ^ 20 → ⊥)
+      → (from ≡ routers_in f.known.setup + peerings_in f.known.setup → (bytes : List ℕ)
+      → slice_get f.known.setup.steps step ≡ Some (SayStep f.peering.0 bytes) → length f.remote.end.stream + length bytes ≤ 2 ^ 20 → ⊥)
       → IsWelcome session (own_part f) from (items.SayOrder step) → ⊥
   order_unwelcome f from step not w =
       let is = (far_say session f.known.setup from f.peering.0 step (far_part f)).0 w in
@@ -205,7 +213,8 @@ module _ {C : Type 0} (session : C → SessionValue) where
         took = Some took;
         gave = [];
         holds = row;
-        is_taken = λ i. Some ((number ∙ sym (ap (λ (x : ActorName × Thing). number_in f.known.setup x.0) thing)) i, sym (ap (λ (x : ActorName × Thing). x.1) thing) i);
+        is_taken = λ i.
+            Some ((number ∙ sym (ap (λ (x : ActorName × Thing). number_in f.known.setup x.0) thing)) i, sym (ap (λ (x : ActorName × Thing). x.1) thing) i);
         is_sent = refl;
         there = tt;
       };
@@ -223,9 +232,16 @@ module _ {C : Type 0} (session : C → SessionValue) where
       let at : actor_at f.known.setup from ≡ Some (Router from) = there f.known.setup (Router from) known in
       let setup : g.known.setup ≡ f.known.setup = ap (λ (h : Fields). h.known.setup) same in
       took_one f g p q from (far_code (Take from)) (items.Seg s) wrote
-      (acts_taking f g p from (items.Seg s) (Router from) (OutwardIn from (Seg (segment_of f.known.setup s))) (Take from) refl ((far_segment session f.known.setup from f.peering.0 (far_part f) s).1 (from, at, is))
+      (acts_taking f g p from (items.Seg s) (Router from) (OutwardIn from (Seg (segment_of f.known.setup s)))
+      (Take from) refl ((far_segment session f.known.setup from f.peering.0 (far_part f) s).1 (from, at, is))
       (ap (λ (way : Way). (Router from, segment_thing way (segment_of f.known.setup s))) (sym is.way))
-      (record { segment = segment_of f.known.setup s; takes = refl; sends = refl; effect = ap far_part same ∙ ap (λ (x : PlacedSegment). let v : FarPart = record (far_part f) { remoteward = f.remoteward.segments ++ x ∷ [] } in v) (sym (segment_offsets f s keeps fits)) })
+      (record {
+        segment = segment_of f.known.setup s;
+        takes = refl;
+        sends = refl;
+        effect = ap far_part same ∙ ap (λ (x : PlacedSegment). let v : FarPart = record (far_part f) { remoteward = f.remoteward.segments ++ x ∷ [] } in v)
+            (sym (segment_offsets f s keeps fits));
+      })
       setup (ap (λ (h : Fields). h.peering) same))
       (record {
         one = refl;
@@ -238,10 +254,13 @@ module _ {C : Type 0} (session : C → SessionValue) where
         plans = ap (λ (h : Fields). h.remoteward.plans) same;
         put = ap (λ (h : Fields). h.remoteward.put) same;
         remote = ap (λ (h : Fields). h.remote) same
-            ∙ ap (λ (xs : List ℕ). let v : RemoteValue = record f.remote { end = record f.remote.end { stream = xs } } in v) (sym (ap (λ (h : Fields). h.remote.end.stream) same));
-        same = subst (λ (h : Fields). h ≡ record f { remote = h.remote; remoteward = h.remoteward; pointer = h.pointer; followed = h.followed }) (sym same) refl;
+            ∙ ap (λ (xs : List ℕ). let v : RemoteValue = record f.remote { end = record f.remote.end { stream = xs } } in v)
+            (sym (ap (λ (h : Fields). h.remote.end.stream) same));
+        same = subst (λ (h : Fields). h ≡ record f { remote = h.remote; remoteward = h.remoteward; pointer = h.pointer; followed = h.followed })
+            (sym same) refl;
       })
-      (subst FarSideInvariant (sym same) (keeps_remoteward f (put_in f.remoteward f (placed f.remoteward.seq_first f.remoteward.ack_first s)) keeps (record { way = refl; peering = refl; seq_first = refl; ack_first = refl })))
+      (subst FarSideInvariant (sym same) (keeps_remoteward f (put_in f.remoteward f (placed f.remoteward.seq_first f.remoteward.ack_first s)) keeps
+      (record { way = refl; peering = refl; seq_first = refl; ack_first = refl })))
 
   -- word of a landing is taken, and followed where it is later
   pub takes_word : (f g : Fields) (p q : Post (Item C)) (from k : ℕ) → FarSideInvariant f → from < routers_in f.known.setup
@@ -251,8 +270,14 @@ module _ {C : Type 0} (session : C → SessionValue) where
   takes_word f g p q from k keeps known wrote same pointer followed =
       let at : actor_at f.known.setup from ≡ Some (Router from) = there f.known.setup (Router from) known in
       took_one f g p q from (far_code (Point from)) (items.PointAt k) wrote
-      (acts_taking f g p from (items.PointAt k) (Router from) (OutwardIn from (PointAt k)) (Point from) refl ((far_point session f.known.setup from f.peering.0 k (far_part f)).1 (from, at)) refl
-      (record { graft = k; takes = refl; sends = refl; effect = ap far_part same ∙ (λ i. let v : FarPart = record (far_part f) { pointer = pointer i; followed = followed i } in v) })
+      (acts_taking f g p from (items.PointAt k) (Router from) (OutwardIn from (PointAt k)) (Point from) refl
+      ((far_point session f.known.setup from f.peering.0 k (far_part f)).1 (from, at)) refl
+      (record {
+        graft = k;
+        takes = refl;
+        sends = refl;
+        effect = ap far_part same ∙ (λ i. let v : FarPart = record (far_part f) { pointer = pointer i; followed = followed i } in v);
+      })
       (ap (λ (h : Fields). h.known.setup) same) (ap (λ (h : Fields). h.peering) same))
       (record {
         one = refl;
@@ -265,9 +290,15 @@ module _ {C : Type 0} (session : C → SessionValue) where
         plans = ap (λ (h : Fields). h.remoteward.plans) same ∙ sym (append-nil f.remoteward.plans);
         put = ap (λ (h : Fields). h.remoteward.put) same ∙ (let e : f.remoteward.put ≡ f.remoteward.put + 0 = omega arith in e);
         remote = ap (λ (h : Fields). h.remote) same
-            ∙ ap (λ (xs : List ℕ). let v : RemoteValue = record f.remote { end = record f.remote.end { stream = xs } } in v) (sym (ap (λ (h : Fields). h.remote.end.stream) same));
+            ∙ ap (λ (xs : List ℕ). let v : RemoteValue = record f.remote { end = record f.remote.end { stream = xs } } in v)
+            (sym (ap (λ (h : Fields). h.remote.end.stream) same));
         same = same
-            ∙ (λ i. let v : Fields = record f { remote = sym (ap (λ (h : Fields). h.remote) same) i; remoteward = sym (ap (λ (h : Fields). h.remoteward) same) i; pointer = g.pointer; followed = g.followed } in v);
+            ∙ (λ i. let v : Fields = record f {
+              remote = sym (ap (λ (h : Fields). h.remote) same) i;
+              remoteward = sym (ap (λ (h : Fields). h.remoteward) same) i;
+              pointer = g.pointer;
+              followed = g.followed;
+            } in v);
       })
       (subst FarSideInvariant (sym same) (keeps_pointer f g keeps (points (nat_lt f.followed k) pointer keeps)))
     where
@@ -284,7 +315,8 @@ module _ {C : Type 0} (session : C → SessionValue) where
   takes_order f g p q from step bytes keeps number is room wrote same =
       let at : actor_at f.known.setup from ≡ Some Operator = ap (actor_at f.known.setup) number ∙ at_operator f.known.setup in
       took_one f g p q from (far_code (Say step)) (items.SayOrder step) wrote
-      (acts_taking f g p from (items.SayOrder step) Operator (SayIn step) (Say step) number ((far_say session f.known.setup from f.peering.0 step (far_part f)).1 (at, bytes, is, room)) refl
+      (acts_taking f g p from (items.SayOrder step) Operator (SayIn step) (Say step) number
+      ((far_say session f.known.setup from f.peering.0 step (far_part f)).1 (at, bytes, is, room)) refl
       (record { bytes = bytes; is = is; takes = refl; sends = refl; room = room; effect = ap far_part same })
       (ap (λ (h : Fields). h.known.setup) same) (ap (λ (h : Fields). h.peering) same))
       (record {
@@ -298,7 +330,8 @@ module _ {C : Type 0} (session : C → SessionValue) where
         plans = ap (λ (h : Fields). h.remoteward.plans) same ∙ sym (append-nil f.remoteward.plans);
         put = ap (λ (h : Fields). h.remoteward.put) same ∙ (let e : f.remoteward.put ≡ f.remoteward.put + 0 = omega arith in e);
         remote = subst (λ (h : Fields). h.remote ≡ record f.remote { end = record f.remote.end { stream = h.remote.end.stream } }) (sym same) refl;
-        same = subst (λ (h : Fields). h ≡ record f { remote = h.remote; remoteward = h.remoteward; pointer = h.pointer; followed = h.followed }) (sym same) refl;
+        same = subst (λ (h : Fields). h ≡ record f { remote = h.remote; remoteward = h.remoteward; pointer = h.pointer; followed = h.followed })
+            (sym same) refl;
       })
       (subst FarSideInvariant (sym same) (keeps_remote f (record f.remote { end = sending bytes f.remote.end }) keeps refl refl refl))
 
@@ -316,7 +349,8 @@ module _ {C : Type 0} (f : Fields) (p q : Post (Item C)) (from : ℕ) (keeps : F
   -- a segment that isn't a router's
   pub drop_from_each : (s : Segment) → f.routers ≤ from → WroteOne p dropped [] q
       → ForEach (λ (session : C → SessionValue). FarTakesIt session from (items.Seg s) f p f q) f
-  drop_from_each s past wrote = drop_each (items.Seg s) wrote (λ session. segment_unwelcome session f from s (λ below is. omega (arith, below, past, keeps.routers)))
+  drop_from_each s past wrote =
+      drop_each (items.Seg s) wrote (λ session. segment_unwelcome session f from s (λ below is. omega (arith, below, past, keeps.routers)))
 
   -- a segment that isn't for the remote
   pub drop_segment_each : (s : Segment) → (IsFor f.remote s → ⊥) → WroteOne p dropped [] q
@@ -330,53 +364,66 @@ module _ {C : Type 0} (f : Fields) (p q : Post (Item C)) (from : ℕ) (keeps : F
   -- an order that isn't the operator's, or says nothing, or has no room
   pub drop_order_each : (step : ℕ) → from ≢ f.routers + f.peerings → WroteOne p dropped [] q
       → ForEach (λ (session : C → SessionValue). FarTakesIt session from (items.SayOrder step) f p f q) f
-  drop_order_each step not wrote = drop_each (items.SayOrder step) wrote (λ session. order_unwelcome session f from step (λ at bytes is room. not (at ∙ (λ i. sym keeps.routers i + sym keeps.peerings i))))
+  drop_order_each step not wrote = drop_each (items.SayOrder step) wrote
+      (λ session. order_unwelcome session f from step (λ at bytes is room. not (at ∙ (λ i. sym keeps.routers i + sym keeps.peerings i))))
 
   says_is : (step : ℕ) (bytes : List ℕ) → slice_get f.known.setup.steps step ≡ Some (SayStep f.peering.0 bytes) → bytes_at f.says step ≡ Some bytes
   says_is step bytes is = keeps.says step ∙ ap (say_by f.peering.0) is
-      ∙ (let e : (if f.peering.0 == f.peering.0 then Some bytes else None) ≡ Some bytes = ap (λ (b : Bool). if b then Some bytes else None) (let t : (f.peering.0 == f.peering.0) ≡ true = grind (arith, nat_tests) in t) in e)
+      ∙ (let e : (if f.peering.0 == f.peering.0 then Some bytes else None) ≡ Some bytes =
+      ap (λ (b : Bool). if b then Some bytes else None) (let t : (f.peering.0 == f.peering.0) ≡ true = grind (arith, nat_tests) in t) in e)
 
   pub drop_silent_each : (step : ℕ) → bytes_at f.says step ≡ None → WroteOne p dropped [] q
       → ForEach (λ (session : C → SessionValue). FarTakesIt session from (items.SayOrder step) f p f q) f
-  drop_silent_each step none wrote = drop_each (items.SayOrder step) wrote (λ session. order_unwelcome session f from step (λ at bytes is room. (let e : None ≡ Some bytes = sym none ∙ says_is step bytes is in absurd (let x : ⊥ = cc in x))))
+  drop_silent_each step none wrote = drop_each (items.SayOrder step) wrote (λ session. order_unwelcome session f from step
+      (λ at bytes is room. (let e : None ≡ Some bytes = sym none ∙ says_is step bytes is in absurd (let x : ⊥ = cc in x))))
 
   pub drop_long_each : (step : ℕ) (bytes : List ℕ) → bytes_at f.says step ≡ Some bytes → (length f.remote.end.stream + length bytes ≤ 2 ^ 20 → ⊥)
       → WroteOne p dropped [] q → ForEach (λ (session : C → SessionValue). FarTakesIt session from (items.SayOrder step) f p f q) f
   drop_long_each step bytes there not wrote = drop_each (items.SayOrder step) wrote (λ session. order_unwelcome session f from step
-      (λ at other is room. (let e : Some bytes ≡ Some other = sym there ∙ says_is step other is in let same : bytes ≡ other = cc in not (omega (arith, room, ap (λ (xs : List ℕ). length xs) same)))))
+      (λ at other is room. (let e : Some bytes ≡ Some other = sym there ∙ says_is step other is in
+      let same : bytes ≡ other = cc in not (omega (arith, room, ap (λ (xs : List ℕ). length xs) same)))))
 
   pub segment_each : (s : Segment) (link : LinkValue) → from < f.routers → IsFor f.remote s → WroteOne p (far_code (Take from)) [] q
       → link ≡ put_in f.remoteward f (placed f.remoteward.seq_first f.remoteward.ack_first s)
-      → ForEach (λ (session : C → SessionValue). FarTakesIt session from (items.Seg s) f p (let g : Fields = record f { remoteward = link } in g) q) (let g : Fields = record f { remoteward = link } in g)
+      → ForEach (λ (session : C → SessionValue). FarTakesIt session from (items.Seg s) f p (let g : Fields = record f { remoteward = link } in g) q)
+      (let g : Fields = record f { remoteward = link } in g)
   segment_each s link known fits wrote same = for_each _ _
-      (λ session. takes_segment session f (let g : Fields = record f { remoteward = link } in g) p q from s keeps (omega (arith, known, keeps.routers)) fits wrote (ap (λ (l : LinkValue). let g : Fields = record f { remoteward = l } in g) same))
+      (λ session. takes_segment session f (let g : Fields = record f { remoteward = link } in g) p q from s keeps
+      (omega (arith, known, keeps.routers)) fits wrote (ap (λ (l : LinkValue). let g : Fields = record f { remoteward = l } in g) same))
       (λ session t. t.keeps)
 
   -- word that is followed, and word that isn't
   pub followed_each : (k : ℕ) (to : RouterId) → to.0 ≡ from → from < f.routers → f.followed < k → WroteOne p (far_code (Point from)) [] q
-      → ForEach (λ (session : C → SessionValue). FarTakesIt session from (items.PointAt k) f p (let g : Fields = record f { pointer = to; followed = k } in g) q) (let g : Fields = record f { pointer = to; followed = k } in g)
+      → ForEach (λ (session : C → SessionValue). FarTakesIt session from (items.PointAt k) f p
+      (let g : Fields = record f { pointer = to; followed = k } in g) q) (let g : Fields = record f { pointer = to; followed = k } in g)
   followed_each k to at known later wrote = for_each _ _
-      (λ session. takes_word session f (let g : Fields = record f { pointer = to; followed = k } in g) p q from k keeps (omega (arith, known, keeps.routers)) wrote refl (at ∙ sym (ap (λ (b : Bool). if b then from else f.pointer.0) (lt-ltb f.followed k later))) (let e : k ≡ max f.followed k = omega (arith, later) in e))
+      (λ session. takes_word session f (let g : Fields = record f { pointer = to; followed = k } in g) p q from k keeps
+      (omega (arith, known, keeps.routers)) wrote refl (at ∙ sym (ap (λ (b : Bool). if b then from else f.pointer.0) (lt-ltb f.followed k later)))
+      (let e : k ≡ max f.followed k = omega (arith, later) in e))
       (λ session t. t.keeps)
 
   pub ignored_each : (k : ℕ) → from < f.routers → k ≤ f.followed → WroteOne p (far_code (Point from)) [] q
       → ForEach (λ (session : C → SessionValue). FarTakesIt session from (items.PointAt k) f p f q) f
   ignored_each k known old wrote = for_each _ _
-      (λ session. takes_word session f f p q from k keeps (omega (arith, known, keeps.routers)) wrote refl (sym (ap (λ (b : Bool). if b then from else f.pointer.0) (le-ltb f.followed k old))) (let e : f.followed ≡ max f.followed k = omega (arith, old) in e))
+      (λ session. takes_word session f f p q from k keeps (omega (arith, known, keeps.routers)) wrote refl (sym
+      (ap (λ (b : Bool). if b then from else f.pointer.0) (le-ltb f.followed k old))) (let e : f.followed ≡ max f.followed k = omega (arith, old) in e))
       (λ session t. t.keeps)
 
   pub order_each : (step : ℕ) (bytes : List ℕ) (r : RemoteValue) → from ≡ f.routers + f.peerings → bytes_at f.says step ≡ Some bytes
       → length f.remote.end.stream + length bytes ≤ 2 ^ 20 → WroteOne p (far_code (Say step)) [] q
       → r ≡ record f.remote { end = sending bytes f.remote.end }
-      → ForEach (λ (session : C → SessionValue). FarTakesIt session from (items.SayOrder step) f p (let g : Fields = record f { remote = r } in g) q) (let g : Fields = record f { remote = r } in g)
+      → ForEach (λ (session : C → SessionValue). FarTakesIt session from (items.SayOrder step) f p (let g : Fields = record f { remote = r } in g) q)
+      (let g : Fields = record f { remote = r } in g)
   order_each step bytes r at there room wrote same = for_each _ _
-      (λ session. takes_order session f (let g : Fields = record f { remote = r } in g) p q from step bytes keeps (at ∙ (λ i. keeps.routers i + keeps.peerings i)) (step_of (slice_get f.known.setup.steps step) (sym (keeps.says step) ∙ there)) room wrote
+      (λ session. takes_order session f (let g : Fields = record f { remote = r } in g) p q from step bytes keeps
+      (at ∙ (λ i. keeps.routers i + keeps.peerings i)) (step_of (slice_get f.known.setup.steps step) (sym (keeps.says step) ∙ there)) room wrote
       (ap (λ (v : RemoteValue). let g : Fields = record f { remote = v } in g) same))
       (λ session t. t.keeps)
     where
       by_test : (q : ℕ) (xs : List ℕ) (b : Bool) → (q == f.peering.0) ≡ b → (if b then Some xs else None) ≡ Some bytes
           → Some (SayStep q xs) ≡ Some (SayStep f.peering.0 bytes)
-      by_test q xs true e h = let n : q ≡ f.peering.0 = grind (arith, nat_tests) in let same_bytes : xs ≡ bytes = cc in (λ i. Some (SayStep (n i) (same_bytes i)))
+      by_test q xs true e h =
+          let n : q ≡ f.peering.0 = grind (arith, nat_tests) in let same_bytes : xs ≡ bytes = cc in (λ i. Some (SayStep (n i) (same_bytes i)))
       by_test q xs false e h = absurd (let x : ⊥ = cc in x)
 
       step_of : (o : Option ScriptStep) → say_by f.peering.0 o ≡ Some bytes → o ≡ Some (SayStep f.peering.0 bytes)

@@ -1,5 +1,6 @@
 -- The stages of a far side's turn.
-use Rattle.std.specs.Prelude.{ℕ, zero, suc, ◌≡◌, ◌⊎◌, ◌<◌, ◌≤◌, ◌+◌, ◌%◌, ◌^◌, nat_lt, if◌then◌else◌, false, List, [], ◌∷◌, ◌++◌, length, Some, slice_get, slice_set, Bool}
+use Rattle.std.specs.Prelude.{ℕ, zero, suc, ◌≡◌, ◌⊎◌, ◌<◌, ◌≤◌, ◌+◌, ◌%◌, ◌^◌, nat_lt, if◌then◌else◌, false}
+use Rattle.std.specs.Prelude.{List, [], ◌∷◌, ◌++◌, length, Some, slice_get, slice_set, Bool}
 use Rattle.ring_net.specs.declared.post.Post.{Post}
 use Rattle.graft_steps.specs.declared.item.Item.{Item}
 use Rattle.graft_steps.specs.declared.item.Item.TheVariants as items
@@ -78,7 +79,8 @@ link_after index x link = record link {
 }
 
 -- The segment at an index of a link has its turn.
-pub record LinkStep {C : Type 0} (session : C → SessionValue) (way : Way) (old : Fields) (index : ℕ) (before : Post (Item C)) (new : Fields) (next : ℕ) (after : Post (Item C)) : Type 0 where
+pub record LinkStep {C : Type 0} (session : C → SessionValue) (way : Way) (old : Fields) (index : ℕ)
+    (before : Post (Item C)) (new : Fields) (next : ℕ) (after : Post (Item C)) : Type 0 where
   pub plan : InLink
   pub is : slice_get (link_to old way).plans index ≡ Some plan
   pub did : (t : Tally) → DidAsFar session old before t (link_event way old.pointer.0 index plan) new after t
@@ -88,7 +90,8 @@ pub record LinkStep {C : Type 0} (session : C → SessionValue) (way : Way) (old
   pub keeps : FarSideInvariant new
 
 -- All segments of a link have their turns.
-pub record LinkPass {C : Type 0} (session : C → SessionValue) (way : Way) (old : Fields) (before : Post (Item C)) (new : Fields) (after : Post (Item C)) : Type 0 where
+pub record LinkPass {C : Type 0} (session : C → SessionValue) (way : Way) (old : Fields)
+    (before : Post (Item C)) (new : Fields) (after : Post (Item C)) : Type 0 where
   pub did : (t : Tally) → DidAsFar session old before t (pass_events (link_event way old.pointer.0) 0 (link_to old way).plans) new after t
   pub plans : (link_to new way).plans ≡ left_in_link (link_to old way).plans
   pub link : link_to new way ≡ record (link_to old way) { segments = (link_to new way).segments; plans = (link_to new way).plans }
@@ -116,7 +119,8 @@ plans_put fate router from zero = []
 plans_put fate router from (suc n) = put_now (fate (from + 1)) router ∷ plans_put fate router (from + 1) n
 
 -- The far side sent segments by these events. As many segments went into the link to home, and the endpoint is this one now.
-pub record Sent {C : Type 0} (session : C → SessionValue) (old : Fields) (before : Post (Item C)) (t : Tally) (events : List FarEvent) (new : Fields) (after : Post (Item C)) (u : Tally) : Type 0 where
+pub record Sent {C : Type 0} (session : C → SessionValue) (old : Fields) (before : Post (Item C))
+    (t : Tally) (events : List FarEvent) (new : Fields) (after : Post (Item C)) (u : Tally) : Type 0 where
   pub did : DidAsFar session old before t events new after u
   pub plans : new.homeward.plans ≡ old.homeward.plans ++ plans_put (fates_in old.plan old.homeward) old.pointer.0 old.homeward.put (length events)
   pub put : new.homeward.put ≡ old.homeward.put + length events
@@ -132,7 +136,8 @@ again_events r = if nat_lt r.at_turn r.end.acked then [] else (if nat_lt 0 (agai
 -- The new slices up to the end of the stream or of the flight, and the endpoint that has emitted them.
 abbrev pub FreshEvents : Endpoint → List FarEvent → Endpoint → Type 0
 FreshEvents e [] f = (next_length e ≡ 0) × (f ≡ e)
-FreshEvents e (event ∷ events) f = (0 < next_length e) × (event ≡ Send e.emitted (next_length e)) × FreshEvents (record e { emitted = e.emitted + next_length e }) events f
+FreshEvents e (event ∷ events) f =
+    (0 < next_length e) × (event ≡ Send e.emitted (next_length e)) × FreshEvents (record e { emitted = e.emitted + next_length e }) events f
 
 abbrev pub answer_events : Endpoint → List FarEvent
 answer_events e = if e.owed then Send e.emitted 0 ∷ [] else []
@@ -168,7 +173,11 @@ pub record SentAnswer {C : Type 0} (session : C → SessionValue) (old : Fields)
 -- A KEEPALIVE is said if it is due; otherwise nothing happens.
 abbrev pub Beats : Fields → List FarEvent → Fields → Type 0
 Beats old events new =
-    (IsDue old × (events ≡ Beat old.turns ∷ []) × (new ≡ record old { remote = record old.remote { end = sending (spell KeepaliveMsg false) old.remote.end }; keepalives = old.keepalives + 1; last_keepalive = old.turns }))
+    (IsDue old × (events ≡ Beat old.turns ∷ []) × (new ≡ record old {
+      remote = record old.remote { end = sending (spell KeepaliveMsg false) old.remote.end };
+      keepalives = old.keepalives + 1;
+      last_keepalive = old.turns;
+    }))
     ⊎ ((¬ IsDue old) × (events ≡ []) × (new ≡ old))
 
 pub record Beaten {C : Type 0} (session : C → SessionValue) (old : Fields) (before : Post (Item C)) (new : Fields) (after : Post (Item C)) : Type 0 where

@@ -19,12 +19,14 @@ segments_taken_in deeds = count_by (λ d. d.entry.kind == 19) deeds
 pub record TookAsFar {C : Type 0} (old : Fields) (from : ℕ) (item : Item C) (deeds : List (Deed (Item C))) (new : Fields) : Type 0 where
   pub one : length deeds ≡ 1
   pub link : SameLink old.remoteward new.remoteward
-  pub plans : new.remoteward.plans ≡ old.remoteward.plans ++ plans_put (fates_in old.plan old.remoteward) old.pointer.0 old.remoteward.put (segments_taken_in deeds)
+  pub plans : new.remoteward.plans
+      ≡ old.remoteward.plans ++ plans_put (fates_in old.plan old.remoteward) old.pointer.0 old.remoteward.put (segments_taken_in deeds)
   pub put : new.remoteward.put ≡ old.remoteward.put + segments_taken_in deeds
   pub remote : new.remote ≡ record old.remote { end = record old.remote.end { stream = new.remote.end.stream } }
   pub same : new ≡ record old { remote = new.remote; remoteward = new.remoteward; pointer = new.pointer; followed = new.followed }
 
 -- a take of an item by a far side, which is sound after it
-pub record FarTakesIt {C : Type 0} (session : C → SessionValue) (from : ℕ) (item : Item C) (old : Fields) (before : Post (Item C)) (new : Fields) (after : Post (Item C)) : Type 0 where
+pub record FarTakesIt {C : Type 0} (session : C → SessionValue) (from : ℕ) (item : Item C)
+    (old : Fields) (before : Post (Item C)) (new : Fields) (after : Post (Item C)) : Type 0 where
   pub took : TookItem own_part (acts session) TookAsFar from item old before new after
   pub keeps : FarSideInvariant new

@@ -30,16 +30,19 @@ pub record FarTurned {C : Type 0} (old : Fields) (deeds : List (Deed (Item C))) 
   pub beaten : Fields
   pub sent : Endpoint
   pub is_reached : SameRemote old.remote reached
-  pub is_before : (before.remote ≡ record reached { at_turn = reached.end.acked }) × (before.turns ≡ old.turns + 1) × (before.keepalive_interval ≡ old.keepalive_interval) × (before.keepalives ≡ old.keepalives) × (before.last_keepalive ≡ old.last_keepalive)
+  pub is_before : (before.remote ≡ record reached { at_turn = reached.end.acked }) × (before.turns ≡ old.turns + 1)
+      × (before.keepalive_interval ≡ old.keepalive_interval) × (before.keepalives ≡ old.keepalives) × (before.last_keepalive ≡ old.last_keepalive)
   pub are_keepalives : Beats before keepalives beaten
   pub is_fresh : FreshEvents beaten.remote.end fresh sent
-  pub events : AreDeeds far_code (home_events old.pointer.0 old.homeward.plans ++ (remote_events old.remoteward.plans ++ (again_events reached ++ (keepalives ++ (fresh ++ answer_events sent))))) deeds
+  pub events : AreDeeds far_code (home_events old.pointer.0 old.homeward.plans
+      ++ (remote_events old.remoteward.plans ++ (again_events reached ++ (keepalives ++ (fresh ++ answer_events sent))))) deeds
   -- after the deliveries only an old slice is sent; after the KEEPALIVE only new slices, and then only the owed acknowledgement
   pub delivered : FarPart
   pub resent : FarPart
   pub said : FarPart
   pub level : FarPart
-  pub delivers : FarGoes old.known.setup old.peering.0 SendsNone (far_part old) (home_events old.pointer.0 old.homeward.plans ++ remote_events old.remoteward.plans) delivered
+  pub delivers : FarGoes old.known.setup old.peering.0 SendsNone (far_part old)
+      (home_events old.pointer.0 old.homeward.plans ++ remote_events old.remoteward.plans) delivered
   pub resends : FarGoes old.known.setup old.peering.0 FarRetransmits delivered (again_events reached) resent
   pub says : FarGoes old.known.setup old.peering.0 SendsNone resent keepalives said
   pub sends : FarGoes old.known.setup old.peering.0 SendsNew said fresh level
@@ -50,12 +53,20 @@ pub record FarTurned {C : Type 0} (old : Fields) (deeds : List (Deed (Item C))) 
   pub at_turn : new.remote.at_turn ≡ reached.end.acked
   -- Each link keeps the segments that haven't left, one turn older. On the link to home those sent in this turn come after them.
   pub homeward : new.homeward.plans ≡ left_in_link old.homeward.plans
-      ++ plans_put (fates_in old.plan old.homeward) old.pointer.0 old.homeward.put (length (again_events reached) + (length fresh + length (answer_events sent)))
+      ++ plans_put (fates_in old.plan old.homeward) old.pointer.0 old.homeward.put
+      (length (again_events reached) + (length fresh + length (answer_events sent)))
   pub put : new.homeward.put ≡ old.homeward.put + (length (again_events reached) + (length fresh + length (answer_events sent)))
   pub remoteward : (new.remoteward.plans ≡ left_in_link old.remoteward.plans) × (new.remoteward.put ≡ old.remoteward.put)
   pub links : SameLink old.homeward new.homeward × SameLink old.remoteward new.remoteward
   pub turns : new.turns ≡ old.turns + 1
-  pub same : new ≡ record old { remote = new.remote; homeward = new.homeward; remoteward = new.remoteward; turns = new.turns; keepalives = new.keepalives; last_keepalive = new.last_keepalive }
+  pub same : new ≡ record old {
+    remote = new.remote;
+    homeward = new.homeward;
+    remoteward = new.remoteward;
+    turns = new.turns;
+    keepalives = new.keepalives;
+    last_keepalive = new.last_keepalive;
+  }
 
 -- a turn, after which the far side is sound
 pub record FarTurnsOnce {C : Type 0} (session : C → SessionValue) (old : Fields) (before : Post (Item C)) (new : Fields) (after : Post (Item C)) : Type 0 where

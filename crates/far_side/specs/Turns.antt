@@ -63,10 +63,12 @@ SendsNone part event = Unit {0}
 abbrev pub FarGoes : Setup → ℕ → (FarPart → FarEvent → Type 0) → FarPart → List FarEvent → FarPart → Type 0
 FarGoes setup p Allowed before [] after = after ≡ before
 FarGoes setup p Allowed before (event ∷ events) after =
-    (taken : Option FarTaken) × (sent : List FarSent) × (mid : FarPart) × far_row setup p event before taken sent mid × Allowed before event × FarGoes setup p Allowed mid events after
+    (taken : Option FarTaken) × (sent : List FarSent) × (mid : FarPart)
+    × far_row setup p event before taken sent mid × Allowed before event × FarGoes setup p Allowed mid events after
 
 -- What a part of a call that takes no item does: the events that it made and wrote.
-pub record DidAsFar {C : Type 0} (session : C → SessionValue) (old : Fields) (before : Post (Item C)) (t : Tally) (events : List FarEvent) (new : Fields) (after : Post (Item C)) (u : Tally) : Type 0 where
+pub record DidAsFar {C : Type 0} (session : C → SessionValue) (old : Fields) (before : Post (Item C))
+    (t : Tally) (events : List FarEvent) (new : Fields) (after : Post (Item C)) (u : Tally) : Type 0 where
   pub setup : new.known.setup ≡ old.known.setup
   pub peering : new.peering ≡ old.peering
   pub deeds : List (Deed (Item C))

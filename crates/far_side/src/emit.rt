@@ -40,7 +40,8 @@ fn send<C: Drop>(
     requires keeps { FarSideInvariant far.old }
     requires own { IsFrom far.old.remote segment }
     ensures edges { SameEdges post.old post.new }
-    ensures sent { OnOk result (WroteOne post.old (far_code (Send from (length segment.bytes))) [] post.new × (far.new ≡ record far.old { homeward = put_in far.old.homeward far.old (placed far.old.remote.send_first far.old.remote.receive_first segment) })) }
+    ensures sent { OnOk result (WroteOne post.old (far_code (Send from (length segment.bytes))) [] post.new
+        × (far.new ≡ record far.old { homeward = put_in far.old.homeward far.old (placed far.old.remote.send_first far.old.remote.receive_first segment) })) }
 {
     let len = segment.bytes.len() as u32;
     note_far(post, FarEvent::Send { from, len })?;
@@ -109,7 +110,10 @@ fn is_due(far: &Fields) -> bool
 }
 
 /// Sends a KEEPALIVE if one is due.
-pub(crate) fn send_keepalive<C: Drop>(far: &mut Fields, post: &mut Post<Item<C>>) -> Result<(), NoMemory>
+pub(crate) fn send_keepalive<C: Drop>(
+    far: &mut Fields,
+    post: &mut Post<Item<C>>,
+) -> Result<(), NoMemory>
     requires { FarSideInvariant far.old }
     ensures edges { SameEdges post.old post.new }
     ensures beaten { OnOk result (ForEach (λ (session : C → SessionValue). Beaten session far.old post.old far.new post.new) far.new) }

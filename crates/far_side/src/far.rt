@@ -87,7 +87,8 @@ impl Far {
         item: Item<C>,
         post: &mut Post<Item<C>>,
     ) -> Result<(), NoMemory>
-        ensures took { OnOk result ((session : C → SessionValue) → TookItem far_own_part (acts session) took_by_far from item self.old post.old self.new post.new) }
+        ensures took { OnOk result
+            ((session : C → SessionValue) → TookItem far_own_part (acts session) took_by_far from item self.old post.old self.new post.new) }
         ensures edges { SameEdges post.old post.new }
     {
         if self.has_failed {

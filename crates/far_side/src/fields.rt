@@ -53,7 +53,8 @@ impl Fields {
     pub(crate) fn keep(&mut self, way: Way, index: u32) -> Result<u32, NoMemory>
         requires { index < length (link_to self.old way).plans }
         ensures next { IfOk result (λ next. next ≡ index + 1) }
-        ensures kept { OnOk result ((x : InLink) → slice_get (link_to self.old way).plans index ≡ Some x → self.new ≡ with_link self.old way (aged index x (link_to self.old way))) }
+        ensures kept { OnOk result ((x : InLink) → slice_get (link_to self.old way).plans index ≡ Some x
+            → self.new ≡ with_link self.old way (aged index x (link_to self.old way))) }
     {
         match way {
             Way::Home => self.homeward.keep(index),

@@ -26,7 +26,8 @@ fn take_segment<C: Drop>(
 ) -> Result<(), NoMemory>
     requires { FarSideInvariant far.old }
     ensures edges { SameEdges post.old post.new }
-    ensures took { OnOk result (ForEach (λ (session : C → SessionValue). FarTakesIt session from (items.Seg segment) far.old post.old far.new post.new) far.new) }
+    ensures took { OnOk result
+        (ForEach (λ (session : C → SessionValue). FarTakesIt session from (items.Seg segment) far.old post.old far.new post.new) far.new) }
 {
     if from >= far.routers as usize {
         return note_dropped(post);
@@ -49,7 +50,8 @@ fn take_word<C: Drop>(
 ) -> Result<(), NoMemory>
     requires { FarSideInvariant far.old }
     ensures edges { SameEdges post.old post.new }
-    ensures took { OnOk result (ForEach (λ (session : C → SessionValue). FarTakesIt session from (items.PointAt graft) far.old post.old far.new post.new) far.new) }
+    ensures took { OnOk result
+        (ForEach (λ (session : C → SessionValue). FarTakesIt session from (items.PointAt graft) far.old post.old far.new post.new) far.new) }
 {
     if from >= far.routers as usize {
         return note_dropped(post);
@@ -74,7 +76,8 @@ fn take_order<C: Drop>(
 ) -> Result<(), NoMemory>
     requires { FarSideInvariant far.old }
     ensures edges { SameEdges post.old post.new }
-    ensures took { OnOk result (ForEach (λ (session : C → SessionValue). FarTakesIt session from (items.SayOrder step) far.old post.old far.new post.new) far.new) }
+    ensures took { OnOk result
+        (ForEach (λ (session : C → SessionValue). FarTakesIt session from (items.SayOrder step) far.old post.old far.new post.new) far.new) }
 {
     if from != far.routers as usize + far.peerings as usize {
         return note_dropped(post);

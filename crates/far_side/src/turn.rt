@@ -6,7 +6,7 @@ ghost use Rattle.session_value.specs.Sessions.{SessionValue};
 ghost use Rattle.far_side.specs.Parts.{FarSideInvariant, ForEach};
 ghost use Rattle.far_side.specs.Turned.{FarTurnsOnce};
 
-use crate::emit::{send_keepalive, send_again, send_answer, send_fresh};
+use crate::emit::{send_again, send_answer, send_fresh, send_keepalive};
 use crate::fields::Fields;
 use crate::pass::pass;
 use graft_edge::NoMemory;

@@ -60,15 +60,19 @@ marked_more marks met at lt m r =
           let one : at ≡ r = ap (λ (n : ℕ). record { 0 = n }) (sym same) in
           (λ _. subst (λ (x : RouterId). Contains (at ∷ met) x) one (first at met), λ _. marked_there marks met at lt m r same)
       | inr differ ↦
-          let as_was : slice_index_or (slice_set marks at.0 true) r.0 false ≡ slice_index_or marks r.0 false = get_or-set_other marks at.0 r.0 true false differ in
-          (λ t. Contains-append_right (at ∷ []) met r ((m r).0 (sym as_was ∙ t)), λ k. as_was ∙ (m r).1 (before differ (Contains-append_cases (at ∷ []) met r k)))
+          let as_was : slice_index_or (slice_set marks at.0 true) r.0 false ≡ slice_index_or marks r.0 false =
+          get_or-set_other marks at.0 r.0 true false differ in (
+            λ t. Contains-append_right (at ∷ []) met r ((m r).0 (sym as_was ∙ t)),
+            λ k. as_was ∙ (m r).1 (before differ (Contains-append_cases (at ∷ []) met r k)),
+          )
     ]
   where
     before : (r.0 ≡ at.0 → ⊥) → Contains (at ∷ []) r ⊎ Contains met r → Contains met r
     before differ (inl k) = absurd (differ (sym (ap (λ (x : RouterId). x.0) (alone at r k.0 k.1 k.2))))
     before differ (inr k) = k
 
-module _ (tables : List ForwardMap) (address : ℕ) (from : RouterId) (marks : List Bool) (at : RouterId) (goes : Goes tables address from marks at) (index : ℕ) (here : index ≡ at.0) where
+module _ (tables : List ForwardMap) (address : ℕ) (from : RouterId) (marks : List Bool)
+    (at : RouterId) (goes : Goes tables address from marks at) (index : ℕ) (here : index ≡ at.0) where
   mark_at : slice_index_or marks index false ≡ slice_index_or marks at.0 false
   mark_at = ap (λ (k : ℕ). slice_index_or marks k false) here
 
@@ -83,22 +87,26 @@ module _ (tables : List ForwardMap) (address : ℕ) (from : RouterId) (marks : L
 
   module _ (new : slice_index_or marks index false ≡ false) (table : ForwardMap) (is : table ≡ forward_map_of tables at) where
     pub ends_without : HasNoEntryFor table address → Answer tables address from (NoRoute at)
-    ends_without none = answer tables address from (NoRoute at) (goes.rest (NoRoute at) (NoEntry (anew new) (subst (λ (t : ForwardMap). HasNoEntryFor t address) is none)))
+    ends_without none = answer tables address from (NoRoute at)
+        (goes.rest (NoRoute at) (NoEntry (anew new) (subst (λ (t : ForwardMap). HasNoEntryFor t address) is none)))
 
     module _ (p : PrefixValue) (by : From) (entry : HasEntry table address p by) where
       entry_at : (other : From) → by ≡ other → HasEntry (forward_map_of tables at) address p other
-      entry_at other same = subst (λ (f : From). HasEntry (forward_map_of tables at) address p f) same (subst (λ (t : ForwardMap). HasEntry t address p by) is entry)
+      entry_at other same =
+          subst (λ (f : From). HasEntry (forward_map_of tables at) address p f) same (subst (λ (t : ForwardMap). HasEntry t address p by) is entry)
 
       pub ends_own : by ≡ Own → Answer tables address from (Local at p)
       ends_own same = answer tables address from (Local at p) (goes.rest (Local at p) (FromOwn (anew new) (entry_at Own same)))
 
       pub ends_out : (peering : PeeringId) → by ≡ Peering peering → Answer tables address from (Leaves at peering p)
-      ends_out peering same = answer tables address from (Leaves at peering p) (goes.rest (Leaves at peering p) (FromPeering (anew new) (entry_at (Peering peering) same)))
+      ends_out peering same = answer tables address from (Leaves at peering p)
+          (goes.rest (Leaves at peering p) (FromPeering (anew new) (entry_at (Peering peering) same)))
 
       pub goes_on : at.0 < 256 → (next : RouterId) → by ≡ Router next → Goes tables address from (slice_set marks index true) next
       goes_on fits next same = record {
         met = at ∷ goes.met;
-        marked = subst (λ (k : ℕ). Marks (slice_set marks k true) (at ∷ goes.met)) (sym here) (marked_more marks goes.met at (omega (arith, goes.full, fits)) goes.marked);
+        marked = subst (λ (k : ℕ). Marks (slice_set marks k true) (at ∷ goes.met)) (sym here)
+            (marked_more marks goes.met at (omega (arith, goes.full, fits)) goes.marked);
         full = length-set marks index true ∙ goes.full;
         rest = λ walk w. goes.rest walk (FromRouter (anew new) (entry_at (Router next) same) w);
       }

@@ -53,7 +53,8 @@ fn trie_of(alloc: Global, entries: &[ForwardEntry]) -> Result<TrieTable<From>, N
 /// Returns the entry of a router's table for an address: that of its longest prefix that covers the
 /// address. A router that has no table has no entry.
 fn entry_at(tries: &[TrieTable<From>], at: RouterId, address: u32) -> Option<ForwardEntry>
-    ensures { MatchOption result (HasNoEntryFor (forward_map_of (tables_in tries.now) at) address) (λ e. HasEntry (forward_map_of (tables_in tries.now) at) address e.prefix e.from) }
+    ensures { MatchOption result (HasNoEntryFor (forward_map_of (tables_in tries.now) at) address)
+        (λ e. HasEntry (forward_map_of (tables_in tries.now) at) address e.prefix e.from) }
 {
     let table = tries.get(usize::from(at.0))?;
     let prefix = table.longest_match(address)?;

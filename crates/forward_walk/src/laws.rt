@@ -11,5 +11,6 @@ ghost use Rattle.forward_walk.specs.Walks.{WalksTo};
 /// packet leaves by the longest prefix that covers its address, and ends without a route only if no
 /// router has a prefix that covers the address.
 pub fn walks_end()
-    ensures { (tables : List ForwardMap) (address : ℕ) (from : RouterId) (walk : Walk) → AreSolved tables → from.0 < length tables → WalksTo tables address [] from walk → TwoRoutersAtMost tables address from walk }
+    ensures { (tables : List ForwardMap) (address : ℕ) (from : RouterId) (walk : Walk) → AreSolved tables
+        → from.0 < length tables → WalksTo tables address [] from walk → TwoRoutersAtMost tables address from walk }
 {}

@@ -11,7 +11,8 @@ pub at_next : (e f : Endpoint) (p : PlacedSegment) → EmitsSlice e p f → Emit
 at_next e f p slice step = record {
   offset = ap (λ (q : PlacedSegment). q.offset) step.slice;
   size = ap (λ (q : PlacedSegment). length q.bytes) step.slice
-      ∙ (let n : length (take (next_length e) (drop e.emitted e.stream)) ≡ next_length e = omega (arith, step.some, length-take (next_length e) (drop e.emitted e.stream), length-drop e.emitted e.stream) in n);
+      ∙ (let n : length (take (next_length e) (drop e.emitted e.stream)) ≡ next_length e =
+      omega (arith, step.some, length-take (next_length e) (drop e.emitted e.stream), length-drop e.emitted e.stream) in n);
   emits = inl slice;
 }
 
@@ -19,7 +20,8 @@ pub at_again : (e f : Endpoint) (p : PlacedSegment) → e.emitted ≤ length e.s
 at_again e f p within slice step = record {
   offset = ap (λ (q : PlacedSegment). q.offset) step.slice;
   size = ap (λ (q : PlacedSegment). length q.bytes) step.slice
-      ∙ (let n : length (take (again_length e) (drop e.acked e.stream)) ≡ again_length e = omega (arith, step.some, within, length-take (again_length e) (drop e.acked e.stream), length-drop e.acked e.stream) in n);
+      ∙ (let n : length (take (again_length e) (drop e.acked e.stream)) ≡ again_length e =
+      omega (arith, step.some, within, length-take (again_length e) (drop e.acked e.stream), length-drop e.acked e.stream) in n);
   emits = inl slice;
 }
 
@@ -51,7 +53,8 @@ careful_again e some = by_length (again_length e) refl some
 -- how a tally counts them
 pub counted_next : (e : Endpoint) (n : ℕ) (t : Tally) → 0 < n → tallied e e.emitted n t ≡ t
 counted_next e zero t some = absurd (omega (arith, some))
-counted_next e (suc n) t some = ap (λ (b : Bool). let u : Tally = if b then record t { again = t.again + 1 } else t in u) (le-ltb e.emitted e.emitted (omega arith))
+counted_next e (suc n) t some =
+    ap (λ (b : Bool). let u : Tally = if b then record t { again = t.again + 1 } else t in u) (le-ltb e.emitted e.emitted (omega arith))
 
 pub counted_again : (e : Endpoint) (n : ℕ) (t : Tally) → 0 < n → e.acked < e.emitted → tallied e e.acked n t ≡ record t { again = t.again + 1 }
 counted_again e zero t some out = absurd (omega (arith, some))

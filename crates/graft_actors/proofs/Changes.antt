@@ -41,7 +41,8 @@ sets_mesh w a b items = record { parts = same; here = ap (map MeshItem) (at2-her
 
     others : (x y : Option ActorName) → ((x ≡ Some (Router a)) × (y ≡ Some (Router b)) → ⊥)
         → channel_of (record w { mesh = at2 w.mesh a b items }) x y ≡ channel_of w x y
-    others (Some (Router c)) (Some (Router d)) not = ap (map MeshItem) (at2-else w.mesh a b items c d (λ e. not (ap (λ (n : ℕ). Some (Router n)) e.0, ap (λ (n : ℕ). Some (Router n)) e.1)))
+    others (Some (Router c)) (Some (Router d)) not =
+        ap (map MeshItem) (at2-else w.mesh a b items c d (λ e. not (ap (λ (n : ℕ). Some (Router n)) e.0, ap (λ (n : ℕ). Some (Router n)) e.1)))
     others x y not = refl
 
 pub sets_outward : (w : World) (a b : ℕ) (items : List Outward)
@@ -55,7 +56,8 @@ sets_outward w a b items = record { parts = same; here = ap (map OutwardItem) (a
 
     others : (x y : Option ActorName) → ((x ≡ Some (Router a)) × (y ≡ Some (FarSide b)) → ⊥)
         → channel_of (record w { outward = at2 w.outward a b items }) x y ≡ channel_of w x y
-    others (Some (Router c)) (Some (FarSide d)) not = ap (map OutwardItem) (at2-else w.outward a b items c d (λ e. not (ap (λ (n : ℕ). Some (Router n)) e.0, ap (λ (n : ℕ). Some (FarSide n)) e.1)))
+    others (Some (Router c)) (Some (FarSide d)) not =
+        ap (map OutwardItem) (at2-else w.outward a b items c d (λ e. not (ap (λ (n : ℕ). Some (Router n)) e.0, ap (λ (n : ℕ). Some (FarSide n)) e.1)))
     others x y not = refl
 
 pub sets_inward : (w : World) (a b : ℕ) (items : List PlacedSegment)
@@ -69,7 +71,8 @@ sets_inward w a b items = record { parts = same; here = ap (map SegmentItem) (at
 
     others : (x y : Option ActorName) → ((x ≡ Some (FarSide a)) × (y ≡ Some (Router b)) → ⊥)
         → channel_of (record w { inward = at2 w.inward a b items }) x y ≡ channel_of w x y
-    others (Some (FarSide c)) (Some (Router d)) not = ap (map SegmentItem) (at2-else w.inward a b items c d (λ e. not (ap (λ (n : ℕ). Some (FarSide n)) e.0, ap (λ (n : ℕ). Some (Router n)) e.1)))
+    others (Some (FarSide c)) (Some (Router d)) not =
+        ap (map SegmentItem) (at2-else w.inward a b items c d (λ e. not (ap (λ (n : ℕ). Some (FarSide n)) e.0, ap (λ (n : ℕ). Some (Router n)) e.1)))
     others x y not = refl
 
 pub sets_orders : (w : World) (b : ℕ) (items : List GraftOrder)

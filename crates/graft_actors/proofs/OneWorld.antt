@@ -11,7 +11,8 @@ use Rattle.graft_model.specs.declared.event.RouterEvent.{RouterEvent}
 use Rattle.graft_model.specs.declared.event.FarEvent.{FarEvent}
 use Rattle.graft_model.specs.declared.event.OperatorEvent.{OperatorEvent}
 use Rattle.graft_model.specs.Steps.{Event, ByRouter, ByFar, ByOperator}
-use Rattle.graft_actors.specs.Actors.{RouterIs, FarIs, OperatorIs, Thing, MeshItem, OutwardItem, SegmentItem, OrderItem, ReportItem, StepItem, ActorName, Router, FarSide, Operator, number_in, IsActor, actor_at}
+use Rattle.graft_actors.specs.Actors.{RouterIs, FarIs, OperatorIs, Thing, MeshItem, OutwardItem, SegmentItem, OrderItem, ReportItem}
+use Rattle.graft_actors.specs.Actors.{StepItem, ActorName, Router, FarSide, Operator, number_in, IsActor, actor_at}
 use Rattle.graft_actors.specs.Makes.{HasCode}
 use Rattle.graft_actors.specs.Seen.{Net, part_of, channel_of, Sees}
 use Rattle.graft_actors.specs.Laws.{maker_of, code_of, IsEntryOf, AreEntriesOf}
@@ -55,7 +56,8 @@ module _ (setup : Setup) (net : Net) (w v : World) (one : Sees setup net w) (oth
   same_items made back law [] [] e = refl
   same_items made back law [] (y ∷ ys) e = absurd cc
   same_items made back law (x ∷ xs) [] e = absurd cc
-  same_items made back law (x ∷ xs) (y ∷ ys) e = ap₂ (λ z zs. z ∷ zs) (some_same (sym (law x) ∙ ap back (head e) ∙ law y)) (same_items made back law xs ys (tail e))
+  same_items made back law (x ∷ xs) (y ∷ ys) e =
+      ap₂ (λ z zs. z ∷ zs) (some_same (sym (law x) ∙ ap back (head e) ∙ law y)) (same_items made back law xs ys (tail e))
     where
       some_same : Some x ≡ Some y → x ≡ y
       some_same h = cc
@@ -91,7 +93,8 @@ module _ (setup : Setup) (net : Net) (w v : World) (one : Sees setup net w) (oth
 -- ---- entries
 
 module _ (routers_code : (one other : RouterEvent) → router_code one ≡ router_code other → one ≡ other)
-    (fars_code : (one other : FarEvent) → far_code one ≡ far_code other → one ≡ other) (operators_code : (one other : OperatorEvent) → operator_code one ≡ operator_code other → one ≡ other) where
+    (fars_code : (one other : FarEvent) → far_code one ≡ far_code other → one ≡ other)
+    (operators_code : (one other : OperatorEvent) → operator_code one ≡ operator_code other → one ≡ other) where
   same_code : (c d : Code) (entry : JournalEntry) → HasCode c entry → HasCode d entry → c ≡ d
   same_code c d entry h k = λ i. record { kind = (sym h.kind ∙ k.kind) i; a = (sym h.a ∙ k.a) i; b = (sym h.b ∙ k.b) i; c = (sym h.c ∙ k.c) i }
 
@@ -119,12 +122,14 @@ module _ (routers_code : (one other : RouterEvent) → router_code one ≡ route
   by_case (ByOperator event) (ByFar q wanted) e f = absurd cc
 
   pub one_event : (setup : Setup) (one other : Event) (entry : JournalEntry) → IsEntryOf setup one entry → IsEntryOf setup other entry → one ≡ other
-  one_event setup one other entry h k = by_case one other (same_actor setup (maker_of one) (maker_of other) h.there k.there (sym h.maker ∙ k.maker)) (same_code (code_of one) (code_of other) entry h.coded k.coded)
+  one_event setup one other entry h k = by_case one other (same_actor setup (maker_of one) (maker_of other) h.there k.there (sym h.maker ∙ k.maker))
+      (same_code (code_of one) (code_of other) entry h.coded k.coded)
 
   pub one_list : (setup : Setup) (events others : List Event) (entries : List JournalEntry) → AreEntriesOf setup events entries
       → AreEntriesOf setup others entries → events ≡ others
   one_list setup [] [] [] h k = refl
-  one_list setup (event ∷ events) (other ∷ others) (entry ∷ entries) h k = ap₂ (λ z zs. z ∷ zs) (one_event setup event other entry h.0 k.0) (one_list setup events others entries h.1 k.1)
+  one_list setup (event ∷ events) (other ∷ others) (entry ∷ entries) h k =
+      ap₂ (λ z zs. z ∷ zs) (one_event setup event other entry h.0 k.0) (one_list setup events others entries h.1 k.1)
   one_list setup [] (other ∷ others) [] h k = absurd k
   one_list setup (event ∷ events) others [] h k = absurd h
   one_list setup [] others (entry ∷ entries) h k = absurd h

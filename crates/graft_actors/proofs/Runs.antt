@@ -39,15 +39,18 @@ entries_same : (notes : List (Noted Thing)) → map (λ (d : Deed Thing). d.entr
 entries_same [] = refl
 entries_same (n ∷ notes) = ap (λ es. n.deed.entry ∷ es) (entries_same notes)
 
-module _ {A : Type 0} (part : A → ActorPart) (setup : Setup) (u v : View A Thing) (levels : List ℕ) (notes : ℕ → List (Noted Thing)) (entries : List JournalEntry) (w : World) (seen : SeesView part setup u w)
+module _ {A : Type 0} (part : A → ActorPart) (setup : Setup) (u v : View A Thing) (levels : List ℕ)
+    (notes : ℕ → List (Noted Thing)) (entries : List JournalEntry) (w : World) (seen : SeesView part setup u w)
     (runs : RunsTo part (makes setup) u seen.net levels notes entries v) where
   same : map (λ (d : Deed Thing). d.entry) (map (λ (n : Noted Thing). n.deed) runs.events) ≡ entries
   same = entries_same runs.events ∙ runs.same
 
   pub journal_runs : QuietAtGo setup seen.net runs.last (map (λ n. n.deed) runs.events) runs.run → RunsOn part setup w entries v
   journal_runs quiet =
-      let o : IsRunOf setup w entries runs.last = subst (λ (es : List JournalEntry). IsRunOf setup w es runs.last) same (run_seen setup seen.net runs.last (map (λ n. n.deed) runs.events) w seen.sees runs.run quiet) in
+      let o : IsRunOf setup w entries runs.last = subst (λ (es : List JournalEntry). IsRunOf setup w es runs.last) same
+      (run_seen setup seen.net runs.last (map (λ n. n.deed) runs.events) w seen.sees runs.run quiet) in
       record { events = o.events; entries_of = o.entries_of; after = o.after; run = o.run; sees = record { net = runs.last; is = runs.is; sees = o.sees } }
 
   pub group_runs : AllByRecursion (λ e. IsGo e → ⊥) entries → RunsOn part setup w entries v
-  group_runs none = journal_runs (quiet_without setup seen.net runs.last (map (λ n. n.deed) runs.events) runs.run (subst (λ (es : List JournalEntry). AllByRecursion (λ e. IsGo e → ⊥) es) (sym same) none))
+  group_runs none = journal_runs (quiet_without setup seen.net runs.last (map (λ n. n.deed) runs.events) runs.run
+      (subst (λ (es : List JournalEntry). AllByRecursion (λ e. IsGo e → ⊥) es) (sym same) none))

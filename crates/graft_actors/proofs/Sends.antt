@@ -27,7 +27,8 @@ choose true x y e = refl
 choose false x y e = absurd cc
 
 grown_here : (channel : ℕ → ℕ → List Thing) (n m : ℕ) (thing : Thing) (items : List Thing)
-    → channel n m ++ (if n == n then (if m == m then thing ∷ items else items) else []) ≡ at2 channel n m (channel n m ++ thing ∷ []) n m ++ (if n == n then items else [])
+    → channel n m ++ (if n == n then (if m == m then thing ∷ items else items) else [])
+    ≡ at2 channel n m (channel n m ++ thing ∷ []) n m ++ (if n == n then items else [])
 grown_here channel n m thing items =
     let e : (n == n) ≡ true = grind (arith, nat_tests) in
     let f : (m == m) ≡ true = grind (arith, nat_tests) in
@@ -37,7 +38,8 @@ grown_here channel n m thing items =
     ∙ ap (λ xs. at2 channel n m (channel n m ++ thing ∷ []) n m ++ xs) (sym (choose (n == n) items [] e))
 
 grown_else : (channel : ℕ → ℕ → List Thing) (n m a b : ℕ) (thing : Thing) (items : List Thing) → ((a ≡ n) × (b ≡ m) → ⊥)
-    → channel a b ++ (if a == n then (if m == b then thing ∷ items else items) else []) ≡ at2 channel n m (channel n m ++ thing ∷ []) a b ++ (if a == n then items else [])
+    → channel a b ++ (if a == n then (if m == b then thing ∷ items else items) else [])
+    ≡ at2 channel n m (channel n m ++ thing ∷ []) a b ++ (if a == n then items else [])
 grown_else channel n m a b thing items not =
     let e : (if a == n then (if m == b then thing ∷ items else items) else []) ≡ (if a == n then items else []) = grind (arith, nat_tests) in
     ap (λ xs. channel a b ++ xs) e ∙ ap (λ xs. xs ++ (if a == n then items else [])) (sym (at2-else channel n m (channel n m ++ thing ∷ []) a b not))
@@ -59,7 +61,10 @@ grown channel n m a b thing sent = elim (both_or_not a b n m) [
 added : (setup : Setup) (channel : ℕ → ℕ → List Thing) (w u : World) (n : ℕ) (me : ActorName) (x : ActorName × Thing) → actor_at setup n ≡ Some me
     → IsActor setup x.0 → AreChannels setup channel w → OneMore w u me x
     → AreChannels setup (at2 channel n (number_in setup x.0) (channel n (number_in setup x.0) ++ x.1 ∷ [])) u
-added setup channel w u n me x is known seen one = record { each = each; none = none_stays setup w u me x.0 (channel_of w (Some me) (Some x.0) ++ x.1 ∷ []) one (of_number setup n me is).0 known seen.none }
+added setup channel w u n me x is known seen one = record {
+  each = each;
+  none = none_stays setup w u me x.0 (channel_of w (Some me) (Some x.0) ++ x.1 ∷ []) one (of_number setup n me is).0 known seen.none;
+}
   where
     to : actor_at setup (number_in setup x.0) ≡ Some x.0
     to = there setup x.0 known
@@ -81,15 +86,21 @@ pub record Grown (setup : Setup) (channel : ℕ → ℕ → List Thing) (w u : W
   pub parts : (x : ActorName) → part_of u x ≡ part_of w x
   pub channels : AreChannels setup channel u
 
-module _ (setup : Setup) (n : ℕ) (me : ActorName) (is : actor_at setup n ≡ Some me) {S : Type 0} (sends : World → S → World) (gives : S → ActorName × Thing) (one : (w : World) (s : S) → OneMore w (sends w s) me (gives s)) where
+module _ (setup : Setup) (n : ℕ) (me : ActorName) (is : actor_at setup n ≡ Some me) {S : Type 0} (sends : World → S → World)
+    (gives : S → ActorName × Thing) (one : (w : World) (s : S) → OneMore w (sends w s) me (gives s)) where
   pub all_sent : (gave : List S) (channel : ℕ → ℕ → List Thing) (w : World) → AllByRecursion (λ s. IsActor setup (gives s).0) gave → AreChannels setup channel w
       → Grown setup (with_sent channel n (map (λ s. numbered setup (gives s)) gave)) w (fold sends w gave)
-  all_sent [] channel w known seen = record { parts = λ x. refl; channels = record { each = λ a b. none_sent (channel a b) (a == n) ∙ seen.each a b; none = seen.none } }
+  all_sent [] channel w known seen =
+      record { parts = λ x. refl; channels = record { each = λ a b. none_sent (channel a b) (a == n) ∙ seen.each a b; none = seen.none } }
   all_sent (s ∷ gave) channel w known seen =
       let m : ℕ = number_in setup (gives s).0 in
       let more : ℕ → ℕ → List Thing = at2 channel n m (channel n m ++ (gives s).1 ∷ []) in
-      let o : Grown setup (with_sent more n (map (λ s. numbered setup (gives s)) gave)) (sends w s) (fold sends (sends w s) gave) = all_sent gave more (sends w s) known.1 (added setup channel w (sends w s) n me (gives s) is known.0 seen (one w s)) in
+      let o : Grown setup (with_sent more n (map (λ s. numbered setup (gives s)) gave)) (sends w s) (fold sends (sends w s) gave) =
+      all_sent gave more (sends w s) known.1 (added setup channel w (sends w s) n me (gives s) is known.0 seen (one w s)) in
       record {
         parts = λ x. o.parts x ∙ (one w s).parts x;
-        channels = record { each = λ a b. grown channel n m a b (gives s).1 (map (λ s. numbered setup (gives s)) gave) ∙ o.channels.each a b; none = o.channels.none };
+        channels = record {
+          each = λ a b. grown channel n m a b (gives s).1 (map (λ s. numbered setup (gives s)) gave) ∙ o.channels.each a b;
+          none = o.channels.none;
+        };
       }

@@ -11,9 +11,11 @@ use Rattle.graft_model.specs.Quiet.{Quiet}
 use Rattle.graft_model.specs.Codes.{router_code, far_code, operator_code}
 use Rattle.graft_model.specs.declared.event.OperatorEvent.{OperatorEvent}
 use Rattle.graft_model.specs.declared.event.OperatorEvent.TheVariants.{Order, Note, Go}
-use Rattle.graft_model.specs.Steps.{MayMake, ByRouter, ByFar, ByOperator, RouterTook, FarTook, OperatorTook, router_row, far_row, operator_row, router_sends, far_sends, operator_sends}
+use Rattle.graft_model.specs.Steps.{MayMake, ByRouter, ByFar, ByOperator, RouterTook, FarTook, OperatorTook}
+use Rattle.graft_model.specs.Steps.{router_row, far_row, operator_row, router_sends, far_sends, operator_sends}
 use Rattle.graft_actors.specs.Actors.{ActorPart, RouterIs, FarIs, OperatorIs, Thing, ActorName, Router, FarSide, Operator, IsActor, actor_at}
-use Rattle.graft_actors.specs.Makes.{HasCode, MakesRow, makes, makes_as, numbered, taken_by_router, sent_by_router, taken_by_far, sent_by_far, taken_by_operator, sent_by_operator}
+use Rattle.graft_actors.specs.Makes.{HasCode, MakesRow, makes, makes_as, numbered, taken_by_router, sent_by_router}
+use Rattle.graft_actors.specs.Makes.{taken_by_far, sent_by_far, taken_by_operator, sent_by_operator}
 use Rattle.graft_actors.specs.Seen.{Net, part_of, channel_of, Sees}
 use Rattle.graft_actors.specs.Laws.{IsGo, IsStepOf}
 use Rattle.graft_actors.proofs.Numbers.{of_number, once}
@@ -65,7 +67,8 @@ same_or_not m n = by_test (m == n) refl
         differ : (x y : ℕ) → x ≡ y → (x == y) ≡ false → ⊥
         differ x y f e = grind (arith, nat_tests)
 
-module _ (setup : Setup) (net next : Net) (deed : Deed Thing) (w : World) (sees : Sees setup net w) (step : worlds.DeedStep (makes setup) net deed next) (me : ActorName) (is : actor_at setup deed.entry.actor ≡ Some me) where
+module _ (setup : Setup) (net next : Net) (deed : Deed Thing) (w : World) (sees : Sees setup net w)
+    (step : worlds.DeedStep (makes setup) net deed next) (me : ActorName) (is : actor_at setup deed.entry.actor ≡ Some me) where
   -- one actor has another part, and the channels are seen
   after_sees : (u : World) (part : ActorPart) → next.part deed.entry.actor ≡ part → part_of u me ≡ part
       → ((x : ActorName) → (x ≡ me → ⊥) → part_of u x ≡ part_of w x) → AreChannels setup next.channel u → Sees setup next u
@@ -90,7 +93,10 @@ module _ (setup : Setup) (net next : Net) (deed : Deed Thing) (w : World) (sees 
   -- what was sent stands behind the rest
   sent_sees : (u : World) (sent : List (ℕ × Thing)) → deed.sent ≡ sent → AreChannels setup (with_sent step.rest deed.entry.actor sent) u
       → AreChannels setup next.channel u
-  sent_sees u sent e seen = record { each = λ a b. step.sends a b ∙ ap (λ xs. step.rest a b ++ (if a == deed.entry.actor then items_for b xs else [])) e ∙ seen.each a b; none = seen.none }
+  sent_sees u sent e seen = record {
+    each = λ a b. step.sends a b ∙ ap (λ xs. step.rest a b ++ (if a == deed.entry.actor then items_for b xs else [])) e ∙ seen.each a b;
+    none = seen.none;
+  }
 
   before_seen : AreChannels setup net.channel w
   before_seen = record { each = sees.channels; none = sees.within.channels }
@@ -102,7 +108,8 @@ module _ (setup : Setup) (net next : Net) (deed : Deed Thing) (w : World) (sees 
       → Grown setup (with_sent step.rest deed.entry.actor (map (λ s. numbered setup (gives s)) gave)) u (fold sends u gave)
       → Sees setup next (fold sends u gave)
   assembled without u part sends gives gave now same one e grown =
-      after_sees (fold sends u gave) part now (grown.parts me ∙ one.here) (λ x ne. grown.parts x ∙ one.others x ne ∙ same x) (sent_sees (fold sends u gave) (map (λ s. numbered setup (gives s)) gave) e grown.channels)
+      after_sees (fold sends u gave) part now (grown.parts me ∙ one.here) (λ x ne. grown.parts x ∙ one.others x ne ∙ same x)
+      (sent_sees (fold sends u gave) (map (λ s. numbered setup (gives s)) gave) e grown.channels)
 
   rest_seen : {Took : World → Type 0} (o : Left setup step.rest w Took) (u : World) (part : ActorPart) → OnePart o.without u me part
       → AreChannels setup step.rest u
@@ -119,26 +126,35 @@ module _ (setup : Setup) (net next : Net) (deed : Deed Thing) (w : World) (sees 
       → MakesRow setup router_code (router_row setup r) taken_by_router sent_by_router before deed.entry deed.taken deed.sent after
       → IsStepOf setup w deed.entry next
   router_step r is before after was now row =
-      let o : Left setup step.rest w (RouterTook w r row.took) = router_left setup net.channel step.rest deed step.takes w (before_seen setup net next deed w sees step (Router r) is) r row.took is row.is_taken in
+      let o : Left setup step.rest w (RouterTook w r row.took) = router_left setup net.channel step.rest deed step.takes w
+      (before_seen setup net next deed w sees step (Router r) is) r row.took is row.is_taken in
       let u : World = record o.without { router = at o.without.router r after } in
       let one : OnePart o.without u (Router r) (RouterIs after) = sets_router o.without r after in
-      let grown : Grown setup (with_sent step.rest deed.entry.actor (map (λ s. numbered setup (sent_by_router s)) row.gave)) u (fold (router_sends r) u row.gave) =
-      all_sent setup deed.entry.actor (Router r) is (router_sends r) sent_by_router (router_sends_one r) row.gave step.rest u row.there (rest_seen setup net next deed w sees step (Router r) is o u (RouterIs after) one) in
+      let grown : Grown setup (with_sent step.rest deed.entry.actor (map (λ s. numbered setup (sent_by_router s)) row.gave)) u
+      (fold (router_sends r) u row.gave) =
+      all_sent setup deed.entry.actor (Router r) is (router_sends r) sent_by_router (router_sends_one r) row.gave step.rest u row.there
+      (rest_seen setup net next deed w sees step (Router r) is o u (RouterIs after) one) in
       record {
         event = ByRouter r row.event;
-        entry_of = record { there = (of_number setup deed.entry.actor (Router r) is).0; maker = (of_number setup deed.entry.actor (Router r) is).1; coded = row.coded };
+        entry_of = record {
+          there = (of_number setup deed.entry.actor (Router r) is).0;
+          maker = (of_number setup deed.entry.actor (Router r) is).1;
+          coded = row.coded;
+        };
         after = fold (router_sends r) u row.gave;
         step = record {
           known = (of_number setup deed.entry.actor (Router r) is).0;
           taken = row.took;
           sent = row.gave;
           part = after;
-          row = subst (λ (part : RouterPart). router_row setup r row.event part row.took row.gave after) (same before (w.router r) (sym was ∙ sees.parts deed.entry.actor (Router r) is)) row.holds;
+          row = subst (λ (part : RouterPart). router_row setup r row.event part row.took row.gave after)
+              (same before (w.router r) (sym was ∙ sees.parts deed.entry.actor (Router r) is)) row.holds;
           without = o.without;
           took = o.took;
           is = refl;
         };
-        sees = assembled setup net next deed w sees step (Router r) is o.without u (RouterIs after) (router_sends r) sent_by_router row.gave now o.parts one row.is_sent grown;
+        sees = assembled setup net next deed w sees step (Router r) is o.without u (RouterIs after)
+            (router_sends r) sent_by_router row.gave now o.parts one row.is_sent grown;
       }
     where
       same : (a b : RouterPart) → RouterIs a ≡ RouterIs b → a ≡ b
@@ -148,26 +164,34 @@ module _ (setup : Setup) (net next : Net) (deed : Deed Thing) (w : World) (sees 
       → next.part deed.entry.actor ≡ FarIs after
       → MakesRow setup far_code (far_row setup p) taken_by_far sent_by_far before deed.entry deed.taken deed.sent after → IsStepOf setup w deed.entry next
   far_step p is before after was now row =
-      let o : Left setup step.rest w (FarTook w p row.took) = far_left setup net.channel step.rest deed step.takes w (before_seen setup net next deed w sees step (FarSide p) is) p row.took is row.is_taken in
+      let o : Left setup step.rest w (FarTook w p row.took) =
+      far_left setup net.channel step.rest deed step.takes w (before_seen setup net next deed w sees step (FarSide p) is) p row.took is row.is_taken in
       let u : World = record o.without { far = at o.without.far p after } in
       let one : OnePart o.without u (FarSide p) (FarIs after) = sets_far o.without p after in
       let grown : Grown setup (with_sent step.rest deed.entry.actor (map (λ s. numbered setup (sent_by_far s)) row.gave)) u (fold (far_sends p) u row.gave) =
-      all_sent setup deed.entry.actor (FarSide p) is (far_sends p) sent_by_far (far_sends_one p) row.gave step.rest u row.there (rest_seen setup net next deed w sees step (FarSide p) is o u (FarIs after) one) in
+      all_sent setup deed.entry.actor (FarSide p) is (far_sends p) sent_by_far (far_sends_one p) row.gave step.rest u row.there
+      (rest_seen setup net next deed w sees step (FarSide p) is o u (FarIs after) one) in
       record {
         event = ByFar p row.event;
-        entry_of = record { there = (of_number setup deed.entry.actor (FarSide p) is).0; maker = (of_number setup deed.entry.actor (FarSide p) is).1; coded = row.coded };
+        entry_of = record {
+          there = (of_number setup deed.entry.actor (FarSide p) is).0;
+          maker = (of_number setup deed.entry.actor (FarSide p) is).1;
+          coded = row.coded;
+        };
         after = fold (far_sends p) u row.gave;
         step = record {
           known = (of_number setup deed.entry.actor (FarSide p) is).0;
           taken = row.took;
           sent = row.gave;
           part = after;
-          row = subst (λ (part : FarPart). far_row setup p row.event part row.took row.gave after) (same before (w.far p) (sym was ∙ sees.parts deed.entry.actor (FarSide p) is)) row.holds;
+          row = subst (λ (part : FarPart). far_row setup p row.event part row.took row.gave after)
+              (same before (w.far p) (sym was ∙ sees.parts deed.entry.actor (FarSide p) is)) row.holds;
           without = o.without;
           took = o.took;
           is = refl;
         };
-        sees = assembled setup net next deed w sees step (FarSide p) is o.without u (FarIs after) (far_sends p) sent_by_far row.gave now o.parts one row.is_sent grown;
+        sees = assembled setup net next deed w sees step (FarSide p) is o.without u
+            (FarIs after) (far_sends p) sent_by_far row.gave now o.parts one row.is_sent grown;
       }
     where
       same : (a b : FarPart) → FarIs a ≡ FarIs b → a ≡ b
@@ -183,26 +207,35 @@ module _ (setup : Setup) (net next : Net) (deed : Deed Thing) (w : World) (sees 
       → MakesRow setup operator_code (operator_row setup) taken_by_operator sent_by_operator before deed.entry deed.taken deed.sent after
       → (IsGo deed.entry → Quiet setup w) → IsStepOf setup w deed.entry next
   operator_step is before after was now row quiet =
-      let o : Left setup step.rest w (OperatorTook w row.took) = operator_left setup net.channel step.rest deed step.takes w (before_seen setup net next deed w sees step Operator is) row.took is row.is_taken in
+      let o : Left setup step.rest w (OperatorTook w row.took) =
+      operator_left setup net.channel step.rest deed step.takes w (before_seen setup net next deed w sees step Operator is) row.took is row.is_taken in
       let u : World = record o.without { operator = after } in
       let one : OnePart o.without u Operator (OperatorIs after) = sets_operator o.without after in
-      let grown : Grown setup (with_sent step.rest deed.entry.actor (map (λ s. numbered setup (sent_by_operator s)) row.gave)) u (fold operator_sends u row.gave) =
-      all_sent setup deed.entry.actor Operator is operator_sends sent_by_operator operator_sends_one row.gave step.rest u row.there (rest_seen setup net next deed w sees step Operator is o u (OperatorIs after) one) in
+      let grown : Grown setup (with_sent step.rest deed.entry.actor (map (λ s. numbered setup (sent_by_operator s)) row.gave)) u
+      (fold operator_sends u row.gave) =
+      all_sent setup deed.entry.actor Operator is operator_sends sent_by_operator operator_sends_one row.gave step.rest u row.there
+      (rest_seen setup net next deed w sees step Operator is o u (OperatorIs after) one) in
       record {
         event = ByOperator row.event;
-        entry_of = record { there = (of_number setup deed.entry.actor Operator is).0; maker = (of_number setup deed.entry.actor Operator is).1; coded = row.coded };
+        entry_of = record {
+          there = (of_number setup deed.entry.actor Operator is).0;
+          maker = (of_number setup deed.entry.actor Operator is).1;
+          coded = row.coded;
+        };
         after = fold operator_sends u row.gave;
         step = record {
           may = may_make row.event row.coded quiet;
           taken = row.took;
           sent = row.gave;
           part = after;
-          row = subst (λ (part : OperatorPart). operator_row setup row.event part row.took row.gave after) (same before w.operator (sym was ∙ sees.parts deed.entry.actor Operator is)) row.holds;
+          row = subst (λ (part : OperatorPart). operator_row setup row.event part row.took row.gave after)
+              (same before w.operator (sym was ∙ sees.parts deed.entry.actor Operator is)) row.holds;
           without = o.without;
           took = o.took;
           is = refl;
         };
-        sees = assembled setup net next deed w sees step Operator is o.without u (OperatorIs after) operator_sends sent_by_operator row.gave now o.parts one row.is_sent grown;
+        sees = assembled setup net next deed w sees step Operator is o.without u
+            (OperatorIs after) operator_sends sent_by_operator row.gave now o.parts one row.is_sent grown;
       }
     where
       same : (a b : OperatorPart) → OperatorIs a ≡ OperatorIs b → a ≡ b
@@ -218,4 +251,5 @@ module _ (setup : Setup) (net next : Net) (deed : Deed Thing) (w : World) (sees 
 
 pub event_step : (setup : Setup) (net next : Net) (deed : Deed Thing) (w : World) → Sees setup net w → worlds.DeedStep (makes setup) net deed next
     → (IsGo deed.entry → Quiet setup w) → IsStepOf setup w deed.entry next
-event_step setup net next deed w sees step quiet = by_actor setup net next deed w sees step (actor_at setup deed.entry.actor) (net.part deed.entry.actor) (next.part deed.entry.actor) refl refl refl step.made quiet
+event_step setup net next deed w sees step quiet = by_actor setup net next deed w sees step
+    (actor_at setup deed.entry.actor) (net.part deed.entry.actor) (next.part deed.entry.actor) refl refl refl step.made quiet

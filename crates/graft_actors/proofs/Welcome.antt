@@ -14,12 +14,14 @@ use Rattle.graft_steps.specs.declared.refusal.Outcome.{Outcome}
 use Rattle.graft_steps.specs.declared.refusal.Refusal.{Refusal}
 use Rattle.session_value.specs.Sessions.{SessionValue}
 use Rattle.graft_model.specs.Setups.{Setup, SayStep, routers_in, peerings_in}
-use Rattle.graft_model.specs.Parts.{RouterPart, FarPart, OperatorPart, Vacant, Live, Shadow, GraftOrder, Report, Mesh, Told, Moved, Back, Asked, Answered, Done, Seg, PointAt}
+use Rattle.graft_model.specs.Parts.{RouterPart, FarPart, OperatorPart, Vacant, Live, Shadow, GraftOrder, Report}
+use Rattle.graft_model.specs.Parts.{Mesh, Told, Moved, Back, Asked, Answered, Done, Seg, PointAt}
 use Rattle.graft_model.specs.RouterRows.{RouterTaken, OrderIn, SegmentIn, MeshIn}
 use Rattle.graft_model.specs.FarRows.{FarTaken, OutwardIn, SayIn}
 use Rattle.graft_model.specs.OperatorRows.{OperatorTaken, ReportIn}
 use Rattle.graft_model.specs.Taking.{RouterMayTake, FarMayTake, OperatorMayTake}
-use Rattle.graft_actors.specs.Actors.{RouterIs, FarIs, OperatorIs, Thing, MeshItem, OutwardItem, SegmentItem, OrderItem, ReportItem, StepItem, ActorName, Router, FarSide, Operator, actor_at}
+use Rattle.graft_actors.specs.Actors.{RouterIs, FarIs, OperatorIs, Thing, MeshItem, OutwardItem, SegmentItem, OrderItem}
+use Rattle.graft_actors.specs.Actors.{ReportItem, StepItem, ActorName, Router, FarSide, Operator, actor_at}
 use Rattle.graft_actors.specs.Makes.{taken_by_router, taken_by_far, taken_by_operator}
 use Rattle.graft_actors.specs.Items.{thing_of, segment_of, segment_thing, IsOnItsWay, IsSegmentOf}
 use Rattle.graft_actors.specs.Acts.{OwnPart, IsWelcome, MayComeFrom, MayTakeFrom}
@@ -163,12 +165,15 @@ module _ {C : Type 0} (session : C → SessionValue) (setup : Setup) where
         → MayComeFrom session setup (Some from) own.name item
         → MayTakeFrom setup own.name own.part (Some from) (thing_of session setup item) → IsWelcome session own n item
     welcome own item from same e comes takes = record {
-      comes = subst (λ (s : Setup). MayComeFrom session s (actor_at s n) own.name item) (sym same) (subst (λ (o : Option ActorName). MayComeFrom session setup o own.name item) (sym e) comes);
-      takes = subst (λ (s : Setup). MayTakeFrom s own.name own.part (actor_at s n) (thing_of session s item)) (sym same) (subst (λ (o : Option ActorName). MayTakeFrom setup own.name own.part o (thing_of session setup item)) (sym e) takes);
+      comes = subst (λ (s : Setup). MayComeFrom session s (actor_at s n) own.name item) (sym same)
+          (subst (λ (o : Option ActorName). MayComeFrom session setup o own.name item) (sym e) comes);
+      takes = subst (λ (s : Setup). MayTakeFrom s own.name own.part (actor_at s n) (thing_of session s item)) (sym same)
+          (subst (λ (o : Option ActorName). MayTakeFrom setup own.name own.part o (thing_of session setup item)) (sym e) takes);
     }
 
     pub router_segment : (r : ℕ) (part : RouterPart) (g : Segment)
-        → IsWelcome session (record { setup = setup; name = Router r; part = RouterIs part }) n (items.Seg g) ↔ ((p : ℕ) × (actor_at setup n ≡ Some (FarSide p)) × IsSegmentOf setup p Home g)
+        → IsWelcome session (record { setup = setup; name = Router r; part = RouterIs part }) n (items.Seg g)
+        ↔ ((p : ℕ) × (actor_at setup n ≡ Some (FarSide p)) × IsSegmentOf setup p Home g)
     router_segment r part g = ((λ w. router_segment_comes r g (actor_at setup n) w.comes), back) where
       back : ((p : ℕ) × (actor_at setup n ≡ Some (FarSide p)) × IsSegmentOf setup p Home g)
           → IsWelcome session (record { setup = setup; name = Router r; part = RouterIs part }) n (items.Seg g)
@@ -176,7 +181,8 @@ module _ {C : Type 0} (session : C → SessionValue) (setup : Setup) where
           (SegmentIn p (segment_of setup g), ap (λ (way : Way). (FarSide p, segment_thing way (segment_of setup g))) (sym is.way), tt)
 
     pub far_segment : (p : ℕ) (part : FarPart) (g : Segment)
-        → IsWelcome session (record { setup = setup; name = FarSide p; part = FarIs part }) n (items.Seg g) ↔ ((r : ℕ) × (actor_at setup n ≡ Some (Router r)) × IsSegmentOf setup p Remote g)
+        → IsWelcome session (record { setup = setup; name = FarSide p; part = FarIs part }) n (items.Seg g)
+        ↔ ((r : ℕ) × (actor_at setup n ≡ Some (Router r)) × IsSegmentOf setup p Remote g)
     far_segment p part g = ((λ w. far_segment_comes p g (actor_at setup n) w.comes), back) where
       back : ((r : ℕ) × (actor_at setup n ≡ Some (Router r)) × IsSegmentOf setup p Remote g)
           → IsWelcome session (record { setup = setup; name = FarSide p; part = FarIs part }) n (items.Seg g)
@@ -184,19 +190,26 @@ module _ {C : Type 0} (session : C → SessionValue) (setup : Setup) where
           (OutwardIn r (Seg (segment_of setup g)), ap (λ (way : Way). (Router r, segment_thing way (segment_of setup g))) (sym is.way), tt)
 
     pub far_point : (p k : ℕ) (part : FarPart)
-        → IsWelcome session (record { setup = setup; name = FarSide p; part = FarIs part }) n (items.PointAt k) ↔ ((r : ℕ) × (actor_at setup n ≡ Some (Router r)))
+        → IsWelcome session (record { setup = setup; name = FarSide p; part = FarIs part }) n (items.PointAt k)
+        ↔ ((r : ℕ) × (actor_at setup n ≡ Some (Router r)))
     far_point p k part = ((λ w. far_point_comes p k (actor_at setup n) w.comes), back) where
       back : ((r : ℕ) × (actor_at setup n ≡ Some (Router r)))
           → IsWelcome session (record { setup = setup; name = FarSide p; part = FarIs part }) n (items.PointAt k)
-      back (r, e) = welcome (record { setup = setup; name = FarSide p; part = FarIs part }) (items.PointAt k) (Router r) refl e tt (OutwardIn r (PointAt k), refl, tt)
+      back (r, e) = welcome (record { setup = setup; name = FarSide p; part = FarIs part })
+          (items.PointAt k) (Router r) refl e tt (OutwardIn r (PointAt k), refl, tt)
 
     pub far_say : (p step : ℕ) (part : FarPart)
         → IsWelcome session (record { setup = setup; name = FarSide p; part = FarIs part }) n (items.SayOrder step)
-        ↔ ((actor_at setup n ≡ Some Operator) × (bytes : List ℕ) × (slice_get setup.steps step ≡ Some (SayStep p bytes)) × (length part.end.stream + length bytes ≤ 2 ^ 20))
-    far_say p step part = ((λ w. let may = takes_say p step part (actor_at setup n) w.takes in (far_say_comes p step (actor_at setup n) w.comes, may.0, may.1, may.2)), back) where
-      back : ((actor_at setup n ≡ Some Operator) × (bytes : List ℕ) × (slice_get setup.steps step ≡ Some (SayStep p bytes)) × (length part.end.stream + length bytes ≤ 2 ^ 20))
-          → IsWelcome session (record { setup = setup; name = FarSide p; part = FarIs part }) n (items.SayOrder step)
-      back (e, bytes, is, room) = welcome (record { setup = setup; name = FarSide p; part = FarIs part }) (items.SayOrder step) Operator refl e tt (SayIn step, refl, (bytes, is, room))
+        ↔ ((actor_at setup n ≡ Some Operator) × (bytes : List ℕ)
+        × (slice_get setup.steps step ≡ Some (SayStep p bytes)) × (length part.end.stream + length bytes ≤ 2 ^ 20))
+    far_say p step part =
+        ((λ w. let may = takes_say p step part (actor_at setup n) w.takes in (far_say_comes p step (actor_at setup n) w.comes, may.0, may.1, may.2)), back)
+      where
+        back : ((actor_at setup n ≡ Some Operator) × (bytes : List ℕ)
+            × (slice_get setup.steps step ≡ Some (SayStep p bytes)) × (length part.end.stream + length bytes ≤ 2 ^ 20))
+            → IsWelcome session (record { setup = setup; name = FarSide p; part = FarIs part }) n (items.SayOrder step)
+        back (e, bytes, is, room) = welcome (record { setup = setup; name = FarSide p; part = FarIs part })
+            (items.SayOrder step) Operator refl e tt (SayIn step, refl, (bytes, is, room))
 
     pub router_order : (r k : ℕ) (part : RouterPart) (peering : PeeringId) (target : RouterId)
         → IsWelcome session (record { setup = setup; name = Router r; part = RouterIs part }) n (items.GraftOrder k peering target)
@@ -212,23 +225,29 @@ module _ {C : Type 0} (session : C → SessionValue) (setup : Setup) where
           (OrderIn (record { graft = k; peering = peering.0; target = target.0 }), refl, (known, s, record { is = is }))
 
     pub router_told : (r : ℕ) (part : RouterPart) (prefix : PrefixValue) (route : Option Route)
-        → IsWelcome session (record { setup = setup; name = Router r; part = RouterIs part }) n (items.Told prefix route) ↔ ((q : ℕ) × (actor_at setup n ≡ Some (Router q)))
+        → IsWelcome session (record { setup = setup; name = Router r; part = RouterIs part }) n (items.Told prefix route)
+        ↔ ((q : ℕ) × (actor_at setup n ≡ Some (Router q)))
     router_told r part prefix route = ((λ w. told_comes r prefix route (actor_at setup n) w.comes), back) where
       back : ((q : ℕ) × (actor_at setup n ≡ Some (Router q)))
           → IsWelcome session (record { setup = setup; name = Router r; part = RouterIs part }) n (items.Told prefix route)
-      back (q, e) = welcome (record { setup = setup; name = Router r; part = RouterIs part }) (items.Told prefix route) (Router q) refl e tt (MeshIn q (Told prefix route), refl, tt)
+      back (q, e) = welcome (record { setup = setup; name = Router r; part = RouterIs part })
+          (items.Told prefix route) (Router q) refl e tt (MeshIn q (Told prefix route), refl, tt)
 
     pub router_moved : (r k : ℕ) (part : RouterPart) (capsule : C)
         → IsWelcome session (record { setup = setup; name = Router r; part = RouterIs part }) n (items.Moved k capsule)
-        ↔ (((q : ℕ) × (actor_at setup n ≡ Some (Router q))) × IsOnItsWay setup (session capsule) × ((session capsule).config.peering.0 < peerings_in setup) × (part.places (session capsule).config.peering.0 ≡ Vacant))
+        ↔ (((q : ℕ) × (actor_at setup n ≡ Some (Router q))) × IsOnItsWay setup (session capsule)
+        × ((session capsule).config.peering.0 < peerings_in setup) × (part.places (session capsule).config.peering.0 ≡ Vacant))
     router_moved r k part capsule = (
-      (λ w. let may = takes_mesh (((session capsule).config.peering.0 < peerings_in setup) × (part.places (session capsule).config.peering.0 ≡ Vacant)) r part (Moved k (session capsule).config.peering.0 (session capsule)) (actor_at setup n) (λ q may. may) w.takes in
+      (λ w. let may = takes_mesh (((session capsule).config.peering.0 < peerings_in setup) × (part.places (session capsule).config.peering.0 ≡ Vacant))
+          r part (Moved k (session capsule).config.peering.0 (session capsule)) (actor_at setup n) (λ q may. may) w.takes in
           let comes = moved_comes r k capsule (actor_at setup n) w.comes in (comes.0, comes.1, may.0, may.1)),
       back,
     ) where
-      back : (((q : ℕ) × (actor_at setup n ≡ Some (Router q))) × IsOnItsWay setup (session capsule) × ((session capsule).config.peering.0 < peerings_in setup) × (part.places (session capsule).config.peering.0 ≡ Vacant))
+      back : (((q : ℕ) × (actor_at setup n ≡ Some (Router q))) × IsOnItsWay setup (session capsule)
+          × ((session capsule).config.peering.0 < peerings_in setup) × (part.places (session capsule).config.peering.0 ≡ Vacant))
           → IsWelcome session (record { setup = setup; name = Router r; part = RouterIs part }) n (items.Moved k capsule)
-      back ((q, e), way, known, vacant) = welcome (record { setup = setup; name = Router r; part = RouterIs part }) (items.Moved k capsule) (Router q) refl e way (MeshIn q (Moved k (session capsule).config.peering.0 (session capsule)), refl, (known, vacant))
+      back ((q, e), way, known, vacant) = welcome (record { setup = setup; name = Router r; part = RouterIs part }) (items.Moved k capsule)
+          (Router q) refl e way (MeshIn q (Moved k (session capsule).config.peering.0 (session capsule)), refl, (known, vacant))
 
     pub router_back : (r k : ℕ) (part : RouterPart) (capsule : C) (refusal : Refusal)
         → IsWelcome session (record { setup = setup; name = Router r; part = RouterIs part }) n (items.Back k capsule refusal)
@@ -237,40 +256,61 @@ module _ {C : Type 0} (session : C → SessionValue) (setup : Setup) where
       (λ w. let comes = back_comes r k capsule refusal (actor_at setup n) w.comes in (
         comes.0,
         comes.1,
-        takes_mesh (part.places (session capsule).config.peering.0 ≡ Shadow k) r part (Back k (session capsule).config.peering.0 (session capsule) refusal) (actor_at setup n) (λ q may. may) w.takes,
+        takes_mesh (part.places (session capsule).config.peering.0 ≡ Shadow k) r part
+            (Back k (session capsule).config.peering.0 (session capsule) refusal) (actor_at setup n) (λ q may. may) w.takes,
       )),
       back,
     ) where
-      back : (((q : ℕ) × (actor_at setup n ≡ Some (Router q))) × IsOnItsWay setup (session capsule) × (part.places (session capsule).config.peering.0 ≡ Shadow k))
+      back : (((q : ℕ) × (actor_at setup n ≡ Some (Router q))) × IsOnItsWay setup (session capsule)
+          × (part.places (session capsule).config.peering.0 ≡ Shadow k))
           → IsWelcome session (record { setup = setup; name = Router r; part = RouterIs part }) n (items.Back k capsule refusal)
-      back ((q, e), way, may) = welcome (record { setup = setup; name = Router r; part = RouterIs part }) (items.Back k capsule refusal) (Router q) refl e way (MeshIn q (Back k (session capsule).config.peering.0 (session capsule) refusal), refl, may)
+      back ((q, e), way, may) = welcome (record { setup = setup; name = Router r; part = RouterIs part }) (items.Back k capsule refusal)
+          (Router q) refl e way (MeshIn q (Back k (session capsule).config.peering.0 (session capsule) refusal), refl, may)
 
     pub router_asked : (r k : ℕ) (part : RouterPart) (peering : PeeringId)
-        → IsWelcome session (record { setup = setup; name = Router r; part = RouterIs part }) n (items.Asked k peering) ↔ ((q : ℕ) × (actor_at setup n ≡ Some (Router q)))
+        → IsWelcome session (record { setup = setup; name = Router r; part = RouterIs part }) n (items.Asked k peering)
+        ↔ ((q : ℕ) × (actor_at setup n ≡ Some (Router q)))
     router_asked r k part peering = ((λ w. asked_comes r k peering (actor_at setup n) w.comes), back) where
       back : ((q : ℕ) × (actor_at setup n ≡ Some (Router q)))
           → IsWelcome session (record { setup = setup; name = Router r; part = RouterIs part }) n (items.Asked k peering)
-      back (q, e) = welcome (record { setup = setup; name = Router r; part = RouterIs part }) (items.Asked k peering) (Router q) refl e tt (MeshIn q (Asked k peering.0), refl, tt)
+      back (q, e) = welcome (record { setup = setup; name = Router r; part = RouterIs part })
+          (items.Asked k peering) (Router q) refl e tt (MeshIn q (Asked k peering.0), refl, tt)
 
     pub router_answered : (r k : ℕ) (part : RouterPart) (peering : PeeringId)
-        → IsWelcome session (record { setup = setup; name = Router r; part = RouterIs part }) n (items.Answered k peering) ↔ ((q : ℕ) × (actor_at setup n ≡ Some (Router q)))
+        → IsWelcome session (record { setup = setup; name = Router r; part = RouterIs part }) n (items.Answered k peering)
+        ↔ ((q : ℕ) × (actor_at setup n ≡ Some (Router q)))
     router_answered r k part peering = ((λ w. answered_comes r k peering (actor_at setup n) w.comes), back) where
       back : ((q : ℕ) × (actor_at setup n ≡ Some (Router q)))
           → IsWelcome session (record { setup = setup; name = Router r; part = RouterIs part }) n (items.Answered k peering)
-      back (q, e) = welcome (record { setup = setup; name = Router r; part = RouterIs part }) (items.Answered k peering) (Router q) refl e tt (MeshIn q (Answered k peering.0), refl, tt)
+      back (q, e) = welcome (record { setup = setup; name = Router r; part = RouterIs part })
+          (items.Answered k peering) (Router q) refl e tt (MeshIn q (Answered k peering.0), refl, tt)
 
     pub router_done : (r k : ℕ) (part : RouterPart) (peering : PeeringId)
         → IsWelcome session (record { setup = setup; name = Router r; part = RouterIs part }) n (items.Done k peering)
         ↔ (((q : ℕ) × (actor_at setup n ≡ Some (Router q))) × (part.places peering.0 ≡ Shadow k))
-    router_done r k part peering = ((λ w. (done_comes r k peering (actor_at setup n) w.comes, takes_mesh (part.places peering.0 ≡ Shadow k) r part (Done k peering.0) (actor_at setup n) (λ q may. may) w.takes)), back) where
-      back : (((q : ℕ) × (actor_at setup n ≡ Some (Router q))) × (part.places peering.0 ≡ Shadow k))
-          → IsWelcome session (record { setup = setup; name = Router r; part = RouterIs part }) n (items.Done k peering)
-      back ((q, e), may) = welcome (record { setup = setup; name = Router r; part = RouterIs part }) (items.Done k peering) (Router q) refl e tt (MeshIn q (Done k peering.0), refl, may)
+    router_done r k part peering = (
+      (λ w. (
+        done_comes r k peering (actor_at setup n) w.comes,
+        takes_mesh (part.places peering.0 ≡ Shadow k) r part (Done k peering.0) (actor_at setup n) (λ q may. may) w.takes,
+      )),
+      back,
+    )
+      where
+        back : (((q : ℕ) × (actor_at setup n ≡ Some (Router q))) × (part.places peering.0 ≡ Shadow k))
+            → IsWelcome session (record { setup = setup; name = Router r; part = RouterIs part }) n (items.Done k peering)
+        back ((q, e), may) = welcome (record { setup = setup; name = Router r; part = RouterIs part })
+            (items.Done k peering) (Router q) refl e tt (MeshIn q (Done k peering.0), refl, may)
 
     pub operator_report : (k : ℕ) (part : OperatorPart) (outcome : Outcome)
         → IsWelcome session (record { setup = setup; name = Operator; part = OperatorIs part }) n (items.Report k outcome)
         ↔ (((r : ℕ) × (actor_at setup n ≡ Some (Router r))) × (part.source k ≢ None) × (part.outcome k ≡ None))
-    operator_report k part outcome = ((λ w. let may = takes_report part (record { graft = k; outcome = outcome }) (actor_at setup n) w.takes in (report_comes k outcome (actor_at setup n) w.comes, may.0, may.1)), back) where
-      back : (((r : ℕ) × (actor_at setup n ≡ Some (Router r))) × (part.source k ≢ None) × (part.outcome k ≡ None))
-          → IsWelcome session (record { setup = setup; name = Operator; part = OperatorIs part }) n (items.Report k outcome)
-      back ((r, e), ordered, unended) = welcome (record { setup = setup; name = Operator; part = OperatorIs part }) (items.Report k outcome) (Router r) refl e tt (ReportIn r (record { graft = k; outcome = outcome }), refl, (ordered, unended))
+    operator_report k part outcome = (
+      (λ w. let may = takes_report part (record { graft = k; outcome = outcome }) (actor_at setup n) w.takes in
+          (report_comes k outcome (actor_at setup n) w.comes, may.0, may.1)),
+      back,
+    )
+      where
+        back : (((r : ℕ) × (actor_at setup n ≡ Some (Router r))) × (part.source k ≢ None) × (part.outcome k ≡ None))
+            → IsWelcome session (record { setup = setup; name = Operator; part = OperatorIs part }) n (items.Report k outcome)
+        back ((r, e), ordered, unended) = welcome (record { setup = setup; name = Operator; part = OperatorIs part })
+            (items.Report k outcome) (Router r) refl e tt (ReportIn r (record { graft = k; outcome = outcome }), refl, (ordered, unended))

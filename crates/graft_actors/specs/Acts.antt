@@ -59,7 +59,8 @@ module _ {C : Type 0} (session : C → SessionValue) where
   -- An event by one of the actor's rows, which takes and sends what its items stand for.
   pub record MakesEvent (before : OwnPart) (entry : JournalEntry) (taken : Option (ℕ × Item C)) (sent : List (ℕ × Item C)) (after : OwnPart) : Type 0 where
     pub welcome : TakesWelcome before taken
-    pub row : makes_as before.setup (Some before.name) before.part entry (option_map (λ x. (x.0, thing_of session before.setup x.1)) taken) (things before.setup sent) after.part
+    pub row : makes_as before.setup (Some before.name) before.part entry
+        (option_map (λ x. (x.0, thing_of session before.setup x.1)) taken) (things before.setup sent) after.part
     pub fit : SendsFit before sent
 
   -- An item that isn't welcome is dropped, and nothing else happens. The entry has kind 0, and no arguments.

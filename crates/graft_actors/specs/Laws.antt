@@ -20,7 +20,8 @@ use Rattle.graft_model.specs.declared.event.FarEvent.{FarEvent}
 use Rattle.graft_model.specs.declared.event.OperatorEvent.{OperatorEvent}
 use Rattle.graft_model.specs.Steps.{Event, ByRouter, ByFar, ByOperator, router_row, far_row, operator_row, Step, Run}
 use Rattle.graft_actors.specs.Actors.{ActorPart, RouterIs, FarIs, OperatorIs, Thing, ActorName, Router, FarSide, Operator, number_in, IsActor, actor_at}
-use Rattle.graft_actors.specs.Makes.{HasCode, makes, PartWithSetup, makes_in_its_setup, numbered, taken_by_router, sent_by_router, taken_by_far, sent_by_far, taken_by_operator, sent_by_operator}
+use Rattle.graft_actors.specs.Makes.{HasCode, makes, PartWithSetup, makes_in_its_setup, numbered, taken_by_router}
+use Rattle.graft_actors.specs.Makes.{sent_by_router, taken_by_far, sent_by_far, taken_by_operator, sent_by_operator}
 use Rattle.graft_actors.specs.Seen.{Net, Sees, SeesView}
 
 abbrev pub maker_of : Event → ActorName
@@ -95,13 +96,15 @@ module _ {A : Type 0} (part : A → ActorPart) where
 
   -- a merged journal, with a quiet world at each Go
   abbrev pub AJournalIsARun : Type 0
-  AJournalIsARun = (setup : Setup) (u v : View A Thing) (levels : List ℕ) (notes : ℕ → List (Noted Thing)) (entries : List JournalEntry) (w : World) (seen : SeesView part setup u w)
+  AJournalIsARun = (setup : Setup) (u v : View A Thing) (levels : List ℕ) (notes : ℕ → List (Noted Thing))
+      (entries : List JournalEntry) (w : World) (seen : SeesView part setup u w)
       (runs : RunsTo part (makes setup) u seen.net levels notes entries v)
       → QuietAtGo setup seen.net runs.last (map (λ n. n.deed) runs.events) runs.run → RunsOn setup w entries v
 
   -- a merged journal without a Go
   abbrev pub AGroupIsARun : Type 0
-  AGroupIsARun = (setup : Setup) (u v : View A Thing) (levels : List ℕ) (notes : ℕ → List (Noted Thing)) (entries : List JournalEntry) (w : World) (seen : SeesView part setup u w)
+  AGroupIsARun = (setup : Setup) (u v : View A Thing) (levels : List ℕ) (notes : ℕ → List (Noted Thing))
+      (entries : List JournalEntry) (w : World) (seen : SeesView part setup u w)
       → RunsTo part (makes setup) u seen.net levels notes entries v → AllByRecursion (λ e. IsGo e → ⊥) entries → RunsOn setup w entries v
 
 -- ---- actors that know their setup
@@ -120,7 +123,8 @@ SetupsAreKept = (setup : Setup) (net last : worlds.DeedWorld PartWithSetup Thing
 
 -- the same for a merged journal
 abbrev pub JournalsOfParts : {A : Type 0} (part : A → PartWithSetup) → Type 0
-JournalsOfParts {A} part = (setup : Setup) (u v : View A Thing) (levels : List ℕ) (notes : ℕ → List (Noted Thing)) (entries : List JournalEntry) (net : worlds.DeedWorld PartWithSetup Thing)
+JournalsOfParts {A} part = (setup : Setup) (u v : View A Thing) (levels : List ℕ)
+    (notes : ℕ → List (Noted Thing)) (entries : List JournalEntry) (net : worlds.DeedWorld PartWithSetup Thing)
     → HaveSetup setup net
     → RunsTo part makes_in_its_setup u net levels notes entries v → RunsTo (λ a. (part a).part) (makes setup) u (without_setups net) levels notes entries v
 
@@ -128,21 +132,26 @@ JournalsOfParts {A} part = (setup : Setup) (u v : View A Thing) (levels : List �
 
 -- each row of the model is an event that its actor makes
 abbrev pub RouterRowsAreMade : Type 0
-RouterRowsAreMade = (setup : Setup) (r : ℕ) (event : RouterEvent) (before after : RouterPart) (entry : JournalEntry) (took : Option RouterTaken) (gave : List RouterSent)
+RouterRowsAreMade = (setup : Setup) (r : ℕ) (event : RouterEvent) (before after : RouterPart)
+    (entry : JournalEntry) (took : Option RouterTaken) (gave : List RouterSent)
     → r < routers_in setup
     → router_row setup r event before took gave after → HasCode (router_code event) entry → AllByRecursion (λ s. IsActor setup (sent_by_router s).0) gave
-    → makes setup r (RouterIs before) entry (option_map (λ t. numbered setup (taken_by_router t)) took) (map (λ s. numbered setup (sent_by_router s)) gave) (RouterIs after)
+    → makes setup r (RouterIs before) entry (option_map (λ t. numbered setup (taken_by_router t)) took)
+    (map (λ s. numbered setup (sent_by_router s)) gave) (RouterIs after)
 
 abbrev pub FarRowsAreMade : Type 0
 FarRowsAreMade = (setup : Setup) (p : ℕ) (event : FarEvent) (before after : FarPart) (entry : JournalEntry) (took : Option FarTaken) (gave : List FarSent)
     → p < peerings_in setup
     → far_row setup p event before took gave after → HasCode (far_code event) entry → AllByRecursion (λ s. IsActor setup (sent_by_far s).0) gave
-    → makes setup (routers_in setup + p) (FarIs before) entry (option_map (λ t. numbered setup (taken_by_far t)) took) (map (λ s. numbered setup (sent_by_far s)) gave) (FarIs after)
+    → makes setup (routers_in setup + p) (FarIs before) entry (option_map (λ t. numbered setup (taken_by_far t)) took)
+    (map (λ s. numbered setup (sent_by_far s)) gave) (FarIs after)
 
 abbrev pub OperatorRowsAreMade : Type 0
-OperatorRowsAreMade = (setup : Setup) (event : OperatorEvent) (before after : OperatorPart) (entry : JournalEntry) (took : Option OperatorTaken) (gave : List OperatorSent)
+OperatorRowsAreMade = (setup : Setup) (event : OperatorEvent) (before after : OperatorPart)
+    (entry : JournalEntry) (took : Option OperatorTaken) (gave : List OperatorSent)
     → operator_row setup event before took gave after → HasCode (operator_code event) entry → AllByRecursion (λ s. IsActor setup (sent_by_operator s).0) gave
-    → makes setup (routers_in setup + peerings_in setup) (OperatorIs before) entry (option_map (λ t. numbered setup (taken_by_operator t)) took) (map (λ s. numbered setup (sent_by_operator s)) gave) (OperatorIs after)
+    → makes setup (routers_in setup + peerings_in setup) (OperatorIs before) entry
+    (option_map (λ t. numbered setup (taken_by_operator t)) took) (map (λ s. numbered setup (sent_by_operator s)) gave) (OperatorIs after)
 
 -- a net is seen as one world only
 abbrev pub OneWorldIsSeen : Type 0

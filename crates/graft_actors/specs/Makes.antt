@@ -10,7 +10,8 @@ use Rattle.graft_model.specs.OperatorRows.{OperatorTaken, ReportIn, OperatorSent
 use Rattle.graft_model.specs.Steps.{router_row, far_row, operator_row}
 use Rattle.graft_model.specs.declared.code.Code.{Code}
 use Rattle.graft_model.specs.Codes.{router_code, far_code, operator_code}
-use Rattle.graft_actors.specs.Actors.{ActorPart, RouterIs, FarIs, OperatorIs, Thing, MeshItem, OutwardItem, SegmentItem, OrderItem, ReportItem, StepItem, ActorName, Router, FarSide, Operator, number_in, IsActor, actor_at}
+use Rattle.graft_actors.specs.Actors.{ActorPart, RouterIs, FarIs, OperatorIs, Thing, MeshItem, OutwardItem, SegmentItem, OrderItem}
+use Rattle.graft_actors.specs.Actors.{ReportItem, StepItem, ActorName, Router, FarSide, Operator, number_in, IsActor, actor_at}
 
 -- ---- whose item is taken, and to whom one is sent
 
@@ -64,7 +65,8 @@ module _ {E I : Type 0} where
 
 -- The entry is that of an event whose row in the model holds. What the row takes and sends are the items, with the numbers of their senders and
 -- receivers. Each receiver must exist, which no row says; a sender exists, since otherwise it would have no channel.
-pub record MakesRow {E P T S : Type 0} (setup : Setup) (code : E → Code) (row : E → P → Option T → List S → P → Type 0) (takes : T → ActorName × Thing) (gives : S → ActorName × Thing)
+pub record MakesRow {E P T S : Type 0} (setup : Setup) (code : E → Code)
+    (row : E → P → Option T → List S → P → Type 0) (takes : T → ActorName × Thing) (gives : S → ActorName × Thing)
     (before : P) (entry : JournalEntry) (taken : Option (ℕ × Thing)) (sent : List (ℕ × Thing)) (after : P) : Type 0 where
   pub event : E
   pub coded : HasCode (code event) entry
@@ -77,9 +79,12 @@ pub record MakesRow {E P T S : Type 0} (setup : Setup) (code : E → Code) (row 
 
 -- A router makes the events of a router's rows, a far side those of a far side's, the operator the operator's; no actor makes those of another kind.
 abbrev pub makes_as : Setup → Option ActorName → ActorPart → JournalEntry → Option (ℕ × Thing) → List (ℕ × Thing) → ActorPart → Type 0
-makes_as setup (Some (Router r)) (RouterIs before) entry taken sent (RouterIs after) = MakesRow setup router_code (router_row setup r) taken_by_router sent_by_router before entry taken sent after
-makes_as setup (Some (FarSide p)) (FarIs before) entry taken sent (FarIs after) = MakesRow setup far_code (far_row setup p) taken_by_far sent_by_far before entry taken sent after
-makes_as setup (Some Operator) (OperatorIs before) entry taken sent (OperatorIs after) = MakesRow setup operator_code (operator_row setup) taken_by_operator sent_by_operator before entry taken sent after
+makes_as setup (Some (Router r)) (RouterIs before) entry taken sent (RouterIs after) =
+    MakesRow setup router_code (router_row setup r) taken_by_router sent_by_router before entry taken sent after
+makes_as setup (Some (FarSide p)) (FarIs before) entry taken sent (FarIs after) =
+    MakesRow setup far_code (far_row setup p) taken_by_far sent_by_far before entry taken sent after
+makes_as setup (Some Operator) (OperatorIs before) entry taken sent (OperatorIs after) =
+    MakesRow setup operator_code (operator_row setup) taken_by_operator sent_by_operator before entry taken sent after
 makes_as setup actor before entry taken sent after = ⊥
 
 -- What an actor of this number may make. Of a Go it states only the operator's own condition. That the world is quiet can't be stated for a part; it

@@ -6,7 +6,8 @@ use Rattle.journal_merge.specs.Growth.{IsWorldOf}
 use Rattle.graft_model.specs.Setups.{Setup, PeeringSetup, routers_in, peerings_in}
 use Rattle.graft_model.specs.Parts.{World}
 use Rattle.graft_model.specs.First.{first_router, first_far, first_operator, first_world}
-use Rattle.graft_actors.specs.Actors.{ActorPart, RouterIs, FarIs, OperatorIs, Thing, MeshItem, OutwardItem, SegmentItem, OrderItem, ReportItem, StepItem, ActorName, Router, FarSide, Operator, IsActor, actor_at}
+use Rattle.graft_actors.specs.Actors.{ActorPart, RouterIs, FarIs, OperatorIs, Thing, MeshItem, OutwardItem, SegmentItem, OrderItem}
+use Rattle.graft_actors.specs.Actors.{ReportItem, StepItem, ActorName, Router, FarSide, Operator, IsActor, actor_at}
 
 -- parts and channels by the numbers of the actors
 abbrev pub Net : Type 0

@@ -22,7 +22,9 @@ ghost use Rattle.graft_actors.specs.Acts.{OwnPart, IsWelcome, TakesWelcome, Acts
 ghost use Rattle.graft_model.specs.First.{first_world};
 ghost use Rattle.graft_model.specs.declared.event.RouterEvent.TheVariants.{Emit};
 ghost use Rattle.graft_model.specs.Steps.{ByRouter};
-ghost use Rattle.graft_actors.specs.Laws.{AnEventIsAStep, ANetRunIsARun, AJournalIsARun, AGroupIsARun, RouterRowsAreMade, FarRowsAreMade, OperatorRowsAreMade, OneWorldIsSeen, OneEventHasTheEntry, OneListHasTheEntries, IsEntryOf, SetupsAreKept, JournalsOfParts, ActorsHaveNumbers, NumbersAreOfActors};
+ghost use Rattle.graft_actors.specs.Laws.{AnEventIsAStep, ANetRunIsARun, AJournalIsARun, AGroupIsARun, RouterRowsAreMade, FarRowsAreMade};
+ghost use Rattle.graft_actors.specs.Laws.{OperatorRowsAreMade, OneWorldIsSeen, OneEventHasTheEntry, OneListHasTheEntries, IsEntryOf};
+ghost use Rattle.graft_actors.specs.Laws.{SetupsAreKept, JournalsOfParts, ActorsHaveNumbers, NumbersAreOfActors};
 ghost use Rattle.graft_actors.specs.Seen.{Net, Sees, IsFirstNet};
 
 use graft_model::codes_are_exact;
@@ -32,7 +34,8 @@ use graft_model::codes_are_exact;
 pub fn acts_are_events<C>()
     ensures rows { (session : C → SessionValue) (n : ℕ) (before after : OwnPart) (entry : JournalEntry) (taken : Option (ℕ × Item C)) (sent : List (ℕ × Item C))
         → actor_at before.setup n ≡ Some before.name → ActsAs session before entry taken sent after → TakesWelcome session before taken
-        → makes before.setup n before.part entry (option_map (λ x. (x.0, thing_of session before.setup x.1)) taken) (things session before.setup sent) after.part }
+        → makes before.setup n before.part entry (option_map (λ x. (x.0, thing_of session before.setup x.1)) taken)
+        (things session before.setup sent) after.part }
     ensures dropped { (session : C → SessionValue) (before after : OwnPart) (entry : JournalEntry) (taken : Option (ℕ × Item C)) (sent : List (ℕ × Item C))
         → ActsAs session before entry taken sent after → (entry.kind ≡ 0) ↔ (TakesWelcome session before taken → ⊥) }
 {}
@@ -54,10 +57,12 @@ pub fn routers_take_what_comes<C>()
         ↔ ((q : ℕ) × (actor_at setup n ≡ Some (Router q))) }
     ensures moved { (session : C → SessionValue) (setup : Setup) (r n k : ℕ) (part : RouterPart) (capsule : C)
         → IsWelcome session (record { setup = setup; name = Router r; part = RouterIs part }) n (items.Moved k capsule)
-        ↔ (((q : ℕ) × (actor_at setup n ≡ Some (Router q))) × IsOnItsWay setup (session capsule) × ((session capsule).config.peering.0 < peerings_in setup) × (part.places (session capsule).config.peering.0 ≡ Vacant)) }
+        ↔ (((q : ℕ) × (actor_at setup n ≡ Some (Router q))) × IsOnItsWay setup (session capsule)
+        × ((session capsule).config.peering.0 < peerings_in setup) × (part.places (session capsule).config.peering.0 ≡ Vacant)) }
     ensures back { (session : C → SessionValue) (setup : Setup) (r n k : ℕ) (part : RouterPart) (capsule : C) (refusal : Refusal)
         → IsWelcome session (record { setup = setup; name = Router r; part = RouterIs part }) n (items.Back k capsule refusal)
-        ↔ (((q : ℕ) × (actor_at setup n ≡ Some (Router q))) × IsOnItsWay setup (session capsule) × (part.places (session capsule).config.peering.0 ≡ Shadow k)) }
+        ↔ (((q : ℕ) × (actor_at setup n ≡ Some (Router q))) × IsOnItsWay setup (session capsule)
+        × (part.places (session capsule).config.peering.0 ≡ Shadow k)) }
     ensures asked { (session : C → SessionValue) (setup : Setup) (r n k : ℕ) (part : RouterPart) (peering : PeeringId)
         → IsWelcome session (record { setup = setup; name = Router r; part = RouterIs part }) n (items.Asked k peering)
         ↔ ((q : ℕ) × (actor_at setup n ≡ Some (Router q))) }
@@ -67,9 +72,12 @@ pub fn routers_take_what_comes<C>()
     ensures done { (session : C → SessionValue) (setup : Setup) (r n k : ℕ) (part : RouterPart) (peering : PeeringId)
         → IsWelcome session (record { setup = setup; name = Router r; part = RouterIs part }) n (items.Done k peering)
         ↔ (((q : ℕ) × (actor_at setup n ≡ Some (Router q))) × (part.places peering.0 ≡ Shadow k)) }
-    ensures no_pointing { (session : C → SessionValue) (setup : Setup) (r n k : ℕ) (part : RouterPart) → ¬ IsWelcome session (record { setup = setup; name = Router r; part = RouterIs part }) n (items.PointAt k) }
-    ensures no_report { (session : C → SessionValue) (setup : Setup) (r n k : ℕ) (part : RouterPart) (outcome : Outcome) → ¬ IsWelcome session (record { setup = setup; name = Router r; part = RouterIs part }) n (items.Report k outcome) }
-    ensures no_say { (session : C → SessionValue) (setup : Setup) (r n step : ℕ) (part : RouterPart) → ¬ IsWelcome session (record { setup = setup; name = Router r; part = RouterIs part }) n (items.SayOrder step) }
+    ensures no_pointing { (session : C → SessionValue) (setup : Setup) (r n k : ℕ) (part : RouterPart)
+        → ¬ IsWelcome session (record { setup = setup; name = Router r; part = RouterIs part }) n (items.PointAt k) }
+    ensures no_report { (session : C → SessionValue) (setup : Setup) (r n k : ℕ) (part : RouterPart) (outcome : Outcome)
+        → ¬ IsWelcome session (record { setup = setup; name = Router r; part = RouterIs part }) n (items.Report k outcome) }
+    ensures no_say { (session : C → SessionValue) (setup : Setup) (r n step : ℕ) (part : RouterPart)
+        → ¬ IsWelcome session (record { setup = setup; name = Router r; part = RouterIs part }) n (items.SayOrder step) }
 {}
 
 /// A far side takes from a router the segments of its peering, and word of landings. From the operator it takes the
@@ -79,11 +87,14 @@ pub fn far_sides_take_what_comes<C>()
         → IsWelcome session (record { setup = setup; name = FarSide p; part = FarIs part }) n (items.Seg g)
         ↔ ((r : ℕ) × (actor_at setup n ≡ Some (Router r)) × IsSegmentOf setup p Remote g) }
     ensures point { (session : C → SessionValue) (setup : Setup) (p n k : ℕ) (part : FarPart)
-        → IsWelcome session (record { setup = setup; name = FarSide p; part = FarIs part }) n (items.PointAt k) ↔ ((r : ℕ) × (actor_at setup n ≡ Some (Router r))) }
+        → IsWelcome session (record { setup = setup; name = FarSide p; part = FarIs part }) n (items.PointAt k)
+        ↔ ((r : ℕ) × (actor_at setup n ≡ Some (Router r))) }
     ensures say { (session : C → SessionValue) (setup : Setup) (p n step : ℕ) (part : FarPart)
         → IsWelcome session (record { setup = setup; name = FarSide p; part = FarIs part }) n (items.SayOrder step)
-        ↔ ((actor_at setup n ≡ Some Operator) × (bytes : List ℕ) × (slice_get setup.steps step ≡ Some (SayStep p bytes)) × (length part.end.stream + length bytes ≤ 2 ^ 20)) }
-    ensures no_other { (session : C → SessionValue) (setup : Setup) (p n k : ℕ) (part : FarPart) (prefix : PrefixValue) (route : Option Route) (capsule : C) (refusal : Refusal) (peering : PeeringId) (target : RouterId) (outcome : Outcome)
+        ↔ ((actor_at setup n ≡ Some Operator) × (bytes : List ℕ)
+        × (slice_get setup.steps step ≡ Some (SayStep p bytes)) × (length part.end.stream + length bytes ≤ 2 ^ 20)) }
+    ensures no_other { (session : C → SessionValue) (setup : Setup) (p n k : ℕ) (part : FarPart) (prefix : PrefixValue)
+        (route : Option Route) (capsule : C) (refusal : Refusal) (peering : PeeringId) (target : RouterId) (outcome : Outcome)
         → (¬ IsWelcome session (record { setup = setup; name = FarSide p; part = FarIs part }) n (items.Told prefix route))
         × (¬ IsWelcome session (record { setup = setup; name = FarSide p; part = FarIs part }) n (items.Moved k capsule))
         × (¬ IsWelcome session (record { setup = setup; name = FarSide p; part = FarIs part }) n (items.Back k capsule refusal))
@@ -99,7 +110,8 @@ pub fn the_operator_takes_what_comes<C>()
     ensures report { (session : C → SessionValue) (setup : Setup) (n k : ℕ) (part : OperatorPart) (outcome : Outcome)
         → IsWelcome session (record { setup = setup; name = Operator; part = OperatorIs part }) n (items.Report k outcome)
         ↔ (((r : ℕ) × (actor_at setup n ≡ Some (Router r))) × (part.source k ≢ None) × (part.outcome k ≡ None)) }
-    ensures no_other { (session : C → SessionValue) (setup : Setup) (n k : ℕ) (part : OperatorPart) (g : Segment) (prefix : PrefixValue) (route : Option Route) (capsule : C) (refusal : Refusal) (peering : PeeringId) (target : RouterId)
+    ensures no_other { (session : C → SessionValue) (setup : Setup) (n k : ℕ) (part : OperatorPart) (g : Segment)
+        (prefix : PrefixValue) (route : Option Route) (capsule : C) (refusal : Refusal) (peering : PeeringId) (target : RouterId)
         → (¬ IsWelcome session (record { setup = setup; name = Operator; part = OperatorIs part }) n (items.Seg g))
         × (¬ IsWelcome session (record { setup = setup; name = Operator; part = OperatorIs part }) n (items.PointAt k))
         × (¬ IsWelcome session (record { setup = setup; name = Operator; part = OperatorIs part }) n (items.Told prefix route))
@@ -164,7 +176,8 @@ pub fn a_net_is_one_world()
 pub fn an_entry_is_of_one_event()
     ensures one { OneEventHasTheEntry }
     ensures all { OneListHasTheEntries }
-    ensures worked { (setup : Setup) (clock r : ℕ) → r < routers_in setup → IsEntryOf setup (ByRouter r (Emit 5 10 20)) (record { clock = clock; actor = r; kind = 2; a = 5; b = 10; c = 20 }) }
+    ensures worked { (setup : Setup) (clock r : ℕ) → r < routers_in setup
+        → IsEntryOf setup (ByRouter r (Emit 5 10 20)) (record { clock = clock; actor = r; kind = 2; a = 5; b = 10; c = 20 }) }
 {
     codes_are_exact();
 }

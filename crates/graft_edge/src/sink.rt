@@ -1,6 +1,7 @@
 //! Where bytes are written.
 
-ghost use Rattle.std.specs.Prelude.{◌≡◌, ◌↔◌, ◌⊎◌, ◌<◌, ◌≤◌, ℕ, ◌+◌, ◌-◌, List, Option, Some, None, [], length, take, drop, min, IsTrue, IsErr, IfOk, OnOk, OnErr, ◌++◌, Ok, Err, is_err, if◌then◌else◌};
+ghost use Rattle.std.specs.Prelude.{◌≡◌, ◌↔◌, ◌⊎◌, ◌<◌, ◌≤◌, ℕ, ◌+◌, ◌-◌, List, Option, Some, None, [], length, take, drop};
+ghost use Rattle.std.specs.Prelude.{min, IsTrue, IsErr, IfOk, OnOk, OnErr, ◌++◌, Ok, Err, is_err, if◌then◌else◌};
 ghost use Rattle.graft_edge.specs.Outside.{FaultRose, Appended, AppendedFront};
 
 use crate::calls::Calls;

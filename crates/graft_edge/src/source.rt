@@ -1,6 +1,7 @@
 //! Where bytes are read from.
 
-ghost use Rattle.std.specs.Prelude.{◌≡◌, ◌↔◌, ◌<◌, ◌≤◌, ℕ, ◌+◌, List, Option, Some, None, [], length, take, drop, min, IsTrue, IsErr, IfOk, IfErr, OnErr, ◌≢◌, Ok, Err, if◌then◌else◌};
+ghost use Rattle.std.specs.Prelude.{◌≡◌, ◌↔◌, ◌<◌, ◌≤◌, ℕ, ◌+◌, List, Option, Some, None, [], length, take, drop, min};
+ghost use Rattle.std.specs.Prelude.{IsTrue, IsErr, IfOk, IfErr, OnErr, ◌≢◌, Ok, Err, if◌then◌else◌};
 ghost use Rattle.graft_edge.specs.Outside.{FaultRose, Took, IsAtEnd, TookSome};
 
 use crate::calls::Calls;

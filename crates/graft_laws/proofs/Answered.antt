@@ -1,5 +1,6 @@
 -- What was told on a live established session is what is to be told, but for what is due.
-use Rattle.std.proofs.Common.{◌≡◌, ◌≢◌, ◌==◌, ℕ, zero, suc, Bool, true, false, List, [], ◌∷◌, ◌++◌, Option, Some, None, refl, sym, ap, ◌∙◌, subst, arith, ◌⊎◌, inl, inr}
+use Rattle.std.proofs.Common.{◌≡◌, ◌≢◌, ◌==◌, ℕ, zero, suc, Bool, true, false, List, [], ◌∷◌, ◌++◌, Option}
+use Rattle.std.proofs.Common.{Some, None, refl, sym, ap, ◌∙◌, subst, arith, ◌⊎◌, inl, inr}
 use Rattle.std.specs.Prelude.{◌||◌, ◌&&◌, ◌↔◌, not, is_some, Contains, IsTrue, if◌then◌else◌}
 use Rattle.std.specs.List.{AllByRecursion, list_any}
 use Rattle.std.specs.FinMap as map
@@ -31,7 +32,8 @@ use Rattle.graft_model.specs.Parts.{Errand, Place, Vacant, Live, RouterPart}
 use Rattle.graft_model.specs.RouterRows.{RouterTaken, RouterSent, DueThen, Follows, PutsNothing, PutsSome, update_for}
 use Rattle.graft_model.specs.Setups.{Setup, PeeringSetup}
 use Rattle.graft_model.specs.declared.event.RouterEvent.{RouterEvent}
-use Rattle.graft_model.proofs.Footprints.{Holds, OnePeering, ByFrame, ByRound, PeeringChange, Keeping, PuttingNothing, PuttingSome, Following, Emptying, Reviving, Deciding, Telling, Hearing, Staying, Changing, Footprint, footprint}
+use Rattle.graft_model.proofs.Footprints.{Holds, OnePeering, ByFrame, ByRound, PeeringChange, Keeping, PuttingNothing, PuttingSome, Following}
+use Rattle.graft_model.proofs.Footprints.{Emptying, Reviving, Deciding, Telling, Hearing, Staying, Changing, Footprint, footprint}
 use Rattle.graft_model.specs.Steps.{router_row}
 use Rattle.graft_model.specs.TableRows.{Decides, DueEverywhere, holds_established, is_established}
 use Rattle.graft_laws.specs.Tables.{Answered}
@@ -73,7 +75,8 @@ not_other : (a b : Option Attrs) → ((a ≢ b) → ⊥) → a ≡ b
 not_other None None nn = refl
 not_other None (Some b) nn = absurd (nn (λ e. cc))
 not_other (Some a) None nn = absurd (nn (λ e. cc))
-not_other (Some a) (Some b) nn = ap (λ (x : Attrs). Some x) (stable _ (a ≡ b) (attrs_equal a b) (λ other. nn (λ e. other (Rattle.std.proofs.lemmas.Option.same_Some a b e))))
+not_other (Some a) (Some b) nn =
+    ap (λ (x : Attrs). Some x) (stable _ (a ≡ b) (attrs_equal a b) (λ other. nn (λ e. other (Rattle.std.proofs.lemmas.Option.same_Some a b e))))
 
 -- ---- what is due as a session changes by itself
 
@@ -125,7 +128,8 @@ module _ (setup : Setup) (r : ℕ) (before after : RouterPart) (d : Answered set
   -- this session is live there now
   live_becomes : (p : ℕ) (next : SessionValue) (errand : Option Errand) → OnePeering p before after → after.places p ≡ Live next errand
       → Told next (after.due_out p) → Answered setup r after
-  live_becomes p next errand one now own = at_place p one (λ s o live. subst (λ (z : SessionValue). Told z (after.due_out p)) (same_session next s errand o (sym now ∙ live)) own)
+  live_becomes p next errand one now own =
+      at_place p one (λ s o live. subst (λ (z : SessionValue). Told z (after.due_out p)) (same_session next s errand o (sym now ∙ live)) own)
 
   -- the same session as before, with another errand or end
   same_told : (p : ℕ) (s next : SessionValue) (o : Option Errand) → before.places p ≡ Live s o → next.adj_rib_out ≡ s.adj_rib_out → next.config ≡ s.config
@@ -139,7 +143,8 @@ module _ (setup : Setup) (r : ℕ) (before after : RouterPart) (d : Answered set
   due_again s due again up x clean =
       let both = none_of (is_some (map.get s.adj_rib_out x)) (is_some (map.get before.best x)) (sym (again.members x) ∙ clean) in
       none_there (map.get s.adj_rib_out x) both.0
-      ∙ sym (ap (λ (b : Option _). Rattle.route_policy.specs.Telling.tell_out setup.home_as (out_side setup r s.config) x b) (none_there (map.get before.best x) both.1))
+      ∙ sym (ap (λ (b : Option _). Rattle.route_policy.specs.Telling.tell_out setup.home_as (out_side setup r s.config) x b)
+      (none_there (map.get before.best x) both.1))
 
   -- a session changes by itself
   follows : (p : ℕ) (s next : SessionValue) (o : Option Errand) → OnePeering p before after → after.places p ≡ Live next o
@@ -151,27 +156,32 @@ module _ (setup : Setup) (r : ℕ) (before after : RouterPart) (d : Answered set
       (λ up x clean. by_due up x clean (due_cases (state s) (state next) before.best (before.due_out p) (after.due_out p) row.due up (sent up) open_yet))
     where
       by_due : state next ≡ Established → (x : PrefixValue) → has (after.due_out p) x ≡ false
-          → ((state s ≡ OpenConfirm) × ((y : PrefixValue) → has (after.due_out p) y ≡ is_some (map.get before.best y))) ⊎ ((state s ≡ Established) × (after.due_out p ≡ before.due_out p))
+          → ((state s ≡ OpenConfirm) × ((y : PrefixValue) → has (after.due_out p) y ≡ is_some (map.get before.best y)))
+          ⊎ ((state s ≡ Established) × (after.due_out p ≡ before.due_out p))
           → map.get next.adj_rib_out x ≡ tells_of setup r before.best next.config x
       by_due up x clean (inl first) =
           let untold : s.adj_rib_out ≡ map.empty = told_none s story (λ e. let f : OpenConfirm ≡ Established = sym first.0 ∙ e in cc) in
           ap (λ (t : Routes). map.get t x) (told_is up ∙ untold) ∙ map.get-empty prefix_cmp x
-          ∙ sym (ap (λ (b : Option _). Rattle.route_policy.specs.Telling.tell_out setup.home_as (out_side setup r next.config) x b) (none_there (map.get before.best x) (sym (first.1 x) ∙ clean)))
+          ∙ sym (ap (λ (b : Option _). Rattle.route_policy.specs.Telling.tell_out setup.home_as (out_side setup r next.config) x b)
+          (none_there (map.get before.best x) (sym (first.1 x) ∙ clean)))
       by_due up x clean (inr later) = same_told p s next o live (told_is up) config (λ e. later.0) (after.due_out p) later.1 up x clean
 
   gets_row : (p : ℕ) (s next : SessionValue) (o : Option Errand) (bytes : List ℕ) → OnePeering p before after → after.places p ≡ Live next o
       → before.places p ≡ Live s o → IsOfStory s → GetsFrame s bytes next → Follows setup r p before s next o after → Answered setup r after
   gets_row p s next o bytes one now live story g row =
-      let after_is : state next ≡ g.next = ap state g.effect ∙ gets.state_next (peering_of s.config) s.story bytes g.answer g.next g.unclosed g.got g.reply story.tied.allowed in
+      let after_is : state next ≡ g.next =
+      ap state g.effect ∙ gets.state_next (peering_of s.config) s.story bytes g.answer g.next g.unclosed g.got g.reply story.tied.allowed in
       follows p s next o one now row live story g.unclosed
-      (λ up. established_from (expected_next (peering_of s.config) s.story (state s)) bytes g.answer (g.reply ∙ ap (λ (n : SessionState). (g.answer, n)) (sym after_is ∙ up)))
+      (λ up. established_from (expected_next (peering_of s.config) s.story (state s)) bytes g.answer
+      (g.reply ∙ ap (λ (n : SessionState). (g.answer, n)) (sym after_is ∙ up)))
       (λ up. ap (λ (v : SessionValue). v.adj_rib_out) g.effect ∙ ap (λ (n : SessionState). unless_closed n s.adj_rib_out) (sym after_is ∙ up))
       (ap (λ (v : SessionValue). v.config) g.effect)
 
   ticks_row : (p : ℕ) (s next : SessionValue) (o : Option Errand) (round : ℕ) → OnePeering p before after → after.places p ≡ Live next o
       → before.places p ≡ Live s o → IsOfStory s → PassesRound s round next → Follows setup r p before s next o after → Answered setup r after
   ticks_row p s next o round one now live story g row =
-      let after_is : state next ≡ g.next = ap state g.effect ∙ rounds.state_next (peering_of s.config) s.story round g.answer g.next g.up g.runs g.later g.reply story.tied.allowed in
+      let after_is : state next ≡ g.next =
+      ap state g.effect ∙ rounds.state_next (peering_of s.config) s.story round g.answer g.next g.up g.runs g.later g.reply story.tied.allowed in
       follows p s next o one now row live story (Rattle.session_value.proofs.Replies.up_open (state s) g.up)
       (λ up. λ e. (let f : Rattle.bgp_story.specs.Legal.is_up OpenSent ≡ true = ap Rattle.bgp_story.specs.Legal.is_up (sym e) ∙ g.up in cc))
       (λ up. ap (λ (v : SessionValue). v.adj_rib_out) g.effect ∙ ap (λ (n : SessionState). unless_closed n s.adj_rib_out) (sym after_is ∙ up))
@@ -183,7 +193,8 @@ module _ (setup : Setup) (r : ℕ) (before after : RouterPart) (d : Answered set
   nothing_row p taken sent one row =
       at_place p one
       (λ s o live. let was : before.places p ≡ Live s o = sym (ap (λ (u : RouterPart). u.places p) row.effect) ∙ live in
-      subst (λ (z : SessionValue). Told z (after.due_out p)) (same_session row.session s row.errand o (sym row.live.is ∙ was)) (λ up x clean. by_due up x (has (before.due_out p) x) (has before.dirty x) refl refl (sym (row.due.members x) ∙ clean)))
+      subst (λ (z : SessionValue). Told z (after.due_out p)) (same_session row.session s row.errand o (sym row.live.is ∙ was))
+      (λ up x clean. by_due up x (has (before.due_out p) x) (has before.dirty x) refl refl (sym (row.due.members x) ∙ clean)))
     where
       by_due : state row.session ≡ Established → (x : PrefixValue) (t u : Bool) → has (before.due_out p) x ≡ t → has before.dirty x ≡ u
           → (has (before.due_out p) x && not (not (has before.dirty x))) ≡ false
@@ -192,7 +203,8 @@ module _ (setup : Setup) (r : ℕ) (before after : RouterPart) (d : Answered set
       by_due up x true false e f g =
           not_other (map.get row.session.adj_rib_out x) (to_tell setup r before row.session x) (λ differs. row.nothing x ((e, f), differs))
       by_due up x true true e f g =
-          let h : (has (before.due_out p) x && not (not (has before.dirty x))) ≡ true = ap (λ (t : Bool). t && not (not (has before.dirty x))) e ∙ ap (λ (t : Bool). not (not t)) f in
+          let h : (has (before.due_out p) x && not (not (has before.dirty x))) ≡ true =
+          ap (λ (t : Bool). t && not (not (has before.dirty x))) e ∙ ap (λ (t : Bool). not (not t)) f in
           let k : true ≡ false = sym h ∙ g in absurd cc
 
   -- some prefixes are put in an UPDATE
@@ -229,9 +241,11 @@ module _ (setup : Setup) (r : ℕ) (before after : RouterPart) (d : Answered set
       config_is x e = e ∙ ap (λ (c : SessionConfig). tells_of setup r before.best c x) (sym (ap (λ (v : SessionValue). v.config) row.puts.effect))
 
       each : AllByRecursion (λ x. to_tell setup r before s x ≡ row.attrs) row.prefixes
-      each = Rattle.graft_laws.proofs.Lists.all_map (λ x. Rattle.graft_model.specs.RouterRows.IsToTell setup r before p s x × (to_tell setup r before s x ≡ row.attrs)) (λ x. to_tell setup r before s x ≡ row.attrs) row.prefixes (λ x both. both.1)
+      each = Rattle.graft_laws.proofs.Lists.all_map (λ x. Rattle.graft_model.specs.RouterRows.IsToTell setup r before p s x
+          × (to_tell setup r before s x ≡ row.attrs)) (λ x. to_tell setup r before s x ≡ row.attrs) row.prefixes (λ x both. both.1)
           (all_front (λ x. Rattle.graft_model.specs.RouterRows.IsToTell setup r before p s x × (to_tell setup r before s x ≡ row.attrs)) row.prefixes row.later
-          (recursion_from_All (λ x. Rattle.graft_model.specs.RouterRows.IsToTell setup r before p s x × (to_tell setup r before s x ≡ row.attrs)) (row.prefixes ++ row.later) row.alike.each))
+          (recursion_from_All (λ x. Rattle.graft_model.specs.RouterRows.IsToTell setup r before p s x × (to_tell setup r before s x ≡ row.attrs))
+          (row.prefixes ++ row.later) row.alike.each))
 
       told_of : (attrs : Option Attrs) (x : PrefixValue) → row.attrs ≡ attrs → Contains row.prefixes x
           → map.get (told (s.story ++ updates.more (peering_of s.config) s.story u row.puts.established)) x ≡ attrs
@@ -254,9 +268,11 @@ module _ (setup : Setup) (r : ℕ) (before after : RouterPart) (d : Answered set
           now_told x ∙ told_of row.attrs x refl here.0 ∙ sym here.1
       by_among x false e clean =
           now_told x
-          ∙ told_others (peering_of s.config) s.story u x put (λ there. let f : true ≡ false = sym (in_any row.prefixes x (in_update row.attrs x there)) ∙ e in cc)
+          ∙ told_others (peering_of s.config) s.story u x put
+          (λ there. let f : true ≡ false = sym (in_any row.prefixes x (in_update row.attrs x there)) ∙ e in cc)
           ∙ ap (λ (z : Routes). map.get z x) (sym story.adj_rib_out)
-          ∙ d.adj_rib_out p s row.errand row.live.is row.puts.established x (not_due (has (before.due_out p) x) (ap (λ (t : Bool). has (before.due_out p) x && not t) (sym e) ∙ clean))
+          ∙ d.adj_rib_out p s row.errand row.live.is row.puts.established x
+          (not_due (has (before.due_out p) x) (ap (λ (t : Bool). has (before.due_out p) x && not t) (sym e) ∙ clean))
         where
           not_due : (t : Bool) → (t && true) ≡ false → t ≡ false
           not_due true f = f
@@ -270,11 +286,13 @@ module _ (setup : Setup) (r : ℕ) (before after : RouterPart) (d : Answered set
   } where
     now : (s : SessionValue) (x : PrefixValue) → (same_prefix prefix x ≡ false) ⊎ (chosen setup r before prefix ≡ map.get before.best prefix)
         → tells_of setup r before.best s.config x ≡ to_tell setup r after s x
-    now s x which = ap (λ (b : Option _). Rattle.route_policy.specs.Telling.tell_out setup.home_as (out_side setup r s.config) x b) (sym (best_stays setup r prefix before after taken sent row x which))
+    now s x which = ap (λ (b : Option _). Rattle.route_policy.specs.Telling.tell_out setup.home_as (out_side setup r s.config) x b)
+        (sym (best_stays setup r prefix before after taken sent row x which))
 
     by_due : (n : ℕ) (s : SessionValue) (o : Option Errand) → before.places n ≡ Live s o → state s ≡ Established → (x : PrefixValue)
         → has (after.due_out n) x ≡ false
-        → ((chosen setup r before prefix ≡ map.get before.best prefix) × (after.due_in ≡ before.due_in) × (after.due_out ≡ before.due_out)) ⊎ ((chosen setup r before prefix ≢ map.get before.best prefix) × DueEverywhere setup r prefix before after)
+        → ((chosen setup r before prefix ≡ map.get before.best prefix) × (after.due_in ≡ before.due_in) × (after.due_out ≡ before.due_out))
+        ⊎ ((chosen setup r before prefix ≢ map.get before.best prefix) × DueEverywhere setup r prefix before after)
         → map.get s.adj_rib_out x ≡ to_tell setup r after s x
     by_due n s o live up x clean (inl stays) = d.adj_rib_out n s o live up x (ap (λ (f : ℕ → Prefixes). has (f n) x) (sym stays.2) ∙ clean)
         ∙ now s x (inr stays.0)
@@ -295,19 +313,23 @@ module _ (setup : Setup) (r : ℕ) (before after : RouterPart) (d : Answered set
   answered_row event taken sent story row = by_print (footprint setup r before after taken sent event row) where
     by_change : (p : ℕ) → OnePeering p before after → PeeringChange setup r p before taken sent after → Answered setup r after
     by_change p one (Keeping session errand end live holds entries due) =
-        at_place p one (λ s o now. subst (λ (z : SessionValue). Told z (after.due_out p)) (sym (subst (λ (place : Place). Holds place (record session { end = end })) now holds))
+        at_place p one (λ s o now. subst (λ (z : SessionValue). Told z (after.due_out p))
+        (sym (subst (λ (place : Place). Holds place (record session { end = end })) now holds))
         (same_told p session (record session { end = end }) errand live refl refl (λ e. e) (after.due_out p) due))
     by_change p one (PuttingNothing row) = nothing_row p taken sent one row
     by_change p one (PuttingSome n row now) = some_row p n taken sent row one now (story p row.session row.errand row.live.is)
     by_change p one (Following s next o live now (ByFrame bytes gets) row) = gets_row p s next o bytes one now live (story p s o live) gets row
     by_change p one (Following s next o live now (ByRound round passes) row) = ticks_row p s next o round one now live (story p s o live) passes row
     by_change p one (Emptying none entries due) = at_place p one (λ s o live. absurd (none s (subst (λ (place : Place). Holds place s) (sym live) refl)))
-    by_change p one (Reviving q item session errand takes carries now entries due) = live_becomes p session errand one now (due_again session (after.due_out p) due)
+    by_change p one (Reviving q item session errand takes carries now entries due) =
+        live_becomes p session errand one now (due_again session (after.due_out p) due)
 
     by_print : Footprint setup r event before taken sent after → Answered setup r after
     by_print (Deciding prefix row) = decide_row prefix taken sent row
-    by_print (Telling q prefix row) = unchanged (ap (λ (u : RouterPart). u.places) row.effect) (ap (λ (u : RouterPart). u.due_out) row.effect) (ap (λ (u : RouterPart). u.best) row.effect)
-    by_print (Hearing q row) = unchanged (ap (λ (u : RouterPart). u.places) row.effect) (ap (λ (u : RouterPart). u.due_out) row.effect) (ap (λ (u : RouterPart). u.best) row.effect)
+    by_print (Telling q prefix row) = unchanged (ap (λ (u : RouterPart). u.places) row.effect)
+        (ap (λ (u : RouterPart). u.due_out) row.effect) (ap (λ (u : RouterPart). u.best) row.effect)
+    by_print (Hearing q row) = unchanged (ap (λ (u : RouterPart). u.places) row.effect)
+        (ap (λ (u : RouterPart). u.due_out) row.effect) (ap (λ (u : RouterPart). u.best) row.effect)
     by_print (Staying silent is) = subst (Answered setup r) (sym is) d
     by_print (Changing p silent one change) = by_change p one change
 

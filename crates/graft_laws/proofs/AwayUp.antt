@@ -73,11 +73,13 @@ module _ (setup : Setup) (w : World) (sound : IsSetup setup) (reached : Reached 
   pub moved_up : (a b k p : ℕ) (s : SessionValue) → Heads (w.mesh a b) (Moved k p s) → state s ≡ Established
   moved_up a b k p s h =
       let has : Has setup IsUpAway w p = here p (known_mesh setup w (always_owned setup sound w reached) a b p (Moved k p s) h (equal p)) in
-      let e = moved_in has.phase p has.session s a b k (mesh_items_on p h.rest) (own_head (is_on p) (w.mesh a b) h.rest (Moved k p s) h.is (equal p) ∙ has.stands.mesh a b) in
+      let e = moved_in has.phase p has.session s a b k (mesh_items_on p h.rest)
+      (own_head (is_on p) (w.mesh a b) h.rest (Moved k p s) h.is (equal p) ∙ has.stands.mesh a b) in
       ap state e.1 ∙ subst (λ (x : Phase). UpAway x has.session) e.0 has.more
 
   pub back_up : (a b k p : ℕ) (s : SessionValue) (refusal : Refusal) → Heads (w.mesh a b) (Back k p s refusal) → state s ≡ Established
   back_up a b k p s refusal h =
       let has : Has setup IsUpAway w p = here p (known_mesh setup w (always_owned setup sound w reached) a b p (Back k p s refusal) h (equal p)) in
-      let e = back_in has.phase p has.session s refusal a b k (mesh_items_on p h.rest) (own_head (is_on p) (w.mesh a b) h.rest (Back k p s refusal) h.is (equal p) ∙ has.stands.mesh a b) in
+      let e = back_in has.phase p has.session s refusal a b k (mesh_items_on p h.rest)
+      (own_head (is_on p) (w.mesh a b) h.rest (Back k p s refusal) h.is (equal p) ∙ has.stands.mesh a b) in
       ap state e.1 ∙ subst (λ (x : Phase). UpAway x has.session) e.0 has.more

@@ -27,11 +27,13 @@ use Rattle.graft_laws.proofs.GroupGifts.{always_operator, go_gives, first_gives}
 
 pub given_to : (setup : Setup) (operator : OperatorPart) (g : ScriptGraft) (e t : ℕ) → slice_get setup.steps g.step ≡ Some (EvacuateStep e)
     → target_in setup operator g ≡ Some t → operator.given g.graft ≡ To t
-given_to setup operator g e t there aims = by_gift (operator.given g.graft) refl (sym (ap (λ (s : Option ScriptStep). target_by s (operator.given g.graft)) there) ∙ aims) where
-  by_gift : (gift : Gift) → operator.given g.graft ≡ gift → target_given gift ≡ Some t → operator.given g.graft ≡ To t
-  by_gift Unmade is e = absurd cc
-  by_gift (To target) is e = is ∙ ap To (same_Some target t e)
-  by_gift (Stays router) is e = absurd cc
+given_to setup operator g e t there aims =
+    by_gift (operator.given g.graft) refl (sym (ap (λ (s : Option ScriptStep). target_by s (operator.given g.graft)) there) ∙ aims)
+  where
+    by_gift : (gift : Gift) → operator.given g.graft ≡ gift → target_given gift ≡ Some t → operator.given g.graft ≡ To t
+    by_gift Unmade is e = absurd cc
+    by_gift (To target) is e = is ∙ ap To (same_Some target t e)
+    by_gift (Stays router) is e = absurd cc
 
 pub target_of_gift : (setup : Setup) (operator : OperatorPart) (g : ScriptGraft) (e t : ℕ) → slice_get setup.steps g.step ≡ Some (EvacuateStep e)
     → operator.given g.graft ≡ To t → target_in setup operator g ≡ Some t
@@ -39,8 +41,8 @@ target_of_gift setup operator g e t there given = ap (λ (s : Option ScriptStep)
 
 -- ---- where sessions belong meanwhile
 
--- A step n that empties the router e has given each peering what the plan has for it, by where sessions belonged as the group began. Each belongs there still, or
--- where it was given.
+-- A step n that empties the router e has given each peering what the plan has for it, by where
+-- sessions belonged as the group began. Each belongs there still, or where it was given.
 pub record FollowsPlan (setup : Setup) (operator : OperatorPart) (n e : ℕ) : Type 0 where
   pub placed : ℕ → ℕ
   pub given : (g : ScriptGraft) → graft_at setup g.graft ≡ Some g → g.step ≡ n → operator.given g.graft ≡ gift_to setup placed e g.peering
@@ -81,7 +83,8 @@ source_stays _ = inl refl
 
 module _ (setup : Setup) (ok : IsSetup setup) (alone : EmptyAlone setup) where
   -- an event of the operator that begins no group
-  module _ (event : OperatorEvent) (before after : World) (reached : Reached setup before) (x : OperatorStep setup event before after) (group : x.part.group ≡ before.operator.group) (given : x.part.given ≡ before.operator.given) where
+  module _ (event : OperatorEvent) (before after : World) (reached : Reached setup before) (x : OperatorStep setup event before after)
+      (group : x.part.group ≡ before.operator.group) (given : x.part.given ≡ before.operator.given) where
     owned : Owned setup before
     owned = always_owned setup ok before reached
 
@@ -98,11 +101,13 @@ module _ (setup : Setup) (ok : IsSetup setup) (alone : EmptyAlone setup) where
       by_source : (source_of f.next ≡ source_of (owned.peerings p l).phase) ⊎ HasCleared (owned.peerings p l).phase f.next
           → (placement setup after.operator p ≡ plan.placed p) ⊎ (gift_to setup plan.placed e p ≡ To (placement setup after.operator p))
       by_source (inl same) =
-          subst (λ (r : ℕ). (r ≡ plan.placed p) ⊎ (gift_to setup plan.placed e p ≡ To r)) (sym (f.stands.log.placed ∙ (same ∙ sym (owned.peerings p l).stands.log.placed))) (plan.belongs p l)
+          subst (λ (r : ℕ). (r ≡ plan.placed p) ⊎ (gift_to setup plan.placed e p ≡ To r))
+          (sym (f.stands.log.placed ∙ (same ∙ sym (owned.peerings p l).stands.log.placed))) (plan.belongs p l)
       by_source (inr cleared) =
           let b : Stands setup before p (Busy cleared.source cleared.graft cleared.target Cleared) (owned.peerings p l).session =
           subst (λ (phase : Phase). Stands setup before p phase (owned.peerings p l).session) cleared.was (owned.peerings p l).stands in
-          inr (goes_by_plan setup before p cleared.source cleared.graft cleared.target n e Cleared (owned.peerings p l).session alone there at_work plan b ∙ ap To (sym (f.stands.log.placed ∙ ap source_of cleared.is)))
+          inr (goes_by_plan setup before p cleared.source cleared.graft cleared.target n e Cleared (owned.peerings p l).session alone there at_work plan b
+          ∙ ap To (sym (f.stands.log.placed ∙ ap source_of cleared.is)))
 
     plans_still : FollowPlans setup before.operator → FollowPlans setup after.operator
     plans_still plans n e there at_work =
@@ -122,19 +127,24 @@ module _ (setup : Setup) (ok : IsSetup setup) (alone : EmptyAlone setup) where
     belongs = λ p l. inl (
         let held = (always_owned setup ok before reached).peerings p l in
         ap (λ (o : OperatorPart). placement setup o p) ((operator_moves setup Go before after x).operator ∙ x.row.effect)
-        ∙ placement_same setup p before.operator (with_gifts setup (record before.operator { group = before.operator.group + 1 })) (begun_log setup p before.operator) held.phase held.stands.log);
+        ∙ placement_same setup p before.operator (with_gifts setup (record before.operator { group = before.operator.group + 1 }))
+        (begun_log setup p before.operator) held.phase held.stands.log);
   }
 
   plans_keep : (event : OperatorEvent) (before after : World) → Reached setup before → OperatorStep setup event before after
       → FollowPlans setup before.operator → FollowPlans setup after.operator
   plans_keep (Order n number) before after reached x plans = elim x.row [
-    | inl row ↦ plans_still (Order n number) before after reached x (ap (λ (o : OperatorPart). o.group) row.effect) (ap (λ (o : OperatorPart). o.given) row.effect) plans
-    | inr row ↦ plans_still (Order n number) before after reached x (ap (λ (o : OperatorPart). o.group) row.effect) (ap (λ (o : OperatorPart). o.given) row.effect) plans
+    | inl row ↦ plans_still (Order n number) before after reached x
+        (ap (λ (o : OperatorPart). o.group) row.effect) (ap (λ (o : OperatorPart). o.given) row.effect) plans
+    | inr row ↦ plans_still (Order n number) before after reached x
+        (ap (λ (o : OperatorPart). o.group) row.effect) (ap (λ (o : OperatorPart). o.given) row.effect) plans
   ]
-  plans_keep (Note r) before after reached x plans = plans_still (Note r) before after reached x (ap (λ (o : OperatorPart). o.group) x.row.effect) (ap (λ (o : OperatorPart). o.given) x.row.effect) plans
+  plans_keep (Note r) before after reached x plans = plans_still (Note r) before after reached x
+      (ap (λ (o : OperatorPart). o.group) x.row.effect) (ap (λ (o : OperatorPart). o.given) x.row.effect) plans
   plans_keep Go before after reached x plans = plans_begin before after reached x
 
   pub always_by_plan : (w : World) → Reached setup w → FollowPlans setup w.operator
   always_by_plan = always_operator setup (FollowPlans setup)
-      (λ n e there at_work. record { placed = placement setup (first_operator setup); given = (first_gives setup n e there at_work).given; belongs = λ p l. inl refl })
+      (λ n e there at_work.
+      record { placed = placement setup (first_operator setup); given = (first_gives setup n e there at_work).given; belongs = λ p l. inl refl })
       plans_keep

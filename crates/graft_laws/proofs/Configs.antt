@@ -20,7 +20,8 @@ same_config _ = refl
 keeps_own : (setup : Setup) → IsInvariant setup (HasOwnConfig setup)
 keeps_own setup = record {
   first = λ p config is. record { config = is };
-  step = λ before after p phase next s t reached l stands then change own. record { config = own.config ∙ ap (λ (c : SessionConfig). Some c) (sym (same_config change)) };
+  step = λ before after p phase next s t reached l stands then change own.
+      record { config = own.config ∙ ap (λ (c : SessionConfig). Some c) (sym (same_config change)) };
 }
 
 pub always_own : (setup : Setup) → IsSetup setup → (w : World) → Reached setup w → (p : ℕ) → p < peerings_in setup → Has setup (HasOwnConfig setup) w p

@@ -40,9 +40,11 @@ chosen_same setup r a b x entries tellings =
     let told : RouterPart → List Candidate = λ part. filter_map (λ q. telling_candidate setup r q (map.get (part.tellings q) x)) (router_numbers setup) in
     let es : RouterPart → List Candidate = λ part. filter_map (λ p. entry_candidate setup.home_as p (map.get (part.entries p) x)) (peering_numbers setup) in
     ap (λ (cs : List Candidate). choice (own ++ cs ++ told a))
-    (filter_map_same (λ p. entry_candidate setup.home_as p (map.get (a.entries p) x)) (λ p. entry_candidate setup.home_as p (map.get (b.entries p) x)) (peering_numbers setup) (λ p. ap (entry_candidate setup.home_as p) (entries p)))
+    (filter_map_same (λ p. entry_candidate setup.home_as p (map.get (a.entries p) x)) (λ p. entry_candidate setup.home_as p (map.get (b.entries p) x))
+    (peering_numbers setup) (λ p. ap (entry_candidate setup.home_as p) (entries p)))
     ∙ ap (λ (cs : List Candidate). choice (own ++ es b ++ cs))
-    (filter_map_same (λ q. telling_candidate setup r q (map.get (a.tellings q) x)) (λ q. telling_candidate setup r q (map.get (b.tellings q) x)) (router_numbers setup) (λ q. ap (telling_candidate setup r q) (tellings q)))
+    (filter_map_same (λ q. telling_candidate setup r q (map.get (a.tellings q) x)) (λ q. telling_candidate setup r q (map.get (b.tellings q) x))
+    (router_numbers setup) (λ q. ap (telling_candidate setup r q) (tellings q)))
 
 -- a table changes at one place, and not for this prefix
 at_get : {A : Type 0} (f : ℕ → map.FinMap prefix_cmp A) (j n : ℕ) (t : map.FinMap prefix_cmp A) (x : PrefixValue) → map.get t x ≡ map.get (f j) x
@@ -92,7 +94,8 @@ module _ (setup : Setup) (r : ℕ) (before after : RouterPart) (d : Decided setu
     best_is x = ap (λ (v : RouterPart). map.get v.best x) row.effect ∙ get_with before.best prefix (chosen setup r before prefix) x
 
     choice_is : (x : PrefixValue) → chosen setup r before x ≡ chosen setup r after x
-    choice_is x = chosen_same setup r before after x (λ p. ap (λ (v : RouterPart). map.get (v.entries p) x) (sym row.effect)) (λ q. ap (λ (v : RouterPart). map.get (v.tellings q) x) (sym row.effect))
+    choice_is x = chosen_same setup r before after x (λ p. ap (λ (v : RouterPart). map.get (v.entries p) x) (sym row.effect))
+        (λ q. ap (λ (v : RouterPart). map.get (v.tellings q) x) (sym row.effect))
 
     by_prefix : (x : PrefixValue) → has after.dirty x ≡ false → (x ≡ prefix) ⊎ ((same x prefix ≡ false) × (same_prefix x prefix ≡ false))
         → map.get after.best x ≡ chosen setup r after x
@@ -101,7 +104,8 @@ module _ (setup : Setup) (r : ℕ) (before after : RouterPart) (d : Decided setu
         ∙ ap (λ (t : Bool). cond t (chosen setup r before prefix) (map.get before.best x)) (ap (λ (y : PrefixValue). same y prefix) is ∙ same_self prefix)
         ∙ ap (chosen setup r before) (sym is) ∙ choice_is x
     by_prefix x clean (inr apart) =
-        let was : has before.dirty x ≡ false = sym (ap (λ (v : RouterPart). has v.dirty x) row.effect ∙ has_removed before.dirty prefix x ∙ ap (λ (t : Bool). cond t false (has before.dirty x)) apart.0) ∙ clean in
+        let was : has before.dirty x ≡ false = sym (ap (λ (v : RouterPart). has v.dirty x) row.effect
+        ∙ has_removed before.dirty prefix x ∙ ap (λ (t : Bool). cond t false (has before.dirty x)) apart.0) ∙ clean in
         best_is x ∙ ap (λ (t : Bool). cond t (chosen setup r before prefix) (map.get before.best x)) apart.0 ∙ d.best x was ∙ choice_is x
 
   hears : (q : ℕ) (taken : Option RouterTaken) (sent : List RouterSent) → Hears q before taken sent after → Decided setup r after
@@ -109,7 +113,8 @@ module _ (setup : Setup) (r : ℕ) (before after : RouterPart) (d : Decided setu
     best = λ x clean. let u = unheard x clean row.dirty in
         ap (λ (v : RouterPart). map.get v.best x) row.effect ∙ d.best x u.0
         ∙ sym (chosen_same setup r after before x (λ p. ap (λ (v : RouterPart). map.get (v.entries p) x) row.effect)
-        (λ n. ap (λ (v : RouterPart). map.get (v.tellings n) x) row.effect ∙ at_get before.tellings q n (with_telling (before.tellings q) row.prefix row.route) x u.1));
+        (λ n. ap (λ (v : RouterPart). map.get (v.tellings n) x) row.effect
+        ∙ at_get before.tellings q n (with_telling (before.tellings q) row.prefix row.route) x u.1));
   } where
     told_same : (x : PrefixValue) (t : Bool) → same x row.prefix ≡ t → row.route ≡ map.get (before.tellings q) row.prefix
         → cond t row.route (map.get (before.tellings q) x) ≡ map.get (before.tellings q) x
@@ -118,14 +123,16 @@ module _ (setup : Setup) (r : ℕ) (before after : RouterPart) (d : Decided setu
 
     -- a prefix that isn't dirty afterwards wasn't before, and has the telling that it had
     unheard : (x : PrefixValue) → has after.dirty x ≡ false
-        → ((row.route ≡ map.get (before.tellings q) row.prefix) × (after.dirty ≡ before.dirty)) ⊎ ((row.route ≢ map.get (before.tellings q) row.prefix) × (after.dirty ≡ map.insert before.dirty row.prefix tt))
+        → ((row.route ≡ map.get (before.tellings q) row.prefix) × (after.dirty ≡ before.dirty))
+        ⊎ ((row.route ≢ map.get (before.tellings q) row.prefix) × (after.dirty ≡ map.insert before.dirty row.prefix tt))
         → (has before.dirty x ≡ false) × (map.get (with_telling (before.tellings q) row.prefix row.route) x ≡ map.get (before.tellings q) x)
     unheard x clean (inl is) = (
       ap (λ (s : Prefixes). has s x) (sym is.1) ∙ clean,
       get_telling (before.tellings q) row.prefix row.route x ∙ told_same x (same x row.prefix) refl is.0,
     )
     unheard x clean (inr other) =
-        let both = none_of (same x row.prefix) (has before.dirty x) (sym (ap (λ (s : Prefixes). has s x) other.1 ∙ has_put before.dirty row.prefix x) ∙ clean) in
+        let both =
+        none_of (same x row.prefix) (has before.dirty x) (sym (ap (λ (s : Prefixes). has s x) other.1 ∙ has_put before.dirty row.prefix x) ∙ clean) in
         (both.1, get_telling (before.tellings q) row.prefix row.route x ∙ ap (λ (t : Bool). cond t row.route (map.get (before.tellings q) x)) both.0)
 
   pub decided_row : (event : RouterEvent) (taken : Option RouterTaken) (sent : List RouterSent) → router_row setup r event before taken sent after
@@ -135,7 +142,8 @@ module _ (setup : Setup) (r : ℕ) (before after : RouterPart) (d : Decided setu
     by_print (Deciding prefix row) = decides prefix taken sent row
     by_print (Telling q prefix row) = record {
       best = λ x clean. ap (λ (u : RouterPart). map.get u.best x) row.effect ∙ d.best x (ap (λ (u : RouterPart). has u.dirty x) (sym row.effect) ∙ clean)
-          ∙ sym (chosen_same setup r after before x (λ p. ap (λ (u : RouterPart). map.get (u.entries p) x) row.effect) (λ n. ap (λ (u : RouterPart). map.get (u.tellings n) x) row.effect));
+          ∙ sym (chosen_same setup r after before x (λ p. ap (λ (u : RouterPart). map.get (u.entries p) x) row.effect)
+          (λ n. ap (λ (u : RouterPart). map.get (u.tellings n) x) row.effect));
     }
     by_print (Hearing q row) = hears q taken sent row
     by_print (Staying silent is) = subst (Decided setup r) (sym is) d
@@ -175,9 +183,12 @@ first_decided setup r = record {
       let no_telling : map.get tellings x ≡ None = map.get-empty prefix_cmp x in
       let told : List Candidate = filter_map (λ q. telling_candidate setup r q (map.get tellings x)) (router_numbers setup) in
       map.get-empty prefix_cmp x ∙ sym (
-      ap (λ (t : Bool). choice (own_candidates setup.home_as t ++ filter_map (λ p. entry_candidate setup.home_as p (map.get entries x)) (peering_numbers setup) ++ told)) own
-      ∙ ap (λ (cs : List Candidate). choice (cs ++ told)) (none_from (λ p. entry_candidate setup.home_as p (map.get entries x)) (peering_numbers setup) (λ p. ap (entry_candidate setup.home_as p) no_entry))
-      ∙ ap (λ (cs : List Candidate). choice cs) (none_from (λ q. telling_candidate setup r q (map.get tellings x)) (router_numbers setup) (λ q. ap (telling_candidate setup r q) no_telling))
+      ap (λ (t : Bool). choice (own_candidates setup.home_as t
+      ++ filter_map (λ p. entry_candidate setup.home_as p (map.get entries x)) (peering_numbers setup) ++ told)) own
+      ∙ ap (λ (cs : List Candidate). choice (cs ++ told))
+      (none_from (λ p. entry_candidate setup.home_as p (map.get entries x)) (peering_numbers setup) (λ p. ap (entry_candidate setup.home_as p) no_entry))
+      ∙ ap (λ (cs : List Candidate). choice cs)
+      (none_from (λ q. telling_candidate setup r q (map.get tellings x)) (router_numbers setup) (λ q. ap (telling_candidate setup r q) no_telling))
       ∙ choice_none
       );
 }

@@ -46,13 +46,15 @@ module _ (setup : Setup) (w : World) (owned : Owned setup w) where
   pub known_mesh : (a b q : ℕ) (item : Mesh) → Heads (w.mesh a b) item → is_on q item ≡ true → q < peerings_in setup
   known_mesh a b q item h own = elim (below_or q (peerings_in setup)) [
     | inl l ↦ l
-    | inr past ↦ (let e : item ∷ mesh_items_on q h.rest ≡ [] = own_head (is_on q) (w.mesh a b) h.rest item h.is own ∙ (owned.no_others q past).mesh a b in absurd cc)
+    | inr past ↦
+        (let e : item ∷ mesh_items_on q h.rest ≡ [] = own_head (is_on q) (w.mesh a b) h.rest item h.is own ∙ (owned.no_others q past).mesh a b in absurd cc)
   ]
 
   pub known_order : (r q : ℕ) (order : GraftOrder) → Heads (w.orders r) order → (order.peering == q) ≡ true → q < peerings_in setup
   known_order r q order h own = elim (below_or q (peerings_in setup)) [
     | inl l ↦ l
-    | inr past ↦ (let e : order ∷ orders_of q h.rest ≡ [] = own_head (λ o. o.peering == q) (w.orders r) h.rest order h.is own ∙ (owned.no_others q past).orders r in absurd cc)
+    | inr past ↦ (let e : order ∷ orders_of q h.rest ≡ [] =
+        own_head (λ o. o.peering == q) (w.orders r) h.rest order h.is own ∙ (owned.no_others q past).orders r in absurd cc)
   ]
 
 -- ---- what an event does
@@ -101,7 +103,12 @@ pub no_items : (setup : Setup) (p r : ℕ) → AreOthers setup p r None []
 no_items setup p r = record { mesh_taken = λ i j. refl; mesh_sent = λ i j. refl; orders_taken = λ i. refl; reports_sent = λ i. refl }
 
 pub other_order : (setup : Setup) (p r : ℕ) (order : GraftOrder) → (order.peering == p) ≡ false → AreOthers setup p r (Some (OrderIn order)) []
-other_order setup p r order e = record { mesh_taken = λ i j. refl; mesh_sent = λ i j. refl; orders_taken = λ i. none_only (λ (o : GraftOrder). o.peering == p) order r i e; reports_sent = λ i. refl }
+other_order setup p r order e = record {
+  mesh_taken = λ i j. refl;
+  mesh_sent = λ i j. refl;
+  orders_taken = λ i. none_only (λ (o : GraftOrder). o.peering == p) order r i e;
+  reports_sent = λ i. refl;
+}
 
 -- to one item, if it is another's, nothing is added
 only_front : {A : Type 0} (test : A → Bool) (xs : List A) → filter test xs ≡ [] → filter test (xs ++ []) ≡ []
@@ -115,7 +122,8 @@ other_report setup p r taken report no_mesh no_order e = record {
   mesh_taken = no_mesh;
   mesh_sent = λ i j. refl;
   orders_taken = no_order;
-  reports_sent = λ i. only_front (λ (o : Report). is_graft_on setup p o.graft) (only_at r report i) (none_only (λ (o : Report). is_graft_on setup p o.graft) report r i e);
+  reports_sent = λ i. only_front (λ (o : Report). is_graft_on setup p o.graft)
+      (only_at r report i) (none_only (λ (o : Report). is_graft_on setup p o.graft) report r i e);
 }
 
 -- an item from a router, another to a router, and what goes to far sides
@@ -129,7 +137,12 @@ other_mesh setup p r q t item more e f = record {
 }
 
 pub other_sent : (setup : Setup) (p r t : ℕ) (more : Mesh) → is_on p more ≡ false → AreOthers setup p r None (MeshTo t more ∷ [])
-other_sent setup p r t more f = record { mesh_taken = λ i j. refl; mesh_sent = λ i j. only_front (is_on p) (only2 r t more i j) (none_only2 (is_on p) more r t i j f); orders_taken = λ i. refl; reports_sent = λ i. refl }
+other_sent setup p r t more f = record {
+  mesh_taken = λ i j. refl;
+  mesh_sent = λ i j. only_front (is_on p) (only2 r t more i j) (none_only2 (is_on p) more r t i j f);
+  orders_taken = λ i. refl;
+  reports_sent = λ i. refl;
+}
 
 pub other_taken : (setup : Setup) (p r q : ℕ) (item : Mesh) → is_on p item ≡ false → (i j : ℕ) → mesh_items_on p (mesh_taken r (Some (MeshIn q item)) i j) ≡ []
 other_taken setup p r q item e i j = none_only2 (is_on p) item q r i j e

@@ -19,7 +19,9 @@ use Rattle.graft_model.specs.Parts.{Mesh, Told, Moved, Back, Asked, Answered, Do
 use Rattle.graft_model.specs.RouterRows.{RouterTaken, MeshIn, RouterSent, DueThen, Follows, update_for}
 use Rattle.graft_model.specs.Setups.{Setup, IsSetup}
 use Rattle.graft_model.specs.declared.event.RouterEvent.{RouterEvent}
-use Rattle.graft_model.proofs.Footprints.{Carries, Holds, HoldsNone, OnePeering, ByFrame, ByRound, PeeringChange, Keeping, PuttingNothing, PuttingSome, Following, Emptying, Reviving, Deciding, Telling, Hearing, Staying, Changing, Footprint, footprint}
+use Rattle.graft_model.proofs.Footprints.{Carries, Holds, HoldsNone, OnePeering, ByFrame, ByRound, PeeringChange}
+use Rattle.graft_model.proofs.Footprints.{Keeping, PuttingNothing, PuttingSome, Following, Emptying, Reviving, Deciding}
+use Rattle.graft_model.proofs.Footprints.{Telling, Hearing, Staying, Changing, Footprint, footprint}
 use Rattle.graft_model.specs.Steps.{Event, ByRouter, ByFar, ByOperator, Step, router_row, Heads}
 use Rattle.graft_model.specs.TableRows.{Decides, DueEverywhere, holds_established, is_established}
 use Rattle.graft_laws.specs.Keeps.{Reached}
@@ -43,7 +45,8 @@ got_up s next bytes story g up unclosed = by_state (state next) refl where
 
   not_open : state next ≢ Established → ⊥
   not_open other =
-      let was : state s ≡ OpenSent = before_open (expected_next (peering_of s.config) s.story (state s)) bytes (message_of (expected_next (peering_of s.config) s.story (state s)) bytes) g.answer g.next refl g.reply
+      let was : state s ≡ OpenSent = before_open (expected_next (peering_of s.config) s.story (state s)) bytes
+      (message_of (expected_next (peering_of s.config) s.story (state s)) bytes) g.answer g.next refl g.reply
       (λ f. other (after_is ∙ f)) (λ f. unclosed (after_is ∙ f)) in
       let e : OpenSent ≡ Established = sym was ∙ up in cc
 
@@ -55,8 +58,10 @@ got_up s next bytes story g up unclosed = by_state (state next) refl where
 
 round_up : (s next : SessionValue) (round : ℕ) → IsOfStory s → PassesRound s round next → state s ≡ Established → state next ≢ Closed → state next ≡ Established
 round_up s next round story g up unclosed =
-    let after_is : state next ≡ g.next = ap state g.effect ∙ rounds.state_next (peering_of s.config) s.story round g.answer g.next g.up g.runs g.later g.reply story.tied.allowed in
-    let is : Rounds (state s) g.next g.answer = round_is (silence s.story + 1 == hold_time s) (round % (hold_time s / 3) == 0) (state s) g.next g.answer g.reply (λ c. unclosed (after_is ∙ c)) in
+    let after_is : state next ≡ g.next =
+    ap state g.effect ∙ rounds.state_next (peering_of s.config) s.story round g.answer g.next g.up g.runs g.later g.reply story.tied.allowed in
+    let is : Rounds (state s) g.next g.answer =
+    round_is (silence s.story + 1 == hold_time s) (round % (hold_time s / 3) == 0) (state s) g.next g.answer g.reply (λ c. unclosed (after_is ∙ c)) in
     after_is ∙ is.same ∙ up
 
 -- ---- what is due as a session changes by itself
@@ -123,7 +128,8 @@ module _ (setup : Setup) (r : ℕ) (before after : RouterPart) (d : DueIsHeld be
       → after.places p ≡ Live next o → Follows setup r p before s next o after
       → (state s ≡ Established → state next ≢ Closed → state next ≡ Established) → DueIsHeld after
   follows p s next o one live now row goes = at_place p one (λ x there. ap holds_established now
-      ∙ ap is_established (due_up (state s) (state next) before.best (before.due_out p) (after.due_out p) x row.due there (λ e. established_of (state s) (sym (ap holds_established live) ∙ d.held p x e)) goes))
+      ∙ ap is_established (due_up (state s) (state next) before.best (before.due_out p) (after.due_out p) x row.due there
+      (λ e. established_of (state s) (sym (ap holds_established live) ∙ d.held p x e)) goes))
 
   decides : (prefix : PrefixValue) (taken : Option RouterTaken) (sent : List RouterSent) → Decides setup r prefix before taken sent after → DueIsHeld after
   decides prefix taken sent row = elim row.due [
@@ -131,10 +137,11 @@ module _ (setup : Setup) (r : ℕ) (before after : RouterPart) (d : DueIsHeld be
     | inr due ↦ record { held = λ n x there. ap (λ (u : RouterPart). holds_established (u.places n)) row.effect ∙ by_due due.1 n x there }
   ] where
     by_due : DueEverywhere setup r prefix before after → (n : ℕ) (x : PrefixValue) → has (after.due_out n) x ≡ true → holds_established (before.places n) ≡ true
-    by_due due n x there = elim (one_or_last (has (before.due_out n) x) (same_prefix prefix x) (holds_established (before.places n)) (sym ((due.peerings n).members x) ∙ there)) [
-      | inl was ↦ d.held n x was
-      | inr holds ↦ holds
-    ]
+    by_due due n x there = elim (one_or_last (has (before.due_out n) x) (same_prefix prefix x)
+        (holds_established (before.places n)) (sym ((due.peerings n).members x) ∙ there)) [
+          | inl was ↦ d.held n x was
+          | inr holds ↦ holds
+        ]
 
   pub due_row : (event : RouterEvent) (taken : Option RouterTaken) (sent : List RouterSent)
       → ((p : ℕ) (s : SessionValue) (o : Option Errand) → before.places p ≡ Live s o → IsOfStory s)
@@ -143,17 +150,23 @@ module _ (setup : Setup) (r : ℕ) (before after : RouterPart) (d : DueIsHeld be
   due_row event taken sent story brought row = by_print (footprint setup r before after taken sent event row) where
     by_change : (p : ℕ) → OnePeering p before after → PeeringChange setup r p before taken sent after → DueIsHeld after
     by_change p one (Keeping session errand end live holds entries due) =
-        at_place p one (λ x there. held_as (after.places p) _ holds ∙ ap holds_established (sym live) ∙ d.held p x (ap (λ (s : Prefixes). has s x) (sym due) ∙ there))
+        at_place p one
+        (λ x there. held_as (after.places p) _ holds ∙ ap holds_established (sym live) ∙ d.held p x (ap (λ (s : Prefixes). has s x) (sym due) ∙ there))
     by_change p one (PuttingNothing row) =
-        at_place p one (λ x there. ap (λ (u : RouterPart). holds_established (u.places p)) row.effect ∙ d.held p x (and_left (has (before.due_out p) x) _ (sym (row.due.members x) ∙ there)))
+        at_place p one (λ x there. ap (λ (u : RouterPart). holds_established (u.places p)) row.effect
+        ∙ d.held p x (and_left (has (before.due_out p) x) _ (sym (row.due.members x) ∙ there)))
     by_change p one (PuttingSome n row now) =
         let up : state row.next ≡ Established = ap state row.puts.effect
-        ∙ updates.state_next (peering_of row.session.config) row.session.story (update_for row.attrs row.prefixes) row.puts.established row.puts.one_way (story p row.session row.errand row.live.is).tied.allowed in
+        ∙ updates.state_next (peering_of row.session.config) row.session.story
+        (update_for row.attrs row.prefixes) row.puts.established row.puts.one_way (story p row.session row.errand row.live.is).tied.allowed in
         at_place p one (λ x there. ap holds_established now ∙ ap is_established up)
     by_change p one (Following s next o live now (ByFrame bytes gets) row) = follows p s next o one live now row (got_up s next bytes (story p s o live) gets)
-    by_change p one (Following s next o live now (ByRound round passes) row) = follows p s next o one live now row (round_up s next round (story p s o live) passes)
-    by_change p one (Emptying none entries due) = at_place p one (λ x there. let was = due x there in absurd (none_held (before.places p) was.1 (d.held p x was.0)))
-    by_change p one (Reviving q item session errand takes carries now entries due) = at_place p one (λ x there. ap holds_established now ∙ ap is_established (brought q item session takes carries))
+    by_change p one (Following s next o live now (ByRound round passes) row) =
+        follows p s next o one live now row (round_up s next round (story p s o live) passes)
+    by_change p one (Emptying none entries due) =
+        at_place p one (λ x there. let was = due x there in absurd (none_held (before.places p) was.1 (d.held p x was.0)))
+    by_change p one (Reviving q item session errand takes carries now entries due) =
+        at_place p one (λ x there. ap holds_established now ∙ ap is_established (brought q item session takes carries))
 
     by_print : Footprint setup r event before taken sent after → DueIsHeld after
     by_print (Deciding prefix row) = decides prefix taken sent row
@@ -187,7 +200,8 @@ held_then setup sound (ByRouter q event) w v reached x all r =
     (due_row setup q (w.router q) x.part (all q) event x.taken x.sent (λ p s o live. live_story setup w sound reached q p s o live)
     (λ a item s e carries. carried_up setup w sound reached a q item s (subst (RouterHeads w q) e m.heads) carries) x.row) all r)
 held_then setup sound (ByFar p event) w v reached x all r = subst (λ (f : ℕ → RouterPart). DueIsHeld (f r)) (sym (far_moves setup p event w v x).router) (all r)
-held_then setup sound (ByOperator event) w v reached x all r = subst (λ (f : ℕ → RouterPart). DueIsHeld (f r)) (sym (operator_moves setup event w v x).router) (all r)
+held_then setup sound (ByOperator event) w v reached x all r =
+    subst (λ (f : ℕ → RouterPart). DueIsHeld (f r)) (sym (operator_moves setup event w v x).router) (all r)
 
 pub always_held : (setup : Setup) (w : World) → IsSetup setup → Reached setup w → (r : ℕ) → DueIsHeld (w.router r)
 always_held setup w sound reached = carried setup AllHeld (first_due setup) (held_then setup sound) w reached

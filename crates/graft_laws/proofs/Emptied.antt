@@ -21,7 +21,8 @@ use Rattle.graft_laws.proofs.HadRoom.{none_full}
 pub gives_by_plan : (setup : Setup) (events : List Event) → GiveByPlan setup events
 gives_by_plan setup events = record {
   first = λ step router there group. first_gives setup step router there group;
-  later = λ begun rest before after step router is run x there group. go_gives setup before after step router (record { events = begun; run = run }) x there group;
+  later = λ begun rest before after step router is run x there group.
+      go_gives setup before after step router (record { events = begun; run = run }) x there group;
 }
 
 -- where no later graft of the peering was accepted, the session belongs at the graft's target
@@ -31,10 +32,12 @@ placed_there : (setup : Setup) (operator : OperatorPart) (g : ScriptGraft) (t : 
 placed_there setup operator g t known aims accepted last =
     let p : ℕ = g.peering in
     let a : StandsAmong setup p g = among setup p g (known, refl) in
-    let own : AllByRecursion (IsGraftOf setup p) (a.front ++ g ∷ a.back) = subst (λ (x : List ScriptGraft). AllByRecursion (IsGraftOf setup p) x) a.is (all_of_peering setup p) in
+    let own : AllByRecursion (IsGraftOf setup p) (a.front ++ g ∷ a.back) =
+    subst (λ (x : List ScriptGraft). AllByRecursion (IsGraftOf setup p) x) a.is (all_of_peering setup p) in
     let own_back : AllByRecursion (IsGraftOf setup p) (g ∷ a.back) = all_back (IsGraftOf setup p) a.front (g ∷ a.back) own in
     let none : AllByRecursion (λ (x : ScriptGraft). accepts operator x ≡ false) a.back =
-    all_both (IsGraftOf setup p) (λ (x : ScriptGraft). g.graft < x.graft) (λ (x : ScriptGraft). accepts operator x ≡ false) a.back (λ x mine above. last x mine.0 mine.1 above) own_back.1
+    all_both (IsGraftOf setup p) (λ (x : ScriptGraft). g.graft < x.graft)
+    (λ (x : ScriptGraft). accepts operator x ≡ false) a.back (λ x mine above. last x mine.0 mine.1 above) own_back.1
     (behind_above setup p a.front a.back g a.is) in
     placed_last setup operator p t a.front a.back g a.is (ap is_accepted accepted) none aims
 

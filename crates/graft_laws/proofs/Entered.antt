@@ -24,7 +24,8 @@ use Rattle.graft_model.specs.Parts.{Errand, Live, Entries, World}
 use Rattle.graft_model.specs.RouterRows.{BringsIn, FollowsHeard}
 use Rattle.graft_model.specs.Setups.{Setup, config_of, start_of}
 use Rattle.graft_model.specs.First.{first_world}
-use Rattle.graft_laws.specs.Life.{Acts, Begins, Change, Rests, Lands, Clears, Puts, Emits, Arrives, Gets, Ticks, Strays, IsToSay, FarActs, SameEntries, EntersHeard, GraftMove, Grafts}
+use Rattle.graft_laws.specs.Life.{Acts, Begins, Change, Rests, Lands, Clears, Puts, Emits, Arrives, Gets, Ticks}
+use Rattle.graft_laws.specs.Life.{Strays, IsToSay, FarActs, SameEntries, EntersHeard, GraftMove, Grafts}
 use Rattle.graft_laws.specs.Phases.{Halted, Moving, Returning, Cleared, Phase, Idle, Busy, place_by, InBounds}
 use Rattle.graft_laws.specs.Tables.{has_entries, is_late, Entered}
 use Rattle.graft_laws.proofs.HeardNone.{GoesOn, entry_stays, part_brings}
@@ -122,7 +123,8 @@ module _ (setup : Setup) (w v : World) (p : ℕ) where
       let l = live_has phase s o r live in
       record {
         here = λ n there. by_number n there (cases_eq n r);
-        elsewhere = λ n none early. enters.others n (λ e. let t : has_entries phase n ≡ true = ap (has_entries phase) e ∙ l.0 in let f : true ≡ false = sym t ∙ none in absurd cc) ∙ is.elsewhere n none early;
+        elsewhere = λ n none early. enters.others n (λ e. let t : has_entries phase n ≡ true = ap (has_entries phase) e ∙ l.0 in
+            let f : true ≡ false = sym t ∙ none in absurd cc) ∙ is.elsewhere n none early;
       }
     where
       by_prefix : (x : PrefixValue) → FollowsHeard setup r s next ((w.router r).entries p) ((v.router r).entries p) x
@@ -137,9 +139,11 @@ module _ (setup : Setup) (w v : World) (p : ℕ) where
   changes : (phase next : Phase) (s t : SessionValue) → InBounds setup phase → IsOfStory s → Change setup w v p phase s next t
       → Entered setup w p phase s → Entered setup v p next t
   changes phase _ s _ bounds story (Rests line entries) is = rests phase s entries is
-  changes phase next s _ bounds story (Grafts move line entries) is = stays phase next s s (same_holder move) (same_late move) (record { config = refl; adj_rib_in = refl; got = refl }) entries is
+  changes phase next s _ bounds story (Grafts move line entries) is =
+      stays phase next s s (same_holder move) (same_late move) (record { config = refl; adj_rib_in = refl; got = refl }) entries is
   changes _ _ s _ bounds story (Lands {q = q} {k = k} {t = t} admitted line enters) is = record {
-    here = λ r there x. let e : r ≡ t = grind (arith, nat_tests) in subst (λ (m : ℕ). map.get ((v.router m).entries p) x ≡ entry_of setup m s x) (sym e) (enters.here x);
+    here = λ r there x. let e : r ≡ t = grind (arith, nat_tests) in
+        subst (λ (m : ℕ). map.get ((v.router m).entries p) x ≡ entry_of setup m s x) (sym e) (enters.here x);
     elsewhere = λ r none early.
         let other : r ≢ t = grind (arith, nat_tests) in
         let old : (r == q) ≡ false = early in
@@ -156,11 +160,16 @@ module _ (setup : Setup) (w v : World) (p : ℕ) where
       by_number : (r : ℕ) → has_entries (Busy q k t Cleared) r ≡ false → (r ≡ q) ⊎ (r ≢ q) → (v.router r).entries p ≡ map.empty
       by_number r none (inl e) = ap (λ (m : ℕ). (v.router m).entries p) e ∙ drops.here
       by_number r none (inr other) = drops.others r other ∙ is.elsewhere r none (let f : (r == q) ≡ false = grind (arith, nat_tests) in f)
-  changes phase _ s next bounds story (Acts r errand live (Puts update puts told line entries)) is = stays phase phase s next (λ n. refl) (λ n e. e) (puts_same s next update puts) entries is
-  changes phase _ s _ bounds story (Acts r errand live (Emits from len segment end emits line entries)) is = stays phase phase s (record s { end = end }) (λ n. refl) (λ n e. e) (record { config = refl; adj_rib_in = refl; got = refl }) entries is
-  changes phase _ s _ bounds story (Acts r errand live (Arrives segment end arrives line entries)) is = stays phase phase s (record s { end = end }) (λ n. refl) (λ n e. e) (record { config = refl; adj_rib_in = refl; got = refl }) entries is
-  changes phase _ s next bounds story (Acts r errand live (Gets bytes gets line enters)) is = follows phase s next errand r live story gets.unclosed (gets_on s next bytes gets) enters is
-  changes phase _ s next bounds story (Acts r errand live (Ticks round passes line enters)) is = follows phase s next errand r live story (up_unclosed s passes.up) (round_on s next round passes) enters is
+  changes phase _ s next bounds story (Acts r errand live (Puts update puts told line entries)) is =
+      stays phase phase s next (λ n. refl) (λ n e. e) (puts_same s next update puts) entries is
+  changes phase _ s _ bounds story (Acts r errand live (Emits from len segment end emits line entries)) is =
+      stays phase phase s (record s { end = end }) (λ n. refl) (λ n e. e) (record { config = refl; adj_rib_in = refl; got = refl }) entries is
+  changes phase _ s _ bounds story (Acts r errand live (Arrives segment end arrives line entries)) is =
+      stays phase phase s (record s { end = end }) (λ n. refl) (λ n e. e) (record { config = refl; adj_rib_in = refl; got = refl }) entries is
+  changes phase _ s next bounds story (Acts r errand live (Gets bytes gets line enters)) is =
+      follows phase s next errand r live story gets.unclosed (gets_on s next bytes gets) enters is
+  changes phase _ s next bounds story (Acts r errand live (Ticks round passes line enters)) is =
+      follows phase s next errand r live story (up_unclosed s passes.up) (round_on s next round passes) enters is
   changes phase _ s _ bounds story (Strays r segment line entries) is = rests phase s entries is
   changes phase _ s _ bounds story (IsToSay step line entries) is = rests phase s entries is
   changes phase _ s _ bounds story (FarActs event taken sent part row moved entries) is = rests phase s entries is

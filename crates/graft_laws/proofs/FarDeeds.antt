@@ -1,5 +1,6 @@
 -- What the events of far sides and of the operator do.
-use Rattle.std.proofs.Common.{◌≡◌, ◌==◌, cond, ℕ, ◌+◌, ◌<◌, Bool, true, false, List, [], ◌∷◌, ◌++◌, Option, Some, None, refl, sym, ap, ◌∙◌, subst, arith, inl, inr}
+use Rattle.std.proofs.Common.{◌≡◌, ◌==◌, cond, ℕ, ◌+◌, ◌<◌, Bool, true, false, List, [], ◌∷◌, ◌++◌}
+use Rattle.std.proofs.Common.{Option, Some, None, refl, sym, ap, ◌∙◌, subst, arith, inl, inr}
 use Rattle.std.proofs.lemmas.Bool.Decides.{nat_tests}
 use Rattle.std.proofs.lemmas.List.{append-nil}
 use Rattle.std.specs.Prelude.{◌≢◌}
@@ -52,7 +53,8 @@ no_says_taken p q (Some (SayIn step)) ne = grind (arith, nat_tests)
 
 no_inward_sent : (p q : ℕ) (sent : List FarSent) (b : ℕ) → p ≢ q → inward_sent q sent p b ≡ []
 no_inward_sent p q [] b ne = refl
-no_inward_sent p q (item ∷ sent) b ne = ap (λ (x : List PlacedSegment). x ++ inward_sent q sent p b) (let e : only2 q item.router item.segment p b ≡ [] = grind (arith, nat_tests) in e) ∙ no_inward_sent p q sent b ne
+no_inward_sent p q (item ∷ sent) b ne = ap (λ (x : List PlacedSegment). x ++ inward_sent q sent p b)
+    (let e : only2 q item.router item.segment p b ≡ [] = grind (arith, nat_tests) in e) ∙ no_inward_sent p q sent b ne
 
 front_none : {A : Type 0} (xs ys zs : List A) → xs ++ ys ≡ zs → xs ≡ [] → ys ≡ zs
 front_none xs ys zs e none = ap (λ (x : List _). x ++ ys) (sym none) ∙ e
@@ -118,25 +120,29 @@ still_absent p w v taken sent part m no_order was = record {
 }
 
 -- an event of the operator with which a peering has nothing to do
-operator_rests : (setup : Setup) (w v : World) (p : ℕ) (taken : Option OperatorTaken) (sent : List OperatorSent) (part : OperatorPart) (phase : Phase) (s : SessionValue)
+operator_rests : (setup : Setup) (w v : World) (p : ℕ) (taken : Option OperatorTaken)
+    (sent : List OperatorSent) (part : OperatorPart) (phase : Phase) (s : SessionValue)
     → OperatorMoves taken sent part w v
     → ((b : ℕ) → orders_of p (orders_sent sent b) ≡ []) → ((a : ℕ) → reports_of setup p (reports_taken taken a) ≡ []) → says_sent sent p ≡ []
     → SameLog setup p w.operator part → Stands setup w p phase s → Followed setup w v p phase s
 operator_rests setup w v p taken sent part phase s m no_order no_report no_say same b =
-    rests setup w v p phase s (untouched_by_operator setup p taken sent part w v m no_order no_report same) (operator_line p w v taken sent part m no_say) (entries_still p w v m.router) b
+    rests setup w v p phase s (untouched_by_operator setup p taken sent part w v m no_order no_report same)
+    (operator_line p w v taken sent part m no_say) (entries_still p w v m.router) b
 
 -- the moves of an event whose items are known
 operator_as : (setup : Setup) (w v : World) (taken known : Option OperatorTaken) (sent items : List OperatorSent) (part : OperatorPart)
     → taken ≡ known → sent ≡ items
     → (OperatorMoves known items part w v → Each setup w v) → OperatorMoves taken sent part w v → Each setup w v
 operator_as setup w v taken known sent items part e f each =
-    subst (λ (x : Option OperatorTaken). OperatorMoves x sent part w v → Each setup w v) (sym e) (subst (λ (x : List OperatorSent). OperatorMoves known x part w v → Each setup w v) (sym f) each)
+    subst (λ (x : Option OperatorTaken). OperatorMoves x sent part w v → Each setup w v) (sym e)
+    (subst (λ (x : List OperatorSent). OperatorMoves known x part w v → Each setup w v) (sym f) each)
 
 -- ---- a step is to be said
 
 say_issued : (setup : Setup) (p step : ℕ) (before part : OperatorPart) → part ≡ record before { issued = at before.issued step true }
     → SameLog setup p before part
-say_issued setup p step before part effect = subst (λ (x : OperatorPart). SameLog setup p before x) (sym effect) (same_if setup p before (record before { issued = at before.issued step true }) refl refl (λ k own. refl) (λ k own. refl))
+say_issued setup p step before part effect = subst (λ (x : OperatorPart). SameLog setup p before x) (sym effect)
+    (same_if setup p before (record before { issued = at before.issued step true }) refl refl (λ k own. refl) (λ k own. refl))
 
 say_each : (setup : Setup) (w v : World) (step number : ℕ) (taken : Option OperatorTaken) (sent : List OperatorSent) (part : OperatorPart)
     → OrdersSay setup step number w.operator taken sent part → OperatorMoves taken sent part w v → Each setup w v
@@ -148,10 +154,13 @@ say_each setup w v step number taken sent part row = operator_as setup w v taken
         | inl e ↦ record {
           next = phase;
           session = s;
-          stands = stands_still setup w v p phase s (untouched_by_operator setup p None (SayTo row.peering step ∷ []) part w v m (λ i. refl) (λ i. refl) (same p)) b;
-          change = subst (λ (x : ℕ). Change setup w v x phase s phase s) (sym e) (IsToSay step (operator_says row.peering step w v None part m) (entries_still row.peering w v m.router));
+          stands = stands_still setup w v p phase s
+              (untouched_by_operator setup p None (SayTo row.peering step ∷ []) part w v m (λ i. refl) (λ i. refl) (same p)) b;
+          change = subst (λ (x : ℕ). Change setup w v x phase s phase s) (sym e)
+              (IsToSay step (operator_says row.peering step w v None part m) (entries_still row.peering w v m.router));
         }
-        | inr ne ↦ operator_rests setup w v p None (SayTo row.peering step ∷ []) part phase s m (λ i. refl) (λ i. refl) (no_say p row.peering step ne) (same p) b
+        | inr ne ↦ operator_rests setup w v p None (SayTo row.peering step ∷ []) part phase s m
+            (λ i. refl) (λ i. refl) (no_say p row.peering step ne) (same p) b
       ];
     })
   where
@@ -176,7 +185,8 @@ module _ (setup : Setup) (w v : World) (k p t : ℕ) (part : OperatorPart) where
     stands = record {
       places = λ r. ap (λ (f : ℕ → RouterPart). (f r).places p) m.router ∙ b.places r;
       mesh = λ i j. ap (λ (f : ℕ → ℕ → List Mesh). mesh_items_on p (f i j)) m.mesh ∙ b.mesh i j;
-      orders = λ r. own_channel (λ o. o.peering == p) [] (v.orders r) (w.orders r) (only_at source order r ++ []) [] (only_at source order r) (m.orders r) refl (b.orders r)
+      orders = λ r. own_channel (λ o. o.peering == p) [] (v.orders r) (w.orders r)
+          (only_at source order r ++ []) [] (only_at source order r) (m.orders r) refl (b.orders r)
           (ap (orders_of p) (append-nil (only_at source order r)) ∙ own_only (λ (o : GraftOrder). o.peering == p) order source r (equal p));
       reports = λ r. still_taken (λ o. is_graft_on setup p o.graft) [] (v.reports r) (w.reports r) (m.reports r) refl ∙ b.reports r;
       log = subst (λ (o : OperatorPart). LogSays setup o p (Busy source k t Ordered)) (sym m.operator) log;
@@ -185,7 +195,8 @@ module _ (setup : Setup) (w v : World) (k p t : ℕ) (part : OperatorPart) where
     change = Grafts Begins (operator_line p w v None (OrderTo source order ∷ []) part m refl) (entries_still p w v m.router);
   }
 
-may_order : (setup : Setup) (n number : ℕ) (before part : OperatorPart) (taken : Option OperatorTaken) (sent : List OperatorSent) (row : OrdersGraft setup n number before taken sent part)
+may_order : (setup : Setup) (n number : ℕ) (before part : OperatorPart) (taken : Option OperatorTaken)
+    (sent : List OperatorSent) (row : OrdersGraft setup n number before taken sent part)
     → MayOrder setup before row.graft row.target
 may_order setup n number before part taken sent row = record {
   known = row.known;
@@ -206,7 +217,8 @@ graft_each setup w v n number taken sent part ok given row =
     let o : GraftOrder = record { graft = g.graft; peering = q; target = row.target } in
     let known : q < peerings_in setup = graft_within setup g.graft g ok row.known in
     operator_as setup w v taken None sent (OrderTo source o ∷ []) part row.takes row.sends (λ m.
-    let none : (p : ℕ) → p ≢ q → (b : ℕ) → orders_of p (only_at source o b ++ []) ≡ [] = λ p ne b. ap (orders_of p) (append-nil (only_at source o b)) ∙ none_only (λ (x : GraftOrder). x.peering == p) o source b (differs p q ne) in
+    let none : (p : ℕ) → p ≢ q → (b : ℕ) → orders_of p (only_at source o b ++ []) ≡ [] =
+    λ p ne b. ap (orders_of p) (append-nil (only_at source o b)) ∙ none_only (λ (x : GraftOrder). x.peering == p) o source b (differs p q ne) in
     record {
       absent = λ p past. still_absent p w v None (OrderTo source o ∷ []) part m (none p (λ is. omega arith));
       known = λ p l phase s b. elim (equal_or_not p q) [
@@ -217,13 +229,15 @@ graft_each setup w v n number taken sent part ok given row =
     })
   where
     own : (phase : Phase) (s : SessionValue)
-        → OperatorMoves None (OrderTo (placement setup w.operator row.graft.peering) (record { graft = row.graft.graft; peering = row.graft.peering; target = row.target }) ∷ []) part w v
+        → OperatorMoves None (OrderTo (placement setup w.operator row.graft.peering)
+        (record { graft = row.graft.graft; peering = row.graft.peering; target = row.target }) ∷ []) part w v
         → Stands setup w row.graft.peering phase s → Followed setup w v row.graft.peering phase s
     own phase s m b =
         let says = order_own setup w.operator row.graft row.target (may_order setup n number w.operator part taken sent row) phase b.log in
         at_phase setup w v row.graft.peering phase (Idle (placement setup w.operator row.graft.peering)) s says.was
         (ordered_stands setup w v row.graft.graft row.graft.peering row.target part s m
-        (subst (λ (x : OperatorPart). LogSays setup x row.graft.peering (Busy (placement setup w.operator row.graft.peering) row.graft.graft row.target Ordered)) (sym row.effect) says.log)
+        (subst (λ (x : OperatorPart). LogSays setup x row.graft.peering
+        (Busy (placement setup w.operator row.graft.peering) row.graft.graft row.target Ordered)) (sym row.effect) says.log)
         (target_within setup w.operator row.graft row.target ok given row.is)) b
 
 -- ---- an outcome is noted
@@ -240,8 +254,10 @@ module _ (setup : Setup) (w v : World) (p r k : ℕ) (part : OperatorPart) where
     places = λ x. ap (λ (f : ℕ → RouterPart). (f x).places p) m.router ∙ (b.places x ∙ placed x);
     mesh = λ i j. ap (λ (f : ℕ → ℕ → List Mesh). mesh_items_on p (f i j)) m.mesh ∙ (b.mesh i j ∙ no_mesh i j);
     orders = λ x. still_sent (λ o. o.peering == p) (v.orders x) (w.orders x) [] (m.orders x) refl ∙ (b.orders x ∙ no_order x);
-    reports = λ x. own_channel (λ o. is_graft_on setup p o.graft) (only_at r (record { graft = k; outcome = outcome }) x) (v.reports x) (w.reports x) [] (only_at r (record { graft = k; outcome = outcome }) x) []
-        (m.reports x ∙ sym (append-nil (w.reports x))) (own_only (λ (o : Report). is_graft_on setup p o.graft) (record { graft = k; outcome = outcome }) r x own) (b.reports x ∙ reported x) refl;
+    reports = λ x. own_channel (λ o. is_graft_on setup p o.graft) (only_at r (record { graft = k; outcome = outcome }) x)
+        (v.reports x) (w.reports x) [] (only_at r (record { graft = k; outcome = outcome }) x) []
+        (m.reports x ∙ sym (append-nil (w.reports x)))
+        (own_only (λ (o : Report). is_graft_on setup p o.graft) (record { graft = k; outcome = outcome }) r x own) (b.reports x ∙ reported x) refl;
     log = subst (λ (o : OperatorPart). LogSays setup o p (Idle final)) (sym m.operator) log;
     bounds = below;
   }
@@ -249,22 +265,28 @@ module _ (setup : Setup) (w v : World) (p r k : ℕ) (part : OperatorPart) where
   note_own : (outcome : Outcome) (phase : Phase) (s : SessionValue) → part ≡ with_outcome setup w.operator p k outcome → is_graft_on setup p k ≡ true
       → OperatorMoves (Some (ReportIn r (record { graft = k; outcome = outcome }))) [] part w v → Stands setup w p phase s → Followed setup w v p phase s
   note_own (Refused refusal) phase s effect own m b =
-      let found = refusal_in phase r k refusal _ (own_head (λ (o : Report). is_graft_on setup p o.graft) (w.reports r) m.heads.rest (record { graft = k; outcome = Refused refusal }) m.heads.is own ∙ b.reports r) in
+      let found = refusal_in phase r k refusal _ (own_head (λ (o : Report). is_graft_on setup p o.graft)
+      (w.reports r) m.heads.rest (record { graft = k; outcome = Refused refusal }) m.heads.is own ∙ b.reports r) in
       at_phase setup w v p phase (Busy r k found.0 (Declined refusal)) s found.1 (λ was. record {
         next = Idle r;
         session = s;
         stands = noted_stands r found.0 (Declined refusal) r (Refused refusal) s m (λ x. refl) (λ x. refl) (λ i j. refl) (λ x. refl) own
-            (subst (λ (o : OperatorPart). LogSays setup o p (Idle r)) (sym effect) (refused_log setup w.operator p r k found.0 (Declined refusal) refusal was.log)) was.bounds.0 was;
-        change = Grafts NotesRefusal (operator_line p w v (Some (ReportIn r (record { graft = k; outcome = Refused refusal }))) [] part m refl) (entries_still p w v m.router);
+            (subst (λ (o : OperatorPart). LogSays setup o p (Idle r)) (sym effect)
+            (refused_log setup w.operator p r k found.0 (Declined refusal) refusal was.log)) was.bounds.0 was;
+        change = Grafts NotesRefusal (operator_line p w v (Some (ReportIn r (record { graft = k; outcome = Refused refusal }))) [] part m refl)
+            (entries_still p w v m.router);
       }) b
   note_own Accepted phase s effect own m b =
-      let found = success_in phase r k _ (own_head (λ (o : Report). is_graft_on setup p o.graft) (w.reports r) m.heads.rest (record { graft = k; outcome = Accepted }) m.heads.is own ∙ b.reports r) in
+      let found = success_in phase r k _ (own_head (λ (o : Report). is_graft_on setup p o.graft)
+      (w.reports r) m.heads.rest (record { graft = k; outcome = Accepted }) m.heads.is own ∙ b.reports r) in
       at_phase setup w v p phase (Busy r k found.0 Cleared) s found.1 (λ was. record {
         next = Idle found.0;
         session = s;
         stands = noted_stands r found.0 Cleared found.0 Accepted s m (λ x. refl) (λ x. refl) (λ i j. refl) (λ x. refl) own
-            (subst (λ (o : OperatorPart). LogSays setup o p (Idle found.0)) (sym effect) (accepted_log setup w.operator p r k found.0 Cleared was.log)) was.bounds.1 was;
-        change = Grafts NotesSuccess (operator_line p w v (Some (ReportIn r (record { graft = k; outcome = Accepted }))) [] part m refl) (entries_still p w v m.router);
+            (subst (λ (o : OperatorPart). LogSays setup o p (Idle found.0)) (sym effect)
+            (accepted_log setup w.operator p r k found.0 Cleared was.log)) was.bounds.1 was;
+        change = Grafts NotesSuccess (operator_line p w v (Some (ReportIn r (record { graft = k; outcome = Accepted }))) [] part m refl)
+            (entries_still p w v m.router);
       }) b
 
 note_each : (setup : Setup) (w v : World) (r : ℕ) (taken : Option OperatorTaken) (sent : List OperatorSent) (part : OperatorPart)
@@ -277,8 +299,10 @@ note_each setup w v r taken sent part row = operator_as setup w v taken (Some (R
       by_test : (p : ℕ) (phase : Phase) (s : SessionValue) → OperatorMoves (Some (ReportIn r row.report)) [] part w v → Stands setup w p phase s
           → (own : Bool) → is_graft_on setup p row.report.graft ≡ own → Followed setup w v p phase s
       by_test p phase s m b true own = note_own setup w v p r row.report.graft part row.report.outcome phase s row.effect own m b
-      by_test p phase s m b false other = operator_rests setup w v p (Some (ReportIn r row.report)) [] part phase s m (λ i. refl) (λ i. none_only (λ (o : Report). is_graft_on setup p o.graft) row.report r i other) refl
-          (subst (λ (x : OperatorPart). SameLog setup p w.operator x) (sym row.effect) (note_others setup w.operator p row.report.graft row.report.outcome other)) b
+      by_test p phase s m b false other = operator_rests setup w v p (Some (ReportIn r row.report)) [] part phase s m
+          (λ i. refl) (λ i. none_only (λ (o : Report). is_graft_on setup p o.graft) row.report r i other) refl
+          (subst (λ (x : OperatorPart). SameLog setup p w.operator x) (sym row.effect)
+          (note_others setup w.operator p row.report.graft row.report.outcome other)) b
 
 -- ---- the next group
 
@@ -286,7 +310,8 @@ note_each setup w v r taken sent part row = operator_as setup w v taken (Some (R
 pub begun_log : (setup : Setup) (p : ℕ) (before : OperatorPart) → KeepsLog setup p before (with_gifts setup (record before { group = before.group + 1 }))
 begun_log setup p before = record {
   group = omega arith;
-  given = λ g own begun. given_stays setup (record before { group = before.group + 1 }) g own.0 (λ (same : group_of setup g.step ≡ before.group + 1). omega arith);
+  given = λ g own begun.
+      given_stays setup (record before { group = before.group + 1 }) g own.0 (λ (same : group_of setup g.step ≡ before.group + 1). omega arith);
   source = λ k own. refl;
   outcome = λ k own. refl;
 }
@@ -310,7 +335,8 @@ go_each setup w v taken sent part quiet row = operator_as setup w v taken None s
       known = λ p l phase s b. at_phase setup w v p phase (Idle (source_of phase)) s (quiet_idle setup w p phase s quiet b) (λ was. record {
         next = Idle (source_of phase);
         session = s;
-        stands = begun_stands setup w v p (source_of phase) part s m (subst (λ (x : OperatorPart). KeepsLog setup p w.operator x) (sym row.effect) (begun_log setup p w.operator)) was;
+        stands = begun_stands setup w v p (source_of phase) part s m
+            (subst (λ (x : OperatorPart). KeepsLog setup p w.operator x) (sym row.effect) (begun_log setup p w.operator)) was;
         change = Rests (operator_line p w v None [] part m refl) (entries_still p w v m.router);
       }) b;
     })

@@ -45,7 +45,8 @@ all_only2 P j k a b item is = by_tests (a == j) (b == k) where
 sent_home : (p r : ℕ) (end : Endpoint) (sent : List FarSent) → AreHis end sent → AllByRecursion (IsEmittedBy end) (inward_sent p sent p r)
 sent_home p r end [] all = tt
 sent_home p r end (item ∷ sent) all =
-    all_join (IsEmittedBy end) (only2 p item.router item.segment p r) (inward_sent p sent p r) (all_only2 (IsEmittedBy end) p item.router p r item.segment all.0) (sent_home p r end sent all.1)
+    all_join (IsEmittedBy end) (only2 p item.router item.segment p r) (inward_sent p sent p r)
+    (all_only2 (IsEmittedBy end) p item.router p r item.segment all.0) (sent_home p r end sent all.1)
 
 pub at_here : (f : ℕ → FarPart) (p : ℕ) (part : FarPart) → at f p part p ≡ part
 at_here f p part = grind (arith, nat_tests)
@@ -94,7 +95,8 @@ module _ (w : World) (p : ℕ) (x : Endpoint) (s : Streams w p x) where
       record {
         stays = mine;
         remoteward = remoteward;
-        homeward = all_is (IsEmittedBy part.end) far.homeward part.homeward same (all_map (IsEmittedBy far.end) (IsEmittedBy part.end) far.homeward mine.still s.homeward);
+        homeward = all_is (IsEmittedBy part.end) far.homeward part.homeward same
+            (all_map (IsEmittedBy far.end) (IsEmittedBy part.end) far.homeward mine.still s.homeward);
       }
 
   -- the endpoint stays
@@ -112,14 +114,16 @@ module _ (w : World) (p : ℕ) (x : Endpoint) (s : Streams w p x) where
   says_fits : (setup : Setup) (step : ℕ) (taken : Option FarTaken) (sent : List FarSent) (part : FarPart) → Says setup p step far taken sent part
       → Fits far x part
   says_fits setup step taken sent part row =
-      subst (Fits far x) (sym row.effect) (end_fits (sending row.bytes far.end) (record far { end = sending row.bytes far.end }) (more_said row.bytes row.room) refl refl s.remoteward)
+      subst (Fits far x) (sym row.effect)
+      (end_fits (sending row.bytes far.end) (record far { end = sending row.bytes far.end }) (more_said row.bytes row.room) refl refl s.remoteward)
 
   beats_fits : (setup : Setup) (round : ℕ) (taken : Option FarTaken) (sent : List FarSent) (part : FarPart)
       → length far.end.stream + length (spell KeepaliveMsg false) ≤ 2 ^ 20
       → Beats setup p round far taken sent part → Fits far x part
   beats_fits setup round taken sent part room row =
       subst (Fits far x) (sym row.effect) (end_fits (sending (spell KeepaliveMsg false) far.end)
-      (record far { end = sending (spell KeepaliveMsg false) far.end; keepalives = far.keepalives + 1; last_keepalive = round }) (more_said (spell KeepaliveMsg false) room) refl refl s.remoteward)
+      (record far { end = sending (spell KeepaliveMsg false) far.end; keepalives = far.keepalives + 1; last_keepalive = round })
+      (more_said (spell KeepaliveMsg false) room) refl refl s.remoteward)
 
   sends_fits : (from len : ℕ) (taken : Option FarTaken) (sent : List FarSent) (part : FarPart) → SendsSegment from len far taken sent part → Fits far x part
   sends_fits from len taken sent part row =
@@ -127,14 +131,16 @@ module _ (w : World) (p : ℕ) (x : Endpoint) (s : Streams w p x) where
       subst (Fits far x) (sym row.effect) (record {
         stays = next.0;
         remoteward = s.remoteward;
-        homeward = all_join (IsEmittedBy row.end) far.homeward (row.segment ∷ []) (all_map (IsEmittedBy far.end) (IsEmittedBy row.end) far.homeward next.0.still s.homeward) (next.1, tt);
+        homeward = all_join (IsEmittedBy row.end) far.homeward (row.segment ∷ [])
+            (all_map (IsEmittedBy far.end) (IsEmittedBy row.end) far.homeward next.0.still s.homeward) (next.1, tt);
       })
 
   takes_fits : (router : ℕ) (taken : Option FarTaken) (sent : List FarSent) (part : FarPart) (now : List Outward)
       → outward_taken p taken router p ++ now ≡ w.outward router p
       → TakesIn router far taken sent part → Fits far x part
   takes_fits router taken sent part now e row =
-      let all : AllByRecursion (IsOutwardOf x) (Seg row.segment ∷ now) = all_is (IsOutwardOf x) (w.outward router p) (Seg row.segment ∷ now) (took_out p router (Seg row.segment) taken now (w.outward router p) row.takes e) (s.outward router) in
+      let all : AllByRecursion (IsOutwardOf x) (Seg row.segment ∷ now) = all_is (IsOutwardOf x) (w.outward router p)
+      (Seg row.segment ∷ now) (took_out p router (Seg row.segment) taken now (w.outward router p) row.takes e) (s.outward router) in
       subst (Fits far x) (sym row.effect) (link_fits (record far { remoteward = far.remoteward ++ row.segment ∷ [] }) refl
       (all_join (IsEmittedBy x) far.remoteward (row.segment ∷ []) s.remoteward (all.0, tt)) s.homeward)
 
@@ -147,8 +153,11 @@ module _ (w : World) (p : ℕ) (x : Endpoint) (s : Streams w p x) where
   passes_his : (setup : Setup) (index : ℕ) (keep : Bool) (router : ℕ) (taken : Option FarTaken) (sent : List FarSent) (part : FarPart)
       → Passes setup index keep router far taken sent part → AreHis part.end sent
   passes_his setup index keep router taken sent part row =
-      subst (λ (xs : List FarSent). AreHis part.end xs) (sym row.sends)
-      (subst (λ (f : FarPart). IsEmittedBy f.end row.segment) (sym row.effect) (all_get (IsEmittedBy far.end) far.homeward index row.segment row.there s.homeward), tt)
+      subst (λ (xs : List FarSent). AreHis part.end xs) (sym row.sends) (
+        subst (λ (f : FarPart). IsEmittedBy f.end row.segment) (sym row.effect)
+            (all_get (IsEmittedBy far.end) far.homeward index row.segment row.there s.homeward),
+        tt,
+      )
 
   reaches_fits : (index : ℕ) (keep : Bool) (taken : Option FarTaken) (sent : List FarSent) (part : FarPart) → Reaches index keep far taken sent part
       → Fits far x part
@@ -159,9 +168,11 @@ module _ (w : World) (p : ℕ) (x : Endpoint) (s : Streams w p x) where
 
   loses_fits : (way : Way) (index : ℕ) (taken : Option FarTaken) (sent : List FarSent) (part : FarPart) → Loses way index far taken sent part → Fits far x part
   loses_fits Home index taken sent part row =
-      subst (Fits far x) (sym row.effect) (link_fits (record far { homeward = without index far.homeward }) refl s.remoteward (all_without (IsEmittedBy far.end) index far.homeward s.homeward))
+      subst (Fits far x) (sym row.effect) (link_fits (record far { homeward = without index far.homeward }) refl s.remoteward
+      (all_without (IsEmittedBy far.end) index far.homeward s.homeward))
   loses_fits Remote index taken sent part row =
-      subst (Fits far x) (sym row.effect) (link_fits (record far { remoteward = without index far.remoteward }) refl (all_without (IsEmittedBy x) index far.remoteward s.remoteward) s.homeward)
+      subst (Fits far x) (sym row.effect) (link_fits (record far { remoteward = without index far.remoteward }) refl
+      (all_without (IsEmittedBy x) index far.remoteward s.remoteward) s.homeward)
 
   turns_fits : (router : ℕ) (taken : Option FarTaken) (sent : List FarSent) (part : FarPart) → TurnsLink router far taken sent part → Fits far x part
   turns_fits router taken sent part row =
@@ -171,11 +182,19 @@ module _ (w : World) (p : ℕ) (x : Endpoint) (s : Streams w p x) where
 pub far_acts : (setup : Setup) (event : FarEvent) (w v : World) (p : ℕ) (x : Endpoint) (taken : Option FarTaken) (sent : List FarSent) (part : FarPart)
     → ((round : ℕ) → Beats setup p round (w.far p) taken sent part → length (w.far p).end.stream + length (spell KeepaliveMsg false) ≤ 2 ^ 20)
     → Streams w p x → far_row setup p event (w.far p) taken sent part → FarMoves p taken sent part w v → Streams v p x
-far_acts setup (Say step) w v p x taken sent part room s row moves = far_fits w v p x taken sent part s moves (says_fits w p x s setup step taken sent part row) (none_sent part.end sent row.sends)
-far_acts setup (Beat round) w v p x taken sent part room s row moves = far_fits w v p x taken sent part s moves (beats_fits w p x s setup round taken sent part (room round row) row) (none_sent part.end sent row.sends)
-far_acts setup (Send from len) w v p x taken sent part room s row moves = far_fits w v p x taken sent part s moves (sends_fits w p x s from len taken sent part row) (none_sent part.end sent row.sends)
-far_acts setup (Take router) w v p x taken sent part room s row moves = far_fits w v p x taken sent part s moves (takes_fits w p x s router taken sent part (v.outward router p) (moves.outward router p) row) (none_sent part.end sent row.sends)
-far_acts setup (Pass index keep router) w v p x taken sent part room s row moves = far_fits w v p x taken sent part s moves (passes_fits w p x s setup index keep router taken sent part row) (passes_his w p x s setup index keep router taken sent part row)
-far_acts setup (Reach index keep) w v p x taken sent part room s row moves = far_fits w v p x taken sent part s moves (reaches_fits w p x s index keep taken sent part row) (none_sent part.end sent row.sends)
-far_acts setup (Lose way index) w v p x taken sent part room s row moves = far_fits w v p x taken sent part s moves (loses_fits w p x s way index taken sent part row) (none_sent part.end sent row.sends)
-far_acts setup (Point router) w v p x taken sent part room s row moves = far_fits w v p x taken sent part s moves (turns_fits w p x s router taken sent part row) (none_sent part.end sent row.sends)
+far_acts setup (Say step) w v p x taken sent part room s row moves =
+    far_fits w v p x taken sent part s moves (says_fits w p x s setup step taken sent part row) (none_sent part.end sent row.sends)
+far_acts setup (Beat round) w v p x taken sent part room s row moves =
+    far_fits w v p x taken sent part s moves (beats_fits w p x s setup round taken sent part (room round row) row) (none_sent part.end sent row.sends)
+far_acts setup (Send from len) w v p x taken sent part room s row moves =
+    far_fits w v p x taken sent part s moves (sends_fits w p x s from len taken sent part row) (none_sent part.end sent row.sends)
+far_acts setup (Take router) w v p x taken sent part room s row moves = far_fits w v p x taken sent part s moves
+    (takes_fits w p x s router taken sent part (v.outward router p) (moves.outward router p) row) (none_sent part.end sent row.sends)
+far_acts setup (Pass index keep router) w v p x taken sent part room s row moves = far_fits w v p x taken sent part s moves
+    (passes_fits w p x s setup index keep router taken sent part row) (passes_his w p x s setup index keep router taken sent part row)
+far_acts setup (Reach index keep) w v p x taken sent part room s row moves =
+    far_fits w v p x taken sent part s moves (reaches_fits w p x s index keep taken sent part row) (none_sent part.end sent row.sends)
+far_acts setup (Lose way index) w v p x taken sent part room s row moves =
+    far_fits w v p x taken sent part s moves (loses_fits w p x s way index taken sent part row) (none_sent part.end sent row.sends)
+far_acts setup (Point router) w v p x taken sent part room s row moves =
+    far_fits w v p x taken sent part s moves (turns_fits w p x s router taken sent part row) (none_sent part.end sent row.sends)

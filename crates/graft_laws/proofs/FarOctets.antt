@@ -35,8 +35,28 @@ octets_of (x ∷ xs) all (suc i) = octets_of xs all.1 i
 
 keepalive_octets : AreOctets (spell KeepaliveMsg false)
 unfolding spell
-keepalive_octets = octets_of (spell KeepaliveMsg false)
-    (lit< tt, (lit< tt, (lit< tt, (lit< tt, (lit< tt, (lit< tt, (lit< tt, (lit< tt, (lit< tt, (lit< tt, (lit< tt, (lit< tt, (lit< tt, (lit< tt, (lit< tt, (lit< tt, (lit< tt, (lit< tt, (lit< tt, tt)))))))))))))))))))
+keepalive_octets = octets_of (spell KeepaliveMsg false) (
+  lit< tt,
+  (
+    lit< tt,
+    (
+      lit< tt,
+      (
+        lit< tt,
+        (
+          lit< tt,
+          (
+            lit< tt,
+            (
+              lit< tt,
+              (lit< tt, (lit< tt, (lit< tt, (lit< tt, (lit< tt, (lit< tt, (lit< tt, (lit< tt, (lit< tt, (lit< tt, (lit< tt, (lit< tt, tt)))))))))))),
+            ),
+          ),
+        ),
+      ),
+    ),
+  ),
+)
 
 module _ (setup : Setup) (ranges : IsInRange setup) where
   abbrev SaysOctets : ℕ → FarPart → Type 0
@@ -48,9 +68,11 @@ module _ (setup : Setup) (ranges : IsInRange setup) where
   row_keeps : (p : ℕ) (event : FarEvent) (before : FarPart) (taken : Option FarTaken) (sent : List FarSent) (part : FarPart)
       → far_row setup p event before taken sent part → AreOctets before.end.stream → AreOctets part.end.stream
   row_keeps p (Say step) before taken sent part row octets =
-      subst AreOctets (sym (ap (λ (f : FarPart). f.end.stream) row.effect)) (AreOctets-append before.end.stream row.bytes octets (ranges.says step p row.bytes row.is))
+      subst AreOctets (sym (ap (λ (f : FarPart). f.end.stream) row.effect))
+      (AreOctets-append before.end.stream row.bytes octets (ranges.says step p row.bytes row.is))
   row_keeps p (Beat round) before taken sent part row octets =
-      subst AreOctets (sym (ap (λ (f : FarPart). f.end.stream) row.effect)) (AreOctets-append before.end.stream (spell KeepaliveMsg false) octets keepalive_octets)
+      subst AreOctets (sym (ap (λ (f : FarPart). f.end.stream) row.effect))
+      (AreOctets-append before.end.stream (spell KeepaliveMsg false) octets keepalive_octets)
   row_keeps p (Send from len) before taken sent part row octets =
       same before part (ap (λ (f : FarPart). f.end.stream) row.effect ∙ (emits_same before.end row.segment row.end row.emits.emits).stream) octets
   row_keeps p (Take router) before taken sent part row octets = same before part (ap (λ (f : FarPart). f.end.stream) row.effect) octets
@@ -65,8 +87,10 @@ module _ (setup : Setup) (ranges : IsInRange setup) where
   AllSayOctets w = (p : ℕ) → AreOctets (w.far p).end.stream
 
   then_octets : (event : Event) (w v : World) → Reached setup w → Step setup event w v → AllSayOctets w → AllSayOctets v
-  then_octets (ByRouter r event) w v reached x all p = subst (λ (f : ℕ → FarPart). AreOctets (f p).end.stream) (sym (router_moves setup r event w v x).far) (all p)
-  then_octets (ByOperator event) w v reached x all p = subst (λ (f : ℕ → FarPart). AreOctets (f p).end.stream) (sym (operator_moves setup event w v x).far) (all p)
+  then_octets (ByRouter r event) w v reached x all p =
+      subst (λ (f : ℕ → FarPart). AreOctets (f p).end.stream) (sym (router_moves setup r event w v x).far) (all p)
+  then_octets (ByOperator event) w v reached x all p =
+      subst (λ (f : ℕ → FarPart). AreOctets (f p).end.stream) (sym (operator_moves setup event w v x).far) (all p)
   then_octets (ByFar q event) w v reached x all p =
       subst (λ (f : ℕ → FarPart). AreOctets (f p).end.stream) (sym (far_moves setup q event w v x).far)
       (at_keeps SaysOctets w.far q x.part (row_keeps q event (w.far q) x.taken x.sent x.part x.row (all q)) all p)
@@ -85,5 +109,6 @@ module _ (setup : Setup) (ranges : IsInRange setup) where
       let below : p < peerings_in setup = known_place setup w (always_owned setup sound w reached) r p (Live s o) live (λ e. cc) in
       let has : Has setup (IsUnbroken setup) w p = always_unbroken setup w p sound reached below in
       let is : s ≡ has.session = live_session has.phase has.session s o r (sym live ∙ has.stands.places r) in
-      let came : AreOctets (received_bytes has.session.end) = subst AreOctets (sym has.more.streams.linked.back.bytes) (AreOctets-take (received has.session.end) (w.far p).end.stream (always_octets w reached p)) in
+      let came : AreOctets (received_bytes has.session.end) = subst AreOctets (sym has.more.streams.linked.back.bytes)
+      (AreOctets-take (received has.session.end) (w.far p).end.stream (always_octets w reached p)) in
       subst (λ (z : SessionValue). AreOctets (unread z)) (sym is) (AreOctets-drop has.session.end.read (received_bytes has.session.end) came)

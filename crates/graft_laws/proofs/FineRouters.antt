@@ -23,7 +23,9 @@ use Rattle.graft_model.specs.Parts.{Errand, Place, Vacant, Live, Frozen, Shadow,
 use Rattle.graft_model.specs.RouterRows.{RouterTaken, MeshIn, RouterSent, MeshTo, OutwardTo, ReportOut, BringsIn, FollowsHeard, Follows}
 use Rattle.graft_model.specs.Setups.{Setup, has_network, peering_numbers, router_numbers}
 use Rattle.graft_model.specs.declared.event.RouterEvent.{RouterEvent}
-use Rattle.graft_model.proofs.Footprints.{Carries, Holds, HoldsNone, SendsNoTelling, OnePeering, ByItself, ByFrame, ByRound, PeeringChange, Keeping, PuttingNothing, PuttingSome, Following, Emptying, Reviving, Deciding, Telling, Hearing, Staying, Changing, Footprint, footprint}
+use Rattle.graft_model.proofs.Footprints.{Carries, Holds, HoldsNone, SendsNoTelling, OnePeering, ByItself, ByFrame, ByRound}
+use Rattle.graft_model.proofs.Footprints.{PeeringChange, Keeping, PuttingNothing, PuttingSome, Following, Emptying, Reviving}
+use Rattle.graft_model.proofs.Footprints.{Deciding, Telling, Hearing, Staying, Changing, Footprint, footprint}
 use Rattle.graft_model.specs.Steps.{router_row}
 use Rattle.graft_model.specs.TableRows.{Decides, Hears, with_telling}
 use Rattle.graft_laws.specs.Ranges.{IsInRange}
@@ -161,8 +163,10 @@ module _ (setup : Setup) (ranges : IsInRange setup) (r : ℕ) (before after : Ro
       choice_has (λ (k : Best). IsSendable k.route.attrs) (own ++ entries ++ tellings) b
       (all_join (λ (c : Candidate). IsSendable c.0.route.attrs) (own ++ entries) tellings
       (all_join (λ (c : Candidate). IsSendable c.0.route.attrs) own entries (own_fine setup.home_as (has_network setup r x))
-      (all_of_some (λ (c : Candidate). IsSendable c.0.route.attrs) (λ p. entry_candidate setup.home_as p (map.get (before.entries p) x)) (peering_numbers setup) (λ p c f. entry_fine p (map.get (before.entries p) x) c (fine.entries p x) f)))
-      (all_of_some (λ (c : Candidate). IsSendable c.0.route.attrs) (λ q. telling_candidate setup r q (map.get (before.tellings q) x)) (router_numbers setup) (λ q c f. telling_fine q (map.get (before.tellings q) x) c (fine.tellings q x) f))) e
+      (all_of_some (λ (c : Candidate). IsSendable c.0.route.attrs) (λ p. entry_candidate setup.home_as p (map.get (before.entries p) x))
+      (peering_numbers setup) (λ p c f. entry_fine p (map.get (before.entries p) x) c (fine.entries p x) f)))
+      (all_of_some (λ (c : Candidate). IsSendable c.0.route.attrs) (λ q. telling_candidate setup r q (map.get (before.tellings q) x))
+      (router_numbers setup) (λ q c f. telling_fine q (map.get (before.tellings q) x) c (fine.tellings q x) f))) e
 
   -- ---- the rows
 
@@ -203,7 +207,8 @@ module _ (setup : Setup) (ranges : IsInRange setup) (r : ℕ) (before after : Ro
       places = λ n. subst (λ (u : RouterPart). IsFinePlace (u.places n)) (sym row.effect) (fine.places n);
       entries = λ n. subst (λ (u : RouterPart). AreFineEntries (u.entries n)) (sym row.effect) (fine.entries n);
       tellings = λ q. subst (λ (u : RouterPart). AreFineTellings (u.tellings q)) (sym row.effect) (fine.tellings q);
-      best = λ x b e. by_prefix x b (same x prefix) (sym (get_with before.best prefix (chosen setup r before prefix) x) ∙ (ap (λ (u : RouterPart). map.get u.best x) (sym row.effect) ∙ e));
+      best = λ x b e. by_prefix x b (same x prefix)
+          (sym (get_with before.best prefix (chosen setup r before prefix) x) ∙ (ap (λ (u : RouterPart). map.get u.best x) (sym row.effect) ∙ e));
     };
     items = subst (AllByRecursion IsFineSent) (sym row.alone.1) tt;
   } where
@@ -216,7 +221,8 @@ module _ (setup : Setup) (ranges : IsInRange setup) (r : ℕ) (before after : Ro
     part = record {
       places = λ n. subst (λ (u : RouterPart). IsFinePlace (u.places n)) (sym row.effect) (fine.places n);
       entries = λ n. subst (λ (u : RouterPart). AreFineEntries (u.entries n)) (sym row.effect) (fine.entries n);
-      tellings = λ n. subst (λ (u : RouterPart). AreFineTellings (u.tellings n)) (sym row.effect) (at_keeps (λ m ts. AreFineTellings ts) before.tellings q _ heard fine.tellings n);
+      tellings = λ n. subst (λ (u : RouterPart). AreFineTellings (u.tellings n)) (sym row.effect)
+          (at_keeps (λ m ts. AreFineTellings ts) before.tellings q _ heard fine.tellings n);
       best = λ x b e. fine.best x b (ap (λ (u : RouterPart). map.get u.best x) (sym row.effect) ∙ e);
     };
     items = subst (AllByRecursion IsFineSent) (sym row.sends) tt;
@@ -248,7 +254,8 @@ module _ (setup : Setup) (ranges : IsInRange setup) (r : ℕ) (before after : Ro
         let own : IsFine session = live_fine p session errand live in
         placed p one (held_fine (after.places p) _ holds (record { adj_rib_in = own.adj_rib_in; remote_as = own.remote_as })) (entries_stay p entries)
     by_change p one (PuttingNothing row) =
-        placed p one (subst (λ (u : RouterPart). IsFinePlace (u.places p)) (sym row.effect) (fine.places p)) (entries_stay p (ap (λ (u : RouterPart). u.entries p) row.effect))
+        placed p one (subst (λ (u : RouterPart). IsFinePlace (u.places p)) (sym row.effect) (fine.places p))
+        (entries_stay p (ap (λ (u : RouterPart). u.entries p) row.effect))
     by_change p one (PuttingSome n row now) =
         let own : IsFine row.session = live_fine p row.session row.errand row.live.is in
         let next : IsFine row.next = subst IsFine (sym row.puts.effect) (record { adj_rib_in = own.adj_rib_in; remote_as = own.remote_as }) in
@@ -260,7 +267,8 @@ module _ (setup : Setup) (ranges : IsInRange setup) (r : ℕ) (before after : Ro
     by_change p one (Emptying none (inr entries) due) = placed p one (none_fine (after.places p) none) (subst AreFineEntries (sym entries) no_entries)
     by_change p one (Reviving q item session errand takes carries now entries due) =
         let own : IsFine session = carried_fine item session carries (subst IsFineTaken takes come) in
-        placed p one (subst IsFinePlace (sym now) own) (elim entries [ inl same ↦ entries_stay p same | inr brought ↦ brings session (after.entries p) own brought ])
+        placed p one (subst IsFinePlace (sym now) own)
+        (elim entries [ inl same ↦ entries_stay p same | inr brought ↦ brings session (after.entries p) own brought ])
 
     items : (sent : List RouterSent) → SendsNoTelling setup r event before taken after sent → AllByRecursion IsFineSent sent
     items [] told = tt

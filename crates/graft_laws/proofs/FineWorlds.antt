@@ -54,7 +54,8 @@ one_fine false u item fine = tt
 
 sent_fine : (r : ℕ) (sent : List RouterSent) (a b : ℕ) → AllByRecursion IsFineSent sent → AllByRecursion IsFineItem (mesh_sent r sent a b)
 sent_fine r [] a b all = tt
-sent_fine r (MeshTo q item ∷ sent) a b all = all_join IsFineItem (only2 r q item a b) (mesh_sent r sent a b) (one_fine (a == r) (b == q) item all.0) (sent_fine r sent a b all.1)
+sent_fine r (MeshTo q item ∷ sent) a b all =
+    all_join IsFineItem (only2 r q item a b) (mesh_sent r sent a b) (one_fine (a == r) (b == q) item all.0) (sent_fine r sent a b all.1)
 sent_fine r (OutwardTo p item ∷ sent) a b all = sent_fine r sent a b all.1
 sent_fine r (ReportOut report ∷ sent) a b all = sent_fine r sent a b all.1
 
@@ -65,8 +66,10 @@ module _ (setup : Setup) (sound : IsSetup setup) (ranges : IsInRange setup) wher
       let f : Finely x.part x.sent = fine_row setup ranges q (w.router q) x.part (all.routers q) event x.taken x.sent
       (λ p s o live. unread_octets setup ranges w sound reached q p s o live) (taken_fine w q x.taken m.heads all.mesh) x.row in
       record {
-        routers = λ r. subst (λ (g : ℕ → RouterPart). IsFinePart (g r)) (sym m.router) (at_keeps (λ n part. IsFinePart part) w.router q x.part f.part all.routers r);
-        mesh = λ a b. all_moves IsFineItem (mesh_taken q x.taken a b) (v.mesh a b) (w.mesh a b) (mesh_sent q x.sent a b) (m.mesh a b) (all.mesh a b) (sent_fine q x.sent a b f.items);
+        routers = λ r. subst (λ (g : ℕ → RouterPart). IsFinePart (g r)) (sym m.router)
+            (at_keeps (λ n part. IsFinePart part) w.router q x.part f.part all.routers r);
+        mesh = λ a b. all_moves IsFineItem (mesh_taken q x.taken a b) (v.mesh a b) (w.mesh a b)
+            (mesh_sent q x.sent a b) (m.mesh a b) (all.mesh a b) (sent_fine q x.sent a b f.items);
       }
   fine_then (ByFar p event) w v reached x all =
       let m = far_moves setup p event w v x in
@@ -85,7 +88,8 @@ module _ (setup : Setup) (sound : IsSetup setup) (ranges : IsInRange setup) wher
   first_place r p None is = tt
   first_place r p (Some peering) is = by_start (peering.start == r) where
     by_start : (t : Bool) → IsFinePlace (cond t (Live (begun peering.config) None) Vacant)
-    by_start true = record { adj_rib_in = all_of_none IsSendable; remote_as = ranges.remote_as p peering.config (ap (option_map (λ (x : PeeringSetup). x.config)) is) }
+    by_start true =
+        record { adj_rib_in = all_of_none IsSendable; remote_as = ranges.remote_as p peering.config (ap (option_map (λ (x : PeeringSetup). x.config)) is) }
     by_start false = tt
 
   first_fine : AreFine (first_world setup)
@@ -110,12 +114,15 @@ module _ (setup : Setup) (sound : IsSetup setup) (ranges : IsInRange setup) wher
       let has : Has setup (HasOwnConfig setup) w p = always_own setup sound w reached p below in
       let is : s ≡ has.session = live_session has.phase has.session s o r (sym live ∙ has.stands.places r) in
       let some = some_peering setup p below in
-      let config : some.0.config ≡ has.session.config = same_Some some.0.config has.session.config (sym (ap (option_map (λ (x : PeeringSetup). x.config)) some.1) ∙ has.more.config) in
-      subst (λ (c : SessionConfig). is_no_host c.local_address ≡ false) (config ∙ ap (λ (v : SessionValue). v.config) (sym is)) (sound.peerings p some.0 some.1).next_hop
+      let config : some.0.config ≡ has.session.config =
+      same_Some some.0.config has.session.config (sym (ap (option_map (λ (x : PeeringSetup). x.config)) some.1) ∙ has.more.config) in
+      subst (λ (c : SessionConfig). is_no_host c.local_address ≡ false)
+      (config ∙ ap (λ (v : SessionValue). v.config) (sym is)) (sound.peerings p some.0 some.1).next_hop
 
 pub always_written : (setup : Setup) (w : World) (r p : ℕ) (s : SessionValue) (o : Option Errand) (x : PrefixValue) (attrs : Attrs) → IsSetup setup
     → IsInRange setup → Reached setup w
     → (w.router r).places p ≡ Live s o → to_tell setup r (w.router r) s x ≡ Some attrs → IsWritableAttrs attrs
 always_written setup w r p s o x attrs sound ranges reached live e =
-    tells_writable setup.home_as (out_side setup r s.config) x (map.get (w.router r).best x) attrs ranges.home_as (host setup sound ranges w reached r p s o live) (rules_in_range setup ranges r s.config.export)
+    tells_writable setup.home_as (out_side setup r s.config) x (map.get (w.router r).best x) attrs ranges.home_as
+    (host setup sound ranges w reached r p s o live) (rules_in_range setup ranges r s.config.export)
     (((always_fine setup sound ranges w reached).routers r).best x) e

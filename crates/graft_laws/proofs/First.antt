@@ -1,5 +1,6 @@
 -- Where everything stands in the first world.
-use Rattle.std.proofs.Common.{◌≡◌, ◌==◌, cond, ℕ, zero, suc, ◌+◌, ◌<◌, ◌≤◌, Bool, true, false, List, [], ◌∷◌, length, Option, Some, None, refl, sym, ap, ◌∙◌, subst, arith}
+use Rattle.std.proofs.Common.{◌≡◌, ◌==◌, cond, ℕ, zero, suc, ◌+◌, ◌<◌, ◌≤◌, Bool, true, false, List, [], ◌∷◌}
+use Rattle.std.proofs.Common.{length, Option, Some, None, refl, sym, ap, ◌∙◌, subst, arith}
 use Rattle.std.proofs.lemmas.Bool.Decides.{nat_tests}
 use Rattle.std.proofs.lemmas.Option.{slice_get_past}
 use Rattle.std.specs.Prelude.{filter, slice_get, option_map, unwrap_or}
@@ -55,19 +56,23 @@ first_stands setup p peering ok is =
 
 count_step : (r a n : ℕ) (peering : PeeringSetup) (peerings : List PeeringSetup) (here : ℕ → Option PeeringSetup) → here a ≡ Some peering
     → length (filter (λ p. is_taken (place_in r (here p))) (range_with_len (a + 1) n)) ≡ length (filter (λ (x : PeeringSetup). x.start == r) peerings)
-    → length (filter (λ p. is_taken (place_in r (here p))) (a ∷ range_with_len (a + 1) n)) ≡ length (filter (λ (x : PeeringSetup). x.start == r) (peering ∷ peerings))
-count_step r a n peering peerings here is rest = same (is_taken (place_in r (here a))) (peering.start == r) (ap (λ (o : Option PeeringSetup). is_taken (place_in r o)) is ∙ taken (peering.start == r)) where
-  taken : (b : Bool) → is_taken (cond b (Live (begun peering.config) None) Vacant) ≡ b
-  taken true = refl
-  taken false = refl
+    → length (filter (λ p. is_taken (place_in r (here p))) (a ∷ range_with_len (a + 1) n))
+    ≡ length (filter (λ (x : PeeringSetup). x.start == r) (peering ∷ peerings))
+count_step r a n peering peerings here is rest = same (is_taken (place_in r (here a))) (peering.start == r)
+    (ap (λ (o : Option PeeringSetup). is_taken (place_in r o)) is ∙ taken (peering.start == r))
+  where
+    taken : (b : Bool) → is_taken (cond b (Live (begun peering.config) None) Vacant) ≡ b
+    taken true = refl
+    taken false = refl
 
-  same : (u v : Bool) → u ≡ v
-      → length (cond u (a ∷ filter (λ p. is_taken (place_in r (here p))) (range_with_len (a + 1) n)) (filter (λ p. is_taken (place_in r (here p))) (range_with_len (a + 1) n)))
-      ≡ length (cond v (peering ∷ filter (λ (x : PeeringSetup). x.start == r) peerings) (filter (λ (x : PeeringSetup). x.start == r) peerings))
-  same true true e = ap suc rest
-  same true false e = absurd cc
-  same false true e = absurd cc
-  same false false e = rest
+    same : (u v : Bool) → u ≡ v
+        → length (cond u (a ∷ filter (λ p. is_taken (place_in r (here p))) (range_with_len (a + 1) n))
+        (filter (λ p. is_taken (place_in r (here p))) (range_with_len (a + 1) n)))
+        ≡ length (cond v (peering ∷ filter (λ (x : PeeringSetup). x.start == r) peerings) (filter (λ (x : PeeringSetup). x.start == r) peerings))
+    same true true e = ap suc rest
+    same true false e = absurd cc
+    same false true e = absurd cc
+    same false false e = rest
 
 -- as many places are taken as peerings start there
 first_count : (r a : ℕ) (peerings : List PeeringSetup) (here : ℕ → Option PeeringSetup) → ((i : ℕ) → here (a + i) ≡ slice_get peerings i)
@@ -104,7 +109,8 @@ no_gift target e = cc
 
 pub first_owned : (setup : Setup) → IsSetup setup → Owned setup (first_world setup)
 first_owned setup ok = record {
-  peerings = λ p l. (let some = some_peering setup p l in record { phase = Idle (start_of setup p); session = begun some.0.config; stands = first_stands setup p some.0 ok some.1 });
+  peerings = λ p l. (let some = some_peering setup p l in
+      record { phase = Idle (start_of setup p); session = begun some.0.config; stands = first_stands setup p some.0 ok some.1 });
   no_others = λ p past. record { places = λ r. none_past setup p r past; mesh = λ a b. refl; orders = λ r. refl };
   room = λ r l. subst (λ (n : ℕ). n ≤ room_of setup r) (sym (first_taken setup r)) (ok.room r l);
   reports = λ r. tt;

@@ -65,7 +65,8 @@ pub own_channel : {A : Type 0} (test : A → Bool) (taken after before sent had 
     → filter test taken ≡ had → filter test before ≡ had → filter test sent ≡ has → filter test after ≡ has
 own_channel test taken after before sent had has e took was gave =
     append_same had (filter test after) has
-    (ap (λ (x : List _). x ++ filter test after) (sym took) ∙ (found_in test taken after before sent e ∙ (ap (λ (x : List _). x ++ filter test sent) was ∙ ap (λ (x : List _). had ++ x) gave)))
+    (ap (λ (x : List _). x ++ filter test after) (sym took)
+    ∙ (found_in test taken after before sent e ∙ (ap (λ (x : List _). x ++ filter test sent) was ∙ ap (λ (x : List _). had ++ x) gave)))
 
 -- the head of a channel, among its items of a peering
 pub own_head : {A : Type 0} (test : A → Bool) (items rest : List A) (item : A) → items ≡ item ∷ rest → test item ≡ true
@@ -88,7 +89,8 @@ places_step false part old p place was e f = f
 -- ---- an event of the peering's own
 
 -- What the event takes of the peering is what stands in its phase, and what it sends and leaves is what stands in the next.
-pub record Shifts (setup : Setup) (p r : ℕ) (s : SessionValue) (taken : Option RouterTaken) (sent : List RouterSent) (part : RouterPart) (phase next : Phase) : Type 0 where
+pub record Shifts (setup : Setup) (p r : ℕ) (s : SessionValue) (taken : Option RouterTaken)
+    (sent : List RouterSent) (part : RouterPart) (phase next : Phase) : Type 0 where
   pub places : (x : ℕ) → cond (x == r) (part.places p) (place_by phase s x) ≡ place_by next s x
   pub mesh_taken : (a b : ℕ) → mesh_items_on p (mesh_taken r taken a b) ≡ mesh_by phase p s a b
   pub mesh_sent : (a b : ℕ) → mesh_items_on p (mesh_sent r sent a b) ≡ mesh_by next p s a b
@@ -97,13 +99,15 @@ pub record Shifts (setup : Setup) (p r : ℕ) (s : SessionValue) (taken : Option
   pub no_report : (a : ℕ) → reports_by phase a ≡ []
   pub reports_sent : (a : ℕ) → reports_of setup p (reports_sent r sent a) ≡ reports_by next a
 
-pub shifted : (setup : Setup) (w v : World) (p r : ℕ) (s : SessionValue) (taken : Option RouterTaken) (sent : List RouterSent) (part : RouterPart) (phase next : Phase)
+pub shifted : (setup : Setup) (w v : World) (p r : ℕ) (s : SessionValue)
+    (taken : Option RouterTaken) (sent : List RouterSent) (part : RouterPart) (phase next : Phase)
     → RouterMoves r taken sent part w v → Shifts setup p r s taken sent part phase next → Stands setup w p phase s → LogSays setup w.operator p next
     → InBounds setup next → Stands setup v p next s
 shifted setup w v p r s taken sent part phase next m x b log bounds = record {
   places = λ y. ap (λ (f : ℕ → RouterPart). (f y).places p) m.router
       ∙ (places_step (y == r) part (w.router y) p (part.places p) (place_by phase s y) refl (b.places y) ∙ x.places y);
-  mesh = λ i j. own_channel (is_on p) (mesh_taken r taken i j) (v.mesh i j) (w.mesh i j) (mesh_sent r sent i j) (mesh_by phase p s i j) (mesh_by next p s i j) (m.mesh i j) (x.mesh_taken i j) (b.mesh i j) (x.mesh_sent i j);
+  mesh = λ i j. own_channel (is_on p) (mesh_taken r taken i j) (v.mesh i j) (w.mesh i j) (mesh_sent r sent i j)
+      (mesh_by phase p s i j) (mesh_by next p s i j) (m.mesh i j) (x.mesh_taken i j) (b.mesh i j) (x.mesh_sent i j);
   orders = λ y. own_channel (λ o. o.peering == p) (orders_taken r taken y) (v.orders y) (w.orders y) [] (orders_by phase p y) (orders_by next p y)
       (m.orders y ∙ sym (append-nil (w.orders y))) (x.orders_taken y) (b.orders y) (sym (x.no_order y));
   reports = λ y. own_channel (λ o. is_graft_on setup p o.graft) [] (v.reports y) (w.reports y) (reports_sent r sent y) [] (reports_by next y)
@@ -180,4 +184,5 @@ drops w v p r part m none = record { here = entries_here w v p r part m ∙ none
 -- the moves of an event whose item and whose sent items are known
 pub moves_as : (w v : World) (r : ℕ) (taken known : Option RouterTaken) (sent items : List RouterSent) (part : RouterPart) → taken ≡ known
     → sent ≡ items → RouterMoves r taken sent part w v → RouterMoves r known items part w v
-moves_as w v r taken known sent items part e f m = subst (λ (x : List RouterSent). RouterMoves r known x part w v) f (subst (λ (x : Option RouterTaken). RouterMoves r x sent part w v) e m)
+moves_as w v r taken known sent items part e f m =
+    subst (λ (x : List RouterSent). RouterMoves r known x part w v) f (subst (λ (x : Option RouterTaken). RouterMoves r x sent part w v) e m)

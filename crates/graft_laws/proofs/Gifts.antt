@@ -1,5 +1,6 @@
 -- The routers to which evacuate steps give sessions are there.
-use Rattle.std.proofs.Common.{◌≡◌, ◌==◌, cond, ℕ, ◌+◌, ◌<◌, Bool, true, false, List, [], ◌∷◌, length, Option, Some, None, refl, sym, ◌∙◌, subst, arith, inl, inr}
+use Rattle.std.proofs.Common.{◌≡◌, ◌==◌, cond, ℕ, ◌+◌, ◌<◌, Bool, true, false, List, [], ◌∷◌, length}
+use Rattle.std.proofs.Common.{Option, Some, None, refl, sym, ◌∙◌, subst, arith, inl, inr}
 use Rattle.std.specs.Prelude.{zip, slice_get}
 use Rattle.std.specs.List.{AllByRecursion, find}
 use Rattle.std.proofs.lemmas.List.{length-map}
@@ -7,7 +8,8 @@ use Rattle.std.proofs.lemmas.List.FromFn.{length-range_with_len}
 use Rattle.graft_edge.specs.declared.ids.RouterId.{RouterId}
 use Rattle.evacuation.specs.Plans.{TargetList, Plan, Done, Given, NotGiven, one_more_load}
 use Rattle.evacuation.proofs.Loads.{length-one_more}
-use Rattle.graft_model.specs.Setups.{Setup, ScriptStep, SayStep, MoveStep, EvacuateStep, SettleStep, ScriptGraft, routers_in, router_numbers, group_of, graft_at}
+use Rattle.graft_model.specs.Setups.{Setup, ScriptStep, SayStep, MoveStep, EvacuateStep, SettleStep}
+use Rattle.graft_model.specs.Setups.{ScriptGraft, routers_in, router_numbers, group_of, graft_at}
 use Rattle.graft_model.specs.Parts.{Gift, Unmade, To, Stays, OperatorPart}
 use Rattle.graft_model.specs.Placements.{placement}
 use Rattle.graft_model.specs.Evacuations.{peerings_at, loads_of, rooms_of, targets_from, gift_in, gift_of, gift_to, gift_by, gift_in_group, gift_or, with_gifts}
@@ -33,7 +35,8 @@ plan_below rooms from n loads count targets (Given r least rest) e =
 plan_below rooms from n loads count targets (NotGiven full rest) e = (tt, plan_below rooms from n loads _ _ rest e)
 
 targets_below : (setup : Setup) (placed : ℕ → ℕ) (r : ℕ) → AllByRecursion (IsBelow (routers_in setup)) (targets_from setup placed r)
-targets_below setup placed r = plan_below (rooms_of setup) r (routers_in setup) (loads_of setup placed) (length (peerings_at setup placed r)) (targets_from setup placed r)
+targets_below setup placed r =
+    plan_below (rooms_of setup) r (routers_in setup) (loads_of setup placed) (length (peerings_at setup placed r)) (targets_from setup placed r)
     (targets_plan setup placed r)
     (length-map (router_numbers setup) (λ q. length (peerings_at setup placed q)) ∙ length-range_with_len 0 (routers_in setup))
 
@@ -114,4 +117,5 @@ pub row_gives : (setup : Setup) (event : OperatorEvent) (before after : Operator
 row_gives setup (Order n number) before after taken sent (inl row) known = subst (GivesToRouters setup) (sym row.effect) known
 row_gives setup (Order n number) before after taken sent (inr row) known = subst (GivesToRouters setup) (sym row.effect) known
 row_gives setup (Note r) before after taken sent row known = subst (GivesToRouters setup) (sym row.effect) known
-row_gives setup Go before after taken sent row known = subst (GivesToRouters setup) (sym row.effect) (gifts_to_routers setup (record before { group = before.group + 1 }) known)
+row_gives setup Go before after taken sent row known =
+    subst (GivesToRouters setup) (sym row.effect) (gifts_to_routers setup (record before { group = before.group + 1 }) known)

@@ -1,5 +1,6 @@
 -- How many peerings an evacuate step gives to a router: with those that are placed there, no more than the router has room for.
-use Rattle.std.proofs.Common.{◌≡◌, ◌≢◌, ◌==◌, cond, ℕ, zero, suc, ◌+◌, ◌<◌, ◌≤◌, Bool, true, false, List, [], ◌∷◌, length, Option, Some, None, refl, sym, ap, ◌∙◌, arith, ◌⊎◌, inl, inr}
+use Rattle.std.proofs.Common.{◌≡◌, ◌≢◌, ◌==◌, cond, ℕ, zero, suc, ◌+◌, ◌<◌, ◌≤◌, Bool, true, false, List, [], ◌∷◌}
+use Rattle.std.proofs.Common.{length, Option, Some, None, refl, sym, ap, ◌∙◌, arith, ◌⊎◌, inl, inr}
 use Rattle.std.proofs.lemmas.Bool.{cases_eq, eq-eqb, ne_eqb}
 use Rattle.std.proofs.lemmas.List.FromFn.{length-map-range_with_len, get_or-map-range_with_len}
 use Rattle.std.specs.Prelude.{◌||◌, filter, zip, slice_get, slice_index, map, option_map, unwrap_or}
@@ -20,28 +21,32 @@ use Rattle.graft_laws.proofs.Room.{fewer, one_more}
 pub fewer_by_one : (f g : ℕ → Bool) (a n q : ℕ) → a ≤ q → q < a + n → f q ≡ false → g q ≡ true → ((x : ℕ) → f x ≡ true → g x ≡ true)
     → length (filter f (range_with_len a n)) < length (filter g (range_with_len a n))
 fewer_by_one f g a zero q from within fails passes each = absurd (omega (arith, from, within))
-fewer_by_one f g a (suc n) q from within fails passes each = by_place (cases_eq q a) (λ above. fewer_by_one f g (a + 1) n q above (omega (arith, within)) fails passes each) where
-  rest : List ℕ
-  rest = range_with_len (a + 1) n
+fewer_by_one f g a (suc n) q from within fails passes each =
+    by_place (cases_eq q a) (λ above. fewer_by_one f g (a + 1) n q above (omega (arith, within)) fails passes each)
+  where
+    rest : List ℕ
+    rest = range_with_len (a + 1) n
 
-  here : f a ≡ false → g a ≡ true → length (filter f rest) ≤ length (filter g rest)
-      → length (cond (f a) (a ∷ filter f rest) (filter f rest)) < length (cond (g a) (a ∷ filter g rest) (filter g rest))
-  here e h le =
-      let left : length (cond (f a) (a ∷ filter f rest) (filter f rest)) ≡ length (filter f rest) = ap (λ b. length (cond b (a ∷ filter f rest) (filter f rest))) e in
-      let right : length (cond (g a) (a ∷ filter g rest) (filter g rest)) ≡ suc (length (filter g rest)) = ap (λ b. length (cond b (a ∷ filter g rest) (filter g rest))) h in
-      omega (arith, left, right, le)
+    here : f a ≡ false → g a ≡ true → length (filter f rest) ≤ length (filter g rest)
+        → length (cond (f a) (a ∷ filter f rest) (filter f rest)) < length (cond (g a) (a ∷ filter g rest) (filter g rest))
+    here e h le =
+        let left : length (cond (f a) (a ∷ filter f rest) (filter f rest)) ≡ length (filter f rest) =
+        ap (λ b. length (cond b (a ∷ filter f rest) (filter f rest))) e in
+        let right : length (cond (g a) (a ∷ filter g rest) (filter g rest)) ≡ suc (length (filter g rest)) =
+        ap (λ b. length (cond b (a ∷ filter g rest) (filter g rest))) h in
+        omega (arith, left, right, le)
 
-  later : (u v : Bool) → (u ≡ true → v ≡ true) → length (filter f rest) < length (filter g rest)
-      → length (cond u (a ∷ filter f rest) (filter f rest)) < length (cond v (a ∷ filter g rest) (filter g rest))
-  later true true h less = omega (arith, less)
-  later true false h less = let e : false ≡ true = h refl in absurd cc
-  later false true h less = omega (arith, less)
-  later false false h less = less
+    later : (u v : Bool) → (u ≡ true → v ≡ true) → length (filter f rest) < length (filter g rest)
+        → length (cond u (a ∷ filter f rest) (filter f rest)) < length (cond v (a ∷ filter g rest) (filter g rest))
+    later true true h less = omega (arith, less)
+    later true false h less = let e : false ≡ true = h refl in absurd cc
+    later false true h less = omega (arith, less)
+    later false false h less = less
 
-  by_place : (q ≡ a) ⊎ (q ≢ a) → (a + 1 ≤ q → length (filter f rest) < length (filter g rest))
-      → length (filter f (range_with_len a (suc n))) < length (filter g (range_with_len a (suc n)))
-  by_place (inl is) less = here (sym (ap f is) ∙ fails) (sym (ap g is) ∙ passes) (fewer f g rest each)
-  by_place (inr ne) less = later (f a) (g a) (each a) (less (omega (arith, from)))
+    by_place : (q ≡ a) ⊎ (q ≢ a) → (a + 1 ≤ q → length (filter f rest) < length (filter g rest))
+        → length (filter f (range_with_len a (suc n))) < length (filter g (range_with_len a (suc n)))
+    by_place (inl is) less = here (sym (ap f is) ∙ fails) (sym (ap g is) ∙ passes) (fewer f g rest each)
+    by_place (inr ne) less = later (f a) (g a) (each a) (less (omega (arith, from)))
 
 -- one of two tests passes no more than both together
 either_or : (f g : ℕ → Bool) (xs : List ℕ) → length (filter (λ x. f x || g x) xs) ≤ length (filter f xs) + length (filter g xs)
@@ -70,7 +75,8 @@ abbrev goes_to : ℕ → ℕ → List (ℕ × Option RouterId) → ℕ → Bool
 goes_to e r entries p = is_to r (gift_of e (find (λ entry. entry.0 == p) entries))
 
 none_goes : (e r a n : ℕ) → length (filter (goes_to e r []) (range_with_len a n)) ≡ 0
-none_goes e r a n = ap (λ (xs : List ℕ). length xs) (filter_none (goes_to e r []) (range_with_len a n) (all_of (λ p. goes_to e r [] p ≡ false) (range_with_len a n) (λ p. refl)))
+none_goes e r a n = ap (λ (xs : List ℕ). length xs)
+    (filter_none (goes_to e r []) (range_with_len a n) (all_of (λ p. goes_to e r [] p ≡ false) (range_with_len a n) (λ p. refl)))
 
 goes_later : (e r x p : ℕ) (t : Option RouterId) (entries : List (ℕ × Option RouterId)) → x ≢ p → goes_to e r ((x, t) ∷ entries) p ≡ goes_to e r entries p
 goes_later e r x p t entries ne = ap (λ (b : Bool). is_to r (gift_of e (cond b (Some (x, t)) (find (λ entry. entry.0 == p) entries)))) (ne_eqb x p ne)
@@ -92,7 +98,8 @@ few_given e r a n (x ∷ xs) (t ∷ ts) = by_target t (few_given e r a n xs ts) 
 
   more : (u : Option RouterId)
       → length (filter (goes_to e r ((x, u) ∷ zip xs ts)) (range_with_len a n)) ≤ length (filter (goes_to e r (zip xs ts)) (range_with_len a n)) + 1
-  more u = one_more (goes_to e r ((x, u) ∷ zip xs ts)) (goes_to e r (zip xs ts)) a n x (λ p ne goes. sym (goes_later e r x p u (zip xs ts) (λ same. ne (sym same))) ∙ goes)
+  more u = one_more (goes_to e r ((x, u) ∷ zip xs ts)) (goes_to e r (zip xs ts)) a n x
+      (λ p ne goes. sym (goes_later e r x p u (zip xs ts) (λ same. ne (sym same))) ∙ goes)
 
   by_target : (u : Option RouterId) → length (filter (goes_to e r (zip xs ts)) (range_with_len a n)) ≤ times_given r ts
       → length (filter (goes_to e r ((x, u) ∷ zip xs ts)) (range_with_len a n)) ≤ times_given r (u ∷ ts)
@@ -126,10 +133,13 @@ pub room_for_all : (setup : Setup) (placed : ℕ → ℕ) (e r p : ℕ) → p < 
 room_for_all setup placed e r p l given =
     let targets : TargetList = targets_from setup placed e in
     let gives : ℕ → Bool = λ q. is_to r (gift_to setup placed e q) in
-    let few : length (filter gives (peering_numbers setup)) ≤ times_given r targets = few_given e r 0 (peerings_in setup) (peerings_at setup placed e) targets in
+    let few : length (filter gives (peering_numbers setup)) ≤ times_given r targets =
+    few_given e r 0 (peerings_in setup) (peerings_at setup placed e) targets in
     let some : length (filter (λ q. false) (peering_numbers setup)) < length (filter gives (peering_numbers setup)) =
-    fewer_by_one (λ q. false) gives 0 (peerings_in setup) p (omega arith) (omega (arith, l)) refl (ap (is_to r) given ∙ eq-eqb r r refl) (λ q none. absurd cc) in
+    fewer_by_one (λ q. false) gives 0 (peerings_in setup) p (omega arith)
+    (omega (arith, l)) refl (ap (is_to r) given ∙ eq-eqb r r refl) (λ q none. absurd cc) in
     let kept = (given_well setup placed e).room r (omega (arith, few, some)) in
-    let there : r < routers_in setup = let n = length-map-range_with_len (λ q. length (peerings_at setup placed q)) 0 (routers_in setup) in omega (arith, n, kept.in_range) in
+    let there : r < routers_in setup =
+    let n = length-map-range_with_len (λ q. length (peerings_at setup placed q)) 0 (routers_in setup) in omega (arith, n, kept.in_range) in
     let all = either_or (λ q. placed q == r) gives (peering_numbers setup) in
     omega (arith, all, few, kept.within_room, load_at setup placed r there, room_at setup.routers r)

@@ -2,7 +2,8 @@
 use Rattle.std.proofs.Common.{◌≡◌, ℕ, zero, suc, ◌<◌, Option, Some, None, refl, ap, ◌∙◌, subst}
 use Rattle.std.proofs.lemmas.Option.{same_Some, slice_get_within, get_or_from_slice_get}
 use Rattle.std.specs.Prelude.{slice_get}
-use Rattle.graft_model.specs.Setups.{Setup, ScriptStep, SayStep, MoveStep, EvacuateStep, SettleStep, ScriptGraft, IsSetup, IsStep, routers_in, peerings_in, moved_by, graft_at}
+use Rattle.graft_model.specs.Setups.{Setup, ScriptStep, SayStep, MoveStep, EvacuateStep, SettleStep, ScriptGraft}
+use Rattle.graft_model.specs.Setups.{IsSetup, IsStep, routers_in, peerings_in, moved_by, graft_at}
 use Rattle.graft_model.specs.Parts.{Gift, Unmade, To, Stays, OperatorPart}
 use Rattle.graft_model.specs.Placements.{target_given, target_by, target_in}
 use Rattle.graft_model.proofs.Numbers.{step_of_graft, peering_of_index}
@@ -19,7 +20,8 @@ moved_within setup (EvacuateStep router) index p ok e = (peering_of_index setup 
 moved_within setup SettleStep index p ok e = absurd cc
 
 pub graft_within : (setup : Setup) (k : ℕ) (g : ScriptGraft) → IsSetup setup → graft_at setup k ≡ Some g → g.peering < peerings_in setup
-graft_within setup k g ok known = let s = step_of_graft setup k g known in moved_within setup s.step s.index g.peering (step_is setup g.step s.step ok s.there) s.moved
+graft_within setup k g ok known =
+    let s = step_of_graft setup k g known in moved_within setup s.step s.index g.peering (step_is setup g.step s.step ok s.there) s.moved
 
 pub target_within : (setup : Setup) (operator : OperatorPart) (g : ScriptGraft) (t : ℕ) → IsSetup setup → GivesToRouters setup operator
     → target_in setup operator g ≡ Some t → t < routers_in setup

@@ -1,5 +1,6 @@
 -- What the events of a graft at routers do.
-use Rattle.std.proofs.Common.{◌≡◌, ◌==◌, cond, ℕ, suc, ◌<◌, ◌≤◌, ◌+◌, Bool, true, false, List, [], ◌∷◌, ◌++◌, Option, Some, None, refl, sym, ap, ◌∙◌, subst, arith, inl, inr}
+use Rattle.std.proofs.Common.{◌≡◌, ◌==◌, cond, ℕ, suc, ◌<◌, ◌≤◌, ◌+◌, Bool, true, false, List, [], ◌∷◌, ◌++◌}
+use Rattle.std.proofs.Common.{Option, Some, None, refl, sym, ap, ◌∙◌, subst, arith, inl, inr}
 use Rattle.std.proofs.lemmas.Bool.Decides.{nat_tests}
 use Rattle.std.specs.Prelude.{◌≢◌, ◌⊎◌, IsSome}
 use Rattle.std.specs.List.{AllByRecursion}
@@ -12,9 +13,11 @@ use Rattle.bgp_types.specs.declared.message.SessionState.{SessionState}
 use Rattle.session_value.specs.Sessions.{SessionValue, state, hold_time}
 use Rattle.graft_model.specs.Points.{at}
 use Rattle.graft_model.specs.Setups.{Setup, peerings_in, room_of, graft_at}
-use Rattle.graft_model.specs.Parts.{Order, Errand, Leaving, Owing, Asking as ToAnswer, Place, Vacant, Live, Frozen, Shadow, RouterPart, Mesh, Moved, Back, Asked, Answered, Done, PointAt, GraftOrder, Report, World}
+use Rattle.graft_model.specs.Parts.{Order, Errand, Leaving, Owing, Asking as ToAnswer, Place, Vacant, Live, Frozen, Shadow}
+use Rattle.graft_model.specs.Parts.{RouterPart, Mesh, Moved, Back, Asked, Answered, Done, PointAt, GraftOrder, Report, World}
 use Rattle.graft_model.specs.RouterRows.{RouterTaken, OrderIn, MeshIn, RouterSent, MeshTo, OutwardTo, ReportOut, BringsIn}
-use Rattle.graft_model.specs.GraftRows.{Admits, Refuses, Freezes, Leaves, Lands, TurnsBack, Returns, Asks, Answers, Counts, Ignores, Confirms, Clears, is_taken, taken_in, refusal_of}
+use Rattle.graft_model.specs.GraftRows.{Admits, Refuses, Freezes, Leaves, Lands, TurnsBack, Returns, Asks, Answers}
+use Rattle.graft_model.specs.GraftRows.{Counts, Ignores, Confirms, Clears, is_taken, taken_in, refusal_of}
 use Rattle.graft_model.specs.Steps.{Heads}
 use Rattle.graft_laws.specs.Phases.{Ordered, Stored, Halted, Moving, Landed, Asking, Confirmed, Returning, Phase, Busy, only_at}
 use Rattle.graft_laws.specs.Log.{is_graft_on}
@@ -24,9 +27,11 @@ use Rattle.graft_laws.proofs.Phases.{live_session, stored_at, halted_at, owing_a
 use Rattle.graft_laws.proofs.Others.{AreOthers}
 use Rattle.graft_laws.proofs.Logs.{own_known}
 use Rattle.graft_laws.proofs.Following.{at_phase, at_here, at_other, own_head}
-use Rattle.graft_laws.proofs.Grafts.{equal, admit_own, refuse_own, freeze_own, leave_own, land_own, ask_own, count_own, confirm_own, turn_back_own, return_own, clear_own}
+use Rattle.graft_laws.proofs.Grafts.{equal, admit_own, refuse_own, freeze_own, leave_own, land_own, ask_own}
+use Rattle.graft_laws.proofs.Grafts.{count_own, confirm_own, turn_back_own, return_own, clear_own}
 use Rattle.graft_laws.proofs.Room.{no_more_taken, one_more_taken, room_left}
-use Rattle.graft_laws.proofs.Deeds.{differs, of_known, not_of, known_place, known_order, Deed, all_apart, own_or_apart, no_items, other_order, other_report, other_mesh, other_sent, other_taken, no_outward}
+use Rattle.graft_laws.proofs.Deeds.{differs, of_known, not_of, known_place, known_order, Deed, all_apart, own_or_apart, no_items}
+use Rattle.graft_laws.proofs.Deeds.{other_order, other_report, other_mesh, other_sent, other_taken, no_outward}
 
 abbrev order_of : ℕ → ℕ → Order
 order_of k t = record { graft = k; target = t }
@@ -72,7 +77,8 @@ place_here before part q place e = ap (λ (f : ℕ → Place). f q) e ∙ at_her
 
 -- an answer is in no count
 other_answer : (setup : Setup) (p r q k n : ℕ) → AreOthers setup p r (Some (MeshIn q (Answered k n))) []
-other_answer setup p r q k n = record { mesh_taken = other_taken setup p r q (Answered k n) refl; mesh_sent = λ i j. refl; orders_taken = λ i. refl; reports_sent = λ i. refl }
+other_answer setup p r q k n =
+    record { mesh_taken = other_taken setup p r q (Answered k n) refl; mesh_sent = λ i j. refl; orders_taken = λ i. refl; reports_sent = λ i. refl }
 
 -- the part stays, and what is taken and sent is in no count
 unmoved_deed : (setup : Setup) (w v : World) (r : ℕ) (taken : Option RouterTaken) (sent : List RouterSent) (part : RouterPart) → part ≡ w.router r
@@ -115,14 +121,16 @@ module _ (setup : Setup) (w v : World) (r : ℕ) (owned : Owned setup w) where
   back_own : (a q k : ℕ) (s : SessionValue) (refusal : Refusal) → Heads (w.mesh a r) (Back k q s refusal) → q < peerings_in setup → is_graft_on setup q k ≡ true
   back_own a q k s refusal head known =
       let h = owned.peerings q known in
-      let e : h.phase ≡ Busy r k a (Returning refusal) = (back_in h.phase q h.session s refusal a r k _ (own_head (is_on q) (w.mesh a r) head.rest (Back k q s refusal) head.is (equal q) ∙ h.stands.mesh a r)).0 in
+      let e : h.phase ≡ Busy r k a (Returning refusal) = (back_in h.phase q h.session s refusal a r k _
+      (own_head (is_on q) (w.mesh a r) head.rest (Back k q s refusal) head.is (equal q) ∙ h.stands.mesh a r)).0 in
       let b : Stands setup w q (Busy r k a (Returning refusal)) h.session = subst (λ (x : Phase). Stands setup w q x h.session) e h.stands in
       own_known setup q k b.log.goes_on.known
 
   done_own : (a q k : ℕ) → Heads (w.mesh a r) (Done k q) → q < peerings_in setup → is_graft_on setup q k ≡ true
   done_own a q k head known =
       let h = owned.peerings q known in
-      let e : h.phase ≡ Busy r k a Confirmed = done_in h.phase q h.session a r k _ (own_head (is_on q) (w.mesh a r) head.rest (Done k q) head.is (equal q) ∙ h.stands.mesh a r) in
+      let e : h.phase ≡ Busy r k a Confirmed =
+      done_in h.phase q h.session a r k _ (own_head (is_on q) (w.mesh a r) head.rest (Done k q) head.is (equal q) ∙ h.stands.mesh a r) in
       let b : Stands setup w q (Busy r k a Confirmed) h.session = subst (λ (x : Phase). Stands setup w q x h.session) e h.stands in
       own_known setup q k b.log.goes_on.known
 
@@ -130,10 +138,12 @@ module _ (setup : Setup) (w v : World) (r : ℕ) (owned : Owned setup w) where
 
   pub admit_deed : (k : ℕ) (taken : Option RouterTaken) (sent : List RouterSent) (part : RouterPart) → Admits setup k before taken sent part
       → RouterMoves r taken sent part w v → Deed setup w v r taken sent part
-  admit_deed k taken sent part row = deed_as setup w v r taken (Some (OrderIn (record { graft = k; peering = row.peering; target = row.target }))) sent [] part row.takes row.sends (λ m.
+  admit_deed k taken sent part row = deed_as setup w v r taken
+      (Some (OrderIn (record { graft = k; peering = row.peering; target = row.target }))) sent [] part row.takes row.sends (λ m.
       let q : ℕ = row.peering in
       let o : GraftOrder = record { graft = k; peering = q; target = row.target } in
-      let places : part.places ≡ at before.places q (Live row.session (Some (Leaving (order_of k row.target)))) = ap (λ (x : RouterPart). x.places) row.effect in
+      let places : part.places ≡ at before.places q (Live row.session (Some (Leaving (order_of k row.target)))) =
+      ap (λ (x : RouterPart). x.places) row.effect in
       record {
         each = own_or_apart setup w v r q (Some (OrderIn o)) [] part m (known_order setup w owned r q o m.heads (equal q))
             (λ p ne. record {
@@ -147,14 +157,16 @@ module _ (setup : Setup) (w v : World) (r : ℕ) (owned : Owned setup w) where
             let e = order_in phase q r o _ (own_head (λ (x : GraftOrder). x.peering == q) (w.orders r) m.heads.rest o m.heads.is (equal q) ∙ b.orders r) in
             let same : row.session ≡ s = live_session phase s row.session None r (sym row.live.is ∙ b.places r) in
             at_phase setup w v q phase (Busy r k row.target Ordered) s e.0
-            (admit_own setup w v q r k row.target s part m (place_here before part q _ places ∙ ap (λ (x : SessionValue). Live x (Some (Leaving (order_of k row.target)))) same) (ap (λ (x : RouterPart). x.entries q) row.effect)) b);
+            (admit_own setup w v q r k row.target s part m (place_here before part q _ places
+            ∙ ap (λ (x : SessionValue). Live x (Some (Leaving (order_of k row.target)))) same) (ap (λ (x : RouterPart). x.entries q) row.effect)) b);
         reports = λ a. tt;
         room = λ l. le_trans _ _ _ (no_more_taken setup before part q _ places (ap is_taken row.live.is)) l;
       })
 
   pub refuse_deed : (k : ℕ) (taken : Option RouterTaken) (sent : List RouterSent) (part : RouterPart) → Refuses r k before taken sent part
       → RouterMoves r taken sent part w v → Deed setup w v r taken sent part
-  refuse_deed k taken sent part row = deed_as setup w v r taken None sent (ReportOut (record { graft = k; outcome = Refused row.refusal }) ∷ []) part row.takes row.sends (λ m.
+  refuse_deed k taken sent part row =
+      deed_as setup w v r taken None sent (ReportOut (record { graft = k; outcome = Refused row.refusal }) ∷ []) part row.takes row.sends (λ m.
       let q : ℕ = row.peering in
       let places : part.places ≡ at before.places q (Live row.session None) = ap (λ (x : RouterPart). x.places) row.effect in
       let known : q < peerings_in setup = known_place setup w owned r q _ row.live.is (λ e. absurd cc) in
@@ -171,8 +183,10 @@ module _ (setup : Setup) (w v : World) (r : ℕ) (owned : Owned setup w) where
             (λ phase s b.
             let e = stored_at phase s row.session r k row.target (sym row.live.is ∙ b.places r) in
             at_phase setup w v q phase (Busy r k row.target Stored) s e.0
-            (refuse_own setup w v q r k row.target s part row.refusal m (place_here before part q _ places ∙ ap (λ (x : SessionValue). Live x None) e.1) (ap (λ (x : RouterPart). x.entries q) row.effect)
-            (subst (λ (x : SessionValue). freeze_refusal (record { 0 = r }) (record { 0 = row.target }) (state x) (hold_time x) ≡ Some row.refusal) e.1 row.cause)) b);
+            (refuse_own setup w v q r k row.target s part row.refusal m
+            (place_here before part q _ places ∙ ap (λ (x : SessionValue). Live x None) e.1) (ap (λ (x : RouterPart). x.entries q) row.effect)
+            (subst (λ (x : SessionValue). freeze_refusal (record { 0 = r }) (record { 0 = row.target }) (state x) (hold_time x) ≡ Some row.refusal)
+            e.1 row.cause)) b);
         reports = λ a. one_report setup r a (record { graft = k; outcome = Refused row.refusal }) (of_known setup q k own);
         room = λ l. le_trans _ _ _ (no_more_taken setup before part q _ places (ap is_taken row.live.is)) l;
       })
@@ -194,7 +208,8 @@ module _ (setup : Setup) (w v : World) (r : ℕ) (owned : Owned setup w) where
             (λ phase s b.
             let e = stored_at phase s row.session r k row.target (sym row.live.is ∙ b.places r) in
             at_phase setup w v q phase (Busy r k row.target Stored) s e.0
-            (freeze_own setup w v q r k row.target s part m (place_here before part q _ places ∙ ap (λ (x : SessionValue). Frozen x (order_of k row.target)) e.1) (ap (λ (x : RouterPart). x.entries q) row.effect)
+            (freeze_own setup w v q r k row.target s part m (place_here before part q _ places
+            ∙ ap (λ (x : SessionValue). Frozen x (order_of k row.target)) e.1) (ap (λ (x : RouterPart). x.entries q) row.effect)
             (subst (λ (x : SessionValue). freeze_refusal (record { 0 = r }) (record { 0 = row.target }) (state x) (hold_time x) ≡ None) e.1 row.no_cause)
             (freezes_apart r row.target (state row.session) (hold_time row.session) row.no_cause)) b);
         reports = λ a. tt;
@@ -203,11 +218,13 @@ module _ (setup : Setup) (w v : World) (r : ℕ) (owned : Owned setup w) where
 
   pub leave_deed : (k : ℕ) (taken : Option RouterTaken) (sent : List RouterSent) (part : RouterPart) → Leaves k before taken sent part
       → RouterMoves r taken sent part w v → Deed setup w v r taken sent part
-  leave_deed k taken sent part row = deed_as setup w v r taken None sent (MeshTo row.target (Moved k row.peering row.session) ∷ []) part row.takes row.sends (λ m.
+  leave_deed k taken sent part row =
+      deed_as setup w v r taken None sent (MeshTo row.target (Moved k row.peering row.session) ∷ []) part row.takes row.sends (λ m.
       let q : ℕ = row.peering in
       let places : part.places ≡ at before.places q (Shadow k) = ap (λ (x : RouterPart). x.places) row.effect in
       record {
-        each = own_or_apart setup w v r q None (MeshTo row.target (Moved k q row.session) ∷ []) part m (known_place setup w owned r q _ row.frozen (λ e. absurd cc))
+        each = own_or_apart setup w v r q None (MeshTo row.target (Moved k q row.session) ∷ []) part m
+            (known_place setup w owned r q _ row.frozen (λ e. absurd cc))
             (λ p ne. record {
               places = place_stays before part p q _ places ne;
               entries = ap (λ (x : RouterPart). x.entries p) row.effect;
@@ -218,7 +235,8 @@ module _ (setup : Setup) (w v : World) (r : ℕ) (owned : Owned setup w) where
             (λ phase s b.
             let e = halted_at phase s row.session r k row.target (sym row.frozen ∙ b.places r) in
             at_phase setup w v q phase (Busy r k row.target Halted) s e.0
-            (leave_own setup w v q r k row.target s part (subst (λ (x : SessionValue). RouterMoves r None (MeshTo row.target (Moved k q x) ∷ []) part w v) e.1 m) (place_here before part q _ places) (ap (λ (x : RouterPart). x.entries q) row.effect)) b);
+            (leave_own setup w v q r k row.target s part (subst (λ (x : SessionValue). RouterMoves r None (MeshTo row.target (Moved k q x) ∷ []) part w v)
+            e.1 m) (place_here before part q _ places) (ap (λ (x : RouterPart). x.entries q) row.effect)) b);
         reports = λ a. tt;
         room = λ l. le_trans _ _ _ (no_more_taken setup before part q _ places (ap is_taken row.frozen)) l;
       })
@@ -238,14 +256,20 @@ module _ (setup : Setup) (w v : World) (r : ℕ) (owned : Owned setup w) where
             (λ p ne. record {
               places = place_stays before part p n _ places ne;
               entries = ap (λ (x : RouterPart). x.entries p) row.effect ∙ at_other before.entries n p (part.entries n) ne;
-              items = record { mesh_taken = other_taken setup p r q item (differs p n ne); mesh_sent = λ i j. refl; orders_taken = λ i. refl; reports_sent = λ i. refl };
+              items = record {
+                mesh_taken = other_taken setup p r q item (differs p n ne);
+                mesh_sent = λ i j. refl;
+                orders_taken = λ i. refl;
+                reports_sent = λ i. refl;
+              };
               outward_sent = λ a. no_outward r n p a (PointAt k) ne;
               inward_taken = λ b. refl;
             })
             (λ phase s b.
             let e = moved_in phase n s row.comes.session q r k _ (own_head (is_on n) (w.mesh q r) m.heads.rest item m.heads.is (equal n) ∙ b.mesh q r) in
             at_phase setup w v n phase (Busy q k r Moving) s e.0
-            (land_own setup w v n q k r s part (subst (λ (x : SessionValue). RouterMoves r (Some (MeshIn q (Moved k n x))) (OutwardTo n (PointAt k) ∷ []) part w v) e.1 m)
+            (land_own setup w v n q k r s part
+            (subst (λ (x : SessionValue). RouterMoves r (Some (MeshIn q (Moved k n x))) (OutwardTo n (PointAt k) ∷ []) part w v) e.1 m)
             (place_here before part n _ places ∙ ap (λ (x : SessionValue). Live x (Some (word_of k q 0))) e.1)
             (subst (λ (x : SessionValue). BringsIn setup r x (part.entries n)) e.1 row.entries)
             (subst (λ (x : SessionValue). refusal_of setup r before x ≡ None) e.1 row.admitted)) b);
@@ -271,7 +295,8 @@ module _ (setup : Setup) (w v : World) (r : ℕ) (owned : Owned setup w) where
             (λ phase s b.
             let e = owing_at phase s row.session r k row.source row.next (sym row.live.is ∙ b.places r) in
             at_phase setup w v n phase (Busy row.source k r (Landed row.next)) s e.0
-            (ask_own setup w v n row.source k r s part row.next q m (place_here before part n _ places ∙ ap (λ (x : SessionValue). Live x (Some asking)) e.1) (ap (λ (x : RouterPart). x.entries n) row.effect)) b);
+            (ask_own setup w v n row.source k r s part row.next q m (place_here before part n _ places
+            ∙ ap (λ (x : SessionValue). Live x (Some asking)) e.1) (ap (λ (x : RouterPart). x.entries n) row.effect)) b);
         reports = λ a. tt;
         room = λ l. le_trans _ _ _ (no_more_taken setup before part n _ places (ap is_taken row.live.is)) l;
       })
@@ -294,7 +319,8 @@ module _ (setup : Setup) (w v : World) (r : ℕ) (owned : Owned setup w) where
             (λ phase s b.
             let e = asking_at phase s row.session r k row.source q (sym row.live.is ∙ b.places r) in
             at_phase setup w v n phase (Busy row.source k r (Asking q)) s e.0
-            (count_own setup w v n row.source k r s part q (suc q) m (place_here before part n _ places ∙ ap (λ (x : SessionValue). Live x (Some (word_of k row.source (suc q)))) e.1)
+            (count_own setup w v n row.source k r s part q (suc q) m
+            (place_here before part n _ places ∙ ap (λ (x : SessionValue). Live x (Some (word_of k row.source (suc q)))) e.1)
             (ap (λ (x : RouterPart). x.entries n) row.effect)) b);
         reports = λ a. tt;
         room = λ l. le_trans _ _ _ (no_more_taken setup before part n _ places (ap is_taken row.live.is)) l;
@@ -305,7 +331,8 @@ module _ (setup : Setup) (w v : World) (r : ℕ) (owned : Owned setup w) where
       → RouterMoves r taken sent part w v → Deed setup w v r taken sent part
   collect_deed q taken sent part (inl row) = count_deed q taken sent part row
   collect_deed q taken sent part (inr row) = deed_as setup w v r taken (Some (MeshIn q (Answered row.graft row.peering))) sent [] part row.takes row.sends
-      (unmoved_deed setup w v r (Some (MeshIn q (Answered row.graft row.peering))) [] part row.stays (λ p. other_answer setup p r q row.graft row.peering) (λ a p. refl) (λ p b. refl) (λ a. refl))
+      (unmoved_deed setup w v r (Some (MeshIn q (Answered row.graft row.peering))) [] part row.stays
+      (λ p. other_answer setup p r q row.graft row.peering) (λ a p. refl) (λ p b. refl) (λ a. refl))
 
   pub confirm_deed : (k : ℕ) (taken : Option RouterTaken) (sent : List RouterSent) (part : RouterPart) → Confirms setup r k before taken sent part
       → RouterMoves r taken sent part w v → Deed setup w v r taken sent part
@@ -324,7 +351,8 @@ module _ (setup : Setup) (w v : World) (r : ℕ) (owned : Owned setup w) where
             (λ phase s b.
             let e = owing_at phase s row.session r k row.source row.next (sym row.live.is ∙ b.places r) in
             at_phase setup w v n phase (Busy row.source k r (Landed row.next)) s e.0
-            (confirm_own setup w v n row.source k r s part row.next m (place_here before part n _ places ∙ ap (λ (x : SessionValue). Live x None) e.1) (ap (λ (x : RouterPart). x.entries n) row.effect)) b);
+            (confirm_own setup w v n row.source k r s part row.next m (place_here before part n _ places ∙ ap (λ (x : SessionValue). Live x None) e.1)
+            (ap (λ (x : RouterPart). x.entries n) row.effect)) b);
         reports = λ a. tt;
         room = λ l. le_trans _ _ _ (no_more_taken setup before part n _ places (ap is_taken row.live.is)) l;
       })
@@ -348,7 +376,8 @@ module _ (setup : Setup) (w v : World) (r : ℕ) (owned : Owned setup w) where
             (λ phase s b.
             let e = moved_in phase n s row.comes.session q r k _ (own_head (is_on n) (w.mesh q r) m.heads.rest item m.heads.is (equal n) ∙ b.mesh q r) in
             at_phase setup w v n phase (Busy q k r Moving) s e.0
-            (turn_back_own setup w v n q k r s part row.refusal (subst (λ (x : SessionValue). RouterMoves r (Some (MeshIn q (Moved k n x))) (MeshTo q (Back k n x row.refusal) ∷ []) part w v) e.1 m)
+            (turn_back_own setup w v n q k r s part row.refusal
+            (subst (λ (x : SessionValue). RouterMoves r (Some (MeshIn q (Moved k n x))) (MeshTo q (Back k n x row.refusal) ∷ []) part w v) e.1 m)
             (ap (λ (x : RouterPart). x.places n) row.stays ∙ row.comes.vacant)
             (ap (λ (x : RouterPart). x.entries n) row.stays)
             (subst (λ (x : SessionValue). refusal_of setup r before x ≡ Some row.refusal) e.1 row.cause)) b);
@@ -374,14 +403,16 @@ module _ (setup : Setup) (w v : World) (r : ℕ) (owned : Owned setup w) where
             (λ p ne. record {
               places = place_stays before part p n _ places ne;
               entries = ap (λ (x : RouterPart). x.entries p) row.effect;
-              items = other_report setup p r (Some (MeshIn q item)) report (other_taken setup p r q item (differs p n ne)) (λ i. refl) (not_of setup p n k ne own);
+              items = other_report setup p r (Some (MeshIn q item)) report
+                  (other_taken setup p r q item (differs p n ne)) (λ i. refl) (not_of setup p n k ne own);
               outward_sent = λ a. refl;
               inward_taken = λ b. refl;
             })
             (λ phase s b.
             let e = back_in phase n s row.session row.refusal q r k _ (own_head (is_on n) (w.mesh q r) m.heads.rest item m.heads.is (equal n) ∙ b.mesh q r) in
             at_phase setup w v n phase (Busy r k q (Returning row.refusal)) s e.0
-            (return_own setup w v n r k q s part row.refusal (subst (λ (x : SessionValue). RouterMoves r (Some (MeshIn q (Back k n x row.refusal))) (ReportOut report ∷ []) part w v) e.1 m)
+            (return_own setup w v n r k q s part row.refusal
+            (subst (λ (x : SessionValue). RouterMoves r (Some (MeshIn q (Back k n x row.refusal))) (ReportOut report ∷ []) part w v) e.1 m)
             (place_here before part n _ places ∙ ap (λ (x : SessionValue). Live x None) e.1)
             (ap (λ (x : RouterPart). x.entries n) row.effect)) b);
         reports = λ a. one_report setup r a report (of_known setup n k own);
@@ -404,14 +435,16 @@ module _ (setup : Setup) (w v : World) (r : ℕ) (owned : Owned setup w) where
             (λ p ne. record {
               places = place_stays before part p n _ places ne;
               entries = ap (λ (x : RouterPart). x.entries p) row.effect ∙ at_other before.entries n p map.empty ne;
-              items = other_report setup p r (Some (MeshIn q item)) report (other_taken setup p r q item (differs p n ne)) (λ i. refl) (not_of setup p n k ne own);
+              items = other_report setup p r (Some (MeshIn q item)) report
+                  (other_taken setup p r q item (differs p n ne)) (λ i. refl) (not_of setup p n k ne own);
               outward_sent = λ a. refl;
               inward_taken = λ b. refl;
             })
             (λ phase s b.
             let e = done_in phase n s q r k _ (own_head (is_on n) (w.mesh q r) m.heads.rest item m.heads.is (equal n) ∙ b.mesh q r) in
             at_phase setup w v n phase (Busy r k q Confirmed) s e
-            (clear_own setup w v n r k q s part m (place_here before part n _ places) (ap (λ (x : RouterPart). x.entries n) row.effect ∙ at_here before.entries n map.empty)) b);
+            (clear_own setup w v n r k q s part m (place_here before part n _ places)
+            (ap (λ (x : RouterPart). x.entries n) row.effect ∙ at_here before.entries n map.empty)) b);
         reports = λ a. one_report setup r a report (of_known setup n k own);
         room = λ l. le_trans _ _ _ (no_more_taken setup before part n _ places (ap is_taken row.shadow)) l;
       })

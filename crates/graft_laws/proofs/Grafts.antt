@@ -9,7 +9,8 @@ use Rattle.graft_steps.specs.declared.refusal.Outcome.TheVariants.{Accepted, Ref
 use Rattle.graft_steps.specs.Refusals.{freeze_refusal}
 use Rattle.session_value.specs.Sessions.{SessionValue, state, hold_time}
 use Rattle.graft_model.specs.Setups.{Setup}
-use Rattle.graft_model.specs.Parts.{Place, Vacant, Live, Frozen, Shadow, Leaving, Owing, Asking as ToAnswer, RouterPart, Mesh, Moved, Back, Asked, Answered, Done, PointAt, GraftOrder, Report, World}
+use Rattle.graft_model.specs.Parts.{Place, Vacant, Live, Frozen, Shadow, Leaving, Owing, Asking as ToAnswer, RouterPart, Mesh}
+use Rattle.graft_model.specs.Parts.{Moved, Back, Asked, Answered, Done, PointAt, GraftOrder, Report, World}
 use Rattle.graft_model.specs.RouterRows.{OrderIn, MeshIn, MeshTo, OutwardTo, ReportOut, BringsIn}
 use Rattle.graft_model.specs.GraftRows.{refusal_of}
 use Rattle.graft_laws.specs.Phases.{Ordered, Stored, Halted, Moving, Landed, Asking, Confirmed, Returning, Declined, Cleared, Busy, only_at, only2, place_by}
@@ -71,7 +72,8 @@ module _ (setup : Setup) (w v : World) (p q k t : ℕ) (s : SessionValue) (part 
   refuse_own refusal m place entries cause b = record {
     next = Busy q k t (Declined refusal);
     session = s;
-    stands = shifted setup w v p q s None (ReportOut (record { graft = k; outcome = Refused refusal }) ∷ []) part (Busy q k t Stored) (Busy q k t (Declined refusal)) m
+    stands = shifted setup w v p q s None (ReportOut (record { graft = k; outcome = Refused refusal }) ∷ []) part
+        (Busy q k t Stored) (Busy q k t (Declined refusal)) m
         (record {
           places = λ x. place_now q x (part.places p) (Live s None) (Live s (Some (Leaving (record { graft = k; target = t })))) place;
           mesh_taken = λ i j. refl;
@@ -93,7 +95,8 @@ module _ (setup : Setup) (w v : World) (p q k t : ℕ) (s : SessionValue) (part 
     session = s;
     stands = shifted setup w v p q s None [] part (Busy q k t Stored) (Busy q k t Halted) m
         (record {
-          places = λ x. place_now q x (part.places p) (Frozen s (record { graft = k; target = t })) (Live s (Some (Leaving (record { graft = k; target = t })))) place;
+          places = λ x. place_now q x (part.places p) (Frozen s (record { graft = k; target = t }))
+              (Live s (Some (Leaving (record { graft = k; target = t })))) place;
           mesh_taken = λ i j. refl;
           mesh_sent = λ i j. refl;
           orders_taken = λ x. refl;
@@ -146,7 +149,8 @@ module _ (setup : Setup) (w v : World) (p q k t : ℕ) (s : SessionValue) (part 
           no_report = λ x. refl;
           reports_sent = λ x. refl;
         }) b (log_on setup w.operator p q k t Moving (Landed 0) b.log) b.bounds;
-    change = Lands admitted (line_gets w v p t _ _ part (PointAt k) m (λ a. (let e : only2 t p (PointAt k) a p ≡ only_at t (PointAt k) a = ap (λ c. cond (a == t) (cond c (PointAt k ∷ []) []) []) (equal p) in append-nil (only2 t p (PointAt k) a p) ∙ e)) (λ a. refl))
+    change = Lands admitted (line_gets w v p t _ _ part (PointAt k) m (λ a. (let e : only2 t p (PointAt k) a p ≡ only_at t (PointAt k) a =
+        ap (λ c. cond (a == t) (cond c (PointAt k ∷ []) []) []) (equal p) in append-nil (only2 t p (PointAt k) a p) ∙ e)) (λ a. refl))
         (enters setup w v p t s part m.router brings);
   }
 
@@ -224,7 +228,8 @@ module _ (setup : Setup) (w v : World) (p q k t : ℕ) (s : SessionValue) (part 
   turn_back_own refusal m place entries cause b = record {
     next = Busy q k t (Returning refusal);
     session = s;
-    stands = shifted setup w v p t s (Some (MeshIn q (Moved k p s))) (MeshTo q (Back k p s refusal) ∷ []) part (Busy q k t Moving) (Busy q k t (Returning refusal)) m
+    stands = shifted setup w v p t s (Some (MeshIn q (Moved k p s)))
+        (MeshTo q (Back k p s refusal) ∷ []) part (Busy q k t Moving) (Busy q k t (Returning refusal)) m
         (record {
           places = λ x. turned_place x (part.places p) b.bounds.2 place;
           mesh_taken = λ i j. own_only2 (is_on p) (Moved k p s) q t i j (equal p);
@@ -245,7 +250,8 @@ module _ (setup : Setup) (w v : World) (p q k t : ℕ) (s : SessionValue) (part 
   return_own refusal m place entries b = record {
     next = Busy q k t (Declined refusal);
     session = s;
-    stands = shifted setup w v p q s (Some (MeshIn t (Back k p s refusal))) (ReportOut (record { graft = k; outcome = Refused refusal }) ∷ []) part (Busy q k t (Returning refusal)) (Busy q k t (Declined refusal)) m
+    stands = shifted setup w v p q s (Some (MeshIn t (Back k p s refusal)))
+        (ReportOut (record { graft = k; outcome = Refused refusal }) ∷ []) part (Busy q k t (Returning refusal)) (Busy q k t (Declined refusal)) m
         (record {
           places = λ x. place_now q x (part.places p) (Live s None) (Shadow k) place;
           mesh_taken = λ i j. own_only2 (is_on p) (Back k p s refusal) t q i j (equal p);
@@ -269,7 +275,8 @@ module _ (setup : Setup) (w v : World) (p q k t : ℕ) (s : SessionValue) (part 
   clear_own m place none b = record {
     next = Busy q k t Cleared;
     session = s;
-    stands = shifted setup w v p q s (Some (MeshIn t (Done k p))) (ReportOut (record { graft = k; outcome = Accepted }) ∷ []) part (Busy q k t Confirmed) (Busy q k t Cleared) m
+    stands = shifted setup w v p q s (Some (MeshIn t (Done k p)))
+        (ReportOut (record { graft = k; outcome = Accepted }) ∷ []) part (Busy q k t Confirmed) (Busy q k t Cleared) m
         (record {
           places = λ x. cleared_place x (part.places p) b.bounds.2 place;
           mesh_taken = λ i j. own_only2 (is_on p) (Done k p) t q i j (equal p);

@@ -49,7 +49,8 @@ later_still setup Go before after taken sent row was = subst (LaterUngiven setup
 pub later_ungiven : (setup : Setup) (w : World) → Reached setup w → LaterUngiven setup w.operator
 later_ungiven setup = always_operator setup (LaterUngiven setup)
     (λ g known later. given_stays setup ungiven g known (λ (same : group_of setup g.step ≡ 0). omega arith))
-    (λ event before after reached x was. subst (LaterUngiven setup) (sym (operator_moves setup event before after x).operator) (later_still setup event before.operator x.part x.taken x.sent x.row was))
+    (λ event before after reached x was. subst (LaterUngiven setup) (sym (operator_moves setup event before after x).operator)
+    (later_still setup event before.operator x.part x.taken x.sent x.row was))
 
 -- ---- as a group begins
 
@@ -74,7 +75,8 @@ pub first_gives : (setup : Setup) (step router : ℕ) → slice_get setup.steps 
 first_gives setup step router there group = record {
   given = λ g known by.
       given_by_step setup ungiven g router known (ap (group_of setup) by ∙ group) (ap (slice_get setup.steps) by ∙ there) refl
-      ∙ ap (λ (placed : ℕ → ℕ). gift_to setup placed router g.peering) (fun_ext (λ p. placed_first setup ungiven p (λ k. refl) ∙ sym (placed_first setup (first_operator setup) p (λ k. refl))));
+      ∙ ap (λ (placed : ℕ → ℕ). gift_to setup placed router g.peering)
+      (fun_ext (λ p. placed_first setup ungiven p (λ k. refl) ∙ sym (placed_first setup (first_operator setup) p (λ k. refl))));
   well = given_well setup (placement setup (first_operator setup)) router;
 }
 
@@ -94,13 +96,15 @@ over_still setup event before after x was = by_row event x.may x.row where
   -- where the group and the gifts stay
   alike : LogGrows before.operator x.part → x.part.group ≡ before.operator.group → x.part.given ≡ before.operator.given → OverEnded setup x.part
   alike log group given g known over made =
-      log.outcome g.graft (was g known (omega (arith, over, group)) (λ none. made (ap (λ (f : ℕ → Gift). target_by (slice_get setup.steps g.step) (f g.graft)) given ∙ none)))
+      log.outcome g.graft
+      (was g known (omega (arith, over, group)) (λ none. made (ap (λ (f : ℕ → Gift). target_by (slice_get setup.steps g.step) (f g.graft)) given ∙ none)))
 
   begins : Quiet setup before → OverEnded setup (with_gifts setup (record before.operator { group = before.operator.group + 1 }))
   begins quiet g known over made = by_group (cases_eq (group_of setup g.step) before.operator.group) where
     same : target_in setup before.operator g ≢ None
     same none = made (ap (λ (gift : Gift). target_by (slice_get setup.steps g.step) gift)
-        (given_stays setup (record before.operator { group = before.operator.group + 1 }) g known (λ (e : group_of setup g.step ≡ before.operator.group + 1). omega arith))
+        (given_stays setup (record before.operator { group = before.operator.group + 1 }) g known
+        (λ (e : group_of setup g.step ≡ before.operator.group + 1). omega arith))
         ∙ none)
 
     by_group : (group_of setup g.step ≡ before.operator.group) ⊎ (group_of setup g.step ≢ before.operator.group) → before.operator.outcome g.graft ≢ None
@@ -108,12 +112,15 @@ over_still setup event before after x was = by_row event x.may x.row where
     by_group (inr other) = was g known (omega arith) same
 
   by_row : (event : OperatorEvent) → MayMake setup event before → operator_row setup event before.operator x.taken x.sent x.part → OverEnded setup x.part
-  by_row (Order n number) may (inl row) = alike (grows (Order n number) (inl row)) (ap (λ (o : OperatorPart). o.group) row.effect) (ap (λ (o : OperatorPart). o.given) row.effect)
-  by_row (Order n number) may (inr row) = alike (grows (Order n number) (inr row)) (ap (λ (o : OperatorPart). o.group) row.effect) (ap (λ (o : OperatorPart). o.given) row.effect)
+  by_row (Order n number) may (inl row) =
+      alike (grows (Order n number) (inl row)) (ap (λ (o : OperatorPart). o.group) row.effect) (ap (λ (o : OperatorPart). o.given) row.effect)
+  by_row (Order n number) may (inr row) =
+      alike (grows (Order n number) (inr row)) (ap (λ (o : OperatorPart). o.group) row.effect) (ap (λ (o : OperatorPart). o.given) row.effect)
   by_row (Note r) may row = alike (grows (Note r) row) (ap (λ (o : OperatorPart). o.group) row.effect) (ap (λ (o : OperatorPart). o.given) row.effect)
   by_row Go may row = subst (OverEnded setup) (sym row.effect) (begins may)
 
 pub over_ended : (setup : Setup) (w : World) → Reached setup w → OverEnded setup w.operator
 over_ended setup = always_operator setup (OverEnded setup)
     (λ g known over made. absurd (omega arith))
-    (λ event before after reached x was. subst (OverEnded setup) (sym (operator_moves setup event before after x).operator) (over_still setup event before after x was))
+    (λ event before after reached x was.
+    subst (OverEnded setup) (sym (operator_moves setup event before after x).operator) (over_still setup event before after x was))

@@ -1,5 +1,6 @@
 -- A session that an evacuate step moves finds room where it was given.
-use Rattle.std.proofs.Common.{◌≡◌, ◌≢◌, ◌==◌, cond, ℕ, ◌<◌, ◌≤◌, Bool, true, false, ◌||◌, List, Option, Some, None, refl, sym, ap, ◌∙◌, subst, arith, ◌⊎◌, inl, inr}
+use Rattle.std.proofs.Common.{◌≡◌, ◌≢◌, ◌==◌, cond, ℕ, ◌<◌, ◌≤◌, Bool, true, false, ◌||◌, List, Option}
+use Rattle.std.proofs.Common.{Some, None, refl, sym, ap, ◌∙◌, subst, arith, ◌⊎◌, inl, inr}
 use Rattle.std.proofs.lemmas.Bool.{eq-eqb}
 use Rattle.std.proofs.lemmas.Bool.Decides.{nat_tests}
 use Rattle.std.proofs.lemmas.Option.{same_Some}
@@ -24,11 +25,13 @@ use Rattle.graft_model.specs.OperatorRows.{ReportIn}
 use Rattle.graft_model.specs.declared.event.OperatorEvent.{OperatorEvent}
 use Rattle.graft_model.specs.declared.event.OperatorEvent.TheVariants.{Order, Note, Go}
 use Rattle.graft_model.specs.Steps.{OperatorStep}
-use Rattle.graft_laws.specs.Phases.{Ordered, Stored, Halted, Moving, Landed, Asking, Confirmed, Returning, Declined, Cleared, Phase, Idle, Busy, source_of, place_by}
+use Rattle.graft_laws.specs.Phases.{Ordered, Stored, Halted, Moving, Landed, Asking, Confirmed, Returning}
+use Rattle.graft_laws.specs.Phases.{Declined, Cleared, Phase, Idle, Busy, source_of, place_by}
 use Rattle.graft_laws.specs.Log.{is_peering, is_graft_on}
 use Rattle.graft_laws.specs.Owned.{reports_of, Stands, Owned}
 use Rattle.graft_laws.specs.Moves.{OperatorHeads, OperatorMoves}
-use Rattle.graft_laws.specs.Life.{GraftMove, Begins, Admits, Refuses, Freezes, Leaves, TurnsBack, Returns, Asks, Counts, Confirms, NotesRefusal, NotesSuccess, Change, Rests, Grafts, Lands, Clears, Acts, Strays, IsToSay, FarActs}
+use Rattle.graft_laws.specs.Life.{GraftMove, Begins, Admits, Refuses, Freezes, Leaves, TurnsBack, Returns, Asks, Counts, Confirms}
+use Rattle.graft_laws.specs.Life.{NotesRefusal, NotesSuccess, Change, Rests, Grafts, Lands, Clears, Acts, Strays, IsToSay, FarActs}
 use Rattle.graft_laws.specs.Keeps.{Reached, Has}
 use Rattle.graft_laws.specs.Emptied.{EmptyAlone}
 use Rattle.graft_laws.proofs.Phases.{refusal_in}
@@ -76,7 +79,8 @@ taken_where (Busy q k t Cleared) s r taken = inr (at_one r t (Live s None) taken
 
 -- ---- where a session arrives
 
-module _ (setup : Setup) (w : World) (alone : EmptyAlone setup) (owned : Owned setup w) (p q k t n e : ℕ) (s : SessionValue) (there : slice_get setup.steps n ≡ Some (EvacuateStep e))
+module _ (setup : Setup) (w : World) (alone : EmptyAlone setup) (owned : Owned setup w)
+    (p q k t n e : ℕ) (s : SessionValue) (there : slice_get setup.steps n ≡ Some (EvacuateStep e))
     (at_work : group_of setup n ≡ w.operator.group) (plan : FollowsPlan setup w.operator n e) (b : Stands setup w p (Busy q k t Moving) s) where
   -- whether a peering's session is to be, or was given, where this one arrives
   abbrev comes : ℕ → Bool
@@ -181,7 +185,8 @@ module _ (setup : Setup) (ok : IsSetup setup) (alone : EmptyAlone setup) where
       → GraftMove setup w phase s next → HasRoom setup w p phase s → HasRoom setup v p next s
   moves_keep w v p _ _ s reached l b Begins room = tt
   moves_keep w v p _ _ s reached l b Admits room = tt
-  moves_keep w v p _ _ s reached l b (Refuses {q = q} {t = t} why) room = λ g e named known there full. not_at_freeze (record { 0 = q }) (record { 0 = t }) (state s) (hold_time s) named (why ∙ ap Some full)
+  moves_keep w v p _ _ s reached l b (Refuses {q = q} {t = t} why) room =
+      λ g e named known there full. not_at_freeze (record { 0 = q }) (record { 0 = t }) (state s) (hold_time s) named (why ∙ ap Some full)
   moves_keep w v p _ _ s reached l b (Freezes why) room = tt
   moves_keep w v p _ _ s reached l b Leaves room = tt
   moves_keep w v p _ _ s reached l b (TurnsBack {q = q} {k = k} {t = t} {refusal = refusal} why) room = turned_back w p q k t s refusal reached l b why
@@ -236,7 +241,8 @@ module _ (setup : Setup) (ok : IsSetup setup) (alone : EmptyAlone setup) where
       → IsNotFull setup k refusal
   reported w r k p refusal reached l own h =
       let has = always_room w reached p l in
-      let found = refusal_in has.phase r k refusal (reports_of setup p h.rest) (own_head (λ (o : Report). is_graft_on setup p o.graft) (w.reports r) h.rest (record { graft = k; outcome = Refused refusal }) h.is own ∙ has.stands.reports r) in
+      let found = refusal_in has.phase r k refusal (reports_of setup p h.rest) (own_head (λ (o : Report). is_graft_on setup p o.graft)
+      (w.reports r) h.rest (record { graft = k; outcome = Refused refusal }) h.is own ∙ has.stands.reports r) in
       subst (λ (phase : Phase). HasRoom setup w p phase has.session) found.1 has.more
 
   notes_keep : (w : World) (r : ℕ) (report : Report) → Reached setup w → OperatorHeads w (Some (ReportIn r report)) → NoneFull w.operator
@@ -271,4 +277,5 @@ module _ (setup : Setup) (ok : IsSetup setup) (alone : EmptyAlone setup) where
   pub none_full : (w : World) → Reached setup w → NoneFull w.operator
   none_full = always_operator setup NoneFull
       (λ g e room known there full. cc)
-      (λ event before after reached x was. subst NoneFull (sym (operator_moves setup event before after x).operator) (rows_keep event before after reached x was))
+      (λ event before after reached x was.
+      subst NoneFull (sym (operator_moves setup event before after x).operator) (rows_keep event before after reached x was))

@@ -8,11 +8,13 @@ use Rattle.graft_steps.specs.declared.refusal.Refusal.{Refusal}
 use Rattle.graft_steps.specs.declared.refusal.Outcome.TheVariants.{Accepted, Refused}
 use Rattle.session_value.specs.Sessions.{SessionValue}
 use Rattle.graft_model.specs.Setups.{Setup, ScriptGraft, peerings_in}
-use Rattle.graft_model.specs.Parts.{Place, Vacant, Live, Frozen, Shadow, Leaving, Owing, Asking as ToAnswer, Moved, Back, Done, GraftOrder, Report, OperatorPart, World}
+use Rattle.graft_model.specs.Parts.{Place, Vacant, Live, Frozen, Shadow, Leaving, Owing, Asking as ToAnswer}
+use Rattle.graft_model.specs.Parts.{Moved, Back, Done, GraftOrder, Report, OperatorPart, World}
 use Rattle.graft_model.specs.Placements.{target_in}
 use Rattle.graft_model.specs.Claims.{sessions_at, sessions_on}
 use Rattle.graft_model.specs.Steps.{Heads}
-use Rattle.graft_laws.specs.Phases.{Stage, Ordered, Stored, Halted, Moving, Landed, Asking, Confirmed, Returning, Declined, Cleared, Phase, Idle, Busy, only_at, only2, place_by, mesh_by}
+use Rattle.graft_laws.specs.Phases.{Stage, Ordered, Stored, Halted, Moving, Landed, Asking, Confirmed, Returning}
+use Rattle.graft_laws.specs.Phases.{Declined, Cleared, Phase, Idle, Busy, only_at, only2, place_by, mesh_by}
 use Rattle.graft_laws.specs.Log.{IsGraftUnderWay}
 use Rattle.graft_laws.specs.Owned.{is_on, mesh_items_on, orders_of, Stands, Owned}
 use Rattle.graft_laws.specs.Facts.{IsNowhereElse}
@@ -56,20 +58,25 @@ module _ (setup : Setup) (w : World) (p q k t : ℕ) (s : SessionValue) (next : 
   busy_same Ordered b =
       let o : GraftOrder = record { graft = k; peering = p; target = t } in
       (order_in next p q o [] (sym (only_here q o) ∙ (sym (b.orders q) ∙ other.orders q))).0
-  busy_same Stored b = (stored_at next u s q k t (sym (placed_here q (Live s (Some (Leaving (record { graft = k; target = t }))))) ∙ (sym (b.places q) ∙ other.places q))).0
+  busy_same Stored b =
+      (stored_at next u s q k t (sym (placed_here q (Live s (Some (Leaving (record { graft = k; target = t }))))) ∙ (sym (b.places q) ∙ other.places q))).0
   busy_same Halted b = (halted_at next u s q k t (sym (placed_here q (Frozen s (record { graft = k; target = t }))) ∙ (sym (b.places q) ∙ other.places q))).0
   busy_same Moving b = (moved_in next p u s q t k [] (sym (only2_here q t (Moved k p s)) ∙ (sym (b.mesh q t) ∙ other.mesh q t))).0
   busy_same (Landed n) b =
-      (owing_at next u s t k q n (sym (landed_here t (Live s (Some (Owing (record { graft = k; source = q; next = n })))) (cond (t == q) (Shadow k) Vacant)) ∙ (sym (b.places t) ∙ other.places t))).0
+      (owing_at next u s t k q n (sym (landed_here t (Live s (Some (Owing (record { graft = k; source = q; next = n })))) (cond (t == q) (Shadow k) Vacant))
+      ∙ (sym (b.places t) ∙ other.places t))).0
   busy_same (Asking n) b =
-      (asking_at next u s t k q n (sym (landed_here t (Live s (Some (ToAnswer (record { graft = k; source = q; next = n })))) (cond (t == q) (Shadow k) Vacant)) ∙ (sym (b.places t) ∙ other.places t))).0
+      (asking_at next u s t k q n (sym (landed_here t (Live s (Some (ToAnswer (record { graft = k; source = q; next = n }))))
+      (cond (t == q) (Shadow k) Vacant)) ∙ (sym (b.places t) ∙ other.places t))).0
   busy_same Confirmed b = done_in next p u t q k [] (sym (only2_here t q (Done k p)) ∙ (sym (b.mesh t q) ∙ other.mesh t q))
   busy_same (Returning refusal) b = (back_in next p u s refusal t q k [] (sym (only2_here t q (Back k p s refusal)) ∙ (sym (b.mesh t q) ∙ other.mesh t q))).0
   busy_same (Declined refusal) b =
-      let found = refusal_in next q k refusal [] (sym (only_here q (let o : Report = record { graft = k; outcome = Refused refusal } in o)) ∙ (sym (b.reports q) ∙ other.reports q)) in
+      let found = refusal_in next q k refusal []
+      (sym (only_here q (let o : Report = record { graft = k; outcome = Refused refusal } in o)) ∙ (sym (b.reports q) ∙ other.reports q)) in
       by_target (Declined refusal) found.0 b found.1
   busy_same Cleared b =
-      let found = success_in next q k [] (sym (only_here q (let o : Report = record { graft = k; outcome = Accepted } in o)) ∙ (sym (b.reports q) ∙ other.reports q)) in
+      let found = success_in next q k []
+      (sym (only_here q (let o : Report = record { graft = k; outcome = Accepted } in o)) ∙ (sym (b.reports q) ∙ other.reports q)) in
       by_target Cleared found.0 b found.1
 
 -- A peering stands in one phase, with one session.
@@ -115,7 +122,8 @@ module _ (setup : Setup) (w : World) (owned : Owned setup w) where
       let p : ℕ = o.peering in
       let l : p < peerings_in setup = known_order setup w owned r p o h (equal p) in
       let held = owned.peerings p l in
-      let e = order_in held.phase p r o (orders_of p h.rest) (own_head (λ (x : GraftOrder). x.peering == p) (w.orders r) h.rest o h.is (equal p) ∙ held.stands.orders r) in
+      let e = order_in held.phase p r o (orders_of p h.rest)
+      (own_head (λ (x : GraftOrder). x.peering == p) (w.orders r) h.rest o h.is (equal p) ∙ held.stands.orders r) in
       let b : Stands setup w p (Busy r o.graft o.target Ordered) held.session = subst (λ (x : Phase). Stands setup w p x held.session) e.0 held.stands in
       (b.bounds.1, held.session, record { is = b.places r ∙ placed_here r (Live held.session None) })
 
@@ -123,7 +131,8 @@ module _ (setup : Setup) (w : World) (owned : Owned setup w) where
   vacant_at q r k p s h =
       let l : p < peerings_in setup = known_mesh setup w owned q r p (Moved k p s) h (equal p) in
       let held = owned.peerings p l in
-      let e = moved_in held.phase p held.session s q r k (mesh_items_on p h.rest) (own_head (is_on p) (w.mesh q r) h.rest (Moved k p s) h.is (equal p) ∙ held.stands.mesh q r) in
+      let e = moved_in held.phase p held.session s q r k (mesh_items_on p h.rest)
+      (own_head (is_on p) (w.mesh q r) h.rest (Moved k p s) h.is (equal p) ∙ held.stands.mesh q r) in
       let b : Stands setup w p (Busy q k r Moving) held.session = subst (λ (x : Phase). Stands setup w p x held.session) e.0 held.stands in
       (l, b.places r ∙ vacant r q k b.bounds.2)
     where
@@ -134,7 +143,8 @@ module _ (setup : Setup) (w : World) (owned : Owned setup w) where
   shadow_back q r k p s refusal h =
       let l : p < peerings_in setup = known_mesh setup w owned q r p (Back k p s refusal) h (equal p) in
       let held = owned.peerings p l in
-      let e = back_in held.phase p held.session s refusal q r k (mesh_items_on p h.rest) (own_head (is_on p) (w.mesh q r) h.rest (Back k p s refusal) h.is (equal p) ∙ held.stands.mesh q r) in
+      let e = back_in held.phase p held.session s refusal q r k (mesh_items_on p h.rest)
+      (own_head (is_on p) (w.mesh q r) h.rest (Back k p s refusal) h.is (equal p) ∙ held.stands.mesh q r) in
       let b : Stands setup w p (Busy r k q (Returning refusal)) held.session = subst (λ (x : Phase). Stands setup w p x held.session) e.0 held.stands in
       b.places r ∙ placed_here r (Shadow k)
 
@@ -142,7 +152,8 @@ module _ (setup : Setup) (w : World) (owned : Owned setup w) where
   shadow_done q r k p h =
       let l : p < peerings_in setup = known_mesh setup w owned q r p (Done k p) h (equal p) in
       let held = owned.peerings p l in
-      let e = done_in held.phase p held.session q r k (mesh_items_on p h.rest) (own_head (is_on p) (w.mesh q r) h.rest (Done k p) h.is (equal p) ∙ held.stands.mesh q r) in
+      let e = done_in held.phase p held.session q r k (mesh_items_on p h.rest)
+      (own_head (is_on p) (w.mesh q r) h.rest (Done k p) h.is (equal p) ∙ held.stands.mesh q r) in
       let b : Stands setup w p (Busy r k q Confirmed) held.session = subst (λ (x : Phase). Stands setup w p x held.session) e held.stands in
       b.places r ∙ shadow r q k held.session b.bounds.2
     where

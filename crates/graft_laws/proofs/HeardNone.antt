@@ -40,7 +40,8 @@ open_alone p _ _ (opened lines h e) s = e
 open_alone p _ _ (got before now bytes answer next lines l unclosed w r e) s = absurd (never_open _ answer next r s)
 open_alone p _ _ (updated before u lines l w c e) s = absurd cc
 open_alone p _ _ (passed before now round answer next lines l up_now h a r e) s =
-    let is : Rounds now next answer = round_is (silence before + 1 == hold p before) (round % (hold p before / 3) == 0) now next answer r (λ (c : next ≡ Closed). (let g : OpenSent ≡ Closed = sym s ∙ c in cc)) in
+    let is : Rounds now next answer = round_is (silence before + 1 == hold p before)
+    (round % (hold p before / 3) == 0) now next answer r (λ (c : next ≡ Closed). (let g : OpenSent ≡ Closed = sym s ∙ c in cc)) in
     let u : is_up OpenSent ≡ true = ap is_up (sym s ∙ is.same) ∙ up_now in
     absurd cc
 

@@ -60,7 +60,8 @@ update_can e bytes u (inr faulty) octets g = let sound = (read_of e bytes (Updat
 applied : (e : Expected) (bytes : List ℕ) (routes : Routes) (m : Result Message Notice) → IsGot bytes → AreOctets bytes → message_of e bytes ≡ m
     → AreSendable routes → AreSendable (apply_if routes (update_in m))
 applied e bytes routes (Ok (OpenMsg o)) got octets g all = all
-applied e bytes routes (Ok (UpdateMsg u)) got octets g all = announces IsSendable u.attrs (update_can e bytes u got octets g) u.nlri (fold map.remove routes u.withdrawn) (removes IsSendable u.withdrawn routes all)
+applied e bytes routes (Ok (UpdateMsg u)) got octets g all = announces IsSendable u.attrs
+    (update_can e bytes u got octets g) u.nlri (fold map.remove routes u.withdrawn) (removes IsSendable u.withdrawn routes all)
 applied e bytes routes (Ok (NoticeMsg n)) got octets g all = all
 applied e bytes routes (Ok KeepaliveMsg) got octets g all = all
 applied e bytes routes (Err n) got octets g all = all
@@ -73,7 +74,8 @@ gets_fine s next bytes octets g fine =
     let own : AreOctets bytes = AreOctets-front bytes g.rest (subst AreOctets g.front octets) in
     record {
       adj_rib_in = subst AreSendable (sym (ap (λ (v : SessionValue). v.adj_rib_in) g.effect))
-          (unclosed IsSendable g.next (apply_if s.adj_rib_in (update_in (message_of e bytes))) (applied e bytes s.adj_rib_in (message_of e bytes) g.got own refl fine.adj_rib_in));
+          (unclosed IsSendable g.next (apply_if s.adj_rib_in (update_in (message_of e bytes)))
+          (applied e bytes s.adj_rib_in (message_of e bytes) g.got own refl fine.adj_rib_in));
       remote_as = subst (λ (v : SessionValue). v.config.remote_as < 2 ^ 32) (sym g.effect) fine.remote_as;
     }
 

@@ -27,8 +27,10 @@ module _ (w v : World) (p : ℕ) (x x' : Endpoint)
       → ((r : ℕ) → AllByRecursion (IsEmittedBy (w.far p).end) (v.inward p r)) → Streams v p x'
   home_acts more outward all inward = record {
     linked = subst (λ (f : FarPart). AreLinked x' f.end) (sym far) stays.linked;
-    outward = λ r. all_is (IsOutwardOf x') (w.outward r p ++ more r) (v.outward r p) (outward r) (all_join (IsOutwardOf x') (w.outward r p) (more r) (still_out (w.outward r p) (s.outward r)) (all r));
-    remoteward = subst (λ (f : FarPart). AllByRecursion (IsEmittedBy x') f.remoteward) (sym far) (all_map (IsEmittedBy x) (IsEmittedBy x') (w.far p).remoteward stays.still s.remoteward);
+    outward = λ r. all_is (IsOutwardOf x') (w.outward r p ++ more r) (v.outward r p) (outward r)
+        (all_join (IsOutwardOf x') (w.outward r p) (more r) (still_out (w.outward r p) (s.outward r)) (all r));
+    remoteward = subst (λ (f : FarPart). AllByRecursion (IsEmittedBy x') f.remoteward) (sym far)
+        (all_map (IsEmittedBy x) (IsEmittedBy x') (w.far p).remoteward stays.still s.remoteward);
     inward = λ r. subst (λ (f : FarPart). AllByRecursion (IsEmittedBy f.end) (v.inward p r)) (sym far) (inward r);
     homeward = subst (λ (f : FarPart). AllByRecursion (IsEmittedBy f.end) f.homeward) (sym far) s.homeward;
   }
@@ -56,7 +58,8 @@ line_gives w v p r segment x x' line stays s =
 -- what comes in is the remote's
 pub comes_in : (w v : World) (p r : ℕ) (segment : PlacedSegment) (x : Endpoint) → LineGives p r segment w v → Streams w p x → IsEmittedBy (w.far p).end segment
 comes_in w v p r segment x line s =
-    let head : (segment ∷ []) ++ v.inward p r ≡ w.inward p r = ap (λ (xs : List PlacedSegment). xs ++ v.inward p r) (sym (Rattle.graft_laws.proofs.Segments.only_here r segment)) ∙ line.inward r in
+    let head : (segment ∷ []) ++ v.inward p r ≡ w.inward p r =
+    ap (λ (xs : List PlacedSegment). xs ++ v.inward p r) (sym (Rattle.graft_laws.proofs.Segments.only_here r segment)) ∙ line.inward r in
     (all_is (IsEmittedBy (w.far p).end) (w.inward p r) (segment ∷ v.inward p r) head (s.inward r)).0
 
 -- a step is to be said

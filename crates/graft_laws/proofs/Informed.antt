@@ -1,5 +1,6 @@
 -- What a router has of another is what that one tells, but for what is due or on its way.
-use Rattle.std.proofs.Common.{◌≡◌, ◌≢◌, ◌==◌, cond, ℕ, ◌<◌, Bool, true, false, List, [], ◌∷◌, ◌++◌, Option, Some, None, refl, sym, ap, ◌∙◌, subst, arith, ◌⊎◌, inl, inr}
+use Rattle.std.proofs.Common.{◌≡◌, ◌≢◌, ◌==◌, cond, ℕ, ◌<◌, Bool, true, false, List, [], ◌∷◌, ◌++◌, Option}
+use Rattle.std.proofs.Common.{Some, None, refl, sym, ap, ◌∙◌, subst, arith, ◌⊎◌, inl, inr}
 use Rattle.std.specs.Prelude.{◌||◌, ◌&&◌, not, nat_lt, if◌then◌else◌}
 use Rattle.std.specs.FinMap as map
 use Rattle.std.proofs.lemmas.Bool.{cases_eq}
@@ -171,11 +172,13 @@ module _ (setup : Setup) (r : ℕ) (before : RouterPart) (taken : Option RouterT
     hears = λ a x rest was e. ap (λ (u : RouterPart). last_told x rest (map.get (u.tellings a) x)) row.effect
         ∙ no_taken row.takes a x rest was (map.get (before.tellings a) x) e;
     itself = λ none x.
-        let apart : r ≢ q = λ e. (let f : has (before.due_in r) prefix ≡ true = ap (λ (n : ℕ). has (before.due_in n) prefix) e ∙ row.due in let g : true ≡ false = sym f ∙ none prefix in cc) in (
+        let apart : r ≢ q = λ e. (let f : has (before.due_in r) prefix ≡ true = ap (λ (n : ℕ). has (before.due_in n) prefix) e ∙ row.due in
+        let g : true ≡ false = sym f ∙ none prefix in cc) in (
           ap (λ (u : RouterPart). has (u.due_in r) x) row.effect
               ∙ ap (λ (s : Prefixes). has s x) (at_apart before.due_in q r (map.remove (before.due_in q) prefix) apart) ∙ none x,
           ap (λ (s : List RouterSent). last_told x (mesh_sent r s r r) None) row.sends
-              ∙ ap (λ (t : Bool). last_told x ((if (r == r) then (if t then item ∷ [] else []) else []) ++ []) None) (let f : (r == q) ≡ false = grind (arith, nat_tests) in f)
+              ∙ ap (λ (t : Bool). last_told x ((if (r == r) then (if t then item ∷ [] else []) else []) ++ []) None)
+              (let f : (r == q) ≡ false = grind (arith, nat_tests) in f)
               ∙ empty_if (r == r) x,
         );
   } where
@@ -208,15 +211,18 @@ module _ (setup : Setup) (r : ℕ) (before : RouterPart) (taken : Option RouterT
         ap (λ (u : RouterPart). has (u.due_in b) x) row.effect ∙ ap (λ (n : ℕ). has (at before.due_in q (map.remove (before.due_in q) prefix) n) x) e
         ∙ ap (λ (s : Prefixes). has s x) (at_same before.due_in q (map.remove (before.due_in q) prefix)) ∙ has_removed (before.due_in q) prefix x in
         ap (λ (n : ℕ). last_told x (only2 r q item r n ++ []) d) e ∙ ap (λ (xs : List Mesh). last_told x (xs ++ []) d) one
-        ∙ by_prefix x d (λ apart. is (ap (λ (n : ℕ). has (before.due_in n) x) e ∙ still x apart (sym removed ∙ clean) (one_or_not x prefix))) (one_or_not x prefix)
+        ∙ by_prefix x d (λ apart. is (ap (λ (n : ℕ). has (before.due_in n) x) e ∙ still x apart (sym removed ∙ clean) (one_or_not x prefix)))
+        (one_or_not x prefix)
       where
         still : (x : PrefixValue) → same_prefix x prefix ≡ false → cond (same x prefix) false (has (before.due_in q) x) ≡ false
             → (x ≡ prefix) ⊎ ((same x prefix ≡ false) × (same_prefix x prefix ≡ false)) → has (before.due_in q) x ≡ false
-        still x apart e (inl is) = let t : same_prefix x prefix ≡ true = ap (λ (y : PrefixValue). same_prefix y prefix) is ∙ same_itself prefix in let f : true ≡ false = sym t ∙ apart in absurd cc
+        still x apart e (inl is) = let t : same_prefix x prefix ≡ true = ap (λ (y : PrefixValue). same_prefix y prefix) is ∙ same_itself prefix in
+            let f : true ≡ false = sym t ∙ apart in absurd cc
         still x apart e (inr other) = sym (ap (λ (t : Bool). cond t false (has (before.due_in q) x)) other.0) ∙ e
     by_number b x clean d is (inr other) =
         ap (λ (xs : List Mesh). last_told x (xs ++ []) d) (none_else b other)
-        ∙ is (sym (ap (λ (u : RouterPart). has (u.due_in b) x) row.effect ∙ ap (λ (s : Prefixes). has s x) (at_apart before.due_in q b (map.remove (before.due_in q) prefix) other)) ∙ clean)
+        ∙ is (sym (ap (λ (u : RouterPart). has (u.due_in b) x) row.effect
+        ∙ ap (λ (s : Prefixes). has s x) (at_apart before.due_in q b (map.remove (before.due_in q) prefix) other)) ∙ clean)
 
   -- what is told is heard
   hears : (q : ℕ) → Hears q before taken sent after → Says setup r before taken sent after
@@ -245,7 +251,8 @@ module _ (setup : Setup) (r : ℕ) (before : RouterPart) (taken : Option RouterT
         → cond (same x row.prefix) row.route (map.get (before.tellings q) x) ≡ (if same_prefix x row.prefix then row.route else map.get (before.tellings q) x)
     by_prefix x (inl e) =
         ap (λ (t : Bool). cond t row.route (map.get (before.tellings q) x)) (ap (λ (y : PrefixValue). same y row.prefix) e ∙ same_self row.prefix)
-        ∙ sym (ap (λ (t : Bool). if t then row.route else map.get (before.tellings q) x) (ap (λ (y : PrefixValue). same_prefix y row.prefix) e ∙ same_itself row.prefix))
+        ∙ sym (ap (λ (t : Bool). if t then row.route else map.get (before.tellings q) x)
+        (ap (λ (y : PrefixValue). same_prefix y row.prefix) e ∙ same_itself row.prefix))
     by_prefix x (inr apart) =
         ap (λ (t : Bool). cond t row.route (map.get (before.tellings q) x)) apart.0
         ∙ sym (ap (λ (t : Bool). if t then row.route else map.get (before.tellings q) x) apart.1)
@@ -270,8 +277,10 @@ module _ (setup : Setup) (r : ℕ) (before : RouterPart) (taken : Option RouterT
     by_print (Telling q prefix row) = tells q prefix row
     by_print (Hearing q row) = hears q row
     by_print (Staying silent is) =
-        quiet (mute setup event before taken after r sent silent.sends) (deaf setup before r taken silent.takes) (ap (λ (u : RouterPart). u.due_in) is) (ap (λ (u : RouterPart). u.best) is) (ap (λ (u : RouterPart). u.tellings) is)
-    by_print (Changing p silent one change) = quiet (mute setup event before taken after r sent silent.sends) (deaf setup before r taken silent.takes) one.due_in one.best one.tellings
+        quiet (mute setup event before taken after r sent silent.sends) (deaf setup before r taken silent.takes)
+        (ap (λ (u : RouterPart). u.due_in) is) (ap (λ (u : RouterPart). u.best) is) (ap (λ (u : RouterPart). u.tellings) is)
+    by_print (Changing p silent one change) =
+        quiet (mute setup event before taken after r sent silent.sends) (deaf setup before r taken silent.takes) one.due_in one.best one.tellings
 
 -- ---- the world
 
@@ -283,7 +292,8 @@ taken_apart r (Some (MeshIn q item)) a b other = grind (arith, nat_tests)
 
 sent_apart : (r : ℕ) (sent : List RouterSent) (a b : ℕ) → a ≢ r → mesh_sent r sent a b ≡ []
 sent_apart r [] a b other = refl
-sent_apart r (MeshTo q item ∷ sent) a b other = let none : only2 r q item a b ≡ [] = grind (arith, nat_tests) in ap (λ (xs : List Mesh). xs ++ mesh_sent r sent a b) none ∙ sent_apart r sent a b other
+sent_apart r (MeshTo q item ∷ sent) a b other = let none : only2 r q item a b ≡ [] = grind (arith, nat_tests) in
+    ap (λ (xs : List Mesh). xs ++ mesh_sent r sent a b) none ∙ sent_apart r sent a b other
 sent_apart r (OutwardTo p item ∷ sent) a b other = sent_apart r sent a b other
 sent_apart r (ReportOut report ∷ sent) a b other = sent_apart r sent a b other
 
@@ -304,13 +314,15 @@ module _ (setup : Setup) (w v : World) (r : ℕ) (taken : Option RouterTaken) (s
   heard_there : (a b : ℕ) (x : PrefixValue) → b ≢ r → heard_then v a b x ≡ last_told x (mesh_sent r sent a b) (heard_then w a b x)
   heard_there a b x other =
       ap (λ (u : RouterPart). last_told x (v.mesh a b) (map.get (u.tellings a) x)) (there b other)
-      ∙ ap (λ (xs : List Mesh). last_told x xs (map.get ((w.router b).tellings a) x)) (ap (λ (xs : List Mesh). xs ++ v.mesh a b) (sym (taken_apart r taken a b other)) ∙ m.mesh a b)
+      ∙ ap (λ (xs : List Mesh). last_told x xs (map.get ((w.router b).tellings a) x))
+      (ap (λ (xs : List Mesh). xs ++ v.mesh a b) (sym (taken_apart r taken a b other)) ∙ m.mesh a b)
       ∙ last_append x (w.mesh a b) (mesh_sent r sent a b) (map.get ((w.router b).tellings a) x)
 
   heard_not_sent : (a b : ℕ) (x : PrefixValue) → a ≢ r → (b ≡ r) ⊎ (b ≢ r) → heard_then v a b x ≡ heard_then w a b x
   heard_not_sent a b x other (inl is) =
       ap (λ (n : ℕ). heard_then v a n x) is ∙ heard_here a x
-      ∙ ap (λ (xs : List Mesh). last_told x xs (map.get ((w.router r).tellings a) x)) (ap (λ (xs : List Mesh). w.mesh a r ++ xs) (sent_apart r sent a r other) ∙ append-nil (w.mesh a r))
+      ∙ ap (λ (xs : List Mesh). last_told x xs (map.get ((w.router r).tellings a) x))
+      (ap (λ (xs : List Mesh). w.mesh a r ++ xs) (sent_apart r sent a r other) ∙ append-nil (w.mesh a r))
       ∙ ap (λ (n : ℕ). heard_then w a n x) (sym is)
   heard_not_sent a b x other (inr apart) = heard_there a b x apart ∙ ap (λ (xs : List Mesh). last_told x xs (heard_then w a b x)) (sent_apart r sent a b other)
 
@@ -358,7 +370,8 @@ unmoved setup a b w v routers mesh is = record {
 
 step_informed : (setup : Setup) (a b : ℕ) (event : Event) (w v : World) → Step setup event w v → Informed setup a b w → Informed setup a b v
 step_informed setup a b (ByRouter r event) w v x is =
-    by_sender setup w v r x.taken x.sent x.part (router_moves setup r event w v x) (says_row setup r (w.router r) x.taken x.sent x.part event x.row) a b (cases_eq a r) is
+    by_sender setup w v r x.taken x.sent x.part (router_moves setup r event w v x)
+    (says_row setup r (w.router r) x.taken x.sent x.part event x.row) a b (cases_eq a r) is
 step_informed setup a b (ByFar p event) w v x is = let m = far_moves setup p event w v x in unmoved setup a b w v m.router m.mesh is
 step_informed setup a b (ByOperator event) w v x is = let m = operator_moves setup event w v x in unmoved setup a b w v m.router m.mesh is
 
@@ -369,4 +382,5 @@ first_informed setup a b = record {
 }
 
 pub informed : (setup : Setup) (a b : ℕ) (w : World) → Reached setup w → Informed setup a b w
-informed setup a b w reached = carried setup (Informed setup a b) (first_informed setup a b) (λ event before after reach step is. step_informed setup a b event before after step is) w reached
+informed setup a b w reached = carried setup (Informed setup a b) (first_informed setup a b)
+    (λ event before after reach step is. step_informed setup a b event before after step is) w reached

@@ -24,7 +24,8 @@ module _ (setup : Setup) (before : OperatorPart) (p k : ℕ) (outcome : Outcome)
   -- what the note does to the log of another peering
   pub note_others : is_graft_on setup p k ≡ false → SameLog setup p before with_outcome
   note_others not_own = same_if setup p before with_outcome refl refl (λ j own. refl) (λ j own.
-      let differs : j ≢ k = (λ (is : j ≡ k). (let e : is_graft_on setup p k ≡ true = subst (λ (x : ℕ). is_graft_on setup p x ≡ true) is own in absurd cc)) in grind (arith, nat_tests))
+      let differs : j ≢ k = (λ (is : j ≡ k).
+      (let e : is_graft_on setup p k ≡ true = subst (λ (x : ℕ). is_graft_on setup p x ≡ true) is own in absurd cc)) in grind (arith, nat_tests))
 
   ended_then : (g : ScriptGraft) → HasEnded before g → HasEnded with_outcome g
   ended_then g was = record { ordered = was.ordered; ended = λ none. was.ended (grind (arith, nat_tests)) }
@@ -66,7 +67,8 @@ module _ (setup : Setup) (before : OperatorPart) (p q k t : ℕ) (stage : Stage)
     now = [];
     later = log.later;
     grafts = grafts_are setup before p q k t stage log ∙ sym (append_assoc log.past (g ∷ []) log.later);
-    are_behind = all_join (IsBehind setup then) log.past (g ∷ []) (all_map (IsBehind setup before) (IsBehind setup then) log.past (λ x. behind_then setup before p k outcome q x log.goes_on.ordered) log.are_behind)
+    are_behind = all_join (IsBehind setup then) log.past (g ∷ [])
+        (all_map (IsBehind setup before) (IsBehind setup then) log.past (λ x. behind_then setup before p k outcome q x log.goes_on.ordered) log.are_behind)
         (record { begun = (let at_work = log.goes_on.begun in omega (arith, at_work)); over = inl ended_here }, tt);
     goes_on = refl;
     wait = wait_then;
@@ -89,7 +91,8 @@ module _ (setup : Setup) (before : OperatorPart) (p q k t : ℕ) (stage : Stage)
   pub refused_log : LogSays setup (with_outcome setup before p k (Refused refusal)) p (Idle q)
   refused_log = log_then setup before p q k t stage (Refused refusal) log q
       (placed_alike setup before (with_outcome setup before p k (Refused refusal)) p
-      (all_of (CountsAlike setup before (with_outcome setup before p k (Refused refusal))) (grafts_of setup p) (λ x. record { accepted = counts_alike x; target = λ is. refl }))
+      (all_of (CountsAlike setup before (with_outcome setup before p k (Refused refusal)))
+      (grafts_of setup p) (λ x. record { accepted = counts_alike x; target = λ is. refl }))
       ∙ log.placed)
 
 -- ---- a graft that succeeded
@@ -103,5 +106,6 @@ module _ (setup : Setup) (before : OperatorPart) (p q k t : ℕ) (stage : Stage)
 
   pub accepted_log : LogSays setup noted p (Idle t)
   accepted_log = log_then setup before p q k t stage Accepted log t
-      (placed_last setup noted p t log.past log.later graft (grafts_are setup before p q k t stage log) (let a : accepts noted graft ≡ true = grind (arith, nat_tests) in a)
+      (placed_last setup noted p t log.past log.later graft (grafts_are setup before p q k t stage log)
+      (let a : accepts noted graft ≡ true = grind (arith, nat_tests) in a)
       (none_later setup before p q k t stage Accepted log) log.goes_on.aims)

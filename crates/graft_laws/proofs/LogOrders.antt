@@ -33,7 +33,8 @@ module _ (setup : Setup) (before : OperatorPart) (g : ScriptGraft) (q : ℕ) whe
   -- what the order does to the log of another peering
   pub order_others : (other : ℕ) → graft_at setup g.graft ≡ Some g → other ≢ g.peering → SameLog setup other before with_order
   order_others other known ne = same_if setup other before with_order refl refl (λ k own.
-      let differs : k ≢ g.graft = (λ (is : k ≡ g.graft). ne (one_peering setup other g.peering g.graft (subst (λ (x : ℕ). is_graft_on setup other x ≡ true) is own) (is_own setup g.peering g (known, refl)))) in
+      let differs : k ≢ g.graft = (λ (is : k ≡ g.graft). ne (one_peering setup other g.peering g.graft
+      (subst (λ (x : ℕ). is_graft_on setup other x ≡ true) is own) (is_own setup g.peering g (known, refl)))) in
       grind (arith, nat_tests))
       (λ k own. refl)
 
@@ -73,7 +74,8 @@ pub record OrderSays (setup : Setup) (before after : OperatorPart) (p k t : ℕ)
   pub was : phase ≡ Idle (placement setup before p)
   pub log : LogSays setup after p (Busy (placement setup before p) k t Ordered)
 
--- What an order asks for: the graft was neither ordered nor has it an outcome, its group is at work, and those before it of its peering that are made have their outcomes.
+-- What an order asks for: the graft was neither ordered nor has it an outcome, its group
+-- is at work, and those before it of its peering that are made have their outcomes.
 pub record MayOrder (setup : Setup) (before : OperatorPart) (g : ScriptGraft) (t : ℕ) : Type 0 where
   pub known : graft_at setup g.graft ≡ Some g
   pub group : group_of setup g.step ≡ before.group
@@ -100,7 +102,8 @@ module _ (setup : Setup) (before : OperatorPart) (g : ScriptGraft) (t : ℕ) (ma
   below = before_below setup p cut.front cut.back g cut.is
 
   front_own : AllByRecursion (IsGraftOf setup p) cut.front
-  front_own = all_front (IsGraftOf setup p) cut.front (g ∷ cut.back) (subst (λ (x : List ScriptGraft). AllByRecursion (IsGraftOf setup p) x) cut.is (all_of_peering setup p))
+  front_own = all_front (IsGraftOf setup p) cut.front (g ∷ cut.back)
+      (subst (λ (x : List ScriptGraft). AllByRecursion (IsGraftOf setup p) x) cut.is (all_of_peering setup p))
 
   -- the graft isn't behind, nor is it under way
   not_behind : IsBehind setup before g → ⊥
@@ -128,7 +131,8 @@ module _ (setup : Setup) (before : OperatorPart) (g : ScriptGraft) (t : ℕ) (ma
   open_before : (x : ScriptGraft) (later ws : List ScriptGraft) → IsOpen setup before p x → x ∷ later ≡ ws ++ g ∷ cut.back
       → AllByRecursion (λ (y : ScriptGraft). y.graft < g.graft) ws → ⊥
   open_before x later [] is e less = not_open x is (heads x g later cut.back e)
-  open_before x later (y ∷ ws) is e less = not_before x is (subst (λ (z : ScriptGraft). z.graft < g.graft) (sym (heads x y later (ws ++ g ∷ cut.back) e)) less.0)
+  open_before x later (y ∷ ws) is e less =
+      not_before x is (subst (λ (z : ScriptGraft). z.graft < g.graft) (sym (heads x y later (ws ++ g ∷ cut.back) e)) less.0)
 
   is_next : (phase : Phase) (log : LogSays setup before p phase) → IsNext phase log
   is_next phase log = of (stands_in log.past (log.now ++ log.later) cut.front cut.back g (sym log.grafts ∙ cut.is)) where
@@ -136,10 +140,12 @@ module _ (setup : Setup) (before : OperatorPart) (g : ScriptGraft) (t : ℕ) (ma
         → ((log.now ≡ []) × (phase ≡ Idle (source_of phase))) ⊎ HasOpen setup before p log.now → IsNext phase log
     by_now ws e f (inl (none, idle)) = record { idle = idle; mid = ws; front = e; later = ap (λ (x : List ScriptGraft). x ++ log.later) (sym none) ∙ f }
     by_now ws e f (inr x) = absurd (open_before x.graft log.later ws x.open_is (ap (λ (y : List ScriptGraft). y ++ log.later) (sym x.is) ∙ f)
-        (all_back (λ (y : ScriptGraft). y.graft < g.graft) log.past ws (subst (λ (y : List ScriptGraft). AllByRecursion (λ (z : ScriptGraft). z.graft < g.graft) y) e below)))
+        (all_back (λ (y : ScriptGraft). y.graft < g.graft) log.past ws
+        (subst (λ (y : List ScriptGraft). AllByRecursion (λ (z : ScriptGraft). z.graft < g.graft) y) e below)))
 
     of : StandsIn log.past (log.now ++ log.later) cut.front cut.back g → IsNext phase log
-    of (inl (ws, e)) = absurd (not_behind (found_in cut.front ws g (IsBehind setup before) (subst (λ (x : List ScriptGraft). AllByRecursion (IsBehind setup before) x) e log.are_behind)))
+    of (inl (ws, e)) = absurd (not_behind (found_in cut.front ws g (IsBehind setup before)
+        (subst (λ (x : List ScriptGraft). AllByRecursion (IsBehind setup before) x) e log.are_behind)))
     of (inr (ws, e, f)) = by_now ws e f (has_open setup before p phase log.now log.goes_on)
 
   -- a graft that waits before it is behind: its group has begun, and it isn't made
@@ -158,21 +164,26 @@ module _ (setup : Setup) (before : OperatorPart) (g : ScriptGraft) (t : ℕ) (ma
   front_behind : (phase : Phase) (log : LogSays setup before p phase) → IsNext phase log → AllByRecursion (IsBehind setup before) cut.front
   front_behind phase log next =
       let Here : ScriptGraft → Type 0 = λ x. (IsGraftOf setup p x) × (x.graft < g.graft) in
-      let here : AllByRecursion Here cut.front = all_both (IsGraftOf setup p) (λ (x : ScriptGraft). x.graft < g.graft) Here cut.front (λ x own less. (own, less)) front_own below in
+      let here : AllByRecursion Here cut.front =
+      all_both (IsGraftOf setup p) (λ (x : ScriptGraft). x.graft < g.graft) Here cut.front (λ x own less. (own, less)) front_own below in
       let here_mid : AllByRecursion Here next.mid = all_back Here log.past next.mid (subst (λ (x : List ScriptGraft). AllByRecursion Here x) next.front here) in
-      let wait_mid : AllByRecursion (AwaitsOrder before) next.mid = all_front (AwaitsOrder before) next.mid (g ∷ cut.back) (subst (λ (x : List ScriptGraft). AllByRecursion (AwaitsOrder before) x) next.later log.wait) in
+      let wait_mid : AllByRecursion (AwaitsOrder before) next.mid = all_front (AwaitsOrder before) next.mid
+      (g ∷ cut.back) (subst (λ (x : List ScriptGraft). AllByRecursion (AwaitsOrder before) x) next.later log.wait) in
       subst (λ (x : List ScriptGraft). AllByRecursion (IsBehind setup before) x) (sym next.front)
-      (all_join (IsBehind setup before) log.past next.mid log.are_behind (all_both Here (AwaitsOrder before) (IsBehind setup before) next.mid passed here_mid wait_mid))
+      (all_join (IsBehind setup before) log.past next.mid log.are_behind
+      (all_both Here (AwaitsOrder before) (IsBehind setup before) next.mid passed here_mid wait_mid))
 
   log_with : (phase : Phase) (log : LogSays setup before p phase) → IsNext phase log → LogSays setup ordered p (Busy source g.graft t Ordered)
   log_with phase log next =
-      let wait_back : AllByRecursion (AwaitsOrder before) (g ∷ cut.back) = all_back (AwaitsOrder before) next.mid (g ∷ cut.back) (subst (λ (x : List ScriptGraft). AllByRecursion (AwaitsOrder before) x) next.later log.wait) in
+      let wait_back : AllByRecursion (AwaitsOrder before) (g ∷ cut.back) = all_back (AwaitsOrder before) next.mid
+      (g ∷ cut.back) (subst (λ (x : List ScriptGraft). AllByRecursion (AwaitsOrder before) x) next.later log.wait) in
       record {
         past = cut.front;
         now = g ∷ [];
         later = cut.back;
         grafts = cut.is;
-        are_behind = all_both (λ (x : ScriptGraft). x.graft < g.graft) (IsBehind setup before) (IsBehind setup ordered) cut.front (behind_with setup before g source) below (front_behind phase log next);
+        are_behind = all_both (λ (x : ScriptGraft). x.graft < g.graft) (IsBehind setup before)
+            (IsBehind setup ordered) cut.front (behind_with setup before g source) below (front_behind phase log next);
         goes_on = record {
           step = g.step;
           is = refl;
@@ -182,7 +193,8 @@ module _ (setup : Setup) (before : OperatorPart) (g : ScriptGraft) (t : ℕ) (ma
           ordered = grind (arith, nat_tests);
           unended = may.unended;
         };
-        wait = all_both (λ (x : ScriptGraft). g.graft < x.graft) (AwaitsOrder before) (AwaitsOrder ordered) cut.back (λ x above. waits_with setup before g source x (λ (same : x.graft ≡ g.graft). omega arith))
+        wait = all_both (λ (x : ScriptGraft). g.graft < x.graft) (AwaitsOrder before) (AwaitsOrder ordered) cut.back
+            (λ x above. waits_with setup before g source x (λ (same : x.graft ≡ g.graft). omega arith))
             (behind_above setup p cut.front cut.back g cut.is) wait_back.1;
         placed = refl;
       }

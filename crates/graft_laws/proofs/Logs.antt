@@ -36,7 +36,8 @@ HasBegun setup operator g = group_of setup g.step ≤ operator.group
 all_begun : (setup : Setup) (operator : OperatorPart) (p : ℕ) (phase : Phase) (now : List ScriptGraft) → GoesOnIn setup operator p phase now
     → AllByRecursion (HasBegun setup operator) now
 all_begun setup operator p (Idle q) now none = subst (λ (x : List ScriptGraft). AllByRecursion (HasBegun setup operator) x) (sym none) tt
-all_begun setup operator p (Busy q k t stage) now on = subst (λ (x : List ScriptGraft). AllByRecursion (HasBegun setup operator) x) (sym on.is) ((let at_work = on.begun in omega (arith, at_work)), tt)
+all_begun setup operator p (Busy q k t stage) now on =
+    subst (λ (x : List ScriptGraft). AllByRecursion (HasBegun setup operator) x) (sym on.is) ((let at_work = on.begun in omega (arith, at_work)), tt)
 
 abbrev BegunOrWaits : Setup → OperatorPart → ScriptGraft → Type 0
 BegunOrWaits setup operator g = HasBegun setup operator g ⊎ AwaitsOrder operator g
@@ -72,7 +73,8 @@ module _ (setup : Setup) (p : ℕ) (before after : OperatorPart) (same : KeepsLo
   }
 
   waits_still : (g : ScriptGraft) → IsGraftOf setup p g → AwaitsOrder before g → AwaitsOrder after g
-  waits_still g own was = record { unordered = same.source g.graft (is_own setup p g own) ∙ was.unordered; unended = same.outcome g.graft (is_own setup p g own) ∙ was.unended }
+  waits_still g own was =
+      record { unordered = same.source g.graft (is_own setup p g own) ∙ was.unordered; unended = same.outcome g.graft (is_own setup p g own) ∙ was.unended }
 
   behind_still : (g : ScriptGraft) → IsGraftOf setup p g → IsBehind setup before g → IsBehind setup after g
   behind_still g own was = record { begun = begun_still g was.begun; over = over was.over } where
@@ -106,18 +108,21 @@ module _ (setup : Setup) (p : ℕ) (before after : OperatorPart) (same : KeepsLo
 
   pub placement_same : (phase : Phase) → LogSays setup before p phase → placement setup after p ≡ placement setup before p
   placement_same phase log = placed_alike setup before after p
-      (all_both (IsGraftOf setup p) (BegunOrWaits setup before) (CountsAlike setup before after) (grafts_of setup p) alike (all_of_peering setup p) (begun_or_waits setup before p phase log))
+      (all_both (IsGraftOf setup p) (BegunOrWaits setup before) (CountsAlike setup before after)
+      (grafts_of setup p) alike (all_of_peering setup p) (begun_or_waits setup before p phase log))
 
   pub log_kept : (phase : Phase) → SameGroup phase before after → LogSays setup before p phase → LogSays setup after p phase
   log_kept phase group log =
       let own : AllByRecursion (IsGraftOf setup p) (log.past ++ (log.now ++ log.later)) = log_own setup before p phase log in
-      let own_later : AllByRecursion (IsGraftOf setup p) log.later = all_back (IsGraftOf setup p) log.now log.later (all_back (IsGraftOf setup p) log.past (log.now ++ log.later) own) in
+      let own_later : AllByRecursion (IsGraftOf setup p) log.later =
+      all_back (IsGraftOf setup p) log.now log.later (all_back (IsGraftOf setup p) log.past (log.now ++ log.later) own) in
       record {
         past = log.past;
         now = log.now;
         later = log.later;
         grafts = log.grafts;
-        are_behind = all_both (IsGraftOf setup p) (IsBehind setup before) (IsBehind setup after) log.past behind_still (all_front (IsGraftOf setup p) log.past (log.now ++ log.later) own) log.are_behind;
+        are_behind = all_both (IsGraftOf setup p) (IsBehind setup before) (IsBehind setup after) log.past behind_still
+            (all_front (IsGraftOf setup p) log.past (log.now ++ log.later) own) log.are_behind;
         goes_on = goes_on_still phase log.now group log.goes_on;
         wait = all_both (IsGraftOf setup p) (AwaitsOrder before) (AwaitsOrder after) log.later waits_still own_later log.wait;
         placed = placement_same phase log ∙ log.placed;
@@ -133,4 +138,13 @@ log_still setup p before after phase same = log_kept setup p before after same.k
 -- the phase moves on, and the graft stays the same
 pub log_on : (setup : Setup) (operator : OperatorPart) (p q k t : ℕ) (stage next : Stage) → LogSays setup operator p (Busy q k t stage)
     → LogSays setup operator p (Busy q k t next)
-log_on setup operator p q k t stage next log = record { past = log.past; now = log.now; later = log.later; grafts = log.grafts; are_behind = log.are_behind; goes_on = log.goes_on; wait = log.wait; placed = log.placed }
+log_on setup operator p q k t stage next log = record {
+  past = log.past;
+  now = log.now;
+  later = log.later;
+  grafts = log.grafts;
+  are_behind = log.are_behind;
+  goes_on = log.goes_on;
+  wait = log.wait;
+  placed = log.placed;
+}

@@ -15,7 +15,8 @@ use Rattle.graft_model.specs.declared.event.FarEvent.{FarEvent}
 use Rattle.graft_model.specs.declared.event.OperatorEvent.{OperatorEvent}
 use Rattle.graft_model.specs.Steps.{RouterTook, FarTook, OperatorTook, router_sends, far_sends, operator_sends, RouterStep, FarStep, OperatorStep}
 use Rattle.graft_laws.specs.Phases.{only_at, only2}
-use Rattle.graft_laws.specs.Moves.{mesh_taken, inward_taken, orders_taken, mesh_sent, outward_sent, reports_sent, RouterHeads, RouterMoves, outward_taken, says_taken, inward_sent, FarHeads, FarMoves, orders_sent, says_sent, OperatorMoves}
+use Rattle.graft_laws.specs.Moves.{mesh_taken, inward_taken, orders_taken, mesh_sent, outward_sent, reports_sent, RouterHeads, RouterMoves}
+use Rattle.graft_laws.specs.Moves.{outward_taken, says_taken, inward_sent, FarHeads, FarMoves, orders_sent, says_sent, OperatorMoves}
 
 -- ---- one channel, of any kind of item
 
@@ -112,7 +113,18 @@ record Takes (r : ℕ) (taken : Option RouterTaken) (w u : World) : Type 0 where
   says : u.says ≡ w.says
 
 takes : (r : ℕ) (taken : Option RouterTaken) (w u : World) → RouterTook w r taken u → Takes r taken w u
-takes r None w u is = rw is (record { heads = tt; router = refl; far = refl; operator = refl; mesh = λ a b. refl; outward = refl; inward = λ p b. refl; orders = λ b. refl; reports = refl; says = refl })
+takes r None w u is = rw is (record {
+  heads = tt;
+  router = refl;
+  far = refl;
+  operator = refl;
+  mesh = λ a b. refl;
+  outward = refl;
+  inward = λ p b. refl;
+  orders = λ b. refl;
+  reports = refl;
+  says = refl;
+})
 takes r (Some (OrderIn order)) w u (h, is) = rw is (record {
   heads = h;
   router = refl;
@@ -186,7 +198,17 @@ record FarSends (p : ℕ) (sent : List FarSent) (w v : World) : Type 0 where
   says : v.says ≡ w.says
 
 far_sent : (p : ℕ) (sent : List FarSent) (w v : World) → v ≡ fold (far_sends p) w sent → FarSends p sent w v
-far_sent p [] w v is = rw is (record { router = refl; far = refl; operator = refl; mesh = refl; outward = refl; inward = λ q b. sym (append-nil (w.inward q b)); orders = refl; reports = refl; says = refl })
+far_sent p [] w v is = rw is (record {
+  router = refl;
+  far = refl;
+  operator = refl;
+  mesh = refl;
+  outward = refl;
+  inward = λ q b. sym (append-nil (w.inward q b));
+  orders = refl;
+  reports = refl;
+  says = refl;
+})
 far_sent p (item ∷ sent) w v is =
     let s : FarSends p sent (far_sends p w item) v = far_sent p sent (far_sends p w item) v is in
     record {
@@ -195,7 +217,8 @@ far_sent p (item ∷ sent) w v is =
       operator = s.operator;
       mesh = s.mesh;
       outward = s.outward;
-      inward = λ q b. then_others (w.inward q b) (only2 p item.router item.segment q b) (inward_sent p sent q b) (v.inward q b) _ (put2 w.inward p item.router q b item.segment) (s.inward q b);
+      inward = λ q b. then_others (w.inward q b) (only2 p item.router item.segment q b) (inward_sent p sent q b)
+          (v.inward q b) _ (put2 w.inward p item.router q b item.segment) (s.inward q b);
       orders = s.orders;
       reports = s.reports;
       says = s.says;
@@ -214,7 +237,18 @@ record FarTakes (p : ℕ) (taken : Option FarTaken) (w u : World) : Type 0 where
   says : (q : ℕ) → says_taken p taken q ++ u.says q ≡ w.says q
 
 far_took : (p : ℕ) (taken : Option FarTaken) (w u : World) → FarTook w p taken u → FarTakes p taken w u
-far_took p None w u is = rw is (record { heads = tt; router = refl; far = refl; operator = refl; mesh = refl; outward = λ a q. refl; inward = refl; orders = refl; reports = refl; says = λ q. refl })
+far_took p None w u is = rw is (record {
+  heads = tt;
+  router = refl;
+  far = refl;
+  operator = refl;
+  mesh = refl;
+  outward = λ a q. refl;
+  inward = refl;
+  orders = refl;
+  reports = refl;
+  says = λ q. refl;
+})
 far_took p (Some (OutwardIn r item)) w u (h, is) = rw is (record {
   heads = h;
   router = refl;
@@ -296,7 +330,17 @@ operator_more (SayTo p step) sent w v s = record {
 }
 
 operator_sent : (sent : List OperatorSent) (w v : World) → v ≡ fold operator_sends w sent → OperatorSends sent w v
-operator_sent [] w v is = rw is (record { router = refl; far = refl; operator = refl; mesh = refl; outward = refl; inward = refl; orders = λ b. sym (append-nil (w.orders b)); reports = refl; says = λ q. sym (append-nil (w.says q)) })
+operator_sent [] w v is = rw is (record {
+  router = refl;
+  far = refl;
+  operator = refl;
+  mesh = refl;
+  outward = refl;
+  inward = refl;
+  orders = λ b. sym (append-nil (w.orders b));
+  reports = refl;
+  says = λ q. sym (append-nil (w.says q));
+})
 operator_sent (item ∷ sent) w v is = operator_more item sent w v (operator_sent sent (operator_sends w item) v is)
 
 pub operator_moves : (setup : Setup) (event : OperatorEvent) (w v : World) (x : OperatorStep setup event w v) → OperatorMoves x.taken x.sent x.part w v

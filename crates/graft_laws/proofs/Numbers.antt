@@ -47,10 +47,12 @@ rises_step false g gs all rise = rise
 
 filter_rises : (test : ScriptGraft → Bool) (gs : List ScriptGraft) → Rises gs → Rises (filter test gs)
 filter_rises test [] rise = tt
-filter_rises test (g ∷ gs) rise = rises_step (test g) g (filter test gs) (filter_all (λ (x : ScriptGraft). g.graft < x.graft) test gs rise.0) (filter_rises test gs rise.1)
+filter_rises test (g ∷ gs) rise =
+    rises_step (test g) g (filter test gs) (filter_all (λ (x : ScriptGraft). g.graft < x.graft) test gs rise.0) (filter_rises test gs rise.1)
 
 grafts_rise : (setup : Setup) (p : ℕ) → Rises (grafts_of setup p)
-grafts_rise setup p = filter_rises (λ g. g.peering == p) (grafts_in setup) (all_rise 0 (grafts_in setup) (λ i g e. let n = number_of_index setup i g e in omega (arith, n)))
+grafts_rise setup p = filter_rises (λ g. g.peering == p) (grafts_in setup)
+    (all_rise 0 (grafts_in setup) (λ i g e. let n = number_of_index setup i g e in omega (arith, n)))
 
 front_below : (gs hs : List ScriptGraft) (g : ScriptGraft) → Rises (gs ++ g ∷ hs) → AllByRecursion (λ (x : ScriptGraft). x.graft < g.graft) gs
 front_below [] hs g rise = tt
@@ -82,9 +84,11 @@ all_known setup = all_at (λ (g : ScriptGraft). graft_at setup g.graft ≡ Some 
     ap (graft_at setup) m ∙ (graft_by_index setup i ∙ e))
 
 pub all_of_peering : (setup : Setup) (p : ℕ) → AllByRecursion (IsGraftOf setup p) (grafts_of setup p)
-all_of_peering setup p = all_both (λ (g : ScriptGraft). graft_at setup g.graft ≡ Some g) (λ (g : ScriptGraft). (g.peering == p) ≡ true) (IsGraftOf setup p) (grafts_of setup p)
+all_of_peering setup p = all_both (λ (g : ScriptGraft). graft_at setup g.graft ≡ Some g)
+    (λ (g : ScriptGraft). (g.peering == p) ≡ true) (IsGraftOf setup p) (grafts_of setup p)
     (λ g known own. (known, grind (arith, nat_tests)))
-    (filter_all (λ (g : ScriptGraft). graft_at setup g.graft ≡ Some g) (λ g. g.peering == p) (grafts_in setup) (all_known setup)) (filter_tests (λ g. g.peering == p) (grafts_in setup))
+    (filter_all (λ (g : ScriptGraft). graft_at setup g.graft ≡ Some g) (λ g. g.peering == p) (grafts_in setup) (all_known setup))
+    (filter_tests (λ g. g.peering == p) (grafts_in setup))
 
 pub is_own : (setup : Setup) (p : ℕ) (g : ScriptGraft) → IsGraftOf setup p g → is_graft_on setup p g.graft ≡ true
 is_own setup p g own = ap (is_peering p) own.0 ∙ (let is : g.peering ≡ p = own.1 in grind (arith, nat_tests))

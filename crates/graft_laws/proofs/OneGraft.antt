@@ -1,5 +1,6 @@
 -- Each graft that was ordered and has no outcome is under way in one phase, and a report at the head of a channel is of such a one.
-use Rattle.std.proofs.Common.{◌≡◌, ◌==◌, cond, ℕ, ◌<◌, ◌≤◌, Bool, true, false, List, [], ◌∷◌, ◌++◌, Option, Some, None, refl, sym, ap, ◌∙◌, subst, arith, inl, inr}
+use Rattle.std.proofs.Common.{◌≡◌, ◌==◌, cond, ℕ, ◌<◌, ◌≤◌, Bool, true, false, List, [], ◌∷◌, ◌++◌}
+use Rattle.std.proofs.Common.{Option, Some, None, refl, sym, ap, ◌∙◌, subst, arith, inl, inr}
 use Rattle.std.proofs.lemmas.Bool.Decides.{nat_tests}
 use Rattle.std.specs.Prelude.{◌≢◌, ◌⊎◌, IsSome}
 use Rattle.std.specs.List.{AllByRecursion}
@@ -7,14 +8,16 @@ use Rattle.graft_steps.specs.declared.refusal.Outcome.{Outcome}
 use Rattle.graft_steps.specs.declared.refusal.Outcome.TheVariants.{Accepted, Refused}
 use Rattle.session_value.specs.Sessions.{SessionValue}
 use Rattle.graft_model.specs.Setups.{Setup, IsSetup, ScriptGraft, peerings_in, graft_at}
-use Rattle.graft_model.specs.Parts.{Place, Vacant, Live, Frozen, Shadow, Leaving, Owing, Asking as ToAnswer, OperatorPart, Told, Moved, Back, Asked, Answered, Done, Report, World}
+use Rattle.graft_model.specs.Parts.{Place, Vacant, Live, Frozen, Shadow, Leaving, Owing, Asking as ToAnswer}
+use Rattle.graft_model.specs.Parts.{OperatorPart, Told, Moved, Back, Asked, Answered, Done, Report, World}
 use Rattle.graft_model.specs.RouterRows.{RouterTaken, OrderIn, SegmentIn, MeshIn}
 use Rattle.graft_model.specs.Taking.{RouterMayTake, OperatorMayTake}
 use Rattle.graft_model.specs.Placements.{target_in, placement}
 use Rattle.graft_model.specs.OperatorRows.{OperatorTaken, ReportIn}
 use Rattle.graft_model.specs.Laws.{HasGraft, HasOnce}
 use Rattle.graft_model.specs.Steps.{Heads}
-use Rattle.graft_laws.specs.Phases.{Stage, Ordered, Stored, Halted, Moving, Landed, Asking, Confirmed, Returning, Declined, Cleared, Phase, Idle, Busy, source_of, place_by}
+use Rattle.graft_laws.specs.Phases.{Stage, Ordered, Stored, Halted, Moving, Landed, Asking, Confirmed, Returning}
+use Rattle.graft_laws.specs.Phases.{Declined, Cleared, Phase, Idle, Busy, source_of, place_by}
 use Rattle.graft_laws.specs.Log.{grafts_of, is_peering, is_graft_on, HasEnded, AwaitsOrder, IsBehind, GoesOnIn, LogSays}
 use Rattle.graft_laws.specs.Owned.{reports_of, Stands, Owned}
 use Rattle.graft_laws.specs.Facts.{IsUnderWay}
@@ -52,10 +55,12 @@ report_goes_on setup w p r k Accepted phase s rest e b =
 module _ (setup : Setup) (w : World) (ok : IsSetup setup) (owned : Owned setup w) where
   report_at : (r : ℕ) (o : Report) → Heads (w.reports r) o → (w.operator.source o.graft ≢ None) × (w.operator.outcome o.graft ≡ None)
   report_at r o h =
-      let all : AllByRecursion (λ (x : Report). IsSome (graft_at setup x.graft)) (o ∷ h.rest) = subst (λ (x : List Report). AllByRecursion (λ (y : Report). IsSome (graft_at setup y.graft)) x) h.is (owned.reports r) in
+      let all : AllByRecursion (λ (x : Report). IsSome (graft_at setup x.graft)) (o ∷ h.rest) =
+      subst (λ (x : List Report). AllByRecursion (λ (y : Report). IsSome (graft_at setup y.graft)) x) h.is (owned.reports r) in
       let known = known_graft setup o.graft ok all.0 in
       let held = owned.peerings known.0 known.1 in
-      report_goes_on setup w known.0 r o.graft o.outcome held.phase held.session (reports_of setup known.0 h.rest) (own_head (λ (x : Report). is_graft_on setup known.0 x.graft) (w.reports r) h.rest o h.is known.2) held.stands
+      report_goes_on setup w known.0 r o.graft o.outcome held.phase held.session (reports_of setup known.0 h.rest)
+      (own_head (λ (x : Report). is_graft_on setup known.0 x.graft) (w.reports r) h.rest o h.is known.2) held.stands
 
   pub router_may : (r : ℕ) (taken : RouterTaken) → RouterHeads w r (Some taken) → RouterMayTake setup (w.router r) taken
   router_may r (OrderIn order) h = may_store setup w owned r order h
@@ -133,7 +138,8 @@ goes_on_is setup operator g phase known ordered unended log =
 
 one_peering_of : (setup : Setup) (w : World) (x p q u k t v : ℕ) (one other : Stage) (s z : SessionValue) → Stands setup w x (Busy q k t one) s
     → Stands setup w p (Busy u k v other) z → x ≡ p
-one_peering_of setup w x p q u k t v one other s z b o = one_peering setup x p k (own_known setup x k b.log.goes_on.known) (own_known setup p k o.log.goes_on.known)
+one_peering_of setup w x p q u k t v one other s z b o =
+    one_peering setup x p k (own_known setup x k b.log.goes_on.known) (own_known setup p k o.log.goes_on.known)
 
 pub under_way_once : (setup : Setup) (w : World) (g : ScriptGraft) → IsSetup setup → Owned setup w → graft_at setup g.graft ≡ Some g
     → w.operator.source g.graft ≢ None → w.operator.outcome g.graft ≡ None
@@ -155,8 +161,11 @@ under_way_once setup w g ok owned known ordered unended =
         stage = on.stage;
         session = held.session;
         stands = b;
-        one = λ x r u other s o. (let same : x ≡ p = one_peering_of setup w x p r q k u on.target other on.stage s held.session o b in
-            (same, one_phase setup w p (Busy r k u other) (Busy q k on.target on.stage) s held.session (subst (λ (y : ℕ). Stands setup w y (Busy r k u other) s) same o) b));
+        one = λ x r u other s o. (let same : x ≡ p = one_peering_of setup w x p r q k u on.target other on.stage s held.session o b in (
+          same,
+          one_phase setup w p (Busy r k u other) (Busy q k on.target on.stage) s held.session
+              (subst (λ (y : ℕ). Stands setup w y (Busy r k u other) s) same o) b,
+        ));
       },
     )
 

@@ -13,7 +13,8 @@ use Rattle.graft_model.specs.OperatorRows.{OperatorTaken, OperatorSent}
 use Rattle.graft_laws.specs.Log.{is_graft_on}
 use Rattle.graft_laws.specs.Owned.{is_on, mesh_items_on, orders_of, reports_of, HasNothingOf}
 use Rattle.graft_laws.proofs.Numbers.{IsGraftOf}
-use Rattle.graft_laws.specs.Moves.{mesh_taken, inward_taken, orders_taken, mesh_sent, outward_sent, reports_sent, RouterMoves, FarMoves, OperatorMoves, orders_sent, reports_taken}
+use Rattle.graft_laws.specs.Moves.{mesh_taken, inward_taken, orders_taken, mesh_sent, outward_sent, reports_sent}
+use Rattle.graft_laws.specs.Moves.{RouterMoves, FarMoves, OperatorMoves, orders_sent, reports_taken}
 
 -- The log has the same of a peering's grafts: of their orders and outcomes, and of what those of the groups that have begun are given.
 pub record KeepsLog (setup : Setup) (p : ℕ) (before after : OperatorPart) : Type 0 where
@@ -48,7 +49,8 @@ pub record Untouched (setup : Setup) (p : ℕ) (before after : World) : Type 0 w
   pub log : SameLog setup p before.operator after.operator
 
 pub absent_still : (setup : Setup) (p : ℕ) (before after : World) → Untouched setup p before after → HasNothingOf before p → HasNothingOf after p
-absent_still setup p before after same was = record { places = λ r. same.places r ∙ was.places r; mesh = λ a b. same.mesh a b ∙ was.mesh a b; orders = λ r. same.orders r ∙ was.orders r }
+absent_still setup p before after same was =
+    record { places = λ r. same.places r ∙ was.places r; mesh = λ a b. same.mesh a b ∙ was.mesh a b; orders = λ r. same.orders r ∙ was.orders r }
 
 -- ---- channels, over any kind of item
 
@@ -95,7 +97,8 @@ pub untouched_by_items : (setup : Setup) (p r : ℕ) (taken : Option RouterTaken
     → RouterMoves r taken sent part w v → part.places p ≡ (w.router r).places p → AreOthers setup p r taken sent → Untouched setup p w v
 untouched_by_items setup p r taken sent part w v m places items = record {
   places = λ x. ap (λ (f : ℕ → RouterPart). (f x).places p) m.router ∙ same_place w.router part r x p places;
-  mesh = λ a b. still_in (is_on p) (mesh_taken r taken a b) (v.mesh a b) (w.mesh a b) (mesh_sent r sent a b) (m.mesh a b) (items.mesh_taken a b) (items.mesh_sent a b);
+  mesh = λ a b. still_in (is_on p) (mesh_taken r taken a b) (v.mesh a b) (w.mesh a b)
+      (mesh_sent r sent a b) (m.mesh a b) (items.mesh_taken a b) (items.mesh_sent a b);
   orders = λ b. still_taken (λ o. o.peering == p) (orders_taken r taken b) (v.orders b) (w.orders b) (m.orders b) (items.orders_taken b);
   reports = λ a. still_sent (λ o. is_graft_on setup p o.graft) (v.reports a) (w.reports a) (reports_sent r sent a) (m.reports a) (items.reports_sent a);
   log = same_log setup p w.operator v.operator m.operator;

@@ -5,7 +5,8 @@ use Rattle.graft_steps.specs.declared.refusal.Refusal.{Refusal}
 use Rattle.graft_steps.specs.declared.refusal.Outcome.TheVariants.{Accepted, Refused}
 use Rattle.session_value.specs.Sessions.{SessionValue}
 use Rattle.graft_model.specs.Parts.{Errand, Leaving, Owing, Asking as ToAnswer, Live, Frozen, Mesh, Moved, Back, Done, GraftOrder, Report}
-use Rattle.graft_laws.specs.Phases.{Ordered, Stored, Halted, Moving, Landed, Asking, Confirmed, Returning, Declined, Cleared, Phase, Busy, place_by, mesh_by, orders_by, reports_by}
+use Rattle.graft_laws.specs.Phases.{Ordered, Stored, Halted, Moving, Landed, Asking, Confirmed, Returning, Declined}
+use Rattle.graft_laws.specs.Phases.{Cleared, Phase, Busy, place_by, mesh_by, orders_by, reports_by}
 
 -- ---- at a router
 

@@ -17,6 +17,8 @@ placed_are w p x s =
     record {
       outward = λ r. all_map (IsOutwardOf x) IsPlaced (w.outward r p) (item_placed x (w.far p).end s.linked) (s.outward r);
       remoteward = all_map (IsEmittedBy x) IsInStreams (w.far p).remoteward (λ segment is. emitted_in_streams x (w.far p).end segment s.linked is) s.remoteward;
-      inward = λ r. all_map (IsEmittedBy (w.far p).end) IsInStreams (w.inward p r) (λ segment is. emitted_in_streams (w.far p).end x segment back is) (s.inward r);
-      homeward = all_map (IsEmittedBy (w.far p).end) IsInStreams (w.far p).homeward (λ segment is. emitted_in_streams (w.far p).end x segment back is) s.homeward;
+      inward = λ r. all_map (IsEmittedBy (w.far p).end) IsInStreams (w.inward p r)
+          (λ segment is. emitted_in_streams (w.far p).end x segment back is) (s.inward r);
+      homeward = all_map (IsEmittedBy (w.far p).end) IsInStreams (w.far p).homeward
+          (λ segment is. emitted_in_streams (w.far p).end x segment back is) s.homeward;
     }

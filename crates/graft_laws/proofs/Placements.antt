@@ -38,9 +38,11 @@ placed_alike setup before after p all =
     let gs : List ScriptGraft = grafts_of setup p in
     let left : List ScriptGraft = filter (accepts before) gs in
     let same : filter (accepts after) gs ≡ left =
-    filter_same (accepts after) (accepts before) gs (all_map (CountsAlike setup before after) (λ (g : ScriptGraft). accepts after g ≡ accepts before g) gs (λ g x. x.accepted) all) in
+    filter_same (accepts after) (accepts before) gs
+    (all_map (CountsAlike setup before after) (λ (g : ScriptGraft). accepts after g ≡ accepts before g) gs (λ g x. x.accepted) all) in
     let targets : AllByRecursion (λ (g : ScriptGraft). target_in setup after g ≡ target_in setup before g) left =
-    all_both (CountsAlike setup before after) (λ (g : ScriptGraft). accepts before g ≡ true) (λ (g : ScriptGraft). target_in setup after g ≡ target_in setup before g) left (λ g x is. x.target is)
+    all_both (CountsAlike setup before after) (λ (g : ScriptGraft). accepts before g ≡ true)
+    (λ (g : ScriptGraft). target_in setup after g ≡ target_in setup before g) left (λ g x is. x.target is)
     (filter_all (CountsAlike setup before after) (accepts before) gs all) (filter_tests (accepts before) gs) in
     placed_by setup after p
     ∙ (ap (by_last setup after p) same
@@ -51,7 +53,8 @@ placed_alike setup before after p all =
 pub placed_first : (setup : Setup) (operator : OperatorPart) (p : ℕ) → ((k : ℕ) → operator.outcome k ≡ None) → placement setup operator p ≡ start_of setup p
 placed_first setup operator p none =
     placed_by setup operator p
-    ∙ ap (by_last setup operator p) (filter_none (accepts operator) (grafts_of setup p) (all_of (λ (g : ScriptGraft). accepts operator g ≡ false) (grafts_of setup p) (λ g. ap is_accepted (none g.graft))))
+    ∙ ap (by_last setup operator p) (filter_none (accepts operator) (grafts_of setup p)
+    (all_of (λ (g : ScriptGraft). accepts operator g ≡ false) (grafts_of setup p) (λ g. ap is_accepted (none g.graft))))
 
 -- A session belongs at the target of an accepted graft, where none of its peering behind that one was accepted.
 pub placed_last : (setup : Setup) (operator : OperatorPart) (p t : ℕ) (gs hs : List ScriptGraft) (g : ScriptGraft) → grafts_of setup p ≡ gs ++ g ∷ hs

@@ -1,5 +1,6 @@
 -- The link follows the landings, through every change.
-use Rattle.std.proofs.Common.{◌≡◌, ◌==◌, cond, ℕ, ◌<◌, ◌≤◌, Bool, true, false, List, [], ◌∷◌, ◌++◌, Option, Some, None, refl, sym, ap, ◌∙◌, subst, arith, inl, inr, ltb, max}
+use Rattle.std.proofs.Common.{◌≡◌, ◌==◌, cond, ℕ, ◌<◌, ◌≤◌, Bool, true, false, List, [], ◌∷◌, ◌++◌, Option}
+use Rattle.std.proofs.Common.{Some, None, refl, sym, ap, ◌∙◌, subst, arith, inl, inr, ltb, max}
 use Rattle.std.proofs.lemmas.Bool.Decides.{nat_tests}
 use Rattle.std.proofs.lemmas.List.{append-nil}
 use Rattle.std.specs.Prelude.{◌≢◌, ◌⊎◌, filter, slice_get, option_map, unwrap_or}
@@ -21,7 +22,8 @@ use Rattle.graft_laws.specs.Phases.{Stage, Moving, Landed, Asking, Confirmed, Cl
 use Rattle.graft_laws.specs.Log.{is_graft_on}
 use Rattle.graft_laws.specs.Owned.{Stands}
 use Rattle.graft_laws.specs.Moves.{FarMoves, outward_taken}
-use Rattle.graft_laws.specs.Life.{Acts, SameLine, LineGets, LineGives, LineSays, Change, Rests, Lands, Asks, Counts, Confirms, Clears, NotesSuccess, Puts, Emits, Arrives, Gets, Ticks, Strays, IsToSay, FarActs, GraftMove, Grafts}
+use Rattle.graft_laws.specs.Life.{Acts, SameLine, LineGets, LineGives, LineSays, Change, Rests, Lands, Asks, Counts, Confirms, Clears}
+use Rattle.graft_laws.specs.Life.{NotesSuccess, Puts, Emits, Arrives, Gets, Ticks, Strays, IsToSay, FarActs, GraftMove, Grafts}
 use Rattle.graft_laws.specs.Keeps.{Reached, Has}
 use Rattle.graft_laws.specs.Pointing.{home_of, IsUpTo, IsBelowLast, is_word_of, IsPast, HasLandedLast, WordOf, Words, Points}
 use Rattle.graft_laws.proofs.Lists.{all_map, all_join, all_back, all_head, filter_none, append_same}
@@ -73,13 +75,16 @@ words_same w v p home last pointer followed outward words = record {
   by_word (inr there) = inr (ap (filter (is_word_of last)) (outward home) ∙ there.0, pointer ∙ there.1, followed ∙ there.2)
 
 pub line_words : (w v : World) (p home last : ℕ) → SameLine p w v → Words w p home last → Words v p home last
-line_words w v p home last line words = words_same w v p home last (ap (λ (x : FarPart). x.pointer) line.far) (ap (λ (x : FarPart). x.followed) line.far) line.outward words
+line_words w v p home last line words =
+    words_same w v p home last (ap (λ (x : FarPart). x.pointer) line.far) (ap (λ (x : FarPart). x.followed) line.far) line.outward words
 
 gives : (w v : World) (p r home last : ℕ) (segment : PlacedSegment) → LineGives p r segment w v → Words w p home last → Words v p home last
-gives w v p r home last segment line words = words_same w v p home last (ap (λ (x : FarPart). x.pointer) line.far) (ap (λ (x : FarPart). x.followed) line.far) line.outward words
+gives w v p r home last segment line words =
+    words_same w v p home last (ap (λ (x : FarPart). x.pointer) line.far) (ap (λ (x : FarPart). x.followed) line.far) line.outward words
 
 says : (w v : World) (p step home last : ℕ) → LineSays p step w v → Words w p home last → Words v p home last
-says w v p step home last line words = words_same w v p home last (ap (λ (x : FarPart). x.pointer) line.far) (ap (λ (x : FarPart). x.followed) line.far) line.outward words
+says w v p step home last line words =
+    words_same w v p home last (ap (λ (x : FarPart). x.pointer) line.far) (ap (λ (x : FarPart). x.followed) line.far) line.outward words
 
 -- ---- a segment goes to the far side
 
@@ -99,8 +104,10 @@ filter_only test items m n item e = filter-append test items (only_at m item n)
 
 segment_words : (w v : World) (p r home last : ℕ) (segment : PlacedSegment) → LineGets p r (Seg segment) w v → Words w p home last → Words v p home last
 segment_words w v p r home last segment line words = record {
-  all = λ x. subst (λ (y : List Outward). AllByRecursion (IsUpTo last) y) (sym (line.outward x)) (all_join (IsUpTo last) (w.outward x p) (only_at r (Seg segment) x) (words.all x) (only_all (IsUpTo last) r x (Seg segment) tt));
-  elsewhere = λ x ne. subst (λ (y : List Outward). AllByRecursion (IsBelowLast last) y) (sym (line.outward x)) (all_join (IsBelowLast last) (w.outward x p) (only_at r (Seg segment) x) (words.elsewhere x ne) (only_all (IsBelowLast last) r x (Seg segment) tt));
+  all = λ x. subst (λ (y : List Outward). AllByRecursion (IsUpTo last) y) (sym (line.outward x))
+      (all_join (IsUpTo last) (w.outward x p) (only_at r (Seg segment) x) (words.all x) (only_all (IsUpTo last) r x (Seg segment) tt));
+  elsewhere = λ x ne. subst (λ (y : List Outward). AllByRecursion (IsBelowLast last) y) (sym (line.outward x))
+      (all_join (IsBelowLast last) (w.outward x p) (only_at r (Seg segment) x) (words.elsewhere x ne) (only_all (IsBelowLast last) r x (Seg segment) tt));
   word = by_word words.word;
 } where
   found : filter (is_word_of last) (v.outward home p) ≡ filter (is_word_of last) (w.outward home p)
@@ -134,8 +141,10 @@ followed_up_to last home far items (inr there) = omega (arith, there.2)
 landing_words : (w v : World) (p home last k t : ℕ) → last < k → LineGets p t (PointAt k) w v → Words w p home last → Words v p t k
 landing_words w v p home last k t l line words = record {
   all = λ x. subst (λ (y : List Outward). AllByRecursion (IsUpTo k) y) (sym (line.outward x))
-      (all_join (IsUpTo k) (w.outward x p) (only_at t (PointAt k) x) (all_map (IsUpTo last) (IsUpTo k) (w.outward x p) (up_to_later last k l) (words.all x)) (only_all (IsUpTo k) t x (PointAt k) (omega arith)));
-  elsewhere = λ x ne. subst (λ (y : List Outward). AllByRecursion (IsBelowLast k) y) (sym (line.outward x ∙ (ap (λ (y : List Outward). w.outward x p ++ y) (none x ne) ∙ append-nil (w.outward x p)))) (below x);
+      (all_join (IsUpTo k) (w.outward x p) (only_at t (PointAt k) x)
+      (all_map (IsUpTo last) (IsUpTo k) (w.outward x p) (up_to_later last k l) (words.all x)) (only_all (IsUpTo k) t x (PointAt k) (omega arith)));
+  elsewhere = λ x ne. subst (λ (y : List Outward). AllByRecursion (IsBelowLast k) y)
+      (sym (line.outward x ∙ (ap (λ (y : List Outward). w.outward x p ++ y) (none x ne) ∙ append-nil (w.outward x p)))) (below x);
   word = inl (
     ap (filter (is_word_of k)) (line.outward t) ∙ (filter-append (is_word_of k) (w.outward t p) (only_at t (PointAt k) t)
         ∙ (ap (λ (y : List Outward). y ++ filter (is_word_of k) (only_at t (PointAt k) t)) (none_found k (w.outward t p) (below t)) ∙ own)),
@@ -163,7 +172,8 @@ module _ (w v : World) (p home last : ℕ) (taken : Option FarTaken) (sent : Lis
 
   no_point : part.pointer ≡ (w.far p).pointer → part.followed ≡ (w.far p).followed → ((r : ℕ) → outward_taken p taken r p ≡ []) → Words w p home last
       → Words v p home last
-  no_point pointer followed none words = words_same w v p home last (ap (λ (x : FarPart). x.pointer) far_is ∙ pointer) (ap (λ (x : FarPart). x.followed) far_is ∙ followed)
+  no_point pointer followed none words =
+      words_same w v p home last (ap (λ (x : FarPart). x.pointer) far_is ∙ pointer) (ap (λ (x : FarPart). x.followed) far_is ∙ followed)
       (λ r. ap (λ (x : List Outward). x ++ v.outward r p) (sym (none r)) ∙ m.outward r p) words
 
   -- what is left of a channel has what all of it had
@@ -186,11 +196,13 @@ module _ (w v : World) (p home last : ℕ) (taken : Option FarTaken) (sent : Lis
 
     by_word : WordOf last home (w.far p) (w.outward home p) → WordOf last home (v.far p) (v.outward home p)
     by_word (inl on_way) = inl (found ∙ on_way.0, subst (λ (x : ℕ). x < last) (sym (ap (λ (x : FarPart). x.followed) far_is ∙ followed)) on_way.1)
-    by_word (inr there) = inr (found ∙ there.0, ap (λ (x : FarPart). x.pointer) far_is ∙ (pointer ∙ there.1), ap (λ (x : FarPart). x.followed) far_is ∙ (followed ∙ there.2))
+    by_word (inr there) =
+        inr (found ∙ there.0, ap (λ (x : FarPart). x.pointer) far_is ∙ (pointer ∙ there.1), ap (λ (x : FarPart). x.followed) far_is ∙ (followed ∙ there.2))
 
 -- a word of a landing is followed, where it is of a later graft than the last that was followed
 module _ (w v : World) (p home last r k : ℕ) (sent : List FarSent) (part : FarPart) (m : FarMoves p (Some (OutwardIn r (PointAt k))) sent part w v)
-    (effect : part ≡ record (w.far p) { pointer = cond (ltb (w.far p).followed k) r (w.far p).pointer; followed = max (w.far p).followed k }) (words : Words w p home last) where
+    (effect : part ≡ record (w.far p) { pointer = cond (ltb (w.far p).followed k) r (w.far p).pointer; followed = max (w.far p).followed k })
+    (words : Words w p home last) where
   followed_far : (v.far p).followed ≡ max (w.far p).followed k
   followed_far = ap (λ (x : FarPart). x.followed) (far_is w v p home last (Some (OutwardIn r (PointAt k))) sent part m ∙ effect)
 
@@ -222,22 +234,26 @@ module _ (w v : World) (p home last r k : ℕ) (sent : List FarSent) (part : Far
   earlier_word l (inl on_way) = inl (earlier_found l ∙ on_way.0, subst (λ (x : ℕ). x < last) (sym followed_far) (both (w.far p).followed on_way.1)) where
     both : (f : ℕ) → f < last → max f k < last
     both f b = grind (arith, nat_tests)
-  earlier_word l (inr there) = inr (earlier_found l ∙ there.0, pointer_far ∙ (stays (w.far p).followed there.2 ∙ there.1), followed_far ∙ most (w.far p).followed there.2) where
-    stays : (f : ℕ) → f ≡ last → cond (ltb f k) r (w.far p).pointer ≡ (w.far p).pointer
-    stays f e = ap (λ b. cond b r (w.far p).pointer) (let g : ltb f k ≡ false = grind (arith, nat_tests) in g)
+  earlier_word l (inr there) =
+      inr (earlier_found l ∙ there.0, pointer_far ∙ (stays (w.far p).followed there.2 ∙ there.1), followed_far ∙ most (w.far p).followed there.2)
+    where
+      stays : (f : ℕ) → f ≡ last → cond (ltb f k) r (w.far p).pointer ≡ (w.far p).pointer
+      stays f e = ap (λ b. cond b r (w.far p).pointer) (let g : ltb f k ≡ false = grind (arith, nat_tests) in g)
 
-    most : (f : ℕ) → f ≡ last → max f k ≡ last
-    most f e = grind (arith, nat_tests)
+      most : (f : ℕ) → f ≡ last → max f k ≡ last
+      most f e = grind (arith, nat_tests)
 
   -- the word of the last graft is the one that is on its way
   last_word : k ≡ last → r ≡ home → WordOf last home (w.far p) (w.outward home p) → WordOf last home (v.far p) (v.outward home p)
   last_word is here word =
       let own : is_word_of last (PointAt k) ≡ true = grind (arith, nat_tests) in
-      let head : PointAt k ∷ filter (is_word_of last) m.heads.rest ≡ filter (is_word_of last) (w.outward r p) = own_head (is_word_of last) (w.outward r p) m.heads.rest (PointAt k) m.heads.is own in
+      let head : PointAt k ∷ filter (is_word_of last) m.heads.rest ≡ filter (is_word_of last) (w.outward r p) =
+      own_head (is_word_of last) (w.outward r p) m.heads.rest (PointAt k) m.heads.is own in
       by_word (head ∙ ap (λ (x : ℕ). filter (is_word_of last) (w.outward x p)) here) word
     where
       took : filter (is_word_of last) (only2 r p (PointAt k) home p) ≡ PointAt last ∷ []
-      took = ap (λ (b : Bool). filter (is_word_of last) (cond b (cond (p == p) (PointAt k ∷ []) []) [])) (let e : (home == r) ≡ true = grind (arith, nat_tests) in e)
+      took = ap (λ (b : Bool). filter (is_word_of last) (cond b (cond (p == p) (PointAt k ∷ []) []) []))
+          (let e : (home == r) ≡ true = grind (arith, nat_tests) in e)
           ∙ (ap (λ (b : Bool). filter (is_word_of last) (cond b (PointAt k ∷ []) [])) (equal p)
           ∙ (ap (λ b. cond b (PointAt k ∷ []) []) (let e : (k == last) ≡ true = grind (arith, nat_tests) in e) ∙ ap (λ (x : ℕ). PointAt x ∷ []) is))
 
@@ -253,7 +269,11 @@ module _ (w v : World) (p home last r k : ℕ) (sent : List FarSent) (part : Far
 
       by_word : PointAt k ∷ filter (is_word_of last) m.heads.rest ≡ filter (is_word_of last) (w.outward home p)
           → WordOf last home (w.far p) (w.outward home p) → WordOf last home (v.far p) (v.outward home p)
-      by_word head (inl on_way) = inr (append_same (PointAt last ∷ []) (filter (is_word_of last) (v.outward home p)) [] (left ∙ on_way.0), pointer_far ∙ turned (w.far p).followed on_way.1, followed_far ∙ most (w.far p).followed on_way.1)
+      by_word head (inl on_way) = inr (
+        append_same (PointAt last ∷ []) (filter (is_word_of last) (v.outward home p)) [] (left ∙ on_way.0),
+        pointer_far ∙ turned (w.far p).followed on_way.1,
+        followed_far ∙ most (w.far p).followed on_way.1,
+      )
       by_word head (inr there) = absurd (let e : PointAt k ∷ filter (is_word_of last) m.heads.rest ≡ [] = head ∙ there.0 in cc)
 
   point_words : Words v p home last
@@ -283,21 +303,28 @@ far_words : (setup : Setup) (w v : World) (p home last : ℕ) (event : FarEvent)
     → far_row setup p event (w.far p) taken sent part → FarMoves p taken sent part w v
     → Words w p home last → Words v p home last
 far_words setup w v p home last (Say step) taken sent part row m =
-    no_point w v p home last (Some (SayIn step)) sent part (far_as w v p taken (Some (SayIn step)) sent part row.takes m) (ap (λ (x : FarPart). x.pointer) row.effect) (ap (λ (x : FarPart). x.followed) row.effect) (λ r. refl)
+    no_point w v p home last (Some (SayIn step)) sent part (far_as w v p taken (Some (SayIn step)) sent part row.takes m)
+    (ap (λ (x : FarPart). x.pointer) row.effect) (ap (λ (x : FarPart). x.followed) row.effect) (λ r. refl)
 far_words setup w v p home last (Send from len) taken sent part row m =
-    no_point w v p home last None sent part (far_as w v p taken None sent part row.takes m) (ap (λ (x : FarPart). x.pointer) row.effect) (ap (λ (x : FarPart). x.followed) row.effect) (λ r. refl)
+    no_point w v p home last None sent part (far_as w v p taken None sent part row.takes m)
+    (ap (λ (x : FarPart). x.pointer) row.effect) (ap (λ (x : FarPart). x.followed) row.effect) (λ r. refl)
 far_words setup w v p home last (Pass index keep r) taken sent part row m =
-    no_point w v p home last None sent part (far_as w v p taken None sent part row.takes m) (ap (λ (x : FarPart). x.pointer) row.effect) (ap (λ (x : FarPart). x.followed) row.effect) (λ r. refl)
+    no_point w v p home last None sent part (far_as w v p taken None sent part row.takes m)
+    (ap (λ (x : FarPart). x.pointer) row.effect) (ap (λ (x : FarPart). x.followed) row.effect) (λ r. refl)
 far_words setup w v p home last (Reach index keep) taken sent part row m =
-    no_point w v p home last None sent part (far_as w v p taken None sent part row.takes m) (ap (λ (x : FarPart). x.pointer) row.effect) (ap (λ (x : FarPart). x.followed) row.effect) (λ r. refl)
+    no_point w v p home last None sent part (far_as w v p taken None sent part row.takes m)
+    (ap (λ (x : FarPart). x.pointer) row.effect) (ap (λ (x : FarPart). x.followed) row.effect) (λ r. refl)
 far_words setup w v p home last (Lose way index) taken sent part row m =
     let s = lose_stays (w.far p) part way index row.effect in
     no_point w v p home last None sent part (far_as w v p taken None sent part row.takes m) s.0 s.1 (λ r. refl)
 far_words setup w v p home last (Beat round) taken sent part row m =
-    no_point w v p home last None sent part (far_as w v p taken None sent part row.takes m) (ap (λ (x : FarPart). x.pointer) row.effect) (ap (λ (x : FarPart). x.followed) row.effect) (λ r. refl)
+    no_point w v p home last None sent part (far_as w v p taken None sent part row.takes m)
+    (ap (λ (x : FarPart). x.pointer) row.effect) (ap (λ (x : FarPart). x.followed) row.effect) (λ r. refl)
 far_words setup w v p home last (Take router) taken sent part row m =
-    taken_words w v p home last (Some (OutwardIn router (Seg row.segment))) sent part (far_as w v p taken (Some (OutwardIn router (Seg row.segment))) sent part row.takes m)
-    (λ r. none_only2 (is_word_of last) (Seg row.segment) router p r p refl) (ap (λ (x : FarPart). x.pointer) row.effect) (ap (λ (x : FarPart). x.followed) row.effect)
+    taken_words w v p home last (Some (OutwardIn router (Seg row.segment))) sent part
+    (far_as w v p taken (Some (OutwardIn router (Seg row.segment))) sent part row.takes m)
+    (λ r. none_only2 (is_word_of last) (Seg row.segment) router p r p refl) (ap (λ (x : FarPart). x.pointer) row.effect)
+    (ap (λ (x : FarPart). x.followed) row.effect)
 far_words setup w v p home last (Point router) taken sent part row m =
     point_words w v p home last router row.graft sent part (far_as w v p taken (Some (OutwardIn router (PointAt row.graft))) sent part row.takes m) row.effect
 
@@ -315,7 +342,8 @@ module _ (setup : Setup) (w v : World) (p : ℕ) (grows : LogGrows w.operator v.
   landed_on _ _ _ Asks last b then is = is
   landed_on _ _ _ Counts last b then is = is
   landed_on _ _ _ Confirms last b then is = is
-  landed_on _ _ s (NotesSuccess {q = q} {k = k} {t = t}) last b then is = subst (IsPast setup v p) (sym is) (landed_ended setup w v p q k t t Cleared s s grows b then)
+  landed_on _ _ s (NotesSuccess {q = q} {k = k} {t = t}) last b then is =
+      subst (IsPast setup v p) (sym is) (landed_ended setup w v p q k t t Cleared s s grows b then)
   landed_on _ _ _ _ last b then past = past_still setup w v p grows last past
 
   same_phase : {s t : SessionValue} (phase : Phase) (i : Points setup w p phase s) → Words v p (home_of phase) i.last → Points setup v p phase t
@@ -332,14 +360,20 @@ module _ (setup : Setup) (w v : World) (p : ℕ) (grows : LogGrows w.operator v.
   points_then _ _ _ _ b then (Lands {q = q} {k = k} {t = t} {s = s} admitted line entries) i =
       record { last = k; landed = refl; words = landing_words w v p q i.last k t (below_graft setup w p q k t i.last Moving s b i.landed) line i.words }
   points_then _ _ _ _ b then (Clears line entries) i = record { last = i.last; landed = i.landed; words = line_words w v p _ i.last line i.words }
-  points_then _ _ _ _ b then (Acts {phase = phase} r errand there (Puts update puts told line entries)) i = same_phase phase i (line_words w v p (home_of phase) i.last line i.words)
-  points_then _ _ _ _ b then (Acts {phase = phase} r errand there (Emits from len segment end emits line entries)) i = same_phase phase i (segment_words w v p r (home_of phase) i.last segment line i.words)
-  points_then _ _ _ _ b then (Acts {phase = phase} r errand there (Arrives segment end takes line entries)) i = same_phase phase i (gives w v p r (home_of phase) i.last segment line i.words)
-  points_then _ _ _ _ b then (Acts {phase = phase} r errand there (Gets bytes gets line entries)) i = same_phase phase i (line_words w v p (home_of phase) i.last line i.words)
-  points_then _ _ _ _ b then (Acts {phase = phase} r errand there (Ticks round passes line entries)) i = same_phase phase i (line_words w v p (home_of phase) i.last line i.words)
+  points_then _ _ _ _ b then (Acts {phase = phase} r errand there (Puts update puts told line entries)) i =
+      same_phase phase i (line_words w v p (home_of phase) i.last line i.words)
+  points_then _ _ _ _ b then (Acts {phase = phase} r errand there (Emits from len segment end emits line entries)) i =
+      same_phase phase i (segment_words w v p r (home_of phase) i.last segment line i.words)
+  points_then _ _ _ _ b then (Acts {phase = phase} r errand there (Arrives segment end takes line entries)) i =
+      same_phase phase i (gives w v p r (home_of phase) i.last segment line i.words)
+  points_then _ _ _ _ b then (Acts {phase = phase} r errand there (Gets bytes gets line entries)) i =
+      same_phase phase i (line_words w v p (home_of phase) i.last line i.words)
+  points_then _ _ _ _ b then (Acts {phase = phase} r errand there (Ticks round passes line entries)) i =
+      same_phase phase i (line_words w v p (home_of phase) i.last line i.words)
   points_then _ _ _ _ b then (Strays {phase = phase} r segment line entries) i = same_phase phase i (gives w v p r (home_of phase) i.last segment line i.words)
   points_then _ _ _ _ b then (IsToSay {phase = phase} step line entries) i = same_phase phase i (says w v p step (home_of phase) i.last line i.words)
-  points_then _ _ _ _ b then (FarActs {phase = phase} event taken sent part row m entries) i = same_phase phase i (far_words setup w v p (home_of phase) i.last event taken sent part row m i.words)
+  points_then _ _ _ _ b then (FarActs {phase = phase} event taken sent part row m entries) i =
+      same_phase phase i (far_words setup w v p (home_of phase) i.last event taken sent part row m i.words)
 
 -- ---- every run
 
@@ -361,7 +395,8 @@ first_points setup p config is = record {
 
 pub always_points : (setup : Setup) → IsSetup setup → (w : World) → Reached setup w → (p : ℕ) → p < peerings_in setup → Has setup (Points setup) w p
 always_points setup ok = always_has_along setup (Points setup) ok (first_points setup)
-    (λ event before after p phase next s t reached step l stands then change i. points_then setup before after p (log_grows setup event before after step) phase next s t stands then change i)
+    (λ event before after p phase next s t reached step l stands then change i.
+    points_then setup before after p (log_grows setup event before after step) phase next s t stands then change i)
 
 -- Where nothing is on its way to the far side, and no graft is under way, the link points to the router of the session.
 pub linked : (setup : Setup) (w : World) (p q : ℕ) (s : SessionValue) → Points setup w p (Idle q) s → w.outward q p ≡ [] → (w.far p).pointer ≡ q

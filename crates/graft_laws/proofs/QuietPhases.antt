@@ -6,7 +6,8 @@ use Rattle.graft_steps.specs.declared.refusal.Outcome.TheVariants.{Accepted, Ref
 use Rattle.tcp_seq.specs.Endpoint.{Endpoint}
 use Rattle.session_value.specs.Sessions.{SessionValue}
 use Rattle.graft_model.specs.Setups.{Setup}
-use Rattle.graft_model.specs.Parts.{Place, Vacant, Live, Frozen, Shadow, Order, Errand, Leaving, Owing, Asking as ToAnswer, Moved, Back, Done, GraftOrder, Report, World}
+use Rattle.graft_model.specs.Parts.{Place, Vacant, Live, Frozen, Shadow, Order, Errand, Leaving, Owing}
+use Rattle.graft_model.specs.Parts.{Asking as ToAnswer, Moved, Back, Done, GraftOrder, Report, World}
 use Rattle.graft_model.specs.OperatorRows.{placement}
 use Rattle.graft_model.specs.Quiet.{HasRead, AllAcked, IsIdle, Quiet}
 use Rattle.graft_laws.specs.Phases.{Ordered, Stored, Halted, Moving, Landed, Asking, Confirmed, Returning, Declined, Cleared, Phase, Idle, Busy, source_of}
@@ -27,22 +28,32 @@ not_frozen remote place s order idle is = subst (IsIdle remote) is idle
 pub quiet_idle : (setup : Setup) (w : World) (p : ℕ) (phase : Phase) (s : SessionValue) → Quiet setup w → Stands setup w p phase s
     → phase ≡ Idle (source_of phase)
 quiet_idle setup w p (Idle q) s quiet b = refl
-quiet_idle setup w p (Busy q k t Ordered) s quiet b = absurd (nothing_in (λ (o : GraftOrder). o.peering == p) (w.orders q) (record { graft = k; peering = p; target = t }) (quiet.orders q) (b.orders q ∙ only_here q (record { graft = k; peering = p; target = t })))
-quiet_idle setup w p (Busy q k t Stored) s quiet b = absurd (not_idle (w.far p).end ((w.router q).places p) s (Leaving (record { graft = k; target = t })) (quiet.places q p) (b.places q ∙ placed_here q (Live s (Some (Leaving (record { graft = k; target = t }))))))
-quiet_idle setup w p (Busy q k t Halted) s quiet b = absurd (not_frozen (w.far p).end ((w.router q).places p) s (record { graft = k; target = t }) (quiet.places q p) (b.places q ∙ placed_here q (Frozen s (record { graft = k; target = t }))))
-quiet_idle setup w p (Busy q k t Moving) s quiet b = absurd (nothing_in (is_on p) (w.mesh q t) (Moved k p s) (quiet.mesh q t) (b.mesh q t ∙ only2_here q t (Moved k p s)))
+quiet_idle setup w p (Busy q k t Ordered) s quiet b = absurd (nothing_in (λ (o : GraftOrder). o.peering == p) (w.orders q)
+    (record { graft = k; peering = p; target = t }) (quiet.orders q) (b.orders q ∙ only_here q (record { graft = k; peering = p; target = t })))
+quiet_idle setup w p (Busy q k t Stored) s quiet b = absurd (not_idle (w.far p).end ((w.router q).places p) s (Leaving (record { graft = k; target = t }))
+    (quiet.places q p) (b.places q ∙ placed_here q (Live s (Some (Leaving (record { graft = k; target = t }))))))
+quiet_idle setup w p (Busy q k t Halted) s quiet b = absurd (not_frozen (w.far p).end ((w.router q).places p) s
+    (record { graft = k; target = t }) (quiet.places q p) (b.places q ∙ placed_here q (Frozen s (record { graft = k; target = t }))))
+quiet_idle setup w p (Busy q k t Moving) s quiet b =
+    absurd (nothing_in (is_on p) (w.mesh q t) (Moved k p s) (quiet.mesh q t) (b.mesh q t ∙ only2_here q t (Moved k p s)))
 quiet_idle setup w p (Busy q k t (Landed n)) s quiet b =
     let word : Errand = Owing (record { graft = k; source = q; next = n }) in
-    absurd (not_idle (w.far p).end ((w.router t).places p) s word (quiet.places t p) (b.places t ∙ landed_here t (Live s (Some word)) (cond (t == q) (Shadow k) Vacant)))
+    absurd (not_idle (w.far p).end ((w.router t).places p) s word (quiet.places t p)
+    (b.places t ∙ landed_here t (Live s (Some word)) (cond (t == q) (Shadow k) Vacant)))
 quiet_idle setup w p (Busy q k t (Asking n)) s quiet b =
     let word : Errand = ToAnswer (record { graft = k; source = q; next = n }) in
-    absurd (not_idle (w.far p).end ((w.router t).places p) s word (quiet.places t p) (b.places t ∙ landed_here t (Live s (Some word)) (cond (t == q) (Shadow k) Vacant)))
-quiet_idle setup w p (Busy q k t Confirmed) s quiet b = absurd (nothing_in (is_on p) (w.mesh t q) (Done k p) (quiet.mesh t q) (b.mesh t q ∙ only2_here t q (Done k p)))
-quiet_idle setup w p (Busy q k t (Returning refusal)) s quiet b = absurd (nothing_in (is_on p) (w.mesh t q) (Back k p s refusal) (quiet.mesh t q) (b.mesh t q ∙ only2_here t q (Back k p s refusal)))
+    absurd (not_idle (w.far p).end ((w.router t).places p) s word (quiet.places t p)
+    (b.places t ∙ landed_here t (Live s (Some word)) (cond (t == q) (Shadow k) Vacant)))
+quiet_idle setup w p (Busy q k t Confirmed) s quiet b =
+    absurd (nothing_in (is_on p) (w.mesh t q) (Done k p) (quiet.mesh t q) (b.mesh t q ∙ only2_here t q (Done k p)))
+quiet_idle setup w p (Busy q k t (Returning refusal)) s quiet b =
+    absurd (nothing_in (is_on p) (w.mesh t q) (Back k p s refusal) (quiet.mesh t q) (b.mesh t q ∙ only2_here t q (Back k p s refusal)))
 quiet_idle setup w p (Busy q k t (Declined refusal)) s quiet b =
-    absurd (nothing_in (λ (o : Report). is_graft_on setup p o.graft) (w.reports q) (record { graft = k; outcome = Refused refusal }) (quiet.reports q) (b.reports q ∙ only_here q (record { graft = k; outcome = Refused refusal })))
+    absurd (nothing_in (λ (o : Report). is_graft_on setup p o.graft) (w.reports q) (record { graft = k; outcome = Refused refusal })
+    (quiet.reports q) (b.reports q ∙ only_here q (record { graft = k; outcome = Refused refusal })))
 quiet_idle setup w p (Busy q k t Cleared) s quiet b =
-    absurd (nothing_in (λ (o : Report). is_graft_on setup p o.graft) (w.reports q) (record { graft = k; outcome = Accepted }) (quiet.reports q) (b.reports q ∙ only_here q (record { graft = k; outcome = Accepted })))
+    absurd (nothing_in (λ (o : Report). is_graft_on setup p o.graft) (w.reports q) (record { graft = k; outcome = Accepted })
+    (quiet.reports q) (b.reports q ∙ only_here q (record { graft = k; outcome = Accepted })))
 
 pub quiet_phase : (setup : Setup) (w : World) (p : ℕ) (phase : Phase) (s : SessionValue) → Quiet setup w → Stands setup w p phase s
     → phase ≡ Idle (placement setup w.operator p)

@@ -27,21 +27,25 @@ stands_still setup w v p phase s same b = record {
 
 pub rests : (setup : Setup) (w v : World) (p : ℕ) (phase : Phase) (s : SessionValue) → Untouched setup p w v → SameLine p w v → SameEntries p w v
     → Stands setup w p phase s → Followed setup w v p phase s
-rests setup w v p phase s same line entries b = record { next = phase; session = s; stands = stands_still setup w v p phase s same b; change = Rests line entries }
+rests setup w v p phase s same line entries b =
+    record { next = phase; session = s; stands = stands_still setup w v p phase s same b; change = Rests line entries }
 
-pub rests_by_router : (setup : Setup) (w v : World) (p r : ℕ) (taken : Option RouterTaken) (sent : List RouterSent) (part : RouterPart) (phase : Phase) (s : SessionValue)
+pub rests_by_router : (setup : Setup) (w v : World) (p r : ℕ) (taken : Option RouterTaken)
+    (sent : List RouterSent) (part : RouterPart) (phase : Phase) (s : SessionValue)
     → RouterMoves r taken sent part w v → Apart setup p r taken sent (w.router r) part → Stands setup w p phase s → Followed setup w v p phase s
 rests_by_router setup w v p r taken sent part phase s m apart = rests setup w v p phase s (untouched_by_router setup p r taken sent part w v m apart)
     (line_by_router w v p r taken sent part m apart.outward_sent apart.inward_taken) (same_entries w v p r part m.router apart.entries)
 
 -- the session is another one, at the same place
-pub changed : (setup : Setup) (w v : World) (p r : ℕ) (taken : Option RouterTaken) (sent : List RouterSent) (part : RouterPart) (phase : Phase) (s t : SessionValue) (o : Option Errand)
+pub changed : (setup : Setup) (w v : World) (p r : ℕ) (taken : Option RouterTaken)
+    (sent : List RouterSent) (part : RouterPart) (phase : Phase) (s t : SessionValue) (o : Option Errand)
     → RouterMoves r taken sent part w v → AreOthers setup p r taken sent → place_by phase s r ≡ Live s o → part.places p ≡ Live t o
     → Stands setup w p phase s → Stands setup v p phase t
 changed setup w v p r taken sent part phase s t o m items there place b = record {
   places = λ x. ap (λ (f : ℕ → RouterPart). (f x).places p) m.router
       ∙ (places_step (x == r) part (w.router x) p (Live t o) (place_by phase s x) place (b.places x) ∙ place_for phase s t o r x there);
-  mesh = λ i j. still_in (is_on p) (mesh_taken r taken i j) (v.mesh i j) (w.mesh i j) (mesh_sent r sent i j) (m.mesh i j) (items.mesh_taken i j) (items.mesh_sent i j)
+  mesh = λ i j. still_in (is_on p) (mesh_taken r taken i j) (v.mesh i j) (w.mesh i j)
+      (mesh_sent r sent i j) (m.mesh i j) (items.mesh_taken i j) (items.mesh_sent i j)
       ∙ (b.mesh i j ∙ mesh_for phase s t o r p i j there);
   orders = λ x. still_taken (λ y. y.peering == p) (orders_taken r taken x) (v.orders x) (w.orders x) (m.orders x) (items.orders_taken x) ∙ b.orders x;
   reports = λ x. still_sent (λ y. is_graft_on setup p y.graft) (v.reports x) (w.reports x) (reports_sent r sent x) (m.reports x) (items.reports_sent x)

@@ -1,5 +1,6 @@
 -- How many places of a router are taken, through its events.
-use Rattle.std.proofs.Common.{◌≡◌, ◌==◌, cond, ℕ, zero, suc, ◌<◌, ◌≤◌, ◌+◌, Bool, true, false, List, [], ◌∷◌, length, Option, Some, None, refl, sym, ap, ◌∙◌, arith}
+use Rattle.std.proofs.Common.{◌≡◌, ◌==◌, cond, ℕ, zero, suc, ◌<◌, ◌≤◌, ◌+◌, Bool, true, false, List, []}
+use Rattle.std.proofs.Common.{◌∷◌, length, Option, Some, None, refl, sym, ap, ◌∙◌, arith}
 use Rattle.std.proofs.lemmas.Bool.Decides.{nat_tests}
 use Rattle.std.specs.Prelude.{◌≢◌, filter, nat_le}
 use Rattle.std.specs.List.{range_with_len}
@@ -61,7 +62,8 @@ one_more f g a (suc n) q h = by_test (a == q) refl (one_more f g (a + 1) n q h) 
 
 module _ (setup : Setup) (before part : RouterPart) (q : ℕ) (place : Place) (places : part.places ≡ at before.places q place) where
   elsewhere : (x : ℕ) → x ≢ q → is_taken (part.places x) ≡ true → is_taken (before.places x) ≡ true
-  elsewhere x ne h = ap is_taken (let e : before.places x ≡ at before.places q place x = grind (arith, nat_tests) in e ∙ ap (λ (f : ℕ → Place). f x) (sym places)) ∙ h
+  elsewhere x ne h =
+      ap is_taken (let e : before.places x ≡ at before.places q place x = grind (arith, nat_tests) in e ∙ ap (λ (f : ℕ → Place). f x) (sym places)) ∙ h
 
   here_too : (x : ℕ) → is_taken (before.places q) ≡ true → is_taken (part.places x) ≡ true → is_taken (before.places x) ≡ true
   here_too x was h = by_test (x == q) refl where

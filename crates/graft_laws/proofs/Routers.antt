@@ -27,9 +27,11 @@ module _ (setup : Setup) (P : ℕ → RouterPart → Type 0)
   step_keeps : (event : Event) (w v : World) → Reached setup w → Step setup event w v → ((r : ℕ) → P r (w.router r)) → (r : ℕ) → P r (v.router r)
   step_keeps (ByRouter q event) w v reached x all r =
       let m = router_moves setup q event w v x in
-      subst (λ (f : ℕ → RouterPart). P r (f r)) (sym m.router) (at_keeps P w.router q x.part (keeps q event w x.taken x.sent x.part reached x.row (all q)) all r)
+      subst (λ (f : ℕ → RouterPart). P r (f r)) (sym m.router)
+      (at_keeps P w.router q x.part (keeps q event w x.taken x.sent x.part reached x.row (all q)) all r)
   step_keeps (ByFar p event) w v reached x all r = subst (λ (f : ℕ → RouterPart). P r (f r)) (sym (far_moves setup p event w v x).router) (all r)
   step_keeps (ByOperator event) w v reached x all r = subst (λ (f : ℕ → RouterPart). P r (f r)) (sym (operator_moves setup event w v x).router) (all r)
 
   pub of_routers : ((r : ℕ) → P r (first_router setup r)) → (w : World) → Reached setup w → (r : ℕ) → P r (w.router r)
-  of_routers first w reached = carried setup (λ (u : World). (r : ℕ) → P r (u.router r)) first (λ event before after reach step all. step_keeps event before after reach step all) w reached
+  of_routers first w reached = carried setup (λ (u : World). (r : ℕ) → P r (u.router r)) first
+      (λ event before after reach step all. step_keeps event before after reach step all) w reached

@@ -30,7 +30,8 @@ use Rattle.graft_laws.proofs.First.{some_peering, first_stands, first_owned}
 each_of : (setup : Setup) (w v : World) (event : Event) → IsSetup setup → Owned setup w → Step setup event w v → Each setup w v
 each_of setup w v (ByRouter r event) ok owned x = (deed setup w v r owned event x.taken x.sent x.part x.row (router_moves setup r event w v x)).each
 each_of setup w v (ByFar p event) ok owned x = far_each setup w v p event x.taken x.sent x.part x.row (far_moves setup p event w v x)
-each_of setup w v (ByOperator event) ok owned x = operator_each setup w v event x.taken x.sent x.part ok owned.given x.may x.row (operator_moves setup event w v x)
+each_of setup w v (ByOperator event) ok owned x =
+    operator_each setup w v event x.taken x.sent x.part ok owned.given x.may x.row (operator_moves setup event w v x)
 
 -- where a peering of the setup stands after an event, and what the event did to it
 pub followed : (setup : Setup) (w v : World) (event : Event) (p : ℕ) (phase : Phase) (s : SessionValue) → IsSetup setup → Owned setup w
@@ -56,22 +57,29 @@ room_then setup w v (ByRouter r event) owned s x l =
     let m : RouterMoves r s.taken s.sent s.part w v = router_moves setup r event w v s in
     let d : Deed setup w v r s.taken s.sent s.part = deed setup w v r owned event s.taken s.sent s.part s.row m in
     subst (λ (f : ℕ → RouterPart). HasRoom setup x (f x)) (sym m.router) (room_at setup w.router r x s.part (owned.room x l) d.room)
-room_then setup w v (ByFar p event) owned s x l = let m : FarMoves p s.taken s.sent s.part w v = far_moves setup p event w v s in subst (λ (f : ℕ → RouterPart). HasRoom setup x (f x)) (sym m.router) (owned.room x l)
-room_then setup w v (ByOperator event) owned s x l = let m : OperatorMoves s.taken s.sent s.part w v = operator_moves setup event w v s in subst (λ (f : ℕ → RouterPart). HasRoom setup x (f x)) (sym m.router) (owned.room x l)
+room_then setup w v (ByFar p event) owned s x l = let m : FarMoves p s.taken s.sent s.part w v = far_moves setup p event w v s in
+    subst (λ (f : ℕ → RouterPart). HasRoom setup x (f x)) (sym m.router) (owned.room x l)
+room_then setup w v (ByOperator event) owned s x l = let m : OperatorMoves s.taken s.sent s.part w v = operator_moves setup event w v s in
+    subst (λ (f : ℕ → RouterPart). HasRoom setup x (f x)) (sym m.router) (owned.room x l)
 
 reports_then : (setup : Setup) (w v : World) (event : Event) → Owned setup w → Step setup event w v → (a : ℕ) → AreKnown setup (v.reports a)
 reports_then setup w v (ByRouter r event) owned s a =
     let m : RouterMoves r s.taken s.sent s.part w v = router_moves setup r event w v s in
     let d : Deed setup w v r s.taken s.sent s.part = deed setup w v r owned event s.taken s.sent s.part s.row m in
-    subst (λ (x : List Report). AreKnown setup x) (sym (m.reports a)) (all_join (λ (o : Report). IsSome (graft_at setup o.graft)) (w.reports a) (reports_sent r s.sent a) (owned.reports a) (d.reports a))
-reports_then setup w v (ByFar p event) owned s a = let m : FarMoves p s.taken s.sent s.part w v = far_moves setup p event w v s in subst (λ (f : ℕ → List Report). AreKnown setup (f a)) (sym m.reports) (owned.reports a)
+    subst (λ (x : List Report). AreKnown setup x) (sym (m.reports a))
+    (all_join (λ (o : Report). IsSome (graft_at setup o.graft)) (w.reports a) (reports_sent r s.sent a) (owned.reports a) (d.reports a))
+reports_then setup w v (ByFar p event) owned s a = let m : FarMoves p s.taken s.sent s.part w v = far_moves setup p event w v s in
+    subst (λ (f : ℕ → List Report). AreKnown setup (f a)) (sym m.reports) (owned.reports a)
 reports_then setup w v (ByOperator event) owned s a =
     let m : OperatorMoves s.taken s.sent s.part w v = operator_moves setup event w v s in
-    all_back (λ (o : Report). IsSome (graft_at setup o.graft)) (reports_taken s.taken a) (v.reports a) (subst (λ (x : List Report). AreKnown setup x) (sym (m.reports a)) (owned.reports a))
+    all_back (λ (o : Report). IsSome (graft_at setup o.graft)) (reports_taken s.taken a) (v.reports a)
+    (subst (λ (x : List Report). AreKnown setup x) (sym (m.reports a)) (owned.reports a))
 
 given_then : (setup : Setup) (w v : World) (event : Event) → Owned setup w → Step setup event w v → GivesToRouters setup v.operator
-given_then setup w v (ByRouter r event) owned s = let m : RouterMoves r s.taken s.sent s.part w v = router_moves setup r event w v s in subst (GivesToRouters setup) (sym m.operator) owned.given
-given_then setup w v (ByFar p event) owned s = let m : FarMoves p s.taken s.sent s.part w v = far_moves setup p event w v s in subst (GivesToRouters setup) (sym m.operator) owned.given
+given_then setup w v (ByRouter r event) owned s =
+    let m : RouterMoves r s.taken s.sent s.part w v = router_moves setup r event w v s in subst (GivesToRouters setup) (sym m.operator) owned.given
+given_then setup w v (ByFar p event) owned s =
+    let m : FarMoves p s.taken s.sent s.part w v = far_moves setup p event w v s in subst (GivesToRouters setup) (sym m.operator) owned.given
 given_then setup w v (ByOperator event) owned s =
     let m : OperatorMoves s.taken s.sent s.part w v = operator_moves setup event w v s in
     subst (GivesToRouters setup) (sym m.operator) (row_gives setup event w.operator s.part s.taken s.sent s.row owned.given)
@@ -80,7 +88,8 @@ pub owned_then : (setup : Setup) (w v : World) (event : Event) → IsSetup setup
 owned_then setup w v event ok owned step =
     let each : Each setup w v = each_of setup w v event ok owned step in
     record {
-      peerings = λ p l. (let h = owned.peerings p l in let f = each.known p l h.phase h.session h.stands in record { phase = f.next; session = f.session; stands = f.stands });
+      peerings = λ p l. (let h = owned.peerings p l in let f = each.known p l h.phase h.session h.stands in
+          record { phase = f.next; session = f.session; stands = f.stands });
       no_others = λ p past. each.absent p past (owned.no_others p past);
       room = room_then setup w v event owned step;
       reports = reports_then setup w v event owned step;
@@ -98,17 +107,20 @@ pub reached_first : (setup : Setup) → Reached setup (first_world setup)
 reached_first setup = record { events = []; run = refl }
 
 pub reached_more : (setup : Setup) (event : Event) (w v : World) → Reached setup w → Step setup event w v → Reached setup v
-reached_more setup event w v reached step = record { events = reached.events ++ event ∷ []; run = run_more setup reached.events event (first_world setup) w v reached.run step }
+reached_more setup event w v reached step =
+    record { events = reached.events ++ event ∷ []; run = run_more setup reached.events event (first_world setup) w v reached.run step }
 
 -- A property of worlds that the first one has and each event keeps is one of every world that is reached.
-module _ (setup : Setup) (I : World → Type 0) (keeps : (event : Event) (before after : World) → Reached setup before → Step setup event before after → I before → I after) where
+module _ (setup : Setup) (I : World → Type 0)
+    (keeps : (event : Event) (before after : World) → Reached setup before → Step setup event before after → I before → I after) where
   along : (events : List Event) (w v : World) → Reached setup w → Run setup w events v → I w → I v
   along [] w v reached is i = subst I (sym is) i
   along (event ∷ events) w v reached (u, step, run) i = along events u v (reached_more setup event w u reached step) run (keeps event w u reached step i)
 
 -- The same of a property that speaks of the events before, too.
 pub with_events : (setup : Setup) (I : List Event → World → Type 0) (first : World)
-    → ((done : List Event) (event : Event) (before after : World) → Run setup first done before → Step setup event before after → I done before → I (done ++ event ∷ []) after)
+    → ((done : List Event) (event : Event) (before after : World) → Run setup first done before
+    → Step setup event before after → I done before → I (done ++ event ∷ []) after)
     → (done events : List Event) (w v : World) → Run setup first done w → Run setup w events v → I done w → I (done ++ events) v
 with_events setup I first keeps done [] w v before is i = subst (λ (es : List Event). I es v) (sym (append-nil done)) (subst (I done) (sym is) i)
 with_events setup I first keeps done (event ∷ events) w v before (u, step, run) i =
@@ -131,7 +143,8 @@ pub carried : (setup : Setup) (I : World → Type 0) → I (first_world setup)
 carried setup I first keeps w reached = along setup I keeps reached.events (first_world setup) w (reached_first setup) reached.run first
 
 pub always_owned : (setup : Setup) → IsSetup setup → (w : World) → Reached setup w → Owned setup w
-always_owned setup ok = carried setup (Owned setup) (first_owned setup ok) (λ event before after reached step owned. owned_then setup before after event ok owned step)
+always_owned setup ok =
+    carried setup (Owned setup) (first_owned setup ok) (λ event before after reached step owned. owned_then setup before after event ok owned step)
 
 -- ---- further invariants of peerings
 
@@ -162,7 +175,12 @@ has_then : (setup : Setup) (I : World → ℕ → Phase → SessionValue → Typ
 has_then setup I ok kept event before after reached step have p l =
     let h = have p l in
     let f = followed setup before after event p h.phase h.session ok (always_owned setup ok before reached) step l h.stands in
-    record { phase = f.next; session = f.session; stands = f.stands; more = kept event before after p h.phase f.next h.session f.session reached step l h.stands f.stands f.change h.more }
+    record {
+      phase = f.next;
+      session = f.session;
+      stands = f.stands;
+      more = kept event before after p h.phase f.next h.session f.session reached step l h.stands f.stands f.change h.more;
+    }
 
 -- the same where the event itself counts
 pub always_has_along : (setup : Setup) (I : World → ℕ → Phase → SessionValue → Type 0) → IsSetup setup

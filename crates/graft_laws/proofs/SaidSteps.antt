@@ -1,5 +1,6 @@
 -- Every event keeps the sum of what a remote says.
-use Rattle.std.proofs.Common.{◌≡◌, ◌≢◌, ℕ, ◌+◌, ◌<◌, ◌≤◌, ◌^◌, Bool, true, false, List, [], ◌∷◌, ◌++◌, length, sum_by, Option, Some, None, sym, ap, ◌∙◌, subst, arith, ◌⊎◌, inl, inr, length-append}
+use Rattle.std.proofs.Common.{◌≡◌, ◌≢◌, ℕ, ◌+◌, ◌<◌, ◌≤◌, ◌^◌, Bool, true, false, List, [], ◌∷◌, ◌++◌, length, sum_by}
+use Rattle.std.proofs.Common.{Option, Some, None, sym, ap, ◌∙◌, subst, arith, ◌⊎◌, inl, inr, length-append}
 use Rattle.std.specs.Prelude.{if◌then◌else◌, slice_get}
 use Rattle.std.specs.List.{AllByRecursion, flat_map}
 use Rattle.std.proofs.lemmas.Bool.{cases_eq}
@@ -39,7 +40,8 @@ module _ (setup : Setup) (p : ℕ) (peering : PeeringSetup) where
     sum =
         let a : length (v.far p).end.stream ≡ length (w.far p).end.stream = ap (λ (xs : List ℕ). length xs) stream in
         let b : sum_by (size_at setup p) (v.says p) ≡ sum_by (size_at setup p) (w.says p) = ap (λ (xs : List ℕ). sum_by (size_at setup p) xs) says in
-        let c : unissued_octets v.operator.issued p 0 setup.steps ≡ unissued_octets w.operator.issued p 0 setup.steps = ap (λ (f : ℕ → Bool). unissued_octets f p 0 setup.steps) issued in
+        let c : unissued_octets v.operator.issued p 0 setup.steps ≡ unissued_octets w.operator.issued p 0 setup.steps =
+        ap (λ (f : ℕ → Bool). unissued_octets f p 0 setup.steps) issued in
         omega (arith, is.sum, a, b, c, keepalives);
     orders = all_is (IsSayOf setup p) (w.says p) (v.says p) says is.orders;
     few = omega (arith, is.few, keepalives);
@@ -49,18 +51,21 @@ module _ (setup : Setup) (p : ℕ) (peering : PeeringSetup) where
   by_router : (w v : World) (r : ℕ) (event : RouterEvent) → RouterStep setup r event w v → Said setup p peering w → Said setup p peering v
   by_router w v r event x is =
       let m = router_moves setup r event w v x in
-      same w v (ap (λ (f : ℕ → FarPart). (f p).end.stream) m.far) (ap (λ (f : ℕ → FarPart). (f p).keepalives) m.far) (ap (λ (o : OperatorPart). o.issued) m.operator) (ap (λ (f : ℕ → List ℕ). f p) m.says) is
+      same w v (ap (λ (f : ℕ → FarPart). (f p).end.stream) m.far) (ap (λ (f : ℕ → FarPart). (f p).keepalives) m.far)
+      (ap (λ (o : OperatorPart). o.issued) m.operator) (ap (λ (f : ℕ → List ℕ). f p) m.says) is
 
   -- ---- the far side's own events
 
-  module _ (w v : World) (taken : Option FarTaken) (sent : List FarSent) (part : FarPart) (m : FarMoves p taken sent part w v) (is : Said setup p peering w) where
+  module _ (w v : World) (taken : Option FarTaken) (sent : List FarSent) (part : FarPart)
+      (m : FarMoves p taken sent part w v) (is : Said setup p peering w) where
     here : v.far p ≡ part
     here = ap (λ (f : ℕ → FarPart). f p) m.far ∙ Rattle.graft_laws.proofs.FarLines.at_here w.far p part
 
     -- nothing is said
     silent : part.end.stream ≡ (w.far p).end.stream → part.keepalives ≡ (w.far p).keepalives → ((xs : List ℕ) → says_taken p taken p ++ xs ≡ xs)
         → Said setup p peering v
-    silent stream keepalives none = same w v (ap (λ (f : FarPart). f.end.stream) here ∙ stream) (ap (λ (f : FarPart). f.keepalives) here ∙ keepalives) (ap (λ (o : OperatorPart). o.issued) m.operator) (sym (none (v.says p)) ∙ m.says p) is
+    silent stream keepalives none = same w v (ap (λ (f : FarPart). f.end.stream) here ∙ stream)
+        (ap (λ (f : FarPart). f.keepalives) here ∙ keepalives) (ap (λ (o : OperatorPart). o.issued) m.operator) (sym (none (v.says p)) ∙ m.says p) is
 
     takes_none : taken ≡ None → (xs : List ℕ) → says_taken p taken p ++ xs ≡ xs
     takes_none e xs = ap (λ (t : Option FarTaken). says_taken p t p ++ xs) e
@@ -71,14 +76,19 @@ module _ (setup : Setup) (p : ℕ) (peering : PeeringSetup) where
     says_said : (step : ℕ) → Says setup p step (w.far p) taken sent part → Said setup p peering v
     says_said step row =
         let one : only_at p step p ≡ step ∷ [] = Rattle.graft_laws.proofs.Segments.only_here p step in
-        let head : step ∷ v.says p ≡ w.says p = ap (λ (xs : List ℕ). xs ++ v.says p) (sym one) ∙ ap (λ (t : Option FarTaken). says_taken p t p ++ v.says p) (sym row.takes) ∙ m.says p in
+        let head : step ∷ v.says p ≡ w.says p =
+        ap (λ (xs : List ℕ). xs ++ v.says p) (sym one) ∙ ap (λ (t : Option FarTaken). says_taken p t p ++ v.says p) (sym row.takes) ∙ m.says p in
         let all = all_is (IsSayOf setup p) (w.says p) (step ∷ v.says p) head is.orders in
-        let size : size_at setup p step ≡ length row.bytes = ap (λ (o : Option ScriptStep). length (said_by_step p o)) row.is ∙ ap (λ (xs : List ℕ). length xs) (said_by_itself p row.bytes) in
-        let waits : sum_by (size_at setup p) (w.says p) ≡ size_at setup p step + sum_by (size_at setup p) (v.says p) = ap (λ (xs : List ℕ). sum_by (size_at setup p) xs) (sym head) ∙ sum_by-cons (size_at setup p) step (v.says p) in
+        let size : size_at setup p step ≡ length row.bytes =
+        ap (λ (o : Option ScriptStep). length (said_by_step p o)) row.is ∙ ap (λ (xs : List ℕ). length xs) (said_by_itself p row.bytes) in
+        let waits : sum_by (size_at setup p) (w.says p) ≡ size_at setup p step + sum_by (size_at setup p) (v.says p) =
+        ap (λ (xs : List ℕ). sum_by (size_at setup p) xs) (sym head) ∙ sum_by-cons (size_at setup p) step (v.says p) in
         let part_is : part ≡ record (w.far p) { end = Rattle.session_value.specs.Cases.sending row.bytes (w.far p).end } = row.effect in
-        let stream : length (v.far p).end.stream ≡ length (w.far p).end.stream + length row.bytes = ap (λ (f : FarPart). length f.end.stream) (here ∙ part_is) ∙ length-append (w.far p).end.stream row.bytes in
+        let stream : length (v.far p).end.stream ≡ length (w.far p).end.stream + length row.bytes =
+        ap (λ (f : FarPart). length f.end.stream) (here ∙ part_is) ∙ length-append (w.far p).end.stream row.bytes in
         let keepalives : (v.far p).keepalives ≡ (w.far p).keepalives = ap (λ (f : FarPart). f.keepalives) (here ∙ part_is) in
-        let issued : unissued_octets v.operator.issued p 0 setup.steps ≡ unissued_octets w.operator.issued p 0 setup.steps = ap (λ (o : OperatorPart). unissued_octets o.issued p 0 setup.steps) m.operator in
+        let issued : unissued_octets v.operator.issued p 0 setup.steps ≡ unissued_octets w.operator.issued p 0 setup.steps =
+        ap (λ (o : OperatorPart). unissued_octets o.issued p 0 setup.steps) m.operator in
         record {
           sum = omega (arith, is.sum, size, waits, stream, keepalives, issued);
           orders = all.1;
@@ -94,8 +104,10 @@ module _ (setup : Setup) (p : ℕ) (peering : PeeringSetup) where
         ap (λ (f : FarPart). length f.end.stream) (here ∙ row.effect) ∙ length-append (w.far p).end.stream (spell KeepaliveMsg false) in
         let keepalives : (v.far p).keepalives ≡ (w.far p).keepalives + 1 = ap (λ (f : FarPart). f.keepalives) (here ∙ row.effect) in
         let waits : sum_by (size_at setup p) (v.says p) ≡ sum_by (size_at setup p) (w.says p) = ap (λ (xs : List ℕ). sum_by (size_at setup p) xs) none in
-        let issued : unissued_octets v.operator.issued p 0 setup.steps ≡ unissued_octets w.operator.issued p 0 setup.steps = ap (λ (o : OperatorPart). unissued_octets o.issued p 0 setup.steps) m.operator in
-        let keepalive_interval : keepalive_interval_of peering ≡ row.keepalive_interval = Rattle.std.proofs.lemmas.Option.same_Some _ _ (sym (ap (Rattle.std.specs.Prelude.option_map keepalive_interval_of) known) ∙ row.is) in
+        let issued : unissued_octets v.operator.issued p 0 setup.steps ≡ unissued_octets w.operator.issued p 0 setup.steps =
+        ap (λ (o : OperatorPart). unissued_octets o.issued p 0 setup.steps) m.operator in
+        let keepalive_interval : keepalive_interval_of peering ≡ row.keepalive_interval =
+        Rattle.std.proofs.lemmas.Option.same_Some _ _ (sym (ap (Rattle.std.specs.Prelude.option_map keepalive_interval_of) known) ∙ row.is) in
         record {
           sum = omega (arith, is.sum, size, waits, stream, keepalives, issued);
           orders = all_is (IsSayOf setup p) (w.says p) (v.says p) none is.orders;
@@ -111,14 +123,19 @@ module _ (setup : Setup) (p : ℕ) (peering : PeeringSetup) where
     own_event (Say step) known row = says_said step row
     own_event (Beat round) known row = beats_said round known row
     own_event (Send from len) known row =
-        stays_said row.end (ap (λ (f : FarPart). f.end.stream) row.effect) (emits_same (w.far p).end row.segment row.end row.emits.emits).stream (ap (λ (f : FarPart). f.keepalives) row.effect) row.takes
+        stays_said row.end (ap (λ (f : FarPart). f.end.stream) row.effect)
+        (emits_same (w.far p).end row.segment row.end row.emits.emits).stream (ap (λ (f : FarPart). f.keepalives) row.effect) row.takes
     own_event (Take router) known row =
         silent (ap (λ (f : FarPart). f.end.stream) row.effect) (ap (λ (f : FarPart). f.keepalives) row.effect) (takes_item router _ row.takes)
-    own_event (Pass index keep router) known row = silent (ap (λ (f : FarPart). f.end.stream) row.effect) (ap (λ (f : FarPart). f.keepalives) row.effect) (takes_none row.takes)
+    own_event (Pass index keep router) known row =
+        silent (ap (λ (f : FarPart). f.end.stream) row.effect) (ap (λ (f : FarPart). f.keepalives) row.effect) (takes_none row.takes)
     own_event (Reach index keep) known row =
-        stays_said row.end (ap (λ (f : FarPart). f.end.stream) row.effect) (takes_same (w.far p).end row.segment row.end row.arrives).stream (ap (λ (f : FarPart). f.keepalives) row.effect) row.takes
-    own_event (Lose Home index) known row = silent (ap (λ (f : FarPart). f.end.stream) row.effect) (ap (λ (f : FarPart). f.keepalives) row.effect) (takes_none row.takes)
-    own_event (Lose Remote index) known row = silent (ap (λ (f : FarPart). f.end.stream) row.effect) (ap (λ (f : FarPart). f.keepalives) row.effect) (takes_none row.takes)
+        stays_said row.end (ap (λ (f : FarPart). f.end.stream) row.effect)
+        (takes_same (w.far p).end row.segment row.end row.arrives).stream (ap (λ (f : FarPart). f.keepalives) row.effect) row.takes
+    own_event (Lose Home index) known row =
+        silent (ap (λ (f : FarPart). f.end.stream) row.effect) (ap (λ (f : FarPart). f.keepalives) row.effect) (takes_none row.takes)
+    own_event (Lose Remote index) known row =
+        silent (ap (λ (f : FarPart). f.end.stream) row.effect) (ap (λ (f : FarPart). f.keepalives) row.effect) (takes_none row.takes)
     own_event (Point router) known row =
         silent (ap (λ (f : FarPart). f.end.stream) row.effect) (ap (λ (f : FarPart). f.keepalives) row.effect) (takes_item router _ row.takes)
 
@@ -128,7 +145,8 @@ module _ (setup : Setup) (p : ℕ) (peering : PeeringSetup) where
       → Said setup p peering w → Said setup p peering v
   other_far w v q taken sent part other m is =
       let there : v.far p ≡ w.far p = ap (λ (f : ℕ → FarPart). f p) m.far ∙ elsewhere w.far q p part other in
-      same w v (ap (λ (f : FarPart). f.end.stream) there) (ap (λ (f : FarPart). f.keepalives) there) (ap (λ (o : OperatorPart). o.issued) m.operator) (by_taken taken (m.says p)) is
+      same w v (ap (λ (f : FarPart). f.end.stream) there) (ap (λ (f : FarPart). f.keepalives) there)
+      (ap (λ (o : OperatorPart). o.issued) m.operator) (by_taken taken (m.says p)) is
     where
       elsewhere : (f : ℕ → FarPart) (j n : ℕ) (x : FarPart) → j ≢ n → at f j x n ≡ f n
       elsewhere f j n x ne = grind (arith, nat_tests)
@@ -162,9 +180,11 @@ module _ (setup : Setup) (p : ℕ) (peering : PeeringSetup) where
   issues w v step s more there not far issued says size all is =
       let a : length (v.far p).end.stream ≡ length (w.far p).end.stream = ap (λ (f : ℕ → FarPart). length (f p).end.stream) far in
       let b : (v.far p).keepalives ≡ (w.far p).keepalives = ap (λ (f : ℕ → FarPart). (f p).keepalives) far in
-      let c : sum_by (size_at setup p) (v.says p) ≡ sum_by (size_at setup p) (w.says p) + sum_by (size_at setup p) more = ap (λ (xs : List ℕ). sum_by (size_at setup p) xs) says ∙ sum_by-append (size_at setup p) (w.says p) more in
+      let c : sum_by (size_at setup p) (v.says p) ≡ sum_by (size_at setup p) (w.says p) + sum_by (size_at setup p) more =
+      ap (λ (xs : List ℕ). sum_by (size_at setup p) xs) says ∙ sum_by-append (size_at setup p) (w.says p) more in
       let d = unissued_at w.operator.issued p 0 step step setup.steps s (omega arith) there not in
-      let e : unissued_octets v.operator.issued p 0 setup.steps ≡ unissued_octets (at w.operator.issued step true) p 0 setup.steps = ap (λ (f : ℕ → Bool). unissued_octets f p 0 setup.steps) issued in
+      let e : unissued_octets v.operator.issued p 0 setup.steps ≡ unissued_octets (at w.operator.issued step true) p 0 setup.steps =
+      ap (λ (f : ℕ → Bool). unissued_octets f p 0 setup.steps) issued in
       record {
         sum = omega (arith, is.sum, a, b, c, d, e, size);
         orders = all_is (IsSayOf setup p) (w.says p ++ more) (v.says p) says (all_join (IsSayOf setup p) (w.says p) more is.orders all);
@@ -210,13 +230,17 @@ module _ (setup : Setup) (p : ℕ) (peering : PeeringSetup) where
 
     unchanged : x.part.issued ≡ w.operator.issued → says_sent x.sent p ≡ [] → Said setup p peering v
     unchanged issued none =
-        same w v (ap (λ (f : ℕ → FarPart). (f p).end.stream) m.far) (ap (λ (f : ℕ → FarPart). (f p).keepalives) m.far) (issued_by w.operator.issued issued) (nothing_sent x.sent v w none (m.says p)) is
+        same w v (ap (λ (f : ℕ → FarPart). (f p).end.stream) m.far) (ap (λ (f : ℕ → FarPart). (f p).keepalives) m.far)
+        (issued_by w.operator.issued issued) (nothing_sent x.sent v w none (m.says p)) is
 
     by_row : (event : OperatorEvent) → operator_row setup event w.operator x.taken x.sent x.part → Said setup p peering v
     by_row (Order step number) (inl row) =
-        issues w v step (SayStep row.peering row.bytes) (only_at row.peering step p) row.is row.unissued m.far (issued_by (at w.operator.issued step true) (ap (λ (o : OperatorPart). o.issued) row.effect))
-        (sent_says row.peering step x.sent v w row.sends (m.says p)) (only_size row.peering step row.bytes row.is) (only_says row.peering step row.bytes row.is) is
-    by_row (Order step number) (inr row) = unchanged (ap (λ (o : OperatorPart). o.issued) row.effect) (ap (λ (xs : List OperatorSent). says_sent xs p) row.sends)
+        issues w v step (SayStep row.peering row.bytes) (only_at row.peering step p) row.is row.unissued m.far
+        (issued_by (at w.operator.issued step true) (ap (λ (o : OperatorPart). o.issued) row.effect))
+        (sent_says row.peering step x.sent v w row.sends (m.says p)) (only_size row.peering step row.bytes row.is)
+        (only_says row.peering step row.bytes row.is) is
+    by_row (Order step number) (inr row) =
+        unchanged (ap (λ (o : OperatorPart). o.issued) row.effect) (ap (λ (xs : List OperatorSent). says_sent xs p) row.sends)
     by_row (Note router) row = unchanged (ap (λ (o : OperatorPart). o.issued) row.effect) (ap (λ (xs : List OperatorSent). says_sent xs p) row.sends)
     by_row Go row = unchanged (ap (λ (o : OperatorPart). o.issued) row.effect) (ap (λ (xs : List OperatorSent). says_sent xs p) row.sends)
 
@@ -228,8 +252,10 @@ module _ (setup : Setup) (p : ℕ) (peering : PeeringSetup) where
 
   pub first_said : slice_get setup.peerings p ≡ Some peering → Said setup p peering (Rattle.graft_model.specs.First.first_world setup)
   first_said known =
-      let far : Rattle.graft_model.specs.First.first_far (slice_get setup.peerings p) ≡ Rattle.graft_model.specs.First.first_far (Some peering) = ap Rattle.graft_model.specs.First.first_far known in
-      let stream : length (Rattle.graft_model.specs.First.first_far (slice_get setup.peerings p)).end.stream ≡ length peering.opening = ap (λ (f : FarPart). length f.end.stream) far in
+      let far : Rattle.graft_model.specs.First.first_far (slice_get setup.peerings p) ≡ Rattle.graft_model.specs.First.first_far (Some peering) =
+      ap Rattle.graft_model.specs.First.first_far known in
+      let stream : length (Rattle.graft_model.specs.First.first_far (slice_get setup.peerings p)).end.stream ≡ length peering.opening =
+      ap (λ (f : FarPart). length f.end.stream) far in
       let keepalives : (Rattle.graft_model.specs.First.first_far (slice_get setup.peerings p)).keepalives ≡ 0 = ap (λ (f : FarPart). f.keepalives) far in
       let steps = none_issued p 0 setup.steps in
       record {
@@ -260,7 +286,9 @@ pub say_fits : (setup : Setup) (p : ℕ) (peering : PeeringSetup) (w : World) (s
     → Said setup p peering w
     → w.says p ≡ step ∷ rest → slice_get setup.steps step ≡ Some (SayStep p bytes) → length (w.far p).end.stream + length bytes ≤ 2 ^ 20
 say_fits setup p peering w step rest bytes sound is head there =
-    let size : size_at setup p step ≡ length bytes = ap (λ (o : Option ScriptStep). length (said_by_step p o)) there ∙ ap (λ (xs : List ℕ). length xs) (said_by_itself p bytes) in
-    let waits : sum_by (size_at setup p) (w.says p) ≡ size_at setup p step + sum_by (size_at setup p) rest = ap (λ (xs : List ℕ). sum_by (size_at setup p) xs) head ∙ sum_by-cons (size_at setup p) step rest in
+    let size : size_at setup p step ≡ length bytes =
+    ap (λ (o : Option ScriptStep). length (said_by_step p o)) there ∙ ap (λ (xs : List ℕ). length xs) (said_by_itself p bytes) in
+    let waits : sum_by (size_at setup p) (w.says p) ≡ size_at setup p step + sum_by (size_at setup p) rest =
+    ap (λ (xs : List ℕ). sum_by (size_at setup p) xs) head ∙ sum_by-cons (size_at setup p) step rest in
     let fits = said_fits setup p peering w sound is in
     omega (arith, size, waits, fits)

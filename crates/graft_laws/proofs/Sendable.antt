@@ -45,7 +45,8 @@ one_part : (as_number : ℕ) → as_number < 2 ^ 32 → IsPart (Sequence (as_num
 one_part as_number below = record { some = lit< tt; count = lit< tt; each = All-cons (λ n. n < 2 ^ 32) as_number [] below (All-nil (λ n. n < 2 ^ 32)) }
 
 more_part : (as_number : ℕ) (ases : List ℕ) → as_number < 2 ^ 32 → length ases < 255 → IsPart (Sequence ases) → IsPart (Sequence (as_number ∷ ases))
-more_part as_number ases below room part = record { some = omega arith; count = omega (arith, room); each = All-cons (λ n. n < 2 ^ 32) as_number ases below part.each }
+more_part as_number ases below room part =
+    record { some = omega arith; count = omega (arith, room); each = All-cons (λ n. n < 2 ^ 32) as_number ases below part.each }
 
 prepend_all : (as_number : ℕ) → as_number < 2 ^ 32 → (path : List PathPart) → All IsPart path → All IsPart (prepend as_number path)
 prepend_all as_number below [] all = All-cons IsPart (Sequence (as_number ∷ [])) [] (one_part as_number below) (All-nil IsPart)
@@ -56,7 +57,8 @@ prepend_all as_number below (Sequence ases ∷ parts) all = by_room (nat_lt (len
 
   by_room : (t : Bool) → nat_lt (length ases) 255 ≡ t
       → All IsPart (cond t (Sequence (as_number ∷ ases) ∷ parts) (Sequence (as_number ∷ []) ∷ (Sequence ases ∷ parts)))
-  by_room true e = All-cons IsPart (Sequence (as_number ∷ ases)) parts (more_part as_number ases below (let room : length ases < 255 = grind (arith, nat_tests) in room) each.0) (All-from_recursion IsPart parts each.1)
+  by_room true e = All-cons IsPart (Sequence (as_number ∷ ases)) parts
+      (more_part as_number ases below (let room : length ases < 255 = grind (arith, nat_tests) in room) each.0) (All-from_recursion IsPart parts each.1)
   by_room false e = All-cons IsPart (Sequence (as_number ∷ [])) (Sequence ases ∷ parts) (one_part as_number below) all
 
 times_all : (n as_number : ℕ) → as_number < 2 ^ 32 → (path : List PathPart) → All IsPart path → All IsPart (prepend_times n as_number path)
@@ -86,15 +88,18 @@ policy_sendable : (rules : List Rule) (prefix : PrefixValue) (as_number : ℕ) (
     → AllByRecursion HasMedInRange rules → IsSendable route.attrs
     → policy rules prefix as_number route ≡ Some out → IsSendable out.attrs
 policy_sendable [] prefix as_number route out below meds can e = subst (λ (v : Route). IsSendable v.attrs) (same_Some route out e) can
-policy_sendable (rule ∷ rules) prefix as_number route out below meds can e = by_match (matches rule prefix route) (λ f. policy_sendable rules prefix as_number route out below meds.1 can f) e where
-  by_deny : (t : Bool) → cond t None (Some (changed rule as_number route)) ≡ Some out → IsSendable out.attrs
-  by_deny true f = absurd cc
-  by_deny false f = subst (λ (v : Route). IsSendable v.attrs) (same_Some (changed rule as_number route) out f) (changed_sendable rule as_number route below meds.0 can)
+policy_sendable (rule ∷ rules) prefix as_number route out below meds can e =
+    by_match (matches rule prefix route) (λ f. policy_sendable rules prefix as_number route out below meds.1 can f) e
+  where
+    by_deny : (t : Bool) → cond t None (Some (changed rule as_number route)) ≡ Some out → IsSendable out.attrs
+    by_deny true f = absurd cc
+    by_deny false f = subst (λ (v : Route). IsSendable v.attrs) (same_Some (changed rule as_number route) out f)
+        (changed_sendable rule as_number route below meds.0 can)
 
-  by_match : (t : Bool) → (policy rules prefix as_number route ≡ Some out → IsSendable out.attrs)
-      → cond t (decision rule as_number route) (policy rules prefix as_number route) ≡ Some out → IsSendable out.attrs
-  by_match true later f = by_deny rule.deny f
-  by_match false later f = later f
+    by_match : (t : Bool) → (policy rules prefix as_number route ≡ Some out → IsSendable out.attrs)
+        → cond t (decision rule as_number route) (policy rules prefix as_number route) ≡ Some out → IsSendable out.attrs
+    by_match true later f = by_deny rule.deny f
+    by_match false later f = later f
 
 unwrapped : (rules : Option (List Rule)) → ((some : List Rule) → rules ≡ Some some → AllByRecursion HasMedInRange some)
     → AllByRecursion HasMedInRange (unwrap_or rules [])
@@ -115,19 +120,23 @@ entry_sendable setup ranges r s x entry below heard e = by_heard (finmap.get s.a
       → option_map (λ route. record { route = route; identifier = remote_identifier s; address = s.config.remote_address }) o ≡ Some entry
       → IsSendable entry.route.attrs
   by_route None each f = absurd cc
-  by_route (Some route) each f = subst (λ (v : Entry). IsSendable v.route.attrs) (same_Some (record { route = route; identifier = remote_identifier s; address = s.config.remote_address }) entry f) (each route refl)
+  by_route (Some route) each f = subst (λ (v : Entry). IsSendable v.route.attrs)
+      (same_Some (record { route = route; identifier = remote_identifier s; address = s.config.remote_address }) entry f) (each route refl)
 
   by_loop : (a : Attrs) → finmap.get s.adj_rib_in x ≡ Some a → (t : Bool) (route : Route)
       → cond t None (policy (unwrap_or (rules_for setup r s.config.import) []) x s.config.remote_as (record { attrs = a; pref = 100 })) ≡ Some route
       → IsSendable route.attrs
   by_loop a is true route f = absurd cc
-  by_loop a is false route f = policy_sendable (unwrap_or (rules_for setup r s.config.import) []) x s.config.remote_as (record { attrs = a; pref = 100 }) route below (rules_in_range setup ranges r s.config.import) (heard a is) f
+  by_loop a is false route f = policy_sendable (unwrap_or (rules_for setup r s.config.import) []) x s.config.remote_as
+      (record { attrs = a; pref = 100 }) route below (rules_in_range setup ranges r s.config.import) (heard a is) f
 
   by_heard : (h : Option Attrs) → finmap.get s.adj_rib_in x ≡ h
-      → option_map (λ route. record { route = route; identifier = remote_identifier s; address = s.config.remote_address }) (imported setup.home_as x (session_route setup r s x) h) ≡ Some entry
+      → option_map (λ route. record { route = route; identifier = remote_identifier s; address = s.config.remote_address })
+      (imported setup.home_as x (session_route setup r s x) h) ≡ Some entry
       → IsSendable entry.route.attrs
   by_heard None is f = absurd cc
-  by_heard (Some a) is f = by_route (imported setup.home_as x (session_route setup r s x) (Some a)) (λ route g. by_loop a is (holds_as a.path setup.home_as) route g) f
+  by_heard (Some a) is f =
+      by_route (imported setup.home_as x (session_route setup r s x) (Some a)) (λ route g. by_loop a is (holds_as a.path setup.home_as) route g) f
 
 -- ---- telling
 
@@ -152,12 +161,14 @@ told_is home_as out route below host can =
       next_hop = host;
       med = w.med;
       aggregator = w.aggregator;
-      unknown = All-from_recursion IsOther (map made_partial route.attrs.unknown) (others route.attrs.unknown (recursion_from_All IsOther route.attrs.unknown w.unknown));
+      unknown = All-from_recursion IsOther (map made_partial route.attrs.unknown)
+          (others route.attrs.unknown (recursion_from_All IsOther route.attrs.unknown w.unknown));
       rising = rising route.attrs.unknown w.rising;
     }
 
 unset : (route : Route) → IsSendable route.attrs → IsSendable (without_med route).attrs
-unset route can hop host = let w : IsWritableAttrs (record route.attrs { next_hop = hop }) = can hop host in record { path = w.path; next_hop = host; med = tt; aggregator = w.aggregator; unknown = w.unknown; rising = w.rising }
+unset route can hop host = let w : IsWritableAttrs (record route.attrs { next_hop = hop }) = can hop host in
+    record { path = w.path; next_hop = host; med = tt; aggregator = w.aggregator; unknown = w.unknown; rising = w.rising }
 
 pub tells_writable : (home_as : ℕ) (out : OutSide) (x : PrefixValue) (best : Option Best) (attrs : Attrs) → home_as < 2 ^ 32
     → is_no_host out.local_address ≡ false → AllByRecursion HasMedInRange (unwrap_or out.export_rules [])
@@ -171,7 +182,8 @@ tells_writable home_as out x (Some b) attrs below host meds can e = by_kept (is_
   by_export : (o : Option Route) → exported home_as out x b.route ≡ o → told_where_it_fits home_as out x o ≡ Some attrs → IsWritableAttrs attrs
   by_export None is f = absurd cc
   by_export (Some route) is f =
-      by_size route (policy_sendable (unwrap_or out.export_rules []) x home_as (without_med b.route) route below meds (unset b.route (can b refl)) is) (is_too_long x (told_attrs home_as out route)) f
+      by_size route (policy_sendable (unwrap_or out.export_rules []) x home_as (without_med b.route) route below meds (unset b.route (can b refl)) is)
+      (is_too_long x (told_attrs home_as out route)) f
 
   by_kept : (t : Bool) → cond t None (told_where_it_fits home_as out x (exported home_as out x b.route)) ≡ Some attrs → IsWritableAttrs attrs
   by_kept true f = absurd cc

@@ -14,16 +14,19 @@ use Rattle.graft_model.specs.Slices.{EmitsAt}
 use Rattle.graft_model.specs.Points.{at}
 use Rattle.graft_model.specs.Setups.{Setup, peering_numbers, room_of, graft_at}
 use Rattle.graft_model.specs.Parts.{Errand, Place, Live, RouterPart, Entries, Told, Outward, Seg, Report, World}
-use Rattle.graft_model.specs.RouterRows.{RouterTaken, SegmentIn, MeshIn, RouterSent, MeshTo, OutwardTo, PutsNothing, PutsSome, Emits, Arrives, Strays, GetsNext, Ticks, Follows, update_for}
+use Rattle.graft_model.specs.RouterRows.{RouterTaken, SegmentIn, MeshIn, RouterSent, MeshTo, OutwardTo, PutsNothing}
+use Rattle.graft_model.specs.RouterRows.{PutsSome, Emits, Arrives, Strays, GetsNext, Ticks, Follows, update_for}
 use Rattle.graft_model.specs.TableRows.{Decides, Tells, Hears}
 use Rattle.graft_model.specs.GraftRows.{is_taken, taken_in}
 use Rattle.graft_laws.specs.Phases.{Phase, only_at, only2, place_by}
 use Rattle.graft_laws.specs.Owned.{Stands, Owned}
 use Rattle.graft_laws.specs.Moves.{inward_taken, outward_sent, reports_sent, RouterMoves}
 use Rattle.graft_model.specs.declared.event.RouterEvent.{RouterEvent}
-use Rattle.graft_model.specs.declared.event.RouterEvent.TheVariants.{Put, Emit, Arrive, Stray, Got, Decide, Tell, Hear, Admit, Refuse, Freeze, Leave, Land, TurnBack, Return, Clear, Ask, Answer, Collect, Confirm, Tick}
+use Rattle.graft_model.specs.declared.event.RouterEvent.TheVariants.{Put, Emit, Arrive, Stray, Got, Decide, Tell, Hear, Admit, Refuse, Freeze, Leave}
+use Rattle.graft_model.specs.declared.event.RouterEvent.TheVariants.{Land, TurnBack, Return, Clear, Ask, Answer, Collect, Confirm, Tick}
 use Rattle.graft_model.specs.Steps.{router_row}
-use Rattle.graft_laws.specs.Life.{Acts, SameLine, SameEntries, EntersHeard, Change, Rests, Puts, Emits as ToEmit, Arrives as ToArrive, Gets, Ticks as ToTick, Strays as ToStray, IsUpdateToTell}
+use Rattle.graft_laws.specs.Life.{Acts, SameLine, SameEntries, EntersHeard, Change, Rests, Puts, Emits as ToEmit}
+use Rattle.graft_laws.specs.Life.{Arrives as ToArrive, Gets, Ticks as ToTick, Strays as ToStray, IsUpdateToTell}
 use Rattle.graft_laws.proofs.Phases.{live_session}
 use Rattle.graft_laws.proofs.Others.{Untouched, AreOthers, absent_still, untouched_by_items}
 use Rattle.graft_laws.proofs.Following.{at_other, line_by_router, line_gets, line_gives, same_entries, enters_heard}
@@ -31,7 +34,8 @@ use Rattle.graft_laws.proofs.Rests.{changed, stands_still}
 use Rattle.graft_laws.proofs.Room.{no_more_taken}
 use Rattle.graft_laws.proofs.Deeds.{known_place, equal_or_not, Deed, all_apart, own_or_apart, no_items, other_sent, other_taken, no_outward, no_inward}
 use Rattle.graft_laws.proofs.Grafts.{equal}
-use Rattle.graft_laws.proofs.GraftDeeds.{deed_as, place_stays, place_here, le_trans, admit_deed, refuse_deed, freeze_deed, leave_deed, land_deed, ask_deed, answer_deed, collect_deed, confirm_deed, turn_back_deed, return_deed, clear_deed}
+use Rattle.graft_laws.proofs.GraftDeeds.{deed_as, place_stays, place_here, le_trans, admit_deed, refuse_deed, freeze_deed, leave_deed, land_deed}
+use Rattle.graft_laws.proofs.GraftDeeds.{ask_deed, answer_deed, collect_deed, confirm_deed, turn_back_deed, return_deed, clear_deed}
 
 sends_outward : (setup : Setup) (p r q : ℕ) (item : Outward) → AreOthers setup p r None (OutwardTo q item ∷ [])
 sends_outward setup p r q item = record { mesh_taken = λ i j. refl; mesh_sent = λ i j. refl; orders_taken = λ i. refl; reports_sent = λ i. refl }
@@ -69,16 +73,25 @@ module _ (setup : Setup) (w v : World) (r : ℕ) (owned : Owned setup w) where
       let places : part.places ≡ at before.places p (Live row.next row.errand) = ap (λ (x : RouterPart). x.places) row.effect in
       record {
         each = own_or_apart setup w v r p None [] part m (known_place setup w owned r p _ row.live.is (λ e. absurd cc))
-            (λ q ne. record { places = place_stays before part q p _ places ne; entries = ap (λ (x : RouterPart). x.entries q) row.effect; items = no_items setup q r; outward_sent = λ a. refl; inward_taken = λ b. refl })
+            (λ q ne. record {
+              places = place_stays before part q p _ places ne;
+              entries = ap (λ (x : RouterPart). x.entries q) row.effect;
+              items = no_items setup q r;
+              outward_sent = λ a. refl;
+              inward_taken = λ b. refl;
+            })
             (λ phase s b.
             let e = there p phase s row.session row.errand row.live.is b in
             record {
               next = phase;
               session = row.next;
               stands = changed setup w v p r None [] part phase s row.next row.errand m (no_items setup p r) e.1 (place_here before part p _ places) b;
-              change = Acts r row.errand e.1 (Puts (update_for row.attrs row.prefixes) (subst (λ (x : SessionValue). PutsUpdate x (update_for row.attrs row.prefixes) row.next) e.0 row.puts)
-                  (subst (λ (x : SessionValue). IsUpdateToTell setup r x (update_for row.attrs row.prefixes) w) e.0 (record { prefix = row.first; attrs = for_attrs row.attrs row.prefixes ∙ row.told_first }))
-                  (line_by_router w v p r None [] part m (λ a. refl) (λ a. refl)) (same_entries w v p r part m.router (ap (λ (x : RouterPart). x.entries p) row.effect)));
+              change = Acts r row.errand e.1 (Puts (update_for row.attrs row.prefixes)
+                  (subst (λ (x : SessionValue). PutsUpdate x (update_for row.attrs row.prefixes) row.next) e.0 row.puts)
+                  (subst (λ (x : SessionValue). IsUpdateToTell setup r x (update_for row.attrs row.prefixes) w) e.0
+                  (record { prefix = row.first; attrs = for_attrs row.attrs row.prefixes ∙ row.told_first }))
+                  (line_by_router w v p r None [] part m (λ a. refl) (λ a. refl))
+                  (same_entries w v p r part m.router (ap (λ (x : RouterPart). x.entries p) row.effect)));
             });
         reports = λ a. tt;
         room = λ l. le_trans _ _ _ (no_more_taken setup before part p _ places (ap is_taken row.live.is)) l;
@@ -93,17 +106,27 @@ module _ (setup : Setup) (w v : World) (r : ℕ) (owned : Owned setup w) where
       let places : part.places ≡ at before.places p (Live next row.errand) = ap (λ (x : RouterPart). x.places) row.effect in
       record {
         each = own_or_apart setup w v r p None (OutwardTo p (Seg row.segment) ∷ []) part m (known_place setup w owned r p _ row.live.is (λ e. absurd cc))
-            (λ q ne. record { places = place_stays before part q p _ places ne; entries = ap (λ (x : RouterPart). x.entries q) row.effect; items = sends_outward setup q r p (Seg row.segment); outward_sent = λ a. no_outward r p q a (Seg row.segment) ne; inward_taken = λ b. refl })
+            (λ q ne. record {
+              places = place_stays before part q p _ places ne;
+              entries = ap (λ (x : RouterPart). x.entries q) row.effect;
+              items = sends_outward setup q r p (Seg row.segment);
+              outward_sent = λ a. no_outward r p q a (Seg row.segment) ne;
+              inward_taken = λ b. refl;
+            })
             (λ phase s b.
             let e = there p phase s row.session row.errand row.live.is b in
             let then : SessionValue = record s { end = row.end } in
             record {
               next = phase;
               session = then;
-              stands = changed setup w v p r None (OutwardTo p (Seg row.segment) ∷ []) part phase s then row.errand m (sends_outward setup p r p (Seg row.segment)) e.1
-                  (place_here before part p _ places ∙ ap (λ (x : SessionValue). (let y : SessionValue = record x { end = row.end } in Live y row.errand)) e.0) b;
-              change = Acts r row.errand e.1 (ToEmit from len row.segment row.end (subst (λ (x : SessionValue). EmitsAt from len x.end row.segment row.end) e.0 row.emits)
-                  (line_gets w v p r None _ part (Seg row.segment) m (λ a. own_outward r p a (Seg row.segment)) (λ a. refl)) (same_entries w v p r part m.router (ap (λ (x : RouterPart). x.entries p) row.effect)));
+              stands = changed setup w v p r None (OutwardTo p (Seg row.segment) ∷ []) part phase s then row.errand m
+                  (sends_outward setup p r p (Seg row.segment)) e.1
+                  (place_here before part p _ places
+                  ∙ ap (λ (x : SessionValue). (let y : SessionValue = record x { end = row.end } in Live y row.errand)) e.0) b;
+              change = Acts r row.errand e.1
+                  (ToEmit from len row.segment row.end (subst (λ (x : SessionValue). EmitsAt from len x.end row.segment row.end) e.0 row.emits)
+                  (line_gets w v p r None _ part (Seg row.segment) m (λ a. own_outward r p a (Seg row.segment)) (λ a. refl))
+                  (same_entries w v p r part m.router (ap (λ (x : RouterPart). x.entries p) row.effect)));
             });
         reports = λ a. tt;
         room = λ l. le_trans _ _ _ (no_more_taken setup before part p _ places (ap is_taken row.live.is)) l;
@@ -116,7 +139,13 @@ module _ (setup : Setup) (w v : World) (r : ℕ) (owned : Owned setup w) where
       let places : part.places ≡ at before.places p (Live next row.errand) = ap (λ (x : RouterPart). x.places) row.effect in
       record {
         each = own_or_apart setup w v r p (Some (SegmentIn p row.segment)) [] part m (known_place setup w owned r p _ row.live.is (λ e. absurd cc))
-            (λ q ne. record { places = place_stays before part q p _ places ne; entries = ap (λ (x : RouterPart). x.entries q) row.effect; items = takes_segment setup q r p row.segment; outward_sent = λ a. refl; inward_taken = λ b. no_inward r p q b row.segment ne })
+            (λ q ne. record {
+              places = place_stays before part q p _ places ne;
+              entries = ap (λ (x : RouterPart). x.entries q) row.effect;
+              items = takes_segment setup q r p row.segment;
+              outward_sent = λ a. refl;
+              inward_taken = λ b. no_inward r p q b row.segment ne;
+            })
             (λ phase s b.
             let e = there p phase s row.session row.errand row.live.is b in
             let then : SessionValue = record s { end = row.end } in
@@ -124,9 +153,12 @@ module _ (setup : Setup) (w v : World) (r : ℕ) (owned : Owned setup w) where
               next = phase;
               session = then;
               stands = changed setup w v p r (Some (SegmentIn p row.segment)) [] part phase s then row.errand m (takes_segment setup p r p row.segment) e.1
-                  (place_here before part p _ places ∙ ap (λ (x : SessionValue). (let y : SessionValue = record x { end = row.end } in Live y row.errand)) e.0) b;
-              change = Acts r row.errand e.1 (ToArrive row.segment row.end (subst (λ (x : SessionValue). TakesSegment x.end row.segment row.end) e.0 row.arrives)
-                  (line_gives w v p r _ part row.segment m (λ a. own_inward r p a row.segment)) (same_entries w v p r part m.router (ap (λ (x : RouterPart). x.entries p) row.effect)));
+                  (place_here before part p _ places
+                  ∙ ap (λ (x : SessionValue). (let y : SessionValue = record x { end = row.end } in Live y row.errand)) e.0) b;
+              change = Acts r row.errand e.1
+                  (ToArrive row.segment row.end (subst (λ (x : SessionValue). TakesSegment x.end row.segment row.end) e.0 row.arrives)
+                  (line_gives w v p r _ part row.segment m (λ a. own_inward r p a row.segment))
+                  (same_entries w v p r part m.router (ap (λ (x : RouterPart). x.entries p) row.effect)));
             });
         reports = λ a. tt;
         room = λ l. le_trans _ _ _ (no_more_taken setup before part p _ places (ap is_taken row.live.is)) l;
@@ -136,7 +168,8 @@ module _ (setup : Setup) (w v : World) (r : ℕ) (owned : Owned setup w) where
   pub stray_deed : (p : ℕ) (taken : Option RouterTaken) (sent : List RouterSent) (part : RouterPart) → Strays p before taken sent part
       → RouterMoves r taken sent part w v → Deed setup w v r taken sent part
   stray_deed p taken sent part row = deed_as setup w v r taken (Some (SegmentIn p row.segment)) sent [] part row.takes row.sends (λ m.
-      let same : (q : ℕ) → Untouched setup q w v = λ q. untouched_by_items setup q r (Some (SegmentIn p row.segment)) [] part w v m (ap (λ (x : RouterPart). x.places q) row.stays) (takes_segment setup q r p row.segment) in
+      let same : (q : ℕ) → Untouched setup q w v = λ q. untouched_by_items setup q r (Some (SegmentIn p row.segment)) [] part w v m
+      (ap (λ (x : RouterPart). x.places q) row.stays) (takes_segment setup q r p row.segment) in
       let entries : (q : ℕ) → SameEntries q w v = λ q. same_entries w v q r part m.router (ap (λ (x : RouterPart). x.entries q) row.stays) in
       record {
         each = record {
@@ -146,7 +179,8 @@ module _ (setup : Setup) (w v : World) (r : ℕ) (owned : Owned setup w) where
             session = s;
             stands = stands_still setup w v q phase s (same q) b;
             change = elim (equal_or_not q p) [
-              | inl e ↦ ToStray r row.segment (line_gives w v q r _ part row.segment m (λ a. subst (λ (x : ℕ). only2 p r row.segment x a ≡ only_at r row.segment a) (sym e) (own_inward r p a row.segment))) (entries q)
+              | inl e ↦ ToStray r row.segment (line_gives w v q r _ part row.segment m
+                  (λ a. subst (λ (x : ℕ). only2 p r row.segment x a ≡ only_at r row.segment a) (sym e) (own_inward r p a row.segment))) (entries q)
               | inr ne ↦ Rests (line_by_router w v q r _ [] part m (λ a. refl) (λ b. no_inward r p q b row.segment ne)) (entries q)
             ];
           };
@@ -160,7 +194,8 @@ module _ (setup : Setup) (w v : World) (r : ℕ) (owned : Owned setup w) where
   -- a session that changed by itself, as its entries follow
   follow_deed : (p : ℕ) (session next : SessionValue) (errand : Option Errand) (part : RouterPart) → before.places p ≡ Live session errand
       → Follows setup r p before session next errand part
-      → ((phase : Phase) (s : SessionValue) → s ≡ session → place_by phase s r ≡ Live s errand → SameLine p w v → EntersHeard setup p r s next w v → Change setup w v p phase s phase next)
+      → ((phase : Phase) (s : SessionValue) → s ≡ session → place_by phase s r ≡ Live s errand
+      → SameLine p w v → EntersHeard setup p r s next w v → Change setup w v p phase s phase next)
       → RouterMoves r None [] part w v → Deed setup w v r None [] part
   follow_deed p session next errand part is row change m =
       let places : part.places ≡ at before.places p (Live next errand) = ap (λ (x : RouterPart). x.places) row.effect in
@@ -179,7 +214,8 @@ module _ (setup : Setup) (w v : World) (r : ℕ) (owned : Owned setup w) where
               next = phase;
               session = next;
               stands = changed setup w v p r None [] part phase s next errand m (no_items setup p r) e.1 (place_here before part p _ places) b;
-              change = change phase s (sym e.0) e.1 (line_by_router w v p r None [] part m (λ a. refl) (λ a. refl)) (subst (λ (x : SessionValue). EntersHeard setup p r x next w v) e.0 (enters_heard setup w v p r session next part m.router row.entries));
+              change = change phase s (sym e.0) e.1 (line_by_router w v p r None [] part m (λ a. refl) (λ a. refl))
+                  (subst (λ (x : SessionValue). EntersHeard setup p r x next w v) e.0 (enters_heard setup w v p r session next part m.router row.entries));
             });
         reports = λ a. tt;
         room = λ l. le_trans _ _ _ (no_more_taken setup before part p _ places (ap is_taken is)) l;
@@ -189,13 +225,15 @@ module _ (setup : Setup) (w v : World) (r : ℕ) (owned : Owned setup w) where
       → RouterMoves r taken sent part w v → Deed setup w v r taken sent part
   get_deed p taken sent part row = deed_as setup w v r taken None sent [] part row.alone.0 row.alone.1
       (follow_deed p row.session row.next row.errand part row.live.is row.follows
-      (λ phase s e place line entries. Acts r row.errand place (Gets row.bytes (subst (λ (x : SessionValue). GetsFrame x row.bytes row.next) (sym e) row.gets) line entries)))
+      (λ phase s e place line entries.
+      Acts r row.errand place (Gets row.bytes (subst (λ (x : SessionValue). GetsFrame x row.bytes row.next) (sym e) row.gets) line entries)))
 
   pub tick_deed : (p round : ℕ) (taken : Option RouterTaken) (sent : List RouterSent) (part : RouterPart)
       → Ticks setup r p round before taken sent part → RouterMoves r taken sent part w v → Deed setup w v r taken sent part
   tick_deed p round taken sent part row = deed_as setup w v r taken None sent [] part row.alone.0 row.alone.1
       (follow_deed p row.session row.next row.errand part row.live.is row.follows
-      (λ phase s e place line entries. Acts r row.errand place (ToTick round (subst (λ (x : SessionValue). PassesRound x round row.next) (sym e) row.passes) line entries)))
+      (λ phase s e place line entries.
+      Acts r row.errand place (ToTick round (subst (λ (x : SessionValue). PassesRound x round row.next) (sym e) row.passes) line entries)))
 
   -- ---- tables alone
 
@@ -204,7 +242,13 @@ module _ (setup : Setup) (w v : World) (r : ℕ) (owned : Owned setup w) where
       → ((a : ℕ) → reports_sent r sent a ≡ [])
       → RouterMoves r taken sent part w v → Deed setup w v r taken sent part
   tables_deed taken sent part places entries items none_out none_in no_report m = record {
-    each = all_apart setup w v r taken sent part m (λ p. record { places = ap (λ (f : ℕ → Place). f p) places; entries = ap (λ (f : ℕ → Entries). f p) entries; items = items p; outward_sent = none_out p; inward_taken = none_in p });
+    each = all_apart setup w v r taken sent part m (λ p. record {
+      places = ap (λ (f : ℕ → Place). f p) places;
+      entries = ap (λ (f : ℕ → Entries). f p) entries;
+      items = items p;
+      outward_sent = none_out p;
+      inward_taken = none_in p;
+    });
     reports = λ a. subst (λ (x : List Report). AllByRecursion (λ (o : Report). IsSome (graft_at setup o.graft)) x) (sym (no_report a)) tt;
     room = λ l. subst (λ (x : ℕ → Place). length (filter (λ p. is_taken (x p)) (peering_numbers setup)) ≤ room_of setup r) (sym places) l;
   }
@@ -212,28 +256,39 @@ module _ (setup : Setup) (w v : World) (r : ℕ) (owned : Owned setup w) where
   pub put_none_deed : (p : ℕ) (taken : Option RouterTaken) (sent : List RouterSent) (part : RouterPart)
       → PutsNothing setup r p before taken sent part → RouterMoves r taken sent part w v → Deed setup w v r taken sent part
   put_none_deed p taken sent part row = deed_as setup w v r taken None sent [] part row.alone.0 row.alone.1
-      (tables_deed None [] part (ap (λ (x : RouterPart). x.places) row.effect) (ap (λ (x : RouterPart). x.entries) row.effect) (λ q. no_items setup q r) (λ q a. refl) (λ q b. refl) (λ a. refl))
+      (tables_deed None [] part (ap (λ (x : RouterPart). x.places) row.effect)
+      (ap (λ (x : RouterPart). x.entries) row.effect) (λ q. no_items setup q r) (λ q a. refl) (λ q b. refl) (λ a. refl))
 
   pub decide_deed : (prefix : PrefixValue) (taken : Option RouterTaken) (sent : List RouterSent) (part : RouterPart)
       → Decides setup r prefix before taken sent part → RouterMoves r taken sent part w v → Deed setup w v r taken sent part
   decide_deed prefix taken sent part row = deed_as setup w v r taken None sent [] part row.alone.0 row.alone.1
-      (tables_deed None [] part (ap (λ (x : RouterPart). x.places) row.effect) (ap (λ (x : RouterPart). x.entries) row.effect) (λ q. no_items setup q r) (λ q a. refl) (λ q b. refl) (λ a. refl))
+      (tables_deed None [] part (ap (λ (x : RouterPart). x.places) row.effect)
+      (ap (λ (x : RouterPart). x.entries) row.effect) (λ q. no_items setup q r) (λ q a. refl) (λ q b. refl) (λ a. refl))
 
   pub tell_deed : (q : ℕ) (prefix : PrefixValue) (taken : Option RouterTaken) (sent : List RouterSent) (part : RouterPart)
       → Tells q prefix before taken sent part → RouterMoves r taken sent part w v → Deed setup w v r taken sent part
-  tell_deed q prefix taken sent part row = deed_as setup w v r taken None sent (MeshTo q (Told prefix (tell_in (map.get before.best prefix))) ∷ []) part row.takes row.sends
-      (tables_deed None (MeshTo q (Told prefix (tell_in (map.get before.best prefix))) ∷ []) part (ap (λ (x : RouterPart). x.places) row.effect) (ap (λ (x : RouterPart). x.entries) row.effect)
+  tell_deed q prefix taken sent part row =
+      deed_as setup w v r taken None sent (MeshTo q (Told prefix (tell_in (map.get before.best prefix))) ∷ []) part row.takes row.sends
+      (tables_deed None (MeshTo q (Told prefix (tell_in (map.get before.best prefix))) ∷ []) part
+      (ap (λ (x : RouterPart). x.places) row.effect) (ap (λ (x : RouterPart). x.entries) row.effect)
       (λ p. other_sent setup p r q (Told prefix (tell_in (map.get before.best prefix))) refl) (λ p a. refl) (λ p b. refl) (λ a. refl))
 
   pub hear_deed : (q : ℕ) (taken : Option RouterTaken) (sent : List RouterSent) (part : RouterPart) → Hears q before taken sent part
       → RouterMoves r taken sent part w v → Deed setup w v r taken sent part
   hear_deed q taken sent part row = deed_as setup w v r taken (Some (MeshIn q (Told row.prefix row.route))) sent [] part row.takes row.sends
-      (tables_deed (Some (MeshIn q (Told row.prefix row.route))) [] part (ap (λ (x : RouterPart). x.places) row.effect) (ap (λ (x : RouterPart). x.entries) row.effect)
-      (λ p. record { mesh_taken = other_taken setup p r q (Told row.prefix row.route) refl; mesh_sent = λ i j. refl; orders_taken = λ i. refl; reports_sent = λ i. refl }) (λ p a. refl) (λ p b. refl) (λ a. refl))
+      (tables_deed (Some (MeshIn q (Told row.prefix row.route))) [] part
+      (ap (λ (x : RouterPart). x.places) row.effect) (ap (λ (x : RouterPart). x.entries) row.effect)
+      (λ p. record {
+        mesh_taken = other_taken setup p r q (Told row.prefix row.route) refl;
+        mesh_sent = λ i j. refl;
+        orders_taken = λ i. refl;
+        reports_sent = λ i. refl;
+      }) (λ p a. refl) (λ p b. refl) (λ a. refl))
 
 -- ---- any event of a router
 
-pub deed : (setup : Setup) (w v : World) (r : ℕ) (owned : Owned setup w) (event : RouterEvent) (taken : Option RouterTaken) (sent : List RouterSent) (part : RouterPart)
+pub deed : (setup : Setup) (w v : World) (r : ℕ) (owned : Owned setup w) (event : RouterEvent)
+    (taken : Option RouterTaken) (sent : List RouterSent) (part : RouterPart)
     → router_row setup r event (w.router r) taken sent part → RouterMoves r taken sent part w v → Deed setup w v r taken sent part
 deed setup w v r owned (Put p zero) taken sent part row = put_none_deed setup w v r owned p taken sent part row
 deed setup w v r owned (Put p (suc n)) taken sent part row = put_deed setup w v r owned p (suc n) taken sent part row

@@ -27,7 +27,8 @@ pub puts_stays : (before after : SessionValue) (update : Update) (other : Endpoi
     → StaysLinked before.end after.end other
 puts_stays before after update other linked g =
     let octets : List ℕ = spell (UpdateMsg update) (is_wide (peering_of before.config) before.story) in
-    end_is before.end (sending octets before.end) other after (ap (λ (s : SessionValue). s.end) g.effect) (sends before.end other octets linked (omega (arith, g.room)))
+    end_is before.end (sending octets before.end) other after (ap (λ (s : SessionValue). s.end) g.effect)
+    (sends before.end other octets linked (omega (arith, g.room)))
 
 pub passes_stays : (before after : SessionValue) (round : ℕ) (other : Endpoint) → AreLinked before.end other → PassesRound before round after
     → StaysLinked before.end after.end other

@@ -40,7 +40,10 @@ module _ (setup : Setup) (ok : IsSetup setup) (w : World) (reached : Reached set
   at_rest : (p : ℕ) → p < peerings_in setup → IsAtRest setup w p
   at_rest p l =
       let h = (always_owned setup ok w reached).peerings p l in
-      record { session = h.session; stands = subst (λ (x : Phase). Stands setup w p x h.session) (quiet_phase setup w p h.phase h.session quiet h.stands) h.stands }
+      record {
+        session = h.session;
+        stands = subst (λ (x : Phase). Stands setup w p x h.session) (quiet_phase setup w p h.phase h.session quiet h.stands) h.stands;
+      }
 
   peering_solves : (p : ℕ) → p < peerings_in setup → SolvesOn setup w p
   peering_solves p l =
@@ -57,7 +60,8 @@ module _ (setup : Setup) (ok : IsSetup setup) (w : World) (reached : Reached set
       let a : IsAtRest setup w p = at_rest p l in
       let phase : Phase = Idle (placement setup w.operator p) in
       let some = some_peering setup p l in
-      let unbroken : IsUnbroken setup w p phase a.session = has_at setup (IsUnbroken setup) w p phase a.session (always_unbroken setup w p ok reached l) a.stands in
+      let unbroken : IsUnbroken setup w p phase a.session =
+      has_at setup (IsUnbroken setup) w p phase a.session (always_unbroken setup w p ok reached l) a.stands in
       entries_routes setup w r p (placement setup w.operator p) x a.session a.stands (has_at setup (Entered setup) w p phase a.session (entered p l) a.stands)
       (own_number setup p some.0 a.session.config ok some.1 unbroken.own.config)
 

@@ -1,5 +1,6 @@
 -- In a quiet world each best route is the choice between what sessions bring in and what routers tell now.
-use Rattle.std.proofs.Common.{◌≡◌, ◌==◌, cond, ℕ, zero, suc, ◌+◌, ◌<◌, ◌≤◌, Bool, true, false, List, [], ◌∷◌, ◌++◌, map, Option, Some, None, refl, sym, ap, ◌∙◌, subst, arith, inl, inr}
+use Rattle.std.proofs.Common.{◌≡◌, ◌==◌, cond, ℕ, zero, suc, ◌+◌, ◌<◌, ◌≤◌, Bool, true, false, List, [], ◌∷◌, ◌++◌}
+use Rattle.std.proofs.Common.{map, Option, Some, None, refl, sym, ap, ◌∙◌, subst, arith, inl, inr}
 use Rattle.std.proofs.lemmas.Bool.Decides.{nat_tests}
 use Rattle.std.proofs.lemmas.List.Elements.{filter_map-append}
 use Rattle.std.specs.Prelude.{◌≢◌, ◌⊎◌, filter, not, slice_get, option_map}
@@ -14,7 +15,8 @@ use Rattle.route_policy.specs.Candidates.{SessionRoute, RouterRoute, Candidate, 
 use Rattle.route_policy.specs.Telling.{tell_in}
 use Rattle.session_value.specs.Sessions.{SessionValue}
 use Rattle.session_value.specs.declared.config.SessionConfig.{SessionConfig}
-use Rattle.graft_model.specs.Setups.{Setup, PeeringSetup, IsSetup, routers_in, peerings_in, router_numbers, peering_numbers, identifier_of, cost_between, has_network, config_of}
+use Rattle.graft_model.specs.Setups.{Setup, PeeringSetup, IsSetup, routers_in, peerings_in, router_numbers}
+use Rattle.graft_model.specs.Setups.{peering_numbers, identifier_of, cost_between, has_network, config_of}
 use Rattle.graft_model.specs.Parts.{Place, Entry, Entries, World}
 use Rattle.graft_model.specs.Decisions.{session_route, entry_of, entry_candidate, telling_candidate}
 use Rattle.graft_model.specs.Quiet.{Quiet}
@@ -75,16 +77,20 @@ own_number setup p peering config ok is own =
 
 -- A router's entries of a peering give what the session that it holds brings in.
 abbrev pub GivesSame : Setup → World → ℕ → PrefixValue → ℕ → Type 0
-GivesSame setup w r x p = listed (entry_candidate setup.home_as p (map.get ((w.router r).entries p) x)) ≡ filter_map (candidate_of setup x) (map (λ session. session_route setup r session x) (sessions_at ((w.router r).places p)))
+GivesSame setup w r x p = listed (entry_candidate setup.home_as p (map.get ((w.router r).entries p) x))
+    ≡ filter_map (candidate_of setup x) (map (λ session. session_route setup r session x) (sessions_at ((w.router r).places p)))
 
 -- the entry that a session brings in gives what its route gives
 entry_session : (setup : Setup) (r p : ℕ) (x : PrefixValue) (s : SessionValue) (o : Option Route) → s.config.peering ≡ record { 0 = p }
-    → entry_candidate setup.home_as p (option_map (λ route. (let e : Entry = record { route = route; identifier = (session_route setup r s x).identifier; address = s.config.remote_address } in e)) o)
+    → entry_candidate setup.home_as p (option_map
+    (λ route. (let e : Entry = record { route = route; identifier = (session_route setup r s x).identifier; address = s.config.remote_address } in e)) o)
     ≡ session_candidate setup.home_as (session_route setup r s x) o
 entry_session setup r p x s None own = refl
-entry_session setup r p x s (Some route) own = ap (λ (id : PeeringId). session_candidate setup.home_as (record (session_route setup r s x) { peering = id }) (Some route)) (sym own)
+entry_session setup r p x s (Some route) own =
+    ap (λ (id : PeeringId). session_candidate setup.home_as (record (session_route setup r s x) { peering = id }) (Some route)) (sym own)
 
-module _ (setup : Setup) (w : World) (r p q : ℕ) (x : PrefixValue) (s : SessionValue) (b : Stands setup w p (Idle q) s) (entered : Entered setup w p (Idle q) s) (own : s.config.peering ≡ record { 0 = p }) where
+module _ (setup : Setup) (w : World) (r p q : ℕ) (x : PrefixValue) (s : SessionValue) (b : Stands setup w p (Idle q) s)
+    (entered : Entered setup w p (Idle q) s) (own : s.config.peering ≡ record { 0 = p }) where
   abbrev routes_at : Place → List SessionRoute
   routes_at place = map (λ session. session_route setup r session x) (sessions_at place)
 
@@ -135,7 +141,8 @@ tellers_same f g told r (k ∷ ks) itself others = tellers_step f g told r k ks 
 pub heard_quiet : (setup : Setup) (w : World) (a b : ℕ) (x : PrefixValue) → Quiet setup w → Informed setup a b w → a ≢ b → b < routers_in setup
     → map.get ((w.router b).tellings a) x ≡ tell_in (map.get (w.router a).best x)
 heard_quiet setup w a b x quiet informed ne l =
-    subst (λ (items : List _). last_told x items (map.get ((w.router b).tellings a) x) ≡ tell_in (map.get (w.router a).best x)) (quiet.mesh a b) (informed.others ne l x (none_there ((w.router a).due_in b) x (quiet.told_in a b)))
+    subst (λ (items : List _). last_told x items (map.get ((w.router b).tellings a) x) ≡ tell_in (map.get (w.router a).best x))
+    (quiet.mesh a b) (informed.others ne l x (none_there ((w.router a).due_in b) x (quiet.told_in a b)))
 
 heard_itself : (setup : Setup) (w : World) (r k : ℕ) (x : PrefixValue) → Quiet setup w → Informed setup k r w → k ≡ r
     → map.get ((w.router r).tellings k) x ≡ None
@@ -144,29 +151,40 @@ heard_itself setup w r k x quiet informed is =
     (subst (λ (items : List _). last_told x items (map.get ((w.router k).tellings k) x) ≡ None) (quiet.mesh k k) ((informed.itself is x).1))
 
 telling_router : (setup : Setup) (r q : ℕ) (o : Option Route)
-    → telling_candidate setup r q o ≡ router_candidate setup.home_as (record { router = record { 0 = q }; identifier = identifier_of setup q; cost = cost_between setup r q; told = o }) o
+    → telling_candidate setup r q o
+    ≡ router_candidate setup.home_as (record { router = record { 0 = q }; identifier = identifier_of setup q; cost = cost_between setup r q; told = o }) o
 telling_router setup r q None = refl
 telling_router setup r q (Some route) = refl
 
 -- ---- the best routes
 
-module _ (setup : Setup) (w : World) (quiet : Quiet setup w) (r : ℕ) (l : r < routers_in setup) (x : PrefixValue) (decided : Decided setup r (w.router r)) (informed : (a b : ℕ) → Informed setup a b w)
+module _ (setup : Setup) (w : World) (quiet : Quiet setup w) (r : ℕ) (l : r < routers_in setup)
+    (x : PrefixValue) (decided : Decided setup r (w.router r)) (informed : (a b : ℕ) → Informed setup a b w)
     (sessions : (p : ℕ) → p < peerings_in setup → GivesSame setup w r x p) where
-  from_sessions : filter_map (λ p. entry_candidate setup.home_as p (map.get ((w.router r).entries p) x)) (peering_numbers setup) ≡ filter_map (candidate_of setup x) (session_routes setup w r x)
-  from_sessions = joined_same (λ p. entry_candidate setup.home_as p (map.get ((w.router r).entries p) x)) (candidate_of setup x) (λ p. map (λ session. session_route setup r session x) (sessions_at ((w.router r).places p))) (peering_numbers setup)
-      (all_below (GivesSame setup w r x) (peerings_in setup) (peering_numbers setup) sessions (range_below 0 (peerings_in setup) (peerings_in setup) (omega arith)))
+  from_sessions : filter_map (λ p. entry_candidate setup.home_as p (map.get ((w.router r).entries p) x)) (peering_numbers setup)
+      ≡ filter_map (candidate_of setup x) (session_routes setup w r x)
+  from_sessions = joined_same (λ p. entry_candidate setup.home_as p (map.get ((w.router r).entries p) x)) (candidate_of setup x)
+      (λ p. map (λ session. session_route setup r session x) (sessions_at ((w.router r).places p))) (peering_numbers setup)
+      (all_below (GivesSame setup w r x) (peerings_in setup) (peering_numbers setup) sessions
+      (range_below 0 (peerings_in setup) (peerings_in setup) (omega arith)))
 
   abbrev route_from : ℕ → RouterRoute
-  route_from q = record { router = record { 0 = q }; identifier = identifier_of setup q; cost = cost_between setup r q; told = tell_in (map.get (w.router q).best x) }
+  route_from q =
+      record { router = record { 0 = q }; identifier = identifier_of setup q; cost = cost_between setup r q; told = tell_in (map.get (w.router q).best x) }
 
-  from_routers : filter_map (λ q. telling_candidate setup r q (map.get ((w.router r).tellings q) x)) (router_numbers setup) ≡ filter_map (λ teller. router_candidate setup.home_as teller teller.told) (router_routes setup w r x)
-  from_routers = tellers_same (λ q. telling_candidate setup r q (map.get ((w.router r).tellings q) x)) (λ teller. router_candidate setup.home_as teller teller.told) route_from r (router_numbers setup)
+  from_routers : filter_map (λ q. telling_candidate setup r q (map.get ((w.router r).tellings q) x)) (router_numbers setup)
+      ≡ filter_map (λ teller. router_candidate setup.home_as teller teller.told) (router_routes setup w r x)
+  from_routers = tellers_same (λ q. telling_candidate setup r q (map.get ((w.router r).tellings q) x))
+      (λ teller. router_candidate setup.home_as teller teller.told) route_from r (router_numbers setup)
       (λ k is. ap (telling_candidate setup r k) (heard_itself setup w r k x quiet (informed k r) is))
-      (λ k ne. ap (telling_candidate setup r k) (heard_quiet setup w k r x quiet (informed k r) ne l) ∙ telling_router setup r k (tell_in (map.get (w.router k).best x)))
+      (λ k ne. ap (telling_candidate setup r k) (heard_quiet setup w k r x quiet (informed k r) ne l)
+      ∙ telling_router setup r k (tell_in (map.get (w.router k).best x)))
 
-  pub best_is : map.get (w.router r).best x ≡ choice (candidates setup.home_as x (has_network setup r x) (session_routes setup w r x) (router_routes setup w r x))
+  pub best_is : map.get (w.router r).best x
+      ≡ choice (candidates setup.home_as x (has_network setup r x) (session_routes setup w r x) (router_routes setup w r x))
   best_is =
       let own : List Candidate = own_candidates setup.home_as (has_network setup r x) in
       decided.best x (none_there (w.router r).dirty x (quiet.decided r))
-      ∙ (ap (λ (y : List Candidate). choice (own ++ y ++ filter_map (λ q. telling_candidate setup r q (map.get ((w.router r).tellings q) x)) (router_numbers setup))) from_sessions
+      ∙ (ap (λ (y : List Candidate).
+      choice (own ++ y ++ filter_map (λ q. telling_candidate setup r q (map.get ((w.router r).tellings q) x)) (router_numbers setup))) from_sessions
       ∙ ap (λ (y : List Candidate). choice (own ++ filter_map (candidate_of setup x) (session_routes setup w r x) ++ y)) from_routers)

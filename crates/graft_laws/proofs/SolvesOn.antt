@@ -39,7 +39,8 @@ whole from to flows acked = flows.bytes ∙ (ap (λ (n : ℕ). take n from.strea
 pub none_there : (prefixes : Prefixes) (x : PrefixValue) → prefixes ≡ map.empty → has prefixes x ≡ false
 none_there prefixes x none = ap (λ (s : Prefixes). has s x) none ∙ ap is_some (map.get-empty prefix_cmp x)
 
-module _ (setup : Setup) (w : World) (p q : ℕ) (s : SessionValue) (b : Stands setup w p (Idle q) s) (quiet : Quiet setup w) (unbroken : IsUnbroken setup w p (Idle q) s) where
+module _ (setup : Setup) (w : World) (p q : ℕ) (s : SessionValue) (b : Stands setup w p (Idle q) s)
+    (quiet : Quiet setup w) (unbroken : IsUnbroken setup w p (Idle q) s) where
   done : IsDone w p s
   done = quiet_done setup w p q s quiet b
 

@@ -23,7 +23,8 @@ use Rattle.graft_laws.proofs.Unbroken.{first_unbroken, unbroken_then}
 pub said_is : (setup : Setup) (p : ℕ) (peering : PeeringSetup) (w : World) → slice_get setup.peerings p ≡ Some peering → Reached setup w
     → Said setup p peering w
 said_is setup p peering w known reached =
-    carried setup (Said setup p peering) (first_said setup p peering known) (λ event before after reach step is. steps_keep setup p peering before after event known step is) w reached
+    carried setup (Said setup p peering) (first_said setup p peering known)
+    (λ event before after reach step is. steps_keep setup p peering before after event known step is) w reached
 
 pub says_are_orders : (setup : Setup) (p : ℕ) (w : World) → IsSetup setup → Reached setup w → p < peerings_in setup
     → AllByRecursion (IsSayOf setup p) (w.says p)
@@ -50,7 +51,8 @@ pub keeps_unbroken : (setup : Setup) → IsSetup setup → IsInvariant setup (Is
 keeps_unbroken setup sound = record {
   first = λ p config is. first_unbroken setup p config sound is;
   step = λ before after p phase next s t reached below stands stands' change is.
-      unbroken_then setup before after p phase next s t (λ round taken sent part row. beat_has_room setup p round before taken sent part sound reached row) change is;
+      unbroken_then setup before after p phase next s t
+      (λ round taken sent part row. beat_has_room setup p round before taken sent part sound reached row) change is;
 }
 
 -- one unbroken session, in every world that a run leads to

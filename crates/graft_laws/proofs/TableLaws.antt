@@ -19,7 +19,8 @@ use Rattle.graft_laws.proofs.StreamLaws.{always_unbroken, keeps_unbroken}
 
 pub always_decided : (setup : Setup) (w : World) → Reached setup w → (r : ℕ) → Decided setup r (w.router r)
 always_decided setup w reached r =
-    of_routers setup (Decided setup) (λ q event u taken sent part reach row is. decided_row setup q (u.router q) part is event taken sent row) (first_decided setup) w reached r
+    of_routers setup (Decided setup) (λ q event u taken sent part reach row is. decided_row setup q (u.router q) part is event taken sent row)
+    (first_decided setup) w reached r
 
 pub always_informed : (setup : Setup) (w : World) → Reached setup w → (a b : ℕ) → Informed setup a b w
 always_informed setup w reached a b = informed setup a b w reached
@@ -36,7 +37,8 @@ live_story setup w sound reached r p s o live =
 pub always_answered : (setup : Setup) (w : World) → IsSetup setup → Reached setup w → (r : ℕ) → Answered setup r (w.router r)
 always_answered setup w sound reached r =
     of_routers setup (Answered setup)
-    (λ q event u taken sent part reach row is. answered_row setup q (u.router q) part is event taken sent (λ p s o live. live_story setup u sound reach q p s o live) row)
+    (λ q event u taken sent part reach row is.
+    answered_row setup q (u.router q) part is event taken sent (λ p s o live. live_story setup u sound reach q p s o live) row)
     (first_answered setup) w reached r
 
 keeps_whole : (setup : Setup) → IsSetup setup → IsInvariant setup (IsWhole setup)

@@ -47,27 +47,39 @@ pub round_is : (a b : Bool) (now next : SessionState) (answer : List Line)
     → ◌≡◌ {A = List Line × SessionState} (cond a (Put (NoticeMsg hold_expired) ∷ [], Closed) (cond b (Put KeepaliveMsg ∷ [], now) ([], now))) (answer, next)
     → next ≢ Closed → Rounds now next answer
 round_is true b now next answer e closed = absurd (closed (sym (ap (λ (x : List Line × SessionState). x.1) e)))
-round_is false true now next answer e closed = record { same = sym (ap (λ (x : List Line × SessionState). x.1) e); none = subst (λ (x : List Line). AllByRecursion PutsNoUpdate x) (ap (λ (x : List Line × SessionState). x.0) e) (tt, tt) }
-round_is false false now next answer e closed = record { same = sym (ap (λ (x : List Line × SessionState). x.1) e); none = subst (λ (x : List Line). AllByRecursion PutsNoUpdate x) (ap (λ (x : List Line × SessionState). x.0) e) tt }
+round_is false true now next answer e closed = record {
+  same = sym (ap (λ (x : List Line × SessionState). x.1) e);
+  none = subst (λ (x : List Line). AllByRecursion PutsNoUpdate x) (ap (λ (x : List Line × SessionState). x.0) e) (tt, tt);
+}
+round_is false false now next answer e closed = record {
+  same = sym (ap (λ (x : List Line × SessionState). x.1) e);
+  none = subst (λ (x : List Line). AllByRecursion PutsNoUpdate x) (ap (λ (x : List Line × SessionState). x.0) e) tt;
+}
 
 joined : (before more lines : List Line) → lines ≡ before ++ more → AllByRecursion PutsNoUpdate before → AllByRecursion PutsNoUpdate more
     → AllByRecursion PutsNoUpdate lines
 joined before more lines e a b = subst (λ (x : List Line). AllByRecursion PutsNoUpdate x) (sym e) (all_join PutsNoUpdate before more a b)
 
 is_not : (state next : SessionState) → state ≡ OpenSent → (state ≢ Established) × (state ≢ Closed)
-is_not state next e = ((λ (f : state ≡ Established). (let g : OpenSent ≡ Established = sym e ∙ f in absurd cc)), (λ (f : state ≡ Closed). (let g : OpenSent ≡ Closed = sym e ∙ f in absurd cc)))
+is_not state next e = (
+  (λ (f : state ≡ Established). (let g : OpenSent ≡ Established = sym e ∙ f in absurd cc)),
+  (λ (f : state ≡ Closed). (let g : OpenSent ≡ Closed = sym e ∙ f in absurd cc)),
+)
 
 no_updates : (p : Peering) (lines : List Line) (state : SessionState) → Allowed p lines state → state ≢ Established → state ≢ Closed
     → AllByRecursion PutsNoUpdate lines
 no_updates p _ _ (opened lines h e) up closed = subst (λ (x : List Line). AllByRecursion PutsNoUpdate x) (sym e) (tt, tt)
 no_updates p _ _ (got before state bytes answer next lines l unclosed w r e) up closed =
-    let is : state ≡ OpenSent = before_open (expected_next p before state) bytes (message_of (expected_next p before state) bytes) answer next refl r up closed in
+    let is : state ≡ OpenSent =
+    before_open (expected_next p before state) bytes (message_of (expected_next p before state) bytes) answer next refl r up closed in
     let n = is_not state next is in
-    joined before (Got bytes ∷ answer) lines e (no_updates p before state l n.0 n.1) (tt, all_weaken IsAnswer PutsNoUpdate answer_no_update answer (got_answers p before state bytes answer next r))
+    joined before (Got bytes ∷ answer) lines e (no_updates p before state l n.0 n.1)
+    (tt, all_weaken IsAnswer PutsNoUpdate answer_no_update answer (got_answers p before state bytes answer next r))
 no_updates p _ _ (updated before u lines l w c e) up closed = absurd (up refl)
 no_updates p _ _ (passed before state round answer next lines l up_now h a r e) up closed =
     let is : Rounds state next answer = round_is (silence before + 1 == hold p before) (round % (hold p before / 3) == 0) state next answer r closed in
-    joined before (Tick round ∷ answer) lines e (no_updates p before state l (λ (f : state ≡ Established). up (is.same ∙ f)) (λ (f : state ≡ Closed). closed (is.same ∙ f))) (tt, is.none)
+    joined before (Tick round ∷ answer) lines e
+    (no_updates p before state l (λ (f : state ≡ Established). up (is.same ∙ f)) (λ (f : state ≡ Closed). closed (is.same ∙ f))) (tt, is.none)
 
 -- ---- nothing is told
 
@@ -88,9 +100,11 @@ open_none : (p : Peering) (lines : List Line) (now : SessionState) → state_of 
 open_none p lines Closed is allowed up = none_told lines is
 open_none p lines Established is allowed up = absurd (up refl)
 open_none p lines OpenSent is allowed up = ap (λ (x : SessionState). unless_closed x (fold tell map.empty lines)) is
-    ∙ folds_none map.empty lines (no_updates p lines (state_of lines) allowed (λ (f : state_of lines ≡ Established). up (sym is ∙ f)) (λ (f : state_of lines ≡ Closed). (let g : OpenSent ≡ Closed = sym is ∙ f in absurd cc)))
+    ∙ folds_none map.empty lines (no_updates p lines (state_of lines) allowed (λ (f : state_of lines ≡ Established). up (sym is ∙ f))
+    (λ (f : state_of lines ≡ Closed). (let g : OpenSent ≡ Closed = sym is ∙ f in absurd cc)))
 open_none p lines OpenConfirm is allowed up = ap (λ (x : SessionState). unless_closed x (fold tell map.empty lines)) is
-    ∙ folds_none map.empty lines (no_updates p lines (state_of lines) allowed (λ (f : state_of lines ≡ Established). up (sym is ∙ f)) (λ (f : state_of lines ≡ Closed). (let g : OpenConfirm ≡ Closed = sym is ∙ f in absurd cc)))
+    ∙ folds_none map.empty lines (no_updates p lines (state_of lines) allowed (λ (f : state_of lines ≡ Established). up (sym is ∙ f))
+    (λ (f : state_of lines ≡ Closed). (let g : OpenConfirm ≡ Closed = sym is ∙ f in absurd cc)))
 
 pub told_none : (session : SessionValue) → IsOfStory session → state session ≢ Established → session.adj_rib_out ≡ map.empty
 told_none session is up = is.adj_rib_out ∙ open_none (peering_of session.config) session.story (state session) refl is.tied.allowed up

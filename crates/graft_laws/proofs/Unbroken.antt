@@ -47,8 +47,10 @@ linked_first : (put said : List ℕ) → length put ≤ 2 ^ 20 → length said �
 linked_first put said fits fits' =
     let home : Endpoint = record fresh_endpoint { stream = put } in
     let far : Endpoint = record fresh_endpoint { stream = said } in
-    let one : StaysLinked fresh_endpoint home fresh_endpoint = sends_linked fresh_endpoint home fresh_endpoint put fresh_linked (record { fits = omega (arith, fits); sent = refl }) in
-    let two : StaysLinked fresh_endpoint far home = sends_linked fresh_endpoint far home said (turned home fresh_endpoint one.linked) (record { fits = omega (arith, fits'); sent = refl }) in
+    let one : StaysLinked fresh_endpoint home fresh_endpoint =
+    sends_linked fresh_endpoint home fresh_endpoint put fresh_linked (record { fits = omega (arith, fits); sent = refl }) in
+    let two : StaysLinked fresh_endpoint far home =
+    sends_linked fresh_endpoint far home said (turned home fresh_endpoint one.linked) (record { fits = omega (arith, fits'); sent = refl }) in
     turned far home two.linked
 
 first_streams : (setup : Setup) (p : ℕ) (put : List ℕ) (peering : PeeringSetup) → slice_get setup.peerings p ≡ Some peering → length put ≤ 2 ^ 20
@@ -57,9 +59,11 @@ first_streams : (setup : Setup) (p : ℕ) (put : List ℕ) (peering : PeeringSet
 first_streams setup p put peering there fits opening =
     let far : first_far (slice_get setup.peerings p) ≡ first_far (Some peering) = ap first_far there in
     record {
-      linked = subst (λ (f : FarPart). AreLinked (record fresh_endpoint { stream = put }) f.end) (sym far) (linked_first put peering.opening fits (omega (arith, opening)));
+      linked = subst (λ (f : FarPart). AreLinked (record fresh_endpoint { stream = put }) f.end)
+          (sym far) (linked_first put peering.opening fits (omega (arith, opening)));
       outward = λ r. tt;
-      remoteward = subst (λ (f : FarPart). Rattle.std.specs.List.AllByRecursion (Rattle.tcp_seq.specs.Connection.IsEmittedBy (record fresh_endpoint { stream = put })) f.remoteward) (sym far) tt;
+      remoteward = subst (λ (f : FarPart). Rattle.std.specs.List.AllByRecursion
+          (Rattle.tcp_seq.specs.Connection.IsEmittedBy (record fresh_endpoint { stream = put })) f.remoteward) (sym far) tt;
       inward = λ r. tt;
       homeward = subst (λ (f : FarPart). Rattle.std.specs.List.AllByRecursion (Rattle.tcp_seq.specs.Connection.IsEmittedBy f.end) f.homeward) (sym far) tt;
     }
@@ -70,7 +74,11 @@ first_unbroken setup p config sound is =
     let k : Known setup p config = known setup p config is in
     let it : IsPeeringSetup setup p k.peering = sound.peerings p k.peering k.there in
     let story : IsOfStory (begun config) = begun_is config (subst (λ (c : SessionConfig). IsPeering (peering_of c)) k.same it.valid) in
-    record { own = record { config = is }; story = story; streams = first_streams setup p (begun config).end.stream k.peering k.there (omega (arith, stream_fits (begun config) story.tied)) it.opening }
+    record {
+      own = record { config = is };
+      story = story;
+      streams = first_streams setup p (begun config).end.stream k.peering k.there (omega (arith, stream_fits (begun config) story.tied)) it.opening;
+    }
 
 -- ---- changes
 
@@ -92,7 +100,8 @@ module _ (setup : Setup) (w v : World) (p : ℕ) where
   }
 
   changes : (phase next : Phase) (s t : SessionValue)
-      → ((round : ℕ) (taken : Option FarTaken) (sent : List FarSent) (part : FarPart) → Beats setup p round (w.far p) taken sent part → length (w.far p).end.stream + length (spell KeepaliveMsg false) ≤ 2 ^ 20)
+      → ((round : ℕ) (taken : Option FarTaken) (sent : List FarSent) (part : FarPart)
+      → Beats setup p round (w.far p) taken sent part → length (w.far p).end.stream + length (spell KeepaliveMsg false) ≤ 2 ^ 20)
       → Change setup w v p phase s next t → Joined w p s → Joined v p t
   changes _ _ s _ room (Rests line entries) is = rests s line is
   changes _ _ s _ room (Grafts move line entries) is = rests s line is
@@ -131,7 +140,8 @@ module _ (setup : Setup) (w v : World) (p : ℕ) where
   }
 
 pub unbroken_then : (setup : Setup) (w v : World) (p : ℕ) (phase next : Phase) (s t : SessionValue)
-    → ((round : ℕ) (taken : Option FarTaken) (sent : List FarSent) (part : FarPart) → Beats setup p round (w.far p) taken sent part → length (w.far p).end.stream + length (spell KeepaliveMsg false) ≤ 2 ^ 20)
+    → ((round : ℕ) (taken : Option FarTaken) (sent : List FarSent) (part : FarPart)
+    → Beats setup p round (w.far p) taken sent part → length (w.far p).end.stream + length (spell KeepaliveMsg false) ≤ 2 ^ 20)
     → Change setup w v p phase s next t → IsUnbroken setup w p phase s → IsUnbroken setup v p next t
 unbroken_then setup w v p phase next s t room change is =
     let joined : Joined v p t = changes setup w v p phase next s t room change (record { story = is.story; streams = is.streams }) in

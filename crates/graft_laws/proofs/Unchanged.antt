@@ -21,7 +21,8 @@ use Rattle.graft_model.specs.Steps.{Event, ByRouter, Step, Heads}
 use Rattle.graft_laws.specs.Phases.{Stage, Ordered, Stored, Halted, Moving, Returning, Declined, Cleared, Phase, Idle, Busy, place_by}
 use Rattle.graft_laws.specs.Owned.{is_on, mesh_items_on, Stands, Owned}
 use Rattle.graft_laws.specs.Moves.{RouterHeads, RouterMoves}
-use Rattle.graft_laws.specs.Life.{Acts, Change, Begins, Admits, Refuses as SourceRefuses, Freezes as SourceFreezes, Lands as TargetLands, Returns as SourceReturns, NotesRefusal, NotesSuccess, GraftMove, Grafts}
+use Rattle.graft_laws.specs.Life.{Acts, Change, Begins, Admits, Refuses as SourceRefuses, Freezes as SourceFreezes}
+use Rattle.graft_laws.specs.Life.{Lands as TargetLands, Returns as SourceReturns, NotesRefusal, NotesSuccess, GraftMove, Grafts}
 use Rattle.graft_laws.specs.Keeps.{Reached}
 use Rattle.graft_laws.specs.Unchanged.{IsFound, IsAwayIn, IsAway}
 use Rattle.graft_laws.proofs.Phases.{halted_at, moved_in, back_in}
@@ -59,7 +60,8 @@ module _ (setup : Setup) (w v : World) (p : ℕ) (grows : LogGrows w.operator v.
       → v.operator.outcome k ≢ None
   noted q j u n stage s z b then is =
       subst (λ (x : ℕ). v.operator.outcome x ≢ None) is
-      (idle_ended setup v.operator p n j then.log (own_known setup p j b.log.goes_on.known) (grows.source j (λ none. (let e : Some q ≡ None = sym b.log.goes_on.ordered ∙ none in absurd cc))))
+      (idle_ended setup v.operator p n j then.log (own_known setup p j b.log.goes_on.known)
+      (grows.source j (λ none. (let e : Some q ≡ None = sym b.log.goes_on.ordered ∙ none in absurd cc))))
 
   away_on : (phase next : Phase) (s : SessionValue) → GraftMove setup w phase s next → Stands setup w p phase s → Stands setup v p next s
       → IsAwayIn phase r k t found s → IsAway v next r k t found s
@@ -95,7 +97,8 @@ module _ (setup : Setup) (ok : IsSetup setup) (p r k t : ℕ) (l : p < peerings_
       let owned : Owned setup w = always_owned setup ok w reached in
       let held = owned.peerings p l in
       let f = followed setup w v event p held.phase held.session ok owned step l held.stands in
-      let a : IsAway v f.next r k t found f.session = away_then setup w v p (log_grows setup event w v step) r k t found held.phase f.next held.session f.session held.stands f.stands f.change (away held.phase held.session held.stands) in
+      let a : IsAway v f.next r k t found f.session = away_then setup w v p (log_grows setup event w v step) r k t found
+      held.phase f.next held.session f.session held.stands f.stands f.change (away held.phase held.session held.stands) in
       subst (λ (x : Phase). IsAway v x r k t found s) (one_phase setup v p f.next phase f.session s f.stands b)
       (subst (λ (x : SessionValue). IsAway v f.next r k t found x) (same_session setup v p f.next phase f.session s f.stands b) a)
 
@@ -106,12 +109,15 @@ module _ (setup : Setup) (ok : IsSetup setup) (p r k t : ℕ) (l : p < peerings_
       let owned : Owned setup w = always_owned setup ok w reached in
       let row : Freezes r k (w.router r) step.taken step.sent step.part = step.row in
       let once : HasOnce k (w.router r) = at_one_place setup w r k owned in
-      let here : row.peering ≡ p = once row.peering p (has_graft (w.router r) row.peering row.session row.target row.live.is) (has_graft (w.router r) p found t was) in
-      let same : Live row.session (Some (Leaving (record { graft = k; target = row.target }))) ≡ Live found (Some (Leaving (record { graft = k; target = t }))) = sym row.live.is ∙ (ap (λ (x : ℕ). (w.router r).places x) here ∙ was) in
+      let here : row.peering ≡ p =
+      once row.peering p (has_graft (w.router r) row.peering row.session row.target row.live.is) (has_graft (w.router r) p found t was) in
+      let same : Live row.session (Some (Leaving (record { graft = k; target = row.target })))
+      ≡ Live found (Some (Leaving (record { graft = k; target = t }))) = sym row.live.is ∙ (ap (λ (x : ℕ). (w.router r).places x) here ∙ was) in
       let m : RouterMoves r step.taken step.sent step.part w v = router_moves setup r (Freeze k) w v step in
       let frozen : (v.router r).places p ≡ Frozen found (record { graft = k; target = t }) =
       ap (λ (f : ℕ → RouterPart). (f r).places p) m.router ∙ (ap (λ (x : RouterPart). x.places p) (at_here w.router r step.part)
-      ∙ (ap (λ (x : RouterPart). x.places p) row.effect ∙ (ap (λ (x : ℕ). at (w.router r).places x (Frozen row.session (record { graft = k; target = row.target })) p) here
+      ∙ (ap (λ (x : RouterPart). x.places p) row.effect
+      ∙ (ap (λ (x : ℕ). at (w.router r).places x (Frozen row.session (record { graft = k; target = row.target })) p) here
       ∙ (at_here (w.router r).places p (Frozen row.session (record { graft = k; target = row.target })) ∙ frozen_same row.session found row.target same)))) in
       is_away phase s b (sym frozen ∙ b.places r)
     where
@@ -136,7 +142,8 @@ module _ (setup : Setup) (ok : IsSetup setup) (p r k t : ℕ) (l : p < peerings_
 
 -- ---- the item that comes
 
-module _ (setup : Setup) (ok : IsSetup setup) (events : List Event) (r k p target s q : ℕ) (found session : SessionValue) (event : RouterEvent) (item : Mesh) (after : World)
+module _ (setup : Setup) (ok : IsSetup setup) (events : List Event) (r k p target s q : ℕ)
+    (found session : SessionValue) (event : RouterEvent) (item : Mesh) (after : World)
     (f : FrozenBefore setup (first_world setup) events r k p target found s q event item after) where
   reached₁ : Reached setup f.w₁
   reached₁ = record { events = f.begun; run = f.before }
@@ -149,7 +156,8 @@ module _ (setup : Setup) (ok : IsSetup setup) (events : List Event) (r k p targe
 
   pub found_away : (phase : Phase) (z : SessionValue) → Stands setup f.w₃ p phase z → IsAway f.w₃ phase r k target found z
   found_away = carried_from setup (IsAwayNow setup ok p r k target known found) (away_step setup ok p r k target known found) f.away f.w₂ f.w₃
-      (reached_more setup (ByRouter r (Freeze k)) f.w₁ f.w₂ reached₁ f.freezes) f.meanwhile (away_first setup ok p r k target known found f.w₁ f.w₂ reached₁ f.was f.freezes)
+      (reached_more setup (ByRouter r (Freeze k)) f.w₁ f.w₂ reached₁ f.freezes) f.meanwhile
+      (away_first setup ok p r k target known found f.w₁ f.w₂ reached₁ f.was f.freezes)
 
   -- a graft that is under way has no outcome
   under_way : (phase : Phase) (a u : ℕ) (stage : Stage) (z : SessionValue) → phase ≡ Busy a k u stage → Stands setup f.w₃ p phase z
@@ -163,7 +171,8 @@ heads_same : (x y : Mesh) (xs ys : List Mesh) → x ∷ xs ≡ y ∷ ys → x �
 heads_same x y xs ys e = cc
 
 -- the item that an event of the router s takes from q is the one that comes
-taken_is : (setup : Setup) (w v : World) (s q : ℕ) (taken : Option RouterTaken) (sent : List RouterSent) (part : RouterPart) (item other : Mesh) (items : List Mesh)
+taken_is : (setup : Setup) (w v : World) (s q : ℕ) (taken : Option RouterTaken)
+    (sent : List RouterSent) (part : RouterPart) (item other : Mesh) (items : List Mesh)
     → RouterMoves s taken sent part w v → taken ≡ Some (MeshIn q other)
     → w.mesh q s ≡ item ∷ items → other ≡ item
 taken_is setup w v s q taken sent part item other items m takes comes =
@@ -171,7 +180,8 @@ taken_is setup w v s q taken sent part item other items m takes comes =
     heads_same other item head.rest items (sym head.is ∙ comes)
 
 -- where the router's place is then
-place_after : (setup : Setup) (w v : World) (s p n : ℕ) (taken : Option RouterTaken) (sent : List RouterSent) (part : RouterPart) (z found : SessionValue) (o : Option Errand)
+place_after : (setup : Setup) (w v : World) (s p n : ℕ) (taken : Option RouterTaken)
+    (sent : List RouterSent) (part : RouterPart) (z found : SessionValue) (o : Option Errand)
     → RouterMoves s taken sent part w v
     → part.places ≡ at (w.router s).places n (Live z o) → n ≡ p → z ≡ found → (v.router s).places p ≡ Live found o
 place_after setup w v s p n taken sent part z found o m places is same =
@@ -190,27 +200,39 @@ module _ (setup : Setup) (ok : IsSetup setup) (events : List Event) (r k p targe
       → (s ≡ r) × ((after.router s).places p ≡ Live found None)
   returned refusal after f =
       let item : Mesh = Back k p session refusal in
-      let held = (always_owned setup ok f.w₃ (reached₃ setup ok events r k p target s q found session (Return q) item after f)).peerings p (known setup ok events r k p target s q found session (Return q) item after f) in
-      let e = back_in held.phase p held.session session refusal q s k (mesh_items_on p f.items) (own_head (is_on p) (f.w₃.mesh q s) f.items item f.comes (equal p) ∙ held.stands.mesh q s) in
-      let away = under_way setup ok events r k p target s q found session (Return q) item after f held.phase s q (Returning refusal) held.session e.0 held.stands in
+      let held = (always_owned setup ok f.w₃ (reached₃ setup ok events r k p target s q found session (Return q) item after f)).peerings p
+      (known setup ok events r k p target s q found session (Return q) item after f) in
+      let e = back_in held.phase p held.session session refusal q s k (mesh_items_on p f.items)
+      (own_head (is_on p) (f.w₃.mesh q s) f.items item f.comes (equal p) ∙ held.stands.mesh q s) in
+      let away = under_way setup ok events r k p target s q found session
+      (Return q) item after f held.phase s q (Returning refusal) held.session e.0 held.stands in
       let row : Returns q (f.w₃.router s) f.step.taken f.step.sent f.step.part = f.step.row in
       let m : RouterMoves s f.step.taken f.step.sent f.step.part f.w₃ after = router_moves setup s (Return q) f.w₃ after f.step in
-      let parts = back_parts row.graft k row.peering p row.session session row.refusal refusal (taken_is setup f.w₃ after s q f.step.taken f.step.sent f.step.part item (Back row.graft row.peering row.session row.refusal) f.items m row.takes f.comes) in
-      (away.0, place_after setup f.w₃ after s p row.peering f.step.taken f.step.sent f.step.part row.session found None m (ap (λ (x : RouterPart). x.places) row.effect) parts.0 (parts.1 ∙ (e.1 ∙ away.3)))
+      let parts = back_parts row.graft k row.peering p row.session session row.refusal refusal (taken_is setup f.w₃ after s q
+      f.step.taken f.step.sent f.step.part item (Back row.graft row.peering row.session row.refusal) f.items m row.takes f.comes) in (
+        away.0,
+        place_after setup f.w₃ after s p row.peering f.step.taken f.step.sent f.step.part row.session found None m
+            (ap (λ (x : RouterPart). x.places) row.effect) parts.0 (parts.1 ∙ (e.1 ∙ away.3)),
+      )
 
   landed : (after : World) → FrozenBefore setup (first_world setup) events r k p target found s q (Land q) (Moved k p session) after
       → (s ≡ target) × ((after.router s).places p ≡ Live found (Some (Owing (record { graft = k; source = r; next = 0 }))))
   landed after f =
       let item : Mesh = Moved k p session in
-      let held = (always_owned setup ok f.w₃ (reached₃ setup ok events r k p target s q found session (Land q) item after f)).peerings p (known setup ok events r k p target s q found session (Land q) item after f) in
-      let e = moved_in held.phase p held.session session q s k (mesh_items_on p f.items) (own_head (is_on p) (f.w₃.mesh q s) f.items item f.comes (equal p) ∙ held.stands.mesh q s) in
+      let held = (always_owned setup ok f.w₃ (reached₃ setup ok events r k p target s q found session (Land q) item after f)).peerings p
+      (known setup ok events r k p target s q found session (Land q) item after f) in
+      let e = moved_in held.phase p held.session session q s k (mesh_items_on p f.items)
+      (own_head (is_on p) (f.w₃.mesh q s) f.items item f.comes (equal p) ∙ held.stands.mesh q s) in
       let away = under_way setup ok events r k p target s q found session (Land q) item after f held.phase q s Moving held.session e.0 held.stands in
       let row : Lands setup s q (f.w₃.router s) f.step.taken f.step.sent f.step.part = f.step.row in
       let m : RouterMoves s f.step.taken f.step.sent f.step.part f.w₃ after = router_moves setup s (Land q) f.w₃ after f.step in
-      let parts = moved_parts row.comes.graft k row.comes.peering p row.comes.session session (taken_is setup f.w₃ after s q f.step.taken f.step.sent f.step.part item (Moved row.comes.graft row.comes.peering row.comes.session) f.items m row.comes.takes f.comes) in (
+      let parts = moved_parts row.comes.graft k row.comes.peering p row.comes.session session (taken_is setup f.w₃ after s q f.step.taken
+      f.step.sent f.step.part item (Moved row.comes.graft row.comes.peering row.comes.session) f.items m row.comes.takes f.comes) in (
         away.2,
-        place_after setup f.w₃ after s p row.comes.peering f.step.taken f.step.sent f.step.part row.comes.session found _ m (ap (λ (x : RouterPart). x.places) row.effect) parts.0 (parts.1 ∙ (e.1 ∙ away.3))
-            ∙ (ap (λ (x : ℕ). Live found (Some (Owing (record { graft = x; source = q; next = 0 })))) parts.2 ∙ ap (λ (x : ℕ). Live found (Some (Owing (record { graft = k; source = x; next = 0 })))) away.0),
+        place_after setup f.w₃ after s p row.comes.peering f.step.taken f.step.sent f.step.part row.comes.session found _ m
+            (ap (λ (x : RouterPart). x.places) row.effect) parts.0 (parts.1 ∙ (e.1 ∙ away.3))
+            ∙ (ap (λ (x : ℕ). Live found (Some (Owing (record { graft = x; source = q; next = 0 })))) parts.2
+            ∙ ap (λ (x : ℕ). Live found (Some (Owing (record { graft = k; source = x; next = 0 })))) away.0),
       )
 
 -- ---- a graft that the source refuses
@@ -226,14 +248,16 @@ module _ (setup : Setup) (w v : World) (r k p : ℕ) (step : Step setup (ByRoute
   refused_part = ap (λ (x : RouterPart). sessions_at (x.places p)) row.effect ∙ by_place (equal_or_not p row.peering) where
     by_place : (p ≡ row.peering) ⊎ (p ≢ row.peering)
         → sessions_at (at (w.router r).places row.peering (Live row.session None) p) ≡ sessions_at ((w.router r).places p)
-    by_place (inl is) = subst (λ (x : ℕ). sessions_at (at (w.router r).places row.peering (Live row.session None) x) ≡ sessions_at ((w.router r).places x)) (sym is)
+    by_place (inl is) =
+        subst (λ (x : ℕ). sessions_at (at (w.router r).places row.peering (Live row.session None) x) ≡ sessions_at ((w.router r).places x)) (sym is)
         (ap sessions_at (at_here (w.router r).places row.peering (Live row.session None)) ∙ sym (ap sessions_at row.live.is))
     by_place (inr ne) = ap sessions_at (at_other (w.router r).places row.peering p (Live row.session None) ne)
 
   refused_places : (x : ℕ) → sessions_at ((v.router x).places p) ≡ sessions_at ((w.router x).places p)
   refused_places x = ap (λ (f : ℕ → RouterPart). sessions_at ((f x).places p)) moves.router ∙ by_router (equal_or_not x r) where
     by_router : (x ≡ r) ⊎ (x ≢ r) → sessions_at ((at w.router r step.part x).places p) ≡ sessions_at ((w.router x).places p)
-    by_router (inl is) = subst (λ (y : ℕ). sessions_at ((at w.router r step.part y).places p) ≡ sessions_at ((w.router y).places p)) (sym is) (ap (λ (y : RouterPart). sessions_at (y.places p)) (at_here w.router r step.part) ∙ refused_part)
+    by_router (inl is) = subst (λ (y : ℕ). sessions_at ((at w.router r step.part y).places p) ≡ sessions_at ((w.router y).places p))
+        (sym is) (ap (λ (y : RouterPart). sessions_at (y.places p)) (at_here w.router r step.part) ∙ refused_part)
     by_router (inr ne) = ap (λ (y : RouterPart). sessions_at (y.places p)) (at_other w.router r x step.part ne)
 
   same_mesh : (a b : ℕ) → v.mesh a b ≡ w.mesh a b
@@ -244,12 +268,17 @@ module _ (setup : Setup) (w v : World) (r k p : ℕ) (step : Step setup (ByRoute
 
   pub refused_sessions : sessions_of setup v p ≡ sessions_of setup w p
   refused_sessions =
-      let held : flat_map (λ x. sessions_at ((v.router x).places p)) (router_numbers setup) ≡ flat_map (λ x. sessions_at ((w.router x).places p)) (router_numbers setup) =
+      let held : flat_map (λ x. sessions_at ((v.router x).places p)) (router_numbers setup)
+      ≡ flat_map (λ x. sessions_at ((w.router x).places p)) (router_numbers setup) =
       flat_same (λ x. sessions_at ((v.router x).places p)) (λ x. sessions_at ((w.router x).places p)) (router_numbers setup) refused_places in
-      let on_way : flat_map (λ a. flat_map (λ b. flat_map (sessions_on p) (v.mesh a b)) (router_numbers setup)) (router_numbers setup) ≡ flat_map (λ a. flat_map (λ b. flat_map (sessions_on p) (w.mesh a b)) (router_numbers setup)) (router_numbers setup) =
-      flat_same (λ a. flat_map (λ b. flat_map (sessions_on p) (v.mesh a b)) (router_numbers setup)) (λ a. flat_map (λ b. flat_map (sessions_on p) (w.mesh a b)) (router_numbers setup)) (router_numbers setup)
-      (λ a. flat_same (λ b. flat_map (sessions_on p) (v.mesh a b)) (λ b. flat_map (sessions_on p) (w.mesh a b)) (router_numbers setup) (λ b. ap (flat_map (sessions_on p)) (same_mesh a b))) in
-      ap (λ (x : List SessionValue). x ++ flat_map (λ a. flat_map (λ b. flat_map (sessions_on p) (v.mesh a b)) (router_numbers setup)) (router_numbers setup)) held
+      let on_way : flat_map (λ a. flat_map (λ b. flat_map (sessions_on p) (v.mesh a b)) (router_numbers setup)) (router_numbers setup)
+      ≡ flat_map (λ a. flat_map (λ b. flat_map (sessions_on p) (w.mesh a b)) (router_numbers setup)) (router_numbers setup) =
+      flat_same (λ a. flat_map (λ b. flat_map (sessions_on p) (v.mesh a b)) (router_numbers setup))
+      (λ a. flat_map (λ b. flat_map (sessions_on p) (w.mesh a b)) (router_numbers setup)) (router_numbers setup)
+      (λ a. flat_same (λ b. flat_map (sessions_on p) (v.mesh a b)) (λ b. flat_map (sessions_on p) (w.mesh a b))
+      (router_numbers setup) (λ b. ap (flat_map (sessions_on p)) (same_mesh a b))) in
+      ap (λ (x : List SessionValue).
+      x ++ flat_map (λ a. flat_map (λ b. flat_map (sessions_on p) (v.mesh a b)) (router_numbers setup)) (router_numbers setup)) held
       ∙ ap (λ (x : List SessionValue). flat_map (λ y. sessions_at ((w.router y).places p)) (router_numbers setup) ++ x) on_way
 
 -- ---- every run

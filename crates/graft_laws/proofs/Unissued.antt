@@ -25,7 +25,8 @@ unissued_at issued p n k m [] step is there not = absurd cc
 unissued_at issued p n zero m (first ∷ steps) step is there not =
     let same : m ≡ n = omega (arith, is) in
     let it : first ≡ step = cc in
-    let rest : unissued_octets (at issued m true) p (n + 1) steps ≡ unissued_octets issued p (n + 1) steps = unissued_past issued p (n + 1) m steps (omega (arith, same)) in
+    let rest : unissued_octets (at issued m true) p (n + 1) steps ≡ unissued_octets issued p (n + 1) steps =
+    unissued_past issued p (n + 1) m steps (omega (arith, same)) in
     let now : at issued m true n ≡ true = grind (arith, nat_tests) in
     let was : issued n ≡ false = ap issued (sym same) ∙ not in
     let a : (if at issued m true n then 0 else length (said_by p first)) ≡ 0 = ap (λ (t : Bool). if t then 0 else length (said_by p first)) now in
@@ -35,7 +36,8 @@ unissued_at issued p n zero m (first ∷ steps) step is there not =
 unissued_at issued p n (suc k) m (first ∷ steps) step is there not =
     let rest = unissued_at issued p (n + 1) k m steps step (omega (arith, is)) there not in
     let here : at issued m true n ≡ issued n = grind (arith, nat_tests) in
-    let a : (if at issued m true n then 0 else length (said_by p first)) ≡ (if issued n then 0 else length (said_by p first)) = ap (λ (t : Bool). if t then 0 else length (said_by p first)) here in
+    let a : (if at issued m true n then 0 else length (said_by p first)) ≡ (if issued n then 0 else length (said_by p first)) =
+    ap (λ (t : Bool). if t then 0 else length (said_by p first)) here in
     omega (arith, rest, a)
 
 -- of all of them

@@ -17,7 +17,8 @@ use Rattle.graft_model.specs.GraftRows.{refusal_of}
 use Rattle.graft_model.specs.FarRows.{FarTaken, FarSent}
 use Rattle.graft_model.specs.declared.event.FarEvent.{FarEvent}
 use Rattle.graft_model.specs.Steps.{far_row}
-use Rattle.graft_laws.specs.Phases.{Ordered, Stored, Halted, Moving, Landed, Asking, Confirmed, Returning, Declined, Cleared, Phase, Idle, Busy, place_by, only_at}
+use Rattle.graft_laws.specs.Phases.{Ordered, Stored, Halted, Moving, Landed, Asking, Confirmed, Returning}
+use Rattle.graft_laws.specs.Phases.{Declined, Cleared, Phase, Idle, Busy, place_by, only_at}
 use Rattle.graft_laws.specs.Moves.{FarMoves}
 
 -- ---- the far side of a peering, and the channels from and to it

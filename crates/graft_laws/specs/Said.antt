@@ -26,7 +26,8 @@ pub record IsSayOf (setup : Setup) (p n : ℕ) : Type 0 where
 -- What a remote has said, is ordered to say, and says in steps that weren't issued has the length of its opening, what it says over the script, and a
 -- KEEPALIVE of 19 bytes for each time that its timer ran. Each step number that it is sent is that of a step in which it says something.
 pub record Said (setup : Setup) (p : ℕ) (peering : PeeringSetup) (w : World) : Type 0 where
-  pub sum : length (w.far p).end.stream + sum_by (size_at setup p) (w.says p) + unissued_octets w.operator.issued p 0 setup.steps ≡ said_length setup p peering + 19 * (w.far p).keepalives
+  pub sum : length (w.far p).end.stream + sum_by (size_at setup p) (w.says p) + unissued_octets w.operator.issued p 0 setup.steps
+      ≡ said_length setup p peering + 19 * (w.far p).keepalives
   pub orders : AllByRecursion (IsSayOf setup p) (w.says p)
   pub few : (w.far p).keepalives ≤ 27594
   pub keepalives : 0 < (w.far p).keepalives → 0 < keepalive_interval_of peering

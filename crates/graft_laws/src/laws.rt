@@ -36,9 +36,12 @@ ghost use Rattle.graft_laws.specs.Tables.{Decided, Informed, Answered, DueIsHeld
 /// channels in the order of sending, and nothing else of a channel changes: no item overtakes another, is lost or is
 /// duplicated.
 pub fn channels_are_queues()
-    ensures router { (setup : Setup) (r : ℕ) (event : RouterEvent) (before after : World) (step : RouterStep setup r event before after) → RouterMoves r step.taken step.sent step.part before after }
-    ensures far { (setup : Setup) (p : ℕ) (event : FarEvent) (before after : World) (step : FarStep setup p event before after) → FarMoves p step.taken step.sent step.part before after }
-    ensures operator { (setup : Setup) (event : OperatorEvent) (before after : World) (step : OperatorStep setup event before after) → OperatorMoves step.taken step.sent step.part before after }
+    ensures router { (setup : Setup) (r : ℕ) (event : RouterEvent) (before after : World) (step : RouterStep setup r event before after)
+        → RouterMoves r step.taken step.sent step.part before after }
+    ensures far { (setup : Setup) (p : ℕ) (event : FarEvent) (before after : World) (step : FarStep setup p event before after)
+        → FarMoves p step.taken step.sent step.part before after }
+    ensures operator { (setup : Setup) (event : OperatorEvent) (before after : World) (step : OperatorStep setup event before after)
+        → OperatorMoves step.taken step.sent step.part before after }
 {}
 
 /// Each peering has one session, and is in one phase of its last graft. Every place, every channel and the log have
@@ -50,10 +53,12 @@ pub fn every_world_is_owned()
 /// A peering is in one phase with one session, which is the only one of the peering in the whole world, including
 /// moving capsules. If a router holds it, no other router does, and none is on its way.
 pub fn one_session_is_held()
-    ensures phase { (setup : Setup) (w : World) (p : ℕ) (phase next : Phase) (s t : SessionValue) → Stands setup w p phase s → Stands setup w p next t → phase ≡ next }
+    ensures phase { (setup : Setup) (w : World) (p : ℕ) (phase next : Phase) (s t : SessionValue)
+        → Stands setup w p phase s → Stands setup w p next t → phase ≡ next }
     ensures one { (setup : Setup) (w : World) (p : ℕ) (phase : Phase) (s : SessionValue) → Stands setup w p phase s → sessions_of setup w p ≡ s ∷ [] }
     ensures count { (setup : Setup) (w : World) (p : ℕ) → IsSetup setup → Reached setup w → p < peerings_in setup → holders setup w p ≡ 1 }
-    ensures alone { (setup : Setup) (w : World) (p r : ℕ) → IsSetup setup → Reached setup w → p < peerings_in setup → sessions_at ((w.router r).places p) ≢ [] → IsNowhereElse w p r }
+    ensures alone { (setup : Setup) (w : World) (p r : ℕ) → IsSetup setup → Reached setup w
+        → p < peerings_in setup → sessions_at ((w.router r).places p) ≢ [] → IsNowhereElse w p r }
 {}
 
 /// Each actor may take the next item of each channel that leads to it, so that none is dropped.
@@ -64,7 +69,8 @@ pub fn no_item_is_dropped()
 /// A graft that was ordered and has no outcome is under way in exactly one phase, from the router to which it was
 /// ordered to its target. A graft that wasn't ordered is in none. No two places of a router have the same graft.
 pub fn grafts_are_in_one_phase()
-    ensures ordered { (setup : Setup) (w : World) (graft : ScriptGraft) → IsSetup setup → Reached setup w → graft_at setup graft.graft ≡ Some graft → w.operator.source graft.graft ≢ None
+    ensures ordered { (setup : Setup) (w : World) (graft : ScriptGraft) → IsSetup setup
+        → Reached setup w → graft_at setup graft.graft ≡ Some graft → w.operator.source graft.graft ≢ None
         → w.operator.outcome graft.graft ≡ None → (target : ℕ) × (target_in setup w.operator graft ≡ Some target)
         × (w.operator.source graft.graft ≡ Some (placement setup w.operator graft.peering))
         × IsUnderWay setup w graft.peering (placement setup w.operator graft.peering) graft.graft target }
@@ -75,7 +81,8 @@ pub fn grafts_are_in_one_phase()
 
 /// A list of events leads from the first world to only one world.
 pub fn runs_lead_to_one_world()
-    ensures { (setup : Setup) (events : List Event) (u v : World) → IsSetup setup → Run setup (first_world setup) events u → Run setup (first_world setup) events v → v ≡ u }
+    ensures { (setup : Setup) (events : List Event) (u v : World) → IsSetup setup
+        → Run setup (first_world setup) events u → Run setup (first_world setup) events v → v ≡ u }
 {}
 
 /// The session of a peering keeps its configuration.
@@ -109,7 +116,8 @@ pub fn always_made_before_broken()
 /// first bytes of what the story put, and the story got the first bytes of what the remote said (RFC 4271, sections
 /// 3.1, 6 and 8.2.2).
 pub fn always_transparent()
-    ensures { (setup : Setup) (events : List Event) (w : World) (p : ℕ) → IsSetup setup → Run setup (first_world setup) events w → p < peerings_in setup → Transparent setup w p }
+    ensures { (setup : Setup) (events : List Event) (w : World) (p : ℕ) → IsSetup setup
+        → Run setup (first_world setup) events w → p < peerings_in setup → Transparent setup w p }
 {}
 
 /// Each peering has one unbroken session. Each segment of it in a link or a channel, however old and from any router,
@@ -123,8 +131,10 @@ pub fn sessions_are_unbroken()
 /// What a remote is ordered to say always exists and has room in its stream, as does each KEEPALIVE of its timer: what
 /// it says over the whole script has at most 1 MiB, each step is ordered once, and a timer runs at most 27,594 times.
 pub fn what_is_said_has_room()
-    ensures sum { (setup : Setup) (p : ℕ) (peering : PeeringSetup) (w : World) → IsSetup setup → Reached setup w → slice_get setup.peerings p ≡ Some peering → Said setup p peering w }
-    ensures orders { (setup : Setup) (p : ℕ) (w : World) → IsSetup setup → Reached setup w → p < peerings_in setup → AllByRecursion (IsSayOf setup p) (w.says p) }
+    ensures sum { (setup : Setup) (p : ℕ) (peering : PeeringSetup) (w : World) → IsSetup setup
+        → Reached setup w → slice_get setup.peerings p ≡ Some peering → Said setup p peering w }
+    ensures orders { (setup : Setup) (p : ℕ) (w : World) → IsSetup setup → Reached setup w
+        → p < peerings_in setup → AllByRecursion (IsSayOf setup p) (w.says p) }
     ensures room { (setup : Setup) (p step : ℕ) (rest bytes : List ℕ) (w : World) → IsSetup setup → Reached setup w → p < peerings_in setup
         → w.says p ≡ step ∷ rest → slice_get setup.steps step ≡ Some (SayStep p bytes) → length (w.far p).end.stream + length bytes ≤ 2 ^ 20 }
 {}
@@ -149,7 +159,8 @@ pub fn what_is_due_is_held()
 /// 4.3 and 5.1.3). The setup's numbers must be in the ranges of their types, as are those of every setup that a program
 /// reads.
 pub fn what_is_told_can_be_written()
-    ensures { (setup : Setup) (w : World) (r p : ℕ) (session : SessionValue) (errand : Option Errand) (x : PrefixValue) (attrs : Attrs) → IsSetup setup → IsInRange setup → Reached setup w
+    ensures { (setup : Setup) (w : World) (r p : ℕ) (session : SessionValue) (errand : Option Errand) (x : PrefixValue) (attrs : Attrs)
+        → IsSetup setup → IsInRange setup → Reached setup w
         → (w.router r).places p ≡ Live session errand → to_tell setup r (w.router r) session x ≡ Some attrs → IsWritableAttrs attrs }
 {}
 

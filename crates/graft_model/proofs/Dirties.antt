@@ -15,7 +15,8 @@ use Rattle.graft_model.specs.GraftRows.{Clears}
 use Rattle.graft_model.proofs.Items.{told_is, done_is}
 
 has_inserted : (prefixes : Prefixes) (x : PrefixValue) → has (map.insert prefixes x tt) x ≡ true
-has_inserted prefixes x = ap is_some (map.get-insert prefix_total prefixes x tt x ∙ ap (λ (b : Bool). cond b (Some tt) (map.get prefixes x)) ((eq_by_cmp_equiv prefix_total).refl x))
+has_inserted prefixes x = ap is_some
+    (map.get-insert prefix_total prefixes x tt x ∙ ap (λ (b : Bool). cond b (Some tt) (map.get prefixes x)) ((eq_by_cmp_equiv prefix_total).refl x))
 
 pub hear_dirties : (q : ℕ) (prefix : PrefixValue) (route : Option Route) (before after : RouterPart) (sent : List RouterSent)
     → Hears q before (Some (MeshIn q (Told prefix route))) sent after → route ≢ map.get (before.tellings q) prefix → has after.dirty prefix ≡ true
@@ -32,4 +33,5 @@ pub clear_dirties : (q k p : ℕ) (x : PrefixValue) (before after : RouterPart) 
 clear_dirties q k p x before after sent row there = by_test (has after.dirty x) refl where
   by_test : (t : Bool) → has after.dirty x ≡ t → t ≡ true
   by_test true is = refl
-  by_test false is = absurd (there (ap (λ (n : ℕ). map.get (before.entries n) x) (done_is q k row.graft p row.peering row.takes).1 ∙ (sym (row.dirty.others x is).1 ∙ map.get-empty prefix_cmp x)))
+  by_test false is = absurd (there (ap (λ (n : ℕ). map.get (before.entries n) x) (done_is q k row.graft p row.peering row.takes).1
+      ∙ (sym (row.dirty.others x is).1 ∙ map.get-empty prefix_cmp x)))

@@ -77,7 +77,8 @@ best_stays routes prefix x (Some best) other = map.get-insert prefix_total route
 
 -- ---- the row
 
-module _ (setup : Setup) (r : ℕ) (prefix : PrefixValue) (before after : RouterPart) (taken : Option RouterTaken) (sent : List RouterSent) (row : Decides setup r prefix before taken sent after) where
+module _ (setup : Setup) (r : ℕ) (prefix : PrefixValue) (before after : RouterPart) (taken : Option RouterTaken)
+    (sent : List RouterSent) (row : Decides setup r prefix before taken sent after) where
   pub itself : after.due_in r ≡ before.due_in r
   itself = elim row.due [
     | inl same ↦ ap (λ (d : ℕ → Prefixes). d r) same.1
@@ -109,5 +110,10 @@ module _ (setup : Setup) (r : ℕ) (prefix : PrefixValue) (before after : Router
   ]
 
   pub alone : (n : ℕ) (x : PrefixValue) → x ≢ prefix
-      → (has (after.due_in n) x ≡ has (before.due_in n) x) × (has (after.due_out n) x ≡ has (before.due_out n) x) × (map.get after.best x ≡ map.get before.best x)
-  alone n x other = (in_alone n x other, out_alone n x other, ap (λ (v : RouterPart). map.get v.best x) row.effect ∙ best_stays before.best prefix x (chosen setup r before prefix) other)
+      → (has (after.due_in n) x ≡ has (before.due_in n) x)
+      × (has (after.due_out n) x ≡ has (before.due_out n) x) × (map.get after.best x ≡ map.get before.best x)
+  alone n x other = (
+    in_alone n x other,
+    out_alone n x other,
+    ap (λ (v : RouterPart). map.get v.best x) row.effect ∙ best_stays before.best prefix x (chosen setup r before prefix) other,
+  )

@@ -23,19 +23,23 @@ closed_due Closed best before after x due = due x
 here : {A : Type 0} (f : ℕ → A) (p : ℕ) (v : A) → at f p v p ≡ v
 here f p v = let e : (p == p) ≡ true = grind (arith, nat_tests) in ap (λ (t : Bool). cond t v (f p)) e
 
-module _ (setup : Setup) (r p : ℕ) (before after : RouterPart) (session next : SessionValue) (order : Option Errand) (follows : Follows setup r p before session next order after) where
+module _ (setup : Setup) (r p : ℕ) (before after : RouterPart) (session next : SessionValue)
+    (order : Option Errand) (follows : Follows setup r p before session next order after) where
   live_then : (other : SessionValue) (stored : Option Errand) → after.places p ≡ Live other stored → next ≡ other
-  live_then other stored is = same_session next other order stored (sym (ap (λ (v : RouterPart). v.places p) follows.effect ∙ here before.places p (Live next order)) ∙ is)
+  live_then other stored is =
+      same_session next other order stored (sym (ap (λ (v : RouterPart). v.places p) follows.effect ∙ here before.places p (Live next order)) ∙ is)
 
   pub due_once_closed : (other : SessionValue) (stored : Option Errand) (x : PrefixValue) → after.places p ≡ Live other stored → state other ≡ Closed
       → has (after.due_out p) x ≡ false
   due_once_closed other stored x is closed =
       closed_due (state session) before.best (before.due_out p) (after.due_out p) x
-      (subst (λ (to : SessionState). DueThen (state session) to before.best (before.due_out p) (after.due_out p)) (ap state (live_then other stored is) ∙ closed) follows.due)
+      (subst (λ (to : SessionState). DueThen (state session) to before.best (before.due_out p) (after.due_out p))
+      (ap state (live_then other stored is) ∙ closed) follows.due)
 
   pub due_once_established : (other : SessionValue) (stored : Option Errand) (x : PrefixValue) → state session ≡ OpenConfirm
       → after.places p ≡ Live other stored → state other ≡ Established
       → has (after.due_out p) x ≡ is_some (map.get before.best x)
   due_once_established other stored x confirmed is up =
       subst (λ (from : SessionState). DueThen from Established before.best (before.due_out p) (after.due_out p)) confirmed
-      (subst (λ (to : SessionState). DueThen (state session) to before.best (before.due_out p) (after.due_out p)) (ap state (live_then other stored is) ∙ up) follows.due) x
+      (subst (λ (to : SessionState). DueThen (state session) to before.best (before.due_out p) (after.due_out p))
+      (ap state (live_then other stored is) ∙ up) follows.due) x

@@ -46,28 +46,41 @@ module _ (setup : Setup) (p : ℕ) (before a b : FarPart) (taken : Option FarTak
 
   one_takes : (router : ℕ) → TakesIn router before taken sent a → TakesIn router before taken items b → Same
   one_takes router x y =
-      let g : y.segment ≡ x.segment = seg_in router y.segment x.segment (sym y.takes ∙ x.takes) in
-      (y.sends ∙ sym x.sends, y.effect ∙ (ap (λ (z : PlacedSegment). let v : FarPart = record before { remoteward = before.remoteward ++ z ∷ [] } in v) g ∙ sym x.effect))
+      let g : y.segment ≡ x.segment = seg_in router y.segment x.segment (sym y.takes ∙ x.takes) in (
+        y.sends ∙ sym x.sends,
+        y.effect ∙ (ap (λ (z : PlacedSegment). let v : FarPart = record before { remoteward = before.remoteward ++ z ∷ [] } in v) g ∙ sym x.effect),
+      )
 
   one_passes : (index : ℕ) (keep : Bool) (router : ℕ) → Passes setup index keep router before taken sent a
       → Passes setup index keep router before taken items b → Same
   one_passes index keep router x y =
-      let g : y.segment ≡ x.segment = same_some y.segment x.segment (sym y.there ∙ x.there) in
-      (y.sends ∙ (ap (λ (z : PlacedSegment). let v : List FarSent = record { router = router; segment = z } ∷ [] in v) g ∙ sym x.sends), y.effect ∙ sym x.effect)
+      let g : y.segment ≡ x.segment = same_some y.segment x.segment (sym y.there ∙ x.there) in (
+        y.sends ∙ (ap (λ (z : PlacedSegment). let v : List FarSent = record { router = router; segment = z } ∷ [] in v) g ∙ sym x.sends),
+        y.effect ∙ sym x.effect,
+      )
 
   one_reaches : (index : ℕ) (keep : Bool) → Reaches index keep before taken sent a → Reaches index keep before taken items b → Same
   one_reaches index keep x y =
       let g : y.segment ≡ x.segment = same_some y.segment x.segment (sym y.there ∙ x.there) in
-      let e : y.end ≡ x.end = leaves_one before.end y.end x.end x.segment (subst (λ (z : PlacedSegment). TakesSegment before.end z y.end) g y.arrives) x.arrives in
-      (y.sends ∙ sym x.sends, y.effect ∙ (ap (λ (z : Endpoint). let v : FarPart = record before { end = z; remoteward = left_by keep index before.remoteward } in v) e ∙ sym x.effect))
+      let e : y.end ≡ x.end =
+      leaves_one before.end y.end x.end x.segment (subst (λ (z : PlacedSegment). TakesSegment before.end z y.end) g y.arrives) x.arrives in (
+        y.sends ∙ sym x.sends,
+        y.effect
+            ∙ (ap (λ (z : Endpoint). let v : FarPart = record before { end = z; remoteward = left_by keep index before.remoteward } in v) e ∙ sym x.effect),
+      )
 
   one_loses : (way : Way) (index : ℕ) → Loses way index before taken sent a → Loses way index before taken items b → Same
   one_loses way index x y = (y.sends ∙ sym x.sends, y.effect ∙ sym x.effect)
 
   one_points : (router : ℕ) → TurnsLink router before taken sent a → TurnsLink router before taken items b → Same
   one_points router x y =
-      let k : y.graft ≡ x.graft = point_in router y.graft x.graft (sym y.takes ∙ x.takes) in
-      (y.sends ∙ sym x.sends, y.effect ∙ (ap (λ (z : ℕ). let v : FarPart = record before { pointer = if nat_lt before.followed z then router else before.pointer; followed = max before.followed z } in v) k ∙ sym x.effect))
+      let k : y.graft ≡ x.graft = point_in router y.graft x.graft (sym y.takes ∙ x.takes) in (
+        y.sends ∙ sym x.sends,
+        y.effect ∙ (ap (λ (z : ℕ). let v : FarPart = record before {
+          pointer = if nat_lt before.followed z then router else before.pointer;
+          followed = max before.followed z;
+        } in v) k ∙ sym x.effect),
+      )
 
 pub one_far : (setup : Setup) (p : ℕ) (event : FarEvent) (before a b : FarPart) (taken : Option FarTaken) (sent items : List FarSent)
     → far_row setup p event before taken sent a → far_row setup p event before taken items b → (items ≡ sent) × (b ≡ a)

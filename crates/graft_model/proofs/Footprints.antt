@@ -16,7 +16,8 @@ use Rattle.graft_model.specs.RouterRows.{RouterTaken, MeshIn, RouterSent, MeshTo
 use Rattle.graft_model.specs.TableRows.{Decides, Tells, Hears}
 use Rattle.graft_model.specs.GraftRows.{Asks, Confirms, DueAgain}
 use Rattle.graft_model.specs.declared.event.RouterEvent.{RouterEvent}
-use Rattle.graft_model.specs.declared.event.RouterEvent.TheVariants.{Put, Emit, Arrive, Stray, Got, Decide, Tell, Hear, Admit, Refuse, Freeze, Leave, Land, TurnBack, Return, Clear, Ask, Answer, Collect, Confirm, Tick}
+use Rattle.graft_model.specs.declared.event.RouterEvent.TheVariants.{Put, Emit, Arrive, Stray, Got, Decide, Tell, Hear, Admit, Refuse, Freeze, Leave}
+use Rattle.graft_model.specs.declared.event.RouterEvent.TheVariants.{Land, TurnBack, Return, Clear, Ask, Answer, Collect, Confirm, Tick}
 use Rattle.graft_model.specs.Steps.{router_row}
 use Rattle.graft_model.specs.Taking.{RouterMayTake}
 

@@ -1,5 +1,6 @@
 -- What an evacuate step gives to each graft as its group begins.
-use Rattle.std.proofs.Common.{◌≡◌, ◌≢◌, ℕ, zero, suc, ◌+◌, ◌≤◌, eqb, cond, Bool, true, false, List, [], ◌∷◌, length, Option, Some, None, refl, sym, ap, ◌∙◌, arith}
+use Rattle.std.proofs.Common.{◌≡◌, ◌≢◌, ℕ, zero, suc, ◌+◌, ◌≤◌, eqb, cond, Bool, true, false, List, []}
+use Rattle.std.proofs.Common.{◌∷◌, length, Option, Some, None, refl, sym, ap, ◌∙◌, arith}
 use Rattle.std.specs.Prelude.{filter, find, fold, zip, slice_get}
 use Rattle.std.specs.List.{range_with_len}
 use Rattle.std.proofs.lemmas.Bool.{ne_eqb, eq-eqb}
@@ -11,7 +12,8 @@ use Rattle.evacuation.proofs.ThePlan.{plan_for-plan}
 use Rattle.graft_model.specs.Setups.{Setup, ScriptStep, EvacuateStep, ScriptGraft, peering_numbers, group_of, graft_at}
 use Rattle.graft_model.specs.Parts.{Gift, Unmade, To, Stays, OperatorPart, World}
 use Rattle.graft_model.specs.Placements.{placement}
-use Rattle.graft_model.specs.Evacuations.{peerings_at, loads_of, rooms_of, targets_from, AreGivenWell, gift_in, gift_of, gift_to, gift_by, gift_in_group, gift_or, with_gifts}
+use Rattle.graft_model.specs.Evacuations.{peerings_at, loads_of, rooms_of, targets_from, AreGivenWell, gift_in}
+use Rattle.graft_model.specs.Evacuations.{gift_of, gift_to, gift_by, gift_in_group, gift_or, with_gifts}
 use Rattle.graft_model.specs.OperatorRows.{OperatorSent}
 use Rattle.graft_model.specs.Steps.{ByOperator, Go, Step, operator_sends}
 
@@ -34,7 +36,8 @@ pub given_by_step : (setup : Setup) (part : OperatorPart) (g : ScriptGraft) (rou
     → (with_gifts setup part).given g.graft ≡ gift_to setup (placement setup part) router g.peering
 given_by_step setup part g router known group step unmade =
     ap (λ (o : Option ScriptGraft). gift_or (gift_in_group setup part.group (placement setup part) o) (part.given g.graft)) known
-    ∙ (ap (λ (b : Bool). gift_or (cond b (gift_by setup (placement setup part) (slice_get setup.steps g.step) g.peering) Unmade) (part.given g.graft)) (eq-eqb _ _ group)
+    ∙ (ap (λ (b : Bool). gift_or (cond b (gift_by setup (placement setup part) (slice_get setup.steps g.step) g.peering) Unmade) (part.given g.graft))
+    (eq-eqb _ _ group)
     ∙ (ap (λ (s : Option ScriptStep). gift_or (gift_by setup (placement setup part) s g.peering) (part.given g.graft)) step
     ∙ (ap (gift_or (gift_to setup (placement setup part) router g.peering)) unmade ∙ or_unmade _)))
 
@@ -42,7 +45,8 @@ pub given_stays : (setup : Setup) (part : OperatorPart) (g : ScriptGraft) → gr
     → (with_gifts setup part).given g.graft ≡ part.given g.graft
 given_stays setup part g known other =
     ap (λ (o : Option ScriptGraft). gift_or (gift_in_group setup part.group (placement setup part) o) (part.given g.graft)) known
-    ∙ ap (λ (b : Bool). gift_or (cond b (gift_by setup (placement setup part) (slice_get setup.steps g.step) g.peering) Unmade) (part.given g.graft)) (ne_eqb _ _ other)
+    ∙ ap (λ (b : Bool). gift_or (cond b (gift_by setup (placement setup part) (slice_get setup.steps g.step) g.peering) Unmade) (part.given g.graft))
+    (ne_eqb _ _ other)
 
 -- ---- the peerings of a router
 
@@ -76,7 +80,8 @@ find_zip a (q ∷ ps) (u ∷ ts) rise zero p t at beside =
     let same : q ≡ p = same_Some q p at in
     let target : u ≡ t = same_Some u t beside in
     ap (λ (b : Bool). cond b (Some (q, u)) (find (λ e. eqb e.0 p) (zip ps ts))) (eq-eqb q p same)
-    ∙ (ap (λ (z : ℕ). let v : Option (ℕ × Option RouterId) = Some (z, u) in v) same ∙ ap (λ (z : Option RouterId). let v : Option (ℕ × Option RouterId) = Some (p, z) in v) target)
+    ∙ (ap (λ (z : ℕ). let v : Option (ℕ × Option RouterId) = Some (z, u) in v) same
+    ∙ ap (λ (z : Option RouterId). let v : Option (ℕ × Option RouterId) = Some (p, z) in v) target)
 find_zip a (q ∷ ps) (u ∷ ts) rise (suc i) p t at beside =
     let above = rise_at (q + 1) ps rise.1 i p at in
     let other : q ≢ p = omega (arith, above) in
@@ -97,7 +102,8 @@ zip_lacks test (q ∷ ps) p ts fails = by_test (λ us. zip_lacks test ps p us fa
 pub gift_there : (setup : Setup) (placed : ℕ → ℕ) (router i p : ℕ) (target : Option RouterId) → slice_get (peerings_at setup placed router) i ≡ Some p
     → slice_get (targets_from setup placed router) i ≡ Some target → gift_to setup placed router p ≡ gift_in router target
 gift_there setup placed router i p target at beside =
-    ap (gift_of router) (find_zip 0 (peerings_at setup placed router) (targets_from setup placed router) (filter_rises (λ q. eqb (placed q) router) 0 (length setup.peerings)) i p target at beside)
+    ap (gift_of router) (find_zip 0 (peerings_at setup placed router) (targets_from setup placed router)
+    (filter_rises (λ q. eqb (placed q) router) 0 (length setup.peerings)) i p target at beside)
 
 pub gift_elsewhere : (setup : Setup) (placed : ℕ → ℕ) (router p : ℕ) → placed p ≢ router → gift_to setup placed router p ≡ Unmade
 gift_elsewhere setup placed router p other =

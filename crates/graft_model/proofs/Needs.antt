@@ -1,5 +1,6 @@
 -- What has to be where an event happens.
-use Rattle.std.proofs.Common.{◌≡◌, ◌==◌, cond, ℕ, zero, suc, ◌+◌, ◌<◌, ◌≤◌, Bool, true, false, List, [], ◌∷◌, ◌++◌, Option, Some, None, refl, sym, ap, ◌∙◌, subst, inl, inr, arith}
+use Rattle.std.proofs.Common.{◌≡◌, ◌==◌, cond, ℕ, zero, suc, ◌+◌, ◌<◌, ◌≤◌, Bool, true, false, List, [], ◌∷◌}
+use Rattle.std.proofs.Common.{◌++◌, Option, Some, None, refl, sym, ap, ◌∙◌, subst, inl, inr, arith}
 use Rattle.std.specs.Prelude.{◌≢◌, ◌⊎◌, ◌&&◌, not, nat_le, Contains}
 use Rattle.std.specs.List.{list_any}
 use Rattle.std.proofs.lemmas.Bool.Decides.{nat_tests}
@@ -41,11 +42,13 @@ still_due setup r p (suc n) x before after taken sent row dirty due =
     ∙ (ap (λ (z : Bool). z && not (list_any (same_prefix x) row.prefixes)) due ∙ ap not (unput (list_any (same_prefix x) row.prefixes) refl)) where
       told : (y : PrefixValue) → Contains (row.prefixes ++ row.later) y
           → IsToTell setup r before p row.session y × (to_tell setup r before row.session y ≡ row.attrs)
-      told y there = All-contains (λ z. IsToTell setup r before p row.session z × (to_tell setup r before row.session z ≡ row.attrs)) (row.prefixes ++ row.later) y row.alike.each there
+      told y there = All-contains (λ z. IsToTell setup r before p row.session z × (to_tell setup r before row.session z ≡ row.attrs))
+          (row.prefixes ++ row.later) y row.alike.each there
 
       unput : (t : Bool) → list_any (same_prefix x) row.prefixes ≡ t → t ≡ false
       unput false is = refl
-      unput true is = absurd (both_ways (has before.dirty x) dirty (told x (Contains-append_left row.prefixes row.later x (Contains-from_any is_same x row.prefixes is))).0.0.1)
+      unput true is = absurd (both_ways (has before.dirty x) dirty
+          (told x (Contains-append_left row.prefixes row.later x (Contains-from_any is_same x row.prefixes is))).0.0.1)
 
 -- ---- orders and freezes
 
@@ -58,7 +61,8 @@ pub admits : (setup : Setup) (r k : ℕ) (order : GraftOrder) (before after : Ro
     → (order.graft ≡ k) × (order.target < routers_in setup) × (session : SessionValue) × (before.places order.peering ≡ Live session None)
 admits setup r k order before after sent row =
     let e = sym (ordered_is k row.peering row.target order row.takes) in
-    subst (λ (o : GraftOrder). (o.graft ≡ k) × (o.target < routers_in setup) × (session : SessionValue) × (before.places o.peering ≡ Live session None)) e (refl, row.known, row.session, row.live.is)
+    subst (λ (o : GraftOrder). (o.graft ≡ k) × (o.target < routers_in setup) × (session : SessionValue) × (before.places o.peering ≡ Live session None)) e
+    (refl, row.known, row.session, row.live.is)
 
 abbrev MayGo : ℕ → ℕ → SessionState → ℕ → Type 0
 MayGo r t s h = (s ≡ Established) × (t ≢ r) × ((h ≡ 0) ⊎ (30 ≤ h))
@@ -102,24 +106,35 @@ cause r t s h refusal e = by_test (t == r) refl e where
   by_test false is f = of_session r t s h refusal (grind (arith, nat_tests)) f
 
 pub refuses : (r k : ℕ) (before after : RouterPart) (taken : Option RouterTaken) (sent : List RouterSent) → Refuses r k before taken sent after
-    → (p : ℕ) × (session : SessionValue) × (target : ℕ) × (refusal : Refusal) × (before.places p ≡ Live session (Some (Leaving (record { graft = k; target = target }))))
+    → (p : ℕ) × (session : SessionValue) × (target : ℕ) × (refusal : Refusal)
+    × (before.places p ≡ Live session (Some (Leaving (record { graft = k; target = target }))))
     × IsWhyNotFrozen r target session refusal × (sent ≡ ReportOut (record { graft = k; outcome = Refused refusal }) ∷ [])
-refuses r k before after taken sent row =
-    (row.peering, row.session, row.target, row.refusal, row.live.is, cause r row.target (state row.session) (hold_time row.session) row.refusal row.cause, row.sends)
+refuses r k before after taken sent row = (
+  row.peering,
+  row.session,
+  row.target,
+  row.refusal,
+  row.live.is,
+  cause r row.target (state row.session) (hold_time row.session) row.refusal row.cause,
+  row.sends,
+)
 
 pub leaves : (k : ℕ) (before after : RouterPart) (taken : Option RouterTaken) (sent : List RouterSent) → Leaves k before taken sent after
-    → (p : ℕ) × (session : SessionValue) × (target : ℕ) × (before.places p ≡ Frozen session (record { graft = k; target = target })) × (sent ≡ MeshTo target (Moved k p session) ∷ [])
+    → (p : ℕ) × (session : SessionValue) × (target : ℕ)
+    × (before.places p ≡ Frozen session (record { graft = k; target = target })) × (sent ≡ MeshTo target (Moved k p session) ∷ [])
 leaves k before after taken sent row = (row.peering, row.session, row.target, row.frozen, row.sends)
 
 pub asks : (setup : Setup) (r k q : ℕ) (before after : RouterPart) (taken : Option RouterTaken) (sent : List RouterSent)
     → Asks setup r k q before taken sent after
-    → (p : ℕ) × (session : SessionValue) × (source : ℕ) × (next : ℕ) × (before.places p ≡ Live session (Some (Owing (record { graft = k; source = source; next = next }))))
+    → (p : ℕ) × (session : SessionValue) × (source : ℕ) × (next : ℕ)
+    × (before.places p ≡ Live session (Some (Owing (record { graft = k; source = source; next = next }))))
     × IsNextToAsk source r (routers_in setup) next q × (sent ≡ MeshTo q (Asked k p) ∷ [])
 asks setup r k q before after taken sent row = (row.peering, row.session, row.source, row.next, row.live.is, row.asked, row.sends)
 
 pub confirms : (setup : Setup) (r k : ℕ) (before after : RouterPart) (taken : Option RouterTaken) (sent : List RouterSent)
     → Confirms setup r k before taken sent after
-    → (p : ℕ) × (session : SessionValue) × (source : ℕ) × (next : ℕ) × (before.places p ≡ Live session (Some (Owing (record { graft = k; source = source; next = next }))))
+    → (p : ℕ) × (session : SessionValue) × (source : ℕ) × (next : ℕ)
+    × (before.places p ≡ Live session (Some (Owing (record { graft = k; source = source; next = next }))))
     × AreAllAsked source r (routers_in setup) next × (sent ≡ MeshTo source (Done k p) ∷ [])
 confirms setup r k before after taken sent row = (row.peering, row.session, row.source, row.next, row.live.is, row.answered, row.sends)
 
@@ -171,14 +186,16 @@ module _ (setup : Setup) (r q k p : ℕ) (session : SessionValue) (before after 
   why_not : (came : SessionValue) (refusal : Refusal) → Why came refusal → taken_in setup before + vacant_in setup before ≡ peerings_in setup
       → session ≡ came → IsWhyNot setup r before session refusal
   why_not came refusal (inl full) n e = inl ((λ (has : HasRoom setup r before). let f = full.0 in absurd (omega arith)), full.1)
-  why_not came refusal (inr missing) n e = let f = missing.0 in inr (omega arith, missing.1, ap (λ (z : SessionValue). missing_policy setup r z.config) e ∙ missing.2, missing.3)
+  why_not came refusal (inr missing) n e =
+      let f = missing.0 in inr (omega arith, missing.1, ap (λ (z : SessionValue). missing_policy setup r z.config) e ∙ missing.2, missing.3)
 
   sent_back : (l m : ℕ) (came : SessionValue) (refusal : Refusal) → k ≡ l → p ≡ m → session ≡ came
       → MeshTo q (Back l m came refusal) ∷ [] ≡ MeshTo q (Back k p session refusal) ∷ []
   sent_back l m came refusal e f g = cc
 
   pub turns_back : TurnsBack setup r q before (Some (MeshIn q (Moved k p session))) sent after
-      → (before.places p ≡ Vacant) × (p < peerings_in setup) × (refusal : Refusal) × IsWhyNot setup r before session refusal × (sent ≡ MeshTo q (Back k p session refusal) ∷ [])
+      → (before.places p ≡ Vacant) × (p < peerings_in setup) × (refusal : Refusal)
+      × IsWhyNot setup r before session refusal × (sent ≡ MeshTo q (Back k p session refusal) ∷ [])
   turns_back row =
       let e = moved_is q k row.comes.graft p row.comes.peering session row.comes.session row.comes.takes in
       let why = some_refusal (taken_in setup before) (room_of setup r) (missing_policy setup r row.comes.session.config) row.refusal row.cause in (

@@ -1,5 +1,6 @@
 -- The grafts of the script stand in a list in the order of their numbers, step by step.
-use Rattle.std.proofs.Common.{◌≡◌, ℕ, zero, suc, ◌+◌, ◌-◌, ◌<◌, ◌≤◌, eqb, cond, Bool, true, false, List, [], ◌∷◌, ◌++◌, length, take, Option, Some, None, refl, sym, ap, ◌∙◌, subst, arith, inl, inr, length-append}
+use Rattle.std.proofs.Common.{◌≡◌, ℕ, zero, suc, ◌+◌, ◌-◌, ◌<◌, ◌≤◌, eqb, cond, Bool, true, false, List, [], ◌∷◌, ◌++◌, length}
+use Rattle.std.proofs.Common.{take, Option, Some, None, refl, sym, ap, ◌∙◌, subst, arith, inl, inr, length-append}
 use Rattle.std.specs.Prelude.{filter, slice_get}
 use Rattle.std.specs.List.{find, range_with_len}
 use Rattle.std.proofs.lemmas.Bool.Decides.{nat_tests}
@@ -7,7 +8,8 @@ use Rattle.std.proofs.lemmas.List.FromFn.{length-range_with_len}
 use Rattle.std.proofs.lemmas.Bool.{cases_lt}
 use Rattle.std.proofs.lemmas.Option.{same_Some, slice_get_within}
 use Rattle.tcp_seq.proofs.Lookups.{get-append_left, get-append_right}
-use Rattle.graft_model.specs.Setups.{Setup, ScriptStep, SayStep, MoveStep, EvacuateStep, SettleStep, ScriptGraft, peerings_in, peering_numbers, is_settle, group_of, moved_by, grafts_numbered, grafts_after, grafts_in, grafts_before, graft_at}
+use Rattle.graft_model.specs.Setups.{Setup, ScriptStep, SayStep, MoveStep, EvacuateStep, SettleStep, ScriptGraft, peerings_in, peering_numbers}
+use Rattle.graft_model.specs.Setups.{is_settle, group_of, moved_by, grafts_numbered, grafts_after, grafts_in, grafts_before, graft_at}
 use Rattle.graft_model.specs.OperatorRows.{number_by}
 
 -- ---- a list whose numbers rise by one
@@ -76,8 +78,10 @@ has_number k n (q ∷ peerings) (suc i) p graft e is = has_number (k + 1) n peer
 after_is : (setup : Setup) (k n : ℕ) (steps : List ScriptStep) → IsNumbered k (grafts_after setup k n steps)
 after_is setup k n [] = tt
 after_is setup k n (s ∷ steps) =
-    let t : k + length (moved_by setup s) ≡ k + length (grafts_numbered k n (moved_by setup s)) = ap (λ (z : ℕ). k + z) (sym (length-numbered k n (moved_by setup s))) in
-    both_numbered k _ (grafts_numbered k n (moved_by setup s)) _ t (numbered_is k n (moved_by setup s)) (after_is setup (k + length (moved_by setup s)) (n + 1) steps)
+    let t : k + length (moved_by setup s) ≡ k + length (grafts_numbered k n (moved_by setup s)) =
+    ap (λ (z : ℕ). k + z) (sym (length-numbered k n (moved_by setup s))) in
+    both_numbered k _ (grafts_numbered k n (moved_by setup s)) _ t (numbered_is k n (moved_by setup s))
+    (after_is setup (k + length (moved_by setup s)) (n + 1) steps)
 
 -- how many grafts the first of some steps have
 abbrev first_grafts : Setup → ℕ → ℕ → ℕ → List ScriptStep → ℕ
@@ -116,7 +120,8 @@ comes_from : (setup : Setup) (k n : ℕ) (steps : List ScriptStep) (i : ℕ) (g 
 comes_from setup k n [] i g e = absurd cc
 comes_from setup k n (s ∷ steps) i g e = elim (cases_lt i (length (moved_by setup s))) [
   | inl below ↦
-      let t = numbered_at k n (moved_by setup s) i g (sym (get-append_left (grafts_numbered k n (moved_by setup s)) _ i (omega (arith, length-numbered k n (moved_by setup s), below))) ∙ e) in
+      let t = numbered_at k n (moved_by setup s) i g
+      (sym (get-append_left (grafts_numbered k n (moved_by setup s)) _ i (omega (arith, length-numbered k n (moved_by setup s), below))) ∙ e) in
       record { behind = 0; step = s; index = i; there = refl; moved = t.0; by = omega (arith, t.1); is = omega arith }
   | inr above ↦
       let is : i ≡ length (moved_by setup s) + (i - length (moved_by setup s)) = omega (arith, above) in
@@ -140,7 +145,8 @@ has_graft setup k n (x ∷ steps) zero j p s i graft step there moved at number 
     let below = slice_get_within (moved_by setup x) i p moves_here in
     let is : n ≡ step = omega (arith, by) in
     get-append_left (grafts_numbered k n (moved_by setup x)) _ i (omega (arith, len, below))
-    ∙ (has_number k n (moved_by setup x) i p graft moves_here number ∙ ap (λ (z : ℕ). let v : Option ScriptGraft = Some (record { graft = graft; peering = p; step = z }) in v) is)
+    ∙ (has_number k n (moved_by setup x) i p graft moves_here number
+    ∙ ap (λ (z : ℕ). let v : Option ScriptGraft = Some (record { graft = graft; peering = p; step = z }) in v) is)
 has_graft setup k n (x ∷ steps) (suc m) j p s i graft step there moved at number by =
     let t = first_more setup k n m x steps in
     let len = length-numbered k n (moved_by setup x) in
@@ -289,8 +295,10 @@ one_order setup g h one other same named =
     let b = step_of_graft setup h.graft h other in
     let there : slice_get setup.steps h.step ≡ Some a.step = sym (ap (slice_get setup.steps) same) ∙ a.there in
     let step : b.step ≡ a.step = same_Some b.step a.step (sym b.there ∙ there) in
-    let moved : slice_get (moved_by setup a.step) b.index ≡ Some h.peering = sym (ap (λ (z : ScriptStep). slice_get (moved_by setup z) b.index) step) ∙ b.moved in
+    let moved : slice_get (moved_by setup a.step) b.index ≡ Some h.peering =
+    sym (ap (λ (z : ScriptStep). slice_get (moved_by setup z) b.index) step) ∙ b.moved in
     let number : h.graft ≡ grafts_before setup g.step + b.index + 1 = b.number ∙ ap (λ (z : ℕ). grafts_before setup z + b.index + 1) (sym same) in
     let under : number_by (Some a.step) g.graft ≡ number_by (Some a.step) h.graft =
     sym (ap (λ (z : Option ScriptStep). number_by z g.graft) a.there) ∙ (named ∙ ap (λ (z : Option ScriptStep). number_by z h.graft) there) in
-    one_of_number setup g h one other (one_index setup a.step a.index b.index g.peering h.peering (grafts_before setup g.step) g.graft h.graft a.moved moved a.number number under)
+    one_of_number setup g h one other
+    (one_index setup a.step a.index b.index g.peering h.peering (grafts_before setup g.step) g.graft h.graft a.moved moved a.number number under)

@@ -7,7 +7,10 @@ use Rattle.graft_model.specs.Parts.{RouterPart, FarPart, OperatorPart, World}
 use Rattle.graft_model.specs.RouterRows.{RouterTaken, OrderIn, SegmentIn, MeshIn, RouterSent}
 use Rattle.graft_model.specs.FarRows.{FarTaken, OutwardIn, SayIn, FarSent}
 use Rattle.graft_model.specs.OperatorRows.{OperatorTaken, ReportIn, OperatorSent}
-use Rattle.graft_model.specs.Steps.{Event, ByRouter, ByFar, ByOperator, RouterEvent, Put, Arrive, Stray, Got, Decide, Hear, Admit, Refuse, Freeze, Leave, Land, TurnBack, Return, Clear, Ask, Answer, Collect, Confirm, Tick, FarEvent, Say, Take, Point, OperatorEvent, Order, Note, Go, router_row, far_row, operator_row, Heads, RouterTook, FarTook, OperatorTook, router_sends, far_sends, operator_sends, RouterStep, FarStep, OperatorStep, Step}
+use Rattle.graft_model.specs.Steps.{Event, ByRouter, ByFar, ByOperator, RouterEvent, Put, Arrive, Stray, Got, Decide, Hear, Admit, Refuse, Freeze}
+use Rattle.graft_model.specs.Steps.{Leave, Land, TurnBack, Return, Clear, Ask, Answer, Collect, Confirm, Tick, FarEvent, Say, Take, Point}
+use Rattle.graft_model.specs.Steps.{OperatorEvent, Order, Note, Go, router_row, far_row, operator_row, Heads, RouterTook, FarTook, OperatorTook}
+use Rattle.graft_model.specs.Steps.{router_sends, far_sends, operator_sends, RouterStep, FarStep, OperatorStep, Step}
 use Rattle.graft_model.specs.Laws.{HasOnce, HasOneOutcome}
 use Rattle.graft_model.proofs.OneOutcome.{one_router}
 use Rattle.graft_model.proofs.FarOutcome.{one_far}

@@ -4,7 +4,8 @@ use Rattle.std.specs.Prelude.{slice_get}
 use Rattle.graft_model.specs.Points.{at}
 use Rattle.graft_model.specs.Setups.{Setup, ScriptStep, SayStep, ScriptGraft}
 use Rattle.graft_model.specs.Parts.{OperatorPart, Report}
-use Rattle.graft_model.specs.OperatorRows.{OperatorTaken, ReportIn, OperatorSent, OrderTo, SayTo, OrdersSay, OrdersGraft, Notes, target_in, placement, number_by}
+use Rattle.graft_model.specs.OperatorRows.{OperatorTaken, ReportIn, OperatorSent, OrderTo, SayTo, OrdersSay}
+use Rattle.graft_model.specs.OperatorRows.{OrdersGraft, Notes, target_in, placement, number_by}
 use Rattle.graft_model.specs.Placements.{target_by}
 use Rattle.graft_model.specs.Steps.{OperatorEvent, Order, Note, Go, operator_row}
 use Rattle.graft_model.proofs.Numbers.{one_order}
@@ -46,22 +47,29 @@ module _ (setup : Setup) (before a b : OperatorPart) (taken : Option OperatorTak
   one_orders : (step number : ℕ) → OrdersGraft setup step number before taken sent a → OrdersGraft setup step number before taken items b → Same
   one_orders step number x y =
       let by : y.graft.step ≡ x.graft.step = y.by_step ∙ sym x.by_step in
-      let name_x : number ≡ number_by (slice_get setup.steps x.graft.step) x.graft.graft = x.named ∙ ap (λ (z : ℕ). number_by (slice_get setup.steps z) x.graft.graft) (sym x.by_step) in
-      let name_y : number ≡ number_by (slice_get setup.steps y.graft.step) y.graft.graft = y.named ∙ ap (λ (z : ℕ). number_by (slice_get setup.steps z) y.graft.graft) (sym y.by_step) in
+      let name_x : number ≡ number_by (slice_get setup.steps x.graft.step) x.graft.graft =
+      x.named ∙ ap (λ (z : ℕ). number_by (slice_get setup.steps z) x.graft.graft) (sym x.by_step) in
+      let name_y : number ≡ number_by (slice_get setup.steps y.graft.step) y.graft.graft =
+      y.named ∙ ap (λ (z : ℕ). number_by (slice_get setup.steps z) y.graft.graft) (sym y.by_step) in
       let g : y.graft ≡ x.graft = one_order setup y.graft x.graft y.known x.known by (sym name_y ∙ name_x) in
       let t : y.target ≡ x.target = same_some y.target x.target (sym y.is ∙ (ap (target_in setup before) g ∙ x.is)) in
       (y.sends ∙ (ap (orders y.graft) t ∙ (ap (λ (z : ScriptGraft). orders z x.target) g ∙ sym x.sends)), y.effect ∙ (ap with_source g ∙ sym x.effect))
 
   one_notes : (router : ℕ) → Notes router before taken sent a → Notes router before taken items b → Same
   one_notes router x y =
-      let r : y.report ≡ x.report = report_in router y.report x.report (sym y.takes ∙ x.takes) in
-      (y.sends ∙ sym x.sends, y.effect ∙ (ap (λ (z : Report). let v : OperatorPart = record before { outcome = at before.outcome z.graft (Some z.outcome) } in v) r ∙ sym x.effect))
+      let r : y.report ≡ x.report = report_in router y.report x.report (sym y.takes ∙ x.takes) in (
+        y.sends ∙ sym x.sends,
+        y.effect
+            ∙ (ap (λ (z : Report). let v : OperatorPart = record before { outcome = at before.outcome z.graft (Some z.outcome) } in v) r ∙ sym x.effect),
+      )
 
 pub one_operator : (setup : Setup) (event : OperatorEvent) (before a b : OperatorPart) (taken : Option OperatorTaken) (sent items : List OperatorSent)
     → operator_row setup event before taken sent a → operator_row setup event before taken items b → (items ≡ sent) × (b ≡ a)
 one_operator setup (Order step number) before a b taken sent items (inl x) (inl y) = one_says setup before a b taken sent items step number x y
-one_operator setup (Order step number) before a b taken sent items (inl x) (inr y) = absurd (no_graft setup before a b taken sent items step number x.peering x.bytes x.is y)
-one_operator setup (Order step number) before a b taken sent items (inr x) (inl y) = absurd (no_graft setup before a b taken sent items step number y.peering y.bytes y.is x)
+one_operator setup (Order step number) before a b taken sent items (inl x) (inr y) =
+    absurd (no_graft setup before a b taken sent items step number x.peering x.bytes x.is y)
+one_operator setup (Order step number) before a b taken sent items (inr x) (inl y) =
+    absurd (no_graft setup before a b taken sent items step number y.peering y.bytes y.is x)
 one_operator setup (Order step number) before a b taken sent items (inr x) (inr y) = one_orders setup before a b taken sent items step number x y
 one_operator setup (Note router) before a b taken sent items x y = one_notes setup before a b taken sent items router x y
 one_operator setup Go before a b taken sent items x y = (y.sends ∙ sym x.sends, y.effect ∙ sym x.effect)

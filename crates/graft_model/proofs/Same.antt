@@ -42,8 +42,10 @@ marked_alike : {A : Type 0} (before after other : Prefixes) (old new : map.FinMa
     → Marks before old new after → Marks before old new other → has after x ≡ s → has other x ≡ t → s ≡ t
 marked_alike before after other old new x true true m n a o = refl
 marked_alike before after other old new x false false m n a o = refl
-marked_alike before after other old new x true false m n a o = elim (m.marked x a) [ inl was ↦ let e = (n.others x o).0 in absurd cc | inr differs ↦ absurd (differs ((n.others x o).1)) ]
-marked_alike before after other old new x false true m n a o = elim (n.marked x o) [ inl was ↦ let e = (m.others x a).0 in absurd cc | inr differs ↦ absurd (differs ((m.others x a).1)) ]
+marked_alike before after other old new x true false m n a o =
+    elim (m.marked x a) [ inl was ↦ let e = (n.others x o).0 in absurd cc | inr differs ↦ absurd (differs ((n.others x o).1)) ]
+marked_alike before after other old new x false true m n a o =
+    elim (n.marked x o) [ inl was ↦ let e = (m.others x a).0 in absurd cc | inr differs ↦ absurd (differs ((m.others x a).1)) ]
 
 pub same_marks : {A : Type 0} (before after other : Prefixes) (old new : map.FinMap prefix_cmp A) → Marks before old new after
     → Marks before old new other → after ≡ other
@@ -69,7 +71,8 @@ slice_is from len e g offset size slice = slice ∙ (ap (λ (n : ℕ). slice_at 
 rise_is : (from len : ℕ) (e a : Endpoint) (g : PlacedSegment) → g.offset ≡ from → length g.bytes ≡ len → EmitsSlice e g a
     → a ≡ record e { emitted = max e.emitted (from + len) }
 rise_is from len e a g offset size emits = emits.rises
-    ∙ (ap (λ (n : ℕ). let x : Endpoint = record e { emitted = max e.emitted (n + length g.bytes) } in x) offset ∙ ap (λ (n : ℕ). let x : Endpoint = record e { emitted = max e.emitted (from + n) } in x) size)
+    ∙ (ap (λ (n : ℕ). let x : Endpoint = record e { emitted = max e.emitted (n + length g.bytes) } in x) offset
+    ∙ ap (λ (n : ℕ). let x : Endpoint = record e { emitted = max e.emitted (from + n) } in x) size)
 
 none_in : (e : Endpoint) (g : PlacedSegment) → g ≡ slice_at e e.emitted 0 → length g.bytes ≡ 0
 none_in e g is = ap (λ (x : PlacedSegment). length x.bytes) is

@@ -16,7 +16,9 @@ use Rattle.session_value.specs.Sessions.{SessionValue, peering_of, state}
 use Rattle.graft_model.specs.Claims.{Transparent, Solves, SolvesOn}
 use Rattle.graft_model.specs.Parts.{Live}
 use Rattle.graft_model.specs.Quiet.{Quiet}
-use Rattle.graft_model.specs.SmallWorlds.{pair, config, small_open_octets, remote_with, one_route, route, opened_twice, hearing, session, with_session, with_session_lost, with_octet_received, with_link_elsewhere, with_nothing_received, with_shadow_left, with_route_kept, with_word}
+use Rattle.graft_model.specs.SmallWorlds.{pair, config, small_open_octets, remote_with, one_route, route, opened_twice, hearing}
+use Rattle.graft_model.specs.SmallWorlds.{session, with_session, with_session_lost, with_octet_received, with_link_elsewhere}
+use Rattle.graft_model.specs.SmallWorlds.{with_nothing_received, with_shadow_left, with_route_kept, with_word}
 
 same : (s t : SessionValue) → ◌≡◌ {A = List SessionValue} (s ∷ []) (t ∷ []) → s ≡ t
 same s t e = cc
@@ -68,8 +70,10 @@ none_received = ap (run_from 0) (map.entries-from_sorted _ [] tt)
 
 pub never_put : Transparent pair with_octet_received 0 → ⊥
 never_put t =
-    let is = subst (λ (s : SessionValue). AreFirst (received_bytes (remote_with (0 ∷ []))) (put_bytes (peering_of s.config) s.story)) (sym (same session t.session t.one)) t.received in
-    let first : ◌≡◌ {A = List ℕ} (255 ∷ []) (0 ∷ []) = sym marked ∙ (ap (take 1) is.is ∙ ap (λ (front : List ℕ). take 1 (front ++ is.rest)) octet_received) in cc
+    let is = subst (λ (s : SessionValue). AreFirst (received_bytes (remote_with (0 ∷ []))) (put_bytes (peering_of s.config) s.story))
+    (sym (same session t.session t.one)) t.received in
+    let first : ◌≡◌ {A = List ℕ} (255 ∷ []) (0 ∷ []) =
+    sym marked ∙ (ap (take 1) is.is ∙ ap (λ (front : List ℕ). take 1 (front ++ is.rest)) octet_received) in cc
 
 pub never_heard : Transparent pair (with_session hearing) 0 → ⊥
 never_heard t =

@@ -15,7 +15,10 @@ use Rattle.tcp_seq.specs.declared.segment.Way.{Way}
 use Rattle.tcp_seq.specs.declared.segment.Way.TheVariants.{Home, Remote}
 use Rattle.graft_model.specs.FarRows.{FarTaken, OutwardIn, SayIn, link}
 use Rattle.graft_model.specs.OperatorRows.{OperatorTaken, ReportIn, OrdersSay, OrdersGraft}
-use Rattle.graft_model.specs.Steps.{RouterEvent, Put, Emit, Arrive, Stray, Got, Decide, Tell, Hear, Admit, Refuse, Freeze, Leave, Land, TurnBack, Return, Clear, Ask, Answer, Collect, Confirm, Tick, FarEvent, Say, Send, Take, Pass, Reach, Lose, Point, Beat, OperatorEvent, Go, Note, Event, ByRouter, ByFar, ByOperator, RouterTook, FarTook, OperatorTook, RouterStep, FarStep, OperatorStep, Step}
+use Rattle.graft_model.specs.Steps.{RouterEvent, Put, Emit, Arrive, Stray, Got, Decide, Tell, Hear, Admit, Refuse, Freeze, Leave}
+use Rattle.graft_model.specs.Steps.{Land, TurnBack, Return, Clear, Ask, Answer, Collect, Confirm, Tick, FarEvent, Say, Send, Take}
+use Rattle.graft_model.specs.Steps.{Pass, Reach, Lose, Point, Beat, OperatorEvent, Go, Note, Event, ByRouter, ByFar, ByOperator}
+use Rattle.graft_model.specs.Steps.{RouterTook, FarTook, OperatorTook, RouterStep, FarStep, OperatorStep, Step}
 use Rattle.graft_model.specs.Steps.{Order as OrderOf}
 use Rattle.graft_model.specs.Quiet.{Quiet, IsIdle}
 use Rattle.graft_model.specs.Laws.{MayStillHappen}
@@ -127,10 +130,12 @@ orders_say setup step number w quiet row = both_ways (w.operator.issued step) (q
 orders_graft : (setup : Setup) (step number : ℕ) (w : World) {taken : Option OperatorTaken} {sent : List _} {part : _} → Quiet setup w
     → OrdersGraft setup step number w.operator taken sent part → ⊥
 orders_graft setup step number w quiet row =
-    quiet.ended row.graft row.known (ap (group_of setup) row.by_step ∙ row.group) (λ none. (let f : Some row.target ≡ None = sym row.is ∙ none in absurd cc)) row.unended
+    quiet.ended row.graft row.known (ap (group_of setup) row.by_step ∙ row.group)
+    (λ none. (let f : Some row.target ≡ None = sym row.is ∙ none in absurd cc)) row.unended
 
 by_operator : (setup : Setup) (event : OperatorEvent) (w v : World) → Quiet setup w → OperatorStep setup event w v → MayStillHappen (ByOperator event)
-by_operator setup (OrderOf step number) w v quiet s = elim s.row [ inl says ↦ orders_say setup step number w quiet says | inr grafts ↦ orders_graft setup step number w quiet grafts ]
+by_operator setup (OrderOf step number) w v quiet s =
+    elim s.row [ inl says ↦ orders_say setup step number w quiet says | inr grafts ↦ orders_graft setup step number w quiet grafts ]
 by_operator setup (Note router) w v quiet s = operator_had setup w s.without s.taken _ quiet s.took s.row.takes
 by_operator setup Go w v quiet s = tt
 

@@ -64,7 +64,8 @@ pub record Transparent (setup : Setup) (w : World) (p : ℕ) : Type 0 where
 -- ---- unchanged
 
 -- Among the events, the graft k froze this session of p at r, and later an event of the router s takes this item, which came to it from q.
-pub record FrozenBefore (setup : Setup) (first : World) (events : List Event) (r k p target : ℕ) (found : SessionValue) (s q : ℕ) (event : RouterEvent) (item : Mesh) (after : World) : Type 0 where
+pub record FrozenBefore (setup : Setup) (first : World) (events : List Event) (r k p target : ℕ)
+    (found : SessionValue) (s q : ℕ) (event : RouterEvent) (item : Mesh) (after : World) : Type 0 where
   pub begun : List Event
   pub away : List Event
   pub rest : List Event
@@ -153,12 +154,18 @@ MadeBeforeBroken setup first events = (begun rest : List Event) (s t k p : ℕ) 
 
 -- what the sessions that a router holds bring in for a prefix, in ascending order of peering
 abbrev pub session_routes : Setup → World → ℕ → PrefixValue → List SessionRoute
-session_routes setup w r prefix = flat_map (λ p. map (λ session. session_route setup r session prefix) (sessions_at ((w.router r).places p))) (peering_numbers setup)
+session_routes setup w r prefix =
+    flat_map (λ p. map (λ session. session_route setup r session prefix) (sessions_at ((w.router r).places p))) (peering_numbers setup)
 
 -- what the other routers tell it, in ascending order of number: each its best route if that is own or external
 abbrev pub router_routes : Setup → World → ℕ → PrefixValue → List RouterRoute
 router_routes setup w r prefix = map
-    (λ q. record { router = record { 0 = q }; identifier = identifier_of setup q; cost = cost_between setup r q; told = tell_in (map.get (w.router q).best prefix) })
+    (λ q. record {
+      router = record { 0 = q };
+      identifier = identifier_of setup q;
+      cost = cost_between setup r q;
+      told = tell_in (map.get (w.router q).best prefix);
+    })
     (filter (λ q. not (q == r)) (router_numbers setup))
 
 -- All that the remote said was got, message by message, up to the end of the session or up to a rest that begins with no whole message.

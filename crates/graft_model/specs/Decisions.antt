@@ -44,7 +44,10 @@ entry_of setup r session prefix = option_map
 
 -- a told route has the telling router's identifier as its identifier and its address
 abbrev pub telling_candidate : Setup → ℕ → ℕ → Option Route → Option Candidate
-telling_candidate setup r q telling = option_map (λ route. (record { from = Router (record { 0 = q }); route = route }, rank_of setup.home_as false (cost_between setup r q) (identifier_of setup q) (identifier_of setup q) route)) telling
+telling_candidate setup r q telling = option_map (λ route. (
+  record { from = Router (record { 0 = q }); route = route },
+  rank_of setup.home_as false (cost_between setup r q) (identifier_of setup q) (identifier_of setup q) route,
+)) telling
 
 -- The choice of a router between its own network, the entries of the peerings in ascending order, and those of the routers in ascending order (RFC
 -- 4271, section 9.1.2).
@@ -57,7 +60,8 @@ chosen setup r part prefix = choice (
 -- ---- telling
 
 abbrev pub out_side : Setup → ℕ → SessionConfig → OutSide
-out_side setup r config = record { peering = config.peering; remote_as = config.remote_as; local_address = config.local_address; export_rules = rules_for setup r config.export }
+out_side setup r config =
+    record { peering = config.peering; remote_as = config.remote_as; local_address = config.local_address; export_rules = rules_for setup r config.export }
 
 -- what is to be told on a session at a router for a prefix
 abbrev pub to_tell : Setup → ℕ → RouterPart → SessionValue → PrefixValue → Option Attrs

@@ -26,7 +26,8 @@ targets_from setup placed r = plan_for (rooms_of setup) r (loads_of setup placed
 pub record AreGivenWell (setup : Setup) (placed : ℕ → ℕ) (router : ℕ) : Type 0 where
   pub each : length (targets_from setup placed router) ≡ length (peerings_at setup placed router)
   pub room : KeepsRooms (loads_of setup placed) (rooms_of setup) router (targets_from setup placed router)
-  pub as_many : number_given (targets_from setup placed router) ≡ min (length (peerings_at setup placed router)) (free_places (loads_of setup placed) (rooms_of setup) router)
+  pub as_many : number_given (targets_from setup placed router)
+      ≡ min (length (peerings_at setup placed router)) (free_places (loads_of setup placed) (rooms_of setup) router)
   pub least : number_given (targets_from setup placed router) ≡ length (peerings_at setup placed router)
       → (other : TargetList) → GivesAll (loads_of setup placed) (rooms_of setup) router (length (peerings_at setup placed router)) other
       → (most : ℕ) → AreAtMost most (loads_of setup placed) router other → AreAtMost most (loads_of setup placed) router (targets_from setup placed router)

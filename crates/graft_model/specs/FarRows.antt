@@ -1,5 +1,6 @@
 -- The events of a far side: what the remote says and sends, what the link holds, loses and delivers, and where it points.
-use Rattle.std.specs.Prelude.{◌≡◌, ℕ, ◌+◌, ◌%◌, ◌^◌, ◌<◌, ◌≤◌, List, [], ◌∷◌, ◌++◌, length, take, drop, Option, Some, None, Bool, false, max, nat_lt, if◌then◌else◌, slice_get, option_map}
+use Rattle.std.specs.Prelude.{◌≡◌, ℕ, ◌+◌, ◌%◌, ◌^◌, ◌<◌, ◌≤◌, List, [], ◌∷◌, ◌++◌, length, take, drop, Option, Some}
+use Rattle.std.specs.Prelude.{None, Bool, false, max, nat_lt, if◌then◌else◌, slice_get, option_map}
 use Rattle.bgp_types.specs.declared.message.Message.TheVariants.{KeepaliveMsg}
 use Rattle.bgp_types.specs.Spelling.{spell}
 use Rattle.tcp_seq.specs.Endpoint.{Endpoint, PlacedSegment, TakesSegment}
@@ -75,7 +76,8 @@ pub record TakesIn (router : ℕ) (before : FarPart) (taken : Option FarTaken) (
   pub effect : after ≡ record before { remoteward = before.remoteward ++ segment ∷ [] }
 
 -- Any segment of the link to home is delivered to any router; it stays in the link if it is kept.
-pub record Passes (setup : Setup) (index : ℕ) (keep : Bool) (router : ℕ) (before : FarPart) (taken : Option FarTaken) (sent : List FarSent) (after : FarPart) : Type 0 where
+pub record Passes (setup : Setup) (index : ℕ) (keep : Bool) (router : ℕ) (before : FarPart)
+    (taken : Option FarTaken) (sent : List FarSent) (after : FarPart) : Type 0 where
   pub segment : PlacedSegment
   pub there : slice_get before.homeward index ≡ Some segment
   pub known : router < routers_in setup

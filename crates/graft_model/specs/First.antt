@@ -26,7 +26,15 @@ first_router setup r = record {
 -- Its remote has said its opening, and the link points there.
 abbrev pub first_far : Option PeeringSetup → FarPart
 first_far None = record { end = fresh_endpoint; homeward = []; remoteward = []; pointer = 0; followed = 0; keepalives = 0; last_keepalive = 0 }
-first_far (Some peering) = record { end = record fresh_endpoint { stream = peering.opening }; homeward = []; remoteward = []; pointer = peering.start; followed = 0; keepalives = 0; last_keepalive = 0 }
+first_far (Some peering) = record {
+  end = record fresh_endpoint { stream = peering.opening };
+  homeward = [];
+  remoteward = [];
+  pointer = peering.start;
+  followed = 0;
+  keepalives = 0;
+  last_keepalive = 0;
+}
 
 -- Nothing has been ordered, and the evacuate steps of the first group have given out their grafts.
 abbrev pub first_operator : Setup → OperatorPart

@@ -134,7 +134,8 @@ pub record Counts (q : ℕ) (before : RouterPart) (taken : Option RouterTaken) (
   pub source : ℕ
   pub session : SessionValue
   pub live : IsLive before peering session (Some (Asking (record { graft = graft; source = source; next = q })))
-  pub effect : after ≡ record before { places = at before.places peering (Live session (Some (Owing (record { graft = graft; source = source; next = suc q })))) }
+  pub effect : after
+      ≡ record before { places = at before.places peering (Live session (Some (Owing (record { graft = graft; source = source; next = suc q })))) }
 
 -- An answer that isn't pending changes nothing.
 pub record Ignores (q : ℕ) (before : RouterPart) (taken : Option RouterTaken) (sent : List RouterSent) (after : RouterPart) : Type 0 where

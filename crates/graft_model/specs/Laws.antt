@@ -4,7 +4,8 @@ use Rattle.session_value.specs.Sessions.{SessionValue}
 use Rattle.graft_model.specs.Parts.{Place, Vacant, Live, Frozen, Shadow, graft_of, RouterPart, World}
 use Rattle.graft_model.specs.RouterRows.{RouterTaken, OrderIn, SegmentIn, MeshIn, RouterSent, MeshTo, OutwardTo, ReportOut}
 use Rattle.graft_model.specs.Claims.{sessions_on}
-use Rattle.graft_model.specs.Steps.{RouterEvent, Put, Emit, Arrive, Got, Refuse, Freeze, Leave, Ask, Confirm, Tick, Send, Beat, Go, Event, ByRouter, ByFar, ByOperator}
+use Rattle.graft_model.specs.Steps.{RouterEvent, Put, Emit, Arrive, Got, Refuse, Freeze, Leave, Ask, Confirm}
+use Rattle.graft_model.specs.Steps.{Tick, Send, Beat, Go, Event, ByRouter, ByFar, ByOperator}
 
 -- A router's event changes that router's part, and channels from it or to it.
 pub record LeavesByRouter (r : ℕ) (before after : World) : Type 0 where

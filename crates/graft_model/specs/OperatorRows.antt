@@ -18,7 +18,8 @@ pub data OperatorSent : Type 0 where
 -- ---- ordering
 
 -- A say is ordered, in a step of the current group, after the earlier says of the same remote in this group.
-pub record OrdersSay (setup : Setup) (step number : ℕ) (before : OperatorPart) (taken : Option OperatorTaken) (sent : List OperatorSent) (after : OperatorPart) : Type 0 where
+pub record OrdersSay (setup : Setup) (step number : ℕ) (before : OperatorPart)
+    (taken : Option OperatorTaken) (sent : List OperatorSent) (after : OperatorPart) : Type 0 where
   pub alone : number ≡ 0
   pub group : group_of setup step ≡ before.group
   pub unissued : before.issued step ≡ false
@@ -38,7 +39,8 @@ number_by _ k = 0
 
 -- A graft is ordered at the router where the session belongs by the log. Its step is in the current group, and the earlier grafts of the peering have
 -- their outcomes.
-pub record OrdersGraft (setup : Setup) (step number : ℕ) (before : OperatorPart) (taken : Option OperatorTaken) (sent : List OperatorSent) (after : OperatorPart) : Type 0 where
+pub record OrdersGraft (setup : Setup) (step number : ℕ) (before : OperatorPart)
+    (taken : Option OperatorTaken) (sent : List OperatorSent) (after : OperatorPart) : Type 0 where
   pub graft : ScriptGraft
   pub known : graft_at setup graft.graft ≡ Some graft
   pub by_step : graft.step ≡ step

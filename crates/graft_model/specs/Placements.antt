@@ -29,4 +29,5 @@ is_accepted (Some (Refused refusal)) = false
 -- Where a peering's session belongs by the log: at the target of its last accepted graft, or else where it starts.
 abbrev pub placement : Setup → OperatorPart → ℕ → ℕ
 placement setup part p =
-    unwrap_or (option_and_then (target_in setup part) (last_or None (filter (λ g. (g.peering == p) && is_accepted (part.outcome g.graft)) (grafts_in setup)))) (start_of setup p)
+    unwrap_or (option_and_then (target_in setup part)
+    (last_or None (filter (λ g. (g.peering == p) && is_accepted (part.outcome g.graft)) (grafts_in setup)))) (start_of setup p)

@@ -1,5 +1,6 @@
 -- The input of a laboratory: the home network, the peerings, and the script of the operator.
-use Rattle.std.specs.Prelude.{ℕ, ◌==◌, ◌+◌, Bool, true, false, List, [], ◌∷◌, ◌++◌, length, take, filter, min, ◌/◌, ◌^◌, All, ◌<◌, ◌≤◌, ◌≡◌, Option, Some, None, option_map, unwrap_or, is_none, if◌then◌else◌, slice_get}
+use Rattle.std.specs.Prelude.{ℕ, ◌==◌, ◌+◌, Bool, true, false, List, [], ◌∷◌, ◌++◌, length, take, filter, min, ◌/◌, ◌^◌, All, ◌<◌}
+use Rattle.std.specs.Prelude.{◌≤◌, ◌≡◌, Option, Some, None, option_map, unwrap_or, is_none, if◌then◌else◌, slice_get}
 use Rattle.std.specs.List.{list_any, find, flat_map, range_with_len, last_or}
 use Rattle.std.specs.Str.{bytes_eq}
 use Rattle.bgp_types.specs.Prefixes.{PrefixValue, IsPrefix, same_prefix}

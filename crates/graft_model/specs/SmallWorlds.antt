@@ -52,7 +52,9 @@ small_open_octets = put_bytes (peering_of config) (begun config).story
 
 -- The session has put its OPEN, and knows that the remote has it.
 abbrev pub session : SessionValue
-session = record (begun config) { end = record fresh_endpoint { stream = small_open_octets; emitted = length small_open_octets; acked = length small_open_octets } }
+session = record (begun config) {
+  end = record fresh_endpoint { stream = small_open_octets; emitted = length small_open_octets; acked = length small_open_octets };
+}
 
 -- what the remote has received
 abbrev pub remote_with : List ℕ → Endpoint

@@ -3,10 +3,13 @@ use Rattle.std.specs.Prelude.{ℕ, zero, suc, fold, ◌≡◌, ◌<◌, List, []
 use Rattle.graft_model.specs.Points.{at, at2}
 use Rattle.graft_model.specs.Setups.{Setup, routers_in, peerings_in}
 use Rattle.graft_model.specs.Parts.{RouterPart, FarPart, OperatorPart, World}
-use Rattle.graft_model.specs.RouterRows.{RouterTaken, OrderIn, SegmentIn, MeshIn, RouterSent, MeshTo, OutwardTo, ReportOut, PutsNothing, PutsSome, Emits, Arrives, Strays, GetsNext, Ticks}
+use Rattle.graft_model.specs.RouterRows.{RouterTaken, OrderIn, SegmentIn, MeshIn, RouterSent, MeshTo, OutwardTo, ReportOut}
+use Rattle.graft_model.specs.RouterRows.{PutsNothing, PutsSome, Emits, Arrives, Strays, GetsNext, Ticks}
 use Rattle.graft_model.specs.TableRows.{Decides, Tells, Hears}
 pub use Rattle.graft_model.specs.declared.event.RouterEvent.{RouterEvent}
-pub use Rattle.graft_model.specs.declared.event.RouterEvent.TheVariants.{Put, Emit, Arrive, Stray, Got, Decide, Tell, Hear, Admit, Refuse, Freeze, Leave, Land, TurnBack, Return, Clear, Ask, Answer, Collect, Confirm, Tick}
+pub use Rattle.graft_model.specs.declared.event.RouterEvent.TheVariants.{Put, Emit, Arrive, Stray, Got, Decide, Tell, Hear, Admit}
+pub use Rattle.graft_model.specs.declared.event.RouterEvent.TheVariants.{Refuse, Freeze, Leave, Land, TurnBack, Return, Clear, Ask}
+pub use Rattle.graft_model.specs.declared.event.RouterEvent.TheVariants.{Answer, Collect, Confirm, Tick}
 pub use Rattle.graft_model.specs.declared.event.FarEvent.{FarEvent}
 pub use Rattle.graft_model.specs.declared.event.FarEvent.TheVariants.{Say, Send, Take, Pass, Reach, Lose, Point, Beat}
 pub use Rattle.graft_model.specs.declared.event.OperatorEvent.{OperatorEvent}
@@ -63,7 +66,8 @@ far_row setup p (Point router) before taken sent after = TurnsLink router before
 far_row setup p (Beat round) before taken sent after = Beats setup p round before taken sent after
 
 abbrev pub operator_row : Setup → OperatorEvent → OperatorPart → Option OperatorTaken → List OperatorSent → OperatorPart → Type 0
-operator_row setup (Order step number) before taken sent after = OrdersSay setup step number before taken sent after ⊎ OrdersGraft setup step number before taken sent after
+operator_row setup (Order step number) before taken sent after =
+    OrdersSay setup step number before taken sent after ⊎ OrdersGraft setup step number before taken sent after
 operator_row setup (Note router) before taken sent after = Notes router before taken sent after
 operator_row setup Go before taken sent after = BeginsGroup setup before taken sent after
 

@@ -39,7 +39,8 @@ pub record DueEverywhere (setup : Setup) (r : ℕ) (prefix : PrefixValue) (befor
   pub peerings : (p : ℕ) → Adds (before.due_out p) (only_prefix prefix (holds_established (before.places p))) (after.due_out p)
 
 -- A dirty prefix gets the chosen route. If that is a different one, it is due to be told.
-pub record Decides (setup : Setup) (r : ℕ) (prefix : PrefixValue) (before : RouterPart) (taken : Option RouterTaken) (sent : List RouterSent) (after : RouterPart) : Type 0 where
+pub record Decides (setup : Setup) (r : ℕ) (prefix : PrefixValue) (before : RouterPart)
+    (taken : Option RouterTaken) (sent : List RouterSent) (after : RouterPart) : Type 0 where
   pub alone : Alone taken sent
   pub dirty : has before.dirty prefix ≡ true
   pub due : ((chosen setup r before prefix ≡ map.get before.best prefix) × (after.due_in ≡ before.due_in) × (after.due_out ≡ before.due_out))

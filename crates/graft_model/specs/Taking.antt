@@ -23,7 +23,8 @@ RouterMayTake setup part (MeshIn q (Done k p)) = part.places p ≡ Shadow k
 -- A far side takes every segment and every word of a landing; and the order to say a step of its remote, if the stream has room.
 abbrev pub FarMayTake : Setup → ℕ → FarPart → FarTaken → Type 0
 FarMayTake setup p part (OutwardIn r item) = Unit {0}
-FarMayTake setup p part (SayIn step) = (bytes : List ℕ) × (slice_get setup.steps step ≡ Some (SayStep p bytes)) × (length part.end.stream + length bytes ≤ 2 ^ 20)
+FarMayTake setup p part (SayIn step) =
+    (bytes : List ℕ) × (slice_get setup.steps step ≡ Some (SayStep p bytes)) × (length part.end.stream + length bytes ≤ 2 ^ 20)
 
 -- The operator takes the report of a graft that was ordered and has no outcome.
 abbrev pub OperatorMayTake : OperatorPart → OperatorTaken → Type 0

@@ -3,7 +3,8 @@
 ghost use Rattle.std.specs.Prelude.{◌≡◌, ◌≢◌, Bool, IfSome, IfNone};
 ghost use Rattle.tcp_seq.specs.declared.segment.Way.{Way};
 ghost use Rattle.graft_model.specs.declared.event.ActorEvent.{ActorEvent};
-ghost use Rattle.graft_model.specs.Codes.{flag as flag_lem, way_number as way_number_lem, prefix_of_args, router_code, far_code, operator_code, actor_code, HasPrefix, EventHasPrefix};
+ghost use Rattle.graft_model.specs.Codes.{flag as flag_lem, way_number as way_number_lem, prefix_of_args, router_code};
+ghost use Rattle.graft_model.specs.Codes.{far_code, operator_code, actor_code, HasPrefix, EventHasPrefix};
 
 use crate::event::{ActorEvent, FarEvent, OperatorEvent, RouterEvent};
 use bgp_types::Prefix;

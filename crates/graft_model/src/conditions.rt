@@ -10,8 +10,11 @@ ghost use Rattle.session_value.specs.declared.config.SessionConfig.{SessionConfi
 ghost use Rattle.session_value.specs.Sessions.{SessionValue, state, hold_time};
 ghost use Rattle.session_value.specs.Sets.{has};
 ghost use Rattle.graft_steps.specs.Landings.{IsNextToAsk, AreAllAsked};
-ghost use Rattle.graft_model.specs.Setups.{Setup, PeeringSetup, ScriptGraft, SayStep, MoveStep, EvacuateStep, peerings_in, routers_in, room_of, missing_policy, group_of, groups_in, grafts_in, grafts_before, graft_at, keepalive_interval_of, rules_named};
-ghost use Rattle.graft_model.specs.Parts.{RouterPart, FarPart, OperatorPart, World, GraftOrder, Errand, Vacant, Live, Frozen, Shadow, Leaving, Owing, Moved, Back, Asked, Done, PointAt, Unmade};
+ghost use Rattle.graft_model.specs.Setups.{Setup, PeeringSetup, ScriptGraft, SayStep, MoveStep, EvacuateStep, peerings_in};
+ghost use Rattle.graft_model.specs.Setups.{routers_in, room_of, missing_policy, group_of, groups_in, grafts_in};
+ghost use Rattle.graft_model.specs.Setups.{grafts_before, graft_at, keepalive_interval_of, rules_named};
+ghost use Rattle.graft_model.specs.Parts.{RouterPart, FarPart, OperatorPart, World, GraftOrder, Errand, Vacant, Live, Frozen};
+ghost use Rattle.graft_model.specs.Parts.{Shadow, Leaving, Owing, Moved, Back, Asked, Done, PointAt, Unmade};
 ghost use Rattle.graft_model.specs.RouterRows.{RouterTaken, OrderIn, MeshIn, RouterSent, MeshTo, ReportOut};
 ghost use Rattle.graft_model.specs.FarRows.{FarTaken, OutwardIn, FarSent};
 ghost use Rattle.graft_model.specs.OperatorRows.{OperatorTaken, OperatorSent, OrderTo, SayTo, target_in, placement};
@@ -19,7 +22,9 @@ ghost use Rattle.graft_model.specs.Evacuations.{peerings_at, loads_of, rooms_of,
 ghost use Rattle.evacuation.specs.Plans.{Plan};
 ghost use Rattle.graft_edge.specs.declared.ids.RouterId.{RouterId};
 ghost use Rattle.graft_model.specs.Taking.{RouterMayTake, FarMayTake, OperatorMayTake};
-ghost use Rattle.graft_model.specs.Steps.{Step, RouterEvent, FarEvent, OperatorEvent, ByOperator, Go, Put, Emit, Arrive, Stray, Got, Tell, Admit, Refuse, Freeze, Leave, Land, TurnBack, Return, Clear, Ask, Confirm, Tick, Point, Beat, router_row, far_row, operator_row};
+ghost use Rattle.graft_model.specs.Steps.{Step, RouterEvent, FarEvent, OperatorEvent, ByOperator, Go, Put, Emit, Arrive};
+ghost use Rattle.graft_model.specs.Steps.{Stray, Got, Tell, Admit, Refuse, Freeze, Leave, Land, TurnBack, Return, Clear, Ask};
+ghost use Rattle.graft_model.specs.Steps.{Confirm, Tick, Point, Beat, router_row, far_row, operator_row};
 ghost use Rattle.graft_model.specs.Steps.{Order as OrderOf};
 ghost use Rattle.graft_model.specs.Quiet.{Quiet};
 ghost use Rattle.graft_model.specs.Claims.{sessions_at};
@@ -39,19 +44,24 @@ pub fn live_sessions_alone_act()
         → HasNoLive (before.places p) → ¬ router_row setup r (Got p) before taken sent after }
     ensures tick { (setup : Setup) (r p round : ℕ) (before after : RouterPart) (taken : Option RouterTaken) (sent : List RouterSent)
         → HasNoLive (before.places p) → ¬ router_row setup r (Tick p round) before taken sent after }
-    ensures stray { (setup : Setup) (r p : ℕ) (session : SessionValue) (errand : Option Errand) (before after : RouterPart) (taken : Option RouterTaken) (sent : List RouterSent)
+    ensures stray { (setup : Setup) (r p : ℕ) (session : SessionValue) (errand : Option Errand)
+        (before after : RouterPart) (taken : Option RouterTaken) (sent : List RouterSent)
         → before.places p ≡ Live session errand → ¬ router_row setup r (Stray p) before taken sent after }
 {}
 
 /// The state that a session needs to act: established to put an UPDATE, not closed to get, with a running hold time for
 /// a round to pass.
 pub fn sessions_act_in_their_states()
-    ensures put { (setup : Setup) (r p n : ℕ) (session : SessionValue) (errand : Option Errand) (before after : RouterPart) (taken : Option RouterTaken) (sent : List RouterSent)
+    ensures put { (setup : Setup) (r p n : ℕ) (session : SessionValue) (errand : Option Errand)
+        (before after : RouterPart) (taken : Option RouterTaken) (sent : List RouterSent)
         → before.places p ≡ Live session errand → router_row setup r (Put p n) before taken sent after → state session ≡ Established }
-    ensures got { (setup : Setup) (r p : ℕ) (session : SessionValue) (errand : Option Errand) (before after : RouterPart) (taken : Option RouterTaken) (sent : List RouterSent)
+    ensures got { (setup : Setup) (r p : ℕ) (session : SessionValue) (errand : Option Errand)
+        (before after : RouterPart) (taken : Option RouterTaken) (sent : List RouterSent)
         → before.places p ≡ Live session errand → router_row setup r (Got p) before taken sent after → state session ≢ Closed }
-    ensures tick { (setup : Setup) (r p round : ℕ) (session : SessionValue) (errand : Option Errand) (before after : RouterPart) (taken : Option RouterTaken) (sent : List RouterSent)
-        → before.places p ≡ Live session errand → router_row setup r (Tick p round) before taken sent after → (0 < hold_time session) × (state session ≢ Closed) }
+    ensures tick { (setup : Setup) (r p round : ℕ) (session : SessionValue) (errand : Option Errand)
+        (before after : RouterPart) (taken : Option RouterTaken) (sent : List RouterSent)
+        → before.places p ≡ Live session errand → router_row setup r (Tick p round) before taken sent after
+        → (0 < hold_time session) × (state session ≢ Closed) }
 {}
 
 /// A dirty prefix is neither told nor put.
@@ -79,18 +89,22 @@ pub fn grafts_go_on_where_they_stand()
         → router_row setup r (Freeze k) before taken sent after → MayFreeze r k before }
     ensures refuse { (setup : Setup) (r k : ℕ) (before after : RouterPart) (taken : Option RouterTaken) (sent : List RouterSent)
         → router_row setup r (Refuse k) before taken sent after
-        → (p : ℕ) × (session : SessionValue) × (target : ℕ) × (refusal : Refusal) × (before.places p ≡ Live session (Some (Leaving (record { graft = k; target = target }))))
+        → (p : ℕ) × (session : SessionValue) × (target : ℕ) × (refusal : Refusal)
+        × (before.places p ≡ Live session (Some (Leaving (record { graft = k; target = target }))))
         × IsWhyNotFrozen r target session refusal × (sent ≡ ReportOut (record { graft = k; outcome = Refused refusal }) ∷ []) }
     ensures leave { (setup : Setup) (r k : ℕ) (before after : RouterPart) (taken : Option RouterTaken) (sent : List RouterSent)
         → router_row setup r (Leave k) before taken sent after
-        → (p : ℕ) × (session : SessionValue) × (target : ℕ) × (before.places p ≡ Frozen session (record { graft = k; target = target })) × (sent ≡ MeshTo target (Moved k p session) ∷ []) }
+        → (p : ℕ) × (session : SessionValue) × (target : ℕ)
+        × (before.places p ≡ Frozen session (record { graft = k; target = target })) × (sent ≡ MeshTo target (Moved k p session) ∷ []) }
     ensures confirm { (setup : Setup) (r k : ℕ) (before after : RouterPart) (taken : Option RouterTaken) (sent : List RouterSent)
         → router_row setup r (Confirm k) before taken sent after
-        → (p : ℕ) × (session : SessionValue) × (source : ℕ) × (next : ℕ) × (before.places p ≡ Live session (Some (Owing (record { graft = k; source = source; next = next }))))
+        → (p : ℕ) × (session : SessionValue) × (source : ℕ) × (next : ℕ)
+        × (before.places p ≡ Live session (Some (Owing (record { graft = k; source = source; next = next }))))
         × AreAllAsked source r (routers_in setup) next × (sent ≡ MeshTo source (Done k p) ∷ []) }
     ensures ask { (setup : Setup) (r k q : ℕ) (before after : RouterPart) (taken : Option RouterTaken) (sent : List RouterSent)
         → router_row setup r (Ask k q) before taken sent after
-        → (p : ℕ) × (session : SessionValue) × (source : ℕ) × (next : ℕ) × (before.places p ≡ Live session (Some (Owing (record { graft = k; source = source; next = next }))))
+        → (p : ℕ) × (session : SessionValue) × (source : ℕ) × (next : ℕ)
+        × (before.places p ≡ Live session (Some (Owing (record { graft = k; source = source; next = next }))))
         × IsNextToAsk source r (routers_in setup) next q × (sent ≡ MeshTo q (Asked k p) ∷ []) }
     ensures comes_back { (setup : Setup) (r q k p : ℕ) (session : SessionValue) (refusal : Refusal) (before after : RouterPart) (sent : List RouterSent)
         → router_row setup r (Return q) before (Some (MeshIn q (Back k p session refusal))) sent after → before.places p ≡ Shadow k }
@@ -105,7 +119,8 @@ pub fn word_waits_for_what_is_told()
         → has before.dirty x ≡ true → ¬ router_row setup r (Confirm k) before taken sent after }
     ensures told { (setup : Setup) (r k q : ℕ) (x : PrefixValue) (before after : RouterPart) (taken : Option RouterTaken) (sent : List RouterSent)
         → has (before.due_in q) x ≡ true → ¬ router_row setup r (Confirm k) before taken sent after }
-    ensures decided_before_asking { (setup : Setup) (r k q : ℕ) (x : PrefixValue) (before after : RouterPart) (taken : Option RouterTaken) (sent : List RouterSent)
+    ensures decided_before_asking { (setup : Setup) (r k q : ℕ) (x : PrefixValue)
+        (before after : RouterPart) (taken : Option RouterTaken) (sent : List RouterSent)
         → has before.dirty x ≡ true → ¬ router_row setup r (Ask k q) before taken sent after }
     ensures told_before_asking { (setup : Setup) (r k q : ℕ) (x : PrefixValue) (before after : RouterPart) (taken : Option RouterTaken) (sent : List RouterSent)
         → has (before.due_in q) x ≡ true → ¬ router_row setup r (Ask k q) before taken sent after }
@@ -120,7 +135,8 @@ pub fn landings_have_room()
         → (before.places p ≡ Vacant) × (p < peerings_in setup) × HasRoom setup r before × (missing_policy setup r session.config ≡ None) }
     ensures turn_back { (setup : Setup) (r q k p : ℕ) (session : SessionValue) (before after : RouterPart) (sent : List RouterSent)
         → router_row setup r (TurnBack q) before (Some (MeshIn q (Moved k p session))) sent after
-        → (before.places p ≡ Vacant) × (p < peerings_in setup) × (refusal : Refusal) × IsWhyNot setup r before session refusal × (sent ≡ MeshTo q (Back k p session refusal) ∷ []) }
+        → (before.places p ≡ Vacant) × (p < peerings_in setup) × (refusal : Refusal)
+        × IsWhyNot setup r before session refusal × (sent ≡ MeshTo q (Back k p session refusal) ∷ []) }
 {}
 
 /// The next group begins only in a quiet world, and only if there is one.
@@ -144,7 +160,8 @@ pub fn says_wait_for_earlier_ones()
     ensures once { (setup : Setup) (step number p : ℕ) (bytes : List ℕ) (before after : OperatorPart) (taken : Option OperatorTaken) (sent : List OperatorSent)
         → operator_row setup (OrderOf step number) before taken sent after → slice_get setup.steps step ≡ Some (SayStep p bytes)
         → (before.issued step ≡ false) × (after.issued step ≡ true) × (sent ≡ SayTo p step ∷ []) }
-    ensures say { (setup : Setup) (step number m p : ℕ) (bytes other : List ℕ) (before after : OperatorPart) (taken : Option OperatorTaken) (sent : List OperatorSent)
+    ensures say { (setup : Setup) (step number m p : ℕ) (bytes other : List ℕ)
+        (before after : OperatorPart) (taken : Option OperatorTaken) (sent : List OperatorSent)
         → operator_row setup (OrderOf step number) before taken sent after → slice_get setup.steps step ≡ Some (SayStep p bytes)
         → m < step → group_of setup m ≡ before.group → slice_get setup.steps m ≡ Some (SayStep p other) → before.issued m ≡ true }
 {}
@@ -152,18 +169,22 @@ pub fn says_wait_for_earlier_ones()
 /// A graft is ordered once, at the router where its session belongs by the log, to its target, and after the earlier
 /// grafts of its peering have their outcomes.
 pub fn grafts_wait_for_earlier_ones()
-    ensures sends { (setup : Setup) (step number r : ℕ) (order : GraftOrder) (before after : OperatorPart) (taken : Option OperatorTaken) (sent : List OperatorSent)
+    ensures sends { (setup : Setup) (step number r : ℕ) (order : GraftOrder)
+        (before after : OperatorPart) (taken : Option OperatorTaken) (sent : List OperatorSent)
         → operator_row setup (OrderOf step number) before taken sent after → sent ≡ OrderTo r order ∷ []
         → (r ≡ placement setup before order.peering) × (graft : ScriptGraft) × (graft_at setup order.graft ≡ Some graft) × (graft.step ≡ step)
         × (graft.peering ≡ order.peering) × (target_in setup before graft ≡ Some order.target) }
-    ensures once { (setup : Setup) (step number r : ℕ) (order : GraftOrder) (before after : OperatorPart) (taken : Option OperatorTaken) (sent : List OperatorSent)
+    ensures once { (setup : Setup) (step number r : ℕ) (order : GraftOrder)
+        (before after : OperatorPart) (taken : Option OperatorTaken) (sent : List OperatorSent)
         → operator_row setup (OrderOf step number) before taken sent after → sent ≡ OrderTo r order ∷ []
         → (before.source order.graft ≡ None) × (after.source order.graft ≡ Some r) }
-    ensures earlier { (setup : Setup) (step number r : ℕ) (order : GraftOrder) (other : ScriptGraft) (before after : OperatorPart) (taken : Option OperatorTaken) (sent : List OperatorSent)
+    ensures earlier { (setup : Setup) (step number r : ℕ) (order : GraftOrder) (other : ScriptGraft)
+        (before after : OperatorPart) (taken : Option OperatorTaken) (sent : List OperatorSent)
         → operator_row setup (OrderOf step number) before taken sent after → sent ≡ OrderTo r order ∷ []
         → graft_at setup other.graft ≡ Some other → other.peering ≡ order.peering → other.graft < order.graft
         → target_in setup before other ≢ None → before.outcome other.graft ≢ None }
-    ensures noted { (setup : Setup) (step number router r : ℕ) (order : GraftOrder) (before after : OperatorPart) (taken : Option OperatorTaken) (sent : List OperatorSent)
+    ensures noted { (setup : Setup) (step number router r : ℕ) (order : GraftOrder)
+        (before after : OperatorPart) (taken : Option OperatorTaken) (sent : List OperatorSent)
         → operator_row setup (OrderOf step number) before taken sent after → sent ≡ OrderTo r order ∷ []
         → slice_get setup.steps step ≡ Some (EvacuateStep router) → number ≡ order.graft }
 {}
@@ -175,16 +196,20 @@ pub fn grafts_are_numbered()
         → graft_at setup (grafts_before setup n + 1) ≡ Some (record { graft = grafts_before setup n + 1; peering = p; step = n }) }
     ensures evacuation { (setup : Setup) (n router p : ℕ) → slice_get setup.steps n ≡ Some (EvacuateStep router) → p < peerings_in setup
         → graft_at setup (grafts_before setup n + p + 1) ≡ Some (record { graft = grafts_before setup n + p + 1; peering = p; step = n }) }
-    ensures known { (setup : Setup) (k : ℕ) (graft : ScriptGraft) → graft_at setup k ≡ Some graft → (graft.graft ≡ k) × (0 < k) × (k ≤ length (grafts_in setup)) }
+    ensures known { (setup : Setup) (k : ℕ) (graft : ScriptGraft) → graft_at setup k ≡ Some graft
+        → (graft.graft ≡ k) × (0 < k) × (k ≤ length (grafts_in setup)) }
 {}
 
 /// As a group begins, its evacuate steps give each peering that is placed at their router what the plan has for it, and
 /// give other peerings nothing. What other grafts were given stays the same.
 pub fn emptied_routers_give_by_plan()
-    ensures given { (setup : Setup) (before after : World) (graft : ScriptGraft) (router : ℕ) → Step setup (ByOperator Go) before after → graft_at setup graft.graft ≡ Some graft
-        → group_of setup graft.step ≡ before.operator.group + 1 → slice_get setup.steps graft.step ≡ Some (EvacuateStep router) → before.operator.given graft.graft ≡ Unmade
+    ensures given { (setup : Setup) (before after : World) (graft : ScriptGraft) (router : ℕ)
+        → Step setup (ByOperator Go) before after → graft_at setup graft.graft ≡ Some graft
+        → group_of setup graft.step ≡ before.operator.group + 1
+        → slice_get setup.steps graft.step ≡ Some (EvacuateStep router) → before.operator.given graft.graft ≡ Unmade
         → after.operator.given graft.graft ≡ gift_to setup (placement setup before.operator) router graft.peering }
-    ensures others { (setup : Setup) (before after : World) (graft : ScriptGraft) → Step setup (ByOperator Go) before after → graft_at setup graft.graft ≡ Some graft
+    ensures others { (setup : Setup) (before after : World) (graft : ScriptGraft)
+        → Step setup (ByOperator Go) before after → graft_at setup graft.graft ≡ Some graft
         → group_of setup graft.step ≢ before.operator.group + 1 → after.operator.given graft.graft ≡ before.operator.given graft.graft }
     ensures there { (setup : Setup) (placed : ℕ → ℕ) (router i p : ℕ) (target : Option RouterId) → slice_get (peerings_at setup placed router) i ≡ Some p
         → slice_get (targets_from setup placed router) i ≡ Some target → gift_to setup placed router p ≡ gift_in router target }
@@ -200,17 +225,20 @@ pub fn beats_are_few_and_later()
     ensures { (setup : Setup) (p round : ℕ) (peering : PeeringSetup) (before after : FarPart) (taken : Option FarTaken) (sent : List FarSent)
         → slice_get setup.peerings p ≡ Some peering → far_row setup p (Beat round) before taken sent after
         → (0 < keepalive_interval_of peering) × (round % keepalive_interval_of peering ≡ 0) × (before.last_keepalive < round)
-            × (before.keepalives + 1 ≤ 27594) × (after.keepalives ≡ before.keepalives + 1) }
+        × (before.keepalives + 1 ≤ 27594) × (after.keepalives ≡ before.keepalives + 1) }
 {}
 
 /// In a quiet world each session that a router holds is live and has no errand, and it and its remote received and
 /// acknowledged all that the other put or said.
 pub fn quiet_sessions_are_settled()
     ensures live { (setup : Setup) (w : World) (r p : ℕ) → Quiet setup w → sessions_at ((w.router r).places p) ≢ [] → ¬ HasNoLive ((w.router r).places p) }
-    ensures unordered { (setup : Setup) (w : World) (r p : ℕ) (session : SessionValue) (errand : Option Errand) → Quiet setup w → (w.router r).places p ≡ Live session errand → errand ≡ None }
-    ensures received { (setup : Setup) (w : World) (r p : ℕ) (session : SessionValue) (errand : Option Errand) → Quiet setup w → (w.router r).places p ≡ Live session errand
+    ensures unordered { (setup : Setup) (w : World) (r p : ℕ) (session : SessionValue) (errand : Option Errand)
+        → Quiet setup w → (w.router r).places p ≡ Live session errand → errand ≡ None }
+    ensures received { (setup : Setup) (w : World) (r p : ℕ) (session : SessionValue) (errand : Option Errand)
+        → Quiet setup w → (w.router r).places p ≡ Live session errand
         → (received session.end ≡ length (w.far p).end.stream) × (received (w.far p).end ≡ length session.end.stream) }
-    ensures acknowledged { (setup : Setup) (w : World) (r p : ℕ) (session : SessionValue) (errand : Option Errand) → Quiet setup w → (w.router r).places p ≡ Live session errand
+    ensures acknowledged { (setup : Setup) (w : World) (r p : ℕ) (session : SessionValue) (errand : Option Errand)
+        → Quiet setup w → (w.router r).places p ≡ Live session errand
         → ((w.far p).end.acked ≡ length (w.far p).end.stream) × (session.end.acked ≡ length session.end.stream) }
 {}
 

@@ -8,20 +8,24 @@ ghost use Rattle.graft_steps.specs.declared.refusal.Outcome.TheVariants.{Accepte
 ghost use Rattle.session_value.specs.Sessions.{SessionValue};
 ghost use Rattle.graft_model.specs.declared.event.ActorEvent.{ActorEvent};
 ghost use Rattle.graft_model.specs.Setups.{Setup};
-ghost use Rattle.graft_model.specs.Parts.{RouterPart, FarPart, OperatorPart, World, Order, Word, Vacant, Live, Frozen, Shadow, Owing, Asking, Moved, Back, Asked, Answered, Done, PointAt};
+ghost use Rattle.graft_model.specs.Parts.{RouterPart, FarPart, OperatorPart, World, Order, Word, Vacant, Live, Frozen};
+ghost use Rattle.graft_model.specs.Parts.{Shadow, Owing, Asking, Moved, Back, Asked, Answered, Done, PointAt};
 ghost use Rattle.graft_model.specs.RouterRows.{RouterTaken, MeshIn, RouterSent, MeshTo, OutwardTo, ReportOut};
 ghost use Rattle.graft_model.specs.FarRows.{FarTaken, FarSent};
 ghost use Rattle.graft_model.specs.OperatorRows.{OperatorTaken, OperatorSent};
-ghost use Rattle.graft_model.specs.Steps.{Event, Step, RouterEvent, Stray, Leave, Land, TurnBack, Return, Clear, Ask, Answer, Collect, Confirm, FarEvent, OperatorEvent, RouterStep, FarStep, OperatorStep, router_row, far_row, operator_row};
+ghost use Rattle.graft_model.specs.Steps.{Event, Step, RouterEvent, Stray, Leave, Land, TurnBack, Return, Clear, Ask, Answer, Collect, Confirm};
+ghost use Rattle.graft_model.specs.Steps.{FarEvent, OperatorEvent, RouterStep, FarStep, OperatorStep, router_row, far_row, operator_row};
 ghost use Rattle.graft_model.specs.Quiet.{Quiet};
 ghost use Rattle.graft_model.specs.Claims.{Transparent, Solves, SolvesOn, sessions_at};
 ghost use Rattle.graft_model.specs.Codes.{router_code, far_code, operator_code, actor_code};
-ghost use Rattle.graft_model.specs.Laws.{LeavesByRouter, LeavesByFar, LeavesByOperator, MayStillHappen, HasOnce, HasOneOutcome, taken_on, sent_on, KeepsSessions};
+ghost use Rattle.graft_model.specs.Laws.{LeavesByRouter, LeavesByFar, LeavesByOperator, MayStillHappen};
+ghost use Rattle.graft_model.specs.Laws.{HasOnce, HasOneOutcome, taken_on, sent_on, KeepsSessions};
 ghost use Rattle.graft_model.specs.SmallWorlds as small;
 
 /// An event changes neither the parts of other actors nor a channel of which its actor is neither sender nor receiver.
 pub fn steps_leave_the_rest()
-    ensures router { (setup : Setup) (r : ℕ) (event : RouterEvent) (before after : World) → RouterStep setup r event before after → LeavesByRouter r before after }
+    ensures router { (setup : Setup) (r : ℕ) (event : RouterEvent) (before after : World)
+        → RouterStep setup r event before after → LeavesByRouter r before after }
     ensures far { (setup : Setup) (p : ℕ) (event : FarEvent) (before after : World) → FarStep setup p event before after → LeavesByFar p before after }
     ensures operator { (setup : Setup) (event : OperatorEvent) (before after : World) → OperatorStep setup event before after → LeavesByOperator before after }
 {}
@@ -49,7 +53,8 @@ pub fn rows_are_exact()
         → (items ≡ sent) × (other ≡ after) }
     ensures far { (setup : Setup) (p : ℕ) (event : FarEvent) (before after other : FarPart) (taken : Option FarTaken) (sent items : List FarSent)
         → far_row setup p event before taken sent after → far_row setup p event before taken items other → (items ≡ sent) × (other ≡ after) }
-    ensures operator { (setup : Setup) (event : OperatorEvent) (before after other : OperatorPart) (taken : Option OperatorTaken) (sent items : List OperatorSent)
+    ensures operator { (setup : Setup) (event : OperatorEvent) (before after other : OperatorPart)
+        (taken : Option OperatorTaken) (sent items : List OperatorSent)
         → operator_row setup event before taken sent after → operator_row setup event before taken items other → (items ≡ sent) × (other ≡ after) }
 {}
 
@@ -71,19 +76,23 @@ pub fn grafts_keep_sessions()
 /// graft ends. Word of a landing goes to the far side, and is owed to the source, which gets it once the other routers
 /// were asked one after another. Word of the outcome goes to the operator.
 pub fn grafts_move_sessions()
-    ensures left { (setup : Setup) (r k p : ℕ) (session : SessionValue) (order : Order) (before after : RouterPart) (taken : Option RouterTaken) (sent : List RouterSent)
+    ensures left { (setup : Setup) (r k p : ℕ) (session : SessionValue) (order : Order)
+        (before after : RouterPart) (taken : Option RouterTaken) (sent : List RouterSent)
         → HasOnce k before → before.places p ≡ Frozen session order → order.graft ≡ k → router_row setup r (Leave k) before taken sent after
         → (sent ≡ MeshTo order.target (Moved k p session) ∷ []) × (after.places p ≡ Shadow k) }
     ensures landed { (setup : Setup) (r q k p : ℕ) (session : SessionValue) (before after : RouterPart) (sent : List RouterSent)
         → router_row setup r (Land q) before (Some (MeshIn q (Moved k p session))) sent after
         → (after.places p ≡ Live session (Some (Owing (record { graft = k; source = q; next = 0 })))) × (sent ≡ OutwardTo p (PointAt k) ∷ []) }
-    ensures asked { (setup : Setup) (r k q p : ℕ) (session : SessionValue) (word : Word) (before after : RouterPart) (taken : Option RouterTaken) (sent : List RouterSent)
+    ensures asked { (setup : Setup) (r k q p : ℕ) (session : SessionValue) (word : Word)
+        (before after : RouterPart) (taken : Option RouterTaken) (sent : List RouterSent)
         → HasOnce k before → before.places p ≡ Live session (Some (Owing word)) → word.graft ≡ k → router_row setup r (Ask k q) before taken sent after
         → (sent ≡ MeshTo q (Asked k p) ∷ []) × (after.places p ≡ Live session (Some (Asking (record word { next = q })))) }
     ensures counted { (setup : Setup) (r q p : ℕ) (session : SessionValue) (word : Word) (before after : RouterPart) (sent : List RouterSent)
-        → before.places p ≡ Live session (Some (Asking word)) → word.next ≡ q → router_row setup r (Collect q) before (Some (MeshIn q (Answered word.graft p))) sent after
+        → before.places p ≡ Live session (Some (Asking word)) → word.next ≡ q
+        → router_row setup r (Collect q) before (Some (MeshIn q (Answered word.graft p))) sent after
         → after.places p ≡ Live session (Some (Owing (record word { next = suc q }))) }
-    ensures confirmed { (setup : Setup) (r k p : ℕ) (session : SessionValue) (word : Word) (before after : RouterPart) (taken : Option RouterTaken) (sent : List RouterSent)
+    ensures confirmed { (setup : Setup) (r k p : ℕ) (session : SessionValue) (word : Word)
+        (before after : RouterPart) (taken : Option RouterTaken) (sent : List RouterSent)
         → HasOnce k before → before.places p ≡ Live session (Some (Owing word)) → word.graft ≡ k → router_row setup r (Confirm k) before taken sent after
         → (sent ≡ MeshTo word.source (Done k p) ∷ []) × (after.places p ≡ Live session None) }
     ensures back { (setup : Setup) (r q k p : ℕ) (session : SessionValue) (refusal : Refusal) (before after : RouterPart) (sent : List RouterSent)

@@ -30,10 +30,13 @@ use Rattle.graft_worked.specs.Graft.{put_all, said_all, over_router, session, a_
 use Rattle.graft_model.specs.Parts.{Vacant, Live, FarPart, World}
 use Rattle.graft_model.specs.OperatorRows.{placement}
 use Rattle.graft_worked.proofs.Setup.{below_two, below_one}
-use Rattle.graft_worked.specs.Alone.{AloneField, One, Linked, Tellings, TransparentBut, SolvesBut, Own, Legal, Received, Got, AdjRibIn, AdjRibOut, Placed, Elsewhere, Best}
+use Rattle.graft_worked.specs.Alone.{AloneField, One, Linked, Tellings, TransparentBut, SolvesBut, Own, Legal}
+use Rattle.graft_worked.specs.Alone.{Received, Got, AdjRibIn, AdjRibOut, Placed, Elsewhere, Best}
 use Rattle.graft_worked.specs.Puts.{with_link_at_source}
 use Rattle.graft_worked.specs.Wrong.{with_session_kept, with_telling_on_its_way}
-use Rattle.graft_worked.specs.Weaker.{with_far, with_session, interrupted, with_empty_line, addressed, opened_twice, unhearing, telling, with_other_address, with_second_open, with_octet_received, with_update_unsaid, with_route_unheard, with_route_told, with_word_owed, with_keepalive_missing, with_keepalive_said, with_shadow_left, with_best_missing}
+use Rattle.graft_worked.specs.Weaker.{with_far, with_session, interrupted, with_empty_line, addressed, opened_twice, unhearing, telling}
+use Rattle.graft_worked.specs.Weaker.{with_other_address, with_second_open, with_octet_received, with_update_unsaid, with_route_unheard}
+use Rattle.graft_worked.specs.Weaker.{with_route_told, with_word_owed, with_keepalive_missing, with_keepalive_said, with_shadow_left, with_best_missing}
 use Rattle.graft_worked.proofs.Tens.{empty, is_ten, got_none, got_ten}
 use Rattle.graft_worked.proofs.GraftRows.{tells_none}
 use Rattle.graft_worked.proofs.GraftEnds.{legal_after, all_received, received_after, got_all, remote_received, none_told, nothing_told, told_to_b, solves_after}
@@ -161,7 +164,8 @@ told_rightly prefix = got_none prefix ∙ nothing_told prefix
 best_still : (prefix : PrefixValue) → map.get b_after.best prefix
     ≡ choice (candidates 65000 prefix (has_network base 1 prefix) (session_routes base after_graft 1 prefix) (router_routes base with_best_missing 1 prefix))
 best_still prefix = solves_after.best 1 prefix (lit< tt)
-    ∙ (λ i. choice (candidates 65000 prefix (has_network base 1 prefix) (session_routes base after_graft 1 prefix) (record { router = record { 0 = 0 }; identifier = identifier_of base 0; cost = cost_between base 1 0; told = tells_alike prefix i } ∷ [])))
+    ∙ (λ i. choice (candidates 65000 prefix (has_network base 1 prefix) (session_routes base after_graft 1 prefix)
+    (record { router = record { 0 = 0 }; identifier = identifier_of base 0; cost = cost_between base 1 0; told = tells_alike prefix i } ∷ [])))
 
 to_b_still : (prefix : PrefixValue) → map.get (b_after.tellings 0) prefix ≡ tell_in (map.get a_after.best prefix)
 to_b_still prefix = solves_after.tellings 0 1 prefix (lit< tt) (lit< tt) (λ e. cc)
@@ -268,7 +272,8 @@ solves_on w s b = record {
   session = s;
   placed = subst (λ r. (w.router r).places 0 ≡ Live s None) (sym b.logged) (b.placed (λ e. cc));
   linked = b.linked (λ e. cc) ∙ sym b.logged;
-  adj_rib_out = λ prefix. subst (λ r. map.get s.adj_rib_out prefix ≡ while_established (state s) (to_tell base r (w.router r) s prefix)) (sym b.logged) (b.adj_rib_out (λ e. cc) prefix);
+  adj_rib_out = λ prefix. subst (λ r. map.get s.adj_rib_out prefix ≡ while_established (state s) (to_tell base r (w.router r) s prefix))
+      (sym b.logged) (b.adj_rib_out (λ e. cc) prefix);
   received = b.received (λ e. cc);
   got = b.got (λ e. cc);
   elsewhere = below_two (λ r. r ≢ placement base w.operator 0 → ((w.router r).places 0 ≡ Vacant) × ((w.router r).entries 0 ≡ map.empty))

@@ -1,5 +1,6 @@
 -- The segments of the worked run arrive.
-use Rattle.std.proofs.Common.{◌≡◌, ℕ, suc, ◌+◌, ◌-◌, ◌<◌, ◌≤◌, ◌==◌, ◌&&◌, nat_lt, nat_le, Bool, true, false, cond, List, [], ◌∷◌, length, Some, None, refl, sym, ap, ◌∙◌, inl, inr, lit<, lit≤, arith}
+use Rattle.std.proofs.Common.{◌≡◌, ℕ, suc, ◌+◌, ◌-◌, ◌<◌, ◌≤◌, ◌==◌, ◌&&◌, nat_lt, nat_le, Bool, true, false, cond, List}
+use Rattle.std.proofs.Common.{[], ◌∷◌, length, Some, None, refl, sym, ap, ◌∙◌, inl, inr, lit<, lit≤, arith}
 use Rattle.std.specs.Prelude.{slice_get, T}
 use Rattle.std.specs.Cmp.{unsigned_tied}
 use Rattle.std.specs.FinMap as map
@@ -57,12 +58,15 @@ brings_all : (e : Endpoint) (bytes : List ℕ) (ack : ℕ) → e.arrived ≡ non
     → (k : ℕ) → map.get (from_zero bytes) k ≡ option_or (map.get e.arrived k) (byte_brought e (record { offset = 0; bytes = bytes; ack = ack }) k)
 brings_all e bytes ack is sorted short k =
     got_byte bytes sorted k
-    ∙ (in_window bytes (received e) k (nat_le (received e) k && nat_lt k (received e + 16384)) (ap (λ m. length (bytes_in_order m)) is ∙ ap length received_none) short refl
-    ∙ ap (λ o. option_or o (byte_brought e (record { offset = 0; bytes = bytes; ack = ack }) k)) (sym (ap (λ (m : Bytes). map.get m k) is ∙ map.get-empty nat_cmp k)))
+    ∙ (in_window bytes (received e) k (nat_le (received e) k && nat_lt k (received e + 16384))
+    (ap (λ m. length (bytes_in_order m)) is ∙ ap length received_none) short refl
+    ∙ ap (λ o. option_or o (byte_brought e (record { offset = 0; bytes = bytes; ack = ack }) k))
+    (sym (ap (λ (m : Bytes). map.get m k) is ∙ map.get-empty nat_cmp k)))
 
 brings_nothing : (e : Endpoint) (offset ack k : ℕ)
     → map.get e.arrived k ≡ option_or (map.get e.arrived k) (byte_brought e (record { offset = offset; bytes = []; ack = ack }) k)
-brings_nothing e offset ack k = sym (ap (option_or (map.get e.arrived k)) (ap (λ o. cond (nat_le (received e) k && nat_lt k (received e + 16384)) o None) (same_cond (nat_lt k offset) None) ∙ same_cond (nat_le (received e) k && nat_lt k (received e + 16384)) None) ∙ or_none (map.get e.arrived k))
+brings_nothing e offset ack k = sym (ap (option_or (map.get e.arrived k)) (ap (λ o. cond (nat_le (received e) k && nat_lt k (received e + 16384)) o None)
+    (same_cond (nat_lt k offset) None) ∙ same_cond (nat_le (received e) k && nat_lt k (received e + 16384)) None) ∙ or_none (map.get e.arrived k))
 
 -- at a received length of n
 in_front : (n len : ℕ) → n ≡ 0 → 0 < len → AcceptableOffset n 16384 0 len

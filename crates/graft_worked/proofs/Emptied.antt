@@ -1,11 +1,13 @@
 -- A router of three sessions that is emptied, worked.
-use Rattle.std.proofs.Common.{◌≡◌, ℕ, zero, suc, ◌+◌, ◌<◌, ◌≤◌, false, List, [], ◌∷◌, Option, Some, None, refl, sym, ap, ◌∙◌, subst, inl, inr, lit<, lit≤, arith}
+use Rattle.std.proofs.Common.{◌≡◌, ℕ, zero, suc, ◌+◌, ◌<◌, ◌≤◌, false, List, [], ◌∷◌, Option, Some}
+use Rattle.std.proofs.Common.{None, refl, sym, ap, ◌∙◌, subst, inl, inr, lit<, lit≤, arith}
 use Rattle.std.specs.Prelude.{All, slice_get, unwrap_or}
 use Rattle.std.proofs.lemmas.List.Elements.{All-from_recursion, All-nil}
 use Rattle.std.proofs.lemmas.Option.{same_Some}
 use Rattle.bgp_types.specs.Prefixes.{IsPrefix}
 use Rattle.bgp_story.proofs.WorkedStories.{peering_is}
-use Rattle.graft_model.specs.Setups.{Setup, PeeringSetup, ScriptStep, SayStep, EvacuateStep, ScriptGraft, IsPeeringSetup, IsSetup, IsStep, starting_at, room_of, grafts_in, graft_at}
+use Rattle.graft_model.specs.Setups.{Setup, PeeringSetup, ScriptStep, SayStep, EvacuateStep, ScriptGraft}
+use Rattle.graft_model.specs.Setups.{IsPeeringSetup, IsSetup, IsStep, starting_at, room_of, grafts_in, graft_at}
 use Rattle.graft_model.specs.Parts.{OperatorPart}
 use Rattle.graft_model.specs.OperatorRows.{OperatorTaken, OperatorSent, OrderTo, OrdersGraft, number_by, target_in}
 use Rattle.graft_model.specs.Steps.{operator_row}
@@ -82,7 +84,8 @@ says_nothing : (router p : ℕ) (bytes : List ℕ) → Some (EvacuateStep router
 says_nothing router p bytes e = cc
 
 -- a graft that has no target isn't ordered
-no_order : (setup : Setup) (part : OperatorPart) (router k : ℕ) (graft : ScriptGraft) (taken : Option OperatorTaken) (sent : List OperatorSent) (after : OperatorPart)
+no_order : (setup : Setup) (part : OperatorPart) (router k : ℕ) (graft : ScriptGraft)
+    (taken : Option OperatorTaken) (sent : List OperatorSent) (after : OperatorPart)
     → slice_get setup.steps 0 ≡ Some (EvacuateStep router) → graft_at setup k ≡ Some graft → target_in setup part graft ≡ None
     → ¬ operator_row setup (Order 0 k) part taken sent after
 no_order setup part router k graft taken sent after step known none row = elim row [

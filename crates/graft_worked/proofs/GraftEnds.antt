@@ -1,5 +1,6 @@
 -- The worlds before and after the worked graft are quiet, and the last one solves.
-use Rattle.std.proofs.Common.{◌≡◌, ◌≢◌, ℕ, zero, suc, ◌==◌, Bool, true, false, cond, List, [], ◌∷◌, ◌++◌, drop, length, Option, Some, None, is_some, refl, sym, ap, ◌∙◌, subst, inl, inr, lit<}
+use Rattle.std.proofs.Common.{◌≡◌, ◌≢◌, ℕ, zero, suc, ◌==◌, Bool, true, false, cond, List, [], ◌∷◌, ◌++◌, drop, length}
+use Rattle.std.proofs.Common.{Option, Some, None, is_some, refl, sym, ap, ◌∙◌, subst, inl, inr, lit<}
 use Rattle.std.specs.Prelude.{slice_get}
 use Rattle.std.specs.FinMap as map
 use Rattle.std.specs.List.{enumerate_from}
@@ -25,7 +26,8 @@ use Rattle.tcp_seq.specs.Endpoint.{received_bytes, run_from}
 use Rattle.session_value.specs.Sessions.{peering_of, state, unread, while_established}
 use Rattle.session_value.specs.Fronts.{AreFirst, BeginsNothing}
 use Rattle.graft_model.specs.Points.{at}
-use Rattle.graft_model.specs.Setups.{ScriptStep, SayStep, MoveStep, EvacuateStep, SettleStep, ScriptGraft, group_of, grafts_in, graft_at, identifier_of, cost_between, has_network}
+use Rattle.graft_model.specs.Setups.{ScriptStep, SayStep, MoveStep, EvacuateStep, SettleStep, ScriptGraft, group_of}
+use Rattle.graft_model.specs.Setups.{grafts_in, graft_at, identifier_of, cost_between, has_network}
 use Rattle.graft_model.specs.Parts.{Vacant, Live, Entry, RouterPart, FarPart, OperatorPart}
 use Rattle.graft_model.specs.Placements.{target_in}
 use Rattle.graft_model.specs.Decisions.{to_tell, remote_identifier}
@@ -34,7 +36,9 @@ use Rattle.graft_model.specs.Claims.{Transparent, Solves, SolvesOn, GotAll, sess
 use Rattle.graft_model.specs.SmallWorlds.{config}
 use Rattle.graft_worked.specs.Base.{base}
 use Rattle.graft_worked.specs.Places.{idle_router, idle_far, nothing_on_the_way, world_of}
-use Rattle.graft_worked.specs.Graft.{put_all, said_all, home_end, remote_end, route, entry, over_peering, over_router, session, a_before, b_before, far_before, operator_before, a_after, b_after, far_after, operator_after, before_graft, after_graft, with_entry_kept}
+use Rattle.graft_worked.specs.Graft.{put_all, said_all, home_end, remote_end, route, entry, over_peering, over_router}
+use Rattle.graft_worked.specs.Graft.{session, a_before, b_before, far_before, operator_before, a_after, b_after}
+use Rattle.graft_worked.specs.Graft.{far_after, operator_after, before_graft, after_graft, with_entry_kept}
 use Rattle.graft_model.proofs.Numbers.{index_of_graft}
 use Rattle.graft_worked.proofs.Points.{two_all, at_all, empty_at, empty_two, empty_one}
 use Rattle.graft_worked.proofs.Setup.{below_two, below_one}
@@ -185,7 +189,8 @@ transparent_after = record {
 -- ---- solves
 
 from_b : PrefixValue → Option Best → Option Best
-from_b prefix best = choice (candidates 65000 prefix false [] (record { router = record { 0 = 1 }; identifier = identifier_of base 1; cost = cost_between base 0 1; told = tell_in best } ∷ []))
+from_b prefix best = choice (candidates 65000 prefix false []
+    (record { router = record { 0 = 1 }; identifier = identifier_of base 1; cost = cost_between base 0 1; told = tell_in best } ∷ []))
 
 from_both : PrefixValue → Option Attrs → Option Best → Option Best
 from_both prefix heard best = choice (candidates 65000 prefix false (record {
@@ -209,12 +214,14 @@ from_both_is prefix true = refl
 from_both_is prefix false = refl
 
 routes_at_a : (prefix : PrefixValue)
-    → choice (candidates 65000 prefix (has_network base 0 prefix) (session_routes base after_graft 0 prefix) (router_routes base after_graft 0 prefix)) ≡ from_b prefix (map.get b_after.best prefix)
+    → choice (candidates 65000 prefix (has_network base 0 prefix) (session_routes base after_graft 0 prefix) (router_routes base after_graft 0 prefix))
+    ≡ from_b prefix (map.get b_after.best prefix)
 unfolding from_b
 routes_at_a prefix = refl
 
 routes_at_b : (prefix : PrefixValue)
-    → choice (candidates 65000 prefix (has_network base 1 prefix) (session_routes base after_graft 1 prefix) (router_routes base after_graft 1 prefix)) ≡ from_both prefix (map.get session.adj_rib_in prefix) (map.get a_after.best prefix)
+    → choice (candidates 65000 prefix (has_network base 1 prefix) (session_routes base after_graft 1 prefix) (router_routes base after_graft 1 prefix))
+    ≡ from_both prefix (map.get session.adj_rib_in prefix) (map.get a_after.best prefix)
 unfolding from_both
 routes_at_b prefix = refl
 
@@ -248,14 +255,17 @@ peering_solves = record {
   adj_rib_out = λ prefix. got_none prefix ∙ nothing_told prefix;
   received = all_received;
   got = got_all;
-  elsewhere = below_two (λ r. r ≢ 1 → ((after_graft.router r).places 0 ≡ Vacant) × ((after_graft.router r).entries 0 ≡ map.empty)) (λ other. (refl, refl)) (λ other. absurd (other refl));
+  elsewhere = below_two (λ r. r ≢ 1 → ((after_graft.router r).places 0 ≡ Vacant) × ((after_graft.router r).entries 0 ≡ map.empty))
+      (λ other. (refl, refl)) (λ other. absurd (other refl));
 }
 
 pub solves_after : Solves base after_graft
 solves_after = record {
-  best = λ r prefix lt. below_two (λ r. map.get (after_graft.router r).best prefix ≡ choice (candidates 65000 prefix (has_network base r prefix) (session_routes base after_graft r prefix) (router_routes base after_graft r prefix)))
+  best = λ r prefix lt. below_two (λ r. map.get (after_graft.router r).best prefix
+      ≡ choice (candidates 65000 prefix (has_network base r prefix) (session_routes base after_graft r prefix) (router_routes base after_graft r prefix)))
       (best_at_a prefix ∙ sym (routes_at_a prefix)) (best_at_b prefix ∙ sym (routes_at_b prefix)) r lt;
-  tellings = λ r q prefix lr lq. below_two (λ r. r ≢ q → map.get ((after_graft.router q).tellings r) prefix ≡ tell_in (map.get (after_graft.router r).best prefix))
+  tellings = λ r q prefix lr lq.
+      below_two (λ r. r ≢ q → map.get ((after_graft.router q).tellings r) prefix ≡ tell_in (map.get (after_graft.router r).best prefix))
       (below_two (λ q. 0 ≢ q → map.get ((after_graft.router q).tellings 0) prefix ≡ tell_in (map.get (after_graft.router 0).best prefix))
       (λ other. absurd (other refl)) (λ other. got_none prefix ∙ (told_to_b (is_ten prefix) ∙ ap tell_in (sym (got_ten (over_router 1) prefix)))) q lq)
       (below_two (λ q. 1 ≢ q → map.get ((after_graft.router q).tellings 1) prefix ≡ tell_in (map.get (after_graft.router 1).best prefix))
@@ -267,4 +277,5 @@ solves_after = record {
 pub entry_kept_solves_nothing : Solves base with_entry_kept → ⊥
 entry_kept_solves_nothing s =
     let gone = ((s.peerings 0 (lit< tt)).elsewhere 0 (lit< tt) (λ e. cc)).1 in
-    let apart : ◌≡◌ {A = Bool} true false = ap is_some (sym (got_it entry) ∙ (ap (λ (m : map.FinMap prefix_cmp Entry). map.get m ten) gone ∙ got_none ten)) in cc
+    let apart : ◌≡◌ {A = Bool} true false =
+    ap is_some (sym (got_it entry) ∙ (ap (λ (m : map.FinMap prefix_cmp Entry). map.get m ten) gone ∙ got_none ten)) in cc

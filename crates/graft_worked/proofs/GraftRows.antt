@@ -1,5 +1,6 @@
 -- The rows of the worked graft, each computed.
-use Rattle.std.proofs.Common.{◌≡◌, ◌≢◌, ◌⊎◌, ℕ, zero, suc, ◌<◌, ◌==◌, ◌&&◌, ◌||◌, Bool, true, false, cond, [], ◌∷◌, ◌++◌, Option, Some, None, is_some, refl, sym, ap, ◌∙◌, inl, inr, lit<, arith}
+use Rattle.std.proofs.Common.{◌≡◌, ◌≢◌, ◌⊎◌, ℕ, zero, suc, ◌<◌, ◌==◌, ◌&&◌, ◌||◌, Bool, true, false, cond, [], ◌∷◌}
+use Rattle.std.proofs.Common.{◌++◌, Option, Some, None, is_some, refl, sym, ap, ◌∙◌, inl, inr, lit<, arith}
 use Rattle.std.specs.Prelude.{option_map, slice_get}
 use Rattle.std.specs.FinMap as map
 use Rattle.std.specs.List.{filter_map}
@@ -37,11 +38,14 @@ use Rattle.graft_model.specs.OperatorRows.{ReportIn, number_by, target_in, Order
 use Rattle.graft_model.specs.SmallWorlds.{config}
 use Rattle.graft_worked.specs.Base.{base}
 use Rattle.graft_worked.specs.Places.{holding}
-use Rattle.graft_worked.specs.Graft.{at_ten, ten_alone, route, entry, over_peering, over_router, session, b_before, far_before, operator_before, to_b, a_left, a_cleared, a_decided, a_after, b_landed, b_decided, b_put, b_told, b_heard, b_after, far_after, operator_begun, operator_ordered, operator_after, a_heard, a_kept, to_a, b_confirmed}
+use Rattle.graft_worked.specs.Graft.{at_ten, ten_alone, route, entry, over_peering, over_router, session, b_before, far_before, operator_before}
+use Rattle.graft_worked.specs.Graft.{to_b, a_left, a_cleared, a_decided, a_after, b_landed, b_decided, b_put, b_told, b_heard, b_after, far_after}
+use Rattle.graft_worked.specs.Graft.{operator_begun, operator_ordered, operator_after, a_heard, a_kept, to_a, b_confirmed}
 use Rattle.graft_worked.proofs.Points.{at-at, at-back, other_of_0, other_of_1}
 use Rattle.graft_worked.proofs.Ungiven.{nothing_given, none_before}
 use Rattle.graft_worked.proofs.First.{base_empties}
-use Rattle.graft_worked.proofs.Tens.{empty, is_ten, got_none, got_ten, got_it, again, gone, some_at_ten, some_in_none, adds_ten, keeps_ten, keeps_none, drops_ten, marks_new, marks_old}
+use Rattle.graft_worked.proofs.Tens.{empty, is_ten, got_none, got_ten, got_it, again, gone, some_at_ten, some_in_none}
+use Rattle.graft_worked.proofs.Tens.{adds_ten, keeps_ten, keeps_none, drops_ten, marks_new, marks_old}
 
 -- ---- the session, computed
 
@@ -99,7 +103,8 @@ abbrev vacant : ℕ → Place
 vacant = λ p. Vacant
 
 pub admits : (setup : Setup) → 1 < routers_in setup → (part : RouterPart) (s : SessionValue)
-    → Admits setup 1 (holding part (Live s None)) (Some (OrderIn (record { graft = 1; peering = 0; target = 1 }))) [] (holding part (Live s (Some (Leaving to_b))))
+    → Admits setup 1 (holding part (Live s None))
+    (Some (OrderIn (record { graft = 1; peering = 0; target = 1 }))) [] (holding part (Live s (Some (Leaving to_b))))
 admits setup known part s = record {
   peering = 0;
   target = 1;
@@ -112,7 +117,8 @@ admits setup known part s = record {
 }
 
 pub freezes : (r target : ℕ) (part : RouterPart) (s : SessionValue) → freeze_refusal (record { 0 = r }) (record { 0 = target }) (state s) (hold_time s) ≡ None
-    → Freezes r 1 (holding part (Live s (Some (Leaving (record { graft = 1; target = target }))))) None [] (holding part (Frozen s (record { graft = 1; target = target })))
+    → Freezes r 1 (holding part (Live s (Some (Leaving (record { graft = 1; target = target }))))) None []
+    (holding part (Frozen s (record { graft = 1; target = target })))
 freezes r target part s no_cause = record {
   alone = (refl, refl);
   peering = 0;
@@ -120,7 +126,9 @@ freezes r target part s no_cause = record {
   session = s;
   live = record { is = refl };
   no_cause = no_cause;
-  effect = λ i. record part { places = sym (at-at vacant 0 (Live s (Some (Leaving (record { graft = 1; target = target })))) (Frozen s (record { graft = 1; target = target }))) i };
+  effect = λ i. record part {
+    places = sym (at-at vacant 0 (Live s (Some (Leaving (record { graft = 1; target = target })))) (Frozen s (record { graft = 1; target = target }))) i;
+  };
 }
 
 pub leaves : (part : RouterPart) (s : SessionValue) → at part.due_out 0 map.empty ≡ part.due_out
@@ -140,7 +148,8 @@ unfolding message_of header_fault frame_at body_of open_of many many_within cap_
 may_freeze = refl
 
 brought : (r : ℕ) → PrefixValue → Option Attrs → Option Entry
-brought r x attrs = option_map (λ route. record { route = route; identifier = remote_identifier session; address = session.config.remote_address }) (imported base.home_as x (session_route base r session x) attrs)
+brought r x attrs = option_map (λ route. record { route = route; identifier = remote_identifier session; address = session.config.remote_address })
+    (imported base.home_as x (session_route base r session x) attrs)
 
 map_cond : {A B : Type 0} (F : Option A → Option B) (t : Bool) (v : A) (w : B) → F (Some v) ≡ Some w → F None ≡ None
     → F (cond t (Some v) None) ≡ cond t (Some w) None
@@ -157,7 +166,8 @@ due_again best x = some_at_ten tt x ∙ (sym (some_at_ten best x) ∙ ap (λ tol
 
 -- with any endpoint
 pub lands : (end : Endpoint)
-    → Lands base 1 0 b_before (Some (MeshIn 0 (Moved 1 0 (record session { end = end })))) (OutwardTo 0 (PointAt 1) ∷ []) (holding b_landed (Live (record session { end = end }) (Some (Owing to_a))))
+    → Lands base 1 0 b_before (Some (MeshIn 0 (Moved 1 0 (record session { end = end }))))
+    (OutwardTo 0 (PointAt 1) ∷ []) (holding b_landed (Live (record session { end = end }) (Some (Owing to_a))))
 lands end = record {
   comes = record { graft = 1; peering = 0; session = record session { end = end }; takes = refl; known = lit< tt; vacant = refl };
   admitted = refl;
@@ -265,7 +275,8 @@ differs : {a b : Option Best} → from_peering a ≡ true → from_peering b ≡
 differs p q e = let apart : ◌≡◌ {A = Bool} true false = sym p ∙ (ap from_peering e ∙ q) in cc
 
 held_at_b : (t : Bool) (x : PrefixValue)
-    → has (cond t ten_alone empty) x ≡ (has (cond t ten_alone empty) x || (same_prefix ten x && holds_established (cond t (Live session (Some (Owing to_a))) Vacant)))
+    → has (cond t ten_alone empty) x
+    ≡ (has (cond t ten_alone empty) x || (same_prefix ten x && holds_established (cond t (Live session (Some (Owing to_a))) Vacant)))
 unfolding header_fault
 held_at_b true x = keeps_ten x
 held_at_b false x = keeps_none x
@@ -281,7 +292,8 @@ b_decides = record {
   alone = (refl, refl);
   dirty = ap is_some (got_it tt);
   due = inr (differs (ap from_peering b_landed_chooses) (ap from_peering (got_it (over_router 0))), due_at_b);
-  effect = λ i. record b_decided { best = sym (ap (with_best b_landed.best ten) b_landed_chooses ∙ again (over_router 0) over_peering) i; dirty = sym (gone tt) i };
+  effect = λ i.
+      record b_decided { best = sym (ap (with_best b_landed.best ten) b_landed_chooses ∙ again (over_router 0) over_peering) i; dirty = sym (gone tt) i };
 }
 
 -- the entry of the shadow is best still
@@ -304,7 +316,8 @@ a_decides = record {
   alone = (refl, refl);
   dirty = ap is_some (got_it tt);
   due = inr ((λ e. differs (ap from_peering (got_it over_peering)) (ap from_peering a_cleared_chooses) (sym e)), due_at_a);
-  effect = λ i. record a_decided { best = sym (ap (with_best a_cleared.best ten) a_cleared_chooses ∙ again over_peering (over_router 1)) i; dirty = sym (gone tt) i };
+  effect = λ i.
+      record a_decided { best = sym (ap (with_best a_cleared.best ten) a_cleared_chooses ∙ again over_peering (over_router 1)) i; dirty = sym (gone tt) i };
 }
 
 pub b_decides_again : Decides base 1 ten b_heard None [] b_after

@@ -11,11 +11,15 @@ use Rattle.graft_model.specs.declared.event.OperatorEvent.TheVariants.{Go, Order
 use Rattle.graft_model.specs.Steps.{Event, ByRouter, ByOperator, Step, Run}
 use Rattle.graft_worked.specs.Base.{base}
 use Rattle.graft_worked.specs.Places.{OnTheWay, nothing_on_the_way, world_of}
-use Rattle.graft_worked.specs.Graft.{route, session, home_end, a_before, b_before, far_before, operator_before, a_ordered, a_frozen, a_left, a_heard, a_kept, a_cleared, a_decided, a_after, b_landed, b_decided, b_told, b_confirmed, b_put, b_heard, b_after, far_after, operator_begun, operator_ordered, operator_after, before_graft, after_graft, graft_events}
+use Rattle.graft_worked.specs.Graft.{route, session, home_end, a_before, b_before, far_before, operator_before, a_ordered, a_frozen, a_left, a_heard}
+use Rattle.graft_worked.specs.Graft.{a_kept, a_cleared, a_decided, a_after, b_landed, b_decided, b_told, b_confirmed, b_put, b_heard, b_after, far_after}
+use Rattle.graft_worked.specs.Graft.{operator_begun, operator_ordered, operator_after, before_graft, after_graft, graft_events}
 use Rattle.graft_worked.specs.Unchanged.{with_landing}
 use Rattle.graft_worked.proofs.Points.{at-same}
-use Rattle.graft_worked.proofs.Moves.{base_small, a_alone, a_to_b, a_ordered_by, a_from_b, a_ends, b_alone, b_to_a, b_from_a, b_takes_in, far_from_b, operator_alone, operator_orders, operator_notes}
-use Rattle.graft_worked.proofs.GraftRows.{goes, orders, notes, admits, freezes, may_freeze, leaves, lands, confirms, points, clears, b_decides, a_keeps, a_decides, b_decides_again, b_tells, a_tells, a_hears, b_hears, b_puts_nothing}
+use Rattle.graft_worked.proofs.Moves.{base_small, a_alone, a_to_b, a_ordered_by, a_from_b, a_ends, b_alone, b_to_a, b_from_a}
+use Rattle.graft_worked.proofs.Moves.{b_takes_in, far_from_b, operator_alone, operator_orders, operator_notes}
+use Rattle.graft_worked.proofs.GraftRows.{goes, orders, notes, admits, freezes, may_freeze, leaves, lands, confirms, points, clears, b_decides}
+use Rattle.graft_worked.proofs.GraftRows.{a_keeps, a_decides, b_decides_again, b_tells, a_tells, a_hears, b_hears, b_puts_nothing}
 use Rattle.graft_worked.proofs.StartRun.{joined}
 
 -- what is on its way once b has told a, and once it has given word
@@ -45,10 +49,12 @@ ordered quiet = (
   operator_alone base base_small a_before b_before far_before operator_before nothing_on_the_way Go operator_begun quiet goes,
   (
     _,
-    operator_orders base base_small a_before b_before far_before operator_begun nothing_on_the_way (Order 2 0) operator_ordered (record { graft = 1; peering = 0; target = 1 }) tt (inr orders),
+    operator_orders base base_small a_before b_before far_before operator_begun nothing_on_the_way
+        (Order 2 0) operator_ordered (record { graft = 1; peering = 0; target = 1 }) tt (inr orders),
     (
       _,
-      a_ordered_by base base_small a_before b_before far_before operator_ordered nothing_on_the_way (Admit 1) a_ordered (record { graft = 1; peering = 0; target = 1 }) [] (admits base (lit< tt) a_before session),
+      a_ordered_by base base_small a_before b_before far_before operator_ordered nothing_on_the_way (Admit 1) a_ordered
+          (record { graft = 1; peering = 0; target = 1 }) [] (admits base (lit< tt) a_before session),
       refl,
     ),
   ),
@@ -58,10 +64,12 @@ pub frozen : Step base (ByRouter 0 (Freeze 1)) with_order with_freeze
 frozen = a_alone base base_small a_ordered b_before far_before operator_ordered nothing_on_the_way (Freeze 1) a_frozen (freezes 0 1 a_before session may_freeze)
 
 pub left : Step base (ByRouter 0 (Leave 1)) with_freeze with_session_away
-left = a_to_b base base_small a_frozen b_before far_before operator_ordered nothing_on_the_way (Leave 1) a_left (Moved 1 0 session) (leaves a_before session (at-same map.empty 0))
+left = a_to_b base base_small a_frozen b_before far_before operator_ordered nothing_on_the_way
+    (Leave 1) a_left (Moved 1 0 session) (leaves a_before session (at-same map.empty 0))
 
 pub landed : Step base (ByRouter 1 (Land 0)) with_session_away with_landing
-landed = b_takes_in base base_small a_left b_before far_before operator_ordered nothing_on_the_way (Land 0) b_landed (Moved 1 0 session) [] (PointAt 1) (lands home_end)
+landed = b_takes_in base base_small a_left b_before far_before operator_ordered nothing_on_the_way
+    (Land 0) b_landed (Moved 1 0 session) [] (PointAt 1) (lands home_end)
 
 pub graft_runs : Quiet base before_graft → Run base before_graft graft_events after_graft
 graft_runs quiet = joined base before_graft with_order after_graft ordering_events (drop 3 graft_events) (ordered quiet) (
@@ -90,16 +98,20 @@ graft_runs quiet = joined base before_graft with_order after_graft ordering_even
                 b_alone base base_small a_left b_confirmed far_after operator_ordered confirmed (Put 0 0) b_put b_puts_nothing,
                 (
                   _,
-                  a_from_b base base_small a_left b_put far_after operator_ordered nothing_on_the_way (Hear 1) a_heard (Told ten (Some route)) (Done 1 0 ∷ []) a_hears,
+                  a_from_b base base_small a_left b_put far_after operator_ordered nothing_on_the_way
+                      (Hear 1) a_heard (Told ten (Some route)) (Done 1 0 ∷ []) a_hears,
                   (
                     _,
-                    a_alone base base_small a_heard b_put far_after operator_ordered (record nothing_on_the_way { to_a = Done 1 0 ∷ [] }) (Decide ten) a_kept a_keeps,
+                    a_alone base base_small a_heard b_put far_after operator_ordered
+                        (record nothing_on_the_way { to_a = Done 1 0 ∷ [] }) (Decide ten) a_kept a_keeps,
                     (
                       _,
-                      a_ends base base_small a_kept b_put far_after operator_ordered nothing_on_the_way (Clear 1) a_cleared (Done 1 0) [] (record { graft = 1; outcome = Accepted }) clears,
+                      a_ends base base_small a_kept b_put far_after operator_ordered nothing_on_the_way
+                          (Clear 1) a_cleared (Done 1 0) [] (record { graft = 1; outcome = Accepted }) clears,
                       (
                         _,
-                        operator_notes base base_small a_cleared b_put far_after operator_ordered nothing_on_the_way (Note 0) operator_after (record { graft = 1; outcome = Accepted }) [] tt notes,
+                        operator_notes base base_small a_cleared b_put far_after operator_ordered nothing_on_the_way
+                            (Note 0) operator_after (record { graft = 1; outcome = Accepted }) [] tt notes,
                         (
                           _,
                           a_alone base base_small a_cleared b_put far_after operator_after nothing_on_the_way (Decide ten) a_decided a_decides,

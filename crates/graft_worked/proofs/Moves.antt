@@ -49,7 +49,10 @@ module _ (setup : Setup) (small : IsSmall setup) (a b : RouterPart) (far : FarPa
     row = row;
     without = world_of a b far o way;
     took = refl;
-    is = λ i. record (world_of a b far o way) { router = sym (two-0 idle_router a b a') i; mesh = sym (two2-0 [] 1 0 way.to_b way.to_a (way.to_b ++ item ∷ [])) i };
+    is = λ i. record (world_of a b far o way) {
+      router = sym (two-0 idle_router a b a') i;
+      mesh = sym (two2-0 [] 1 0 way.to_b way.to_a (way.to_b ++ item ∷ [])) i;
+    };
   }
 
   pub a_ordered_by : (event : RouterEvent) (a' : RouterPart) (order : GraftOrder) (rest : List GraftOrder)
@@ -81,7 +84,8 @@ module _ (setup : Setup) (small : IsSmall setup) (a b : RouterPart) (far : FarPa
 
   pub a_ends : (event : RouterEvent) (a' : RouterPart) (item : Mesh) (rest : List Mesh) (report : Report)
       → router_row setup 0 event a (Some (MeshIn 1 item)) (ReportOut report ∷ []) a'
-      → Step setup (ByRouter 0 event) (world_of a b far o (record way { to_a = item ∷ rest })) (world_of a' b far o (record way { to_a = rest; reported = way.reported ++ report ∷ [] }))
+      → Step setup (ByRouter 0 event) (world_of a b far o (record way { to_a = item ∷ rest }))
+      (world_of a' b far o (record way { to_a = rest; reported = way.reported ++ report ∷ [] }))
   a_ends event a' item rest report row = record {
     known = small.a;
     taken = Some (MeshIn 1 item);
@@ -90,7 +94,10 @@ module _ (setup : Setup) (small : IsSmall setup) (a b : RouterPart) (far : FarPa
     row = row;
     without = world_of a b far o (record way { to_a = rest });
     took = (record { rest = rest; is = refl }, λ i. record (world_of a b far o way) { mesh = sym (two2-1 [] 1 0 way.to_b (item ∷ rest) rest) i });
-    is = λ i. record (world_of a b far o (record way { to_a = rest })) { router = sym (two-0 idle_router a b a') i; reports = sym (at-at (λ r. []) 0 way.reported (way.reported ++ report ∷ [])) i };
+    is = λ i. record (world_of a b far o (record way { to_a = rest })) {
+      router = sym (two-0 idle_router a b a') i;
+      reports = sym (at-at (λ r. []) 0 way.reported (way.reported ++ report ∷ [])) i;
+    };
   }
 
   -- ---- router b
@@ -118,7 +125,10 @@ module _ (setup : Setup) (small : IsSmall setup) (a b : RouterPart) (far : FarPa
     row = row;
     without = world_of a b far o way;
     took = refl;
-    is = λ i. record (world_of a b far o way) { router = sym (two-1 idle_router a b b') i; mesh = sym (two2-1 [] 1 0 way.to_b way.to_a (way.to_a ++ item ∷ [])) i };
+    is = λ i. record (world_of a b far o way) {
+      router = sym (two-1 idle_router a b b') i;
+      mesh = sym (two2-1 [] 1 0 way.to_b way.to_a (way.to_a ++ item ∷ [])) i;
+    };
   }
 
   pub b_from_a : (event : RouterEvent) (b' : RouterPart) (item : Mesh) (rest : List Mesh) → router_row setup 1 event b (Some (MeshIn 0 item)) [] b'
@@ -136,7 +146,8 @@ module _ (setup : Setup) (small : IsSmall setup) (a b : RouterPart) (far : FarPa
 
   pub b_takes_in : (event : RouterEvent) (b' : RouterPart) (item : Mesh) (rest : List Mesh) (out : Outward)
       → router_row setup 1 event b (Some (MeshIn 0 item)) (OutwardTo 0 out ∷ []) b'
-      → Step setup (ByRouter 1 event) (world_of a b far o (record way { to_b = item ∷ rest })) (world_of a b' far o (record way { to_b = rest; out_b = way.out_b ++ out ∷ [] }))
+      → Step setup (ByRouter 1 event) (world_of a b far o (record way { to_b = item ∷ rest }))
+      (world_of a b' far o (record way { to_b = rest; out_b = way.out_b ++ out ∷ [] }))
   b_takes_in event b' item rest out row = record {
     known = small.b;
     taken = Some (MeshIn 0 item);
@@ -153,7 +164,8 @@ module _ (setup : Setup) (small : IsSmall setup) (a b : RouterPart) (far : FarPa
 
   pub b_sends_back : (event : RouterEvent) (b' : RouterPart) (item back : Mesh) (rest : List Mesh)
       → router_row setup 1 event b (Some (MeshIn 0 item)) (MeshTo 0 back ∷ []) b'
-      → Step setup (ByRouter 1 event) (world_of a b far o (record way { to_b = item ∷ rest })) (world_of a b' far o (record way { to_b = rest; to_a = way.to_a ++ back ∷ [] }))
+      → Step setup (ByRouter 1 event) (world_of a b far o (record way { to_b = item ∷ rest }))
+      (world_of a b' far o (record way { to_b = rest; to_a = way.to_a ++ back ∷ [] }))
   b_sends_back event b' item back rest row = record {
     known = small.b;
     taken = Some (MeshIn 0 item);
@@ -162,7 +174,10 @@ module _ (setup : Setup) (small : IsSmall setup) (a b : RouterPart) (far : FarPa
     row = row;
     without = world_of a b far o (record way { to_b = rest });
     took = (record { rest = rest; is = refl }, λ i. record (world_of a b far o way) { mesh = sym (two2-0 [] 1 0 (item ∷ rest) way.to_a rest) i });
-    is = λ i. record (world_of a b far o (record way { to_b = rest })) { router = sym (two-1 idle_router a b b') i; mesh = sym (two2-1 [] 1 0 rest way.to_a (way.to_a ++ back ∷ [])) i };
+    is = λ i. record (world_of a b far o (record way { to_b = rest })) {
+      router = sym (two-1 idle_router a b b') i;
+      mesh = sym (two2-1 [] 1 0 rest way.to_a (way.to_a ++ back ∷ [])) i;
+    };
   }
 
   -- ---- the far side and the operator
@@ -182,7 +197,8 @@ module _ (setup : Setup) (small : IsSmall setup) (a b : RouterPart) (far : FarPa
 
   pub operator_alone : (event : OperatorEvent) (o' : OperatorPart) → MayMake setup event (world_of a b far o way) → operator_row setup event o None [] o'
       → Step setup (ByOperator event) (world_of a b far o way) (world_of a b far o' way)
-  operator_alone event o' may row = record { may = may; taken = None; sent = []; part = o'; row = row; without = world_of a b far o way; took = refl; is = refl }
+  operator_alone event o' may row =
+      record { may = may; taken = None; sent = []; part = o'; row = row; without = world_of a b far o way; took = refl; is = refl }
 
   pub operator_orders : (event : OperatorEvent) (o' : OperatorPart) (order : GraftOrder) → MayMake setup event (world_of a b far o way)
       → operator_row setup event o None (OrderTo 0 order ∷ []) o'
@@ -225,7 +241,10 @@ module _ (setup : Setup) (small : IsSmall setup) (a b : RouterPart) (far : FarPa
     row = row;
     without = world_of a b far o way;
     took = refl;
-    is = λ i. record (world_of a b far o way) { router = sym (two-0 idle_router a b a') i; reports = sym (at-at (λ r. []) 0 way.reported (way.reported ++ report ∷ [])) i };
+    is = λ i. record (world_of a b far o way) {
+      router = sym (two-0 idle_router a b a') i;
+      reports = sym (at-at (λ r. []) 0 way.reported (way.reported ++ report ∷ [])) i;
+    };
   }
 
   pub a_to_far : (event : RouterEvent) (a' : RouterPart) (out : Outward) → router_row setup 0 event a None (OutwardTo 0 out ∷ []) a'
@@ -238,7 +257,10 @@ module _ (setup : Setup) (small : IsSmall setup) (a b : RouterPart) (far : FarPa
     row = row;
     without = world_of a b far o way;
     took = refl;
-    is = λ i. record (world_of a b far o way) { router = sym (two-0 idle_router a b a') i; outward = sym (two2-0 [] 0 0 way.out_a way.out_b (way.out_a ++ out ∷ [])) i };
+    is = λ i. record (world_of a b far o way) {
+      router = sym (two-0 idle_router a b a') i;
+      outward = sym (two2-0 [] 0 0 way.out_a way.out_b (way.out_a ++ out ∷ [])) i;
+    };
   }
 
   pub a_from_far : (event : RouterEvent) (a' : RouterPart) (segment : PlacedSegment) (rest : List PlacedSegment)

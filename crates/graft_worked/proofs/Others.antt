@@ -28,9 +28,11 @@ use Rattle.graft_model.specs.Steps.{Event, ByRouter, ByFar, ByOperator, Step}
 use Rattle.graft_worked.specs.Base.{base}
 use Rattle.graft_worked.specs.Places.{nothing_on_the_way, idle_router}
 use Rattle.graft_worked.specs.First.{a_first}
-use Rattle.graft_worked.specs.Graft.{session, a_before, b_before, far_before, operator_before, a_after, b_after, far_after, operator_after, before_graft, after_graft, said_all, remote_end}
+use Rattle.graft_worked.specs.Graft.{session, a_before, b_before, far_before, operator_before, a_after, b_after}
+use Rattle.graft_worked.specs.Graft.{far_after, operator_after, before_graft, after_graft, said_all, remote_end}
 use Rattle.graft_worked.specs.Start.{a_with, ack_segment, far_sent, far_emitted}
-use Rattle.graft_worked.specs.Others.{with_stray, without_stray, beating, with_beat, session_timed, session_ticked, with_round_due, with_round, with_segment, without_segment}
+use Rattle.graft_worked.specs.Others.{with_stray, without_stray, beating, with_beat, session_timed, session_ticked}
+use Rattle.graft_worked.specs.Others.{with_round_due, with_round, with_segment, without_segment}
 use Rattle.graft_worked.proofs.Points.{at-at, at-same}
 use Rattle.graft_worked.proofs.Tens.{empty}
 use Rattle.graft_worked.proofs.Moves.{IsSmall, base_small, a_alone, a_from_far, far_alone}
@@ -86,13 +88,15 @@ little_moves event after step = still base event after_graft after quiet_after s
 beating_small : IsSmall beating
 beating_small = record { a = lit< tt; b = lit< tt; c = lit< tt }
 
-beats : Beats beating 0 30 far_before None [] (record far_before { end = record remote_end { stream = said_all ++ keepalive_bytes }; keepalives = 1; last_keepalive = 30 })
+beats : Beats beating 0 30 far_before None []
+    (record far_before { end = record remote_end { stream = said_all ++ keepalive_bytes }; keepalives = 1; last_keepalive = 30 })
 unfolding spell
 beats =
     record { keepalive_interval = 30; is = refl; some = lit< tt; multiple = refl; later = lit< tt; few = lit< tt; takes = refl; sends = refl; effect = refl }
 
 pub may_beat : Step beating (ByFar 0 (Beat 30)) before_graft with_beat
-may_beat = far_alone beating beating_small a_before b_before far_before operator_before nothing_on_the_way (Beat 30) (record far_before { end = record remote_end { stream = said_all ++ keepalive_bytes }; keepalives = 1; last_keepalive = 30 }) beats
+may_beat = far_alone beating beating_small a_before b_before far_before operator_before nothing_on_the_way (Beat 30)
+    (record far_before { end = record remote_end { stream = said_all ++ keepalive_bytes }; keepalives = 1; last_keepalive = 30 }) beats
 
 round_passes : PassesRound session_timed 1 session_ticked
 unfolding message_of header_fault frame_at body_of open_of many many_within cap_at caps_of params_of
@@ -120,9 +124,14 @@ ticks = record {
     entries = λ x. inl (refl, refl);
     dirty = marks_none;
     due = refl;
-    effect = λ i. record (a_with session_ticked) { places = sym (at-at (λ p. Vacant) 0 (Live session_timed None) (Live session_ticked None)) i; entries = sym (at-same empty 0) i; due_out = sym (at-same empty 0) i };
+    effect = λ i. record (a_with session_ticked) {
+      places = sym (at-at (λ p. Vacant) 0 (Live session_timed None) (Live session_ticked None)) i;
+      entries = sym (at-same empty 0) i;
+      due_out = sym (at-same empty 0) i;
+    };
   };
 }
 
 pub may_tick : Step beating (ByRouter 0 (Tick 0 1)) with_round_due with_round
-may_tick = a_alone beating beating_small (a_with session_timed) idle_router far_before operator_before nothing_on_the_way (Tick 0 1) (a_with session_ticked) ticks
+may_tick = a_alone beating beating_small (a_with session_timed) idle_router far_before operator_before nothing_on_the_way
+    (Tick 0 1) (a_with session_ticked) ticks

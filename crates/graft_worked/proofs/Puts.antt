@@ -53,7 +53,14 @@ unfolding IsDistinct
 ten_once = (tt, tt)
 
 attrs_are : IsWritableAttrs (attrs_over (65000 ∷ []))
-attrs_are = record { path = All-cons IsPart (parts.Sequence (65000 ∷ [])) [] one_as (All-nil IsPart); next_hop = refl; med = tt; aggregator = tt; unknown = All-nil IsOther; rising = tt }
+attrs_are = record {
+  path = All-cons IsPart (parts.Sequence (65000 ∷ [])) [] one_as (All-nil IsPart);
+  next_hop = refl;
+  med = tt;
+  aggregator = tt;
+  unknown = All-nil IsOther;
+  rising = tt;
+}
 
 announced_is : IsWritableUpdate (announcement_over (65000 ∷ []))
 announced_is = record { withdrawn = All-nil IsPrefix; nlri = ten_is; once = ten_once; attrs = ((λ e. cc), attrs_are) }
@@ -101,7 +108,8 @@ drops true x e = subst (λ z. false ≡ not (list_any (same_prefix z) (ten ∷ [
 changes : Changes session_joined.adj_rib_out (announcement_over (65000 ∷ []))
 changes =
     All-cons (λ prefix. map.get (apply session_joined.adj_rib_out (announcement_over (65000 ∷ []))) prefix ≢ map.get session_joined.adj_rib_out prefix) ten []
-    (λ e. some_is_some (attrs_over (65000 ∷ [])) (map.get (at_ten (attrs_over (65000 ∷ []))) ten) (got_it (attrs_over (65000 ∷ []))) (sym (got_none ten) ∙ sym e)) (All-nil _)
+    (λ e. some_is_some (attrs_over (65000 ∷ [])) (map.get (at_ten (attrs_over (65000 ∷ []))) ten)
+    (got_it (attrs_over (65000 ∷ []))) (sym (got_none ten) ∙ sym e)) (All-nil _)
 
 pub puts_update : PutsUpdate session_joined (announcement_over (65000 ∷ [])) session_told
 unfolding message_of header_fault frame_at body_of open_of many many_within cap_at caps_of params_of spell spell_attrs attrs_written path_octets
@@ -131,12 +139,19 @@ puts_some = record {
   told_first = sym to_tell_ten;
   prefixes = ten ∷ [];
   later = [];
-  alike = record { rising = one_rises; each = All-cons IsTold ten [] (ten_waits, to_tell_ten) (All-nil IsTold); all = λ x is. any_ten x (ten_alone_is x is.0.0.0) };
+  alike = record {
+    rising = one_rises;
+    each = All-cons IsTold ten [] (ten_waits, to_tell_ten) (All-nil IsTold);
+    all = λ x is. any_ten x (ten_alone_is x is.0.0.0);
+  };
   size = refl;
   next = session_told;
   puts = puts_update;
   due = record { members = λ x. some_in_none _ x ∙ (drops (has ten_alone x) x refl) };
-  effect = λ i. record a_has_put { places = sym (at-at (λ p. Vacant) 0 (Live session_joined None) (Live session_told None)) i; due_out = sym (at-back empty ten_alone 0) i };
+  effect = λ i. record a_has_put {
+    places = sym (at-at (λ p. Vacant) 0 (Live session_joined None) (Live session_told None)) i;
+    due_out = sym (at-back empty ten_alone 0) i;
+  };
 }
 
 pub may_put : Step base (ByRouter 0 (Put 0 1)) with_route_due with_route_put

@@ -1,5 +1,6 @@
 -- Grafts that are refused, from the first world on.
-use Rattle.std.proofs.Common.{◌≡◌, ℕ, zero, suc, ◌≤◌, ◌||◌, Bool, true, false, List, [], ◌∷◌, ◌++◌, Some, None, is_some, refl, sym, ap, ◌∙◌, subst, inr, lit<, lit≤}
+use Rattle.std.proofs.Common.{◌≡◌, ℕ, zero, suc, ◌≤◌, ◌||◌, Bool, true, false, List, [], ◌∷◌, ◌++◌, Some}
+use Rattle.std.proofs.Common.{None, is_some, refl, sym, ap, ◌∙◌, subst, inr, lit<, lit≤}
 use Rattle.std.specs.Prelude.{All, slice_get}
 use Rattle.std.specs.FinMap as map
 use Rattle.std.proofs.lemmas.List.Elements.{All-from_recursion, All-nil}
@@ -74,7 +75,8 @@ begins = (λ i. record (first_world base) { router = λ r. same_router r i; oper
 -- ---- the order
 
 orders : (issued : ℕ → Bool)
-    → OrdersGraft refusing 1 0 (record operator_first { issued = issued }) None (OrderTo 0 (record { graft = 1; peering = 0; target = 1 }) ∷ []) (operator_moved issued)
+    → OrdersGraft refusing 1 0 (record operator_first { issued = issued }) None
+    (OrderTo 0 (record { graft = 1; peering = 0; target = 1 }) ∷ []) (operator_moved issued)
 orders issued = orders_first refusing 0 (record { graft = 1; peering = 0; step = 1 }) 1 (record operator_first { issued = issued })
     refl refl refl refl refl refl (λ other known peering before. none_before refusing other known before)
 
@@ -100,13 +102,17 @@ refuses = record {
 refused : Run refusing first_worked refused_events with_refusal
 refused = (
   _,
-  operator_orders refusing small a_first idle_router far_first operator_first nothing_on_the_way (Order 1 0) (operator_moved (λ n. false)) (record { graft = 1; peering = 0; target = 1 }) tt (inr (orders (λ n. false))),
+  operator_orders refusing small a_first idle_router far_first operator_first nothing_on_the_way (Order 1 0)
+      (operator_moved (λ n. false)) (record { graft = 1; peering = 0; target = 1 }) tt (inr (orders (λ n. false))),
   (
     _,
-    a_ordered_by refusing small a_first idle_router far_first (operator_moved (λ n. false)) nothing_on_the_way (Admit 1) (holding idle_router (Live session_first (Some (Leaving to_b)))) (record { graft = 1; peering = 0; target = 1 }) [] (admits refusing (lit< tt) idle_router session_first),
+    a_ordered_by refusing small a_first idle_router far_first (operator_moved (λ n. false)) nothing_on_the_way
+        (Admit 1) (holding idle_router (Live session_first (Some (Leaving to_b))))
+        (record { graft = 1; peering = 0; target = 1 }) [] (admits refusing (lit< tt) idle_router session_first),
     (
       _,
-      a_reports refusing small (holding idle_router (Live session_first (Some (Leaving to_b)))) idle_router far_first (operator_moved (λ n. false)) nothing_on_the_way (Refuse 1) a_first (refusal_report (NotEstablished OpenSent)) refuses,
+      a_reports refusing small (holding idle_router (Live session_first (Some (Leaving to_b)))) idle_router far_first
+          (operator_moved (λ n. false)) nothing_on_the_way (Refuse 1) a_first (refusal_report (NotEstablished OpenSent)) refuses,
       refl,
     ),
   ),
@@ -121,7 +127,8 @@ may_freeze : freeze_refusal (record { 0 = 0 }) (record { 0 = 1 }) (state session
 unfolding message_of header_fault frame_at body_of open_of many many_within cap_at caps_of params_of
 may_freeze = refl
 
-turns_back : TurnsBack refusing 1 0 idle_router (Some (MeshIn 0 (Moved 1 0 session_joined))) (MeshTo 0 (Back 1 0 session_joined (RouterFull 0)) ∷ []) idle_router
+turns_back : TurnsBack refusing 1 0 idle_router (Some (MeshIn 0 (Moved 1 0 session_joined)))
+    (MeshTo 0 (Back 1 0 session_joined (RouterFull 0)) ∷ []) idle_router
 turns_back = record {
   comes = record { graft = 1; peering = 0; session = session_joined; takes = refl; known = lit< tt; vacant = refl };
   refusal = RouterFull 0;
@@ -134,7 +141,8 @@ turns_back = record {
 nothing_due : (x : PrefixValue) → has empty x ≡ (is_some (map.get session_joined.adj_rib_out x) || is_some (map.get idle_router.best x))
 nothing_due x = some_in_none _ x ∙ sym (ap (λ told. told || is_some (map.get idle_router.best x)) (some_in_none _ x) ∙ some_in_none _ x)
 
-returns : Returns 1 (holding idle_router (Shadow 1)) (Some (MeshIn 1 (Back 1 0 session_joined (RouterFull 0)))) (ReportOut (refusal_report (RouterFull 0)) ∷ []) (a_with session_joined)
+returns : Returns 1 (holding idle_router (Shadow 1)) (Some (MeshIn 1 (Back 1 0 session_joined (RouterFull 0))))
+    (ReportOut (refusal_report (RouterFull 0)) ∷ []) (a_with session_joined)
 returns = record {
   graft = 1;
   peering = 0;
@@ -144,7 +152,8 @@ returns = record {
   shadow = refl;
   sends = refl;
   due = record { members = nothing_due };
-  effect = λ i. record (a_with session_joined) { places = sym (at-at (λ p. Vacant) 0 (Shadow 1) (Live session_joined None)) i; due_out = sym (at-same empty 0) i };
+  effect = λ i.
+      record (a_with session_joined) { places = sym (at-at (λ p. Vacant) 0 (Shadow 1) (Live session_joined None)) i; due_out = sym (at-same empty 0) i };
 }
 
 abbrev pub moved : OperatorPart
@@ -164,39 +173,52 @@ abbrev pub with_freeze : World
 with_freeze = world_of (holding idle_router (Frozen session_joined to_b)) idle_router far_emitted moved nothing_on_the_way
 
 abbrev pub with_session_back : World
-with_session_back = world_of (holding idle_router (Shadow 1)) idle_router far_emitted moved (record nothing_on_the_way { to_a = Back 1 0 session_joined (RouterFull 0) ∷ [] })
+with_session_back = world_of (holding idle_router (Shadow 1)) idle_router far_emitted moved
+    (record nothing_on_the_way { to_a = Back 1 0 session_joined (RouterFull 0) ∷ [] })
 
 ordered : Run refusing joined_world ordering_events with_order
 ordered = (
   _,
-  operator_orders refusing small (a_with session_joined) idle_router far_emitted operator_before nothing_on_the_way (Order 1 0) moved (record { graft = 1; peering = 0; target = 1 }) tt (inr (orders (at (λ n. false) 0 true))),
+  operator_orders refusing small (a_with session_joined) idle_router far_emitted operator_before nothing_on_the_way
+      (Order 1 0) moved (record { graft = 1; peering = 0; target = 1 }) tt (inr (orders (at (λ n. false) 0 true))),
   (
     _,
-    a_ordered_by refusing small (a_with session_joined) idle_router far_emitted moved nothing_on_the_way (Admit 1) (holding idle_router (Live session_joined (Some (Leaving to_b)))) (record { graft = 1; peering = 0; target = 1 }) [] (admits refusing (lit< tt) idle_router session_joined),
+    a_ordered_by refusing small (a_with session_joined) idle_router far_emitted moved nothing_on_the_way
+        (Admit 1) (holding idle_router (Live session_joined (Some (Leaving to_b))))
+        (record { graft = 1; peering = 0; target = 1 }) [] (admits refusing (lit< tt) idle_router session_joined),
     refl,
   ),
 )
 
 pub ordered_from_first : Run refusing (first_world refusing) (joining_events ++ ordering_events) with_order
-ordered_from_first = subst (λ (w : World). Run refusing w (joining_events ++ ordering_events) with_order) (sym begins) (joined refusing first_worked joined_world with_order joining_events ordering_events (joins refusing small refl) ordered)
+ordered_from_first = subst (λ (w : World). Run refusing w (joining_events ++ ordering_events) with_order) (sym begins)
+    (joined refusing first_worked joined_world with_order joining_events ordering_events (joins refusing small refl) ordered)
 
 pub frozen : Step refusing (ByRouter 0 (Freeze 1)) with_order with_freeze
-frozen = a_alone refusing small (holding idle_router (Live session_joined (Some (Leaving to_b)))) idle_router far_emitted moved nothing_on_the_way (Freeze 1) (holding idle_router (Frozen session_joined to_b)) (freezes 0 1 idle_router session_joined may_freeze)
+frozen = a_alone refusing small (holding idle_router (Live session_joined (Some (Leaving to_b)))) idle_router far_emitted moved nothing_on_the_way
+    (Freeze 1) (holding idle_router (Frozen session_joined to_b)) (freezes 0 1 idle_router session_joined may_freeze)
 
 pub goes_away : Run refusing with_freeze away with_session_back
 goes_away = (
   _,
-  a_to_b refusing small (holding idle_router (Frozen session_joined to_b)) idle_router far_emitted moved nothing_on_the_way (Leave 1) (holding idle_router (Shadow 1)) (Moved 1 0 session_joined) (leaves idle_router session_joined (at-same empty 0)),
+  a_to_b refusing small (holding idle_router (Frozen session_joined to_b)) idle_router far_emitted moved nothing_on_the_way
+      (Leave 1) (holding idle_router (Shadow 1)) (Moved 1 0 session_joined) (leaves idle_router session_joined (at-same empty 0)),
   (
     _,
-    b_sends_back refusing small (holding idle_router (Shadow 1)) idle_router far_emitted moved nothing_on_the_way (TurnBack 0) idle_router (Moved 1 0 session_joined) (Back 1 0 session_joined (RouterFull 0)) [] turns_back,
+    b_sends_back refusing small (holding idle_router (Shadow 1)) idle_router far_emitted moved nothing_on_the_way
+        (TurnBack 0) idle_router (Moved 1 0 session_joined) (Back 1 0 session_joined (RouterFull 0)) [] turns_back,
     refl,
   ),
 )
 
 pub comes_back : Step refusing (ByRouter 0 (Return 1)) with_session_back with_returned
-comes_back = a_ends refusing small (holding idle_router (Shadow 1)) idle_router far_emitted moved nothing_on_the_way (Return 1) (a_with session_joined) (Back 1 0 session_joined (RouterFull 0)) [] (refusal_report (RouterFull 0)) returns
+comes_back = a_ends refusing small (holding idle_router (Shadow 1)) idle_router far_emitted moved nothing_on_the_way
+    (Return 1) (a_with session_joined) (Back 1 0 session_joined (RouterFull 0)) [] (refusal_report (RouterFull 0)) returns
 
 pub returned_from_first : Run refusing (first_world refusing) returned_events with_returned
-returned_from_first = joined refusing (first_world refusing) with_order with_returned (joining_events ++ ordering_events) (ByRouter 0 (Freeze 1) ∷ (away ++ ByRouter 0 (Return 1) ∷ [])) ordered_from_first
-    (with_freeze, frozen, joined refusing with_freeze with_session_back with_returned away (ByRouter 0 (Return 1) ∷ []) goes_away (with_returned, comes_back, refl))
+returned_from_first = joined refusing (first_world refusing) with_order with_returned
+    (joining_events ++ ordering_events) (ByRouter 0 (Freeze 1) ∷ (away ++ ByRouter 0 (Return 1) ∷ [])) ordered_from_first (
+      with_freeze,
+      frozen,
+      joined refusing with_freeze with_session_back with_returned away (ByRouter 0 (Return 1) ∷ []) goes_away (with_returned, comes_back, refl),
+    )

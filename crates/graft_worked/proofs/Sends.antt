@@ -34,7 +34,8 @@ same_session s t o u e = cc
 pub no_emit : (from n : ℕ) (after : World) → Step base (ByRouter 1 (Emit 0 from (suc n))) after_graft after → ⊥
 no_emit from n after step =
     let same : session ≡ step.row.session = same_session session step.row.session None step.row.errand step.row.live.is in
-    no_bytes session.end step.row.end from n step.row.segment home_acked (subst (λ (s : SessionValue). EmitsAt from (suc n) s.end step.row.segment step.row.end) (sym same) step.row.emits)
+    no_bytes session.end step.row.end from n step.row.segment home_acked
+    (subst (λ (s : SessionValue). EmitsAt from (suc n) s.end step.row.segment step.row.end) (sym same) step.row.emits)
 
 pub no_send : (from n : ℕ) (after : World) → Step base (ByFar 0 (Send from (suc n))) after_graft after → ⊥
 no_send from n after step = no_bytes remote_end step.row.end from n step.row.segment remote_acked step.row.emits

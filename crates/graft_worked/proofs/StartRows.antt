@@ -1,5 +1,6 @@
 -- The rows by which the worked session comes up and the remote's route gets to both routers, each computed.
-use Rattle.std.proofs.Common.{◌≡◌, ℕ, ◌<◌, Bool, true, false, cond, List, [], ◌∷◌, ◌++◌, drop, length, Option, Some, None, is_some, refl, sym, ap, ◌∙◌, inl, inr, lit<, lit≤, arith}
+use Rattle.std.proofs.Common.{◌≡◌, ℕ, ◌<◌, Bool, true, false, cond, List, [], ◌∷◌, ◌++◌, drop, length, Option}
+use Rattle.std.proofs.Common.{Some, None, is_some, refl, sym, ap, ◌∙◌, inl, inr, lit<, lit≤, arith}
 use Rattle.std.specs.Prelude.{option_map, slice_get}
 use Rattle.std.specs.FinMap as map
 use Rattle.std.specs.List.{enumerate_from}
@@ -36,7 +37,8 @@ use Rattle.graft_model.specs.OperatorRows.{SayTo, OrdersSay}
 use Rattle.graft_worked.specs.Base.{base}
 use Rattle.graft_worked.specs.First.{far_first, operator_first}
 use Rattle.graft_worked.specs.Graft.{put_all, said_all, from_zero, at_ten, entry, session, remote_end, operator_before, far_before}
-use Rattle.graft_worked.specs.Start.{said_segment, put_segment, ack_segment, far_said, far_emitted, far_sent, far_taken, far_reached, far_answered, session_arrived, session_confirmed, session_joined, session_heard, session_emitted, a_with, a_got}
+use Rattle.graft_worked.specs.Start.{said_segment, put_segment, ack_segment, far_said, far_emitted, far_sent, far_taken, far_reached, far_answered}
+use Rattle.graft_worked.specs.Start.{session_arrived, session_confirmed, session_joined, session_heard, session_emitted, a_with, a_got}
 use Rattle.graft_worked.proofs.Points.{at-at, at-same}
 use Rattle.graft_worked.proofs.Tens.{empty, got_none, got_ten, is_ten, some_at_ten, some_in_none, marks_new}
 
@@ -85,7 +87,16 @@ sends_all = record {
   emits = record {
     offset = refl;
     size = refl;
-    emits = inl (record { from = lit≤ tt; to = lit≤ tt; some = lit< tt; short = lit≤ tt; within = lit≤ tt; flight = lit≤ tt; slice = λ i. record said_segment { ack = sym (ap length received_none) i }; rises = refl });
+    emits = inl (record {
+      from = lit≤ tt;
+      to = lit≤ tt;
+      some = lit< tt;
+      short = lit≤ tt;
+      within = lit≤ tt;
+      flight = lit≤ tt;
+      slice = λ i. record said_segment { ack = sym (ap length received_none) i };
+      rises = refl;
+    });
   };
   takes = refl;
   sends = refl;
@@ -125,7 +136,16 @@ emits_all = record {
   emits = record {
     offset = refl;
     size = refl;
-    emits = inl (record { from = lit≤ tt; to = lit≤ tt; some = lit< tt; short = lit≤ tt; within = lit≤ tt; flight = lit≤ tt; slice = λ i. record put_segment { ack = sym (ap length received_said) i }; rises = refl });
+    emits = inl (record {
+      from = lit≤ tt;
+      to = lit≤ tt;
+      some = lit< tt;
+      short = lit≤ tt;
+      within = lit≤ tt;
+      flight = lit≤ tt;
+      slice = λ i. record put_segment { ack = sym (ap length received_said) i };
+      rises = refl;
+    });
   };
   takes = refl;
   sends = refl;
@@ -135,7 +155,8 @@ emits_all = record {
 -- ---- what is got
 
 brought : PrefixValue → Option Attrs → Option Entry
-brought x attrs = option_map (λ route. record { route = route; identifier = remote_identifier session; address = session.config.remote_address }) (imported base.home_as x (session_route base 0 session x) attrs)
+brought x attrs = option_map (λ route. record { route = route; identifier = remote_identifier session; address = session.config.remote_address })
+    (imported base.home_as x (session_route base 0 session x) attrs)
 
 pub marks_none : Marks empty (empty {A = Entry}) (empty {A = Entry}) empty
 marks_none = record { marked = λ x e. inl e; others = λ x e. (e, refl) }
@@ -170,7 +191,8 @@ gets_keepalive = record {
 }
 
 gets_update : GetsFrame session_joined update_bytes session_heard
-unfolding message_of header_fault frame_at body_of open_of update_of fields_of prefixes_of prefix_at many many_within attrs_in attrs_fault own_fault origin_in path_in next_hop_in med_in atomic_in aggregator_in other_in found_in all_known part_at attr_at cap_at caps_of params_of merged_path
+unfolding message_of header_fault frame_at body_of open_of update_of fields_of prefixes_of prefix_at many many_within attrs_in attrs_fault own_fault
+    origin_in path_in next_hop_in med_in atomic_in aggregator_in other_in found_in all_known part_at attr_at cap_at caps_of params_of merged_path
 gets_update = record {
   unclosed = λ e. cc;
   rest = [];
@@ -199,7 +221,11 @@ got_open_row setup = record {
     entries = λ x. inl (refl, refl);
     dirty = marks_none;
     due = refl;
-    effect = λ i. record (a_with session_confirmed) { places = sym (moved session_arrived session_confirmed) i; entries = sym (at-same empty 0) i; due_out = sym (at-same empty 0) i };
+    effect = λ i. record (a_with session_confirmed) {
+      places = sym (moved session_arrived session_confirmed) i;
+      entries = sym (at-same empty 0) i;
+      due_out = sym (at-same empty 0) i;
+    };
   };
 }
 
@@ -217,7 +243,11 @@ got_keepalive_row setup = record {
     entries = λ x. inl (refl, refl);
     dirty = marks_none;
     due = λ x. some_in_none _ x ∙ sym (some_in_none _ x);
-    effect = λ i. record (a_with session_joined) { places = sym (moved session_confirmed session_joined) i; entries = sym (at-same empty 0) i; due_out = sym (at-same empty 0) i };
+    effect = λ i. record (a_with session_joined) {
+      places = sym (moved session_confirmed session_joined) i;
+      entries = sym (at-same empty 0) i;
+      due_out = sym (at-same empty 0) i;
+    };
   };
 }
 
@@ -232,7 +262,8 @@ brings_ten x = got_ten entry x ∙ sym (ap (brought x) (got_ten heard_attrs x) �
 
 -- the remote's route is another than before for 10.0.0.0/8 alone
 follows_ten : (x : PrefixValue) (t : Bool) → is_ten x ≡ t → FollowsHeard base 0 session_joined session_heard empty (at_ten entry) x
-follows_ten x true e = inr ((λ s. let apart : ◌≡◌ {A = Bool} true false = sym (some_at_ten heard_attrs x ∙ e) ∙ (ap is_some s ∙ some_in_none _ x) in cc), brings_ten x)
+follows_ten x true e =
+    inr ((λ s. let apart : ◌≡◌ {A = Bool} true false = sym (some_at_ten heard_attrs x ∙ e) ∙ (ap is_some s ∙ some_in_none _ x) in cc), brings_ten x)
 follows_ten x false e = inl (unheard heard_attrs, unheard entry) where
   unheard : {A : Type 0} (v : A) → map.get (at_ten v) x ≡ map.get (empty {A = A}) x
   unheard v = got_ten v x ∙ (ap (λ t. cond t (Some v) None) e ∙ sym (got_none x))

@@ -37,13 +37,16 @@ same_cond false a = refl
 
 -- 10.0.0.0/8 is put again, or taken out
 pub again : {A : Type 0} (v w : A) → map.insert (at_ten v) ten w ≡ at_ten w
-again v w = map.same_map prefix_total exact_prefixes _ _ (λ x. map.get-insert prefix_total (at_ten v) ten w x ∙ (ap (cond (is_ten x) (Some w)) (got_ten v x) ∙ (shadow (is_ten x) (Some w) (Some v) None ∙ sym (got_ten w x))))
+again v w = map.same_map prefix_total exact_prefixes _ _ (λ x. map.get-insert prefix_total (at_ten v) ten w x
+    ∙ (ap (cond (is_ten x) (Some w)) (got_ten v x) ∙ (shadow (is_ten x) (Some w) (Some v) None ∙ sym (got_ten w x))))
 
 pub gone : {A : Type 0} (v : A) → map.remove (at_ten v) ten ≡ empty
-gone v = map.same_map prefix_total exact_prefixes _ _ (λ x. map.get-remove prefix_total (at_ten v) ten x ∙ (ap (cond (is_ten x) None) (got_ten v x) ∙ (shadow (is_ten x) None (Some v) None ∙ (same_cond (is_ten x) None ∙ sym (got_none x)))))
+gone v = map.same_map prefix_total exact_prefixes _ _ (λ x. map.get-remove prefix_total (at_ten v) ten x
+    ∙ (ap (cond (is_ten x) None) (got_ten v x) ∙ (shadow (is_ten x) None (Some v) None ∙ (same_cond (is_ten x) None ∙ sym (got_none x)))))
 
 pub still_none : {A : Type 0} → map.remove (empty {A = A}) ten ≡ empty
-still_none = map.same_map prefix_total exact_prefixes _ _ (λ x. map.get-remove prefix_total empty ten x ∙ (ap (cond (is_ten x) None) (got_none x) ∙ (same_cond (is_ten x) None ∙ sym (got_none x))))
+still_none = map.same_map prefix_total exact_prefixes _ _
+    (λ x. map.get-remove prefix_total empty ten x ∙ (ap (cond (is_ten x) None) (got_none x) ∙ (same_cond (is_ten x) None ∙ sym (got_none x))))
 
 -- ---- sets
 

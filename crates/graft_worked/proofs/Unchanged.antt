@@ -17,10 +17,13 @@ use Rattle.graft_model.specs.declared.event.RouterEvent.TheVariants.{Freeze, Lea
 use Rattle.graft_model.specs.Steps.{Event, ByRouter, Step, Run}
 use Rattle.graft_worked.specs.Base.{base}
 use Rattle.graft_worked.specs.Places.{OnTheWay, holding, nothing_on_the_way}
-use Rattle.graft_worked.specs.Graft.{ten_alone, over_peering, session, home_end, a_before, b_before, far_before, operator_ordered, to_a, a_ordered, a_frozen, a_left, b_landed}
+use Rattle.graft_worked.specs.Graft.{ten_alone, over_peering, session, home_end, a_before, b_before, far_before}
+use Rattle.graft_worked.specs.Graft.{operator_ordered, to_a, a_ordered, a_frozen, a_left, b_landed}
 use Rattle.graft_worked.specs.Refused.{refusal_report}
 use Rattle.graft_worked.specs.Start.{session_emitted}
-use Rattle.graft_worked.specs.Unchanged.{UnchangedField, Returned, Landed, Refused, UnchangedBut, before_freeze, leaving_for, landing_events, returning_events, straying_events, with_another_moved, with_another_target, with_another_back, with_another_source}
+use Rattle.graft_worked.specs.Unchanged.{UnchangedField, Returned, Landed, Refused, UnchangedBut, before_freeze}
+use Rattle.graft_worked.specs.Unchanged.{leaving_for, landing_events, returning_events, straying_events}
+use Rattle.graft_worked.specs.Unchanged.{with_another_moved, with_another_target, with_another_back, with_another_source}
 use Rattle.graft_worked.proofs.Points.{at-at, at-same}
 use Rattle.graft_worked.proofs.Tens.{empty}
 use Rattle.graft_worked.proofs.Moves.{base_small, a_alone, a_to_b, a_ends, b_alone, b_takes_in}
@@ -128,9 +131,11 @@ landed_with end = holding b_landed (Live (with_end end) (Some (Owing to_a)))
 
 -- frozen for this target, and landed at b with this endpoint
 lands_there : (target : ℕ) (end : Endpoint) → freeze_refusal (record { 0 = 0 }) (record { 0 = target }) (state session) (hold_time session) ≡ None
-    → FrozenBefore base (before_freeze (holding a_before (leaving_for target)) b_before (moving end)) landing_events 0 1 0 target session 1 0 (Land 0) (moved end)
+    → FrozenBefore base (before_freeze (holding a_before (leaving_for target)) b_before (moving end)) landing_events 0 1 0 target session 1 0
+    (Land 0) (moved end)
     (before_freeze (frozen_for a_before target) (landed_with end) (record nothing_on_the_way { out_b = PointAt 1 ∷ [] }))
-lands_there target end may = taken_later base _ (before_freeze (frozen_for a_before target) b_before (moving end)) _ _ [] 0 1 0 target 1 0 session (Land 0) (moved end)
+lands_there target end may =
+    taken_later base _ (before_freeze (frozen_for a_before target) b_before (moving end)) _ _ [] 0 1 0 target 1 0 session (Land 0) (moved end)
     refl
     (
     a_alone base base_small (holding a_before (leaving_for target)) b_before far_before operator_ordered (moving end)
@@ -194,10 +199,12 @@ other_end = session_emitted.end
 
 another_back : FrozenBefore base with_another_back returning_events 0 1 0 1 session 0 1 (Return 1) (back other_end)
     (before_freeze (returned_with other_end) b_before (reported (Moved 1 0 session ∷ [])))
-another_back = taken_later base _ (before_freeze a_frozen b_before (coming [] other_end)) (before_freeze a_left b_before (coming (Moved 1 0 session ∷ []) other_end)) _
+another_back = taken_later base _ (before_freeze a_frozen b_before (coming [] other_end))
+    (before_freeze a_left b_before (coming (Moved 1 0 session ∷ []) other_end)) _
     (ByRouter 0 (Leave 1) ∷ []) 0 1 0 1 0 1 session (Return 1) (back other_end)
     refl
-    (a_alone base base_small a_ordered b_before far_before operator_ordered (coming [] other_end) (Freeze 1) a_frozen (freezes 0 1 a_before session may_freeze)) (
+    (a_alone base base_small a_ordered b_before far_before operator_ordered
+    (coming [] other_end) (Freeze 1) a_frozen (freezes 0 1 a_before session may_freeze)) (
       before_freeze a_left b_before (coming (Moved 1 0 session ∷ []) other_end),
       a_to_b base base_small a_frozen b_before far_before operator_ordered (coming [] other_end)
           (Leave 1) a_left (Moved 1 0 session) (leaves a_before session (at-same map.empty 0)),

@@ -1,5 +1,6 @@
 -- One field of a claim is false.
-use Rattle.std.proofs.Common.{◌≡◌, ◌<◌, ℕ, ◌+◌, Bool, true, false, List, [], ◌∷◌, ◌++◌, drop, length, Option, Some, None, is_some, refl, sym, ap, ◌∙◌, subst, inl, inr, lit<, arith, length-append}
+use Rattle.std.proofs.Common.{◌≡◌, ◌<◌, ℕ, ◌+◌, Bool, true, false, List, [], ◌∷◌, ◌++◌, drop, length, Option, Some, None}
+use Rattle.std.proofs.Common.{is_some, refl, sym, ap, ◌∙◌, subst, inl, inr, lit<, arith, length-append}
 use Rattle.std.specs.FinMap as map
 use Rattle.std.specs.List.{enumerate_from, AllByRecursion}
 use Rattle.std.specs.Ordering.{nat_cmp}
@@ -23,7 +24,13 @@ use Rattle.graft_model.specs.SmallWorlds.{config}
 use Rattle.graft_worked.specs.Base.{base}
 use Rattle.graft_worked.specs.First.{home_open_bytes}
 use Rattle.graft_worked.specs.Graft.{put_all, from_zero, home_end, remote_end, at_ten, over_router, session, b_after}
-use Rattle.graft_worked.specs.Weaker.{interrupted, with_empty_line, addressed, opened_twice, unhearing, telling, with_other_address, with_second_open, with_octet_received, with_update_unsaid, with_route_unheard, with_route_told, with_word_owed, with_keepalive_missing, with_keepalive_said, with_shadow_left, with_best_missing, with_word_on_its_way, with_segment_outward, with_segment_inward, with_order_on_its_way, with_report_on_its_way, with_say_on_its_way, with_segment_homeward, with_segment_remoteward, with_prefix_dirty, with_prefix_due_in, with_prefix_due_out, with_update_unread, with_update_missing, with_remote_unanswered, with_session_unanswered, with_say_unordered, with_outcome_unknown}
+use Rattle.graft_worked.specs.Weaker.{interrupted, with_empty_line, addressed, opened_twice, unhearing, telling, with_other_address}
+use Rattle.graft_worked.specs.Weaker.{with_second_open, with_octet_received, with_update_unsaid, with_route_unheard, with_route_told}
+use Rattle.graft_worked.specs.Weaker.{with_word_owed, with_keepalive_missing, with_keepalive_said, with_shadow_left, with_best_missing}
+use Rattle.graft_worked.specs.Weaker.{with_word_on_its_way, with_segment_outward, with_segment_inward, with_order_on_its_way}
+use Rattle.graft_worked.specs.Weaker.{with_report_on_its_way, with_say_on_its_way, with_segment_homeward, with_segment_remoteward}
+use Rattle.graft_worked.specs.Weaker.{with_prefix_dirty, with_prefix_due_in, with_prefix_due_out, with_update_unread, with_update_missing}
+use Rattle.graft_worked.specs.Weaker.{with_remote_unanswered, with_session_unanswered, with_say_unordered, with_outcome_unknown}
 use Rattle.graft_worked.proofs.Tens.{empty, got_none, got_it}
 use Rattle.graft_worked.proofs.GraftRows.{state_is}
 use Rattle.graft_worked.proofs.GraftEnds.{nothing_begins, home_received, puts_all, none_told, nothing_told, solves_after}
@@ -106,7 +113,7 @@ not_to_tell s =
     let p = on_it with_route_told s in
     let same : telling ≡ p.session = same_session telling p.session None None p.placed in
     let is =
-        subst (λ (x : SessionValue). map.get x.adj_rib_out ten ≡ while_established (state x) (to_tell base 1 b_after x ten)) (sym same) (p.adj_rib_out ten) in
+    subst (λ (x : SessionValue). map.get x.adj_rib_out ten ≡ while_established (state x) (to_tell base 1 b_after x ten)) (sym same) (p.adj_rib_out ten) in
     not_both (attrs_over (65000 ∷ [])) (nothing_told ten ∙ (sym is ∙ got_it (attrs_over (65000 ∷ []))))
 
 open_received : length (received_bytes (record remote_end { arrived = from_zero home_open_bytes })) ≡ 29

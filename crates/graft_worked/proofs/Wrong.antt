@@ -29,10 +29,12 @@ only_one s t e = cc
 -- the remote received 48 bytes, and this session has put 29
 pub begun_again : Transparent base with_session_begun_again 0 → ⊥
 begun_again t =
-    let puts : put_bytes (peering_of config) (sent_lines 0) ≡ received_bytes remote_end ++ t.received.rest = ap (λ (s : SessionValue). put_bytes (peering_of s.config) s.story) (only_one session_first t.session t.one) ∙ t.received.is in
+    let puts : put_bytes (peering_of config) (sent_lines 0) ≡ received_bytes remote_end ++ t.received.rest =
+    ap (λ (s : SessionValue). put_bytes (peering_of s.config) s.story) (only_one session_first t.session t.one) ∙ t.received.is in
     let received : length (received_bytes remote_end) ≡ 48 = ap length remote_received in
     let all : 29 ≡ length (received_bytes remote_end ++ t.received.rest) = sym open_alone ∙ ap length puts in
-    let both : length (received_bytes remote_end ++ t.received.rest) ≡ length (received_bytes remote_end) + length t.received.rest = length-append (received_bytes remote_end) t.received.rest in
+    let both : length (received_bytes remote_end ++ t.received.rest) ≡ length (received_bytes remote_end) + length t.received.rest =
+    length-append (received_bytes remote_end) t.received.rest in
     absurd (omega (arith, received, all, both))
 
 pub told_later : Solves base with_telling_on_its_way → ⊥

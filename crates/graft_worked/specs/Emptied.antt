@@ -1,5 +1,5 @@
--- A laboratory of three routers, of which the first one is emptied in the first group. Router c has one place, and the room of router b is given. At a start the
--- sessions of c1, c2 and c3, at b that of d1.
+-- A laboratory of three routers, of which the first one is emptied in the first group. Router c has one
+-- place, and the room of router b is given. At a start the sessions of c1, c2 and c3, at b that of d1.
 use Rattle.std.specs.Prelude.{ℕ, [], ◌∷◌, Some, None}
 use Rattle.graft_model.specs.First.{first_operator}
 use Rattle.graft_model.specs.Points.{at}

@@ -16,7 +16,8 @@ use Rattle.bgp_story.specs.WorkedSessions.{ten, open_bytes, keepalive_bytes, upd
 use Rattle.session_value.specs.Sessions.{SessionValue}
 use Rattle.session_value.specs.Sets.{Prefixes}
 use Rattle.graft_model.specs.Points.{at}
-use Rattle.graft_model.specs.Parts.{Order as StoredOrder, Vacant, Live, Frozen, Shadow, Unmade, Entry, RouterPart, FarPart, OperatorPart, World, Word, Leaving, Owing}
+use Rattle.graft_model.specs.Parts.{Order as StoredOrder, Vacant, Live, Frozen, Shadow, Unmade, Entry}
+use Rattle.graft_model.specs.Parts.{RouterPart, FarPart, OperatorPart, World, Word, Leaving, Owing}
 use Rattle.graft_model.specs.declared.event.RouterEvent.TheVariants.{Admit, Freeze, Leave, Land, Confirm, Clear, Decide, Put, Tell, Hear}
 use Rattle.graft_model.specs.declared.event.FarEvent.TheVariants.{Point}
 use Rattle.graft_model.specs.declared.event.OperatorEvent.TheVariants.{Go, Order, Note}

@@ -11,7 +11,8 @@ use Rattle.graft_model.specs.SmallWorlds.{config}
 use Rattle.graft_worked.specs.Base.{peering_c, base}
 use Rattle.graft_worked.specs.Places.{idle_router, nothing_on_the_way, world_of}
 use Rattle.graft_worked.specs.First.{a_first}
-use Rattle.graft_worked.specs.Graft.{said_all, home_end, remote_end, a_before, b_before, far_before, operator_before, a_after, b_after, far_after, operator_after}
+use Rattle.graft_worked.specs.Graft.{said_all, home_end, remote_end, a_before, b_before, far_before}
+use Rattle.graft_worked.specs.Graft.{operator_before, a_after, b_after, far_after, operator_after}
 use Rattle.graft_worked.specs.Start.{a_with, ack_segment, far_sent, far_emitted}
 
 -- a segment on its way to a, which the session has left; and the same without it
@@ -26,7 +27,9 @@ abbrev pub beating : Setup
 beating = record base { peerings = record peering_c { config = record config { home_hold = 90 }; beats = true } ∷ [] }
 
 abbrev pub with_beat : World
-with_beat = world_of a_before b_before (record far_before { end = record remote_end { stream = said_all ++ keepalive_bytes }; keepalives = 1; last_keepalive = 30 }) operator_before nothing_on_the_way
+with_beat = world_of a_before b_before
+    (record far_before { end = record remote_end { stream = said_all ++ keepalive_bytes }; keepalives = 1; last_keepalive = 30 })
+    operator_before nothing_on_the_way
 
 -- the link to home holds all that the remote said; and nothing
 abbrev pub with_segment : World

@@ -34,15 +34,18 @@ abbrev pub refused_events : List Event
 refused_events = ByOperator (Order 1 0) ∷ ByRouter 0 (Admit 1) ∷ ByRouter 0 (Refuse 1) ∷ []
 
 abbrev pub with_refusal : World
-with_refusal = world_of a_first idle_router far_first (operator_moved (λ n. false)) (record nothing_on_the_way { reported = refusal_report (NotEstablished OpenSent) ∷ [] })
+with_refusal = world_of a_first idle_router far_first (operator_moved (λ n. false))
+    (record nothing_on_the_way { reported = refusal_report (NotEstablished OpenSent) ∷ [] })
 
 -- ---- at the target
 
 abbrev pub away_events : List Event
-away_events = ByOperator (Order 1 0) ∷ ByRouter 0 (Admit 1) ∷ ByRouter 0 (Freeze 1) ∷ ByRouter 0 (Leave 1) ∷ ByRouter 1 (TurnBack 0) ∷ ByRouter 0 (Return 1) ∷ []
+away_events = ByOperator (Order 1 0) ∷ ByRouter 0 (Admit 1) ∷ ByRouter 0 (Freeze 1)
+    ∷ ByRouter 0 (Leave 1) ∷ ByRouter 1 (TurnBack 0) ∷ ByRouter 0 (Return 1) ∷ []
 
 abbrev pub returned_events : List Event
 returned_events = joining_events ++ away_events
 
 abbrev pub with_returned : World
-with_returned = world_of (a_with session_joined) idle_router far_emitted (operator_moved (at (λ n. false) 0 true)) (record nothing_on_the_way { reported = refusal_report (RouterFull 0) ∷ [] })
+with_returned = world_of (a_with session_joined) idle_router far_emitted (operator_moved (at (λ n. false) 0 true))
+    (record nothing_on_the_way { reported = refusal_report (RouterFull 0) ∷ [] })

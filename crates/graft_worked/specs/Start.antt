@@ -12,7 +12,8 @@ use Rattle.graft_model.specs.declared.event.OperatorEvent.TheVariants.{Order}
 use Rattle.graft_model.specs.Steps.{Event, ByRouter, ByFar, ByOperator}
 use Rattle.graft_worked.specs.Places.{idle_router, holding, idle_far, nothing_on_the_way, world_of}
 use Rattle.graft_worked.specs.First.{home_open_bytes, session_first}
-use Rattle.graft_worked.specs.Graft.{put_all, said_all, from_zero, at_ten, ten_alone, entry, route, session, home_end, remote_end, a_before, b_before, far_before, operator_before}
+use Rattle.graft_worked.specs.Graft.{put_all, said_all, from_zero, at_ten, ten_alone, entry, route, session}
+use Rattle.graft_worked.specs.Graft.{home_end, remote_end, a_before, b_before, far_before, operator_before}
 
 -- ---- segments: all that the remote said, all that home put, and the remote's acknowledgement
 

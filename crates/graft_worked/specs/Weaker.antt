@@ -11,7 +11,8 @@ use Rattle.graft_model.specs.Parts.{Live, Shadow, Owing, Done, Seg, RouterPart, 
 use Rattle.graft_model.specs.SmallWorlds.{config}
 use Rattle.graft_worked.specs.First.{home_open_bytes}
 use Rattle.graft_worked.specs.Places.{OnTheWay, holding, nothing_on_the_way, world_of}
-use Rattle.graft_worked.specs.Graft.{put_all, said_all, from_zero, home_end, remote_end, at_ten, ten_alone, session, a_before, b_before, far_before, operator_before, a_after, b_after, far_after, operator_ordered, operator_after, to_a}
+use Rattle.graft_worked.specs.Graft.{put_all, said_all, from_zero, home_end, remote_end, at_ten, ten_alone, session, a_before, b_before}
+use Rattle.graft_worked.specs.Graft.{far_before, operator_before, a_after, b_after, far_after, operator_ordered, operator_after, to_a}
 
 -- ---- the last world, with another part
 

@@ -3,7 +3,8 @@
 //!
 //! | Kinds | Can happen | Can't happen, of router a, router b, the far side or the operator |
 //! |---|---|---|
-//! | Order, Say, Send, Pass, Arrive, Got, Emit, Take, Reach, Decide, Put of none, Tell, Hear | in the run from the first world (`base_runs_to_its_end`) | at its end (`some_events_never_happen`; of Emit and Send `nothing_is_sent_at_the_end`) |
+//! | Emit, Send | in the run from the first world (`base_runs_to_its_end`) | at its end (`nothing_is_sent_at_the_end`) |
+//! | Order, Say, Pass, Arrive, Got, Take, Reach, Decide, Put of none, Tell, Hear | in the same run | at its end (`some_events_never_happen`) |
 //! | Go, Admit, Freeze, Leave, Land, Point, Confirm, Clear, Note | in the graft (`a_graft_runs_to_its_end`) | at its end |
 //! | Put of one | `an_update_may_be_put` | at its end |
 //! | Refuse, TurnBack, Return | in grafts that are refused (`refused_grafts_run_to_their_end`) | at its end |
@@ -126,8 +127,8 @@ pub fn an_update_may_be_put()
     ensures { Step base (ByRouter 0 (Put 0 1)) with_route_due with_route_put }
 {}
 
-/// At the end of the worked run all that was put and said is acknowledged: no bytes are sent on either side, a segment of the remote has place 91, and router a, which
-/// holds no session, sends none.
+/// At the end of the worked run all that was put and said is acknowledged: no bytes are sent on either
+/// side, a segment of the remote has place 91, and router a, which holds no session, sends none.
 pub fn nothing_is_sent_at_the_end()
     ensures emit { (from len : ℕ) (after : World) → ¬ Step base (ByRouter 0 (Emit 0 from len)) after_graft after }
     ensures emit_bytes { (from n : ℕ) (after : World) → ¬ Step base (ByRouter 1 (Emit 0 from (suc n))) after_graft after }

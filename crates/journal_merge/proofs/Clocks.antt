@@ -10,7 +10,8 @@ module _ {I : Type 0} where
   pub over_notes : (n : ℕ) (c : ℕ → ℕ) (ls : List ℕ) (ns ms : ℕ → List (Noted I)) (d : ℕ → ℕ) → ((k : ℕ) → ms k ≡ ns k) → ClockedOver n c ls ns d
       → ClockedOver n c ls ms d
   over_notes n c [] ns ms d e h = λ k k_in. subst (λ xs. Clocked (c k) xs (d k)) (sym (e k)) (h k k_in)
-  over_notes n c (l ∷ ls) ns ms d e h = (h.0, record { first = h.1.first; after = h.1.after; split = λ k. e k ∙ h.1.split k; clocked = h.1.clocked; greatest = h.1.greatest }, h.2)
+  over_notes n c (l ∷ ls) ns ms d e h =
+      (h.0, record { first = h.1.first; after = h.1.after; split = λ k. e k ∙ h.1.split k; clocked = h.1.clocked; greatest = h.1.greatest }, h.2)
 
   -- one piece after another
   pub over-append : (n : ℕ) (c : ℕ → ℕ) (ls : List ℕ) (ns : ℕ → List (Noted I)) (d : ℕ → ℕ) (ms : List ℕ) (ps : ℕ → List (Noted I)) (e : ℕ → ℕ)
@@ -45,9 +46,11 @@ module _ {I : Type 0} where
       → Rising (c k) (deeds (ns k)) (d k)
   over_rises n c [] ns d k k_in h = clocked_rises (c k) (d k) (ns k) (h k k_in)
   over_rises n c (l ∷ ls) ns d k k_in h = rw (h.1.split k, deeds_both (h.1.first k) (h.0 k))
-      (rising-append (c k) (h.1.after k) l (d k) (deeds (h.1.first k)) (deeds (h.0 k)) (clocked_rises (c k) (h.1.after k) (h.1.first k) (h.1.clocked k k_in)) (h.1.greatest.bound k k_in) (over_rises n (λ j. l) ls h.0 d k k_in h.2))
+      (rising-append (c k) (h.1.after k) l (d k) (deeds (h.1.first k)) (deeds (h.0 k))
+      (clocked_rises (c k) (h.1.after k) (h.1.first k) (h.1.clocked k k_in)) (h.1.greatest.bound k k_in) (over_rises n (λ j. l) ls h.0 d k k_in h.2))
 
   pub over_later : (n : ℕ) (c : ℕ → ℕ) (ls : List ℕ) (ns : ℕ → List (Noted I)) (d : ℕ → ℕ) (k : ℕ) → k < n → ClockedOver n c ls ns d
       → AllByRecursion IsLater (ns k)
   over_later n c [] ns d k k_in h = clocked_later (c k) (d k) (ns k) (h k k_in)
-  over_later n c (l ∷ ls) ns d k k_in h = rw (h.1.split k) (all-append IsLater (h.1.first k) (h.0 k) (clocked_later (c k) (h.1.after k) (h.1.first k) (h.1.clocked k k_in)) (over_later n (λ j. l) ls h.0 d k k_in h.2))
+  over_later n c (l ∷ ls) ns d k k_in h = rw (h.1.split k) (all-append IsLater (h.1.first k) (h.0 k)
+      (clocked_later (c k) (h.1.after k) (h.1.first k) (h.1.clocked k k_in)) (over_later n (λ j. l) ls h.0 d k k_in h.2))

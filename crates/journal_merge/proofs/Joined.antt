@@ -1,12 +1,14 @@
 -- A sorted list with the entries of journals is their merge.
-use Rattle.std.proofs.Common.{◌≡◌, ◌≢◌, ◌≤◌, ◌<◌, ◌+◌, ℕ, zero, suc, Bool, true, false, List, [], ◌∷◌, ◌++◌, ◌==◌, ◌&&◌, if◌then◌else◌, get_or, flat_map, refl, ap, sym, subst, ◌∙◌, arith, ◌⊎◌, inl, inr}
+use Rattle.std.proofs.Common.{◌≡◌, ◌≢◌, ◌≤◌, ◌<◌, ◌+◌, ℕ, zero, suc, Bool, true, false, List, [], ◌∷◌, ◌++◌, ◌==◌, ◌&&◌}
+use Rattle.std.proofs.Common.{if◌then◌else◌, get_or, flat_map, refl, ap, sym, subst, ◌∙◌, arith, ◌⊎◌, inl, inr}
 use Rattle.std.proofs.Math.ListN.{set}
 use Rattle.std.specs.Prelude.{IsPermutation, sum_by}
 use Rattle.std.specs.List.{AllByRecursion}
 use Rattle.std.proofs.lemmas.Bool.Decides.{nat_tests}
 use Rattle.std.proofs.lemmas.List.Elements.{All-from_recursion, recursion_from_All}
 use Rattle.std.proofs.lemmas.List.Recursion.{is_sum_by}
-use Rattle.std.proofs.lemmas.List.Sorted.{All-permutation, IsPermutation-refl, IsPermutation-sym, IsPermutation-trans, IsPermutation-cons, IsPermutation-append_right, IsPermutation-middle, sum_by-IsPermutation}
+use Rattle.std.proofs.lemmas.List.Sorted.{All-permutation, IsPermutation-refl, IsPermutation-sym, IsPermutation-trans}
+use Rattle.std.proofs.lemmas.List.Sorted.{IsPermutation-cons, IsPermutation-append_right, IsPermutation-middle, sum_by-IsPermutation}
 use Rattle.ring_net.specs.declared.entry.JournalEntry.{JournalEntry}
 use Rattle.ring_net.specs.Journals.{ClocksRise, IsJournal, AreJournals}
 use Rattle.journal_merge.specs.Merges.{IsBefore, by_clock, NoneBefore, AreSorted, IsMerged, entries_by, Interleaves}
@@ -31,7 +33,8 @@ all_in [] zs f = tt
 all_in (x ∷ xs) zs f = (f x (inl refl), all_in xs zs (λ e h. f e (inr h)))
 
 in_permutation : {X : Type 0} (xs ys : List X) (e : X) → IsPermutation xs ys → In e ys → In e xs
-in_permutation xs ys e h k = in_all (λ x. In x xs) ys e (recursion_from_All (λ x. In x xs) ys (All-permutation (λ x. In x xs) xs ys h (All-from_recursion (λ x. In x xs) xs (all_in xs xs (λ x i. i))))) k
+in_permutation xs ys e h k = in_all (λ x. In x xs) ys e
+    (recursion_from_All (λ x. In x xs) ys (All-permutation (λ x. In x xs) xs ys h (All-from_recursion (λ x. In x xs) xs (all_in xs xs (λ x i. i))))) k
 
 in_left : {X : Type 0} (xs ys : List X) (e : X) → In e xs → In e (xs ++ ys)
 in_left [] ys e h = absurd h
@@ -66,11 +69,13 @@ same_members (x ∷ xs) (y ∷ ys) p q h k =
 
     there : (z : JournalEntry) → In z xs → (z ≡ y) ⊎ In z ys → In z ys
     there z i (inr j) = j
-    there z i (inl s) = absurd (let l : IsBefore x y = subst (λ m. IsBefore x m) s (in_all (IsBefore x) xs z p.0 i) in let e : x ≡ y = heads (h x (inl refl)) (k y (inl refl)) in let m : IsBefore x x = subst (λ m. IsBefore x m) (sym e) l in apart x x m m)
+    there z i (inl s) = absurd (let l : IsBefore x y = subst (λ m. IsBefore x m) s (in_all (IsBefore x) xs z p.0 i) in
+        let e : x ≡ y = heads (h x (inl refl)) (k y (inl refl)) in let m : IsBefore x x = subst (λ m. IsBefore x m) (sym e) l in apart x x m m)
 
     back : (z : JournalEntry) → In z ys → (z ≡ x) ⊎ In z xs → In z xs
     back z i (inr j) = j
-    back z i (inl s) = absurd (let l : IsBefore y x = subst (λ m. IsBefore y m) s (in_all (IsBefore y) ys z q.0 i) in let e : x ≡ y = heads (h x (inl refl)) (k y (inl refl)) in let m : IsBefore y y = subst (λ m. IsBefore y m) e l in apart y y m m)
+    back z i (inl s) = absurd (let l : IsBefore y x = subst (λ m. IsBefore y m) s (in_all (IsBefore y) ys z q.0 i) in
+        let e : x ≡ y = heads (h x (inl refl)) (k y (inl refl)) in let m : IsBefore y y = subst (λ m. IsBefore y m) e l in apart y y m m)
 
 pub merged_once : (journals : List (List JournalEntry)) (xs ys : List JournalEntry) → IsMerged journals xs → IsMerged journals ys → xs ≡ ys
 merged_once journals xs ys h k = same_members xs ys h.sorted k.sorted
@@ -125,7 +130,8 @@ joined_in (j ∷ journals) (suc k) e h = in_right j (joined journals) e (joined_
 pub merged_each : (journals : List (List JournalEntry)) (merged : List JournalEntry) → AreJournals journals → IsMerged journals merged
     → Interleaves (λ k. get_or journals k []) merged
 merged_each journals merged own h = record {
-  each = λ k. same_members (entries_by k merged) (get_or journals k []) (sorted_by k merged h.sorted) (journal_sorted (get_or journals k []) (own k).rising) (λ e i. there k e i) (λ e i. back k e i);
+  each = λ k. same_members (entries_by k merged) (get_or journals k []) (sorted_by k merged h.sorted)
+      (journal_sorted (get_or journals k []) (own k).rising) (λ e i. there k e i) (λ e i. back k e i);
   sorted = h.sorted;
 }
   where
@@ -137,7 +143,8 @@ merged_each journals merged own h = record {
         subst (λ n. In e (get_or journals n [])) (sym is ∙ r.1) s.1
 
     back : (k : ℕ) (e : JournalEntry) → In e (get_or journals k []) → In e (entries_by k merged)
-    back k e i = by_in k merged e (in_all (λ (f : JournalEntry). f.actor ≡ k) (get_or journals k []) e (own k).own i) (in_permutation merged (joined journals) e (IsPermutation-sym (joined journals) merged h.all) (joined_in journals k e i))
+    back k e i = by_in k merged e (in_all (λ (f : JournalEntry). f.actor ≡ k) (get_or journals k []) e (own k).own i)
+        (in_permutation merged (joined journals) e (IsPermutation-sym (joined journals) merged h.all) (joined_in journals k e i))
 
 -- ---- and back: a list that has each journal has all their entries
 
@@ -145,9 +152,12 @@ merged_each journals merged own h = record {
 taken_off : (journals : List (List JournalEntry)) (k : ℕ) (e : JournalEntry) (rest : List JournalEntry) → get_or journals k [] ≡ e ∷ rest
     → IsPermutation (joined journals) (e ∷ joined (set journals k rest))
 taken_off [] k e rest h = absurd cc
-taken_off (j ∷ journals) zero e rest h = subst (λ xs. IsPermutation (xs ++ joined journals) (e ∷ (rest ++ joined journals))) (sym h) (IsPermutation-refl (e ∷ (rest ++ joined journals)))
-taken_off (j ∷ journals) (suc k) e rest h = IsPermutation-trans (j ++ joined journals) (j ++ e ∷ joined (set journals k rest)) (e ∷ (j ++ joined (set journals k rest)))
-    (IsPermutation-append_right j (joined journals) (e ∷ joined (set journals k rest)) (taken_off journals k e rest h)) (IsPermutation-middle j e (joined (set journals k rest)))
+taken_off (j ∷ journals) zero e rest h =
+    subst (λ xs. IsPermutation (xs ++ joined journals) (e ∷ (rest ++ joined journals))) (sym h) (IsPermutation-refl (e ∷ (rest ++ joined journals)))
+taken_off (j ∷ journals) (suc k) e rest h =
+    IsPermutation-trans (j ++ joined journals) (j ++ e ∷ joined (set journals k rest)) (e ∷ (j ++ joined (set journals k rest)))
+    (IsPermutation-append_right j (joined journals) (e ∷ joined (set journals k rest)) (taken_off journals k e rest h))
+    (IsPermutation-middle j e (joined (set journals k rest)))
 
 set_here : (journals : List (List JournalEntry)) (k : ℕ) (e : JournalEntry) (rest : List JournalEntry) → get_or journals k [] ≡ e ∷ rest
     → get_or (set journals k rest) k [] ≡ rest
@@ -243,13 +253,20 @@ first_from i j journals h = subst (λ n. IsJournal n j) (omega arith) (h 0)
 
 count_past : (x : JournalEntry) (i : ℕ) (journals : List (List JournalEntry)) → x.actor < i → JournalsFrom i journals → count x (joined journals) ≡ 0
 count_past x i [] l h = refl
-count_past x i (j ∷ journals) l h = omega (arith, count-append x j (joined journals), count_other x i j (first_from i j journals h).own (λ s. absurd (omega (arith, s, l))), count_past x (i + 1) journals (omega arith) (rest_from i j journals h))
+count_past x i (j ∷ journals) l h = omega (
+  arith,
+  count-append x j (joined journals),
+  count_other x i j (first_from i j journals h).own (λ s. absurd (omega (arith, s, l))),
+  count_past x (i + 1) journals (omega arith) (rest_from i j journals h),
+)
 
 count_joined : (x : JournalEntry) (i : ℕ) (journals : List (List JournalEntry)) → JournalsFrom i journals → count x (joined journals) ≤ 1
 count_joined x i [] h = omega arith
 count_joined x i (j ∷ journals) h = elim (equal_or_not i x.actor) [
-  | inl s ↦ (let z : count x (joined journals) ≡ 0 = count_past x (i + 1) journals (omega (arith, s)) (rest_from i j journals h) in let m : count x j ≤ 1 = count_rising x j (first_from i j journals h).rising in omega (arith, z, m, count-append x j (joined journals)))
-  | inr ne ↦ (let z : count x j ≡ 0 = count_other x i j (first_from i j journals h).own ne in let m : count x (joined journals) ≤ 1 = count_joined x (i + 1) journals (rest_from i j journals h) in omega (arith, z, m, count-append x j (joined journals)))
+  | inl s ↦ (let z : count x (joined journals) ≡ 0 = count_past x (i + 1) journals (omega (arith, s)) (rest_from i j journals h) in
+      let m : count x j ≤ 1 = count_rising x j (first_from i j journals h).rising in omega (arith, z, m, count-append x j (joined journals)))
+  | inr ne ↦ (let z : count x j ≡ 0 = count_other x i j (first_from i j journals h).own ne in let m : count x (joined journals) ≤ 1 =
+      count_joined x (i + 1) journals (rest_from i j journals h) in omega (arith, z, m, count-append x j (joined journals)))
 ]
 
 -- ---- what is sorted
@@ -269,5 +286,6 @@ pub is_merged : (journals : List (List JournalEntry)) (es : List JournalEntry) �
     → NoneBefore es → IsMerged journals es
 is_merged journals es own all h = record {
   all = all;
-  sorted = are_sorted es h (λ x. rw (count_permutation x (joined journals) es all) (count_joined x 0 journals (λ k. subst (λ n. IsJournal n (get_or journals k [])) (omega arith) (own k))));
+  sorted = are_sorted es h (λ x. rw (count_permutation x (joined journals) es all)
+      (count_joined x 0 journals (λ k. subst (λ n. IsJournal n (get_or journals k [])) (omega arith) (own k))));
 }

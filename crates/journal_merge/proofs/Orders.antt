@@ -1,5 +1,6 @@
 -- Sorted lists of entries: there is one with given journals, and it can be cut at a mark and at a clock.
-use Rattle.std.proofs.Common.{◌≡◌, ◌≢◌, ◌≤◌, ◌<◌, ◌-◌, ℕ, zero, suc, Bool, true, false, List, [], ◌∷◌, ◌++◌, ◌==◌, if◌then◌else◌, refl, ap, sym, subst, ◌∙◌, arith, ◌⊎◌, inl, inr, take}
+use Rattle.std.proofs.Common.{◌≡◌, ◌≢◌, ◌≤◌, ◌<◌, ◌-◌, ℕ, zero, suc, Bool, true, false, List, [], ◌∷◌, ◌++◌, ◌==◌}
+use Rattle.std.proofs.Common.{if◌then◌else◌, refl, ap, sym, subst, ◌∙◌, arith, ◌⊎◌, inl, inr, take}
 use Rattle.std.specs.List.{AllByRecursion}
 use Rattle.std.proofs.lemmas.Bool.Decides.{nat_tests}
 use Rattle.std.proofs.lemmas.List.Elements.{filter-append}
@@ -63,7 +64,8 @@ sorted_once [] (n ∷ ns) p q h = absurd (let k : [] ≡ n ∷ entries_by n.acto
 sorted_once (m ∷ ms) [] p q h = absurd (let k : m ∷ entries_by m.actor ms ≡ [] = sym (by_here m.actor m ms refl) ∙ h m.actor in cc)
 sorted_once (m ∷ ms) (n ∷ ns) p q h =
     let e : m ≡ n = same_head m n ms ns p.0 q.0 h in
-    let h' : (k : ℕ) → entries_by k (m ∷ ms) ≡ entries_by k (m ∷ ns) = subst (λ (x : JournalEntry). (k : ℕ) → entries_by k (m ∷ ms) ≡ entries_by k (x ∷ ns)) (sym e) h in
+    let h' : (k : ℕ) → entries_by k (m ∷ ms) ≡ entries_by k (m ∷ ns) =
+    subst (λ (x : JournalEntry). (k : ℕ) → entries_by k (m ∷ ms) ≡ entries_by k (x ∷ ns)) (sym e) h in
     let rest : ms ≡ ns = sorted_once ms ns p.1 q.1 (λ k. same_tail m ms ns k (h' k)) in
     cc (e, rest)
 
@@ -77,11 +79,13 @@ less-else f k n h = grind (arith, nat_tests)
 
 each_upto : (Q : JournalEntry → Type 0) (m : ℕ → ℕ) (es : List JournalEntry) → AllByRecursion Q es → AllByRecursion Q (upto m es)
 each_upto Q m [] h = tt
-each_upto Q m (e ∷ es) h = one_of (λ xs. AllByRecursion Q xs) (m e.actor == 0) (upto m es) (e ∷ upto (less_at m e.actor) es) (each_upto Q m es h.1) (h.0, each_upto Q (less_at m e.actor) es h.1)
+each_upto Q m (e ∷ es) h = one_of (λ xs. AllByRecursion Q xs) (m e.actor == 0) (upto m es)
+    (e ∷ upto (less_at m e.actor) es) (each_upto Q m es h.1) (h.0, each_upto Q (less_at m e.actor) es h.1)
 
 sorted_upto : (m : ℕ → ℕ) (es : List JournalEntry) → AreSorted es → AreSorted (upto m es)
 sorted_upto m [] h = tt
-sorted_upto m (e ∷ es) h = one_of (λ xs. AreSorted xs) (m e.actor == 0) (upto m es) (e ∷ upto (less_at m e.actor) es) (sorted_upto m es h.1) (each_upto (IsBefore e) (less_at m e.actor) es h.0, sorted_upto (less_at m e.actor) es h.1)
+sorted_upto m (e ∷ es) h = one_of (λ xs. AreSorted xs) (m e.actor == 0) (upto m es) (e ∷ upto (less_at m e.actor) es)
+    (sorted_upto m es h.1) (each_upto (IsBefore e) (less_at m e.actor) es h.0, sorted_upto (less_at m e.actor) es h.1)
 
 take_step : {X : Type 0} (k : ℕ) (n : X) (xs : List X) → k ≢ 0 → take k (n ∷ xs) ≡ n ∷ take (k - 1) xs
 take_step zero n xs h = absurd (h refl)
@@ -99,7 +103,8 @@ kept m e es h = grind (arith, nat_tests)
 upto_step : (m : ℕ → ℕ) (e : JournalEntry) (es : List JournalEntry) (k : ℕ) → (m e.actor ≡ 0) ⊎ (m e.actor ≢ 0) → (e.actor ≡ k) ⊎ (e.actor ≢ k)
     → entries_by k (upto m es) ≡ take (m k) (entries_by k es) → entries_by k (upto (less_at m e.actor) es) ≡ take (less_at m e.actor k) (entries_by k es)
     → entries_by k (upto m (e ∷ es)) ≡ take (m k) (entries_by k (e ∷ es))
-upto_step m e es k (inl z) (inl s) h g = rw (skipped m e es z) (h ∙ take_none (m k) (entries_by k es) (ap m (sym s) ∙ z) ∙ sym (take_none (m k) (entries_by k (e ∷ es)) (ap m (sym s) ∙ z)))
+upto_step m e es k (inl z) (inl s) h g =
+    rw (skipped m e es z) (h ∙ take_none (m k) (entries_by k es) (ap m (sym s) ∙ z) ∙ sym (take_none (m k) (entries_by k (e ∷ es)) (ap m (sym s) ∙ z)))
 upto_step m e es k (inl z) (inr ne) h g = rw (skipped m e es z) (rw (by_else k e es ne) h)
 upto_step m e es k (inr nz) (inl s) h g = rw (kept m e es nz) (by_here k e (upto (less_at m e.actor) es) s
     ∙ ap (λ xs. e ∷ xs) (g ∙ ap (λ j. take j (entries_by k es)) (ap (λ x. less_at m e.actor x) (sym s) ∙ less-here m e.actor ∙ ap (λ x. m x - 1) s))
@@ -156,7 +161,8 @@ halves_step c e es h (inl l) o = record {
   low_sorted = (front (IsBefore e) o.low o.high (subst (λ xs. AllByRecursion (IsBefore e) xs) o.whole h.0), o.low_sorted);
   high_sorted = o.high_sorted;
 }
-halves_step c e es h (inr k) o = record { low = []; high = e ∷ es; whole = refl; lows = tt; highs = (k, high_step c e es k h.0); low_sorted = tt; high_sorted = h }
+halves_step c e es h (inr k) o =
+    record { low = []; high = e ∷ es; whole = refl; lows = tt; highs = (k, high_step c e es k h.0); low_sorted = tt; high_sorted = h }
 
 halves : (c : ℕ) (es : List JournalEntry) → AreSorted es → Halves c es
 halves c [] h = record { low = []; high = []; whole = refl; lows = tt; highs = tt; low_sorted = tt; high_sorted = tt }
@@ -180,7 +186,8 @@ pub merged_cut : (c : ℕ) (j x y : ℕ → List JournalEntry) (merged : List Jo
     → ((k : ℕ) → AllByRecursion (IsLow c) (x k)) → ((k : ℕ) → AllByRecursion (IsHigh c) (y k)) → IsCut x y merged
 merged_cut c j x y merged h split lows highs =
     let o : Halves c merged = halves c merged h.sorted in
-    let parts : (k : ℕ) → (entries_by k o.low ≡ x k) × (entries_by k o.high ≡ y k) = λ k. one_cut c (entries_by k o.low) (entries_by k o.high) (x k) (y k) (each_by (IsLow c) k o.low o.lows) (each_by (IsHigh c) k o.high o.highs) (lows k) (highs k)
+    let parts : (k : ℕ) → (entries_by k o.low ≡ x k) × (entries_by k o.high ≡ y k) = λ k. one_cut c (entries_by k o.low)
+    (entries_by k o.high) (x k) (y k) (each_by (IsLow c) k o.low o.lows) (each_by (IsHigh c) k o.high o.highs) (lows k) (highs k)
     (sym (filter-append (λ (e : JournalEntry). e.actor == k) o.low o.high) ∙ ap (λ xs. entries_by k xs) (sym o.whole) ∙ h.each k ∙ split k) in
     record {
       front = o.low;

@@ -1,5 +1,6 @@
 -- Pieces of what a net did: phases, levels and calls at a mark, one after another, and the run that they are.
-use Rattle.std.proofs.Common.{◌≡◌, ◌≢◌, ◌≤◌, ◌<◌, ℕ, Bool, true, false, List, [], ◌∷◌, ◌++◌, Option, Some, None, ◌==◌, if◌then◌else◌, length, get_or, refl, ap, sym, subst, ◌∙◌, arith, ◌⊎◌, inl, inr, append_assoc, map}
+use Rattle.std.proofs.Common.{◌≡◌, ◌≢◌, ◌≤◌, ◌<◌, ℕ, Bool, true, false, List, [], ◌∷◌, ◌++◌, Option, Some, None, ◌==◌}
+use Rattle.std.proofs.Common.{if◌then◌else◌, length, get_or, refl, ap, sym, subst, ◌∙◌, arith, ◌⊎◌, inl, inr, append_assoc, map}
 use Rattle.std.specs.Prelude.{slice_get}
 use Rattle.std.specs.List.{AllByRecursion}
 use Rattle.std.proofs.lemmas.Bool.Decides.{nat_tests}
@@ -8,7 +9,8 @@ use Rattle.std.proofs.lemmas.List.Concat.{flat_map-append}
 use Rattle.std.proofs.lemmas.Option.{slice_get-get_or, slice_get_past}
 use Rattle.ring_net.specs.declared.entry.JournalEntry.{JournalEntry}
 use Rattle.ring_net.specs.declared.entry.Stamped.{Stamped}
-use Rattle.ring_net.specs.Deeds.{Deed, Noted, Makes, Replay, IsDeedOf, IsLater, Clocked, Rising, stamped, puts, gets, sent_to, taken_from, deeds, noted, entries_of}
+use Rattle.ring_net.specs.Deeds.{Deed, Noted, Makes, Replay, IsDeedOf, IsLater, Clocked, Rising, stamped}
+use Rattle.ring_net.specs.Deeds.{puts, gets, sent_to, taken_from, deeds, noted, entries_of}
 use Rattle.ring_net.specs.Phases.{View, InOrder, AllAt, Levelled, NetPhase, Between}
 use Rattle.journal_merge.specs.Merges.{AreSorted, Interleaves, IsCut}
 use Rattle.journal_merge.specs.Worlds.{DeedWorld}
@@ -54,7 +56,8 @@ at_index {I} k ds n Q h f = elim (equal_or_not n k) [
 module _ {A P I : Type 0} (part : A → P) (makes : Makes P I) where
   -- ---- pieces
 
-  pub phase_grows : (took : A → ℕ → I → List (Deed I) → A → Type 0) (turned : A → List (Deed I) → A → Type 0) (u v : View A I) (p : NetPhase part makes took turned u v)
+  pub phase_grows : (took : A → ℕ → I → List (Deed I) → A → Type 0) (turned : A → List (Deed I) → A → Type 0)
+      (u v : View A I) (p : NetPhase part makes took turned u v)
       → Grew part makes u v [] p.notes
   phase_grows took turned u v p = record {
     size = p.size;
@@ -89,14 +92,17 @@ module _ {A P I : Type 0} (part : A → P) (makes : Makes P I) where
       → (p : Between part makes paused k u v answer) → Grew part makes u v (p.from ∷ p.to ∷ []) (at_mark part makes k p.deeds)
   between_grows paused u v k answer k_in p = record {
     size = p.size;
-    replays = λ j d j_in. at_index k ds j (λ n ns. Replay makes n (part (get_or u.actors n d)) (deeds ns) (part (get_or v.actors n d))) (rw (deeds_noted 0 ds) (p.replay d)) (λ ne. ap part (p.others j d ne));
+    replays = λ j d j_in. at_index k ds j (λ n ns. Replay makes n (part (get_or u.actors n d)) (deeds ns) (part (get_or v.actors n d)))
+        (rw (deeds_noted 0 ds) (p.replay d)) (λ ne. ap part (p.others j d ne));
     none = λ j past. at_index k ds j (λ n ns. length u.actors ≤ n → ns ≡ []) (λ h. absurd (omega (arith, h, k_in))) (λ ne h. refl) past;
     own = λ j. at_index k ds j (λ n ns. AllByRecursion (IsDeedOf n) (deeds ns)) (rw (deeds_noted 0 ds) p.own) (λ ne. tt);
     clocks = (at_mark part makes k ds, to_first, (λ j. [], to_second, λ j j_in. p.level j (omega (arith, j_in, p.size))));
-    journals = λ j. at_index k ds j (λ n ns. v.journal n ≡ u.journal n ++ entries_of ns) (rw (entries_noted 0 ds) p.journal) (λ ne. p.journals j ne ∙ sym (append-nil (u.journal j)));
+    journals = λ j. at_index k ds j (λ n ns. v.journal n ≡ u.journal n ++ entries_of ns)
+        (rw (entries_noted 0 ds) p.journal) (λ ne. p.journals j ne ∙ sym (append-nil (u.journal j)));
     edges = p.edges;
     carries = λ a b e. ap (λ xs. u.channel a b ++ xs) refl
-        ∙ at_index k ds a (λ n ns. u.edge n b ≡ true → u.channel n b ++ sent_to b ns ≡ v.channel n b) (λ h. rw (sent_noted b 0 ds) (sym (p.channel b h))) (λ ne h. append-nil (u.channel a b) ∙ sym (p.channels a b ne)) e
+        ∙ at_index k ds a (λ n ns. u.edge n b ≡ true → u.channel n b ++ sent_to b ns ≡ v.channel n b)
+        (λ h. rw (sent_noted b 0 ds) (sym (p.channel b h))) (λ ne h. append-nil (u.channel a b) ∙ sym (p.channels a b ne)) e
         ∙ ap (λ xs. xs ++ v.channel a b) (sym (nothing a b));
     apart = λ a b e. nothing a b;
   }
@@ -129,7 +135,8 @@ module _ {A P I : Type 0} (part : A → P) (makes : Makes P I) where
         first = at_mark part makes k ds;
         after = last;
         split = λ j. sym (append-nil (at_mark part makes k ds j));
-        clocked = λ j j_in. at_index k ds j (λ n ns. Clocked p.from ns (last n)) (rw (last_here k) (clocked_none p.from p.to 0 ds p.none p.counted)) (λ ne. last_else j k ne);
+        clocked = λ j j_in. at_index k ds j (λ n ns. Clocked p.from ns (last n))
+            (rw (last_here k) (clocked_none p.from p.to 0 ds p.none p.counted)) (λ ne. last_else j k ne);
         greatest = record { bound = λ j j_in. most j (j == k); here = k; within = k_in; is = last_here k };
       }
 
@@ -141,7 +148,8 @@ module _ {A P I : Type 0} (part : A → P) (makes : Makes P I) where
       → Grew part makes u t (ls ++ ms) (λ k. m k ++ n k)
   grows_on u v t ls ms m n g h = record {
     size = h.size ∙ g.size;
-    replays = λ k d k_in. rw (deeds_both (m k) (n k)) (replay-append makes k (part (get_or u.actors k d)) (part (get_or v.actors k d)) (part (get_or t.actors k d)) (deeds (m k)) (deeds (n k)) (g.replays k d k_in) (h.replays k d (omega (arith, k_in, g.size))));
+    replays = λ k d k_in. rw (deeds_both (m k) (n k)) (replay-append makes k (part (get_or u.actors k d)) (part (get_or v.actors k d))
+        (part (get_or t.actors k d)) (deeds (m k)) (deeds (n k)) (g.replays k d k_in) (h.replays k d (omega (arith, k_in, g.size))));
     none = λ k past. rw (g.none k past, h.none k (omega (arith, past, g.size))) refl;
     own = λ k. rw (deeds_both (m k) (n k)) (all-append (IsDeedOf k) (deeds (m k)) (deeds (n k)) (g.own k) (h.own k));
     clocks = over-append (length u.actors) u.clock ls m v.clock ms n t.clock g.clocks (subst (λ c. ClockedOver c v.clock ms n t.clock) g.size h.clocks);
@@ -150,7 +158,8 @@ module _ {A P I : Type 0} (part : A → P) (makes : Makes P I) where
         ∙ ap (λ xs. u.journal k ++ xs) (sym (map-append (λ (x : Noted I). x.deed.entry) (m k) (n k)));
     edges = λ a b. h.edges a b ∙ g.edges a b;
     carries = λ a b e. joined (u.channel a b) (sent_to b (m a)) (sent_to b (n a)) (taken_from a (m b)) (taken_from a (n b)) (v.channel a b) (t.channel a b)
-        (sent_to b (m a ++ n a)) (taken_from a (m b ++ n b)) (flat_map-append (puts b) (m a) (n a)) (flat_map-append (gets a) (m b) (n b)) (g.carries a b e) (h.carries a b (g.edges a b ∙ e));
+        (sent_to b (m a ++ n a)) (taken_from a (m b ++ n b)) (flat_map-append (puts b) (m a) (n a))
+        (flat_map-append (gets a) (m b) (n b)) (g.carries a b e) (h.carries a b (g.edges a b ∙ e));
     apart = λ a b e. flat_map-append (gets a) (m b) (n b) ∙ rw (g.apart a b e) (h.apart a b (g.edges a b ∙ e));
   }
     where
@@ -171,7 +180,8 @@ module _ {A P I : Type 0} (part : A → P) (makes : Makes P I) where
 
       highs : (k : ℕ) → AllByRecursion (IsHigh clock) (entries_of (notes k))
       highs k = elim (below_or_past k (length u.actors)) [
-        | inl k_in ↦ rising_high clock (u.clock k) (v.clock k) (notes k) (omega (arith, level k k_in)) (over_rises (length u.actors) u.clock levels notes v.clock k k_in g.clocks)
+        | inl k_in ↦ rising_high clock (u.clock k) (v.clock k) (notes k) (omega (arith, level k k_in))
+            (over_rises (length u.actors) u.clock levels notes v.clock k k_in g.clocks)
         | inr past ↦ rw (g.none k past) tt
       ]
 
@@ -240,5 +250,6 @@ module _ {A P I : Type 0} (part : A → P) (makes : Makes P I) where
 
       e : Ends makes w o.notes (λ k. part_or (slice_get v.actors k) (w.part k)) (λ a b. after (u.edge a b) a b)
       e = ends makes o.notes w (λ k. part_or (slice_get v.actors k) (w.part k)) (λ a b. before (u.edge a b) a b) (λ a b. after (u.edge a b) a b) sorted
-          (later_all o.notes (λ k. rw (o.all k) (later k (below_or_past k (length u.actors))))) (λ a b. channels a b (u.edge a b) refl) (λ k. replays k (below_or_past k (length u.actors)))
+          (later_all o.notes (λ k. rw (o.all k) (later k (below_or_past k (length u.actors))))) (λ a b. channels a b (u.edge a b) refl)
+          (λ k. replays k (below_or_past k (length u.actors)))
           (λ a b. rw (o.all a, o.all b) (carries a b (u.edge a b) refl))

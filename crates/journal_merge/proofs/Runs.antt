@@ -1,5 +1,6 @@
 -- The merged entries are the run of events.
-use Rattle.std.proofs.Common.{◌≡◌, ◌≢◌, ◌≤◌, ◌<◌, ℕ, Bool, true, false, List, [], ◌∷◌, ◌++◌, Option, Some, None, ◌==◌, if◌then◌else◌, refl, ap, sym, subst, ◌∙◌, arith, inl, inr, append_assoc, map}
+use Rattle.std.proofs.Common.{◌≡◌, ◌≢◌, ◌≤◌, ◌<◌, ℕ, Bool, true, false, List, [], ◌∷◌, ◌++◌, Option, Some, None, ◌==◌}
+use Rattle.std.proofs.Common.{if◌then◌else◌, refl, ap, sym, subst, ◌∙◌, arith, inl, inr, append_assoc, map}
 use Rattle.std.specs.List.{AllByRecursion}
 use Rattle.std.proofs.lemmas.Bool.Decides.{nat_tests}
 use Rattle.std.proofs.lemmas.List.{append_cancel_left, append-nil, map-append}
@@ -65,7 +66,8 @@ module _ {I : Type 0} where
       → AllByRecursion (λ (x : Stamped I). low ≤ x.stamp.0) (sent_to b (noted_by a ns))
   sent_above low a b [] h = tt
   sent_above low a b (n ∷ ns) h = elim (equal_or_not n.deed.entry.actor a) [
-    | inl e ↦ rw (own_here a n ns e) (all-append (λ (x : Stamped I). low ≤ x.stamp.0) (puts b n) (sent_to b (noted_by a ns)) (puts_above low b n h.0) (sent_above low a b ns h.1))
+    | inl e ↦ rw (own_here a n ns e)
+        (all-append (λ (x : Stamped I). low ≤ x.stamp.0) (puts b n) (sent_to b (noted_by a ns)) (puts_above low b n h.0) (sent_above low a b ns h.1))
     | inr ne ↦ rw (own_else a n ns ne) (sent_above low a b ns h.1)
   ]
 
@@ -151,7 +153,9 @@ module _ {I : Type 0} where
       by_case None e = taken_none n c e
       by_case (Some (f, x)) e =
           let me : ℕ = n.deed.entry.actor in
-          let h : (rest : List (Stamped I)) × (c f me ≡ record { stamp = record { 0 = n.stamp }; item = x } ∷ rest) = head_there (c f me) (d f me) (taken_from f (noted_by me ns)) (sent_to me (noted_by f (n ∷ ns))) (record { stamp = record { 0 = n.stamp }; item = x }) n.deed.entry.clock (later.0 (f, x) e)
+          let h : (rest : List (Stamped I)) × (c f me ≡ record { stamp = record { 0 = n.stamp }; item = x } ∷ rest) =
+          head_there (c f me) (d f me) (taken_from f (noted_by me ns)) (sent_to me (noted_by f (n ∷ ns)))
+          (record { stamp = record { 0 = n.stamp }; item = x }) n.deed.entry.clock (later.0 (f, x) e)
           (sent_above n.deed.entry.clock f me (n ∷ ns) (omega arith, low_all n ns sorted.0))
           (carries f me ∙ ap (λ y. y ++ d f me) (taken_split f me n ns ∙ ap (λ y. y ++ taken_from f (noted_by me ns)) (some_head n f x e))) in
           taken_some n c f x (h.0) e (h.1)
@@ -191,7 +195,8 @@ module _ {P I : Type 0} (makes : Makes P I) where
   carried_on : (n : Noted I) (ns : List (Noted I)) (c d : ℕ → ℕ → List (Stamped I)) (t : TakenOff n c) (a b : ℕ)
       → c a b ++ sent_to b (noted_by a (n ∷ ns)) ≡ taken_from a (noted_by b (n ∷ ns)) ++ d a b
       → (t.left a b ++ put_on n a b) ++ sent_to b (noted_by a ns) ≡ taken_from a (noted_by b ns) ++ d a b
-  carried_on n ns c d t a b e = carried (took_off n a b) (t.left a b) (c a b) (put_on n a b) (sent_to b (noted_by a ns)) (taken_from a (noted_by b ns)) (d a b) (t.off a b)
+  carried_on n ns c d t a b e =
+      carried (took_off n a b) (t.left a b) (c a b) (put_on n a b) (sent_to b (noted_by a ns)) (taken_from a (noted_by b ns)) (d a b) (t.off a b)
       (ap (λ x. c a b ++ x) (sym (sent_split a b n ns)) ∙ e ∙ ap (λ x. x ++ d a b) (taken_split a b n ns))
 
   -- each note stands where its actor can make it

@@ -1,11 +1,13 @@
 -- The merge of two sorted lists, and of many, two at a time.
-use Rattle.std.proofs.Common.{◌≡◌, ◌≤◌, ◌<◌, ◌+◌, ◌-◌, ℕ, zero, suc, Bool, true, false, if◌then◌else◌, List, [], ◌∷◌, ◌++◌, length, get_or, take, drop, length-drop, refl, ap, sym, subst, ◌∙◌, arith, add-one, append_assoc, ◌⊎◌, inl, inr}
+use Rattle.std.proofs.Common.{◌≡◌, ◌≤◌, ◌<◌, ◌+◌, ◌-◌, ℕ, zero, suc, Bool, true, false, if◌then◌else◌, List, [], ◌∷◌, ◌++◌, length, get_or}
+use Rattle.std.proofs.Common.{take, drop, length-drop, refl, ap, sym, subst, ◌∙◌, arith, add-one, append_assoc, ◌⊎◌, inl, inr}
 use Rattle.std.specs.Prelude.{IsPermutation}
 use Rattle.std.specs.List.{AllByRecursion, remove}
 use Rattle.std.proofs.Math.Seq.{drop-cons}
 use Rattle.std.proofs.lemmas.Bool.Decides.{nat_tests}
 use Rattle.std.proofs.lemmas.List.{append-nil, take_all}
-use Rattle.std.proofs.lemmas.List.Sorted.{IsPermutation-refl, IsPermutation-trans, IsPermutation-cons, IsPermutation-append_left, IsPermutation-append_right, IsPermutation-append_comm, IsPermutation-middle}
+use Rattle.std.proofs.lemmas.List.Sorted.{IsPermutation-refl, IsPermutation-trans, IsPermutation-cons, IsPermutation-append_left}
+use Rattle.std.proofs.lemmas.List.Sorted.{IsPermutation-append_right, IsPermutation-append_comm, IsPermutation-middle}
 use Rattle.ring_net.specs.declared.entry.JournalEntry.{JournalEntry}
 use Rattle.ring_net.specs.Journals.{ClocksRise, AreJournals}
 use Rattle.journal_merge.specs.Merges.{by_clock, NoneBefore, AllOrdered}
@@ -37,7 +39,8 @@ all_step x xs on f [] = subst (λ zs. IsPermutation zs (x ∷ xs)) (sym (append-
 all_step x xs on f (y ∷ ys) =
     let rest = all_step x xs on f ys in
     one_of (λ zs. IsPermutation ((x ∷ xs) ++ y ∷ ys) zs) (by_clock y x) (y ∷ step x xs on ys) (x ∷ on (y ∷ ys))
-    (λ h. IsPermutation-trans ((x ∷ xs) ++ y ∷ ys) (y ∷ ((x ∷ xs) ++ ys)) (y ∷ step x xs on ys) (IsPermutation-middle (x ∷ xs) y ys) (IsPermutation-cons y ((x ∷ xs) ++ ys) (step x xs on ys) rest))
+    (λ h. IsPermutation-trans ((x ∷ xs) ++ y ∷ ys) (y ∷ ((x ∷ xs) ++ ys)) (y ∷ step x xs on ys)
+    (IsPermutation-middle (x ∷ xs) y ys) (IsPermutation-cons y ((x ∷ xs) ++ ys) (step x xs on ys) rest))
     (λ h. IsPermutation-cons x (xs ++ y ∷ ys) (on (y ∷ ys)) (f (y ∷ ys)))
 
 pub merged_all : (xs ys : List JournalEntry) → IsPermutation (xs ++ ys) (merged xs ys)
@@ -86,7 +89,11 @@ order_step x xs on h each f [] k = h
 order_step x xs on h each f (y ∷ ys) k =
     let rest = order_step x xs on h each f ys k.1 in
     one_of (λ zs. NoneBefore zs) (by_clock y x) (y ∷ step x xs on ys) (x ∷ on (y ∷ ys))
-    (λ e. (each_step (λ f. by_clock f y ≡ false) x xs on (lower x y e) (all_between x y xs e h.0) (λ zs. each (λ f. by_clock f y ≡ false) zs (all_between x y xs e h.0)) ys k.0, rest))
+    (λ e. (
+      each_step (λ f. by_clock f y ≡ false) x xs on (lower x y e) (all_between x y xs e h.0)
+          (λ zs. each (λ f. by_clock f y ≡ false) zs (all_between x y xs e h.0)) ys k.0,
+      rest,
+    ))
     (λ e. (each (λ f. by_clock f x ≡ false) (y ∷ ys) h.0 (e, all_above x y ys e k.0), f (y ∷ ys) k))
 
 pub merged_order : (xs ys : List JournalEntry) → NoneBefore xs → NoneBefore ys → NoneBefore (merged xs ys)
@@ -128,7 +135,8 @@ joined_more xs x y m two one rest first second both all = rw (joined-append rest
     (IsPermutation-trans (joined two) (x ++ joined one) (joined rest ++ m) first
     (IsPermutation-trans (x ++ joined one) (x ++ (y ++ joined rest)) (joined rest ++ m) (IsPermutation-append_right x (joined one) (y ++ joined rest) second)
     (rw (sym (append_assoc x y (joined rest)))
-    (IsPermutation-trans ((x ++ y) ++ joined rest) (m ++ joined rest) (joined rest ++ m) (IsPermutation-append_left (joined rest) (x ++ y) m both) (IsPermutation-append_comm m (joined rest)))))))
+    (IsPermutation-trans ((x ++ y) ++ joined rest) (m ++ joined rest) (joined rest ++ m)
+    (IsPermutation-append_left (joined rest) (x ++ y) m both) (IsPermutation-append_comm m (joined rest)))))))
   where
     joined-append : (js : List (List JournalEntry)) (m : List JournalEntry) → joined (js ++ m ∷ []) ≡ joined js ++ m
     joined-append [] m = append-nil m
@@ -138,12 +146,15 @@ joined_more xs x y m two one rest first second both all = rw (joined-append rest
 pub pulled : (runs : List (List JournalEntry)) (i : ℕ) (x : List JournalEntry) → i < length runs → x ≡ get_or runs i x
     → IsPermutation (joined runs) (x ++ joined (remove runs i))
 pulled [] i x h is = absurd (omega (arith, h))
-pulled (r ∷ runs) zero x h is = subst (λ (y : List JournalEntry). IsPermutation (r ++ joined runs) (y ++ joined runs)) (sym is) (IsPermutation-refl (r ++ joined runs))
+pulled (r ∷ runs) zero x h is =
+    subst (λ (y : List JournalEntry). IsPermutation (r ++ joined runs) (y ++ joined runs)) (sym is) (IsPermutation-refl (r ++ joined runs))
 pulled (r ∷ runs) (suc i) x h is =
     let rest = joined (remove runs i) in
-    IsPermutation-trans (r ++ joined runs) (r ++ (x ++ rest)) (x ++ (r ++ rest)) (IsPermutation-append_right r (joined runs) (x ++ rest) (pulled runs i x (omega (arith, h)) is))
+    IsPermutation-trans (r ++ joined runs) (r ++ (x ++ rest)) (x ++ (r ++ rest))
+    (IsPermutation-append_right r (joined runs) (x ++ rest) (pulled runs i x (omega (arith, h)) is))
     (subst (λ (ys : List JournalEntry). IsPermutation ys (x ++ (r ++ rest))) (append_assoc r x rest)
-    (subst (λ (ys : List JournalEntry). IsPermutation ((r ++ x) ++ rest) ys) (append_assoc x r rest) (IsPermutation-append_left rest (r ++ x) (x ++ r) (IsPermutation-append_comm r x))))
+    (subst (λ (ys : List JournalEntry). IsPermutation ((r ++ x) ++ rest) ys) (append_assoc x r rest)
+    (IsPermutation-append_left rest (r ++ x) (x ++ r) (IsPermutation-append_comm r x))))
 
 pub ordered_more : (runs : List (List JournalEntry)) (m : List JournalEntry) → AllOrdered runs → NoneBefore m → AllOrdered (runs ++ m ∷ [])
 ordered_more [] m h k = (k, tt)

@@ -24,7 +24,8 @@ module _ {I : Type 0} where
   -- and so on.
   abbrev pub ClockedOver : (n : ℕ) (before : ℕ → ℕ) (levels : List ℕ) (notes : ℕ → List (Noted I)) (after : ℕ → ℕ) → Type 0
   ClockedOver n before [] notes after = (k : ℕ) → k < n → Clocked (before k) (notes k) (after k)
-  ClockedOver n before (level ∷ levels) notes after = (rest : ℕ → List (Noted I)) × UpToLevel n before level notes rest × ClockedOver n (λ k. level) levels rest after
+  ClockedOver n before (level ∷ levels) notes after =
+      (rest : ℕ → List (Noted I)) × UpToLevel n before level notes rest × ClockedOver n (λ k. level) levels rest after
 
 module _ {A P I : Type 0} (part : A → P) where
   -- the parts of the world are the actors, and for each edge the items in flight are those in its channel
@@ -50,7 +51,8 @@ module _ {A P I : Type 0} (part : A → P) (makes : Makes P I) where
   -- A run of events with these entries, from a world of one view to a world of another. Each actor's events are its own, in order, and their clocks
   -- are exact: what an event takes from a channel has as its stamp the clock of the event that sent it. Where no edge leads, the model's channel
   -- grows by what was sent there, which the net drops.
-  pub record RunsTo (u : View A I) (w : DeedWorld P I) (levels : List ℕ) (notes : ℕ → List (Noted I)) (entries : List JournalEntry) (v : View A I) : Type 0 where
+  pub record RunsTo (u : View A I) (w : DeedWorld P I) (levels : List ℕ)
+      (notes : ℕ → List (Noted I)) (entries : List JournalEntry) (v : View A I) : Type 0 where
     pub events : List (Noted I)
     pub same : entries_of events ≡ entries
     pub each : (k : ℕ) → noted_by k events ≡ notes k

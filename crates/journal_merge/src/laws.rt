@@ -1,6 +1,7 @@
 //! That the merged list of journals is a run, and where it can be cut.
 
-ghost use Rattle.journal_merge.specs.Laws.{MergedOnce, InterleavedOnce, RunsJoin, MergedEach, MergedUpto, CutsAtLevel, MergeRuns, GrowsOn, LevelGrows, PhaseGrows, BetweenGrows};
+ghost use Rattle.journal_merge.specs.Laws.{MergedOnce, InterleavedOnce, RunsJoin, MergedEach, MergedUpto, CutsAtLevel};
+ghost use Rattle.journal_merge.specs.Laws.{MergeRuns, GrowsOn, LevelGrows, PhaseGrows, BetweenGrows};
 
 use ring_net::Actor;
 

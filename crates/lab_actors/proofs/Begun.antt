@@ -37,7 +37,8 @@ peering_of Operator = 0
 same_id : (p q : PeeringId) → p.0 ≡ q.0 → p ≡ q
 same_id p q e = ap (λ (n : ℕ). (let x : PeeringId = record { 0 = n } in x)) e
 
-module _ (setup : Setup) (faults : List Fault) (peering : PeeringId) (config : FarConfig) (far : made_fars.Far.Far) (of : IsFarConfigOf setup config) (its : config.peering ≡ peering) (new : IsNewFar setup config far) where
+module _ (setup : Setup) (faults : List Fault) (peering : PeeringId) (config : FarConfig) (far : made_fars.Far.Far)
+    (of : IsFarConfigOf setup config) (its : config.peering ≡ peering) (new : IsNewFar setup config far) where
   own_is : far_own_part far ≡ first_own setup (FarSide peering.0)
   own_is = new.is ∙ ap (λ (p : PeeringId). first_own setup (FarSide p.0)) its
 

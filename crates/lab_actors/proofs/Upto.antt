@@ -18,7 +18,8 @@ use Rattle.lab_actors.specs.Firsts.{first_own, IsFirstNode, AreFirstUpTo}
 pub none_yet : (setup : Setup) (faults : List Fault) → AreFirstUpTo setup faults 0 []
 none_yet setup faults = record { size = refl; each = λ k d x below is. absurd (omega arith); works = tt; fresh = tt }
 
-module _ (setup : Setup) (faults : List Fault) (n : ℕ) (actors : List Node) (name : ActorName) (node : Node) (so_far : AreFirstUpTo setup faults n actors) (at : actor_at setup n ≡ Some name)
+module _ (setup : Setup) (faults : List Fault) (n : ℕ) (actors : List Node) (name : ActorName)
+    (node : Node) (so_far : AreFirstUpTo setup faults n actors) (at : actor_at setup n ≡ Some name)
     (first : IsFirstNode setup faults name node) where
   longer : length (actors ++ node ∷ []) ≡ n + 1
   longer = let h = length-append actors (node ∷ []) in let size = so_far.size in omega arith

@@ -1,5 +1,6 @@
 -- Routes that are noted one after another.
-use Rattle.std.proofs.Common.{◌≡◌, ℕ, ◌+◌, ◌<◌, ◌≤◌, List, [], ◌∷◌, ◌++◌, Option, Result, Ok, Err, length, take, sym, ap, ◌∙◌, subst, append_assoc, append-nil, slice_index_or}
+use Rattle.std.proofs.Common.{◌≡◌, ℕ, ◌+◌, ◌<◌, ◌≤◌, List, [], ◌∷◌, ◌++◌, Option, Result, Ok, Err, length}
+use Rattle.std.proofs.Common.{take, sym, ap, ◌∙◌, subst, append_assoc, append-nil, slice_index_or}
 use Rattle.std.specs.Prelude.{OnOk}
 use Rattle.std.specs.List.{cons_option, filter_map, flat_map}
 use Rattle.std.proofs.lemmas.List.{take_more, take_all}
@@ -32,7 +33,8 @@ pub flat_step : {X : Type 0} (f : X → List Med) (xs : List X) (i : ℕ) (x : X
     → NotesMeds (flat_map f (take i xs)) old middle → NotesMeds (f x) middle new → NotesMeds (flat_map f (take (i + 1) xs)) old new
 flat_step f xs i x old middle new below is before this =
     adds_same (flat_map f (take i xs) ++ f x) (flat_map f (take (i + 1) xs)) old new
-    (sym (ap (flat_map f) (one_more xs i x below is) ∙ flat_map-append f (take i xs) (x ∷ []) ∙ ap (λ (l : List Med). flat_map f (take i xs) ++ l) (append-nil (f x))))
+    (sym (ap (flat_map f) (one_more xs i x below is) ∙ flat_map-append f (take i xs) (x ∷ [])
+    ∙ ap (λ (l : List Med). flat_map f (take i xs) ++ l) (append-nil (f x))))
     (adds_both (flat_map f (take i xs)) (f x) old middle new before this)
 
 pub filter_step : {X : Type 0} (f : X → Option Med) (xs : List X) (i : ℕ) (x : X) (old middle new : Meds) → i < length xs → x ≡ slice_index_or xs i x

@@ -98,7 +98,8 @@ each front (m ∷ rest) x =
     let joined : front ++ m ∷ rest ≡ (front ++ m ∷ []) ++ rest = sym (append_assoc front (m ∷ []) rest) in
     ap (λ (k : ℕ). (m.med == k) && list_all (has ((front ++ m ∷ rest) ++ x ∷ [])) (rest ++ x ∷ [])) (first_stays front rest m x)
     ∙ and_same (has (front ++ m ∷ rest) m) _ _
-    (subst (λ (l : List Med). list_all (has (l ++ x ∷ [])) (rest ++ x ∷ []) ≡ (list_all (has l) rest && has (l ++ x ∷ []) x)) (sym joined) (each (front ++ m ∷ []) rest x))
+    (subst (λ (l : List Med). list_all (has (l ++ x ∷ [])) (rest ++ x ∷ []) ≡ (list_all (has l) rest && has (l ++ x ∷ []) x))
+    (sym joined) (each (front ++ m ∷ []) rest x))
     ∙ and_joins (has (front ++ m ∷ rest) m) (list_all (has (front ++ m ∷ rest)) rest) (has ((front ++ m ∷ rest) ++ x ∷ []) x)
 
 -- with one more route all are even where they were, and it has the MED of the first of its kind

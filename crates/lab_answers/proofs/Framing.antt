@@ -1,5 +1,6 @@
 -- Messages one after another.
-use Rattle.std.proofs.Common.{◌≡◌, Bool, true, false, List, ℕ, [], ◌++◌, Option, Some, None, Result, Ok, Err, length, drop, take, sym, ap, ◌∙◌, subst, refl, append-nil}
+use Rattle.std.proofs.Common.{◌≡◌, Bool, true, false, List, ℕ, [], ◌++◌, Option, Some, None, Result, Ok}
+use Rattle.std.proofs.Common.{Err, length, drop, take, sym, ap, ◌∙◌, subst, refl, append-nil}
 use Rattle.std.specs.List.{cons_option, filter_map, flat_map}
 use Rattle.std.proofs.lemmas.List.Concat.{flat_map-append}
 use Rattle.bgp_types.specs.declared.fault.Expected.{Expected}
@@ -63,7 +64,8 @@ module _ (imports : Imports) (expected : Expected) where
   front_then frame rest bytes e =
       let here : List Update = cons_option (update_in_frame expected frame) [] in
       let after : List Update = filter_map (update_in_frame expected) (many frame_at rest).0 in
-      sym (ap (λ (x : List (List ℕ) × List ℕ). meds_of_updates imports (filter_map (update_in_frame expected) x.0)) (many_some frame_at frame_shortens bytes (frame, rest) e)
+      sym (ap (λ (x : List (List ℕ) × List ℕ). meds_of_updates imports (filter_map (update_in_frame expected) x.0))
+      (many_some frame_at frame_shortens bytes (frame, rest) e)
       ∙ ap (meds_of_updates imports) (cons_is (update_in_frame expected frame) after)
       ∙ ap (flat_map (meds_of imports)) (flat_map-append announced_by here after)
       ∙ flat_map-append (meds_of imports) (flat_map announced_by here) (flat_map announced_by after))
@@ -74,11 +76,14 @@ module _ (imports : Imports) (expected : Expected) where
       → NotesMeds (meds_of_updates imports (cons_option (update_in_frame expected frame) [])) old middle
       → (new : Meds) → NotesMeds (noted_in rest) middle new → NotesMeds (noted_in said) first new
   one_frame frame rest bytes said first old middle e before this new after =
-      before new (adds_same (meds_of_updates imports (cons_option (update_in_frame expected frame) []) ++ noted_in rest) (noted_in bytes) old new (front_then frame rest bytes e)
+      before new (adds_same (meds_of_updates imports (cons_option (update_in_frame expected frame) []) ++ noted_in rest)
+      (noted_in bytes) old new (front_then frame rest bytes e)
       (adds_both (meds_of_updates imports (cons_option (update_in_frame expected frame) [])) (noted_in rest) old middle new this after))
 
   -- at the end no frame is left
   pub last_frame : (bytes said : List ℕ) (first old : Meds) → frame_at bytes ≡ None
       → ((new : Meds) → NotesMeds (noted_in bytes) old new → NotesMeds (noted_in said) first new) → NotesMeds (noted_in said) first old
   last_frame bytes said first old e before =
-      before old (adds_same [] (noted_in bytes) old old (sym (ap (λ (x : List (List ℕ) × List ℕ). meds_of_updates imports (filter_map (update_in_frame expected) x.0)) (many_none frame_at bytes e))) (adds_none old))
+      before old (adds_same [] (noted_in bytes) old old
+      (sym (ap (λ (x : List (List ℕ) × List ℕ). meds_of_updates imports (filter_map (update_in_frame expected) x.0)) (many_none frame_at bytes e)))
+      (adds_none old))

@@ -88,9 +88,11 @@ module _ (input : LabInput) where
     announced_over said expected imports is as_read let_in_by =
         ap (λ (i : Imports). meds_of_updates i (filter_map (update_in_frame expected) (many frame_at said).0)) let_in_by
         ∙ ap (λ (e : Expected). meds_of_updates (imports_of input x) (filter_map (update_in_frame e) (many frame_at said).0)) as_read
-        ∙ ap (λ (s : List ℕ). meds_of_updates (imports_of input x) (filter_map (update_in_frame (established (peering_setup input (p, x)) s)) (many frame_at s).0)) is
+        ∙ ap (λ (s : List ℕ).
+        meds_of_updates (imports_of input x) (filter_map (update_in_frame (established (peering_setup input (p, x)) s)) (many frame_at s).0)) is
         ∙ same_flat (meds_of (imports_of input x)) (meds_from (setup_of input) config) let_in_so
-        (flat_map announced_by (filter_map (update_in_frame (established (peering_setup input (p, x)) (said_in_all (setup_of input) p (peering_setup input (p, x)))))
+        (flat_map announced_by
+        (filter_map (update_in_frame (established (peering_setup input (p, x)) (said_in_all (setup_of input) p (peering_setup input (p, x)))))
         (many frame_at (said_in_all (setup_of input) p (peering_setup input (p, x)))).0))
 
   -- over all peerings

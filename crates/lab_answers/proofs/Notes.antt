@@ -53,7 +53,8 @@ module _ (before : List Med) (x : Med) (kept : Meds) (is : KeepsFirstMeds before
 
   -- where there was none, it is the first
   pub absent : kept_med kept x.prefix x.neighbour ≡ None → (new : Meds) → new.even ≡ kept.even
-      → ((prefix : PrefixValue) (neighbour : ℕ) → kept_med new prefix neighbour ≡ cond (is_between prefix neighbour x) (Some x.med) (kept_med kept prefix neighbour))
+      → ((prefix : PrefixValue) (neighbour : ℕ)
+      → kept_med new prefix neighbour ≡ cond (is_between prefix neighbour x) (Some x.med) (kept_med kept prefix neighbour))
       → KeepsFirstMeds (before ++ x ∷ []) new
   absent e new same updates = record {
     first = λ prefix neighbour. updates prefix neighbour

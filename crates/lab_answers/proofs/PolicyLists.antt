@@ -1,5 +1,6 @@
 -- The policies of a session's name, over the input and over the laboratory that it describes.
-use Rattle.std.proofs.Common.{◌≡◌, ℕ, suc, ◌+◌, ◌<◌, Bool, true, false, cond, List, [], ◌∷◌, ◌++◌, map, Option, Some, None, length, take, refl, sym, ap, ◌∙◌, slice_index_or, arith}
+use Rattle.std.proofs.Common.{◌≡◌, ℕ, suc, ◌+◌, ◌<◌, Bool, true, false, cond, List, [], ◌∷◌, ◌++◌, map, Option}
+use Rattle.std.proofs.Common.{Some, None, length, take, refl, sym, ap, ◌∙◌, slice_index_or, arith}
 use Rattle.std.specs.Prelude.{slice_get, find, option_map, option_and_then, unwrap_or}
 use Rattle.std.specs.List.{cons_option, filter_map, range_with_len}
 use Rattle.std.specs.Str.{bytes_eq}
@@ -44,7 +45,8 @@ by_number F G n [] each = refl
 by_number {X} {Y} F G n (x ∷ xs) each =
     let here : n + 0 ≡ n = omega arith in
     ap (λ (o : Option Y). cons_option o (filter_map F (range_with_len (n + 1) (length xs)))) (ap F (sym here) ∙ each 0 x refl)
-    ∙ ap (λ (l : List Y). cons_option (G x) l) (by_number F G (n + 1) xs (λ k y e. ap F (let index : n + 1 + k ≡ n + suc k = omega arith in index) ∙ each (suc k) y e))
+    ∙ ap (λ (l : List Y). cons_option (G x) l)
+    (by_number F G (n + 1) xs (λ k y e. ap F (let index : n + 1 + k ≡ n + suc k = omega arith in index) ∙ each (suc k) y e))
 
 -- ---- by name
 
@@ -56,7 +58,8 @@ same_rules name (p ∷ ps) = by_test (bytes_eq name p.name) (same_rules name ps)
   by_test : (t : Bool)
       → option_map (λ (policy : NamedRules). policy.rules) (find (λ (policy : NamedRules). bytes_eq name policy.name) (map named_rules ps))
       ≡ option_map (λ (policy : PolicyInput). policy.rules) (find (λ (policy : PolicyInput). bytes_eq name policy.name) ps)
-      → option_map (λ (policy : NamedRules). policy.rules) (cond t (Some (named_rules p)) (find (λ (policy : NamedRules). bytes_eq name policy.name) (map named_rules ps)))
+      → option_map (λ (policy : NamedRules). policy.rules)
+      (cond t (Some (named_rules p)) (find (λ (policy : NamedRules). bytes_eq name policy.name) (map named_rules ps)))
       ≡ option_map (λ (policy : PolicyInput). policy.rules) (cond t (Some p) (find (λ (policy : PolicyInput). bytes_eq name policy.name) ps))
   by_test true rest = refl
   by_test false rest = rest
@@ -66,7 +69,8 @@ module _ (input : LabInput) where
   rules_are None r x there = refl
   rules_are (Some name) r x there =
       ap (λ o. option_map (λ (policy : NamedRules). policy.rules)
-      (find (λ (policy : NamedRules). bytes_eq name policy.name) (unwrap_or (option_map (λ (y : RouterSetup). y.policies) o) []))) (router_there input r x there)
+      (find (λ (policy : NamedRules). bytes_eq name policy.name) (unwrap_or (option_map (λ (y : RouterSetup). y.policies) o) []))) (router_there
+      input r x there)
       ∙ same_rules name x.policies
 
   -- the rules for a session's name, router by router

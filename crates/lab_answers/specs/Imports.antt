@@ -38,4 +38,5 @@ update_in_frame expected frame = update_in (message_of expected frame)
 -- the message at the front of bytes has this length; none where no whole one with a sound header stands there
 abbrev pub IsFront : Option ℕ → List ℕ → Type 0
 IsFront None bytes = None ≡ frame_at bytes
-IsFront (Some n) bytes = (frame_at bytes ≡ Some (take n bytes, drop n bytes)) × (frame_at (take n bytes) ≡ Some (take n bytes, [])) × (19 ≤ n) × (n ≤ length bytes)
+IsFront (Some n) bytes =
+    (frame_at bytes ≡ Some (take n bytes, drop n bytes)) × (frame_at (take n bytes) ≡ Some (take n bytes, [])) × (19 ≤ n) × (n ≤ length bytes)

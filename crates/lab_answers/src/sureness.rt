@@ -9,7 +9,8 @@ ghost use Rattle.lab_tables.specs.Scripts.{is_settle_step};
 ghost use Rattle.lab_setup.specs.Accepted.{IsAccepted};
 ghost use Rattle.lab_setup.specs.Setups.{setup_of, peering_setup};
 ghost use Rattle.even_inputs.specs.Timers.{has_no_timer as has_no_timer_lem, has_no_timer_on as has_no_timer_on_lem, hold_offered as hold_offered_lem};
-ghost use Rattle.sure_inputs.specs.Sure.{has_room_for, is_raw_step, has_default_opening as has_default_opening_lem, is_plain as is_plain_lem, is_sure_step as is_sure_step_lem, is_sure as is_sure_lem};
+ghost use Rattle.sure_inputs.specs.Sure.{has_room_for, is_raw_step, has_default_opening as has_default_opening_lem};
+ghost use Rattle.sure_inputs.specs.Sure.{is_plain as is_plain_lem, is_sure_step as is_sure_step_lem, is_sure as is_sure_lem};
 ghost use Rattle.lab_answers.specs.PlainPeerings.{plain_in};
 
 use crate::said::{opened_by, said_over};

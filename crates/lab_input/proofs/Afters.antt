@@ -71,7 +71,8 @@ one_more test xs x = by_test (test x) refl where
 pub any_next : {A B : Type 0} (test : B → Bool) (f : A → B) (xs : List A) (i : ℕ) (x : A) → i < length xs → x ≡ get_or xs i x → (old new : Bool)
     → new ≡ cond (test (f x)) true old → old ≡ list_any test (map f (take i xs)) → new ≡ list_any test (map f (take (i + 1) xs))
 any_next test f xs i x within is old new more so_far =
-    let longer : map f (take (i + 1) xs) ≡ map f (take i xs) ++ f x ∷ [] = ap (map f) (take_more xs i x within ∙ ap (λ y. take i xs ++ y ∷ []) (sym is)) ∙ map-append f (take i xs) (x ∷ []) in
+    let longer : map f (take (i + 1) xs) ≡ map f (take i xs) ++ f x ∷ [] =
+    ap (map f) (take_more xs i x within ∙ ap (λ y. take i xs ++ y ∷ []) (sym is)) ∙ map-append f (take i xs) (x ∷ []) in
     more ∙ ap (λ t. cond (test (f x)) true t) so_far ∙ one_more test (map f (take i xs)) (f x) ∙ ap (list_any test) (sym longer)
 
 pub any_here : {A : Type 0} (test : A → Bool) (xs : List A) (i : ℕ) (x : A) → i < length xs → x ≡ get_or xs i x → (old new : Bool)

@@ -31,7 +31,8 @@ abbrev pub has_segment : List (List ℕ) → SegmentKey → Members → Bool
 has_segment peerings key t = is_fault_for key.peering key.way key.segment (fault_of peerings t)
 
 same_by_way : (p : PeeringId) (v : Way) (m : ℕ) (q : PeeringId) (w : Way) (n : ℕ)
-    → (key_eq.ghosts).eq (record { peering = p; way = v; segment = m }) (record { peering = q; way = w; segment = n }) ≡ ((p.0 == q.0) && (is_same_way v w && (m == n)))
+    → (key_eq.ghosts).eq (record { peering = p; way = v; segment = m }) (record { peering = q; way = w; segment = n })
+    ≡ ((p.0 == q.0) && (is_same_way v w && (m == n)))
 same_by_way p Home m q Home n = refl
 same_by_way p Home m q Remote n = refl
 same_by_way p Remote m q Home n = refl

@@ -34,7 +34,8 @@ use Rattle.lab_tables.specs.declared.input.Step.TheVariants.{Announce, Withdraw}
 use Rattle.lab_tables.specs.declared.words.StepWord.{StepWord}
 use Rattle.lab_tables.specs.declared.words.StepWord.TheVariants.{Announces, Withdraws, SaysRaw, Grafts, Settles, Evacuates, Other}
 use Rattle.lab_tables.specs.Peerings.{peering_ends, peering_rest, peering_flaw}
-use Rattle.lab_tables.specs.Scripts.{word_at, announce_keys, withdraw_keys, do_keys, is_crowded, worded_flaw, grouped_flaw, step_flaw, step_ases, said_prefixes, said_attrs, peering_number, worded_step, step_of}
+use Rattle.lab_tables.specs.Scripts.{word_at, announce_keys, withdraw_keys, do_keys, is_crowded, worded_flaw, grouped_flaw}
+use Rattle.lab_tables.specs.Scripts.{step_flaw, step_ases, said_prefixes, said_attrs, peering_number, worded_step, step_of}
 use Rattle.lab_tables.specs.Documents.{shaped, lab_of}
 use Rattle.lab_input.specs.declared.bad.BadInput.{BadInput}
 use Rattle.lab_input.specs.declared.bad.BadInput.TheVariants.{NotToml}
@@ -99,7 +100,10 @@ remote_kept doc i t none =
     let remote = none_left (key_flaw at t (required (codes "remote_as") (Number 1 4294967295))) _
     (none_right (key_flaw at t (required (codes "at") Name)) _ (none_right (key_flaw at t (required (codes "name") Name)) _ ends)) in
     let address = none_left (key_flaw at t (required (codes "remote_address") Host)) _ rest in
-    record { remote_as = number_within at t (codes "remote_as") 32 0 1 4294967295 (omega arith) remote; address = host_required at t (codes "remote_address") 0 address }
+    record {
+      remote_as = number_within at t (codes "remote_as") 32 0 1 4294967295 (omega arith) remote;
+      address = host_required at t (codes "remote_address") 0 address;
+    }
 
 -- ---- steps
 
@@ -162,8 +166,10 @@ worded_said : (word : StepWord) (routers : List (List ℕ)) (ps : List PeeringIn
 worded_said Announces routers ps i t of none says =
     let keys = none_left (keys_flaw (tables.Step i) announce_keys t) _ none in
     let kept = announce_kept 0 0 i t keys in
-    announced (said_prefixes t) (said_attrs (slice_get ps (peering_number ps t)) t) (prefixes_said t kept.prefixes) (remote_said (slice_get ps (peering_number ps t)) i t (of says) keys)
-worded_said Withdraws routers ps i t of none says = withdrawn (said_prefixes t) (prefixes_said t (withdraw_kept i t (none_left (keys_flaw (tables.Step i) withdraw_keys t) _ none)))
+    announced (said_prefixes t) (said_attrs (slice_get ps (peering_number ps t)) t)
+    (prefixes_said t kept.prefixes) (remote_said (slice_get ps (peering_number ps t)) i t (of says) keys)
+worded_said Withdraws routers ps i t of none says =
+    withdrawn (said_prefixes t) (prefixes_said t (withdraw_kept i t (none_left (keys_flaw (tables.Step i) withdraw_keys t) _ none)))
 worded_said SaysRaw routers ps i t of none says = absurd (false≢true says)
 worded_said Grafts routers ps i t of none says = absurd (false≢true says)
 worded_said Settles routers ps i t of none says = absurd (false≢true says)
@@ -188,7 +194,8 @@ pub steps_well : (doc : Members) (routers : List (List ℕ)) (ps : List PeeringI
     → tables_flaw tables.Top (codes "step") false 0 4096 (step_flaw (items_at (codes "step") doc)) doc ≡ None
     → AllByRecursion (SaysWell routers ps) (tables_at (codes "step") doc)
 steps_well doc routers ps none =
-    tables_all tables.Top doc (codes "step") false 0 4096 (step_flaw (items_at (codes "step") doc)) (SaysWell routers ps) (λ i t none. step_said routers ps _ _ i t none) none
+    tables_all tables.Top doc (codes "step") false 0 4096 (step_flaw (items_at (codes "step") doc))
+    (SaysWell routers ps) (λ i t none. step_said routers ps _ _ i t none) none
 
 -- ---- documents
 
@@ -196,7 +203,8 @@ not_err : (bad : BadInput) (input : LabInput) → Err bad ≡ Ok input → ⊥
 not_err bad input e = let r : Result LabInput BadInput = Err bad in let same : r ≡ Ok input = e in cc
 
 ok_of : (o : Option BadInput) (lab input : LabInput) → input_unless o lab ≡ Ok input → (o ≡ None) × (lab ≡ input)
-ok_of None lab input e = let none : Option BadInput = None in let first : none ≡ None = refl in (first, ap (λ (r : Result LabInput BadInput). result_unwrap_or r lab) e)
+ok_of None lab input e = let none : Option BadInput = None in let first : none ≡ None = refl in
+    (first, ap (λ (r : Result LabInput BadInput). result_unwrap_or r lab) e)
 ok_of (Some bad) lab input e = absurd (not_err bad input e)
 
 none_mapped : (o : Option Flaw) → option_map bad_of o ≡ None → o ≡ None

@@ -49,8 +49,10 @@ parts_written (a ∷ ases) each few =
 
 path_small : (wide : Bool) (ases : List ℕ) → length ases ≤ 64 → sum_by (part_size wide) (sequence_path ases) ≤ 258
 path_small wide [] few = omega arith
-path_small false (a ∷ ases) few = let size : part_size false (Sequence (a ∷ ases)) ≡ length (a ∷ ases) * 2 + 2 = part_size_is false (Sequence (a ∷ ases)) in omega arith
-path_small true (a ∷ ases) few = let size : part_size true (Sequence (a ∷ ases)) ≡ length (a ∷ ases) * 4 + 2 = part_size_is true (Sequence (a ∷ ases)) in omega arith
+path_small false (a ∷ ases) few =
+    let size : part_size false (Sequence (a ∷ ases)) ≡ length (a ∷ ases) * 2 + 2 = part_size_is false (Sequence (a ∷ ases)) in omega arith
+path_small true (a ∷ ases) few =
+    let size : part_size true (Sequence (a ∷ ases)) ≡ length (a ∷ ases) * 4 + 2 = part_size_is true (Sequence (a ∷ ases)) in omega arith
 
 -- ---- octets
 
@@ -73,12 +75,16 @@ attrs_small wide a ases path_is no_atomic no_aggregator no_unknown few =
     let med = med_small a.med in
     let atomic : attrs_size (atomic_written a.atomic) ≡ 0 = ap (λ (x : Bool). attrs_size (atomic_written x)) no_atomic in
     let aggregator : attrs_size (aggregator_written wide a.aggregator) ≡ 0 = subst (λ x. attrs_size (aggregator_written wide x) ≡ 0) (sym no_aggregator) refl in
-    let second : attrs_size (as4_aggregator_written wide a.aggregator) ≡ 0 = subst (λ x. attrs_size (as4_aggregator_written wide x) ≡ 0) (sym no_aggregator) refl in
-    let path : attr_size_of (sum_by (part_size wide) a.path) ≤ 262 = subst (λ (x : List PathPart). attr_size_of (sum_by (part_size wide) x) ≤ 262) (sym path_is) (small_enough _ (path_small wide ases few)) in
-    let long : attr_size_of (sum_by (part_size true) a.path) ≤ 262 = subst (λ (x : List PathPart). attr_size_of (sum_by (part_size true) x) ≤ 262) (sym path_is) (small_enough _ (path_small true ases few)) in
+    let second : attrs_size (as4_aggregator_written wide a.aggregator) ≡ 0 =
+    subst (λ x. attrs_size (as4_aggregator_written wide x) ≡ 0) (sym no_aggregator) refl in
+    let path : attr_size_of (sum_by (part_size wide) a.path) ≤ 262 =
+    subst (λ (x : List PathPart). attr_size_of (sum_by (part_size wide) x) ≤ 262) (sym path_is) (small_enough _ (path_small wide ases few)) in
+    let long : attr_size_of (sum_by (part_size true) a.path) ≤ 262 =
+    subst (λ (x : List PathPart). attr_size_of (sum_by (part_size true) x) ≤ 262) (sym path_is) (small_enough _ (path_small true ases few)) in
     let fourth : attrs_size (as4_path_written wide a.path) ≤ 262 =
     subst (λ n. n ≤ 262) (sym (as4_path_size wide a.path)) (small_if (not wide && has_long_as a.path) (attr_size_of (sum_by (part_size true) a.path)) long) in
-    let others : sum_by (λ other. attr_size_of (length other.bytes)) a.unknown ≡ 0 = ap (λ x. sum_by (λ other. attr_size_of (length other.bytes)) x) no_unknown in
+    let others : sum_by (λ other. attr_size_of (length other.bytes)) a.unknown ≡ 0 =
+    ap (λ x. sum_by (λ other. attr_size_of (length other.bytes)) x) no_unknown in
     omega arith
 
 -- ---- all of them

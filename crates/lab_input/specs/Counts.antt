@@ -1,5 +1,6 @@
 -- Counts over a whole input.
-use Rattle.std.specs.Prelude.{◌≡◌, ℕ, ◌+◌, ◌-◌, ◌<◌, ◌==◌, nat_lt, Bool, ◌&&◌, List, [], ◌∷◌, ◌++◌, length, slice_get, slice_index_or, sum_by, count_by, Option, Some, None, codes, if◌then◌else◌}
+use Rattle.std.specs.Prelude.{◌≡◌, ℕ, ◌+◌, ◌-◌, ◌<◌, ◌==◌, nat_lt, Bool, ◌&&◌, List, [], ◌∷◌, ◌++◌, length, slice_get}
+use Rattle.std.specs.Prelude.{slice_index_or, sum_by, count_by, Option, Some, None, codes, if◌then◌else◌}
 use Rattle.std.specs.List.{flat_map}
 use Rattle.bgp_types.specs.declared.message.Message.TheVariants.{UpdateMsg}
 use Rattle.bgp_types.specs.Prefixes.{PrefixValue, once_after}
@@ -63,8 +64,10 @@ octets_if said n = if said then n else 0
 
 -- the number of octets that a step says on a peering
 abbrev pub octets_said : Bool → ℕ → Step → ℕ
-octets_said wide number (Announce peering prefixes a) = octets_if (peering.0 == number) (length (spell (UpdateMsg (step_update (Announce peering prefixes a))) wide))
-octets_said wide number (Withdraw peering prefixes) = octets_if (peering.0 == number) (length (spell (UpdateMsg (step_update (Withdraw peering prefixes))) wide))
+octets_said wide number (Announce peering prefixes a) =
+    octets_if (peering.0 == number) (length (spell (UpdateMsg (step_update (Announce peering prefixes a))) wide))
+octets_said wide number (Withdraw peering prefixes) =
+    octets_if (peering.0 == number) (length (spell (UpdateMsg (step_update (Withdraw peering prefixes))) wide))
 octets_said wide number (Raw peering bytes) = octets_if (peering.0 == number) (length bytes)
 octets_said wide number _ = 0
 

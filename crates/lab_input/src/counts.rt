@@ -7,7 +7,10 @@ ghost use Rattle.bgp_types.specs.Spelling.{spell};
 ghost use Rattle.lab_keys.specs.Kinds.{first_of, each_from};
 ghost use Rattle.lab_tables.specs.declared.input.Step.{Step as StepOf};
 ghost use Rattle.lab_input.specs.Said.{step_update};
-ghost use Rattle.lab_input.specs.Counts.{step_grafts, settles_of as settles_of_lem, added_settle as added_settle_lem, step_prefixes, prefixes_named as prefixes_named_lem, peering_count_at, room_flaw as room_flaw_lem, is_wide as is_wide_lem, octets_said, speaker as speaker_lem, AreSaid, most_said as most_said_lem, said_flaw as said_flaw_lem, over_limit, count_fault};
+ghost use Rattle.lab_input.specs.Counts.{step_grafts, settles_of as settles_of_lem, added_settle as added_settle_lem, step_prefixes};
+ghost use Rattle.lab_input.specs.Counts.{prefixes_named as prefixes_named_lem, peering_count_at, room_flaw as room_flaw_lem};
+ghost use Rattle.lab_input.specs.Counts.{is_wide as is_wide_lem, octets_said, speaker as speaker_lem, AreSaid};
+ghost use Rattle.lab_input.specs.Counts.{most_said as most_said_lem, said_flaw as said_flaw_lem, over_limit, count_fault};
 
 use crate::bad::BadInput;
 use crate::told::{first, over};
@@ -209,7 +212,8 @@ fn octets_of(
     attrs: Option<&Attrs>,
     nlri: &[Prefix],
 ) -> Result<u64, NoMemory>
-    ensures { IfOk result (λ n. n ≡ length (spell (UpdateMsg (record { withdrawn = withdrawn.now; attrs = option_copied attrs.entry; nlri = nlri.now })) wide)) }
+    ensures { IfOk result
+        (λ n. n ≡ length (spell (UpdateMsg (record { withdrawn = withdrawn.now; attrs = option_copied attrs.entry; nlri = nlri.now })) wide)) }
 {
     let len = update_len(withdrawn, attrs, nlri, wide);
     if len == usize::MAX {
@@ -355,7 +359,8 @@ fn whole_flaw(alloc: Global, input: &LabInput) -> Result<Option<BadInput>, NoMem
 
 /// Returns the fault of the first count of a router or of a peering that is above its limit.
 fn part_flaw(alloc: Global, input: &LabInput) -> Result<Option<BadInput>, NoMemory>
-    ensures { IfOk result (λ bad. bad ≡ first_of (each_from (room_flaw_lem input.now.peerings) 0 input.now.routers ∷ each_from (said_flaw_lem input.now.steps) 0 input.now.peerings ∷ [])) }
+    ensures { IfOk result (λ bad. bad
+        ≡ first_of (each_from (room_flaw_lem input.now.peerings) 0 input.now.routers ∷ each_from (said_flaw_lem input.now.steps) 0 input.now.peerings ∷ [])) }
 {
     let room = room_flaw(alloc, &input.peerings, &input.routers)?;
     let said = said_flaw(alloc, &input.steps, &input.peerings)?;

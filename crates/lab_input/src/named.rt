@@ -8,7 +8,8 @@ ghost use Rattle.lab_keys.specs.Kinds.{first_of};
 ghost use Rattle.lab_keys.specs.Values.{text_at as text_at_lem, maybe_text};
 ghost use Rattle.bgp_types.specs.Texts.{address_text};
 ghost use Rattle.lab_tables.specs.Peerings.{cost_of};
-ghost use Rattle.lab_input.specs.Names.{each_after, cost_named as cost_named_lem, remote_address_of, policies_at as policies_at_lem, peering_fault, peering_named as peering_named_lem, worded_named as worded_named_lem, step_named as step_named_lem};
+ghost use Rattle.lab_input.specs.Names.{each_after, cost_named as cost_named_lem, remote_address_of, policies_at as policies_at_lem, peering_fault};
+ghost use Rattle.lab_input.specs.Names.{peering_named as peering_named_lem, worded_named as worded_named_lem, step_named as step_named_lem};
 
 use crate::bad::BadInput;
 use crate::names::{repeated_address, unknown, unknown_at};
@@ -161,7 +162,8 @@ fn policy_named(
 ) -> Result<Option<BadInput>, NoMemory>
     ensures { IfOk result (λ bad. bad ≡ first_of (
         unknown_at_lem (policies_at_lem routers.now (text_at_lem (codes "at") (table_view table.now))) (maybe_text (codes "import") (table_view table.now))
-        ∷ unknown_at_lem (policies_at_lem routers.now (text_at_lem (codes "at") (table_view table.now))) (maybe_text (codes "export") (table_view table.now)) ∷ [])) }
+        ∷ unknown_at_lem (policies_at_lem routers.now (text_at_lem (codes "at") (table_view table.now)))
+        (maybe_text (codes "export") (table_view table.now)) ∷ [])) }
 {
     let policies = policies_at(alloc, routers, text_at("at", table))?;
     let import = unknown_at(alloc, &policies, "import", table)?;

@@ -4,7 +4,8 @@ ghost use Rattle.std.specs.Prelude.{◌≡◌, [], IfOk};
 ghost use Rattle.toml.specs.View.{table_view};
 ghost use Rattle.bgp_types.specs.Texts.{address_text, prefix_text};
 ghost use Rattle.lab_keys.specs.Values.{maybe_text as maybe_text_lem};
-ghost use Rattle.lab_input.specs.Names.{unknown as unknown_lem, unknown_at as unknown_at_lem, each_after, network_again as network_again_lem, policy_again as policy_again_lem, router_again as router_again_lem, repeated_if as repeated_if_lem};
+ghost use Rattle.lab_input.specs.Names.{unknown as unknown_lem, unknown_at as unknown_at_lem, each_after, network_again as network_again_lem};
+ghost use Rattle.lab_input.specs.Names.{policy_again as policy_again_lem, router_again as router_again_lem, repeated_if as repeated_if_lem};
 
 use crate::bad::BadInput;
 use crate::told::{first, repeated_if};

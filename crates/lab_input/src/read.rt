@@ -29,7 +29,8 @@ fn later_bad(alloc: Global, doc: &Table, lab: &LabInput) -> Result<Option<BadInp
 
 /// Returns the input that a document stands for, whose shapes must be right.
 fn read_shaped(alloc: Global, doc: &Table) -> Result<LabInput, LabStop>
-    ensures { ReaderAnswers (input_unless (option_or (named_lem (table_view doc.now)) (option_or (count_fault (lab_of_lem (table_view doc.now))) None)) (lab_of_lem (table_view doc.now))) result }
+    ensures { ReaderAnswers (input_unless (option_or (named_lem (table_view doc.now)) (option_or (count_fault (lab_of_lem (table_view doc.now))) None))
+        (lab_of_lem (table_view doc.now))) result }
 {
     let lab = lab_of(alloc, doc)?;
     let found = later_bad(alloc, doc, &lab)?;

@@ -1,5 +1,6 @@
 -- What is known of a table whose keys have no flaw.
-use Rattle.std.proofs.Common.{◌≡◌, ℕ, ◌+◌, ◌^◌, ◌<◌, ◌≤◌, zero, suc, Bool, true, false, cond, ◌||◌, not, List, [], ◌∷◌, length, map, refl, sym, ap, ◌∙◌, subst, arith, inl, inr, ◌⊎◌}
+use Rattle.std.proofs.Common.{◌≡◌, ℕ, ◌+◌, ◌^◌, ◌<◌, ◌≤◌, zero, suc, Bool, true, false, cond, ◌||◌, not, List, []}
+use Rattle.std.proofs.Common.{◌∷◌, length, map, refl, sym, ap, ◌∙◌, subst, arith, inl, inr, ◌⊎◌}
 use Rattle.std.specs.Prelude.{Option, Some, None, pos, negsuc, ℤ, nat_lt, is_some, option_and_then, unwrap_or, IfSome}
 use Rattle.std.specs.Option.{option_or}
 use Rattle.std.specs.List.{AllByRecursion, filter_map, cons_option}
@@ -20,7 +21,8 @@ use Rattle.lab_keys.specs.Texts.{host_if, address_in, host_address_in, prefix_in
 use Rattle.lab_keys.specs.Kinds.{each_from, flaw_if, beyond, number_flaw, text_flaw, kind_flaw, list_of, bounded_array_flaw, array_flaw, table_flaw}
 use Rattle.lab_keys.specs.KeyRows.{KeyRow}
 use Rattle.lab_keys.specs.Keys.{required, optional, required_array, optional_array, present, key_flaw, tables_flaw}
-use Rattle.lab_keys.specs.Values.{number_in, maybe_number, number_or, maybe_text, address_or, items_in, items_at, prefix_of_data, prefixes_at, numbers_at, tables_at}
+use Rattle.lab_keys.specs.Values.{number_in, maybe_number, number_or, maybe_text, address_or, items_in}
+use Rattle.lab_keys.specs.Values.{items_at, prefix_of_data, prefixes_at, numbers_at, tables_at}
 use Rattle.lab_keys.proofs.TextFinds.{prefix_in-finds}
 
 -- ---- none of several
@@ -222,7 +224,8 @@ numbers_few at t key low high high' none =
 
 pub tables_few : (at : TableAt) (t : Members) (key : List ℕ) (high : ℕ) (flaw : ℕ → Members → Option Flaw)
     → tables_flaw at key false 0 high flaw t ≡ None → length (tables_at key t) ≤ high
-tables_few at t key high flaw none = optional_few as_table (spot_of at key) high (λ i. table_flaw (member_of (spot_of at key) i) (flaw i)) false (get_member key t) none
+tables_few at t key high flaw none =
+    optional_few as_table (spot_of at key) high (λ i. table_flaw (member_of (spot_of at key) i) (flaw i)) false (get_member key t) none
 
 -- ---- prefixes
 
@@ -254,7 +257,8 @@ prefixes_within at t key low high none =
     let flaw : ℕ → Data → Option Flaw = λ i. kind_flaw Prefix (member_of (spot_of at key) i) in
     let here = there (spot_of at key) (array_flaw (spot_of at key) low high flaw) (get_member key t) none in
     let is = array_there (spot_of at key) low high flaw here.d here.none in
-    let kept : length (filter_map prefix_of_data (list_of is.items)) ≡ length (list_of is.items) = prefixes_kept (spot_of at key) 0 (list_of is.items) is.each in
+    let kept : length (filter_map prefix_of_data (list_of is.items)) ≡ length (list_of is.items) =
+    prefixes_kept (spot_of at key) 0 (list_of is.items) is.each in
     let items : items_at key t ≡ list_of is.items = ap items_in (here.is ∙ ap Some is.is) in
     subst (IsWithin low high) (sym (ap (λ ds. length (filter_map prefix_of_data ds)) items ∙ kept)) is.count
 

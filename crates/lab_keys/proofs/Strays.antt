@@ -15,11 +15,14 @@ known_same key [] = refl
 known_same key (k ∷ ks) = ap (λ b. bytes_eq key k.now || b) (known_same key ks)
 
 pub stray_found : (known : List (Bor (List ℕ))) (es : List (String Global × Value))
-    → option_map string_bytes (find (λ k. not (list_any (λ w. bytes_eq (string_bytes k) w.now) known)) (keys_of es)) ≡ stray_in (map (λ k. k.now) known) (members_view es)
+    → option_map string_bytes (find (λ k. not (list_any (λ w. bytes_eq (string_bytes k) w.now) known)) (keys_of es))
+    ≡ stray_in (map (λ k. k.now) known) (members_view es)
 stray_found known [] = refl
 stray_found known (e ∷ es) =
-    ap (λ (t : Bool). option_map string_bytes (cond (not t) (Some e.0) (find (λ k. not (list_any (λ w. bytes_eq (string_bytes k) w.now) known)) (keys_of es)))) (known_same (string_bytes e.0) known)
-    ∙ by_test (is_one_of (map (λ k. k.now) known) (string_bytes e.0)) (find (λ k. not (list_any (λ w. bytes_eq (string_bytes k) w.now) known)) (keys_of es)) (stray_in (map (λ k. k.now) known) (members_view es)) (stray_found known es)
+    ap (λ (t : Bool). option_map string_bytes
+    (cond (not t) (Some e.0) (find (λ k. not (list_any (λ w. bytes_eq (string_bytes k) w.now) known)) (keys_of es)))) (known_same (string_bytes e.0) known)
+    ∙ by_test (is_one_of (map (λ k. k.now) known) (string_bytes e.0)) (find (λ k. not (list_any (λ w. bytes_eq (string_bytes k) w.now) known)) (keys_of es))
+    (stray_in (map (λ k. k.now) known) (members_view es)) (stray_found known es)
   where
     by_test : (t : Bool) (o : Option (String Global)) (r : Option (List ℕ)) → option_map string_bytes o ≡ r
         → option_map string_bytes (cond (not t) (Some e.0) o) ≡ cond t r (Some (string_bytes e.0))

@@ -1,5 +1,7 @@
 -- Addresses and prefixes are read as they are written.
-use Rattle.std.proofs.Common.{◌≡◌, ℕ, ◌+◌, ◌*◌, ◌^◌, ◌<◌, ◌≤◌, zero, suc, Bool, true, false, cond, eqb, List, [], ◌∷◌, ◌++◌, length, get_or, take, drop, refl, sym, ap, ◌∙◌, subst, arith, append-nil, length-drop, not, rules, lit≤, lit<, decimal, inl, inr, ◌⊎◌, append_assoc}
+use Rattle.std.proofs.Common.{◌≡◌, ℕ, ◌+◌, ◌*◌, ◌^◌, ◌<◌, ◌≤◌, zero, suc, Bool, true, false, cond, eqb, List, [], ◌∷◌}
+use Rattle.std.proofs.Common.{◌++◌, length, get_or, take, drop, refl, sym, ap, ◌∙◌, subst, arith, append-nil}
+use Rattle.std.proofs.Common.{length-drop, not, rules, lit≤, lit<, decimal, inl, inr, ◌⊎◌, append_assoc}
 use Rattle.std.specs.Prelude.{Option, Some, None, ◌==◌}
 use Rattle.std.specs.Int.{w32, to_be_bytes, from_be_bytes}
 use Rattle.std.specs.List.{before_first, after_first, position_or_len}
@@ -43,7 +45,8 @@ address_sound text octets read =
     let found = read_ipv4_sound text octets [] read in
     let dotted = found.2 in
     let whole : text ≡ found.0 = found.1 ∙ append-nil found.0 in
-    let fits : from_be_bytes w32 octets < 2 ^ 32 = rw dotted.value (four_octets dotted.a dotted.b dotted.c dotted.d dotted.fit.0 dotted.fit.1 dotted.fit.2 dotted.fit.3) in
+    let fits : from_be_bytes w32 octets < 2 ^ 32 =
+    rw dotted.value (four_octets dotted.a dotted.b dotted.c dotted.d dotted.fit.0 dotted.fit.1 dotted.fit.2 dotted.fit.3) in
     subst (λ t. IsAddressText t (from_be_bytes w32 octets)) (sym whole) (IsAddressText-dotted found.0 octets (from_be_bytes w32 octets) fits refl dotted)
 
 no_octets : (rest : List ℕ) → eqb (length rest) 0 ≡ true → rest ≡ []
@@ -160,7 +163,8 @@ prefix_found text None n none back = λ p is. let parts = parts_of text p is in 
 
 pub prefix_in-finds : (text : List ℕ) → Finds (IsPrefixText text) (prefix_in text)
 unfolding prefix_in
-prefix_in-finds text = prefix_found text (address_in (before_first Slash text)) (length_in (after_first Slash text)) (address_in-finds (before_first Slash text)) (length_in-finds (after_first Slash text))
+prefix_in-finds text = prefix_found text (address_in (before_first Slash text)) (length_in (after_first Slash text))
+    (address_in-finds (before_first Slash text)) (length_in-finds (after_first Slash text))
 
 pub same_prefix_text : (text : List ℕ) (o : Option PrefixValue) → Finds (IsPrefixText text) o → o ≡ prefix_in text
 same_prefix_text text o found = finds_same (IsPrefixText text) (IsPrefixText_unique text) o (prefix_in text) found (prefix_in-finds text)

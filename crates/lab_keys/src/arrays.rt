@@ -2,7 +2,8 @@
 
 ghost use Rattle.std.specs.Prelude.{◌≡◌, ◌++◌, IfOk, OnOk, [], map};
 ghost use Rattle.toml.specs.View.{view, table_view};
-ghost use Rattle.lab_keys.specs.Values.{number_in as number_in_lem, items_at as items_at_lem, prefix_of_data, address_of_data, prefixes_at as prefixes_at_lem, addresses_at as addresses_at_lem, numbers_at as numbers_at_lem};
+ghost use Rattle.lab_keys.specs.Values.{number_in as number_in_lem, items_at as items_at_lem, prefix_of_data, address_of_data};
+ghost use Rattle.lab_keys.specs.Values.{prefixes_at as prefixes_at_lem, addresses_at as addresses_at_lem, numbers_at as numbers_at_lem};
 ghost use Rattle.std.specs.List.{filter_map, cons_option};
 ghost use Rattle.std.specs.Option.{option_map_or};
 

@@ -56,7 +56,8 @@ impl Model for Key {
 
 impl Key {
     ghost use Rattle.std.specs.Prelude.{◌≡◌};
-    ghost use Rattle.lab_keys.specs.Keys.{required as required_lem, optional as optional_lem, required_array as required_array_lem, optional_array as optional_array_lem};
+    ghost use Rattle.lab_keys.specs.Keys.{required as required_lem, optional as optional_lem};
+    ghost use Rattle.lab_keys.specs.Keys.{required_array as required_array_lem, optional_array as optional_array_lem};
 
     pub fn required(name: &'static str, kind: Kind) -> Key
         ensures { result ≡ required_lem name.now kind }

@@ -5,7 +5,8 @@ ghost use Rattle.toml.specs.Data.{get_member};
 ghost use Rattle.toml.specs.View.{view, table_view};
 ghost use Rattle.lab_keys.specs.Spots.{spot_of, member_of};
 ghost use Rattle.lab_keys.specs.Kinds.{first_of, kind_flaw as kind_flaw_lem, bounded_array_flaw};
-ghost use Rattle.lab_keys.specs.Keys.{value_flaw as value_flaw_lem, key_flaw as key_flaw_lem, keys_flaw as keys_flaw_lem, stray_in as stray_in_lem, stray_flaw as stray_flaw_lem};
+ghost use Rattle.lab_keys.specs.Keys.{value_flaw as value_flaw_lem, key_flaw as key_flaw_lem};
+ghost use Rattle.lab_keys.specs.Keys.{keys_flaw as keys_flaw_lem, stray_in as stray_in_lem, stray_flaw as stray_flaw_lem};
 
 use crate::flaw::Flaw;
 use crate::key::{Counts, Key, Kind};
@@ -29,7 +30,8 @@ fn array_flaw<'a>(
     key: &'a str,
     values: &[Value],
 ) -> Option<Flaw<'a>>
-    ensures { result ≡ bounded_array_flaw (spot_of at key.now) counts.low counts.high (λ i. kind_flaw_lem kind (member_of (spot_of at key.now) i)) (map view values.now) }
+    ensures { result
+        ≡ bounded_array_flaw (spot_of at key.now) counts.low counts.high (λ i. kind_flaw_lem kind (member_of (spot_of at key.now) i)) (map view values.now) }
 {
     let count = values.len() as u64;
     if let Some(flaw) = beyond(

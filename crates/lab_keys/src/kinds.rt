@@ -4,7 +4,10 @@ ghost use Rattle.std.specs.Prelude.{◌≡◌, ℕ, List, Bool, IsTrue, is_some,
 ghost use Rattle.toml.specs.View.{view};
 ghost use Rattle.lab_keys.specs.Spots.{spot_of, member_of};
 ghost use Rattle.lab_keys.specs.Texts.{is_hex as is_hex_lem};
-ghost use Rattle.lab_keys.specs.Kinds.{words_of as words_of_lem, is_one_of as is_one_of_lem, beyond as beyond_lem, number_flaw as number_flaw_lem, hold_time_flaw as hold_time_flaw_lem, hex_flaw as hex_flaw_lem, flag_flaw as flag_flaw_lem, kind_flaw as kind_flaw_lem, flaw_if as flaw_if_lem, text_flaw as text_flaw_lem, is_formed as is_formed_lem, each_from};
+ghost use Rattle.lab_keys.specs.Kinds.{words_of as words_of_lem, is_one_of as is_one_of_lem, beyond as beyond_lem};
+ghost use Rattle.lab_keys.specs.Kinds.{number_flaw as number_flaw_lem, hold_time_flaw as hold_time_flaw_lem};
+ghost use Rattle.lab_keys.specs.Kinds.{hex_flaw as hex_flaw_lem, flag_flaw as flag_flaw_lem, kind_flaw as kind_flaw_lem};
+ghost use Rattle.lab_keys.specs.Kinds.{flaw_if as flaw_if_lem, text_flaw as text_flaw_lem, is_formed as is_formed_lem, each_from};
 
 use crate::flaw::Flaw;
 use crate::key::{Kind, Words};

@@ -2,7 +2,8 @@
 
 ghost use Rattle.std.specs.Prelude.{◌≡◌};
 ghost use Rattle.std.specs.List.{list_all};
-ghost use Rattle.lab_keys.specs.Texts.{is_name_char as is_name_char_lem, is_name as is_name_lem, address_in as address_in_lem, host_address_in, prefix_in as prefix_in_lem, is_hex as is_hex_lem};
+ghost use Rattle.lab_keys.specs.Texts.{is_name_char as is_name_char_lem, is_name as is_name_lem};
+ghost use Rattle.lab_keys.specs.Texts.{address_in as address_in_lem, host_address_in, prefix_in as prefix_in_lem, is_hex as is_hex_lem};
 ghost use Rattle.hex.specs.Hex.{is_hex_digit};
 
 use bgp_types::{Prefix, is_no_host, read_address, read_prefix};

@@ -4,7 +4,11 @@ ghost use Rattle.std.specs.Prelude.{◌≡◌, IfOk, Some, None, map, option_map
 ghost use Rattle.toml.specs.Data.{as_str};
 ghost use Rattle.toml.specs.View.{view, table_view};
 ghost use Rattle.lab_keys.specs.Texts.{octets_in as octets_in_lem};
-ghost use Rattle.lab_keys.specs.Values.{has_member, number_in as number_in_lem, maybe_number as maybe_number_lem, number_or as number_or_lem, maybe_text as maybe_text_lem, text_at as text_at_lem, flag_or as flag_or_lem, address_or as address_or_lem, maybe_prefix as maybe_prefix_lem, octets_at as octets_at_lem, items_at as items_at_lem, prefix_of_data, address_of_data, prefixes_at as prefixes_at_lem, addresses_at as addresses_at_lem, numbers_at as numbers_at_lem};
+ghost use Rattle.lab_keys.specs.Values.{has_member, number_in as number_in_lem, maybe_number as maybe_number_lem};
+ghost use Rattle.lab_keys.specs.Values.{number_or as number_or_lem, maybe_text as maybe_text_lem, text_at as text_at_lem};
+ghost use Rattle.lab_keys.specs.Values.{flag_or as flag_or_lem, address_or as address_or_lem, maybe_prefix as maybe_prefix_lem};
+ghost use Rattle.lab_keys.specs.Values.{octets_at as octets_at_lem, items_at as items_at_lem, prefix_of_data, address_of_data};
+ghost use Rattle.lab_keys.specs.Values.{prefixes_at as prefixes_at_lem, addresses_at as addresses_at_lem, numbers_at as numbers_at_lem};
 
 use crate::keys::value_at;
 use crate::texts::{address_in, prefix_in};

@@ -13,17 +13,21 @@ number_between before n after = before ++ decimal n ++ after
 -- ---- tables
 
 abbrev pub router_table : ℕ → List ℕ
-router_table r = number_between (codes "[[router]]\nname = \"r") r (codes "\"\n") ++ number_between (codes "id = \"10.255.0.") (r + 1) (codes "\"\nsessions = 12\n\n")
+router_table r = number_between (codes "[[router]]\nname = \"r") r (codes "\"\n")
+    ++ number_between (codes "id = \"10.255.0.") (r + 1) (codes "\"\nsessions = 12\n\n")
 
 -- a peering begins at the routers in turn, and its sequence numbers a little below 2^32
 abbrev pub peering_head : ℕ → List ℕ
-peering_head j = number_between (codes "[[peering]]\nname = \"p") j (codes "\"\n") ++ number_between (codes "at = \"r") (j % 4) (codes "\"\n") ++ number_between (codes "remote_as = ") (64601 + j) (codes "\n")
+peering_head j = number_between (codes "[[peering]]\nname = \"p") j (codes "\"\n")
+    ++ number_between (codes "at = \"r") (j % 4) (codes "\"\n") ++ number_between (codes "remote_as = ") (64601 + j) (codes "\n")
 
 abbrev pub peering_addresses : ℕ → List ℕ
-peering_addresses j = number_between (codes "remote_address = \"192.0.2.") (2 * j + 1) (codes "\"\n") ++ number_between (codes "local_address = \"192.0.2.") (2 * j + 2) (codes "\"\n")
+peering_addresses j = number_between (codes "remote_address = \"192.0.2.") (2 * j + 1) (codes "\"\n")
+    ++ number_between (codes "local_address = \"192.0.2.") (2 * j + 2) (codes "\"\n")
 
 abbrev pub peering_streams : ℕ → List ℕ
-peering_streams j = number_between (codes "home_seq = ") (4294960000 + 600 * j) (codes "\n") ++ number_between (codes "remote_seq = ") (4294960000 + 600 * j) (codes "\n\n")
+peering_streams j = number_between (codes "home_seq = ") (4294960000 + 600 * j) (codes "\n")
+    ++ number_between (codes "remote_seq = ") (4294960000 + 600 * j) (codes "\n\n")
 
 abbrev pub peering_table : ℕ → List ℕ
 peering_table j = peering_head j ++ peering_addresses j ++ peering_streams j
@@ -82,7 +86,8 @@ abbrev pub target_of : (seed g : ℕ) → ℕ
 target_of seed g = (moved_peering seed g + moves_before seed (moved_peering seed g) g + 1) % 4
 
 abbrev pub graft_step : (seed g : ℕ) → List ℕ
-graft_step seed g = number_between (codes "[[step]]\ndo = \"graft\"\npeering = \"p") (moved_peering seed g) (codes "\"\n") ++ number_between (codes "to = \"r") (target_of seed g) (codes "\"\n\n")
+graft_step seed g = number_between (codes "[[step]]\ndo = \"graft\"\npeering = \"p") (moved_peering seed g) (codes "\"\n")
+    ++ number_between (codes "to = \"r") (target_of seed g) (codes "\"\n\n")
 
 -- after each of the first twelve grafts the peering of its number announces with a longer path
 abbrev pub later_step : (seed g : ℕ) → List ℕ

@@ -1,7 +1,8 @@
 //! The steps.
 
 ghost use Rattle.std.specs.Prelude.{◌≡◌, ◌==◌, ◌++◌, ◌<◌, ◌≤◌, if◌then◌else◌, OnOk, string_bytes};
-ghost use Rattle.lab_make.specs.Made.{each_below, moved_peering, moves_before, target_of, first_step, later_step, settle_step, graft_step, graft_round, script_text};
+ghost use Rattle.lab_make.specs.Made.{each_below, moved_peering, moves_before, target_of, first_step};
+ghost use Rattle.lab_make.specs.Made.{later_step, settle_step, graft_step, graft_round, script_text};
 
 use crate::announce::push_announce;
 use crate::numbered::push_numbered;

@@ -1,7 +1,8 @@
 //! The tables of the routers, the peerings and the faults.
 
 ghost use Rattle.std.specs.Prelude.{◌≡◌, ◌++◌, ◌<◌, OnOk, string_bytes};
-ghost use Rattle.lab_make.specs.Made.{each_below, router_table, peering_head, peering_addresses, peering_streams, peering_table, lose_table, repeat_table, fault_tables};
+ghost use Rattle.lab_make.specs.Made.{each_below, router_table, peering_head, peering_addresses};
+ghost use Rattle.lab_make.specs.Made.{peering_streams, peering_table, lose_table, repeat_table, fault_tables};
 
 use crate::numbered::push_numbered;
 use graft_edge::NoMemory;

@@ -1,5 +1,6 @@
 -- The lines of walks, one more at a time.
-use Rattle.std.proofs.Common.{ℕ, ◌≡◌, ◌+◌, ◌<◌, List, [], ◌∷◌, ◌++◌, take, length, refl, ap, sym, ◌∙◌, subst, append_assoc, append-nil, slice_index, slice_index_or}
+use Rattle.std.proofs.Common.{ℕ, ◌≡◌, ◌+◌, ◌<◌, List, [], ◌∷◌, ◌++◌, take, length, refl, ap, sym, ◌∙◌}
+use Rattle.std.proofs.Common.{subst, append_assoc, append-nil, slice_index, slice_index_or}
 use Rattle.std.specs.List.{flat_map, enumerate_from}
 use Rattle.std.proofs.lemmas.List.{take_more}
 use Rattle.forward_walk.specs.Tables.{ForwardMap}
@@ -29,8 +30,13 @@ module _ (input : LabInput) (maps : List ForwardMap) where
       let line = trace_line input address r.1.name walk in
       (walk, w, [], ap (λ t. t ++ line) none ∙ sym (append-nil line), refl)
   one_walk_more address (q ∷ routers) r walk text t w =
-      let line = trace_line input address r.1.name walk in
-      (t.0, t.1, t.2 ++ line, ap (λ l. l ++ line) t.3 ∙ append_assoc (trace_line input address q.1.name t.0) t.2 line, one_walk_more address routers r walk t.2 t.4 w)
+      let line = trace_line input address r.1.name walk in (
+        t.0,
+        t.1,
+        t.2 ++ line,
+        ap (λ l. l ++ line) t.3 ∙ append_assoc (trace_line input address q.1.name t.0) t.2 line,
+        one_walk_more address routers r walk t.2 t.4 w,
+      )
 
   one_address_more : (addresses : List ℕ) (address : ℕ) (text lines : List ℕ)
       → Traces input maps addresses text → TracesFrom input maps address (numbered_routers input) lines

@@ -9,7 +9,8 @@ space = codes " "
 
 -- an entry: its clock, its actor, its kind and its arguments, in decimal
 abbrev pub entry_line : JournalEntry → List ℕ
-entry_line e = decimal e.clock ++ space ++ decimal e.actor ++ space ++ decimal e.kind ++ space ++ decimal e.a ++ space ++ decimal e.b ++ space ++ decimal e.c ++ line_end
+entry_line e = decimal e.clock ++ space ++ decimal e.actor ++ space ++ decimal e.kind
+    ++ space ++ decimal e.a ++ space ++ decimal e.b ++ space ++ decimal e.c ++ line_end
 
 -- the input's bytes and a newline, the line that the journal begins with, its entries, and the line that ends it
 abbrev pub journal_text : List ℕ → List JournalEntry → List ℕ

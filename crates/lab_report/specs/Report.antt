@@ -85,7 +85,8 @@ end_line input end = codes "result " ++ end_words input end ++ line_end
 
 -- a best route: its prefix, where it comes from, its preference and its path
 abbrev pub best_line : LabInput → BestEntry → List ℕ
-best_line input b = codes "best " ++ prefix_text b.prefix ++ codes " " ++ from_text input b.from ++ codes " pref " ++ decimal b.route.pref ++ codes " path " ++ path_text b.route.attrs.path ++ line_end
+best_line input b = codes "best " ++ prefix_text b.prefix ++ codes " " ++ from_text input b.from
+    ++ codes " pref " ++ decimal b.route.pref ++ codes " path " ++ path_text b.route.attrs.path ++ line_end
 
 abbrev pub table_lines : LabInput → Option RouterTable → List ℕ
 table_lines input None = []
@@ -112,7 +113,8 @@ place_words name place = codes "peering " ++ name ++ codes " " ++ place
 
 -- its session's state, and how many prefixes were heard and told on it
 abbrev pub session_words : SessionView → List ℕ
-session_words view = codes " state " ++ state_text (state_of view.story.lines) ++ codes " heard " ++ decimal view.heard ++ codes " told " ++ decimal view.told ++ line_end
+session_words view = codes " state " ++ state_text (state_of view.story.lines)
+    ++ codes " heard " ++ decimal view.heard ++ codes " told " ++ decimal view.told ++ line_end
 
 -- a peering that has no session has no line
 abbrev pub view_words : Option SessionView → List ℕ → List ℕ
@@ -151,7 +153,8 @@ source_text input None = codes "-"
 source_text input (Some router) = router_name input router.0
 
 abbrev pub graft_line : LabInput → GraftEntry → List ℕ
-graft_line input g = codes "graft " ++ decimal g.graft ++ codes " " ++ peering_name input g.peering.0 ++ codes " " ++ source_text input g.source ++ codes " " ++ router_name input g.target.0 ++ codes " " ++ stage_text g.stage ++ line_end
+graft_line input g = codes "graft " ++ decimal g.graft ++ codes " " ++ peering_name input g.peering.0 ++ codes " "
+    ++ source_text input g.source ++ codes " " ++ router_name input g.target.0 ++ codes " " ++ stage_text g.stage ++ line_end
 
 -- ---- the whole
 

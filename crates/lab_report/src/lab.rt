@@ -77,8 +77,9 @@ pub struct RouterTable {
     pub heard: Items<ToldEntry>,
 }
 
-/// A run that came to its end: its input, how it ended, what is seen of its last world, its journal, the marks behind its rounds, and how many rounds each settle
-/// that has begun made. Lists by router and by peering stand in the order of the input, and the log in the order of the grafts.
+/// A run that came to its end: its input, how it ended, what is seen of its last world, its journal,
+/// the marks behind its rounds, and how many rounds each settle that has begun made. Lists by router
+/// and by peering stand in the order of the input, and the log in the order of the grafts.
 #[derive(Debug, Drop)]
 pub struct Lab {
     pub input: LabInput,

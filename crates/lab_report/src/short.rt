@@ -3,7 +3,8 @@
 ghost use Rattle.std.specs.Prelude.{◌≡◌, ◌++◌, IfOk, OnOk, string_bytes, length, count_by, slice_get};
 ghost use Rattle.std.specs.List.{flat_map, enumerate_from};
 ghost use Rattle.lab_report.specs.Report.{place_words, place_text};
-ghost use Rattle.lab_report.specs.Summary.{announced_in_step, prefixes_announced, was_accepted, was_refused, counts_line, outcomes_line, sizes_words, short_peering_line, best_count, short_router_line, summary_text};
+ghost use Rattle.lab_report.specs.Summary.{announced_in_step, prefixes_announced, was_accepted, was_refused, counts_line, outcomes_line};
+ghost use Rattle.lab_report.specs.Summary.{sizes_words, short_peering_line, best_count, short_router_line, summary_text};
 
 use crate::lab::{Lab, Place, RouterTable, SessionView};
 use crate::texts::{place_at, push_end, push_place};
@@ -154,7 +155,8 @@ fn push_short_peerings(
     sessions: &[SessionView],
     placement: &[Place],
 ) -> Result<(), NoMemory>
-    ensures { OnOk result (string_bytes text.new ≡ string_bytes text.old ++ flat_map (short_peering_line input.now sessions.now placement.now) (enumerate_from 0 input.now.peerings)) }
+    ensures { OnOk result (string_bytes text.new
+        ≡ string_bytes text.old ++ flat_map (short_peering_line input.now sessions.now placement.now) (enumerate_from 0 input.now.peerings)) }
 {
     let peerings = input.peerings.as_slice();
     for (index, peering) in peerings.iter().enumerate() {

@@ -2,7 +2,9 @@
 
 ghost use Rattle.std.specs.Prelude.{◌≡◌, ◌++◌, OnOk, string_bytes, codes, decimal, slice_get};
 ghost use Rattle.std.specs.List.{flat_map, enumerate_from};
-ghost use Rattle.lab_report.specs.Report.{ases_text, part_text, path_text, from_text, router_name, peering_name, best_line, router_lines, peering_line, named_line, table_lines, place_words, session_words, place_text, state_text, end_words, end_line, named_text, refusal_text, outcome_text, stage_text, source_text, graft_line};
+ghost use Rattle.lab_report.specs.Report.{ases_text, part_text, path_text, from_text, router_name, peering_name, best_line, router_lines};
+ghost use Rattle.lab_report.specs.Report.{peering_line, named_line, table_lines, place_words, session_words, place_text, state_text, end_words};
+ghost use Rattle.lab_report.specs.Report.{end_line, named_text, refusal_text, outcome_text, stage_text, source_text, graft_line};
 
 use crate::lab::{BestEntry, Place, RouterTable, RunEnd, SessionView};
 use bgp_types::{AsList, AsPath, From, NoMemory, PathPart, SessionState};
@@ -287,7 +289,8 @@ pub fn push_peerings(
     sessions: &[SessionView],
     placement: &[Place],
 ) -> Result<(), NoMemory>
-    ensures { OnOk result (string_bytes text.new ≡ string_bytes text.old ++ flat_map (peering_line input.now sessions.now placement.now) (enumerate_from 0 input.now.peerings)) }
+    ensures { OnOk result
+        (string_bytes text.new ≡ string_bytes text.old ++ flat_map (peering_line input.now sessions.now placement.now) (enumerate_from 0 input.now.peerings)) }
 {
     let peerings = input.peerings.as_slice();
     for (index, peering) in peerings.iter().enumerate() {

@@ -1,5 +1,6 @@
 -- What the marks name that stand behind a moment of a run.
-use Rattle.std.proofs.Common.{◌≡◌, ℕ, ◌+◌, true, List, [], ◌∷◌, ◌++◌, length, map, filter, Some, slice_get, refl, sym, ap, ◌∙◌, subst, inl, inr, append_assoc, append-nil}
+use Rattle.std.proofs.Common.{◌≡◌, ℕ, ◌+◌, true, List, [], ◌∷◌, ◌++◌, length, map, filter, Some, slice_get}
+use Rattle.std.proofs.Common.{refl, sym, ap, ◌∙◌, subst, inl, inr, append_assoc, append-nil}
 use Rattle.std.proofs.lemmas.List.{length-append}
 use Rattle.std.specs.List.{last_or}
 use Rattle.ring_net.specs.declared.entry.JournalEntry.{JournalEntry}
@@ -26,7 +27,8 @@ use Rattle.lab_run.specs.declared.end.Verdict.{Verdict}
 use Rattle.lab_run.specs.declared.end.Verdict.TheVariants.{GoesOn, IsQuiet, Ends}
 use Rattle.lab_run.specs.Ends.{MarkNames, NextBegins, NoneBegins, MarksName}
 use Rattle.lab_run.specs.Stories.{RoundNames}
-use Rattle.lab_run.proofs.Stands.{GoesOnTo, then_on, round_on, pause_on, pause_journal, IsWhole, whole_pause, mark_of, round_without_go, without_go, between_marks, pause_goes, groups_at}
+use Rattle.lab_run.proofs.Stands.{GoesOnTo, then_on, round_on, pause_on, pause_journal, IsWhole, whole_pause, mark_of}
+use Rattle.lab_run.proofs.Stands.{round_without_go, without_go, between_marks, pause_goes, groups_at}
 
 -- whatever world stands at a mark is the one of the mark's number
 abbrev pub WorldsStand : Setup → List JournalEntry → (marks : List (List ℕ)) (world : ℕ → World) → Type 0
@@ -68,7 +70,8 @@ module _ (setup : Setup) (z : Stand) (journal : List JournalEntry) (merge : Inte
   -- the world behind the mark of a round
   pub world_behind : (b c : Stand) (round : Round b c) → IsWhole setup c → GoesOnTo c.view z.view → Ran own carried setup c.view
       → (w : World) × IsWorldAtMark setup journal round.marked.mark w × IsSeenAs own carried setup c.view w
-  world_behind b c round is on ran = world_at_mark own carried setup c.view z.view round.marked.mark journal (mark_of setup c z b.marks round.marked is on) merge ran
+  world_behind b c round is on ran =
+      world_at_mark own carried setup c.view z.view round.marked.mark journal (mark_of setup c z b.marks round.marked is on) merge ran
 
   -- the mark of a round names this of the world of its number, which is that of the marks before it
   mark_names : (budget : Budget) (step rounds : ℕ) (b c : Stand) (verdict : Verdict) (names : RoundNames setup budget step rounds b c verdict) → IsWhole setup c
@@ -109,9 +112,12 @@ module _ (setup : Setup) (z : Stand) (journal : List JournalEntry) (merge : Inte
       let op : ℕ = operator_number setup in
       let first : List JournalEntry = map (λ (d : Deed Mail). d.entry) pause.between.deeds in
       let second : List JournalEntry = entries_of (behind.round.phase.notes op) in
-      (between_marks setup z b behind.stand journal mark behind.round.marked.mark (first ++ second) merge at_b (mark_of setup behind.stand z c.marks behind.round.marked behind.is_whole behind.on)
-      (behind.round.phase.journals op ∙ ap (λ (xs : List JournalEntry). xs ++ second) (pause_journal op b c true pause) ∙ append_assoc (b.view.journal op) first second)).0.1
-      (begins_first first second go (without_go (behind.round.phase.notes op) (round_without_go setup c behind.stand (whole_pause setup b c true is pause) behind.round)))
+      (between_marks setup z b behind.stand journal mark behind.round.marked.mark (first ++ second) merge at_b
+      (mark_of setup behind.stand z c.marks behind.round.marked behind.is_whole behind.on)
+      (behind.round.phase.journals op ∙ ap (λ (xs : List JournalEntry). xs ++ second) (pause_journal op b c true pause)
+      ∙ append_assoc (b.view.journal op) first second)).0.1
+      (begins_first first second go
+      (without_go (behind.round.phase.notes op) (round_without_go setup c behind.stand (whole_pause setup b c true is pause) behind.round)))
 
   marks_behind : (b c : Stand) (round : Round b c) (later : List (List ℕ)) → z.marks ≡ c.marks ++ later → z.marks ≡ b.marks ++ round.marked.mark ∷ later
   marks_behind b c round later whole = whole ∙ ap (λ (xs : List (List ℕ)). xs ++ later) round.marked.marks ∙ append_assoc b.marks (round.marked.mark ∷ []) later
@@ -136,7 +142,8 @@ module _ (setup : Setup) (z : Stand) (journal : List JournalEntry) (merge : Inte
           name = λ world stand. name_goes setup journal world (length b.marks) step n budget budgets names.round.marked.mark marks made end
               (mark_names budget step (n + 1) b c GoesOn names is on ran marks whole world stand)
               (none_begins step (n + 1) (budget ∷ budgets) c names.round.marked.mark made end is (mark_of setup c z b.marks names.round.marked is on) behind)
-              (subst (λ (k : ℕ). MarksName setup journal world k step (n + 1) (budget ∷ budgets) marks made end) (one_more b c names.round) (behind.name world stand));
+              (subst (λ (k : ℕ). MarksName setup journal world k step (n + 1) (budget ∷ budgets) marks made end)
+              (one_more b c names.round) (behind.name world stand));
           last = behind.last;
           is_last = behind.is_last;
           ends = behind.ends;
@@ -193,7 +200,8 @@ module _ (setup : Setup) (z : Stand) (journal : List JournalEntry) (merge : Inte
         → RoundNames setup budget step (n + 1) b c IsQuiet → (pause : Pause (operator_number setup) c d true)
         → Behind (step + 1) 0 (next ∷ budgets) d made end → Behind step n (budget ∷ next ∷ budgets) b ((n + 1) ∷ made) end
     behind_group d next budgets made end names pause behind =
-        let on : GoesOnTo c.view z.view = then_on c.view d.view z.view (pause_on (operator_number setup) c d true pause) (behind_on (step + 1) 0 (next ∷ budgets) d made end behind) in
+        let on : GoesOnTo c.view z.view =
+        then_on c.view d.view z.view (pause_on (operator_number setup) c d true pause) (behind_on (step + 1) 0 (next ∷ budgets) d made end behind) in
         let marks : List (List ℕ) = behind.round.marked.mark ∷ behind.later in
         let w = quiet_there names on in
         let whole : z.marks ≡ b.marks ++ names.round.marked.mark ∷ marks =
@@ -225,4 +233,5 @@ module _ (setup : Setup) (z : Stand) (journal : List JournalEntry) (merge : Inte
   groups_behind b c round is on ran =
       let h = world_behind b c round is on ran in
       groups_counted setup h.1.events (upto (before round.marked.mark) journal) h.0 h.1.entries_of h.1.run
-      ∙ ap (λ (xs : List JournalEntry). length (filter is_go xs)) ((up_to_mark c.view z.view round.marked.mark journal (mark_of setup c z b.marks round.marked is on) merge).each (operator_number setup))
+      ∙ ap (λ (xs : List JournalEntry). length (filter is_go xs))
+      ((up_to_mark c.view z.view round.marked.mark journal (mark_of setup c z b.marks round.marked is on) merge).each (operator_number setup))

@@ -33,5 +33,6 @@ pub round_names : (setup : Setup) (budget : Budget) (step rounds : ℕ) (b c : S
     → RoundNames setup budget step rounds b c verdict
 round_names setup budget step rounds b c verdict round names = record {
   round = round;
-  names = λ w at. names w (record { events = sum round.marked.mark; step = step; rounds = rounds }) at refl refl (mark_total c.view b.marks c.marks round.marked);
+  names = λ w at. names w (record { events = sum round.marked.mark; step = step; rounds = rounds }) at refl refl
+      (mark_total c.view b.marks c.marks round.marked);
 }

@@ -36,10 +36,11 @@ pair b = (b.prefix, b.from)
 
 found : (q : PrefixValue) (es : List (PrefixValue × Best)) → find prefix_cmp q (map pair (map best_entry es)) ≡ option_map (λ b. b.from) (find prefix_cmp q es)
 found q [] = refl
-found q (e ∷ es) = elim (eq_by_cmp prefix_cmp q e.0) as (λ b. cond b (Some e.1.from) (find prefix_cmp q (map pair (map best_entry es))) ≡ option_map (λ x. x.from) (cond b (Some e.1) (find prefix_cmp q es))) [
-  | true ↦ refl
-  | false ↦ found q es
-]
+found q (e ∷ es) = elim (eq_by_cmp prefix_cmp q e.0) as (λ b. cond b (Some e.1.from) (find prefix_cmp q (map pair (map best_entry es)))
+    ≡ option_map (λ x. x.from) (cond b (Some e.1) (find prefix_cmp q es))) [
+      | true ↦ refl
+      | false ↦ found q es
+    ]
 
 froms_are : (best : BestRoutes) → from_entries (map pair (map best_entry (entries best))) ≡ froms_of best
 froms_are best = same_map prefix_total exact_prefixes _ _ (λ q.
@@ -73,7 +74,8 @@ pub forwards_as_solved : WalksAreShort → WalksLeaveThere → (setup : Setup) (
     → AllTransparent setup w → Observed setup w lab → Forwards lab setup w
 forwards_as_solved short leave setup w lab sound solves transparent observed address from walk there walks = record {
   two = subst (λ (ms : List ForwardMap). TwoRoutersAtMost ms address from walk) (sym same) (short setup w address from walk sound solves there here);
-  leaves = λ r p prefix is. leave setup w address from r p prefix sound solves transparent there (subst (λ (end : Walk). WalksTo (forward_maps setup w) address [] from end) is here);
+  leaves = λ r p prefix is. leave setup w address from r p prefix sound solves transparent there
+      (subst (λ (end : Walk). WalksTo (forward_maps setup w) address [] from end) is here);
 }
   where
     same : forward_maps_of lab ≡ forward_maps setup w

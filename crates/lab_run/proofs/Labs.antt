@@ -95,37 +95,40 @@ pub labs_tell : WayRan → RunsAreTransparent → AlwaysUnchanged → AlwaysMade
     → EvacuationsGoByPlan → EmptiedAreLeft
     → OneAtEachMark → RoundsAreReal → WaysAreClocked → SilentWorldsAreQuiet → MovesAreBounded → SettledWorldsAreTheSolution → SettledRunsHaveOneAnswer
     → SureLaboratoriesHaveResults → LabsTellOfRuns
-labs_tell way_ran transparent unchanged made_before solves always short leave by_plan left one rounds clocked silent bounded answer same result lab a z sound alone ranged soon sure tells = record {
-  events = ran.events;
-  entries_of = ran.entries_of;
-  world = ran.world;
-  run = ran.run;
-  rises = tells.merged.sorted;
-  clocks = clocked (setup_of lab.input) a tells.goes.marked way.0 lab.journal ran.events ran.world sound tells.begins way.1 merged ran.entries_of ran.run;
-  observed = observed;
-  real = real;
-  one = λ mark u v. one (setup_of lab.input) lab.journal mark u v sound;
-  last = last;
-  marks = marks;
-  along = along ran.events ran.world ran.run;
-  in_rounds = along (round_by_round real.events (length lab.marks - 1)) (real.world (length lab.marks - 1))
-      (rounds_run (setup_of lab.input) lab.input.faults lab.journal lab.marks real (length lab.marks - 1)
-      (slice_get_within lab.marks (length lab.marks - 1) marks.last last_mark));
-  stalls = λ k more none. silent (setup_of lab.input) lab.input.faults lab.journal lab.marks sound ranged soon real k more none
-      (free_behind (setup_of lab.input) lab.journal real.world (budgets_in lab.input) lab.marks lab.rounds lab.end marks k (omega arith));
-  moves = bounded (setup_of lab.input) lab.input.faults lab.journal lab.marks sound real;
-  quiet = quiet;
-  solves = solved;
-  answers = λ settled. answer (setup_of lab.input) ran.world sound reached (at_end settled);
-  agrees = λ settled timeless even v there ended alike. same (setup_of lab.input) ran.world v sound timeless reached there (at_end settled) ended alike even;
-  results = λ settled is. result (setup_of lab.input) ran.world sound (sure is) reached (at_end settled);
-  forwards = λ settled. forwards_as_solved short leave (setup_of lab.input) ran.world lab sound (solved settled)
-      (λ p there. always (setup_of lab.input) ran.events ran.world p sound ran.run there) observed;
-  left = λ settled. left (setup_of lab.input) ran.world sound alone reached (quiet settled);
-}
+labs_tell way_ran transparent unchanged made_before solves always short leave by_plan left one rounds
+    clocked silent bounded answer same result lab a z sound alone ranged soon sure tells = record {
+      events = ran.events;
+      entries_of = ran.entries_of;
+      world = ran.world;
+      run = ran.run;
+      rises = tells.merged.sorted;
+      clocks = clocked (setup_of lab.input) a tells.goes.marked way.0 lab.journal ran.events ran.world sound tells.begins way.1 merged ran.entries_of ran.run;
+      observed = observed;
+      real = real;
+      one = λ mark u v. one (setup_of lab.input) lab.journal mark u v sound;
+      last = last;
+      marks = marks;
+      along = along ran.events ran.world ran.run;
+      in_rounds = along (round_by_round real.events (length lab.marks - 1)) (real.world (length lab.marks - 1))
+          (rounds_run (setup_of lab.input) lab.input.faults lab.journal lab.marks real (length lab.marks - 1)
+          (slice_get_within lab.marks (length lab.marks - 1) marks.last last_mark));
+      stalls = λ k more none. silent (setup_of lab.input) lab.input.faults lab.journal lab.marks sound ranged soon real k more none
+          (free_behind (setup_of lab.input) lab.journal real.world (budgets_in lab.input) lab.marks lab.rounds lab.end marks k (omega arith));
+      moves = bounded (setup_of lab.input) lab.input.faults lab.journal lab.marks sound real;
+      quiet = quiet;
+      solves = solved;
+      answers = λ settled. answer (setup_of lab.input) ran.world sound reached (at_end settled);
+      agrees = λ settled timeless even v there ended alike.
+          same (setup_of lab.input) ran.world v sound timeless reached there (at_end settled) ended alike even;
+      results = λ settled is. result (setup_of lab.input) ran.world sound (sure is) reached (at_end settled);
+      forwards = λ settled. forwards_as_solved short leave (setup_of lab.input) ran.world lab sound (solved settled)
+          (λ p there. always (setup_of lab.input) ran.events ran.world p sound ran.run there) observed;
+      left = λ settled. left (setup_of lab.input) ran.world sound alone reached (quiet settled);
+    }
   where
     ran : RanAs own carried (setup_of lab.input) lab.journal z.view
-    ran = run_ran way_ran (setup_of lab.input) sound a tells.begins z lab.journal tells.merged (budgets_in lab.input) lab.rounds lab.end tells.goes lab.journal tells.merged
+    ran = run_ran way_ran (setup_of lab.input) sound a tells.begins z lab.journal tells.merged
+        (budgets_in lab.input) lab.rounds lab.end tells.goes lab.journal tells.merged
 
     whole : IsWhole (setup_of lab.input) z
     whole = run_whole way_ran (setup_of lab.input) sound a tells.begins z lab.journal tells.merged (budgets_in lab.input) lab.rounds lab.end tells.goes
@@ -141,7 +144,8 @@ labs_tell way_ran transparent unchanged made_before solves always short leave by
         (subst (λ (e : RunEnd). RunGoes (setup_of lab.input) a (budgets_in lab.input) lab.rounds e z) settled tells.goes) ran.world ran.seen reached
 
     group_is_last : lab.end ≡ Settled → ran.world.operator.group + 1 ≡ groups_in (setup_of lab.input)
-    group_is_last settled = settled_last way_ran (setup_of lab.input) sound a tells.begins z lab.journal tells.merged (budgets_in lab.input) lab.rounds (each_has_one lab.input)
+    group_is_last settled = settled_last way_ran (setup_of lab.input) sound a tells.begins z lab.journal tells.merged
+        (budgets_in lab.input) lab.rounds (each_has_one lab.input)
         (subst (λ (e : RunEnd). RunGoes (setup_of lab.input) a (budgets_in lab.input) lab.rounds e z) settled tells.goes) ran
 
     at_end : lab.end ≡ Settled → IsSettled (setup_of lab.input) ran.world
@@ -172,7 +176,8 @@ labs_tell way_ran transparent unchanged made_before solves always short leave by
     marks : HasMarks (setup_of lab.input) lab.journal real.world (budgets_in lab.input) lab.marks lab.rounds lab.end
     marks = subst (λ (ms : List (List ℕ)). HasMarks (setup_of lab.input) lab.journal real.world (budgets_in lab.input) ms lab.rounds lab.end) (sym tells.marks)
         (marks_of_run way_ran (setup_of lab.input) sound a tells.begins z lab.journal tells.merged (budgets_in lab.input) lab.rounds lab.end
-        (each_has_one lab.input) tells.goes real.world (subst (λ (ms : List (List ℕ)). WorldsStand (setup_of lab.input) lab.journal ms real.world) tells.marks stand))
+        (each_has_one lab.input) tells.goes real.world
+        (subst (λ (ms : List (List ℕ)). WorldsStand (setup_of lab.input) lab.journal ms real.world) tells.marks stand))
 
     last_mark : slice_get lab.marks (length lab.marks - 1) ≡ Some marks.last
     last_mark =

@@ -1,5 +1,6 @@
 -- What the loops over rounds and groups keep.
-use Rattle.std.proofs.Common.{◌≡◌, ℕ, ◌+◌, ◌<◌, Bool, false, List, [], ◌∷◌, ◌++◌, length, take, drop, get_or, Option, Some, None, refl, sym, ap, ◌∙◌, subst, inl, inr, arith, take-append-drop, length-take-le}
+use Rattle.std.proofs.Common.{◌≡◌, ℕ, ◌+◌, ◌<◌, Bool, false, List, [], ◌∷◌, ◌++◌, length, take, drop, get_or, Option, Some}
+use Rattle.std.proofs.Common.{None, refl, sym, ap, ◌∙◌, subst, inl, inr, arith, take-append-drop, length-take-le}
 use Rattle.std.specs.Prelude.{◌↔◌}
 use Rattle.std.proofs.lemmas.List.{take_more, drop_more, get_or_default}
 use Rattle.graft_model.specs.Setups.{Setup}
@@ -27,14 +28,16 @@ none_found (Some end) none = absurd (none end refl)
 
 -- ---- the rounds of a group
 
-module _ (setup : Setup) (budget : Budget) (step : ℕ) (a b c : Stand) (n : ℕ) (goes : MakesRounds setup budget step a n b) (found : Verdict) (names : RoundNames setup budget step (n + 1) b c found) where
+module _ (setup : Setup) (budget : Budget) (step : ℕ) (a b c : Stand) (n : ℕ) (goes : MakesRounds setup budget step a n b)
+    (found : Verdict) (names : RoundNames setup budget step (n + 1) b c found) where
   -- one round more
   pub round_more : found ≡ GoesOn → MakesRounds setup budget step a (n + 1) c
   round_more is = OneMore n goes (subst (λ (v : Verdict). RoundNames setup budget step (n + 1) b c v) is names)
 
   -- the round at whose mark the group ends
   pub group_ends : (verdict : Verdict) → found ≡ verdict → GroupGoes setup budget step a (n + 1) verdict c
-  group_ends verdict is = record { past = n; before = b; goes = goes; last = subst (λ (v : Verdict). RoundNames setup budget step (n + 1) b c v) is names; rounds_is = refl }
+  group_ends verdict is =
+      record { past = n; before = b; goes = goes; last = subst (λ (v : Verdict). RoundNames setup budget step (n + 1) b c v) is names; rounds_is = refl }
 
 -- ---- behind a group
 
@@ -49,7 +52,8 @@ passes setup n a b found answer has is pause held = record {
     last : operator_number setup ≡ n.0 + n.1
     last = λ i. has.routers i + has.peerings i
 
-module _ (setup : Setup) (budget : Budget) (step : ℕ) (a b : Stand) (rounds : ℕ) (limit : Option RunEnd) (group : GroupGoes setup budget step a rounds (verdict_of limit) b) where
+module _ (setup : Setup) (budget : Budget) (step : ℕ) (a b : Stand) (rounds : ℕ)
+    (limit : Option RunEnd) (group : GroupGoes setup budget step a rounds (verdict_of limit) b) where
   -- a limit ends the run
   pub limit_answers : (end : RunEnd) → limit ≡ Some end → GroupAnswers setup budget step a rounds (Some end) b
   limit_answers end is = record { limit = limit; marked = b; group = group; then_is = inl (is, λ e. absurd cc, refl) }
@@ -60,8 +64,10 @@ module _ (setup : Setup) (budget : Budget) (step : ℕ) (a b : Stand) (rounds : 
 
 -- ---- groups
 
-module _ (setup : Setup) (a : Stand) (budgets : List Budget) (index : ℕ) (there : index < length budgets) (none budget : Budget) (is : budget ≡ get_or budgets index none) (step : ℕ) (number : step ≡ index + 1)
-    (b d : Stand) (made all : List ℕ) (rounds : ℕ) (groups : GroupsGo setup a (take index budgets) made b) (all_is : all ≡ made ++ rounds ∷ []) (found : Option RunEnd) (answers : GroupAnswers setup budget step b rounds found d) where
+module _ (setup : Setup) (a : Stand) (budgets : List Budget) (index : ℕ) (there : index < length budgets)
+    (none budget : Budget) (is : budget ≡ get_or budgets index none) (step : ℕ) (number : step ≡ index + 1)
+    (b d : Stand) (made all : List ℕ) (rounds : ℕ) (groups : GroupsGo setup a (take index budgets) made b)
+    (all_is : all ≡ made ++ rounds ∷ []) (found : Option RunEnd) (answers : GroupAnswers setup budget step b rounds found d) where
   past_count : length (take index budgets) ≡ index
   past_count = length-take-le index budgets (omega (arith, there))
 
@@ -76,19 +82,23 @@ module _ (setup : Setup) (a : Stand) (budgets : List Budget) (index : ℕ) (ther
       ∙ ap (λ (xs : List Budget). take index budgets ++ xs) (drop_more budgets index budget there ∙ ap (λ (x : Budget). x ∷ drop (index + 1) budgets) itself)
 
   at_step : (end : Option RunEnd) → found ≡ end → GroupAnswers setup budget (length (take index budgets) + 1) b rounds end d
-  at_step end e = subst (λ (n : ℕ). GroupAnswers setup budget n b rounds end d) (number ∙ ap (λ (n : ℕ). n + 1) (sym past_count)) (subst (λ (o : Option RunEnd). GroupAnswers setup budget step b rounds o d) e answers)
+  at_step end e = subst (λ (n : ℕ). GroupAnswers setup budget n b rounds end d) (number ∙ ap (λ (n : ℕ). n + 1) (sym past_count))
+      (subst (λ (o : Option RunEnd). GroupAnswers setup budget step b rounds o d) e answers)
 
   -- one group more is over, and the next one has begun
   pub groups_more : found ≡ None → GroupsGo setup a (take (index + 1) budgets) all d
-  groups_more e = subst (λ (xs : List Budget). GroupsGo setup a xs all d) (sym past_more) (subst (λ (ns : List ℕ). GroupsGo setup a (take index budgets ++ budget ∷ []) ns d) (sym all_is) next) where
-    x : GroupAnswers setup budget (length (take index budgets) + 1) b rounds None d
-    x = at_step None e
+  groups_more e = subst (λ (xs : List Budget). GroupsGo setup a xs all d) (sym past_more)
+      (subst (λ (ns : List ℕ). GroupsGo setup a (take index budgets ++ budget ∷ []) ns d) (sym all_is) next)
+    where
+      x : GroupAnswers setup budget (length (take index budgets) + 1) b rounds None d
+      x = at_step None e
 
-    next : GroupsGo setup a (take index budgets ++ budget ∷ []) (made ++ rounds ∷ []) d
-    next = elim x.then_is [
-      | inl limit ↦ absurd (limit.1 refl)
-      | inr over ↦ NextGroup (take index budgets) budget made rounds groups (subst (λ (o : Option RunEnd). GroupGoes setup budget (length (take index budgets) + 1) b rounds (verdict_of o) x.marked) over.0 x.group) over.1
-    ]
+      next : GroupsGo setup a (take index budgets ++ budget ∷ []) (made ++ rounds ∷ []) d
+      next = elim x.then_is [
+        | inl limit ↦ absurd (limit.1 refl)
+        | inr over ↦ NextGroup (take index budgets) budget made rounds groups
+            (subst (λ (o : Option RunEnd). GroupGoes setup budget (length (take index budgets) + 1) b rounds (verdict_of o) x.marked) over.0 x.group) over.1
+      ]
 
   -- the run ends
   pub run_ends : (end : RunEnd) → found ≡ Some end → RunGoes setup a budgets all end d

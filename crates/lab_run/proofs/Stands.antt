@@ -1,5 +1,6 @@
 -- What stands of a net have of those that come after them.
-use Rattle.std.proofs.Common.{◌≡◌, ◌≢◌, ℕ, ◌<◌, ◌≤◌, ◌+◌, Bool, true, false, List, [], ◌∷◌, ◌++◌, length, get_or, map, filter, Option, refl, sym, ap, ◌∙◌, subst, inl, inr, arith, append-nil, append_assoc}
+use Rattle.std.proofs.Common.{◌≡◌, ◌≢◌, ℕ, ◌<◌, ◌≤◌, ◌+◌, Bool, true, false, List, [], ◌∷◌, ◌++◌, length, get_or, map, filter}
+use Rattle.std.proofs.Common.{Option, refl, sym, ap, ◌∙◌, subst, inl, inr, arith, append-nil, append_assoc}
 use Rattle.std.specs.Prelude.{◌↔◌, ◌⊎◌}
 use Rattle.std.specs.List.{AllByRecursion}
 use Rattle.std.proofs.lemmas.Bool.Decides.{nat_tests}
@@ -40,8 +41,10 @@ pub stays : (u v : View Node Mail) → ((k : ℕ) → v.journal k ≡ u.journal 
 stays u v same k = ([], same k ∙ sym (append-nil (u.journal k)))
 
 pub then_on : (u v t : View Node Mail) → GoesOnTo u v → GoesOnTo v t → GoesOnTo u t
-then_on u v t first second k =
-    ((first k).0 ++ (second k).0, (second k).1 ∙ ap (λ (xs : List JournalEntry). xs ++ (second k).0) (first k).1 ∙ append_assoc (u.journal k) (first k).0 (second k).0)
+then_on u v t first second k = (
+  (first k).0 ++ (second k).0,
+  (second k).1 ∙ ap (λ (xs : List JournalEntry). xs ++ (second k).0) (first k).1 ∙ append_assoc (u.journal k) (first k).0 (second k).0,
+)
 
 pub round_on : (b c : Stand) → Round b c → GoesOnTo b.view c.view
 round_on b c round k = (entries_of (round.phase.notes k), round.phase.journals k)
@@ -56,7 +59,8 @@ pause_others n b c answer pause k other = pause.between.journals k other ∙ pau
 
 pub pause_on : (n : ℕ) (b c : Stand) (answer : Bool) → Pause n b c answer → GoesOnTo b.view c.view
 pause_on n b c answer pause k = elim (equal_or_not k n) [
-  | inl e ↦ subst (λ (m : ℕ). (more : List JournalEntry) × (c.view.journal m ≡ b.view.journal m ++ more)) (sym e) (map (λ (d : Deed Mail). d.entry) pause.between.deeds, pause_journal n b c answer pause)
+  | inl e ↦ subst (λ (m : ℕ). (more : List JournalEntry) × (c.view.journal m ≡ b.view.journal m ++ more))
+      (sym e) (map (λ (d : Deed Mail). d.entry) pause.between.deeds, pause_journal n b c answer pause)
   | inr ne ↦ ([], pause_others n b c answer pause k ne ∙ sym (append-nil (b.view.journal k)))
 ]
 
@@ -69,13 +73,18 @@ pub record IsWhole (setup : Setup) (c : Stand) : Type 0 where
   pub edges : (m n : ℕ) → c.view.edge m n ≡ has_channel setup m n
 
 pub whole_first : (setup : Setup) (a : Stand) → IsFirstStand setup a → IsWhole setup a
-whole_first setup a begins = record { size = ap (λ (xs : List Node). length xs) begins.new.all ∙ begins.first.all; none = λ k past. begins.new.journals k; edges = λ m n. begins.new.edge m n ∙ begins.are_edges.each m n }
+whole_first setup a begins = record {
+  size = ap (λ (xs : List Node). length xs) begins.new.all ∙ begins.first.all;
+  none = λ k past. begins.new.journals k;
+  edges = λ m n. begins.new.edge m n ∙ begins.are_edges.each m n;
+}
 
 pub whole_round : (setup : Setup) (b c : Stand) → IsWhole setup b → Round b c → IsWhole setup c
 whole_round setup b c is round = record {
   size = round.phase.size ∙ is.size;
   none = λ k past. (let far : length b.view.actors ≤ k = omega (arith, past, round.phase.size) in
-      round.phase.journals k ∙ ap (λ (xs : List JournalEntry). xs ++ entries_of (round.phase.notes k)) (is.none k far) ∙ ap (λ (ns : List (Noted Mail)). entries_of ns) (round.phase.none k far));
+      round.phase.journals k ∙ ap (λ (xs : List JournalEntry). xs ++ entries_of (round.phase.notes k)) (is.none k far)
+      ∙ ap (λ (ns : List (Noted Mail)). entries_of ns) (round.phase.none k far));
   edges = λ m n. round.phase.edges m n ∙ is.edges m n;
 }
 
@@ -112,7 +121,8 @@ without_go (n ∷ notes) none = (none.0, without_go notes none.1)
 
 -- in a round the operator begins no group
 pub no_go_in : (k : ℕ) (b c : Stand) (d : Node) (round : Round b c) → k < length b.view.actors → AllByRecursion IsNoGo (deeds (round.phase.notes k))
-no_go_in k b c d round there = round_no_go k (get_or b.view.actors k d) (get_or c.view.actors k d) (b.view.clock k) (c.view.clock k) (round.phase.notes k) (round.phase.actors k d there)
+no_go_in k b c d round there = round_no_go k (get_or b.view.actors k d) (get_or c.view.actors k d)
+    (b.view.clock k) (c.view.clock k) (round.phase.notes k) (round.phase.actors k d there)
 
 some_node : (xs : List Node) (k : ℕ) → k < length xs → Node
 some_node [] k there = absurd (omega arith)
@@ -120,7 +130,8 @@ some_node (x ∷ xs) k there = x
 
 pub round_without_go : (setup : Setup) (b c : Stand) → IsWhole setup b → (round : Round b c)
     → AllByRecursion IsNoGo (deeds (round.phase.notes (operator_number setup)))
-round_without_go setup b c is round = no_go_in (operator_number setup) b c (some_node b.view.actors (operator_number setup) (operator_within setup b is)) round (operator_within setup b is)
+round_without_go setup b c is round = no_go_in (operator_number setup) b c
+    (some_node b.view.actors (operator_number setup) (operator_within setup b is)) round (operator_within setup b is)
 
 -- what is seen of groups between two marks is so of what the operator notes between them
 pub between_marks : (setup : Setup) (z b c : Stand) (journal : List JournalEntry) (mark next : List ℕ) (new : List JournalEntry)
@@ -129,7 +140,9 @@ pub between_marks : (setup : Setup) (z b c : Stand) (journal : List JournalEntry
     → (GoFollows setup journal mark next ↔ BeginsWithGo new) × (NoGoFollows setup journal mark next ↔ BeginsNone new)
 between_marks setup z b c journal mark next new merge at_b at_c grew =
     let op : ℕ = operator_number setup in
-    group_seen setup journal mark next (b.view.journal op) new (at_c.later op).0 (merge.each op ∙ (at_c.later op).1 ∙ ap (λ (xs : List JournalEntry). xs ++ (at_c.later op).0) grew) (at_b.lengths op) (at_c.lengths op ∙ ap (λ (xs : List JournalEntry). length xs) grew)
+    group_seen setup journal mark next (b.view.journal op) new (at_c.later op).0
+    (merge.each op ∙ (at_c.later op).1 ∙ ap (λ (xs : List JournalEntry). xs ++ (at_c.later op).0) grew)
+    (at_b.lengths op) (at_c.lengths op ∙ ap (λ (xs : List JournalEntry). length xs) grew)
 
 own_path : (part : OwnPart) (setup : Setup) (name : ActorName) (actor : ActorPart) → part.setup ≡ setup → part.name ≡ name → part.part ≡ actor
     → part ≡ record { setup = setup; name = name; part = actor }
@@ -141,7 +154,8 @@ pub operator_is : (setup : Setup) (b : Stand) (w : World) (d : Node) → IsWhole
 operator_is setup b w d is seen =
     let op : ℕ = operator_number setup in
     sym (seen.is.parts op d (operator_within setup b is))
-    ∙ own_path (seen.lab.part op) setup Operator (OperatorIs w.operator) (seen.sees.setups op Operator (at_operator setup)) (seen.sees.names op Operator (at_operator setup)) (seen.sees.sees.parts op Operator (at_operator setup))
+    ∙ own_path (seen.lab.part op) setup Operator (OperatorIs w.operator) (seen.sees.setups op Operator (at_operator setup))
+    (seen.sees.names op Operator (at_operator setup)) (seen.sees.sees.parts op Operator (at_operator setup))
 
 -- what it does at a mark, where no step is left, begins a group, and is one event
 pub pause_goes : (setup : Setup) (b c : Stand) (w : World) → IsWhole setup b → IsSeenAs own carried setup b.view w → ¬ HasUnissued setup w.operator
@@ -160,13 +174,17 @@ pause_goes setup b c w is seen none pause = by_deeds pause.between.deeds refl wh
   by_deeds : (ds : List (Deed Mail)) → pause.between.deeds ≡ ds → BeginsWithGo (map (λ (d : Deed Mail). d.entry) ds)
   by_deeds [] e = let f : true ≡ false = pause.between.answer.1 e in absurd cc
   by_deeds (d ∷ more ∷ ds) e =
-      let few = pause_few (get_or pause.level.actors (operator_number setup) node) (get_or c.view.actors (operator_number setup) node) pause.between.deeds (pause.between.paused node) in
+      let few = pause_few (get_or pause.level.actors (operator_number setup) node)
+      (get_or c.view.actors (operator_number setup) node) pause.between.deeds (pause.between.paused node) in
       absurd (omega (arith, few, ap (λ (xs : List (Deed Mail)). length xs) e))
   by_deeds (d ∷ []) e =
-      let replay = subst (λ (xs : List (Deed Mail)). Replay (acts carried) (operator_number setup) (own (get_or pause.level.actors (operator_number setup) node)) xs (own (get_or c.view.actors (operator_number setup) node))) e (pause.between.replay node) in
+      let replay =
+      subst (λ (xs : List (Deed Mail)). Replay (acts carried) (operator_number setup) (own (get_or pause.level.actors (operator_number setup) node)) xs
+      (own (get_or c.view.actors (operator_number setup) node))) e (pause.between.replay node) in
       let none_taken = subst (λ (xs : List (Deed Mail)). AllByRecursion TakesNone xs) e pause.between.none in (
         act_goes carried setup w.operator d.entry d.sent replay.0 none
-            (subst (λ (taken : Option (ℕ × Mail)). ActsAs carried (record { setup = setup; name = Operator; part = OperatorIs w.operator }) d.entry taken d.sent replay.0) none_taken.0
+            (subst (λ (taken : Option (ℕ × Mail)).
+            ActsAs carried (record { setup = setup; name = Operator; part = OperatorIs w.operator }) d.entry taken d.sent replay.0) none_taken.0
             (subst (λ (part : OwnPart). ActsAs carried part d.entry d.taken d.sent replay.0) was replay.1)),
         tt,
       )
@@ -229,30 +247,38 @@ same_seen setup b c w same seen = record {
   lab = seen.lab;
   is = record {
     parts = λ k d there. seen.is.parts k d (omega (arith, there, same.size)) ∙ sym (same.parts k d);
-    channels = λ m n there. (let edge : b.view.edge m n ≡ true = sym (same.edges m n) ∙ there in seen.is.channels m n edge ∙ ap (map (λ (x : Stamped Mail). x.item)) (sym (same.channels m n edge)));
+    channels = λ m n there. (let edge : b.view.edge m n ≡ true = sym (same.edges m n) ∙ there in
+        seen.is.channels m n edge ∙ ap (map (λ (x : Stamped Mail). x.item)) (sym (same.channels m n edge)));
   };
   sees = seen.sees;
 }
 
 -- at a mark at which nothing is done, the net stays
 pub pause_same : (k : ℕ) (b c : Stand) → Pause k b c false → IsSameNet b c
-pause_same k b c pause = record { size = pause_size k b c false pause; parts = parts; edges = λ m n. pause.between.edges m n ∙ pause.levelled.only.edges m n; channels = channels } where
-  none : pause.between.deeds ≡ []
-  none = pause.between.answer.0 refl
+pause_same k b c pause = record {
+  size = pause_size k b c false pause;
+  parts = parts;
+  edges = λ m n. pause.between.edges m n ∙ pause.levelled.only.edges m n;
+  channels = channels;
+}
+  where
+    none : pause.between.deeds ≡ []
+    none = pause.between.answer.0 refl
 
-  parts : (j : ℕ) (d : Node) → own (get_or c.view.actors j d) ≡ own (get_or b.view.actors j d)
-  parts j d = elim (equal_or_not j k) [
-    | inl e ↦ subst (λ (n : ℕ). own (get_or c.view.actors n d) ≡ own (get_or b.view.actors n d)) (sym e)
-        (subst (λ (ds : List (Deed Mail)). Replay (acts carried) k (own (get_or pause.level.actors k d)) ds (own (get_or c.view.actors k d))) none (pause.between.replay d)
-        ∙ ap (λ (xs : List Node). own (get_or xs k d)) pause.levelled.only.actors)
-    | inr ne ↦ ap own (pause.between.others j d ne) ∙ ap (λ (xs : List Node). own (get_or xs j d)) pause.levelled.only.actors
-  ]
+    parts : (j : ℕ) (d : Node) → own (get_or c.view.actors j d) ≡ own (get_or b.view.actors j d)
+    parts j d = elim (equal_or_not j k) [
+      | inl e ↦ subst (λ (n : ℕ). own (get_or c.view.actors n d) ≡ own (get_or b.view.actors n d)) (sym e)
+          (subst (λ (ds : List (Deed Mail)). Replay (acts carried) k (own (get_or pause.level.actors k d)) ds (own (get_or c.view.actors k d))) none
+          (pause.between.replay d)
+          ∙ ap (λ (xs : List Node). own (get_or xs k d)) pause.levelled.only.actors)
+      | inr ne ↦ ap own (pause.between.others j d ne) ∙ ap (λ (xs : List Node). own (get_or xs j d)) pause.levelled.only.actors
+    ]
 
-  channels : (m n : ℕ) → b.view.edge m n ≡ true → c.view.channel m n ≡ b.view.channel m n
-  channels m n there = elim (equal_or_not m k) [
-    | inl e ↦ (let edge : pause.level.edge k n ≡ true = ap (λ (x : ℕ). pause.level.edge x n) (sym e) ∙ pause.levelled.only.edges m n ∙ there in
-        ap (λ (x : ℕ). c.view.channel x n) e ∙ pause.between.channel n edge
-        ∙ ap (λ (ds : List (Deed Mail)). pause.level.channel k n ++ sent_by n ds) none ∙ append-nil (pause.level.channel k n)
-        ∙ pause.levelled.only.channels k n ∙ ap (λ (x : ℕ). b.view.channel x n) (sym e))
-    | inr ne ↦ pause.between.channels m n ne ∙ pause.levelled.only.channels m n
-  ]
+    channels : (m n : ℕ) → b.view.edge m n ≡ true → c.view.channel m n ≡ b.view.channel m n
+    channels m n there = elim (equal_or_not m k) [
+      | inl e ↦ (let edge : pause.level.edge k n ≡ true = ap (λ (x : ℕ). pause.level.edge x n) (sym e) ∙ pause.levelled.only.edges m n ∙ there in
+          ap (λ (x : ℕ). c.view.channel x n) e ∙ pause.between.channel n edge
+          ∙ ap (λ (ds : List (Deed Mail)). pause.level.channel k n ++ sent_by n ds) none ∙ append-nil (pause.level.channel k n)
+          ∙ pause.levelled.only.channels k n ∙ ap (λ (x : ℕ). b.view.channel x n) (sym e))
+      | inr ne ↦ pause.between.channels m n ne ∙ pause.levelled.only.channels m n
+    ]

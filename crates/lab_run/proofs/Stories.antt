@@ -1,5 +1,6 @@
 -- The marks of a run name how it goes on and ends.
-use Rattle.std.proofs.Common.{◌≡◌, ℕ, suc, ◌+◌, ◌≤◌, ◌<◌, true, false, List, [], ◌∷◌, ◌++◌, length, get_or, map, filter, refl, sym, ap, ◌∙◌, subst, inl, inr, arith, append_assoc, append-nil}
+use Rattle.std.proofs.Common.{◌≡◌, ℕ, suc, ◌+◌, ◌≤◌, ◌<◌, true, false, List, [], ◌∷◌, ◌++◌, length, get_or, map}
+use Rattle.std.proofs.Common.{filter, refl, sym, ap, ◌∙◌, subst, inl, inr, arith, append_assoc, append-nil}
 use Rattle.std.specs.List.{AllByRecursion}
 use Rattle.std.proofs.lemmas.List.{length-append}
 use Rattle.ring_net.specs.declared.entry.JournalEntry.{JournalEntry}
@@ -24,8 +25,10 @@ use Rattle.lab_run.specs.declared.end.Verdict.{Verdict}
 use Rattle.lab_run.specs.declared.end.Verdict.TheVariants.{IsQuiet, Ends}
 use Rattle.lab_run.specs.Ends.{HasMarks, MarksName}
 use Rattle.lab_run.specs.Stories.{MakesRounds, NoRound, OneMore, GroupGoes, PassesPause, GroupsGo, NoGroup, NextGroup, RunGoes}
-use Rattle.lab_run.proofs.Stands.{GoesOnTo, stays, then_on, round_on, pause_on, pause_journal, pause_others, IsWhole, whole_first, whole_round, whole_pause, mark_of, groups_at, groups_stay, groups_more, same_back, same_seen, pause_same}
-use Rattle.lab_run.proofs.Behind.{WorldsStand, Behind, world_behind, behind_on, behind_round, behind_end, behind_settled, behind_group, none_begins, quiet_there, groups_behind}
+use Rattle.lab_run.proofs.Stands.{GoesOnTo, stays, then_on, round_on, pause_on, pause_journal, pause_others, IsWhole, whole_first, whole_round}
+use Rattle.lab_run.proofs.Stands.{whole_pause, mark_of, groups_at, groups_stay, groups_more, same_back, same_seen, pause_same}
+use Rattle.lab_run.proofs.Behind.{WorldsStand, Behind, world_behind, behind_on, behind_round, behind_end}
+use Rattle.lab_run.proofs.Behind.{behind_settled, behind_group, none_begins, quiet_there, groups_behind}
 
 abbrev pub WayRan : Type 0
 WayRan = (setup : Setup) (a b : Stand) (rounds : List ℕ) → IsSetup setup → IsFirstStand setup a → Way setup a rounds b → Ran own carried setup b.view
@@ -50,7 +53,8 @@ module _ (setup : Setup) (budget : Budget) (step : ℕ) (b : Stand) where
   goes_way a past n c way NoRound = way
   goes_way a past n c way (OneMore m {b = d} goes names) = Rounds past m (goes_way a past m d way goes) names.round
 
-module _ (way_ran : WayRan) (setup : Setup) (sound : IsSetup setup) (a : Stand) (begins : IsFirstStand setup a) (z : Stand) (journal : List JournalEntry) (merge : Interleaves z.view.journal journal) where
+module _ (way_ran : WayRan) (setup : Setup) (sound : IsSetup setup) (a : Stand) (begins : IsFirstStand setup a)
+    (z : Stand) (journal : List JournalEntry) (merge : Interleaves z.view.journal journal) where
   goes_back : (budget : Budget) (step : ℕ) (budgets : List Budget) (made : List ℕ) (end : RunEnd) (b : Stand) (past : List ℕ)
       → Way setup a (past ++ 0 ∷ []) b → IsWhole setup b → (n : ℕ) (c : Stand) → MakesRounds setup budget step b n c
       → Behind setup z journal merge step n (budget ∷ budgets) c made end → Behind setup z journal merge step 0 (budget ∷ budgets) b made end
@@ -58,7 +62,8 @@ module _ (way_ran : WayRan) (setup : Setup) (sound : IsSetup setup) (a : Stand) 
   goes_back budget step budgets made end b past way is n c (OneMore m {b = d} goes names) behind =
       goes_back budget step budgets made end b past way is m d goes
       (behind_round setup z journal merge step m budget d c (whole_round setup d c (goes_whole setup budget step b m d is goes) names.round)
-      (way_ran setup a c (past ++ n ∷ []) sound begins (Rounds past m (goes_way setup budget step b a past m d way goes) names.round)) budgets made end names behind)
+      (way_ran setup a c (past ++ n ∷ []) sound begins (Rounds past m (goes_way setup budget step b a past m d way goes) names.round)) budgets
+      made end names behind)
 
   -- ---- a group
 
@@ -69,7 +74,8 @@ module _ (way_ran : WayRan) (setup : Setup) (sound : IsSetup setup) (a : Stand) 
     is : IsWhole setup b
     count : groups_at setup b ≡ length past
 
-  module _ (past : List Budget) (b : Stand) (opens : Opens past b) (budget : Budget) (step rounds : ℕ) (verdict : Verdict) (c : Stand) (group : GroupGoes setup budget step b rounds verdict c) where
+  module _ (past : List Budget) (b : Stand) (opens : Opens past b) (budget : Budget) (step rounds : ℕ)
+      (verdict : Verdict) (c : Stand) (group : GroupGoes setup budget step b rounds verdict c) where
     group_whole : IsWhole setup c
     group_whole = whole_round setup group.before c (goes_whole setup budget step b group.past group.before opens.is group.goes) group.last.round
 
@@ -80,7 +86,8 @@ module _ (way_ran : WayRan) (setup : Setup) (sound : IsSetup setup) (a : Stand) 
     group_ran = way_ran setup a c (opens.rounds ++ (group.past + 1) ∷ []) sound begins group_way
 
     group_on : GoesOnTo b.view c.view
-    group_on = then_on b.view group.before.view c.view (goes_on setup budget step b group.past group.before group.goes) (round_on group.before c group.last.round)
+    group_on = then_on b.view group.before.view c.view
+        (goes_on setup budget step b group.past group.before group.goes) (round_on group.before c group.last.round)
 
     group_count : groups_at setup c ≡ length past
     group_count = groups_stay setup group.before c (goes_whole setup budget step b group.past group.before opens.is group.goes) group.last.round
@@ -95,7 +102,12 @@ module _ (way_ran : WayRan) (setup : Setup) (sound : IsSetup setup) (a : Stand) 
   -- ---- groups
 
   opens_first : Opens [] a
-  opens_first = record { rounds = []; way = Here; is = whole_first setup a begins; count = ap (λ (xs : List JournalEntry). length (filter is_go xs)) (begins.new.journals (operator_number setup)) }
+  opens_first = record {
+    rounds = [];
+    way = Here;
+    is = whole_first setup a begins;
+    count = ap (λ (xs : List JournalEntry). length (filter is_go xs)) (begins.new.journals (operator_number setup));
+  }
 
   opens_next : (past : List Budget) (b : Stand) (opens : Opens past b) (budget : Budget) (rounds : ℕ) (c d : Stand)
       → GroupGoes setup budget (length past + 1) b rounds IsQuiet c → PassesPause setup c d true → GoesOnTo d.view z.view
@@ -104,10 +116,12 @@ module _ (way_ran : WayRan) (setup : Setup) (sound : IsSetup setup) (a : Stand) 
       let step : ℕ = length past + 1 in
       let is : IsWhole setup c = group_whole past b opens budget step rounds IsQuiet c group in
       let ran : Ran own carried setup c.view = group_ran past b opens budget step rounds IsQuiet c group in
-      let w = quiet_there setup z journal merge step group.past budget group.before c is ran group.last (then_on c.view d.view z.view (pause_on (operator_number setup) c d true passes.pause) on) in
+      let w = quiet_there setup z journal merge step group.past budget group.before c is ran group.last
+      (then_on c.view d.view z.view (pause_on (operator_number setup) c d true passes.pause) on) in
       record {
         rounds = opens.rounds ++ (group.past + 1) ∷ [];
-        way = Groups (opens.rounds ++ (group.past + 1) ∷ []) (group_way past b opens budget step rounds IsQuiet c group) (λ v seen reached. (group.last.names v (seen, reached)).1.quiet) passes.pause;
+        way = Groups (opens.rounds ++ (group.past + 1) ∷ []) (group_way past b opens budget step rounds IsQuiet c group)
+            (λ v seen reached. (group.last.names v (seen, reached)).1.quiet) passes.pause;
         is = whole_pause setup c d true is passes.pause;
         count = groups_more setup c d w.0 is w.1 w.2 passes.pause
             ∙ ap (λ (n : ℕ). n + 1) (group_count past b opens budget step rounds IsQuiet c group) ∙ sym (length-append past (budget ∷ []));
@@ -117,7 +131,8 @@ module _ (way_ran : WayRan) (setup : Setup) (sound : IsSetup setup) (a : Stand) 
   groups_open past made b NoGroup on = opens_first
   groups_open past made d (NextGroup budgets budget earlier rounds {b = b} {c = c} groups group passes) on =
       let on_c : GoesOnTo c.view z.view = then_on c.view d.view z.view (pause_on (operator_number setup) c d true passes.pause) on in
-      let on_b : GoesOnTo b.view z.view = then_on b.view c.view z.view (then_on b.view group.before.view c.view (goes_on setup budget (length budgets + 1) b group.past group.before group.goes) (round_on group.before c group.last.round)) on_c in
+      let on_b : GoesOnTo b.view z.view = then_on b.view c.view z.view (then_on b.view group.before.view c.view
+      (goes_on setup budget (length budgets + 1) b group.past group.before group.goes) (round_on group.before c group.last.round)) on_c in
       opens_next budgets b (groups_open budgets earlier b groups on_b) budget rounds c d group passes on
 
   groups_back : (past : List Budget) (made : List ℕ) (b : Stand) → GroupsGo setup a past made b
@@ -128,15 +143,20 @@ module _ (way_ran : WayRan) (setup : Setup) (sound : IsSetup setup) (a : Stand) 
       let step : ℕ = length budgets + 1 in
       let on_d : GoesOnTo d.view z.view = behind_on setup z journal merge (length past + 1) 0 (next ∷ left) d more end behind in
       let on_c : GoesOnTo c.view z.view = then_on c.view d.view z.view (pause_on (operator_number setup) c d true passes.pause) on_d in
-      let on_b : GoesOnTo b.view z.view = then_on b.view c.view z.view (then_on b.view group.before.view c.view (goes_on setup budget step b group.past group.before group.goes) (round_on group.before c group.last.round)) on_c in
+      let on_b : GoesOnTo b.view z.view = then_on b.view c.view z.view (then_on b.view group.before.view c.view
+      (goes_on setup budget step b group.past group.before group.goes) (round_on group.before c group.last.round)) on_c in
       let opens : Opens budgets b = groups_open budgets earlier b groups on_b in
       let same_step : length past + 1 ≡ step + 1 = ap (λ (n : ℕ). n + 1) (length-append budgets (budget ∷ [])) in
-      let at_next : Behind setup z journal merge (step + 1) 0 (next ∷ left) d more end = subst (λ (n : ℕ). Behind setup z journal merge n 0 (next ∷ left) d more end) same_step behind in
+      let at_next : Behind setup z journal merge (step + 1) 0 (next ∷ left) d more end =
+      subst (λ (n : ℕ). Behind setup z journal merge n 0 (next ∷ left) d more end) same_step behind in
       let at_mark : Behind setup z journal merge step group.past (budget ∷ next ∷ left) group.before ((group.past + 1) ∷ more) end =
-      behind_group setup z journal merge step group.past budget group.before c (group_whole budgets b opens budget step rounds IsQuiet c group) (group_ran budgets b opens budget step rounds IsQuiet c group) d next left more end group.last passes.pause at_next in
+      behind_group setup z journal merge step group.past budget group.before c (group_whole budgets b opens budget step rounds IsQuiet c group)
+      (group_ran budgets b opens budget step rounds IsQuiet c group) d next left more end group.last passes.pause at_next in
       let all : Behind setup z journal merge 1 0 (budgets ++ budget ∷ next ∷ left) a (earlier ++ rounds ∷ more) end =
-      groups_back budgets earlier b groups budget (next ∷ left) (rounds ∷ more) end (group_back budgets b opens budget step rounds IsQuiet c group (next ∷ left) more end at_mark) in
-      subst (λ (xs : List Budget). Behind setup z journal merge 1 0 xs a ((earlier ++ rounds ∷ []) ++ more) end) (sym (append_assoc budgets (budget ∷ []) (next ∷ left)))
+      groups_back budgets earlier b groups budget (next ∷ left) (rounds ∷ more) end
+      (group_back budgets b opens budget step rounds IsQuiet c group (next ∷ left) more end at_mark) in
+      subst (λ (xs : List Budget). Behind setup z journal merge 1 0 xs a ((earlier ++ rounds ∷ []) ++ more) end)
+      (sym (append_assoc budgets (budget ∷ []) (next ∷ left)))
       (subst (λ (ns : List ℕ). Behind setup z journal merge 1 0 (budgets ++ budget ∷ next ∷ left) a ns end) (sym (append_assoc earlier (rounds ∷ []) more)) all)
 
   -- ---- the end
@@ -145,7 +165,8 @@ module _ (way_ran : WayRan) (setup : Setup) (sound : IsSetup setup) (a : Stand) 
   nothing_noted : (c : Stand) (pause : Pause (operator_number setup) c z false) (k : ℕ) → z.view.journal k ≡ c.view.journal k
   nothing_noted c pause k = elim (equal_or_not k (operator_number setup)) [
     | inl e ↦ subst (λ (n : ℕ). z.view.journal n ≡ c.view.journal n) (sym e)
-        (pause_journal (operator_number setup) c z false pause ∙ ap (λ (ds : List (Deed Mail)). c.view.journal (operator_number setup) ++ map (λ (d : Deed Mail). d.entry) ds) (pause.between.answer.0 refl) ∙ append-nil (c.view.journal (operator_number setup)))
+        (pause_journal (operator_number setup) c z false pause ∙ ap (λ (ds : List (Deed Mail)). c.view.journal (operator_number setup)
+        ++ map (λ (d : Deed Mail). d.entry) ds) (pause.between.answer.0 refl) ∙ append-nil (c.view.journal (operator_number setup)))
     | inr ne ↦ pause_others (operator_number setup) c z false pause k ne
   ]
 
@@ -153,18 +174,21 @@ module _ (way_ran : WayRan) (setup : Setup) (sound : IsSetup setup) (a : Stand) 
   no_more n [] le = refl
   no_more n (x ∷ later) le = absurd (omega (arith, le))
 
-  module _ (past : List Budget) (rounds : List ℕ) (begun : Stand) (groups : GroupsGo setup a past rounds begun) (budget : Budget) (last : ℕ) (marked : Stand) where
+  module _ (past : List Budget) (rounds : List ℕ) (begun : Stand)
+      (groups : GroupsGo setup a past rounds begun) (budget : Budget) (last : ℕ) (marked : Stand) where
     -- where a run ends by a limit
     ends_behind : (later : List Budget) (end : RunEnd) → GroupGoes setup budget (length past + 1) begun last (Ends end) marked → z ≡ marked
         → Behind setup z journal merge 1 0 (past ++ budget ∷ later) a (rounds ++ last ∷ []) end
     ends_behind later end group same =
         let step : ℕ = length past + 1 in
         let on : GoesOnTo marked.view z.view = stays marked.view z.view (λ k. ap (λ (c : Stand). c.view.journal k) same) in
-        let on_begun : GoesOnTo begun.view z.view = then_on begun.view marked.view z.view (then_on begun.view group.before.view marked.view (goes_on setup budget step begun group.past group.before group.goes) (round_on group.before marked group.last.round)) on in
+        let on_begun : GoesOnTo begun.view z.view = then_on begun.view marked.view z.view (then_on begun.view group.before.view marked.view
+        (goes_on setup budget step begun group.past group.before group.goes) (round_on group.before marked group.last.round)) on in
         let opens : Opens past begun = groups_open past rounds begun groups on_begun in
         groups_back past rounds begun groups budget later (last ∷ []) end
         (group_back past begun opens budget step last (Ends end) marked group later [] end
-        (behind_end setup z journal merge step group.past budget group.before marked (group_whole past begun opens budget step last (Ends end) marked group) (group_ran past begun opens budget step last (Ends end) marked group) later end group.last same))
+        (behind_end setup z journal merge step group.past budget group.before marked (group_whole past begun opens budget step last (Ends end) marked group)
+        (group_ran past begun opens budget step last (Ends end) marked group) later end group.last same))
 
     module _ (group : GroupGoes setup budget (length past + 1) begun last IsQuiet marked) (passes : PassesPause setup marked z false) where
       settled_on : GoesOnTo marked.view z.view
@@ -172,7 +196,8 @@ module _ (way_ran : WayRan) (setup : Setup) (sound : IsSetup setup) (a : Stand) 
 
       settled_opens : Opens past begun
       settled_opens = groups_open past rounds begun groups
-          (then_on begun.view marked.view z.view (then_on begun.view group.before.view marked.view (goes_on setup budget (length past + 1) begun group.past group.before group.goes) (round_on group.before marked group.last.round)) settled_on)
+          (then_on begun.view marked.view z.view (then_on begun.view group.before.view marked.view
+          (goes_on setup budget (length past + 1) begun group.past group.before group.goes) (round_on group.before marked group.last.round)) settled_on)
 
       settled_whole : IsWhole setup marked
       settled_whole = group_whole past begun settled_opens budget (length past + 1) last IsQuiet marked group
@@ -186,7 +211,9 @@ module _ (way_ran : WayRan) (setup : Setup) (sound : IsSetup setup) (a : Stand) 
           let h = world_behind setup z journal merge group.before marked group.last.round settled_whole settled_on settled_ran in
           let reached : Reached setup h.0 = record { events = h.1.events; run = h.1.run } in
           let none = nothing_open setup h.0 (group.last.names h.0 (h.2, reached)).1.quiet in
-          let count : h.0.operator.group ≡ length past = groups_behind setup z journal merge group.before marked group.last.round settled_whole settled_on settled_ran ∙ group_count past begun settled_opens budget (length past + 1) last IsQuiet marked group in
+          let count : h.0.operator.group ≡ length past =
+          groups_behind setup z journal merge group.before marked group.last.round settled_whole settled_on settled_ran
+          ∙ group_count past begun settled_opens budget (length past + 1) last IsQuiet marked group in
           elim ((passes.held h.0 (h.2, reached)).0 refl) [
             | inl unissued ↦ absurd (none.0 unissued)
             | inr (inl open_one) ↦ absurd (none.1 open_one.0 open_one.1)
@@ -197,18 +224,22 @@ module _ (way_ran : WayRan) (setup : Setup) (sound : IsSetup setup) (a : Stand) 
       settled_behind : Behind setup z journal merge 1 0 (past ++ budget ∷ []) a (rounds ++ last ∷ []) Settled
       settled_behind = groups_back past rounds begun groups budget [] (last ∷ []) Settled
           (group_back past begun settled_opens budget (length past + 1) last IsQuiet marked group [] [] Settled
-          (behind_settled setup z journal merge (length past + 1) group.past budget group.before marked settled_whole settled_ran group.last passes.pause.marks (nothing_noted marked passes.pause)))
+          (behind_settled setup z journal merge (length past + 1) group.past budget group.before marked
+          settled_whole settled_ran group.last passes.pause.marks (nothing_noted marked passes.pause)))
 
   pub run_behind : (budgets : List Budget) (made : List ℕ) (end : RunEnd) → length budgets ≡ groups_in setup → RunGoes setup a budgets made end z
       → Behind setup z journal merge 1 0 budgets a made end
   run_behind budgets made end as_many run = elim run.ends [
     | inl limit ↦ arranged end run.first.0 run.first.1 (ends_behind run.past run.rounds run.begun run.groups run.budget run.last run.marked run.first.0 end
         (subst (λ (v : Verdict). GroupGoes setup run.budget (length run.past + 1) run.begun run.last v run.marked) limit.0 run.group) limit.1)
-    | inr settled ↦ (let group = subst (λ (v : Verdict). GroupGoes setup run.budget (length run.past + 1) run.begun run.last v run.marked) settled.0 run.group in
+    | inr settled ↦
+        (let group = subst (λ (v : Verdict). GroupGoes setup run.budget (length run.past + 1) run.begun run.last v run.marked) settled.0 run.group in
         let few = was_last run.past run.rounds run.begun run.groups run.budget run.last run.marked group settled.2 in
-        let none : run.first.0 ≡ [] = no_more (length run.past) run.first.0 (omega (arith, few, as_many, ap (λ (xs : List Budget). length xs) run.first.1, length-append run.past (run.budget ∷ run.first.0))) in
+        let none : run.first.0 ≡ [] = no_more (length run.past) run.first.0
+        (omega (arith, few, as_many, ap (λ (xs : List Budget). length xs) run.first.1, length-append run.past (run.budget ∷ run.first.0))) in
         subst (λ (e : RunEnd). Behind setup z journal merge 1 0 budgets a made e) (sym settled.1)
-        (arranged Settled [] (run.first.1 ∙ ap (λ (xs : List Budget). run.past ++ run.budget ∷ xs) none) (settled_behind run.past run.rounds run.begun run.groups run.budget run.last run.marked group settled.2)))
+        (arranged Settled [] (run.first.1 ∙ ap (λ (xs : List Budget). run.past ++ run.budget ∷ xs) none)
+        (settled_behind run.past run.rounds run.begun run.groups run.budget run.last run.marked group settled.2)))
   ]
     where
       arranged : (e : RunEnd) (later : List Budget) → budgets ≡ run.past ++ run.budget ∷ later
@@ -227,8 +258,10 @@ module _ (way_ran : WayRan) (setup : Setup) (sound : IsSetup setup) (a : Stand) 
         first = begins.marked.mark;
         marks = behind.round.marked.mark ∷ behind.later;
         is = behind.whole ∙ ap (λ (xs : List (List ℕ)). xs ++ behind.round.marked.mark ∷ behind.later) begins.marked.marks;
-        empty = all_zero begins.marked.mark (λ k there. begins.marked.lengths k (omega (arith, there, begins.marked.size)) ∙ ap (λ (xs : List JournalEntry). length xs) (begins.new.journals k));
-        begins_none = none_begins setup z journal merge 1 0 budgets a begins.marked.mark made end whole (mark_of setup a z [] begins.marked whole (behind_on setup z journal merge 1 0 budgets a made end behind)) behind;
+        empty = all_zero begins.marked.mark (λ k there. begins.marked.lengths k (omega (arith, there, begins.marked.size))
+            ∙ ap (λ (xs : List JournalEntry). length xs) (begins.new.journals k));
+        begins_none = none_begins setup z journal merge 1 0 budgets a begins.marked.mark made end whole
+            (mark_of setup a z [] begins.marked whole (behind_on setup z journal merge 1 0 budgets a made end behind)) behind;
         last = behind.last;
         is_last = behind.is_last;
         whole = λ k. behind.ends k ∙ sym (ap (λ (xs : List JournalEntry). length xs) (merge.each k));
@@ -245,7 +278,8 @@ module _ (way_ran : WayRan) (setup : Setup) (sound : IsSetup setup) (a : Stand) 
   module _ (budgets : List Budget) (made : List ℕ) (end : RunEnd) (run : RunGoes setup a budgets made end z) where
     last_opens : GoesOnTo run.marked.view z.view → Opens run.past run.begun
     last_opens on = groups_open run.past run.rounds run.begun run.groups
-        (then_on run.begun.view run.marked.view z.view (then_on run.begun.view run.group.before.view run.marked.view (goes_on setup run.budget (length run.past + 1) run.begun run.group.past run.group.before run.group.goes) (round_on run.group.before run.marked run.group.last.round)) on)
+        (then_on run.begun.view run.marked.view z.view (then_on run.begun.view run.group.before.view run.marked.view (goes_on setup run.budget
+        (length run.past + 1) run.begun run.group.past run.group.before run.group.goes) (round_on run.group.before run.marked run.group.last.round)) on)
 
     limit_on : z ≡ run.marked → GoesOnTo run.marked.view z.view
     limit_on same = stays run.marked.view z.view (λ k. ap (λ (c : Stand). c.view.journal k) same)
@@ -266,7 +300,13 @@ module _ (way_ran : WayRan) (setup : Setup) (sound : IsSetup setup) (a : Stand) 
     after_pause : (c : Stand) (pause : Pause (operator_number setup) c z false) → Ran own carried setup c.view → Ran own carried setup z.view
     after_pause c pause ran merged inter =
         let r : RanAs own carried setup merged c.view = ran merged (record { each = λ k. inter.each k ∙ nothing_noted c pause k; sorted = inter.sorted }) in
-        record { events = r.events; entries_of = r.entries_of; world = r.world; run = r.run; seen = same_seen setup c z r.world (pause_same (operator_number setup) c z pause) r.seen }
+        record {
+          events = r.events;
+          entries_of = r.entries_of;
+          world = r.world;
+          run = r.run;
+          seen = same_seen setup c z r.world (pause_same (operator_number setup) c z pause) r.seen;
+        }
 
     -- the journal of the whole run is that of a run of the world
     pub run_ran : Ran own carried setup z.view
@@ -307,8 +347,11 @@ module _ (way_ran : WayRan) (setup : Setup) (sound : IsSetup setup) (a : Stand) 
   pub settled_quiet : (budgets : List Budget) (made : List ℕ) → RunGoes setup a budgets made Settled z → (w : World)
       → IsSeenAs own carried setup z.view w → Reached setup w → Quiet setup w
   settled_quiet budgets made run w seen reached = elim run.ends [
-    | inl limit ↦ absurd ((subst (λ (v : Verdict). GroupGoes setup run.budget (length run.past + 1) run.begun run.last v run.marked) limit.0 run.group).last.names w (subst (λ (c : Stand). IsSeenAs own carried setup c.view w) limit.1 seen, reached))
-    | inr settled ↦ ((subst (λ (v : Verdict). GroupGoes setup run.budget (length run.past + 1) run.begun run.last v run.marked) settled.0 run.group).last.names w (same_seen setup z run.marked w (same_back run.marked z (pause_same (operator_number setup) run.marked z settled.2.pause)) seen, reached)).1.quiet
+    | inl limit ↦ absurd ((subst (λ (v : Verdict). GroupGoes setup run.budget (length run.past + 1) run.begun run.last v run.marked)
+        limit.0 run.group).last.names w (subst (λ (c : Stand). IsSeenAs own carried setup c.view w) limit.1 seen, reached))
+    | inr settled ↦
+        ((subst (λ (v : Verdict). GroupGoes setup run.budget (length run.past + 1) run.begun run.last v run.marked) settled.0 run.group).last.names w
+        (same_seen setup z run.marked w (same_back run.marked z (pause_same (operator_number setup) run.marked z settled.2.pause)) seen, reached)).1.quiet
   ]
 
   -- the group at its end is the last one
@@ -316,9 +359,11 @@ module _ (way_ran : WayRan) (setup : Setup) (sound : IsSetup setup) (a : Stand) 
       → (ran : RanAs own carried setup journal z.view)
       → ran.world.operator.group + 1 ≡ groups_in setup
   settled_last budgets made as_many run ran = elim run.ends [
-    | inl limit ↦ absurd ((subst (λ (v : Verdict). GroupGoes setup run.budget (length run.past + 1) run.begun run.last v run.marked) limit.0 run.group).last.names ran.world
+    | inl limit ↦ absurd
+        ((subst (λ (v : Verdict). GroupGoes setup run.budget (length run.past + 1) run.begun run.last v run.marked) limit.0 run.group).last.names ran.world
         (subst (λ (c : Stand). IsSeenAs own carried setup c.view ran.world) limit.1 ran.seen, record { events = ran.events; run = ran.run }))
-    | inr settled ↦ (let group = subst (λ (v : Verdict). GroupGoes setup run.budget (length run.past + 1) run.begun run.last v run.marked) settled.0 run.group in
+    | inr settled ↦
+        (let group = subst (λ (v : Verdict). GroupGoes setup run.budget (length run.past + 1) run.begun run.last v run.marked) settled.0 run.group in
         let few = was_last run.past run.rounds run.begun run.groups run.budget run.last run.marked group settled.2 in
         let all : length budgets ≡ length run.past + (1 + length run.first.0) =
         ap (λ (xs : List Budget). length xs) run.first.1 ∙ length-append run.past (run.budget ∷ run.first.0) ∙ omega arith in

@@ -68,11 +68,19 @@ record IsTold (input : LabInput) (lab : Lab) (a z : Stand) : Type 0 where
 module _ (tell : LabsTellOfRuns) (input : LabInput) (accepted : IsAccepted input) (a z : Stand) (budgets : List Budget) (rounds : List ℕ) (end : RunEnd)
     (begins : BeginsFresh (setup_of input) input.faults a) (budgets_are : budgets ≡ budgets_in input) (goes : RunGoes (setup_of input) a budgets rounds end z)
     (actors : List Node) (journals : List (List JournalEntry)) (marks : List (List ℕ)) (left : List (Left Mail)) (edges : List (ℕ × ℕ))
-    (actors_are : actors ≡ z.view.actors) (journals_are : HasJournals z.view journals) (marks_are : marks ≡ z.marks) (left_is : left ≡ items_left z.view edges) (edges_are : AreEdgesOf (setup_of input) edges) where
+    (actors_are : actors ≡ z.view.actors) (journals_are : HasJournals z.view journals) (marks_are : marks ≡ z.marks)
+    (left_is : left ≡ items_left z.view edges) (edges_are : AreEdgesOf (setup_of input) edges) where
   ran_as_told : (lab : Lab) → lab.input ≡ input → lab.end ≡ end → lab.marks ≡ marks → lab.rounds ≡ rounds → Interleaves (λ k. get_or journals k []) lab.journal
       → ((w : World) → IsFinished (setup_of input) w actors left → Observed (setup_of input) w lab) → RanLab lab
   ran_as_told lab input_is end_is marks_is rounds_are merge seen = tell lab a z told.setup told.alone told.in_range told.soon told.sure
-      (record { begins = told.begins.begins; fresh = told.begins.fresh; goes = told.goes; marks = marks_is ∙ marks_are; merged = merge_of z journals lab.journal journals_are merge; observed = told.observed }) where
+      (record {
+        begins = told.begins.begins;
+        fresh = told.begins.fresh;
+        goes = told.goes;
+        marks = marks_is ∙ marks_are;
+        merged = merge_of z journals lab.journal journals_are merge;
+        observed = told.observed;
+      }) where
         here : IsTold input lab a z
         here = record {
           setup = is_setup input accepted;
@@ -82,7 +90,8 @@ module _ (tell : LabsTellOfRuns) (input : LabInput) (accepted : IsAccepted input
           sure = sure_is_sure input accepted;
           begins = begins;
           goes = subst (λ (e : RunEnd). RunGoes (setup_of input) a (budgets_in input) lab.rounds e z) (sym end_is)
-              (subst (λ (ns : List ℕ). RunGoes (setup_of input) a (budgets_in input) ns end z) (sym rounds_are) (subst (λ (bs : List Budget). RunGoes (setup_of input) a bs rounds end z) budgets_are goes));
+              (subst (λ (ns : List ℕ). RunGoes (setup_of input) a (budgets_in input) ns end z) (sym rounds_are)
+              (subst (λ (bs : List Budget). RunGoes (setup_of input) a bs rounds end z) budgets_are goes));
           observed = λ w net. seen w (finished (setup_of input) z w actors left edges net actors_are edges_are left_is);
         }
 

@@ -117,7 +117,8 @@ MarksName setup journal world n step rounds (budget ∷ next ∷ budgets) (mark 
 
 -- The marks of a run, each of which stands at its world: the first one of empty journals, and then one behind each round, which name how the run goes
 -- on and ends. No group begins in the first round: the first one is at work. Behind the last mark there is no entry.
-pub record HasMarks (setup : Setup) (journal : List JournalEntry) (world : ℕ → World) (budgets : List Budget) (all : List (List ℕ)) (made : List ℕ) (end : RunEnd) : Type 0 where
+pub record HasMarks (setup : Setup) (journal : List JournalEntry) (world : ℕ → World)
+    (budgets : List Budget) (all : List (List ℕ)) (made : List ℕ) (end : RunEnd) : Type 0 where
   pub first : List ℕ
   pub marks : List (List ℕ)
   pub is : all ≡ first ∷ marks

@@ -37,7 +37,8 @@ fn short(length: usize) -> u32
 
 /// A journal that is full.
 fn full(events: u64) -> Option<RunEnd>
-    ensures { (setup : Setup) (w : World) (budget : Budget) (c : MarkCounts) → NoneIsStuck setup w → events ≡ min c.events (2 ^ 64 - 1) → LimitNames setup w budget c result }
+    ensures { (setup : Setup) (w : World) (budget : Budget) (c : MarkCounts) → NoneIsStuck setup w
+        → events ≡ min c.events (2 ^ 64 - 1) → LimitNames setup w budget c result }
 {
     if events >= MOST_EVENTS {
         return Some(RunEnd::JournalFull { events });
@@ -48,7 +49,8 @@ fn full(events: u64) -> Option<RunEnd>
 /// The session that is stuck, or else a journal that is full.
 fn limit(running: &RunningLab) -> Result<Option<RunEnd>, NoMemory>
     requires works { AllWork running.now }
-    ensures { IfOk result (λ found. (setup : Setup) (w : World) (budget : Budget) (c : MarkCounts) → HasCounts setup (counts running.now) → IsWorldAt setup (stand running.now) w
+    ensures { IfOk result (λ found. (setup : Setup) (w : World) (budget : Budget) (c : MarkCounts)
+        → HasCounts setup (counts running.now) → IsWorldAt setup (stand running.now) w
         → CountsTo (stand running.now).view c.events → LimitNames setup w budget c found) }
 {
     match running.stuck()? {
@@ -64,7 +66,8 @@ fn limit(running: &RunningLab) -> Result<Option<RunEnd>, NoMemory>
 fn budget_verdict(running: &RunningLab, budget: Budget, step: u32, rounds: u32) -> Verdict
     requires works { AllWork running.now }
     requires sound { budget.least ≤ budget.rounds }
-    ensures { (setup : Setup) (w : World) (c : MarkCounts) → IsSetup setup → HasCounts setup (counts running.now) → IsWorldAt setup (stand running.now) w → c.step ≡ step → c.rounds ≡ rounds
+    ensures { (setup : Setup) (w : World) (c : MarkCounts) → IsSetup setup → HasCounts setup (counts running.now)
+        → IsWorldAt setup (stand running.now) w → c.step ≡ step → c.rounds ≡ rounds
         → IsBelowLimits setup w c → Names setup w budget c result }
 {
     match running.pending() {
@@ -98,7 +101,8 @@ pub(crate) fn mark_names(
 ) -> Result<Verdict, NoMemory>
     requires works { AllWork running.now }
     requires sound { budget.least ≤ budget.rounds }
-    ensures { IfOk result (λ verdict. (setup : Setup) (w : World) (c : MarkCounts) → IsSetup setup → HasCounts setup (counts running.now) → IsWorldAt setup (stand running.now) w → c.step ≡ step
+    ensures { IfOk result (λ verdict. (setup : Setup) (w : World) (c : MarkCounts) → IsSetup setup
+        → HasCounts setup (counts running.now) → IsWorldAt setup (stand running.now) w → c.step ≡ step
         → c.rounds ≡ rounds → CountsTo (stand running.now).view c.events → Names setup w budget c verdict) }
 {
     match limit(running)? {

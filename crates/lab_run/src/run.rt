@@ -85,7 +85,8 @@ pub(crate) fn run_group<R: Threads + Sync, G: Gate>(
 /// Begins the next group, or tells that the run is settled.
 fn pass(running: &mut RunningLab) -> Result<Option<RunEnd>, NoMemory>
     requires works { AllWork running.old }
-    ensures passes { IfOk result (λ end. (setup : Setup) → HasCounts setup (counts running.old) → PassAnswers setup (stand running.old) (stand running.new) end) }
+    ensures passes { IfOk result
+        (λ end. (setup : Setup) → HasCounts setup (counts running.old) → PassAnswers setup (stand running.old) (stand running.new) end) }
     ensures works { OnOk result (AllWork running.new) }
     ensures counts { counts running.new ≡ counts running.old }
 {

@@ -63,7 +63,8 @@ operator_of : (node : Node) (setup : Setup) (part : OperatorPart)
     → own node ≡ record { setup = setup; name = names.Operator; part = OperatorIs part } → IsOperator node setup part
 operator_of (Router router) setup part e = absurd (let same = ap (λ o. o.name) e in cc)
 operator_of (Far far) setup part e = absurd (let same = ap (λ o. o.name) e in cc)
-operator_of (Operator operator) setup part e = let same = ap (λ o. o.part) e in record { operator = operator; is = refl; setup_is = ap (λ o. o.setup) e; part_is = cc }
+operator_of (Operator operator) setup part e =
+    let same = ap (λ o. o.part) e in record { operator = operator; is = refl; setup_is = ap (λ o. o.setup) e; part_is = cc }
 
 -- ---- of a net that has finished
 
@@ -100,14 +101,16 @@ module _ (setup : Setup) (w : World) (actors : List Node) (left : List (Left Mai
       let it = router_of at.node setup r (w.router r) at.own_is in
       record { router = it.router; is = at.is ∙ ap (λ (x : Node). Some x) it.is; part_is = it.part_is }
 
-  pub tables_are : flat_map (λ r. router_tables_of setup (router_in (slice_get actors r))) (router_numbers setup) ≡ map (λ r. router_table_of setup (w.router r)) (router_numbers setup)
+  pub tables_are : flat_map (λ r. router_tables_of setup (router_in (slice_get actors r))) (router_numbers setup)
+      ≡ map (λ r. router_table_of setup (w.router r)) (router_numbers setup)
   tables_are = each_one (λ r. router_tables_of setup (router_in (slice_get actors r))) (λ r. router_table_of setup (w.router r)) 0 (routers_in setup) each where
     each : (r : ℕ) → r < 0 + routers_in setup → router_tables_of setup (router_in (slice_get actors r)) ≡ router_table_of setup (w.router r) ∷ []
     each r below =
         let at = router_at r (omega (arith, below)) in
         ap (λ (o : Option Node). router_tables_of setup (router_in o)) at.is ∙ ap (λ (part : RouterPart). router_table_of setup part ∷ []) at.part_is
 
-  pub fars_are : flat_map (λ p. fars_of (far_in (slice_get actors (routers_in setup + p)))) (peering_numbers setup) ≡ map (λ p. far_view (w.far p)) (peering_numbers setup)
+  pub fars_are : flat_map (λ p. fars_of (far_in (slice_get actors (routers_in setup + p)))) (peering_numbers setup)
+      ≡ map (λ p. far_view (w.far p)) (peering_numbers setup)
   fars_are = each_one (λ p. fars_of (far_in (slice_get actors (routers_in setup + p)))) (λ p. far_view (w.far p)) 0 (peerings_in setup) each where
     each : (p : ℕ) → p < 0 + peerings_in setup → fars_of (far_in (slice_get actors (routers_in setup + p))) ≡ far_view (w.far p) ∷ []
     each p below =

@@ -28,7 +28,8 @@ abbrev pub found_in : (actors : List Node) (left : List (Left Mail)) (routers : 
 found_in actors left routers = flat_map (λ r. held_by r (slice_get actors r)) (range_with_len 0 routers) ++ flat_map carried_in left
 
 -- what the passes make, by the numbers of routers and peerings
-pub record IsMade (setup : Setup) (actors : List Node) (left : List (Left Mail)) (routers peerings : ℕ) (log : List GraftEntry) (far : List FarView) (tables : List RouterTable) (placement : List Place) (sessions : List SessionView) : Type 0 where
+pub record IsMade (setup : Setup) (actors : List Node) (left : List (Left Mail)) (routers peerings : ℕ) (log : List GraftEntry)
+    (far : List FarView) (tables : List RouterTable) (placement : List Place) (sessions : List SessionView) : Type 0 where
   pub log_is : log ≡ log_in (operator_in (slice_get actors (routers + peerings)))
   pub far_is : far ≡ flat_map (λ p. fars_of (far_in (slice_get actors (routers + p)))) (range_with_len 0 peerings)
   pub tables_is : tables ≡ flat_map (λ r. router_tables_of setup (router_in (slice_get actors r))) (range_with_len 0 routers)
@@ -59,10 +60,12 @@ module _ (setup : Setup) (w : World) (actors : List Node) (left : List (Left Mai
         session = k.session;
         one = one_session setup w p k.phase k.session k.stands;
         view = ap (λ (xs : List SessionView). slice_get xs p) views
-            ∙ one_of (λ p. views_in (first_on found p)) (peerings_in setup) p (session_view k.session) one_view below (ap (λ (o : Option Found). views_in o) there);
+            ∙ one_of (λ p. views_in (first_on found p)) (peerings_in setup) p
+            (session_view k.session) one_view below (ap (λ (o : Option Found). views_in o) there);
         place = place_in k.phase;
         placed = ap (λ (xs : List Place). slice_get xs p) places
-            ∙ one_of (λ p. places_in (first_on found p)) (peerings_in setup) p (place_in k.phase) one_place below (ap (λ (o : Option Found). places_in o) there);
+            ∙ one_of (λ p. places_in (first_on found p)) (peerings_in setup) p
+            (place_in k.phase) one_place below (ap (λ (o : Option Found). places_in o) there);
         is = is_placed setup w actors left done sound p k;
       }
 

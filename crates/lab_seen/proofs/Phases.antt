@@ -5,10 +5,12 @@ use Rattle.std.specs.List.{AllByRecursion}
 use Rattle.std.proofs.lemmas.Bool.Decides.{eqb_tells, nat_tests}
 use Rattle.session_value.specs.Sessions.{SessionValue}
 use Rattle.graft_model.specs.Setups.{Setup, routers_in}
-use Rattle.graft_model.specs.Parts.{Place, Vacant, Live, Frozen, Shadow, Order, Errand, Mesh, Told, Moved, Back, Asked, Answered, Done, Leaving, Owing, Asking as AskingOf}
+use Rattle.graft_model.specs.Parts.{Place, Vacant, Live, Frozen, Shadow, Order, Errand, Mesh, Told, Moved, Back}
+use Rattle.graft_model.specs.Parts.{Asked, Answered, Done, Leaving, Owing, Asking as AskingOf}
 use Rattle.graft_model.specs.Claims.{sessions_at}
 use Rattle.graft_laws.specs.Owned.{mesh_items_on}
-use Rattle.graft_laws.specs.Phases.{Ordered, Stored, Halted, Moving, Landed, Asking, Confirmed, Returning, Declined, Cleared, Phase, Idle, Busy, place_by, placed_at, mesh_by, only2, InBounds}
+use Rattle.graft_laws.specs.Phases.{Ordered, Stored, Halted, Moving, Landed, Asking, Confirmed, Returning, Declined}
+use Rattle.graft_laws.specs.Phases.{Cleared, Phase, Idle, Busy, place_by, placed_at, mesh_by, only2, InBounds}
 use Rattle.lab_report.specs.declared.lab.Place.{Place as LabPlace}
 use Rattle.lab_report.specs.declared.lab.Place.TheVariants as labs
 use Rattle.lab_seen.specs.Seen.{session_view}
@@ -72,7 +74,8 @@ pub live_by : (phase : Phase) (s : SessionValue) (r : ℕ) (x : SessionValue) (o
 live_by (Idle q) s r x o e = let h = live_is q r s x None o e in record { same = h.0; place = h.1 }
 live_by (Busy q k t Ordered) s r x o e = let h = live_is q r s x None o e in record { same = h.0; place = h.1 }
 live_by (Busy q k t Stored) s r x o e = let h = live_is q r s x (Some (Leaving (record { graft = k; target = t }))) o e in record { same = h.0; place = h.1 }
-live_by (Busy q k t Halted) s r x o e = absurd (no_live q r (Frozen s (record { graft = k; target = t })) x o (no_frozen s (record { graft = k; target = t }) x o) e)
+live_by (Busy q k t Halted) s r x o e =
+    absurd (no_live q r (Frozen s (record { graft = k; target = t })) x o (no_frozen s (record { graft = k; target = t }) x o) e)
 live_by (Busy q k t Moving) s r x o e = absurd (no_live q r (Shadow k) x o (no_shadow k x o) e)
 live_by (Busy q k t (Asking next)) s r x o e = let h = landed_is q r t k s x o _ e in record { same = h.0; place = h.1 }
 live_by (Busy q k t (Landed next)) s r x o e = let h = landed_is q r t k s x o _ e in record { same = h.0; place = h.1 }
@@ -124,7 +127,8 @@ moved_by p (Busy q k t Moving) s a b = only_item (CarriesOnly p (Busy q k t Movi
 moved_by p (Busy q k t (Landed next)) s a b = tt
 moved_by p (Busy q k t (Asking next)) s a b = tt
 moved_by p (Busy q k t Confirmed) s a b = only_item (CarriesOnly p (Busy q k t Confirmed) s) t q a b (Done k p) tt
-moved_by p (Busy q k t (Returning refusal)) s a b = only_item (CarriesOnly p (Busy q k t (Returning refusal)) s) t q a b (Back k p s refusal) (λ same. (refl, refl))
+moved_by p (Busy q k t (Returning refusal)) s a b =
+    only_item (CarriesOnly p (Busy q k t (Returning refusal)) s) t q a b (Back k p s refusal) (λ same. (refl, refl))
 moved_by p (Busy q k t (Declined refusal)) s a b = tt
 moved_by p (Busy q k t Cleared) s a b = tt
 
@@ -156,7 +160,8 @@ carries_all p phase s (Done k q ∷ items) all = by_test (q == p) (carries_all p
 
 pub moved_only : (p : ℕ) (phase : Phase) (s : SessionValue) (a b : ℕ) (items : List Mesh) → mesh_items_on p items ≡ mesh_by phase p s a b
     → AllByRecursion (CarriesOnly p phase s) items
-moved_only p phase s a b items is = carries_all p phase s items (subst (λ (xs : List Mesh). AllByRecursion (CarriesOnly p phase s) xs) (sym is) (moved_by p phase s a b))
+moved_only p phase s a b items is =
+    carries_all p phase s items (subst (λ (xs : List Mesh). AllByRecursion (CarriesOnly p phase s) xs) (sym is) (moved_by p phase s a b))
 
 -- ---- somewhere
 
@@ -184,9 +189,11 @@ shadows q k r = by_test (r == q) where
 pub whereabouts : (setup : Setup) (p : ℕ) (phase : Phase) (s : SessionValue) → InBounds setup phase → Whereabouts setup p phase s
 whereabouts setup p (Idle q) s l = AtRouter q None l (placed q (Live s None)) refl
 whereabouts setup p (Busy q k t Ordered) s l = AtRouter q None l.0 (placed q (Live s None)) refl
-whereabouts setup p (Busy q k t Stored) s l = AtRouter q (Some (Leaving (record { graft = k; target = t }))) l.0 (placed q (Live s (Some (Leaving (record { graft = k; target = t }))))) refl
+whereabouts setup p (Busy q k t Stored) s l =
+    AtRouter q (Some (Leaving (record { graft = k; target = t }))) l.0 (placed q (Live s (Some (Leaving (record { graft = k; target = t }))))) refl
 whereabouts setup p (Busy q k t Halted) s l = Halts q (record { graft = k; target = t }) l.0 (placed q (Frozen s (record { graft = k; target = t }))) refl
-whereabouts setup p (Busy q k t Moving) s l = OnWay q t (Moved k p s) l.0 l.1 (λ e. l.2 (sym e)) (alone q t (Moved k p s)) (λ not number. not (sym number) number) refl (shadows q k)
+whereabouts setup p (Busy q k t Moving) s l =
+    OnWay q t (Moved k p s) l.0 l.1 (λ e. l.2 (sym e)) (alone q t (Moved k p s)) (λ not number. not (sym number) number) refl (shadows q k)
 whereabouts setup p (Busy q k t (Landed next)) s l = AtRouter t (Some (Owing (record { graft = k; source = q; next = next }))) l.1 (rw (itself t) refl) refl
 whereabouts setup p (Busy q k t (Asking next)) s l = AtRouter t (Some (AskingOf (record { graft = k; source = q; next = next }))) l.1 (rw (itself t) refl) refl
 whereabouts setup p (Busy q k t Confirmed) s l = AtRouter t None l.1 (rw (itself t) refl) refl

@@ -1,5 +1,6 @@
 -- The session of a peering is the one that is found, and no other is.
-use Rattle.std.proofs.Common.{◌≡◌, ◌≢◌, ◌≤◌, ◌<◌, ℕ, zero, suc, true, not, List, [], ◌∷◌, ◌++◌, Option, Some, None, map, refl, sym, ap, ◌∙◌, subst, inl, inr, arith}
+use Rattle.std.proofs.Common.{◌≡◌, ◌≢◌, ◌≤◌, ◌<◌, ℕ, zero, suc, true, not, List, [], ◌∷◌, ◌++◌, Option}
+use Rattle.std.proofs.Common.{Some, None, map, refl, sym, ap, ◌∙◌, subst, inl, inr, arith}
 use Rattle.std.specs.Prelude.{◌⊎◌, ◌==◌, option_map, slice_get}
 use Rattle.std.specs.List.{AllByRecursion, flat_map, range_with_len}
 use Rattle.std.proofs.lemmas.Bool.Decides.{eqb_tells}
@@ -104,7 +105,12 @@ module _ (setup : Setup) (w : World) (actors : List Node) (left : List (Left Mai
   pub known : (p : ℕ) → p < peerings_in setup → Known p
   known p below =
       let has = always_own setup sound w done.world.1 p below in
-      record { phase = has.phase; session = has.session; stands = has.stands; number = number_is has.session.config (slice_get setup.peerings p) refl has.more.config }
+      record {
+        phase = has.phase;
+        session = has.session;
+        stands = has.stands;
+        number = number_is has.session.config (slice_get setup.peerings p) refl has.more.config;
+      }
     where
       number_is : (config : SessionConfig) (o : Option PeeringSetup) → slice_get setup.peerings p ≡ o
           → option_map (λ peering. peering.config) o ≡ Some config → config.peering.0 ≡ p
@@ -126,7 +132,8 @@ module _ (setup : Setup) (w : World) (actors : List Node) (left : List (Left Mai
         let k = known q below in
         let it = live_by k.phase k.session r x.session (option_map errand_of o) (sym (k.stands.places r) ∙ sym (place_is r q here) ∙ ap place_of e) in
         ap (λ (s : SessionValue). s.config.peering.0) it.same ∙ k.number
-    | inr past ↦ absurd (let f : model.Vacant ≡ model.Live x.session (option_map errand_of o) = sym (((always_owned setup sound w done.world.1).no_others q past).places r) ∙ sym (place_is r q here) ∙ ap place_of e in cc)
+    | inr past ↦ absurd (let f : model.Vacant ≡ model.Live x.session (option_map errand_of o) =
+        sym (((always_owned setup sound w done.world.1).no_others q past).places r) ∙ sym (place_is r q here) ∙ ap place_of e in cc)
   ]
 
   things : (a b : ℕ) → is_edge done.edges a b ≡ true
@@ -159,17 +166,20 @@ module _ (setup : Setup) (w : World) (actors : List Node) (left : List (Left Mai
         let here = router_at setup w actors left done r below in
         let places = here.router.fields.places.places in
         subst (λ (o : Option Node). AllByRecursion IsOnly (held_by r o)) (sym here.is)
-        (all_mapped (found_at (held_at r)) (λ x. IsOnly (found_at (held_at r) x)) IsOnly (λ x only. only) (sessions_in places) (places_to_sessions (λ x. IsOnly (found_at (held_at r) x)) places (each here)))
+        (all_mapped (found_at (held_at r)) (λ x. IsOnly (found_at (held_at r) x)) IsOnly (λ x only. only)
+        (sessions_in places) (places_to_sessions (λ x. IsOnly (found_at (held_at r) x)) places (each here)))
       where
         each : (here : HasRouter setup w actors left done r) (q : ℕ) (x : RunningSession) (o : Option Errand)
             → place_at here.router.fields.places.places q ≡ Some (Live x o) → IsOnly (found_at (held_at r) x)
         each here q x o e on =
             let same : q ≡ p = sym (number_at r q here x o e) ∙ on in
-            let it = live_by k.phase k.session r x.session (option_map errand_of o) (sym (k.stands.places r) ∙ sym (place_is r p here) ∙ ap (λ n. place_of (place_at here.router.fields.places.places n)) (sym same) ∙ ap place_of e) in
+            let it = live_by k.phase k.session r x.session (option_map errand_of o) (sym (k.stands.places r) ∙ sym (place_is r p here)
+            ∙ ap (λ n. place_of (place_at here.router.fields.places.places n)) (sym same) ∙ ap place_of e) in
             same_one x.session (held_at r) it.same it.place
 
     mesh_only : (a b : ℕ) → AllByRecursion (OnMesh IsOnly) (w.mesh a b)
-    mesh_only a b = all_then (CarriesOnly p k.phase k.session) (OnMesh IsOnly) carries (w.mesh a b) (moved_only p k.phase k.session a b (w.mesh a b) (k.stands.mesh a b))
+    mesh_only a b = all_then (CarriesOnly p k.phase k.session) (OnMesh IsOnly) carries
+        (w.mesh a b) (moved_only p k.phase k.session a b (w.mesh a b) (k.stands.mesh a b))
       where
         carries : (item : Mesh) → CarriesOnly p k.phase k.session item → OnMesh IsOnly item
         carries (model.Told prefix route) c = tt
@@ -183,13 +193,16 @@ module _ (setup : Setup) (w : World) (actors : List Node) (left : List (Left Mai
     moving_only =
         let channel : ℕ → ℕ → List Mail = λ a b. map (λ (x : Stamped Mail). x.item) (done.stand.view.channel a b) in
         all_joined IsOnly carried_in left (subst (λ (xs : List (Left Mail)). AllByRecursion (λ x. AllByRecursion IsOnly (carried_in x)) xs) (sym done.left_is)
-        (all_mapped (λ (e : ℕ × ℕ). record { from = e.0; to = e.1; items = channel e.0 e.1 }) (λ e. AllByRecursion IsOnly (flat_map carried_by (channel e.0 e.1))) (λ (x : Left Mail). AllByRecursion IsOnly (carried_in x)) (λ e all. all) done.edges
+        (all_mapped (λ (e : ℕ × ℕ). record { from = e.0; to = e.1; items = channel e.0 e.1 }) (λ e. AllByRecursion IsOnly
+        (flat_map carried_by (channel e.0 e.1))) (λ (x : Left Mail). AllByRecursion IsOnly (carried_in x)) (λ e all. all) done.edges
         (all_edges (λ a b. AllByRecursion IsOnly (flat_map carried_by (channel a b))) done.edges (λ a b e. things_to_found IsOnly setup (channel a b)
-        (subst (λ (xs : List Thing). AllByRecursion (OnThing IsOnly) xs) (sym (things a b e)) (on_channels IsOnly w mesh_only (actor_at setup a) (actor_at setup b)))))))
+        (subst (λ (xs : List Thing). AllByRecursion (OnThing IsOnly) xs) (sym (things a b e))
+        (on_channels IsOnly w mesh_only (actor_at setup a) (actor_at setup b)))))))
 
     only_one : AllByRecursion IsOnly all_found
     only_one = all_append IsOnly (flat_map (λ r. held_by r (slice_get actors r)) (range_with_len 0 (routers_in setup))) (flat_map carried_in left)
-        (all_joined IsOnly (λ r. held_by r (slice_get actors r)) (range_with_len 0 (routers_in setup)) (all_numbers (λ r. AllByRecursion IsOnly (held_by r (slice_get actors r))) (routers_in setup) held_only)) moving_only
+        (all_joined IsOnly (λ r. held_by r (slice_get actors r)) (range_with_len 0 (routers_in setup))
+        (all_numbers (λ r. AllByRecursion IsOnly (held_by r (slice_get actors r))) (routers_in setup) held_only)) moving_only
 
     -- ---- it is found
 
@@ -200,7 +213,8 @@ module _ (setup : Setup) (w : World) (actors : List Node) (left : List (Left Mai
         let places = here.router.fields.places.places in
         let live = live_at (place_at places p) k.session order (place_is r p here ∙ k.stands.places r ∙ is) in
         let all = subst (λ (o : Option Node). AllByRecursion (IsNotOn p) (held_by r o)) here.is none in
-        sessions_to_places (λ x. IsNotOn p (found_at (held_at r) x)) places p live.running live.order live.is (all_unmapped (IsNotOn p) (found_at (held_at r)) (sessions_in places) all)
+        sessions_to_places (λ x. IsNotOn p (found_at (held_at r) x)) places p live.running live.order live.is
+        (all_unmapped (IsNotOn p) (found_at (held_at r)) (sessions_in places) all)
         (ap (λ (s : SessionValue). s.config.peering.0) live.session ∙ k.number)
 
     halts_nowhere : (r : ℕ) (order : model.Order) → r < routers_in setup → place_by k.phase k.session r ≡ model.Frozen k.session order → ⊥
@@ -214,11 +228,15 @@ module _ (setup : Setup) (w : World) (actors : List Node) (left : List (Left Mai
         let channel : ℕ → ℕ → List Mail = λ x y. map (λ (z : Stamped Mail). z.item) (done.stand.view.channel x y) in
         let from : actor_at setup a ≡ Some (names.Router a) = there setup (names.Router a) a_in in
         let to : actor_at setup b ≡ Some (names.Router b) = there setup (names.Router b) b_in in
-        let edge : is_edge done.edges a b ≡ true = done.edges_are.each a b ∙ ap (λ x. talks x (actor_at setup b)) from ∙ ap (λ y. talks (Some (names.Router a)) y) to ∙ differ a b apart in
-        let each = subst (λ (xs : List (Left Mail)). AllByRecursion (λ x. AllByRecursion (IsNotOn p) (carried_in x)) xs) done.left_is (all_parts (IsNotOn p) carried_in left none) in
-        let by_edge = all_unmapped (λ (x : Left Mail). AllByRecursion (IsNotOn p) (carried_in x)) (λ (e : ℕ × ℕ). record { from = e.0; to = e.1; items = channel e.0 e.1 }) done.edges each in
+        let edge : is_edge done.edges a b ≡ true =
+        done.edges_are.each a b ∙ ap (λ x. talks x (actor_at setup b)) from ∙ ap (λ y. talks (Some (names.Router a)) y) to ∙ differ a b apart in
+        let each = subst (λ (xs : List (Left Mail)). AllByRecursion (λ x. AllByRecursion (IsNotOn p) (carried_in x)) xs) done.left_is
+        (all_parts (IsNotOn p) carried_in left none) in
+        let by_edge = all_unmapped (λ (x : Left Mail). AllByRecursion (IsNotOn p) (carried_in x))
+        (λ (e : ℕ × ℕ). record { from = e.0; to = e.1; items = channel e.0 e.1 }) done.edges each in
         let here = edge_of_all (λ x y. AllByRecursion (IsNotOn p) (flat_map carried_by (channel x y))) done.edges a b by_edge edge in
-        let seen = subst (λ (xs : List Thing). AllByRecursion (OnThing (IsNotOn p)) xs) (things a b edge ∙ ap (λ x. channel_of w x (actor_at setup b)) from ∙ ap (λ y. channel_of w (Some (names.Router a)) y) to) (found_to_things (IsNotOn p) setup (channel a b) here) in
+        let seen = subst (λ (xs : List Thing). AllByRecursion (OnThing (IsNotOn p)) xs) (things a b edge ∙ ap (λ x. channel_of w x (actor_at setup b)) from
+        ∙ ap (λ y. channel_of w (Some (names.Router a)) y) to) (found_to_things (IsNotOn p) setup (channel a b) here) in
         let mesh = all_filtered (OnMesh (IsNotOn p)) (is_on p) (w.mesh a b) (all_unmapped (OnThing (IsNotOn p)) MeshItem (w.mesh a b) seen) in
         (subst (λ (xs : List Mesh). AllByRecursion (OnMesh (IsNotOn p)) xs) (k.stands.mesh a b ∙ is) mesh).0
       where
@@ -228,11 +246,14 @@ module _ (setup : Setup) (w : World) (actors : List Node) (left : List (Left Mai
     some_one : AllByRecursion (IsNotOn p) all_found → ⊥
     some_one none =
         let held = flat_map (λ r. held_by r (slice_get actors r)) (range_with_len 0 (routers_in setup)) in
-        let at_routers = all_parts (IsNotOn p) (λ r. held_by r (slice_get actors r)) (range_with_len 0 (routers_in setup)) (all_left (IsNotOn p) held (flat_map carried_in left) none) in
+        let at_routers = all_parts (IsNotOn p) (λ r. held_by r (slice_get actors r))
+        (range_with_len 0 (routers_in setup)) (all_left (IsNotOn p) held (flat_map carried_in left) none) in
         elim (whereabouts setup p k.phase k.session k.stands.bounds) [
-          | AtRouter r order below is at ↦ held_some r order below is (number_of_all (λ r. AllByRecursion (IsNotOn p) (held_by r (slice_get actors r))) (routers_in setup) r at_routers below)
+          | AtRouter r order below is at ↦ held_some r order below is
+              (number_of_all (λ r. AllByRecursion (IsNotOn p) (held_by r (slice_get actors r))) (routers_in setup) r at_routers below)
           | Halts r order below is at ↦ halts_nowhere r order below is
-          | OnWay a b item a_in b_in apart is carries at nowhere ↦ carries (moves a b item a_in b_in apart is (all_right (IsNotOn p) held (flat_map carried_in left) none)) k.number
+          | OnWay a b item a_in b_in apart is carries at nowhere ↦
+              carries (moves a b item a_in b_in apart is (all_right (IsNotOn p) held (flat_map carried_in left) none)) k.number
         ]
 
     pub is_found : first_on all_found p ≡ Some one
@@ -244,7 +265,8 @@ module _ (setup : Setup) (w : World) (actors : List Node) (left : List (Left Mai
     is_placed = elim (whereabouts setup p k.phase k.session k.stands.bounds) [
       | AtRouter r order below is at ↦ subst (λ place. IsSessionPlace w p place) (sym at) (there_is r (ap sessions_at (k.stands.places r ∙ is)))
       | Halts r order below is at ↦ subst (λ place. IsSessionPlace w p place) (sym at) (there_is r (ap sessions_at (k.stands.places r ∙ is)))
-      | OnWay a b item a_in b_in apart is carries at nowhere ↦ subst (λ place. IsSessionPlace w p place) (sym at) (λ r. ap sessions_at (k.stands.places r) ∙ nowhere r)
+      | OnWay a b item a_in b_in apart is carries at nowhere ↦
+          subst (λ place. IsSessionPlace w p place) (sym at) (λ r. ap sessions_at (k.stands.places r) ∙ nowhere r)
     ]
       where
         there_is : (r : ℕ) → sessions_at ((w.router r).places p) ≡ k.session ∷ [] → sessions_at ((w.router r).places p) ≢ []

@@ -1,5 +1,6 @@
 -- The slots of peerings, where one session more is put in.
-use Rattle.std.proofs.Common.{◌≡◌, ◌≢◌, ◌<◌, ◌+◌, ℕ, true, false, cond, List, [], ◌∷◌, ◌++◌, Option, Some, None, map, length, set, get_or, refl, sym, ap, ◌∙◌, inl, inr, arith, get_or-set_same, get_or-set_other}
+use Rattle.std.proofs.Common.{◌≡◌, ◌≢◌, ◌<◌, ◌+◌, ℕ, true, false, cond, List, [], ◌∷◌, ◌++◌, Option, Some, None, map, length}
+use Rattle.std.proofs.Common.{set, get_or, refl, sym, ap, ◌∙◌, inl, inr, arith, get_or-set_same, get_or-set_other}
 use Rattle.std.specs.Prelude.{◌==◌, is_some}
 use Rattle.std.specs.List.{range_with_len}
 use Rattle.std.specs.Option.{option_or}
@@ -82,7 +83,8 @@ module _ (found : List Found) (one : Found) where
 
     -- or it is left out
     pub left_out : (p : ℕ) → p ≡ one.peering.0 → (p < n → IsFull slots p) → slots ≡ map (first_on (found ++ one ∷ [])) (range_with_len 0 n)
-    left_out p same full = same_lists slots (map (first_on (found ++ one ∷ [])) (range_with_len 0 n)) (slots_in found slots n is ∙ sym (length-map-range_with_len (first_on (found ++ one ∷ [])) 0 n)) each
+    left_out p same full = same_lists slots (map (first_on (found ++ one ∷ [])) (range_with_len 0 n))
+        (slots_in found slots n is ∙ sym (length-map-range_with_len (first_on (found ++ one ∷ [])) 0 n)) each
       where
         kept : one.peering.0 < n → (o : Option Found) → first_on found one.peering.0 ≡ o
             → first_on (found ++ one ∷ []) one.peering.0 ≡ first_on found one.peering.0

@@ -123,7 +123,8 @@ fn no_slots(alloc: Global, count: usize) -> Result<Vec<Option<Found>>, NoMemory>
 
 /// Puts a session into the slot of its peering, if the slot is empty.
 fn put(slots: &mut [Option<Found>], one: Found)
-    ensures { (found : List Found) → slots.old ≡ map (first_on found) (range_with_len 0 (length slots.old)) → slots.new ≡ map (first_on (found ++ one ∷ [])) (range_with_len 0 (length slots.old)) }
+    ensures { (found : List Found) → slots.old ≡ map (first_on found) (range_with_len 0 (length slots.old))
+        → slots.new ≡ map (first_on (found ++ one ∷ [])) (range_with_len 0 (length slots.old)) }
 {
     let p = usize::from(one.peering.0);
     if p < slots.len() && slots[p].is_none() {

@@ -48,7 +48,8 @@ fn far_at(actors: &[Node], number: usize) -> Option<&Far>
 /// Returns the tables of the routers, which are the first actors.
 fn tables_of(alloc: Global, actors: &[Node], routers: usize) -> Result<Items<RouterTable>, NoMemory>
     requires { routers ≤ 256 }
-    ensures { IfOk result (λ tables. (setup : Setup) → routers_in setup ≡ routers → tables ≡ flat_map (λ r. router_tables_of setup (router_in (slice_get actors.now r))) (range_with_len 0 routers)) }
+    ensures { IfOk result (λ tables. (setup : Setup) → routers_in setup ≡ routers
+        → tables ≡ flat_map (λ r. router_tables_of setup (router_in (slice_get actors.now r))) (range_with_len 0 routers)) }
 {
     let mut tables = Items::new(alloc);
     for number in 0..routers {

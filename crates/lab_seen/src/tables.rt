@@ -76,7 +76,8 @@ fn told_of(alloc: Global, rib: &Rib, routers: usize) -> Result<Items<ToldEntry>,
 pub fn table_of(alloc: Global, rib: &Rib, routers: usize) -> Result<RouterTable, NoMemory>
     requires { routers ≤ 256 }
     ensures best { IfOk result (λ seen. seen.best ≡ map best_entry (table.entries rib.now.best)) }
-    ensures heard { IfOk result (λ seen. seen.heard ≡ flat_map (λ q. map (told_entry q) (table.entries ((rib_of rib.now).tellings q))) (range_with_len 0 routers)) }
+    ensures heard { IfOk result
+        (λ seen. seen.heard ≡ flat_map (λ q. map (told_entry q) (table.entries ((rib_of rib.now).tellings q))) (range_with_len 0 routers)) }
 {
     Ok(RouterTable {
         best: best_of(alloc, rib)?,

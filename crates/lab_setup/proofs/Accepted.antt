@@ -72,7 +72,8 @@ array_not_above : (at : KeySpot) (low high : ℕ) (flaw : ℕ → Data → Optio
 array_not_above at low high flaw (array items) none =
     let count = beyond at low high (length (list_of items)) in
     let each = each_from flaw 0 (list_of items) in
-    none_both (beyond at 0 high (length (list_of items))) each (not_above at low high (length (list_of items)) (none_left count each none)) (none_right count each none)
+    none_both (beyond at 0 high (length (list_of items))) each
+    (not_above at low high (length (list_of items)) (none_left count each none)) (none_right count each none)
 array_not_above at low high flaw (string _) none = absurd (none_some (Shape at) none)
 array_not_above at low high flaw (integer _) none = absurd (none_some (Shape at) none)
 array_not_above at low high flaw (float _) none = absurd (none_some (Shape at) none)
@@ -174,7 +175,8 @@ module _ (doc : Members) (kept : HasTables doc) where
   Speaks p = (p.remote_as < 2 ^ 32) × (is_no_host p.remote_address ≡ false)
 
   all_speak : AllByRecursion Speaks peerings
-  all_speak = all_mapped (peering_input doc routers) IsRemote Speaks (λ t is. (let few = is.remote_as.few in omega arith, is.address)) (tables_at (codes "peering") doc) kept.remotes
+  all_speak = all_mapped (peering_input doc routers) IsRemote Speaks
+      (λ t is. (let few = is.remote_as.few in omega arith, is.address)) (tables_at (codes "peering") doc) kept.remotes
 
   speaks : (text : List ℕ) → unknown (peering_names_of doc) text ≡ None → IsRemoteOf (slice_get peerings (index_of_name (peering_names_of doc) text))
   speaks text none =

@@ -1,5 +1,6 @@
 -- In a group with an evacuate step no other step moves a session.
-use Rattle.std.proofs.Common.{◌≡◌, ℕ, zero, suc, ◌-◌, ◌<◌, ◌≤◌, Bool, true, false, cond, List, [], ◌∷◌, length, take, map, refl, sym, ap, ◌∙◌, subst, arith, ◌⊎◌, inl, inr}
+use Rattle.std.proofs.Common.{◌≡◌, ℕ, zero, suc, ◌-◌, ◌<◌, ◌≤◌, Bool, true, false, cond, List, [], ◌∷◌}
+use Rattle.std.proofs.Common.{length, take, map, refl, sym, ap, ◌∙◌, subst, arith, ◌⊎◌, inl, inr}
 use Rattle.std.specs.Prelude.{Option, Some, None, option_map, slice_get, filter, codes}
 use Rattle.std.specs.Option.{option_or}
 use Rattle.std.specs.List.{AllByRecursion, last_or}
@@ -98,7 +99,8 @@ same_counts f g p q same [] (suc n) = refl
 same_counts f g p q same (c ∷ cs) zero = refl
 same_counts f g p q same (c ∷ cs) (suc n) = by_test (p (f c)) (q (g c)) (same c) (same_counts f g p q same cs n) where
   by_test : (a b : Bool) → a ≡ b → length (filter p (take n (map f cs))) ≡ length (filter q (take n (map g cs)))
-      → length (cond a (f c ∷ filter p (take n (map f cs))) (filter p (take n (map f cs)))) ≡ length (cond b (g c ∷ filter q (take n (map g cs))) (filter q (take n (map g cs))))
+      → length (cond a (f c ∷ filter p (take n (map f cs))) (filter p (take n (map f cs))))
+      ≡ length (cond b (g c ∷ filter q (take n (map g cs))) (filter q (take n (map g cs))))
   by_test true true e rest = ap suc rest
   by_test true false e rest = absurd (false≢true (sym e))
   by_test false true e rest = absurd (false≢true e)
@@ -153,7 +155,8 @@ module _ (doc : Members) (tables : StepsAreTables doc) (words : AllByRecursion I
   step_from n s at goes_on = elim (cases_lt n (length script)) [
     | inl below ↦ from_script n s (sym (get-append_left script (ended_by (last_or None script)) n below) ∙ sym (ap (λ ss. slice_get ss n) script_is) ∙ at)
     | inr above ↦ absurd (goes_on (added_settles (last_or None script) (n - length script) s
-        (sym (get-append_right script (ended_by (last_or None script)) n (n - length script) (omega (arith, above))) ∙ sym (ap (λ ss. slice_get ss n) script_is) ∙ at)))
+        (sym (get-append_right script (ended_by (last_or None script)) n (n - length script) (omega (arith, above)))
+        ∙ sym (ap (λ ss. slice_get ss n) script_is) ∙ at)))
   ]
 
   -- groups of the script are those of the document
@@ -168,7 +171,8 @@ module _ (doc : Members) (tables : StepsAreTables doc) (words : AllByRecursion I
 
   -- ---- two steps of one group
 
-  module _ (n m : ℕ) (t u : Members) (at : slice_get ts n ≡ Some t) (too : slice_get ts m ≡ Some u) (empties : word_at t ≡ Evacuates) (group : ends steps m ≡ ends steps n) where
+  module _ (n m : ℕ) (t u : Members) (at : slice_get ts n ≡ Some t) (too : slice_get ts m ≡ Some u)
+      (empties : word_at t ≡ Evacuates) (group : ends steps m ≡ ends steps n) where
     item : (k : ℕ) (v : Members) → slice_get ts k ≡ Some v → slice_get steps k ≡ Some (table v)
     item k v there = ap (λ ds. slice_get ds k) tables.whole ∙ get_mapped table ts k ∙ ap (option_map table) there
 
@@ -193,9 +197,11 @@ module _ (doc : Members) (tables : StepsAreTables doc) (words : AllByRecursion I
     no_second k v there evacuates holds = false≢true (sym (crowded k v there) ∙ ap (is_crowded (before steps k) (whole steps k)) evacuates ∙ holds)
 
     behind : m < n → (word_at u ≡ Grafts) ⊎ (word_at u ≡ Evacuates) → ⊥
-    behind less (inl grafts) = no_graft grafts (sym (one_group steps m (n - m) n (omega (arith, less)) (let lt = within n t at in omega arith) (sym group)) ∙ whole_there)
+    behind less (inl grafts) =
+        no_graft grafts (sym (one_group steps m (n - m) n (omega (arith, less)) (let lt = within n t at in omega arith) (sym group)) ∙ whole_there)
     behind less (inr evacuates) = no_second n t at empties
-        (evacuates_before steps m (table u) (item m u too) (ap is_evacuate evacuates) (n - m - 1) n (omega (arith, less)) (let lt = within n t at in omega arith) (sym group))
+        (evacuates_before steps m (table u) (item m u too) (ap is_evacuate evacuates)
+        (n - m - 1) n (omega (arith, less)) (let lt = within n t at in omega arith) (sym group))
 
     ahead : n < m → (word_at u ≡ Grafts) ⊎ (word_at u ≡ Evacuates) → ⊥
     ahead less (inl grafts) = no_graft grafts (one_group steps n (m - n) m (omega (arith, less)) (let lt = within m u too in omega arith) group ∙ whole_there)

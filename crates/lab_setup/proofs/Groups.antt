@@ -1,5 +1,6 @@
 -- The groups of the steps of a document, and where a step of one evacuates a router.
-use Rattle.std.proofs.Common.{◌≡◌, ℕ, zero, suc, ◌+◌, ◌≤◌, Bool, true, false, cond, ◌||◌, List, [], ◌∷◌, length, get_or, take, map, refl, sym, ap, ◌∙◌, subst, arith}
+use Rattle.std.proofs.Common.{◌≡◌, ℕ, zero, suc, ◌+◌, ◌≤◌, Bool, true, false, cond, ◌||◌, List, [], ◌∷◌}
+use Rattle.std.proofs.Common.{length, get_or, take, map, refl, sym, ap, ◌∙◌, subst, arith}
 use Rattle.std.specs.Prelude.{Option, Some, None, unwrap_or, slice_get, filter, codes}
 use Rattle.std.specs.List.{filter_map}
 use Rattle.std.proofs.lemmas.List.Filters.{length-filter_more}
@@ -37,7 +38,8 @@ module _ (xs : List Data) where
   read i x at = sym (ap (λ o. unwrap_or o x) at) ∙ unwrap_or-slice_get xs i x
 
   grouped : (i : ℕ) (x : Data) → slice_get xs i ≡ Some x
-      → IsGrouped xs (i + 1) (cond (is_word is_settle_word x) false (is_word is_evacuate x || before i)) (cond (is_word is_settle_word x) (evacuates (group_from xs (i + 1))) (whole i))
+      → IsGrouped xs (i + 1) (cond (is_word is_settle_word x) false (is_word is_evacuate x || before i))
+      (cond (is_word is_settle_word x) (evacuates (group_from xs (i + 1))) (whole i))
   grouped i x at = group_next xs i x (before i) (whole i) _ _ (get_below xs i x at) (read i x at) (record { before_is = refl; whole_is = refl }) refl refl
 
   next_before : (i : ℕ) (x : Data) → slice_get xs i ≡ Some x → is_word is_settle_word x ≡ false → before (i + 1) ≡ (is_word is_evacuate x || before i)
@@ -75,7 +77,8 @@ module _ (xs : List Data) where
   last_one : (n j : ℕ) → n + j + 1 ≤ length xs → ends (n + j + 1) ≡ ends n → IsOneMore n j
   last_one n j within same =
       let here = below_get xs (n + j) (omega arith) in
-      let not_ended = no_end (is_word is_settle_word here.x) (ends n) (ends (n + j)) (ends (n + j + 1)) (rises n j (n + j) refl (omega arith)) (one_more (n + j) here.x here.is) same in
+      let not_ended = no_end (is_word is_settle_word here.x) (ends n) (ends (n + j)) (ends (n + j + 1))
+      (rises n j (n + j) refl (omega arith)) (one_more (n + j) here.x here.is) same in
       record { x = here.x; is = here.is; goes_on = not_ended.0; same = not_ended.1 }
 
   pub one_group : (n j m : ℕ) → m ≡ n + j → m ≤ length xs → ends m ≡ ends n → whole m ≡ whole n
@@ -133,15 +136,17 @@ module _ (at : KeySpot) (flaw : ℕ → Members → Option Flaw) where
 
   tables_from : (i : ℕ) (ds : List Data) → each_from flaws i ds ≡ None → AreFrom i ds
   tables_from i [] none = record { whole = refl; each = λ k n t is there. absurd (none_is t there) }
-  tables_from i (d ∷ ds) none = by_kind d (none_left (flaws i d) (each_from flaws (i + 1) ds) none) (tables_from (i + 1) ds (none_right (flaws i d) (each_from flaws (i + 1) ds) none)) where
-    by_kind : (d : Data) → flaws i d ≡ None → AreFrom (i + 1) ds → AreFrom i (d ∷ ds)
-    by_kind (table t) none rest = one_table i t ds none rest
-    by_kind (string _) none rest = absurd (none_some _ none)
-    by_kind (integer _) none rest = absurd (none_some _ none)
-    by_kind (float _) none rest = absurd (none_some _ none)
-    by_kind (boolean _) none rest = absurd (none_some _ none)
-    by_kind (datetime _) none rest = absurd (none_some _ none)
-    by_kind (array _) none rest = absurd (none_some _ none)
+  tables_from i (d ∷ ds) none = by_kind d (none_left (flaws i d) (each_from flaws (i + 1) ds) none)
+      (tables_from (i + 1) ds (none_right (flaws i d) (each_from flaws (i + 1) ds) none))
+    where
+      by_kind : (d : Data) → flaws i d ≡ None → AreFrom (i + 1) ds → AreFrom i (d ∷ ds)
+      by_kind (table t) none rest = one_table i t ds none rest
+      by_kind (string _) none rest = absurd (none_some _ none)
+      by_kind (integer _) none rest = absurd (none_some _ none)
+      by_kind (float _) none rest = absurd (none_some _ none)
+      by_kind (boolean _) none rest = absurd (none_some _ none)
+      by_kind (datetime _) none rest = absurd (none_some _ none)
+      by_kind (array _) none rest = absurd (none_some _ none)
 
   tables_in : (low high : ℕ) (d : Data) → array_flaw at low high flaws d ≡ None → AreTables flaw (items_in (Some d))
   tables_in low high (array items) none =

@@ -67,7 +67,8 @@ peerings_ranged doc routers [] = tt
 peerings_ranged doc routers (t ∷ ts) =
     let here : HasRange (peering_input doc routers t) = record {
       remote_as = number_below 32 0 (codes "remote_as") t (omega arith);
-      opening = opening_octets (has_member (codes "opening") t) (text_at (codes "opening") t) (number_or 32 0 (codes "remote_as") t) (number_or 16 180 (codes "hold") t) (remote_id_of t) (remote_as4_of t);
+      opening = opening_octets (has_member (codes "opening") t) (text_at (codes "opening") t)
+          (number_or 32 0 (codes "remote_as") t) (number_or 16 180 (codes "hold") t) (remote_id_of t) (remote_as4_of t);
     } in
     (here, peerings_ranged doc routers ts)
 
@@ -89,11 +90,13 @@ step_octets : (word : StepWord) (routers : List (List ℕ)) (ps : List PeeringIn
 step_octets Announces routers ps t says =
     let body = (says refl false).body in
     let o : Option PeeringInput = slice_get ps (peering_number ps t) in
-    update_octets (is_wide_at ps (peering_number ps t)) (step_update (Announce (record { 0 = peering_number ps t }) (said_prefixes t) (said_attrs o t))) body.withdrawn body.nlri
+    update_octets (is_wide_at ps (peering_number ps t))
+    (step_update (Announce (record { 0 = peering_number ps t }) (said_prefixes t) (said_attrs o t))) body.withdrawn body.nlri
     (record { path = body.attrs.1.path; unknown = none_unknown o t })
 step_octets Withdraws routers ps t says =
     let body = (says refl false).body in
-    update_octets (is_wide_at ps (peering_number ps t)) (step_update (Withdraw (record { 0 = peering_number ps t }) (said_prefixes t))) body.withdrawn body.nlri tt
+    update_octets (is_wide_at ps (peering_number ps t))
+    (step_update (Withdraw (record { 0 = peering_number ps t }) (said_prefixes t))) body.withdrawn body.nlri tt
 step_octets SaysRaw routers ps t says = hex_octets (text_at (codes "hex") t)
 step_octets Grafts routers ps t says = tt
 step_octets Settles routers ps t says = tt
@@ -116,7 +119,8 @@ module _ (doc : Members) (tables : HasTables doc) (names : HasNames doc) where
   IsRemote p = (p.remote_as < 2 ^ 32) × (is_no_host p.remote_address ≡ false)
 
   are_remotes : AllByRecursion IsRemote (peerings_of doc)
-  are_remotes = all_mapped (peering_input doc called) IsPeeringTable IsRemote (λ t is. (number_below 32 0 (codes "remote_as") t (omega arith), is.address)) (tables_at (codes "peering") doc) tables.peerings
+  are_remotes = all_mapped (peering_input doc called) IsPeeringTable IsRemote
+      (λ t is. (number_below 32 0 (codes "remote_as") t (omega arith), is.address)) (tables_at (codes "peering") doc) tables.peerings
 
   -- what a step of a known peering names is a remote
   remote_at : (t : Members) → unknown remotes (text_at (codes "peering") t) ≡ None
@@ -149,9 +153,11 @@ module _ (doc : Members) (tables : HasTables doc) (names : HasNames doc) where
       let ts : List Members = tables_at (codes "step") doc in
       let of : Members → Step = step_of called (peerings_of doc) in
       let of_tables : AllByRecursion (λ t. SaysOctets (script_step (peerings_of doc) (of t))) ts =
-      all_both (λ t. step_named called remotes t ≡ None) (SaysWell called (peerings_of doc)) (λ t. SaysOctets (script_step (peerings_of doc) (of t))) step_ranged ts names.steps (tables.steps called (peerings_of doc)) in
+      all_both (λ t. step_named called remotes t ≡ None) (SaysWell called (peerings_of doc))
+      (λ t. SaysOctets (script_step (peerings_of doc) (of t))) step_ranged ts names.steps (tables.steps called (peerings_of doc)) in
       let of_steps : AllByRecursion (λ step. SaysOctets (script_step (peerings_of doc) step)) (map of ts) =
-      all_mapped of (λ t. SaysOctets (script_step (peerings_of doc) (of t))) (λ step. SaysOctets (script_step (peerings_of doc) step)) (λ t is. is) ts of_tables in
+      all_mapped of (λ t. SaysOctets (script_step (peerings_of doc) (of t)))
+      (λ step. SaysOctets (script_step (peerings_of doc) step)) (λ t is. is) ts of_tables in
       all_ended SaysOctets tt (map (script_step (peerings_of doc)) (map of ts))
       (all_mapped (script_step (peerings_of doc)) (λ step. SaysOctets (script_step (peerings_of doc) step)) SaysOctets (λ step is. is) (map of ts) of_steps)
 
@@ -160,11 +166,13 @@ module _ (doc : Members) (tables : HasTables doc) (names : HasNames doc) where
 
   peerings_in_model : AllByRecursion InModel (setup_of input).peerings
   unfolding setup_of
-  peerings_in_model = all_numbered (peering_setup input) HasRange InModel (λ n x is. (is.remote_as, is.opening)) (peerings_of doc) 0 (peerings_ranged doc called (tables_at (codes "peering") doc))
+  peerings_in_model = all_numbered (peering_setup input) HasRange InModel (λ n x is. (is.remote_as, is.opening))
+      (peerings_of doc) 0 (peerings_ranged doc called (tables_at (codes "peering") doc))
 
   routers_in_model : AllByRecursion (λ (router : RouterSetup). AllByRecursion HasMeds router.policies) (setup_of input).routers
   unfolding setup_of
-  routers_in_model = all_numbered (router_setup input) (λ (r : RouterInput). AllByRecursion HasMeds (map named_rules r.policies)) (λ (router : RouterSetup). AllByRecursion HasMeds router.policies)
+  routers_in_model = all_numbered (router_setup input) (λ (r : RouterInput). AllByRecursion HasMeds (map named_rules r.policies))
+      (λ (router : RouterSetup). AllByRecursion HasMeds router.policies)
       (λ n r is. is) (routers_of doc) 0 (routers_ranged (tables_at (codes "router") doc))
 
   policies_at_router : (r : ℕ) (o : Option RouterSetup) → slice_get (setup_of input).routers r ≡ o

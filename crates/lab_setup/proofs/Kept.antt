@@ -150,7 +150,8 @@ no_other false false false false false false any other = absurd (false≢true an
 word_there : (at : KeySpot) (d : Data) → kind_flaw (Word StepKinds) at d ≡ None → step_word_of (unwrap_or (as_str d) []) ≡ Other → ⊥
 word_there at (string text) none = by_test (is_one_of (words_of StepKinds) text) refl none where
   by_test : (t : Bool) → is_one_of (words_of StepKinds) text ≡ t → flaw_if (not t) (Shape at) ≡ None → step_word_of text ≡ Other → ⊥
-  by_test true e none = no_other (bytes_eq text (codes "announce")) (bytes_eq text (codes "withdraw")) (bytes_eq text (codes "raw")) (bytes_eq text (codes "graft"))
+  by_test true e none =
+      no_other (bytes_eq text (codes "announce")) (bytes_eq text (codes "withdraw")) (bytes_eq text (codes "raw")) (bytes_eq text (codes "graft"))
       (bytes_eq text (codes "settle")) (bytes_eq text (codes "evacuate")) e
   by_test false e none = absurd (none_some (Shape at) none)
 word_there at (integer _) none = absurd (none_some (Shape at) none)
@@ -165,14 +166,16 @@ abbrev pub IsWorded : Members → Type 0
 IsWorded t = word_at t ≡ Other → ⊥
 
 word_kept : (steps : List Data) (i : ℕ) (t : Members) → step_flaw steps i t ≡ None → IsWorded t
-word_kept steps i t none = by_value (get_member (codes "do") t) (none_left (key_flaw at t (required (codes "do") (Word StepKinds))) None (none_left (keys_flaw at do_keys t) _ none)) where
-  at : TableAt
-  at = tables.Step i
+word_kept steps i t none = by_value (get_member (codes "do") t)
+    (none_left (key_flaw at t (required (codes "do") (Word StepKinds))) None (none_left (keys_flaw at do_keys t) _ none))
+  where
+    at : TableAt
+    at = tables.Step i
 
-  by_value : (o : Option Data) → present (spot_of at (codes "do")) true (kind_flaw (Word StepKinds) (spot_of at (codes "do"))) o ≡ None
-      → step_word_of (unwrap_or (option_and_then as_str o) []) ≡ Other → ⊥
-  by_value None none = absurd (none_some (Shape (spot_of at (codes "do"))) none)
-  by_value (Some d) none = word_there (spot_of at (codes "do")) d none
+    by_value : (o : Option Data) → present (spot_of at (codes "do")) true (kind_flaw (Word StepKinds) (spot_of at (codes "do"))) o ≡ None
+        → step_word_of (unwrap_or (option_and_then as_str o) []) ≡ Other → ⊥
+    by_value None none = absurd (none_some (Shape (spot_of at (codes "do"))) none)
+    by_value (Some d) none = word_there (spot_of at (codes "do")) d none
 
 -- ---- tables
 
@@ -190,15 +193,19 @@ peering_kept doc i t none =
     let at : TableAt = tables.Peering i in
     let ends = none_left (keys_flaw at peering_ends t) _ none in
     let behind = none_right (keys_flaw at peering_ends t) _ none in
-    let rest_on = none_right (flaw_if (number_or 32 0 (codes "remote_as") t == number_or 32 0 (codes "home_as") doc) (Shape (spot_of at (codes "remote_as")))) _ behind in
+    let rest_on =
+    none_right (flaw_if (number_or 32 0 (codes "remote_as") t == number_or 32 0 (codes "home_as") doc) (Shape (spot_of at (codes "remote_as")))) _ behind in
     let rest = none_left (keys_flaw at peering_rest t) _ rest_on in
-    let address = host_required at t (codes "remote_address") 0 (none_of (map (key_flaw at t) peering_rest) 0 (key_flaw at t (required (codes "remote_address") Host)) rest refl) in
+    let address = host_required at t (codes "remote_address") 0
+    (none_of (map (key_flaw at t) peering_rest) 0 (key_flaw at t (required (codes "remote_address") Host)) rest refl) in
     record {
       remote_as = number_within at t (codes "remote_as") 32 0 1 4294967295 (omega arith)
           (none_of (map (key_flaw at t) peering_ends) 2 (key_flaw at t (required (codes "remote_as") (Number 1 4294967295))) ends refl);
       address = address;
-      local = host_required at t (codes "local_address") 0 (none_of (map (key_flaw at t) peering_rest) 1 (key_flaw at t (required (codes "local_address") Host)) rest refl);
-      home_hold = hold_kept at t (codes "home_hold") 0 (none_of (map (key_flaw at t) peering_rest) 11 (key_flaw at t (optional (codes "home_hold") HoldTime)) rest refl) refl;
+      local = host_required at t (codes "local_address") 0
+          (none_of (map (key_flaw at t) peering_rest) 1 (key_flaw at t (required (codes "local_address") Host)) rest refl);
+      home_hold = hold_kept at t (codes "home_hold") 0
+          (none_of (map (key_flaw at t) peering_rest) 11 (key_flaw at t (optional (codes "home_hold") HoldTime)) rest refl) refl;
       remote_id = host_optional at t (codes "remote_id") (address_or 0 (codes "remote_address") t)
           (none_of (map (key_flaw at t) peering_rest) 2 (key_flaw at t (optional (codes "remote_id") Host)) rest refl) address;
       hold = hold_kept at t (codes "hold") 180 (none_of (map (key_flaw at t) peering_rest) 7 (key_flaw at t (optional (codes "hold") HoldTime)) rest refl) refl;
@@ -241,6 +248,7 @@ tables_kept doc none =
       routers = tables_all tables.Top doc (codes "router") true 1 8 router_flaw IsRouterTable router_kept routers;
       peerings = tables_all tables.Top doc (codes "peering") false 0 32 (peering_flaw doc) IsPeeringTable (peering_kept doc) peerings;
       steps = λ routers ps. steps_well doc routers ps steps;
-      words = tables_all tables.Top doc (codes "step") false 0 4096 (step_flaw (items_at (codes "step") doc)) IsWorded (word_kept (items_at (codes "step") doc)) steps;
+      words = tables_all tables.Top doc (codes "step") false 0 4096
+          (step_flaw (items_at (codes "step") doc)) IsWorded (word_kept (items_at (codes "step") doc)) steps;
       grouped = steps_tables doc steps;
     }

@@ -1,5 +1,6 @@
 -- Lists by index: what stands in a list that was made from another one, and what is first in it.
-use Rattle.std.proofs.Common.{◌≡◌, ℕ, ◌+◌, ◌<◌, zero, suc, Bool, true, false, cond, not, ◌||◌, List, [], ◌∷◌, ◌++◌, length, map, refl, sym, ap, ◌∙◌, subst, arith, nat_lt, slice_index_or}
+use Rattle.std.proofs.Common.{◌≡◌, ℕ, ◌+◌, ◌<◌, zero, suc, Bool, true, false, cond, not, ◌||◌, List, [], ◌∷◌, ◌++◌}
+use Rattle.std.proofs.Common.{length, map, refl, sym, ap, ◌∙◌, subst, arith, nat_lt, slice_index_or}
 use Rattle.std.specs.Prelude.{Option, Some, None, option_map, unwrap_or, slice_get, find, count_by, is_some}
 use Rattle.std.specs.List.{AllByRecursion, enumerate_from, list_any, position_or_len, position}
 use Rattle.std.proofs.lemmas.Bool.{false≢true}

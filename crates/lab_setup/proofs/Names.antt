@@ -13,7 +13,8 @@ use Rattle.lab_tables.specs.Meanings.{index_of_name}
 use Rattle.lab_tables.specs.Documents.{routers_of, router_names_of, peering_names_of}
 use Rattle.lab_input.specs.declared.bad.BadInput.{BadInput}
 use Rattle.lab_input.specs.declared.bad.BadInput.TheVariants.{Unknown}
-use Rattle.lab_input.specs.Names.{each_after, repeated_if, unknown, unknown_at, router_again, cost_named, policies_at, remote_address_of, peering_named, fault_named, step_named, named}
+use Rattle.lab_input.specs.Names.{each_after, repeated_if, unknown, unknown_at, router_again, cost_named, policies_at}
+use Rattle.lab_input.specs.Names.{remote_address_of, peering_named, fault_named, step_named, named}
 use Rattle.lab_setup.proofs.Lists.{none_of, none_after, none_mapped, first_below, index_of}
 
 some_bad : (bad : BadInput) → Some bad ≡ None → ⊥
@@ -78,6 +79,7 @@ names_kept doc none =
     ∷ step
     ∷ [] in
     record {
-      peerings = none_after (peering_named routers) (IsNamedPeering routers) (peering_is_named routers) [] (tables_at (codes "peering") doc) (none_of flaws 2 peering none refl);
+      peerings = none_after (peering_named routers) (IsNamedPeering routers) (peering_is_named routers) []
+          (tables_at (codes "peering") doc) (none_of flaws 2 peering none refl);
       steps = none_mapped (step_named names remotes) (tables_at (codes "step") doc) (none_of flaws 4 step none refl);
     }

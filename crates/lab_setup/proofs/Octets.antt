@@ -1,5 +1,6 @@
 -- What is written are octets: the openings and UPDATEs of remotes.
-use Rattle.std.proofs.Common.{◌≡◌, ℕ, zero, suc, ◌+◌, ◌%◌, ◌^◌, ◌/◌, ◌<◌, ◌≤◌, Bool, true, false, cond, List, [], ◌∷◌, ◌++◌, length, take, map, refl, sym, subst, arith, lit<, nat_lt}
+use Rattle.std.proofs.Common.{◌≡◌, ℕ, zero, suc, ◌+◌, ◌%◌, ◌^◌, ◌/◌, ◌<◌, ◌≤◌, Bool, true, false, cond, List, []}
+use Rattle.std.proofs.Common.{◌∷◌, ◌++◌, length, take, map, refl, sym, subst, arith, lit<, nat_lt}
 use Rattle.std.specs.Prelude.{◌==◌, Option, Some, None, All, Result, Ok, Err}
 use Rattle.std.specs.Result.{result_unwrap_or}
 use Rattle.std.specs.Int.{Width, w16, w32, byte_at, bytes_high_first, byte_len, to_be_bytes}
@@ -26,7 +27,9 @@ use Rattle.bgp_types.specs.PathOctets.{as_width, part_octets, path_octets, path_
 use Rattle.bgp_types.specs.Paths.{ases_of}
 use Rattle.bgp_types.specs.Prefixes.{PrefixValue, IsPrefix, octets_for, prefix_octets}
 use Rattle.bgp_types.specs.Rising.{in_rising}
-use Rattle.bgp_types.specs.Spelling.{origin_written, med_written, atomic_written, passed_flags, aggregator_octets, aggregator_written, as4_path_written, as4_aggregator_written, other_written, attrs_written, spell_attrs, length_prefixed, spell_prefixes, spell_some_attrs, spell_update, marker, framed, spell}
+use Rattle.bgp_types.specs.Spelling.{origin_written, med_written, atomic_written, passed_flags, aggregator_octets, aggregator_written}
+use Rattle.bgp_types.specs.Spelling.{as4_path_written, as4_aggregator_written, other_written, attrs_written, spell_attrs}
+use Rattle.bgp_types.specs.Spelling.{length_prefixed, spell_prefixes, spell_some_attrs, spell_update, marker, framed, spell}
 use Rattle.bgp_types.specs.WireAttrs.{WireAttr, wire_kind, size_width, attr_octets, written}
 use Rattle.bgp_types.specs.Writable.{IsPart}
 use Rattle.bgp_types.proofs.OrderLaws.{all_rising}
@@ -102,7 +105,8 @@ record IsOctetAttr (a : WireAttr) : Type 0 where
   value : Each a.value
 
 attr_each : (a : WireAttr) → IsOctetAttr a → Each (attr_octets a)
-attr_each a is = (is.flags, (is.kind, joined (to_be_bytes (size_width a.flags) (length a.value)) a.value (number_each (size_width a.flags) (length a.value)) is.value))
+attr_each a is =
+    (is.flags, (is.kind, joined (to_be_bytes (size_width a.flags) (length a.value)) a.value (number_each (size_width a.flags) (length a.value)) is.value))
 
 written_each : (flags kind : ℕ) (value : List ℕ) → flags ≤ 224 → kind < 256 → Each value → IsOctetAttr (written flags kind value)
 written_each flags kind value low small each = record { flags = by_test (nat_lt 255 (length value)); kind = small; value = each } where
@@ -156,7 +160,8 @@ passed_low false = omega arith
 aggregator_each : (wide : Bool) (o : Option Aggregator) → Written (aggregator_written wide o)
 aggregator_each wide None = tt
 aggregator_each wide (Some a) = (
-  written_each (passed_flags a.partial) 7 (aggregator_octets wide (cond wide a.as_number (narrow_as a.as_number)) a.address) (passed_low a.partial) (omega arith)
+  written_each (passed_flags a.partial) 7 (aggregator_octets wide (cond wide a.as_number (narrow_as a.as_number)) a.address)
+      (passed_low a.partial) (omega arith)
       (aggregator_octets_each wide (cond wide a.as_number (narrow_as a.as_number)) a.address),
   tt,
 )
@@ -220,7 +225,8 @@ module _ (wide : Bool) (a : Attrs) (has : HasOctets a) where
 
   attrs_each : Each (spell_attrs wide a)
   unfolding spell_attrs
-  attrs_each = each_flat attr_octets IsOctetAttr attr_each (in_rising wire_kind (attrs_written wide a)) (all_rising IsOctetAttr wire_kind (attrs_written wide a) written_all)
+  attrs_each = each_flat attr_octets IsOctetAttr attr_each (in_rising wire_kind (attrs_written wide a))
+      (all_rising IsOctetAttr wire_kind (attrs_written wide a) written_all)
 
 -- ---- UPDATEs
 
@@ -246,7 +252,8 @@ update_octets wide u withdrawn nlri has =
     joined (length_prefixed gone) (length_prefixed attrs ++ come) (counted_each gone (prefixes_each u.withdrawn withdrawn))
     (joined (length_prefixed attrs) come (counted_each attrs (some_each wide u.attrs has)) (prefixes_each u.nlri nlri)) in
     let len = to_be_bytes w16 (19 + length body) in
-    octets_are (framed 2 body) (joined marker (len ++ 2 ∷ body) (tested marker refl) (joined len (2 ∷ body) (number_each w16 (19 + length body)) (omega arith, body_each)))
+    octets_are (framed 2 body)
+    (joined marker (len ++ 2 ∷ body) (tested marker refl) (joined len (2 ∷ body) (number_each w16 (19 + length body)) (omega arith, body_each)))
 
 -- ---- openings
 

@@ -13,7 +13,8 @@ use Rattle.toml.specs.Data.{Members}
 use Rattle.bgp_types.specs.Prefixes.{IsPrefix, once_after}
 use Rattle.bgp_types.specs.Values.{is_no_host}
 use Rattle.bgp_story.specs.Opens.{IsAsNumber}
-use Rattle.graft_model.specs.Setups.{RouterSetup, PeeringSetup, NamedRules, ScriptStep, routers_in, peerings_in, identifier_of, room_of, of_router, rules_named, unknown_policy, first_name, said_length, starting_at, IsPeeringSetup, IsStep, IsSetup}
+use Rattle.graft_model.specs.Setups.{RouterSetup, PeeringSetup, NamedRules, ScriptStep, routers_in, peerings_in, identifier_of, room_of, of_router}
+use Rattle.graft_model.specs.Setups.{rules_named, unknown_policy, first_name, said_length, starting_at, IsPeeringSetup, IsStep, IsSetup}
 use Rattle.lab_keys.specs.Values.{text_at, maybe_text, prefixes_at, items_at, tables_at}
 use Rattle.lab_keys.specs.Kinds.{each_from}
 use Rattle.lab_keys.proofs.NoFlaws.{none_left, none_right, IsWithin, prefixes_formed}
@@ -33,11 +34,13 @@ use Rattle.lab_input.specs.declared.bad.BadInput.{BadInput}
 use Rattle.lab_input.specs.declared.bad.BadInput.TheVariants.{Limit}
 use Rattle.lab_input.specs.Labs.{InputOf}
 use Rattle.lab_input.specs.Names.{unknown, unknown_at, policies_at, worded_named, step_named}
-use Rattle.lab_input.specs.Counts.{over_limit, step_grafts, settles_of, added_settle, prefixes_named, peering_count_at, room_flaw, said_on, most_said, said_flaw, count_fault}
+use Rattle.lab_input.specs.Counts.{over_limit, step_grafts, settles_of, added_settle, prefixes_named}
+use Rattle.lab_input.specs.Counts.{peering_count_at, room_flaw, said_on, most_said, said_flaw, count_fault}
 use Rattle.lab_setup.specs.Setups.{named_rules, router_setup, identifier_at, peering_setup, script_step, ended, setup_of}
 use Rattle.lab_input.proofs.Ready.{accepted}
 use Rattle.lab_setup.proofs.Kept.{IsPeeringTable, IsRouterTable, HasTables, IsWorded, tables_kept, number_below}
-use Rattle.lab_setup.proofs.Lists.{made_of, none_of, none_here, all_at, all_mapped, all_both, all_numbered, first_of_text, get_mapped, get_numbered, length_numbered, IsIn, below_get, count_numbered}
+use Rattle.lab_setup.proofs.Lists.{made_of, none_of, none_here, all_at, all_mapped, all_both, all_numbered, first_of_text}
+use Rattle.lab_setup.proofs.Lists.{get_mapped, get_numbered, length_numbered, IsIn, below_get, count_numbered}
 use Rattle.lab_setup.proofs.Names.{known, IsNamedPeering, HasNames, names_kept}
 use Rattle.lab_setup.proofs.Names.{number_below as index_below}
 use Rattle.lab_setup.proofs.Said.{said_whole, ends_with_settle, all_ended}
@@ -74,8 +77,10 @@ counts_kept input none =
     let no_room : rooms ≡ None = none_of flaws 3 rooms none refl in
     let no_said : saids ≡ None = none_of flaws 4 saids none refl in
     record {
-      room = λ r router there. not_over (codes "sessions") router.sessions (peering_count_at input.peerings r) (none_here (room_flaw input.peerings) input.routers r router no_room there);
-      said = λ p peering there. not_over (codes "said") (most_said peering) (said_on input.steps p peering) (none_here (said_flaw input.steps) input.peerings p peering no_said there);
+      room = λ r router there. not_over (codes "sessions") router.sessions (peering_count_at input.peerings r)
+          (none_here (room_flaw input.peerings) input.routers r router no_room there);
+      said = λ p peering there. not_over (codes "said") (most_said peering) (said_on input.steps p peering)
+          (none_here (said_flaw input.steps) input.peerings p peering no_said there);
     }
 
 at_most : (a b c : ℕ) → a ≡ b → b ≤ c → c ≤ 2 ^ 20 → a ≤ 2 ^ 20
@@ -135,7 +140,8 @@ module _ (input : LabInput) where
       let starts : starting_at (setup_of input) r ≡ peering_count_at input.peerings r =
       length-filter (λ peering. eqb peering.start r) (setup_of input).peerings
       ∙ count_numbered (λ peering. eqb peering.start r) (λ p. eqb p.at.0 r) (peering_setup input) (λ n x. refl) input.peerings 0 in
-      let room : room_of (setup_of input) r ≡ here.x.sessions = ap (λ o. unwrap_or (option_map (λ (y : RouterSetup). y.room) o) 0) (router_there r here.x here.is) in
+      let room : room_of (setup_of input) r ≡ here.x.sessions =
+      ap (λ o. unwrap_or (option_map (λ (y : RouterSetup). y.room) o) 0) (router_there r here.x here.is) in
       let few = counts.room r here.x here.is in
       omega arith
 
@@ -144,7 +150,8 @@ module _ (input : LabInput) where
       → list_any (bytes_eq name) (map (λ p. p.name) x.policies) ≡ true
       → unknown_policy (setup_of input) r (Some name) ≡ None
   policy_there r x e name any =
-      let policies : of_router (λ router. router.policies) [] (setup_of input) r ≡ map named_rules x.policies = ap (λ o. unwrap_or (option_map (λ (y : RouterSetup). y.policies) o) []) (router_there r x e) in
+      let policies : of_router (λ router. router.policies) [] (setup_of input) r ≡ map named_rules x.policies =
+      ap (λ o. unwrap_or (option_map (λ (y : RouterSetup). y.policies) o) []) (router_there r x e) in
       let rules : is_none (rules_named (setup_of input) r name) ≡ false =
       ap (λ ps. is_none (option_map (λ (policy : NamedRules). policy.rules) (find (λ policy. bytes_eq name policy.name) ps))) policies
       ∙ none_mapped (λ (policy : NamedRules). policy.rules) (find (λ policy. bytes_eq name policy.name) (map named_rules x.policies))
@@ -167,7 +174,8 @@ module _ (doc : Members) (tables : HasTables doc) (names : HasNames doc) (counts
   hosts : AllByRecursion (λ (r : RouterInput). is_no_host r.id ≡ false) (routers_of doc)
   hosts = all_mapped router_of IsRouterTable (λ (r : RouterInput). is_no_host r.id ≡ false) (λ t is. is.host) (tables_at (codes "router") doc) tables.routers
 
-  module _ (p : ℕ) (t : Members) (at : slice_get (tables_at (codes "peering") doc) p ≡ Some t) (table : IsPeeringTable t) (name : IsNamedPeering (routers_of doc) t) where
+  module _ (p : ℕ) (t : Members) (at : slice_get (tables_at (codes "peering") doc) p ≡ Some t)
+      (table : IsPeeringTable t) (name : IsNamedPeering (routers_of doc) t) where
     abbrev x : PeeringInput
     x = peering_input doc called t
 
@@ -178,7 +186,8 @@ module _ (doc : Members) (tables : HasTables doc) (names : HasNames doc) (counts
     start = index_of_name called (text_at (codes "at") t)
 
     start_below : start < length (routers_of doc)
-    start_below = let as_many = length-map (routers_of doc) (λ (r : RouterInput). r.name) in let below = index_below called (text_at (codes "at") t) name.at in omega arith
+    start_below = let as_many = length-map (routers_of doc) (λ (r : RouterInput). r.name) in
+        let below = index_below called (text_at (codes "at") t) name.at in omega arith
 
     router : IsIn (routers_of doc) start
     router = below_get (routers_of doc) start start_below
@@ -193,7 +202,8 @@ module _ (doc : Members) (tables : HasTables doc) (names : HasNames doc) (counts
         → unknown_policy (setup_of input) start o ≡ None
     policy_known None none = refl
     policy_known (Some policy) none =
-        policy_there input start router.x router.is policy (sym (ap (list_any (bytes_eq policy)) policies_are) ∙ known (policies_at (routers_of doc) (text_at (codes "at") t)) policy none)
+        policy_there input start router.x router.is policy
+        (sym (ap (list_any (bytes_eq policy)) policies_are) ∙ known (policies_at (routers_of doc) (text_at (codes "at") t)) policy none)
 
     host : is_no_host (identifier_at input start) ≡ false
     host = ap (λ o. is_no_host (unwrap_or (option_map (λ (r : RouterInput). r.id) o) 0)) router.is
@@ -241,9 +251,11 @@ module _ (doc : Members) (tables : HasTables doc) (names : HasNames doc) (counts
   unfolding setup_of
   peerings_ready p peering e =
       let ts : List Members = tables_at (codes "peering") doc in
-      let made = made_of (λ y. peering_setup input (p, y)) (slice_get (peerings_of doc) p) peering (sym (get_numbered (peering_setup input) (peerings_of doc) p) ∙ e) in
+      let made = made_of (λ y. peering_setup input (p, y)) (slice_get (peerings_of doc) p) peering
+      (sym (get_numbered (peering_setup input) (peerings_of doc) p) ∙ e) in
       let from = made_of (peering_input doc called) (slice_get ts p) made.x (sym (get_mapped (peering_input doc called) ts p) ∙ made.there) in
-      let ready = peering_ready p from.x from.there (all_at IsPeeringTable ts p from.x tables.peerings from.there) (all_at (IsNamedPeering (routers_of doc)) ts p from.x names.peerings from.there) in
+      let ready = peering_ready p from.x from.there (all_at IsPeeringTable ts p from.x tables.peerings from.there)
+      (all_at (IsNamedPeering (routers_of doc)) ts p from.x names.peerings from.there) in
       subst (IsPeeringSetup (setup_of input) p) made.is (subst (λ y. IsPeeringSetup (setup_of input) p (peering_setup input (p, y))) from.is ready)
 
   -- ---- steps
@@ -280,22 +292,27 @@ module _ (doc : Members) (tables : HasTables doc) (names : HasNames doc) (counts
   step_ready Evacuates t known none = router_below (text_at (codes "router") t) none
   step_ready Other t known none = absurd (known refl)
 
-  steps_ready : AllByRecursion (IsStep (setup_of input)) (ended (map (script_step (peerings_of doc)) (map (step_of called (peerings_of doc)) (tables_at (codes "step") doc))))
+  steps_ready : AllByRecursion (IsStep (setup_of input))
+      (ended (map (script_step (peerings_of doc)) (map (step_of called (peerings_of doc)) (tables_at (codes "step") doc))))
   steps_ready =
       let ts : List Members = tables_at (codes "step") doc in
       let of : Members → Step = step_of called (peerings_of doc) in
       let script : List ScriptStep = map (script_step (peerings_of doc)) (map of ts) in
       let of_tables : AllByRecursion (λ t. IsStep (setup_of input) (script_step (peerings_of doc) (of t))) ts =
-      all_both IsWorded (λ t. step_named called remotes t ≡ None) (λ t. IsStep (setup_of input) (script_step (peerings_of doc) (of t))) (λ t. step_ready (word_at t) t) ts tables.words names.steps in
+      all_both IsWorded (λ t. step_named called remotes t ≡ None) (λ t. IsStep (setup_of input) (script_step (peerings_of doc) (of t)))
+      (λ t. step_ready (word_at t) t) ts tables.words names.steps in
       let inputs : AllByRecursion (λ step. IsStep (setup_of input) (script_step (peerings_of doc) step)) (map of ts) =
-      all_mapped of (λ t. IsStep (setup_of input) (script_step (peerings_of doc) (of t))) (λ step. IsStep (setup_of input) (script_step (peerings_of doc) step)) (λ t is. is) ts of_tables in
+      all_mapped of (λ t. IsStep (setup_of input) (script_step (peerings_of doc) (of t)))
+      (λ step. IsStep (setup_of input) (script_step (peerings_of doc) step)) (λ t is. is) ts of_tables in
       let whole : AllByRecursion (IsStep (setup_of input)) script =
-      all_mapped (script_step (peerings_of doc)) (λ step. IsStep (setup_of input) (script_step (peerings_of doc) step)) (IsStep (setup_of input)) (λ step is. is) (map of ts) inputs in
+      all_mapped (script_step (peerings_of doc)) (λ step. IsStep (setup_of input) (script_step (peerings_of doc) step))
+      (IsStep (setup_of input)) (λ step is. is) (map of ts) inputs in
       all_ended (IsStep (setup_of input)) tt script whole
 
   networks_ready : AllByRecursion (λ (r : RouterInput). All IsPrefix r.networks) (routers_of doc)
   networks_ready = all_mapped router_of IsRouterTable (λ (r : RouterInput). All IsPrefix r.networks)
-      (λ t is. All-from_recursion IsPrefix (prefixes_at (codes "networks") t) (prefixes_formed (items_at (codes "networks") t))) (tables_at (codes "router") doc) tables.routers
+      (λ t is. All-from_recursion IsPrefix (prefixes_at (codes "networks") t) (prefixes_formed (items_at (codes "networks") t)))
+      (tables_at (codes "router") doc) tables.routers
 
   pub setup_ready : IsSetup (setup_of (lab_of doc))
   unfolding setup_of
@@ -303,7 +320,8 @@ module _ (doc : Members) (tables : HasTables doc) (names : HasNames doc) (counts
     peerings = peerings_ready;
     room = room_kept input counts;
     networks = All-from_recursion (λ router. All IsPrefix router.networks) (map (router_setup input) (enumerate_from 0 (routers_of doc)))
-        (all_numbered (router_setup input) (λ (r : RouterInput). All IsPrefix r.networks) (λ router. All IsPrefix router.networks) (λ n r is. is) (routers_of doc) 0 networks_ready);
+        (all_numbered (router_setup input) (λ (r : RouterInput). All IsPrefix r.networks)
+        (λ router. All IsPrefix router.networks) (λ n r is. is) (routers_of doc) 0 networks_ready);
     steps = All-from_recursion (IsStep (setup_of input)) (setup_of input).steps steps_ready;
     ended = ends_with_settle (map (script_step (peerings_of doc)) input.steps);
   }
@@ -311,4 +329,5 @@ module _ (doc : Members) (tables : HasTables doc) (names : HasNames doc) (counts
 pub accepted_ready : (bytes : List ℕ) (input : LabInput) → InputOf bytes input → IsSetup (setup_of input)
 accepted_ready bytes input e =
     let a = accepted bytes input e in
-    subst (λ (i : LabInput). IsSetup (setup_of i)) a.is (setup_ready a.doc (tables_kept a.doc a.no_flaw) (names_kept a.doc a.no_name) (counts_kept (lab_of a.doc) a.no_count))
+    subst (λ (i : LabInput). IsSetup (setup_of i)) a.is
+    (setup_ready a.doc (tables_kept a.doc a.no_flaw) (names_kept a.doc a.no_name) (counts_kept (lab_of a.doc) a.no_count))

@@ -65,7 +65,8 @@ module _ (peerings : List PeeringInput) (p : ℕ) (peering : PeeringInput) (ther
   -- what a remote says over the script has as many octets as over the steps of the input
   pub said_whole : (steps : List Step)
       → length (flat_map (said_in_model p) (ended (map (script_step peerings) steps))) ≡ sum_by (octets_said (is_wide peering) p) steps
-  said_whole steps = said_steps steps (ended_by (last_or None (map (script_step peerings) steps))) (nothing_more (last_or None (map (script_step peerings) steps)))
+  said_whole steps =
+      said_steps steps (ended_by (last_or None (map (script_step peerings) steps))) (nothing_more (last_or None (map (script_step peerings) steps)))
 
   -- ---- the bytes themselves
 
@@ -105,7 +106,8 @@ module _ (peerings : List PeeringInput) (p : ℕ) (peering : PeeringInput) (ther
 
   -- what a remote says over the script is what the steps of the input have it say
   pub script_bytes : (steps : List Step) → flat_map (said_in_model p) (ended (map (script_step peerings) steps)) ≡ said_over (is_wide peering) p steps
-  script_bytes steps = steps_bytes steps (ended_by (last_or None (map (script_step peerings) steps))) (silent_end (last_or None (map (script_step peerings) steps)))
+  script_bytes steps =
+      steps_bytes steps (ended_by (last_or None (map (script_step peerings) steps))) (silent_end (last_or None (map (script_step peerings) steps)))
 
 pub setup_bytes : (input : LabInput) (p : ℕ) (peering : PeeringInput) → slice_get input.peerings p ≡ Some peering
     → flat_map (said_in_model p) (setup_of input).steps ≡ said_over (is_wide peering) p input.steps

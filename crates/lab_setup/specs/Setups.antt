@@ -79,8 +79,10 @@ is_wide_at peerings p = unwrap_or (option_map is_wide (slice_get peerings p)) fa
 
 -- What a step is in the script: a remote says an UPDATE or bytes, a session moves, the sessions of a router move, or a group ends.
 abbrev pub script_step : List PeeringInput → Step → ScriptStep
-script_step peerings (Announce peering prefixes a) = SayStep peering.0 (spell (UpdateMsg (step_update (Announce peering prefixes a))) (is_wide_at peerings peering.0))
-script_step peerings (Withdraw peering prefixes) = SayStep peering.0 (spell (UpdateMsg (step_update (Withdraw peering prefixes))) (is_wide_at peerings peering.0))
+script_step peerings (Announce peering prefixes a) =
+    SayStep peering.0 (spell (UpdateMsg (step_update (Announce peering prefixes a))) (is_wide_at peerings peering.0))
+script_step peerings (Withdraw peering prefixes) =
+    SayStep peering.0 (spell (UpdateMsg (step_update (Withdraw peering prefixes))) (is_wide_at peerings peering.0))
 script_step peerings (Raw peering bytes) = SayStep peering.0 bytes
 script_step peerings (Graft peering target) = MoveStep peering.0 target.0
 script_step peerings (Settle rounds least) = SettleStep

@@ -53,5 +53,7 @@ any_put q p once = by_test (list_any (same_prefix p) once) refl (same_prefix p q
       → cond s true (list_any (same_prefix q) once) ≡ list_any (same_prefix q) (cond t once (once ++ p ∷ []))
   by_test true there true e = sym there ∙ ap (λ r. list_any (same_prefix r) once) (is_same p q e)
   by_test true there false e = refl
-  by_test false there true e = sym (list_any-append (same_prefix q) once (p ∷ []) ∙ ap (λ t. list_any (same_prefix q) once || (t || false)) (sym (same_either p q) ∙ e) ∙ or_true (list_any (same_prefix q) once))
-  by_test false there false e = sym (list_any-append (same_prefix q) once (p ∷ []) ∙ ap (λ t. list_any (same_prefix q) once || (t || false)) (sym (same_either p q) ∙ e) ∙ or_false (list_any (same_prefix q) once))
+  by_test false there true e = sym (list_any-append (same_prefix q) once (p ∷ [])
+      ∙ ap (λ t. list_any (same_prefix q) once || (t || false)) (sym (same_either p q) ∙ e) ∙ or_true (list_any (same_prefix q) once))
+  by_test false there false e = sym (list_any-append (same_prefix q) once (p ∷ [])
+      ∙ ap (λ t. list_any (same_prefix q) once || (t || false)) (sym (same_either p q) ∙ e) ∙ or_false (list_any (same_prefix q) once))

@@ -22,6 +22,7 @@ unfolding spell
 plain_is a h i = refl
 
 pub wide_is : (a h i : ℕ)
-    → wide_head ++ to_be_bytes w16 (narrow_as a) ++ to_be_bytes w16 h ++ to_be_bytes w32 i ++ (8 ∷ 2 ∷ 6 ∷ 65 ∷ 4 ∷ []) ++ to_be_bytes w32 a ++ wide_tail ≡ default_opening a h i true
+    → wide_head ++ to_be_bytes w16 (narrow_as a) ++ to_be_bytes w16 h ++ to_be_bytes w32 i ++ (8 ∷ 2 ∷ 6 ∷ 65 ∷ 4 ∷ []) ++ to_be_bytes w32 a ++ wide_tail
+    ≡ default_opening a h i true
 unfolding spell
 wide_is a h i = refl

@@ -1,5 +1,6 @@
 -- Steps.
-use Rattle.std.specs.Prelude.{ℕ, Bool, true, false, ◌||◌, nat_lt, List, [], ◌∷◌, take, drop, reverse, Option, Some, None, unwrap_or, map, codes, if◌then◌else◌, slice_get}
+use Rattle.std.specs.Prelude.{ℕ, Bool, true, false, ◌||◌, nat_lt, List, [], ◌∷◌, take, drop, reverse, Option}
+use Rattle.std.specs.Prelude.{Some, None, unwrap_or, map, codes, if◌then◌else◌, slice_get}
 use Rattle.std.specs.List.{list_any, before_first}
 use Rattle.toml.specs.Data.{Data, table, Members}
 use Rattle.bgp_types.specs.declared.attrs.Attrs.{Attrs}

@@ -6,8 +6,8 @@ ghost use Rattle.lab_tables.specs.Documents.{lab_of as lab_of_lem};
 
 use crate::costs::{CostReader, FaultReader};
 use crate::input::{CostInputs, Faults, LabInput, PeeringInput, PeeringInputs, RouterInput, Steps};
-use crate::peerings::PeeringReader;
 use crate::name_index::NameIndex;
+use crate::peerings::PeeringReader;
 use crate::routers::RouterTables;
 use crate::steps::StepReader;
 use bgp_types::{Items, Name, NoMemory, TryCopy};

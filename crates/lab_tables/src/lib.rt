@@ -4,10 +4,10 @@
 mod costs;
 mod input;
 mod labs;
+mod name_index;
 mod once;
 mod opening;
 mod peerings;
-mod name_index;
 mod routers;
 mod rules;
 mod said;
@@ -22,9 +22,9 @@ pub use input::{
     PolicyInputs, RouterInput, RouterInputs, Step, Steps,
 };
 pub use labs::{lab_of, peering_names, router_names};
+pub use name_index::NameIndex;
 pub use once::each_once;
 pub use opening::default_opening;
-pub use name_index::NameIndex;
 pub use scripts::word_at;
 pub use shapes::shaped;
 pub use words::StepWord;

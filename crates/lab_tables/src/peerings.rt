@@ -8,8 +8,8 @@ ghost use Rattle.lab_keys.specs.Values.{text_at as text_at_lem, maybe_text as ma
 ghost use Rattle.lab_tables.specs.Peerings.{peering_ends as peering_ends_lem, peering_rest as peering_rest_lem, peering_last as peering_last_lem, is_raw_of as is_raw_of_lem, may_beat as may_beat_lem, peering_flaw as peering_flaw_lem, remote_id_of as remote_id_of_lem, remote_as4_of as remote_as4_of_lem, opening_of as opening_of_lem, peering_input};
 
 use crate::input::PeeringInput;
-use crate::opening::default_opening;
 use crate::name_index::NameIndex;
+use crate::opening::default_opening;
 use bgp_types::{Name, NoMemory, Octets, RouterId};
 use lab_keys::{
     Flaw, Key, Kind, Spot, TableAt, TableKind, TableReader, address_or, flag_or, has, items_at,

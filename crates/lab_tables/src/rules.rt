@@ -4,7 +4,9 @@ ghost use Rattle.std.specs.Prelude.{◌≡◌, IfOk, option_map};
 ghost use Rattle.toml.specs.View.{table_view};
 ghost use Rattle.lab_keys.specs.Keys.{keys_flaw as keys_flaw_lem};
 ghost use Rattle.lab_keys.specs.Values.{has_member};
-ghost use Rattle.lab_tables.specs.Routers.{length_kind as length_kind_lem, rule_keys as rule_keys_lem, rule_flaw as rule_flaw_lem, range_of as range_of_lem, rule_of as rule_of_lem, policy_keys as policy_keys_lem, policy_flaw as policy_flaw_lem, policy_of as policy_of_lem};
+ghost use Rattle.lab_tables.specs.Routers.{length_kind as length_kind_lem, rule_keys as rule_keys_lem};
+ghost use Rattle.lab_tables.specs.Routers.{rule_flaw as rule_flaw_lem, range_of as range_of_lem, rule_of as rule_of_lem};
+ghost use Rattle.lab_tables.specs.Routers.{policy_keys as policy_keys_lem, policy_flaw as policy_flaw_lem, policy_of as policy_of_lem};
 
 use crate::input::PolicyInput;
 use crate::words::origin_at;

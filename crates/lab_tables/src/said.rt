@@ -3,7 +3,8 @@
 ghost use Rattle.std.specs.Prelude.{◌≡◌, IfOk, Option, option_map, option_copied};
 ghost use Rattle.bgp_types.specs.Prefixes.{once_after};
 ghost use Rattle.toml.specs.View.{table_view};
-ghost use Rattle.lab_tables.specs.Scripts.{sequence_path, step_ases, attrs_of as attrs_of_lem, said_prefixes as said_prefixes_lem, said_attrs as said_attrs_lem};
+ghost use Rattle.lab_tables.specs.Scripts.{sequence_path, step_ases, attrs_of as attrs_of_lem};
+ghost use Rattle.lab_tables.specs.Scripts.{said_prefixes as said_prefixes_lem, said_attrs as said_attrs_lem};
 
 use crate::input::PeeringInput;
 use crate::once::each_once;

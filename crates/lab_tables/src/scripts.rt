@@ -8,7 +8,9 @@ ghost use Rattle.lab_keys.specs.Spots.{spot_of, member_of};
 ghost use Rattle.lab_keys.specs.Kinds.{each_from, table_flaw};
 ghost use Rattle.lab_keys.specs.Keys.{keys_flaw as keys_flaw_lem, tables_flaw as tables_flaw_lem};
 ghost use Rattle.lab_keys.specs.Values.{items_at as items_at_lem};
-ghost use Rattle.lab_tables.specs.Scripts.{word_at as word_at_lem, is_word, is_settle_word, is_evacuate, evacuates as evacuates_lem, group_from, is_crowded as is_crowded_lem, keys_of as keys_of_lem, least_flaw as least_flaw_lem, worded_flaw as worded_flaw_lem, grouped_flaw as grouped_flaw_lem, step_flaw as step_flaw_lem};
+ghost use Rattle.lab_tables.specs.Scripts.{word_at as word_at_lem, is_word, is_settle_word, is_evacuate, evacuates as evacuates_lem, group_from};
+ghost use Rattle.lab_tables.specs.Scripts.{is_crowded as is_crowded_lem, keys_of as keys_of_lem, least_flaw as least_flaw_lem};
+ghost use Rattle.lab_tables.specs.Scripts.{worded_flaw as worded_flaw_lem, grouped_flaw as grouped_flaw_lem, step_flaw as step_flaw_lem};
 
 use crate::words::{StepWord, step_word_of};
 use lab_keys::{
@@ -249,7 +251,8 @@ fn before_next(before: bool, step: &Value) -> bool
 
 /// Returns whether a step evacuates in the group of the next one, given whether one does in the group of this one.
 fn whole_next(whole: bool, step: &Value, further: &[Value]) -> bool
-    ensures { result ≡ (if is_word is_settle_word (view step.now) then list_any (λ v. is_word is_evacuate (view v)) (take_while (λ v. not (is_word is_settle_word (view v))) further.now) else whole) }
+    ensures { result ≡ (if is_word is_settle_word (view step.now) then list_any (λ v. is_word is_evacuate (view v))
+        (take_while (λ v. not (is_word is_settle_word (view v))) further.now) else whole) }
 {
     if ends_group(step) {
         return evacuates_in(further);

@@ -2,7 +2,8 @@
 
 ghost use Rattle.std.specs.Prelude.{◌≡◌, map};
 ghost use Rattle.toml.specs.View.{table_view};
-ghost use Rattle.lab_tables.specs.Meanings.{origin_named, origin_at as origin_at_lem, way_of as way_of_lem, fault_kind_of as fault_kind_of_lem, step_word_of as step_word_of_lem};
+ghost use Rattle.lab_tables.specs.Meanings.{origin_named, origin_at as origin_at_lem, way_of as way_of_lem};
+ghost use Rattle.lab_tables.specs.Meanings.{fault_kind_of as fault_kind_of_lem, step_word_of as step_word_of_lem};
 
 use bgp_types::Origin;
 use lab_keys::maybe_text;

@@ -16,12 +16,15 @@ use Rattle.lab_report.specs.declared.lab.RunEnd.TheVariants.{Settled, Unsettled,
 use Rattle.lab_report.specs.Summary.{summary_text}
 use Rattle.lab_report.specs.Traces.{IsReport}
 use Rattle.lab_run.specs.Runs.{RanLab}
-use Rattle.lab_top.specs.Ends.{AreRefused, AskToRun, AskForJournal, RunsSource, AskToDrill, AskForLab, AskToMake, ReadsInput, TookInput, GaveBadInput, IsStatus, WritesText, WritesReport, WritesJournal, Checks, end_status, verdict_text, verdict_status}
+use Rattle.lab_top.specs.Ends.{AreRefused, AskToRun, AskForJournal, RunsSource, AskToDrill, AskForLab, AskToMake, ReadsInput, TookInput, GaveBadInput}
+use Rattle.lab_top.specs.Ends.{IsStatus, WritesText, WritesReport, WritesJournal, Checks, end_status, verdict_text, verdict_status}
 use Rattle.lab_top.specs.declared.finish.InputStop.{InputStop}
 use Rattle.lab_top.specs.declared.finish.InputStop.TheVariants as stops
-use Rattle.lab_top.specs.Cases.{Outside, GivesNoInput, Shows, shows_report, shows_journal, shows_summary, Cause, usage, makes, checks, refuses, drops, runs, Ended, wrote, unread, no_memory}
+use Rattle.lab_top.specs.Cases.{Outside, GivesNoInput, Shows, shows_report, shows_journal, shows_summary, Cause, usage}
+use Rattle.lab_top.specs.Cases.{makes, checks, refuses, drops, runs, Ended, wrote, unread, no_memory}
 use Rattle.lab_top.proofs.Parts.{writes_as}
-use Rattle.lab_top.proofs.Asking.{letter_in, passed, against, is_report, is_journal, is_drill, is_check, is_make, is_lab, lab_passes, source_against, lab_against, none_run, one_seed, one_drill}
+use Rattle.lab_top.proofs.Asking.{letter_in, passed, against, is_report, is_journal, is_drill, is_check, is_make, is_lab}
+use Rattle.lab_top.proofs.Asking.{lab_passes, source_against, lab_against, none_run, one_seed, one_drill}
 
 -- ---- bytes
 
@@ -165,9 +168,12 @@ told_made : (words : List (List ℕ)) (left rest : Option (List ℕ)) (text : Li
     → (text ≡ made seed) × (planned ≡ 0)
 told_made words left rest text planned lab seed make (usage none t p l) = absurd (none (Make seed) make)
 told_made words left rest text planned lab seed make (makes other ask t p l) = (t ∙ ap made (one_seed words other seed ask make), p)
-told_made words left rest text planned lab seed make (checks answer ask read t p l) = absurd (against words Check is_make refl ask (passed words (Make seed) is_make refl make))
-told_made words left rest text planned lab seed make (refuses answer ask read why p l) = absurd (lab_against words is_make refl refl refl (inl ask) (passed words (Make seed) is_make refl make))
-told_made words left rest text planned lab seed make (drops other ask why p l) = absurd (lab_against words is_make refl refl refl (inr (other, ask)) (passed words (Make seed) is_make refl make))
+told_made words left rest text planned lab seed make (checks answer ask read t p l) =
+    absurd (against words Check is_make refl ask (passed words (Make seed) is_make refl make))
+told_made words left rest text planned lab seed make (refuses answer ask read why p l) =
+    absurd (lab_against words is_make refl refl refl (inl ask) (passed words (Make seed) is_make refl make))
+told_made words left rest text planned lab seed make (drops other ask why p l) =
+    absurd (lab_against words is_make refl refl refl (inr (other, ask)) (passed words (Make seed) is_make refl make))
 told_made words left rest text planned lab seed make (runs end shows ran p l) =
     absurd (lab_against words is_make refl refl refl (lab_shown words left rest end text shows) (passed words (Make seed) is_make refl make))
 
@@ -186,15 +192,19 @@ made_told words o n status lab (no_memory six same l) seed make = inl six
 -- ---- an input is checked
 
 abbrev Verdict : Option (List ℕ) → Option (List ℕ) → List ℕ → ℕ → Type 0
-Verdict left rest text planned = (answer : Result LabInput BadInput) × ReadsInput left rest answer × (text ≡ verdict_text answer) × (planned ≡ verdict_status answer)
+Verdict left rest text planned =
+    (answer : Result LabInput BadInput) × ReadsInput left rest answer × (text ≡ verdict_text answer) × (planned ≡ verdict_status answer)
 
 told_verdict : (words : List (List ℕ)) (left rest : Option (List ℕ)) (text : List ℕ) (planned : ℕ) (lab : Option Lab) → Asks words Check
     → Cause words left rest text planned lab → Verdict left rest text planned
 told_verdict words left rest text planned lab check (usage none t p l) = absurd (none Check check)
-told_verdict words left rest text planned lab check (makes seed ask t p l) = absurd (against words (Make seed) is_check refl ask (passed words Check is_check refl check))
+told_verdict words left rest text planned lab check (makes seed ask t p l) =
+    absurd (against words (Make seed) is_check refl ask (passed words Check is_check refl check))
 told_verdict words left rest text planned lab check (checks answer ask read t p l) = (answer, read, t, p)
-told_verdict words left rest text planned lab check (refuses answer ask read why p l) = absurd (lab_against words is_check refl refl refl (inl ask) (passed words Check is_check refl check))
-told_verdict words left rest text planned lab check (drops seed ask why p l) = absurd (lab_against words is_check refl refl refl (inr (seed, ask)) (passed words Check is_check refl check))
+told_verdict words left rest text planned lab check (refuses answer ask read why p l) =
+    absurd (lab_against words is_check refl refl refl (inl ask) (passed words Check is_check refl check))
+told_verdict words left rest text planned lab check (drops seed ask why p l) =
+    absurd (lab_against words is_check refl refl refl (inr (seed, ask)) (passed words Check is_check refl check))
 told_verdict words left rest text planned lab check (runs end shows ran p l) =
     absurd (lab_against words is_check refl refl refl (lab_shown words left rest end text shows) (passed words Check is_check refl check))
 
@@ -202,7 +212,11 @@ pub checked_told : (words : List (List ℕ)) (o n : Outside) (status : ℕ) (lab
     → (status ≡ 4) ⊎ (status ≡ 6) ⊎ Checks o.left n.left o.write_faults n.write_faults o.written n.written status
 checked_told words o n status lab (wrote text planned cause w) check =
     let told = told_verdict words o.left n.left text planned lab check cause in
-    inr (inr (record { answer = told.0; read = told.1; wrote = writes_as text (verdict_text told.0) planned (verdict_status told.0) o.write_faults n.write_faults o.written n.written status told.2 told.3 w }))
+    inr (inr (record {
+      answer = told.0;
+      read = told.1;
+      wrote = writes_as text (verdict_text told.0) planned (verdict_status told.0) o.write_faults n.write_faults o.written n.written status told.2 told.3 w;
+    }))
 checked_told words o n status lab (unread ask four rose same l) check = inl four
 checked_told words o n status lab (no_memory six same l) check = inr (inl six)
 
@@ -220,7 +234,8 @@ bad_by words left rest text planned lab (runs end shows ran p l) two = absurd (n
 
 pub bad_input : (words : List (List ℕ)) (o n : Outside) (status : ℕ) (lab : Option Lab) → Ended words o n status lab → status ≡ 2
     → (text : List ℕ) × GaveBadInput words o.left n.left text × Appended o.written n.written text
-bad_input words o n status lab (wrote text planned cause (inl whole)) two = (text, bad_by words o.left n.left text planned lab cause (sym whole.0 ∙ two), whole.1)
+bad_input words o n status lab (wrote text planned cause (inl whole)) two =
+    (text, bad_by words o.left n.left text planned lab cause (sym whole.0 ∙ two), whole.1)
 bad_input words o n status lab (wrote text planned cause (inr front)) two = let five = front.0 in absurd (omega arith)
 bad_input words o n status lab (unread ask four rose same l) two = absurd (omega arith)
 bad_input words o n status lab (no_memory six same l) two = absurd (omega arith)
@@ -244,7 +259,8 @@ pub bad_unwritten : (words : List (List ℕ)) (o n : Outside) (status : ℕ) (la
 bad_unwritten words o n status lab (wrote text planned cause (inl whole)) run five none =
     let bad = bad_run words o.left n.left text planned lab run none cause in
     let same = whole.0 in let two = bad.0 in absurd (omega arith)
-bad_unwritten words o n status lab (wrote text planned cause (inr front)) run five none = (text, (bad_run words o.left n.left text planned lab run none cause).1, front.2)
+bad_unwritten words o n status lab (wrote text planned cause (inr front)) run five none =
+    (text, (bad_run words o.left n.left text planned lab run none cause).1, front.2)
 bad_unwritten words o n status lab (unread ask four rose same l) run five none = absurd (omega arith)
 bad_unwritten words o n status lab (no_memory six same l) run five none = absurd (omega arith)
 
@@ -252,14 +268,16 @@ bad_unwritten words o n status lab (no_memory six same l) run five none = absurd
 
 pub read_failed : (words : List (List ℕ)) (o n : Outside) (status : ℕ) (lab : Option Lab) → Ended words o n status lab → status ≡ 4
     → FaultRose o.read_faults n.read_faults
-read_failed words o n status lab (wrote text planned cause (inl whole)) four = absurd (not_planned 4 planned status refl (planned_by words _ _ text planned lab cause) whole.0 four)
+read_failed words o n status lab (wrote text planned cause (inl whole)) four =
+    absurd (not_planned 4 planned status refl (planned_by words _ _ text planned lab cause) whole.0 four)
 read_failed words o n status lab (wrote text planned cause (inr front)) four = let five = front.0 in absurd (omega arith)
 read_failed words o n status lab (unread ask is rose same l) four = rose
 read_failed words o n status lab (no_memory six same l) four = absurd (omega arith)
 
 pub write_failed : (words : List (List ℕ)) (o n : Outside) (status : ℕ) (lab : Option Lab) → Ended words o n status lab → status ≡ 5
     → FaultRose o.write_faults n.write_faults
-write_failed words o n status lab (wrote text planned cause (inl whole)) five = absurd (not_planned 5 planned status refl (planned_by words _ _ text planned lab cause) whole.0 five)
+write_failed words o n status lab (wrote text planned cause (inl whole)) five =
+    absurd (not_planned 5 planned status refl (planned_by words _ _ text planned lab cause) whole.0 five)
 write_failed words o n status lab (wrote text planned cause (inr front)) five = front.1
 write_failed words o n status lab (unread ask four rose same l) five = absurd (omega arith)
 write_failed words o n status lab (no_memory six same l) five = absurd (omega arith)
@@ -274,7 +292,8 @@ not_five status five (inr six) = absurd (omega arith)
 
 pub nothing_written : (words : List (List ℕ)) (o n : Outside) (status : ℕ) (lab : Option Lab) → Ended words o n status lab
     → (status ≡ 4) ⊎ (status ≡ 6) → n.written ≡ o.written
-nothing_written words o n status lab (wrote text planned cause (inl whole)) is = absurd (nothing_under planned status (planned_by words _ _ text planned lab cause) whole.0 is)
+nothing_written words o n status lab (wrote text planned cause (inl whole)) is =
+    absurd (nothing_under planned status (planned_by words _ _ text planned lab cause) whole.0 is)
 nothing_written words o n status lab (wrote text planned cause (inr front)) is = absurd (not_five status front.0 is)
 nothing_written words o n status lab (unread ask four rose same l) is = same
 nothing_written words o n status lab (no_memory six same l) is = same
@@ -335,7 +354,8 @@ input_by : (words : List (List ℕ)) (left rest : Option (List ℕ)) (end : Lab)
     → TookInput left rest end.input
 input_by words left rest end text (shows_report run read t) ask = took_input left rest end.input read
 input_by words left rest end text (shows_journal run bytes took is t) ask = record { bytes = bytes; took = took.took; end = took.end; is = is }
-input_by words left rest end text (shows_summary seed drill is t) ask = absurd (source_against words is_drill refl refl ask (passed words (Drill seed drill.0) is_drill refl drill.1))
+input_by words left rest end text (shows_summary seed drill is t) ask =
+    absurd (source_against words is_drill refl refl ask (passed words (Drill seed drill.0) is_drill refl drill.1))
 
 pub input_taken : (words : List (List ℕ)) (o n : Outside) (status : ℕ) (lab : Option Lab) → Ended words o n status lab
     → IfSome lab (λ end. RunsSource words → TookInput o.left n.left end.input)
@@ -344,8 +364,10 @@ input_taken words o n status (Some end) ended = let c = came words o n status (S
 
 seed_by : (words : List (List ℕ)) (left rest : Option (List ℕ)) (end : Lab) (text : List ℕ) → Shows words left rest end text → (seed : ℕ)
     → AskToDrill words seed → InputOf (made seed) end.input
-seed_by words left rest end text (shows_report run read t) seed drill = absurd (against words (Run run.0) is_drill refl run.1 (passed words (Drill seed drill.0) is_drill refl drill.1))
-seed_by words left rest end text (shows_journal run bytes took is t) seed drill = absurd (against words (Journal run.0) is_drill refl run.1 (passed words (Drill seed drill.0) is_drill refl drill.1))
+seed_by words left rest end text (shows_report run read t) seed drill =
+    absurd (against words (Run run.0) is_drill refl run.1 (passed words (Drill seed drill.0) is_drill refl drill.1))
+seed_by words left rest end text (shows_journal run bytes took is t) seed drill =
+    absurd (against words (Journal run.0) is_drill refl run.1 (passed words (Drill seed drill.0) is_drill refl drill.1))
 seed_by words left rest end text (shows_summary other ask is t) seed drill = subst (λ s. InputOf (made s) end.input) (one_drill words other seed ask drill) is
 
 pub drilled : (words : List (List ℕ)) (o n : Outside) (status : ℕ) (lab : Option Lab) → Ended words o n status lab
@@ -358,8 +380,10 @@ drilled words o n status (Some end) ended = let c = came words o n status (Some 
 report_by : (words : List (List ℕ)) (left rest : Option (List ℕ)) (end : Lab) (text : List ℕ) → Shows words left rest end text → AskToRun words
     → IsReport end text
 report_by words left rest end text (shows_report run read t) ask = t
-report_by words left rest end text (shows_journal run bytes took is t) ask = absurd (against words (Journal run.0) is_report refl run.1 (passed words (Run ask.0) is_report refl ask.1))
-report_by words left rest end text (shows_summary seed drill is t) ask = absurd (against words (Drill seed drill.0) is_report refl drill.1 (passed words (Run ask.0) is_report refl ask.1))
+report_by words left rest end text (shows_journal run bytes took is t) ask =
+    absurd (against words (Journal run.0) is_report refl run.1 (passed words (Run ask.0) is_report refl ask.1))
+report_by words left rest end text (shows_summary seed drill is t) ask =
+    absurd (against words (Drill seed drill.0) is_report refl drill.1 (passed words (Run ask.0) is_report refl ask.1))
 
 pub reported : (words : List (List ℕ)) (o n : Outside) (status : ℕ) (lab : Option Lab) → Ended words o n status lab
     → IfSome lab (λ end. AskToRun words → WritesReport end o.write_faults n.write_faults o.written n.written status)
@@ -373,8 +397,10 @@ drill_against words drill test fails is = against words (Drill drill.0 drill.1.0
 
 summary_by : (words : List (List ℕ)) (left rest : Option (List ℕ)) (end : Lab) (text : List ℕ) → Shows words left rest end text
     → ((seed : ℕ) × AskToDrill words seed) → text ≡ summary_text end
-summary_by words left rest end text (shows_report run read t) ask = absurd (drill_against words ask is_report refl (passed words (Run run.0) is_report refl run.1))
-summary_by words left rest end text (shows_journal run bytes took is t) ask = absurd (drill_against words ask is_journal refl (passed words (Journal run.0) is_journal refl run.1))
+summary_by words left rest end text (shows_report run read t) ask =
+    absurd (drill_against words ask is_report refl (passed words (Run run.0) is_report refl run.1))
+summary_by words left rest end text (shows_journal run bytes took is t) ask =
+    absurd (drill_against words ask is_journal refl (passed words (Journal run.0) is_journal refl run.1))
 summary_by words left rest end text (shows_summary seed drill is t) ask = t
 
 pub summed : (words : List (List ℕ)) (o n : Outside) (status : ℕ) (lab : Option Lab) → Ended words o n status lab
@@ -387,10 +413,12 @@ summed words o n status (Some end) ended = λ ask.
 journal_by : (words : List (List ℕ)) (o n : Outside) (status : ℕ) (end : Lab) (text : List ℕ) → Shows words o.left n.left end text
     → AskForJournal words → Wrote text (end_status end.end) o n status
     → WritesJournal o.left n.left end o.write_faults n.write_faults o.written n.written status
-journal_by words o n status end text (shows_report run read t) ask w = absurd (against words (Run run.0) is_journal refl run.1 (passed words (Journal ask.0) is_journal refl ask.1))
+journal_by words o n status end text (shows_report run read t) ask w =
+    absurd (against words (Run run.0) is_journal refl run.1 (passed words (Journal ask.0) is_journal refl ask.1))
 journal_by words o n status end text (shows_journal run bytes took is t) ask w =
     record { bytes = bytes; took = took.took; end = took.end; is = is; wrote = subst (λ u. Wrote u (end_status end.end) o n status) t w }
-journal_by words o n status end text (shows_summary seed drill is t) ask w = absurd (against words (Drill seed drill.0) is_journal refl drill.1 (passed words (Journal ask.0) is_journal refl ask.1))
+journal_by words o n status end text (shows_summary seed drill is t) ask w =
+    absurd (against words (Drill seed drill.0) is_journal refl drill.1 (passed words (Journal ask.0) is_journal refl ask.1))
 
 pub journaled : (words : List (List ℕ)) (o n : Outside) (status : ℕ) (lab : Option Lab) → Ended words o n status lab
     → IfSome lab (λ end. AskForJournal words → WritesJournal o.left n.left end o.write_faults n.write_faults o.written n.written status)
@@ -435,7 +463,8 @@ some_by words left rest text planned lab run is (runs end shows ran p l) = subst
 
 ended_under : (words : List (List ℕ)) (o n : Outside) (status : ℕ) (lab : Option Lab) → Ended words o n status lab → AskForLab words
     → is_of_run status ≡ true → IsSome lab
-ended_under words o n status lab (wrote text planned cause (inl whole)) run is = some_by words o.left n.left text planned lab run (sym (ap is_of_run whole.0) ∙ is) cause
+ended_under words o n status lab (wrote text planned cause (inl whole)) run is =
+    some_by words o.left n.left text planned lab run (sym (ap is_of_run whole.0) ∙ is) cause
 ended_under words o n status lab (wrote text planned cause (inr front)) run is = absurd (false≢true (sym (ap is_of_run front.0) ∙ is))
 ended_under words o n status lab (unread ask four rose same l) run is = absurd (false≢true (sym (ap is_of_run four) ∙ is))
 ended_under words o n status lab (no_memory six same l) run is = absurd (false≢true (sym (ap is_of_run six) ∙ is))
@@ -457,5 +486,6 @@ pub too_long_stops : (before after : Option (List ℕ)) (faults_before faults_af
 too_long_stops before after faults_before faults_after stop took (inl none) =
     subst (λ s. GivesNoInput before after faults_before faults_after s) (sym none) tt
 too_long_stops before after faults_before faults_after stop took (inr bad) =
-    let read : ReadsInput before after (Err too_long) = record { bytes = took.0; took = took.2; enough = inr (took.1, refl); is = long_is_refused took.0 took.1 } in
+    let read : ReadsInput before after (Err too_long) =
+    record { bytes = took.0; took = took.2; enough = inr (took.1, refl); is = long_is_refused took.0 took.1 } in
     subst (λ s. GivesNoInput before after faults_before faults_after s) (sym bad) read

@@ -19,7 +19,9 @@ use Rattle.lab_top.specs.Ends.{AskToRun, AskForJournal, RunsSource, AskToDrill, 
 use Rattle.lab_top.specs.declared.finish.Finish.{Finish}
 use Rattle.lab_top.specs.declared.finish.InputStop.{InputStop}
 use Rattle.lab_top.specs.declared.finish.InputStop.TheVariants as stops
-use Rattle.lab_top.specs.Cases.{Outside, TookWhole, GivesNoInput, AnswersOrStops, WritesOr, FailsUnread, FindsNone, BuiltOr, EndsRun, EndsUnbuilt, StopsFor, shows_report, shows_journal, shows_summary, makes, checks, refuses, drops, runs, Ended, wrote, unread, EndsOr}
+use Rattle.lab_top.specs.Cases.{Outside, TookWhole, GivesNoInput, AnswersOrStops, WritesOr, FailsUnread, FindsNone}
+use Rattle.lab_top.specs.Cases.{BuiltOr, EndsRun, EndsUnbuilt, StopsFor, shows_report, shows_journal, shows_summary}
+use Rattle.lab_top.specs.Cases.{makes, checks, refuses, drops, runs, Ended, wrote, unread, EndsOr}
 
 -- jobs that read the source
 abbrev AskToRead : List (List ℕ) → Type 0
@@ -68,7 +70,8 @@ pub writes_as : (text told : List ℕ) (planned meant faults_before faults_after
     → planned ≡ meant
     → WritesText text planned faults_before faults_after before after status → WritesText told meant faults_before faults_after before after status
 writes_as text told planned meant faults_before faults_after before after status same also w =
-    subst (λ t. WritesText t meant faults_before faults_after before after status) same (subst (λ k. WritesText text k faults_before faults_after before after status) also w)
+    subst (λ t. WritesText t meant faults_before faults_after before after status) same
+    (subst (λ k. WritesText text k faults_before faults_after before after status) also w)
 
 pub checked_ends : (words : List (List ℕ)) (o n : Outside) (input : LabInput) (text : List ℕ) (status : ℕ) (lab : Option Lab) → Asks words Check
     → ReadsInput o.left n.left (Ok input)

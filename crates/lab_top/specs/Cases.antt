@@ -18,7 +18,8 @@ use Rattle.lab_top.specs.declared.finish.Finish.{Finish}
 use Rattle.lab_top.specs.declared.finish.InputStop.{InputStop}
 use Rattle.lab_top.specs.declared.finish.InputStop.TheVariants as stops
 use Rattle.lab_top.specs.Built.{is_built}
-use Rattle.lab_top.specs.Ends.{AreRefused, AskToRun, AskForJournal, RunsSource, AskToDrill, ReadsInput, SaysWhy, WritesText, end_status, not_built_text, verdict_text, verdict_status}
+use Rattle.lab_top.specs.Ends.{AreRefused, AskToRun, AskForJournal, RunsSource, AskToDrill, ReadsInput, SaysWhy}
+use Rattle.lab_top.specs.Ends.{WritesText, end_status, not_built_text, verdict_text, verdict_status}
 
 -- what the source and the sink tell
 pub record Outside : Type 0 where
@@ -62,7 +63,8 @@ AnswersOrStops answer (Err stops.NoMemory) = Unit {0}
 
 -- A text is written under its status, without a run; or memory ran out before.
 abbrev pub WritesOr : (text : List ℕ) → (planned : ℕ) → (faults_before faults_after : ℕ) → (before after : Option (List ℕ)) → Result Finish NoMemory → Type 0
-WritesOr text planned faults_before faults_after before after (Ok finish) = (finish.lab ≡ None) × WritesText text planned faults_before faults_after before after finish.status
+WritesOr text planned faults_before faults_after before after (Ok finish) =
+    (finish.lab ≡ None) × WritesText text planned faults_before faults_after before after finish.status
 WritesOr text planned faults_before faults_after before after (Err _) = after ≡ before
 
 abbrev pub FailsUnread : (before after : Option (List ℕ)) → Result Finish NoMemory → Type 0
@@ -81,11 +83,13 @@ BuiltOr input (Err _) = Unit {0}
 
 -- A text of a run is written under the status of its end.
 abbrev pub EndsRun : (text : List ℕ) → Lab → (faults_before faults_after : ℕ) → (before after : Option (List ℕ)) → Finish → Type 0
-EndsRun text lab faults_before faults_after before after finish = (finish.lab ≡ Some lab) × WritesText text (end_status lab.end) faults_before faults_after before after finish.status
+EndsRun text lab faults_before faults_after before after finish =
+    (finish.lab ≡ Some lab) × WritesText text (end_status lab.end) faults_before faults_after before after finish.status
 
 -- What can't be run yet is refused.
 abbrev pub EndsUnbuilt : (faults_before faults_after : ℕ) → (before after : Option (List ℕ)) → Finish → Type 0
-EndsUnbuilt faults_before faults_after before after finish = (finish.lab ≡ None) × WritesText not_built_text 2 faults_before faults_after before after finish.status
+EndsUnbuilt faults_before faults_after before after finish =
+    (finish.lab ≡ None) × WritesText not_built_text 2 faults_before faults_after before after finish.status
 
 -- A job ends whose source gave no input.
 abbrev pub StopsFor : InputStop → (faults_before faults_after : ℕ) → (before after : Option (List ℕ)) → Result Finish NoMemory → Type 0
@@ -95,7 +99,8 @@ StopsFor stops.NoMemory faults_before faults_after before after end = FindsNone 
 
 -- ---- ends
 
--- What was run, and which text of the run it is: the report of what was read, its journal behind the bytes that were read, or the summary of a seed's laboratory.
+-- What was run, and which text of the run it is: the report of what was read, its journal
+-- behind the bytes that were read, or the summary of a seed's laboratory.
 pub data Shows (words : List (List ℕ)) (left_before left_after : Option (List ℕ)) (end : Lab) (text : List ℕ) : Type 0 where
   shows_report : AskToRun words → ReadsInput left_before left_after (Ok end.input) → IsReport end text → Shows words left_before left_after end text
   shows_journal : AskForJournal words → (bytes : List ℕ) → TookWhole left_before left_after bytes → InputOf bytes end.input

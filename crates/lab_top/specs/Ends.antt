@@ -128,7 +128,8 @@ pub record WritesReport (lab : Lab) (faults_before faults_after : ℕ) (before a
   pub wrote : WritesText text (end_status lab.end) faults_before faults_after before after status
 
 -- All bytes of a source were taken, are the input that was run, and were written with the journal of the run behind them.
-pub record WritesJournal (left_before left_after : Option (List ℕ)) (lab : Lab) (faults_before faults_after : ℕ) (before after : Option (List ℕ)) (status : ℕ) : Type 0 where
+pub record WritesJournal (left_before left_after : Option (List ℕ)) (lab : Lab)
+    (faults_before faults_after : ℕ) (before after : Option (List ℕ)) (status : ℕ) : Type 0 where
   pub bytes : List ℕ
   pub took : Took left_before left_after bytes
   pub end : IsAtEnd left_after

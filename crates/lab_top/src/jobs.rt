@@ -134,7 +134,8 @@ pub(crate) fn run_job<R: Threads + Sync + AllocGlobal, S: Source, K: Sink, G: Ga
     gate: &G,
 ) -> Result<Finish, NoMemory>
     requires workers { (1 ≤ workers) × (workers ≤ 8) }
-    ensures { (words : List (List ℕ)) → AskToRun words → EndsOr words (outside (S.left source.old) (S.faults source.old) (K.written sink.old) (K.faults sink.old)) (outside (S.left source.new) (S.faults source.new) (K.written sink.new) (K.faults sink.new)) result }
+    ensures { (words : List (List ℕ)) → AskToRun words → EndsOr words (outside (S.left source.old) (S.faults source.old) (K.written sink.old)
+        (K.faults sink.old)) (outside (S.left source.new) (S.faults source.new) (K.written sink.new) (K.faults sink.new)) result }
 {
     let alloc = rt.alloc();
     let input = match read_source(alloc, source) {
@@ -159,7 +160,8 @@ pub(crate) fn journal_job<R: Threads + Sync + AllocGlobal, S: Source, K: Sink, G
     gate: &G,
 ) -> Result<Finish, NoMemory>
     requires workers { (1 ≤ workers) × (workers ≤ 8) }
-    ensures { (words : List (List ℕ)) → AskForJournal words → EndsOr words (outside (S.left source.old) (S.faults source.old) (K.written sink.old) (K.faults sink.old)) (outside (S.left source.new) (S.faults source.new) (K.written sink.new) (K.faults sink.new)) result }
+    ensures { (words : List (List ℕ)) → AskForJournal words → EndsOr words (outside (S.left source.old) (S.faults source.old) (K.written sink.old)
+        (K.faults sink.old)) (outside (S.left source.new) (S.faults source.new) (K.written sink.new) (K.faults sink.new)) result }
 {
     let alloc = rt.alloc();
     let bytes = match read_bytes(alloc, source) {
@@ -190,7 +192,8 @@ pub(crate) fn drill_job<R: Threads + Sync + AllocGlobal, K: Sink, G: Gate>(
     requires lowest { 1 ≤ seed }
     requires highest { seed ≤ 9999 }
     requires workers { (1 ≤ workers) × (workers ≤ 8) }
-    ensures { (words : List (List ℕ)) (left : Option (List ℕ)) (faults : ℕ) → AskToDrill words seed → EndsOr words (outside left faults (K.written sink.old) (K.faults sink.old)) (outside left faults (K.written sink.new) (K.faults sink.new)) result }
+    ensures { (words : List (List ℕ)) (left : Option (List ℕ)) (faults : ℕ) → AskToDrill words seed
+        → EndsOr words (outside left faults (K.written sink.old) (K.faults sink.old)) (outside left faults (K.written sink.new) (K.faults sink.new)) result }
 {
     let alloc = rt.alloc();
     let bytes = make_lab(alloc, seed)?;
@@ -223,7 +226,8 @@ pub(crate) fn check_job<S: Source, K: Sink>(
     source: &mut S,
     sink: &mut K,
 ) -> Result<Finish, NoMemory>
-    ensures { (words : List (List ℕ)) → Asks words Check → EndsOr words (outside (S.left source.old) (S.faults source.old) (K.written sink.old) (K.faults sink.old)) (outside (S.left source.new) (S.faults source.new) (K.written sink.new) (K.faults sink.new)) result }
+    ensures { (words : List (List ℕ)) → Asks words Check → EndsOr words (outside (S.left source.old) (S.faults source.old) (K.written sink.old)
+        (K.faults sink.old)) (outside (S.left source.new) (S.faults source.new) (K.written sink.new) (K.faults sink.new)) result }
 {
     let input = match read_source(alloc, source) {
         Ok(input) => input,

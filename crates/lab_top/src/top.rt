@@ -8,7 +8,8 @@ ghost use Rattle.lab_make.specs.Made.{made};
 ghost use Rattle.lab_input.specs.Labs.{InputOf};
 ghost use Rattle.lab_report.specs.Summary.{summary_text};
 ghost use Rattle.lab_run.specs.Runs.{RanLab};
-ghost use Rattle.lab_top.specs.Ends.{AreRefused, AskToRun, AskForJournal, RunsSource, AskToDrill, AskForLab, AskToMake, AskUnread, TookInput, GaveBadInput, IsStatus, WritesText, WritesReport, WritesJournal, Checks, end_status};
+ghost use Rattle.lab_top.specs.Ends.{AreRefused, AskToRun, AskForJournal, RunsSource, AskToDrill, AskForLab, AskToMake, AskUnread};
+ghost use Rattle.lab_top.specs.Ends.{TookInput, GaveBadInput, IsStatus, WritesText, WritesReport, WritesJournal, Checks, end_status};
 ghost use Rattle.lab_top.specs.Cases.{outside, EndsOr, Ended};
 
 use crate::finish::{Finish, NO_MEMORY, USAGE, end_with, without_run};
@@ -26,7 +27,8 @@ fn do_job<R: Threads + Sync + AllocGlobal, S: Source, K: Sink, G: Gate>(
     gate: &G,
 ) -> Result<Finish, NoMemory>
     ensures unread { AskUnread words.now → source.new ≡ source.old }
-    ensures ended { EndsOr words.now (outside (S.left source.old) (S.faults source.old) (K.written sink.old) (K.faults sink.old)) (outside (S.left source.new) (S.faults source.new) (K.written sink.new) (K.faults sink.new)) result }
+    ensures ended { EndsOr words.now (outside (S.left source.old) (S.faults source.old) (K.written sink.old) (K.faults sink.old))
+        (outside (S.left source.new) (S.faults source.new) (K.written sink.new) (K.faults sink.new)) result }
 {
     let alloc = rt.alloc();
     match read_words(alloc, words) {
@@ -49,7 +51,8 @@ fn finish_of<R: Threads + Sync + AllocGlobal, S: Source, K: Sink, G: Gate>(
     gate: &G,
 ) -> Finish
     ensures unread { AskUnread words.now → source.new ≡ source.old }
-    ensures ended { Ended words.now (outside (S.left source.old) (S.faults source.old) (K.written sink.old) (K.faults sink.old)) (outside (S.left source.new) (S.faults source.new) (K.written sink.new) (K.faults sink.new)) result.status result.lab }
+    ensures ended { Ended words.now (outside (S.left source.old) (S.faults source.old) (K.written sink.old) (K.faults sink.old))
+        (outside (S.left source.new) (S.faults source.new) (K.written sink.new) (K.faults sink.new)) result.status result.lab }
 {
     match do_job(rt, words, source, sink, gate) {
         Ok(finish) => finish,
@@ -76,19 +79,24 @@ where
     ensures statuses { IsStatus result.status }
 
     // Words that ask for no job are refused. The source isn't read for them, nor for `make` and `drill`.
-    ensures usage { AreRefused words.now → (result.status ≡ 6) ⊎ WritesText usage_text 1 (K.faults sink.old) (K.faults sink.new) (K.written sink.old) (K.written sink.new) result.status }
+    ensures usage { AreRefused words.now
+        → (result.status ≡ 6) ⊎ WritesText usage_text 1 (K.faults sink.old) (K.faults sink.new) (K.written sink.old) (K.written sink.new) result.status }
     ensures refused { result.status ≡ 1 → AreRefused words.now }
     ensures unread { AskUnread words.now → source.new ≡ source.old }
 
     // `make` writes the laboratory of its seed.
-    ensures made { (seed : ℕ) → Asks words.now (Make seed) → (result.status ≡ 6) ⊎ WritesText (made seed) 0 (K.faults sink.old) (K.faults sink.new) (K.written sink.old) (K.written sink.new) result.status }
+    ensures made { (seed : ℕ) → Asks words.now (Make seed)
+        → (result.status ≡ 6) ⊎ WritesText (made seed) 0 (K.faults sink.old) (K.faults sink.new) (K.written sink.old) (K.written sink.new) result.status }
 
     // `check` reads the source to its end, or past the most bytes of an input, and says in a line what was read.
-    ensures checked { Asks words.now Check → (result.status ≡ 4) ⊎ (result.status ≡ 6) ⊎ Checks (S.left source.old) (S.left source.new) (K.faults sink.old) (K.faults sink.new) (K.written sink.old) (K.written sink.new) result.status }
+    ensures checked { Asks words.now Check → (result.status ≡ 4) ⊎ (result.status ≡ 6)
+        ⊎ Checks (S.left source.old) (S.left source.new) (K.faults sink.old) (K.faults sink.new) (K.written sink.old) (K.written sink.new) result.status }
 
     // An input is refused only where the bytes are none, or none that can be run yet, and then a line says why.
-    ensures bad_input { result.status ≡ 2 → (text : _) × GaveBadInput words.now (S.left source.old) (S.left source.new) text × Appended (K.written sink.old) (K.written sink.new) text }
-    ensures bad_input_unwritten { AskForLab words.now → result.status ≡ 5 → result.lab ≡ None → (text : _) × GaveBadInput words.now (S.left source.old) (S.left source.new) text × AppendedFront (K.written sink.old) (K.written sink.new) text }
+    ensures bad_input { result.status ≡ 2
+        → (text : _) × GaveBadInput words.now (S.left source.old) (S.left source.new) text × Appended (K.written sink.old) (K.written sink.new) text }
+    ensures bad_input_unwritten { AskForLab words.now → result.status ≡ 5 → result.lab ≡ None
+        → (text : _) × GaveBadInput words.now (S.left source.old) (S.left source.new) text × AppendedFront (K.written sink.old) (K.written sink.new) text }
 
     // A read or a write failed only where its count of faults shows it.
     ensures read_failed { result.status ≡ 4 → FaultRose (S.faults source.old) (S.faults source.new) }
@@ -114,9 +122,12 @@ where
 
     // Its text is written whole, under the status of its end, or a write failed and a front of it stands: a report,
     // which ends with where packets go to the addresses of the input, a summary, or the input with the journal behind it.
-    ensures reported { IfSome result.lab (λ lab. AskToRun words.now → WritesReport lab (K.faults sink.old) (K.faults sink.new) (K.written sink.old) (K.written sink.new) result.status) }
-    ensures summed { IfSome result.lab (λ lab. ((seed : ℕ) × AskToDrill words.now seed) → WritesText (summary_text lab) (end_status lab.end) (K.faults sink.old) (K.faults sink.new) (K.written sink.old) (K.written sink.new) result.status) }
-    ensures journaled { IfSome result.lab (λ lab. AskForJournal words.now → WritesJournal (S.left source.old) (S.left source.new) lab (K.faults sink.old) (K.faults sink.new) (K.written sink.old) (K.written sink.new) result.status) }
+    ensures reported { IfSome result.lab
+        (λ lab. AskToRun words.now → WritesReport lab (K.faults sink.old) (K.faults sink.new) (K.written sink.old) (K.written sink.new) result.status) }
+    ensures summed { IfSome result.lab (λ lab. ((seed : ℕ) × AskToDrill words.now seed) → WritesText (summary_text lab)
+        (end_status lab.end) (K.faults sink.old) (K.faults sink.new) (K.written sink.old) (K.written sink.new) result.status) }
+    ensures journaled { IfSome result.lab (λ lab. AskForJournal words.now → WritesJournal (S.left source.old)
+        (S.left source.new) lab (K.faults sink.old) (K.faults sink.new) (K.written sink.old) (K.written sink.new) result.status) }
 {
     finish_of(rt, words, source, sink, gate)
 }

@@ -16,7 +16,8 @@ use Rattle.lab_words.specs.declared.job.Job.TheVariants.{Run, Check, Make, Drill
 use Rattle.lab_words.specs.declared.job.WordStop.{WordStop}
 use Rattle.lab_words.specs.declared.job.WordStop.TheVariants.{Usage, NoMemory}
 use Rattle.lab_words.specs.Asked.{Given, given_in, line_of, faults_of, rows_read, IsSeedText, IsSeed, AreWorkers, IsJob, Asks}
-use Rattle.lab_words.specs.Reading.{digits_after, some_above_0, seed_of, workers_of, seed_in, workers_in, run_of, make_of, drill_of, journal_of, run_with, check_with, make_with, drill_with, journal_with, job_named, job_of, job_in_rows, job_by, answer_of}
+use Rattle.lab_words.specs.Reading.{digits_after, some_above_0, seed_of, workers_of, seed_in, workers_in, run_of, make_of, drill_of, journal_of, run_with}
+use Rattle.lab_words.specs.Reading.{check_with, make_with, drill_with, journal_with, job_named, job_of, job_in_rows, job_by, answer_of}
 
 -- the value, or none where there is no such value
 abbrev Finds : {A : Type 0} → (A → Type 0) → Option A → Type 0
@@ -55,7 +56,8 @@ digits_found n (d ∷ ds) = next_digit (nat_le 48 d && nat_le d 57) n d ds (in_r
 
 above_found : (b : Bool) (text : Text) (n : ℕ) → Decides b (n ≡ 0) → 1 ≤ length text → length text ≤ 4 → Reads 0 text n
     → Finds (IsSeedText text) (if b then None else Some n)
-above_found true text n zero some short read = λ seed is. let e = zero.0 refl in let same : n ≡ seed = sym read.1 ∙ is.value in let above = is.above in absurd (omega arith)
+above_found true text n zero some short read =
+    λ seed is. let e = zero.0 refl in let same : n ≡ seed = sym read.1 ∙ is.value in let above = is.above in absurd (omega arith)
 above_found false text n zero some short read =
     let ne : n ≡ 0 → ⊥ = λ e. false≢true (zero.1 e) in
     record { digits = (some, read.0); short = short; value = read.1; above = omega (arith, ne) }
@@ -67,7 +69,8 @@ short_found true text (Some n) is read = let range = is.0 refl in above_found (n
 short_found false text r is read = λ seed h. absurd (false≢true (is.1 (h.digits.0, h.short)))
 
 seed_found : (text : Text) → Finds (IsSeedText text) (seed_of text)
-seed_found text = short_found (nat_le 1 (length text) && nat_le (length text) 4) text (digits_after 0 text) (Decides-and (nat_le 1 (length text)) (nat_le (length text) 4) (Decides-le 1 (length text)) (Decides-le (length text) 4)) (digits_found 0 text)
+seed_found text = short_found (nat_le 1 (length text) && nat_le (length text) 4) text (digits_after 0 text)
+    (Decides-and (nat_le 1 (length text)) (nat_le (length text) 4) (Decides-le 1 (length text)) (Decides-le (length text) 4)) (digits_found 0 text)
 
 given_seed_found : (number : Option Text) → Finds (IsSeed number) (seed_in number)
 given_seed_found None = λ seed h. h
@@ -200,12 +203,14 @@ differs job name b is f e = false≢true (sym f ∙ is.1 (some_is job name e))
 named : (job : Text) (number workers : Option Text) (run check make drill journal : Bool) → Decides run (job ≡ codes "run")
     → Decides check (job ≡ codes "check") → Decides make (job ≡ codes "make") → Decides drill (job ≡ codes "drill")
     → Decides journal (job ≡ codes "journal")
-    → Answers (IsJob (given (Some job) number workers)) (if run then run_with number workers else (if check then check_with number workers else (if make then make_with number workers
+    → Answers (IsJob (given (Some job) number workers))
+    (if run then run_with number workers else (if check then check_with number workers else (if make then make_with number workers
     else (if drill then drill_with number workers else (if journal then journal_with number workers else Err Usage)))))
 named job number workers true check make drill journal r c m d j = run_found job number workers (r.0 refl) (workers_in workers) (given_workers_found workers)
 named job number workers false true make drill journal r c m d j = check_found job number workers (c.0 refl)
 named job number workers false false true drill journal r c m d j = make_found job number workers (m.0 refl) (seed_in number) (given_seed_found number)
-named job number workers false false false true journal r c m d j = drill_found job number workers (d.0 refl) (seed_in number) (workers_in workers) (given_seed_found number) (given_workers_found workers)
+named job number workers false false false true journal r c m d j =
+    drill_found job number workers (d.0 refl) (seed_in number) (workers_in workers) (given_seed_found number) (given_workers_found workers)
 named job number workers false false false false true r c m d j = journal_found job number workers (j.0 refl) (workers_in workers) (given_workers_found workers)
 named job number workers false false false false false r c m d j = (refl, none_of) where
   none_of : (asked : Job) → ¬ (IsJob (given (Some job) number workers) asked)
@@ -220,8 +225,10 @@ none_no x e = let f : ⊥ = cc in f
 
 job_found : (job number workers : Option Text) → Answers (IsJob (given job number workers)) (job_of job number workers)
 job_found None number workers = (refl, λ job h. none_no (name_of job) (has_name (given None number workers) job h))
-job_found (Some job) number workers = named job number workers (bytes_eq job (codes "run")) (bytes_eq job (codes "check")) (bytes_eq job (codes "make")) (bytes_eq job (codes "drill")) (bytes_eq job (codes "journal"))
-    (bytes_eq-Decides job (codes "run")) (bytes_eq-Decides job (codes "check")) (bytes_eq-Decides job (codes "make")) (bytes_eq-Decides job (codes "drill")) (bytes_eq-Decides job (codes "journal"))
+job_found (Some job) number workers = named job number workers (bytes_eq job (codes "run")) (bytes_eq job (codes "check"))
+    (bytes_eq job (codes "make")) (bytes_eq job (codes "drill")) (bytes_eq job (codes "journal"))
+    (bytes_eq-Decides job (codes "run")) (bytes_eq-Decides job (codes "check")) (bytes_eq-Decides job (codes "make"))
+    (bytes_eq-Decides job (codes "drill")) (bytes_eq-Decides job (codes "journal"))
 
 -- ---- lines
 
@@ -234,7 +241,8 @@ no_faults : (k : ErrorKind) (ks : Kinds) → k ∷ ks ≡ [] → ⊥
 no_faults k ks e = let f : ⊥ = cc in f
 
 line_found : (kinds : Kinds) (rows : List Row) → Answers (λ job. (kinds ≡ []) × IsJob (given_in rows) job) (job_by kinds rows)
-line_found [] rows = taken [] rows (job_in_rows rows) (job_found (first_of (codes "job") rows) (first_of (codes "number") rows) (first_of (codes "workers") rows)) refl
+line_found [] rows =
+    taken [] rows (job_in_rows rows) (job_found (first_of (codes "job") rows) (first_of (codes "number") rows) (first_of (codes "workers") rows)) refl
 line_found (k ∷ ks) rows = (refl, λ job h. no_faults k ks h.0)
 
 asked : (words : List Text) → Answers (Asks words) (answer_of (line_of words))

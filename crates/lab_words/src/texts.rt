@@ -1,7 +1,8 @@
 //! The meaning of single words, and the job that the words of a command name.
 
 ghost use Rattle.std.specs.Prelude.{◌≡◌, ◌≤◌, length, option_map};
-ghost use Rattle.lab_words.specs.Reading.{digits_after, seed_of, seed_in, workers_of, workers_in, run_with, check_with, make_with, drill_with, journal_with, job_named, job_of};
+ghost use Rattle.lab_words.specs.Reading.{digits_after, seed_of, seed_in, workers_of, workers_in, run_with};
+ghost use Rattle.lab_words.specs.Reading.{check_with, make_with, drill_with, journal_with, job_named, job_of};
 
 use crate::job::{Job, WordStop};
 

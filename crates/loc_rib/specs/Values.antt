@@ -14,7 +14,8 @@ pub record LocValue : Type 0 where
 
 -- it is stored as the pair of the two
 abbrev pub coded_loc : Coded Best → Coded LocValue
-coded_loc best = code_by (map.FinMap prefix_cmp Best × map.FinMap prefix_cmp (Unit {0})) (coded× (map.code coded_prefix best) (map.code coded_prefix coded_unit)) (λ l. (l.best, l.dirty)) (λ p. record { best = p.0; dirty = p.1 }) (λ _. refl)
+coded_loc best = code_by (map.FinMap prefix_cmp Best × map.FinMap prefix_cmp (Unit {0}))
+    (coded× (map.code coded_prefix best) (map.code coded_prefix coded_unit)) (λ l. (l.best, l.dirty)) (λ p. record { best = p.0; dirty = p.1 }) (λ _. refl)
 
 -- a table with this value for a prefix, or with none for it
 abbrev pub with_value : {A : Type 0} → map.FinMap prefix_cmp A → PrefixValue → Option A → map.FinMap prefix_cmp A

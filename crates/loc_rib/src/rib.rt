@@ -45,7 +45,8 @@ fn are_apart(a: Option<&Best>, b: Option<&Best>) -> bool
 /// Whether a best route is this one.
 #[tactic(auto, using(bgp_types::proofs::Equality::route_equal))]
 fn is_this(best: Option<&Best>, from: From, route: &Route) -> bool
-    ensures { MatchBool result (option_copied best.entry ≡ Some (record { from = from; route = route.now })) (option_copied best.entry ≢ Some (record { from = from; route = route.now })) }
+    ensures { MatchBool result (option_copied best.entry ≡ Some (record { from = from; route = route.now }))
+        (option_copied best.entry ≢ Some (record { from = from; route = route.now })) }
 {
     match best {
         Some(best) => best.from == from && best.route == *route,

@@ -21,7 +21,8 @@ use Rattle.node_configs.proofs.Said.{says_are}
 width : (input : LabInput) (p : ℕ) (x : PeeringInput) → slice_get input.peerings p ≡ Some x → is_wide x ≡ is_wide_at input.peerings p
 width input p x there = sym (ap (λ o. unwrap_or (option_map is_wide o) false) there)
 
-module _ (input : LabInput) (accepted : IsAccepted input) (config : FarConfig) (x : PeeringInput) (there : slice_get input.peerings config.peering.0 ≡ Some x) where
+module _ (input : LabInput) (accepted : IsAccepted input) (config : FarConfig)
+    (x : PeeringInput) (there : slice_get input.peerings config.peering.0 ≡ Some x) where
   abbrev p : ℕ
   p = config.peering.0
 
@@ -31,7 +32,8 @@ module _ (input : LabInput) (accepted : IsAccepted input) (config : FarConfig) (
       → IsFarConfigOf (setup_of input) config
   is_config routers peerings pointer sends receives opening said beat =
       let counts : HasFew input = few input accepted in
-      let sound : IsPeeringSetup (setup_of input) p (peering_setup input (p, x)) = (is_setup input accepted).peerings p (peering_setup input (p, x)) (peering_there input p x there) in
+      let sound : IsPeeringSetup (setup_of input) p (peering_setup input (p, x)) =
+      (is_setup input accepted).peerings p (peering_setup input (p, x)) (peering_there input p x there) in
       record {
         peering = peering_setup input (p, x);
         is = peering_there input p x there;

@@ -36,7 +36,8 @@ misplaced at None none = omega arith
 misplaced at (Some d) none = absurd (none_is (Shape at) (sym none))
 
 after_soon : (at : TableAt) (t : Members) (is_lost : Bool) → keys_flaw at (after_keys is_lost) t ≡ None → after_of t ≤ 6
-after_soon at t true none = misplaced (spot_of at (codes "after")) (get_member (codes "after") t) (none_left (key_flaw at t (optional (codes "after") Misplaced)) None none)
+after_soon at t true none =
+    misplaced (spot_of at (codes "after")) (get_member (codes "after") t) (none_left (key_flaw at t (optional (codes "after") Misplaced)) None none)
 after_soon at t false none =
     let within = number_within at t (codes "after") 32 0 1 6 (omega arith) (none_left (key_flaw at t (required (codes "after") (Number 1 6))) None none) in
     within.few

@@ -28,13 +28,16 @@ use Rattle.lab_setup.proofs.Setups.{router_at, peering_at}
 -- ---- policies
 
 same_rules : (name : List ℕ) (ps : List PolicyInput)
-    → rules_at (map named_policy ps) name ≡ option_map (λ (policy : NamedRules). policy.rules) (find (λ (policy : NamedRules). bytes_eq name policy.name) (map named_rules ps))
+    → rules_at (map named_policy ps) name
+    ≡ option_map (λ (policy : NamedRules). policy.rules) (find (λ (policy : NamedRules). bytes_eq name policy.name) (map named_rules ps))
 same_rules name [] = refl
 same_rules name (p ∷ ps) = by_test (bytes_eq name p.name) (same_rules name ps) where
   by_test : (t : Bool)
-      → rules_at (map named_policy ps) name ≡ option_map (λ (policy : NamedRules). policy.rules) (find (λ (policy : NamedRules). bytes_eq name policy.name) (map named_rules ps))
+      → rules_at (map named_policy ps) name
+      ≡ option_map (λ (policy : NamedRules). policy.rules) (find (λ (policy : NamedRules). bytes_eq name policy.name) (map named_rules ps))
       → option_map (λ (q : NamedPolicy). q.policy) (cond t (Some (named_policy p)) (find (λ (q : NamedPolicy). bytes_eq name q.name) (map named_policy ps)))
-      ≡ option_map (λ (policy : NamedRules). policy.rules) (cond t (Some (named_rules p)) (find (λ (policy : NamedRules). bytes_eq name policy.name) (map named_rules ps)))
+      ≡ option_map (λ (policy : NamedRules). policy.rules)
+      (cond t (Some (named_rules p)) (find (λ (policy : NamedRules). bytes_eq name policy.name) (map named_rules ps)))
   by_test true rest = refl
   by_test false rest = rest
 
@@ -55,7 +58,8 @@ module _ (input : LabInput) where
       → policies ≡ map named_policy x.policies → ArePoliciesOf (setup_of input) r policies
   are_policies r x there policies made = record {
     each = λ name. ap (λ ps. rules_at ps name) made ∙ same_rules name x.policies
-        ∙ sym (ap (λ ps. option_map (λ (policy : NamedRules). policy.rules) (find (λ (policy : NamedRules). bytes_eq name policy.name) ps)) (field_is (λ router. router.policies) [] r x there));
+        ∙ sym (ap (λ ps. option_map (λ (policy : NamedRules). policy.rules) (find (λ (policy : NamedRules). bytes_eq name policy.name) ps))
+        (field_is (λ router. router.policies) [] r x there));
   }
 
   -- ---- first numbers
@@ -73,9 +77,15 @@ module _ (input : LabInput) where
       ∙ ap (λ o. option_map numbers_in (option_map (λ (peering : PeeringSetup). peering.config) o)) (sym (peering_at input p))
 
   pairs : (o : Option SessionConfig) → (c : SessionConfig) → o ≡ Some c → option_map numbers_in o
-      ≡ Some (unwrap_or (option_map (λ (config : SessionConfig). config.send_first.0) o) 0, unwrap_or (option_map (λ (config : SessionConfig). config.receive_first.0) o) 0)
+      ≡ Some (
+        unwrap_or (option_map (λ (config : SessionConfig). config.send_first.0) o) 0,
+        unwrap_or (option_map (λ (config : SessionConfig). config.receive_first.0) o) 0,
+      )
   pairs o c e = subst (λ (x : Option SessionConfig). option_map numbers_in x
-      ≡ Some (unwrap_or (option_map (λ (config : SessionConfig). config.send_first.0) x) 0, unwrap_or (option_map (λ (config : SessionConfig). config.receive_first.0) x) 0)) (sym e) refl
+      ≡ Some (
+        unwrap_or (option_map (λ (config : SessionConfig). config.send_first.0) x) 0,
+        unwrap_or (option_map (λ (config : SessionConfig). config.receive_first.0) x) 0,
+      )) (sym e) refl
 
   are_firsts : (firsts : List Firsts) → firsts ≡ map firsts_of input.peerings → AreFirstsOf (setup_of input) firsts
   are_firsts firsts made = record {
@@ -99,7 +109,8 @@ module _ (input : LabInput) where
   -- ---- tables
 
   identifier_by : (o : Option RouterInput) (q : ℕ)
-      → unwrap_or (option_map (λ (router : RouterInput). router.id) o) 0 ≡ unwrap_or (option_map (λ (router : RouterSetup). router.identifier) (option_map (λ x. router_setup input (q, x)) o)) 0
+      → unwrap_or (option_map (λ (router : RouterInput). router.id) o) 0
+      ≡ unwrap_or (option_map (λ (router : RouterSetup). router.identifier) (option_map (λ x. router_setup input (q, x)) o)) 0
   identifier_by None q = refl
   identifier_by (Some x) q = refl
 
@@ -122,7 +133,8 @@ module _ (input : LabInput) where
 
   sessions_are : (r : ℕ) → session_configs_at input r ≡ starting_here (setup_of input) r
   unfolding setup_of
-  sessions_are r = filter_numbered (peering_setup input) (λ (peering : PeeringSetup). peering.config) (λ (peering : PeeringSetup). peering.start == r) input.peerings 0
+  sessions_are r = filter_numbered (peering_setup input) (λ (peering : PeeringSetup). peering.config)
+      (λ (peering : PeeringSetup). peering.start == r) input.peerings 0
 
   -- ---- the whole
 

@@ -97,7 +97,8 @@ module _ (said : Step → Option (List ℕ)) where
 
   said_at : (k : ℕ) (steps : List Step) (i n : ℕ) → k + i ≡ n → bytes_to_say (says_from k steps) n ≡ option_and_then said (slice_get steps i)
   said_at k [] i n at = refl
-  said_at k (step ∷ steps) zero n at = first_said k n (said step) (says_from (k + 1) steps) (is_same k n (omega (arith, at))) (none_before (k + 1) steps n (omega (arith, at)))
+  said_at k (step ∷ steps) zero n at =
+      first_said k n (said step) (says_from (k + 1) steps) (is_same k n (omega (arith, at))) (none_before (k + 1) steps n (omega (arith, at)))
   said_at k (step ∷ steps) (suc i) n at = passed k n (said step) (says_from (k + 1) steps) (is_before k n (omega (arith, at)))
       ∙ said_at (k + 1) steps i n (omega (arith, at))
 

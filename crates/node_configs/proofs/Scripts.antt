@@ -5,7 +5,8 @@ use Rattle.std.specs.List.{last_or}
 use Rattle.std.proofs.lemmas.List.{length-append, length-map}
 use Rattle.std.proofs.lemmas.Option.{slice_get-get_or}
 use Rattle.graft_edge.specs.declared.ids.RouterId.{RouterId}
-use Rattle.graft_model.specs.Setups.{Setup, RouterSetup, PeeringSetup, ScriptStep as StepOf, SayStep, MoveStep, EvacuateStep, SettleStep, IsSetup, IsStep, IsPeeringSetup, routers_in, peerings_in}
+use Rattle.graft_model.specs.Setups.{Setup, RouterSetup, PeeringSetup, ScriptStep as StepOf, SayStep, MoveStep, EvacuateStep}
+use Rattle.graft_model.specs.Setups.{SettleStep, IsSetup, IsStep, IsPeeringSetup, routers_in, peerings_in}
 use Rattle.lab_tables.specs.declared.input.LabInput.{LabInput}
 use Rattle.lab_tables.specs.declared.input.PeeringInput.{PeeringInput}
 use Rattle.lab_tables.specs.declared.input.RouterInput.{RouterInput}
@@ -60,7 +61,8 @@ module _ (input : LabInput) where
 
   starts_are : map (λ (peering : PeeringSetup). record { 0 = peering.start }) (setup_of input).peerings ≡ map (λ (p : PeeringInput). p.at) input.peerings
   unfolding setup_of
-  starts_are = map_numbered (peering_setup input) (λ (peering : PeeringSetup). record { 0 = peering.start }) (λ (p : PeeringInput). p.at) (λ n x. refl) input.peerings 0
+  starts_are = map_numbered (peering_setup input) (λ (peering : PeeringSetup). record { 0 = peering.start })
+      (λ (p : PeeringInput). p.at) (λ n x. refl) input.peerings 0
 
   orders_are_those : script_orders input.steps ≡ map step_for (setup_of input).steps
   orders_are_those = orders_are input.peerings input.steps ∙ sym (ap (map step_for) (steps_are input))
@@ -138,10 +140,14 @@ module _ (input : LabInput) (accepted : IsAccepted input) (script : Script) (is 
   pub is_workable : IsWorkable script
   is_workable = record {
     starts = subst (All (λ (start : RouterId). start.0 < length script.rooms)) (sym is.starts)
-        (all_made (λ (peering : PeeringSetup). record { 0 = peering.start }) (λ (peering : PeeringSetup). peering.start < length script.rooms) (λ (start : RouterId). start.0 < length script.rooms) (λ x h. h) setup.peerings starts_below);
-    steps = subst (All (IsWorkableStep script)) (sym is.steps) (all_made step_for (IsStep setup) (IsWorkableStep script) (step_works setup script starts_many rooms_many) setup.steps sound.steps);
-    few = (let counts : HasFew input = few input accepted in let most = counts.routers in let rooms = rooms_many in let many = as_many_routers input in omega arith);
-    peerings = (let counts : HasFew input = few input accepted in let most = counts.peerings in let starts = starts_many in let many = as_many_peerings input in omega arith);
+        (all_made (λ (peering : PeeringSetup). record { 0 = peering.start }) (λ (peering : PeeringSetup). peering.start < length script.rooms)
+        (λ (start : RouterId). start.0 < length script.rooms) (λ x h. h) setup.peerings starts_below);
+    steps = subst (All (IsWorkableStep script)) (sym is.steps)
+        (all_made step_for (IsStep setup) (IsWorkableStep script) (step_works setup script starts_many rooms_many) setup.steps sound.steps);
+    few = (let counts : HasFew input = few input accepted in let most = counts.routers in
+        let rooms = rooms_many in let many = as_many_routers input in omega arith);
+    peerings = (let counts : HasFew input = few input accepted in let most = counts.peerings in
+        let starts = starts_many in let many = as_many_peerings input in omega arith);
     some = (let all = steps_many in let some = some_last setup.steps sound.ended in omega arith);
     short = (let all = steps_many in let few = short in omega arith);
     ended =

@@ -39,8 +39,10 @@ module _ (at : TableAt) (t : Members) (key : List ℕ) (bits default low high : 
     by_value : (o : Option Data) → get_member key t ≡ o → P (number_or bits default key t)
     by_value None e = subst P (sym (ap (λ x. unwrap_or (option_and_then (number_in bits) x) default) e)) other
     by_value (Some d) e =
-        let flaw : kind_flaw (Number low high) (spot_of at key) d ≡ None = sym (ap (present (spot_of at key) false (kind_flaw (Number low high) (spot_of at key))) e) ∙ none in
-        each (number_or bits default key t) (number_within at t key bits default low high fits (ap (present (spot_of at key) true (kind_flaw (Number low high) (spot_of at key))) e ∙ flaw))
+        let flaw : kind_flaw (Number low high) (spot_of at key) d ≡ None =
+        sym (ap (present (spot_of at key) false (kind_flaw (Number low high) (spot_of at key))) e) ∙ none in
+        each (number_or bits default key t) (number_within at t key bits default low high fits
+        (ap (present (spot_of at key) true (kind_flaw (Number low high) (spot_of at key))) e ∙ flaw))
 
 -- ---- one settle
 
@@ -71,7 +73,8 @@ module _ (usual : ℕ) (long : 2048 ≤ usual) where
       let stray : Option Flaw = stray_flaw at (codes "do" ∷ names_of settle_keys) t in
       let keys : keys_flaw at settle_keys t ≡ None = none_left (keys_flaw at settle_keys t) (option_or (least_flaw Settles i t) (option_or stray None)) none in
       let behind = none_right (keys_flaw at settle_keys t) (option_or (least_flaw Settles i t) (option_or stray None)) none in
-      let at_least = no_less (number_or 32 least (codes "rounds") t) least (Limit (spot_of at (codes "least")) least) (none_left (least_flaw Settles i t) (option_or stray None) behind) in
+      let at_least = no_less (number_or 32 least (codes "rounds") t) least (Limit (spot_of at (codes "least")) least)
+      (none_left (least_flaw Settles i t) (option_or stray None) behind) in
       let rounds_good = none_left rounds_key (option_or least_key None) keys in
       let least_good = none_left least_key None (none_right rounds_key (option_or least_key None) keys) in
       let few : least ≤ 1024 = optional_is at t (codes "least") 32 0 0 1024 (omega arith) (λ n. n ≤ 1024) (λ n within. within.few) (omega arith) least_good in
@@ -106,7 +109,8 @@ module _ (usual : ℕ) (long : 2048 ≤ usual) where
       → AreSound (flat_map (budget_of usual) (map (step_of routers ps) ts))
   steps_sound routers ps [] all = tt
   steps_sound routers ps (t ∷ ts) all =
-      all_append IsSoundBudget (budget_of usual (step_of routers ps t)) (flat_map (budget_of usual) (map (step_of routers ps) ts)) all.0 (steps_sound routers ps ts all.1)
+      all_append IsSoundBudget (budget_of usual (step_of routers ps t))
+      (flat_map (budget_of usual) (map (step_of routers ps) ts)) all.0 (steps_sound routers ps ts all.1)
 
   added_sound : (ended : Bool) → AreSound (added_budget usual ended)
   added_sound true = tt
@@ -139,7 +143,8 @@ document_sound doc none =
     let each : AllByRecursion (λ t. AllByRecursion IsSoundBudget (budget_of usual (step_of names ps t))) ts =
     tables_all tables.Top doc (codes "step") false 0 4096 step (λ t. AllByRecursion IsSoundBudget (budget_of usual (step_of names ps t)))
     (λ i t good. step_sound usual long names ps _ _ i t good) (none_of flaws 6 steps none refl) in
-    all_append IsSoundBudget (flat_map (budget_of usual) (map (step_of names ps) ts)) (added_budget usual (ends_itself input.steps)) (steps_sound usual long names ps ts each)
+    all_append IsSoundBudget (flat_map (budget_of usual) (map (step_of names ps) ts))
+    (added_budget usual (ends_itself input.steps)) (steps_sound usual long names ps ts each)
     (added_sound usual long (ends_itself input.steps))
 
 pub accepted_sound : (bytes : List ℕ) (input : LabInput) → InputOf bytes input → AllByRecursion IsSoundBudget (budgets_in input)

@@ -11,7 +11,7 @@ use crate::counted::counts;
 use crate::says::says_of;
 use far_side::FarConfig;
 use graft_edge::{NoMemory, PeeringId, TryCopy};
-use lab_setup::{keepalive_interval_of, is_wide};
+use lab_setup::{is_wide, keepalive_interval_of};
 use lab_tables::LabInput;
 use link_bag::Plan;
 use std::alloc::Global;

@@ -1,5 +1,6 @@
 -- What steps that empty routers give follows from what became of the grafts of earlier groups.
-use Rattle.std.proofs.Common.{◌≡◌, ◌≢◌, ℕ, zero, suc, ◌+◌, ◌<◌, ◌≤◌, Bool, true, false, cond, ltb, List, ◌++◌, Option, Some, None, refl, sym, ap, ◌∙◌, subst, arith, ◌⊎◌, inl, inr}
+use Rattle.std.proofs.Common.{◌≡◌, ◌≢◌, ℕ, zero, suc, ◌+◌, ◌<◌, ◌≤◌, Bool, true, false, cond, ltb, List, ◌++◌}
+use Rattle.std.proofs.Common.{Option, Some, None, refl, sym, ap, ◌∙◌, subst, arith, ◌⊎◌, inl, inr}
 use Rattle.std.proofs.Math.Path.{fun_ext}
 use Rattle.std.specs.Prelude.{slice_get, IsSome}
 use Rattle.std.specs.List.{AllByRecursion}
@@ -7,7 +8,8 @@ use Rattle.std.proofs.lemmas.Bool.{cases_eq, false≢true}
 use Rattle.std.proofs.lemmas.Bool.Decides.{nat_tests}
 use Rattle.graft_steps.specs.declared.refusal.Outcome.{Outcome}
 use Rattle.graft_model.specs.Points.{at}
-use Rattle.graft_model.specs.Setups.{Setup, ScriptStep, SayStep, MoveStep, EvacuateStep, SettleStep, ScriptGraft, IsSetup, group_of, groups_in, moved_by, is_settle, graft_at}
+use Rattle.graft_model.specs.Setups.{Setup, ScriptStep, SayStep, MoveStep, EvacuateStep, SettleStep, ScriptGraft}
+use Rattle.graft_model.specs.Setups.{IsSetup, group_of, groups_in, moved_by, is_settle, graft_at}
 use Rattle.graft_model.specs.Parts.{Gift, OperatorPart, World}
 use Rattle.graft_model.specs.Placements.{is_accepted, target_by, target_in, placement}
 use Rattle.graft_model.specs.Evacuations.{gift_to, with_gifts}
@@ -72,7 +74,8 @@ module _ (setup : Setup) (n : ℕ) (before after : OperatorPart)
 
   same_places : placement setup (up_to setup n after) ≡ placement setup (up_to setup n before)
   same_places = fun_ext (λ p. placed_alike setup (up_to setup n before) (up_to setup n after) p
-      (all_map (IsGraftOf setup p) (CountsAlike setup (up_to setup n before) (up_to setup n after)) (grafts_of setup p) (λ g own. alike g own.0) (all_of_peering setup p)))
+      (all_map (IsGraftOf setup p) (CountsAlike setup (up_to setup n before) (up_to setup n after))
+      (grafts_of setup p) (λ g own. alike g own.0) (all_of_peering setup p)))
 
 -- ---- the groups of grafts that were ordered
 
@@ -81,7 +84,8 @@ module _ (setup : Setup) (ok : IsSetup setup) (w : World) (reached : Reached set
   owned = always_owned setup ok w reached
 
   -- what the log says of all grafts of a peering it says of each
-  module _ (P : ScriptGraft → Type 0) (behind : (g : ScriptGraft) → IsBehind setup w.operator g → P g) (waits : (g : ScriptGraft) → AwaitsOrder w.operator g → P g)
+  module _ (P : ScriptGraft → Type 0) (behind : (g : ScriptGraft) → IsBehind setup w.operator g → P g)
+      (waits : (g : ScriptGraft) → AwaitsOrder w.operator g → P g)
       (now : (g : ScriptGraft) → group_of setup g.step ≡ w.operator.group → P g) where
     at_work : (p : ℕ) (phase : Phase) (gs : List ScriptGraft) → GoesOnIn setup w.operator p phase gs → AllByRecursion P gs
     at_work p (Idle q) gs on = subst (λ (xs : List ScriptGraft). AllByRecursion P xs) (sym on) tt
@@ -119,14 +123,16 @@ module _ (setup : Setup) (ok : IsSetup setup) (w : World) (reached : Reached set
 
 -- ---- gifts follow
 
--- Each graft of a step that empties a router, of a group that has begun, was given by plan, by where sessions belong by what became of the grafts of earlier groups.
+-- Each graft of a step that empties a router, of a group that has begun, was given by
+-- plan, by where sessions belong by what became of the grafts of earlier groups.
 abbrev Follow : Setup → OperatorPart → Type 0
 Follow setup operator = (g : ScriptGraft) (router : ℕ) → graft_at setup g.graft ≡ Some g → group_of setup g.step ≤ operator.group
     → slice_get setup.steps g.step ≡ Some (EvacuateStep router)
     → operator.given g.graft ≡ gift_to setup (placement setup (up_to setup (group_of setup g.step) operator)) router g.peering
 
 module _ (setup : Setup) (before after : OperatorPart) (group : after.group ≡ before.group) (given : after.given ≡ before.given)
-    (outcomes : (g : ScriptGraft) → graft_at setup g.graft ≡ Some g → group_of setup g.step < before.group → after.outcome g.graft ≡ before.outcome g.graft) where
+    (outcomes : (g : ScriptGraft) → graft_at setup g.graft ≡ Some g
+    → group_of setup g.step < before.group → after.outcome g.graft ≡ before.outcome g.graft) where
   still : Follow setup before → Follow setup after
   still was g router known begun there =
       ap (λ (f : ℕ → Gift). f g.graft) given
@@ -150,7 +156,8 @@ module _ (setup : Setup) (ok : IsSetup setup) (before after : World) (reached : 
 
     stays : (y : ScriptGraft) → graft_at setup y.graft ≡ Some y → group_of setup y.step < before.operator.group + 1
         → next.given y.graft ≡ before.operator.given y.graft
-    stays y k l = given_stays setup (record before.operator { group = before.operator.group + 1 }) y k (λ (e : group_of setup y.step ≡ before.operator.group + 1). omega (arith, e, l))
+    stays y k l = given_stays setup (record before.operator { group = before.operator.group + 1 }) y k
+        (λ (e : group_of setup y.step ≡ before.operator.group + 1). omega (arith, e, l))
 
     -- no graft of a later group has ended
     counts : (y : ScriptGraft) → graft_at setup y.graft ≡ Some y → CountsAlike setup before.operator (up_to setup (before.operator.group + 1) next) y
@@ -171,7 +178,8 @@ module _ (setup : Setup) (ok : IsSetup setup) (before after : World) (reached : 
           by_value : (o : Option Outcome) → before.operator.outcome y.graft ≡ o → before.operator.outcome y.graft ≡ None
           by_value None f = f
           by_value (Some outcome) f =
-              let begun_then = ended_begun setup ok before reached y k (λ (none : before.operator.outcome y.graft ≡ None). (let h : Some outcome ≡ None = sym f ∙ none in absurd cc)) in
+              let begun_then = ended_begun setup ok before reached y k
+              (λ (none : before.operator.outcome y.graft ≡ None). (let h : Some outcome ≡ None = sym f ∙ none in absurd cc)) in
               absurd (omega (arith, begun_then, not_below _ _ e))
 
     by_group : (group_of setup g.step ≡ before.operator.group + 1) ⊎ (group_of setup g.step ≢ before.operator.group + 1)
@@ -179,8 +187,10 @@ module _ (setup : Setup) (ok : IsSetup setup) (before after : World) (reached : 
     by_group (inl e) =
         ap (λ (o : OperatorPart). o.given g.graft) (sym is)
         ∙ (go_gives setup before after g.step router reached x there (e ∙ sym (ap (λ (o : OperatorPart). o.group) is))).given g known refl
-        ∙ ap (λ (placed : ℕ → ℕ). gift_to setup placed router g.peering) (sym (fun_ext (λ p. placed_alike setup before.operator (up_to setup (before.operator.group + 1) next) p
-        (all_map (IsGraftOf setup p) (CountsAlike setup before.operator (up_to setup (before.operator.group + 1) next)) (grafts_of setup p) (λ y own. counts y own.0) (all_of_peering setup p)))))
+        ∙ ap (λ (placed : ℕ → ℕ). gift_to setup placed router g.peering)
+        (sym (fun_ext (λ p. placed_alike setup before.operator (up_to setup (before.operator.group + 1) next) p
+        (all_map (IsGraftOf setup p) (CountsAlike setup before.operator (up_to setup (before.operator.group + 1) next))
+        (grafts_of setup p) (λ y own. counts y own.0) (all_of_peering setup p)))))
         ∙ sym (ap (λ (n : ℕ). gift_to setup (placement setup (up_to setup n next)) router g.peering) e)
     by_group (inr ne) =
         stays g known (omega (arith, begun, ne))
@@ -200,10 +210,12 @@ module _ (setup : Setup) (ok : IsSetup setup) where
       | inr row ↦ still setup before.operator x.part (ap (λ (o : OperatorPart). o.group) row.effect) (ap (λ (o : OperatorPart). o.given) row.effect)
           (λ g known l. ap (λ (o : OperatorPart). o.outcome g.graft) row.effect) was
     ]
-    by_event (Note r) x was = still setup before.operator x.part (ap (λ (o : OperatorPart). o.group) x.row.effect) (ap (λ (o : OperatorPart). o.given) x.row.effect)
+    by_event (Note r) x was =
+        still setup before.operator x.part (ap (λ (o : OperatorPart). o.group) x.row.effect) (ap (λ (o : OperatorPart). o.given) x.row.effect)
         (λ g known l. ap (λ (o : OperatorPart). o.outcome g.graft) x.row.effect
         ∙ elsewhere before.operator.outcome x.row.report.graft g.graft (Some x.row.report.outcome) (λ e.
-        (let at_work = under_way setup ok before reached g known (λ none. x.row.ordered (ap before.operator.source e ∙ none)) (ap before.operator.outcome (sym e) ∙ x.row.unended) in
+        (let at_work = under_way setup ok before reached g known (λ none. x.row.ordered (ap before.operator.source e ∙ none))
+        (ap before.operator.outcome (sym e) ∙ x.row.unended) in
         omega (arith, at_work, l)))) was
     by_event Go x was = subst (Follow setup) (sym x.row.effect) (begins setup ok before after reached x was)
 
@@ -213,7 +225,8 @@ module _ (setup : Setup) (ok : IsSetup setup) where
       (first_gives setup g.step router there first).given g known refl
       ∙ ap (λ (placed : ℕ → ℕ). gift_to setup placed router g.peering) (fun_ext (λ p.
       placed_first setup (first_operator setup) p (λ k. refl)
-      ∙ sym (placed_first setup (up_to setup (group_of setup g.step) (first_operator setup)) p (λ k. none (is_before setup (group_of setup g.step) (graft_at setup k))))))
+      ∙ sym (placed_first setup (up_to setup (group_of setup g.step) (first_operator setup)) p
+      (λ k. none (is_before setup (group_of setup g.step) (graft_at setup k))))))
     where
       none : (b : Bool) → ◌≡◌ {A = Option Outcome} (cond b None None) None
       none true = refl

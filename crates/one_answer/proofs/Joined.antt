@@ -87,7 +87,7 @@ module _ (setup : Setup) (w v : World) (p : ℕ) (peering : PeeringSetup) (one :
   same_route : (r : ℕ) (prefix : PrefixValue) → session_route setup r other.session prefix ≡ session_route setup r one.session prefix
   same_route r prefix =
       ap (λ (c : SessionConfig). route_by setup r c
-          (got_open (peering_of other.session.config) other.session.story) other.session.adj_rib_in prefix) same_config
+      (got_open (peering_of other.session.config) other.session.story) other.session.adj_rib_in prefix) same_config
       ∙ ap (λ (o : Option open_type.OpenMsg). route_by setup r one.session.config o other.session.adj_rib_in prefix) same_open
       ∙ ap (λ (t : Routes). route_by setup r one.session.config (got_open (peering_of one.session.config) one.session.story) t prefix) same_heard
 
@@ -161,5 +161,6 @@ module _ (setup : Setup) (w v : World) (ok : IsSetup setup) (timer : HasNoTimer 
     best = same_best;
     tellings = λ r q prefix l m ne.
         solves_other.tellings r q prefix l m ne ∙ ap (λ (b : Option Best). tell_in b) (same_best r prefix l) ∙ sym (solves.tellings r q prefix l m ne);
-    sessions = λ p l. (let both = both_held p l in one_session setup w v p both.peering both.one both.other (placed_same setup w v ok reached reached_other settled settled_other log p) same_best);
+    sessions = λ p l. (let both = both_held p l in one_session setup w v p both.peering both.one both.other
+        (placed_same setup w v ok reached reached_other settled settled_other log p) same_best);
   }

@@ -116,7 +116,7 @@ module _ (setup : Setup) (p : ℕ) (peering : PeeringSetup) where
     own_event (Say step) known still row = says_said step row
     own_event (Beat round) known still row =
         let keepalive_interval : keepalive_interval_of peering ≡ row.keepalive_interval =
-            same_Some _ _ (sym (ap (option_map keepalive_interval_of) known) ∙ row.is) in
+        same_Some _ _ (sym (ap (option_map keepalive_interval_of) known) ∙ row.is) in
         absurd (omega (arith, row.some, keepalive_interval, still))
     own_event (Send from len) known still row =
         silent (ap (λ (f : FarPart). f.end.stream) row.effect ∙ (emits_same (w.far p).end row.segment row.end row.emits.emits).stream) (takes_none row.takes)

@@ -49,7 +49,8 @@ module _ {C : Type 0} (session : C → SessionValue) (setup : Setup) (before aft
 
   pub orders : ActorsHaveNumbers → (n number k : ℕ) (peering : PeeringId) (target place : RouterId) → place.0 < routers_in setup
       → OrdersGraft setup n number before None (OrderTo place.0 (record { graft = k; peering = peering.0; target = target.0 }) ∷ []) after
-      → ActsAs session (own setup before) (entry_of clock actor (operator_code (Order n number))) None ((place.0, GraftOrder k peering target) ∷ []) (own setup after)
+      → ActsAs session (own setup before) (entry_of clock actor (operator_code (Order n number))) None
+      ((place.0, GraftOrder k peering target) ∷ []) (own setup after)
   orders numbers n number k peering target place there row = record {
     setup = refl;
     name = refl;
@@ -116,5 +117,16 @@ module _ {C : Type 0} (session : C → SessionValue) (setup : Setup) (before aft
   drops from item unwelcome same = record {
     setup = refl;
     name = refl;
-    does = inr (record { from = from; item = item; takes = refl; unwelcome = unwelcome; kind = refl; a = refl; b = refl; c = refl; sends = refl; stays = ap OperatorIs same });
+    does = inr (record {
+      from = from;
+      item = item;
+      takes = refl;
+      unwelcome = unwelcome;
+      kind = refl;
+      a = refl;
+      b = refl;
+      c = refl;
+      sends = refl;
+      stays = ap OperatorIs same;
+    });
   }

@@ -1,5 +1,6 @@
 -- A group begins: what its evacuate steps give is what the laboratory has them give, and what stays true.
-use Rattle.std.proofs.Common.{◌≡◌, ◌≢◌, ℕ, zero, suc, ◌+◌, ◌<◌, ◌≤◌, eqb, cond, Bool, true, false, List, [], ◌∷◌, length, Option, Some, None, is_some, refl, sym, ap, ◌∙◌, subst, inl, inr, arith}
+use Rattle.std.proofs.Common.{◌≡◌, ◌≢◌, ℕ, zero, suc, ◌+◌, ◌<◌, ◌≤◌, eqb, cond, Bool, true, false, List, [], ◌∷◌, length}
+use Rattle.std.proofs.Common.{Option, Some, None, is_some, refl, sym, ap, ◌∙◌, subst, inl, inr, arith}
 use Rattle.std.specs.Prelude.{All, ◌⊎◌, slice_get}
 use Rattle.std.specs.Option.{option_map, option_or, option_and_then}
 use Rattle.std.proofs.lemmas.Bool.{cases_eq, ne_eqb, eq-eqb, eqb-true}
@@ -7,7 +8,8 @@ use Rattle.std.proofs.lemmas.Option.{same_Some, slice_get_within}
 use Rattle.graft_edge.specs.declared.ids.PeeringId.{PeeringId}
 use Rattle.graft_edge.specs.declared.ids.RouterId.{RouterId}
 use Rattle.graft_steps.specs.declared.log.GraftEntry.{GraftEntry}
-use Rattle.graft_model.specs.Setups.{Setup, ScriptStep, SayStep, MoveStep, EvacuateStep, SettleStep, ScriptGraft, routers_in, moved_by, group_of, grafts_in, grafts_before, graft_at}
+use Rattle.graft_model.specs.Setups.{Setup, ScriptStep, SayStep, MoveStep, EvacuateStep, SettleStep, ScriptGraft}
+use Rattle.graft_model.specs.Setups.{routers_in, moved_by, group_of, grafts_in, grafts_before, graft_at}
 use Rattle.graft_model.specs.Parts.{Gift as GiftOf, Unmade as NoGift, To, Stays as StaysAt}
 use Rattle.graft_model.specs.Placements.{placement, is_accepted, target_by}
 use Rattle.graft_model.specs.Evacuations.{gift_to, gift_by, gift_in_group, gift_or}
@@ -22,14 +24,16 @@ use Rattle.operator_core.specs.Slots.{slot_at, scripted_step, slot_source, outco
 use Rattle.operator_core.specs.Tasks.{has_task}
 use Rattle.operator_core.specs.Evacuate.{slot_to, given_slot, give}
 use Rattle.operator_core.specs.States.{State}
-use Rattle.operator_core.specs.Keeps.{OperatorInvariant, with_slots, emptied_by, IsMade, IsSlotOf, IsSlot, slot_waits, is_unmade, is_first, InTurn, NoneIsOpen, IsSeat}
+use Rattle.operator_core.specs.Keeps.{OperatorInvariant, with_slots, emptied_by, IsMade, IsSlotOf, IsSlot}
+use Rattle.operator_core.specs.Keeps.{slot_waits, is_unmade, is_first, InTurn, NoneIsOpen, IsSeat}
 use Rattle.operator_core.proofs.Lists.{there_is, all_map}
 use Rattle.operator_core.proofs.Scripts.{groups_rise}
 use Rattle.operator_core.proofs.Placed.{placed_alike}
 use Rattle.operator_core.proofs.SlotLaws.{graft_there}
 use Rattle.operator_core.proofs.Ready.{group_gifts, group_tasks, gifts_at, IsReadySlot, IsReady}
 use Rattle.operator_core.proofs.GiftLists.{all_by_index, found}
-use Rattle.operator_core.proofs.Gifts.{has_number, gift_numbered, length_give, give_at, IsBelow, IsGiftWithin, group_gifts_rise, group_gifts_are, numbered_in_group, ArePlaced, gift_by_slot}
+use Rattle.operator_core.proofs.Gifts.{has_number, gift_numbered, length_give, give_at, IsBelow, IsGiftWithin}
+use Rattle.operator_core.proofs.Gifts.{group_gifts_rise, group_gifts_are, numbered_in_group, ArePlaced, gift_by_slot}
 use Rattle.operator_core.proofs.GiftTasks.{makes, group_tasks_rise, group_tasks_wait, has_move_task, has_gift_task}
 use Rattle.operator_core.proofs.GroupSpan.{group_in_span, in_span, span_ends}
 
@@ -120,7 +124,8 @@ evacuated_number : (setup : Setup) (k : ℕ) (g : ScriptGraft) (router : ℕ) �
 evacuated_number setup k g router known at =
     let of = step_of_graft setup k g known in
     let step : of.step ≡ EvacuateStep router = same_Some of.step (EvacuateStep router) (sym of.there ∙ at) in
-    let moved : slice_get (moved_by setup (EvacuateStep router)) of.index ≡ Some g.peering = ap (λ (s : ScriptStep). slice_get (moved_by setup s) of.index) (sym step) ∙ of.moved in
+    let moved : slice_get (moved_by setup (EvacuateStep router)) of.index ≡ Some g.peering =
+    ap (λ (s : ScriptStep). slice_get (moved_by setup s) of.index) (sym step) ∙ of.moved in
     let index = peering_of_index setup of.index g.peering moved in
     omega (arith, of.number, index.0)
 
@@ -157,7 +162,8 @@ module _ (setup : Setup) (group from len : ℕ) (slots : List Slot) (seats : Lis
 
   pub gifts_have_slots : All (λ gift. (1 ≤ gift.graft) × (gift.graft ≤ length slots)) (group_gifts setup seats from len)
   gifts_have_slots = all_by_index (λ gift. (1 ≤ gift.graft) × (gift.graft ≤ length slots)) (group_gifts setup seats from len)
-      (all_map (IsGiftWithin setup from len) (λ gift. (1 ≤ gift.graft) × (gift.graft ≤ length slots)) (group_gifts setup seats from len) gift_has_slot (group_gifts_are setup seats ready.seated.all from len))
+      (all_map (IsGiftWithin setup from len) (λ gift. (1 ≤ gift.graft) × (gift.graft ≤ length slots))
+      (group_gifts setup seats from len) gift_has_slot (group_gifts_are setup seats ready.seated.all from len))
 
   -- ---- the slot of each graft
 
@@ -166,7 +172,8 @@ module _ (setup : Setup) (group from len : ℕ) (slots : List Slot) (seats : Lis
 
   slot_begun : (i : ℕ) → i < length slots → slice_get begun_slots i ≡ option_or (option_map given_slot (number_given (suc i))) (slice_get slots i)
   slot_begun i within = give_at (group_gifts setup seats from len) slots i within
-      (all_map (IsGiftWithin setup from len) (λ gift. 1 ≤ gift.graft) (group_gifts setup seats from len) (λ gift is. (gift_has_slot gift is).0) (group_gifts_are setup seats ready.seated.all from len))
+      (all_map (IsGiftWithin setup from len) (λ gift. 1 ≤ gift.graft) (group_gifts setup seats from len)
+      (λ gift is. (gift_has_slot gift is).0) (group_gifts_are setup seats ready.seated.all from len))
       (group_gifts_rise setup seats ready.seated.all from len)
 
   graft_known : (i : ℕ) (g : ScriptGraft) → slice_get (grafts_in setup) i ≡ Some g → graft_at setup (suc i) ≡ Some g
@@ -182,7 +189,8 @@ module _ (setup : Setup) (group from len : ℕ) (slots : List Slot) (seats : Lis
   is_in_group n behind within = group_in_span setup group from len ready.begins ready.others ready.settle n behind (omega (arith, within))
 
   in_group : (i : ℕ) (g : ScriptGraft) → slice_get (grafts_in setup) i ≡ Some g → group_of setup g.step ≡ group → (from ≤ g.step) × (g.step < from + len)
-  in_group i g at is = in_span setup group from len ready.begins ready.others ready.settle ready.before g.step is (no_settle setup (suc i) g (graft_known i g at))
+  in_group i g at is =
+      in_span setup group from len ready.begins ready.others ready.settle ready.before g.step is (no_settle setup (suc i) g (graft_known i g at))
 
   -- the slot of a graft that an evacuate step of the group may make
   was_unmade : (i : ℕ) (g : ScriptGraft) (router : ℕ) → slice_get (grafts_in setup) i ≡ Some g → group_of setup g.step ≡ group
@@ -216,7 +224,8 @@ module _ (setup : Setup) (group from len : ℕ) (slots : List Slot) (seats : Lis
       slot = slot_begun i (has_old i g at) ∙ ap (λ (o : Option Gift). option_or (option_map given_slot o) (slice_get slots i)) e;
     })
     by_found (Some gift) e =
-        let is = found (IsGiftWithin setup from len) (has_number (suc i)) (group_gifts setup seats from len) gift (group_gifts_are setup seats ready.seated.all from len) e in
+        let is = found (IsGiftWithin setup from len) (has_number (suc i))
+        (group_gifts setup seats from len) gift (group_gifts_are setup seats ready.seated.all from len) e in
         let within : IsGiftWithin setup from len gift = is.0 in
         let number : gift.graft ≡ suc i = eqb-true gift.graft (suc i) is.1 in
         let mine : ScriptGraft = record { graft = gift.graft; peering = gift.peering.0; step = within.index } in
@@ -251,7 +260,8 @@ module _ (setup : Setup) (group from len : ℕ) (slots : List Slot) (seats : Lis
           let is : Some g.0 ≡ None = sym g.1 ∙ none in absurd cc
 
     by_graft : (o : Option ScriptGraft) → slice_get (grafts_in setup) i ≡ o
-        → (slice_get begun_slots i ≡ slice_get slots i) ⊎ ((gift : Gift) × (slice_get begun_slots i ≡ Some (given_slot gift)) × (slice_get slots i ≡ Some Unmade))
+        → (slice_get begun_slots i ≡ slice_get slots i)
+        ⊎ ((gift : Gift) × (slice_get begun_slots i ≡ Some (given_slot gift)) × (slice_get slots i ≡ Some Unmade))
     by_graft None e = inl (past begun_slots (length_give (group_gifts setup seats from len) slots ∙ ready.all) e ∙ sym (past slots ready.all e))
     by_graft (Some g) e = elim (about i g e) [
       | inl given ↦ inr (given.gift, given.slot, given.unmade)
@@ -283,7 +293,8 @@ module _ (setup : Setup) (group from len : ℕ) (slots : List Slot) (seats : Lis
       ≡ gift_or (gift_in_group setup group placed o) (given_of (option_and_then (λ g. slice_get setup.steps g.step) o) (slice_get slots i))
 
   abbrev GivesBy : ℕ → ScriptGraft → Option ScriptStep → Type 0
-  GivesBy i g o = given_of o (slice_get begun_slots i) ≡ gift_or (cond (eqb (group_of setup g.step) group) (gift_by setup placed o g.peering) NoGift) (given_of o (slice_get slots i))
+  GivesBy i g o = given_of o (slice_get begun_slots i)
+      ≡ gift_or (cond (eqb (group_of setup g.step) group) (gift_by setup placed o g.peering) NoGift) (given_of o (slice_get slots i))
 
   evacuate_gives : (i : ℕ) (g : ScriptGraft) (router : ℕ) → slice_get (grafts_in setup) i ≡ Some g
       → slice_get setup.steps g.step ≡ Some (EvacuateStep router) → GivesBy i g (Some (EvacuateStep router))
@@ -306,7 +317,8 @@ module _ (setup : Setup) (group from len : ℕ) (slots : List Slot) (seats : Lis
     | inr other ↦ elim (about i g at) [
       | inl given ↦ absurd (other given.group_is)
       | inr kept ↦ ap slot_gift kept.slot
-          ∙ ap (λ (b : Bool). gift_or (cond b (gift_to setup placed router g.peering) NoGift) (slot_gift (slice_get slots i))) (sym (ne_eqb (group_of setup g.step) group other))
+          ∙ ap (λ (b : Bool). gift_or (cond b (gift_to setup placed router g.peering) NoGift) (slot_gift (slice_get slots i)))
+          (sym (ne_eqb (group_of setup g.step) group other))
     ]
   ]
 
@@ -318,7 +330,8 @@ module _ (setup : Setup) (group from len : ℕ) (slots : List Slot) (seats : Lis
   step_gives i g at (Some SettleStep) e = sym (none_either (eqb (group_of setup g.step) group) NoGift)
 
   pub begun_given : (k : ℕ)
-      → given_in setup begun_slots k ≡ gift_or (gift_in_group setup group (placement setup (with_slots setup slots)) (graft_at setup k)) (given_in setup slots k)
+      → given_in setup begun_slots k
+      ≡ gift_or (gift_in_group setup group (placement setup (with_slots setup slots)) (graft_at setup k)) (given_in setup slots k)
   begun_given zero = subst (λ (o : Option ScriptGraft). given_of (option_and_then (λ g. slice_get setup.steps g.step) o) None
       ≡ gift_or (gift_in_group setup group placed o) (given_of (option_and_then (λ g. slice_get setup.steps g.step) o) None)) (sym (no_graft_zero setup)) refl
   begun_given (suc i) = subst (Gives i) (sym (graft_by_index setup i)) (by_graft (slice_get (grafts_in setup) i) refl) where
@@ -384,7 +397,8 @@ module _ (setup : Setup) (group from len : ℕ) (slots : List Slot) (seats : Lis
 
   -- the graft whose slot is at an index
   graft_of_slot : (i : ℕ) (slot : Slot) → slice_get begun_slots i ≡ Some slot → (g : ScriptGraft) × (slice_get (grafts_in setup) i ≡ Some g)
-  graft_of_slot i slot is = let within = slice_get_within begun_slots i slot is in let all = length-begun in there_is (grafts_in setup) i (omega (arith, within, all))
+  graft_of_slot i slot is =
+      let within = slice_get_within begun_slots i slot is in let all = length-begun in there_is (grafts_in setup) i (omega (arith, within, all))
 
   -- an entry is that of before, or of a graft that was made now, which waits
   entry_begun : (i : ℕ) (g : ScriptGraft) (entry : GraftEntry) → slice_get (grafts_in setup) i ≡ Some g → slice_get begun_slots i ≡ Some (Made entry)
@@ -429,7 +443,8 @@ module _ (setup : Setup) (group from len : ℕ) (slots : List Slot) (seats : Lis
 
   same_place : (p : ℕ) → placement setup (with_slots setup slots) p ≡ placement setup (with_slots setup begun_slots) p
   same_place p = placed_alike setup p (with_slots setup slots) (with_slots setup begun_slots) (λ j g there of_p. ap is_accepted (sym (begun_outcome g.graft)))
-      (λ j g there accepted. ap (λ (o : Option Slot). target_by (slice_get setup.steps g.step) (given_of (scripted_step setup g.graft) o)) (given_only_unmade g.graft accepted))
+      (λ j g there accepted. ap (λ (o : Option Slot). target_by (slice_get setup.steps g.step) (given_of (scripted_step setup g.graft) o))
+      (given_only_unmade g.graft accepted))
 
   none_opens : (p : ℕ) → NoneIsOpen slots p → NoneIsOpen begun_slots p
   none_opens p none i entry is of_p =

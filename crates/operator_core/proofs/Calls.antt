@@ -37,8 +37,10 @@ use Rattle.operator_core.proofs.Rests.{nothing_to_order}
 -- what is known of one progress is known of another with the same script
 pub known_still : (old new : Progress) → SameScript old new → IsKnown old → IsKnown new
 known_still old new same known = record {
-  script = subst (λ (s : Setup). IsScriptOf s new.script) (sym (ap (λ k. k.setup) same.known)) (subst (λ x. IsScriptOf old.known.setup x) (sym same.script) known.script);
-  numbers = subst (λ x. AreNumbers (length x.starts) x.steps new.numbers) (sym same.script) (subst (λ ns. AreNumbers (length old.script.starts) old.script.steps ns) (sym same.numbers) known.numbers);
+  script = subst (λ (s : Setup). IsScriptOf s new.script) (sym (ap (λ k. k.setup) same.known))
+      (subst (λ x. IsScriptOf old.known.setup x) (sym same.script) known.script);
+  numbers = subst (λ x. AreNumbers (length x.starts) x.steps new.numbers) (sym same.script)
+      (subst (λ ns. AreNumbers (length old.script.starts) old.script.steps ns) (sym same.numbers) known.numbers);
   few = subst (λ x. length x.rooms ≤ 256) (sym same.script) known.few;
   peerings = subst (λ x. length x.starts ≤ 256) (sym same.script) known.peerings;
   short = subst (λ x. length x.steps ≤ 4097) (sym same.script) known.short;
@@ -50,7 +52,8 @@ known_still old new same known = record {
 pub have_seats : (p : Progress) → OperatorInvariant (progress_state p) → HaveSeats p
 have_seats p keeps index entry e =
     let own = owner p.known.setup p.group (progress_state p).waiting p.slots.items keeps.slots index (Made entry) e in
-    let there : own.graft.peering < peerings_in p.known.setup = peering_there p.known.setup keeps.sound own.graft (graft_there p.known.setup index own.graft own.index) in
+    let there : own.graft.peering < peerings_in p.known.setup =
+    peering_there p.known.setup keeps.sound own.graft (graft_there p.known.setup index own.graft own.index) in
     let names : entry.peering.0 ≡ own.graft.peering = (own.is.fits.made entry refl).peering in
     let all : length p.seats.items ≡ peerings_in p.known.setup = keeps.seats.all in
     omega arith
@@ -83,8 +86,10 @@ module _ {C : Type 0} where
         as_many = v.as_many ∙ t.as_many;
         keeps = v.keeps known_mid t.keeps t.held;
         held = v.held known_mid t.keeps t.held;
-        replay = λ session. replay-append (acts session) (actor_of before) (own_part_of (progress_state start)) (own_part_of (progress_state mid)) (own_part_of (progress_state now)) t.deeds v.deeds
-            (t.replay session) (subst (λ a. Replay (acts session) a (own_part_of (progress_state mid)) v.deeds (own_part_of (progress_state now))) t.wrote.actor (v.replay known_mid t.keeps t.held session));
+        replay = λ session. replay-append (acts session) (actor_of before) (own_part_of (progress_state start))
+            (own_part_of (progress_state mid)) (own_part_of (progress_state now)) t.deeds v.deeds
+            (t.replay session) (subst (λ a. Replay (acts session) a (own_part_of (progress_state mid)) v.deeds (own_part_of (progress_state now)))
+            t.wrote.actor (v.replay known_mid t.keeps t.held session));
       }
 
   pub turning_ends : (start last now : Progress) (before after : Post (Item C)) (index : ℕ) → IsKnown start → index ≡ length start.tasks.items
@@ -95,7 +100,8 @@ module _ {C : Type 0} where
     deeds = t.deeds;
     does = record {
       wrote = t.wrote;
-      replay = λ session. subst (λ (s : State). Replay (acts session) (actor_of before) (own_part_of (progress_state start)) t.deeds (own_part_of s)) (sym state_is) (t.replay session);
+      replay = λ session. subst (λ (s : State). Replay (acts session) (actor_of before) (own_part_of (progress_state start)) t.deeds (own_part_of s))
+          (sym state_is) (t.replay session);
       known = same.known ∙ t.same.known;
       sound = record { known = known_still start now (same_then start last now t.same same) known; keeps = subst OperatorInvariant (sym state_is) t.keeps };
     };
@@ -103,7 +109,8 @@ module _ {C : Type 0} where
     no_go = t.no_go;
     settled = λ step number sent after' row. nothing_to_order (progress_state last) t.keeps held step number sent after'
         (subst (λ (s : State). operator_row s.setup (Order step number) (part_of_state s) None sent after') state_is
-        (subst (λ (s : Setup). operator_row s (Order step number) (part_of_state (progress_state now)) None sent after') (sym (ap (λ k. k.setup) (same.known ∙ t.same.known))) row));
+        (subst (λ (s : Setup). operator_row s (Order step number) (part_of_state (progress_state now)) None sent after')
+        (sym (ap (λ k. k.setup) (same.known ∙ t.same.known))) row));
   }
     where
       left : unissued now.tasks.items ≡ unissued last.tasks.items
@@ -113,15 +120,19 @@ module _ {C : Type 0} where
       state_is = now_is ∙ ap (waiting_are (progress_state last)) left
 
       held : AllByRecursion (IsGraftHeldUp (progress_state last)) (progress_state last).waiting
-      held = subst (λ (ts : List Task). AllByRecursion (IsGraftHeldUp (progress_state last)) ts) (all_taken last.tasks.items index (t.as_many ∙ sym whole_index)) t.held
+      held = subst (λ (ts : List Task). AllByRecursion (IsGraftHeldUp (progress_state last)) ts)
+          (all_taken last.tasks.items index (t.as_many ∙ sym whole_index)) t.held
 
 -- a task that wasn't issued is of a step of the script
 pub step_within : (p : Progress) (index : ℕ) (task : Task) → IsKnown p → OperatorInvariant (progress_state p)
     → slice_get p.tasks.items index ≡ Some task → task.issued ≡ false → task.step < length p.script.steps
 step_within p index task known keeps there waits =
-    let all : AllByRecursion (IsWaitingTask p.known.setup p.group p.next) (unissued (take index p.tasks.items) ++ task ∷ unissued (drop (suc index) p.tasks.items))
-    = subst (λ (ts : List Task). AllByRecursion (IsWaitingTask p.known.setup p.group p.next) ts) (split_at p.tasks.items index task there waits) keeps.waiting in
-    let w : IsWaitingTask p.known.setup p.group p.next task = (all_append_right (IsWaitingTask p.known.setup p.group p.next) (unissued (take index p.tasks.items)) (task ∷ unissued (drop (suc index) p.tasks.items)) all).0 in
+    let all : AllByRecursion (IsWaitingTask p.known.setup p.group p.next)
+    (unissued (take index p.tasks.items) ++ task ∷ unissued (drop (suc index) p.tasks.items))
+    = subst (λ (ts : List Task). AllByRecursion (IsWaitingTask p.known.setup p.group p.next) ts)
+    (split_at p.tasks.items index task there waits) keeps.waiting in
+    let w : IsWaitingTask p.known.setup p.group p.next task = (all_append_right (IsWaitingTask p.known.setup p.group p.next)
+    (unissued (take index p.tasks.items)) (task ∷ unissued (drop (suc index) p.tasks.items)) all).0 in
     let l : task.step < p.next = w.before in
     let m : p.next ≤ length p.known.setup.steps = keeps.ends.within in
     let e : length p.script.steps ≡ length p.known.setup.steps = as_many_steps p.known.setup p.script known.script in
@@ -129,13 +140,15 @@ step_within p index task known keeps there waits =
 
 pub state_of_forget : (old new : Progress) → SameScript old new → new.slots.items ≡ old.slots.items → new.seats.items ≡ old.seats.items
     → progress_state new ≡ waiting_are (progress_state old) (unissued new.tasks.items)
-state_of_forget old new same slots seats = λ i. record { setup = (same.known i).setup; group = same.group i; next = same.next i; waiting = unissued new.tasks.items; slots = slots i; seats = seats i }
+state_of_forget old new same slots seats = λ i.
+    record { setup = (same.known i).setup; group = same.group i; next = same.next i; waiting = unissued new.tasks.items; slots = slots i; seats = seats i }
 
 pub turning_moves : {C : Type 0} (start mid now now' : Progress) (before between after after' : Post (Item C)) (index : ℕ) → IsKnown start
     → Turning start before index mid between → VisitsTask mid index between now after → now' ≡ now → after' ≡ after
     → Turning start before (index + 1) now' after'
 turning_moves {C = C} start mid now now' before between after after' index known t v e f =
-    subst (λ (p : Progress). Turning start before (index + 1) p after') (sym e) (subst (λ (p : Post (Item C)). Turning start before (index + 1) now p) (sym f) (turning_on start mid now before between after index known t v))
+    subst (λ (p : Progress). Turning start before (index + 1) p after') (sym e)
+    (subst (λ (p : Post (Item C)). Turning start before (index + 1) now p) (sym f) (turning_on start mid now before between after index known t v))
 
 pub edges_move : {C : Type 0} (before between after after' : Post (Item C)) → SameEdges before between → SameEdges between after → after' ≡ after
     → SameEdges before after'

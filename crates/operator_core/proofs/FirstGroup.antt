@@ -1,5 +1,6 @@
 -- The first group begins: no graft was ordered, and sessions are where they start.
-use Rattle.std.proofs.Common.{◌≡◌, ◌≢◌, ℕ, zero, suc, ◌+◌, ◌<◌, ◌≤◌, nat_lt, true, false, not, ◌&&◌, List, [], ◌∷◌, ◌++◌, length, map, Option, Some, None, unwrap_or, refl, sym, ap, ◌∙◌, subst, inl, inr, arith}
+use Rattle.std.proofs.Common.{◌≡◌, ◌≢◌, ℕ, zero, suc, ◌+◌, ◌<◌, ◌≤◌, nat_lt, true, false, not, ◌&&◌, List, [], ◌∷◌, ◌++◌}
+use Rattle.std.proofs.Common.{length, map, Option, Some, None, unwrap_or, refl, sym, ap, ◌∙◌, subst, inl, inr, arith}
 use Rattle.std.specs.Prelude.{slice_get}
 use Rattle.std.specs.Option.{option_map}
 use Rattle.std.proofs.lemmas.Bool.Decides.{nat_tests}
@@ -9,7 +10,8 @@ use Rattle.std.proofs.lemmas.Option.{slice_get_within, slice_get-map}
 use Rattle.graft_edge.specs.declared.ids.RouterId.{RouterId}
 use Rattle.graft_steps.specs.declared.log.GraftEntry.{GraftEntry}
 use Rattle.graft_steps.specs.declared.log.GraftStage.TheVariants.{Waiting}
-use Rattle.graft_model.specs.Setups.{Setup, ScriptStep, SayStep, MoveStep, EvacuateStep, SettleStep, ScriptGraft, PeeringSetup, routers_in, peerings_in, peering_numbers, grafts_numbered, grafts_after, grafts_in, graft_at, start_of}
+use Rattle.graft_model.specs.Setups.{Setup, ScriptStep, SayStep, MoveStep, EvacuateStep, SettleStep, ScriptGraft, PeeringSetup, routers_in}
+use Rattle.graft_model.specs.Setups.{peerings_in, peering_numbers, grafts_numbered, grafts_after, grafts_in, graft_at, start_of}
 use Rattle.graft_model.specs.Parts.{Unmade as NoGift, To}
 use Rattle.graft_model.specs.Placements.{target_by, placement}
 use Rattle.graft_model.specs.Evacuations.{gift_in_group, gift_or}
@@ -19,7 +21,8 @@ use Rattle.operator_core.specs.declared.grafts.Seat.{Seat}
 use Rattle.operator_core.specs.declared.grafts.Slot.{Slot}
 use Rattle.operator_core.specs.declared.grafts.Slot.TheVariants.{Unmade, Stays, Made}
 use Rattle.operator_core.specs.Grafts.{is_waiting, is_open, outcome_at, seat_at}
-use Rattle.operator_core.specs.Slots.{slot_source, outcome_of, given_of, scripted_step, source_in, outcome_in, given_in, waiting_entry, unmade_slots, first_slots}
+use Rattle.operator_core.specs.Slots.{slot_source, outcome_of, given_of, scripted_step, source_in}
+use Rattle.operator_core.specs.Slots.{outcome_in, given_in, waiting_entry, unmade_slots, first_slots}
 use Rattle.operator_core.specs.Scripts.{step_for}
 use Rattle.operator_core.specs.Tasks.{has_task}
 use Rattle.operator_core.specs.States.{State, is_say, issued_in, part_of_state}
@@ -35,7 +38,8 @@ use Rattle.operator_core.proofs.Begins.{begun, begun_given, begun_source, begun_
 
 -- the slot of a graft of a step before its group begins
 abbrev IsFirstOf : Option ScriptStep → ScriptGraft → Slot → Type 0
-IsFirstOf (Some (MoveStep p target)) g slot = (slot ≡ Made (waiting_entry g.graft (record { peering = record { 0 = p }; target = record { 0 = target } }))) × (g.peering ≡ p)
+IsFirstOf (Some (MoveStep p target)) g slot =
+    (slot ≡ Made (waiting_entry g.graft (record { peering = record { 0 = p }; target = record { 0 = target } }))) × (g.peering ≡ p)
 IsFirstOf (Some (EvacuateStep router)) g slot = slot ≡ Unmade
 IsFirstOf _ g slot = ⊥
 
@@ -73,35 +77,43 @@ module _ (all : List ScriptStep) where
   unmade_alike : (k n router : ℕ) (peerings : List ℕ) → slice_get all n ≡ Some (EvacuateStep router)
       → Alike (grafts_numbered k n peerings) (unmade_slots (length peerings))
   unmade_alike k n router [] e = tt
-  unmade_alike k n router (p ∷ peerings) e =
-      (subst (λ (o : Option ScriptStep). IsFirstOf o (record { graft = k + 1; peering = p; step = n }) Unmade) (sym e) refl, unmade_alike (k + 1) n router peerings e)
+  unmade_alike k n router (p ∷ peerings) e = (
+    subst (λ (o : Option ScriptStep). IsFirstOf o (record { graft = k + 1; peering = p; step = n }) Unmade) (sym e) refl,
+    unmade_alike (k + 1) n router peerings e,
+  )
 
   first_alike : (setup : Setup) (k n : ℕ) (steps : List ScriptStep) → ((j : ℕ) → slice_get all (n + j) ≡ slice_get steps j)
       → Alike (grafts_after setup k n steps) (first_slots (peerings_in setup) k (map step_for steps))
   first_alike setup k n [] there = tt
   first_alike setup k n (SayStep p bytes ∷ steps) there =
       let e : k + 0 ≡ k = omega arith in
-      subst (λ (m : ℕ). Alike (grafts_after setup (k + 0) (n + 1) steps) (first_slots (peerings_in setup) m (map step_for steps))) e (first_alike setup (k + 0) (n + 1) steps (λ j. later n j there))
+      subst (λ (m : ℕ). Alike (grafts_after setup (k + 0) (n + 1) steps) (first_slots (peerings_in setup) m (map step_for steps))) e
+      (first_alike setup (k + 0) (n + 1) steps (λ j. later n j there))
     where
       later : (m j : ℕ) → ((i : ℕ) → slice_get all (m + i) ≡ slice_get (SayStep p bytes ∷ steps) i) → slice_get all (m + 1 + j) ≡ slice_get steps j
       later m j is = let e : m + 1 + j ≡ m + suc j = omega arith in ap (slice_get all) e ∙ is (suc j)
   first_alike setup k n (SettleStep ∷ steps) there =
       let e : k + 0 ≡ k = omega arith in
-      subst (λ (m : ℕ). Alike (grafts_after setup (k + 0) (n + 1) steps) (first_slots (peerings_in setup) m (map step_for steps))) e (first_alike setup (k + 0) (n + 1) steps (λ j. later n j there))
+      subst (λ (m : ℕ). Alike (grafts_after setup (k + 0) (n + 1) steps) (first_slots (peerings_in setup) m (map step_for steps))) e
+      (first_alike setup (k + 0) (n + 1) steps (λ j. later n j there))
     where
       later : (m j : ℕ) → ((i : ℕ) → slice_get all (m + i) ≡ slice_get (SettleStep ∷ steps) i) → slice_get all (m + 1 + j) ≡ slice_get steps j
       later m j is = let e : m + 1 + j ≡ m + suc j = omega arith in ap (slice_get all) e ∙ is (suc j)
   first_alike setup k n (MoveStep p target ∷ steps) there = (
-    subst (λ (o : Option ScriptStep). IsFirstOf o (record { graft = k + 1; peering = p; step = n }) (Made (waiting_entry (k + 1) (record { peering = record { 0 = p }; target = record { 0 = target } }))))
+    subst (λ (o : Option ScriptStep). IsFirstOf o (record { graft = k + 1; peering = p; step = n })
+        (Made (waiting_entry (k + 1) (record { peering = record { 0 = p }; target = record { 0 = target } }))))
         (sym (let e : n ≡ n + 0 = omega arith in ap (slice_get all) e ∙ there 0)) (refl, refl),
     first_alike setup (k + 1) (n + 1) steps (λ j. let e : n + 1 + j ≡ n + suc j = omega arith in ap (slice_get all) e ∙ there (suc j)),
   )
   first_alike setup k n (EvacuateStep router ∷ steps) there =
       let own : Alike (grafts_numbered k n (peering_numbers setup)) (unmade_slots (length (peering_numbers setup))) =
       unmade_alike k n router (peering_numbers setup) (let e : n ≡ n + 0 = omega arith in ap (slice_get all) e ∙ there 0) in
-      let rest : Alike (grafts_after setup (k + length (peering_numbers setup)) (n + 1) steps) (first_slots (peerings_in setup) (k + length (peering_numbers setup)) (map step_for steps)) =
-      first_alike setup (k + length (peering_numbers setup)) (n + 1) steps (λ j. let e : n + 1 + j ≡ n + suc j = omega arith in ap (slice_get all) e ∙ there (suc j)) in
-      subst (λ (m : ℕ). Alike (grafts_numbered k n (peering_numbers setup) ++ grafts_after setup (k + length (peering_numbers setup)) (n + 1) steps) (unmade_slots m ++ first_slots (peerings_in setup) (k + m) (map step_for steps)))
+      let rest : Alike (grafts_after setup (k + length (peering_numbers setup)) (n + 1) steps)
+      (first_slots (peerings_in setup) (k + length (peering_numbers setup)) (map step_for steps)) =
+      first_alike setup (k + length (peering_numbers setup)) (n + 1) steps
+      (λ j. let e : n + 1 + j ≡ n + suc j = omega arith in ap (slice_get all) e ∙ there (suc j)) in
+      subst (λ (m : ℕ). Alike (grafts_numbered k n (peering_numbers setup) ++ grafts_after setup (k + length (peering_numbers setup)) (n + 1) steps)
+      (unmade_slots m ++ first_slots (peerings_in setup) (k + m) (map step_for steps)))
       (length-range_with_len 0 (peerings_in setup))
       (alike_append (grafts_numbered k n (peering_numbers setup)) _ (unmade_slots (length (peering_numbers setup))) _ own rest)
 
@@ -164,8 +176,10 @@ first_ready_slot setup sound g slot (Some SettleStep) e is = absurd is
 
 -- ---- the first group
 
-module _ (setup : Setup) (sound : StepsAreSound setup) (starts : (p : ℕ) (peering : PeeringSetup) → slice_get setup.peerings p ≡ Some peering → peering.start < routers_in setup)
-    (len : ℕ) (others : (n : ℕ) → 0 ≤ n → n < 0 + len → slice_get setup.steps n ≢ Some SettleStep) (settle : slice_get setup.steps (0 + len) ≡ Some SettleStep) where
+module _ (setup : Setup) (sound : StepsAreSound setup)
+    (starts : (p : ℕ) (peering : PeeringSetup) → slice_get setup.peerings p ≡ Some peering → peering.start < routers_in setup)
+    (len : ℕ) (others : (n : ℕ) → 0 ≤ n → n < 0 + len → slice_get setup.steps n ≢ Some SettleStep)
+    (settle : slice_get setup.steps (0 + len) ≡ Some SettleStep) where
   abbrev pub first_slots_of : List Slot
   first_slots_of = first_slots (peerings_in setup) 0 (map step_for setup.steps)
 
@@ -227,14 +241,17 @@ module _ (setup : Setup) (sound : StepsAreSound setup) (starts : (p : ℕ) (peer
   seats_stand = record { all = all; each = each }
     where
       all : length first_seats_of ≡ peerings_in setup
-      all = length-map (map (λ (peering : PeeringSetup). let id : RouterId = record { 0 = peering.start } in id) setup.peerings) seat_at ∙ length-map setup.peerings (λ peering. let id : RouterId = record { 0 = peering.start } in id)
+      all = length-map (map (λ (peering : PeeringSetup). let id : RouterId = record { 0 = peering.start } in id) setup.peerings) seat_at
+          ∙ length-map setup.peerings (λ peering. let id : RouterId = record { 0 = peering.start } in id)
 
       each : (p : ℕ) (seat : Seat) → slice_get first_seats_of p ≡ Some seat → IsSeat setup first_slots_of p seat
       each p seat e =
-          let found = there_is setup.peerings p (let l : p < length first_seats_of = slice_get_within first_seats_of p seat e in let h : length first_seats_of ≡ peerings_in setup = all in omega arith) in
+          let found = there_is setup.peerings p (let l : p < length first_seats_of = slice_get_within first_seats_of p seat e in
+          let h : length first_seats_of ≡ peerings_in setup = all in omega arith) in
           let at_start : slice_get first_seats_of p ≡ Some (seat_at (record { 0 = found.0.start })) =
           slice_get-map seat_at (map (λ (peering : PeeringSetup). record { 0 = peering.start }) setup.peerings) p
-          ∙ ap (option_map seat_at) (slice_get-map (λ (peering : PeeringSetup). record { 0 = peering.start }) setup.peerings p ∙ ap (option_map (λ (peering : PeeringSetup). record { 0 = peering.start })) found.1) in
+          ∙ ap (option_map seat_at) (slice_get-map (λ (peering : PeeringSetup). record { 0 = peering.start }) setup.peerings p
+          ∙ ap (option_map (λ (peering : PeeringSetup). record { 0 = peering.start })) found.1) in
           let same : seat ≡ seat_at (record { 0 = found.0.start }) = one_member (slice_get first_seats_of p) _ _ e at_start in
           let start : start_of setup p ≡ found.0.start = ap (λ o. unwrap_or (option_map (λ (peering : PeeringSetup). peering.start) o) 0) found.1 in
           record {
@@ -251,7 +268,8 @@ module _ (setup : Setup) (sound : StepsAreSound setup) (starts : (p : ℕ) (peer
     others = others;
     settle = settle;
     all = as_many;
-    each = λ i g slot at_index e. first_ready_slot setup sound g slot (slice_get setup.steps g.step) refl (alike_at setup.steps (grafts_in setup) first_slots_of alike i g slot at_index e);
+    each = λ i g slot at_index e. first_ready_slot setup sound g slot (slice_get setup.steps g.step) refl
+        (alike_at setup.steps (grafts_in setup) first_slots_of alike i g slot at_index e);
     in_turn = λ i j one other l e f same ordered. absurd (let g : true ≡ false = sym (ap is_waiting (waits j other f).1) ∙ ordered in cc);
     seated = seats_stand;
   }
@@ -293,6 +311,9 @@ module _ (setup : Setup) (sound : StepsAreSound setup) (starts : (p : ℕ) (peer
   }
     where
       without : (k : ℕ)
-          → gift_or (gift_in_group setup 0 (placement setup (with_slots setup first_slots_of)) (graft_at setup k)) (given_in setup first_slots_of k) ≡ (first_operator setup).given k
+          → gift_or (gift_in_group setup 0 (placement setup (with_slots setup first_slots_of)) (graft_at setup k)) (given_in setup first_slots_of k)
+          ≡ (first_operator setup).given k
       without k = λ i. gift_or
-          (gift_in_group setup 0 (placement setup (record { group = 0; issued = λ n. false; given = λ j. no_gift j i; source = λ j. no_source j i; outcome = λ j. no_outcome j i })) (graft_at setup k)) (no_gift k i)
+          (gift_in_group setup 0 (placement setup
+          (record { group = 0; issued = λ n. false; given = λ j. no_gift j i; source = λ j. no_source j i; outcome = λ j. no_outcome j i }))
+          (graft_at setup k)) (no_gift k i)

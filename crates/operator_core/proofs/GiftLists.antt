@@ -1,5 +1,6 @@
 -- Lists that are made for each number of a range: what is found in them, and their order.
-use Rattle.std.proofs.Common.{◌≡◌, ℕ, zero, suc, ◌+◌, ◌<◌, ◌≤◌, cond, Bool, true, false, ◌||◌, List, [], ◌∷◌, ◌++◌, Option, Some, None, refl, sym, ap, ◌∙◌, subst, inl, inr, arith}
+use Rattle.std.proofs.Common.{◌≡◌, ℕ, zero, suc, ◌+◌, ◌<◌, ◌≤◌, cond, Bool, true, false, ◌||◌, List, [], ◌∷◌}
+use Rattle.std.proofs.Common.{◌++◌, Option, Some, None, refl, sym, ap, ◌∙◌, subst, inl, inr, arith}
 use Rattle.std.specs.Prelude.{◌≢◌, flat_map, All}
 use Rattle.std.specs.List.{find, list_any, range_with_len, AllByRecursion}
 use Rattle.std.specs.Option.{option_or}
@@ -109,4 +110,5 @@ module _ {A : Type 0} where
     sorted_range R P all sorted across from (suc len) =
         sorted_append R (f from) (flat_map f (range_with_len (from + 1) len)) (sorted from) (sorted_range R P all sorted across (from + 1) len)
         (all_map (P from) (λ x. AllByRecursion (R x) (flat_map f (range_with_len (from + 1) len))) (f from)
-        (λ x is. all_range (R x) (from + 1) len (λ m behind within. all_map (P m) (R x) (f m) (λ y other. across from m x y (omega (arith, behind)) is other) (all m))) (all from))
+        (λ x is. all_range (R x) (from + 1) len
+        (λ m behind within. all_map (P m) (R x) (f m) (λ y other. across from m x y (omega (arith, behind)) is other) (all m))) (all from))

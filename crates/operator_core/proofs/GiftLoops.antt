@@ -1,5 +1,6 @@
 -- What an evacuate step gives, peering by peering.
-use Rattle.std.proofs.Common.{◌≡◌, ℕ, suc, ◌+◌, ◌≤◌, Bool, true, false, cond, List, [], ◌∷◌, ◌++◌, length, map, Option, refl, sym, ap, ◌∙◌, arith, append_assoc, append-nil, ◌⊎◌, inl, inr, Iter}
+use Rattle.std.proofs.Common.{◌≡◌, ℕ, suc, ◌+◌, ◌≤◌, Bool, true, false, cond, List, [], ◌∷◌, ◌++◌, length, map, Option}
+use Rattle.std.proofs.Common.{refl, sym, ap, ◌∙◌, arith, append_assoc, append-nil, ◌⊎◌, inl, inr, Iter}
 use Rattle.std.specs.List.{zip}
 use Rattle.std.specs.Slice.Iter.{iter_rest}
 use Rattle.std.specs.Iterator.Adapters.{zip_first, zip_second}
@@ -25,7 +26,8 @@ length-seated_from p router (seat ∷ seats) = by_test (seat.place.0 == router.0
 abbrev pub gifts_left : ℕ → RouterId → Zip (Iter PeeringId) (Iter (Option RouterId)) → List Gift
 gifts_left first router left = map (gift_for first router) (zip (iter_rest (zip_first left)) (iter_rest (zip_second left)))
 
-module _ (first : ℕ) (router : RouterId) (left : Zip (Iter PeeringId) (Iter (Option RouterId))) (gifts total : List Gift) (so_far : gifts ++ gifts_left first router left ≡ total) where
+module _ (first : ℕ) (router : RouterId) (left : Zip (Iter PeeringId) (Iter (Option RouterId)))
+    (gifts total : List Gift) (so_far : gifts ++ gifts_left first router left ≡ total) where
   pub one_more : (then : Zip (Iter PeeringId) (Iter (Option RouterId))) (peering : PeeringId) (target : Option RouterId) (new : List Gift)
       → (iter_rest (zip_first left) ≡ peering ∷ iter_rest (zip_first then)) × (iter_rest (zip_second left) ≡ target ∷ iter_rest (zip_second then))
       → new ≡ gifts ++ gift_for first router (peering, target) ∷ [] → new ++ gifts_left first router then ≡ total

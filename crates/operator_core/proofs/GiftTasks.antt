@@ -1,10 +1,12 @@
 -- The tasks with which a group begins: their order, what each of them is for, and of which grafts there is one.
-use Rattle.std.proofs.Common.{◌≡◌, ℕ, ◌+◌, ◌<◌, ◌≤◌, cond, Bool, true, false, ◌||◌, List, [], ◌∷◌, length, Option, Some, None, is_some, refl, sym, ap, ◌∙◌, subst, inl, inr, arith}
+use Rattle.std.proofs.Common.{◌≡◌, ℕ, ◌+◌, ◌<◌, ◌≤◌, cond, Bool, true, false, ◌||◌, List, [], ◌∷◌, length}
+use Rattle.std.proofs.Common.{Option, Some, None, is_some, refl, sym, ap, ◌∙◌, subst, inl, inr, arith}
 use Rattle.std.specs.Prelude.{slice_get}
 use Rattle.std.specs.List.{AllByRecursion}
 use Rattle.std.specs.Option.{option_map}
 use Rattle.std.proofs.lemmas.Bool.{cases_eq, ne_eqb, eq-eqb}
-use Rattle.graft_model.specs.Setups.{Setup, ScriptStep, SayStep, MoveStep, EvacuateStep, SettleStep, ScriptGraft, peerings_in, group_of, grafts_before, graft_at}
+use Rattle.graft_model.specs.Setups.{Setup, ScriptStep, SayStep, MoveStep, EvacuateStep, SettleStep}
+use Rattle.graft_model.specs.Setups.{ScriptGraft, peerings_in, group_of, grafts_before, graft_at}
 use Rattle.graft_model.proofs.Numbers.{graft_of_step}
 use Rattle.operator_core.specs.declared.evacuate.Gift.{Gift}
 use Rattle.operator_core.specs.declared.grafts.Seat.{Seat}
@@ -39,7 +41,8 @@ module _ (m : ℕ) where
   given_tasks_rise [] sorted = tt
   given_tasks_rise (gift ∷ gifts) sorted =
       let rest = given_tasks_rise gifts sorted.1 in
-      let after = given_tasks_all (Precedes (task_of m gift.graft)) (IsEarlier gift) (λ other later. record { step = omega arith; graft = λ same. later }) gifts sorted.0 in
+      let after = given_tasks_all (Precedes (task_of m gift.graft)) (IsEarlier gift)
+      (λ other later. record { step = omega arith; graft = λ same. later }) gifts sorted.0 in
       elim (is_some gift.target) as (λ b. Sorted Precedes (cond b (task_of m gift.graft ∷ given_tasks m gifts) (given_tasks m gifts))) [
         | true ↦ (after, rest)
         | false ↦ rest
@@ -50,7 +53,8 @@ module _ (m : ℕ) where
   has_given k (gift ∷ gifts) sorted = elim (cases_eq gift.graft k) [
     | inl is ↦
         let none : has_task (given_tasks m gifts) m k ≡ false = none_passes (is_task m k) (given_tasks m gifts)
-        (given_tasks_all (λ task. is_task m k task ≡ false) (IsEarlier gift) (λ other later. is_other_graft m k (task_of m other.graft) (omega (arith, is, later))) gifts sorted.0) in
+        (given_tasks_all (λ task. is_task m k task ≡ false) (IsEarlier gift)
+        (λ other later. is_other_graft m k (task_of m other.graft) (omega (arith, is, later))) gifts sorted.0) in
         let own : is_task m k (task_of m gift.graft) ≡ true = is_that_task m k (task_of m gift.graft) refl is in
         (elim (is_some gift.target) as (λ b. has_task (cond b (task_of m gift.graft ∷ given_tasks m gifts) (given_tasks m gifts)) m k ≡ b) [
           | true ↦ ap (λ (b : Bool). b || has_task (given_tasks m gifts) m k) own
@@ -58,7 +62,8 @@ module _ (m : ℕ) where
         ]) ∙ ap (λ (b : Bool). makes (cond b (Some gift) (gift_numbered k gifts))) (sym (eq-eqb gift.graft k is))
     | inr other ↦
         let not_own : is_task m k (task_of m gift.graft) ≡ false = is_other_graft m k (task_of m gift.graft) other in
-        (elim (is_some gift.target) as (λ b. has_task (cond b (task_of m gift.graft ∷ given_tasks m gifts) (given_tasks m gifts)) m k ≡ has_task (given_tasks m gifts) m k) [
+        (elim (is_some gift.target)
+        as (λ b. has_task (cond b (task_of m gift.graft ∷ given_tasks m gifts) (given_tasks m gifts)) m k ≡ has_task (given_tasks m gifts) m k) [
           | true ↦ ap (λ (b : Bool). b || has_task (given_tasks m gifts) m k) not_own
           | false ↦ refl
         ]) ∙ (has_given k gifts sorted.1 ∙ ap (λ (b : Bool). makes (cond b (Some gift) (gift_numbered k gifts))) (sym (ne_eqb gift.graft k other)))
@@ -137,7 +142,8 @@ module _ (setup : Setup) (seats : List Seat) where
           group_is = is;
           before = before;
           says = λ p bytes e. absurd (cc (at, e));
-          moves = λ p target e. ap (λ (k : ℕ). option_map (λ (g : ScriptGraft). g.step) (graft_at setup k)) (let n : grafts_before setup m + 1 ≡ grafts_before setup m + 0 + 1 = omega arith in n)
+          moves = λ p target e. ap (λ (k : ℕ). option_map (λ (g : ScriptGraft). g.step) (graft_at setup k))
+              (let n : grafts_before setup m + 1 ≡ grafts_before setup m + 0 + 1 = omega arith in n)
               ∙ ap (option_map (λ (g : ScriptGraft). g.step)) (graft_of_step setup m 0 q (MoveStep q to) at refl);
           evacuates = λ router e. absurd (cc (at, e));
           issuable = λ e. cc (at, e);
@@ -145,21 +151,25 @@ module _ (setup : Setup) (seats : List Seat) where
         tt,
       )
       by_step (Some (EvacuateStep router)) at =
-          given_tasks_all m (IsWaitingTask setup group next) (IsGiftOf setup m) given_waits (gifts_of setup seats (grafts_before setup m + 1) (Some (EvacuateStep router)))
-          (subst (λ (o : Option ScriptStep). AllByRecursion (IsGiftOf setup m) (gifts_of setup seats (grafts_before setup m + 1) o)) at (gifts_are setup seats all m))
+          given_tasks_all m (IsWaitingTask setup group next) (IsGiftOf setup m) given_waits
+          (gifts_of setup seats (grafts_before setup m + 1) (Some (EvacuateStep router)))
+          (subst (λ (o : Option ScriptStep). AllByRecursion (IsGiftOf setup m) (gifts_of setup seats (grafts_before setup m + 1) o)) at
+          (gifts_are setup seats all m))
       by_step (Some SettleStep) at = tt
 
   pub group_tasks_wait : (group next from len : ℕ) → length seats ≡ peerings_in setup
       → ((m : ℕ) → from ≤ m → m < from + len → group_of setup m ≡ group) → from + len ≤ next
       → AllByRecursion (IsWaitingTask setup group next) (group_tasks setup seats from len)
   group_tasks_wait group next from len all is ends =
-      all_range (tasks_at setup seats) (IsWaitingTask setup group next) from len (λ m behind within. tasks_wait group next all m (is m behind within) (omega (arith, within, ends)))
+      all_range (tasks_at setup seats) (IsWaitingTask setup group next) from len
+      (λ m behind within. tasks_wait group next all m (is m behind within) (omega (arith, within, ends)))
 
   -- ---- of which grafts there is a task
 
   has_of_step : (n k from len : ℕ) → from ≤ n → n < from + len → has_task (group_tasks setup seats from len) n k ≡ has_task (tasks_at setup seats n) n k
   has_of_step n k from len behind within = any_range (tasks_at setup seats) (is_task n k) n from len
-      (λ m other. none_passes (is_task n k) (tasks_at setup seats m) (all_map (λ task. task.step ≡ m) (λ task. is_task n k task ≡ false) (tasks_at setup seats m)
+      (λ m other. none_passes (is_task n k) (tasks_at setup seats m)
+      (all_map (λ task. task.step ≡ m) (λ task. is_task n k task ≡ false) (tasks_at setup seats m)
       (λ task is. is_other_step n k task (λ e. other (sym is ∙ e))) (tasks_of_step m (grafts_before setup m + 1) (slice_get setup.steps m)))) behind within
 
   pub has_move_task : (n k p target from len : ℕ) → slice_get setup.steps n ≡ Some (MoveStep p target) → k ≡ grafts_before setup n + 1 → from ≤ n
@@ -175,7 +185,8 @@ module _ (setup : Setup) (seats : List Seat) where
   has_gift_task n k router from len at behind within =
       has_of_step n k from len behind within
       ∙ (ap (λ (o : Option ScriptStep). has_task (tasks_of setup seats n (grafts_before setup n + 1) o) n k) at
-      ∙ (has_given n k (gifts_of setup seats (grafts_before setup n + 1) (Some (EvacuateStep router))) (gifts_of_step_rise setup seats (grafts_before setup n + 1) (Some (EvacuateStep router)))
+      ∙ (has_given n k (gifts_of setup seats (grafts_before setup n + 1) (Some (EvacuateStep router)))
+      (gifts_of_step_rise setup seats (grafts_before setup n + 1) (Some (EvacuateStep router)))
       ∙ ap (λ (o : Option ScriptStep). makes (gift_numbered k (gifts_of setup seats (grafts_before setup n + 1) o))) (sym at)))
 
   pub has_say_task : (n p : ℕ) (bytes : List ℕ) (from len : ℕ) → slice_get setup.steps n ≡ Some (SayStep p bytes) → from ≤ n → n < from + len
@@ -198,4 +209,5 @@ module _ (setup : Setup) (seats : List Seat) where
 
   pub group_tasks_unissued : (from len : ℕ) → AllByRecursion (λ task. task.issued ≡ false) (group_tasks setup seats from len)
   group_tasks_unissued from len =
-      all_range (tasks_at setup seats) (λ task. task.issued ≡ false) from len (λ m behind within. unissued_of_step m (grafts_before setup m + 1) (slice_get setup.steps m))
+      all_range (tasks_at setup seats) (λ task. task.issued ≡ false) from len
+      (λ m behind within. unissued_of_step m (grafts_before setup m + 1) (slice_get setup.steps m))

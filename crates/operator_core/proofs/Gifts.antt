@@ -1,5 +1,6 @@
 -- What the steps of a group give: for which grafts, in which order, into which slots; and that an evacuate step gives what the laboratory has it give.
-use Rattle.std.proofs.Common.{◌≡◌, ℕ, suc, ◌+◌, ◌-◌, ◌<◌, ◌≤◌, eqb, cond, Bool, true, false, List, [], ◌∷◌, length, map, Option, Some, None, refl, sym, ap, ◌∙◌, subst, inl, inr, arith}
+use Rattle.std.proofs.Common.{◌≡◌, ℕ, suc, ◌+◌, ◌-◌, ◌<◌, ◌≤◌, eqb, cond, Bool, true, false, List, [], ◌∷◌, length}
+use Rattle.std.proofs.Common.{map, Option, Some, None, refl, sym, ap, ◌∙◌, subst, inl, inr, arith}
 use Rattle.std.specs.Prelude.{◌≢◌, slice_get, slice_set, zip, filter}
 use Rattle.std.specs.List.{find, range_with_len, AllByRecursion}
 use Rattle.std.specs.Option.{option_map, option_or}
@@ -13,7 +14,8 @@ use Rattle.graft_edge.specs.declared.ids.RouterId.{RouterId}
 use Rattle.evacuation.specs.Plans.{TargetList, Plan, Done, Given, NotGiven, one_more_load, plan_for}
 use Rattle.evacuation.proofs.Loads.{length-one_more}
 use Rattle.evacuation.proofs.ThePlan.{plan_for-plan}
-use Rattle.graft_model.specs.Setups.{Setup, ScriptStep, SayStep, MoveStep, EvacuateStep, SettleStep, ScriptGraft, routers_in, router_numbers, peerings_in, grafts_before, graft_at}
+use Rattle.graft_model.specs.Setups.{Setup, ScriptStep, SayStep, MoveStep, EvacuateStep, SettleStep, ScriptGraft}
+use Rattle.graft_model.specs.Setups.{routers_in, router_numbers, peerings_in, grafts_before, graft_at}
 use Rattle.graft_model.specs.Evacuations.{peerings_at, loads_of as loads_by, rooms_of, targets_from, gift_of as gift_from, gift_to}
 use Rattle.graft_model.proofs.Numbers.{graft_of_step, numbered_peering, numbers_rise}
 use Rattle.operator_core.specs.declared.evacuate.Gift.{Gift}
@@ -56,17 +58,20 @@ give_at (gift ∷ gifts) slots i within counted sorted =
     elim (cases_eq gift.graft (suc i)) [
       | inl is ↦
           let index : gift.graft - 1 ≡ i = omega (arith, is) in
-          let none = none_found (has_number (suc i)) gifts (all_map (IsEarlier gift) (λ other. has_number (suc i) other ≡ false) gifts (λ other later. later_is_other gift other (suc i) is later) sorted.0) in
+          let none = none_found (has_number (suc i)) gifts (all_map (IsEarlier gift)
+          (λ other. has_number (suc i) other ≡ false) gifts (λ other later. later_is_other gift other (suc i) is later) sorted.0) in
           rest
           ∙ (ap (λ (o : Option Gift). option_or (option_map given_slot o) (slice_get more i)) none
           ∙ (ap (λ (p : ℕ). slice_get (slice_set slots p (given_slot gift)) i) index
           ∙ (get_set_same slots i (given_slot gift) within
-          ∙ ap (λ (b : Bool). option_or (option_map given_slot (cond b (Some gift) (gift_numbered (suc i) gifts))) (slice_get slots i)) (sym (eq-eqb gift.graft (suc i) is)))))
+          ∙ ap (λ (b : Bool). option_or (option_map given_slot (cond b (Some gift) (gift_numbered (suc i) gifts))) (slice_get slots i))
+          (sym (eq-eqb gift.graft (suc i) is)))))
       | inr other ↦
           let elsewhere : i ≢ gift.graft - 1 = λ e. other (omega (arith, e, one)) in
           rest
           ∙ (ap (option_or (option_map given_slot (gift_numbered (suc i) gifts))) (get_set_other slots (gift.graft - 1) i (given_slot gift) elsewhere)
-          ∙ ap (λ (b : Bool). option_or (option_map given_slot (cond b (Some gift) (gift_numbered (suc i) gifts))) (slice_get slots i)) (sym (ne_eqb gift.graft (suc i) other)))
+          ∙ ap (λ (b : Bool). option_or (option_map given_slot (cond b (Some gift) (gift_numbered (suc i) gifts))) (slice_get slots i))
+          (sym (ne_eqb gift.graft (suc i) other)))
     ]
 
 -- ---- the peerings of a router
@@ -77,9 +82,11 @@ IsLower p q = p.0 < q.0
 seated_within : (q : ℕ) (router : RouterId) (seats : List Seat) → AllByRecursion (λ p. (q ≤ p.0) × (p.0 < q + length seats)) (seated_from q router seats)
 seated_within q router [] = tt
 seated_within q router (seat ∷ seats) =
-    let rest = all_map (λ p. (q + 1 ≤ p.0) × (p.0 < q + 1 + length seats)) (λ p. (q ≤ p.0) × (p.0 < q + length (seat ∷ seats))) (seated_from (q + 1) router seats)
+    let rest = all_map (λ p. (q + 1 ≤ p.0) × (p.0 < q + 1 + length seats))
+    (λ p. (q ≤ p.0) × (p.0 < q + length (seat ∷ seats))) (seated_from (q + 1) router seats)
     (λ p is. (omega (arith, is.0), omega (arith, is.1))) (seated_within (q + 1) router seats) in
-    elim (eqb seat.place.0 router.0) as (λ b. AllByRecursion (λ p. (q ≤ p.0) × (p.0 < q + length (seat ∷ seats))) (cond b (record { 0 = q } ∷ seated_from (q + 1) router seats) (seated_from (q + 1) router seats))) [
+    elim (eqb seat.place.0 router.0) as (λ b. AllByRecursion (λ p. (q ≤ p.0) × (p.0 < q + length (seat ∷ seats)))
+    (cond b (record { 0 = q } ∷ seated_from (q + 1) router seats) (seated_from (q + 1) router seats))) [
       | true ↦ ((omega arith, omega arith), rest)
       | false ↦ rest
     ]
@@ -87,8 +94,13 @@ seated_within q router (seat ∷ seats) =
 seated_rises : (q : ℕ) (router : RouterId) (seats : List Seat) → Sorted IsLower (seated_from q router seats)
 seated_rises q router [] = tt
 seated_rises q router (seat ∷ seats) =
-    elim (eqb seat.place.0 router.0) as (λ b. Sorted IsLower (cond b (record { 0 = q } ∷ seated_from (q + 1) router seats) (seated_from (q + 1) router seats))) [
-      | true ↦ (all_map (λ p. (q + 1 ≤ p.0) × (p.0 < q + 1 + length seats)) (IsLower (record { 0 = q })) (seated_from (q + 1) router seats) (λ p is. omega (arith, is.0)) (seated_within (q + 1) router seats), seated_rises (q + 1) router seats)
+    elim (eqb seat.place.0 router.0)
+    as (λ b. Sorted IsLower (cond b (record { 0 = q } ∷ seated_from (q + 1) router seats) (seated_from (q + 1) router seats))) [
+      | true ↦ (
+        all_map (λ p. (q + 1 ≤ p.0) × (p.0 < q + 1 + length seats)) (IsLower (record { 0 = q }))
+            (seated_from (q + 1) router seats) (λ p is. omega (arith, is.0)) (seated_within (q + 1) router seats),
+        seated_rises (q + 1) router seats,
+      )
       | false ↦ seated_rises (q + 1) router seats
     ]
 
@@ -126,8 +138,10 @@ module _ (first : ℕ) (router : RouterId) where
   gifts_rise : (ps : List PeeringId) (ts : TargetList) → Sorted IsLower ps → Sorted IsEarlier (gifts_in ps ts)
   gifts_rise [] ts rises = tt
   gifts_rise (p ∷ ps) [] rises = tt
-  gifts_rise (p ∷ ps) (t ∷ ts) rises =
-      (gifts_all (IsEarlier (gift_for first router (p, t))) (IsLower p) (λ u. Unit {0}) (λ q u lower any. omega (arith, lower)) ps ts rises.0 (any_target ts), gifts_rise ps ts rises.1)
+  gifts_rise (p ∷ ps) (t ∷ ts) rises = (
+    gifts_all (IsEarlier (gift_for first router (p, t))) (IsLower p) (λ u. Unit {0}) (λ q u lower any. omega (arith, lower)) ps ts rises.0 (any_target ts),
+    gifts_rise ps ts rises.1,
+  )
 
   slot_says : (k : ℕ) (p : PeeringId) (t : Option RouterId) (q : ℕ)
       → slot_gift (Some (given_slot (record { graft = k; peering = p; router = router; target = t }))) ≡ gift_from router.0 (Some (q, t))
@@ -141,11 +155,13 @@ module _ (first : ℕ) (router : RouterId) where
   slot_of_found p k is (q ∷ ps) [] = refl
   slot_of_found p k is (q ∷ ps) (t ∷ ts) = elim (cases_eq q.0 p) [
     | inl same ↦
-        ap (λ (b : Bool). slot_gift (option_map given_slot (cond b (Some (gift_for first router (q, t))) (gift_numbered k (gifts_in ps ts))))) (eq-eqb (first + q.0) k (omega (arith, same, is)))
+        ap (λ (b : Bool). slot_gift (option_map given_slot (cond b (Some (gift_for first router (q, t))) (gift_numbered k (gifts_in ps ts)))))
+        (eq-eqb (first + q.0) k (omega (arith, same, is)))
         ∙ (slot_says (first + q.0) q t q.0
         ∙ ap (λ (b : Bool). gift_from router.0 (cond b (Some (q.0, t)) (find (λ e. eqb e.0 p) (zip (map (λ q. q.0) ps) ts)))) (sym (eq-eqb q.0 p same)))
     | inr other ↦
-        ap (λ (b : Bool). slot_gift (option_map given_slot (cond b (Some (gift_for first router (q, t))) (gift_numbered k (gifts_in ps ts))))) (ne_eqb (first + q.0) k (λ e. other (omega (arith, e, is))))
+        ap (λ (b : Bool). slot_gift (option_map given_slot (cond b (Some (gift_for first router (q, t))) (gift_numbered k (gifts_in ps ts)))))
+        (ne_eqb (first + q.0) k (λ e. other (omega (arith, e, is))))
         ∙ (slot_of_found p k is ps ts
         ∙ ap (λ (b : Bool). gift_from router.0 (cond b (Some (q.0, t)) (find (λ e. eqb e.0 p) (zip (map (λ q. q.0) ps) ts)))) (sym (ne_eqb q.0 p other)))
   ]
@@ -168,8 +184,10 @@ module _ (placed : ℕ → ℕ) where
   seated_is router q (seat ∷ seats) are =
       let rest = seated_is router (q + 1) seats (others_placed q seat seats are) in
       let others : List ℕ = filter (λ p. eqb (placed p) router.0) (range_with_len (q + 1) (length seats)) in
-      ap (λ (r : ℕ). map (λ (p : PeeringId). p.0) (cond (eqb r router.0) (record { 0 = q } ∷ seated_from (q + 1) router seats) (seated_from (q + 1) router seats))) (first_placed q seat seats are)
-      ∙ (elim (eqb (placed q) router.0) as (λ b. map (λ (p : PeeringId). p.0) (cond b (record { 0 = q } ∷ seated_from (q + 1) router seats) (seated_from (q + 1) router seats)) ≡ cond b (q ∷ others) others) [
+      ap (λ (r : ℕ). map (λ (p : PeeringId). p.0)
+      (cond (eqb r router.0) (record { 0 = q } ∷ seated_from (q + 1) router seats) (seated_from (q + 1) router seats))) (first_placed q seat seats are)
+      ∙ (elim (eqb (placed q) router.0) as (λ b. map (λ (p : PeeringId). p.0)
+      (cond b (record { 0 = q } ∷ seated_from (q + 1) router seats) (seated_from (q + 1) router seats)) ≡ cond b (q ∷ others) others) [
         | true ↦ ap (◌∷◌ q) rest
         | false ↦ rest
       ])
@@ -213,7 +231,8 @@ module _ (setup : Setup) (seats : List Seat) where
       let number : grafts_before setup m + p.0 + 1 ≡ grafts_before setup m + 1 + p.0 = omega arith in
       record {
         step = at;
-        graft = subst (λ (z : ℕ). graft_at setup z ≡ Some (record { graft = z; peering = p.0; step = m })) number (graft_of_step setup m p.0 p.0 (EvacuateStep router.0) at (numbered_peering setup p.0 there));
+        graft = subst (λ (z : ℕ). graft_at setup z ≡ Some (record { graft = z; peering = p.0; step = m })) number
+            (graft_of_step setup m p.0 p.0 (EvacuateStep router.0) at (numbered_peering setup p.0 there));
         there = below;
       }
 
@@ -228,9 +247,11 @@ module _ (setup : Setup) (seats : List Seat) where
         let router : RouterId = record { 0 = r } in
         let ps : List PeeringId = seated_from 0 router seats in
         let plan = plan_for-plan (rooms_of setup) r (seat_loads seats (routers_in setup)) (length ps) in
-        gifts_all (grafts_before setup m + 1) router (IsGiftOf setup m) (λ p. p.0 < peerings_in setup) (IsBelow (routers_in setup)) (λ p t there below. gift_is_of m router p t e there below) ps
+        gifts_all (grafts_before setup m + 1) router (IsGiftOf setup m) (λ p. p.0 < peerings_in setup)
+        (IsBelow (routers_in setup)) (λ p t there below. gift_is_of m router p t e there below) ps
         (plan_for (rooms_of setup) r (seat_loads seats (routers_in setup)) (length ps))
-        (all_map (λ p. (0 ≤ p.0) × (p.0 < 0 + length seats)) (λ p. p.0 < peerings_in setup) ps (λ p is. omega (arith, is.1, all)) (seated_within 0 router seats))
+        (all_map (λ p. (0 ≤ p.0) × (p.0 < 0 + length seats)) (λ p. p.0 < peerings_in setup) ps
+        (λ p is. omega (arith, is.1, all)) (seated_within 0 router seats))
         (plan_below (rooms_of setup) r (routers_in setup) (seat_loads seats (routers_in setup)) (length ps) _ plan length-loads)
 
   pub gifts_of_step_rise : (number : ℕ) (o : Option ScriptStep) → Sorted IsEarlier (gifts_of setup seats number o)
@@ -242,18 +263,22 @@ module _ (setup : Setup) (seats : List Seat) where
       gifts_rise number (record { 0 = r }) (seated_from 0 (record { 0 = r }) seats) _ (seated_rises 0 (record { 0 = r }) seats)
 
   pub group_gifts_rise : length seats ≡ peerings_in setup → (from len : ℕ) → Sorted IsEarlier (group_gifts setup seats from len)
-  group_gifts_rise all from len = sorted_range (gifts_at setup seats) IsEarlier (IsGiftOf setup) (gifts_are all) (λ m. gifts_of_step_rise (grafts_before setup m + 1) (slice_get setup.steps m))
-      (λ m n gift other less one another. numbers_rise setup (record { graft = gift.graft; peering = gift.peering.0; step = m }) (record { graft = other.graft; peering = other.peering.0; step = n }) one.graft another.graft less)
+  group_gifts_rise all from len = sorted_range (gifts_at setup seats) IsEarlier (IsGiftOf setup)
+      (gifts_are all) (λ m. gifts_of_step_rise (grafts_before setup m + 1) (slice_get setup.steps m))
+      (λ m n gift other less one another. numbers_rise setup (record { graft = gift.graft; peering = gift.peering.0; step = m })
+      (record { graft = other.graft; peering = other.peering.0; step = n }) one.graft another.graft less)
       from len
 
   pub group_gifts_are : length seats ≡ peerings_in setup → (from len : ℕ) → AllByRecursion (IsGiftWithin setup from len) (group_gifts setup seats from len)
   group_gifts_are all from len = all_range (gifts_at setup seats) (IsGiftWithin setup from len) from len (λ m behind within.
-      all_map (IsGiftOf setup m) (IsGiftWithin setup from len) (gifts_at setup seats m) (λ gift is. record { index = m; behind = behind; within = within; of = is }) (gifts_are all m))
+      all_map (IsGiftOf setup m) (IsGiftWithin setup from len) (gifts_at setup seats m)
+      (λ gift is. record { index = m; behind = behind; within = within; of = is }) (gifts_are all m))
 
   -- no step but a graft's own gives to it
   given_by_own : length seats ≡ peerings_in setup → (g : ScriptGraft) (k : ℕ) → graft_at setup k ≡ Some g → (m : ℕ) → m ≢ g.step
       → gift_numbered k (gifts_at setup seats m) ≡ None
-  given_by_own all g k known m other = none_found (has_number k) (gifts_at setup seats m) (all_map (IsGiftOf setup m) (λ gift. has_number k gift ≡ false) (gifts_at setup seats m)
+  given_by_own all g k known m other =
+      none_found (has_number k) (gifts_at setup seats m) (all_map (IsGiftOf setup m) (λ gift. has_number k gift ≡ false) (gifts_at setup seats m)
       (λ gift is. ne_eqb gift.graft k (λ same. other (step_of gift is same))) (gifts_are all m))
     where
       step_of : (gift : Gift) → IsGiftOf setup m gift → gift.graft ≡ k → m ≡ g.step
@@ -265,7 +290,8 @@ module _ (setup : Setup) (seats : List Seat) where
   pub numbered_in_group : length seats ≡ peerings_in setup → (g : ScriptGraft) (k : ℕ) → graft_at setup k ≡ Some g → (from len : ℕ) → from ≤ g.step
       → g.step < from + len
       → gift_numbered k (group_gifts setup seats from len) ≡ gift_numbered k (gifts_at setup seats g.step)
-  numbered_in_group all g k known from len behind within = find_range (gifts_at setup seats) (has_number k) g.step from len (given_by_own all g k known) behind within
+  numbered_in_group all g k known from len behind within =
+      find_range (gifts_at setup seats) (has_number k) g.step from len (given_by_own all g k known) behind within
 
   -- ---- what the laboratory gives
 

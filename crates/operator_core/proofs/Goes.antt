@@ -56,7 +56,8 @@ pub numbers_fit : (peerings : ℕ) (steps : List ScriptStep) (numbers : List ℕ
 numbers_fit peerings steps numbers few short are = record {
   all = are.all;
   each = λ n l. (
-      let sum : sum_by (grafts_by peerings) (take n steps) ≤ length (take n steps) * 256 = sum_by-le (grafts_by peerings) 256 (take n steps) (λ k d m. few_grafts peerings few _) in
+      let sum : sum_by (grafts_by peerings) (take n steps) ≤ length (take n steps) * 256 =
+      sum_by-le (grafts_by peerings) 256 (take n steps) (λ k d m. few_grafts peerings few _) in
       let taken = length-take n steps in
       let number = are.each n l in
       omega (arith, sum, taken, number, short, l));
@@ -64,7 +65,8 @@ numbers_fit peerings steps numbers few short are = record {
 
 -- ---- a group that begins, as the program has it
 
-module _ (setup : Setup) (script : Script) (is : IsScriptOf setup script) (numbers : List ℕ) (are : AreNumbers (length script.starts) script.steps numbers) (seats : List Seat) (from : ℕ)
+module _ (setup : Setup) (script : Script) (is : IsScriptOf setup script) (numbers : List ℕ)
+    (are : AreNumbers (length script.starts) script.steps numbers) (seats : List Seat) (from : ℕ)
     (group : Group) (begins : IsGroupFrom script numbers seats from group) where
   pub others : (n : ℕ) → from ≤ n → n < from + begins.len → slice_get setup.steps n ≢ Some SettleStep
   others n l m e = begins.ends.others n l m (settle_back setup script is n e)
@@ -101,14 +103,16 @@ module _ (old : Progress) (sound : ProgressInvariant old) (free : IsHeldUp old.k
   -- each gift has a slot
   pub next_gifts_fit : All (λ (gift : Gift). (1 ≤ gift.graft) × (gift.graft ≤ length old.slots.items)) group.gifts
   next_gifts_fit = subst (All (λ (gift : Gift). (1 ≤ gift.graft) × (gift.graft ≤ length old.slots.items))) (sym next_gifts)
-      (gifts_have_slots old.known.setup (old.group + 1) old.next begins.len old.slots.items old.seats.items (ready (progress_state old) sound.keeps free begins.len next_others next_settle))
+      (gifts_have_slots old.known.setup (old.group + 1) old.next begins.len old.slots.items old.seats.items
+      (ready (progress_state old) sound.keeps free begins.len next_others next_settle))
 
   abbrev then : State
   then = next_state (progress_state old) sound.keeps free begins.len next_others next_settle
 
   module _ {C : Type 0} (new : Progress) (before after : Post (Item C)) where
     pub go_begins : IsKnown new → new.known ≡ old.known
-        → progress_state new ≡ record (progress_state old) { group = old.group + 1; next = group.next; waiting = unissued group.tasks.items; slots = give group.gifts old.slots.items }
+        → progress_state new ≡ record (progress_state
+        old) { group = old.group + 1; next = group.next; waiting = unissued group.tasks.items; slots = give group.gifts old.slots.items }
         → WroteOne before (operator_code Go) [] after → BeginsNextGroup old before new after true
     go_begins known same new_is wrote = record {
       deeds = deed_of before (operator_code Go) None [] ∷ [];
@@ -116,22 +120,28 @@ module _ (old : Progress) (sound : ProgressInvariant old) (free : IsHeldUp old.k
         wrote = wrote None;
         replay = λ session. (
           own_part_of then,
-          goes session old.known.setup (part_of_state (progress_state old)) (part_of_state then) (clock_of before + 1) (actor_of before) (next_row (progress_state old) sound.keeps free begins.len next_others next_settle),
+          goes session old.known.setup (part_of_state (progress_state old)) (part_of_state then) (clock_of before + 1)
+              (actor_of before) (next_row (progress_state old) sound.keeps free begins.len next_others next_settle),
           ap own_part_of whole,
         );
         known = same;
-        sound = record { known = known; keeps = subst OperatorInvariant (sym whole) (next_keeps (progress_state old) sound.keeps free begins.len next_others next_settle) };
+        sound = record {
+          known = known;
+          keeps = subst OperatorInvariant (sym whole) (next_keeps (progress_state old) sound.keeps free begins.len next_others next_settle);
+        };
       };
       none = (refl, tt);
       made = (λ e. absurd cc, λ e. absurd cc);
       held = (λ e. absurd cc, λ h. absurd (free h));
       few = omega arith;
-      emptied = λ e. subst (λ (s : State). GivesEmptiedSessions old.known.setup (part_of_state (progress_state old)) (part_of_state s)) (sym whole) (next_emptied (progress_state old) sound.keeps free begins.len next_others next_settle);
+      emptied = λ e. subst (λ (s : State). GivesEmptiedSessions old.known.setup (part_of_state (progress_state old)) (part_of_state s))
+          (sym whole) (next_emptied (progress_state old) sound.keeps free begins.len next_others next_settle);
     }
       where
         whole : progress_state new ≡ then
         whole = new_is
-            ∙ (λ i. record (progress_state old) { group = old.group + 1; next = begins.next i; waiting = next_tasks i; slots = give (next_gifts i) old.slots.items })
+            ∙ (λ i. record (progress_state
+            old) { group = old.group + 1; next = begins.next i; waiting = next_tasks i; slots = give (next_gifts i) old.slots.items })
 
 pub go_held : {C : Type 0} (old : Progress) (before : Post (Item C)) → ProgressInvariant old
     → IsHeldUp old.known.setup (part_of_state (progress_state old)) → BeginsNextGroup old before old before false
@@ -154,30 +164,37 @@ module _ (setup : Setup) (script : Script) (is : IsScriptOf setup script) (worka
   steps_are_sound : StepsAreSound setup
   steps_are_sound = record {
     says = λ n p bytes e. (
-        let w : p < length script.starts = all_at (IsWorkableStep script) script.steps n (Say (record { 0 = p })) workable.steps (step_at setup script is n ∙ ap (option_map step_for) e) in
+        let w : p < length script.starts = all_at (IsWorkableStep script) script.steps n
+        (Say (record { 0 = p })) workable.steps (step_at setup script is n ∙ ap (option_map step_for) e) in
         let f : length script.starts ≡ peerings_in setup = as_many_peerings setup script is in
         omega arith);
     moves = λ n p target e. (
-        let w : (p < length script.starts) × (target < length script.rooms) = all_at (IsWorkableStep script) script.steps n (Graft (record { 0 = p }) (record { 0 = target })) workable.steps (step_at setup script is n ∙ ap (option_map step_for) e) in
+        let w : (p < length script.starts) × (target < length script.rooms) = all_at (IsWorkableStep script) script.steps n
+        (Graft (record { 0 = p }) (record { 0 = target })) workable.steps (step_at setup script is n ∙ ap (option_map step_for) e) in
         let a : p < length script.starts = w.0 in
         let b : target < length script.rooms = w.1 in
         let f : length script.starts ≡ peerings_in setup = as_many_peerings setup script is in
         let g : length script.rooms ≡ routers_in setup = as_many_routers setup script is in
         (omega arith, omega arith));
     evacuates = λ n router e. (
-        let w : router < length script.rooms = all_at (IsWorkableStep script) script.steps n (Evacuate (record { 0 = router })) workable.steps (step_at setup script is n ∙ ap (option_map step_for) e) in
+        let w : router < length script.rooms = all_at (IsWorkableStep script) script.steps n
+        (Evacuate (record { 0 = router })) workable.steps (step_at setup script is n ∙ ap (option_map step_for) e) in
         let g : length script.rooms ≡ routers_in setup = as_many_routers setup script is in
         omega arith);
   }
 
   starts_are_there : (p : ℕ) (peering : PeeringSetup) → slice_get setup.peerings p ≡ Some peering → peering.start < routers_in setup
   starts_are_there p peering e =
-      let f : slice_get script.starts p ≡ Some (record { 0 = peering.start }) = ap (λ xs. slice_get xs p) is.starts ∙ slice_get-map (λ (x : PeeringSetup). let id : RouterId = record { 0 = x.start } in id) setup.peerings p ∙ ap (option_map (λ (x : PeeringSetup). let id : RouterId = record { 0 = x.start } in id)) e in
-      let l : peering.start < length script.rooms = all_at (λ (start : RouterId). start.0 < length script.rooms) script.starts p (record { 0 = peering.start }) workable.starts f in
+      let f : slice_get script.starts p ≡ Some (record { 0 = peering.start }) =
+      ap (λ xs. slice_get xs p) is.starts ∙ slice_get-map (λ (x : PeeringSetup). let id : RouterId = record { 0 = x.start } in id) setup.peerings p
+      ∙ ap (option_map (λ (x : PeeringSetup). let id : RouterId = record { 0 = x.start } in id)) e in
+      let l : peering.start < length script.rooms =
+      all_at (λ (start : RouterId). start.0 < length script.rooms) script.starts p (record { 0 = peering.start }) workable.starts f in
       let g : length script.rooms ≡ routers_in setup = as_many_routers setup script is in
       omega arith
 
-  module _ (numbers : List ℕ) (are : AreNumbers (length script.starts) script.steps numbers) (seats : List Seat) (seats_are : seats ≡ map seat_at script.starts) (slots : List Slot)
+  module _ (numbers : List ℕ) (are : AreNumbers (length script.starts) script.steps numbers)
+      (seats : List Seat) (seats_are : seats ≡ map seat_at script.starts) (slots : List Slot)
       (slots_are : slots ≡ first_slots (length script.starts) 0 script.steps) (group : Group) (begins : IsGroupFrom script numbers seats 0 group) where
     first_others : (n : ℕ) → 0 ≤ n → n < 0 + begins.len → slice_get setup.steps n ≢ Some SettleStep
     first_others = others setup script is numbers are seats 0 group begins
@@ -212,7 +229,8 @@ module _ (setup : Setup) (script : Script) (is : IsScriptOf setup script) (worka
     first_state = begun setup 0 0 begins.len slots_then seats_then (first_ready setup steps_are_sound starts_are_there begins.len first_others first_settle)
 
     first_keeps : OperatorInvariant first_state
-    first_keeps = begun_keeps setup 0 0 begins.len slots_then seats_then (first_ready setup steps_are_sound starts_are_there begins.len first_others first_settle)
+    first_keeps = begun_keeps setup 0 0 begins.len slots_then seats_then
+        (first_ready setup steps_are_sound starts_are_there begins.len first_others first_settle)
 
     first_is : (p : Progress) → p.known.setup ≡ setup → p.group ≡ 0 → p.next ≡ group.next → p.tasks.items ≡ group.tasks.items
         → p.slots.items ≡ give group.gifts slots → p.seats.items ≡ seats → progress_state p ≡ first_state
@@ -241,7 +259,8 @@ begins_with known p is_known script workable numbers no_group group begins next 
       short = workable.short;
       ended = workable.ended;
     };
-    keeps = subst OperatorInvariant (sym whole) (first_keeps known.setup p.script script workable p.numbers numbers p.seats.items seats_are slots slots_are group begins);
+    keeps = subst OperatorInvariant (sym whole)
+        (first_keeps known.setup p.script script workable p.numbers numbers p.seats.items seats_are slots slots_are group begins);
   };
   part = ap part_of_state whole
       ∙ first_part known.setup (steps_are_sound known.setup p.script script workable) (starts_are_there known.setup p.script script workable) begins.len
@@ -250,4 +269,5 @@ begins_with known p is_known script workable numbers no_group group begins next 
 }
   where
     whole : progress_state p ≡ first_state known.setup p.script script workable p.numbers numbers p.seats.items seats_are slots slots_are group begins
-    whole = first_is known.setup p.script script workable p.numbers numbers p.seats.items seats_are slots slots_are group begins p (ap (λ (k : Known). k.setup) is_known) no_group next tasks slots_is refl
+    whole = first_is known.setup p.script script workable p.numbers numbers p.seats.items seats_are slots slots_are group begins p
+        (ap (λ (k : Known). k.setup) is_known) no_group next tasks slots_is refl

@@ -99,14 +99,17 @@ staying_is setup g k p router stays =
 module _ (s : State) (keeps : OperatorInvariant s) where
   slot_entries : (i : ℕ) (g : ScriptGraft) (slot : Slot) → slice_get (grafts_in s.setup) i ≡ Some g → slice_get s.slots i ≡ Some slot → IsSlotOf s.setup g slot
       → entries_in_slot slot ≡ log_entries (part_of_state s) (slice_get s.setup.steps g.step) g
-  slot_entries i g Unmade at there fits = sym (no_entries s.setup (part_of_state s) g (slice_get s.setup.steps g.step) (fits.unmade refl) (own_given s.setup s.slots i g at Unmade there))
+  slot_entries i g Unmade at there fits =
+      sym (no_entries s.setup (part_of_state s) g (slice_get s.setup.steps g.step) (fits.unmade refl) (own_given s.setup s.slots i g at Unmade there))
   slot_entries i g (Stays k p router) at there fits =
       let stays : IsStaying s.setup g k p router = fits.stays k p router refl in
       staying_is s.setup g k p router stays
-      ∙ sym (staying_entries s.setup (part_of_state s) g (slice_get s.setup.steps g.step) k p router stays.emptied (own_given s.setup s.slots i g at (Stays k p router) there))
+      ∙ sym (staying_entries s.setup (part_of_state s) g (slice_get s.setup.steps g.step) k p router stays.emptied
+      (own_given s.setup s.slots i g at (Stays k p router) there))
   slot_entries i g (Made entry) at there fits =
       let made : IsMade s.setup g entry = fits.made entry refl in
-      ap (λ (x : GraftEntry). x ∷ []) (entry_is s.setup (part_of_state s) g entry made (own_source s.setup s.slots i g at entry there) (own_outcome s.setup s.slots i g at entry there))
+      ap (λ (x : GraftEntry). x ∷ []) (entry_is s.setup (part_of_state s) g entry made
+      (own_source s.setup s.slots i g at entry there) (own_outcome s.setup s.slots i g at entry there))
       ∙ sym (made_entries s.setup (part_of_state s) g (slice_get s.setup.steps g.step) entry made.target (own_given s.setup s.slots i g at (Made entry) there))
 
   pub log_is : flat_map entries_in_slot s.slots ≡ log_of s.setup (part_of_state s)

@@ -9,7 +9,8 @@ use Rattle.operator_core.proofs.Lists.{there_is}
 use Rattle.operator_core.proofs.Scripts.{groups_rise, group_after_settle, group_after_other}
 
 module _ (setup : Setup) where
-  module _ (group from len : ℕ) (begins : group_of setup from ≡ group) (others : (n : ℕ) → from ≤ n → n < from + len → slice_get setup.steps n ≢ Some SettleStep)
+  module _ (group from len : ℕ) (begins : group_of setup from ≡ group)
+      (others : (n : ℕ) → from ≤ n → n < from + len → slice_get setup.steps n ≢ Some SettleStep)
       (settle : slice_get setup.steps (from + len) ≡ Some SettleStep) where
     spans : (j : ℕ) → j ≤ len → group_of setup (from + j) ≡ group
     spans zero within = ap (group_of setup) (let e : from + zero ≡ from = omega arith in e) ∙ begins
@@ -17,7 +18,8 @@ module _ (setup : Setup) where
         let end = slice_get_within setup.steps (from + len) SettleStep settle in
         let step = there_is setup.steps (from + j) (omega (arith, within, end)) in
         ap (group_of setup) (let e : from + suc j ≡ from + j + 1 = omega arith in e)
-        ∙ (group_after_other setup (from + j) step.0 step.1 (λ is. others (from + j) (omega arith) (omega (arith, within)) (step.1 ∙ ap Some is)) ∙ spans j (omega (arith, within)))
+        ∙ (group_after_other setup (from + j) step.0 step.1 (λ is. others (from + j) (omega arith) (omega (arith, within)) (step.1 ∙ ap Some is))
+        ∙ spans j (omega (arith, within)))
 
     pub group_in_span : (n : ℕ) → from ≤ n → n ≤ from + len → group_of setup n ≡ group
     group_in_span n behind within =

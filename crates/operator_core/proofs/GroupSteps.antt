@@ -24,12 +24,14 @@ flat_alike f g from (suc len) same =
     ap (λ xs. xs ++ flat_map f (range_with_len (from + 1) len)) (same from (omega arith) (omega arith))
     ∙ ap (λ xs. g from ++ xs) (flat_alike f g (from + 1) len (λ n l m. same n (omega arith) (omega arith)))
 
-module _ (setup : Setup) (script : Script) (is : IsScriptOf setup script) (numbers : List ℕ) (are : AreNumbers (length script.starts) script.steps numbers) (seats : List Seat) where
+module _ (setup : Setup) (script : Script) (is : IsScriptOf setup script) (numbers : List ℕ)
+    (are : AreNumbers (length script.starts) script.steps numbers) (seats : List Seat) where
   routers_are : length script.rooms ≡ routers_in setup
   routers_are = as_many_routers setup script is
 
   to_alike : (one other router : ℕ) → one ≡ other
-      → gifts_to one (record { 0 = router }) seats (seat_loads seats (length script.rooms)) script.rooms ≡ gifts_to other (record { 0 = router }) seats (seat_loads seats (routers_in setup)) (rooms_of setup)
+      → gifts_to one (record { 0 = router }) seats (seat_loads seats (length script.rooms)) script.rooms
+      ≡ gifts_to other (record { 0 = router }) seats (seat_loads seats (routers_in setup)) (rooms_of setup)
   to_alike one other router same = λ i. gifts_to (same i) (record { 0 = router }) seats (seat_loads seats (routers_are i)) (is.rooms i)
 
   gifts_by_step : (n : ℕ) → slice_index_or numbers n 0 ≡ grafts_before setup n + 1 → (o : Option StepOf)
@@ -54,8 +56,10 @@ module _ (setup : Setup) (script : Script) (is : IsScriptOf setup script) (numbe
   module _ (from len : ℕ) (within : from + len < length script.steps) where
     pub same_gifts : flat_map (groups.gifts_at script numbers seats) (range_with_len from len) ≡ group_gifts setup seats from len
     same_gifts = flat_alike (groups.gifts_at script numbers seats) (gifts_at setup seats) from len
-        (λ n l m. ap (groups.gifts_of_step script numbers seats n) (step_at setup script is n) ∙ gifts_by_step n (number_is n (omega arith)) (slice_get setup.steps n))
+        (λ n l m. ap (groups.gifts_of_step script numbers seats n) (step_at setup script is n)
+        ∙ gifts_by_step n (number_is n (omega arith)) (slice_get setup.steps n))
 
     pub same_tasks : flat_map (groups.tasks_at script numbers seats) (range_with_len from len) ≡ group_tasks setup seats from len
     same_tasks = flat_alike (groups.tasks_at script numbers seats) (tasks_at setup seats) from len
-        (λ n l m. ap (groups.tasks_of_step script numbers seats n) (step_at setup script is n) ∙ tasks_by_step n (number_is n (omega arith)) (slice_get setup.steps n))
+        (λ n l m. ap (groups.tasks_of_step script numbers seats n) (step_at setup script is n)
+        ∙ tasks_by_step n (number_is n (omega arith)) (slice_get setup.steps n))

@@ -26,7 +26,8 @@ pub last_settle : (p : Progress) → IsKnown p
 last_settle p known =
     let e : length p.script.steps ≡ length p.known.setup.steps = as_many_steps p.known.setup p.script known.script in
     let l : length p.script.steps - 1 < length p.script.steps = slice_get_within p.script.steps (length p.script.steps - 1) Settle known.ended in
-    let settles : slice_get p.known.setup.steps (length p.script.steps - 1) ≡ Some SettleStep = settle_there p.known.setup p.script known.script (length p.script.steps - 1) known.ended in
+    let settles : slice_get p.known.setup.steps (length p.script.steps - 1) ≡ Some SettleStep =
+    settle_there p.known.setup p.script known.script (length p.script.steps - 1) known.ended in
     (omega (arith, e, l), ap (λ n. slice_get p.known.setup.steps (n - 1)) (sym e) ∙ settles)
 
 module _ (s : State) (keeps : OperatorInvariant s) where

@@ -1,5 +1,6 @@
 -- A task that is issued: what it makes, and what stays true.
-use Rattle.std.proofs.Common.{◌≡◌, ℕ, zero, suc, ◌+◌, ◌<◌, ◌≤◌, ◌==◌, nat_lt, Bool, true, false, not, ◌&&◌, List, [], ◌∷◌, ◌++◌, length, Option, Some, None, refl, sym, ap, ◌∙◌, subst, inl, inr, arith}
+use Rattle.std.proofs.Common.{◌≡◌, ℕ, zero, suc, ◌+◌, ◌<◌, ◌≤◌, ◌==◌, nat_lt, Bool, true, false, not, ◌&&◌, List, [], ◌∷◌}
+use Rattle.std.proofs.Common.{◌++◌, length, Option, Some, None, refl, sym, ap, ◌∙◌, subst, inl, inr, arith}
 use Rattle.std.specs.Prelude.{◌≢◌, ◌⊎◌, slice_get, if◌then◌else◌}
 use Rattle.std.specs.List.{AllByRecursion}
 use Rattle.std.specs.Option.{option_map}
@@ -20,11 +21,14 @@ use Rattle.operator_core.specs.Grafts.{is_waiting, outcome_at}
 use Rattle.operator_core.specs.Slots.{slot_at, move_of, source_in, outcome_in, given_in}
 use Rattle.operator_core.specs.Tasks.{is_task, has_task}
 use Rattle.operator_core.specs.States.{State, is_say, issued_in, part_of_state}
-use Rattle.operator_core.specs.Keeps.{Precedes, Rises, IsGraftTask, IsWaitingTask, IsMade, IsSlot, slot_waits, InTurn, SlotsStand, IsSeat, SeatsStand, OperatorInvariant, with_slots}
+use Rattle.operator_core.specs.Keeps.{Precedes, Rises, IsGraftTask, IsWaitingTask, IsMade, IsSlot, slot_waits, InTurn}
+use Rattle.operator_core.specs.Keeps.{SlotsStand, IsSeat, SeatsStand, OperatorInvariant, with_slots}
 use Rattle.operator_core.specs.Issues.{IsGraftHeldUp, waiting_are, issued_entry, moving_seat, graft_issued}
-use Rattle.operator_core.proofs.Lists.{by_test, compare, get_set_same, get_set_other, length_set, there_is, one_member, all_append, all_append_left, all_append_right, one_passes, any_about, any_here, any_without}
+use Rattle.operator_core.proofs.Lists.{by_test, compare, get_set_same, get_set_other, length_set, there_is, one_member, all_append}
+use Rattle.operator_core.proofs.Lists.{all_append_left, all_append_right, one_passes, any_about, any_here, any_without}
 use Rattle.operator_core.proofs.TaskOrder.{task_names, is_that_task, is_other_step, is_other_graft, follow, precede, once_in, rises_without}
-use Rattle.operator_core.proofs.SlotLaws.{slot_next, source_set, outcome_stays, given_stays, graft_there, number, own_source, own_outcome, own_target, IsOwned, owner, slot_there, same_entry, waiting_has_no_outcome, ordered_has_ended}
+use Rattle.operator_core.proofs.SlotLaws.{slot_next, source_set, outcome_stays, given_stays, graft_there, number, own_source, own_outcome}
+use Rattle.operator_core.proofs.SlotLaws.{own_target, IsOwned, owner, slot_there, same_entry, waiting_has_no_outcome, ordered_has_ended}
 use Rattle.operator_core.proofs.Scripts.{groups_rise}
 
 -- a say of the group or an earlier one that isn't issued waits
@@ -33,7 +37,8 @@ unissued_waits s m say before unissued = elim (by_test (has_task s.waiting m 0))
   | inl e ↦ e
   | inr e ↦
       let f : nat_lt m s.next ≡ true = grind (arith, nat_tests) in
-      let g : issued_in s m ≡ true = ap (λ b. b && nat_lt m s.next && not (has_task s.waiting m 0)) say ∙ ap (λ b. true && b && not (has_task s.waiting m 0)) f ∙ ap (λ b. true && true && not b) e in
+      let g : issued_in s m ≡ true = ap (λ b. b && nat_lt m s.next && not (has_task s.waiting m 0)) say
+      ∙ ap (λ b. true && b && not (has_task s.waiting m 0)) f ∙ ap (λ b. true && true && not b) e in
       absurd (let h : false ≡ true = sym unissued ∙ g in cc)
 ]
 
@@ -61,7 +66,8 @@ waits_for_graft s keeps task w some = by_step found.0 found.1
     by_step (EvacuateStep router) e = w.evacuates router e
     by_step SettleStep e = absurd (w.issuable e)
 
-module _ (s : State) (keeps : OperatorInvariant s) (kept rest : List Task) (task : Task) (waiting : s.waiting ≡ kept ++ task ∷ rest) (held : AllByRecursion (IsGraftHeldUp s) kept) where
+module _ (s : State) (keeps : OperatorInvariant s) (kept rest : List Task) (task : Task)
+    (waiting : s.waiting ≡ kept ++ task ∷ rest) (held : AllByRecursion (IsGraftHeldUp s) kept) where
   rising : Rises (kept ++ task ∷ rest)
   rising = subst Rises waiting keeps.rising
 
@@ -72,7 +78,8 @@ module _ (s : State) (keeps : OperatorInvariant s) (kept rest : List Task) (task
   waits = (all_append_right (IsWaitingTask s.setup s.group s.next) kept (task ∷ rest) all_wait).0
 
   others_wait : AllByRecursion (IsWaitingTask s.setup s.group s.next) (kept ++ rest)
-  others_wait = all_append (IsWaitingTask s.setup s.group s.next) kept rest (all_append_left (IsWaitingTask s.setup s.group s.next) kept (task ∷ rest) all_wait) (all_append_right (IsWaitingTask s.setup s.group s.next) kept (task ∷ rest) all_wait).1
+  others_wait = all_append (IsWaitingTask s.setup s.group s.next) kept rest (all_append_left (IsWaitingTask s.setup s.group s.next) kept
+      (task ∷ rest) all_wait) (all_append_right (IsWaitingTask s.setup s.group s.next) kept (task ∷ rest) all_wait).1
 
   others_rise : Rises (kept ++ rest)
   others_rise = rises_without kept task rest rising
@@ -91,7 +98,8 @@ module _ (s : State) (keeps : OperatorInvariant s) (kept rest : List Task) (task
 
   -- a task that waits is held up, is this one, or stands behind it
   about : (n k : ℕ) → has_task s.waiting n k ≡ true
-      → ((other : Task) × (is_task n k other ≡ true) × IsGraftHeldUp s other) ⊎ ((is_task n k task ≡ true) ⊎ ((other : Task) × (is_task n k other ≡ true) × Precedes task other))
+      → ((other : Task) × (is_task n k other ≡ true) × IsGraftHeldUp s other)
+      ⊎ ((is_task n k task ≡ true) ⊎ ((other : Task) × (is_task n k other ≡ true) × Precedes task other))
   about n k e = elim (any_about (is_task n k) kept task rest (ap (λ tasks. has_task tasks n k) (sym waiting) ∙ e)) [
     | inl before ↦ inl (one_passes (is_task n k) (IsGraftHeldUp s) kept held before)
     | inr (inl here) ↦ inr (inl here)
@@ -144,7 +152,8 @@ module _ (s : State) (keeps : OperatorInvariant s) (kept rest : List Task) (task
       ends = keeps.ends;
       waiting = others_wait;
       rising = others_rise;
-      slots = slots_without (λ g i at_index. is_other_graft g.step g.graft task (λ same. let n : g.graft ≡ i + 1 = number s.setup s.slots i g at_index in let z : task.graft ≡ 0 = no_graft in omega arith));
+      slots = slots_without (λ g i at_index. is_other_graft g.step g.graft task
+          (λ same. let n : g.graft ≡ i + 1 = number s.setup s.slots i g at_index in let z : task.graft ≡ 0 = no_graft in omega arith));
       seats = keeps.seats;
     }
 
@@ -163,7 +172,8 @@ module _ (s : State) (keeps : OperatorInvariant s) (kept rest : List Task) (task
             elim (about m 0 w) [
               | inl (x, names, h) ↦ absurd (held_has_graft s x h (task_names m 0 x names).1)
               | inr (inl names) ↦ absurd (let same : task.step ≡ m = (task_names m 0 task names).0 in omega arith)
-              | inr (inr (x, names, behind)) ↦ absurd (let same : x.step ≡ m = (task_names m 0 x names).0 in let le : task.step ≤ x.step = behind.step in omega arith)
+              | inr (inr (x, names, behind)) ↦
+                  absurd (let same : x.step ≡ m = (task_names m 0 x names).0 in let le : task.step ≤ x.step = behind.step in omega arith)
             ]
       ];
       takes = refl;
@@ -180,7 +190,8 @@ module _ (s : State) (keeps : OperatorInvariant s) (kept rest : List Task) (task
       by_slot : (i : ℕ) (g : ScriptGraft) → task.graft ≡ i + 1 → slice_get (grafts_in s.setup) i ≡ Some g → g.step ≡ task.step
           → (slot : Slot) × (slice_get s.slots i ≡ Some slot) × IsSlot s.setup s.group s.waiting g slot
           → (moves : Move) × (move_of (slot_at s.slots task.graft) ≡ Some moves)
-      by_slot i g is at_index step (slot, e, stands) = by_kind slot (ap (slot_at s.slots) is ∙ slot_next s.slots i ∙ e) (stands.now (ap (group_of s.setup) step ∙ waits.group_is)
+      by_slot i g is at_index step (slot, e, stands) =
+          by_kind slot (ap (slot_at s.slots) is ∙ slot_next s.slots i ∙ e) (stands.now (ap (group_of s.setup) step ∙ waits.group_is)
           ∙ ap (has_task s.waiting g.step) (number s.setup s.slots i g at_index ∙ sym is) ∙ ap (λ n. has_task s.waiting n task.graft) step ∙ task_waits)
         where
           by_kind : (slot : Slot) → slot_at s.slots task.graft ≡ Some slot → slot_waits slot ≡ true
@@ -196,7 +207,8 @@ module _ (s : State) (keeps : OperatorInvariant s) (kept rest : List Task) (task
           let step : g.step ≡ task.step = (let f : Some g.step ≡ Some task.step = sym (ap (option_map (λ (x : ScriptGraft). x.step)) e) ∙ of_step in cc) in
           by_slot at_i.0 g at_i.1 at_i.2 step (slot_there s.setup s.group s.waiting s.slots keeps.slots at_i.0 g at_i.2)
 
-  module _ (of_step : IsGraftTask s.setup task) (index : ℕ) (is_index : index + 1 ≡ task.graft) (entry : GraftEntry) (there : slice_get s.slots index ≡ Some (Made entry))
+  module _ (of_step : IsGraftTask s.setup task) (index : ℕ) (is_index : index + 1 ≡ task.graft)
+      (entry : GraftEntry) (there : slice_get s.slots index ≡ Some (Made entry))
       (seat : Seat) (seated : slice_get s.seats entry.peering.0 ≡ Some seat) (still : seat.moving ≡ false) where
     abbrev after : State
     after = waiting_are (graft_issued s index entry seat) (kept ++ rest)
@@ -254,11 +266,14 @@ module _ (s : State) (keeps : OperatorInvariant s) (kept rest : List Task) (task
         no_task : has_task s.waiting h.graft.step h.graft.graft ≡ true → ⊥
         no_task w = elim (about h.graft.step h.graft.graft w) [
           | inl (x, is, up) ↦
-              let at_i : slot_at s.slots x.graft ≡ Some (Made one) = ap (slot_at s.slots) ((task_names h.graft.step h.graft.graft x is).1 ∙ its_number) ∙ slot_next s.slots i ∙ e in
+              let at_i : slot_at s.slots x.graft ≡ Some (Made one) =
+              ap (slot_at s.slots) ((task_names h.graft.step h.graft.graft x is).1 ∙ its_number) ∙ slot_next s.slots i ∙ e in
               let same : up.entry ≡ one = same_entry up.entry one (sym up.is ∙ at_i) in
-              let seats_are : up.seat ≡ seat = one_member (slice_get s.seats entry.peering.0) _ _ (sym (ap (slice_get s.seats) (ap (λ (y : GraftEntry). y.peering.0) same ∙ of_p)) ∙ up.seated) seated in
+              let seats_are : up.seat ≡ seat = one_member (slice_get s.seats entry.peering.0) _ _
+              (sym (ap (slice_get s.seats) (ap (λ (y : GraftEntry). y.peering.0) same ∙ of_p)) ∙ up.seated) seated in
               (let f : true ≡ false = sym up.moving ∙ ap (λ (y : Seat). y.moving) seats_are ∙ still in absurd cc)
-          | inr (inl is) ↦ let same : task.graft ≡ h.graft.graft = (task_names h.graft.step h.graft.graft task is).1 in let n : h.graft.graft ≡ i + 1 = its_number in absurd (omega arith)
+          | inr (inl is) ↦ let same : task.graft ≡ h.graft.graft = (task_names h.graft.step h.graft.graft task is).1 in
+              let n : h.graft.graft ≡ i + 1 = its_number in absurd (omega arith)
           | inr (inr (x, is, behind)) ↦
               let named = task_names h.graft.step h.graft.graft x is in
               let a : task.step ≤ x.step = behind.step in
@@ -278,7 +293,8 @@ module _ (s : State) (keeps : OperatorInvariant s) (kept rest : List Task) (task
           | inl w ↦ absurd (no_task (sym (h.is.now same) ∙ w))
           | inr w ↦ ordered_has_ended one.stage w (is_seat.still.0 still i one e of_p)
         ]
-        by_group (inr (inr more)) = let up : group_of s.setup h.graft.step ≤ group_of s.setup g.step = groups_rise s.setup h.graft.step g.step steps in let k : group_of s.setup g.step ≡ s.group = group_is in absurd (omega arith)
+        by_group (inr (inr more)) = let up : group_of s.setup h.graft.step ≤ group_of s.setup g.step =
+            groups_rise s.setup h.graft.step g.step steps in let k : group_of s.setup g.step ≡ s.group = group_is in absurd (omega arith)
 
     -- what stands in the slots then
     index_within : index < length s.slots
@@ -294,7 +310,8 @@ module _ (s : State) (keeps : OperatorInvariant s) (kept rest : List Task) (task
     which : (i : ℕ) (slot : Slot) → slice_get after.slots i ≡ Some slot
         → ((i ≡ index) × (slot ≡ Made new_entry)) ⊎ ((i ≢ index) × (slice_get s.slots i ≡ Some slot))
     which i slot e = elim (by_test (i == index)) [
-      | inl f ↦ let is : i ≡ index = grind (arith, nat_tests) in inl (is, one_member (slice_get after.slots index) _ _ (sym (ap (slice_get after.slots) is) ∙ e) at_new)
+      | inl f ↦ let is : i ≡ index = grind (arith, nat_tests) in
+          inl (is, one_member (slice_get after.slots index) _ _ (sym (ap (slice_get after.slots) is) ∙ e) at_new)
       | inr f ↦ let ne : i ≢ index = λ same. grind (arith, nat_tests) in inr (ne, sym (at_other i ne) ∙ e)
     ]
 
@@ -334,7 +351,8 @@ module _ (s : State) (keeps : OperatorInvariant s) (kept rest : List Task) (task
         each i x slot at_index e = elim (which i slot e) [
           | inl (is, new) ↦
               let same : g ≡ x = one_member (slice_get (grafts_in s.setup) index) _ _ own.index (sym (ap (slice_get (grafts_in s.setup)) is) ∙ at_index) in
-              subst (λ (y : ScriptGraft). IsSlot s.setup s.group (kept ++ rest) y slot) same (subst (IsSlot s.setup s.group (kept ++ rest) g) (sym new) new_slot)
+              subst (λ (y : ScriptGraft). IsSlot s.setup s.group (kept ++ rest) y slot) same
+              (subst (IsSlot s.setup s.group (kept ++ rest) g) (sym new) new_slot)
           | inr (ne, old) ↦
               let was = keeps.slots.each i x slot at_index old in
               let differs : is_task x.step x.graft task ≡ false = is_other_graft x.step x.graft task
@@ -357,7 +375,8 @@ module _ (s : State) (keeps : OperatorInvariant s) (kept rest : List Task) (task
         ]
 
     same_place : (q : ℕ) → placement s.setup (with_slots s.setup after.slots) q ≡ placement s.setup (with_slots s.setup s.slots) q
-    same_place q = λ i. placement s.setup (record { group = 0; issued = λ n. false; given = same_given i; source = source_in s.slots; outcome = same_outcomes i }) q
+    same_place q =
+        λ i. placement s.setup (record { group = 0; issued = λ n. false; given = same_given i; source = source_in s.slots; outcome = same_outcomes i }) q
 
     seats_stand : SeatsStand s.setup after.slots after.seats
     seats_stand = record {
@@ -367,7 +386,8 @@ module _ (s : State) (keeps : OperatorInvariant s) (kept rest : List Task) (task
             let same : q ≡ entry.peering.0 = grind (arith, nat_tests) in
             let moved : other ≡ moving_seat seat = one_member (slice_get after.seats entry.peering.0) _ _ (sym (ap (slice_get after.seats) same) ∙ e)
             (get_set_same s.seats entry.peering.0 (moving_seat seat) (slice_get_within s.seats entry.peering.0 seat seated)) in
-            subst (λ (x : ℕ). IsSeat s.setup after.slots x other) (sym same) (subst (λ (x : Seat). IsSeat s.setup after.slots entry.peering.0 x) (sym moved) new_seat)
+            subst (λ (x : ℕ). IsSeat s.setup after.slots x other) (sym same)
+            (subst (λ (x : Seat). IsSeat s.setup after.slots entry.peering.0 x) (sym moved) new_seat)
         | inr f ↦
             let ne : q ≢ entry.peering.0 = λ same. grind (arith, nat_tests) in
             other_seat q other ne (keeps.seats.each q other (sym (get_set_other s.seats entry.peering.0 q (moving_seat seat) ne) ∙ e))
@@ -416,11 +436,13 @@ module _ (s : State) (keeps : OperatorInvariant s) (kept rest : List Task) (task
         by_slot : (slot : Slot) × (slice_get s.slots at_i.0 ≡ Some slot) × IsSlot s.setup s.group s.waiting other slot → ⊥
         by_slot (Unmade, e, is) = made (own_target s.setup s.slots at_i.0 other at_i.2 Unmade e is.fits)
         by_slot (Stays k p router, e, is) = made (own_target s.setup s.slots at_i.0 other at_i.2 (Stays k p router) e is.fits)
-        by_slot (Made one, e, is) = earlier_ended at_i.0 one (let a : other.graft ≡ at_i.0 + 1 = at_i.1 in let b : g.graft ≡ index + 1 = number_is in omega arith) e
+        by_slot (Made one, e, is) =
+            earlier_ended at_i.0 one (let a : other.graft ≡ at_i.0 + 1 = at_i.1 in let b : g.graft ≡ index + 1 = number_is in omega arith) e
             ((is.fits.made one refl).peering ∙ of_p ∙ sym names.peering) (sym (own_outcome s.setup s.slots at_i.0 other at_i.2 one e) ∙ none)
 
     pub graft_row : (number : ℕ) → number ≡ number_by (slice_get s.setup.steps task.step) task.graft
-        → OrdersGraft s.setup task.step number (part_of_state s) None (OrderTo seat.place.0 (record { graft = task.graft; peering = entry.peering.0; target = entry.target.0 }) ∷ []) (part_of_state after)
+        → OrdersGraft s.setup task.step number (part_of_state s) None
+        (OrderTo seat.place.0 (record { graft = task.graft; peering = entry.peering.0; target = entry.target.0 }) ∷ []) (part_of_state after)
     graft_row noted named = record {
       graft = g;
       known = known;
@@ -469,8 +491,10 @@ module _ (s : State) (keeps : OperatorInvariant s) (kept rest : List Task) (task
       where
         differs : (other : Task) → IsGraftHeldUp s other → IsWaitingTask s.setup s.group s.next other → Precedes other task → other.graft ≢ task.graft
         differs other h w before same =
-            let its_step : option_map (λ (x : ScriptGraft). x.step) (graft_at s.setup other.graft) ≡ Some other.step = waits_for_graft s keeps other w (held_has_graft s other h) in
-            let steps : Some other.step ≡ Some task.step = sym its_step ∙ ap (λ k. option_map (λ (x : ScriptGraft). x.step) (graft_at s.setup k)) same ∙ of_step in
+            let its_step : option_map (λ (x : ScriptGraft). x.step) (graft_at s.setup other.graft) ≡ Some other.step =
+            waits_for_graft s keeps other w (held_has_graft s other h) in
+            let steps : Some other.step ≡ Some task.step =
+            sym its_step ∙ ap (λ k. option_map (λ (x : ScriptGraft). x.step) (graft_at s.setup k)) same ∙ of_step in
             let step : other.step ≡ task.step = cc in
             let l : other.graft < task.graft = before.graft step in
             absurd (omega arith)

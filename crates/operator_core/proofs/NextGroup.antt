@@ -1,5 +1,6 @@
 -- The next group begins, where all of the group at work is done.
-use Rattle.std.proofs.Common.{◌≡◌, ℕ, ◌+◌, ◌<◌, ◌≤◌, ◌==◌, nat_lt, Bool, true, false, not, ◌&&◌, List, [], length, filter, Option, Some, None, refl, sym, ap, ◌∙◌, inl, inr, arith, ◌∷◌}
+use Rattle.std.proofs.Common.{◌≡◌, ℕ, ◌+◌, ◌<◌, ◌≤◌, ◌==◌, nat_lt, Bool, true, false, not, ◌&&◌, List, [], length}
+use Rattle.std.proofs.Common.{filter, Option, Some, None, refl, sym, ap, ◌∙◌, inl, inr, arith, ◌∷◌}
 use Rattle.std.specs.Prelude.{◌≢◌, slice_get, if◌then◌else◌}
 use Rattle.std.proofs.lemmas.Bool.Decides.{nat_tests}
 use Rattle.std.proofs.lemmas.List.Sums.{length-filter, count_by-le-length}
@@ -55,7 +56,8 @@ module _ (s : State) (keeps : OperatorInvariant s) (free : IsHeldUp s.setup (par
   ]
 
   pub group_is_small : s.group + 1 < length s.setup.steps + 1
-  group_is_small = let m : s.group + 1 < groups_in s.setup = more_groups in let f : groups_in s.setup ≤ length s.setup.steps = few_settles s.setup.steps in omega arith
+  group_is_small = let m : s.group + 1 < groups_in s.setup = more_groups in
+      let f : groups_in s.setup ≤ length s.setup.steps = few_settles s.setup.steps in omega arith
 
   -- each graft of the group at work is over
   now_over : (i : ℕ) (g : ScriptGraft) (slot : Slot) → slice_get s.slots i ≡ Some slot → IsSlot s.setup s.group s.waiting g slot
@@ -76,7 +78,8 @@ module _ (s : State) (keeps : OperatorInvariant s) (free : IsHeldUp s.setup (par
     later = λ more. is.later (omega arith);
   }
 
-  module _ (len : ℕ) (others : (n : ℕ) → s.next ≤ n → n < s.next + len → slice_get s.setup.steps n ≢ Some SettleStep) (settle : slice_get s.setup.steps (s.next + len) ≡ Some SettleStep) where
+  module _ (len : ℕ) (others : (n : ℕ) → s.next ≤ n → n < s.next + len → slice_get s.setup.steps n ≢ Some SettleStep)
+      (settle : slice_get s.setup.steps (s.next + len) ≡ Some SettleStep) where
     pub ready : IsReady s.setup (s.group + 1) s.next len s.slots s.seats
     ready = record {
       sound = keeps.sound;
@@ -128,7 +131,8 @@ module _ (s : State) (keeps : OperatorInvariant s) (free : IsHeldUp s.setup (par
             ap (λ x. x && nat_lt m (s.next + len + 1) && not (has_task tasks m 0)) say ∙ ap (λ x. true && x && not (has_task tasks m 0)) e
             ∙ ap (λ x. true && b && not x) f
             ∙ same
-            ∙ sym (ap (λ x. x && nat_lt m s.next && not (has_task s.waiting m 0)) say ∙ ap (λ x. true && x && not (has_task s.waiting m 0)) g ∙ ap (λ x. true && d && not x) none_waits)
+            ∙ sym (ap (λ x. x && nat_lt m s.next && not (has_task s.waiting m 0)) say
+            ∙ ap (λ x. true && x && not (has_task s.waiting m 0)) g ∙ ap (λ x. true && d && not x) none_waits)
 
         by_step : (o : Option ScriptStep) → slice_get s.setup.steps m ≡ o → issued_in next_state m ≡ issued_in s m
         by_step None e = silent None e refl
@@ -140,7 +144,8 @@ module _ (s : State) (keeps : OperatorInvariant s) (free : IsHeldUp s.setup (par
           | inr rest ↦
               let le : s.next ≤ m = elim rest [ inl same ↦ omega arith | inr more ↦ omega arith ] in
               elim (compare m (s.next + len)) [
-                | inl l ↦ known true true false (ap is_say e) (grind (arith, nat_tests)) (has_say_task s.setup s.seats m p bytes s.next len e le l) (grind (arith, nat_tests)) refl
+                | inl l ↦ known true true false (ap is_say e) (grind (arith, nat_tests))
+                    (has_say_task s.setup s.seats m p bytes s.next len e le l) (grind (arith, nat_tests)) refl
                 | inr (inl same) ↦ absurd (let f : Some (SayStep p bytes) ≡ Some SettleStep = sym e ∙ ap (slice_get s.setup.steps) same ∙ settle in cc)
                 | inr (inr more) ↦ known false (has_task tasks m 0) false (ap is_say e) (grind (arith, nat_tests)) refl (grind (arith, nat_tests)) refl
               ]
@@ -165,7 +170,8 @@ module _ (s : State) (keeps : OperatorInvariant s) (free : IsHeldUp s.setup (par
     next_emptied g router known_g step group =
         begun_given s.setup (s.group + 1) s.next len s.slots s.seats ready g.graft
         ∙ ap (λ o. gift_or (gift_in_group s.setup (s.group + 1) placed o) (given_in s.setup s.slots g.graft)) known_g
-        ∙ ap (λ b. gift_or (if b then gift_by s.setup placed (slice_get s.setup.steps g.step) g.peering else NoGift) (given_in s.setup s.slots g.graft)) of_group
+        ∙ ap (λ b. gift_or (if b then gift_by s.setup placed (slice_get s.setup.steps g.step) g.peering else NoGift) (given_in s.setup s.slots g.graft))
+        of_group
         ∙ ap (λ o. gift_or (gift_by s.setup placed o g.peering) (given_in s.setup s.slots g.graft)) step
         ∙ ap (gift_or (gift_to s.setup placed router g.peering)) not_given
         ∙ or_none (gift_to s.setup placed router g.peering)

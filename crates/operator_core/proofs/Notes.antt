@@ -21,10 +21,13 @@ use Rattle.operator_core.specs.States.{State, issued_in, part_of_state}
 use Rattle.operator_core.specs.Keeps.{IsMade, IsSlot, is_first, InTurn, SlotsStand, NoneIsOpen, IsSeat, SeatsStand, OperatorInvariant, with_slots}
 use Rattle.operator_core.specs.Notes.{ended_entry, place_after, still_seat, graft_noted}
 use Rattle.operator_core.proofs.Lists.{by_test, compare, get_set_same, get_set_other, length_set, one_member}
-use Rattle.operator_core.proofs.SlotLaws.{source_is, outcome_is, outcome_set, source_stays, given_stays, number, own_slot, own_outcome, own_target, IsOwned, owner, slot_there, same_entry, open_is_not_waiting, open_has_no_outcome, waiting_has_no_outcome}
+use Rattle.operator_core.proofs.SlotLaws.{source_is, outcome_is, outcome_set, source_stays, given_stays, number}
+use Rattle.operator_core.proofs.SlotLaws.{own_slot, own_outcome, own_target, IsOwned, owner, slot_there, same_entry}
+use Rattle.operator_core.proofs.SlotLaws.{open_is_not_waiting, open_has_no_outcome, waiting_has_no_outcome}
 use Rattle.operator_core.proofs.Placed.{placed_at, placed_alike}
 
-module _ (s : State) (keeps : OperatorInvariant s) (k : ℕ) (old : GraftEntry) (old_is : slice_get s.slots k ≡ Some (Made old)) (open_is : is_open old.stage ≡ true) (outcome : Outcome)
+module _ (s : State) (keeps : OperatorInvariant s) (k : ℕ) (old : GraftEntry)
+    (old_is : slice_get s.slots k ≡ Some (Made old)) (open_is : is_open old.stage ≡ true) (outcome : Outcome)
     (seat : Seat) (seated : slice_get s.seats old.peering.0 ≡ Some seat) where
   abbrev after : State
   after = graft_noted s k old outcome seat
@@ -125,7 +128,8 @@ module _ (s : State) (keeps : OperatorInvariant s) (k : ℕ) (old : GraftEntry) 
       | inl f ↦ elim (compare i k) [
         | inl l ↦ absurd (keeps.slots.in_turn i k entry old l there old_is of_p ordered (open_has_no_outcome entry.stage f))
         | inr (inl same) ↦ absurd (ne same)
-        | inr (inr l) ↦ absurd (keeps.slots.in_turn k i old entry l old_is there (sym of_p) (open_is_not_waiting entry.stage f) (open_has_no_outcome old.stage open_is))
+        | inr (inr l) ↦
+            absurd (keeps.slots.in_turn k i old entry l old_is there (sym of_p) (open_is_not_waiting entry.stage f) (open_has_no_outcome old.stage open_is))
       ]
     ]
   ]
@@ -150,7 +154,8 @@ module _ (s : State) (keeps : OperatorInvariant s) (k : ℕ) (old : GraftEntry) 
 
   -- targets are as they were
   same_target : (x : ScriptGraft) → target_in s.setup (with_slots s.setup after.slots) x ≡ target_in s.setup (with_slots s.setup s.slots) x
-  same_target x = λ i. target_in s.setup (record { group = 0; issued = λ n. false; given = same_given i; source = source_in s.slots; outcome = outcome_in s.slots }) x
+  same_target x =
+      λ i. target_in s.setup (record { group = 0; issued = λ n. false; given = same_given i; source = source_in s.slots; outcome = outcome_in s.slots }) x
 
   -- a graft of the script with this number is the one at this index
   index_is : (j : ℕ) (x : ScriptGraft) → slice_get (grafts_in s.setup) j ≡ Some x → x.graft ≡ k + 1 → (j ≡ k) × (g ≡ x)
@@ -162,7 +167,8 @@ module _ (s : State) (keeps : OperatorInvariant s) (k : ℕ) (old : GraftEntry) 
   -- other peerings are placed as before
   other_place : (q : ℕ) → q ≢ old.peering.0 → placement s.setup (with_slots s.setup after.slots) q ≡ placement s.setup (with_slots s.setup s.slots) q
   other_place q ne = placed_alike s.setup q (with_slots s.setup after.slots) (with_slots s.setup s.slots)
-      (λ j x there of_q. ap is_accepted (other_outcome x.graft (λ same. ne (sym of_q ∙ sym (ap (λ (y : ScriptGraft). y.peering) (index_is j x there same).1) ∙ sym names.peering))))
+      (λ j x there of_q. ap is_accepted
+      (other_outcome x.graft (λ same. ne (sym of_q ∙ sym (ap (λ (y : ScriptGraft). y.peering) (index_is j x there same).1) ∙ sym names.peering))))
       (λ j x there accepted. same_target x)
 
   is_seat : IsSeat s.setup s.slots old.peering.0 seat
@@ -176,7 +182,8 @@ module _ (s : State) (keeps : OperatorInvariant s) (k : ℕ) (old : GraftEntry) 
     where
       later : (j : ℕ) (x : ScriptGraft) → k < j → slice_get (grafts_in s.setup) j ≡ Some x → x.peering ≡ old.peering.0
           → is_accepted (outcome_in after.slots x.graft) ≡ false
-      later j x l there of_p = ap is_accepted (other_outcome x.graft (λ same. (let n : x.graft ≡ j + 1 = number s.setup s.slots j x there in omega arith))) ∙ by_slot (slot_there s.setup s.group s.waiting s.slots keeps.slots j x there)
+      later j x l there of_p = ap is_accepted (other_outcome x.graft (λ same. (let n : x.graft ≡ j + 1 = number s.setup s.slots j x there in omega arith)))
+          ∙ by_slot (slot_there s.setup s.group s.waiting s.slots keeps.slots j x there)
         where
           by_slot : (slot : Slot) × (slice_get s.slots j ≡ Some slot) × IsSlot s.setup s.group s.waiting x slot
               → is_accepted (outcome_in s.slots x.graft) ≡ false

@@ -1,5 +1,6 @@
 -- Where a session belongs by the log.
-use Rattle.std.proofs.Common.{◌≡◌, ℕ, zero, suc, ◌<◌, ◌==◌, ◌&&◌, Bool, true, false, List, [], ◌∷◌, filter, Option, Some, None, unwrap_or, refl, sym, ap, ◌∙◌, inl, inr, arith}
+use Rattle.std.proofs.Common.{◌≡◌, ℕ, zero, suc, ◌<◌, ◌==◌, ◌&&◌, Bool, true, false, List, [], ◌∷◌, filter}
+use Rattle.std.proofs.Common.{Option, Some, None, unwrap_or, refl, sym, ap, ◌∙◌, inl, inr, arith}
 use Rattle.std.specs.Prelude.{◌⊎◌, slice_get}
 use Rattle.std.specs.Option.{option_and_then}
 use Rattle.std.specs.List.{last_or}
@@ -93,8 +94,10 @@ module _ (setup : Setup) (p : ℕ) where
 
   -- outcomes that agree on the peering's grafts, and targets that agree on its accepted ones, index it alike
   pub placed_alike : (part other : OperatorPart)
-      → ((j : ℕ) (g : ScriptGraft) → slice_get (grafts_in setup) j ≡ Some g → g.peering ≡ p → is_accepted (part.outcome g.graft) ≡ is_accepted (other.outcome g.graft))
-      → ((j : ℕ) (g : ScriptGraft) → slice_get (grafts_in setup) j ≡ Some g → is_accepted (other.outcome g.graft) ≡ true → target_in setup part g ≡ target_in setup other g)
+      → ((j : ℕ) (g : ScriptGraft) → slice_get (grafts_in setup) j ≡ Some g → g.peering ≡ p
+      → is_accepted (part.outcome g.graft) ≡ is_accepted (other.outcome g.graft))
+      → ((j : ℕ) (g : ScriptGraft) → slice_get (grafts_in setup) j ≡ Some g
+      → is_accepted (other.outcome g.graft) ≡ true → target_in setup part g ≡ target_in setup other g)
       → placement setup part p ≡ placement setup other p
   placed_alike part other same aims =
       ap (λ o. unwrap_or (option_and_then (target_in setup part) o) (start_of setup p)) (same_last None (counts part) (counts other) (grafts_in setup) tests)
@@ -113,7 +116,8 @@ module _ (setup : Setup) (p : ℕ) where
       ]
 
       by_last : (o : Option ScriptGraft) → last_or None (filter (counts other) (grafts_in setup)) ≡ o
-          → unwrap_or (option_and_then (target_in setup part) (last_or None (filter (counts other) (grafts_in setup)))) (start_of setup p) ≡ placement setup other p
+          → unwrap_or (option_and_then (target_in setup part) (last_or None (filter (counts other) (grafts_in setup)))) (start_of setup p)
+          ≡ placement setup other p
       by_last None e =
           ap (λ o. unwrap_or (option_and_then (target_in setup part) o) (start_of setup p)) e
           ∙ sym (ap (λ o. unwrap_or (option_and_then (target_in setup other) o) (start_of setup p)) e)

@@ -2,7 +2,8 @@
 use Rattle.std.proofs.Common.{◌≡◌, ◌≢◌, ℕ, ◌+◌, ◌<◌, ◌≤◌, true, List, [], ◌∷◌, length, Option, Some}
 use Rattle.std.specs.Prelude.{slice_get, flat_map}
 use Rattle.std.specs.List.{range_with_len}
-use Rattle.graft_model.specs.Setups.{Setup, ScriptStep, SayStep, MoveStep, EvacuateStep, SettleStep, ScriptGraft, routers_in, group_of, grafts_in, grafts_before}
+use Rattle.graft_model.specs.Setups.{Setup, ScriptStep, SayStep, MoveStep, EvacuateStep, SettleStep}
+use Rattle.graft_model.specs.Setups.{ScriptGraft, routers_in, group_of, grafts_in, grafts_before}
 use Rattle.graft_model.specs.Evacuations.{rooms_of}
 use Rattle.operator_core.specs.declared.evacuate.Gift.{Gift}
 use Rattle.operator_core.specs.declared.grafts.Seat.{Seat}

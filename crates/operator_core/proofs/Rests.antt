@@ -1,5 +1,6 @@
 -- What is left to do, as the state has it.
-use Rattle.std.proofs.Common.{◌≡◌, ℕ, zero, suc, ◌+◌, ◌<◌, ◌≤◌, Bool, true, false, ◌||◌, List, [], ◌∷◌, Option, Some, None, refl, sym, ap, ◌∙◌, subst, inl, inr, arith}
+use Rattle.std.proofs.Common.{◌≡◌, ℕ, zero, suc, ◌+◌, ◌<◌, ◌≤◌, Bool, true, false, ◌||◌, List, [], ◌∷◌}
+use Rattle.std.proofs.Common.{Option, Some, None, refl, sym, ap, ◌∙◌, subst, inl, inr, arith}
 use Rattle.std.specs.Prelude.{◌≢◌, ◌⊎◌, ◌↔◌, not, slice_get, if◌then◌else◌}
 use Rattle.std.specs.Option.{option_map, option_or}
 use Rattle.std.specs.List.{list_any, AllByRecursion}
@@ -26,7 +27,9 @@ use Rattle.operator_core.specs.Turns.{NothingToOrder}
 use Rattle.operator_core.proofs.Lists.{by_test, compare, there_is, one_passes}
 use Rattle.operator_core.proofs.Tasks.{any_unissued, none_unissued}
 use Rattle.operator_core.proofs.TaskOrder.{task_names, is_that_task}
-use Rattle.operator_core.proofs.SlotLaws.{graft_there, target_at, number, own_slot, own_source, own_outcome, own_target, IsOwned, owner, slot_there, same_entry, open_is_not_waiting, open_has_no_outcome, waiting_has_no_outcome, ended_is_not_open, waiting_is_not_open, ordered_has_ended}
+use Rattle.operator_core.proofs.SlotLaws.{graft_there, target_at, number, own_slot, own_source, own_outcome, own_target, IsOwned}
+use Rattle.operator_core.proofs.SlotLaws.{owner, slot_there, same_entry, open_is_not_waiting, open_has_no_outcome}
+use Rattle.operator_core.proofs.SlotLaws.{waiting_has_no_outcome, ended_is_not_open, waiting_is_not_open, ordered_has_ended}
 use Rattle.operator_core.proofs.Scripts.{groups_rise}
 use Rattle.operator_core.proofs.Issues.{unissued_waits, waits_unissued, held_has_graft}
 
@@ -84,7 +87,14 @@ first_is_open (slot ∷ slots) k e = by_first (open_graft slot) refl e (λ f. fi
       → IsFirstOpen (slot ∷ slots) k
   by_first (Some j) is f rest =
       let o : IsOpenSlot slot j = open_slot slot j is in
-      record { index = 0; entry = o.entry; there = ap Some o.is; graft = o.graft ∙ same_Some j k f; open_is = o.open_is; none_before = λ i one l at. absurd (omega (arith, l)) }
+      record {
+        index = 0;
+        entry = o.entry;
+        there = ap Some o.is;
+        graft = o.graft ∙ same_Some j k f;
+        open_is = o.open_is;
+        none_before = λ i one l at. absurd (omega (arith, l));
+      }
   by_first None is f rest =
       let r : IsFirstOpen slots k = rest f in
       record { index = suc r.index; entry = r.entry; there = r.there; graft = r.graft; open_is = r.open_is; none_before = later is r }
@@ -153,7 +163,8 @@ module _ (s : State) (keeps : OperatorInvariant s) where
 
   -- an entry that wasn't ordered waits
   unordered_waits : (g : ScriptGraft) → (h : HasEntry g) → source_in s.slots g.graft ≡ None → is_waiting h.entry.stage ≡ true
-  unordered_waits g h none = (h.is.fits.made h.entry refl).source.0 (no_source h.entry (sym (own_source s.setup s.slots h.index g h.at_index h.entry h.there) ∙ none))
+  unordered_waits g h none =
+      (h.is.fits.made h.entry refl).source.0 (no_source h.entry (sym (own_source s.setup s.slots h.index g h.at_index h.entry h.there) ∙ none))
 
   -- a graft of the group at work that wasn't ordered has a task
   has_its_task : (g : ScriptGraft) → group_of s.setup g.step ≡ s.group → (h : HasEntry g) → source_in s.slots g.graft ≡ None
@@ -184,7 +195,12 @@ module _ (s : State) (keeps : OperatorInvariant s) where
           inr (
             g,
             (
-              record { known = known; group = group; made = entry_made i g entry at there is; unended = own_outcome s.setup s.slots i g at entry there ∙ waiting_has_no_outcome entry.stage e },
+              record {
+                known = known;
+                group = group;
+                made = entry_made i g entry at there is;
+                unended = own_outcome s.setup s.slots i g at entry there ∙ waiting_has_no_outcome entry.stage e;
+              },
               own_source s.setup s.slots i g at entry there ∙ ap (option_map (λ (r : RouterId). r.0)) none,
             ),
           ))
@@ -199,7 +215,8 @@ module _ (s : State) (keeps : OperatorInvariant s) where
           let group : group_of s.setup g.step ≡ s.group = ap (group_of s.setup) step ∙ w.group_is in
           let index = index_of_graft s.setup g.graft g known in
           let found = slot_there s.setup s.group s.waiting s.slots keeps.slots index.0 g index.2 in
-          by_slot g index.0 known group index.2 found.0 found.1 found.2 (found.2.now group ∙ ap (λ n. has_task s.waiting n g.graft) step ∙ ap (has_task s.waiting task.step) graft ∙ has)
+          by_slot g index.0 known group index.2 found.0 found.1 found.2
+          (found.2.now group ∙ ap (λ n. has_task s.waiting n g.graft) step ∙ ap (has_task s.waiting task.step) graft ∙ has)
 
     task_unissued : HasUnissued s.setup (part_of_state s)
     task_unissued =
@@ -207,7 +224,16 @@ module _ (s : State) (keeps : OperatorInvariant s) where
         by_step found.0 found.1
       where
         by_step : (step : ScriptStep) → slice_get s.setup.steps task.step ≡ Some step → HasUnissued s.setup (part_of_state s)
-        by_step (SayStep p bytes) is = inl (task.step, record { peering = p; bytes = bytes; is = is; group = w.group_is; unissued = waits_unissued s task.step (sym (ap (has_task s.waiting task.step) (w.says p bytes is)) ∙ has) })
+        by_step (SayStep p bytes) is = inl (
+          task.step,
+          record {
+            peering = p;
+            bytes = bytes;
+            is = is;
+            group = w.group_is;
+            unissued = waits_unissued s task.step (sym (ap (has_task s.waiting task.step) (w.says p bytes is)) ∙ has);
+          },
+        )
         by_step (MoveStep p target) is = graft_waits (w.moves p target is)
         by_step (EvacuateStep router) is = graft_waits (w.evacuates router is)
         by_step SettleStep is = absurd (w.issuable is)
@@ -218,7 +244,8 @@ module _ (s : State) (keeps : OperatorInvariant s) where
       by_list : (tasks : List Task) → s.waiting ≡ tasks → HasUnissued s.setup (part_of_state s)
       by_list [] e = absurd (ne e)
       by_list (task ∷ tasks) e =
-          let all : AllByRecursion (IsWaitingTask s.setup s.group s.next) (task ∷ tasks) = subst (λ xs. AllByRecursion (IsWaitingTask s.setup s.group s.next) xs) e keeps.waiting in
+          let all : AllByRecursion (IsWaitingTask s.setup s.group s.next) (task ∷ tasks) =
+          subst (λ xs. AllByRecursion (IsWaitingTask s.setup s.group s.next) xs) e keeps.waiting in
           let here : is_task task.step task.graft task ≡ true = is_that_task task.step task.graft task refl refl in
           task_unissued task all.0 (ap (λ xs. has_task xs task.step task.graft) e ∙ ap (λ b. b || has_task tasks task.step task.graft) here)
 
@@ -237,7 +264,8 @@ module _ (s : State) (keeps : OperatorInvariant s) where
       unended = own_outcome s.setup s.slots i g own.index entry there ∙ open_has_no_outcome entry.stage open_is;
     },
     λ none. (
-        let unsourced : entry.source ≡ None = no_source entry (sym (own_source s.setup s.slots i g own.index entry there) ∙ ap (source_in s.slots) its_number ∙ none) in
+        let unsourced : entry.source ≡ None =
+        no_source entry (sym (own_source s.setup s.slots i g own.index entry there) ∙ ap (source_in s.slots) its_number ∙ none) in
         let waits : is_waiting entry.stage ≡ true = (own.is.fits.made entry refl).source.0 unsourced in
         let e : true ≡ false = sym waits ∙ open_is_not_waiting entry.stage open_is in
         cc),
@@ -283,7 +311,8 @@ module _ (s : State) (keeps : OperatorInvariant s) where
       by_stage h none (inr f) (inr over) = absurd (ordered_has_ended h.entry.stage over f none)
       by_stage h none (inr f) (inl waits) =
           let unsourced : h.entry.source ≡ None = (h.is.fits.made h.entry refl).source.1 waits in
-          absurd (ordered (sym (ap (source_in s.slots) same) ∙ own_source s.setup s.slots h.index g h.at_index h.entry h.there ∙ ap (option_map (λ (r : RouterId). r.0)) unsourced))
+          absurd (ordered (sym (ap (source_in s.slots) same) ∙ own_source s.setup s.slots h.index g h.at_index h.entry h.there
+          ∙ ap (option_map (λ (r : RouterId). r.0)) unsourced))
 
   pub lowest_open : IsLowestOf (IsOpen s.setup (part_of_state s)) (first_open s.slots)
   lowest_open = by_found (first_open s.slots) refl
@@ -312,7 +341,8 @@ module _ (s : State) (keeps : OperatorInvariant s) where
   module _ (held : AllByRecursion (IsGraftHeldUp s) s.waiting) where
     no_say : (step named : ℕ) (sent : List OperatorSent) (after : OperatorPart) → OrdersSay s.setup step named (part_of_state s) None sent after → ⊥
     no_say step named sent after row =
-        let found = one_passes (is_task step 0) (IsGraftHeldUp s) s.waiting held (unissued_waits s step (ap is_say row.is) (in_group_before step row.group) row.unissued) in
+        let found = one_passes (is_task step 0) (IsGraftHeldUp s) s.waiting held
+        (unissued_waits s step (ap is_say row.is) (in_group_before step row.group) row.unissued) in
         held_has_graft s found.0 found.2 (task_names step 0 found.0 found.1).1
 
     module _ (step named : ℕ) (sent : List OperatorSent) (after : OperatorPart) (row : OrdersGraft s.setup step named (part_of_state s) None sent after) where
@@ -339,16 +369,19 @@ module _ (s : State) (keeps : OperatorInvariant s) where
 
         by_index : (i < has_own.index) ⊎ ((i ≡ has_own.index) ⊎ (has_own.index < i)) → is_open one.stage ≡ false
         by_index (inl l) =
-            let before : own.graft.graft < g.graft = omega (arith, l, number s.setup s.slots i own.graft own.index, number s.setup s.slots has_own.index g has_own.at_index) in
+            let before : own.graft.graft < g.graft =
+            omega (arith, l, number s.setup s.slots i own.graft own.index, number s.setup s.slots has_own.index g has_own.at_index) in
             let peering : own.graft.peering ≡ g.peering = sym (own.is.fits.made one refl).peering ∙ same ∙ of_peering in
             ended_is_not_open one.stage (λ none.
-            row.earlier own.graft (graft_there s.setup i own.graft own.index) peering before (entry_made i own.graft one own.index there own.is) (own_outcome s.setup s.slots i own.graft own.index one there ∙ none))
+            row.earlier own.graft (graft_there s.setup i own.graft own.index) peering before
+            (entry_made i own.graft one own.index there own.is) (own_outcome s.setup s.slots i own.graft own.index one there ∙ none))
         by_index (inr (inl here)) =
             let same_one : one ≡ entry = same_entry one entry (sym there ∙ (ap (slice_get s.slots) here ∙ has_own.there)) in
             waiting_is_not_open one.stage (ap (λ (x : GraftEntry). is_waiting x.stage) same_one ∙ waits)
         by_index (inr (inr l)) = elim (by_test (is_open one.stage)) [
           | inr f ↦ f
-          | inl f ↦ absurd (keeps.slots.in_turn has_own.index i entry one l has_own.there there (sym same) (open_is_not_waiting one.stage f) (waiting_has_no_outcome entry.stage waits))
+          | inl f ↦ absurd (keeps.slots.in_turn has_own.index i entry one l has_own.there there
+              (sym same) (open_is_not_waiting one.stage f) (waiting_has_no_outcome entry.stage waits))
         ]
 
       no_graft : ⊥
@@ -357,8 +390,10 @@ module _ (s : State) (keeps : OperatorInvariant s) where
           let found = one_passes (is_task g.step g.graft) (IsGraftHeldUp s) s.waiting held (has_its_task g group has_own row.unordered) in
           let h : IsGraftHeldUp s found.0 = found.2 in
           let graft : found.0.graft ≡ g.graft = (task_names g.step g.graft found.0 found.1).1 in
-          let same : h.entry ≡ entry = same_entry h.entry entry (sym h.is ∙ (ap (slot_at s.slots) graft ∙ (own_slot s.setup s.slots has_own.index g has_own.at_index ∙ has_own.there))) in
-          let still : h.seat.moving ≡ false = (keeps.seats.each h.entry.peering.0 h.seat h.seated).still.1 (subst (λ (x : GraftEntry). NoneIsOpen s.slots x.peering.0) (sym same) none_is_open) in
+          let same : h.entry ≡ entry = same_entry h.entry entry
+          (sym h.is ∙ (ap (slot_at s.slots) graft ∙ (own_slot s.setup s.slots has_own.index g has_own.at_index ∙ has_own.there))) in
+          let still : h.seat.moving ≡ false = (keeps.seats.each h.entry.peering.0 h.seat h.seated).still.1
+          (subst (λ (x : GraftEntry). NoneIsOpen s.slots x.peering.0) (sym same) none_is_open) in
           let e : true ≡ false = sym h.moving ∙ still in
           cc
 

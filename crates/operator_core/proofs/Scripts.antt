@@ -8,9 +8,11 @@ use Rattle.graft_model.specs.Setups.{Setup, ScriptStep, SayStep, MoveStep, Evacu
 groups_up : (steps : List ScriptStep) (n : ℕ) (step : ScriptStep) → slice_get steps n ≡ Some step
     → length (filter is_settle (take (suc n) steps)) ≡ length (filter is_settle (take n steps)) + length (filter is_settle (step ∷ []))
 groups_up [] n step e = absurd cc
-groups_up (s ∷ steps) zero step e = let f : s ≡ step = cc in subst (λ (x : ScriptStep). length (filter is_settle (s ∷ [])) ≡ 0 + length (filter is_settle (x ∷ []))) f (omega arith)
+groups_up (s ∷ steps) zero step e = let f : s ≡ step = cc in
+    subst (λ (x : ScriptStep). length (filter is_settle (s ∷ [])) ≡ 0 + length (filter is_settle (x ∷ []))) f (omega arith)
 groups_up (s ∷ steps) (suc n) step e =
-    let h : length (filter is_settle (take (suc n) steps)) ≡ length (filter is_settle (take n steps)) + length (filter is_settle (step ∷ [])) = groups_up steps n step e in
+    let h : length (filter is_settle (take (suc n) steps)) ≡ length (filter is_settle (take n steps)) + length (filter is_settle (step ∷ [])) =
+    groups_up steps n step e in
     elim (is_settle s) as (λ b. length (cond b (s ∷ filter is_settle (take (suc n) steps)) (filter is_settle (take (suc n) steps)))
     ≡ length (cond b (s ∷ filter is_settle (take n steps)) (filter is_settle (take n steps))) + length (filter is_settle (step ∷ []))) [
       | true ↦ omega (arith, h)

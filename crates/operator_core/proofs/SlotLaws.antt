@@ -1,5 +1,6 @@
 -- What slots say of sources, outcomes and targets, slot by slot.
-use Rattle.std.proofs.Common.{◌≡◌, ℕ, zero, suc, ◌+◌, ◌<◌, ◌==◌, true, false, List, [], ◌∷◌, length, Option, Some, None, refl, sym, ap, ◌∙◌, subst, inl, inr, arith}
+use Rattle.std.proofs.Common.{◌≡◌, ℕ, zero, suc, ◌+◌, ◌<◌, ◌==◌, true, false, List, [], ◌∷◌, length}
+use Rattle.std.proofs.Common.{Option, Some, None, refl, sym, ap, ◌∙◌, subst, inl, inr, arith}
 use Rattle.std.specs.Prelude.{◌≢◌, slice_get, slice_set}
 use Rattle.std.specs.Option.{option_and_then}
 use Rattle.std.proofs.lemmas.Bool.Decides.{nat_tests}
@@ -80,7 +81,8 @@ module _ (slots : List Slot) (k : ℕ) (old entry : GraftEntry) (is : slice_get 
   outcome_stays same = λ i n. value_stays (λ m. outcome_of) slots k (Made old) (Made entry) is within same n i
 
   pub given_stays : (setup : Setup) → entry.target ≡ old.target → given_in setup (slice_set slots k (Made entry)) ≡ given_in setup slots
-  given_stays setup same = λ i n. value_stays (λ m. given_of (scripted_step setup m)) slots k (Made old) (Made entry) is within (by_step (scripted_step setup (k + 1))) n i
+  given_stays setup same =
+      λ i n. value_stays (λ m. given_of (scripted_step setup m)) slots k (Made old) (Made entry) is within (by_step (scripted_step setup (k + 1))) n i
     where
       by_step : (o : Option ScriptStep) → given_of o (Some (Made entry)) ≡ given_of o (Some (Made old))
       by_step None = refl

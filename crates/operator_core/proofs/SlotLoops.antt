@@ -1,5 +1,6 @@
 -- The slots of a script, step by step.
-use Rattle.std.proofs.Common.{◌≡◌, ℕ, zero, suc, ◌+◌, ◌*◌, ◌<◌, ◌≤◌, List, [], ◌∷◌, ◌++◌, length, get_or, drop, refl, sym, ap, ◌∙◌, arith, append_assoc, length-append, append-nil, drop-cons, ◌⊎◌, inl, inr}
+use Rattle.std.proofs.Common.{◌≡◌, ℕ, zero, suc, ◌+◌, ◌*◌, ◌<◌, ◌≤◌, List, [], ◌∷◌, ◌++◌, length, get_or, drop, refl, sym, ap}
+use Rattle.std.proofs.Common.{◌∙◌, arith, append_assoc, length-append, append-nil, drop-cons, ◌⊎◌, inl, inr}
 use Rattle.graft_edge.specs.declared.ids.PeeringId.{PeeringId}
 use Rattle.graft_edge.specs.declared.ids.RouterId.{RouterId}
 use Rattle.graft_steps.specs.declared.log.GraftEntry.{GraftEntry}
@@ -18,7 +19,8 @@ pub record AreSlotsTo (peerings : ℕ) (steps : List ScriptStep) (index : ℕ) (
   pub rest : slots ++ first_slots peerings (length slots) (drop index steps) ≡ first_slots peerings 0 steps
   pub few : length slots ≤ 256 * index
 
-module _ (peerings : ℕ) (steps : List ScriptStep) (index : ℕ) (slots : List Slot) (few : peerings ≤ 256) (within : index < length steps) (none : ScriptStep) (so_far : AreSlotsTo peerings steps index slots) where
+module _ (peerings : ℕ) (steps : List ScriptStep) (index : ℕ) (slots : List Slot) (few : peerings ≤ 256)
+    (within : index < length steps) (none : ScriptStep) (so_far : AreSlotsTo peerings steps index slots) where
   -- the slots of the step at this index are added
   more : (step : ScriptStep) (added new : List Slot) → get_or steps index none ≡ step → new ≡ slots ++ added → length added ≤ 256
       → ((others : List ScriptStep) → first_slots peerings (length slots) (step ∷ others) ≡ added ++ first_slots peerings (length slots + length added) others)
@@ -47,7 +49,8 @@ module _ (peerings : ℕ) (steps : List ScriptStep) (index : ℕ) (slots : List 
       → entry ≡ waiting_entry (length slots + 1) (record { peering = peering; target = target }) → new ≡ slots ++ Made entry ∷ []
       → AreSlotsTo peerings steps (index + 1) new
   more_graft peering target entry new is entry_is new_is =
-      more (Graft peering target) (Made entry ∷ []) new is new_is (omega arith) (λ others. ap (λ (x : GraftEntry). Made x ∷ first_slots peerings (length slots + 1) others) (sym entry_is))
+      more (Graft peering target) (Made entry ∷ []) new is new_is (omega arith)
+      (λ others. ap (λ (x : GraftEntry). Made x ∷ first_slots peerings (length slots + 1) others) (sym entry_is))
 
   pub more_unmade : (router : RouterId) (new : List Slot) → get_or steps index none ≡ Evacuate router → new ≡ slots ++ unmade_slots peerings
       → AreSlotsTo peerings steps (index + 1) new
@@ -58,5 +61,7 @@ module _ (peerings : ℕ) (steps : List ScriptStep) (index : ℕ) (slots : List 
 
   pub no_more : (new : List Slot) → ((peering : PeeringId) × (get_or steps index none ≡ Say peering)) ⊎ (get_or steps index none ≡ Settle)
       → new ≡ slots → AreSlotsTo peerings steps (index + 1) new
-  no_more new (inl (peering, is)) new_is = more (Say peering) [] new is (new_is ∙ sym (append-nil slots)) (omega arith) (λ others. ap (λ (n : ℕ). first_slots peerings n others) (let e : length slots ≡ length slots + 0 = omega arith in e))
-  no_more new (inr is) new_is = more Settle [] new is (new_is ∙ sym (append-nil slots)) (omega arith) (λ others. ap (λ (n : ℕ). first_slots peerings n others) (let e : length slots ≡ length slots + 0 = omega arith in e))
+  no_more new (inl (peering, is)) new_is = more (Say peering) [] new is (new_is ∙ sym (append-nil slots)) (omega arith)
+      (λ others. ap (λ (n : ℕ). first_slots peerings n others) (let e : length slots ≡ length slots + 0 = omega arith in e))
+  no_more new (inr is) new_is = more Settle [] new is (new_is ∙ sym (append-nil slots)) (omega arith)
+      (λ others. ap (λ (n : ℕ). first_slots peerings n others) (let e : length slots ≡ length slots + 0 = omega arith in e))

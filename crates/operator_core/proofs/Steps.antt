@@ -8,7 +8,8 @@ use Rattle.std.proofs.lemmas.List.Sums.{sum_by-cons}
 use Rattle.std.proofs.lemmas.Option.{slice_get-map}
 use Rattle.graft_edge.specs.declared.ids.PeeringId.{PeeringId}
 use Rattle.graft_edge.specs.declared.ids.RouterId.{RouterId}
-use Rattle.graft_model.specs.Setups.{Setup, ScriptStep as StepOf, SayStep, MoveStep, EvacuateStep, SettleStep, moved_by, grafts_numbered, grafts_after, grafts_before, routers_in, peerings_in}
+use Rattle.graft_model.specs.Setups.{Setup, ScriptStep as StepOf, SayStep, MoveStep, EvacuateStep, SettleStep, moved_by}
+use Rattle.graft_model.specs.Setups.{grafts_numbered, grafts_after, grafts_before, routers_in, peerings_in}
 use Rattle.graft_model.specs.OperatorRows.{number_by}
 use Rattle.operator_core.specs.declared.groups.Task.{Task}
 use Rattle.operator_core.specs.declared.script.Script.{Script}
@@ -91,12 +92,14 @@ module _ (setup : Setup) (script : Script) (is : IsScriptOf setup script) where
 
   pub number_there : (task : Task) (number : ℕ) → IsNumberOf (slice_get script.steps task.step) task number
       → number ≡ number_by (slice_get setup.steps task.step) task.graft
-  number_there task number e = number_from (slice_get setup.steps task.step) task number (subst (λ (o : Option ScriptStep). IsNumberOf o task number) (step_at task.step) e)
+  number_there task number e =
+      number_from (slice_get setup.steps task.step) task number (subst (λ (o : Option ScriptStep). IsNumberOf o task number) (step_at task.step) e)
 
   pub graft_task : (group next : ℕ) (task : Task) (number : ℕ) → IsWaitingTask setup group next task
       → IsNumberOf (slice_get script.steps task.step) task number → IsGraftTask setup task
   graft_task group next task number waits e =
-      graft_from setup group next task number waits (slice_get setup.steps task.step) refl (subst (λ (o : Option ScriptStep). IsNumberOf o task number) (step_at task.step) e)
+      graft_from setup group next task number waits (slice_get setup.steps task.step) refl
+      (subst (λ (o : Option ScriptStep). IsNumberOf o task number) (step_at task.step) e)
 
   pub as_many_routers : length script.rooms ≡ routers_in setup
   as_many_routers = ap length is.rooms ∙ length-map setup.routers (λ router. router.room)
@@ -110,4 +113,5 @@ module _ (setup : Setup) (script : Script) (is : IsScriptOf setup script) where
   pub number_at : (numbers : List ℕ) → AreNumbers (length script.starts) script.steps numbers → (n : ℕ) → n < length script.steps
       → slice_index_or numbers n 0 ≡ grafts_before setup n + 1
   number_at numbers are n l = are.each n l ∙ ap (λ k. k + 1)
-      (ap (λ k. sum_by (grafts_by k) (take n script.steps)) as_many_peerings ∙ ap (λ steps. sum_by (grafts_by (peerings_in setup)) (take n steps)) is.steps ∙ counted setup 0 0 setup.steps n)
+      (ap (λ k. sum_by (grafts_by k) (take n script.steps)) as_many_peerings
+      ∙ ap (λ steps. sum_by (grafts_by (peerings_in setup)) (take n steps)) is.steps ∙ counted setup 0 0 setup.steps n)

@@ -127,7 +127,12 @@ module _ {C : Type 0} where
     deed = deed_of before dropped (Some (from, item)) [];
     does = record {
       wrote = wrote (Some (from, item));
-      replay = λ session. (own_part_of (progress_state p), drops session p.known.setup (part_of_state (progress_state p)) (part_of_state (progress_state p)) (clock_of before + 1) (actor_of before) from item (unwelcome session) refl, refl);
+      replay = λ session. (
+        own_part_of (progress_state p),
+        drops session p.known.setup (part_of_state (progress_state p)) (part_of_state (progress_state p))
+            (clock_of before + 1) (actor_of before) from item (unwelcome session) refl,
+        refl,
+      );
       known = refl;
       sound = sound;
     };
@@ -153,7 +158,8 @@ module _ {C : Type 0} where
       → IsOpenIndex p.slots.items k None → ¬ IsWelcome session (own_part_of (progress_state p)) from (items.Report k x)
   closed_unwelcome p from k x session law sound none welcome =
       let h = (law session p.known.setup from k (part_of_state (progress_state p)) x).0 welcome in
-      let found = open_at p.slots.items k (λ i entry e. ((owner p.known.setup p.group (progress_state p).waiting p.slots.items sound.keeps.slots i (Made entry) e).is.fits.made entry refl).source) h.1 h.2 in
+      let found = open_at p.slots.items k (λ i entry e.
+      ((owner p.known.setup p.group (progress_state p).waiting p.slots.items sound.keeps.slots i (Made entry) e).is.fits.made entry refl).source) h.1 h.2 in
       let closed : is_open found.1.stage ≡ false = none found.0 found.1 found.2 found.3 in
       let opened : is_open found.1.stage ≡ true = found.4 in
       absurd cc
@@ -167,11 +173,16 @@ module _ {C : Type 0} where
       wrote = wrote (Some (from, items.Report k x));
       replay = λ session. (
         own_part_of (graft_noted (progress_state old) index ends.entry x ends.seat),
-        notes session old.known.setup (part_of_state (progress_state old)) (part_of_state (graft_noted (progress_state old) index ends.entry x ends.seat)) (clock_of before + 1) (actor_of before) from k x there (welcome session) row,
+        notes session old.known.setup (part_of_state (progress_state old)) (part_of_state (graft_noted (progress_state old) index ends.entry x ends.seat))
+            (clock_of before + 1) (actor_of before) from k x there (welcome session) row,
         ap own_part_of ends.changes,
       );
       known = ends.same.known;
-      sound = record { known = known_still old new ends.same sound.known; keeps = subst OperatorInvariant (sym ends.changes) (note_keeps (progress_state old) sound.keeps index ends.entry ends.there open_is x ends.seat ends.seated) };
+      sound = record {
+        known = known_still old new ends.same sound.known;
+        keeps = subst OperatorInvariant (sym ends.changes)
+            (note_keeps (progress_state old) sound.keeps index ends.entry ends.there open_is x ends.seat ends.seated);
+      };
     };
     takes = refl;
   }
@@ -185,15 +196,19 @@ module _ {C : Type 0} where
       open_is : is_open ends.entry.stage ≡ true
       open_is = sym (ap (λ (e : GraftEntry). is_open e.stage) entry_is) ∙ is_index.3
 
-      row : Notes from (part_of_state (progress_state old)) (Some (ReportIn from (record { graft = k; outcome = x }))) [] (part_of_state (graft_noted (progress_state old) index ends.entry x ends.seat))
-      row = subst (λ (j : ℕ). Notes from (part_of_state (progress_state old)) (Some (ReportIn from (record { graft = j; outcome = x }))) [] (part_of_state (graft_noted (progress_state old) index ends.entry x ends.seat))) is_index.2
+      row : Notes from (part_of_state (progress_state old)) (Some (ReportIn from (record { graft = k; outcome = x }))) []
+          (part_of_state (graft_noted (progress_state old) index ends.entry x ends.seat))
+      row = subst (λ (j : ℕ). Notes from (part_of_state (progress_state old)) (Some (ReportIn from (record { graft = j; outcome = x }))) []
+          (part_of_state (graft_noted (progress_state old) index ends.entry x ends.seat))) is_index.2
           (note_row (progress_state old) sound.keeps index ends.entry ends.there open_is x ends.seat ends.seated from)
 
       welcome : (session : C → SessionValue) → IsWelcome session (own_part_of (progress_state old)) from (items.Report k x)
       welcome session = (law session old.known.setup from k (part_of_state (progress_state old)) x).1 (
         (from, numbers old.known.setup (Router from) there),
-        subst (λ (j : ℕ). source_in old.slots.items j ≢ None) is_index.2 (note_ordered (progress_state old) sound.keeps index ends.entry ends.there open_is x ends.seat ends.seated),
-        subst (λ (j : ℕ). outcome_in old.slots.items j ≡ None) is_index.2 (was_none (progress_state old) sound.keeps index ends.entry ends.there open_is x ends.seat ends.seated),
+        subst (λ (j : ℕ). source_in old.slots.items j ≢ None) is_index.2
+            (note_ordered (progress_state old) sound.keeps index ends.entry ends.there open_is x ends.seat ends.seated),
+        subst (λ (j : ℕ). outcome_in old.slots.items j ≡ None) is_index.2
+            (was_none (progress_state old) sound.keeps index ends.entry ends.there open_is x ends.seat ends.seated),
       )
 
 pub not_open : (slots : List Slot) (k : ℕ) (o : Option ℕ) → ((index : ℕ) → o ≡ Some index → ⊥) → IsOpenIndex slots k o → IsOpenIndex slots k None

@@ -59,8 +59,10 @@ module _ (xs : List Task) (x : Task) (ys : List Task) where
     where
       without : (zs : List Task) → Rises (zs ++ x ∷ ys) → Rises (zs ++ ys)
       without [] rises = rises.1
-      without (z ∷ zs) rises =
-          (all_append (Precedes z) zs ys (all_append_left (Precedes z) zs (x ∷ ys) rises.0) (all_append_right (Precedes z) zs (x ∷ ys) rises.0).1, without zs rises.1)
+      without (z ∷ zs) rises = (
+        all_append (Precedes z) zs ys (all_append_left (Precedes z) zs (x ∷ ys) rises.0) (all_append_right (Precedes z) zs (x ∷ ys) rises.0).1,
+        without zs rises.1,
+      )
 
   -- a task stands once
   pub once_in : Rises (xs ++ x ∷ ys) → has_task (xs ++ ys) x.step x.graft ≡ false
@@ -70,12 +72,14 @@ module _ (xs : List Task) (x : Task) (ys : List Task) where
     where
       before : (task : Task) → Precedes task x → is_task x.step x.graft task ≡ false
       before task p = elim (by_test (is_task x.step x.graft task)) [
-        | inl e ↦ let names = task_names x.step x.graft task e in let l : task.graft < x.graft = p.graft names.0 in let same : task.graft ≡ x.graft = names.1 in absurd (omega arith)
+        | inl e ↦ let names = task_names x.step x.graft task e in let l : task.graft < x.graft = p.graft names.0 in
+            let same : task.graft ≡ x.graft = names.1 in absurd (omega arith)
         | inr e ↦ e
       ]
 
       after : (task : Task) → Precedes x task → is_task x.step x.graft task ≡ false
       after task p = elim (by_test (is_task x.step x.graft task)) [
-        | inl e ↦ let names = task_names x.step x.graft task e in let l : x.graft < task.graft = p.graft (sym names.0) in let same : task.graft ≡ x.graft = names.1 in absurd (omega arith)
+        | inl e ↦ let names = task_names x.step x.graft task e in let l : x.graft < task.graft = p.graft (sym names.0) in
+            let same : task.graft ≡ x.graft = names.1 in absurd (omega arith)
         | inr e ↦ e
       ]

@@ -1,5 +1,6 @@
 -- Tasks before and behind an index.
-use Rattle.std.proofs.Common.{◌≡◌, ℕ, zero, suc, true, false, cond, ◌||◌, List, [], ◌∷◌, ◌++◌, length, take, drop, filter, Some, refl, sym, ap, ◌∙◌, inl, inr, arith}
+use Rattle.std.proofs.Common.{◌≡◌, ℕ, zero, suc, true, false, cond, ◌||◌, List, [], ◌∷◌, ◌++◌, length}
+use Rattle.std.proofs.Common.{take, drop, filter, Some, refl, sym, ap, ◌∙◌, inl, inr, arith}
 use Rattle.std.specs.Prelude.{◌≢◌, slice_get, slice_set, not, if◌then◌else◌}
 use Rattle.std.specs.List.{list_any, AllByRecursion}
 use Rattle.operator_core.specs.declared.groups.Task.{Task}
@@ -37,7 +38,8 @@ pub split_done : (tasks : List Task) (i : ℕ) (task : Task) → slice_get tasks
     → unissued (slice_set tasks i (task_issued task)) ≡ unissued (take i tasks) ++ unissued (drop (suc i) tasks)
 split_done [] i task e = absurd cc
 split_done (t ∷ tasks) zero task e = refl
-split_done (t ∷ tasks) (suc i) task e = alike t (slice_set tasks i (task_issued task)) (take i tasks) (unissued (drop (suc i) tasks)) (split_done tasks i task e)
+split_done (t ∷ tasks) (suc i) task e =
+    alike t (slice_set tasks i (task_issued task)) (take i tasks) (unissued (drop (suc i) tasks)) (split_done tasks i task e)
 
 pub before_done : (tasks : List Task) (i : ℕ) (task : Task) → slice_get tasks i ≡ Some task
     → unissued (take (suc i) (slice_set tasks i (task_issued task))) ≡ unissued (take i tasks)

@@ -37,7 +37,8 @@ pub same_script : (p : Progress) → SameScript p p
 same_script p = record { known = refl; script = refl; numbers = refl; group = refl; next = refl }
 
 pub same_then : (a b c : Progress) → SameScript a b → SameScript b c → SameScript a c
-same_then a b c h k = record { known = k.known ∙ h.known; script = k.script ∙ h.script; numbers = k.numbers ∙ h.numbers; group = k.group ∙ h.group; next = k.next ∙ h.next }
+same_then a b c h k =
+    record { known = k.known ∙ h.known; script = k.script ∙ h.script; numbers = k.numbers ∙ h.numbers; group = k.group ∙ h.group; next = k.next ∙ h.next }
 
 -- an order is an event of another kind than the beginning of a group
 no_go : (step number : ℕ) → (operator_code (Order step number)).kind ≡ (operator_code Go).kind → ⊥
@@ -100,7 +101,8 @@ module _ {C : Type 0} (old : Progress) (index : ℕ) (task : Task) (there : slic
     pub visit_held : (post : Post (Item C)) (moves : Move) → move_of (slot_at old.slots.items task.graft) ≡ Some moves → (seat : Seat)
         → slice_get old.seats.items moves.peering.0 ≡ Some seat
         → seat.moving ≡ true → VisitsTask old index post old post
-    visit_held post moves made seat seated moving = stays post (λ known keeps helds. subst (λ (ts : List Task). AllByRecursion (IsGraftHeldUp (progress_state old)) ts)
+    visit_held post moves made seat seated moving =
+        stays post (λ known keeps helds. subst (λ (ts : List Task). AllByRecursion (IsGraftHeldUp (progress_state old)) ts)
         (sym (ap (λ n. unissued (take n old.tasks.items)) (next_index index) ∙ before_more old.tasks.items index task there unissued_is))
         (all_append (IsGraftHeldUp (progress_state old)) (kept old index) (task ∷ []) helds (held (slot_at old.slots.items task.graft) refl made, tt)))
       where
@@ -113,18 +115,21 @@ module _ {C : Type 0} (old : Progress) (index : ℕ) (task : Task) (there : slic
             record { entry = entry; is = e; seat = seat; seated = ap (λ (m : Move). slice_get old.seats.items m.peering.0) same ∙ seated; moving = moving }
 
     pub visit_settle : (post : Post (Item C)) → slice_get old.script.steps task.step ≡ Some Settle → VisitsTask old index post old post
-    visit_settle post is = stays post (λ known keeps helds. absurd ((it_waits old index task there unissued_is keeps helds).issuable (settle_there old.known.setup old.script known.script task.step is)))
+    visit_settle post is = stays post (λ known keeps helds.
+        absurd ((it_waits old index task there unissued_is keeps helds).issuable (settle_there old.known.setup old.script known.script task.step is)))
 
     -- a graft's task whose graft isn't made isn't there
     pub visit_unmade : (post : Post (Item C)) (number : ℕ) → IsOrderOf old task number → move_of (slot_at old.slots.items task.graft) ≡ None
         → VisitsTask old index post old post
     visit_unmade post number is unmade = stays post (λ known keeps helds. absurd (
-        let made = made_there (progress_state old) keeps (kept old index) (rest old index) task (split old index task there unissued_is) helds (it_is_of_step old index task there unissued_is known keeps helds number is) in
+        let made = made_there (progress_state old) keeps (kept old index) (rest old index) task
+        (split old index task there unissued_is) helds (it_is_of_step old index task there unissued_is known keeps helds number is) in
         let e : Some made.0 ≡ None = sym made.1 ∙ unmade in cc))
 
     -- ---- it is issued
 
-    module _ (numbers : ActorsHaveNumbers) (mid new : Progress) (mid_new : SameScript mid new) (mid_state : progress_state new ≡ waiting_are (progress_state mid) (unissued new.tasks.items))
+    module _ (numbers : ActorsHaveNumbers) (mid new : Progress) (mid_new : SameScript mid new)
+        (mid_state : progress_state new ≡ waiting_are (progress_state mid) (unissued new.tasks.items))
         (done_is : new.tasks.items ≡ slice_set mid.tasks.items index (task_issued task)) (before after : Post (Item C)) where
       -- what waits then
       left_is : mid.tasks.items ≡ old.tasks.items → unissued new.tasks.items ≡ kept old index ++ rest old index
@@ -154,13 +159,16 @@ module _ {C : Type 0} (old : Progress) (index : ℕ) (task : Task) (there : slic
             say_keeps (progress_state old) keeps (kept old index) (rest old index) task (split old index task there unissued_is) helds p.0 found.0 found.1);
         held = λ known keeps helds. subst (λ (ts : List Task). AllByRecursion (IsGraftHeldUp (progress_state new)) ts) (sym (before_is tasks))
             (subst (λ (s : State). AllByRecursion (IsGraftHeldUp s) (kept old index)) (sym whole)
-            (all_map (IsGraftHeldUp (progress_state old)) (IsGraftHeldUp (said old index)) (kept old index) (λ m h. record { entry = h.entry; is = h.is; seat = h.seat; seated = h.seated; moving = h.moving }) helds));
+            (all_map (IsGraftHeldUp (progress_state old)) (IsGraftHeldUp (said old index)) (kept old index)
+            (λ m h. record { entry = h.entry; is = h.is; seat = h.seat; seated = h.seated; moving = h.moving }) helds));
         replay = λ known keeps helds session. (
             let found = say_there old.known.setup old.script known.script task.step p is in (
               own_part_of (said old index),
               says session old.known.setup (part_of_state (progress_state old)) (part_of_state (said old index)) (clock_of before + 1) (actor_of before)
-                  numbers task.step p.0 (length old.script.rooms + p.0) (keeps.sound.says task.step p.0 found.0 found.1) (ap (λ k. k + p.0) (as_many_routers old.known.setup old.script known.script))
-                  (say_row (progress_state old) keeps (kept old index) (rest old index) task (split old index task there unissued_is) helds p.0 found.0 found.1),
+                  numbers task.step p.0 (length old.script.rooms + p.0) (keeps.sound.says task.step p.0 found.0 found.1)
+                  (ap (λ k. k + p.0) (as_many_routers old.known.setup old.script known.script))
+                  (say_row (progress_state old) keeps (kept old index) (rest old index) task
+                  (split old index task there unissued_is) helds p.0 found.0 found.1),
               ap own_part_of whole,
             ));
       }
@@ -172,22 +180,30 @@ module _ {C : Type 0} (old : Progress) (index : ℕ) (task : Task) (there : slic
           → (seat : Seat) → slice_get old.seats.items moves.peering.0 ≡ Some seat → seat.moving ≡ false
           → IssuesGraft old task moves number before mid after → VisitsTask old index before new after
       visit_orders moves number is made seat seated still issued = record {
-        deeds = deed_of before (operator_code (Order task.step number)) None ((issued.seat.place.0, GraftOrder task.graft issued.entry.peering issued.entry.target) ∷ []) ∷ [];
+        deeds = deed_of before (operator_code (Order task.step number)) None
+            ((issued.seat.place.0, GraftOrder task.graft issued.entry.peering issued.entry.target) ∷ []) ∷ [];
         wrote = issued.wrote;
         none = (refl, tt);
         no_go = (no_go task.step number, tt);
         same = same_then old mid new issued.same mid_new;
         as_many = as_many_tasks issued.tasks;
         keeps = λ known keeps helds. subst OperatorInvariant (sym whole)
-            (graft_keeps (progress_state old) keeps (kept old index) (rest old index) task (split old index task there unissued_is) helds (it_is_of_step old index task there unissued_is known keeps helds number is) issued.index issued.is_index issued.entry issued.there issued.seat issued.seated still_too);
+            (graft_keeps (progress_state old) keeps (kept old index) (rest old index) task
+            (split old index task there unissued_is) helds (it_is_of_step old index task there unissued_is known keeps helds number is)
+            issued.index issued.is_index issued.entry issued.there issued.seat issued.seated still_too);
         held = λ known keeps helds. subst (λ (ts : List Task). AllByRecursion (IsGraftHeldUp (progress_state new)) ts) (sym (before_is issued.tasks))
             (subst (λ (s : State). AllByRecursion (IsGraftHeldUp s) (kept old index)) (sym whole)
-            (held_others (progress_state old) keeps (kept old index) (rest old index) task (split old index task there unissued_is) helds (it_is_of_step old index task there unissued_is known keeps helds number is) issued.index issued.is_index issued.entry issued.there issued.seat issued.seated still_too));
+            (held_others (progress_state old) keeps (kept old index) (rest old index) task (split old index task there unissued_is) helds
+            (it_is_of_step old index task there unissued_is known keeps helds number is) issued.index
+            issued.is_index issued.entry issued.there issued.seat issued.seated still_too));
         replay = λ known keeps helds session. (
           own_part_of (ordered old index issued.index issued.entry issued.seat),
-          orders session old.known.setup (part_of_state (progress_state old)) (part_of_state (ordered old index issued.index issued.entry issued.seat)) (clock_of before + 1) (actor_of before) numbers task.step number task.graft issued.entry.peering issued.entry.target
+          orders session old.known.setup (part_of_state (progress_state old)) (part_of_state (ordered old index issued.index issued.entry issued.seat))
+              (clock_of before + 1) (actor_of before) numbers task.step number task.graft issued.entry.peering issued.entry.target
               issued.seat.place (keeps.seats.each issued.entry.peering.0 issued.seat issued.seated).there
-              (graft_row (progress_state old) keeps (kept old index) (rest old index) task (split old index task there unissued_is) helds (it_is_of_step old index task there unissued_is known keeps helds number is) issued.index issued.is_index issued.entry issued.there issued.seat issued.seated still_too number
+              (graft_row (progress_state old) keeps (kept old index) (rest old index) task (split old index task there unissued_is) helds
+              (it_is_of_step old index task there unissued_is known keeps helds number is) issued.index
+              issued.is_index issued.entry issued.there issued.seat issued.seated still_too number
               (number_there old.known.setup old.script known.script task number is)),
           ap own_part_of whole,
         );
@@ -195,14 +211,16 @@ module _ {C : Type 0} (old : Progress) (index : ℕ) (task : Task) (there : slic
         where
           -- the entry is the one whose peering has the seat
           names : record { peering = issued.entry.peering; target = issued.entry.target } ≡ moves
-          names = one (slot_at old.slots.items task.graft) (ap (slot_at old.slots.items) (sym issued.is_index) ∙ slot_next old.slots.items issued.index ∙ issued.there) made
+          names = one (slot_at old.slots.items task.graft)
+              (ap (slot_at old.slots.items) (sym issued.is_index) ∙ slot_next old.slots.items issued.index ∙ issued.there) made
             where
               one : (o : Option Slot) → o ≡ Some (Made issued.entry) → move_of o ≡ Some moves
                   → record { peering = issued.entry.peering; target = issued.entry.target } ≡ moves
               one o e f = let g : Some (record { peering = issued.entry.peering; target = issued.entry.target }) ≡ Some moves = sym (ap move_of e) ∙ f in cc
 
           still_too : issued.seat.moving ≡ false
-          still_too = ap (λ (x : Seat). x.moving) (one_member (slice_get old.seats.items moves.peering.0) issued.seat seat (sym (ap (λ (m : Move). slice_get old.seats.items m.peering.0) names) ∙ issued.seated) seated)
+          still_too = ap (λ (x : Seat). x.moving) (one_member (slice_get old.seats.items moves.peering.0) issued.seat seat
+              (sym (ap (λ (m : Move). slice_get old.seats.items m.peering.0) names) ∙ issued.seated) seated)
               ∙ still
 
           whole : progress_state new ≡ ordered old index issued.index issued.entry issued.seat

@@ -29,7 +29,8 @@ abbrev pub gift_for : ℕ → RouterId → PeeringId × Option RouterId → Gift
 gift_for first router entry = record { graft = first + entry.0.0; peering = entry.0; router = router; target = entry.1 }
 
 abbrev pub gifts_to : ℕ → RouterId → List Seat → List ℕ → List ℕ → List Gift
-gifts_to first router seats loads rooms = map (gift_for first router) (zip (seated_from 0 router seats) (plan_for rooms router.0 loads (length (seated_from 0 router seats))))
+gifts_to first router seats loads rooms =
+    map (gift_for first router) (zip (seated_from 0 router seats) (plan_for rooms router.0 loads (length (seated_from 0 router seats))))
 
 -- what a step gives, if its first graft has this number
 abbrev pub gifts_by : List Seat → List ℕ → List ℕ → ℕ → ScriptStep → List Gift

@@ -30,4 +30,5 @@ moving_seat seat = record seat { moving = true }
 
 -- The state after the graft at an index is ordered; its peering has this seat.
 abbrev pub graft_issued : State → ℕ → GraftEntry → Seat → State
-graft_issued s index entry seat = record s { slots = slice_set s.slots index (Made (issued_entry entry seat.place)); seats = slice_set s.seats entry.peering.0 (moving_seat seat) }
+graft_issued s index entry seat =
+    record s { slots = slice_set s.slots index (Made (issued_entry entry seat.place)); seats = slice_set s.seats entry.peering.0 (moving_seat seat) }

@@ -7,7 +7,8 @@ use native.Mathlib.Bridge.{le_prop}
 use Rattle.graft_edge.specs.declared.ids.PeeringId.{PeeringId}
 use Rattle.graft_edge.specs.declared.ids.RouterId.{RouterId}
 use Rattle.graft_steps.specs.declared.log.GraftEntry.{GraftEntry}
-use Rattle.graft_model.specs.Setups.{Setup, ScriptStep, SayStep, MoveStep, EvacuateStep, SettleStep, ScriptGraft, routers_in, peerings_in, group_of, grafts_in, graft_at}
+use Rattle.graft_model.specs.Setups.{Setup, ScriptStep, SayStep, MoveStep, EvacuateStep, SettleStep}
+use Rattle.graft_model.specs.Setups.{ScriptGraft, routers_in, peerings_in, group_of, grafts_in, graft_at}
 use Rattle.graft_model.specs.Parts.{OperatorPart, To}
 use Rattle.graft_model.specs.Placements.{target_by, placement}
 use Rattle.operator_core.specs.declared.grafts.Seat.{Seat}

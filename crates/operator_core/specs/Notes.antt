@@ -23,4 +23,7 @@ still_seat outcome target seat = record { place = place_after outcome seat.place
 -- The state after the graft at an index has ended.
 abbrev pub graft_noted : State → ℕ → GraftEntry → Outcome → Seat → State
 graft_noted s index entry outcome seat =
-    record s { slots = slice_set s.slots index (Made (ended_entry entry outcome)); seats = slice_set s.seats entry.peering.0 (still_seat outcome entry.target seat) }
+    record s {
+      slots = slice_set s.slots index (Made (ended_entry entry outcome));
+      seats = slice_set s.seats entry.peering.0 (still_seat outcome entry.target seat);
+    }

@@ -39,7 +39,8 @@ use Rattle.operator_core.specs.Notes.{graft_noted}
 use Rattle.operator_core.specs.Turns.{BeginNoGroup, NothingToOrder, IsHeldUp}
 
 abbrev pub progress_state : Progress → State
-progress_state p = record { setup = p.known.setup; group = p.group; next = p.next; waiting = unissued p.tasks.items; slots = p.slots.items; seats = p.seats.items }
+progress_state p =
+    record { setup = p.known.setup; group = p.group; next = p.next; waiting = unissued p.tasks.items; slots = p.slots.items; seats = p.seats.items }
 
 abbrev pub own_part_of : State → OwnPart
 own_part_of s = record { setup = s.setup; name = TheOperator; part = OperatorIs (part_of_state s) }
@@ -119,7 +120,8 @@ GivesEmptiedSessions setup before after = (g : ScriptGraft) (router : ℕ) → g
 
 module _ {C : Type 0} where
   -- The order of a task's graft goes to the router of its peering's seat, and is recorded in the graft's slot.
-  pub record IssuesGraft (old : Progress) (task : Task) (moves : Move) (number : ℕ) (before : Post (Item C)) (new : Progress) (after : Post (Item C)) : Type 0 where
+  pub record IssuesGraft (old : Progress) (task : Task) (moves : Move) (number : ℕ)
+      (before : Post (Item C)) (new : Progress) (after : Post (Item C)) : Type 0 where
     pub index : ℕ
     pub is_index : index + 1 ≡ task.graft
     pub entry : GraftEntry
@@ -129,7 +131,8 @@ module _ {C : Type 0} where
     pub same : SameScript old new
     pub tasks : new.tasks.items ≡ old.tasks.items
     pub changes : progress_state new ≡ graft_issued (progress_state old) index entry seat
-    pub wrote : Wrote before (deed_of before (operator_code (Order task.step number)) None ((seat.place.0, GraftOrder task.graft entry.peering entry.target) ∷ []) ∷ []) after
+    pub wrote : Wrote before
+        (deed_of before (operator_code (Order task.step number)) None ((seat.place.0, GraftOrder task.graft entry.peering entry.target) ∷ []) ∷ []) after
 
   -- A task is visited after those before it, which are issued or held up; it is then issued or held up too.
   pub record VisitsTask (old : Progress) (index : ℕ) (before : Post (Item C)) (new : Progress) (after : Post (Item C)) : Type 0 where

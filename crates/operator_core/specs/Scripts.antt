@@ -25,8 +25,8 @@ IsWorkableStep script (Graft peering target) = (peering.0 < length script.starts
 IsWorkableStep script (Evacuate router) = router.0 < length script.rooms
 IsWorkableStep script Settle = Unit {0}
 
--- What the operator can work through: each peering that a step names has a start, each router that is named and each peering is one of at most 256, and the last
--- of at most 4,097 steps ends a group.
+-- What the operator can work through: each peering that a step names has a start, each router that
+-- is named and each peering is one of at most 256, and the last of at most 4,097 steps ends a group.
 pub record IsWorkable (script : Script) : Type 0 where
   pub starts : All (λ start. start.0 < length script.rooms) script.starts
   pub steps : All (IsWorkableStep script) script.steps

@@ -104,6 +104,7 @@ unmade_slots (suc count) = slots.Unmade ∷ unmade_slots count
 abbrev pub first_slots : ℕ → ℕ → List ScriptStep → List Slot
 first_slots peerings k [] = []
 first_slots peerings k (Say p ∷ steps) = first_slots peerings k steps
-first_slots peerings k (Graft p target ∷ steps) = slots.Made (waiting_entry (k + 1) (record { peering = p; target = target })) ∷ first_slots peerings (k + 1) steps
+first_slots peerings k (Graft p target ∷ steps) =
+    slots.Made (waiting_entry (k + 1) (record { peering = p; target = target })) ∷ first_slots peerings (k + 1) steps
 first_slots peerings k (Evacuate router ∷ steps) = unmade_slots peerings ++ first_slots peerings (k + peerings) steps
 first_slots peerings k (Settle ∷ steps) = first_slots peerings k steps

@@ -55,7 +55,8 @@ impl Operator {
         item: Item<C>,
         post: &mut Post<Item<C>>,
     ) -> Result<(), NoMemory>
-        ensures took { OnOk result ((session : C → SessionValue) → TookItem own_part (acts session) took_by_operator from item self.old post.old self.new post.new) }
+        ensures took { OnOk result
+            ((session : C → SessionValue) → TookItem own_part (acts session) took_by_operator from item self.old post.old self.new post.new) }
         ensures edges { SameEdges post.old post.new }
     {
         self.progress.take(from, item, post)
@@ -73,11 +74,13 @@ impl Operator {
     /// quiet. Returns false, with nothing changed, exactly if something of the current group wasn't ordered, or a graft
     /// of it has no outcome, or there is no further group.
     pub fn go<C: Drop>(&mut self, post: &mut Post<Item<C>>) -> Result<bool, NoMemory>
-        ensures paused { IfOk result (λ answer. (session : C → SessionValue) → Pauses own_part (acts session) Paused self.old post.old self.new post.new answer) }
+        ensures paused { IfOk result
+            (λ answer. (session : C → SessionValue) → Pauses own_part (acts session) Paused self.old post.old self.new post.new answer) }
         ensures held { IfOk result (λ answer. (answer ≡ false) ↔ IsHeldUp (operator_setup self.old) (operator_part self.old)) }
         // Each evacuate step of the new group has given the sessions of its router to the others by plan.
         ensures emptied { IfOk result (λ answer. answer ≡ true → (step router : ℕ) → slice_get (operator_setup self.old).steps step ≡ Some (EvacuateStep router)
-            → group_of (operator_setup self.old) step ≡ (operator_part self.new).group → GivesByPlan (operator_setup self.old) (operator_part self.old) (operator_part self.new) step router) }
+            → group_of (operator_setup self.old) step ≡ (operator_part self.new).group
+            → GivesByPlan (operator_setup self.old) (operator_part self.old) (operator_part self.new) step router) }
         ensures edges { SameEdges post.old post.new }
     {
         emptied_routers_give_by_plan();
@@ -86,7 +89,8 @@ impl Operator {
 
     /// Begins the next group at a mark, as `go` does.
     pub fn between<C: Drop>(&mut self, post: &mut Post<Item<C>>) -> Result<bool, NoMemory>
-        ensures paused { IfOk result (λ answer. (session : C → SessionValue) → Pauses own_part (acts session) Paused self.old post.old self.new post.new answer) }
+        ensures paused { IfOk result
+            (λ answer. (session : C → SessionValue) → Pauses own_part (acts session) Paused self.old post.old self.new post.new answer) }
         ensures edges { SameEdges post.old post.new }
     {
         self.go(post)

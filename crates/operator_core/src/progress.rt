@@ -1,6 +1,7 @@
 //! The operator's progress.
 
-ghost use Rattle.std.specs.Prelude.{◌≡◌, ◌≤◌, ◌<◌, ◌+◌, ◌-◌, ◌∷◌, [], ℕ, None, Some, length, OnOk, OnErr, IfOk, IsTrue, ◌↔◌, slice_get, slice_set, Option, false, true, filter, not};
+ghost use Rattle.std.specs.Prelude.{◌≡◌, ◌≤◌, ◌<◌, ◌+◌, ◌-◌, ◌∷◌, [], ℕ, None, Some, length, OnOk, OnErr, IfOk};
+ghost use Rattle.std.specs.Prelude.{IsTrue, ◌↔◌, slice_get, slice_set, Option, false, true, filter, not};
 ghost use Rattle.ring_net.specs.Posts.{Wrote, SameEdges};
 ghost use Rattle.graft_steps.specs.declared.item.Item.{Item};
 ghost use Rattle.graft_model.specs.declared.event.OperatorEvent.TheVariants as events;
@@ -61,7 +62,9 @@ fn note_order<C: Drop>(
 impl Progress {
     ghost use Rattle.operator_core.specs.declared.groups.Task.{Task};
     ghost use Rattle.operator_core.specs.declared.grafts.Move.{Move};
-    ghost use Rattle.operator_core.specs.Progresses.{progress_state, IsKnown, ProgressInvariant, HaveSeats, IsMadeAt, IsOpenIndex, Ends, SameScript, IssuesGraft, IsUnchanged, VisitsTask, Turns, TakesItem, BeginsNextGroup, IsNewProgress, IsOrderOf};
+    ghost use Rattle.operator_core.specs.Progresses.{progress_state, IsKnown, ProgressInvariant, HaveSeats, IsMadeAt};
+    ghost use Rattle.operator_core.specs.Progresses.{IsOpenIndex, Ends, SameScript, IssuesGraft, IsUnchanged, VisitsTask};
+    ghost use Rattle.operator_core.specs.Progresses.{Turns, TakesItem, BeginsNextGroup, IsNewProgress, IsOrderOf};
     ghost use Rattle.settled_check.specs.Rests.{IsOperatorRest};
     ghost use Rattle.operator_core.specs.Grafts.{log_of};
     ghost use Rattle.operator_core.specs.States.{part_of_state};
@@ -102,7 +105,8 @@ impl Progress {
         post: &mut Post<Item<C>>,
     ) -> Result<(), NoMemory>
         requires few { length self.now.script.rooms ≤ 256 }
-        ensures ok { OnOk result (Wrote post.old (deed_of post.old (operator_code (events.Order step 0)) None ((length self.now.script.rooms + peering.0, Item.SayOrder step) ∷ []) ∷ []) post.new) }
+        ensures ok { OnOk result (Wrote post.old (deed_of post.old (operator_code (events.Order step 0)) None
+            ((length self.now.script.rooms + peering.0, Item.SayOrder step) ∷ []) ∷ []) post.new) }
         ensures edges { SameEdges post.old post.new }
     {
         let far_side = self.script.rooms.len() + usize::from(peering.0);

@@ -29,14 +29,16 @@ united_get : (slots : List Slot) → T (map.is_sorted prefix_cmp slots) → (bes
 united_get [] rise beside q = refl
 united_get ((p, true) ∷ slots) rise beside q =
     map.get-insert prefix_total (united slots beside) p tt q
-    ∙ elim (eq_by_cmp prefix_cmp q p) as (λ b. cond b here (map.get (united slots beside) q) ≡ cond (is_held (cond b (Some true) (map.find prefix_cmp q slots))) here (map.get beside q)) [
+    ∙ elim (eq_by_cmp prefix_cmp q p)
+    as (λ b. cond b here (map.get (united slots beside) q) ≡ cond (is_held (cond b (Some true) (map.find prefix_cmp q slots))) here (map.get beside q)) [
       | true ↦ refl
       | false ↦ united_get slots (behind (p, true) slots rise).rise beside q
     ]
 united_get ((p, false) ∷ slots) rise beside q =
     let parts = behind (p, false) slots rise in
     let rest = united_get slots parts.rise beside q in
-    elim (eq_by_cmp prefix_cmp q p) as (λ b. eq_by_cmp prefix_cmp q p ≡ b → map.get (united slots beside) q ≡ cond (is_held (cond b (Some false) (map.find prefix_cmp q slots))) here (map.get beside q)) [
+    elim (eq_by_cmp prefix_cmp q p) as (λ b. eq_by_cmp prefix_cmp q p ≡ b
+    → map.get (united slots beside) q ≡ cond (is_held (cond b (Some false) (map.find prefix_cmp q slots))) here (map.get beside q)) [
       | true ↦ λ e. rest ∙ ap (λ (o : Option Bool). cond (is_held o) here (map.get beside q))
           (find_above prefix_cmp q slots (subst (λ (k : PrefixValue). AllAbove prefix_cmp k slots) (sym (tied q p e)) parts.above))
       | false ↦ λ e. rest
@@ -47,7 +49,8 @@ listed_get : (slots : List Slot) (beside : PrefixSet) (q : PrefixValue)
 listed_get [] beside q = refl
 listed_get ((p, true) ∷ slots) beside q =
     map.get-insert prefix_total (united slots beside) p tt q
-    ∙ elim (eq_by_cmp prefix_cmp q p) as (λ b. cond b here (map.get (united slots beside) q) ≡ cond (b || list_any (eq_by_cmp prefix_cmp q) (those_in slots)) here (map.get beside q)) [
+    ∙ elim (eq_by_cmp prefix_cmp q p)
+    as (λ b. cond b here (map.get (united slots beside) q) ≡ cond (b || list_any (eq_by_cmp prefix_cmp q) (those_in slots)) here (map.get beside q)) [
       | true ↦ refl
       | false ↦ listed_get slots beside q
     ]
@@ -78,10 +81,12 @@ removed_empty set p none = map.same_map prefix_total exact_prefixes _ _ (λ q.
 
 -- a value that is there is put in again
 pub inserted_again : {A : Type 0} (table : map.FinMap prefix_cmp A) (p : PrefixValue) (x : A) → map.get table p ≡ Some x → map.insert table p x ≡ table
-inserted_again table p x is = map.same_map prefix_total exact_prefixes (map.insert table p x) table (λ q. map.get-insert prefix_total table p x q ∙ by_test q (eq_by_cmp prefix_cmp q p) refl) where
-  by_test : (q : PrefixValue) (b : Bool) → eq_by_cmp prefix_cmp q p ≡ b → cond b (Some x) (map.get table q) ≡ map.get table q
-  by_test q true e = sym is ∙ ap (map.get table) (sym (tied q p e))
-  by_test q false e = refl
+inserted_again table p x is = map.same_map prefix_total exact_prefixes (map.insert table p x) table
+    (λ q. map.get-insert prefix_total table p x q ∙ by_test q (eq_by_cmp prefix_cmp q p) refl)
+  where
+    by_test : (q : PrefixValue) (b : Bool) → eq_by_cmp prefix_cmp q p ≡ b → cond b (Some x) (map.get table q) ≡ map.get table q
+    by_test q true e = sym is ∙ ap (map.get table) (sym (tied q p e))
+    by_test q false e = refl
 
 -- ---- a prefix comes
 
@@ -139,7 +144,8 @@ remove_out slots rise beside p out = map.same_map prefix_total exact_prefixes _ 
     let found = is_held (map.find prefix_cmp q slots) in
     united_get slots rise (map.remove beside p) q
     ∙ (ap (cond found here) (map.get-remove prefix_total beside p q)
-    ∙ (elim (eq_by_cmp prefix_cmp q p) as (λ b. eq_by_cmp prefix_cmp q p ≡ b → cond found here (cond b None (map.get beside q)) ≡ cond b None (cond found here (map.get beside q))) [
+    ∙ (elim (eq_by_cmp prefix_cmp q p)
+    as (λ b. eq_by_cmp prefix_cmp q p ≡ b → cond found here (cond b None (map.get beside q)) ≡ cond b None (cond found here (map.get beside q))) [
       | true ↦ λ e. ap (λ (b : Bool). cond b here None) (ap (λ (k : PrefixValue). is_held (map.find prefix_cmp k slots)) (tied q p e) ∙ out)
       | false ↦ λ e. refl
     ] refl

@@ -1,5 +1,7 @@
 -- What slots in rising order keep, and which of their prefixes comes first.
-use Rattle.std.proofs.Common.{◌≡◌, ℕ, zero, suc, ◌+◌, ◌-◌, ◌<◌, ◌≤◌, Bool, true, false, List, [], ◌∷◌, ◌++◌, length, get_or, set, take, drop, slice_get, Option, Some, None, refl, sym, ap, ◌∙◌, subst, arith, add-one, map as list_map, length-set, length-append, length-drop}
+use Rattle.std.proofs.Common.{◌≡◌, ℕ, zero, suc, ◌+◌, ◌-◌, ◌<◌, ◌≤◌, Bool, true, false, List, [], ◌∷◌, ◌++◌, length}
+use Rattle.std.proofs.Common.{get_or, set, take, drop, slice_get, Option, Some, None, refl, sym, ap, ◌∙◌, subst, arith}
+use Rattle.std.proofs.Common.{add-one, map as list_map, length-set, length-append, length-drop}
 use Rattle.std.specs.Prelude.{T, if◌then◌else◌}
 use Rattle.std.specs.declared.cmp.Ordering.{Ordering}
 use Rattle.std.specs.declared.cmp.Ordering.TheVariants.{Less, Equal, Greater}
@@ -117,15 +119,18 @@ pub none_held : (slots : List Slot) (start : ℕ) (p : PrefixValue) → AllOut (
     → is_held (map.find prefix_cmp p slots) ≡ false
 none_held [] start p out all = refl
 none_held (slot ∷ slots) zero p out all = absurd (omega arith)
-none_held (slot ∷ slots) (suc start) p out all = held_neither (eq_by_cmp prefix_cmp p slot.0) slot.1 (map.find prefix_cmp p slots) out.0 (none_held slots start p out.1 (omega arith))
+none_held (slot ∷ slots) (suc start) p out all =
+    held_neither (eq_by_cmp prefix_cmp p slot.0) slot.1 (map.find prefix_cmp p slots) out.0 (none_held slots start p out.1 (omega arith))
 
 -- what is less than the prefix of a slot before which nothing is in isn't in
 pub early_absent : (slots : List Slot) (start : ℕ) (d : Slot) (p : PrefixValue) → T (map.is_sorted prefix_cmp slots) → AllOut (take start slots)
     → start < length slots → prefix_cmp p (get_or slots start d).0 ≡ Less → is_held (map.find prefix_cmp p slots) ≡ false
 early_absent [] start d p rise out h less = absurd (omega arith)
-early_absent (slot ∷ slots) zero d p rise out h less = ap is_held (find_above prefix_cmp p (slot ∷ slots) (less, above_all p slot.0 slots (behind slot slots rise).above less))
+early_absent (slot ∷ slots) zero d p rise out h less =
+    ap is_held (find_above prefix_cmp p (slot ∷ slots) (less, above_all p slot.0 slots (behind slot slots rise).above less))
 early_absent (slot ∷ slots) (suc start) d p rise out h less =
-    held_neither (eq_by_cmp prefix_cmp p slot.0) slot.1 (map.find prefix_cmp p slots) out.0 (early_absent slots start d p (behind slot slots rise).rise out.1 (omega arith) less)
+    held_neither (eq_by_cmp prefix_cmp p slot.0) slot.1 (map.find prefix_cmp p slots) out.0
+    (early_absent slots start d p (behind slot slots rise).rise out.1 (omega arith) less)
 
 -- ---- past all slots
 
@@ -150,7 +155,8 @@ first_put : (p : PrefixValue) (es : List (PrefixValue × Unit {0}))
     → first_above None (list_map (λ e. e.0) (map.put prefix_cmp p tt es)) ≡ lesser_of (Some p) (first_above None (list_map (λ e. e.0) es))
 first_put p [] = refl
 first_put p (e ∷ es) =
-    elim (prefix_cmp p e.0) as (λ o. prefix_cmp p e.0 ≡ o → first_above None (list_map (λ e. e.0) (by_order o ((p, tt) ∷ e ∷ es) ((e.0, tt) ∷ es) (e ∷ map.put prefix_cmp p tt es))) ≡ (if is_lt (ordering_reverse o) then Some e.0 else Some p)) [
+    elim (prefix_cmp p e.0) as (λ o. prefix_cmp p e.0 ≡ o → first_above None (list_map (λ e. e.0)
+    (by_order o ((p, tt) ∷ e ∷ es) ((e.0, tt) ∷ es) (e ∷ map.put prefix_cmp p tt es))) ≡ (if is_lt (ordering_reverse o) then Some e.0 else Some p)) [
       | Less ↦ λ is. refl
       | Equal ↦ λ is. ap Some (sym (exact_prefixes p e.0 is))
       | Greater ↦ λ is. refl
@@ -217,7 +223,8 @@ unit_keys (p ∷ ps) = ap (λ (qs : List PrefixValue). p ∷ qs) (unit_keys ps)
 pub keys_united : (slots : List Slot) → T (map.is_sorted prefix_cmp slots) → (beside : PrefixSet) → map.len beside ≡ 0
     → map.keys (united slots beside) ≡ those_in slots
 keys_united slots rise beside none =
-    ap (λ (set : PrefixSet). map.keys (united slots set)) (map.empty_of_len beside none ∙ sym (map.empty_of_len (map.from_sorted {R = prefix_cmp} []) (map.len-entries _ ∙ ap length (map.entries-from_sorted prefix_cmp [] tt))))
+    ap (λ (set : PrefixSet). map.keys (united slots set)) (map.empty_of_len beside none
+    ∙ sym (map.empty_of_len (map.from_sorted {R = prefix_cmp} []) (map.len-entries _ ∙ ap length (map.entries-from_sorted prefix_cmp [] tt))))
     ∙ (ap (list_map (λ e. e.0)) (entries_united slots rise)
     ∙ unit_keys (those_in slots))
 

@@ -126,7 +126,8 @@ impl Run {
     /// there. Else it returns false and nothing changes. If memory runs out, nothing changes.
     pub fn add(&mut self, prefix: Prefix) -> Result<bool, NoMemory>
         ensures taken { IfOk result (λ taken. taken ≡ true → (beside : PrefixSet) → united self.new beside ≡ map.insert (united self.old beside) prefix tt) }
-        ensures passed { IfOk result (λ taken. taken ≡ false → (beside : PrefixSet) → united self.old (map.insert beside prefix tt) ≡ map.insert (united self.old beside) prefix tt) }
+        ensures passed { IfOk result
+            (λ taken. taken ≡ false → (beside : PrefixSet) → united self.old (map.insert beside prefix tt) ≡ map.insert (united self.old beside) prefix tt) }
         ensures same { IfOk result (λ taken. taken ≡ false → self.new ≡ self.old) }
         ensures err { OnErr result (self.new ≡ self.old) }
     {

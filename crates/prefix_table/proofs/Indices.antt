@@ -1,5 +1,6 @@
 -- What a search by halves finds among entries whose prefixes rise, and what a change there leaves.
-use Rattle.std.proofs.Common.{◌≡◌, ℕ, zero, suc, ◌+◌, ◌<◌, ◌≤◌, false, List, [], ◌∷◌, ◌++◌, length, get_or, set, take, drop, Some, None, Result, Ok, Err, IfOk, IfErr, refl, sym, ap, ◌∙◌, subst, arith, add-one, map, length-drop}
+use Rattle.std.proofs.Common.{◌≡◌, ℕ, zero, suc, ◌+◌, ◌<◌, ◌≤◌, false, List, [], ◌∷◌, ◌++◌, length, get_or, set, take, drop, Some, None}
+use Rattle.std.proofs.Common.{Result, Ok, Err, IfOk, IfErr, refl, sym, ap, ◌∙◌, subst, arith, add-one, map, length-drop}
 use Rattle.std.specs.Prelude.{T}
 use Rattle.std.specs.declared.cmp.Ordering.TheVariants.{Less, Greater}
 use Rattle.std.specs.Ordering.{is_lt, ordering_reverse}
@@ -14,7 +15,8 @@ use Rattle.std.proofs.lemmas.List.Elements.{All-from_recursion}
 use Rattle.std.specs.Cmp.{tied_itself}
 use Rattle.bgp_types.specs.Prefixes.{PrefixValue}
 use Rattle.bgp_types.specs.Tables.{prefix_cmp, first_above}
-use Rattle.bgp_types.proofs.TableLaws.{prefix_total, exact_prefixes, without, put_right, put_left, find_right, find_above, without_right, without_above, rising_parts, next_right, below_not_above}
+use Rattle.bgp_types.proofs.TableLaws.{prefix_total, exact_prefixes, without, put_right, put_left, find_right, find_above}
+use Rattle.bgp_types.proofs.TableLaws.{without_right, without_above, rising_parts, next_right, below_not_above}
 use Rattle.prefix_table.specs.Indices.{AllBelow, AllAbove, IsIndexOfPrefix, IsGapForPrefix, first_prefix}
 
 module _ {A : Type 0} (P : A → Type 0) where
@@ -36,7 +38,8 @@ module _ {V : Type 0} where
   neighbours es rise k d h =
       let at : k < length es = omega arith in
       let e = split_at es k d at in
-      let parts = rising_parts prefix_total (take k es) (get_or es k d) (drop (suc k) es) (subst (λ (xs : List (PrefixValue × V)). T (is_sorted prefix_cmp xs)) e rise) in
+      let parts = rising_parts prefix_total (take k es) (get_or es k d) (drop (suc k) es)
+      (subst (λ (xs : List (PrefixValue × V)). T (is_sorted prefix_cmp xs)) e rise) in
       let less : prefix_cmp (get_or es k d).0 (get_or es (k + 1) d).0 ≡ Less =
       subst (λ (x : PrefixValue × V). prefix_cmp (get_or es k d).0 x.0 ≡ Less) (get_or-drop (suc k) es 0 d ∙ ap (λ (i : ℕ). get_or es i d) (omega arith))
       (All-from_recursion (λ x. prefix_cmp (get_or es k d).0 x.0 ≡ Less) (drop (suc k) es) parts.1 0 d (omega (arith, length-drop (suc k) es))) in
@@ -48,7 +51,8 @@ module _ {V : Type 0} where
   placed [] rise p at h has = absurd (omega arith)
   placed (e ∷ es) rise p at h has =
       let all = e ∷ es in
-      let parts = rising_parts prefix_total (take at all) (get_or all at e) (drop (suc at) all) (subst (λ (xs : List (PrefixValue × V)). T (is_sorted prefix_cmp xs)) (split_at all at e h) rise) in
+      let parts = rising_parts prefix_total (take at all) (get_or all at e) (drop (suc at) all)
+      (subst (λ (xs : List (PrefixValue × V)). T (is_sorted prefix_cmp xs)) (split_at all at e h) rise) in
       record {
         in_range = h;
         has = has;
@@ -66,8 +70,10 @@ module _ {V : Type 0} where
         found = tt;
         absent = record {
           in_range = in_range;
-          before = each_taken (λ e. prefix_cmp p e.0 ≡ Greater) es at (λ k d lt h. prefix_total.antisymm p (get_or es k d).0 ∙ ap ordering_reverse (parts.0 k d (omega arith) lt));
-          after = each_dropped (λ e. prefix_cmp p e.0 ≡ Less) es at (λ k d le h. prefix_total.antisymm p (get_or es k d).0 ∙ ap ordering_reverse (parts.1 k d le h));
+          before = each_taken (λ e. prefix_cmp p e.0 ≡ Greater) es at
+              (λ k d lt h. prefix_total.antisymm p (get_or es k d).0 ∙ ap ordering_reverse (parts.0 k d (omega arith) lt));
+          after = each_dropped (λ e. prefix_cmp p e.0 ≡ Less) es at
+              (λ k d le h. prefix_total.antisymm p (get_or es k d).0 ∙ ap ordering_reverse (parts.1 k d le h));
         };
       }
 

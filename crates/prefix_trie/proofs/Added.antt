@@ -1,5 +1,6 @@
 -- A node whose branch got a node for a prefix.
-use Rattle.std.proofs.Common.{◌≡◌, ◌≢◌, ℕ, ◌≤◌, Bool, true, List, [], ◌∷◌, ◌++◌, length, Option, Some, refl, sym, ap, subst, ◌∙◌, arith, slice_get, inl, inr, ◌⊎◌}
+use Rattle.std.proofs.Common.{◌≡◌, ◌≢◌, ℕ, ◌≤◌, Bool, true, List, [], ◌∷◌, ◌++◌, length, Option, Some}
+use Rattle.std.proofs.Common.{refl, sym, ap, subst, ◌∙◌, arith, slice_get, inl, inr, ◌⊎◌}
 use Rattle.std.specs.Prelude.{IfSome, option_map}
 use Rattle.std.specs.List.{Contains}
 use Rattle.std.proofs.lemmas.List.Elements.{Contains-append_left, Contains-append_right, Contains-append_cases}
@@ -13,7 +14,8 @@ use Rattle.prefix_trie.proofs.Branches.{Stands}
 use Rattle.prefix_trie.proofs.Levels.{AtNode, at_node}
 use Rattle.prefix_trie.proofs.Relinked.{all_apart, index_not, zero_relinked, one_relinked}
 
-module _ (nodes : List Node) (p : PrefixValue) (fresh spare index : ℕ) (n : Node) (was : slice_get nodes index ≡ Some n) (can : CanAdd nodes p fresh spare index) where
+module _ (nodes : List Node) (p : PrefixValue) (fresh spare index : ℕ) (n : Node)
+    (was : slice_get nodes index ≡ Some n) (can : CanAdd nodes p fresh spare index) where
   abbrev Z : List ℕ
   Z = indices_at nodes n.zero
 
@@ -36,7 +38,8 @@ module _ (nodes : List Node) (p : PrefixValue) (fresh spare index : ℕ) (n : No
   in_one = Contains-append_right Z O
 
   fresh_not : (r : ℕ) → Contains (indices_at nodes index) r → r ≢ fresh
-  fresh_not r inside e = can.apart.0 (subst (Contains (spare ∷ indices_at nodes index)) e (Contains-append_right (spare ∷ []) (indices_at nodes index) r inside))
+  fresh_not r inside e =
+      can.apart.0 (subst (Contains (spare ∷ indices_at nodes index)) e (Contains-append_right (spare ∷ []) (indices_at nodes index) r inside))
 
   spare_not : (r : ℕ) → Contains (indices_at nodes index) r → r ≢ spare
   spare_not r inside e = can.apart.1.0 (subst (Contains (indices_at nodes index)) e inside)
@@ -80,7 +83,8 @@ module _ (nodes : List Node) (p : PrefixValue) (fresh spare index : ℕ) (n : No
   still_one fs to forked a = a.others index (λ inside. not_index index (in_one index inside) refl) (fresh_not index at.here) (spare_not index at.here) ∙ was
 
   -- One branch has the indices that it had, and one or two that were of no use. The other branch stays.
-  module _ (side other : List ℕ) (side_in : (r : ℕ) → Contains side r → Contains (Z ++ O) r) (other_in : (r : ℕ) → Contains other r → Contains (Z ++ O) r) (never : (r : ℕ) → Contains side r → Contains other r → ⊥)
+  module _ (side other : List ℕ) (side_in : (r : ℕ) → Contains side r → Contains (Z ++ O) r)
+      (other_in : (r : ℕ) → Contains other r → Contains (Z ++ O) r) (never : (r : ℕ) → Contains side r → Contains other r → ⊥)
       (forked : Bool) (r : ℕ) (among : Contains side r ⊎ ((r ≡ fresh) ⊎ ((r ≡ spare) × (forked ≡ true)))) where
     side_not_index : r ≢ index
     side_not_index e = elim among [
@@ -118,7 +122,8 @@ module _ (nodes : List Node) (p : PrefixValue) (fresh spare index : ℕ) (n : No
 
     here_still : (low high len : ℕ) (m : Node) → m.prefix ≡ n.prefix → slice_get fs index ≡ Some m
         → IfSome (slice_get nodes index) (λ m. Within low high len m.prefix) → IfSome (slice_get fs index) (λ m. Within low high len m.prefix)
-    here_still low high len m same now w = subst (λ (o : Option Node). IfSome o (λ m. Within low high len m.prefix)) (sym now) (subst (Within low high len) (sym same) (subst (λ (o : Option Node). IfSome o (λ m. Within low high len m.prefix)) was w))
+    here_still low high len m same now w = subst (λ (o : Option Node). IfSome o (λ m. Within low high len m.prefix)) (sym now)
+        (subst (Within low high len) (sym same) (subst (λ (o : Option Node). IfSome o (λ m. Within low high len m.prefix)) was w))
 
     never : (r : ℕ) → Contains Z r → Contains O r → ⊥
     never = never_both Z O all.1
@@ -131,8 +136,10 @@ module _ (nodes : List Node) (p : PrefixValue) (fresh spare index : ℕ) (n : No
         → IsAdded nodes fs p fresh spare index index forked
     zero_added a now w =
         let T = indices_at gs to in
-        let now_is : (values : List (Option ℕ)) → entries_at gs values to ≡ entries_at nodes values n.zero → Stands fs values index (entries_at nodes values index) (index ∷ (T ++ O)) =
-        λ values same. zero_relinked nodes index n at can.apart.1.1 values gs fs to (few_now a.as_many) others a.trie (λ r inside. side_not_index Z O in_zero in_one never forked r (a.among r inside)) same
+        let now_is : (values : List (Option ℕ)) → entries_at gs values to ≡ entries_at nodes values n.zero
+        → Stands fs values index (entries_at nodes values index) (index ∷ (T ++ O)) =
+        λ values same. zero_relinked nodes index n at can.apart.1.1 values gs fs to (few_now a.as_many) others a.trie
+        (λ r inside. side_not_index Z O in_zero in_one never forked r (a.among r inside)) same
         (λ r inside. a.others r (λ left. never r left inside) (fresh_not r (at.below r (in_one r inside))) (spare_not r (at.below r (in_one r inside))))
         (a.within n.prefix n.prefix.address (middle n.prefix) at.branching.is (inl (refl, refl)) w at.branching.zero) now in
         let s = now_is [] (a.entries [] refl refl) in
@@ -140,7 +147,8 @@ module _ (nodes : List Node) (p : PrefixValue) (fresh spare index : ℕ) (n : No
           entries = λ values f g. (now_is values (a.entries values f g)).entries;
           trie = s.trie;
           node = still_there a.node;
-          there = subst (λ (ps : List ℕ). Contains ps fresh) (sym s.indices) (Contains-append_right (index ∷ []) (T ++ O) fresh (Contains-append_left T O fresh a.there));
+          there = subst (λ (ps : List ℕ). Contains ps fresh) (sym s.indices)
+              (Contains-append_right (index ∷ []) (T ++ O) fresh (Contains-append_left T O fresh a.there));
           apart = subst AreApart (sym s.indices) (
             (λ inside. elim (Contains-append_cases T O index inside) [
               | inl left ↦ side_not_index Z O in_zero in_one never forked index (a.among index left) refl
@@ -165,8 +173,10 @@ module _ (nodes : List Node) (p : PrefixValue) (fresh spare index : ℕ) (n : No
         → IsAdded nodes fs p fresh spare index index forked
     one_added a now w =
         let T = indices_at gs to in
-        let now_is : (values : List (Option ℕ)) → entries_at gs values to ≡ entries_at nodes values n.one → Stands fs values index (entries_at nodes values index) (index ∷ (Z ++ T)) =
-        λ values same. one_relinked nodes index n at can.apart.1.1 values gs fs to (few_now a.as_many) others a.trie (λ r inside. side_not_index O Z in_one in_zero never_back forked r (a.among r inside)) same
+        let now_is : (values : List (Option ℕ)) → entries_at gs values to ≡ entries_at nodes values n.one
+        → Stands fs values index (entries_at nodes values index) (index ∷ (Z ++ T)) =
+        λ values same. one_relinked nodes index n at can.apart.1.1 values gs fs to (few_now a.as_many) others a.trie
+        (λ r inside. side_not_index O Z in_one in_zero never_back forked r (a.among r inside)) same
         (λ r inside. a.others r (λ right. never r inside right) (fresh_not r (at.below r (in_zero r inside))) (spare_not r (at.below r (in_zero r inside))))
         (a.within n.prefix (middle n.prefix) (past n.prefix) at.branching.is (inr (refl, refl)) w at.branching.one) now in
         let s = now_is [] (a.entries [] refl refl) in
@@ -174,7 +184,8 @@ module _ (nodes : List Node) (p : PrefixValue) (fresh spare index : ℕ) (n : No
           entries = λ values f g. (now_is values (a.entries values f g)).entries;
           trie = s.trie;
           node = still_there a.node;
-          there = subst (λ (ps : List ℕ). Contains ps fresh) (sym s.indices) (Contains-append_right (index ∷ []) (Z ++ T) fresh (Contains-append_right Z T fresh a.there));
+          there = subst (λ (ps : List ℕ). Contains ps fresh) (sym s.indices)
+              (Contains-append_right (index ∷ []) (Z ++ T) fresh (Contains-append_right Z T fresh a.there));
           apart = subst AreApart (sym s.indices) (
             (λ inside. elim (Contains-append_cases Z T index inside) [
               | inl left ↦ not_index index (in_zero index left) refl

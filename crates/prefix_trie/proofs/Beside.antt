@@ -1,5 +1,6 @@
 -- A prefix that gets a node beside all that stands from an index down, below a fork.
-use Rattle.std.proofs.Common.{◌≡◌, ◌≢◌, ℕ, ◌≤◌, ◌<◌, true, List, [], ◌∷◌, ◌++◌, length, Option, Some, None, refl, sym, ap, subst, ◌∙◌, arith, slice_get, inl, inr, ◌⊎◌}
+use Rattle.std.proofs.Common.{◌≡◌, ◌≢◌, ℕ, ◌≤◌, ◌<◌, true, List, [], ◌∷◌, ◌++◌, length, Option, Some, None}
+use Rattle.std.proofs.Common.{refl, sym, ap, subst, ◌∙◌, arith, slice_get, inl, inr, ◌⊎◌}
 use Rattle.std.specs.Prelude.{IfSome, option_map}
 use Rattle.std.specs.List.{Contains}
 use Rattle.std.proofs.lemmas.List.Elements.{Contains-append_right, Contains-append_cases}
@@ -33,13 +34,16 @@ fork_within q f low high a b is half fork from to = elim half [
       (fork_late q f a b is fork (omega (arith, start, from)) (omega (arith, end, to)) (omega (arith, start, from))))
 ]
 
-module _ (nodes fs : List Node) (p : PrefixValue) (fresh spare index : ℕ) (n m : Node) (was : slice_get nodes index ≡ Some n) (can : CanAdd nodes p fresh spare index) (many : length fs ≡ length nodes)
-    (others : (r : ℕ) → r ≢ fresh → r ≢ spare → slice_get fs r ≡ slice_get nodes r) (new : slice_get fs fresh ≡ Some (leaf p)) (there : slice_get fs spare ≡ Some m) where
+module _ (nodes fs : List Node) (p : PrefixValue) (fresh spare index : ℕ) (n m : Node)
+    (was : slice_get nodes index ≡ Some n) (can : CanAdd nodes p fresh spare index) (many : length fs ≡ length nodes)
+    (others : (r : ℕ) → r ≢ fresh → r ≢ spare → slice_get fs r ≡ slice_get nodes r) (new : slice_get fs fresh ≡ Some (leaf p))
+    (there : slice_get fs spare ≡ Some m) where
   few_now : length fs ≤ nowhere
   few_now = let few = can.few in omega (arith, many, few)
 
   not_fresh : (r : ℕ) → Contains (indices_at nodes index) r → r ≢ fresh
-  not_fresh r inside e = can.apart.0 (subst (Contains (spare ∷ indices_at nodes index)) e (Contains-append_right (spare ∷ []) (indices_at nodes index) r inside))
+  not_fresh r inside e =
+      can.apart.0 (subst (Contains (spare ∷ indices_at nodes index)) e (Contains-append_right (spare ∷ []) (indices_at nodes index) r inside))
 
   not_spare : (r : ℕ) → Contains (indices_at nodes index) r → r ≢ spare
   not_spare r inside e = can.apart.1.0 (subst (Contains (indices_at nodes index)) e inside)
@@ -48,7 +52,8 @@ module _ (nodes fs : List Node) (p : PrefixValue) (fresh spare index : ℕ) (n m
   fresh_not_spare e = can.apart.0 (0, omega arith, sym e)
 
   kept : (values : List (Option ℕ)) → Stays nodes fs values values index
-  kept values = stays nodes fs values values few_now index can.trie (λ r inside. record { node = others r (not_fresh r inside) (not_spare r inside); value = refl })
+  kept values = stays nodes fs values values few_now index can.trie
+      (λ r inside. record { node = others r (not_fresh r inside) (not_spare r inside); value = refl })
 
   stood : (values : List (Option ℕ)) → Stands fs values index (entries_at nodes values index) (indices_at nodes index)
   stood values = let k = kept values in record { entries = k.entries; indices = k.indices; trie = k.trie }
@@ -61,10 +66,12 @@ module _ (nodes fs : List Node) (p : PrefixValue) (fresh spare index : ℕ) (n m
 
   -- whatever the order of the indices
   forked_added : (ps : List ℕ)
-      → ((values : List (Option ℕ)) → value_at values fresh ≡ None → value_at values spare ≡ None → Stands fs values spare (entries_at nodes values index) (spare ∷ ps))
+      → ((values : List (Option ℕ)) → value_at values fresh ≡ None → value_at values spare ≡ None
+      → Stands fs values spare (entries_at nodes values index) (spare ∷ ps))
       → Contains ps fresh → AreApart ps
       → ((r : ℕ) → Contains ps r → (r ≡ fresh) ⊎ Contains (indices_at nodes index) r)
-      → ((q : PrefixValue) (low high : ℕ) → IsPrefix q → IsHalf q low high → Within low high q.len p → Within low high q.len n.prefix → Within low high q.len m.prefix)
+      → ((q : PrefixValue) (low high : ℕ) → IsPrefix q → IsHalf q low high
+      → Within low high q.len p → Within low high q.len n.prefix → Within low high q.len m.prefix)
       → IsAdded nodes fs p fresh spare index spare true
   forked_added ps stands has apart sub between =
       let s = stands [] refl refl in
@@ -73,7 +80,8 @@ module _ (nodes fs : List Node) (p : PrefixValue) (fresh spare index : ℕ) (n m
         trie = s.trie;
         node = ap (option_map (λ (m : Node). m.prefix)) new;
         there = subst (λ (xs : List ℕ). Contains xs fresh) (sym s.indices) (Contains-append_right (spare ∷ []) ps fresh has);
-        apart = subst AreApart (sym s.indices) ((λ inside. elim (sub spare inside) [ inl e ↦ fresh_not_spare (sym e) | inr old ↦ not_spare spare old refl ]), apart);
+        apart = subst AreApart (sym s.indices)
+            ((λ inside. elim (sub spare inside) [ inl e ↦ fresh_not_spare (sym e) | inr old ↦ not_spare spare old refl ]), apart);
         among = λ r inside. elim (first_or_rest spare ps r (subst (λ (xs : List ℕ). Contains xs r) s.indices inside)) [
           | inl e ↦ inr (inr (e, refl))
           | inr below ↦ elim (sub r below) [ inl e ↦ inr (inl e) | inr old ↦ inl old ]
@@ -90,9 +98,11 @@ module _ (nodes fs : List Node) (p : PrefixValue) (fresh spare index : ℕ) (n m
   before_added named fork less ends =
       let ps = indices_at nodes index in
       forked_added (fresh ∷ ps)
-      (λ values f g. beside_early fs values few_now index spare n m.prefix fork.is (entries_at nodes values index) ps at_now g (stood values) fresh p can.is new f (there ∙ ap Some named) (fork_low p m.prefix n.prefix.address can.is fork ends) (fork_high n.prefix m.prefix p.address is_n fork less))
+      (λ values f g. beside_early fs values few_now index spare n m.prefix fork.is (entries_at nodes values index) ps at_now g (stood values) fresh p can.is
+      new f (there ∙ ap Some named) (fork_low p m.prefix n.prefix.address can.is fork ends) (fork_high n.prefix m.prefix p.address is_n fork less))
       (0, omega arith, refl) ((λ inside. not_fresh fresh inside refl), can.apart.1.1) (λ r inside. first_or_rest fresh ps r inside)
-      (λ q low high is half w u. let some = positive n.prefix in let from = w.from in let to = u.to in fork_within q m.prefix low high p.address n.prefix.address is half fork from (omega (arith, some, to)))
+      (λ q low high is half w u. let some = positive n.prefix in let from = w.from in let to = u.to in
+      fork_within q m.prefix low high p.address n.prefix.address is half fork from (omega (arith, some, to)))
 
   -- behind what stands
   behind_added : m ≡ record { prefix = m.prefix; zero = index; one = fresh } → IsFork n.prefix.address p.address m.prefix
@@ -100,14 +110,17 @@ module _ (nodes fs : List Node) (p : PrefixValue) (fresh spare index : ℕ) (n m
   behind_added named fork less ends =
       let ps = indices_at nodes index in
       forked_added (ps ++ (fresh ∷ []))
-      (λ values f g. beside_late fs values few_now index spare n m.prefix fork.is (entries_at nodes values index) ps at_now g (stood values) fresh p can.is new f (there ∙ ap Some named) (fork_low n.prefix m.prefix p.address is_n fork ends) (fork_high p m.prefix n.prefix.address can.is fork less))
+      (λ values f g. beside_late fs values few_now index spare n m.prefix fork.is (entries_at nodes values index) ps at_now g (stood values) fresh p can.is
+      new f (there ∙ ap Some named) (fork_low n.prefix m.prefix p.address is_n fork ends) (fork_high p m.prefix n.prefix.address can.is fork less))
       (Contains-append_right ps (fresh ∷ []) fresh (0, omega arith, refl))
-      (both_apart ps (fresh ∷ []) can.apart.1.1 ((λ inside. in_none fresh inside), tt) (λ r left right. elim (first_or_rest fresh [] r right) [ inl e ↦ not_fresh r left e | inr no_more ↦ in_none r no_more ]))
+      (both_apart ps (fresh ∷ []) can.apart.1.1 ((λ inside. in_none fresh inside), tt)
+      (λ r left right. elim (first_or_rest fresh [] r right) [ inl e ↦ not_fresh r left e | inr no_more ↦ in_none r no_more ]))
       (λ r inside. elim (Contains-append_cases ps (fresh ∷ []) r inside) [
         | inl old ↦ inr old
         | inr last ↦ elim (first_or_rest fresh [] r last) [ inl e ↦ inl e | inr no_more ↦ absurd (in_none r no_more) ]
       ])
-      (λ q low high is half w u. let some = positive p in let from = u.from in let to = w.to in fork_within q m.prefix low high n.prefix.address p.address is half fork from (omega (arith, some, to)))
+      (λ q low high is half w u. let some = positive p in let from = u.from in let to = w.to in
+      fork_within q m.prefix low high n.prefix.address p.address is half fork from (omega (arith, some, to)))
 
   -- A node beside one that stands, whose prefix neither covers nor is covered.
   pub beside_added : (Covers n.prefix p → ⊥) → (Covers p n.prefix → ⊥) → IsForkOf p fresh n.prefix index m → IsAdded nodes fs p fresh spare index spare true

@@ -17,7 +17,8 @@ pub record Stands {V : Type 0} (nodes : List Node) (values : List (Option V)) (i
 
 pub built : {V : Type 0} (nodes : List Node) (values : List (Option V)) (index : ℕ) (n : Node) → slice_get nodes index ≡ Some n → IsBranching nodes n
     → IsTrieAt nodes n.zero → IsTrieAt nodes n.one
-    → Stands nodes values index (own n.prefix (value_at values index) ++ (entries_at nodes values n.zero ++ entries_at nodes values n.one)) (index ∷ (indices_at nodes n.zero ++ indices_at nodes n.one))
+    → Stands nodes values index (own n.prefix (value_at values index) ++ (entries_at nodes values n.zero ++ entries_at nodes values n.one))
+    (index ∷ (indices_at nodes n.zero ++ indices_at nodes n.one))
 built nodes values index n there branching zeros ones =
     let trie = node_trie nodes index n there branching zeros ones in
     let at = at_node nodes index n there trie in
@@ -28,14 +29,19 @@ pub record Moved {V : Type 0} (nodes fs : List Node) (values ws : List (Option V
   pub entries : entries_at fs ws to ≡ entries_at nodes values from
   pub trie : IsTrieAt fs to
 
-module _ {V : Type 0} (nodes fs : List Node) (values ws : List (Option V)) (index to : ℕ) (n : Node) (had : AtNode nodes index n) (kept : value_at ws index ≡ value_at values index) where
+module _ {V : Type 0} (nodes fs : List Node) (values ws : List (Option V)) (index to : ℕ)
+    (n : Node) (had : AtNode nodes index n) (kept : value_at ws index ≡ value_at values index) where
   pub zero_moved : slice_get fs index ≡ Some (record { prefix = n.prefix; zero = to; one = n.one }) → Moved nodes fs values ws n.zero to
       → Stays nodes fs values ws n.one
       → IfSome (slice_get fs to) (λ m. Within n.prefix.address (middle n.prefix) n.prefix.len m.prefix)
       → Stands fs ws index (entries_at nodes values index) (index ∷ (indices_at fs to ++ indices_at nodes n.one))
   zero_moved now moved stays below =
       let b = built fs ws index (record { prefix = n.prefix; zero = to; one = n.one }) now
-      (record { is = had.branching.is; zero = below; one = subst (λ (o : Option Node). IfSome o (λ m. Within (middle n.prefix) (past n.prefix) n.prefix.len m.prefix)) (sym stays.root) had.branching.one }) moved.trie stays.trie in
+      (record {
+        is = had.branching.is;
+        zero = below;
+        one = subst (λ (o : Option Node). IfSome o (λ m. Within (middle n.prefix) (past n.prefix) n.prefix.len m.prefix)) (sym stays.root) had.branching.one;
+      }) moved.trie stays.trie in
       record {
         entries = b.entries
             ∙ (ap (λ (o : Option V). own n.prefix o ++ (entries_at fs ws to ++ entries_at fs ws n.one)) kept
@@ -52,7 +58,12 @@ module _ {V : Type 0} (nodes fs : List Node) (values ws : List (Option V)) (inde
       → Stands fs ws index (entries_at nodes values index) (index ∷ (indices_at nodes n.zero ++ indices_at fs to))
   one_moved now moved stays below =
       let b = built fs ws index (record { prefix = n.prefix; zero = n.zero; one = to }) now
-      (record { is = had.branching.is; zero = subst (λ (o : Option Node). IfSome o (λ m. Within n.prefix.address (middle n.prefix) n.prefix.len m.prefix)) (sym stays.root) had.branching.zero; one = below }) stays.trie moved.trie in
+      (record {
+        is = had.branching.is;
+        zero = subst (λ (o : Option Node). IfSome o (λ m. Within n.prefix.address (middle n.prefix) n.prefix.len m.prefix))
+            (sym stays.root) had.branching.zero;
+        one = below;
+      }) stays.trie moved.trie in
       record {
         entries = b.entries
             ∙ (ap (λ (o : Option V). own n.prefix o ++ (entries_at fs ws n.zero ++ entries_at fs ws to)) kept

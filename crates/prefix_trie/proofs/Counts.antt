@@ -1,5 +1,6 @@
 -- The entries of a trie rise, and there are fewer of them than a table can count.
-use Rattle.std.proofs.Common.{◌≡◌, ℕ, subst, ◌+◌, ◌*◌, ◌^◌, ◌<◌, ◌≤◌, Bool, true, false, cond, List, [], ◌∷◌, ◌++◌, length, Option, Some, None, refl, sym, ap, ◌∙◌, arith, inl, inr}
+use Rattle.std.proofs.Common.{◌≡◌, ℕ, subst, ◌+◌, ◌*◌, ◌^◌, ◌<◌, ◌≤◌, Bool, true, false, cond, List, [], ◌∷◌}
+use Rattle.std.proofs.Common.{◌++◌, length, Option, Some, None, refl, sym, ap, ◌∙◌, arith, inl, inr}
 use Rattle.std.specs.Prelude.{T, ◌&&◌, is_some}
 use Rattle.std.specs.declared.cmp.Ordering.{Ordering}
 use Rattle.std.specs.declared.cmp.Ordering.TheVariants.{Less, Greater}
@@ -31,7 +32,8 @@ rising_node : {V : Type 0} (p : PrefixValue) (o : Option V) (zs os : List (Prefi
     → T (is_sorted prefix_cmp os) → T (is_sorted prefix_cmp (own p o ++ (zs ++ os)))
 rising_node {V} p o zs os node rz ro =
     rising_append prefix_total (own p o) (zs ++ os) (rising_own p o)
-    (rising_append prefix_total zs os rz ro (every (Within p.address (middle p) p.len) (λ q. AllAbove prefix_cmp q os) zs (λ q w. let to = w.to in let pos = positive q in ones_above p o zs os node q (omega arith)) node.zeros))
+    (rising_append prefix_total zs os rz ro (every (Within p.address (middle p) p.len) (λ q. AllAbove prefix_cmp q os) zs
+    (λ q w. let to = w.to in let pos = positive q in ones_above p o zs os node q (omega arith)) node.zeros))
     (own_first o)
   where
     own_first : (x : Option V) → AllByRecursion (λ e. AllAbove prefix_cmp e.0 (zs ++ os)) (own p x)
@@ -44,10 +46,12 @@ by_entries : {V : Type 0} (P : List (PrefixValue × V) → Type 0) (nodes : List
     → (index : ℕ) → IsTrieAt nodes index → P (entries_at nodes values index)
 by_entries P nodes values none over =
     by_trie nodes (λ index. P (entries_at nodes values index)) (λ index is empty. subst P (sym (none_at nodes values index is)) none)
-    (λ index n at zeros ones. subst P (sym (node_entries nodes values index n at)) (over n.prefix (value_at values index) (entries_at nodes values n.zero) (entries_at nodes values n.one) (halves_of nodes values index n at) zeros ones))
+    (λ index n at zeros ones. subst P (sym (node_entries nodes values index n at)) (over n.prefix (value_at values index)
+    (entries_at nodes values n.zero) (entries_at nodes values n.one) (halves_of nodes values index n at) zeros ones))
 
 pub rising_trie : {V : Type 0} (t : Tree V) → IsTrie t → T (is_sorted prefix_cmp (entries t))
-rising_trie t h = by_entries (λ es. T (is_sorted prefix_cmp es)) t.nodes.items t.values.items tt (λ p o zs os node a b. rising_node p o zs os node a b) t.root h.trie
+rising_trie t h = by_entries (λ es. T (is_sorted prefix_cmp es)) t.nodes.items t.values.items tt
+    (λ p o zs os node a b. rising_node p o zs os node a b) t.root h.trie
 
 -- ---- how many
 
@@ -56,7 +60,8 @@ itself p None is = tt
 itself p (Some v) is = (is, tt)
 
 all_are : {V : Type 0} (t : Tree V) → IsTrie t → AllByRecursion (λ e. IsPrefix e.0) (entries t)
-all_are {V} t h = by_entries (λ es. AllByRecursion (λ e. IsPrefix e.0) es) t.nodes.items t.values.items tt (λ p o zs os node a b. every_both IsPrefix (own p o) (zs ++ os) (itself p o node.is) (every_both IsPrefix zs os a b)) t.root h.trie
+all_are {V} t h = by_entries (λ es. AllByRecursion (λ e. IsPrefix e.0) es) t.nodes.items t.values.items tt
+    (λ p o zs os node a b. every_both IsPrefix (own p o) (zs ++ os) (itself p o node.is) (every_both IsPrefix zs os a b)) t.root h.trie
 
 -- a number for each prefix, in the same order
 rank : PrefixValue → ℕ

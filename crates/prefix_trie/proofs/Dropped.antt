@@ -28,14 +28,16 @@ module _ {V : Type 0} (nodes : List Node) (values : List (Option V)) (free : Lis
         elim lead.2 [
           | inl left ↦
               let t = lift_trimmed k n.zero (can_zero nodes values free index n is can) left in
-              zero_trimmed nodes values free index n is can fs fs kept n.zero refl (λ r e. refl) t (still_zero nodes values free index n is can fs kept n.zero t)
+              zero_trimmed nodes values free index n is can fs fs kept n.zero refl
+              (λ r e. refl) t (still_zero nodes values free index n is can fs kept n.zero t)
           | inr right ↦
               let t = lift_trimmed k n.one (can_one nodes values free index n is can) right in
               one_trimmed nodes values free index n is can fs fs kept n.one refl (λ r e. refl) t (still_one nodes values free index n is can fs kept n.one t)
         ]
 
   -- What stands where a prefix belongs was trimmed, below a node.
-  module _ (gs : List Node) (kept : List ℕ) (p : PrefixValue) (root above at to : ℕ) (can : CanTrim nodes free root) (b : IsBelow nodes root p above at) (trimmed : IsTrimmed nodes gs values free kept at to) where
+  module _ (gs : List Node) (kept : List ℕ) (p : PrefixValue) (root above at to : ℕ) (can : CanTrim nodes free root)
+      (b : IsBelow nodes root p above at) (trimmed : IsTrimmed nodes gs values free kept at to) where
     can_here : CanTrim nodes free above
     can_here = can_lead b.steps root above can b.on
 

@@ -1,5 +1,6 @@
 -- What indices are free while nodes go, each with its value.
-use Rattle.std.proofs.Common.{◌≡◌, ℕ, zero, suc, ◌≤◌, ◌<◌, Bool, true, false, cond, set, List, [], ◌∷◌, ◌++◌, length, Option, None, refl, sym, ap, subst, ◌∙◌, arith, slice_get, inl, inr, ◌⊎◌}
+use Rattle.std.proofs.Common.{◌≡◌, ℕ, zero, suc, ◌≤◌, ◌<◌, Bool, true, false, cond, set, List, [], ◌∷◌, ◌++◌, length}
+use Rattle.std.proofs.Common.{Option, None, refl, sym, ap, subst, ◌∙◌, arith, slice_get, inl, inr, ◌⊎◌}
 use Rattle.std.specs.List.{Contains}
 use Rattle.std.proofs.lemmas.List.Elements.{Contains-append_left, Contains-append_right, Contains-append_cases}
 use Rattle.std.proofs.lemmas.Option.{slice_get_past}
@@ -40,14 +41,17 @@ added_among true free fs index is q inside = elim (Contains-append_cases free (i
 added_among false free fs index is q inside = inl (subst (λ (ps : List ℕ). Contains ps q) is inside)
 
 pub added_apart : (b : Bool) (free fs : List ℕ) (index : ℕ) → fs ≡ cond b (free ++ index ∷ []) free → AreApart free → (Contains free index → ⊥) → AreApart fs
-added_apart true free fs index is apart away = subst AreApart (sym is) (both_apart free (index ∷ []) apart ((in_none index), tt) (λ q old new. elim (first_or_rest index [] q new) [
-  | inl at ↦ away (subst (Contains free) at old)
-  | inr none ↦ in_none q none
-]))
+added_apart true free fs index is apart away =
+    subst AreApart (sym is) (both_apart free (index ∷ []) apart ((in_none index), tt) (λ q old new. elim (first_or_rest index [] q new) [
+      | inl at ↦ away (subst (Contains free) at old)
+      | inr none ↦ in_none q none
+    ]))
 added_apart false free fs index is apart away = subst AreApart (sym is) apart
 
--- Z and O are the indices of the branches of a node at an index, and others are free. With the index, where there is room, fs are free, with those of the first branch gs, and with those of the second hs.
-module _ (index : ℕ) (Z O free fs : List ℕ) (apart : AreApart (index ∷ ((Z ++ O) ++ free))) (fs_apart : AreApart fs) (fs_among : (q : ℕ) → Contains fs q → Contains free q ⊎ (q ≡ index)) where
+-- Z and O are the indices of the branches of a node at an index, and others are free. With the index,
+-- where there is room, fs are free, with those of the first branch gs, and with those of the second hs.
+module _ (index : ℕ) (Z O free fs : List ℕ) (apart : AreApart (index ∷ ((Z ++ O) ++ free)))
+    (fs_apart : AreApart fs) (fs_among : (q : ℕ) → Contains fs q → Contains free q ⊎ (q ≡ index)) where
   not_freed : (q : ℕ) → Contains (Z ++ O) q → Contains fs q → ⊥
   not_freed q inside freed = elim (fs_among q freed) [
     | inl old ↦ never_both (Z ++ O) free apart.1 q inside old
@@ -86,7 +90,8 @@ module _ (index : ℕ) (Z O free fs : List ℕ) (apart : AreApart (index ∷ ((Z
     ]
 
 -- A node's index is free, where there is room, and then those of its branches.
-module _ (nodes : List Node) (index : ℕ) (n : Node) (at : AtNode nodes index n) (free : List ℕ) (apart : AreApart (indices_at nodes index ++ free)) (b : Bool) (fs : List ℕ) (is : fs ≡ cond b (free ++ index ∷ []) free) where
+module _ (nodes : List Node) (index : ℕ) (n : Node) (at : AtNode nodes index n) (free : List ℕ)
+    (apart : AreApart (indices_at nodes index ++ free)) (b : Bool) (fs : List ℕ) (is : fs ≡ cond b (free ++ index ∷ []) free) where
   all_apart : AreApart (index ∷ ((indices_at nodes n.zero ++ indices_at nodes n.one) ++ free))
   all_apart = subst (λ (ps : List ℕ). AreApart (ps ++ free)) at.indices apart
 
@@ -94,7 +99,8 @@ module _ (nodes : List Node) (index : ℕ) (n : Node) (at : AtNode nodes index n
   among = added_among b free fs index is
 
   now_apart : AreApart fs
-  now_apart = added_apart b free fs index is (right_apart (indices_at nodes index) free apart) (λ inside. all_apart.0 (Contains-append_right (indices_at nodes n.zero ++ indices_at nodes n.one) free index inside))
+  now_apart = added_apart b free fs index is (right_apart (indices_at nodes index) free apart)
+      (λ inside. all_apart.0 (Contains-append_right (indices_at nodes n.zero ++ indices_at nodes n.one) free index inside))
 
   pub zero_apart : AreApart (indices_at nodes n.zero ++ fs)
   zero_apart = first_apart index (indices_at nodes n.zero) (indices_at nodes n.one) free fs all_apart now_apart among
@@ -132,10 +138,11 @@ emptied_trie {V} t u h nodes root apart among bare valued =
     record {
       trie = empty_trie u.nodes.items u.root none root;
       apart = subst (λ (ps : List ℕ). AreApart (ps ++ u.free.items)) (sym (no_indices u.nodes.items u.root none)) apart;
-      free_in = λ q inside. subst (λ (ns : List Node). q < length ns) (sym nodes) (elim (Contains-append_cases (indices_at t.nodes.items t.root) t.free.items q (among q inside)) [
-        | inl node ↦ indices_in t.nodes.items q t.root h.trie node
-        | inr old ↦ h.free_in q old
-      ]);
+      free_in = λ q inside. subst (λ (ns : List Node). q < length ns) (sym nodes)
+          (elim (Contains-append_cases (indices_at t.nodes.items t.root) t.free.items q (among q inside)) [
+            | inl node ↦ indices_in t.nodes.items q t.root h.trie node
+            | inr old ↦ h.free_in q old
+          ]);
       free_bare = bare;
       few = few;
       valued = valued ∙ ap (λ (ns : List Node). length ns) (sym nodes);

@@ -36,11 +36,13 @@ module _ (nodes : List Node) (index : ℕ) (n : Node) (there : slice_get nodes i
 
   zero_within : (q : ℕ) (m : Node) → slice_get nodes q ≡ Some m → Contains (indices_at nodes n.zero) q
       → Within n.prefix.address (middle n.prefix) n.prefix.len m.prefix
-  zero_within q m named inside = index_within nodes q m named n.zero (at_node nodes index n there trie).zero_below n.prefix.address (middle n.prefix) n.prefix.len branching.zero inside
+  zero_within q m named inside = index_within nodes q m named n.zero
+      (at_node nodes index n there trie).zero_below n.prefix.address (middle n.prefix) n.prefix.len branching.zero inside
 
   one_within : (q : ℕ) (m : Node) → slice_get nodes q ≡ Some m → Contains (indices_at nodes n.one) q
       → Within (middle n.prefix) (past n.prefix) n.prefix.len m.prefix
-  one_within q m named inside = index_within nodes q m named n.one (at_node nodes index n there trie).one_below (middle n.prefix) (past n.prefix) n.prefix.len branching.one inside
+  one_within q m named inside = index_within nodes q m named n.one (at_node nodes index n there trie).one_below
+      (middle n.prefix) (past n.prefix) n.prefix.len branching.one inside
 
   early_under : Within n.prefix.address (middle n.prefix) n.prefix.len p → IsUnder n.prefix p
   early_under w =
@@ -63,11 +65,13 @@ module _ (nodes : List Node) (index : ℕ) (n : Node) (there : slice_get nodes i
   none_under long stop q inside = elim (cases_lt p.address (middle n.prefix)) [
     | inl early ↦ elim (early_only nodes index n there trie p long early q inside) [
       | inl off ↦ off
-      | inr left ↦ if_some (slice_get nodes q) (λ m. m.prefix ≢ p) (λ m named same. stop (early_under (subst (Within n.prefix.address (middle n.prefix) n.prefix.len) same (zero_within q m named left))))
+      | inr left ↦ if_some (slice_get nodes q) (λ m. m.prefix ≢ p)
+          (λ m named same. stop (early_under (subst (Within n.prefix.address (middle n.prefix) n.prefix.len) same (zero_within q m named left))))
     ]
     | inr late ↦ elim (late_only nodes index n there trie p long late q inside) [
       | inl off ↦ off
-      | inr right ↦ if_some (slice_get nodes q) (λ m. m.prefix ≢ p) (λ m named same. stop (late_under (subst (Within (middle n.prefix) (past n.prefix) n.prefix.len) same (one_within q m named right))))
+      | inr right ↦ if_some (slice_get nodes q) (λ m. m.prefix ≢ p)
+          (λ m named same. stop (late_under (subst (Within (middle n.prefix) (past n.prefix) n.prefix.len) same (one_within q m named right))))
     ]
   ]
     where
@@ -96,7 +100,8 @@ module _ (nodes : List Node) (index : ℕ) (n : Node) (there : slice_get nodes i
   ]
 
 -- None stands anywhere where none stands from a node down that p is under.
-module _ (nodes : List Node) (p : PrefixValue) (is : IsPrefix p) (q : ℕ) (m : Node) (there : slice_get nodes q ≡ Some m) (under : IsUnder m.prefix p) (none : HasNone nodes q p) where
+module _ (nodes : List Node) (p : PrefixValue) (is : IsPrefix p) (q : ℕ) (m : Node)
+    (there : slice_get nodes q ≡ Some m) (under : IsUnder m.prefix p) (none : HasNone nodes q p) where
   lift_none : (steps index : ℕ) → IsTrieAt nodes index → Leads nodes steps index q → HasNone nodes index p
   unfolding Leads
   lift_none zero index trie lead = subst (λ (at : ℕ). HasNone nodes at p) lead none
@@ -106,12 +111,14 @@ module _ (nodes : List Node) (p : PrefixValue) (is : IsPrefix p) (q : ℕ) (m : 
       let at = at_node nodes index n held trie in
       elim lead.2 [
         | inl left ↦
-            let w = under_within n.prefix.address (middle n.prefix) n.prefix.len m.prefix p is under (index_within nodes q m there n.zero at.zero_below n.prefix.address (middle n.prefix) n.prefix.len at.branching.zero (leads_among nodes k n.zero q m there at.zero_below left)) in
+            let w = under_within n.prefix.address (middle n.prefix) n.prefix.len m.prefix p is under (index_within nodes q m there n.zero at.zero_below
+            n.prefix.address (middle n.prefix) n.prefix.len at.branching.zero (leads_among nodes k n.zero q m there at.zero_below left)) in
             let to = w.to in
             let some = positive p in
             none_early nodes index n held trie p w.longer (omega (arith, to, some)) (lift_none k n.zero at.zero_below left)
         | inr right ↦
-            let w = under_within (middle n.prefix) (past n.prefix) n.prefix.len m.prefix p is under (index_within nodes q m there n.one at.one_below (middle n.prefix) (past n.prefix) n.prefix.len at.branching.one (leads_among nodes k n.one q m there at.one_below right)) in
+            let w = under_within (middle n.prefix) (past n.prefix) n.prefix.len m.prefix p is under (index_within nodes q m there n.one at.one_below
+            (middle n.prefix) (past n.prefix) n.prefix.len at.branching.one (leads_among nodes k n.one q m there at.one_below right)) in
             none_late nodes index n held trie p w.longer w.from (lift_none k n.one at.one_below right)
       ]
 
@@ -161,7 +168,8 @@ module _ {V : Type 0} (nodes : List Node) (values : List (Option V)) (p : Prefix
       let os = entries_at nodes values n.one in
       subst (λ (es : List (PrefixValue × V)). AllByRecursion (λ e. p ≢ e.0) es) (sym (node_entries nodes values index n at))
       (every_both (λ x. p ≢ x) (own n.prefix (value_at values index)) (zs ++ os) (own_apart p n.prefix (value_at values index) (λ e. differ (sym e)))
-      (every_both (λ x. p ≢ x) zs os (zeros (λ r inside. none r (in_zero nodes index n at r inside))) (ones (λ r inside. none r (in_one nodes index n at r inside)))))
+      (every_both (λ x. p ≢ x) zs os (zeros (λ r inside. none r (in_zero nodes index n at r inside)))
+      (ones (λ r inside. none r (in_one nodes index n at r inside)))))
 
   pub none_found : (index : ℕ) → IsTrieAt nodes index → HasNone nodes index p → find prefix_cmp p (entries_at nodes values index) ≡ None
   none_found index trie none = find_none p (entries_at nodes values index) (by_trie nodes Differs none_differs node_differs index trie none)

@@ -1,5 +1,6 @@
 -- A trie whose nodes became more, or whose free indices did.
-use Rattle.std.proofs.Common.{◌≡◌, ◌≢◌, ℕ, zero, suc, ◌+◌, ◌≤◌, ◌<◌, List, [], ◌∷◌, ◌++◌, length, Option, None, refl, sym, ap, subst, ◌∙◌, arith, slice_get, inl, inr, ◌⊎◌, take, drop}
+use Rattle.std.proofs.Common.{◌≡◌, ◌≢◌, ℕ, zero, suc, ◌+◌, ◌≤◌, ◌<◌, List, [], ◌∷◌, ◌++◌, length, Option, None}
+use Rattle.std.proofs.Common.{refl, sym, ap, subst, ◌∙◌, arith, slice_get, inl, inr, ◌⊎◌, take, drop}
 use Rattle.std.specs.Prelude.{IfSome, option_and_then}
 use Rattle.std.specs.List.{Contains}
 use Rattle.std.proofs.lemmas.List.{append_assoc, length_push, take-append-drop}
@@ -48,7 +49,8 @@ pushed_apart xs ys q apart not_left not_right =
 
 pub taken_apart : (xs ys : List ℕ) (n : ℕ) → AreApart (xs ++ ys) → AreApart (xs ++ take n ys)
 taken_apart xs ys n apart =
-    left_apart (xs ++ take n ys) (drop n ys) (subst AreApart (sym (append_assoc xs (take n ys) (drop n ys))) (subst (λ (zs : List ℕ). AreApart (xs ++ zs)) (sym (take-append-drop n ys)) apart))
+    left_apart (xs ++ take n ys) (drop n ys)
+    (subst AreApart (sym (append_assoc xs (take n ys) (drop n ys))) (subst (λ (zs : List ℕ). AreApart (xs ++ zs)) (sym (take-append-drop n ys)) apart))
 
 pub taken_in : (ys : List ℕ) (n q : ℕ) → Contains (take n ys) q → Contains ys q
 taken_in ys n q inside = subst (λ (zs : List ℕ). Contains zs q) (take-append-drop n ys) (Contains-append_left (take n ys) (drop n ys) q inside)
@@ -111,12 +113,16 @@ module _ {V : Type 0} (t : Tree V) where
     -- where only the first ones are free still
     pub taken_trie : (n : ℕ) → u.free.items ≡ take n t.free.items → IsTrie u
     taken_trie n free = grown_trie u is grown_same few_same valued_same
-        (subst (λ (fs : List ℕ). AreApart (indices_at t.nodes.items t.root ++ fs)) (sym free) (taken_apart (indices_at t.nodes.items t.root) t.free.items n is.apart))
-        (λ q inside. subst (λ (ns : List Node). q < length ns) (sym nodes) (is.free_in q (taken_in t.free.items n q (subst (λ (fs : List ℕ). Contains fs q) free inside))))
+        (subst (λ (fs : List ℕ). AreApart (indices_at t.nodes.items t.root ++ fs))
+        (sym free) (taken_apart (indices_at t.nodes.items t.root) t.free.items n is.apart))
+        (λ q inside. subst (λ (ns : List Node). q < length ns) (sym nodes)
+        (is.free_in q (taken_in t.free.items n q (subst (λ (fs : List ℕ). Contains fs q) free inside))))
         (λ q inside. is.free_bare q (taken_in t.free.items n q (subst (λ (fs : List ℕ). Contains fs q) free inside)))
 
   -- a node more, whose index is free
-  module _ (u : Tree V) (is : IsTrie t) (node : Node) (root : u.root ≡ t.root) (nodes : u.nodes.items ≡ t.nodes.items ++ node ∷ []) (values : u.values.items ≡ t.values.items ++ None ∷ []) (free : u.free.items ≡ t.free.items ++ length t.nodes.items ∷ []) (room : length t.nodes.items < nowhere) where
+  module _ (u : Tree V) (is : IsTrie t) (node : Node) (root : u.root ≡ t.root)
+      (nodes : u.nodes.items ≡ t.nodes.items ++ node ∷ []) (values : u.values.items ≡ t.values.items ++ None ∷ [])
+      (free : u.free.items ≡ t.free.items ++ length t.nodes.items ∷ []) (room : length t.nodes.items < nowhere) where
     one_longer : length u.nodes.items ≡ length t.nodes.items + 1
     one_longer = ap (λ (ns : List Node). length ns) nodes ∙ length_push t.nodes.items node
 

@@ -1,6 +1,7 @@
 -- Prefixes as runs of addresses: two of them are apart, or one lies within a half of the other.
 use Rattle.std.proofs.Common.{◌≡◌, ℕ, suc, ◌+◌, ◌-◌, ◌*◌, ◌/◌, ◌%◌, ◌^◌, ◌<◌, ◌≤◌, ◌≢◌, sym, ap, ◌∙◌, subst, arith, inl, inr, add-one}
-use Rattle.std.proofs.Math.Nat.{mul_assoc, mul-le-mul_right, lt_of_mul-lt-mul_right, mul_comm, suc-mul, add-mul, one-mul, ne_of_lt, pos_of_ne-zero, div-eq_of_lt, pow-suc, pow-le-pow_right}
+use Rattle.std.proofs.Math.Nat.{mul_assoc, mul-le-mul_right, lt_of_mul-lt-mul_right, mul_comm, suc-mul, add-mul}
+use Rattle.std.proofs.Math.Nat.{one-mul, ne_of_lt, pos_of_ne-zero, div-eq_of_lt, pow-suc, pow-le-pow_right}
 use Rattle.std.specs.Int.Bits.{bit_xor, xor_self, xor_assoc, xor_zero_l, xor_zero_r}
 use Rattle.std.specs.Int.Count.{count_leading_zeros}
 use Rattle.std.proofs.lemmas.Bool.{cases_lt}
@@ -54,7 +55,8 @@ added a b c d m e f = rw (e, f) (sym (add-mul c d m))
 pub early_within : (p q : PrefixValue) → IsPrefix p → IsPrefix q → p.len < q.len → q.address < middle p → past q ≤ middle p
 early_within p q is isq h lt =
     step_at q.address (middle p) (q.address / size q) (p.address / size p * 2 ^ (q.len - p.len) + 2 ^ (q.len - suc p.len)) (size q) (begins q isq)
-    (added p.address (2 ^ 31 / 2 ^ p.len) (p.address / size p * 2 ^ (q.len - p.len)) (2 ^ (q.len - suc p.len)) (size q) (begins_finer p q is (omega arith) isq.len) (half_finer p q h isq.len))
+    (added p.address (2 ^ 31 / 2 ^ p.len) (p.address / size p * 2 ^ (q.len - p.len)) (2 ^ (q.len - suc p.len))
+    (size q) (begins_finer p q is (omega arith) isq.len) (half_finer p q h isq.len))
     lt
 
 -- what begins in a prefix that isn't longer ends there
@@ -66,7 +68,8 @@ ends_within p q is isq h lt =
 
 -- what begins before a prefix that isn't longer ends before it
 pub ends_before : (p q : PrefixValue) → IsPrefix p → IsPrefix q → p.len ≤ q.len → q.address < p.address → past q ≤ p.address
-ends_before p q is isq h lt = step_at q.address p.address (q.address / size q) (p.address / size p * 2 ^ (q.len - p.len)) (size q) (begins q isq) (begins_finer p q is h isq.len) lt
+ends_before p q is isq h lt = step_at q.address p.address (q.address / size q)
+    (p.address / size p * 2 ^ (q.len - p.len)) (size q) (begins q isq) (begins_finer p q is h isq.len) lt
 
 -- ---- covering
 
@@ -159,7 +162,8 @@ bounds low high k P r s e f g h =
 parted : (low high j : ℕ) → Parts low high j → Bounds low high (low / 2 ^ suc j * 2 ^ suc j) (2 ^ j)
 parted low high j parts =
     let k : ℕ = low / 2 ^ suc j in
-    let begin : k * 2 ^ suc j ≡ 2 * k * 2 ^ j = ap (λ (n : ℕ). k * n) (pow-suc 2 j) ∙ (mul_comm k (2 ^ j * 2) ∙ (mul_assoc (2 ^ j) 2 k ∙ mul_comm (2 ^ j) (2 * k))) in
+    let begin : k * 2 ^ suc j ≡ 2 * k * 2 ^ j =
+    ap (λ (n : ℕ). k * n) (pow-suc 2 j) ∙ (mul_comm k (2 ^ j * 2) ∙ (mul_assoc (2 ^ j) 2 k ∙ mul_comm (2 ^ j) (2 * k))) in
     subst (λ (b : ℕ). Bounds low high b (2 ^ j)) (sym begin)
     (bounds low high k (2 ^ j) (low % 2 ^ j) (high % 2 ^ j)
     (sym (shr_split low j) ∙ ap (λ (n : ℕ). n * 2 ^ j + low % 2 ^ j) parts.zero_next)

@@ -1,5 +1,6 @@
 -- What stands at an index of a node.
-use Rattle.std.proofs.Common.{◌≡◌, ℕ, ◌<◌, length, inl, inr, Bool, true, false, List, ◌++◌, map, is_some, Option, Some, None, refl, sym, ap, subst, ◌∙◌, arith, slice_get}
+use Rattle.std.proofs.Common.{◌≡◌, ℕ, ◌<◌, length, inl, inr, Bool, true, false, List, ◌++◌, map, is_some}
+use Rattle.std.proofs.Common.{Option, Some, None, refl, sym, ap, subst, ◌∙◌, arith, slice_get}
 use Rattle.std.specs.Prelude.{IfSome}
 use Rattle.std.specs.List.{Contains, AllByRecursion}
 use Rattle.std.proofs.lemmas.List.Elements.{Contains-append_cases}
@@ -51,7 +52,8 @@ module _ {V : Type 0} (nodes : List Node) (values : List (Option V)) where
       → AllByRecursion (λ e. Within low high len e.0) (entries_at nodes values index)
 
   none_within : (index : ℕ) → slice_get nodes index ≡ None → index ≡ nowhere → AreWithin index
-  none_within index is empty low high len within = subst (λ (es : List (PrefixValue × V)). AllByRecursion (λ e. Within low high len e.0) es) (sym (none_at nodes values index is)) tt
+  none_within index is empty low high len within =
+      subst (λ (es : List (PrefixValue × V)). AllByRecursion (λ e. Within low high len e.0) es) (sym (none_at nodes values index is)) tt
 
   node_within : (index : ℕ) (n : Node) → AtNode nodes index n → AreWithin n.zero → AreWithin n.one → AreWithin index
   node_within index n at zeros ones low high len within =
@@ -59,10 +61,13 @@ module _ {V : Type 0} (nodes : List Node) (values : List (Option V)) where
       let P = Within low high len in
       let branching = at.branching in
       subst (λ (es : List (PrefixValue × V)). AllByRecursion (λ e. P e.0) es) (sym (node_entries nodes values index n at))
-      (every_both P (own n.prefix (value_at values index)) (entries_at nodes values n.zero ++ entries_at nodes values n.one) (alone P n.prefix (value_at values index) w)
+      (every_both P (own n.prefix (value_at values index))
+      (entries_at nodes values n.zero ++ entries_at nodes values n.one) (alone P n.prefix (value_at values index) w)
       (every_both P (entries_at nodes values n.zero) (entries_at nodes values n.one)
-      (every (Within n.prefix.address (middle n.prefix) n.prefix.len) P (entries_at nodes values n.zero) (early_lies nodes n branching low high len w) (zeros n.prefix.address (middle n.prefix) n.prefix.len branching.zero))
-      (every (Within (middle n.prefix) (past n.prefix) n.prefix.len) P (entries_at nodes values n.one) (late_lies nodes n branching low high len w) (ones (middle n.prefix) (past n.prefix) n.prefix.len branching.one))))
+      (every (Within n.prefix.address (middle n.prefix) n.prefix.len) P (entries_at nodes values n.zero)
+      (early_lies nodes n branching low high len w) (zeros n.prefix.address (middle n.prefix) n.prefix.len branching.zero))
+      (every (Within (middle n.prefix) (past n.prefix) n.prefix.len) P (entries_at nodes values n.one)
+      (late_lies nodes n branching low high len w) (ones (middle n.prefix) (past n.prefix) n.prefix.len branching.one))))
 
   pub all_within : (index : ℕ) → IsTrieAt nodes index → (low high len : ℕ) → IfSome (slice_get nodes index) (λ m. Within low high len m.prefix)
       → AllByRecursion (λ e. Within low high len e.0) (entries_at nodes values index)
@@ -133,13 +138,14 @@ module _ (nodes : List Node) (q : ℕ) where
   none_in index is empty inside = absurd (in_none q (subst (λ (ps : List ℕ). Contains ps q) (no_indices nodes index is) inside))
 
   node_in : (index : ℕ) (n : Node) → AtNode nodes index n → AreIn n.zero → AreIn n.one → AreIn index
-  node_in index n at zeros ones inside = elim (first_or_rest index (indices_at nodes n.zero ++ indices_at nodes n.one) q (subst (λ (ps : List ℕ). Contains ps q) at.indices inside)) [
-    | inl here ↦ slice_get_within nodes q n (ap (slice_get nodes) here ∙ at.there)
-    | inr below ↦ elim (Contains-append_cases (indices_at nodes n.zero) (indices_at nodes n.one) q below) [
-      | inl left ↦ zeros left
-      | inr right ↦ ones right
-    ]
-  ]
+  node_in index n at zeros ones inside =
+      elim (first_or_rest index (indices_at nodes n.zero ++ indices_at nodes n.one) q (subst (λ (ps : List ℕ). Contains ps q) at.indices inside)) [
+        | inl here ↦ slice_get_within nodes q n (ap (slice_get nodes) here ∙ at.there)
+        | inr below ↦ elim (Contains-append_cases (indices_at nodes n.zero) (indices_at nodes n.one) q below) [
+          | inl left ↦ zeros left
+          | inr right ↦ ones right
+        ]
+      ]
 
   pub indices_in : (index : ℕ) → IsTrieAt nodes index → Contains (indices_at nodes index) q → q < length nodes
   indices_in = by_trie nodes AreIn none_in node_in

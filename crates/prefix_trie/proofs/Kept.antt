@@ -55,7 +55,8 @@ leads_kept nodes fs at others (suc k) index q trie apart inside lead =
     ]
 
 -- The way to a node stays, where only that node becomes another.
-module _ (nodes fs : List Node) (root : ℕ) (p : PrefixValue) (above at : ℕ) (n : Node) (there : slice_get nodes at ≡ Some n) (trie : IsTrieAt nodes root) (apart : AreApart (indices_at nodes root)) (others : (r : ℕ) → r ≢ at → slice_get fs r ≡ slice_get nodes r) where
+module _ (nodes fs : List Node) (root : ℕ) (p : PrefixValue) (above at : ℕ) (n : Node) (there : slice_get nodes at ≡ Some n)
+    (trie : IsTrieAt nodes root) (apart : AreApart (indices_at nodes root)) (others : (r : ℕ) → r ≢ at → slice_get fs r ≡ slice_get nodes r) where
   below_kept : IsBelow nodes root p above at → IsBelow fs root p above at
   below_kept b =
       let m = b.node in
@@ -64,8 +65,10 @@ module _ (nodes fs : List Node) (root : ℕ) (p : PrefixValue) (above at : ℕ) 
       let node : AtNode nodes above m = at_node nodes above m b.there (leads_trie nodes b.steps root above trie b.on) in
       let all : AreApart (above ∷ (Z ++ O)) = all_apart nodes above m node (leads_apart nodes b.steps root above trie b.on apart) in
       let inside : Contains (Z ++ O) at = elim b.side [
-        | inl early ↦ Contains-append_left Z O at (subst (λ (x : ℕ). Contains (indices_at nodes x) at) early.1 (at_node nodes at n there (subst (λ (x : ℕ). IsTrieAt nodes x) (sym early.1) node.zero_below)).here)
-        | inr late ↦ Contains-append_right Z O at (subst (λ (x : ℕ). Contains (indices_at nodes x) at) late.1 (at_node nodes at n there (subst (λ (x : ℕ). IsTrieAt nodes x) (sym late.1) node.one_below)).here)
+        | inl early ↦ Contains-append_left Z O at (subst (λ (x : ℕ). Contains (indices_at nodes x) at) early.1
+            (at_node nodes at n there (subst (λ (x : ℕ). IsTrieAt nodes x) (sym early.1) node.zero_below)).here)
+        | inr late ↦ Contains-append_right Z O at (subst (λ (x : ℕ). Contains (indices_at nodes x) at) late.1
+            (at_node nodes at n there (subst (λ (x : ℕ). IsTrieAt nodes x) (sym late.1) node.one_below)).here)
       ] in
       record {
         node = m;
@@ -96,7 +99,8 @@ leads_grown nodes fs same (suc k) index q lead = (
   ],
 )
 
-module _ (nodes fs : List Node) (root : ℕ) (p : PrefixValue) (above at : ℕ) (trie : IsTrieAt nodes root) (same : (r : ℕ) → r < length nodes → slice_get fs r ≡ slice_get nodes r) (few : length fs ≤ nowhere) (spot : IsSpot nodes root p above at) where
+module _ (nodes fs : List Node) (root : ℕ) (p : PrefixValue) (above at : ℕ) (trie : IsTrieAt nodes root)
+    (same : (r : ℕ) → r < length nodes → slice_get fs r ≡ slice_get nodes r) (few : length fs ≤ nowhere) (spot : IsSpot nodes root p above at) where
   below_grown : IsBelow nodes root p above at → IsBelow fs root p above at
   below_grown b = record {
     node = b.node;

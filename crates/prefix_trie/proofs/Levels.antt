@@ -21,7 +21,8 @@ module _ (nodes : List Node) where
   no_indices_over : (levels index : ℕ) → slice_get nodes index ≡ None → indices_over nodes levels index ≡ []
   unfolding indices_over
   no_indices_over zero index none = refl
-  no_indices_over (suc k) index none = ap (λ (o : Option Node). unwrap_or (option_map (λ n. index ∷ (indices_over nodes k n.zero ++ indices_over nodes k n.one)) o) []) none
+  no_indices_over (suc k) index none =
+      ap (λ (o : Option Node). unwrap_or (option_map (λ n. index ∷ (indices_over nodes k n.zero ++ indices_over nodes k n.one)) o) []) none
 
   empty_over : (levels index : ℕ) → slice_get nodes index ≡ None → index ≡ nowhere → IsTrieOver nodes levels index
   unfolding IsTrieOver
@@ -41,19 +42,22 @@ module _ (nodes : List Node) where
   indices_node : (k index : ℕ) (n : Node) → slice_get nodes index ≡ Some n
       → indices_over nodes (suc k) index ≡ index ∷ (indices_over nodes k n.zero ++ indices_over nodes k n.one)
   unfolding indices_over
-  indices_node k index n there = ap (λ (o : Option Node). unwrap_or (option_map (λ n. index ∷ (indices_over nodes k n.zero ++ indices_over nodes k n.one)) o) []) there
+  indices_node k index n there =
+      ap (λ (o : Option Node). unwrap_or (option_map (λ n. index ∷ (indices_over nodes k n.zero ++ indices_over nodes k n.one)) o) []) there
 
   parts_of : (k index : ℕ) (n : Node) → slice_get nodes index ≡ Some n → IsTrieOver nodes (suc k) index
       → IsBranching nodes n × IsTrieOver nodes k n.zero × IsTrieOver nodes k n.one
   unfolding IsTrieOver
-  parts_of k index n there trie = subst (λ (o : Option Node). IfSome o (λ n. IsBranching nodes n × IsTrieOver nodes k n.zero × IsTrieOver nodes k n.one)) there trie.1
+  parts_of k index n there trie =
+      subst (λ (o : Option Node). IfSome o (λ n. IsBranching nodes n × IsTrieOver nodes k n.zero × IsTrieOver nodes k n.one)) there trie.1
 
   trie_node : (k index : ℕ) (n : Node) → slice_get nodes index ≡ Some n → IsBranching nodes n → IsTrieOver nodes k n.zero → IsTrieOver nodes k n.one
       → IsTrieOver nodes (suc k) index
   unfolding IsTrieOver
   trie_node k index n there branching zeros ones = (
     subst (λ (o : Option Node). IfNone o (index ≡ nowhere)) (sym there) tt,
-    subst (λ (o : Option Node). IfSome o (λ n. IsBranching nodes n × IsTrieOver nodes k n.zero × IsTrieOver nodes k n.one)) (sym there) (branching, zeros, ones),
+    subst (λ (o : Option Node). IfSome o (λ n. IsBranching nodes n × IsTrieOver nodes k n.zero × IsTrieOver nodes k n.one))
+        (sym there) (branching, zeros, ones),
   )
 
   -- no node stands on no level
@@ -65,12 +69,15 @@ module _ {V : Type 0} (nodes : List Node) (values : List (Option V)) where
   no_entries_over : (levels index : ℕ) → slice_get nodes index ≡ None → entries_over nodes values levels index ≡ []
   unfolding entries_over
   no_entries_over zero index none = refl
-  no_entries_over (suc k) index none = ap (λ (o : Option Node). unwrap_or (option_map (λ n. own n.prefix (value_at values index) ++ (entries_over nodes values k n.zero ++ entries_over nodes values k n.one)) o) []) none
+  no_entries_over (suc k) index none = ap (λ (o : Option Node). unwrap_or
+      (option_map (λ n. own n.prefix (value_at values index) ++ (entries_over nodes values k n.zero ++ entries_over nodes values k n.one)) o) []) none
 
   entries_node : (k index : ℕ) (n : Node) → slice_get nodes index ≡ Some n
-      → entries_over nodes values (suc k) index ≡ own n.prefix (value_at values index) ++ (entries_over nodes values k n.zero ++ entries_over nodes values k n.one)
+      → entries_over nodes values (suc k) index
+      ≡ own n.prefix (value_at values index) ++ (entries_over nodes values k n.zero ++ entries_over nodes values k n.one)
   unfolding entries_over
-  entries_node k index n there = ap (λ (o : Option Node). unwrap_or (option_map (λ n. own n.prefix (value_at values index) ++ (entries_over nodes values k n.zero ++ entries_over nodes values k n.one)) o) []) there
+  entries_node k index n there = ap (λ (o : Option Node). unwrap_or
+      (option_map (λ n. own n.prefix (value_at values index) ++ (entries_over nodes values k n.zero ++ entries_over nodes values k n.one)) o) []) there
 
   -- ---- more or fewer levels
 
@@ -104,7 +111,8 @@ module _ {V : Type 0} (nodes : List Node) (values : List (Option V)) where
     by_node : ((p : ℕ) → IsTrieOver nodes k p → Counted nodes values k (suc k) p) → (o : Option Node) → slice_get nodes index ≡ o
         → Counted nodes values (suc k) (suc (suc k)) index
     by_node recur None is = none_counted (suc k) (suc (suc k)) index is (nowhere_over nodes (suc k) index is trie)
-    by_node recur (Some n) is = let parts = parts_of nodes k index n is trie in node_counted k (suc k) index n is trie (recur n.zero parts.1) (recur n.one parts.2)
+    by_node recur (Some n) is =
+        let parts = parts_of nodes k index n is trie in node_counted k (suc k) index n is trie (recur n.zero parts.1) (recur n.one parts.2)
 
   still_deep : (low high len k : ℕ) (o : Option Node) → 33 ≤ len + suc k → IfSome o (λ m. Within low high len m.prefix) → IfSome o (λ m. 33 ≤ m.prefix.len + k)
   still_deep low high len k None long below = tt
@@ -126,7 +134,9 @@ module _ {V : Type 0} (nodes : List Node) (values : List (Option V)) where
     by_node recur (Some n) is =
         let parts = parts_of nodes (suc k) index n is trie in
         let long : 33 ≤ n.prefix.len + suc k = subst (λ (o : Option Node). IfSome o (λ n. 33 ≤ n.prefix.len + suc k)) is deep in
-        node_counted (suc k) k index n is trie (recur n.zero (still_deep n.prefix.address (middle n.prefix) n.prefix.len k (slice_get nodes n.zero) long parts.0.zero) parts.1) (recur n.one (still_deep (middle n.prefix) (past n.prefix) n.prefix.len k (slice_get nodes n.one) long parts.0.one) parts.2)
+        node_counted (suc k) k index n is trie
+        (recur n.zero (still_deep n.prefix.address (middle n.prefix) n.prefix.len k (slice_get nodes n.zero) long parts.0.zero) parts.1)
+        (recur n.one (still_deep (middle n.prefix) (past n.prefix) n.prefix.len k (slice_get nodes n.one) long parts.0.one) parts.2)
 
   enough : (o : Option Node) → IfSome o (λ n. 33 ≤ n.prefix.len + 33)
   enough None = tt
@@ -169,7 +179,8 @@ module _ (nodes : List Node) where
   -- a node over two tries
   pub node_trie : (index : ℕ) (n : Node) → slice_get nodes index ≡ Some n → IsBranching nodes n → IsTrieAt nodes n.zero → IsTrieAt nodes n.one
       → IsTrieAt nodes index
-  node_trie index n there branching zeros ones = trie_node nodes 33 index n there branching (fewer {V = ℕ} nodes [] n.zero zeros).trie (fewer {V = ℕ} nodes [] n.one ones).trie
+  node_trie index n there branching zeros ones =
+      trie_node nodes 33 index n there branching (fewer {V = ℕ} nodes [] n.zero zeros).trie (fewer {V = ℕ} nodes [] n.one ones).trie
 
   pub at_node : (index : ℕ) (n : Node) → slice_get nodes index ≡ Some n → IsTrieAt nodes index → AtNode nodes index n
   at_node index n there trie =
@@ -186,7 +197,8 @@ module _ (nodes : List Node) where
         one_below = ones.trie;
         indices = listed;
         here = subst (λ (ps : List ℕ). Contains ps index) (sym listed) (0, omega arith, refl);
-        below = λ q inside. subst (λ (ps : List ℕ). Contains ps q) (sym listed) (Contains-append_right (index ∷ []) (indices_at nodes n.zero ++ indices_at nodes n.one) q inside);
+        below = λ q inside. subst (λ (ps : List ℕ). Contains ps q) (sym listed)
+            (Contains-append_right (index ∷ []) (indices_at nodes n.zero ++ indices_at nodes n.one) q inside);
       }
 
   pub in_zero : (index : ℕ) (n : Node) → AtNode nodes index n → (q : ℕ) → Contains (indices_at nodes n.zero) q → Contains (indices_at nodes index) q
@@ -203,15 +215,18 @@ module _ (nodes : List Node) where
   pub zero_less : (index : ℕ) (n : Node) → slice_get nodes index ≡ Some n → IsTrieAt nodes index → left nodes n.zero < left nodes index
   zero_less index n there trie =
       let branching = (at_node index n there trie).branching in
-      subst (λ (o : Option Node). left nodes n.zero < left_of o) (sym there) (less_of n.prefix.address (middle n.prefix) n.prefix.len (slice_get nodes n.zero) branching.is.len branching.zero)
+      subst (λ (o : Option Node). left nodes n.zero < left_of o) (sym there)
+      (less_of n.prefix.address (middle n.prefix) n.prefix.len (slice_get nodes n.zero) branching.is.len branching.zero)
 
   pub one_less : (index : ℕ) (n : Node) → slice_get nodes index ≡ Some n → IsTrieAt nodes index → left nodes n.one < left nodes index
   one_less index n there trie =
       let branching = (at_node index n there trie).branching in
-      subst (λ (o : Option Node). left nodes n.one < left_of o) (sym there) (less_of (middle n.prefix) (past n.prefix) n.prefix.len (slice_get nodes n.one) branching.is.len branching.one)
+      subst (λ (o : Option Node). left nodes n.one < left_of o) (sym there)
+      (less_of (middle n.prefix) (past n.prefix) n.prefix.len (slice_get nodes n.one) branching.is.len branching.one)
 
   -- What holds where there is no node, and at a node of whose branches it holds, holds at each index of a trie.
-  module _ (P : ℕ → Type 0) (none : (index : ℕ) → slice_get nodes index ≡ None → index ≡ nowhere → P index) (node : (index : ℕ) (n : Node) → AtNode nodes index n → P n.zero → P n.one → P index) where
+  module _ (P : ℕ → Type 0) (none : (index : ℕ) → slice_get nodes index ≡ None → index ≡ nowhere → P index)
+      (node : (index : ℕ) (n : Node) → AtNode nodes index n → P n.zero → P n.one → P index) where
     down : (k index : ℕ) → left nodes index < k → IsTrieAt nodes index → P index
     down zero index less trie = absurd (omega (arith, less))
     down (suc k) index less trie = by_node (λ p less trie. down k p less trie) (slice_get nodes index) refl where
@@ -236,5 +251,7 @@ module _ {V : Type 0} (nodes : List Node) (values : List (Option V)) where
       → entries_at nodes values index ≡ own n.prefix (value_at values index) ++ (entries_at nodes values n.zero ++ entries_at nodes values n.one)
   node_entries index n at =
       entries_node nodes values 33 index n at.there
-      ∙ (ap (λ (xs : List (PrefixValue × V)). own n.prefix (value_at values index) ++ (xs ++ entries_over nodes values 33 n.one)) (fewer nodes values n.zero at.zero_below).entries
-      ∙ ap (λ (xs : List (PrefixValue × V)). own n.prefix (value_at values index) ++ (entries_at nodes values n.zero ++ xs)) (fewer nodes values n.one at.one_below).entries)
+      ∙ (ap (λ (xs : List (PrefixValue × V)). own n.prefix (value_at values index) ++ (xs ++ entries_over nodes values 33 n.one))
+      (fewer nodes values n.zero at.zero_below).entries
+      ∙ ap (λ (xs : List (PrefixValue × V)). own n.prefix (value_at values index) ++ (entries_at nodes values n.zero ++ xs))
+      (fewer nodes values n.one at.one_below).entries)

@@ -17,7 +17,8 @@ pub record Lifted {V : Type 0} (nodes : List Node) (values : List (Option V)) (i
   pub indices : indices_at nodes index ≡ index ∷ indices_at nodes to
   pub trie : IsTrieAt nodes to
 
-module _ {V : Type 0} (nodes : List Node) (values : List (Option V)) (few : length nodes ≤ nowhere) (index : ℕ) (n : Node) (there : slice_get nodes index ≡ Some n) (trie : IsTrieAt nodes index) (bare : value_at values index ≡ None) where
+module _ {V : Type 0} (nodes : List Node) (values : List (Option V)) (few : length nodes ≤ nowhere) (index : ℕ) (n : Node)
+    (there : slice_get nodes index ≡ Some n) (trie : IsTrieAt nodes index) (bare : value_at values index ≡ None) where
   had : AtNode nodes index n
   had = at_node nodes index n there trie
 
@@ -51,7 +52,9 @@ module _ {V : Type 0} (nodes : List Node) (values : List (Option V)) (few : leng
   within_by P Q (Some m) each below = each m.prefix below
 
   pub zero_within : (low high len : ℕ) → Within low high len n.prefix → IfSome (slice_get nodes n.zero) (λ m. Within low high len m.prefix)
-  zero_within low high len w = within_by (Within n.prefix.address (middle n.prefix) n.prefix.len) (Within low high len) (slice_get nodes n.zero) (early_lies nodes n had.branching low high len w) had.branching.zero
+  zero_within low high len w = within_by (Within n.prefix.address (middle n.prefix) n.prefix.len) (Within low high len)
+      (slice_get nodes n.zero) (early_lies nodes n had.branching low high len w) had.branching.zero
 
   pub one_within : (low high len : ℕ) → Within low high len n.prefix → IfSome (slice_get nodes n.one) (λ m. Within low high len m.prefix)
-  one_within low high len w = within_by (Within (middle n.prefix) (past n.prefix) n.prefix.len) (Within low high len) (slice_get nodes n.one) (late_lies nodes n had.branching low high len w) had.branching.one
+  one_within low high len w = within_by (Within (middle n.prefix) (past n.prefix) n.prefix.len) (Within low high len)
+      (slice_get nodes n.one) (late_lies nodes n had.branching low high len w) had.branching.one

@@ -23,8 +23,10 @@ all_under {V} p o zs os node =
     let le = middle_le_past p node.is.len in
     every_both (Under p) (own p o) (zs ++ os) (alone (Under p) p o (record { is = node.is; long = omega arith; from = omega arith; to = omega arith }))
     (every_both (Under p) zs os
-    (every (Within p.address (middle p) p.len) (Under p) zs (λ q w. let a = w.longer in let b = w.to in record { is = w.is; long = omega arith; from = w.from; to = omega arith }) node.zeros)
-    (every (Within (middle p) (past p) p.len) (Under p) os (λ q w. let a = w.longer in let b = w.from in record { is = w.is; long = omega arith; from = omega arith; to = w.to }) node.ones))
+    (every (Within p.address (middle p) p.len) (Under p) zs
+    (λ q w. let a = w.longer in let b = w.to in record { is = w.is; long = omega arith; from = w.from; to = omega arith }) node.zeros)
+    (every (Within (middle p) (past p) p.len) (Under p) os
+    (λ q w. let a = w.longer in let b = w.from in record { is = w.is; long = omega arith; from = omega arith; to = w.to }) node.ones))
 
 abbrev pub Has : {V : Type 0} → List (PrefixValue × V) → PrefixValue → Type 0
 Has es q = IsSome (find prefix_cmp q es)
@@ -125,13 +127,15 @@ module _ {V : Type 0} (p : PrefixValue) (o : Option V) (zs os : List (PrefixValu
   -- what covers host is the prefix itself, or stands in the half of host
   early_rest : host.address < middle p → (q : PrefixValue) → Has (own p o ++ (zs ++ os)) q → Covers q host → ((q ≡ p) × (is_some o ≡ true)) ⊎ Has zs q
   early_rest h q there c = elim (same_or_not q p) [
-    | inl same ↦ inl (same, ap is_some (sym (find_here p o zs os node) ∙ ap (λ (x : PrefixValue). find prefix_cmp x (own p o ++ (zs ++ os))) (sym same)) ∙ there)
+    | inl same ↦
+        inl (same, ap is_some (sym (find_here p o zs os node) ∙ ap (λ (x : PrefixValue). find prefix_cmp x (own p o ++ (zs ++ os))) (sym same)) ∙ there)
     | inr other ↦ inr (subst (λ (x : Option V). IsSome x) (find_early p o zs os node q other (let f = covered_from q host c in omega arith)) there)
   ]
 
   late_rest : middle p ≤ host.address → (q : PrefixValue) → Has (own p o ++ (zs ++ os)) q → Covers q host → ((q ≡ p) × (is_some o ≡ true)) ⊎ Has os q
   late_rest h q there c = elim (same_or_not q p) [
-    | inl same ↦ inl (same, ap is_some (sym (find_here p o zs os node) ∙ ap (λ (x : PrefixValue). find prefix_cmp x (own p o ++ (zs ++ os))) (sym same)) ∙ there)
+    | inl same ↦
+        inl (same, ap is_some (sym (find_here p o zs os node) ∙ ap (λ (x : PrefixValue). find prefix_cmp x (own p o ++ (zs ++ os))) (sym same)) ∙ there)
     | inr other ↦ elim (cases_lt q.address (middle p)) [
       | inl early ↦
           let k = subst (λ (x : Option V). IsSome x) (find_early p o zs os node q other early) there in
@@ -186,11 +190,13 @@ module _ {V : Type 0} (p : PrefixValue) (o : Option V) (zs os : List (PrefixValu
 
   pub step_early : (es : List (PrefixValue × V)) (best : Option PrefixValue) → Covers p host → host.address < middle p
       → Walk host es (own p o ++ (zs ++ os)) best → Walk host es zs (cond (is_some o) (Some p) best)
-  step_early es best covers h w = step es zs best (is_some o) refl covers early_has (λ q k. let l = (has_within (Within p.address (middle p) p.len) zs q node.zeros k).longer in omega arith) (early_rest h) w
+  step_early es best covers h w = step es zs best (is_some o) refl covers early_has
+      (λ q k. let l = (has_within (Within p.address (middle p) p.len) zs q node.zeros k).longer in omega arith) (early_rest h) w
 
   pub step_late : (es : List (PrefixValue × V)) (best : Option PrefixValue) → Covers p host → middle p ≤ host.address
       → Walk host es (own p o ++ (zs ++ os)) best → Walk host es os (cond (is_some o) (Some p) best)
-  step_late es best covers h w = step es os best (is_some o) refl covers late_has (λ q k. let l = (has_within (Within (middle p) (past p) p.len) os q node.ones k).longer in omega arith) (late_rest h) w
+  step_late es best covers h w = step es os best (is_some o) refl covers late_has
+      (λ q k. let l = (has_within (Within (middle p) (past p) p.len) os q node.ones k).longer in omega arith) (late_rest h) w
 
 -- the same of another word for what there is
 pub same_longest : (has other : PrefixValue → Type 0) (host : PrefixValue) (r : Option PrefixValue) → ((q : PrefixValue) → has q → other q)

@@ -21,7 +21,8 @@ module _ {V : Type 0} where
       → first_above a (keys (xs ++ ys)) ≡ option_or (first_above a (keys xs)) (first_above a (keys ys))
   first_of_both a [] ys = refl
   first_of_both a (x ∷ xs) ys =
-      elim (is_above a x.0) as (λ b. cond b (Some x.0) (first_above a (keys (xs ++ ys))) ≡ option_or (cond b (Some x.0) (first_above a (keys xs))) (first_above a (keys ys))) [
+      elim (is_above a x.0)
+      as (λ b. cond b (Some x.0) (first_above a (keys (xs ++ ys))) ≡ option_or (cond b (Some x.0) (first_above a (keys xs))) (first_above a (keys ys))) [
         | true ↦ refl
         | false ↦ first_of_both a xs ys
       ]
@@ -40,7 +41,8 @@ module _ {V : Type 0} where
   module _ (p : PrefixValue) (o : Option V) (zs os : List (PrefixValue × V)) (node : IsNode p zs os) (q : PrefixValue) where
     pub next_before : prefix_cmp q p ≡ Less → first_above (Some q) (keys (own p o ++ (zs ++ os))) ≡ first_above None (keys (own p o ++ (zs ++ os)))
     next_before less = first_of_above q (own p o ++ (zs ++ os)) (every_both (λ k. prefix_cmp q k ≡ Less) (own p o) (zs ++ os) (itself o)
-        (every (λ k. prefix_cmp p k ≡ Less) (λ k. prefix_cmp q k ≡ Less) (zs ++ os) (λ k later. prefix_total.trans q p k less later) (branches_above p o zs os node p (omega arith) (omega arith))))
+        (every (λ k. prefix_cmp p k ≡ Less) (λ k. prefix_cmp q k ≡ Less) (zs ++ os)
+        (λ k later. prefix_total.trans q p k less later) (branches_above p o zs os node p (omega arith) (omega arith))))
       where
         itself : (x : Option V) → AllAbove prefix_cmp q (own p x)
         itself None = tt

@@ -13,7 +13,8 @@ use Rattle.std.proofs.lemmas.Bool.Decides.{nat_tests}
 use Rattle.std.proofs.lemmas.Bool.{and_parts, ltb-true, ltb-false}
 use Rattle.bgp_types.specs.Prefixes.{PrefixValue}
 use Rattle.bgp_types.specs.Tables.{prefix_cmp}
-use Rattle.bgp_types.proofs.TableLaws.{prefix_total, exact_prefixes, AllBelow, AllAbove, without, put_right, put_left, find_right, find_left, find_above, without_right, without_left}
+use Rattle.bgp_types.proofs.TableLaws.{prefix_total, exact_prefixes, AllBelow, AllAbove, without, put_right, put_left}
+use Rattle.bgp_types.proofs.TableLaws.{find_right, find_left, find_above, without_right, without_left}
 use Rattle.prefix_trie.specs.Halves.{middle, past, Within}
 use Rattle.prefix_trie.specs.Nodes.{own, IsNode}
 use Rattle.prefix_trie.proofs.Halves.{positive}
@@ -88,21 +89,27 @@ module _ {V : Type 0} where
 
     -- what lies before the second half is below what stands there, and the other way
     pub ones_above : (q : PrefixValue) → q.address < middle p → AllAbove prefix_cmp q os
-    ones_above q h = every (Within (middle p) (past p) p.len) (λ k. prefix_cmp q k ≡ Less) os (λ k w. let from = w.from in first_address q k (omega arith)) node.ones
+    ones_above q h = every (Within (middle p) (past p) p.len) (λ k. prefix_cmp q k ≡ Less) os
+        (λ k w. let from = w.from in first_address q k (omega arith)) node.ones
 
     pub zeros_below : (q : PrefixValue) → middle p ≤ q.address → AllBelow prefix_cmp q zs
-    zeros_below q h = every (Within p.address (middle p) p.len) (λ k. prefix_cmp q k ≡ Greater) zs (λ k w. let to = w.to in let pos = positive k in later_address q k (omega arith)) node.zeros
+    zeros_below q h = every (Within p.address (middle p) p.len) (λ k. prefix_cmp q k ≡ Greater) zs
+        (λ k w. let to = w.to in let pos = positive k in later_address q k (omega arith)) node.zeros
 
     pub branches_above : (q : PrefixValue) → q.address ≤ p.address → q.len ≤ p.len → AllAbove prefix_cmp q (zs ++ os)
     branches_above q h k = every_both (λ x. prefix_cmp q x ≡ Less) zs os
-        (every (Within p.address (middle p) p.len) (λ x. prefix_cmp q x ≡ Less) zs (λ x w. let from = w.from in let longer = w.longer in shorter_first q x (omega arith) (omega arith)) node.zeros)
-        (every (Within (middle p) (past p) p.len) (λ x. prefix_cmp q x ≡ Less) os (λ x w. let from = w.from in let longer = w.longer in shorter_first q x (omega arith) (omega arith)) node.ones)
+        (every (Within p.address (middle p) p.len) (λ x. prefix_cmp q x ≡ Less) zs
+        (λ x w. let from = w.from in let longer = w.longer in shorter_first q x (omega arith) (omega arith)) node.zeros)
+        (every (Within (middle p) (past p) p.len) (λ x. prefix_cmp q x ≡ Less) os
+        (λ x w. let from = w.from in let longer = w.longer in shorter_first q x (omega arith) (omega arith)) node.ones)
 
     -- a prefix that isn't longer stands in no branch
     pub branches_apart : (q : PrefixValue) → q.len ≤ p.len → AllByRecursion (λ e. q ≢ e.0) (zs ++ os)
     branches_apart q k = every_both (λ x. q ≢ x) zs os
-        (every (Within p.address (middle p) p.len) (λ x. q ≢ x) zs (λ x w (e : q ≡ x). let longer = w.longer in let same = ap (λ (y : PrefixValue). y.len) e in omega arith) node.zeros)
-        (every (Within (middle p) (past p) p.len) (λ x. q ≢ x) os (λ x w (e : q ≡ x). let longer = w.longer in let same = ap (λ (y : PrefixValue). y.len) e in omega arith) node.ones)
+        (every (Within p.address (middle p) p.len) (λ x. q ≢ x) zs
+        (λ x w (e : q ≡ x). let longer = w.longer in let same = ap (λ (y : PrefixValue). y.len) e in omega arith) node.zeros)
+        (every (Within (middle p) (past p) p.len) (λ x. q ≢ x) os
+        (λ x w (e : q ≡ x). let longer = w.longer in let same = ap (λ (y : PrefixValue). y.len) e in omega arith) node.ones)
 
     -- ---- the value of a prefix
 

@@ -18,7 +18,8 @@ numbered k (o ∷ os) = option_map (λ _. k) o ∷ numbered (suc k) os
 number_at : {V : Type 0} (k : ℕ) (os : List (Option V)) (q : ℕ) → value_at (numbered k os) q ≡ option_map (λ _. k + q) (value_at os q)
 number_at k [] q = refl
 number_at k (o ∷ os) zero = let same : k ≡ k + 0 = omega arith in ap (λ (n : ℕ). option_map (λ _. n) o) same
-number_at k (o ∷ os) (suc q) = let same : suc k + q ≡ k + suc q = omega arith in number_at (suc k) os q ∙ ap (λ (n : ℕ). option_map (λ _. n) (value_at os q)) same
+number_at k (o ∷ os) (suc q) =
+    let same : suc k + q ≡ k + suc q = omega arith in number_at (suc k) os q ∙ ap (λ (n : ℕ). option_map (λ _. n) (value_at os q)) same
 
 module _ {V : Type 0} (values : List (Option V)) where
   abbrev numbers : List (Option ℕ)
@@ -48,7 +49,8 @@ module _ {V : Type 0} (values : List (Option V)) where
         let zs = entries_at nodes numbers n.zero in
         let os = entries_at nodes numbers n.one in
         node_entries nodes values index n at
-        ∙ (ap (λ (xs : List (PrefixValue × V)). xs ++ (entries_at nodes values n.zero ++ entries_at nodes values n.one)) (own_shown n.prefix index (value_at values index) refl ∙ ap (λ (o : Option ℕ). shown (own n.prefix o)) (sym (number_is index)))
+        ∙ (ap (λ (xs : List (PrefixValue × V)). xs ++ (entries_at nodes values n.zero ++ entries_at nodes values n.one))
+        (own_shown n.prefix index (value_at values index) refl ∙ ap (λ (o : Option ℕ). shown (own n.prefix o)) (sym (number_is index)))
         ∙ (ap (λ (xs : List (PrefixValue × V)). shown here ++ (xs ++ entries_at nodes values n.one)) zeros
         ∙ (ap (λ (xs : List (PrefixValue × V)). shown here ++ (shown zs ++ xs)) ones
         ∙ (ap (λ (xs : List (PrefixValue × V)). shown here ++ xs) (sym (flat_map-append h zs os))

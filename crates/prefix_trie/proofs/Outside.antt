@@ -27,10 +27,11 @@ module _ (nodes : List Node) (index : ℕ) (n : Node) (there : slice_get nodes i
 
   -- the index, or one of a branch
   parted : (q : ℕ) → Contains (indices_at nodes index) q → (q ≡ index) ⊎ (Contains (indices_at nodes n.zero) q ⊎ Contains (indices_at nodes n.one) q)
-  parted q inside = elim (first_or_rest index (indices_at nodes n.zero ++ indices_at nodes n.one) q (subst (λ (ps : List ℕ). Contains ps q) node.indices inside)) [
-    | inl at ↦ inl at
-    | inr below ↦ inr (Contains-append_cases (indices_at nodes n.zero) (indices_at nodes n.one) q below)
-  ]
+  parted q inside =
+      elim (first_or_rest index (indices_at nodes n.zero ++ indices_at nodes n.one) q (subst (λ (ps : List ℕ). Contains ps q) node.indices inside)) [
+        | inl at ↦ inl at
+        | inr below ↦ inr (Contains-append_cases (indices_at nodes n.zero) (indices_at nodes n.one) q below)
+      ]
 
   module _ (p : PrefixValue) where
     here : n.prefix ≢ p → (q : ℕ) → q ≡ index → IfSome (slice_get nodes q) (λ m. m.prefix ≢ p)
@@ -39,7 +40,8 @@ module _ (nodes : List Node) (index : ℕ) (n : Node) (there : slice_get nodes i
     in_zero : (q : ℕ) → Contains (indices_at nodes n.zero) q → (p.len ≤ n.prefix.len) ⊎ (middle n.prefix ≤ p.address)
         → IfSome (slice_get nodes q) (λ m. m.prefix ≢ p)
     in_zero q inside off = if_some (slice_get nodes q) (λ m. m.prefix ≢ p) (λ m named same.
-        let w = subst (Within n.prefix.address (middle n.prefix) n.prefix.len) same (index_within nodes q m named n.zero node.zero_below n.prefix.address (middle n.prefix) n.prefix.len node.branching.zero inside) in
+        let w = subst (Within n.prefix.address (middle n.prefix) n.prefix.len) same
+        (index_within nodes q m named n.zero node.zero_below n.prefix.address (middle n.prefix) n.prefix.len node.branching.zero inside) in
         let longer = w.longer in
         let to = w.to in
         let some = positive p in
@@ -51,7 +53,8 @@ module _ (nodes : List Node) (index : ℕ) (n : Node) (there : slice_get nodes i
     in_one : (q : ℕ) → Contains (indices_at nodes n.one) q → (p.len ≤ n.prefix.len) ⊎ (p.address < middle n.prefix)
         → IfSome (slice_get nodes q) (λ m. m.prefix ≢ p)
     in_one q inside off = if_some (slice_get nodes q) (λ m. m.prefix ≢ p) (λ m named same.
-        let w = subst (Within (middle n.prefix) (past n.prefix) n.prefix.len) same (index_within nodes q m named n.one node.one_below (middle n.prefix) (past n.prefix) n.prefix.len node.branching.one inside) in
+        let w = subst (Within (middle n.prefix) (past n.prefix) n.prefix.len) same
+        (index_within nodes q m named n.one node.one_below (middle n.prefix) (past n.prefix) n.prefix.len node.branching.one inside) in
         let longer = w.longer in
         let from = w.from in
         elim off [

@@ -18,7 +18,8 @@ module _ (nodes : List Node) (index : ℕ) (n : Node) (at : AtNode nodes index n
   index_not r inside e = all_apart.0 (subst (Contains (indices_at nodes n.zero ++ indices_at nodes n.one)) e inside)
 
   -- In gs a branch stands at another index, and in fs the node names that.
-  module _ {V : Type 0} (values : List (Option V)) (gs fs : List Node) (to : ℕ) (few : length fs ≤ nowhere) (others : (r : ℕ) → r ≢ index → slice_get fs r ≡ slice_get gs r) (trie_now : IsTrieAt gs to) (away : (r : ℕ) → Contains (indices_at gs to) r → r ≢ index) where
+  module _ {V : Type 0} (values : List (Option V)) (gs fs : List Node) (to : ℕ) (few : length fs ≤ nowhere) (others : (r : ℕ) → r ≢ index
+      → slice_get fs r ≡ slice_get gs r) (trie_now : IsTrieAt gs to) (away : (r : ℕ) → Contains (indices_at gs to) r → r ≢ index) where
     moved_stays : Stays gs fs values values to
     moved_stays = stays gs fs values values few to trie_now (λ r inside. record { node = others r (away r inside); value = refl })
 
@@ -29,10 +30,17 @@ module _ (nodes : List Node) (index : ℕ) (n : Node) (at : AtNode nodes index n
         → Stands fs values index (entries_at nodes values index) (index ∷ (indices_at gs to ++ indices_at nodes n.one))
     zero_relinked same untouched below now =
         let other : Stays nodes fs values values n.one = stays nodes fs values values few n.one at.one_below
-        (λ r inside. record { node = others r (index_not r (Contains-append_right (indices_at nodes n.zero) (indices_at nodes n.one) r inside)) ∙ untouched r inside; value = refl }) in
+        (λ r inside. record {
+          node = others r (index_not r (Contains-append_right (indices_at nodes n.zero) (indices_at nodes n.one) r inside)) ∙ untouched r inside;
+          value = refl;
+        }) in
         let moved = zero_moved nodes fs values values index to n at refl now (record { entries = moved_stays.entries ∙ same; trie = moved_stays.trie }) other
         (subst (λ (o : Option Node). IfSome o (λ m. Within n.prefix.address (middle n.prefix) n.prefix.len m.prefix)) (sym moved_stays.root) below) in
-        record { entries = moved.entries; indices = moved.indices ∙ ap (λ (xs : List ℕ). index ∷ (xs ++ indices_at nodes n.one)) moved_stays.indices; trie = moved.trie }
+        record {
+          entries = moved.entries;
+          indices = moved.indices ∙ ap (λ (xs : List ℕ). index ∷ (xs ++ indices_at nodes n.one)) moved_stays.indices;
+          trie = moved.trie;
+        }
 
     pub one_relinked : entries_at gs values to ≡ entries_at nodes values n.one
         → ((r : ℕ) → Contains (indices_at nodes n.zero) r → slice_get gs r ≡ slice_get nodes r)
@@ -41,7 +49,14 @@ module _ (nodes : List Node) (index : ℕ) (n : Node) (at : AtNode nodes index n
         → Stands fs values index (entries_at nodes values index) (index ∷ (indices_at nodes n.zero ++ indices_at gs to))
     one_relinked same untouched below now =
         let other : Stays nodes fs values values n.zero = stays nodes fs values values few n.zero at.zero_below
-        (λ r inside. record { node = others r (index_not r (Contains-append_left (indices_at nodes n.zero) (indices_at nodes n.one) r inside)) ∙ untouched r inside; value = refl }) in
+        (λ r inside. record {
+          node = others r (index_not r (Contains-append_left (indices_at nodes n.zero) (indices_at nodes n.one) r inside)) ∙ untouched r inside;
+          value = refl;
+        }) in
         let moved = one_moved nodes fs values values index to n at refl now (record { entries = moved_stays.entries ∙ same; trie = moved_stays.trie }) other
         (subst (λ (o : Option Node). IfSome o (λ m. Within (middle n.prefix) (past n.prefix) n.prefix.len m.prefix)) (sym moved_stays.root) below) in
-        record { entries = moved.entries; indices = moved.indices ∙ ap (λ (xs : List ℕ). index ∷ (indices_at nodes n.zero ++ xs)) moved_stays.indices; trie = moved.trie }
+        record {
+          entries = moved.entries;
+          indices = moved.indices ∙ ap (λ (xs : List ℕ). index ∷ (indices_at nodes n.zero ++ xs)) moved_stays.indices;
+          trie = moved.trie;
+        }

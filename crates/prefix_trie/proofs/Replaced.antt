@@ -12,7 +12,8 @@ use Rattle.prefix_trie.specs.Nodes.{own, IsNode}
 use Rattle.prefix_trie.proofs.Levels.{AtNode, by_trie, no_indices, node_entries}
 use Rattle.prefix_trie.proofs.Indices.{halves_of, index_within}
 use Rattle.prefix_trie.proofs.Halves.{positive}
-use Rattle.prefix_trie.proofs.Nodes.{find_here, find_early, find_late, put_here, put_early, put_late, without_here, without_early, without_late, longer_later, shorter_differs}
+use Rattle.prefix_trie.proofs.Nodes.{find_here, find_early, find_late, put_here, put_early, put_late, without_here}
+use Rattle.prefix_trie.proofs.Nodes.{without_early, without_late, longer_later, shorter_differs}
 use Rattle.prefix_trie.specs.declared.node.Node.{Node}
 use Rattle.prefix_trie.specs.Arena.{nowhere, value_at, entries_at, indices_at, IsTrieAt, AreApart}
 use Rattle.prefix_trie.proofs.Apart.{first_or_rest, in_none, left_apart, right_apart, never_both}
@@ -31,7 +32,8 @@ changed_here p o zs os node (Some v) = put_here p o zs os node v
 changed_early : {V : Type 0} (p : PrefixValue) (o : Option V) (zs os : List (PrefixValue × V)) → IsNode p zs os → (q : PrefixValue)
     → Within p.address (middle p) p.len q → (new : Option V) → changed q new (own p o ++ (zs ++ os)) ≡ own p o ++ (changed q new zs ++ os)
 changed_early p o zs os node q w None = let some = positive q in let to = w.to in without_early p o zs os node q (shorter_differs p q w.longer) (omega arith)
-changed_early p o zs os node q w (Some v) = let some = positive q in let to = w.to in put_early p o zs os node q v (longer_later q p w.from w.longer) (omega arith)
+changed_early p o zs os node q w (Some v) =
+    let some = positive q in let to = w.to in put_early p o zs os node q v (longer_later q p w.from w.longer) (omega arith)
 
 changed_late : {V : Type 0} (p : PrefixValue) (o : Option V) (zs os : List (PrefixValue × V)) → IsNode p zs os → (q : PrefixValue)
     → Within (middle p) (past p) p.len q → (new : Option V) → changed q new (own p o ++ (zs ++ os)) ≡ own p o ++ (zs ++ changed q new os)
@@ -42,11 +44,13 @@ pub record Replaced {V : Type 0} (nodes : List Node) (values ws : List (Option V
   pub there : find prefix_cmp p (entries_at nodes values index) ≡ old
   pub entries : entries_at nodes ws index ≡ changed p new (entries_at nodes values index)
 
-module _ {V : Type 0} (nodes : List Node) (values ws : List (Option V)) (few : length nodes ≤ nowhere) (q : ℕ) (held : Node) (named : slice_get nodes q ≡ Some held) (old new : Option V)
+module _ {V : Type 0} (nodes : List Node) (values ws : List (Option V)) (few : length nodes ≤ nowhere)
+    (q : ℕ) (held : Node) (named : slice_get nodes q ≡ Some held) (old new : Option V)
     (was : value_at values q ≡ old) (now : value_at ws q ≡ new) (others : (r : ℕ) → r ≢ q → value_at ws r ≡ value_at values r) where
   -- no index among these is changed
   untouched : (index : ℕ) → IsTrieAt nodes index → (Contains (indices_at nodes index) q → ⊥) → Stays nodes nodes values ws index
-  untouched index trie away = stays nodes nodes values ws few index trie (λ r inside. record { node = refl; value = others r (λ is. away (subst (Contains (indices_at nodes index)) is inside)) })
+  untouched index trie away = stays nodes nodes values ws few index trie
+      (λ r inside. record { node = refl; value = others r (λ is. away (subst (Contains (indices_at nodes index)) is inside)) })
 
   abbrev IsReplaced : ℕ → Type 0
   IsReplaced index = AreApart (indices_at nodes index) → Contains (indices_at nodes index) q → Replaced nodes values ws held.prefix old new index
@@ -86,7 +90,8 @@ module _ {V : Type 0} (nodes : List Node) (values ws : List (Option V)) (few : l
               let ones = untouched n.one at.one_below (λ inside. away (Contains-append_right Z O q inside)) in
               record {
                 there = ap (find prefix_cmp p) es_is
-                    ∙ (ap (λ (r : PrefixValue). find prefix_cmp r (own n.prefix val ++ (zs ++ os))) (sym name) ∙ (find_here n.prefix val zs os node ∙ (ap (value_at values) (sym here) ∙ was)));
+                    ∙ (ap (λ (r : PrefixValue). find prefix_cmp r (own n.prefix val ++ (zs ++ os))) (sym name)
+                    ∙ (find_here n.prefix val zs os node ∙ (ap (value_at values) (sym here) ∙ was)));
                 entries = both new zs os (ap (value_at ws) (sym here) ∙ now) zeros.entries ones.entries
                     ∙ (sym (changed_here n.prefix val zs os node new)
                     ∙ (ap (λ (r : PrefixValue). changed r new (own n.prefix val ++ (zs ++ os))) name

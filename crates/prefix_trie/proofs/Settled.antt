@@ -1,5 +1,6 @@
 -- A trie in which another value stands at one index, and one that got a node with its value.
-use Rattle.std.proofs.Common.{◌≡◌, ◌≢◌, ℕ, ◌<◌, ◌≤◌, Bool, true, false, List, [], ◌∷◌, ◌++◌, length, Option, Some, None, refl, sym, ap, subst, ◌∙◌, arith, slice_get, get_or, set, inl, inr, ◌⊎◌}
+use Rattle.std.proofs.Common.{◌≡◌, ◌≢◌, ℕ, ◌<◌, ◌≤◌, Bool, true, false, List, [], ◌∷◌, ◌++◌, length, Option, Some, None}
+use Rattle.std.proofs.Common.{refl, sym, ap, subst, ◌∙◌, arith, slice_get, get_or, set, inl, inr, ◌⊎◌}
 use Rattle.std.specs.Prelude.{not, if◌then◌else◌, option_map, option_and_then}
 use Rattle.std.specs.FinMap.{find, put}
 use Rattle.std.specs.List.{Contains}
@@ -25,7 +26,8 @@ slice_set_same xs i x lt = slice_get-get_or (set xs i x) i x (let e = length-set
 
 slice_set_other : {X : Type 0} (xs : List X) (i : ℕ) (x : X) (j : ℕ) → j ≢ i → slice_get (set xs i x) j ≡ slice_get xs j
 slice_set_other xs i x j ne = elim (cases_lt j (length xs)) [
-  | inl lt ↦ slice_get-get_or (set xs i x) j x (let e = length-set xs i x in omega (arith, e, lt)) ∙ (ap Some (get_or-set_other xs i j x x ne) ∙ sym (slice_get-get_or xs j x lt))
+  | inl lt ↦ slice_get-get_or (set xs i x) j x (let e = length-set xs i x in omega (arith, e, lt))
+      ∙ (ap Some (get_or-set_other xs i j x x ne) ∙ sym (slice_get-get_or xs j x lt))
   | inr ge ↦ slice_get_past (set xs i x) j (let e = length-set xs i x in omega (arith, e, ge)) ∙ sym (slice_get_past xs j ge)
 ]
 
@@ -59,8 +61,10 @@ pub record Settled {V : Type 0} (t u : Tree V) (p : PrefixValue) (old new : Opti
   pub there : find prefix_cmp p (entries t) ≡ old
   pub entries : entries u ≡ changed p new (entries t)
 
-module _ {V : Type 0} (t u : Tree V) (p : PrefixValue) (q : ℕ) (new : Option V) (trie : IsTrie t) (inside : Contains (indices_at t.nodes.items t.root) q) (node : option_map (λ n. n.prefix) (slice_get t.nodes.items q) ≡ Some p)
-    (nodes : u.nodes.items ≡ t.nodes.items) (free : u.free.items ≡ t.free.items) (root : u.root ≡ t.root) (values : u.values.items ≡ set t.values.items q new) where
+module _ {V : Type 0} (t u : Tree V) (p : PrefixValue) (q : ℕ) (new : Option V) (trie : IsTrie t)
+    (inside : Contains (indices_at t.nodes.items t.root) q) (node : option_map (λ n. n.prefix) (slice_get t.nodes.items q) ≡ Some p)
+    (nodes : u.nodes.items ≡ t.nodes.items) (free : u.free.items ≡ t.free.items)
+    (root : u.root ≡ t.root) (values : u.values.items ≡ set t.values.items q new) where
   index_valued : q < length t.values.items
   index_valued = let lt = node_in t.nodes.items q p node in let same = trie.valued in omega (arith, lt, same)
 
@@ -79,7 +83,8 @@ module _ {V : Type 0} (t u : Tree V) (p : PrefixValue) (q : ℕ) (new : Option V
     free_in = λ r at. subst (λ (ns : List Node). r < length ns) (sym nodes) (trie.free_in r (subst (λ (fs : List ℕ). Contains fs r) free at));
     free_bare = λ r at. (
         let was : Contains t.free.items r = subst (λ (fs : List ℕ). Contains fs r) free at in
-        other_value r (λ e. never_both (indices_at t.nodes.items t.root) t.free.items trie.apart q inside (subst (Contains t.free.items) e was)) ∙ trie.free_bare r was);
+        other_value r (λ e. never_both (indices_at t.nodes.items t.root) t.free.items trie.apart q inside (subst (Contains t.free.items) e was))
+        ∙ trie.free_bare r was);
     few = subst (λ (ns : List Node). length ns ≤ nowhere) (sym nodes) trie.few;
     valued = ap (λ (vs : List (Option V)). length vs) values
         ∙ (length-set t.values.items q new ∙ (trie.valued ∙ ap (λ (ns : List Node). length ns) (sym nodes)));
@@ -88,7 +93,8 @@ module _ {V : Type 0} (t u : Tree V) (p : PrefixValue) (q : ℕ) (new : Option V
   pub settled : Settled t u p (value_at t.values.items q) new
   settled =
       let n = named (slice_get t.nodes.items q) p node in
-      let r = replaced t.nodes.items t.values.items u.values.items trie.few q n.held n.is (value_at t.values.items q) new refl this_value other_value t.root trie.trie (left_apart (indices_at t.nodes.items t.root) t.free.items trie.apart) inside in
+      let r = replaced t.nodes.items t.values.items u.values.items trie.few q n.held n.is (value_at t.values.items q) new refl
+      this_value other_value t.root trie.trie (left_apart (indices_at t.nodes.items t.root) t.free.items trie.apart) inside in
       record {
         trie = settled_trie;
         there = subst (λ (x : PrefixValue). find prefix_cmp x (entries t) ≡ value_at t.values.items q) n.name r.there;
@@ -114,12 +120,14 @@ module _ {V : Type 0} (t : Tree V) (p : PrefixValue) (nodes : List Node) (q : �
   found_value old read =
       let n = named (slice_get t.nodes.items q) p found_node in
       let value = value_at t.values.items q in
-      let r = replaced t.nodes.items t.values.items t.values.items trie.few q n.held n.is value value refl refl (λ r ne. refl) t.root trie.trie (left_apart (indices_at t.nodes.items t.root) t.free.items trie.apart) found_inside in
+      let r = replaced t.nodes.items t.values.items t.values.items trie.few q n.held n.is value value refl refl
+      (λ r ne. refl) t.root trie.trie (left_apart (indices_at t.nodes.items t.root) t.free.items trie.apart) found_inside in
       subst (λ (x : PrefixValue). find prefix_cmp x (entries t) ≡ value) n.name r.there ∙ (value_read t.values.items q old found_valued ∙ sym read)
 
   pub exchanged : (u : Tree V) (old new : Option V) → old ≡ get_or t.values.items q old → u.nodes.items ≡ t.nodes.items → u.free.items ≡ t.free.items
       → u.root ≡ t.root → u.values.items ≡ set t.values.items q new → Settled t u p old new
-  exchanged u old new read ns fs r vs = subst (λ (o : Option V). Settled t u p o new) (value_read t.values.items q old found_valued ∙ sym read) (settled t u p q new trie found_inside found_node ns fs r vs)
+  exchanged u old new read ns fs r vs = subst (λ (o : Option V). Settled t u p o new)
+      (value_read t.values.items q old found_valued ∙ sym read) (settled t u p q new trie found_inside found_node ns fs r vs)
 
 -- ---- a node for a prefix, at indices that were free
 
@@ -150,7 +158,8 @@ module _ (rest : List ℕ) (spare fresh : ℕ) where
       let free_apart = right_apart indices free apart in
       let others_apart = left_apart (rest ++ spare ∷ []) (fresh ∷ []) free_apart in
       let never : (q : ℕ) → Contains indices q → Contains free q → ⊥ = never_both indices free apart in
-      let not_fresh : Contains (rest ++ spare ∷ []) fresh → ⊥ = λ inside. never_both (rest ++ spare ∷ []) (fresh ∷ []) free_apart fresh inside (0, omega arith, refl) in
+      let not_fresh : Contains (rest ++ spare ∷ []) fresh → ⊥ =
+      λ inside. never_both (rest ++ spare ∷ []) (fresh ∷ []) free_apart fresh inside (0, omega arith, refl) in
       record {
         fresh_new = λ inside. never fresh inside fresh_in_free;
         spare_new = λ inside. never spare inside spare_in_free;
@@ -162,9 +171,11 @@ module _ (rest : List ℕ) (spare fresh : ℕ) where
         rest_apart = left_apart rest (spare ∷ []) others_apart;
       }
 
-module _ {V : Type 0} (t : Tree V) (p : PrefixValue) (rest : List ℕ) (spare fresh : ℕ) (trie : IsTrie t) (free : t.free.items ≡ (rest ++ spare ∷ []) ++ fresh ∷ []) where
+module _ {V : Type 0} (t : Tree V) (p : PrefixValue) (rest : List ℕ) (spare fresh : ℕ)
+    (trie : IsTrie t) (free : t.free.items ≡ (rest ++ spare ∷ []) ++ fresh ∷ []) where
   all_taken : AreTaken (indices_at t.nodes.items t.root) rest spare fresh
-  all_taken = taken rest spare fresh (indices_at t.nodes.items t.root) (subst (λ (fs : List ℕ). AreApart (indices_at t.nodes.items t.root ++ fs)) free trie.apart)
+  all_taken = taken rest spare fresh (indices_at t.nodes.items t.root)
+      (subst (λ (fs : List ℕ). AreApart (indices_at t.nodes.items t.root ++ fs)) free trie.apart)
 
   was_free : (q : ℕ) → Contains ((rest ++ spare ∷ []) ++ fresh ∷ []) q → Contains t.free.items q
   was_free q inside = subst (λ (fs : List ℕ). Contains fs q) (sym free) inside
@@ -280,7 +291,8 @@ module _ {V : Type 0} (t : Tree V) (p : PrefixValue) (rest : List ℕ) (spare fr
       apart = subst (λ (ns : List Node). AreApart (indices_at ns u.root ++ u.free.items)) (sym nodes)
           (subst (λ (r : ℕ). AreApart (indices_at fs r ++ u.free.items)) (sym root)
           (both_apart (indices_at fs to) u.free.items added.apart kept_apart apart_from_kept));
-      free_in = λ q at. subst (λ (ns : List Node). q < length ns) (sym nodes) (let lt = trie.free_in q (kept_was_free q at) in let many = added.as_many in omega (arith, lt, many));
+      free_in = λ q at. subst (λ (ns : List Node). q < length ns) (sym nodes)
+          (let lt = trie.free_in q (kept_was_free q at) in let many = added.as_many in omega (arith, lt, many));
       free_bare = λ q at. other_now q (kept_not_fresh q at) ∙ trie.free_bare q (kept_was_free q at);
       few = subst (λ (ns : List Node). length ns ≤ nowhere) (sym nodes) few_now;
       valued = ap (λ (vs : List (Option V)). length vs) values
@@ -292,7 +304,8 @@ module _ {V : Type 0} (t : Tree V) (p : PrefixValue) (rest : List ℕ) (spare fr
         let n = named (slice_get fs fresh) p added.node in
         let bare = trie.free_bare fresh (was_free fresh (fresh_in_free rest spare fresh)) in
         let spare_bare = trie.free_bare spare (was_free spare (spare_in_free rest spare fresh)) in
-        let r = replaced fs t.values.items u.values.items few_now fresh n.held n.is None (Some value) bare fresh_now other_now to added.trie added.apart added.there in
+        let r = replaced fs t.values.items u.values.items few_now fresh n.held n.is None
+        (Some value) bare fresh_now other_now to added.trie added.apart added.there in
         ap (λ (ns : List Node). entries_at ns u.values.items u.root) nodes
         ∙ (ap (λ (at : ℕ). entries_at fs u.values.items at) root
         ∙ (subst (λ (x : PrefixValue). entries_at fs u.values.items to ≡ put prefix_cmp x value (entries_at fs t.values.items to)) n.name r.entries

@@ -87,7 +87,8 @@ module _ (nodes : List Node) (p : PrefixValue) (fresh spare : ℕ) where
   ]
 
   -- What was added below a node, so that the node names it, was added to the trie.
-  module _ (fs : List Node) (forked : Bool) (q : ℕ) (m : Node) (there : slice_get nodes q ≡ Some m) (under : IsUnder m.prefix p) (added : IsAdded nodes fs p fresh spare q q forked) where
+  module _ (fs : List Node) (forked : Bool) (q : ℕ) (m : Node) (there : slice_get nodes q ≡ Some m)
+      (under : IsUnder m.prefix p) (added : IsAdded nodes fs p fresh spare q q forked) where
     lift_added : (steps index : ℕ) → CanAdd nodes p fresh spare index → Leads nodes steps index q → IsAdded nodes fs p fresh spare index index forked
     unfolding Leads
     lift_added zero index can lead = subst (λ (at : ℕ). IsAdded nodes fs p fresh spare at at forked) lead added
@@ -98,16 +99,21 @@ module _ (nodes : List Node) (p : PrefixValue) (fresh spare : ℕ) where
         elim lead.2 [
           | inl left ↦
               let a = lift_added k n.zero (can_zero nodes p fresh spare index n is can) left in
-              zero_added nodes p fresh spare index n is can fs fs n.zero forked refl (λ r e. refl) a (still_zero nodes p fresh spare index n is can fs n.zero forked a)
-              (under_within n.prefix.address (middle n.prefix) n.prefix.len m.prefix p can.is under (index_within nodes q m there n.zero at.zero_below n.prefix.address (middle n.prefix) n.prefix.len at.branching.zero (leads_among nodes k n.zero q m there at.zero_below left)))
+              zero_added nodes p fresh spare index n is can fs fs n.zero forked refl
+              (λ r e. refl) a (still_zero nodes p fresh spare index n is can fs n.zero forked a)
+              (under_within n.prefix.address (middle n.prefix) n.prefix.len m.prefix p can.is under (index_within nodes q m there n.zero at.zero_below
+              n.prefix.address (middle n.prefix) n.prefix.len at.branching.zero (leads_among nodes k n.zero q m there at.zero_below left)))
           | inr right ↦
               let a = lift_added k n.one (can_one nodes p fresh spare index n is can) right in
-              one_added nodes p fresh spare index n is can fs fs n.one forked refl (λ r e. refl) a (still_one nodes p fresh spare index n is can fs n.one forked a)
-              (under_within (middle n.prefix) (past n.prefix) n.prefix.len m.prefix p can.is under (index_within nodes q m there n.one at.one_below (middle n.prefix) (past n.prefix) n.prefix.len at.branching.one (leads_among nodes k n.one q m there at.one_below right)))
+              one_added nodes p fresh spare index n is can fs fs n.one forked refl
+              (λ r e. refl) a (still_one nodes p fresh spare index n is can fs n.one forked a)
+              (under_within (middle n.prefix) (past n.prefix) n.prefix.len m.prefix p can.is under (index_within nodes q m there n.one at.one_below
+              (middle n.prefix) (past n.prefix) n.prefix.len at.branching.one (leads_among nodes k n.one q m there at.one_below right)))
         ]
 
 -- Something was added where p belongs, below a node.
-module _ (nodes gs : List Node) (p : PrefixValue) (fresh spare root above at to : ℕ) (forked : Bool) (can : CanAdd nodes p fresh spare root) (b : IsBelow nodes root p above at) (added : IsAdded nodes gs p fresh spare at to forked) where
+module _ (nodes gs : List Node) (p : PrefixValue) (fresh spare root above at to : ℕ) (forked : Bool)
+    (can : CanAdd nodes p fresh spare root) (b : IsBelow nodes root p above at) (added : IsAdded nodes gs p fresh spare at to forked) where
   can_here : CanAdd nodes p fresh spare above
   can_here = can_lead nodes p fresh spare b.steps root above can b.on
 
@@ -133,7 +139,12 @@ module _ (nodes gs : List Node) (p : PrefixValue) (fresh spare root above at to 
         → IsAdded nodes fs p fresh spare above above forked
     linked_zero early now = elim b.side [
       | inl side ↦ zero_added nodes p fresh spare above b.node b.there can_here gs fs to forked many others (as_zero side.1) now
-          (record { is = can.is; longer = b.under.1; from = covered_from (b.node).prefix p b.under.0; to = early_within (b.node).prefix p prefix_is can.is b.under.1 early })
+          (record {
+            is = can.is;
+            longer = b.under.1;
+            from = covered_from (b.node).prefix p b.under.0;
+            to = early_within (b.node).prefix p prefix_is can.is b.under.1 early;
+          })
       | inr side ↦ absurd (let late = side.0 in omega (arith, early, late))
     ]
 
@@ -142,7 +153,12 @@ module _ (nodes gs : List Node) (p : PrefixValue) (fresh spare root above at to 
     linked_one late now = elim b.side [
       | inl side ↦ absurd (let early = side.0 in omega (arith, early, late))
       | inr side ↦ one_added nodes p fresh spare above b.node b.there can_here gs fs to forked many others (as_one side.1) now
-          (record { is = can.is; longer = b.under.1; from = late; to = ends_within (b.node).prefix p prefix_is can.is (let long = b.under.1 in omega arith) (covered_to (b.node).prefix p b.under.0) })
+          (record {
+            is = can.is;
+            longer = b.under.1;
+            from = late;
+            to = ends_within (b.node).prefix p prefix_is can.is (let long = b.under.1 in omega arith) (covered_to (b.node).prefix p b.under.0);
+          })
     ]
 
     pub linked : (m k : Node) → slice_get gs above ≡ Some m → slice_get fs above ≡ Some k → IsLinked m p to k → IsAdded nodes fs p fresh spare root root forked

@@ -22,4 +22,5 @@ covers_shorter p at is covers differ = elim (cases_lt p.len at.len) [
 
 pub differs_there : (nodes : List Node) (p : PrefixValue) (fresh spare index : ℕ) (n : Node) → CanAdd nodes p fresh spare index
     → slice_get nodes index ≡ Some n → n.prefix ≢ p
-differs_there nodes p fresh spare index n can there = subst (λ (o : Option Node). IfSome o (λ m. m.prefix ≢ p)) there (can.absent index (at_node nodes index n there can.trie).here)
+differs_there nodes p fresh spare index n can there =
+    subst (λ (o : Option Node). IfSome o (λ m. m.prefix ≢ p)) there (can.absent index (at_node nodes index n there can.trie).here)

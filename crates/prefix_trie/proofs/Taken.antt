@@ -19,7 +19,8 @@ without_absent {V} p (e ∷ es) none = by_test (eq_by_cmp prefix_cmp p e.0) refl
   by_test true k below = absurd (let some : Some e.1 ≡ None = rw k at none in cc)
   by_test false k below = rw k (ap (λ (xs : List (PrefixValue × V)). e ∷ xs) (below (rw k at none)))
 
-module _ {V : Type 0} (t u : Tree V) (trie : IsTrie t) (trimmed : IsTrimmed t.nodes.items u.nodes.items t.values.items t.free.items u.free.items t.root u.root) (values : u.values.items ≡ t.values.items) where
+module _ {V : Type 0} (t u : Tree V) (trie : IsTrie t) (trimmed : IsTrimmed t.nodes.items u.nodes.items
+    t.values.items t.free.items u.free.items t.root u.root) (values : u.values.items ≡ t.values.items) where
   many : length u.nodes.items ≡ length t.nodes.items
   many = trimmed.as_many
 

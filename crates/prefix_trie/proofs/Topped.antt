@@ -15,16 +15,19 @@ use Rattle.prefix_trie.proofs.Frames.{Stays, stays}
 use Rattle.prefix_trie.proofs.Levels.{at_node, none_at}
 use Rattle.prefix_trie.proofs.Adding.{alone, above_early, above_late}
 
-module _ (nodes fs : List Node) (p : PrefixValue) (fresh spare index : ℕ) (forked : Bool) (can : CanAdd nodes p fresh spare index) (many : length fs ≡ length nodes) (others : (r : ℕ) → r ≢ fresh → slice_get fs r ≡ slice_get nodes r) where
+module _ (nodes fs : List Node) (p : PrefixValue) (fresh spare index : ℕ) (forked : Bool) (can : CanAdd nodes p fresh spare index)
+    (many : length fs ≡ length nodes) (others : (r : ℕ) → r ≢ fresh → slice_get fs r ≡ slice_get nodes r) where
   few_now : length fs ≤ nowhere
   few_now = let few = can.few in omega (arith, many, few)
 
   not_fresh : (r : ℕ) → Contains (indices_at nodes index) r → r ≢ fresh
-  not_fresh r inside e = can.apart.0 (subst (Contains (spare ∷ indices_at nodes index)) e (Contains-append_right (spare ∷ []) (indices_at nodes index) r inside))
+  not_fresh r inside e =
+      can.apart.0 (subst (Contains (spare ∷ indices_at nodes index)) e (Contains-append_right (spare ∷ []) (indices_at nodes index) r inside))
 
   pub leaf_added : slice_get nodes index ≡ None → slice_get fs fresh ≡ Some (leaf p) → IsAdded nodes fs p fresh spare index fresh forked
   leaf_added none there =
-      let stands : (values : List (Option ℕ)) → value_at values fresh ≡ None → Stands fs values fresh [] (fresh ∷ []) = λ values bare. alone fs values few_now fresh p can.is there bare in
+      let stands : (values : List (Option ℕ)) → value_at values fresh ≡ None → Stands fs values fresh [] (fresh ∷ []) =
+      λ values bare. alone fs values few_now fresh p can.is there bare in
       let s = stands [] refl in
       record {
         entries = λ values bare b. (stands values bare).entries ∙ sym (none_at nodes values index none);
@@ -69,7 +72,8 @@ module _ (nodes fs : List Node) (p : PrefixValue) (fresh spare index : ℕ) (for
           ];
           others = λ r away f s. others r f;
           as_many = many;
-          within = λ q low high is half new old. subst (λ (o : Option Node). IfSome o (λ m. Within low high q.len m.prefix)) (sym there) (subst (λ (x : PrefixValue). Within low high q.len x) (sym named) new);
+          within = λ q low high is half new old. subst (λ (o : Option Node). IfSome o (λ m. Within low high q.len m.prefix))
+              (sym there) (subst (λ (x : PrefixValue). Within low high q.len x) (sym named) new);
         }
 
     pub above_added : (m : Node) → slice_get fs fresh ≡ Some m → p.len < n.prefix.len → Covers p n.prefix → IsOver p n.prefix index m
@@ -78,9 +82,16 @@ module _ (nodes fs : List Node) (p : PrefixValue) (fresh spare index : ℕ) (for
         let is = (at_node nodes index n was can.trie).branching.is in
         elim over [
           | inl early ↦ topped_added (record { prefix = p; zero = index; one = nowhere }) refl (there ∙ ap Some early.1)
-              (λ values bare. above_early fs values few_now index fresh n p can.is (entries_at nodes values index) (indices_at nodes index) at_now bare (stood values) (there ∙ ap Some early.1)
+              (λ values bare. above_early fs values few_now index fresh n p can.is (entries_at nodes values index)
+              (indices_at nodes index) at_now bare (stood values) (there ∙ ap Some early.1)
               (record { is = is; longer = shorter; from = covered_from p n.prefix covers; to = early_within p n.prefix can.is is shorter early.0 }))
           | inr late ↦ topped_added (record { prefix = p; zero = nowhere; one = index }) refl (there ∙ ap Some late.1)
-              (λ values bare. above_late fs values few_now index fresh n p can.is (entries_at nodes values index) (indices_at nodes index) at_now bare (stood values) (there ∙ ap Some late.1)
-              (record { is = is; longer = shorter; from = late.0; to = ends_within p n.prefix can.is is (omega (arith, shorter)) (covered_to p n.prefix covers) }))
+              (λ values bare. above_late fs values few_now index fresh n p can.is (entries_at nodes values index)
+              (indices_at nodes index) at_now bare (stood values) (there ∙ ap Some late.1)
+              (record {
+                is = is;
+                longer = shorter;
+                from = late.0;
+                to = ends_within p n.prefix can.is is (omega (arith, shorter)) (covered_to p n.prefix covers);
+              }))
         ]

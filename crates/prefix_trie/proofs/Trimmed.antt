@@ -1,5 +1,6 @@
 -- Nodes that go, one after the other.
-use Rattle.std.proofs.Common.{◌≡◌, ◌≢◌, ℕ, ◌≤◌, Bool, true, false, cond, List, [], ◌∷◌, ◌++◌, length, Option, Some, None, refl, sym, ap, subst, ◌∙◌, arith, slice_get, inl, inr, ◌⊎◌}
+use Rattle.std.proofs.Common.{◌≡◌, ◌≢◌, ℕ, ◌≤◌, Bool, true, false, cond, List, [], ◌∷◌, ◌++◌, length, Option}
+use Rattle.std.proofs.Common.{Some, None, refl, sym, ap, subst, ◌∙◌, arith, slice_get, inl, inr, ◌⊎◌}
 use Rattle.std.specs.Prelude.{IfSome}
 use Rattle.std.specs.List.{Contains}
 use Rattle.std.proofs.lemmas.List.{length_push}
@@ -38,7 +39,8 @@ three_apart xs ys zs x y z xy xz yz = both_apart (xs ++ ys) zs (both_apart xs ys
   | inr right ↦ yz q right kept
 ])
 
-module _ {V : Type 0} (nodes : List Node) (values : List (Option V)) (free : List ℕ) (index : ℕ) (n : Node) (was : slice_get nodes index ≡ Some n) (can : CanTrim nodes free index) where
+module _ {V : Type 0} (nodes : List Node) (values : List (Option V)) (free : List ℕ) (index : ℕ)
+    (n : Node) (was : slice_get nodes index ≡ Some n) (can : CanTrim nodes free index) where
   abbrev Z : List ℕ
   Z = indices_at nodes n.zero
 
@@ -71,10 +73,18 @@ module _ {V : Type 0} (nodes : List Node) (values : List (Option V)) (free : Lis
   free_apart = right_apart (indices_at nodes index) free can.apart
 
   pub can_zero : CanTrim nodes free n.zero
-  can_zero = record { trie = at.zero_below; apart = both_apart Z free (left_apart Z O all.1) free_apart (λ r left there. outside r (at.below r (in_zero r left)) there); few = can.few }
+  can_zero = record {
+    trie = at.zero_below;
+    apart = both_apart Z free (left_apart Z O all.1) free_apart (λ r left there. outside r (at.below r (in_zero r left)) there);
+    few = can.few;
+  }
 
   pub can_one : CanTrim nodes free n.one
-  can_one = record { trie = at.one_below; apart = both_apart O free (right_apart Z O all.1) free_apart (λ r right there. outside r (at.below r (in_one r right)) there); few = can.few }
+  can_one = record {
+    trie = at.one_below;
+    apart = both_apart O free (right_apart Z O all.1) free_apart (λ r right there. outside r (at.below r (in_one r right)) there);
+    few = can.few;
+  }
 
   -- the node is as it was once a branch was trimmed
   pub still_zero : (fs : List Node) (kept : List ℕ) (to : ℕ) → IsTrimmed nodes fs values free kept n.zero to → slice_get fs index ≡ Some n
@@ -84,7 +94,8 @@ module _ {V : Type 0} (nodes : List Node) (values : List (Option V)) (free : Lis
   still_one fs kept to t = t.others index (λ inside. not_index index (in_one index inside) refl) ∙ was
 
   -- Indices of one branch may have become free. The other branch stays.
-  module _ (side other : List ℕ) (side_in : (r : ℕ) → Contains side r → Contains (Z ++ O) r) (other_in : (r : ℕ) → Contains other r → Contains (Z ++ O) r) (never : (r : ℕ) → Contains side r → Contains other r → ⊥)
+  module _ (side other : List ℕ) (side_in : (r : ℕ) → Contains side r → Contains (Z ++ O) r)
+      (other_in : (r : ℕ) → Contains other r → Contains (Z ++ O) r) (never : (r : ℕ) → Contains side r → Contains other r → ⊥)
       (kept : List ℕ) (freed : (r : ℕ) → Contains kept r → Contains free r ⊎ (Contains side r × (value_at values r ≡ None))) where
     kept_not_index : Contains kept index → ⊥
     kept_not_index there = elim (freed index there) [
@@ -113,7 +124,9 @@ module _ {V : Type 0} (nodes : List Node) (values : List (Option V)) (free : Lis
     zero_trimmed t now =
         let T = indices_at gs to in
         let never : (r : ℕ) → Contains Z r → Contains O r → ⊥ = never_both Z O all.1 in
-        let s = zero_relinked nodes index n at here_apart values gs fs to (few_now t.as_many) others t.trie (λ r inside. not_index r (in_zero r (t.among r inside))) t.entries (λ r inside. t.others r (λ left. never r left inside)) (t.within n.prefix.address (middle n.prefix) n.prefix.len at.branching.zero) now in
+        let s = zero_relinked nodes index n at here_apart values gs fs to (few_now t.as_many) others t.trie
+        (λ r inside. not_index r (in_zero r (t.among r inside))) t.entries (λ r inside. t.others r (λ left. never r left inside))
+        (t.within n.prefix.address (middle n.prefix) n.prefix.len at.branching.zero) now in
         record {
           entries = s.entries;
           trie = s.trie;
@@ -125,7 +138,8 @@ module _ {V : Type 0} (nodes : List Node) (values : List (Option V)) (free : Lis
               ]
               | inr there ↦ kept_not_index Z O in_zero in_one never kept t.freed there
             ]),
-            three_apart T O kept (left_apart T kept t.apart) (right_apart Z O all.1) (right_apart T kept t.apart) (λ r left right. never r (t.among r left) right) (never_both T kept t.apart) (kept_not_other Z O in_zero in_one never kept t.freed),
+            three_apart T O kept (left_apart T kept t.apart) (right_apart Z O all.1) (right_apart T kept t.apart)
+                (λ r left right. never r (t.among r left) right) (never_both T kept t.apart) (kept_not_other Z O in_zero in_one never kept t.freed),
           );
           among = λ r inside. elim (first_or_rest index (T ++ O) r (subst (λ (ps : List ℕ). Contains ps r) s.indices inside)) [
             | inl e ↦ subst (Contains (indices_at nodes index)) (sym e) at.here
@@ -139,7 +153,8 @@ module _ {V : Type 0} (nodes : List Node) (values : List (Option V)) (free : Lis
           others = λ r away. others r (λ e. away (subst (Contains (indices_at nodes index)) (sym e) at.here))
               ∙ t.others r (λ left. away (at.below r (in_zero r left)));
           as_many = many ∙ t.as_many;
-          within = λ low high len w. subst (λ (o : Option Node). IfSome o (λ m. Within low high len m.prefix)) (sym now) (subst (λ (o : Option Node). IfSome o (λ m. Within low high len m.prefix)) was w);
+          within = λ low high len w. subst (λ (o : Option Node). IfSome o (λ m. Within low high len m.prefix))
+              (sym now) (subst (λ (o : Option Node). IfSome o (λ m. Within low high len m.prefix)) was w);
         }
 
     pub one_trimmed : IsTrimmed nodes gs values free kept n.one to
@@ -147,7 +162,9 @@ module _ {V : Type 0} (nodes : List Node) (values : List (Option V)) (free : Lis
     one_trimmed t now =
         let T = indices_at gs to in
         let never : (r : ℕ) → Contains O r → Contains Z r → ⊥ = λ r right left. never_both Z O all.1 r left right in
-        let s = one_relinked nodes index n at here_apart values gs fs to (few_now t.as_many) others t.trie (λ r inside. not_index r (in_one r (t.among r inside))) t.entries (λ r inside. t.others r (λ right. never r right inside)) (t.within (middle n.prefix) (past n.prefix) n.prefix.len at.branching.one) now in
+        let s = one_relinked nodes index n at here_apart values gs fs to (few_now t.as_many) others t.trie
+        (λ r inside. not_index r (in_one r (t.among r inside))) t.entries (λ r inside. t.others r (λ right. never r right inside))
+        (t.within (middle n.prefix) (past n.prefix) n.prefix.len at.branching.one) now in
         record {
           entries = s.entries;
           trie = s.trie;
@@ -159,7 +176,8 @@ module _ {V : Type 0} (nodes : List Node) (values : List (Option V)) (free : Lis
               ]
               | inr there ↦ kept_not_index O Z in_one in_zero never kept t.freed there
             ]),
-            three_apart Z T kept (left_apart Z O all.1) (left_apart T kept t.apart) (right_apart T kept t.apart) (λ r left right. never r (t.among r right) left) (kept_not_other O Z in_one in_zero never kept t.freed) (never_both T kept t.apart),
+            three_apart Z T kept (left_apart Z O all.1) (left_apart T kept t.apart) (right_apart T kept t.apart)
+                (λ r left right. never r (t.among r right) left) (kept_not_other O Z in_one in_zero never kept t.freed) (never_both T kept t.apart),
           );
           among = λ r inside. elim (first_or_rest index (Z ++ T) r (subst (λ (ps : List ℕ). Contains ps r) s.indices inside)) [
             | inl e ↦ subst (Contains (indices_at nodes index)) (sym e) at.here
@@ -173,12 +191,15 @@ module _ {V : Type 0} (nodes : List Node) (values : List (Option V)) (free : Lis
           others = λ r away. others r (λ e. away (subst (Contains (indices_at nodes index)) (sym e) at.here))
               ∙ t.others r (λ right. away (at.below r (in_one r right)));
           as_many = many ∙ t.as_many;
-          within = λ low high len w. subst (λ (o : Option Node). IfSome o (λ m. Within low high len m.prefix)) (sym now) (subst (λ (o : Option Node). IfSome o (λ m. Within low high len m.prefix)) was w);
+          within = λ low high len w. subst (λ (o : Option Node). IfSome o (λ m. Within low high len m.prefix))
+              (sym now) (subst (λ (o : Option Node). IfSome o (λ m. Within low high len m.prefix)) was w);
         }
 
 -- A node is taken out above its one branch, and its index is kept or not.
-module _ {V : Type 0} (nodes : List Node) (values : List (Option V)) (free kept : List ℕ) (index to : ℕ) (can : CanTrim nodes free index) (bare : value_at values index ≡ None) (lifted : Lifted nodes values index to)
-    (within : (low high len : ℕ) → IfSome (slice_get nodes index) (λ m. Within low high len m.prefix) → IfSome (slice_get nodes to) (λ m. Within low high len m.prefix)) where
+module _ {V : Type 0} (nodes : List Node) (values : List (Option V)) (free kept : List ℕ) (index to : ℕ)
+    (can : CanTrim nodes free index) (bare : value_at values index ≡ None) (lifted : Lifted nodes values index to)
+    (within : (low high len : ℕ) → IfSome (slice_get nodes index) (λ m. Within low high len m.prefix)
+    → IfSome (slice_get nodes to) (λ m. Within low high len m.prefix)) where
   abbrev T : List ℕ
   T = indices_at nodes to
 
@@ -199,7 +220,8 @@ module _ {V : Type 0} (nodes : List Node) (values : List (Option V)) (free kept 
       | inl same ↦ subst (λ (xs : List ℕ). AreApart (T ++ xs)) (sym same) apart_is.1
       | inr more ↦ subst (λ (xs : List ℕ). AreApart (T ++ xs)) (sym more)
           (both_apart T (free ++ index ∷ []) (left_apart T free apart_is.1)
-          (both_apart free (index ∷ []) (right_apart T free apart_is.1) ((λ inside. in_none index inside), tt) (λ q there last. elim (first_or_rest index [] q last) [
+          (both_apart free (index ∷ []) (right_apart T free apart_is.1)
+          ((λ inside. in_none index inside), tt) (λ q there last. elim (first_or_rest index [] q last) [
             | inl at ↦ apart_is.0 (Contains-append_right T free index (subst (Contains free) at there))
             | inr none ↦ in_none q none
           ]))
@@ -231,14 +253,17 @@ module _ {V : Type 0} (nodes : List Node) (values : List (Option V)) (free kept 
     within = within;
   }
 
-module _ {V : Type 0} (nodes : List Node) (values : List (Option V)) (free : List ℕ) (index : ℕ) (n : Node) (was : slice_get nodes index ≡ Some n) (kept : List ℕ) (bare : value_at values index ≡ None) (which : (kept ≡ free) ⊎ (kept ≡ free ++ index ∷ [])) (can : CanTrim nodes free index) where
+module _ {V : Type 0} (nodes : List Node) (values : List (Option V)) (free : List ℕ) (index : ℕ) (n : Node) (was : slice_get nodes index ≡ Some n)
+    (kept : List ℕ) (bare : value_at values index ≡ None) (which : (kept ≡ free) ⊎ (kept ≡ free ++ index ∷ [])) (can : CanTrim nodes free index) where
   pub lift_early : n.one ≡ nowhere → IsTrimmed nodes nodes values free kept index n.zero
   lift_early gone = lifted_trimmed nodes values free kept index n.zero can bare (lifted_zero nodes values can.few index n was can.trie bare gone)
-      (λ low high len w. zero_within nodes values can.few index n was can.trie bare low high len (subst (λ (o : Option Node). IfSome o (λ m. Within low high len m.prefix)) was w)) which
+      (λ low high len w. zero_within nodes values can.few index n was can.trie bare low high len
+      (subst (λ (o : Option Node). IfSome o (λ m. Within low high len m.prefix)) was w)) which
 
   pub lift_late : n.zero ≡ nowhere → IsTrimmed nodes nodes values free kept index n.one
   lift_late gone = lifted_trimmed nodes values free kept index n.one can bare (lifted_one nodes values can.few index n was can.trie bare gone)
-      (λ low high len w. one_within nodes values can.few index n was can.trie bare low high len (subst (λ (o : Option Node). IfSome o (λ m. Within low high len m.prefix)) was w)) which
+      (λ low high len w. one_within nodes values can.few index n was can.trie bare low high len
+      (subst (λ (o : Option Node). IfSome o (λ m. Within low high len m.prefix)) was w)) which
 
 -- a list after a push that may find no room
 pub pushed : {A : Type 0} (b : Bool) (xs ys : List A) (x : A) → ys ≡ cond b (xs ++ x ∷ []) xs → (ys ≡ xs) ⊎ (ys ≡ xs ++ x ∷ [])

@@ -63,7 +63,8 @@ leaf p = record { prefix = p; zero = nowhere; one = nowhere }
 
 -- m is the node of p whose only branch is at an index, for the half in which the prefix at lies.
 abbrev pub IsOver : (p at : PrefixValue) (index : ℕ) (m : Node) → Type 0
-IsOver p at index m = ((at.address < middle p) × (m ≡ record { prefix = p; zero = index; one = nowhere })) ⊎ ((middle p ≤ at.address) × (m ≡ record { prefix = p; zero = nowhere; one = index }))
+IsOver p at index m = ((at.address < middle p) × (m ≡ record { prefix = p; zero = index; one = nowhere }))
+    ⊎ ((middle p ≤ at.address) × (m ≡ record { prefix = p; zero = nowhere; one = index }))
 
 -- m is the fork of p, whose node is at a fresh index, and of the prefix at, whose node is at an index.
 abbrev pub IsForkOf : (p : PrefixValue) (fresh : ℕ) (at : PrefixValue) (index : ℕ) (m : Node) → Type 0
@@ -72,4 +73,5 @@ IsForkOf p fresh at index m = ((p.address < at.address) × IsFork p.address at.a
 
 -- m is n except for the index that it names for the half in which p lies.
 abbrev pub IsLinked : (n : Node) (p : PrefixValue) (to : ℕ) (m : Node) → Type 0
-IsLinked n p to m = ((p.address < middle n.prefix) × (m ≡ record { prefix = n.prefix; zero = to; one = n.one })) ⊎ ((middle n.prefix ≤ p.address) × (m ≡ record { prefix = n.prefix; zero = n.zero; one = to }))
+IsLinked n p to m = ((p.address < middle n.prefix) × (m ≡ record { prefix = n.prefix; zero = to; one = n.one }))
+    ⊎ ((middle n.prefix ≤ p.address) × (m ≡ record { prefix = n.prefix; zero = n.zero; one = to }))

@@ -1,5 +1,6 @@
 -- Nodes that stand in a list and name each other by their indices, and how their prefixes are arranged.
-use Rattle.std.specs.Prelude.{◌≡◌, ◌≢◌, ◌⊎◌, ◌<◌, ℕ, zero, suc, ◌^◌, ◌-◌, List, [], ◌∷◌, ◌++◌, length, Option, None, Some, IfSome, IfNone, option_and_then, option_map, slice_get, unwrap_or}
+use Rattle.std.specs.Prelude.{◌≡◌, ◌≢◌, ◌⊎◌, ◌<◌, ℕ, zero, suc, ◌^◌, ◌-◌, List, [], ◌∷◌, ◌++◌, length, Option, None}
+use Rattle.std.specs.Prelude.{Some, IfSome, IfNone, option_and_then, option_map, slice_get, unwrap_or}
 use Rattle.std.specs.List.{Contains}
 use Rattle.bgp_types.specs.Prefixes.{PrefixValue, IsPrefix, Covers}
 use Rattle.prefix_trie.specs.Halves.{middle, past, Within}
@@ -17,12 +18,14 @@ value_at values index = option_and_then (λ value. value) (slice_get values inde
 -- the prefixes with their values on this many levels of nodes from an index down, each before those that it covers
 unfoldable pub entries_over : {V : Type 0} → List Node → List (Option V) → ℕ → ℕ → List (PrefixValue × V)
 entries_over nodes values zero index = []
-entries_over nodes values (suc levels) index = unwrap_or (option_map (λ n. own n.prefix (value_at values index) ++ (entries_over nodes values levels n.zero ++ entries_over nodes values levels n.one)) (slice_get nodes index)) []
+entries_over nodes values (suc levels) index = unwrap_or (option_map (λ n. own n.prefix (value_at values index)
+    ++ (entries_over nodes values levels n.zero ++ entries_over nodes values levels n.one)) (slice_get nodes index)) []
 
 -- the indices of these nodes
 unfoldable pub indices_over : List Node → ℕ → ℕ → List ℕ
 indices_over nodes zero index = []
-indices_over nodes (suc levels) index = unwrap_or (option_map (λ n. index ∷ (indices_over nodes levels n.zero ++ indices_over nodes levels n.one)) (slice_get nodes index)) []
+indices_over nodes (suc levels) index =
+    unwrap_or (option_map (λ n. index ∷ (indices_over nodes levels n.zero ++ indices_over nodes levels n.one)) (slice_get nodes index)) []
 
 -- A node has a prefix, and names nodes whose prefixes are longer ones of its two halves.
 pub record IsBranching (nodes : List Node) (n : Node) : Type 0 where

@@ -11,4 +11,5 @@ pub record TableValue (V : Type 0) : Type 0 where
 
 -- it is stored as the pair of the two
 abbrev pub coded_table : {V : Type 0} → Coded V → Coded (TableValue V)
-coded_table {V} v = code_by (FinMap prefix_cmp V × ℕ) (coded× (code coded_prefix v) coded_ℕ) (λ t. (t.contents, t.room)) (λ p. record { contents = p.0; room = p.1 }) (λ _. refl)
+coded_table {V} v = code_by (FinMap prefix_cmp V × ℕ) (coded× (code coded_prefix v) coded_ℕ)
+    (λ t. (t.contents, t.room)) (λ p. record { contents = p.0; room = p.1 }) (λ _. refl)

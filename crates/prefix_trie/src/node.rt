@@ -1,7 +1,8 @@
 //! The nodes of a trie, which stand in one list. A node has a prefix, and names the indices of its two
 //! branches. The value of a node stands at the same index of another list.
 
-ghost use Rattle.std.specs.Prelude.{◌↔◌, ◌⊎◌, ◌≢◌, ℕ, ◌≤◌, ◌/◌, ◌^◌, IsTrue, ◌≡◌, ◌++◌, if◌then◌else◌, ◌<◌, length, nat_lt, map, is_some, option_copied, option_map, slice_get, Some, None, IfNone, IfSome, IsSome, OnOk, OnSome};
+ghost use Rattle.std.specs.Prelude.{◌↔◌, ◌⊎◌, ◌≢◌, ℕ, ◌≤◌, ◌/◌, ◌^◌, IsTrue, ◌≡◌, ◌++◌, if◌then◌else◌, ◌<◌, length, nat_lt, map, is_some};
+ghost use Rattle.std.specs.Prelude.{option_copied, option_map, slice_get, Some, None, IfNone, IfSome, IsSome, OnOk, OnSome};
 ghost use Rattle.std.specs.FinMap as table;
 ghost use Rattle.std.specs.List.{Contains};
 ghost use Rattle.bgp_types.specs.Tables.{prefix_cmp, first_above};

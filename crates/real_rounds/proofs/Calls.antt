@@ -16,7 +16,8 @@ use Rattle.far_side.specs.declared.fields as far_fields
 
 -- a router's turn passes one round on each session that is live at its start, where one may pass, and else none
 abbrev pub TurnsPassOne : Type 0
-TurnsPassOne = (old new : router_fields.Fields.Fields) (deeds : List (Deed (Item RunningSession))) (turned : router_turns.RouterTurned old deeds new) (p : ℕ) (s : RunningSession) (o : Option Errand)
+TurnsPassOne = (old new : router_fields.Fields.Fields) (deeds : List (Deed (Item RunningSession)))
+    (turned : router_turns.RouterTurned old deeds new) (p : ℕ) (s : RunningSession) (o : Option Errand)
     → RunsAt old.places.places p s o
     → (MayPass s.session new.turns × (rounds_on p turned.work ≡ new.turns ∷ [])) ⊎ ((¬ MayPass s.session new.turns) × (rounds_on p turned.work ≡ []))
 

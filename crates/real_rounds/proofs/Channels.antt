@@ -1,5 +1,6 @@
 -- What is taken from a channel in two rounds.
-use Rattle.std.proofs.Common.{◌≡◌, ◌≤◌, ◌+◌, ◌∙◌, ℕ, List, [], ◌∷◌, ◌==◌, length, map, Bool, true, false, if◌then◌else◌, refl, ap, sym, subst, inl, inr, arith, length-append}
+use Rattle.std.proofs.Common.{◌≡◌, ◌≤◌, ◌+◌, ◌∙◌, ℕ, List, [], ◌∷◌, ◌==◌, length, map, Bool, true, false}
+use Rattle.std.proofs.Common.{if◌then◌else◌, refl, ap, sym, subst, inl, inr, arith, length-append}
 use Rattle.std.specs.Prelude.{◌⊎◌, Option, Some, None, min}
 use Rattle.std.specs.List.{AllByRecursion, count_by}
 use Rattle.std.proofs.lemmas.Bool.Decides.{eqb_tells, nat_tests}
@@ -40,7 +41,8 @@ same_test setup x name from known is = elim (eqb_tells from (number_in setup x))
   where
     not_it : (b : Bool) → is_same_name x (Some name) ≡ b → (from ≡ number_in setup x → ⊥) → is_same_name x (Some name) ≡ false
     not_it false e apart = e
-    not_it true e apart = absurd (apart (once setup from (number_in setup x) x (is ∙ ap (λ (y : ActorName). Some y) (sym (same_tells x name e))) (there setup x known)))
+    not_it true e apart =
+        absurd (apart (once setup from (number_in setup x) x (is ∙ ap (λ (y : ActorName). Some y) (sym (same_tells x name e))) (there setup x known)))
 
 one_taken : (setup : Setup) (x : ActorName) (entry : JournalEntry) (stamp : ℕ) (taken : Option (ℕ × Mail)) → IsActor setup x → IsSentBy setup entry taken
     → length (from_option (number_in setup x) stamp taken) ≡ (if is_same_name x (sender_of entry) then 1 else 0)
@@ -65,7 +67,8 @@ taken_are setup x n p q [] known of replay kept = refl
 taken_are setup x n p q (note ∷ notes) known of replay kept =
     length-append (gets (number_in setup x) note) (taken_from (number_in setup x) notes)
     ∙ (λ i. one_taken setup x note.deed.entry note.stamp note.deed.taken known
-    (subst (λ (s : Setup). IsSentBy s note.deed.entry note.deed.taken) of (act_sent p replay.0 note.deed.entry note.deed.taken note.deed.sent replay.1 kept.0)) i
+    (subst (λ (s : Setup). IsSentBy s note.deed.entry note.deed.taken) of
+    (act_sent p replay.0 note.deed.entry note.deed.taken note.deed.sent replay.1 kept.0)) i
     + taken_are setup x n replay.0 q notes known (replay.1.setup ∙ of) replay.2 kept.1 i)
     ∙ sym (count_cons (λ entry. is_same_name x (sender_of entry)) note.deed.entry (entries_of notes))
 
@@ -74,18 +77,21 @@ taken_are setup x n p q (note ∷ notes) known of replay kept =
 -- a channel of the world is empty, or as long as the net's
 pub channel_is : (setup : Setup) (v : View Node Mail) (w : World) → IsSeenAs own carried setup v w → ((a b : ℕ) → v.edge a b ≡ has_channel setup a b)
     → ((r : ℕ) → w.mesh r r ≡ []) → (x y : ActorName) → IsActor setup x → IsActor setup y
-    → (length (channel_of w (Some x) (Some y)) ≡ 0) ⊎ ((v.edge (number_in setup x) (number_in setup y) ≡ true) × (length (v.channel (number_in setup x) (number_in setup y)) ≡ length (channel_of w (Some x) (Some y))))
+    → (length (channel_of w (Some x) (Some y)) ≡ 0) ⊎ ((v.edge (number_in setup x) (number_in setup y) ≡ true)
+    × (length (v.channel (number_in setup x) (number_in setup y)) ≡ length (channel_of w (Some x) (Some y))))
 channel_is setup v w seen edges itself x y x_known y_known = by_edge (talks (Some x) (Some y)) refl
   where
     named : has_channel setup (number_in setup x) (number_in setup y) ≡ talks (Some x) (Some y)
     named = λ i. talks (there setup x x_known i) (there setup y y_known i)
 
     by_edge : (t : Bool) → talks (Some x) (Some y) ≡ t
-        → (length (channel_of w (Some x) (Some y)) ≡ 0) ⊎ ((v.edge (number_in setup x) (number_in setup y) ≡ true) × (length (v.channel (number_in setup x) (number_in setup y)) ≡ length (channel_of w (Some x) (Some y))))
+        → (length (channel_of w (Some x) (Some y)) ≡ 0) ⊎ ((v.edge (number_in setup x) (number_in setup y) ≡ true)
+        × (length (v.channel (number_in setup x) (number_in setup y)) ≡ length (channel_of w (Some x) (Some y))))
     by_edge false e = inl (ap (λ (ts : List Thing). length ts) (silent w itself (Some x) (Some y) e))
     by_edge true e =
         let edge : v.edge (number_in setup x) (number_in setup y) ≡ true = edges (number_in setup x) (number_in setup y) ∙ named ∙ e in
-        let is : map (thing_of carried setup) (map (λ (z : Stamped Mail). z.item) (v.channel (number_in setup x) (number_in setup y))) ≡ channel_of w (Some x) (Some y) =
+        let is : map (thing_of carried setup) (map (λ (z : Stamped Mail). z.item) (v.channel (number_in setup x) (number_in setup y)))
+        ≡ channel_of w (Some x) (Some y) =
         ap (λ items. map (thing_of carried setup) items) (sym (seen.is.channels (number_in setup x) (number_in setup y) edge))
         ∙ seen.sees.sees.channels (number_in setup x) (number_in setup y) ∙ (λ i. channel_of w (there setup x x_known i) (there setup y y_known i)) in
         inr (

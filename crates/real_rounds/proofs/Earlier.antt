@@ -56,7 +56,8 @@ itself : (n : ℕ) → (n == n) ≡ true
 itself n = grind (arith, nat_tests)
 
 first_is : (m p round : ℕ) (rest : List ℕ) → AllByRecursion (λ i. i ≡ m) (round_on p (Tick p round) ++ rest) → round ≡ m
-first_is m p round rest all = (subst (λ (xs : List ℕ). AllByRecursion (λ i. i ≡ m) (xs ++ rest)) (let h : round_on p (Tick p round) ≡ round ∷ [] = rw (itself p) refl in h) all).0
+first_is m p round rest all =
+    (subst (λ (xs : List ℕ). AllByRecursion (λ i. i ≡ m) (xs ++ rest)) (let h : round_on p (Tick p round) ≡ round ∷ [] = rw (itself p) refl in h) all).0
 
 coded_below : (m : ℕ) (events : List RouterEvent) (entries : List JournalEntry) → AreCoded router_code events entries
     → ((p : ℕ) → AllByRecursion (λ i. i ≡ m) (rounds_on p events)) → AllByRecursion (TickBelow (m + 1)) entries
@@ -67,7 +68,8 @@ coded_below m (e ∷ es) (x ∷ xs) coded all = (
   λ kind. (
       let tick = tick_of e (sym coded.0.kind ∙ kind) in
       let b_is : x.b ≡ tick.1 = coded.0.b ∙ ap (λ (event : RouterEvent). (router_code event).b) tick.2 in
-      let m_is : tick.1 ≡ m = first_is m tick.0 tick.1 (rounds_on tick.0 es) (subst (λ (event : RouterEvent). AllByRecursion (λ i. i ≡ m) (round_on tick.0 event ++ rounds_on tick.0 es)) tick.2 (all tick.0)) in
+      let m_is : tick.1 ≡ m = first_is m tick.0 tick.1 (rounds_on tick.0 es)
+      (subst (λ (event : RouterEvent). AllByRecursion (λ i. i ≡ m) (round_on tick.0 event ++ rounds_on tick.0 es)) tick.2 (all tick.0)) in
       omega (arith, b_is, m_is)),
   coded_below m es xs coded.1 (λ p. all_back (λ i. i ≡ m) (round_on p e) (rounds_on p es) (all p)),
 )
@@ -81,7 +83,8 @@ merged_all : (P : JournalEntry → Type 0) (routers : ℕ) (merged : List Journa
     → ((r : ℕ) → r < routers → AllByRecursion P (entries_by r merged)) → AllByRecursion (λ e. e.actor < routers → P e) merged
 merged_all P routers [] each = tt
 merged_all P routers (x ∷ xs) each = (
-  λ there. (subst (λ (es : List JournalEntry). AllByRecursion P es) (let h : entries_by x.actor (x ∷ xs) ≡ x ∷ entries_by x.actor xs = rw (itself x.actor) refl in h) (each x.actor there)).0,
+  λ there. (subst (λ (es : List JournalEntry). AllByRecursion P es)
+      (let h : entries_by x.actor (x ∷ xs) ≡ x ∷ entries_by x.actor xs = rw (itself x.actor) refl in h) (each x.actor there)).0,
   merged_all P routers xs (λ r r_in. rest (x.actor == r) (entries_by r xs) (each r r_in)),
 )
   where
@@ -112,11 +115,14 @@ events_not_late setup n (e ∷ es) (x ∷ xs) are all = (event_not_late setup n 
 
 -- ---- at a mark
 
-module _ (law : CallsSay) (setup : Setup) (faults : List Fault) (a b : Stand) (begins : IsFirstStand setup a) (fresh : AllByRecursion (IsFresh setup faults) begins.actors) (d : Node)
-    (d_fresh : IsFresh setup faults d) (legs : Legs setup a b) (journal : List JournalEntry) (merge : Interleaves b.view.journal journal) (b_ran : Ran own carried setup b.view) (worlds : MarksStandForWorlds own carried)
+module _ (law : CallsSay) (setup : Setup) (faults : List Fault) (a b : Stand)
+    (begins : IsFirstStand setup a) (fresh : AllByRecursion (IsFresh setup faults) begins.actors) (d : Node)
+    (d_fresh : IsFresh setup faults d) (legs : Legs setup a b) (journal : List JournalEntry)
+    (merge : Interleaves b.view.journal journal) (b_ran : Ran own carried setup b.view) (worlds : MarksStandForWorlds own carried)
     (dropped : NothingWasDropped) where
   ticks_below : (k : ℕ) → k ≤ legs.made → (r : ℕ) → r < routers_in setup → AllByRecursion (TickBelow (k + 1)) ((legs.at k).journal r)
-  ticks_below zero k_in r r_in = subst⁻¹ (λ (es : List JournalEntry). AllByRecursion (TickBelow (0 + 1)) es) (ap (λ (v : View Node Mail). v.journal r) legs.first ∙ begins.new.journals r) tt
+  ticks_below zero k_in r r_in = subst⁻¹ (λ (es : List JournalEntry). AllByRecursion (TickBelow (0 + 1)) es)
+      (ap (λ (v : View Node Mail). v.journal r) legs.first ∙ begins.new.journals r) tt
   ticks_below (suc k) k_in r r_in =
       let in_leg : k < legs.made = omega (arith, k_in) in
       let (x, x_is) = actors.router_at law setup faults a b begins fresh d d_fresh legs journal merge b_ran worlds dropped k (omega (arith, k_in)) r r_in in
@@ -128,9 +134,11 @@ module _ (law : CallsSay) (setup : Setup) (faults : List Fault) (a b : Stand) (b
       (subst⁻¹ (λ (ds : List (Deed Mail)). AreDeeds router_code events ds) ph.split
       (router_proofs.router_coded law.turns x.fields ph.mid c.fields ph.first ph.second ph.takes ph.turns ph.calm k at)) in
       let new : AllByRecursion (TickBelow ((k + 1) + 1)) (entries_of ((legs.phase k in_leg).notes r)) =
-      coded_below (k + 1) events (entries_of ((legs.phase k in_leg).notes r)) coded (router_proofs.all_numbered law.turns x.fields ph.mid c.fields ph.first ph.second ph.takes ph.turns ph.calm k at) in
+      coded_below (k + 1) events (entries_of ((legs.phase k in_leg).notes r)) coded
+      (router_proofs.all_numbered law.turns x.fields ph.mid c.fields ph.first ph.second ph.takes ph.turns ph.calm k at) in
       let old : AllByRecursion (TickBelow ((k + 1) + 1)) ((legs.from k).journal r) =
-      subst⁻¹ (λ (es : List JournalEntry). AllByRecursion (TickBelow ((k + 1) + 1)) es) ((legs.pause k in_leg).journals r (λ e. absurd (omega (arith, r_in, e))))
+      subst⁻¹ (λ (es : List JournalEntry). AllByRecursion (TickBelow ((k + 1) + 1)) es)
+      ((legs.pause k in_leg).journals r (λ e. absurd (omega (arith, r_in, e))))
       (below_more (k + 1) ((k + 1) + 1) ((legs.at k).journal r) (omega arith) (ticks_below k (omega (arith, k_in)) r r_in)) in
       subst (λ (i : ℕ). AllByRecursion (TickBelow (i + 1)) ((legs.at i).journal r)) (next_is k)
       (subst⁻¹ (λ (es : List JournalEntry). AllByRecursion (TickBelow ((k + 1) + 1)) es) ((legs.phase k in_leg).journals r)
@@ -139,8 +147,10 @@ module _ (law : CallsSay) (setup : Setup) (faults : List Fault) (a b : Stand) (b
   pub ticks_earlier : TicksAreEarlier law setup faults a b begins fresh d d_fresh legs journal merge b_ran worlds dropped
   ticks_earlier k k_in r p s o is =
       let here = leading.world_at setup a b begins legs journal merge b_ran worlds dropped k in
-      let cut : Interleaves (legs.at k).journal (upto (before (legs.mark k)) journal) = up_to_mark (legs.at k) b.view (legs.mark k) journal (legs.is_mark k) merge in
+      let cut : Interleaves (legs.at k).journal (upto (before (legs.mark k)) journal) =
+      up_to_mark (legs.at k) b.view (legs.mark k) journal (legs.is_mark k) merge in
       let all = merged_all (TickBelow (k + 1)) (routers_in setup) (upto (before (legs.mark k)) journal)
       (λ q q_in. subst⁻¹ (λ (es : List JournalEntry). AllByRecursion (TickBelow (k + 1)) es) (cut.each q) (ticks_below k k_in q q_in)) in
-      let early = early_run (k + 1) setup here.1.events (first_world setup) here.0 here.1.run (events_not_late setup (k + 1) here.1.events (upto (before (legs.mark k)) journal) here.1.entries_of all) (early_first (k + 1) setup) in
+      let early = early_run (k + 1) setup here.1.events (first_world setup) here.0 here.1.run
+      (events_not_late setup (k + 1) here.1.events (upto (before (legs.mark k)) journal) here.1.entries_of all) (early_first (k + 1) setup) in
       subst (EarlyPlace (k + 1)) is (early.places r p)

@@ -1,5 +1,6 @@
 -- Takes of a far side, one after another, and then its turn are a real round.
-use Rattle.std.proofs.Common.{◌≡◌, ◌≤◌, ◌<◌, ◌+◌, ◌∙◌, ℕ, zero, suc, Bool, true, false, List, [], ◌∷◌, ◌++◌, length, nat_lt, if◌then◌else◌, ap, sym, subst, inl, inr, arith}
+use Rattle.std.proofs.Common.{◌≡◌, ◌≤◌, ◌<◌, ◌+◌, ◌∙◌, ℕ, zero, suc, Bool, true, false, List, [], ◌∷◌, ◌++◌}
+use Rattle.std.proofs.Common.{length, nat_lt, if◌then◌else◌, ap, sym, subst, inl, inr, arith}
 use Rattle.std.specs.Prelude.{◌%◌, ◌^◌, Some, option_map, slice_get, filter}
 use Rattle.std.proofs.lemmas.Bool.{lt-ltb, le-ltb}
 use Rattle.ring_net.specs.Deeds.{Deed}
@@ -68,7 +69,8 @@ again_few r = by_flags (nat_lt r.at_turn r.end.acked) (nat_lt 0 (again_length r.
 -- where nothing was acknowledged since the last turn, what is outstanding is sent again
 again_once : (r : RemoteValue) → r.at_turn ≡ r.end.acked → r.end.acked < r.end.emitted → length (again_events r) ≡ 1
 again_once r level out =
-    ap (λ (b : Bool). length (if b then [] else (if nat_lt 0 (again_length r.end) then Send r.end.acked (again_length r.end) ∷ [] else []))) (le-ltb r.at_turn r.end.acked (omega (arith, level)))
+    ap (λ (b : Bool). length (if b then [] else (if nat_lt 0 (again_length r.end) then Send r.end.acked (again_length r.end) ∷ [] else [])))
+    (le-ltb r.at_turn r.end.acked (omega (arith, level)))
     ∙ ap (λ (b : Bool). length (if b then Send r.end.acked (again_length r.end) ∷ [] else [])) (lt-ltb 0 (again_length r.end) (omega (arith, out)))
 
 fresh_acked : (e f : Endpoint) (events : List FarEvent) → FreshEvents e events f → f.acked ≡ e.acked
@@ -81,7 +83,8 @@ beaten_acked a b events (inr h) = ap (λ (x : Fields). x.remote.end.acked) h.2
 
 -- ---- the round
 
-module _ (keep : FarTurnsKeepLinks) (faults : List Fault) (a b c : Fields) (ds es : List (Deed Mail)) (took : TookFar a ds b) (turned : FarTurned b es c) (n : ℕ) (at : FarAt faults n a) where
+module _ (keep : FarTurnsKeepLinks) (faults : List Fault) (a b c : Fields) (ds es : List (Deed Mail))
+    (took : TookFar a ds b) (turned : FarTurned b es c) (n : ℕ) (at : FarAt faults n a) where
   abbrev pub rest : List FarEvent
   rest = again_events turned.reached ++ (turned.keepalives ++ (turned.fresh ++ answer_events turned.sent))
 
@@ -114,7 +117,8 @@ module _ (keep : FarTurnsKeepLinks) (faults : List Fault) (a b c : Fields) (ds e
       ∙ ap (λ (x : RemoteValue). x.end.acked) turned.is_before.0
 
   stood : AcksOrResends a.remote.end c.remote.end (length (again_events turned.reached))
-  stood = goes_on a.remote.end turned.reached.end c.remote.end (length (again_events turned.reached)) (omega (arith, turned.is_reached.acked, took.acked)) (turned.is_reached.emitted ∙ took.emitted) end_acked
+  stood = goes_on a.remote.end turned.reached.end c.remote.end (length (again_events turned.reached))
+      (omega (arith, turned.is_reached.acked, took.acked)) (turned.is_reached.emitted ∙ took.emitted) end_acked
       (λ same out. again_once turned.reached (reached_at_turn ∙ same) out)
 
   -- the timer
@@ -158,7 +162,8 @@ module _ (keep : FarTurnsKeepLinks) (faults : List Fault) (a b c : Fields) (ds e
 
   beats_due : BeatsIfDue a.known.setup a.peering.0 (n + 1) (far_part b) turned.keepalives
   beats_due = elim (turned.are_keepalives) [
-    | inl h ↦ inl (due h.0, h.1 ∙ ap (λ (k : ℕ). Beat k ∷ []) (let e : turned.before.turns ≡ n + 1 = omega (arith, turned.is_before.1, took.turns, at.turns) in e))
+    | inl h ↦ inl
+        (due h.0, h.1 ∙ ap (λ (k : ℕ). Beat k ∷ []) (let e : turned.before.turns ≡ n + 1 = omega (arith, turned.is_before.1, took.turns, at.turns) in e))
     | inr h ↦ inr (λ d. h.0 (undue d), h.1)
   ]
 
@@ -166,10 +171,12 @@ module _ (keep : FarTurnsKeepLinks) (faults : List Fault) (a b c : Fields) (ds e
   turn_is = λ i. home_events (pointer_is i) (took.homeward i).plans ++ (remote_events (took.plans i) ++ rest)
 
   -- the plans of the links, as they stood at the start and with what was taken
-  delivered_is : home_events b.pointer.0 b.homeward.plans ++ remote_events b.remoteward.plans ≡ home_events c.pointer.0 a.homeward.plans ++ remote_events (a.remoteward.plans ++ took.took)
+  delivered_is : home_events b.pointer.0 b.homeward.plans ++ remote_events b.remoteward.plans
+      ≡ home_events c.pointer.0 a.homeward.plans ++ remote_events (a.remoteward.plans ++ took.took)
   delivered_is = λ i. home_events (pointer_is i) (took.homeward i).plans ++ remote_events (took.plans i)
 
-  delivers : FarGoes a.known.setup a.peering.0 SendsNone (far_part b) (home_events c.pointer.0 a.homeward.plans ++ remote_events (a.remoteward.plans ++ took.took)) turned.delivered
+  delivers : FarGoes a.known.setup a.peering.0 SendsNone (far_part b)
+      (home_events c.pointer.0 a.homeward.plans ++ remote_events (a.remoteward.plans ++ took.took)) turned.delivered
   delivers = subst (λ (events : List FarEvent). FarGoes a.known.setup a.peering.0 SendsNone (far_part b) events turned.delivered) delivered_is
       (piece SendsNone (far_part b) turned.delivered (home_events b.pointer.0 b.homeward.plans ++ remote_events b.remoteward.plans) turned.delivers)
 
@@ -181,10 +188,15 @@ module _ (keep : FarTurnsKeepLinks) (faults : List Fault) (a b c : Fields) (ds e
   home_fates = (λ i. fates_in (took.plan i) (took.homeward i)) ∙ fates_are faults a a.homeward Home (at.fates Home) at.links.homeward.0 at.links.homeward.1
 
   are_sent : ArePut faults a.peering.0 Home a.homeward.put count sent
-  are_sent = record { fates = fates_put (fates_in b.plan b.homeward) b.pointer.0 b.homeward.put count ∙ (λ i. fates_by (home_fates i) (took.homeward i).put count) }
+  are_sent = record {
+    fates = fates_put (fates_in b.plan b.homeward) b.pointer.0 b.homeward.put count ∙ (λ i. fates_by (home_fates i) (took.homeward i).put count);
+  }
 
   are_taken : ArePut faults a.peering.0 Remote a.remoteward.put (length (filter is_take took.events)) took.took
-  are_taken = record { fates = took.fates ∙ (λ i. fates_by (fates_are faults a a.remoteward Remote (at.fates Remote) at.links.remoteward.0 at.links.remoteward.1 i) a.remoteward.put (length (filter is_take took.events))) }
+  are_taken = record {
+    fates = took.fates ∙ (λ i. fates_by (fates_are faults a a.remoteward Remote (at.fates Remote) at.links.remoteward.0 at.links.remoteward.1 i)
+        a.remoteward.put (length (filter is_take took.events)));
+  }
 
   pub real_far : RealFar a.known.setup faults a.peering.0 (n + 1) (far_part a) (links_of a) (took.events ++ turn) (far_part c) (links_of c)
   real_far = record {
@@ -213,7 +225,10 @@ module _ (keep : FarTurnsKeepLinks) (faults : List Fault) (a b c : Fields) (ds e
     goes_on = stood;
     are_taken = are_taken;
     are_sent = (are_sent, point_all (fates_in b.plan b.homeward) b.pointer.0 c.pointer.0 b.homeward.put count pointer_is);
-    home = λ i. record { plans = (turned.homeward ∙ (λ j. left_in_link (took.homeward j).plans ++ sent)) i; put = (turned.put ∙ (λ j. (took.homeward j).put + count)) i };
+    home = λ i. record {
+      plans = (turned.homeward ∙ (λ j. left_in_link (took.homeward j).plans ++ sent)) i;
+      put = (turned.put ∙ (λ j. (took.homeward j).put + count)) i;
+    };
     remote = λ i. record { plans = (turned.remoteward.0 ∙ (λ j. left_in_link (took.plans j))) i; put = (turned.remoteward.1 ∙ took.put) i };
   }
 
@@ -229,7 +244,10 @@ module _ (keep : FarTurnsKeepLinks) (faults : List Fault) (a b c : Fields) (ds e
         (keep b c es turned).0.way ∙ ap (λ (l : LinkValue). l.way) took.homeward ∙ at.links.homeward.0,
         (keep b c es turned).0.peering ∙ ap (λ (l : LinkValue). l.peering) took.homeward ∙ at.links.homeward.1 ∙ own,
       );
-      remoteward = ((keep b c es turned).1.way ∙ took.link.way ∙ at.links.remoteward.0, (keep b c es turned).1.peering ∙ took.link.peering ∙ at.links.remoteward.1 ∙ own);
+      remoteward = (
+        (keep b c es turned).1.way ∙ took.link.way ∙ at.links.remoteward.0,
+        (keep b c es turned).1.peering ∙ took.link.peering ∙ at.links.remoteward.1 ∙ own,
+      );
     };
     keepalive_interval = (λ i. option_map keepalive_interval_of (slice_get (setup_is i).peerings (peering_is i).0)) ∙ at.keepalive_interval
         ∙ ap (λ (k : ℕ). Some k) (sym (ap (λ (x : Fields). x.keepalive_interval) turned.same ∙ took.keepalive_interval));

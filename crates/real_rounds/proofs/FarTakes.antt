@@ -1,5 +1,6 @@
 -- Takes of a far side, one after another.
-use Rattle.std.proofs.Common.{◌≡◌, ◌≢◌, ◌+◌, ◌∙◌, ℕ, zero, suc, List, [], ◌∷◌, ◌++◌, length, map, refl, ap, sym, subst, inl, inr, arith, append_assoc, length-append}
+use Rattle.std.proofs.Common.{◌≡◌, ◌≢◌, ◌+◌, ◌∙◌, ℕ, zero, suc, List, [], ◌∷◌, ◌++◌, length, map, refl}
+use Rattle.std.proofs.Common.{ap, sym, subst, inl, inr, arith, append_assoc, length-append}
 use Rattle.std.specs.Prelude.{Option, Some, None, option_map, filter}
 use Rattle.std.specs.List.{AllByRecursion, range_with_len}
 use Rattle.std.proofs.Math.Path.{subst⁻¹}
@@ -35,7 +36,8 @@ use Rattle.graft_actors.proofs.Deeds.{are_deeds-append}
 pub far_append : (Allowed : FarPart → FarEvent → Type 0) (setup : Setup) (p : ℕ) (a b c : FarPart) (es fs : List FarEvent)
     → FarGoes setup p Allowed a es b → FarGoes setup p Allowed b fs c → FarGoes setup p Allowed a (es ++ fs) c
 far_append Allowed setup p a b c [] fs h k = subst (λ (x : FarPart). FarGoes setup p Allowed x fs c) h k
-far_append Allowed setup p a b c (e ∷ es) fs (taken, sent, m, row, allowed, rest) k = (taken, sent, m, row, allowed, far_append Allowed setup p m b c es fs rest k)
+far_append Allowed setup p a b c (e ∷ es) fs (taken, sent, m, row, allowed, rest) k =
+    (taken, sent, m, row, allowed, far_append Allowed setup p m b c es fs rest k)
 
 -- ---- fates
 
@@ -48,9 +50,11 @@ fates_put fate router from (suc n) = ap (λ (xs : List (Fate × ℕ)). (fate (fr
 
 pub fates_then : (fate : ℕ → Fate) (from m n k next : ℕ) → k ≡ m + n → next ≡ from + m → fates_by fate from k ≡ fates_by fate from m ++ fates_by fate next n
 fates_then fate from zero n k next e f =
-    ap (λ (i : ℕ). fates_by fate from i) (let h : k ≡ n = omega (arith, e) in h) ∙ ap (λ (i : ℕ). fates_by fate i n) (let h : from ≡ next = omega (arith, f) in h)
+    ap (λ (i : ℕ). fates_by fate from i) (let h : k ≡ n = omega (arith, e) in h)
+    ∙ ap (λ (i : ℕ). fates_by fate i n) (let h : from ≡ next = omega (arith, f) in h)
 fates_then fate from (suc m) n zero next e f = absurd (omega (arith, e))
-fates_then fate from (suc m) n (suc k) next e f = ap (λ (xs : List (Fate × ℕ)). (fate (from + 1), 0) ∷ xs) (fates_then fate (from + 1) m n k next (omega (arith, e)) (omega (arith, f)))
+fates_then fate from (suc m) n (suc k) next e f =
+    ap (λ (xs : List (Fate × ℕ)). (fate (from + 1), 0) ∷ xs) (fates_then fate (from + 1) m n k next (omega (arith, e)) (omega (arith, f)))
 
 -- ---- one take
 
@@ -123,9 +127,11 @@ some_taken f x None e h = absurd cc
 some_taken f x (Some y) e h = absurd cc
 
 -- the row of the one event of a take
-module _ (a b : Fields) (d : Deed Mail) (from : ℕ) (item : Mail) (first : d.taken ≡ Some (from, item)) (act : ActsAs carried (own_part a) d.entry d.taken d.sent (own_part b)) (kept : d.entry.kind ≢ 0) where
+module _ (a b : Fields) (d : Deed Mail) (from : ℕ) (item : Mail) (first : d.taken ≡ Some (from, item))
+    (act : ActsAs carried (own_part a) d.entry d.taken d.sent (own_part b)) (kept : d.entry.kind ≢ 0) where
   abbrev Row : Type 0
-  Row = (event : FarEvent) × (taken : Option FarTaken) × (sent : List FarSent) × HasCode (far_code event) d.entry × far_row a.known.setup a.peering.0 event (far_part a) taken sent (far_part b) × IsFarTake (far_part a) event
+  Row = (event : FarEvent) × (taken : Option FarTaken) × (sent : List FarSent) × HasCode (far_code event) d.entry
+      × far_row a.known.setup a.peering.0 event (far_part a) taken sent (far_part b) × IsFarTake (far_part a) event
 
   row_of : (o : Option (ℕ × Mail)) → o ≡ Some (from, item) → ActsAs carried (own_part a) d.entry o d.sent (own_part b) → Row
   row_of None e act = absurd cc
@@ -136,7 +142,8 @@ module _ (a b : Fields) (d : Deed Mail) (from : ℕ) (item : Mail) (first : d.ta
       makes.row.gave,
       makes.row.coded,
       makes.row.holds,
-      taking_row a.known.setup a.peering.0 makes.row.event (far_part a) (far_part b) makes.row.took makes.row.gave makes.row.holds (some_taken _ _ makes.row.took makes.row.is_taken),
+      taking_row a.known.setup a.peering.0 makes.row.event (far_part a)
+          (far_part b) makes.row.took makes.row.gave makes.row.holds (some_taken _ _ makes.row.took makes.row.is_taken),
     )
     | inr drops ↦ absurd (kept drops.kind)
   ]
@@ -195,14 +202,21 @@ far_then a b c ds es x y = record {
   peering = y.peering ∙ x.peering;
   events = x.events ++ y.events;
   coded = are_deeds-append far_code x.events y.events ds es x.coded y.coded;
-  goes = far_append IsFarTake a.known.setup a.peering.0 (far_part a) (far_part b) (far_part c) x.events y.events x.goes (far_goes_at IsFarTake a b (far_part b) (far_part c) y.events x.setup x.peering y.goes);
+  goes = far_append IsFarTake a.known.setup a.peering.0 (far_part a) (far_part b) (far_part c) x.events y.events x.goes
+      (far_goes_at IsFarTake a b (far_part b) (far_part c) y.events x.setup x.peering y.goes);
   took = x.took ++ y.took;
   fates = map-append (λ (l : InLink). (l.fate, l.turns)) x.took y.took
       ∙ (λ i. x.fates i ++ (y.fates ∙ ap (λ (f : ℕ → Fate). fates_by f b.remoteward.put (length (filter is_take y.events))) (same_fates a b x.plan x.link)) i)
-      ∙ sym (fates_then (fates_in a.plan a.remoteward) a.remoteward.put (length (filter is_take x.events)) (length (filter is_take y.events)) (length (filter is_take (x.events ++ y.events))) b.remoteward.put many x.put);
+      ∙ sym (fates_then (fates_in a.plan a.remoteward) a.remoteward.put (length (filter is_take x.events))
+      (length (filter is_take y.events)) (length (filter is_take (x.events ++ y.events))) b.remoteward.put many x.put);
   plans = y.plans ∙ ap (λ (xs : List InLink). xs ++ y.took) x.plans ∙ append_assoc a.remoteward.plans x.took y.took;
   put = omega (arith, y.put, x.put, many);
-  link = record { way = y.link.way ∙ x.link.way; peering = y.link.peering ∙ x.link.peering; seq_first = y.link.seq_first ∙ x.link.seq_first; ack_first = y.link.ack_first ∙ x.link.ack_first };
+  link = record {
+    way = y.link.way ∙ x.link.way;
+    peering = y.link.peering ∙ x.link.peering;
+    seq_first = y.link.seq_first ∙ x.link.seq_first;
+    ack_first = y.link.ack_first ∙ x.link.ack_first;
+  };
   homeward = y.homeward ∙ x.homeward;
   acked = y.acked ∙ x.acked;
   emitted = y.emitted ∙ x.emitted;

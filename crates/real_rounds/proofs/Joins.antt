@@ -40,11 +40,13 @@ low_before c e (f ∷ es) low highs = (inl (omega (arith, low, highs.0)), low_be
 sorted_parted : (c : ℕ) (xs ys : List JournalEntry) → AreSorted xs → AreSorted ys → AllByRecursion (IsLow c) xs → AllByRecursion (IsHigh c) ys
     → AreSorted (xs ++ ys)
 sorted_parted c [] ys first last lows highs = last
-sorted_parted c (x ∷ xs) ys first last lows highs = (all-append (IsBefore x) xs ys first.0 (low_before c x ys lows.0 highs), sorted_parted c xs ys first.1 last lows.1 highs)
+sorted_parted c (x ∷ xs) ys first last lows highs =
+    (all-append (IsBefore x) xs ys first.0 (low_before c x ys lows.0 highs), sorted_parted c xs ys first.1 last lows.1 highs)
 
 none_merged : (first : ℕ → List JournalEntry) (xs : List JournalEntry) → Interleaves first xs → ((k : ℕ) → first k ≡ []) → xs ≡ []
 none_merged first [] merge none = refl
-none_merged first (x ∷ xs) merge none = absurd (let h : x ∷ entries_by x.actor xs ≡ [] = sym (by_here x.actor x xs refl) ∙ merge.each x.actor ∙ none x.actor in cc)
+none_merged first (x ∷ xs) merge none =
+    absurd (let h : x ∷ entries_by x.actor xs ≡ [] = sym (by_here x.actor x xs refl) ∙ merge.each x.actor ∙ none x.actor in cc)
 
 pub merge_join : (first second : ℕ → List JournalEntry) (xs ys : List JournalEntry) → IsAhead first second → Interleaves first xs
     → Interleaves second ys → Interleaves (λ k. first k ++ second k) (xs ++ ys)
@@ -53,7 +55,8 @@ merge_join first second xs ys ahead x y =
   where
     sorted : IsAhead first second → AreSorted (xs ++ ys)
     sorted (nothing none) = subst⁻¹ (λ (es : List JournalEntry). AreSorted (es ++ ys)) (none_merged first xs x none) y.sorted
-    sorted (parted c lows highs) = sorted_parted c xs ys x.sorted y.sorted (all_each (IsLow c) xs (λ k. subst⁻¹ (λ (es : List JournalEntry). AllByRecursion (IsLow c) es) (x.each k) (lows k)))
+    sorted (parted c lows highs) = sorted_parted c xs ys x.sorted y.sorted
+        (all_each (IsLow c) xs (λ k. subst⁻¹ (λ (es : List JournalEntry). AllByRecursion (IsLow c) es) (x.each k) (lows k)))
         (all_each (IsHigh c) ys (λ k. subst⁻¹ (λ (es : List JournalEntry). AllByRecursion (IsHigh c) es) (y.each k) (highs k)))
 
 -- ---- what a net did up to a level, and from it on
@@ -76,7 +79,8 @@ module _ {A P I : Type 0} (part : A → P) (makes : Makes P I) where
   lows : (u v : View A I) (levels : List ℕ) (notes : ℕ → List (Noted I)) (c : ℕ) → Grew part makes u v levels notes → AllAt v c → (k : ℕ)
       → AllByRecursion (IsLow c) (entries_of (notes k))
   lows u v levels notes c grew level k = elim (below_or_past k (length u.actors)) [
-    | inl k_in ↦ subst (λ (d : ℕ). AllByRecursion (IsLow d) (entries_of (notes k))) (level k (omega (arith, k_in, grew.size))) (subst (λ (es : List JournalEntry). AllByRecursion (IsLow (v.clock k)) es) (entries_deeds (notes k))
+    | inl k_in ↦ subst (λ (d : ℕ). AllByRecursion (IsLow d) (entries_of (notes k))) (level k (omega (arith, k_in, grew.size)))
+        (subst (λ (es : List JournalEntry). AllByRecursion (IsLow (v.clock k)) es) (entries_deeds (notes k))
         (rising_below (u.clock k) (v.clock k) (deeds (notes k)) (over_rises (length u.actors) u.clock levels notes v.clock k k_in grew.clocks)))
     | inr past ↦ rw (grew.none k past) tt
   ]
@@ -85,7 +89,8 @@ module _ {A P I : Type 0} (part : A → P) (makes : Makes P I) where
       → AllByRecursion (IsHigh c) (entries_of (notes k))
   highs u v levels notes c grew level k = elim (below_or_past k (length u.actors)) [
     | inl k_in ↦ subst (λ (es : List JournalEntry). AllByRecursion (IsHigh c) es) (entries_deeds (notes k))
-        (rising_above c (u.clock k) (v.clock k) (deeds (notes k)) (omega (arith, level k k_in)) (over_rises (length u.actors) u.clock levels notes v.clock k k_in grew.clocks))
+        (rising_above c (u.clock k) (v.clock k) (deeds (notes k)) (omega (arith, level k k_in))
+        (over_rises (length u.actors) u.clock levels notes v.clock k k_in grew.clocks))
     | inr past ↦ rw (grew.none k past) tt
   ]
 

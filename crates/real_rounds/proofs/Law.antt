@@ -32,12 +32,14 @@ one_of setup faults (x ∷ xs) some fresh = record { node = x; fresh = fresh.0 }
 
 module _ (runs : (setup : Setup) (a b : Stand) (rounds : List ℕ) → IsSetup setup → IsFirstStand setup a → Way setup a rounds b → Ran own carried setup b.view)
     (orders : (setup : Setup) (a b : Stand) (rounds : List ℕ) → IsSetup setup → IsFirstStand setup a → Way setup a rounds b → InOrder b.view)
-    (worlds : MarksStandForWorlds own carried) (act_is_a_step : AnActIsAStep carried) (acts_run : ActsAreARun carried) (dropped : NothingWasDropped) (itself : NobodyWritesToItself) (one : OneWorldIsSeen) where
+    (worlds : MarksStandForWorlds own carried) (act_is_a_step : AnActIsAStep carried) (acts_run : ActsAreARun carried)
+    (dropped : NothingWasDropped) (itself : NobodyWritesToItself) (one : OneWorldIsSeen) where
   pub all_real : RoundsAreReal
   all_real setup faults a b made journal sound begins fresh way merge =
       let some = one_of setup faults begins.actors (omega (arith, begins.first.all)) fresh in
       let legs = legs_of setup a (λ c rounds w. runs setup a c rounds sound begins w) (λ c rounds w. orders setup a c rounds sound begins w)
       (λ c e quiet pause. pause_runs setup sound act_is_a_step acts_run some.node c e quiet pause) begins b made way in
       let b_ran = runs setup a b made sound begins way in
-      rounds_real calls_say setup faults a b sound begins fresh some.node some.fresh legs journal merge b_ran worlds dropped itself one acts_run (ticking calls_say)
+      rounds_real calls_say setup faults a b sound begins fresh some.node some.fresh legs journal merge b_ran worlds dropped itself one acts_run
+      (ticking calls_say)
       (ticks_earlier calls_say setup faults a b begins fresh some.node some.fresh legs journal merge b_ran worlds dropped)

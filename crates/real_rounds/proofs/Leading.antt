@@ -45,7 +45,8 @@ number_below setup names.Operator l = omega arith
 pub next_is : (k : ℕ) → k + 1 ≡ suc k
 next_is k = omega arith
 
-module _ (setup : Setup) (a b : Stand) (begins : IsFirstStand setup a) (legs : Legs setup a b) (journal : List JournalEntry) (merge : Interleaves b.view.journal journal) (b_ran : Ran own carried setup b.view)
+module _ (setup : Setup) (a b : Stand) (begins : IsFirstStand setup a) (legs : Legs setup a b)
+    (journal : List JournalEntry) (merge : Interleaves b.view.journal journal) (b_ran : Ran own carried setup b.view)
     (worlds : MarksStandForWorlds own carried) (dropped : NothingWasDropped) where
   -- ---- the world at each mark
 
@@ -86,16 +87,19 @@ module _ (setup : Setup) (a b : Stand) (begins : IsFirstStand setup a) (legs : L
       let later = (legs.is_mark (k + 1)).later j in (
         later.0,
         merge.each j ∙ later.1 ∙ ap (λ (es : List JournalEntry). es ++ later.0)
-            ((legs.phase k k_in).journals j ∙ ap (λ (es : List JournalEntry). es ++ entries_of ((legs.phase k k_in).notes j)) is ∙ append_assoc ((legs.at k).journal j) front (entries_of ((legs.phase k k_in).notes j))),
+            ((legs.phase k k_in).journals j ∙ ap (λ (es : List JournalEntry). es ++ entries_of ((legs.phase k k_in).notes j)) is
+            ∙ append_assoc ((legs.at k).journal j) front (entries_of ((legs.phase k k_in).notes j))),
       )
 
   pub slice_is : (k : ℕ) (k_in : k < legs.made) (j : ℕ) (front : List JournalEntry) → (legs.from k).journal j ≡ (legs.at k).journal j ++ front
       → between journal (legs.mark k) (legs.mark (k + 1)) j ≡ front ++ entries_of ((legs.phase k k_in).notes j)
   slice_is k k_in j front is =
       let whole = parts k k_in j front is in
-      between_is journal (legs.mark k) (legs.mark (k + 1)) j ((legs.at k).journal j) (front ++ entries_of ((legs.phase k k_in).notes j)) whole.0 whole.1 ((legs.is_mark k).lengths j)
+      between_is journal (legs.mark k) (legs.mark (k + 1)) j ((legs.at k).journal j)
+      (front ++ entries_of ((legs.phase k k_in).notes j)) whole.0 whole.1 ((legs.is_mark k).lengths j)
       ((legs.is_mark (k + 1)).lengths j ∙ ap (λ (es : List JournalEntry). length es)
-      ((legs.phase k k_in).journals j ∙ ap (λ (es : List JournalEntry). es ++ entries_of ((legs.phase k k_in).notes j)) is ∙ append_assoc ((legs.at k).journal j) front (entries_of ((legs.phase k k_in).notes j))))
+      ((legs.phase k k_in).journals j ∙ ap (λ (es : List JournalEntry). es ++ entries_of ((legs.phase k k_in).notes j)) is
+      ∙ append_assoc ((legs.at k).journal j) front (entries_of ((legs.phase k k_in).notes j))))
 
   pub leg_kept : (k : ℕ) (k_in : k < legs.made) (j : ℕ) (front : List JournalEntry) → (legs.from k).journal j ≡ (legs.at k).journal j ++ front
       → AllByRecursion EntryKept front × AllByRecursion IsKept (deeds ((legs.phase k k_in).notes j))
@@ -104,10 +108,12 @@ module _ (setup : Setup) (a b : Stand) (begins : IsFirstStand setup a) (legs : L
       let all : AllByRecursion EntryKept (entries_by j journal) = all_filter EntryKept _ journal all_kept in
       let mine : AllByRecursion EntryKept (front ++ entries_of ((legs.phase k k_in).notes j)) =
       all_back EntryKept ((legs.at k).journal j) (front ++ entries_of ((legs.phase k k_in).notes j))
-      (all_front EntryKept ((legs.at k).journal j ++ (front ++ entries_of ((legs.phase k k_in).notes j))) whole.0 (subst (λ (es : List JournalEntry). AllByRecursion EntryKept es) whole.1 all)) in (
+      (all_front EntryKept ((legs.at k).journal j ++ (front ++ entries_of ((legs.phase k k_in).notes j))) whole.0
+      (subst (λ (es : List JournalEntry). AllByRecursion EntryKept es) whole.1 all)) in (
         all_front EntryKept front (entries_of ((legs.phase k k_in).notes j)) mine,
         deeds_kept (deeds ((legs.phase k k_in).notes j))
-            (subst⁻¹ (λ (es : List JournalEntry). AllByRecursion EntryKept es) (entries_in_deeds ((legs.phase k k_in).notes j)) (all_back EntryKept front (entries_of ((legs.phase k k_in).notes j)) mine)),
+            (subst⁻¹ (λ (es : List JournalEntry). AllByRecursion EntryKept es) (entries_in_deeds ((legs.phase k k_in).notes j))
+            (all_back EntryKept front (entries_of ((legs.phase k k_in).notes j)) mine)),
       )
 
   -- who isn't the operator has noted nothing at the mark

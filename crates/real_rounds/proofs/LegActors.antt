@@ -1,5 +1,6 @@
 -- What each actor did on a leg of the way is real.
-use Rattle.std.proofs.Common.{◌≡◌, ◌≢◌, ◌≤◌, ◌<◌, ◌+◌, ◌∙◌, ℕ, zero, suc, ◌==◌, Bool, true, false, if◌then◌else◌, List, [], ◌∷◌, ◌++◌, length, get_or, map, refl, ap, sym, subst, arith}
+use Rattle.std.proofs.Common.{◌≡◌, ◌≢◌, ◌≤◌, ◌<◌, ◌+◌, ◌∙◌, ℕ, zero, suc, ◌==◌, Bool, true, false, if◌then◌else◌}
+use Rattle.std.proofs.Common.{List, [], ◌∷◌, ◌++◌, length, get_or, map, refl, ap, sym, subst, arith}
 use Rattle.std.specs.Prelude.{Option, Some, None, All, option_map, slice_get}
 use Rattle.std.specs.List.{AllByRecursion}
 use Rattle.std.proofs.Math.Path.{subst⁻¹}
@@ -144,8 +145,10 @@ Ticking = (x c : router_fields.Fields.Fields) (ds : List (Deed Mail)) (ph : Rout
 
 -- ---- on the way
 
-module _ (law : CallsSay) (setup : Setup) (faults : List Fault) (a b : Stand) (begins : IsFirstStand setup a) (fresh : AllByRecursion (IsFresh setup faults) begins.actors) (d : Node) (d_fresh : IsFresh setup faults d)
-    (legs : Legs setup a b) (journal : List JournalEntry) (merge : Interleaves b.view.journal journal) (b_ran : Ran own carried setup b.view) (worlds : MarksStandForWorlds own carried) (dropped : NothingWasDropped) where
+module _ (law : CallsSay) (setup : Setup) (faults : List Fault) (a b : Stand) (begins : IsFirstStand setup a)
+    (fresh : AllByRecursion (IsFresh setup faults) begins.actors) (d : Node) (d_fresh : IsFresh setup faults d)
+    (legs : Legs setup a b) (journal : List JournalEntry) (merge : Interleaves b.view.journal journal)
+    (b_ran : Ran own carried setup b.view) (worlds : MarksStandForWorlds own carried) (dropped : NothingWasDropped) where
   abbrev pub world : ℕ → World
   world k = leading.world setup a b begins legs journal merge b_ran worlds dropped k
 
@@ -157,7 +160,8 @@ module _ (law : CallsSay) (setup : Setup) (faults : List Fault) (a b : Stand) (b
   own_at k k_in x known = leading.own_at setup a b begins legs journal merge b_ran worlds dropped k k_in x known d
 
   first_fresh : (j : ℕ) → IsFresh setup faults (at_mark 0 j)
-  first_fresh j = subst⁻¹ (λ (xs : List Node). IsFresh setup faults (get_or xs j d)) (ap (λ (v : View Node Mail). v.actors) legs.first ∙ begins.new.all) (all_at (IsFresh setup faults) begins.actors d j fresh d_fresh)
+  first_fresh j = subst⁻¹ (λ (xs : List Node). IsFresh setup faults (get_or xs j d))
+      (ap (λ (v : View Node Mail). v.actors) legs.first ∙ begins.new.all) (all_at (IsFresh setup faults) begins.actors d j fresh d_fresh)
 
   pub links_at : ℕ → ℕ → Links
   links_at k p = links_in (at_mark k (routers_in setup + p))
@@ -188,9 +192,11 @@ module _ (law : CallsSay) (setup : Setup) (faults : List Fault) (a b : Stand) (b
 
   pub router_leg : (k : ℕ) (k_in : k < legs.made) (r : ℕ) → r < routers_in setup → (x : router_type.Router.Router) → at_mark k r ≡ Router x
       → (c : router_type.Router.Router) × (at_mark (k + 1) r ≡ Router c) × RouterPhase x.fields c.fields (deeds (notes k k_in r))
-  router_leg k k_in r r_in x is = router_phase r (get_or (legs.from k).actors r d) (at_mark (k + 1) r) ((legs.from k).clock r) ((legs.at (k + 1)).clock r) (notes k k_in r)
+  router_leg k k_in r r_in x is =
+      router_phase r (get_or (legs.from k).actors r d) (at_mark (k + 1) r) ((legs.from k).clock r) ((legs.at (k + 1)).clock r) (notes k k_in r)
       ((legs.phase k k_in).actors r d (let n = leading.size_from setup a b begins legs journal merge b_ran worlds dropped k k_in in omega (arith, r_in, n)))
-      (leading.leg_kept setup a b begins legs journal merge b_ran worlds dropped k k_in r [] (leading.no_front setup a b begins legs journal merge b_ran worlds dropped k k_in r (router_apart r r_in))).1
+      (leading.leg_kept setup a b begins legs journal merge b_ran worlds dropped k k_in r []
+      (leading.no_front setup a b begins legs journal merge b_ran worlds dropped k k_in r (router_apart r r_in))).1
       x ((legs.pause k k_in).others r d (router_apart r r_in) ∙ is)
 
   router_first : (r : ℕ) → r < routers_in setup → (x : router_type.Router.Router) → at_mark 0 r ≡ Router x → RouterAt 0 x.fields
@@ -202,7 +208,8 @@ module _ (law : CallsSay) (setup : Setup) (faults : List Fault) (a b : Stand) (b
       record {
         turns = new.turns;
         level = λ p s o runs. new.at_turn p s o runs
-            ∙ sym (first_acked setup r p s.session _ (sym (ap (λ (part : RouterPart). part.places p) (router_is (ap (λ (o : OwnPart). o.part) own_first))) ∙ ap place_of runs.is));
+            ∙ sym (first_acked setup r p s.session _
+            (sym (ap (λ (part : RouterPart). part.places p) (router_is (ap (λ (o : OwnPart). o.part) own_first))) ∙ ap place_of runs.is));
       }
 
   pub router_level : (k : ℕ) → k ≤ legs.made → (r : ℕ) → r < routers_in setup → (x : router_type.Router.Router) → at_mark k r ≡ Router x → RouterAt k x.fields
@@ -226,19 +233,27 @@ module _ (law : CallsSay) (setup : Setup) (faults : List Fault) (a b : Stand) (b
         let before = router_own k (omega (arith, k_in)) r r_in x x_is in
         let after = router_own (k + 1) (omega (arith, k_in)) r r_in c c_is in
         let start : router_part x.fields ≡ (world k).router r = router_is (ap (λ (o : OwnPart). o.part) before) in
-        let had : HasEarlier (k + 1) x.fields = λ p s o runs. earlier k (omega (arith, k_in)) r p s.session _ (sym (ap (λ (part : RouterPart). part.places p) start) ∙ ap place_of runs.is) in
-        let real = real_router law.turns x.fields ph.mid c.fields ph.first ph.second ph.takes ph.turns ph.calm k at (ticking x.fields c.fields (deeds (notes k k_in r)) ph k at had) in
+        let had : HasEarlier (k + 1) x.fields =
+        λ p s o runs. earlier k (omega (arith, k_in)) r p s.session _ (sym (ap (λ (part : RouterPart). part.places p) start) ∙ ap place_of runs.is) in
+        let real = real_router law.turns x.fields ph.mid c.fields ph.first ph.second ph.takes ph.turns ph.calm k at
+        (ticking x.fields c.fields (deeds (notes k k_in r)) ph k at had) in
         record {
           events = ph.takes.events ++ (ph.turns.again ++ ph.turns.work);
           coded = subst⁻¹ (λ (es : List JournalEntry). AreCoded router_code (ph.takes.events ++ (ph.turns.again ++ ph.turns.work)) es)
-              (leading.slice_is setup a b begins legs journal merge b_ran worlds dropped k k_in r [] (leading.no_front setup a b begins legs journal merge b_ran worlds dropped k k_in r (router_apart r r_in)))
-              (subst (λ (es : List JournalEntry). AreCoded router_code (ph.takes.events ++ (ph.turns.again ++ ph.turns.work)) es) (entries_in_deeds (notes k k_in r))
+              (leading.slice_is setup a b begins legs journal merge b_ran worlds dropped k k_in r []
+              (leading.no_front setup a b begins legs journal merge b_ran worlds dropped k k_in r (router_apart r r_in)))
+              (subst (λ (es : List JournalEntry). AreCoded router_code (ph.takes.events ++ (ph.turns.again ++ ph.turns.work)) es)
+              (entries_in_deeds (notes k k_in r))
               (subst⁻¹ (λ (ds : List (Deed Mail)). AreDeeds router_code (ph.takes.events ++ (ph.turns.again ++ ph.turns.work)) ds) ph.split
               (router_proofs.router_coded law.turns x.fields ph.mid c.fields ph.first ph.second ph.takes ph.turns ph.calm k at)));
-          real = subst (λ (s : Setup). RealRouter s r (k + 1) ((world k).router r) (ph.takes.events ++ (ph.turns.again ++ ph.turns.work)) ((world (k + 1)).router r)) (ap (λ (o : OwnPart). o.setup) before)
-              (subst (λ (i : ℕ). RealRouter x.fields.known.setup i (k + 1) ((world k).router r) (ph.takes.events ++ (ph.turns.again ++ ph.turns.work)) ((world (k + 1)).router r)) (router_number (ap (λ (o : OwnPart). o.name) before))
-              (subst (λ (part : RouterPart). RealRouter x.fields.known.setup x.fields.number.0 (k + 1) part (ph.takes.events ++ (ph.turns.again ++ ph.turns.work)) ((world (k + 1)).router r)) start
-              (subst (λ (part : RouterPart). RealRouter x.fields.known.setup x.fields.number.0 (k + 1) (router_part x.fields) (ph.takes.events ++ (ph.turns.again ++ ph.turns.work)) part) (router_is (ap (λ (o : OwnPart). o.part) after)) real)));
+          real = subst (λ (s : Setup). RealRouter s r (k + 1) ((world k).router r)
+              (ph.takes.events ++ (ph.turns.again ++ ph.turns.work)) ((world (k + 1)).router r)) (ap (λ (o : OwnPart). o.setup) before)
+              (subst (λ (i : ℕ). RealRouter x.fields.known.setup i (k + 1) ((world k).router r)
+              (ph.takes.events ++ (ph.turns.again ++ ph.turns.work)) ((world (k + 1)).router r)) (router_number (ap (λ (o : OwnPart). o.name) before))
+              (subst (λ (part : RouterPart). RealRouter x.fields.known.setup x.fields.number.0 (k + 1) part
+              (ph.takes.events ++ (ph.turns.again ++ ph.turns.work)) ((world (k + 1)).router r)) start
+              (subst (λ (part : RouterPart). RealRouter x.fields.known.setup x.fields.number.0 (k + 1) (router_part x.fields)
+              (ph.takes.events ++ (ph.turns.again ++ ph.turns.work)) part) (router_is (ap (λ (o : OwnPart). o.part) after)) real)));
         }
 
   -- ---- far sides
@@ -257,9 +272,11 @@ module _ (law : CallsSay) (setup : Setup) (faults : List Fault) (a b : Stand) (b
       → (c : far_type.Far.Far) × (at_mark (k + 1) (routers_in setup + p) ≡ Far c) × FarPhase x.fields c.fields (deeds (notes k k_in (routers_in setup + p)))
   far_leg k k_in p p_in x is =
       let j : ℕ = routers_in setup + p in
-      far_phase law (routers_in setup + p) (get_or (legs.from k).actors (routers_in setup + p) d) (at_mark (k + 1) (routers_in setup + p)) ((legs.from k).clock (routers_in setup + p)) ((legs.at (k + 1)).clock (routers_in setup + p))
+      far_phase law (routers_in setup + p) (get_or (legs.from k).actors (routers_in setup + p) d) (at_mark (k + 1) (routers_in setup + p))
+      ((legs.from k).clock (routers_in setup + p)) ((legs.at (k + 1)).clock (routers_in setup + p))
       (notes k k_in (routers_in setup + p))
-      ((legs.phase k k_in).actors (routers_in setup + p) d (let n = leading.size_from setup a b begins legs journal merge b_ran worlds dropped k k_in in omega (arith, p_in, n)))
+      ((legs.phase k k_in).actors (routers_in setup + p) d
+      (let n = leading.size_from setup a b begins legs journal merge b_ran worlds dropped k k_in in omega (arith, p_in, n)))
       (leading.leg_kept setup a b begins legs journal merge b_ran worlds dropped k k_in (routers_in setup + p) []
       (leading.no_front setup a b begins legs journal merge b_ran worlds dropped k k_in (routers_in setup + p) (far_apart p p_in))).1
       x ((legs.pause k k_in).others (routers_in setup + p) d (far_apart p p_in) ∙ is)
@@ -307,7 +324,8 @@ module _ (law : CallsSay) (setup : Setup) (faults : List Fault) (a b : Stand) (b
       let at : FarAt faults k x.fields = far_level k (omega (arith, k_in)) p p_in x x_is in
       let before = far_own k (omega (arith, k_in)) p p_in x x_is in
       let after = far_own (k + 1) (omega (arith, k_in)) p p_in c c_is in
-      let events : List FarEvent = ph.takes.events ++ far_rounds.turn law.links_turning faults x.fields ph.mid c.fields ph.first ph.second ph.takes ph.turns k at in
+      let events : List FarEvent =
+      ph.takes.events ++ far_rounds.turn law.links_turning faults x.fields ph.mid c.fields ph.first ph.second ph.takes ph.turns k at in
       let real = real_far law.links_turning faults x.fields ph.mid c.fields ph.first ph.second ph.takes ph.turns k at in
       record {
         events = events;
@@ -324,15 +342,19 @@ module _ (law : CallsSay) (setup : Setup) (faults : List Fault) (a b : Stand) (b
           → own (Far x) ≡ record { setup = setup; name = names.FarSide p; part = FarIs start }
           → own (Far c) ≡ record { setup = setup; name = names.FarSide p; part = FarIs end }
           → links_of x.fields ≡ l → links_of c.fields ≡ m
-          → RealFar x.fields.known.setup faults x.fields.peering.0 (k + 1) (far_part x.fields) (links_of x.fields) events (far_part c.fields) (links_of c.fields)
+          → RealFar x.fields.known.setup faults x.fields.peering.0 (k + 1) (far_part x.fields)
+          (links_of x.fields) events (far_part c.fields) (links_of c.fields)
           → RealFar setup faults p (k + 1) start l events end m
       real_at x c {start} {end} {l} {m} {events} before after first last real =
           subst (λ (s : Setup). RealFar s faults p (k + 1) start l events end m) (ap (λ (o : OwnPart). o.setup) before)
           (subst (λ (i : ℕ). RealFar x.fields.known.setup faults i (k + 1) start l events end m) (far_number (ap (λ (o : OwnPart). o.name) before))
-          (subst (λ (part : FarPart). RealFar x.fields.known.setup faults x.fields.peering.0 (k + 1) part l events end m) (far_is (ap (λ (o : OwnPart). o.part) before))
-          (subst (λ (part : FarPart). RealFar x.fields.known.setup faults x.fields.peering.0 (k + 1) (far_part x.fields) l events part m) (far_is (ap (λ (o : OwnPart). o.part) after))
+          (subst (λ (part : FarPart). RealFar x.fields.known.setup faults x.fields.peering.0 (k + 1) part l events end m)
+          (far_is (ap (λ (o : OwnPart). o.part) before))
+          (subst (λ (part : FarPart). RealFar x.fields.known.setup faults x.fields.peering.0 (k + 1) (far_part x.fields) l events part m)
+          (far_is (ap (λ (o : OwnPart). o.part) after))
           (subst (λ (h : Links). RealFar x.fields.known.setup faults x.fields.peering.0 (k + 1) (far_part x.fields) h events (far_part c.fields) m) first
-          (subst (λ (h : Links). RealFar x.fields.known.setup faults x.fields.peering.0 (k + 1) (far_part x.fields) (links_of x.fields) events (far_part c.fields) h) last real)))))
+          (subst (λ (h : Links). RealFar x.fields.known.setup faults x.fields.peering.0 (k + 1)
+          (far_part x.fields) (links_of x.fields) events (far_part c.fields) h) last real)))))
 
   -- ---- the operator
 
@@ -347,20 +369,27 @@ module _ (law : CallsSay) (setup : Setup) (faults : List Fault) (a b : Stand) (b
       let before = own_at k (omega (arith, k_in)) names.Operator tt in
       let after = own_at (k + 1) (omega (arith, k_in)) names.Operator tt in
       let n = leading.size_from setup a b begins legs journal merge b_ran worlds dropped k k_in in
-      let did : ActorDid own (acts carried) took turned (operator_number setup) (get_or (legs.from k).actors (operator_number setup) d) ((legs.from k).clock (operator_number setup)) (notes k k_in (operator_number setup)) (at_mark (k + 1) (operator_number setup))
+      let did : ActorDid own (acts carried) took turned (operator_number setup) (get_or (legs.from k).actors (operator_number setup) d)
+      ((legs.from k).clock (operator_number setup)) (notes k k_in (operator_number setup)) (at_mark (k + 1) (operator_number setup))
       ((legs.at (k + 1)).clock (operator_number setup)) = (legs.phase k k_in).actors (operator_number setup) d (omega (arith, n)) in
-      let kept = leading.leg_kept setup a b begins legs journal merge b_ran worlds dropped k k_in (operator_number setup) (map entry_in pause.deeds) pause.journal in
+      let kept = leading.leg_kept setup a b begins legs journal merge b_ran worlds dropped k k_in
+      (operator_number setup) (map entry_in pause.deeds) pause.journal in
       let ds : List (Deed Mail) = pause.deeds ++ deeds (notes k k_in (operator_number setup)) in
       let replay : Replay (acts carried) (operator_number setup) (own (at_mark k (operator_number setup))) ds (own (at_mark (k + 1) (operator_number setup))) =
-      replay-append (acts carried) (operator_number setup) (own (at_mark k (operator_number setup))) (own (get_or (legs.from k).actors (operator_number setup) d)) (own (at_mark (k + 1) (operator_number setup))) pause.deeds (deeds (notes k k_in (operator_number setup)))
+      replay-append (acts carried) (operator_number setup) (own (at_mark k (operator_number setup)))
+      (own (get_or (legs.from k).actors (operator_number setup) d))
+      (own (at_mark (k + 1) (operator_number setup))) pause.deeds (deeds (notes k k_in (operator_number setup)))
       (pause.replay d) did.replay in
-      let (events, coded, goes) = operator_events setup (operator_number setup) (world k).operator (world (k + 1)).operator (own (at_mark k (operator_number setup))) (own (at_mark (k + 1) (operator_number setup))) ds before after replay
+      let (events, coded, goes) = operator_events setup (operator_number setup) (world k).operator (world (k + 1)).operator
+      (own (at_mark k (operator_number setup))) (own (at_mark (k + 1) (operator_number setup))) ds before after replay
       (all-append IsKept pause.deeds (deeds (notes k k_in (operator_number setup))) (deeds_kept pause.deeds kept.0) kept.1) in
-      let (c, c_is, done) = operator_phase (operator_number setup) (get_or (legs.from k).actors (operator_number setup) d) (at_mark (k + 1) (operator_number setup)) ((legs.from k).clock (operator_number setup)) ((legs.at (k + 1)).clock (operator_number setup))
+      let (c, c_is, done) = operator_phase (operator_number setup) (get_or (legs.from k).actors (operator_number setup) d)
+      (at_mark (k + 1) (operator_number setup)) ((legs.from k).clock (operator_number setup)) ((legs.at (k + 1)).clock (operator_number setup))
       (notes k k_in (operator_number setup)) did m m_is in
       let m_setup : operators.operator_setup m ≡ setup =
       ap (λ (n : Node). (own n).setup) (sym m_is)
-      ∙ replay_setup (operator_number setup) (own (at_mark k (operator_number setup))) (own (get_or (legs.from k).actors (operator_number setup) d)) pause.deeds (pause.replay d)
+      ∙ replay_setup (operator_number setup) (own (at_mark k (operator_number setup)))
+      (own (get_or (legs.from k).actors (operator_number setup) d)) pause.deeds (pause.replay d)
       ∙ ap (λ (o : OwnPart). o.setup) before in
       record {
         events = events;
@@ -372,6 +401,7 @@ module _ (law : CallsSay) (setup : Setup) (faults : List Fault) (a b : Stand) (b
         real = record {
           goes = goes;
           issued = subst (λ (s : Setup). NothingToOrder s (world (k + 1)).operator) m_setup
-              (subst (λ (part : OperatorPart). NothingToOrder (operators.operator_setup m) part) (operator_is (ap (λ (o : OwnPart). o.part) (sym (ap own c_is) ∙ after))) done);
+              (subst (λ (part : OperatorPart). NothingToOrder (operators.operator_setup m) part)
+              (operator_is (ap (λ (o : OwnPart). o.part) (sym (ap own c_is) ∙ after))) done);
         };
       }

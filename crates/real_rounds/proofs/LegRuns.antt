@@ -39,8 +39,10 @@ use Rattle.real_rounds.proofs.RunsBetween.{RunFrom, run_then, merge_between, pha
 
 -- ---- a net is seen as one world on the way of a run
 
-module _ (one : OneWorldIsSeen) (setup : Setup) (v : View Node Mail) (d : Node) (size : length v.actors ≡ actors_in setup) (edges : (x y : ℕ) → v.edge x y ≡ has_channel setup x y) (w u : World)
-    (first : IsSeenAs own carried setup v w) (second : IsSeenAs own carried setup v u) (first_itself : (r : ℕ) → w.mesh r r ≡ []) (second_itself : (r : ℕ) → u.mesh r r ≡ []) where
+module _ (one : OneWorldIsSeen) (setup : Setup) (v : View Node Mail) (d : Node)
+    (size : length v.actors ≡ actors_in setup) (edges : (x y : ℕ) → v.edge x y ≡ has_channel setup x y) (w u : World)
+    (first : IsSeenAs own carried setup v w) (second : IsSeenAs own carried setup v u)
+    (first_itself : (r : ℕ) → w.mesh r r ≡ []) (second_itself : (r : ℕ) → u.mesh r r ≡ []) where
   parts_there : (n : ℕ) (x : ActorName) → actor_at setup n ≡ Some x → (first.lab.part n).part ≡ part_of u x
   parts_there n x is = ap (λ (o : OwnPart). o.part) (first.is.parts n d n_in ∙ sym (second.is.parts n d n_in)) ∙ second.sees.sees.parts n x is
     where
@@ -58,7 +60,8 @@ module _ (one : OneWorldIsSeen) (setup : Setup) (v : View Node Mail) (d : Node) 
           ∙ sym (silent u second_itself (actor_at setup x) (actor_at setup y) e)
 
   one_seen : u ≡ w
-  one_seen = one setup (net_of carried setup first.lab) w u first.sees.sees (record { parts = parts_there; channels = channels_there; within = second.sees.sees.within })
+  one_seen = one setup (net_of carried setup first.lab) w u first.sees.sees
+      (record { parts = parts_there; channels = channels_there; within = second.sees.sees.within })
 
 -- ---- before the first mark
 
@@ -72,16 +75,19 @@ first_of setup (event ∷ events) w v are run = absurd are
 
 -- ---- a leg
 
-module _ (setup : Setup) (a b : Stand) (begins : IsFirstStand setup a) (legs : Legs setup a b) (journal : List JournalEntry) (merge : Interleaves b.view.journal journal) (b_ran : Ran own carried setup b.view)
+module _ (setup : Setup) (a b : Stand) (begins : IsFirstStand setup a) (legs : Legs setup a b)
+    (journal : List JournalEntry) (merge : Interleaves b.view.journal journal) (b_ran : Ran own carried setup b.view)
     (worlds : MarksStandForWorlds own carried) (dropped : NothingWasDropped) where
   pub world_first : leading.world setup a b begins legs journal merge b_ran worlds dropped 0 ≡ first_world setup
   world_first =
-      let at : IsWorldAtMark setup journal (legs.mark 0) (leading.world setup a b begins legs journal merge b_ran worlds dropped 0) = (leading.world_at setup a b begins legs journal merge b_ran worlds dropped 0).1 in
+      let at : IsWorldAtMark setup journal (legs.mark 0) (leading.world setup a b begins legs journal merge b_ran worlds dropped 0) =
+      (leading.world_at setup a b begins legs journal merge b_ran worlds dropped 0).1 in
       first_of setup at.events (first_world setup) (leading.world setup a b begins legs journal merge b_ran worlds dropped 0)
       (subst (AreEntriesOf setup at.events) (none_before (before (legs.mark 0)) journal (λ k. (legs.is_mark 0).lengths k
       ∙ ap (λ (es : List JournalEntry). length es) (ap (λ (v : View Node Mail). v.journal k) legs.first ∙ begins.new.journals k))) at.entries_of) at.run
 
-  module _ (d : Node) (sound : IsSetup setup) (itself : NobodyWritesToItself) (one : OneWorldIsSeen) (law : ActsAreARun carried) (k : ℕ) (k_in : k < legs.made) where
+  module _ (d : Node) (sound : IsSetup setup) (itself : NobodyWritesToItself)
+      (one : OneWorldIsSeen) (law : ActsAreARun carried) (k : ℕ) (k_in : k < legs.made) where
     abbrev here : (w : World) × IsWorldAtMark setup journal (legs.mark k) w × IsSeenAs own carried setup (legs.at k) w
     here = leading.world_at setup a b begins legs journal merge b_ran worlds dropped k
 
@@ -110,18 +116,21 @@ module _ (setup : Setup) (a b : Stand) (begins : IsFirstStand setup a) (legs : L
     paused = (legs.pause k k_in).runs here.0 (leading.size setup a b begins legs journal merge b_ran worlds dropped k (omega (arith, k_in))) here_reached here.2
 
     ahead : IsAhead at_mark behind
-    ahead = level_ahead own (acts carried) (legs.at k) (legs.from k) (legs.at (k + 1)) (legs.pause k k_in).levels [] (legs.pause k k_in).notes (legs.phase k k_in).notes (legs.pause k k_in).grew
+    ahead = level_ahead own (acts carried) (legs.at k) (legs.from k) (legs.at (k + 1))
+        (legs.pause k k_in).levels [] (legs.pause k k_in).notes (legs.phase k k_in).notes (legs.pause k k_in).grew
         (phase_grows own (acts carried) took turned (legs.from k) (legs.at (k + 1)) (legs.phase k k_in)) (legs.pause k k_in).levelled
 
     whole : RunFrom setup here.0 (legs.at (k + 1)) (λ j. at_mark j ++ behind j)
     whole = run_then setup here.0 (legs.from k) (legs.at (k + 1)) at_mark behind ahead paused
         (phase_runs setup sound law d (legs.from k) (legs.at (k + 1)) (legs.phase k k_in) phase_merge.0 phase_merge.1 paused.after
-        (leading.size_from setup a b begins legs journal merge b_ran worlds dropped k k_in) (reached_run setup paused.events here.0 paused.after here_reached paused.run) paused.seen)
+        (leading.size_from setup a b begins legs journal merge b_ran worlds dropped k k_in)
+        (reached_run setup paused.events here.0 paused.after here_reached paused.run) paused.seen)
 
     same_end : next.0 ≡ whole.after
     same_end = one_seen one setup (legs.at (k + 1)) d (leading.size setup a b begins legs journal merge b_ran worlds dropped (k + 1) (omega (arith, k_in)))
         (leading.edges setup a b begins legs journal merge b_ran worlds dropped (k + 1) (omega (arith, k_in))) whole.after next.0 whole.seen next.2
-        (λ r. itself setup whole.after r sound (reached_run setup whole.events here.0 whole.after here_reached whole.run)) (λ r. itself setup next.0 r sound (record { events = next.1.events; run = next.1.run }))
+        (λ r. itself setup whole.after r sound (reached_run setup whole.events here.0 whole.after here_reached whole.run))
+        (λ r. itself setup next.0 r sound (record { events = next.1.events; run = next.1.run }))
 
     leg_goes : RoundGoes setup here.0 (between journal (legs.mark k) (legs.mark (k + 1))) whole.events next.0
     leg_goes = record {

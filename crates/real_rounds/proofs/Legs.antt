@@ -1,5 +1,6 @@
 -- The way of a laboratory's net, leg by leg: from each mark, past what groups begin there, through a round to the next mark.
-use Rattle.std.proofs.Common.{◌≡◌, ◌≢◌, ◌≤◌, ◌<◌, ◌+◌, ◌∙◌, ℕ, zero, suc, true, List, [], ◌∷◌, ◌++◌, length, get_or, map, refl, ap, sym, subst, inl, inr, arith, append_assoc, length-append}
+use Rattle.std.proofs.Common.{◌≡◌, ◌≢◌, ◌≤◌, ◌<◌, ◌+◌, ◌∙◌, ℕ, zero, suc, true, List, [], ◌∷◌, ◌++◌, length, get_or}
+use Rattle.std.proofs.Common.{map, refl, ap, sym, subst, inl, inr, arith, append_assoc, length-append}
 use Rattle.std.specs.Prelude.{nat_lt, if◌then◌else◌, Some, slice_get}
 use Rattle.std.proofs.Math.Path.{subst⁻¹}
 use Rattle.std.proofs.lemmas.Bool.{lt-ltb, le-ltb}
@@ -79,7 +80,8 @@ pause_then setup u v w x y = record {
   size = y.size ∙ x.size;
   others = λ j d ne. y.others j d ne ∙ x.others j d ne;
   operator = λ d a is. (let m = x.operator d a is in y.operator d m.0 m.1);
-  replay = λ d. replay-append (acts carried) (operator_number setup) (own (get_or u.actors (operator_number setup) d)) (own (get_or v.actors (operator_number setup) d)) (own (get_or w.actors (operator_number setup) d)) x.deeds y.deeds (x.replay d) (y.replay d);
+  replay = λ d. replay-append (acts carried) (operator_number setup) (own (get_or u.actors (operator_number setup) d))
+      (own (get_or v.actors (operator_number setup) d)) (own (get_or w.actors (operator_number setup) d)) x.deeds y.deeds (x.replay d) (y.replay d);
   journal = y.journal ∙ ap (λ (es : List JournalEntry). es ++ map entry_in y.deeds) x.journal
       ∙ append_assoc (u.journal (operator_number setup)) (map entry_in x.deeds) (map entry_in y.deeds)
       ∙ ap (λ (es : List JournalEntry). u.journal (operator_number setup) ++ es) (sym (map-append entry_in x.deeds y.deeds));
@@ -92,7 +94,8 @@ pause_then setup u v w x y = record {
   grew = grows_on own (acts carried) u v w x.levels y.levels x.notes y.notes x.grew y.grew;
   levelled = level_then u v w x.notes y.notes x.levelled y.levelled;
   runs = subst⁻¹ (λ (new : ℕ → List JournalEntry). HasRuns setup u w new) (λ i k. map-append (λ (n : Noted Mail). n.deed.entry) (x.notes k) (y.notes k) i)
-      (runs_then setup u v w (λ k. entries_of (x.notes k)) (λ k. entries_of (y.notes k)) (level_ahead own (acts carried) u v w x.levels y.levels x.notes y.notes x.grew y.grew x.levelled) x.size x.runs y.runs);
+      (runs_then setup u v w (λ k. entries_of (x.notes k)) (λ k. entries_of (y.notes k))
+      (level_ahead own (acts carried) u v w x.levels y.levels x.notes y.notes x.grew y.grew x.levelled) x.size x.runs y.runs);
 }
 
 still_operator : (a : operator_type.Operator.Operator) (n : Node) (ds : List (Deed Mail)) → paused (Operator a) ds n
@@ -108,8 +111,10 @@ one_pause setup b c pause in_all runs = record {
   size = did.size ∙ ap (λ (xs : List Node). length xs) only.actors;
   others = λ j d ne. did.others j d ne ∙ ap (λ (xs : List Node). get_or xs j d) only.actors;
   operator = λ d a is. still_operator a (get_or c.view.actors (operator_number setup) d) did.deeds
-      (subst (λ (n : Node). paused n did.deeds (get_or c.view.actors (operator_number setup) d)) (ap (λ (xs : List Node). get_or xs (operator_number setup) d) only.actors ∙ is) (did.paused d));
-  replay = λ d. subst (λ (xs : List Node). Replay (acts carried) (operator_number setup) (own (get_or xs (operator_number setup) d)) did.deeds (own (get_or c.view.actors (operator_number setup) d))) only.actors (did.replay d);
+      (subst (λ (n : Node). paused n did.deeds (get_or c.view.actors (operator_number setup) d))
+      (ap (λ (xs : List Node). get_or xs (operator_number setup) d) only.actors ∙ is) (did.paused d));
+  replay = λ d. subst (λ (xs : List Node). Replay (acts carried) (operator_number setup) (own (get_or xs (operator_number setup) d)) did.deeds
+      (own (get_or c.view.actors (operator_number setup) d))) only.actors (did.replay d);
   journal = did.journal ∙ ap (λ (es : List JournalEntry). es ++ map entry_in did.deeds) (only.journals (operator_number setup));
   journals = λ j ne. did.journals j ne ∙ only.journals j;
   edges = λ x y. did.edges x y ∙ only.edges x y;
@@ -118,8 +123,10 @@ one_pause setup b c pause in_all runs = record {
         ap (λ n. length (c.view.channel n y)) s.1
         ∙ ap (λ items. length items) (did.channel y (only.edges (operator_number setup) y ∙ ap (λ n. b.view.edge n y) (sym s.1) ∙ e))
         ∙ length-append (pause.level.channel (operator_number setup) y) (sent_by y did.deeds)
-        ∙ ap (λ n. n + length (sent_by y did.deeds)) (ap (λ items. length items) (only.channels (operator_number setup) y) ∙ ap (λ n. length (b.view.channel n y)) (sym s.1)) in omega (arith, size))
-    | inr ne ↦ (let size : length (c.view.channel x y) ≡ length (b.view.channel x y) = ap (λ items. length items) (did.channels x y ne.1 ∙ only.channels x y) in omega (arith, size))
+        ∙ ap (λ n. n + length (sent_by y did.deeds))
+        (ap (λ items. length items) (only.channels (operator_number setup) y) ∙ ap (λ n. length (b.view.channel n y)) (sym s.1)) in omega (arith, size))
+    | inr ne ↦ (let size : length (c.view.channel x y) ≡ length (b.view.channel x y) =
+        ap (λ items. length items) (did.channels x y ne.1 ∙ only.channels x y) in omega (arith, size))
   ];
   rings = λ x y. did.rings x y ∙ only.rings x y;
   levels = pause_levels setup b c pause;
@@ -174,7 +181,10 @@ mark_grows : (u v w : View Node Mail) (m : List ℕ) → IsMarkOf u v m → ((j 
     → IsMarkOf u w m
 mark_grows u v w m is grown = record {
   lengths = is.lengths;
-  later = λ j. ((is.later j).0 ++ (grown j).0, (grown j).1 ∙ ap (λ (es : List JournalEntry). es ++ (grown j).0) (is.later j).1 ∙ append_assoc (u.journal j) (is.later j).0 (grown j).0);
+  later = λ j. (
+    (is.later j).0 ++ (grown j).0,
+    (grown j).1 ∙ ap (λ (es : List JournalEntry). es ++ (grown j).0) (is.later j).1 ∙ append_assoc (u.journal j) (is.later j).0 (grown j).0,
+  );
 }
 
 -- the mark of a view that stands now
@@ -187,8 +197,10 @@ mark_now v old new marked order = record {
   later = λ j. ([], sym (append-nil (v.journal j)));
 }
 
-module _ (setup : Setup) (a : Stand) (ran : (b : Stand) (rounds : List ℕ) → Way setup a rounds b → Ran own carried setup b.view) (ordered : (b : Stand) (rounds : List ℕ) → Way setup a rounds b → InOrder b.view)
-    (pauses : (b c : Stand) → QuietAt own carried setup b.view → (pause : Pause (operator_number setup) b c true) → HasRuns setup b.view c.view (λ k. entries_of (pause_notes setup b c pause k))) (begins : IsFirstStand setup a) where
+module _ (setup : Setup) (a : Stand) (ran : (b : Stand) (rounds : List ℕ) → Way setup a rounds b → Ran own carried setup b.view)
+    (ordered : (b : Stand) (rounds : List ℕ) → Way setup a rounds b → InOrder b.view)
+    (pauses : (b c : Stand) → QuietAt own carried setup b.view → (pause : Pause (operator_number setup) b c true)
+    → HasRuns setup b.view c.view (λ k. entries_of (pause_notes setup b c pause k))) (begins : IsFirstStand setup a) where
   no_legs : Legs setup a a
   no_legs = record {
     made = 0;
@@ -244,7 +256,8 @@ module _ (setup : Setup) (a : Stand) (ran : (b : Stand) (rounds : List ℕ) → 
           (subst⁻¹ (λ (m : List ℕ). IsMarkOf (legs.at k) c.view m) (chosen_old (legs.made + 1) legs.mark round.marked.mark k l)
           (mark_grows (legs.at k) b.view c.view (legs.mark k) (legs.is_mark k) (λ j. (entries_of (round.phase.notes j), round.phase.journals j))))
       | inr past ↦ subst⁻¹ (λ (v : View Node Mail). IsMarkOf v c.view (next_mark k)) (chosen_new (legs.made + 1) legs.at c.view k past)
-          (subst⁻¹ (λ (m : List ℕ). IsMarkOf c.view c.view m) (chosen_new (legs.made + 1) legs.mark round.marked.mark k past) (mark_now c.view b.marks c.marks round.marked c_ordered))
+          (subst⁻¹ (λ (m : List ℕ). IsMarkOf c.view c.view m) (chosen_new (legs.made + 1) legs.mark round.marked.mark k past)
+          (mark_now c.view b.marks c.marks round.marked c_ordered))
     ]
 
     next_ran : (k : ℕ) → Ran own carried setup (next_at k)
@@ -265,18 +278,21 @@ module _ (setup : Setup) (a : Stand) (ran : (b : Stand) (rounds : List ℕ) → 
     ]
 
     next_pause : (k : ℕ) → k < legs.made + 1 → Paused setup (next_at k) (next_from k)
-    next_pause k k_in = subst⁻¹ (λ (v : View Node Mail). Paused setup v (next_from k)) (chosen_old (legs.made + 1) legs.at c.view k k_in) (elim (below_or_past k legs.made) [
-      | inl l ↦ subst⁻¹ (λ (v : View Node Mail). Paused setup (legs.at k) v) (chosen_old legs.made legs.from b.view k l) (legs.pause k l)
-      | inr past ↦ subst⁻¹ (λ (v : View Node Mail). Paused setup (legs.at k) v) (chosen_new legs.made legs.from b.view k past)
-          (subst (λ (i : ℕ). Paused setup (legs.at i) b.view) (let e : legs.made ≡ k = omega (arith, k_in, past) in e) legs.last)
-    ])
+    next_pause k k_in = subst⁻¹ (λ (v : View Node Mail). Paused setup v (next_from k))
+        (chosen_old (legs.made + 1) legs.at c.view k k_in) (elim (below_or_past k legs.made) [
+          | inl l ↦ subst⁻¹ (λ (v : View Node Mail). Paused setup (legs.at k) v) (chosen_old legs.made legs.from b.view k l) (legs.pause k l)
+          | inr past ↦ subst⁻¹ (λ (v : View Node Mail). Paused setup (legs.at k) v) (chosen_new legs.made legs.from b.view k past)
+              (subst (λ (i : ℕ). Paused setup (legs.at i) b.view) (let e : legs.made ≡ k = omega (arith, k_in, past) in e) legs.last)
+        ])
 
     next_phase : (k : ℕ) → k < legs.made + 1 → NetPhase own (acts carried) took turned (next_from k) (next_at (k + 1))
     next_phase k k_in = elim (below_or_past k legs.made) [
       | inl l ↦ subst⁻¹ (λ (v : View Node Mail). NetPhase own (acts carried) took turned v (next_at (k + 1))) (chosen_old legs.made legs.from b.view k l)
-          (subst⁻¹ (λ (v : View Node Mail). NetPhase own (acts carried) took turned (legs.from k) v) (chosen_old (legs.made + 1) legs.at c.view (k + 1) (omega (arith, l))) (legs.phase k l))
+          (subst⁻¹ (λ (v : View Node Mail). NetPhase own (acts carried) took turned (legs.from k) v)
+          (chosen_old (legs.made + 1) legs.at c.view (k + 1) (omega (arith, l))) (legs.phase k l))
       | inr past ↦ subst⁻¹ (λ (v : View Node Mail). NetPhase own (acts carried) took turned v (next_at (k + 1))) (chosen_new legs.made legs.from b.view k past)
-          (subst⁻¹ (λ (v : View Node Mail). NetPhase own (acts carried) took turned b.view v) (chosen_new (legs.made + 1) legs.at c.view (k + 1) (omega (arith, past))) round.phase)
+          (subst⁻¹ (λ (v : View Node Mail). NetPhase own (acts carried) took turned b.view v)
+          (chosen_new (legs.made + 1) legs.at c.view (k + 1) (omega (arith, past))) round.phase)
     ]
 
     round_legs : Legs setup a c
@@ -292,7 +308,8 @@ module _ (setup : Setup) (a : Stand) (ran : (b : Stand) (rounds : List ℕ) → 
       first = chosen_old (legs.made + 1) legs.at c.view 0 (omega arith) ∙ legs.first;
       pause = next_pause;
       phase = next_phase;
-      last = subst⁻¹ (λ (v : View Node Mail). Paused setup v c.view) (chosen_new (legs.made + 1) legs.at c.view (legs.made + 1) (omega arith)) (no_pause setup c.view);
+      last = subst⁻¹ (λ (v : View Node Mail). Paused setup v c.view)
+          (chosen_new (legs.made + 1) legs.at c.view (legs.made + 1) (omega arith)) (no_pause setup c.view);
     }
 
   all_there : (b : Stand) (rounds : List ℕ) → Way setup a rounds b → length b.view.actors ≡ actors_in setup
@@ -304,5 +321,7 @@ module _ (setup : Setup) (a : Stand) (ran : (b : Stand) (rounds : List ℕ) → 
   pub legs_of : (b : Stand) (rounds : List ℕ) → Way setup a rounds b → Legs setup a b
   legs_of b rounds Here = no_legs
   legs_of c rounds (Rounds past n {b = b} way round) =
-      round_legs b c (legs_of b (past ++ n ∷ []) way) round (ran c (past ++ (n + 1) ∷ []) (Rounds past n way round)) (ordered c (past ++ (n + 1) ∷ []) (Rounds past n way round))
-  legs_of c rounds (Groups before {b = b} way quiet pause) = groups_legs b c (legs_of b before way) pause (one_pause setup b c pause (all_there b before way) (pauses b c quiet pause))
+      round_legs b c (legs_of b (past ++ n ∷ []) way) round (ran c (past ++ (n + 1) ∷ []) (Rounds past n way round))
+      (ordered c (past ++ (n + 1) ∷ []) (Rounds past n way round))
+  legs_of c rounds (Groups before {b = b} way quiet pause) =
+      groups_legs b c (legs_of b before way) pause (one_pause setup b c pause (all_there b before way) (pauses b c quiet pause))

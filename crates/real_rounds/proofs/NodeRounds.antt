@@ -67,7 +67,12 @@ router_tooks old new ds (takes x y z before more from item tooks t) kept a is =
 
 router_turn : (m : router_type.Router.Router) (n : Node) (es : List (Deed Mail)) → turned (Router m) es n → AllByRecursion TakesNone es
     → (c : router_type.Router.Router) × (n ≡ Router c) × (t : router_turns.RouterTurned m.fields es c.fields) × AllByRecursion LandsNobody (t.again ++ t.work)
-router_turn m (Router c) es t none = (c, refl, t.0.0, nobody_lands m.fields.number.0 0 (routers.router_own_part m) (routers.router_own_part c) (t.0.0.again ++ t.0.0.work) es refl t.0.0.coded t.1 none)
+router_turn m (Router c) es t none = (
+  c,
+  refl,
+  t.0.0,
+  nobody_lands m.fields.number.0 0 (routers.router_own_part m) (routers.router_own_part c) (t.0.0.again ++ t.0.0.work) es refl t.0.0.coded t.1 none,
+)
 router_turn m (Far c) es t none = absurd t.0
 router_turn m (Operator c) es t none = absurd t.0
 
@@ -142,7 +147,8 @@ record OneRow (setup : Setup) (a : OperatorPart) (entry : JournalEntry) (after :
 
 operator_one : (setup : Setup) (a : OperatorPart) (entry : JournalEntry) (taken : Option (ℕ × Thing)) (sent : List (ℕ × Thing)) (after : ActorPart)
     → makes_as setup (Some names.Operator) (OperatorIs a) entry taken sent after → OneRow setup a entry after
-operator_one setup a entry taken sent (OperatorIs b) row = record { part = b; is = refl; event = row.event; code = row.coded; taken = row.took; sent = row.gave; row = row.holds }
+operator_one setup a entry taken sent (OperatorIs b) row =
+    record { part = b; is = refl; event = row.event; code = row.coded; taken = row.took; sent = row.gave; row = row.holds }
 operator_one setup a entry taken sent (RouterIs b) row = absurd row
 operator_one setup a entry taken sent (FarIs b) row = absurd row
 
@@ -157,13 +163,15 @@ pub operator_events : (setup : Setup) (n : ℕ) (a b : OperatorPart) (p q : OwnP
     → q ≡ operator_own setup b → Replay (acts carried) n p ds q → AllByRecursion IsKept ds
     → (events : List OperatorEvent) × AreDeeds operator_code events ds × OperatorRound setup a events b
 operator_events setup n a b p q [] p_is q_is replay kept = ([], tt, same_part (ap (λ (o : OwnPart). o.part) (sym q_is ∙ replay ∙ p_is)))
-operator_events setup n a b p q (d ∷ ds) p_is q_is replay kept = elim ((subst (λ (o : OwnPart). ActsAs carried o d.entry d.taken d.sent replay.0) p_is replay.1).does) [
-  | inl makes ↦ (let one = operator_one setup a d.entry _ _ replay.0.part makes.row in
-      let more = operator_events setup n one.part b replay.0 q ds
-      (own_same replay.0 setup names.Operator (OperatorIs one.part) (replay.1.setup ∙ ap (λ (o : OwnPart). o.setup) p_is) (replay.1.name ∙ ap (λ (o : OwnPart). o.name) p_is) one.is) q_is replay.2 kept.1 in
-      (one.event ∷ more.0, (one.code, more.1), (one.taken, one.sent, one.part, one.row, more.2)))
-  | inr drops ↦ absurd (kept.0 drops.kind)
-]
+operator_events setup n a b p q (d ∷ ds) p_is q_is replay kept =
+    elim ((subst (λ (o : OwnPart). ActsAs carried o d.entry d.taken d.sent replay.0) p_is replay.1).does) [
+      | inl makes ↦ (let one = operator_one setup a d.entry _ _ replay.0.part makes.row in
+          let more = operator_events setup n one.part b replay.0 q ds
+          (own_same replay.0 setup names.Operator (OperatorIs one.part) (replay.1.setup ∙ ap (λ (o : OwnPart). o.setup) p_is)
+          (replay.1.name ∙ ap (λ (o : OwnPart). o.name) p_is) one.is) q_is replay.2 kept.1 in
+          (one.event ∷ more.0, (one.code, more.1), (one.taken, one.sent, one.part, one.row, more.2)))
+      | inr drops ↦ absurd (kept.0 drops.kind)
+    ]
 
 -- what an actor is of stays
 pub replay_setup : (n : ℕ) (p q : OwnPart) (ds : List (Deed Mail)) → Replay (acts carried) n p ds q → q.setup ≡ p.setup

@@ -82,6 +82,7 @@ nobody_lands r n p q [] [] name coded replay none = tt
 nobody_lands r n p q [] (d ∷ ds) name coded replay none = absurd coded
 nobody_lands r n p q (e ∷ es) [] name coded replay none = absurd coded
 nobody_lands r n p q (e ∷ es) (d ∷ ds) name coded replay none = (
-  subst IsNoLanding coded.0.kind (untaken_act r p replay.0 d.entry d.sent name (subst (λ (o : Option (ℕ × Mail)). ActsAs carried p d.entry o d.sent replay.0) none.0 replay.1)),
+  subst IsNoLanding coded.0.kind
+      (untaken_act r p replay.0 d.entry d.sent name (subst (λ (o : Option (ℕ × Mail)). ActsAs carried p d.entry o d.sent replay.0) none.0 replay.1)),
   nobody_lands r n replay.0 q es ds (replay.1.name ∙ name) coded.1 replay.2 none.1,
 )

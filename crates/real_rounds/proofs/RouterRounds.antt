@@ -87,7 +87,11 @@ took_none a = record {
   coded = tt;
   goes = refl;
   stays = λ p s u o q x y all. (let e : u ≡ s = same_running a p s u o q x y in
-      record { acked = omega (arith, ap (λ (v : RunningSession). v.session.end.acked) e); emitted = ap (λ (v : RunningSession). v.session.end.emitted) e; at_turn = ap (λ (v : RunningSession). v.acked_at_turn) e });
+      record {
+        acked = omega (arith, ap (λ (v : RunningSession). v.session.end.acked) e);
+        emitted = ap (λ (v : RunningSession). v.session.end.emitted) e;
+        at_turn = ap (λ (v : RunningSession). v.acked_at_turn) e;
+      });
 }
 
 pub took_one : (a b : Fields) (n from : ℕ) (item : Mail) (ds : List (Deed Mail)) → TookAsRouter a from item ds b → TakesFirst from item ds
@@ -110,7 +114,8 @@ goes_at : (Allowed : Setup → ℕ → RouterPart → RouterEvent → Type 0) (a
     → RouterGoes b.known.setup b.number.0 (Allowed b.known.setup b.number.0) x es ms y
     → RouterGoes a.known.setup a.number.0 (Allowed a.known.setup a.number.0) x es ms y
 goes_at Allowed a b es ms x y same h =
-    subst (λ (s : Setup). RouterGoes s a.number.0 (Allowed s a.number.0) x es ms y) same.setup (subst (λ (n : ℕ). RouterGoes b.known.setup n (Allowed b.known.setup n) x es ms y) (ap (λ k. k.0) same.number) h)
+    subst (λ (s : Setup). RouterGoes s a.number.0 (Allowed s a.number.0) x es ms y) same.setup
+    (subst (λ (n : ℕ). RouterGoes b.known.setup n (Allowed b.known.setup n) x es ms y) (ap (λ k. k.0) same.number) h)
 
 pub took_then : (a b c : Fields) (ds es : List (Deed Mail)) → TookRouter a ds b → TookRouter b es c → TookRouter a (ds ++ es) c
 took_then a b c ds es x y = record {
@@ -140,7 +145,8 @@ MayPassThen a b c moments = (p : ℕ) (s u : SessionValue) → StaysLive p (rout
     → length s.end.stream ≤ 1044461
     → (m : RunningSession) (o : Option Errand) → RunsAt b.places.places p m o → MayPass m.session c.turns
 
-module _ (pass : TurnsPassOne) (a b c : Fields) (ds es : List (Deed Mail)) (took : TookRouter a ds b) (turned : RouterTurned b es c) (calm : AllByRecursion LandsNobody (turned.again ++ turned.work)) (n : ℕ) (at : RouterAt n a) where
+module _ (pass : TurnsPassOne) (a b c : Fields) (ds es : List (Deed Mail)) (took : TookRouter a ds b) (turned : RouterTurned b es c)
+    (calm : AllByRecursion LandsNobody (turned.again ++ turned.work)) (n : ℕ) (at : RouterAt n a) where
   abbrev pub moments : List RouterPart
   moments = took.moments ++ (turned.first ++ turned.later)
 
@@ -169,14 +175,17 @@ module _ (pass : TurnsPassOne) (a b c : Fields) (ds es : List (Deed Mail)) (took
   -- the session that stands there, at the start, before the turn and at the end
   stood : (p : ℕ) (s u : SessionValue) → StaysLive p (router_part a) moments (router_part c) s u → AcksOrResends s.end u.end (emits_on p turned.again)
   stood p s u st =
-      let both = through_both (HasLive p) IsRouterTake a.known.setup a.number.0 (router_part a) (router_part b) took.events took.moments (turned.first ++ turned.later) took.goes st.throughout in
+      let both = through_both (HasLive p) IsRouterTake a.known.setup a.number.0 (router_part a)
+      (router_part b) took.events took.moments (turned.first ++ turned.later) took.goes st.throughout in
       let (v, v_order, v_at, v_is) = runs_at a p s st.first_order st.starts in
       let (m, m_order, m_at) = some_running b p both.1.0 in
       let (w, w_order, w_at, w_is) = runs_at c p u st.last_order st.ends in
       let stays : Stays v m = took.stays p v m v_order m_order v_at m_at both.0 in
       let on : TurnsSession c.turns p turned.again turned.work m w = turned.sessions p m w m_order w_order m_at w_at in
-      subst (λ (x : SessionValue). AcksOrResends x.end u.end (emits_on p turned.again)) v_is (subst (λ (x : SessionValue). AcksOrResends v.session.end x.end (emits_on p turned.again)) w_is
-      (goes_on v.session.end m.session.end w.session.end (emits_on p turned.again) stays.acked stays.emitted on.acked (λ is out. on.again (stays.at_turn ∙ at.level p v v_order v_at ∙ is) out)))
+      subst (λ (x : SessionValue). AcksOrResends x.end u.end (emits_on p turned.again)) v_is
+      (subst (λ (x : SessionValue). AcksOrResends v.session.end x.end (emits_on p turned.again)) w_is
+      (goes_on v.session.end m.session.end w.session.end (emits_on p turned.again) stays.acked stays.emitted on.acked
+      (λ is out. on.again (stays.at_turn ∙ at.level p v v_order v_at ∙ is) out)))
 
   pub numbered : (p : ℕ) → AllByRecursion (λ k. k ≡ n + 1) (rounds_on p turned.work)
   numbered p = by_place (place_at b.places.places p) refl
@@ -184,8 +193,10 @@ module _ (pass : TurnsPassOne) (a b c : Fields) (ds es : List (Deed Mail)) (took
       absent : (x : Option Place) → place_at b.places.places p ≡ x → ((v : RunningSession) (q : Option Errand) → x ≢ Some (Live v q))
           → AllByRecursion (λ k. k ≡ n + 1) (rounds_on p turned.work)
       absent x e none = subst⁻¹ (λ (xs : List ℕ). AllByRecursion (λ k. k ≡ n + 1) xs)
-          (no_rounds_there (IsNewWork a.known.setup a.number.0) a.known.setup a.number.0 turned.sent (router_part c) turned.work turned.later works (all_back LandsNobody turned.again turned.work calm) p
-          (λ live. (let some = some_running b p (live_start RouterRetransmits a.known.setup a.number.0 (router_part b) turned.sent turned.again turned.first sends (all_front LandsNobody turned.again turned.work calm) p live) in
+          (no_rounds_there (IsNewWork a.known.setup a.number.0) a.known.setup a.number.0 turned.sent
+          (router_part c) turned.work turned.later works (all_back LandsNobody turned.again turned.work calm) p
+          (λ live. (let some = some_running b p (live_start RouterRetransmits a.known.setup a.number.0
+          (router_part b) turned.sent turned.again turned.first sends (all_front LandsNobody turned.again turned.work calm) p live) in
           none some.0 some.1 (sym e ∙ some.2.is)))) tt
 
       by_place : (x : Option Place) → place_at b.places.places p ≡ x → AllByRecursion (λ k. k ≡ n + 1) (rounds_on p turned.work)
@@ -199,8 +210,10 @@ module _ (pass : TurnsPassOne) (a b c : Fields) (ds es : List (Deed Mail)) (took
   -- rounds pass in the router's work alone
   rounds_are : (p : ℕ) → rounds_on p events ≡ rounds_on p turned.work
   rounds_are p = rounds_on-append p took.events (turned.again ++ turned.work)
-      ∙ (λ i. none_taking a.known.setup a.number.0 (router_part a) (router_part b) took.events took.moments took.goes p i ++ rounds_on-append p turned.again turned.work i)
-      ∙ ap (λ (xs : List ℕ). xs ++ rounds_on p turned.work) (none_sending a.known.setup a.number.0 (router_part b) turned.sent turned.again turned.first sends p)
+      ∙ (λ i. none_taking a.known.setup a.number.0 (router_part a) (router_part b) took.events took.moments took.goes p i
+      ++ rounds_on-append p turned.again turned.work i)
+      ∙ ap (λ (xs : List ℕ). xs ++ rounds_on p turned.work)
+      (none_sending a.known.setup a.number.0 (router_part b) turned.sent turned.again turned.first sends p)
 
   pub all_numbered : (p : ℕ) → AllByRecursion (λ k. k ≡ n + 1) (rounds_on p events)
   all_numbered p = subst⁻¹ (λ (xs : List ℕ). AllByRecursion (λ k. k ≡ n + 1) xs) (rounds_are p) (numbered p)
@@ -208,7 +221,8 @@ module _ (pass : TurnsPassOne) (a b c : Fields) (ds es : List (Deed Mail)) (took
   ticks : MayPassThen a b c moments → (p : ℕ) (s u : SessionValue) → StaysLive p (router_part a) moments (router_part c) s u → HoldRuns s
       → HoldRuns u → length s.end.stream ≤ 1044461 → rounds_on p turned.work ≡ (n + 1) ∷ []
   ticks may p s u st starts ends room =
-      let both = through_both (HasLive p) IsRouterTake a.known.setup a.number.0 (router_part a) (router_part b) took.events took.moments (turned.first ++ turned.later) took.goes st.throughout in
+      let both = through_both (HasLive p) IsRouterTake a.known.setup a.number.0 (router_part a)
+      (router_part b) took.events took.moments (turned.first ++ turned.later) took.goes st.throughout in
       let (m, m_order, m_at) = some_running b p both.1.0 in
       elim (pass b c es turned p m m_order m_at) [
         | inl h ↦ h.1 ∙ ap (λ (k : ℕ). k ∷ []) number_is
@@ -245,7 +259,8 @@ module _ (pass : TurnsPassOne) (a b c : Fields) (ds es : List (Deed Mail)) (took
     turns = number_is;
     level = λ p u q runs. (
         let before = some_running b p
-        (live_start Anything a.known.setup a.number.0 (router_part b) (router_part c) (turned.again ++ turned.work) (turned.first ++ turned.later) turn_goes calm p (live_at c p u q runs)) in
+        (live_start Anything a.known.setup a.number.0 (router_part b) (router_part c) (turned.again ++ turned.work)
+        (turned.first ++ turned.later) turn_goes calm p (live_at c p u q runs)) in
         let on : TurnsSession c.turns p turned.again turned.work before.0 u = turned.sessions p before.0 u before.1 q before.2 runs in
         on.at_turn ∙ sym on.acked);
   }

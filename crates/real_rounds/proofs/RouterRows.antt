@@ -10,7 +10,8 @@ use Rattle.graft_model.specs.Setups.{Setup}
 use Rattle.graft_model.specs.Parts.{Place, Vacant, Live, Shadow, Errand, RouterPart}
 use Rattle.graft_model.specs.RouterRows.{RouterTaken, RouterSent, IsLive}
 use Rattle.graft_model.specs.declared.event.RouterEvent.{RouterEvent}
-use Rattle.graft_model.specs.declared.event.RouterEvent.TheVariants.{Put, Emit, Arrive, Got, Decide, Tell, Hear, Admit, Refuse, Freeze, Leave, Land, Return, Clear, Ask, Collect, Confirm, Tick}
+use Rattle.graft_model.specs.declared.event.RouterEvent.TheVariants.{Put, Emit, Arrive, Got, Decide, Tell, Hear, Admit, Refuse, Freeze}
+use Rattle.graft_model.specs.declared.event.RouterEvent.TheVariants.{Leave, Land, Return, Clear, Ask, Collect, Confirm, Tick}
 use Rattle.graft_model.specs.Steps.{router_row}
 use Rattle.router_core.specs.Rounds.{RouterGoes}
 use Rattle.router_core.specs.Turned.{rounds_on}
@@ -63,27 +64,37 @@ no_vacant s o e = absurd cc
 pub live_before : (setup : Setup) (r : ℕ) (event : RouterEvent) (a b : RouterPart) (taken : Option RouterTaken) (sent : List RouterSent)
     → router_row setup r event a taken sent b → LandsNobody event → (p : ℕ) → HasLive p b → HasLive p a
 live_before setup r (Put q zero) a b taken sent row calm p live = same_at a b p (ap (λ (x : RouterPart). x.places p) row.effect) live
-live_before setup r (Put q (suc n)) a b taken sent row calm p live = at_live a b q p (Live row.next row.errand) row.session row.errand row.live (ap (λ (x : RouterPart). x.places) row.effect) live
+live_before setup r (Put q (suc n)) a b taken sent row calm p live =
+    at_live a b q p (Live row.next row.errand) row.session row.errand row.live (ap (λ (x : RouterPart). x.places) row.effect) live
 live_before setup r (Emit q from len) a b taken sent row calm p live =
     at_live a b q p (Live (record row.session { end = row.end }) row.errand) row.session row.errand row.live (ap (λ (x : RouterPart). x.places) row.effect) live
 live_before setup r (Arrive q) a b taken sent row calm p live =
     at_live a b q p (Live (record row.session { end = row.end }) row.errand) row.session row.errand row.live (ap (λ (x : RouterPart). x.places) row.effect) live
-live_before setup r (Got q) a b taken sent row calm p live = at_live a b q p (Live row.next row.errand) row.session row.errand row.live (ap (λ (x : RouterPart). x.places) row.follows.effect) live
+live_before setup r (Got q) a b taken sent row calm p live =
+    at_live a b q p (Live row.next row.errand) row.session row.errand row.live (ap (λ (x : RouterPart). x.places) row.follows.effect) live
 live_before setup r (Decide prefix) a b taken sent row calm p live = same_at a b p (ap (λ (x : RouterPart). x.places p) row.effect) live
 live_before setup r (Tell q prefix) a b taken sent row calm p live = same_at a b p (ap (λ (x : RouterPart). x.places p) row.effect) live
 live_before setup r (Hear q) a b taken sent row calm p live = same_at a b p (ap (λ (x : RouterPart). x.places p) row.effect) live
-live_before setup r (Admit k) a b taken sent row calm p live = at_live a b row.peering p _ row.session None row.live (ap (λ (x : RouterPart). x.places) row.effect) live
-live_before setup r (Refuse k) a b taken sent row calm p live = at_live a b row.peering p _ row.session _ row.live (ap (λ (x : RouterPart). x.places) row.effect) live
-live_before setup r (Freeze k) a b taken sent row calm p live = at_live a b row.peering p _ row.session _ row.live (ap (λ (x : RouterPart). x.places) row.effect) live
-live_before setup r (Leave k) a b taken sent row calm p live = at_dead a b row.peering p (Shadow k) (no_shadow k) (ap (λ (x : RouterPart). x.places) row.effect) live
+live_before setup r (Admit k) a b taken sent row calm p live =
+    at_live a b row.peering p _ row.session None row.live (ap (λ (x : RouterPart). x.places) row.effect) live
+live_before setup r (Refuse k) a b taken sent row calm p live =
+    at_live a b row.peering p _ row.session _ row.live (ap (λ (x : RouterPart). x.places) row.effect) live
+live_before setup r (Freeze k) a b taken sent row calm p live =
+    at_live a b row.peering p _ row.session _ row.live (ap (λ (x : RouterPart). x.places) row.effect) live
+live_before setup r (Leave k) a b taken sent row calm p live =
+    at_dead a b row.peering p (Shadow k) (no_shadow k) (ap (λ (x : RouterPart). x.places) row.effect) live
 live_before setup r (Land q) a b taken sent row calm p live = absurd (calm.land refl)
 live_before setup r (Return q) a b taken sent row calm p live = absurd (calm.return refl)
 live_before setup r (Clear q) a b taken sent row calm p live = at_dead a b row.peering p Vacant no_vacant (ap (λ (x : RouterPart). x.places) row.effect) live
-live_before setup r (Ask k q) a b taken sent row calm p live = at_live a b row.peering p _ row.session _ row.live (ap (λ (x : RouterPart). x.places) row.effect) live
-live_before setup r (Collect q) a b taken sent (inl row) calm p live = at_live a b row.peering p _ row.session _ row.live (ap (λ (x : RouterPart). x.places) row.effect) live
+live_before setup r (Ask k q) a b taken sent row calm p live =
+    at_live a b row.peering p _ row.session _ row.live (ap (λ (x : RouterPart). x.places) row.effect) live
+live_before setup r (Collect q) a b taken sent (inl row) calm p live =
+    at_live a b row.peering p _ row.session _ row.live (ap (λ (x : RouterPart). x.places) row.effect) live
 live_before setup r (Collect q) a b taken sent (inr row) calm p live = same_at a b p (ap (λ (x : RouterPart). x.places p) row.stays) live
-live_before setup r (Confirm k) a b taken sent row calm p live = at_live a b row.peering p _ row.session _ row.live (ap (λ (x : RouterPart). x.places) row.effect) live
-live_before setup r (Tick q round) a b taken sent row calm p live = at_live a b q p (Live row.next row.errand) row.session row.errand row.live (ap (λ (x : RouterPart). x.places) row.follows.effect) live
+live_before setup r (Confirm k) a b taken sent row calm p live =
+    at_live a b row.peering p _ row.session _ row.live (ap (λ (x : RouterPart). x.places) row.effect) live
+live_before setup r (Tick q round) a b taken sent row calm p live =
+    at_live a b q p (Live row.next row.errand) row.session row.errand row.live (ap (λ (x : RouterPart). x.places) row.follows.effect) live
 live_before setup r _ a b taken sent row calm p live = same_at a b p (ap (λ (x : RouterPart). x.places p) row.stays) live
 
 -- ---- several events
@@ -94,7 +105,8 @@ pub live_start : (Allowed : RouterPart → RouterEvent → Type 0) (setup : Setu
 live_start Allowed setup r a b [] [] h calm p live = same_at a b p (ap (λ (x : RouterPart). x.places p) h) live
 live_start Allowed setup r a b [] (m ∷ ms) h calm p live = absurd h
 live_start Allowed setup r a b (e ∷ es) [] h calm p live = absurd h
-live_start Allowed setup r a b (e ∷ es) (m ∷ ms) (taken, sent, row, allowed, rest) calm p live = live_before setup r e a m taken sent row calm.0 p (live_start Allowed setup r m b es ms rest calm.1 p live)
+live_start Allowed setup r a b (e ∷ es) (m ∷ ms) (taken, sent, row, allowed, rest) calm p live =
+    live_before setup r e a m taken sent row calm.0 p (live_start Allowed setup r m b es ms rest calm.1 p live)
 
 -- on a session that isn't live no round passes
 pub no_rounds_there : (Allowed : RouterPart → RouterEvent → Type 0) (setup : Setup) (r : ℕ) (a b : RouterPart) (es : List RouterEvent) (ms : List RouterPart)

@@ -21,17 +21,20 @@ goes_anyhow Allowed setup r a b [] (m ∷ ms) h = absurd h
 goes_anyhow Allowed setup r a b (e ∷ es) [] h = absurd h
 goes_anyhow Allowed setup r a b (e ∷ es) (m ∷ ms) (taken, sent, row, allowed, rest) = (taken, sent, row, tt, goes_anyhow Allowed setup r m b es ms rest)
 
-pub goes_append : (Allowed : RouterPart → RouterEvent → Type 0) (setup : Setup) (r : ℕ) (a b c : RouterPart) (es fs : List RouterEvent) (ms ns : List RouterPart)
+pub goes_append : (Allowed : RouterPart → RouterEvent → Type 0) (setup : Setup)
+    (r : ℕ) (a b c : RouterPart) (es fs : List RouterEvent) (ms ns : List RouterPart)
     → RouterGoes setup r Allowed a es ms b → RouterGoes setup r Allowed b fs ns c
     → RouterGoes setup r Allowed a (es ++ fs) (ms ++ ns) c
 goes_append Allowed setup r a b c [] fs [] ns h k = subst (λ (x : RouterPart). RouterGoes setup r Allowed x fs ns c) h k
 goes_append Allowed setup r a b c [] fs (m ∷ ms) ns h k = absurd h
 goes_append Allowed setup r a b c (e ∷ es) fs [] ns h k = absurd h
-goes_append Allowed setup r a b c (e ∷ es) fs (m ∷ ms) ns (taken, sent, row, allowed, rest) k = (taken, sent, row, allowed, goes_append Allowed setup r m b c es fs ms ns rest k)
+goes_append Allowed setup r a b c (e ∷ es) fs (m ∷ ms) ns (taken, sent, row, allowed, rest) k =
+    (taken, sent, row, allowed, goes_append Allowed setup r m b c es fs ms ns rest k)
 
 -- ---- what holds of each part
 
-holds_last : (P : RouterPart → Type 0) (Allowed : RouterPart → RouterEvent → Type 0) (setup : Setup) (r : ℕ) (a b : RouterPart) (es : List RouterEvent) (ms : List RouterPart)
+holds_last : (P : RouterPart → Type 0) (Allowed : RouterPart → RouterEvent → Type 0)
+    (setup : Setup) (r : ℕ) (a b : RouterPart) (es : List RouterEvent) (ms : List RouterPart)
     → RouterGoes setup r Allowed a es ms b → AllByRecursion P (a ∷ ms) → P b
 holds_last P Allowed setup r a b [] [] h all = subst⁻¹ P h all.0
 holds_last P Allowed setup r a b [] (m ∷ ms) h all = absurd h
@@ -39,7 +42,8 @@ holds_last P Allowed setup r a b (e ∷ es) [] h all = absurd h
 holds_last P Allowed setup r a b (e ∷ es) (m ∷ ms) h all = holds_last P Allowed setup r m b es ms h.4 all.1
 
 -- of two pieces, each has it throughout
-pub through_both : (P : RouterPart → Type 0) (Allowed : RouterPart → RouterEvent → Type 0) (setup : Setup) (r : ℕ) (a b : RouterPart) (es : List RouterEvent) (ms ns : List RouterPart)
+pub through_both : (P : RouterPart → Type 0) (Allowed : RouterPart → RouterEvent → Type 0)
+    (setup : Setup) (r : ℕ) (a b : RouterPart) (es : List RouterEvent) (ms ns : List RouterPart)
     → RouterGoes setup r Allowed a es ms b
     → AllByRecursion P (a ∷ (ms ++ ns)) → AllByRecursion P (a ∷ ms) × AllByRecursion P (b ∷ ns)
 through_both P Allowed setup r a b es ms ns h all =

@@ -1,5 +1,6 @@
 -- What a net did at a mark, and in a round, is a run of the world, from whichever it was seen as.
-use Rattle.std.proofs.Common.{◌≡◌, ◌≢◌, ◌≤◌, ◌<◌, ◌-◌, ◌∙◌, ℕ, zero, suc, Bool, true, false, List, [], ◌∷◌, ◌++◌, ◌==◌, if◌then◌else◌, length, map, take, drop, refl, ap, sym, subst, inl, inr, arith, take_at}
+use Rattle.std.proofs.Common.{◌≡◌, ◌≢◌, ◌≤◌, ◌<◌, ◌-◌, ◌∙◌, ℕ, zero, suc, Bool, true, false, List, [], ◌∷◌, ◌++◌, ◌==◌}
+use Rattle.std.proofs.Common.{if◌then◌else◌, length, map, take, drop, refl, ap, sym, subst, inl, inr, arith, take_at}
 use Rattle.std.specs.Prelude.{◌⊎◌, Some}
 use Rattle.std.specs.List.{AllByRecursion}
 use Rattle.std.proofs.Math.Path.{subst⁻¹}
@@ -74,15 +75,19 @@ behind_step : (mark : ℕ → ℕ) (e : JournalEntry) (es : List JournalEntry) (
     → entries_by k (behind mark (e ∷ es)) ≡ drop (mark k) (entries_by k (e ∷ es))
 behind_step mark e es k (inl z) (inl s) h g =
     let none : mark k ≡ 0 = ap mark (sym s) ∙ z in
-    rw (kept mark e es z) (rw (by_here k e es s) (by_here k e (behind mark es) s ∙ ap (λ xs. e ∷ xs) (h ∙ drop_none (mark k) (entries_by k es) none) ∙ sym (drop_none (mark k) (e ∷ entries_by k es) none)))
+    rw (kept mark e es z) (rw (by_here k e es s) (by_here k e (behind mark es) s
+    ∙ ap (λ xs. e ∷ xs) (h ∙ drop_none (mark k) (entries_by k es) none) ∙ sym (drop_none (mark k) (e ∷ entries_by k es) none)))
 behind_step mark e es k (inl z) (inr ne) h g = rw (kept mark e es z) (rw (by_else k e es ne) (by_else k e (behind mark es) ne ∙ h))
-behind_step mark e es k (inr nz) (inl s) h g = rw (skipped mark e es nz) (rw (by_here k e es s) (g ∙ ap (λ j. drop j (entries_by k es)) (less_here mark e.actor k s)
+behind_step mark e es k (inr nz) (inl s) h g =
+    rw (skipped mark e es nz) (rw (by_here k e es s) (g ∙ ap (λ j. drop j (entries_by k es)) (less_here mark e.actor k s)
     ∙ sym (drop_one (mark k) e (entries_by k es) (λ z. nz (ap mark s ∙ z)))))
-behind_step mark e es k (inr nz) (inr ne) h g = rw (skipped mark e es nz) (rw (by_else k e es ne) (g ∙ ap (λ j. drop j (entries_by k es)) (less_else mark e.actor k ne)))
+behind_step mark e es k (inr nz) (inr ne) h g =
+    rw (skipped mark e es nz) (rw (by_else k e es ne) (g ∙ ap (λ j. drop j (entries_by k es)) (less_else mark e.actor k ne)))
 
 by_behind : (mark : ℕ → ℕ) (es : List JournalEntry) (k : ℕ) → entries_by k (behind mark es) ≡ drop (mark k) (entries_by k es)
 by_behind mark [] k = sym (drop_nil (mark k))
-by_behind mark (e ∷ es) k = behind_step mark e es k (equal_or_not (mark e.actor) 0) (equal_or_not e.actor k) (by_behind mark es k) (by_behind (less_at mark e.actor) es k)
+by_behind mark (e ∷ es) k =
+    behind_step mark e es k (equal_or_not (mark e.actor) 0) (equal_or_not e.actor k) (by_behind mark es k) (by_behind (less_at mark e.actor) es k)
 
 one_of : {A : Type 0} (P : A → Type 0) (t : Bool) (x y : A) → P x → P y → P (if t then x else y)
 one_of P true x y h k = h
@@ -91,7 +96,8 @@ one_of P false x y h k = k
 all_behind : (P : JournalEntry → Type 0) (mark : ℕ → ℕ) (es : List JournalEntry) → AllByRecursion P es → AllByRecursion P (behind mark es)
 all_behind P mark [] all = tt
 all_behind P mark (e ∷ es) all =
-    one_of (λ xs. AllByRecursion P xs) (mark e.actor == 0) (e ∷ behind mark es) (behind (less_at mark e.actor) es) (all.0, all_behind P mark es all.1) (all_behind P (less_at mark e.actor) es all.1)
+    one_of (λ xs. AllByRecursion P xs) (mark e.actor == 0) (e ∷ behind mark es) (behind (less_at mark e.actor) es)
+    (all.0, all_behind P mark es all.1) (all_behind P (less_at mark e.actor) es all.1)
 
 sorted_behind : (mark : ℕ → ℕ) (es : List JournalEntry) → AreSorted es → AreSorted (behind mark es)
 sorted_behind mark [] sorted = tt
@@ -105,7 +111,8 @@ merge_between journals first new last merged merge whole = (
   behind (λ k. length (first k)) (upto (λ k. length (first k ++ new k)) merged),
   record {
     each = λ k. by_behind (λ j. length (first j)) (upto (λ j. length (first j ++ new j)) merged) k
-        ∙ ap (λ es. drop (length (first k)) es) (ahead.each k ∙ ap (λ es. take (length (first k ++ new k)) es) (whole k) ∙ take_at (first k ++ new k) (last k) (length (first k ++ new k)) refl)
+        ∙ ap (λ es. drop (length (first k)) es)
+        (ahead.each k ∙ ap (λ es. take (length (first k ++ new k)) es) (whole k) ∙ take_at (first k ++ new k) (last k) (length (first k ++ new k)) refl)
         ∙ drop-append_seam (first k) (new k);
     sorted = sorted_behind (λ k. length (first k)) (upto (λ k. length (first k ++ new k)) merged) ahead.sorted;
   },
@@ -116,7 +123,8 @@ merge_between journals first new last merged merge whole = (
 
 -- ---- runs from a world that a net is seen as
 
--- What a net did between two moments, in which its journals got these entries, is a run from this world to one that it is seen as then: its events are those of the merged entries.
+-- What a net did between two moments, in which its journals got these entries, is a run from
+-- this world to one that it is seen as then: its events are those of the merged entries.
 pub record RunFrom (setup : Setup) (w : World) (v : View Node Mail) (new : ℕ → List JournalEntry) : Type 0 where
   pub events : List Event
   pub entries : List JournalEntry
@@ -131,7 +139,8 @@ abbrev pub HasRuns : Setup → View Node Mail → View Node Mail → (ℕ → Li
 HasRuns setup u v new = (w : World) → length u.actors ≡ actors_in setup → Reached setup w → IsSeenAs own carried setup u w → RunFrom setup w v new
 
 pub stays : (setup : Setup) (v : View Node Mail) → HasRuns setup v v (λ k. [])
-stays setup v w size reached seen = record { events = []; entries = []; merged = record { each = λ k. refl; sorted = tt }; entries_of = tt; after = w; run = refl; seen = seen }
+stays setup v w size reached seen =
+    record { events = []; entries = []; merged = record { each = λ k. refl; sorted = tt }; entries_of = tt; after = w; run = refl; seen = seen }
 
 entries_join : (setup : Setup) (first second : List Event) (xs ys : List JournalEntry) → AreEntriesOf setup first xs → AreEntriesOf setup second ys
     → AreEntriesOf setup (first ++ second) (xs ++ ys)
@@ -156,11 +165,13 @@ pub runs_then : (setup : Setup) (u v t : View Node Mail) (first second : ℕ →
     → length v.actors ≡ length u.actors → HasRuns setup u v first → HasRuns setup v t second → HasRuns setup u t (λ k. first k ++ second k)
 runs_then setup u v t first second ahead same x y w size reached seen =
     let before : RunFrom setup w v first = x w size reached seen in
-    run_then setup w v t first second ahead before (y before.after (same ∙ size) (reached_run setup before.events w before.after reached before.run) before.seen)
+    run_then setup w v t first second ahead before
+    (y before.after (same ∙ size) (reached_run setup before.events w before.after reached before.run) before.seen)
 
 -- ---- a piece of what a net did
 
-module _ (setup : Setup) (u v : View Node Mail) (levels : List ℕ) (notes : ℕ → List (Noted Mail)) (grew : Grew own (acts carried) u v levels notes) (entries : List JournalEntry) (merge : Interleaves (λ k. entries_of (notes k)) entries)
+module _ (setup : Setup) (u v : View Node Mail) (levels : List ℕ) (notes : ℕ → List (Noted Mail))
+    (grew : Grew own (acts carried) u v levels notes) (entries : List JournalEntry) (merge : Interleaves (λ k. entries_of (notes k)) entries)
     (w : World) (seen : IsSeenAs own carried setup u w) where
   piece : RunsTo own (acts carried) u seen.lab levels notes entries v
   piece = merge_runs own (acts carried) u v levels notes entries seen.lab grew merge seen.is
@@ -201,7 +212,8 @@ pub phase_runs : (setup : Setup) → IsSetup setup → ActsAreARun carried
     → Interleaves (λ k. entries_of (phase.notes k)) entries
     → HasRuns setup u v (λ k. entries_of (phase.notes k))
 phase_runs setup sound law d u v phase entries merge w size reached seen =
-    run_of_piece setup u v [] phase.notes grew entries merge w seen (law setup seen.lab done.last (deeds done.events) w sound reached seen.sees alone.0 alone.1 done.run)
+    run_of_piece setup u v [] phase.notes grew entries merge w seen
+    (law setup seen.lab done.last (deeds done.events) w sound reached seen.sees alone.0 alone.1 done.run)
   where
     grew : Grew own (acts carried) u v [] phase.notes
     grew = phase_grows own (acts carried) took turned u v phase
@@ -237,7 +249,8 @@ merge_at_mark n (d ∷ []) owned few = record { each = each; sorted = (tt, tt) }
   where
     each : (k : ℕ) → entries_by k (d.entry ∷ []) ≡ entries_of (at_mark own (acts carried) n (d ∷ []) k)
     each k = elim (equal_or_not k n) [
-      | inl s ↦ (let here : at_mark own (acts carried) n (d ∷ []) k ≡ noted 0 (d ∷ []) = grind (arith, nat_tests) in by_here k d.entry [] (owned.0 ∙ sym s) ∙ ap (λ ns. entries_of ns) (sym here))
+      | inl s ↦ (let here : at_mark own (acts carried) n (d ∷ []) k ≡ noted 0 (d ∷ []) = grind (arith, nat_tests) in
+          by_here k d.entry [] (owned.0 ∙ sym s) ∙ ap (λ ns. entries_of ns) (sym here))
       | inr ne ↦
           let none : at_mark own (acts carried) n (d ∷ []) k ≡ [] = grind (arith, nat_tests) in
           by_else k d.entry [] (λ s. ne (sym s ∙ owned.0)) ∙ ap (λ ns. entries_of ns) (sym none)
@@ -257,8 +270,10 @@ few_run : (setup : Setup) → IsSetup setup → AnActIsAStep carried → ActsAre
     → IsRunOfLab carried setup w (map (λ (d : Deed Mail). d.entry) ds) last
 few_run setup sound step law n x is lab last [] w reached is_lab quiet owned few run = law setup lab last [] w sound reached is_lab tt tt run
 few_run setup sound step law n x is lab last (d ∷ []) w reached is_lab quiet owned few (mid, made, same) =
-    let s : IsStepOfLab carried setup w d.entry mid = step setup lab mid d w x sound reached is_lab (ap (names.actor_at setup) owned.0 ∙ is) made (λ go. quiet) in
-    let r : IsRunOfLab carried setup s.after [] last = law setup mid last [] s.after sound (reached_more setup s.event w s.after reached s.step) s.lab tt tt same in
+    let s : IsStepOfLab carried setup w d.entry mid =
+    step setup lab mid d w x sound reached is_lab (ap (names.actor_at setup) owned.0 ∙ is) made (λ go. quiet) in
+    let r : IsRunOfLab carried setup s.after [] last =
+    law setup mid last [] s.after sound (reached_more setup s.event w s.after reached s.step) s.lab tt tt same in
     record { events = s.event ∷ r.events; entries_of = (s.entry_of, r.entries_of); after = r.after; run = (s.after, s.step, r.run); lab = r.lab }
 few_run setup sound step law n x is lab last (d ∷ other ∷ ds) w reached is_lab quiet owned few run = absurd (omega (arith, few))
 
@@ -271,9 +286,11 @@ pause_notes setup b c pause = at_mark own (acts carried) (operator_number setup)
 
 pub pause_grew : (setup : Setup) (b c : Stand) (pause : Pause (operator_number setup) b c true) → length b.view.actors ≡ actors_in setup
     → Grew own (acts carried) b.view c.view (pause_levels setup b c pause) (pause_notes setup b c pause)
-pause_grew setup b c pause size = grows_on own (acts carried) b.view pause.level c.view (pause.levelled.clock ∷ []) (pause.between.from ∷ pause.between.to ∷ []) (λ k. []) (pause_notes setup b c pause)
+pause_grew setup b c pause size = grows_on own (acts carried) b.view pause.level c.view (pause.levelled.clock ∷ [])
+    (pause.between.from ∷ pause.between.to ∷ []) (λ k. []) (pause_notes setup b c pause)
     (level_grows own (acts carried) b.view pause.level pause.levelled)
-    (between_grows own (acts carried) paused pause.level c.view (operator_number setup) true (omega (arith, size, ap (λ (xs : List Node). length xs) pause.levelled.only.actors)) pause.between)
+    (between_grows own (acts carried) paused pause.level c.view (operator_number setup) true
+    (omega (arith, size, ap (λ (xs : List Node). length xs) pause.levelled.only.actors)) pause.between)
 
 -- what the operator did at a mark, in a quiet world, is a run
 pub pause_runs : (setup : Setup) → IsSetup setup → AnActIsAStep carried → ActsAreARun carried → (d : Node) (b c : Stand)
@@ -281,9 +298,17 @@ pub pause_runs : (setup : Setup) → IsSetup setup → AnActIsAStep carried → 
     → HasRuns setup b.view c.view (λ k. entries_of (pause_notes setup b c pause k))
 pause_runs setup sound step law d b c quiet pause w size reached seen =
     run_of_piece setup b.view c.view levels notes grew entries merge w seen
-    (few_run setup sound step law (operator_number setup) names.Operator (at_operator setup) seen.lab done.last (deeds done.events) w reached seen.sees (quiet w seen reached)
-    (subst⁻¹ (λ (es : List JournalEntry). AllByRecursion (λ (e : JournalEntry). e.actor ≡ operator_number setup) es) same (entries_own (operator_number setup) did.deeds did.own))
-    (omega (arith, few, ap (λ (es : List JournalEntry). length es) same, length-map (deeds done.events) (λ (x : Deed Mail). x.entry), length-map did.deeds (λ (x : Deed Mail). x.entry))) done.run)
+    (few_run setup sound step law (operator_number setup) names.Operator
+    (at_operator setup) seen.lab done.last (deeds done.events) w reached seen.sees (quiet w seen reached)
+    (subst⁻¹ (λ (es : List JournalEntry). AllByRecursion (λ (e : JournalEntry). e.actor ≡ operator_number setup) es) same
+    (entries_own (operator_number setup) did.deeds did.own))
+    (omega (
+      arith,
+      few,
+      ap (λ (es : List JournalEntry). length es) same,
+      length-map (deeds done.events) (λ (x : Deed Mail). x.entry),
+      length-map did.deeds (λ (x : Deed Mail). x.entry),
+    )) done.run)
   where
     did : Between own (acts carried) paused (operator_number setup) pause.level c.view true
     did = pause.between

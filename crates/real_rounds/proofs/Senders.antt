@@ -13,7 +13,8 @@ use Rattle.graft_model.specs.Steps as steps
 use Rattle.graft_model.specs.declared.event.RouterEvent.{RouterEvent}
 use Rattle.graft_model.specs.declared.event.FarEvent.{FarEvent}
 use Rattle.graft_model.specs.declared.event.OperatorEvent.{OperatorEvent}
-use Rattle.graft_model.specs.declared.event.RouterEvent.TheVariants.{Put, Emit, Arrive, Stray, Got, Decide, Tell, Hear, Admit, Refuse, Freeze, Leave, Return, Clear, Ask, Answer, Collect, Confirm, Tick}
+use Rattle.graft_model.specs.declared.event.RouterEvent.TheVariants.{Put, Emit, Arrive, Stray, Got, Decide, Tell, Hear, Admit, Refuse, Freeze}
+use Rattle.graft_model.specs.declared.event.RouterEvent.TheVariants.{Leave, Return, Clear, Ask, Answer, Collect, Confirm, Tick}
 use Rattle.graft_model.specs.declared.event.FarEvent.TheVariants.{Say, Send, Take, Pass, Reach, Lose, Point, Beat}
 use Rattle.graft_model.specs.declared.event.OperatorEvent.TheVariants.{Order, Note, Go}
 use Rattle.graft_model.specs.Steps.{router_row, far_row, operator_row}
@@ -116,7 +117,8 @@ IsSentBy setup entry None = sender_of entry ≡ None
 IsSentBy setup entry (Some x) = (name : ActorName) × (sender_of entry ≡ Some name) × (actor_at setup x.0 ≡ Some name)
 
 -- what a row takes, of items of one type, with who sent each
-module _ {T : Type 0} (by : T → ActorName × Thing) (setup : Setup) (same : (t u : T) → (by t).1 ≡ (by u).1 → number_in setup (by t).0 ≡ number_in setup (by u).0 → (by u).0 ≡ (by t).0) where
+module _ {T : Type 0} (by : T → ActorName × Thing) (setup : Setup)
+    (same : (t u : T) → (by t).1 ≡ (by u).1 → number_in setup (by t).0 ≡ number_in setup (by u).0 → (by u).0 ≡ (by t).0) where
   abbrev Comes : Option ActorName → Thing → Type 0
   Comes None thing = ⊥
   Comes (Some from) thing = (t : T) × (by t ≡ (from, thing))
@@ -127,7 +129,8 @@ module _ {T : Type 0} (by : T → ActorName × Thing) (setup : Setup) (same : (t
   named from thing t (Some name) is (u, u_is) e =
       let number : from ≡ number_in setup name = (of_number setup from name is).1 in
       is
-      ∙ ap (λ (x : ActorName). Some x) (ap (λ (x : ActorName × Thing). x.0) (sym u_is) ∙ same t u (sym (ap (λ (x : ℕ × Thing). x.1) e) ∙ ap (λ (x : ActorName × Thing). x.1) (sym u_is))
+      ∙ ap (λ (x : ActorName). Some x)
+      (ap (λ (x : ActorName × Thing). x.0) (sym u_is) ∙ same t u (sym (ap (λ (x : ℕ × Thing). x.1) e) ∙ ap (λ (x : ActorName × Thing). x.1) (sym u_is))
       (sym (ap (λ (x : ℕ × Thing). x.0) e) ∙ number ∙ ap (λ (x : ActorName × Thing). number_in setup x.0) (sym u_is)))
 
   by_taken : (entry : JournalEntry) (taken : Option (ℕ × Mail)) (took : Option T) → sender_of entry ≡ option_map (λ t. (by t).0) took
@@ -136,7 +139,8 @@ module _ {T : Type 0} (by : T → ActorName × Thing) (setup : Setup) (same : (t
   by_taken entry None None sender e comes = sender
   by_taken entry None (Some t) sender e comes = absurd cc
   by_taken entry (Some x) None sender e comes = absurd cc
-  by_taken entry (Some x) (Some t) sender e comes = ((by t).0, sender, named x.0 (thing_of carried setup x.1) t (actor_at setup x.0) refl (comes x.0 x.1 refl) (pair e))
+  by_taken entry (Some x) (Some t) sender e comes =
+      ((by t).0, sender, named x.0 (thing_of carried setup x.1) t (actor_at setup x.0) refl (comes x.0 x.1 refl) (pair e))
     where
       pair : {A : Type 0} {u v : A} → Some u ≡ Some v → u ≡ v
       pair h = cc
@@ -193,6 +197,7 @@ welcome_takes own (Some x) welcome from item e = subst (λ (y : ℕ × Mail). Is
 pub act_sent : (before after : OwnPart) (entry : JournalEntry) (taken : Option (ℕ × Mail)) (sent : List (ℕ × Mail))
     → ActsAs carried before entry taken sent after → entry.kind ≢ 0 → IsSentBy before.setup entry taken
 act_sent before after entry taken sent act kept = elim act.does [
-  | inl makes ↦ row_sent before.setup before.name before.part after.part entry taken (things carried before.setup sent) makes.row (λ from item e. (welcome_takes before taken makes.welcome from item e).takes)
+  | inl makes ↦ row_sent before.setup before.name before.part after.part entry taken
+      (things carried before.setup sent) makes.row (λ from item e. (welcome_takes before taken makes.welcome from item e).takes)
   | inr drops ↦ absurd (kept drops.kind)
 ]

@@ -1,5 +1,6 @@
 -- Each Tick of a story in the world has the number of an event that made it: a bound on the events' numbers is one on the stories'.
-use Rattle.std.proofs.Common.{rules, ◌≡◌, ◌<◌, ◌+◌, ℕ, zero, suc, Bool, true, false, List, [], ◌∷◌, ◌++◌, Result, Ok, Err, refl, ap, subst, inl, inr, if◌then◌else◌}
+use Rattle.std.proofs.Common.{rules, ◌≡◌, ◌<◌, ◌+◌, ℕ, zero, suc, Bool, true, false, List, [], ◌∷◌, ◌++◌}
+use Rattle.std.proofs.Common.{Result, Ok, Err, refl, ap, subst, inl, inr, if◌then◌else◌}
 use Rattle.std.specs.Prelude.{◌==◌, ◌%◌, ◌/◌, Option, Some, None, All, fold, slice_get}
 use Rattle.std.specs.List.{AllByRecursion}
 use Rattle.std.proofs.Math.Path.{subst⁻¹}
@@ -25,8 +26,10 @@ use Rattle.graft_model.specs.FarRows.{FarTaken, OutwardIn, SayIn, FarSent}
 use Rattle.graft_model.specs.OperatorRows.{OperatorTaken, ReportIn, OperatorSent, OrderTo, SayTo}
 use Rattle.graft_model.specs.declared.event.RouterEvent.TheVariants as events
 use Rattle.graft_model.specs.declared.event.RouterEvent.{RouterEvent}
-use Rattle.graft_model.specs.declared.event.RouterEvent.TheVariants.{Emit, Arrive, Stray, Decide, Tell, Hear, Admit, Refuse, Freeze, Leave, Land, Return, Clear, Ask, Answer, Collect, Confirm}
-use Rattle.graft_model.specs.Steps.{router_row, Event, ByRouter, ByFar, ByOperator, RouterTook, FarTook, OperatorTook, router_sends, far_sends, operator_sends, Step, Run}
+use Rattle.graft_model.specs.declared.event.RouterEvent.TheVariants.{Emit, Arrive, Stray, Decide, Tell, Hear, Admit, Refuse, Freeze, Leave}
+use Rattle.graft_model.specs.declared.event.RouterEvent.TheVariants.{Land, Return, Clear, Ask, Answer, Collect, Confirm}
+use Rattle.graft_model.specs.Steps.{router_row, Event, ByRouter, ByFar, ByOperator, RouterTook, FarTook}
+use Rattle.graft_model.specs.Steps.{OperatorTook, router_sends, far_sends, operator_sends, Step, Run}
 
 module _ (n : ℕ) where
   abbrev pub Early : SessionValue → Type 0
@@ -98,14 +101,18 @@ module _ (n : ℕ) where
   at_early false false x y s t = no_line
 
   gets_early : (s u : SessionValue) (bytes : List ℕ) → GetsFrame s bytes u → Early s → Early u
-  gets_early s u bytes g early = subst⁻¹ (λ (lines : List Line). All (IsEarlier n) lines) (ap (λ (x : SessionValue). x.story) g.effect) (All-append (IsEarlier n) s.story (Got bytes ∷ g.answer) early
+  gets_early s u bytes g early = subst⁻¹ (λ (lines : List Line). All (IsEarlier n) lines)
+      (ap (λ (x : SessionValue). x.story) g.effect) (All-append (IsEarlier n) s.story (Got bytes ∷ g.answer) early
       (All-append (IsEarlier n) (Got bytes ∷ []) g.answer (one_got bytes)
-      (subst (λ (lines : List Line). All (IsEarlier n) lines) (ap (λ (x : List Line × SessionState). x.0) g.reply) (reply_early (message_of (expected_next (peering_of s.config) s.story (state s)) bytes)))))
+      (subst (λ (lines : List Line). All (IsEarlier n) lines) (ap (λ (x : List Line × SessionState). x.0) g.reply)
+      (reply_early (message_of (expected_next (peering_of s.config) s.story (state s)) bytes)))))
 
   passes_early : (s u : SessionValue) (round : ℕ) → PassesRound s round u → round < n → Early s → Early u
-  passes_early s u round g l early = subst⁻¹ (λ (lines : List Line). All (IsEarlier n) lines) (ap (λ (x : SessionValue). x.story) g.effect) (All-append (IsEarlier n) s.story (Tick round ∷ g.answer) early
+  passes_early s u round g l early = subst⁻¹ (λ (lines : List Line). All (IsEarlier n) lines)
+      (ap (λ (x : SessionValue). x.story) g.effect) (All-append (IsEarlier n) s.story (Tick round ∷ g.answer) early
       (All-append (IsEarlier n) (Tick round ∷ []) g.answer (one_tick round l)
-      (subst (λ (lines : List Line). All (IsEarlier n) lines) (ap (λ (x : List Line × SessionState). x.0) g.reply) (at_early (silence s.story + 1 == hold_time s) (round % (hold_time s / 3) == 0) _ _ _ (state s)))))
+      (subst (λ (lines : List Line). All (IsEarlier n) lines) (ap (λ (x : List Line × SessionState). x.0) g.reply)
+      (at_early (silence s.story + 1 == hold_time s) (round % (hold_time s / 3) == 0) _ _ _ (state s)))))
 
   -- ---- places
 
@@ -129,36 +136,49 @@ module _ (n : ℕ) where
 
   early_row : (setup : Setup) (r : ℕ) (event : RouterEvent) (a b : RouterPart) (taken : Option RouterTaken) (sent : List RouterSent)
       → router_row setup r event a taken sent b → NotLate event → EarlyPlaces a → EarlyTaken taken → After b sent
-  early_row setup r (events.Put q zero) a b taken sent row l all took = (same_places a b (ap (λ (x : RouterPart). x.places) row.effect) all, nothing_sent sent row.alone.1)
+  early_row setup r (events.Put q zero) a b taken sent row l all took =
+      (same_places a b (ap (λ (x : RouterPart). x.places) row.effect) all, nothing_sent sent row.alone.1)
   early_row setup r (events.Put q (suc m)) a b taken sent row l all took = (
     at_place a b q (Live row.next row.errand) (ap (λ (x : RouterPart). x.places) row.effect)
-        (subst⁻¹ (λ (lines : List Line). All (IsEarlier n) lines) (ap (λ (x : SessionValue). x.story) row.puts.effect) (All-append (IsEarlier n) row.session.story _ (was_early a q row.session row.errand row.live all) (one_put _))) all,
+        (subst⁻¹ (λ (lines : List Line). All (IsEarlier n) lines) (ap (λ (x : SessionValue). x.story) row.puts.effect)
+        (All-append (IsEarlier n) row.session.story _ (was_early a q row.session row.errand row.live all) (one_put _))) all,
     nothing_sent sent row.alone.1,
   )
   early_row setup r (Emit q from len) a b taken sent row l all took = (
-    at_place a b q (Live (record row.session { end = row.end }) row.errand) (ap (λ (x : RouterPart). x.places) row.effect) (was_early a q row.session row.errand row.live all) all,
+    at_place a b q (Live (record row.session { end = row.end }) row.errand)
+        (ap (λ (x : RouterPart). x.places) row.effect) (was_early a q row.session row.errand row.live all) all,
     subst⁻¹ (λ (xs : List RouterSent). AllByRecursion EarlySent xs) row.sends (tt, tt),
   )
   early_row setup r (Arrive q) a b taken sent row l all took = (
-    at_place a b q (Live (record row.session { end = row.end }) row.errand) (ap (λ (x : RouterPart). x.places) row.effect) (was_early a q row.session row.errand row.live all) all,
+    at_place a b q (Live (record row.session { end = row.end }) row.errand)
+        (ap (λ (x : RouterPart). x.places) row.effect) (was_early a q row.session row.errand row.live all) all,
     nothing_sent sent row.sends,
   )
   early_row setup r (Stray q) a b taken sent row l all took = (same_places a b (ap (λ (x : RouterPart). x.places) row.stays) all, nothing_sent sent row.sends)
   early_row setup r (events.Got q) a b taken sent row l all took = (
-    at_place a b q (Live row.next row.errand) (ap (λ (x : RouterPart). x.places) row.follows.effect) (gets_early row.session row.next row.bytes row.gets (was_early a q row.session row.errand row.live all)) all,
+    at_place a b q (Live row.next row.errand) (ap (λ (x : RouterPart). x.places) row.follows.effect)
+        (gets_early row.session row.next row.bytes row.gets (was_early a q row.session row.errand row.live all)) all,
     nothing_sent sent row.alone.1,
   )
-  early_row setup r (Decide prefix) a b taken sent row l all took = (same_places a b (ap (λ (x : RouterPart). x.places) row.effect) all, nothing_sent sent row.alone.1)
-  early_row setup r (Tell q prefix) a b taken sent row l all took = (same_places a b (ap (λ (x : RouterPart). x.places) row.effect) all, subst⁻¹ (λ (xs : List RouterSent). AllByRecursion EarlySent xs) row.sends (tt, tt))
+  early_row setup r (Decide prefix) a b taken sent row l all took =
+      (same_places a b (ap (λ (x : RouterPart). x.places) row.effect) all, nothing_sent sent row.alone.1)
+  early_row setup r (Tell q prefix) a b taken sent row l all took = (
+    same_places a b (ap (λ (x : RouterPart). x.places) row.effect) all,
+    subst⁻¹ (λ (xs : List RouterSent). AllByRecursion EarlySent xs) row.sends (tt, tt),
+  )
   early_row setup r (Hear q) a b taken sent row l all took = (same_places a b (ap (λ (x : RouterPart). x.places) row.effect) all, nothing_sent sent row.sends)
-  early_row setup r (Admit k) a b taken sent row l all took =
-      (at_place a b row.peering _ (ap (λ (x : RouterPart). x.places) row.effect) (was_early a row.peering row.session None row.live all) all, nothing_sent sent row.sends)
+  early_row setup r (Admit k) a b taken sent row l all took = (
+    at_place a b row.peering _ (ap (λ (x : RouterPart). x.places) row.effect) (was_early a row.peering row.session None row.live all) all,
+    nothing_sent sent row.sends,
+  )
   early_row setup r (Refuse k) a b taken sent row l all took = (
     at_place a b row.peering (Live row.session None) (ap (λ (x : RouterPart). x.places) row.effect) (was_early a row.peering row.session _ row.live all) all,
     subst⁻¹ (λ (xs : List RouterSent). AllByRecursion EarlySent xs) row.sends (tt, tt),
   )
-  early_row setup r (Freeze k) a b taken sent row l all took =
-      (at_place a b row.peering _ (ap (λ (x : RouterPart). x.places) row.effect) (was_early a row.peering row.session _ row.live all) all, nothing_sent sent row.alone.1)
+  early_row setup r (Freeze k) a b taken sent row l all took = (
+    at_place a b row.peering _ (ap (λ (x : RouterPart). x.places) row.effect) (was_early a row.peering row.session _ row.live all) all,
+    nothing_sent sent row.alone.1,
+  )
   early_row setup r (Leave k) a b taken sent row l all took = (
     at_place a b row.peering (Shadow k) (ap (λ (x : RouterPart). x.places) row.effect) tt all,
     subst⁻¹ (λ (xs : List RouterSent). AllByRecursion EarlySent xs) row.sends (subst EarlyPlace row.frozen (all row.peering), tt),
@@ -181,15 +201,19 @@ module _ (n : ℕ) where
   )
   early_row setup r (Answer q) a b taken sent row l all took =
       (same_places a b (ap (λ (x : RouterPart). x.places) row.stays) all, subst⁻¹ (λ (xs : List RouterSent). AllByRecursion EarlySent xs) row.sends (tt, tt))
-  early_row setup r (Collect q) a b taken sent (inl row) l all took =
-      (at_place a b row.peering _ (ap (λ (x : RouterPart). x.places) row.effect) (was_early a row.peering row.session _ row.live all) all, nothing_sent sent row.sends)
-  early_row setup r (Collect q) a b taken sent (inr row) l all took = (same_places a b (ap (λ (x : RouterPart). x.places) row.stays) all, nothing_sent sent row.sends)
+  early_row setup r (Collect q) a b taken sent (inl row) l all took = (
+    at_place a b row.peering _ (ap (λ (x : RouterPart). x.places) row.effect) (was_early a row.peering row.session _ row.live all) all,
+    nothing_sent sent row.sends,
+  )
+  early_row setup r (Collect q) a b taken sent (inr row) l all took =
+      (same_places a b (ap (λ (x : RouterPart). x.places) row.stays) all, nothing_sent sent row.sends)
   early_row setup r (Confirm k) a b taken sent row l all took = (
     at_place a b row.peering (Live row.session None) (ap (λ (x : RouterPart). x.places) row.effect) (was_early a row.peering row.session _ row.live all) all,
     subst⁻¹ (λ (xs : List RouterSent). AllByRecursion EarlySent xs) row.sends (tt, tt),
   )
   early_row setup r (events.Tick q round) a b taken sent row l all took = (
-    at_place a b q (Live row.next row.errand) (ap (λ (x : RouterPart). x.places) row.follows.effect) (passes_early row.session row.next round row.passes l (was_early a q row.session row.errand row.live all)) all,
+    at_place a b q (Live row.next row.errand) (ap (λ (x : RouterPart). x.places) row.follows.effect)
+        (passes_early row.session row.next round row.passes l (was_early a q row.session row.errand row.live all)) all,
     nothing_sent sent row.alone.1,
   )
   early_row setup r _ a b taken sent row l all took = (
@@ -226,9 +250,14 @@ module _ (n : ℕ) where
   sends_early : (r : ℕ) (sent : List RouterSent) (w : World) → AllByRecursion EarlySent sent → EarlyWorld w → EarlyWorld (fold (router_sends r) w sent)
   sends_early r [] w all early = early
   sends_early r (MeshTo q item ∷ sent) w all early =
-      sends_early r sent (router_sends r w (MeshTo q item)) all.1 (record { places = early.places; mesh = mesh_at w.mesh r q (w.mesh r q ++ item ∷ []) early.mesh (all-append EarlyMesh (w.mesh r q) (item ∷ []) (early.mesh r q) (all.0, tt)) })
-  sends_early r (OutwardTo p item ∷ sent) w all early = sends_early r sent (router_sends r w (OutwardTo p item)) all.1 (record { places = early.places; mesh = early.mesh })
-  sends_early r (ReportOut report ∷ sent) w all early = sends_early r sent (router_sends r w (ReportOut report)) all.1 (record { places = early.places; mesh = early.mesh })
+      sends_early r sent (router_sends r w (MeshTo q item)) all.1 (record {
+        places = early.places;
+        mesh = mesh_at w.mesh r q (w.mesh r q ++ item ∷ []) early.mesh (all-append EarlyMesh (w.mesh r q) (item ∷ []) (early.mesh r q) (all.0, tt));
+      })
+  sends_early r (OutwardTo p item ∷ sent) w all early =
+      sends_early r sent (router_sends r w (OutwardTo p item)) all.1 (record { places = early.places; mesh = early.mesh })
+  sends_early r (ReportOut report ∷ sent) w all early =
+      sends_early r sent (router_sends r w (ReportOut report)) all.1 (record { places = early.places; mesh = early.mesh })
 
   far_took_early : (w u : World) (p : ℕ) (taken : Option FarTaken) → FarTook w p taken u → EarlyWorld w → EarlyWorld u
   far_took_early w u p None took early = subst⁻¹ EarlyWorld took early
@@ -245,8 +274,10 @@ module _ (n : ℕ) where
 
   operator_sends_early : (sent : List OperatorSent) (w : World) → EarlyWorld w → EarlyWorld (fold operator_sends w sent)
   operator_sends_early [] w early = early
-  operator_sends_early (OrderTo r order ∷ sent) w early = operator_sends_early sent (operator_sends w (OrderTo r order)) (record { places = early.places; mesh = early.mesh })
-  operator_sends_early (SayTo p step ∷ sent) w early = operator_sends_early sent (operator_sends w (SayTo p step)) (record { places = early.places; mesh = early.mesh })
+  operator_sends_early (OrderTo r order ∷ sent) w early =
+      operator_sends_early sent (operator_sends w (OrderTo r order)) (record { places = early.places; mesh = early.mesh })
+  operator_sends_early (SayTo p step ∷ sent) w early =
+      operator_sends_early sent (operator_sends w (SayTo p step)) (record { places = early.places; mesh = early.mesh })
 
   abbrev pub NotLateEvent : Event → Type 0
   NotLateEvent (ByRouter r event) = NotLate event
@@ -261,10 +292,12 @@ module _ (n : ℕ) where
       (record { places = router_at step.without.router r step.part took.0.places row.0; mesh = took.0.mesh }))
   early_step setup (ByFar p event) w v step l early =
       let took = far_took_early w step.without p step.taken step.took early in
-      subst⁻¹ EarlyWorld step.is (far_sends_early p step.sent (record step.without { far = at step.without.far p step.part }) (record { places = took.places; mesh = took.mesh }))
+      subst⁻¹ EarlyWorld step.is
+      (far_sends_early p step.sent (record step.without { far = at step.without.far p step.part }) (record { places = took.places; mesh = took.mesh }))
   early_step setup (ByOperator event) w v step l early =
       let took = operator_took_early w step.without step.taken step.took early in
-      subst⁻¹ EarlyWorld step.is (operator_sends_early step.sent (record step.without { operator = step.part }) (record { places = took.places; mesh = took.mesh }))
+      subst⁻¹ EarlyWorld step.is
+      (operator_sends_early step.sent (record step.without { operator = step.part }) (record { places = took.places; mesh = took.mesh }))
 
   pub early_run : (setup : Setup) (events : List Event) (w v : World) → Run setup w events v → AllByRecursion NotLateEvent events → EarlyWorld w → EarlyWorld v
   early_run setup [] w v run all early = subst⁻¹ EarlyWorld run early

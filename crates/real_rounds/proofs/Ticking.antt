@@ -1,5 +1,6 @@
 -- On a session that stands through a round while its hold time runs, the round may pass.
-use Rattle.std.proofs.Common.{rules, ◌≡◌, ◌≢◌, ◌<◌, ◌+◌, ◌∙◌, ℕ, zero, suc, Bool, true, false, List, [], ◌∷◌, ◌++◌, length, Result, Ok, Err, refl, ap, sym, subst, inl, inr, arith}
+use Rattle.std.proofs.Common.{rules, ◌≡◌, ◌≢◌, ◌<◌, ◌+◌, ◌∙◌, ℕ, zero, suc, Bool, true, false, List, [], ◌∷◌}
+use Rattle.std.proofs.Common.{◌++◌, length, Result, Ok, Err, refl, ap, sym, subst, inl, inr, arith}
 use Rattle.std.specs.Prelude.{◌⊎◌, ◌==◌, Option, None, All}
 use Rattle.std.specs.List.{AllByRecursion}
 use Rattle.std.proofs.Math.Path.{subst⁻¹}
@@ -29,7 +30,8 @@ use Rattle.graft_model.specs.Parts.{Place, Vacant, Live, Frozen, Shadow, Order, 
 use Rattle.graft_model.specs.RouterRows.{RouterTaken, RouterSent, IsLive, update_for}
 use Rattle.graft_model.specs.declared.event.RouterEvent.TheVariants as events
 use Rattle.graft_model.specs.declared.event.RouterEvent.{RouterEvent}
-use Rattle.graft_model.specs.declared.event.RouterEvent.TheVariants.{Emit, Arrive, Decide, Tell, Hear, Admit, Refuse, Freeze, Leave, Land, Return, Clear, Ask, Answer, Collect, Confirm}
+use Rattle.graft_model.specs.declared.event.RouterEvent.TheVariants.{Emit, Arrive, Decide, Tell, Hear, Admit, Refuse, Freeze, Leave}
+use Rattle.graft_model.specs.declared.event.RouterEvent.TheVariants.{Land, Return, Clear, Ask, Answer, Collect, Confirm}
 use Rattle.graft_model.specs.Steps.{router_row}
 use Rattle.bgp_session.specs.Steps.{MayPass}
 use Rattle.router_core.specs.Parts.{router_part}
@@ -122,42 +124,66 @@ changes event a b q p x next s u y z o w row before ends_at effect case = elim (
 pub step_of : (setup : Setup) (r : ℕ) (event : RouterEvent) (a b : RouterPart) (taken : Option RouterTaken) (sent : List RouterSent)
     → router_row setup r event a taken sent b → (p : ℕ) (s u : SessionValue) (o w : Option Errand)
     → IsLive a p s o → IsLive b p u w → Step event p s u
-step_of setup r (events.Put q zero) a b taken sent row p s u o w before ends_at = place_same (events.Put q zero) a b p s u o w before ends_at (ap (λ (x : RouterPart). x.places p) row.effect)
+step_of setup r (events.Put q zero) a b taken sent row p s u o w before ends_at =
+    place_same (events.Put q zero) a b p s u o w before ends_at (ap (λ (x : RouterPart). x.places p) row.effect)
 step_of setup r (events.Put q (suc n)) a b taken sent row p s u o w before ends_at =
-    changes (events.Put q (suc n)) a b q p row.session row.next s u row.errand row.errand o w row.live before ends_at (ap (λ (x : RouterPart). x.places) row.effect)
-    (λ e is to. puts (update_for row.attrs row.prefixes) (subst (λ (x : SessionValue). PutsUpdate x (update_for row.attrs row.prefixes) u) is (subst (λ (x : SessionValue). PutsUpdate row.session (update_for row.attrs row.prefixes) x) to row.puts)) (λ h. absurd (omega (arith, h))))
+    changes (events.Put q (suc n)) a b q p row.session row.next s u row.errand row.errand o w row.live before ends_at
+    (ap (λ (x : RouterPart). x.places) row.effect)
+    (λ e is to. puts (update_for row.attrs row.prefixes) (subst (λ (x : SessionValue). PutsUpdate x (update_for row.attrs row.prefixes) u) is
+    (subst (λ (x : SessionValue). PutsUpdate row.session (update_for row.attrs row.prefixes) x) to row.puts)) (λ h. absurd (omega (arith, h))))
 step_of setup r (Emit q from len) a b taken sent row p s u o w before ends_at =
-    changes (Emit q from len) a b q p row.session (record row.session { end = row.end }) s u row.errand row.errand o w row.live before ends_at (ap (λ (x : RouterPart). x.places) row.effect)
+    changes (Emit q from len) a b q p row.session (record row.session { end = row.end }) s u row.errand row.errand o w row.live before ends_at
+    (ap (λ (x : RouterPart). x.places) row.effect)
     (λ e is to. ends row.end (sym to ∙ ap (λ (x : SessionValue). let y : SessionValue = record x { end = row.end } in y) is)
     ((emits_same row.session.end row.segment row.end row.emits.emits).stream ∙ ap (λ (x : SessionValue). x.end.stream) is))
 step_of setup r (Arrive q) a b taken sent row p s u o w before ends_at =
-    changes (Arrive q) a b q p row.session (record row.session { end = row.end }) s u row.errand row.errand o w row.live before ends_at (ap (λ (x : RouterPart). x.places) row.effect)
+    changes (Arrive q) a b q p row.session (record row.session { end = row.end }) s u row.errand row.errand o w row.live before ends_at
+    (ap (λ (x : RouterPart). x.places) row.effect)
     (λ e is to. ends row.end (sym to ∙ ap (λ (x : SessionValue). let y : SessionValue = record x { end = row.end } in y) is)
     ((takes_same row.session.end row.segment row.end row.arrives).stream ∙ ap (λ (x : SessionValue). x.end.stream) is))
 step_of setup r (events.Got q) a b taken sent row p s u o w before ends_at =
-    changes (events.Got q) a b q p row.session row.next s u row.errand row.errand o w row.live before ends_at (ap (λ (x : RouterPart). x.places) row.follows.effect)
-    (λ e is to. gets row.bytes (subst (λ (x : SessionValue). GetsFrame x row.bytes u) is (subst (λ (x : SessionValue). GetsFrame row.session row.bytes x) to row.gets)))
-step_of setup r (Decide prefix) a b taken sent row p s u o w before ends_at = place_same (Decide prefix) a b p s u o w before ends_at (ap (λ (x : RouterPart). x.places p) row.effect)
-step_of setup r (Tell q prefix) a b taken sent row p s u o w before ends_at = place_same (Tell q prefix) a b p s u o w before ends_at (ap (λ (x : RouterPart). x.places p) row.effect)
-step_of setup r (Hear q) a b taken sent row p s u o w before ends_at = place_same (Hear q) a b p s u o w before ends_at (ap (λ (x : RouterPart). x.places p) row.effect)
-step_of setup r (Admit k) a b taken sent row p s u o w before ends_at = order_changes (Admit k) a b row.peering p row.session s u None _ o w row.live before ends_at (ap (λ (x : RouterPart). x.places) row.effect)
-step_of setup r (Refuse k) a b taken sent row p s u o w before ends_at = order_changes (Refuse k) a b row.peering p row.session s u _ None o w row.live before ends_at (ap (λ (x : RouterPart). x.places) row.effect)
+    changes (events.Got q) a b q p row.session row.next s u row.errand row.errand o w row.live before ends_at
+    (ap (λ (x : RouterPart). x.places) row.follows.effect)
+    (λ e is to. gets row.bytes
+    (subst (λ (x : SessionValue). GetsFrame x row.bytes u) is (subst (λ (x : SessionValue). GetsFrame row.session row.bytes x) to row.gets)))
+step_of setup r (Decide prefix) a b taken sent row p s u o w before ends_at =
+    place_same (Decide prefix) a b p s u o w before ends_at (ap (λ (x : RouterPart). x.places p) row.effect)
+step_of setup r (Tell q prefix) a b taken sent row p s u o w before ends_at =
+    place_same (Tell q prefix) a b p s u o w before ends_at (ap (λ (x : RouterPart). x.places p) row.effect)
+step_of setup r (Hear q) a b taken sent row p s u o w before ends_at =
+    place_same (Hear q) a b p s u o w before ends_at (ap (λ (x : RouterPart). x.places p) row.effect)
+step_of setup r (Admit k) a b taken sent row p s u o w before ends_at =
+    order_changes (Admit k) a b row.peering p row.session s u None _ o w row.live before ends_at (ap (λ (x : RouterPart). x.places) row.effect)
+step_of setup r (Refuse k) a b taken sent row p s u o w before ends_at =
+    order_changes (Refuse k) a b row.peering p row.session s u _ None o w row.live before ends_at (ap (λ (x : RouterPart). x.places) row.effect)
 step_of setup r (Freeze k) a b taken sent row p s u o w before ends_at =
-    leaves (Freeze k) a b row.peering p _ s u o w (no_frozen row.session (record { graft = k; target = row.target })) before ends_at (ap (λ (x : RouterPart). x.places) row.effect)
-step_of setup r (Leave k) a b taken sent row p s u o w before ends_at = leaves (Leave k) a b row.peering p (Shadow k) s u o w (no_shadow (Shadow k) k refl) before ends_at (ap (λ (x : RouterPart). x.places) row.effect)
+    leaves (Freeze k) a b row.peering p _ s u o w (no_frozen row.session (record { graft = k; target = row.target })) before ends_at
+    (ap (λ (x : RouterPart). x.places) row.effect)
+step_of setup r (Leave k) a b taken sent row p s u o w before ends_at =
+    leaves (Leave k) a b row.peering p (Shadow k) s u o w (no_shadow (Shadow k) k refl) before ends_at (ap (λ (x : RouterPart). x.places) row.effect)
 step_of setup r (Land q) a b taken sent row p s u o w before ends_at =
-    comes (Land q) a b row.comes.peering p _ s u o w (no_vacant (a.places row.comes.peering) row.comes.vacant) before ends_at (ap (λ (x : RouterPart). x.places) row.effect)
+    comes (Land q) a b row.comes.peering p _ s u o w
+    (no_vacant (a.places row.comes.peering) row.comes.vacant) before ends_at (ap (λ (x : RouterPart). x.places) row.effect)
 step_of setup r (Return q) a b taken sent row p s u o w before ends_at =
-    comes (Return q) a b row.peering p _ s u o w (no_shadow (a.places row.peering) row.graft row.shadow) before ends_at (ap (λ (x : RouterPart). x.places) row.effect)
-step_of setup r (Clear q) a b taken sent row p s u o w before ends_at = leaves (Clear q) a b row.peering p Vacant s u o w (no_vacant Vacant refl) before ends_at (ap (λ (x : RouterPart). x.places) row.effect)
-step_of setup r (Ask k q) a b taken sent row p s u o w before ends_at = order_changes (Ask k q) a b row.peering p row.session s u _ _ o w row.live before ends_at (ap (λ (x : RouterPart). x.places) row.effect)
-step_of setup r (Collect q) a b taken sent (inl row) p s u o w before ends_at = order_changes (Collect q) a b row.peering p row.session s u _ _ o w row.live before ends_at (ap (λ (x : RouterPart). x.places) row.effect)
-step_of setup r (Collect q) a b taken sent (inr row) p s u o w before ends_at = place_same (Collect q) a b p s u o w before ends_at (ap (λ (x : RouterPart). x.places p) row.stays)
-step_of setup r (Confirm k) a b taken sent row p s u o w before ends_at = order_changes (Confirm k) a b row.peering p row.session s u _ None o w row.live before ends_at (ap (λ (x : RouterPart). x.places) row.effect)
+    comes (Return q) a b row.peering p _ s u o w (no_shadow (a.places row.peering) row.graft row.shadow) before ends_at
+    (ap (λ (x : RouterPart). x.places) row.effect)
+step_of setup r (Clear q) a b taken sent row p s u o w before ends_at =
+    leaves (Clear q) a b row.peering p Vacant s u o w (no_vacant Vacant refl) before ends_at (ap (λ (x : RouterPart). x.places) row.effect)
+step_of setup r (Ask k q) a b taken sent row p s u o w before ends_at =
+    order_changes (Ask k q) a b row.peering p row.session s u _ _ o w row.live before ends_at (ap (λ (x : RouterPart). x.places) row.effect)
+step_of setup r (Collect q) a b taken sent (inl row) p s u o w before ends_at =
+    order_changes (Collect q) a b row.peering p row.session s u _ _ o w row.live before ends_at (ap (λ (x : RouterPart). x.places) row.effect)
+step_of setup r (Collect q) a b taken sent (inr row) p s u o w before ends_at =
+    place_same (Collect q) a b p s u o w before ends_at (ap (λ (x : RouterPart). x.places p) row.stays)
+step_of setup r (Confirm k) a b taken sent row p s u o w before ends_at =
+    order_changes (Confirm k) a b row.peering p row.session s u _ None o w row.live before ends_at (ap (λ (x : RouterPart). x.places) row.effect)
 step_of setup r (events.Tick q round) a b taken sent row p s u o w before ends_at =
-    changes (events.Tick q round) a b q p row.session row.next s u row.errand row.errand o w row.live before ends_at (ap (λ (x : RouterPart). x.places) row.follows.effect)
-    (λ e is to. passes round (subst (λ (x : SessionValue). PassesRound x round u) is (subst (λ (x : SessionValue). PassesRound row.session round x) to row.passes)) (λ h. absurd (omega (arith, h))))
-step_of setup r event a b taken sent row p s u o w before ends_at = place_same event a b p s u o w before ends_at (ap (λ (x : RouterPart). x.places p) row.stays)
+    changes (events.Tick q round) a b q p row.session row.next s u row.errand row.errand o w row.live before ends_at
+    (ap (λ (x : RouterPart). x.places) row.follows.effect)
+    (λ e is to. passes round (subst (λ (x : SessionValue). PassesRound x round u) is
+    (subst (λ (x : SessionValue). PassesRound row.session round x) to row.passes)) (λ h. absurd (omega (arith, h))))
+step_of setup r event a b taken sent row p s u o w before ends_at =
+    place_same event a b p s u o w before ends_at (ap (λ (x : RouterPart). x.places p) row.stays)
 
 -- ---- a closed session stays closed
 
@@ -180,7 +206,8 @@ closed_on Allowed setup r a b [] (m ∷ ms) goes p all s u o w before ends_at cl
 closed_on Allowed setup r a b (e ∷ es) [] goes p all s u o w before ends_at closed = absurd goes
 closed_on Allowed setup r a b (e ∷ es) (m ∷ ms) goes p all s u o w before ends_at closed =
     let (x, y, live) = all.1.0 in
-    closed_on Allowed setup r m b es ms goes.4 p all.1 x u y w live ends_at (closed_step e p s x (step_of setup r e a m goes.0 goes.1 goes.2 p s x o y before live) closed)
+    closed_on Allowed setup r m b es ms goes.4 p all.1 x u y w live ends_at
+    (closed_step e p s x (step_of setup r e a m goes.0 goes.1 goes.2 p s x o y before live) closed)
 
 -- ---- what is got
 
@@ -212,26 +239,32 @@ no_answer : (s u : SessionValue) (bytes : List ℕ) (g : GetsFrame s bytes u) �
 no_answer s u bytes g up unclosed = by_message (message_of (expected_next (peering_of s.config) s.story (state s)) bytes) g.reply
   where
     by_message : (m : Result Message Notice) → reply_to m ≡ (g.answer, g.next) → g.answer ≡ []
-    by_message (Ok (OpenMsg x)) f = absurd (not_open (state s) up (confirmed_from (expected_next (peering_of s.config) s.story (state s)) bytes g.answer g.next g.reply
+    by_message (Ok (OpenMsg x)) f =
+        absurd (not_open (state s) up (confirmed_from (expected_next (peering_of s.config) s.story (state s)) bytes g.answer g.next g.reply
         (λ e. (let h : OpenConfirm ≡ Established = ap (λ y. y.1) f ∙ e in cc)) (λ e. (let h : OpenConfirm ≡ Closed = ap (λ y. y.1) f ∙ e in cc))))
     by_message (Ok (UpdateMsg x)) f = sym (ap (λ y. y.0) f)
     by_message (Ok (NoticeMsg x)) f = sym (ap (λ y. y.0) f)
     by_message (Ok KeepaliveMsg) f = sym (ap (λ y. y.0) f)
-    by_message (Err n) f = absurd (unclosed (ap (λ (x : SessionValue). state x) g.effect ∙ ap (λ (answer : List Line). state_of (s.story ++ Got bytes ∷ answer)) (sym (ap (λ y. y.0) f))
+    by_message (Err n) f = absurd (unclosed
+        (ap (λ (x : SessionValue). state x) g.effect ∙ ap (λ (answer : List Line). state_of (s.story ++ Got bytes ∷ answer)) (sym (ap (λ y. y.0) f))
         ∙ fold-append after OpenSent s.story (Got bytes ∷ Put (NoticeMsg n) ∷ [])))
 
 may_get : (s u : SessionValue) (bytes : List ℕ) (round : ℕ) → GetsFrame s bytes u → MayPass s round → state u ≢ Closed → MayPass u round
 may_get s u bytes round g may unclosed =
     let none = no_answer s u bytes g may.up unclosed in
-    let story : u.story ≡ s.story ++ Got bytes ∷ [] = ap (λ (x : SessionValue). x.story) g.effect ∙ ap (λ (answer : List Line). s.story ++ Got bytes ∷ answer) none in
+    let story : u.story ≡ s.story ++ Got bytes ∷ [] =
+    ap (λ (x : SessionValue). x.story) g.effect ∙ ap (λ (answer : List Line). s.story ++ Got bytes ∷ answer) none in
     let config : u.config ≡ s.config = ap (λ (x : SessionValue). x.config) g.effect in
     let state_is : state u ≡ after_got (state s) bytes = ap state_of story ∙ fold-append after OpenSent s.story (Got bytes ∷ []) in
-    let stream : u.end.stream ≡ s.end.stream = ap (λ (x : SessionValue). x.end.stream) g.effect ∙ ap (λ (answer : List Line). s.end.stream ++ put_by s (s.story ++ Got bytes ∷ answer) answer) none ∙ append-nil s.end.stream in
-    let time : hold_time u ≡ hold_time s = (λ i. hold (peering_of (config i)) (story i)) ∙ ap (smaller_hold (peering_of s.config).first) (open_stays (peering_of s.config) s.story (Got bytes ∷ []) may.runs) in
+    let stream : u.end.stream ≡ s.end.stream = ap (λ (x : SessionValue). x.end.stream) g.effect
+    ∙ ap (λ (answer : List Line). s.end.stream ++ put_by s (s.story ++ Got bytes ∷ answer) answer) none ∙ append-nil s.end.stream in
+    let time : hold_time u ≡ hold_time s = (λ i. hold (peering_of (config i)) (story i))
+    ∙ ap (smaller_hold (peering_of s.config).first) (open_stays (peering_of s.config) s.story (Got bytes ∷ []) may.runs) in
     record {
       up = ap is_up state_is ∙ up_got (state s) bytes may.up (λ e. unclosed (state_is ∙ e));
       runs = omega (arith, may.runs, time);
-      later = subst⁻¹ (λ (lines : List Line). All (IsEarlier round) lines) story (All-append (IsEarlier round) s.story (Got bytes ∷ []) may.later (one_got round bytes));
+      later = subst⁻¹ (λ (lines : List Line). All (IsEarlier round) lines) story
+          (All-append (IsEarlier round) s.story (Got bytes ∷ []) may.later (one_got round bytes));
       room = omega (arith, may.room, ap (λ (xs : List ℕ). length xs) stream);
     }
   where
@@ -264,14 +297,17 @@ may_on setup r a b (e ∷ es) (m ∷ ms) round goes p all s u o w before ends_at
 
 pub ticking : (law : CallsSay) → Ticking
 ticking law x c ds ph n at earlier p s u stands starts ends_up room m o m_at =
-    let both = through_both (HasLive p) IsRouterTake x.known.setup x.number.0 (router_part x) (router_part ph.mid) ph.takes.events ph.takes.moments (ph.turns.first ++ ph.turns.later) ph.takes.goes stands.throughout in
+    let both = through_both (HasLive p) IsRouterTake x.known.setup x.number.0 (router_part x)
+    (router_part ph.mid) ph.takes.events ph.takes.moments (ph.turns.first ++ ph.turns.later) ph.takes.goes stands.throughout in
     let (v, v_order, v_at, v_is) = runs_at x p s stands.first_order stands.starts in
     let number : c.turns ≡ n + 1 = omega (arith, ph.turns.turns, ph.takes.turns, at.turns) in
     let later : All (IsEarlier (n + 1)) s.story = subst (λ (y : SessionValue). All (IsEarlier (n + 1)) y.story) v_is (earlier p v v_order v_at) in
     let live : IsLive (router_part ph.mid) p m.session _ = record { is = ap place_of m_at.is } in
     let unclosed : state m.session ≢ Closed = λ closed. closed_up (state u)
     (closed_on Anything x.known.setup x.number.0 (router_part ph.mid) (router_part c) (ph.turns.again ++ ph.turns.work) (ph.turns.first ++ ph.turns.later)
-    (turn_goes law.turns x ph.mid c ph.first ph.second ph.takes ph.turns ph.calm n at) p both.1 m.session u _ stands.last_order live stands.ends closed) ends_up.up in
+    (turn_goes law.turns x ph.mid c ph.first ph.second ph.takes ph.turns ph.calm n at) p
+    both.1 m.session u _ stands.last_order live stands.ends closed) ends_up.up in
     subst⁻¹ (λ (k : ℕ). MayPass m.session k) number
-    (may_on x.known.setup x.number.0 (router_part x) (router_part ph.mid) ph.takes.events ph.takes.moments (n + 1) ph.takes.goes p both.0 s m.session stands.first_order _
+    (may_on x.known.setup x.number.0 (router_part x) (router_part ph.mid) ph.takes.events ph.takes.moments
+    (n + 1) ph.takes.goes p both.0 s m.session stands.first_order _
     stands.starts live unclosed (record { up = starts.up; runs = starts.runs; later = later; room = room }))

@@ -26,7 +26,8 @@ is_of_kinds these entry = list_any (λ code. code.kind == entry.kind) these
 -- takes outward items from a router, and steps from the operator. The operator takes reports from a router.
 abbrev pub sender_of : JournalEntry → Option ActorName
 sender_of entry = if is_of_kinds (map router_code (Arrive 0 ∷ Stray 0 ∷ [])) entry then Some (FarSide entry.a)
-    else if is_of_kinds (map router_code (Hear 0 ∷ Land 0 ∷ TurnBack 0 ∷ Return 0 ∷ Clear 0 ∷ Answer 0 ∷ Collect 0 ∷ []) ++ map far_code (Take 0 ∷ Point 0 ∷ []) ++ map operator_code (Note 0 ∷ [])) entry then Some (Router entry.a)
+    else if is_of_kinds (map router_code (Hear 0 ∷ Land 0 ∷ TurnBack 0 ∷ Return 0 ∷ Clear 0 ∷ Answer 0 ∷ Collect 0 ∷ [])
+    ++ map far_code (Take 0 ∷ Point 0 ∷ []) ++ map operator_code (Note 0 ∷ [])) entry then Some (Router entry.a)
     else if is_of_kinds (router_code (Admit 0) ∷ far_code (Say 0) ∷ []) entry then Some Operator
     else None
 

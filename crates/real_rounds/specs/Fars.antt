@@ -72,14 +72,16 @@ pub record IsKeepaliveDue (setup : Setup) (p round : ℕ) (part : FarPart) : Typ
 
 -- the remote says one exactly if it is due
 abbrev pub BeatsIfDue : Setup → ℕ → ℕ → FarPart → List FarEvent → Type 0
-BeatsIfDue setup p round part events = (IsKeepaliveDue setup p round part × (events ≡ Beat round ∷ [])) ⊎ ((¬ IsKeepaliveDue setup p round part) × (events ≡ []))
+BeatsIfDue setup p round part events =
+    (IsKeepaliveDue setup p round part × (events ≡ Beat round ∷ [])) ⊎ ((¬ IsKeepaliveDue setup p round part) × (events ≡ []))
 
 -- ---- a round
 
 -- The events of a far side's round, in this order: those of its takes; the links deliver, keep and lose by the plan; an old slice is sent again; the
 -- timer has the remote say a KEEPALIVE; all that is new is sent; and an owed acknowledgement is sent. Each is by its row. At the end all that may be
 -- sent is sent. Rounds are counted from 1.
-pub record RealFar (setup : Setup) (faults : List Fault) (p round : ℕ) (start : FarPart) (before : Links) (events : List FarEvent) (end : FarPart) (after : Links) : Type 0 where
+pub record RealFar (setup : Setup) (faults : List Fault) (p round : ℕ) (start : FarPart)
+    (before : Links) (events : List FarEvent) (end : FarPart) (after : Links) : Type 0 where
   pub taken : List FarEvent
   pub again : List FarEvent
   pub keepalives : List FarEvent
@@ -88,7 +90,8 @@ pub record RealFar (setup : Setup) (faults : List Fault) (p round : ℕ) (start 
   -- segments that were taken in are put into the link to the remote before the turn, and those that the remote sends into the link to home during it
   pub took : List InLink
   pub sent : List InLink
-  pub is : events ≡ taken ++ (home_events end.pointer before.home.plans ++ (remote_events (before.remote.plans ++ took) ++ (again ++ (keepalives ++ (fresh ++ answers)))))
+  pub is : events ≡ taken
+      ++ (home_events end.pointer before.home.plans ++ (remote_events (before.remote.plans ++ took) ++ (again ++ (keepalives ++ (fresh ++ answers)))))
   -- the parts after its takes, and after each piece of its turn
   pub turning : FarPart
   pub delivered : FarPart

@@ -70,7 +70,8 @@ pub record RealRouter (setup : Setup) (r round : ℕ) (start : RouterPart) (even
 abbrev pub OperatorRound : Setup → OperatorPart → List OperatorEvent → OperatorPart → Type 0
 OperatorRound setup start [] end = end ≡ start
 OperatorRound setup start (event ∷ events) end =
-    (taken : Option OperatorTaken) × (sent : List OperatorSent) × (mid : OperatorPart) × operator_row setup event start taken sent mid × OperatorRound setup mid events end
+    (taken : Option OperatorTaken) × (sent : List OperatorSent) × (mid : OperatorPart)
+    × operator_row setup event start taken sent mid × OperatorRound setup mid events end
 
 -- The operator's events in a round, including a Go at the start. At the end no further step of the current group may be issued.
 pub record RealOperator (setup : Setup) (start : OperatorPart) (events : List OperatorEvent) (end : OperatorPart) : Type 0 where

@@ -32,7 +32,8 @@ pub record RouterDid (setup : Setup) (r round : ℕ) (start : World) (slices : S
   pub coded : AreCoded router_code events (slices (number_in setup (Router r)))
   pub real : RealRouter setup r round (start.router r) events (end.router r)
 
-pub record FarDid (setup : Setup) (faults : List Fault) (p round : ℕ) (start : World) (before : Links) (slices : Slices) (end : World) (after : Links) : Type 0 where
+pub record FarDid (setup : Setup) (faults : List Fault) (p round : ℕ) (start : World)
+    (before : Links) (slices : Slices) (end : World) (after : Links) : Type 0 where
   pub events : List FarEvent
   pub coded : AreCoded far_code events (slices (number_in setup (FarSide p)))
   pub real : RealFar setup faults p round (start.far p) before events (end.far p) after
@@ -43,7 +44,8 @@ pub record OperatorDid (setup : Setup) (start : World) (slices : Slices) (end : 
   pub real : RealOperator setup start.operator events end.operator
 
 -- One round of this number, from the world at a mark to the world at the next one.
-pub record RealRound (setup : Setup) (faults : List Fault) (round : ℕ) (start : World) (before : ℕ → Links) (slices : Slices) (end : World) (after : ℕ → Links) : Type 0 where
+pub record RealRound (setup : Setup) (faults : List Fault) (round : ℕ) (start : World)
+    (before : ℕ → Links) (slices : Slices) (end : World) (after : ℕ → Links) : Type 0 where
   pub routers : (r : ℕ) → r < routers_in setup → RouterDid setup r round start slices end
   pub far_sides : (p : ℕ) → p < peerings_in setup → FarDid setup faults p round start (before p) slices end (after p)
   pub operator : OperatorDid setup start slices end

@@ -1,5 +1,6 @@
 -- The choice among the candidates for a prefix is the choice among ranks that belong to them.
-use Rattle.std.proofs.Common.{◌≡◌, ℕ, ◌<◌, ◌≤◌, ◌==◌, Bool, true, false, cond, List, [], ◌∷◌, ◌++◌, Option, Some, None, refl, sym, ap, subst, ◌∙◌, arith, inl, inr}
+use Rattle.std.proofs.Common.{◌≡◌, ℕ, ◌<◌, ◌≤◌, ◌==◌, Bool, true, false, cond, List, [], ◌∷◌, ◌++◌}
+use Rattle.std.proofs.Common.{Option, Some, None, refl, sym, ap, subst, ◌∙◌, arith, inl, inr}
 use Rattle.std.specs.Prelude.{option_and_then}
 use Rattle.std.specs.FinMap as table
 use Rattle.std.specs.BTreeMap.{is_at}
@@ -28,7 +29,8 @@ use Rattle.route_policy.specs.declared.best.Best.{Best}
 use Rattle.route_policy.specs.declared.entry.Entry.{Entry}
 use Rattle.rib_stages.specs.declared.config.RibConfig.{RibConfig}
 use Rattle.rib_stages.specs.Values.{RibValue}
-use Rattle.rib_stages.specs.Choosing.{cost_to, identifier_of, has_network, telling_candidate, source_numbers, candidates_among, candidates_of, rib_choice, NoneBehind, route_from}
+use Rattle.rib_stages.specs.Choosing.{cost_to, identifier_of, has_network, telling_candidate, source_numbers}
+use Rattle.rib_stages.specs.Choosing.{candidates_among, candidates_of, rib_choice, NoneBehind, route_from}
 use Rattle.rib_stages.specs.Ranks.{rank_in, entry_rank}
 use Rattle.rib_stages.proofs.Sorted.{alike_is_same}
 use Rattle.rib_stages.proofs.Numbered.{sources, both_all, both_sorted, sources-append, all_from, sorted_numbers, none_found, found_among, among_range, fewer}
@@ -59,7 +61,8 @@ tells_number : (p k : ℕ) → is_eq (nat_cmp p k) ≡ (k == p)
 tells_number p k = grind (arith, nat_tests)
 
 rises_number : (j k : ℕ) → j < k → nat_cmp j k ≡ Less
-rises_number j k lt = ap (λ (b : Bool). cond b Less (cond (j == k) Rattle.std.specs.declared.cmp.Ordering.TheVariants.Equal Rattle.std.specs.declared.cmp.Ordering.TheVariants.Greater)) (lt-ltb j k lt)
+rises_number j k lt = ap (λ (b : Bool). cond b Less
+    (cond (j == k) Rattle.std.specs.declared.cmp.Ordering.TheVariants.Equal Rattle.std.specs.declared.cmp.Ordering.TheVariants.Greater)) (lt-ltb j k lt)
 
 or_none : {A : Type 0} (o : Option A) → option_or o None ≡ o
 or_none None = refl
@@ -81,7 +84,8 @@ rank_step c ranks found o is false = is
 
 rank_found : (test : From → Bool) (cs : List Candidate) → lookup test (ranked_sources from_of cs) ≡ option_map (λ c. c.1) (find (λ c. test c.0.from) cs)
 rank_found test [] = refl
-rank_found test (c ∷ cs) = rank_step c (ranked_sources from_of cs) (lookup test (ranked_sources from_of cs)) (find (λ c. test c.0.from) cs) (rank_found test cs) (test c.0.from)
+rank_found test (c ∷ cs) = rank_step c (ranked_sources from_of cs) (lookup test (ranked_sources from_of cs))
+    (find (λ c. test c.0.from) cs) (rank_found test cs) (test c.0.from)
 
 -- nothing stands at a number that no octet has
 pub record IsShort (rib : RibValue) : Type 0 where
@@ -140,13 +144,15 @@ module _ (rib : RibValue) (prefix : PrefixValue) where
       let es = sources (filter_map entry_at source_numbers) in
       let ts = sources (filter_map telling_at source_numbers) in
       both_sorted (sources own ++ es) ts
-      (both_sorted (sources own) es (own_sorted (has_network rib.config prefix)) entries_sorted (own_below es (entries_all (λ y. from_order Own y ≡ Less) (λ k. refl)) (has_network rib.config prefix)))
+      (both_sorted (sources own) es (own_sorted (has_network rib.config prefix)) entries_sorted
+      (own_below es (entries_all (λ y. from_order Own y ≡ Less) (λ k. refl)) (has_network rib.config prefix)))
       tellings_sorted
       (both_all (λ x. AllByRecursion (λ y. from_order x y ≡ Less) ts) (sources own) es
       (own_below ts (tellings_all (λ y. from_order Own y ≡ Less) (λ k. refl)) (has_network rib.config prefix))
       (entries_all (λ x. AllByRecursion (λ y. from_order x y ≡ Less) ts) (λ k. tellings_all (λ y. from_order (peering_of k) y ≡ Less) (λ j. refl))))
 
-  sources_are : sources (candidates_of rib prefix) ≡ (sources own ++ sources (filter_map entry_at source_numbers)) ++ sources (filter_map telling_at source_numbers)
+  sources_are : sources (candidates_of rib prefix)
+      ≡ (sources own ++ sources (filter_map entry_at source_numbers)) ++ sources (filter_map telling_at source_numbers)
   unfolding candidates_of
   sources_are =
       sources-append (own ++ filter_map entry_at source_numbers) (filter_map telling_at source_numbers)
@@ -163,14 +169,17 @@ module _ (rib : RibValue) (prefix : PrefixValue) where
   candidate_at (Router q) = telling_at q.0
 
   found_three : (test : From → Bool)
-      → find (λ c. test c.0.from) (candidates_of rib prefix) ≡ option_or (option_or (find (λ c. test c.0.from) own) (find (λ c. test c.0.from) (filter_map entry_at source_numbers))) (find (λ c. test c.0.from) (filter_map telling_at source_numbers))
+      → find (λ c. test c.0.from) (candidates_of rib prefix) ≡ option_or (option_or (find (λ c. test c.0.from) own)
+      (find (λ c. test c.0.from) (filter_map entry_at source_numbers))) (find (λ c. test c.0.from) (filter_map telling_at source_numbers))
   unfolding candidates_of
   found_three test =
       find-append (λ c. test c.0.from) (own ++ filter_map entry_at source_numbers) (filter_map telling_at source_numbers)
-      ∙ ap (λ o. option_or o (find (λ c. test c.0.from) (filter_map telling_at source_numbers))) (find-append (λ c. test c.0.from) own (filter_map entry_at source_numbers))
+      ∙ ap (λ o. option_or o (find (λ c. test c.0.from) (filter_map telling_at source_numbers)))
+      (find-append (λ c. test c.0.from) own (filter_map entry_at source_numbers))
 
   own_found : (b : Bool)
-      → find (λ (c : Candidate). is_at (from_order Own) c.0.from) (own_candidates rib.config.home_as b) ≡ cond b (Some (record { from = Own; route = own_route }, own_rank rib.config.home_as)) None
+      → find (λ (c : Candidate). is_at (from_order Own) c.0.from) (own_candidates rib.config.home_as b)
+      ≡ cond b (Some (record { from = Own; route = own_route }, own_rank rib.config.home_as)) None
   own_found true = refl
   own_found false = refl
 
@@ -183,10 +192,12 @@ module _ (rib : RibValue) (prefix : PrefixValue) where
   here_or_none false p g there none = elim (cases_lt p 256) [ inl lt ↦ absurd (let e : ◌≡◌ {A = Bool} false true = there lt in cc) | inr le ↦ sym (none le) ]
 
   no_entry : IsShort rib → (p : ℕ) → 256 ≤ p → entry_at p ≡ None
-  no_entry short p le = ap (entry_candidate rib.config.home_as p) (ap (λ (t : Rattle.session_value.specs.Sets.Entries). table.get t prefix) (short.entries p le) ∙ table.get-empty prefix_cmp prefix)
+  no_entry short p le = ap (entry_candidate rib.config.home_as p)
+      (ap (λ (t : Rattle.session_value.specs.Sets.Entries). table.get t prefix) (short.entries p le) ∙ table.get-empty prefix_cmp prefix)
 
   no_telling : IsShort rib → (q : ℕ) → 256 ≤ q → telling_at q ≡ None
-  no_telling short q le = ap (telling_candidate rib.config q) (ap (λ (t : Rattle.session_value.specs.Sets.Tellings). table.get t prefix) (short.tellings q le) ∙ table.get-empty prefix_cmp prefix)
+  no_telling short q le = ap (telling_candidate rib.config q)
+      (ap (λ (t : Rattle.session_value.specs.Sets.Tellings). table.get t prefix) (short.tellings q le) ∙ table.get-empty prefix_cmp prefix)
 
   among : (p : ℕ) → p < 256 → list_any (λ k. k == p) source_numbers ≡ true
   unfolding source_numbers
@@ -195,20 +206,30 @@ module _ (rib : RibValue) (prefix : PrefixValue) where
   found_is : IsShort rib → (from : From) → find (λ c. is_at (from_order from) c.0.from) (candidates_of rib prefix) ≡ candidate_at from
   found_is short Own =
       found_three (is_at (from_order Own))
-      ∙ (ap (λ o. option_or (option_or (find (λ (c : Candidate). is_at (from_order Own) c.0.from) own) o) (find (λ (c : Candidate). is_at (from_order Own) c.0.from) (filter_map telling_at source_numbers))) (none_found entry_at peering_of entry_named (is_at (from_order Own)) (λ k. refl) source_numbers)
-      ∙ (ap (option_or (option_or (find (λ (c : Candidate). is_at (from_order Own) c.0.from) own) None)) (none_found telling_at router_of telling_named (is_at (from_order Own)) (λ k. refl) source_numbers)
-      ∙ (or_none (option_or (find (λ (c : Candidate). is_at (from_order Own) c.0.from) own) None) ∙ (or_none (find (λ (c : Candidate). is_at (from_order Own) c.0.from) own) ∙ own_found (has_network rib.config prefix)))))
+      ∙ (ap (λ o. option_or (option_or (find (λ (c : Candidate). is_at (from_order Own) c.0.from) own) o)
+      (find (λ (c : Candidate). is_at (from_order Own) c.0.from) (filter_map telling_at source_numbers)))
+      (none_found entry_at peering_of entry_named (is_at (from_order Own)) (λ k. refl) source_numbers)
+      ∙ (ap (option_or (option_or (find (λ (c : Candidate). is_at (from_order Own) c.0.from) own) None))
+      (none_found telling_at router_of telling_named (is_at (from_order Own)) (λ k. refl) source_numbers)
+      ∙ (or_none (option_or (find (λ (c : Candidate). is_at (from_order Own) c.0.from) own) None)
+      ∙ (or_none (find (λ (c : Candidate). is_at (from_order Own) c.0.from) own) ∙ own_found (has_network rib.config prefix)))))
   found_is short (Peering p) =
       found_three (is_at (from_order (Peering p)))
-      ∙ (ap (λ o. option_or (option_or o (find (λ (c : Candidate). is_at (from_order (Peering p)) c.0.from) (filter_map entry_at source_numbers))) (find (λ (c : Candidate). is_at (from_order (Peering p)) c.0.from) (filter_map telling_at source_numbers))) (own_passed (is_at (from_order (Peering p))) refl (has_network rib.config prefix))
-      ∙ (ap (option_or (option_or None (find (λ (c : Candidate). is_at (from_order (Peering p)) c.0.from) (filter_map entry_at source_numbers)))) (none_found telling_at router_of telling_named (is_at (from_order (Peering p))) (λ k. refl) source_numbers)
+      ∙ (ap (λ o. option_or (option_or o (find (λ (c : Candidate). is_at (from_order (Peering p)) c.0.from) (filter_map entry_at source_numbers)))
+      (find (λ (c : Candidate). is_at (from_order (Peering p)) c.0.from) (filter_map telling_at source_numbers)))
+      (own_passed (is_at (from_order (Peering p))) refl (has_network rib.config prefix))
+      ∙ (ap (option_or (option_or None (find (λ (c : Candidate). is_at (from_order (Peering p)) c.0.from) (filter_map entry_at source_numbers))))
+      (none_found telling_at router_of telling_named (is_at (from_order (Peering p))) (λ k. refl) source_numbers)
       ∙ (or_none (find (λ (c : Candidate). is_at (from_order (Peering p)) c.0.from) (filter_map entry_at source_numbers))
       ∙ (found_among entry_at peering_of entry_named (is_at (from_order (Peering p))) p.0 (tells_number p.0) source_numbers
       ∙ here_or_none (list_any (λ k. k == p.0) source_numbers) p.0 entry_at (among p.0) (no_entry short p.0)))))
   found_is short (Router q) =
       found_three (is_at (from_order (Router q)))
-      ∙ (ap (λ o. option_or (option_or o (find (λ (c : Candidate). is_at (from_order (Router q)) c.0.from) (filter_map entry_at source_numbers))) (find (λ (c : Candidate). is_at (from_order (Router q)) c.0.from) (filter_map telling_at source_numbers))) (own_passed (is_at (from_order (Router q))) refl (has_network rib.config prefix))
-      ∙ (ap (λ o. option_or (option_or None o) (find (λ (c : Candidate). is_at (from_order (Router q)) c.0.from) (filter_map telling_at source_numbers))) (none_found entry_at peering_of entry_named (is_at (from_order (Router q))) (λ k. refl) source_numbers)
+      ∙ (ap (λ o. option_or (option_or o (find (λ (c : Candidate). is_at (from_order (Router q)) c.0.from) (filter_map entry_at source_numbers)))
+      (find (λ (c : Candidate). is_at (from_order (Router q)) c.0.from) (filter_map telling_at source_numbers)))
+      (own_passed (is_at (from_order (Router q))) refl (has_network rib.config prefix))
+      ∙ (ap (λ o. option_or (option_or None o) (find (λ (c : Candidate). is_at (from_order (Router q)) c.0.from) (filter_map telling_at source_numbers)))
+      (none_found entry_at peering_of entry_named (is_at (from_order (Router q))) (λ k. refl) source_numbers)
       ∙ (found_among telling_at router_of telling_named (is_at (from_order (Router q))) q.0 (tells_number q.0) source_numbers
       ∙ here_or_none (list_any (λ k. k == q.0) source_numbers) q.0 telling_at (among q.0) (no_telling short q.0))))
 
@@ -220,12 +241,14 @@ module _ (rib : RibValue) (prefix : PrefixValue) where
   entry_ranked p (Some e) = refl
 
   telling_ranked : (q : ℕ) (o : Option Route)
-      → option_map (λ (c : Candidate). c.1) (telling_candidate rib.config q o) ≡ option_map (rank_of rib.config.home_as false (cost_to rib.config q) (identifier_of rib.config q) (identifier_of rib.config q)) o
+      → option_map (λ (c : Candidate). c.1) (telling_candidate rib.config q o)
+      ≡ option_map (rank_of rib.config.home_as false (cost_to rib.config q) (identifier_of rib.config q) (identifier_of rib.config q)) o
   telling_ranked q None = refl
   telling_ranked q (Some route) = refl
 
   own_ranked : (b : Bool)
-      → option_map (λ (c : Candidate). c.1) (cond b (Some (record { from = Own; route = own_route }, own_rank rib.config.home_as)) None) ≡ cond b (Some (own_rank rib.config.home_as)) None
+      → option_map (λ (c : Candidate). c.1) (cond b (Some (record { from = Own; route = own_route }, own_rank rib.config.home_as)) None)
+      ≡ cond b (Some (own_rank rib.config.home_as)) None
   own_ranked true = refl
   own_ranked false = refl
 
@@ -238,7 +261,8 @@ module _ (rib : RibValue) (prefix : PrefixValue) where
   best_from_there from = option_map (λ route. record { from = from; route = route }) (route_from rib from prefix)
 
   entry_best : (p : ℕ) (o : Option Entry)
-      → option_map (λ (c : Candidate). c.0) (entry_candidate rib.config.home_as p o) ≡ option_map (λ (route : Route). record { from = peering_of p; route = route }) (option_map (λ (e : Entry). e.route) o)
+      → option_map (λ (c : Candidate). c.0) (entry_candidate rib.config.home_as p o)
+      ≡ option_map (λ (route : Route). record { from = peering_of p; route = route }) (option_map (λ (e : Entry). e.route) o)
   entry_best p None = refl
   entry_best p (Some e) = refl
 
@@ -248,7 +272,8 @@ module _ (rib : RibValue) (prefix : PrefixValue) where
   telling_best q (Some route) = refl
 
   own_best : (b : Bool)
-      → option_map (λ (c : Candidate). c.0) (cond b (Some (record { from = Own; route = own_route }, own_rank rib.config.home_as)) None) ≡ option_map (λ (route : Route). record { from = Own; route = route }) (cond b (Some own_route) None)
+      → option_map (λ (c : Candidate). c.0) (cond b (Some (record { from = Own; route = own_route }, own_rank rib.config.home_as)) None)
+      ≡ option_map (λ (route : Route). record { from = Own; route = route }) (cond b (Some own_route) None)
   own_best true = refl
   own_best false = refl
 
@@ -263,38 +288,45 @@ module _ (rib : RibValue) (prefix : PrefixValue) where
       → rank_at ranks from ≡ rank_at (ranked_sources from_of (candidates_of rib prefix)) from
   ranks_same short ranks are from =
       are from
-      ∙ sym (rank_found (is_at (from_order from)) (candidates_of rib prefix) ∙ (ap (option_map (λ (c : Candidate). c.1)) (found_is short from) ∙ ranked_at from))
+      ∙ sym (rank_found (is_at (from_order from)) (candidates_of rib prefix)
+      ∙ (ap (option_map (λ (c : Candidate). c.1)) (found_is short from) ∙ ranked_at from))
 
   pub ranks_same_lists : IsShort rib → (ranks : List RankedSource) → IsInOrder ranks → ((from : From) → rank_at ranks from ≡ rank_in rib prefix from)
       → ranks ≡ ranked_sources from_of (candidates_of rib prefix)
-  ranks_same_lists short ranks ordered are = alike_is_same from_order from_order_total from_order_exact ranks (ranked_sources from_of (candidates_of rib prefix)) ordered in_order (ranks_same short ranks are)
+  ranks_same_lists short ranks ordered are = alike_is_same from_order from_order_total from_order_exact ranks
+      (ranked_sources from_of (candidates_of rib prefix)) ordered in_order (ranks_same short ranks are)
 
   -- the chosen one of ranks that belong to the candidates names the chosen candidate
   pub choice_named : IsShort rib → (ranks : List RankedSource) → IsInOrder ranks → ((from : From) → rank_at ranks from ≡ rank_in rib prefix from)
       → rib_choice rib prefix ≡ option_and_then best_from_there (choice ranks)
   unfolding rib_choice
   choice_named short ranks ordered are =
-      let by_source : candidate_from from_of (candidates_of rib prefix) ≡ best_from_there = λ i from. (ap (option_map (λ (c : Candidate). c.0)) (found_is short from) ∙ best_at from) i in
+      let by_source : candidate_from from_of (candidates_of rib prefix) ≡ best_from_there =
+      λ i from. (ap (option_map (λ (c : Candidate). c.0)) (found_is short from) ∙ best_at from) i in
       sym (ap (λ (xs : List RankedSource). option_and_then best_from_there (choice xs)) (ranks_same_lists short ranks ordered are)
       ∙ (ap (λ (f : From → Option Best). option_and_then f (choice (ranked_sources from_of (candidates_of rib prefix)))) (sym by_source)
       ∙ candidate-chosen from_of (candidates_of rib prefix) in_order))
 
 -- further numbers at which nothing stands don't matter
-module _ (rib : RibValue) (prefix : PrefixValue) (peerings routers most : ℕ) (few_peerings : peerings ≤ most) (few_routers : routers ≤ most) (none : NoneBehind peerings routers rib prefix) where
+module _ (rib : RibValue) (prefix : PrefixValue) (peerings routers most : ℕ) (few_peerings : peerings ≤ most)
+    (few_routers : routers ≤ most) (none : NoneBehind peerings routers rib prefix) where
   fewer_entries : filter_map (entry_at rib prefix) (range_with_len 0 most) ≡ filter_map (entry_at rib prefix) (range_with_len 0 peerings)
-  fewer_entries = fewer (entry_at rib prefix) peerings most 0 few_peerings (λ k le. ap (entry_candidate rib.config.home_as k) (none.entries k (omega (arith, le))))
+  fewer_entries = fewer (entry_at rib prefix) peerings most 0 few_peerings
+      (λ k le. ap (entry_candidate rib.config.home_as k) (none.entries k (omega (arith, le))))
 
   fewer_tellings : filter_map (telling_at rib prefix) (range_with_len 0 most) ≡ filter_map (telling_at rib prefix) (range_with_len 0 routers)
   fewer_tellings = fewer (telling_at rib prefix) routers most 0 few_routers (λ k le. ap (telling_candidate rib.config k) (none.tellings k (omega (arith, le))))
 
-  pub fewer_candidates : candidates_among (range_with_len 0 most) (range_with_len 0 most) rib prefix ≡ candidates_among (range_with_len 0 peerings) (range_with_len 0 routers) rib prefix
+  pub fewer_candidates : candidates_among (range_with_len 0 most) (range_with_len 0 most) rib prefix
+      ≡ candidates_among (range_with_len 0 peerings) (range_with_len 0 routers) rib prefix
   fewer_candidates = λ i. (own rib prefix ++ fewer_entries i) ++ fewer_tellings i
 
 pub chosen_among : (rib : RibValue) (prefix : PrefixValue) (peerings routers : ℕ) → peerings ≤ 256 → routers ≤ 256
     → NoneBehind peerings routers rib prefix
     → rib_choice rib prefix ≡ choice (candidates_among (range_with_len 0 peerings) (range_with_len 0 routers) rib prefix)
 unfolding rib_choice candidates_of source_numbers
-chosen_among rib prefix peerings routers few_peerings few_routers none = ap choice (fewer_candidates rib prefix peerings routers 256 few_peerings few_routers none)
+chosen_among rib prefix peerings routers few_peerings few_routers none =
+    ap choice (fewer_candidates rib prefix peerings routers 256 few_peerings few_routers none)
 
 -- ---- where the choice is one
 

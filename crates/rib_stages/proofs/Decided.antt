@@ -63,7 +63,8 @@ module _ (rib : RibValue) (sets : RankSets) (networks : Prefixes) (own : Route) 
     route_there : (from : From) → choice (ranks_at sets prefix) ≡ Some from → is_some (route_from rib from prefix) ≡ true
     route_there from is =
         let some : is_some (rib_choice rib prefix) ≡ true = not_none from (rib_choice rib prefix) (sym is ∙ source_chosen) in
-        let there : is_some (best_from_there rib prefix from) ≡ true = ap is_some (sym (chosen_is ∙ ap (option_and_then (best_from_there rib prefix)) is)) ∙ some in
+        let there : is_some (best_from_there rib prefix from) ≡ true =
+        ap is_some (sym (chosen_is ∙ ap (option_and_then (best_from_there rib prefix)) is)) ∙ some in
         some_mapped (λ (route : Route). record { from = from; route = route }) (route_from rib from prefix) there
 
     is_network : (b : Bool) → is_some (cond b (Some own_route) None) ≡ true → b ≡ true

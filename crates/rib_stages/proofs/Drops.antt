@@ -1,5 +1,6 @@
 -- A source's routes go one after another.
-use Rattle.std.proofs.Common.{◌≡◌, ℕ, zero, suc, ◌-◌, ◌<◌, ◌==◌, Bool, true, false, cond, List, [], ◌∷◌, Option, Some, None, refl, sym, ap, subst, ◌∙◌, arith, inl, inr}
+use Rattle.std.proofs.Common.{◌≡◌, ℕ, zero, suc, ◌-◌, ◌<◌, ◌==◌, Bool, true, false, cond, List, [], ◌∷◌}
+use Rattle.std.proofs.Common.{Option, Some, None, refl, sym, ap, subst, ◌∙◌, arith, inl, inr}
 use Rattle.std.specs.Prelude.{◌≢◌, ◌⊎◌, ◌||◌, is_some}
 use Rattle.std.specs.FinMap as map
 use Rattle.std.specs.List.{list_any}
@@ -50,13 +51,15 @@ module _ {A : Type 0} where
   IsLeft before after = (prefix : PrefixValue) → (map.get after prefix ≡ None) ⊎ (map.get after prefix ≡ map.get before prefix)
 
   has_length : (table : map.FinMap prefix_cmp A) (p : PrefixValue) → is_some (map.get table p) ≡ true → (k : ℕ) → map.len table ≡ k → 0 < k
-  has_length table p there zero e = absurd (let none : map.get table p ≡ None = ap (λ (t : map.FinMap prefix_cmp A). map.get t p) (map.empty_of_len table e) ∙ map.get-empty prefix_cmp p in let f : ◌≡◌ {A = Bool} false true = ap is_some (sym none) ∙ there in cc)
+  has_length table p there zero e = absurd (let none : map.get table p ≡ None = ap (λ (t : map.FinMap prefix_cmp A). map.get t p) (map.empty_of_len table e)
+      ∙ map.get-empty prefix_cmp p in let f : ◌≡◌ {A = Bool} false true = ap is_some (sym none) ∙ there in cc)
   has_length table p there (suc k) e = omega arith
 
   -- the length falls where a prefix that is there goes
   pub fewer_left : (table : map.FinMap prefix_cmp A) (p : PrefixValue) → is_some (map.get table p) ≡ true → map.len (with_value table p None) < map.len table
   fewer_left table p there =
-      let n : map.len (with_value table p None) ≡ map.len table - 1 = map.len-remove prefix_total table p ∙ ap (λ (b : Bool). cond b (map.len table - 1) (map.len table)) there in
+      let n : map.len (with_value table p None) ≡ map.len table - 1 =
+      map.len-remove prefix_total table p ∙ ap (λ (b : Bool). cond b (map.len table - 1) (map.len table)) there in
       omega (arith, n, has_length table p there (map.len table) refl)
 
   module _ (before now : map.FinMap prefix_cmp A) (p : PrefixValue) (there : is_some (map.get now p) ≡ true) (left : IsLeft before now) where
@@ -71,10 +74,12 @@ module _ {A : Type 0} where
     left_more q = by_test (eq_by_cmp prefix_cmp q p) refl where
       by_test : (b : Bool) → eq_by_cmp prefix_cmp q p ≡ b → (map.get (with_value now p None) q ≡ None) ⊎ (map.get (with_value now p None) q ≡ map.get before q)
       by_test true e = inl (with_gives now p q None ∙ ap (λ (b : Bool). cond b None (map.get now q)) e)
-      by_test false e = let same = with_gives now p q None ∙ ap (λ (b : Bool). cond b None (map.get now q)) e in elim (left q) [ inl none ↦ inl (same ∙ none) | inr is ↦ inr (same ∙ is) ]
+      by_test false e = let same = with_gives now p q None ∙ ap (λ (b : Bool). cond b None (map.get now q)) e in
+          elim (left q) [ inl none ↦ inl (same ∙ none) | inr is ↦ inr (same ∙ is) ]
 
     pub marks_more : (first marked : Prefixes) → Marks first before now marked → Marks first before (with_value now p None) (map.insert marked p tt)
-    marks_more first marked marks = marks_next first marked (map.insert marked p tt) before now p None marks still (inr ((λ none. let f : ◌≡◌ {A = Bool} false true = ap is_some none ∙ there in cc), refl))
+    marks_more first marked marks = marks_next first marked (map.insert marked p tt) before now p None marks still
+        (inr ((λ none. let f : ◌≡◌ {A = Bool} false true = ap is_some none ∙ there in cc), refl))
 
   pub marks_none : (set : Prefixes) (table : map.FinMap prefix_cmp A) → Marks set table table set
   marks_none set table = record { marked = λ q is. inl is; others = λ q is. (is, refl) }
@@ -117,7 +122,8 @@ module _ (rib : RibValue) where
   none_given (Peering p) e = no_least_is (rib.entries p.0) e
   none_given (Router q) e = no_least_is (rib.tellings q.0) e
 
-module _ (before now after : RibValue) (from : From) (given : from ≢ Own) (prefix : PrefixValue) (drops : Drops before from now) (there : is_some (map.get (table_from now from) prefix) ≡ true) (goes : Enters now from prefix None after) where
+module _ (before now after : RibValue) (from : From) (given : from ≢ Own) (prefix : PrefixValue) (drops : Drops before from now)
+    (there : is_some (map.get (table_from now from) prefix) ≡ true) (goes : Enters now from prefix None after) where
   abbrev then : map.FinMap prefix_cmp (Given from)
   then = with_value (table_from now from) prefix None
 
@@ -130,7 +136,9 @@ module _ (before now after : RibValue) (from : From) (given : from ≢ Own) (pre
   pub drops_more : Drops before from after
   drops_more = record {
     left = subst (IsLeft (table_from before from)) (sym then_is) (left_more (table_from before from) (table_from now from) prefix there drops.left);
-    dirty = subst (λ (p : map.FinMap prefix_cmp (Given from) × Prefixes). Marks before.dirty (table_from before from) p.0 p.1) (λ i. (sym then_is i, sym dirty_is i)) (marks_more (table_from before from) (table_from now from) prefix there drops.left before.dirty now.dirty drops.dirty);
+    dirty = subst (λ (p : map.FinMap prefix_cmp (Given from) × Prefixes). Marks before.dirty (table_from before from) p.0 p.1)
+        (λ i. (sym then_is i, sym dirty_is i))
+        (marks_more (table_from before from) (table_from now from) prefix there drops.left before.dirty now.dirty drops.dirty);
     effect =
         goes.effect
         ∙ (ap (λ (r : RibValue). with_table r from then (map.insert now.dirty prefix tt)) drops.effect

@@ -44,7 +44,8 @@ set_has_from [] set q = or_false (has set q) where
   or_false true = refl
   or_false false = refl
 set_has_from (n ∷ ns) set q = set_has_from ns (map.insert set n tt) q
-    ∙ (ap (λ (b : Bool). b || list_any (same_prefix q) ns) (has_inserted set n q ∙ ap (λ (t : Bool). cond t true (has set q)) (tests_same q n)) ∙ by_test (same_prefix q n) (has set q) (list_any (same_prefix q) ns)) where
+    ∙ (ap (λ (b : Bool). b || list_any (same_prefix q) ns) (has_inserted set n q ∙ ap (λ (t : Bool). cond t true (has set q)) (tests_same q n))
+    ∙ by_test (same_prefix q n) (has set q) (list_any (same_prefix q) ns)) where
       by_test : (t b r : Bool) → (cond t true b || r) ≡ (b || (t || r))
       by_test true true r = refl
       by_test true false r = refl
@@ -59,7 +60,8 @@ pub clean : (set : Prefixes) (p q : PrefixValue) → has (map.insert set p tt) q
 clean set p q is = by_test (eq_by_cmp prefix_cmp q p) refl (sym (has_inserted set p q) ∙ is) where
   by_test : (b : Bool) → eq_by_cmp prefix_cmp q p ≡ b → cond b true (has set q) ≡ false → (q ≢ p) × (has set q ≡ false)
   by_test true e no_set = absurd cc
-  by_test false e no_set = ((λ same. let t : eq_by_cmp prefix_cmp q p ≡ true = ap (λ (x : PrefixValue). eq_by_cmp prefix_cmp x p) same ∙ itself p in absurd cc), no_set)
+  by_test false e no_set =
+      ((λ same. let t : eq_by_cmp prefix_cmp q p ≡ true = ap (λ (x : PrefixValue). eq_by_cmp prefix_cmp x p) same ∙ itself p in absurd cc), no_set)
 
 behind : (p k : ℕ) → p < 256 → 256 ≤ k → (k == p) ≡ false
 behind p k lt le = grind (arith, nat_tests)
@@ -111,11 +113,13 @@ module _ (rib : RibValue) (prefix : PrefixValue) where
   rank_else Own value (Peering k) q differs = refl
   rank_else Own value (Router k) q differs = refl
   rank_else (Peering p) value Own q differs = refl
-  rank_else (Peering p) value (Peering k) q differs = ap (option_map (rank_given rib.config (Peering k))) (changed_else rib.entries p.0 prefix value k.0 q (λ same. differs (ap (λ (n : ℕ). Peering (record { 0 = n })) same)))
+  rank_else (Peering p) value (Peering k) q differs = ap (option_map (rank_given rib.config (Peering k)))
+      (changed_else rib.entries p.0 prefix value k.0 q (λ same. differs (ap (λ (n : ℕ). Peering (record { 0 = n })) same)))
   rank_else (Peering p) value (Router k) q differs = refl
   rank_else (Router p) value Own q differs = refl
   rank_else (Router p) value (Peering k) q differs = refl
-  rank_else (Router p) value (Router k) q differs = ap (option_map (rank_given rib.config (Router k))) (changed_else rib.tellings p.0 prefix value k.0 q (λ same. differs (ap (λ (n : ℕ). Router (record { 0 = n })) same)))
+  rank_else (Router p) value (Router k) q differs = ap (option_map (rank_given rib.config (Router k)))
+      (changed_else rib.tellings p.0 prefix value k.0 q (λ same. differs (ap (λ (n : ℕ). Router (record { 0 = n })) same)))
 
   entries_else : (from : From) (value : Option (Given from)) (q : PrefixValue) → q ≢ prefix → (k : ℕ)
       → map.get (rib.entries k) q ≡ map.get ((entered from value).entries k) q
@@ -150,7 +154,8 @@ same_source_or_not : (a b : From) → (a ≡ b) ⊎ (a ≢ b)
 same_source_or_not a b = by_test (is_eq (from_order a b)) refl where
   by_test : (t : Bool) → is_eq (from_order a b) ≡ t → (a ≡ b) ⊎ (a ≢ b)
   by_test true e = inl (from_order_exact a b (is_equal (from_order a b) e))
-  by_test false e = inr (λ same. let t : is_eq (from_order a b) ≡ true = ap (λ (x : From). is_eq (from_order a x)) (sym same) ∙ ap is_eq (tied_itself from_order_total a) in absurd cc)
+  by_test false e = inr (λ same. let t : is_eq (from_order a b) ≡ true =
+      ap (λ (x : From). is_eq (from_order a x)) (sym same) ∙ ap is_eq (tied_itself from_order_total a) in absurd cc)
 
 same_prefix_or_not : (q p : PrefixValue) → (q ≡ p) ⊎ (q ≢ p)
 same_prefix_or_not q p = by_test (eq_by_cmp prefix_cmp q p) refl where
@@ -169,7 +174,10 @@ module _ (rib : RibValue) (sets after : RankSets) (networks : Prefixes) (own : R
     tellings = kept.tellings;
     networks = kept.networks;
     own = kept.own;
-    decided = record { best = λ q is. kept.decided.best q (clean rib.dirty prefix q is).1 ∙ chosen_by rib (record rib { dirty = map.insert rib.dirty prefix tt }) q refl (λ p. refl) (λ r. refl) };
+    decided = record {
+      best = λ q is. kept.decided.best q (clean rib.dirty prefix q is).1
+          ∙ chosen_by rib (record rib { dirty = map.insert rib.dirty prefix tt }) q refl (λ p. refl) (λ r. refl);
+    };
   }
 
   -- the sets of ranks have the same
@@ -198,7 +206,8 @@ module _ (rib : RibValue) (sets after : RankSets) (networks : Prefixes) (own : R
       by_test true e = with_gives rib.best prefix q (rib_choice rib prefix)
           ∙ (ap (λ (b : Bool). cond b (rib_choice rib prefix) (map.get rib.best q)) e ∙ (ap (rib_choice rib) (sym (tied q prefix e)) ∙ chosen_still q))
       by_test false e =
-          let no_dirty : has rib.dirty q ≡ false = ap is_some (sym (map.get-remove prefix_total rib.dirty prefix q ∙ ap (λ (b : Bool). cond b None (map.get rib.dirty q)) e)) ∙ is in
+          let no_dirty : has rib.dirty q ≡ false =
+          ap is_some (sym (map.get-remove prefix_total rib.dirty prefix q ∙ ap (λ (b : Bool). cond b None (map.get rib.dirty q)) e)) ∙ is in
           with_gives rib.best prefix q (rib_choice rib prefix)
           ∙ (ap (λ (b : Bool). cond b (rib_choice rib prefix) (map.get rib.best q)) e ∙ (kept.decided.best q no_dirty ∙ chosen_still q))
 
@@ -221,7 +230,8 @@ module _ (rib : RibValue) (sets after : RankSets) (networks : Prefixes) (own : R
         | inl same ↦ (λ i. rank_at (ranks_at after (here i)) (same i))
             ∙ (set.there ∙ sym ((λ i. rank_in (entered rib prefix from value) (here i) (same i)) ∙ rank_here rib prefix from not value))
         | inr apart ↦ ap (λ (x : PrefixValue). rank_at (ranks_at after x) other) here
-            ∙ (set.others other apart ∙ (ap (λ (x : PrefixValue). rank_at (ranks_at sets x) other) (sym here) ∙ (kept.ranks q other ∙ sym (rank_else rib prefix from value other q (λ same. absurd (apart same))))))
+            ∙ (set.others other apart ∙ (ap (λ (x : PrefixValue). rank_at (ranks_at sets x) other) (sym here)
+            ∙ (kept.ranks q other ∙ sym (rank_else rib prefix from value other q (λ same. absurd (apart same))))))
       ]
       | inr there ↦ ap (λ (rs : List RankedSource). rank_at rs other) (set.elsewhere q there)
           ∙ (kept.ranks q other ∙ sym (rank_else rib prefix from value other q (λ same. there)))
@@ -252,7 +262,8 @@ module _ (config : RibConfig) (sets : RankSets) (networks : Prefixes) (own : Rou
         not_own : Peering p ≡ Own → ⊥
         not_own e = cc
   fresh_ranks has_own q (Router r) = has_own.others q (Router r) (λ e. absurd (not_own e))
-      ∙ sym (ap (option_map (rank_of config.home_as false (cost_to config r.0) (identifier_of config r.0) (identifier_of config r.0))) (map.get-empty prefix_cmp q)) where
+      ∙ sym (ap (option_map (rank_of config.home_as false (cost_to config r.0) (identifier_of config r.0) (identifier_of config r.0)))
+      (map.get-empty prefix_cmp q)) where
         not_own : Router r ≡ Own → ⊥
         not_own e = cc
 
@@ -264,5 +275,8 @@ module _ (config : RibConfig) (sets : RankSets) (networks : Prefixes) (own : Rou
     tellings = λ q le. refl;
     networks = set;
     own = route;
-    decided = record { best = λ q is. map.get-empty prefix_cmp q ∙ sym (none_chosen fresh q (sym (set_has config.networks q) ∙ is) (λ p. map.get-empty prefix_cmp q) (λ r. map.get-empty prefix_cmp q)) };
+    decided = record {
+      best = λ q is. map.get-empty prefix_cmp q
+          ∙ sym (none_chosen fresh q (sym (set_has config.networks q) ∙ is) (λ p. map.get-empty prefix_cmp q) (λ r. map.get-empty prefix_cmp q));
+    };
   }

@@ -36,10 +36,12 @@ module _ {A : Type 0} (table : map.FinMap prefix_cmp A) (p : PrefixValue) (value
 
   -- the same value again
   pub with_same : value ≡ map.get table p → with_value table p value ≡ table
-  with_same is = map.same_map prefix_total exact_prefixes (with_value table p value) table (λ q. with_gives table p q value ∙ by_test q (eq_by_cmp prefix_cmp q p) refl) where
-    by_test : (q : PrefixValue) (b : Bool) → eq_by_cmp prefix_cmp q p ≡ b → cond b value (map.get table q) ≡ map.get table q
-    by_test q true e = is ∙ ap (map.get table) (sym (tied q p e))
-    by_test q false e = refl
+  with_same is = map.same_map prefix_total exact_prefixes (with_value table p value) table
+      (λ q. with_gives table p q value ∙ by_test q (eq_by_cmp prefix_cmp q p) refl)
+    where
+      by_test : (q : PrefixValue) (b : Bool) → eq_by_cmp prefix_cmp q p ≡ b → cond b value (map.get table q) ≡ map.get table q
+      by_test q true e = is ∙ ap (map.get table) (sym (tied q p e))
+      by_test q false e = refl
 
 -- ---- sets
 
@@ -49,12 +51,14 @@ has_inserted set p q = ap is_some (map.get-insert prefix_total set p tt q) ∙ b
   by_test true = refl
   by_test false = refl
 
-module _ {A : Type 0} (before marked after : Prefixes) (old now : map.FinMap prefix_cmp A) (p : PrefixValue) (value : Option A) (marks : Marks before old now marked) (first : map.get now p ≡ map.get old p) where
+module _ {A : Type 0} (before marked after : Prefixes) (old now : map.FinMap prefix_cmp A) (p : PrefixValue)
+    (value : Option A) (marks : Marks before old now marked) (first : map.get now p ≡ map.get old p) where
   abbrev next : map.FinMap prefix_cmp A
   next = with_value now p value
 
   unchanged : value ≡ map.get now p → after ≡ marked → Marks before old next after
-  unchanged same stays = Rattle.std.proofs.Common.subst (λ (t : map.FinMap prefix_cmp A). Marks before old t after) (sym (with_same now p value same)) (Rattle.std.proofs.Common.subst (λ (set : Prefixes). Marks before old now set) (sym stays) marks)
+  unchanged same stays = Rattle.std.proofs.Common.subst (λ (t : map.FinMap prefix_cmp A). Marks before old t after)
+      (sym (with_same now p value same)) (Rattle.std.proofs.Common.subst (λ (set : Prefixes). Marks before old now set) (sym stays) marks)
 
   module _ (differs : value ≢ map.get now p) (set : after ≡ map.insert marked p tt) where
     has_after : (q : PrefixValue) → has after q ≡ cond (eq_by_cmp prefix_cmp q p) true (has marked q)
@@ -62,7 +66,8 @@ module _ {A : Type 0} (before marked after : Prefixes) (old now : map.FinMap pre
 
     marked_at : (q : PrefixValue) (b : Bool) → eq_by_cmp prefix_cmp q p ≡ b → cond b true (has marked q) ≡ true
         → (has before q ≡ true) ⊎ (map.get next q ≢ map.get old q)
-    marked_at q true e is = inr (λ same. differs (sym (with_here now p value) ∙ (ap (map.get next) (sym (tied q p e)) ∙ (same ∙ (ap (map.get old) (tied q p e) ∙ sym first)))))
+    marked_at q true e is =
+        inr (λ same. differs (sym (with_here now p value) ∙ (ap (map.get next) (sym (tied q p e)) ∙ (same ∙ (ap (map.get old) (tied q p e) ∙ sym first)))))
     marked_at q false e is = elim (marks.marked q is) [
       | inl was ↦ inl was
       | inr other ↦ inr (λ same. other (sym (with_gives now p q value ∙ ap (λ (t : Bool). cond t value (map.get now q)) e) ∙ same))

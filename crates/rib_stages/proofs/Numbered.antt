@@ -1,5 +1,6 @@
 -- Candidates of numbered sources: where one is found, and their order.
-use Rattle.std.proofs.Common.{◌≡◌, ℕ, zero, suc, ◌+◌, ◌<◌, ◌≤◌, ◌==◌, Bool, true, false, cond, ◌||◌, List, [], ◌∷◌, ◌++◌, map, Option, Some, None, refl, sym, ap, subst, ◌∙◌, arith}
+use Rattle.std.proofs.Common.{◌≡◌, ℕ, zero, suc, ◌+◌, ◌<◌, ◌≤◌, ◌==◌, Bool, true, false, cond, ◌||◌, List, []}
+use Rattle.std.proofs.Common.{◌∷◌, ◌++◌, map, Option, Some, None, refl, sym, ap, subst, ◌∙◌, arith}
 use Rattle.std.specs.List.{AllByRecursion, filter_map, cons_option, find, list_any, range_with_len}
 use Rattle.std.specs.List.Sorted.{IsStrictlySortedBy}
 use Rattle.std.proofs.lemmas.Bool.{eqb-true}
@@ -40,20 +41,23 @@ module _ (g : ℕ → Option Candidate) (source : ℕ → From) (named : (k : �
   -- what holds of the sources of all numbers from one on
   pub all_from : (P : From → Type 0) (n a : ℕ) → ((k : ℕ) → a ≤ k → P (source k)) → AllByRecursion P (sources (filter_map g (range_with_len a n)))
   all_from P zero a h = tt
-  all_from P (suc n) a h = all_step P a (filter_map g (range_with_len (a + 1) n)) (h a (omega arith)) (all_from P n (a + 1) (λ k le. h k (omega (arith, le)))) (g a) refl
+  all_from P (suc n) a h =
+      all_step P a (filter_map g (range_with_len (a + 1) n)) (h a (omega arith)) (all_from P n (a + 1) (λ k le. h k (omega (arith, le)))) (g a) refl
 
   sorted_step : (a : ℕ) (rest : List Candidate) → AllByRecursion (λ y. from_order (source a) y ≡ Less) (sources rest)
       → IsStrictlySortedBy from_order (sources rest) → (o : Option Candidate) → g a ≡ o → IsStrictlySortedBy from_order (sources (cons_option o rest))
   unfolding IsStrictlySortedBy
   sorted_step a rest below more None is = more
-  sorted_step a rest below more (Some c) is = (subst (λ (x : From). AllByRecursion (λ y. from_order x y ≡ Less) (sources rest)) (sym (named a c is)) below, more)
+  sorted_step a rest below more (Some c) is =
+      (subst (λ (x : From). AllByRecursion (λ y. from_order x y ≡ Less) (sources rest)) (sym (named a c is)) below, more)
 
   pub sorted_numbers : ((j k : ℕ) → j < k → from_order (source j) (source k) ≡ Less) → (n a : ℕ)
       → IsStrictlySortedBy from_order (sources (filter_map g (range_with_len a n)))
   unfolding IsStrictlySortedBy
   sorted_numbers rises zero a = tt
   sorted_numbers rises (suc n) a =
-      sorted_step a (filter_map g (range_with_len (a + 1) n)) (all_from (λ y. from_order (source a) y ≡ Less) n (a + 1) (λ k le. rises a k (omega (arith, le)))) (sorted_numbers rises n (a + 1)) (g a) refl
+      sorted_step a (filter_map g (range_with_len (a + 1) n))
+      (all_from (λ y. from_order (source a) y ≡ Less) n (a + 1) (λ k le. rises a k (omega (arith, le)))) (sorted_numbers rises n (a + 1)) (g a) refl
 
   passed_by : (test : From → Bool) (k : ℕ) (rest : List Candidate) → test (source k) ≡ false → (o : Option Candidate) → g k ≡ o
       → find (λ c. test c.0.from) (cons_option o rest) ≡ find (λ c. test c.0.from) rest
@@ -94,7 +98,8 @@ among_step a p rest le more false e = more (grind (arith, nat_tests))
 
 pub among_range : (n a p : ℕ) → a ≤ p → p < a + n → list_any (λ k. k == p) (range_with_len a n) ≡ true
 among_range zero a p le lt = absurd (omega (arith, le, lt))
-among_range (suc n) a p le lt = among_step a p (list_any (λ k. k == p) (range_with_len (a + 1) n)) le (λ further. among_range n (a + 1) p further (omega (arith, lt))) (a == p) refl
+among_range (suc n) a p le lt = among_step a p (list_any (λ k. k == p) (range_with_len (a + 1) n)) le
+    (λ further. among_range n (a + 1) p further (omega (arith, lt))) (a == p) refl
 
 -- numbers that have nothing add nothing
 pub none_added : (g : ℕ → Option Candidate) (n a : ℕ) → ((k : ℕ) → a ≤ k → g k ≡ None) → filter_map g (range_with_len a n) ≡ []

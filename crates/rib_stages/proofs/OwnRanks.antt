@@ -46,25 +46,29 @@ or_same false = refl
 
 pub own_ranks_more : (rank : Rank) (networks : List PrefixValue) (n : PrefixValue) (before after : RankSets) → HasOwnRanks rank networks before
     → SetsRank before n Own (Some rank) after → HasOwnRanks rank (networks ++ n ∷ []) after
-own_ranks_more rank networks n before after has_own sets = record { own = λ q. own q (eq_by_cmp prefix_cmp q n) refl; others = λ q from differs. others q from differs (eq_by_cmp prefix_cmp q n) refl } where
-  apart_from : (q : PrefixValue) → eq_by_cmp prefix_cmp q n ≡ false → q ≢ n
-  apart_from q e same = let t : eq_by_cmp prefix_cmp q n ≡ true = ap (λ (x : PrefixValue). eq_by_cmp prefix_cmp x n) same ∙ itself n in absurd cc
+own_ranks_more rank networks n before after has_own sets =
+    record { own = λ q. own q (eq_by_cmp prefix_cmp q n) refl; others = λ q from differs. others q from differs (eq_by_cmp prefix_cmp q n) refl }
+  where
+    apart_from : (q : PrefixValue) → eq_by_cmp prefix_cmp q n ≡ false → q ≢ n
+    apart_from q e same = let t : eq_by_cmp prefix_cmp q n ≡ true = ap (λ (x : PrefixValue). eq_by_cmp prefix_cmp x n) same ∙ itself n in absurd cc
 
-  own : (q : PrefixValue) (b : Bool) → eq_by_cmp prefix_cmp q n ≡ b
-      → rank_at (ranks_at after q) Own ≡ cond (list_any (same_prefix q) (networks ++ n ∷ [])) (Some rank) None
-  own q true e =
-      let test : same_prefix q n ≡ true = sym (tests_same q n) ∙ e in
-      ap (λ (x : PrefixValue). rank_at (ranks_at after x) Own) (tied q n e)
-      ∙ (sets.there ∙ ap (λ (b : Bool). cond b (Some rank) None) (sym (any_more (same_prefix q) networks n ∙ (ap (λ (b : Bool). list_any (same_prefix q) networks || b) test ∙ or_true (list_any (same_prefix q) networks)))))
-  own q false e =
-      let test : same_prefix q n ≡ false = sym (tests_same q n) ∙ e in
-      ap (λ (rs : List RankedSource). rank_at rs Own) (sets.elsewhere q (apart_from q e))
-      ∙ (has_own.own q ∙ ap (λ (b : Bool). cond b (Some rank) None) (sym (any_more (same_prefix q) networks n ∙ (ap (λ (b : Bool). list_any (same_prefix q) networks || b) test ∙ or_same (list_any (same_prefix q) networks)))))
+    own : (q : PrefixValue) (b : Bool) → eq_by_cmp prefix_cmp q n ≡ b
+        → rank_at (ranks_at after q) Own ≡ cond (list_any (same_prefix q) (networks ++ n ∷ [])) (Some rank) None
+    own q true e =
+        let test : same_prefix q n ≡ true = sym (tests_same q n) ∙ e in
+        ap (λ (x : PrefixValue). rank_at (ranks_at after x) Own) (tied q n e)
+        ∙ (sets.there ∙ ap (λ (b : Bool). cond b (Some rank) None) (sym (any_more (same_prefix q) networks n
+        ∙ (ap (λ (b : Bool). list_any (same_prefix q) networks || b) test ∙ or_true (list_any (same_prefix q) networks)))))
+    own q false e =
+        let test : same_prefix q n ≡ false = sym (tests_same q n) ∙ e in
+        ap (λ (rs : List RankedSource). rank_at rs Own) (sets.elsewhere q (apart_from q e))
+        ∙ (has_own.own q ∙ ap (λ (b : Bool). cond b (Some rank) None) (sym (any_more (same_prefix q) networks n
+        ∙ (ap (λ (b : Bool). list_any (same_prefix q) networks || b) test ∙ or_same (list_any (same_prefix q) networks)))))
 
-  others : (q : PrefixValue) (from : From) → from ≢ Own → (b : Bool) → eq_by_cmp prefix_cmp q n ≡ b → rank_at (ranks_at after q) from ≡ None
-  others q from differs true e = ap (λ (x : PrefixValue). rank_at (ranks_at after x) from) (tied q n e)
-      ∙ (sets.others from differs ∙ has_own.others n from differs)
-  others q from differs false e = ap (λ (rs : List RankedSource). rank_at rs from) (sets.elsewhere q (apart_from q e)) ∙ has_own.others q from differs
+    others : (q : PrefixValue) (from : From) → from ≢ Own → (b : Bool) → eq_by_cmp prefix_cmp q n ≡ b → rank_at (ranks_at after q) from ≡ None
+    others q from differs true e = ap (λ (x : PrefixValue). rank_at (ranks_at after x) from) (tied q n e)
+        ∙ (sets.others from differs ∙ has_own.others n from differs)
+    others q from differs false e = ap (λ (rs : List RankedSource). rank_at rs from) (sets.elsewhere q (apart_from q e)) ∙ has_own.others q from differs
 
 -- no network has no rank
 pub own_ranks_none : (rank : Rank) (sets : RankSets) → sets ≡ map.empty → HasOwnRanks rank [] sets

@@ -45,7 +45,8 @@ module _ {K X : Type 0} (R : K → K → Ordering) (o : IsTotalOrder R) (exact :
 
   step : (e : K × X) (es : List (K × X)) (a : Ordering) → R k e.0 ≡ a
       → lookup (is_at (R q)) (insert_entry R es k v) ≡ cond (is_eq (R q k)) (Some v) (lookup (is_at (R q)) es)
-      → lookup (is_at (R q)) (match_ordering a ((k, v) ∷ (e ∷ es)) ((e.0, v) ∷ es) (e ∷ insert_entry R es k v)) ≡ cond (is_eq (R q k)) (Some v) (cond (is_eq (R q e.0)) (Some e.1) (lookup (is_at (R q)) es))
+      → lookup (is_at (R q)) (match_ordering a ((k, v) ∷ (e ∷ es)) ((e.0, v) ∷ es) (e ∷ insert_entry R es k v))
+      ≡ cond (is_eq (R q k)) (Some v) (cond (is_eq (R q e.0)) (Some e.1) (lookup (is_at (R q)) es))
   step e es Less is rest = refl
   step e es Equal is rest =
       let same : k ≡ e.0 = exact k e.0 is in
@@ -85,7 +86,8 @@ rank_other ranks from rank other differs = lookup-inserted from_order from_order
 taken_out : (ranks : List RankedSource) (from other : From) → IsInOrder ranks
     → rank_at (without_source ranks from) other ≡ cond (is_eq (from_order from other)) None (rank_at ranks other)
 taken_out ranks from other ordered =
-    lookup-remove_entry (eq_by_cmp_equiv from_order_total) (is_at (from_order from)) (λ x y t. (eq_by_cmp_equiv from_order_total).congr from x y t) other ranks (IsDistinct-from_sorted from_order _ ordered)
+    lookup-remove_entry (eq_by_cmp_equiv from_order_total) (is_at (from_order from))
+    (λ x y t. (eq_by_cmp_equiv from_order_total).congr from x y t) other ranks (IsDistinct-from_sorted from_order _ ordered)
 
 pub rank_gone : (ranks : List RankedSource) (from : From) → IsInOrder ranks → rank_at (without_source ranks from) from ≡ None
 rank_gone ranks from ordered = taken_out ranks from from ordered
@@ -142,7 +144,8 @@ module _ (before after : RankSets) (p : PrefixValue) (xs : List RankedSource) (p
   pub sets_rank : (from : From) (rank : Option Rank) → rank_at xs from ≡ rank
       → ((other : From) → other ≢ from → rank_at xs other ≡ rank_at (ranks_at before p) other) → SetsRank before p from rank after
   sets_rank from rank there others =
-      let here : ranks_at after p ≡ xs = ap (λ (f : PrefixValue → List RankedSource). f p) put ∙ ap (λ (b : Bool). cond b xs (ranks_at before p)) (sym (tests_same p p) ∙ itself p) in record {
+      let here : ranks_at after p ≡ xs = ap (λ (f : PrefixValue → List RankedSource). f p) put
+      ∙ ap (λ (b : Bool). cond b xs (ranks_at before p)) (sym (tests_same p p) ∙ itself p) in record {
         there = ap (λ (ys : List RankedSource). rank_at ys from) here ∙ there;
         others = λ other differs. ap (λ (ys : List RankedSource). rank_at ys other) here ∙ others other differs;
         elsewhere = λ q differs. ap (λ (f : PrefixValue → List RankedSource). f q) put
@@ -187,11 +190,13 @@ none_in_order sets p none = subst (λ o. IsInOrder (unwrap_or o [])) (sym none) 
 
 -- ---- whole calls
 
-module _ (before after : RankSets) (p : PrefixValue) (from : From) (ranks xs : List RankedSource) (there : ranks ≡ ranks_at before p) (put : ranks_at after ≡ ranks_with (ranks_at before) p xs) where
+module _ (before after : RankSets) (p : PrefixValue) (from : From) (ranks xs : List RankedSource)
+    (there : ranks ≡ ranks_at before p) (put : ranks_at after ≡ ranks_with (ranks_at before) p xs) where
   pub call_sets : {A E : Type 0} (r : Result A E) (rank : Rank) → OnOk r (xs ≡ with_rank ranks from rank) → OnOk r (SetsRank before p from (Some rank) after)
   call_sets (Ok v) rank is = sets_rank before after p xs put from (Some rank)
       (ap (λ (ys : List RankedSource). rank_at ys from) is ∙ rank_there ranks from rank)
-      (λ other differs. ap (λ (ys : List RankedSource). rank_at ys other) is ∙ (rank_other ranks from rank other differs ∙ ap (λ (ys : List RankedSource). rank_at ys other) there))
+      (λ other differs. ap (λ (ys : List RankedSource). rank_at ys other) is
+      ∙ (rank_other ranks from rank other differs ∙ ap (λ (ys : List RankedSource). rank_at ys other) there))
   call_sets (Err e) rank is = tt
 
   pub call_keeps : {A E : Type 0} (r : Result A E) → OnErr r (xs ≡ ranks) → OnErr r (ranks_at after ≡ ranks_at before)
@@ -201,4 +206,5 @@ module _ (before after : RankSets) (p : PrefixValue) (from : From) (ranks xs : L
   pub call_drops : IsInOrder ranks → xs ≡ without_source ranks from → SetsRank before p from None after
   call_drops ordered is = sets_rank before after p xs put from None
       (ap (λ (ys : List RankedSource). rank_at ys from) is ∙ rank_gone ranks from ordered)
-      (λ other differs. ap (λ (ys : List RankedSource). rank_at ys other) is ∙ (rank_left ranks from ordered other differs ∙ ap (λ (ys : List RankedSource). rank_at ys other) there))
+      (λ other differs. ap (λ (ys : List RankedSource). rank_at ys other) is
+      ∙ (rank_left ranks from ordered other differs ∙ ap (λ (ys : List RankedSource). rank_at ys other) there))

@@ -1,5 +1,6 @@
 -- Tables in a list, one of which changes.
-use Rattle.std.proofs.Common.{◌≡◌, ℕ, zero, suc, ◌<◌, ◌==◌, Bool, true, false, cond, List, [], ◌∷◌, length, replicate, ◌++◌, ◌+◌, get_or, set, add-one, refl, sym, ap, ◌∙◌, arith}
+use Rattle.std.proofs.Common.{◌≡◌, ℕ, zero, suc, ◌<◌, ◌==◌, Bool, true, false, cond, List, [], ◌∷◌, length}
+use Rattle.std.proofs.Common.{replicate, ◌++◌, ◌+◌, get_or, set, add-one, refl, sym, ap, ◌∙◌, arith}
 use Rattle.std.proofs.lemmas.Bool.{eqb-true, eq-eqb}
 use Rattle.std.proofs.lemmas.Bool.Decides.{nat_tests}
 use Rattle.std.proofs.lemmas.List.{length-map, map-append, map-set}
@@ -73,7 +74,8 @@ module _ {A : Type 0} where
 
   -- ---- as calls see it: the list before opening, and an index that is the number
 
-  module _ (ts vs : List (TableValue A)) (n k : ℕ) (x t : TableValue A) (same : ts ≡ vs) (index : k ≡ n) (all : length ts ≡ 256) (octet : n < 256) (read : x ≡ get_or ts k x) where
+  module _ (ts vs : List (TableValue A)) (n k : ℕ) (x t : TableValue A) (same : ts ≡ vs)
+      (index : k ≡ n) (all : length ts ≡ 256) (octet : n < 256) (read : x ≡ get_or ts k x) where
     within : k < length ts
     within = omega (arith, index, all, octet)
 

@@ -29,10 +29,12 @@ use Rattle.rib_stages.proofs.Tables.{empties, empty_tables}
 
 -- the routes, as a Rib's fields hold them
 abbrev pub value_of : Inside → RibValue
-value_of i = record { config = i.config; entries = tables_of i.peerings; tellings = tables_of i.routers; best = i.choices.loc.best; dirty = i.choices.loc.dirty }
+value_of i =
+    record { config = i.config; entries = tables_of i.peerings; tellings = tables_of i.routers; best = i.choices.loc.best; dirty = i.choices.loc.dirty }
 
 abbrev store_of : Inside → RibStore
-store_of i = record { config = i.config; entries = contents_of i.peerings; tellings = contents_of i.routers; best = i.choices.loc.best; dirty = i.choices.loc.dirty }
+store_of i =
+    record { config = i.config; entries = contents_of i.peerings; tellings = contents_of i.routers; best = i.choices.loc.best; dirty = i.choices.loc.dirty }
 
 abbrev IsWhole : Inside → Type 0
 IsWhole i = IsRib (value_of i) i.choices.groups.contents i.networks.contents i.own_route
@@ -44,41 +46,50 @@ module _ (i : Inside) (whole : IsWhole i) (prefix : PrefixValue) where
 
     -- a source gave something else
     module _ (source from : From) (is : source ≡ from) (given : source ≢ Own) (value : (f : From) → Option (Given f)) (rank : Option Rank)
-        (ranked : rank ≡ option_map (rank_given i.config from) (value from)) (named : From) (named_is : named ≡ from) (marks : MarksRank i.choices prefix named rank choices)
+        (ranked : rank ≡ option_map (rank_given i.config from) (value from)) (named : From)
+        (named_is : named ≡ from) (marks : MarksRank i.choices prefix named rank choices)
         (here : tables_of peerings ≡ entries_with (value_of i) from (with_value (table_from (value_of i) from) prefix (value from)))
         (there : tables_of routers ≡ tellings_with (value_of i) from (with_value (table_from (value_of i) from) prefix (value from))) where
       entered_is : value_of then ≡ entered (value_of i) prefix from (value from)
       entered_is = λ n. record { config = i.config; entries = here n; tellings = there n; best = (marks.loc n).best; dirty = (marks.loc n).dirty }
 
       pub enters : (s : RibStore) → store_of i ≡ s → Enters (rib_of s) source prefix (value source) (value_of then)
-      enters s view = subst (λ (t : RibStore). Enters (rib_of t) source prefix (value source) (value_of then)) view (subst (λ (f : From). Enters (value_of i) f prefix (value f) (value_of then)) (sym is) (record { effect = entered_is }))
+      enters s view = subst (λ (t : RibStore). Enters (rib_of t) source prefix (value source) (value_of then)) view
+          (subst (λ (f : From). Enters (value_of i) f prefix (value f) (value_of then)) (sym is) (record { effect = entered_is }))
 
       pub whole_entered : number_of from < 256 → IsWhole then
       whole_entered octet = subst (λ (r : RibValue). IsRib r choices.groups.contents i.networks.contents i.own_route) (sym entered_is)
-          (kept_entered (value_of i) i.choices.groups.contents choices.groups.contents i.networks.contents i.own_route whole prefix from (value from) (subst (λ (f : From). f ≢ Own) is given) octet
-          (subst (λ (p : From × Option Rank). SetsRank i.choices.groups.contents prefix p.0 p.1 choices.groups.contents) (λ n. (named_is n, ranked n)) marks.ranks))
+          (kept_entered (value_of i) i.choices.groups.contents choices.groups.contents i.networks.contents i.own_route whole prefix from
+          (value from) (subst (λ (f : From). f ≢ Own) is given) octet
+          (subst (λ (p : From × Option Rank). SetsRank i.choices.groups.contents prefix p.0 p.1 choices.groups.contents)
+          (λ n. (named_is n, ranked n)) marks.ranks))
 
     -- memory ran out
     pub whole_marked : MarksAtMost i.choices prefix choices → tables_of peerings ≡ tables_of i.peerings → tables_of routers ≡ tables_of i.routers → IsWhole then
-    whole_marked marks here there = kept_ranks (value_of then) i.choices.groups.contents choices.groups.contents i.networks.contents i.own_route (elim marks.loc [
-      | inl still ↦ subst (λ (r : RibValue). IsRib r i.choices.groups.contents i.networks.contents i.own_route) (sym (now_is i.choices.loc still)) whole
-      | inr is ↦ subst (λ (r : RibValue). IsRib r i.choices.groups.contents i.networks.contents i.own_route) (sym (now_is (record i.choices.loc { dirty = map.insert i.choices.loc.dirty prefix tt }) is)) (kept_marked (value_of i) i.choices.groups.contents i.choices.groups.contents i.networks.contents i.own_route whole prefix)
-    ]) marks.ranks where
-      now_is : (l : LocValue) → choices.loc ≡ l → value_of then ≡ record (value_of i) { best = l.best; dirty = l.dirty }
-      now_is l is = λ n. record { config = i.config; entries = here n; tellings = there n; best = (is n).best; dirty = (is n).dirty }
+    whole_marked marks here there =
+        kept_ranks (value_of then) i.choices.groups.contents choices.groups.contents i.networks.contents i.own_route (elim marks.loc [
+          | inl still ↦ subst (λ (r : RibValue). IsRib r i.choices.groups.contents i.networks.contents i.own_route) (sym (now_is i.choices.loc still)) whole
+          | inr is ↦ subst (λ (r : RibValue). IsRib r i.choices.groups.contents i.networks.contents i.own_route)
+              (sym (now_is (record i.choices.loc { dirty = map.insert i.choices.loc.dirty prefix tt }) is))
+              (kept_marked (value_of i) i.choices.groups.contents i.choices.groups.contents i.networks.contents i.own_route whole prefix)
+        ]) marks.ranks where
+          now_is : (l : LocValue) → choices.loc ≡ l → value_of then ≡ record (value_of i) { best = l.best; dirty = l.dirty }
+          now_is l is = λ n. record { config = i.config; entries = here n; tellings = there n; best = (is n).best; dirty = (is n).dirty }
 
   -- a mark was tried
   pub whole_tried : {A E : Type 0} (r : Result A E) (marked : LocValue)
       → OnOk r (marked ≡ record i.choices.loc { dirty = map.insert i.choices.loc.dirty prefix tt }) → OnErr r (marked ≡ i.choices.loc)
       → IsWhole (record i { choices = record i.choices { loc = marked } })
-  whole_tried (Ok v) marked is still = subst (λ (l : LocValue). IsWhole (record i { choices = record i.choices { loc = l } })) (sym is) (kept_marked (value_of i) i.choices.groups.contents i.choices.groups.contents i.networks.contents i.own_route whole prefix)
+  whole_tried (Ok v) marked is still = subst (λ (l : LocValue). IsWhole (record i { choices = record i.choices { loc = l } })) (sym is)
+      (kept_marked (value_of i) i.choices.groups.contents i.choices.groups.contents i.networks.contents i.own_route whole prefix)
   whole_tried (Err e) marked is still = subst (λ (l : LocValue). IsWhole (record i { choices = record i.choices { loc = l } })) (sym still) whole
 
   -- the prefix was decided
   pub whole_decided : (decided : LocValue)
       → decided ≡ record { best = with_best i.choices.loc.best prefix (rib_choice (value_of i) prefix); dirty = map.remove i.choices.loc.dirty prefix }
       → IsWhole (record i { choices = record i.choices { loc = decided } })
-  whole_decided decided is = subst (λ (l : LocValue). IsWhole (record i { choices = record i.choices { loc = l } })) (sym is) (kept_decided (value_of i) i.choices.groups.contents i.choices.groups.contents i.networks.contents i.own_route whole prefix)
+  whole_decided decided is = subst (λ (l : LocValue). IsWhole (record i { choices = record i.choices { loc = l } })) (sym is)
+      (kept_decided (value_of i) i.choices.groups.contents i.choices.groups.contents i.networks.contents i.own_route whole prefix)
 
 -- a best route is set, and its prefix is settled
 pub decided_is : (loc set settled : LocValue) (prefix : PrefixValue) (best chose : Option Best)
@@ -95,7 +106,8 @@ sets_same : (rib : RibValue) (from : From) (prefix : PrefixValue) (value : Optio
     → Sets rib from prefix value rib
 sets_same rib from prefix value is = record {
   dirty = inl (is, refl);
-  effect = sym (ap (λ (t : map.FinMap prefix_cmp (Given from)). with_table rib from t rib.dirty) (with_same (table_from rib from) prefix value is) ∙ same_table rib from);
+  effect = sym (ap (λ (t : map.FinMap prefix_cmp (Given from)). with_table rib from t rib.dirty) (with_same (table_from rib from) prefix value is)
+      ∙ same_table rib from);
 }
 
 pub not_own-peering : (p : ℕ) → Peering (record { 0 = p }) ≢ Own
@@ -136,17 +148,28 @@ given_is (Router q) entry (Some r) not is = is
 
 pub sets_in_ok : {A E : Type 0} (r : Result A E) (rib after : RibValue) (from : From) (entry : InEntry) (route : Option Route)
     → IsOther rib from entry → entry.route ≡ route
-    → OnOk r (Enters rib from entry.prefix (option_map (λ r. taken from (record { route = r; identifier = entry.identifier; address = entry.address })) route) after)
+    → OnOk r (Enters rib from entry.prefix
+    (option_map (λ r. taken from (record { route = r; identifier = entry.identifier; address = entry.address })) route) after)
     → OnOk r (SetsIn rib from entry after)
-sets_in_ok (Ok v) rib after from entry route other is enters = sets_in rib after from entry other (subst (λ (o : Option (Given from)). Enters rib from entry.prefix o after) (sym (given_is from entry route other.not_own is)) enters)
+sets_in_ok (Ok v) rib after from entry route other is enters = sets_in rib after from entry other
+    (subst (λ (o : Option (Given from)). Enters rib from entry.prefix o after) (sym (given_is from entry route other.not_own is)) enters)
 sets_in_ok (Err e) rib after from entry route other is enters = tt
 
 -- ---- at the start
 
-module _ (i : Inside) (no_entries : contents_of i.peerings ≡ empties 256) (no_tellings : contents_of i.routers ≡ empties 256) (begins : i.choices.loc ≡ record { best = map.empty; dirty = set_of i.config.networks }) where
-  pub fresh_is : value_of i ≡ record { config = i.config; entries = λ p. map.empty; tellings = λ q. map.empty; best = map.empty; dirty = set_of i.config.networks }
-  fresh_is = λ n. record { config = i.config; entries = (ap table_at no_entries ∙ empty_tables 256) n; tellings = (ap table_at no_tellings ∙ empty_tables 256) n; best = (begins n).best; dirty = (begins n).dirty }
+module _ (i : Inside) (no_entries : contents_of i.peerings ≡ empties 256) (no_tellings : contents_of i.routers ≡ empties 256)
+    (begins : i.choices.loc ≡ record { best = map.empty; dirty = set_of i.config.networks }) where
+  pub fresh_is : value_of i
+      ≡ record { config = i.config; entries = λ p. map.empty; tellings = λ q. map.empty; best = map.empty; dirty = set_of i.config.networks }
+  fresh_is = λ n. record {
+    config = i.config;
+    entries = (ap table_at no_entries ∙ empty_tables 256) n;
+    tellings = (ap table_at no_tellings ∙ empty_tables 256) n;
+    best = (begins n).best;
+    dirty = (begins n).dirty;
+  }
 
   pub whole_fresh : HasOwnRanks (own_rank i.config.home_as) i.config.networks i.choices.groups.contents
       → i.networks.contents ≡ set_of i.config.networks → i.own_route ≡ own_route → IsWhole i
-  whole_fresh has_own set route = subst (λ (r : RibValue). IsRib r i.choices.groups.contents i.networks.contents i.own_route) (sym fresh_is) (kept_fresh i.config i.choices.groups.contents i.networks.contents i.own_route has_own set route)
+  whole_fresh has_own set route = subst (λ (r : RibValue). IsRib r i.choices.groups.contents i.networks.contents i.own_route)
+      (sym fresh_is) (kept_fresh i.config i.choices.groups.contents i.networks.contents i.own_route has_own set route)

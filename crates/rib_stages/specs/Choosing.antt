@@ -29,7 +29,10 @@ has_network config prefix = list_any (same_prefix prefix) config.networks
 
 -- the identifier of the router that told a route counts as the route's identifier and as its address
 abbrev pub telling_candidate : RibConfig → ℕ → Option Route → Option Candidate
-telling_candidate config q telling = option_map (λ route. (record { from = Router (record { 0 = q }); route = route }, rank_of config.home_as false (cost_to config q) (identifier_of config q) (identifier_of config q) route)) telling
+telling_candidate config q telling = option_map (λ route. (
+  record { from = Router (record { 0 = q }); route = route },
+  rank_of config.home_as false (cost_to config q) (identifier_of config q) (identifier_of config q) route,
+)) telling
 
 -- The own network, what the peerings of these numbers gave, and what the routers of these numbers told.
 abbrev pub candidates_among : List ℕ → List ℕ → RibValue → PrefixValue → List Candidate

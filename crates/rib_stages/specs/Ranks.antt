@@ -51,7 +51,8 @@ entry_rank home_as entry = rank_of home_as true 0 entry.identifier entry.address
 abbrev pub rank_in : RibValue → PrefixValue → From → Option Rank
 rank_in rib prefix Own = if has_network rib.config prefix then Some (own_rank rib.config.home_as) else None
 rank_in rib prefix (Peering p) = option_map (entry_rank rib.config.home_as) (map.get (rib.entries p.0) prefix)
-rank_in rib prefix (Router q) = option_map (rank_of rib.config.home_as false (cost_to rib.config q.0) (identifier_of rib.config q.0) (identifier_of rib.config q.0)) (map.get (rib.tellings q.0) prefix)
+rank_in rib prefix (Router q) = option_map (rank_of rib.config.home_as false (cost_to rib.config q.0)
+    (identifier_of rib.config q.0) (identifier_of rib.config q.0)) (map.get (rib.tellings q.0) prefix)
 
 -- the route to a prefix from this source, where the own route is given separately
 abbrev pub route_at : Route → (ℕ → Entries) → (ℕ → Tellings) → From → PrefixValue → Option Route

@@ -63,7 +63,8 @@ coded_config = code_by
 abbrev pub coded_rib : Coded Entry → Coded Route → Coded Best → Coded RibStore
 coded_rib entry route best = code_by
     (RibConfig × (List Entries × (List Tellings × (BestRoutes × Prefixes))))
-    (coded× coded_config (coded× (coded_list (map.code coded_prefix entry)) (coded× (coded_list (map.code coded_prefix route)) (coded× (map.code coded_prefix best) (map.code coded_prefix coded_unit)))))
+    (coded× coded_config (coded× (coded_list (map.code coded_prefix entry))
+    (coded× (coded_list (map.code coded_prefix route)) (coded× (map.code coded_prefix best) (map.code coded_prefix coded_unit)))))
     (λ r. (r.config, (r.entries, (r.tellings, (r.best, r.dirty)))))
     (λ p. record { config = p.0; entries = p.1.0; tellings = p.1.1.0; best = p.1.1.1.0; dirty = p.1.1.1.1 })
     (λ _. refl)

@@ -21,6 +21,8 @@ pub fn choice_among_fewer()
 /// If prefixes get their new values one by one, each once, they are marked one by one: one more is
 /// marked if and only if its value changed.
 pub fn marks_one_by_one<V>()
-    ensures { (before : Prefixes) (marked : Prefixes) (after : Prefixes) (old : map.FinMap prefix_cmp V) (now : map.FinMap prefix_cmp V) (prefix : PrefixValue) (value : Option V)
-        → Marks before old now marked → map.get now prefix ≡ map.get old prefix → MarksOne marked prefix (map.get now prefix) value after → Marks before old (with_value now prefix value) after }
+    ensures { (before : Prefixes) (marked : Prefixes) (after : Prefixes) (old : map.FinMap prefix_cmp V)
+        (now : map.FinMap prefix_cmp V) (prefix : PrefixValue) (value : Option V)
+        → Marks before old now marked → map.get now prefix ≡ map.get old prefix
+        → MarksOne marked prefix (map.get now prefix) value after → Marks before old (with_value now prefix value) after }
 {}

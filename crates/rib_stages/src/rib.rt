@@ -50,9 +50,21 @@ impl Model for Rib {
 
     ghost coded = { coded_rib entry_type.the_row.coded route_type.the_row.coded best_type.the_row.coded };
 
-    ghost view = { λ r. record { config = r.config; entries = contents_of r.peerings; tellings = contents_of r.routers; best = r.choices.loc.best; dirty = r.choices.loc.dirty } };
+    ghost view = { λ r. record {
+      config = r.config;
+      entries = contents_of r.peerings;
+      tellings = contents_of r.routers;
+      best = r.choices.loc.best;
+      dirty = r.choices.loc.dirty;
+    } };
 
-    ghost invariant = { λ r. IsRib (record { config = r.config; entries = tables_of r.peerings; tellings = tables_of r.routers; best = r.choices.loc.best; dirty = r.choices.loc.dirty }) r.choices.groups.contents r.networks.contents r.own_route };
+    ghost invariant = { λ r. IsRib (record {
+      config = r.config;
+      entries = tables_of r.peerings;
+      tellings = tables_of r.routers;
+      best = r.choices.loc.best;
+      dirty = r.choices.loc.dirty;
+    }) r.choices.groups.contents r.networks.contents r.own_route };
 }
 
 /// Returns the route to a network of the router's own.
@@ -174,7 +186,8 @@ impl Rib {
     /// Returns the routes of a router at its start: none but those of its own networks, which are
     /// dirty. If memory runs out, the configuration is lost.
     pub fn new(alloc: Global, config: RibConfig) -> Result<Rib, NoMemory>
-        ensures { IfOk result (λ rib. rib_of rib ≡ record { config = config; entries = λ p. map.empty; tellings = λ q. map.empty; best = map.empty; dirty = set_of config.networks }) }
+        ensures { IfOk result (λ rib. rib_of rib
+            ≡ record { config = config; entries = λ p. map.empty; tellings = λ q. map.empty; best = map.empty; dirty = set_of config.networks }) }
     {
         let networks = config.networks.as_slice();
         Ok(Rib {
@@ -301,7 +314,8 @@ impl Rib {
     /// nothing changes.
     pub fn decide(&mut self, prefix: Prefix) -> Result<bool, NoMemory>
         ensures changed { IfOk result (λ changed. DifferIf (rib_choice (rib_of self.old) prefix) (map.get self.old.best prefix) changed) }
-        ensures ok { OnOk result (self.new ≡ record self.old { best = with_best self.old.best prefix (rib_choice (rib_of self.old) prefix); dirty = map.remove self.old.dirty prefix }) }
+        ensures ok { OnOk result (self.new
+            ≡ record self.old { best = with_best self.old.best prefix (rib_choice (rib_of self.old) prefix); dirty = map.remove self.old.dirty prefix }) }
         ensures err { OnErr result (self.new ≡ self.old) }
     {
         let Some(from) = best_from(&self.choices.groups, prefix) else {

@@ -37,7 +37,8 @@ module _ {A P I : Type 0} (part : A → P) (makes : Makes P I) (took : A → ℕ
       let e : deeds (ns ++ ms) ≡ deeds ns ++ m.deeds = deeds-append ns 0 m.deeds in
       let same : deeds ms ≡ m.deeds = deeds_noted 0 m.deeds in
       let p : Posted old (ns ++ ms) new = posted_then old mid new ns ms t.all.posted (posted_call mid new m.deeds m.wrote m.none) in
-      let off : (x : ℕ) → taken_from x (ns ++ ms) ≡ taken_from x ns = λ x. flat_map-append (gets x) ns ms ∙ ap (λ xs. taken_from x ns ++ xs) (none_taken x 0 m.deeds m.none) ∙ append-nil (taken_from x ns) in
+      let off : (x : ℕ) → taken_from x (ns ++ ms) ≡ taken_from x ns =
+      λ x. flat_map-append (gets x) ns ms ∙ ap (λ xs. taken_from x ns ++ xs) (none_taken x 0 m.deeds m.none) ∙ append-nil (taken_from x ns) in
       record {
         notes = ns ++ ms;
         did = record {
@@ -50,7 +51,8 @@ module _ {A P I : Type 0} (part : A → P) (makes : Makes P I) (took : A → ℕ
           none = rw same m.none;
           order = climbs 0 (length r) (senders (deeds ns)) t.order;
           most = λ x. rw (off x) (t.emptied x).most;
-          replay = rw e (replay-append makes (actor_of old) (part a) (part b) (part c) (deeds ns) m.deeds t.all.replay (subst (λ n. Replay makes n (part b) m.deeds (part c)) t.all.posted.actor m.replay));
+          replay = rw e (replay-append makes (actor_of old) (part a) (part b) (part c) (deeds ns) m.deeds t.all.replay
+              (subst (λ n. Replay makes n (part b) m.deeds (part c)) t.all.posted.actor m.replay));
           own = p.own;
           clocks = p.clocks;
         };

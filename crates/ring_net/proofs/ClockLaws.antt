@@ -1,5 +1,6 @@
 -- Levelled clocks, and a call at a mark.
-use Rattle.std.proofs.Common.{◌≡◌, ◌≢◌, ◌≤◌, ◌<◌, ◌+◌, ℕ, zero, suc, Bool, true, List, [], ◌∷◌, ◌++◌, length, get_or, map, Option, Some, None, refl, ap, sym, subst, ◌∙◌, arith, append_assoc, inl, inr}
+use Rattle.std.proofs.Common.{◌≡◌, ◌≢◌, ◌≤◌, ◌<◌, ◌+◌, ℕ, zero, suc, Bool, true, List, [], ◌∷◌, ◌++◌, length, get_or, map}
+use Rattle.std.proofs.Common.{Option, Some, None, refl, ap, sym, subst, ◌∙◌, arith, append_assoc, inl, inr}
 use Rattle.std.proofs.Math.ListN.{set}
 use Rattle.std.specs.Prelude.{slice_get, is_some}
 use Rattle.std.specs.Option.{option_map}
@@ -87,15 +88,24 @@ module _ {A I : Type 0} where
   keeps_level old new l = subst (λ cells. KeepsEnds old cells) (sym l.all) (keeps_clock l.clock old)
 
   pub keeps_then : (x y z : List (Cell A I)) → KeepsEnds x y → KeepsEnds y z → KeepsEnds x z
-  keeps_then x y z h k = record { outs = λ a b. k.outs a b ∙ h.outs a b; ins = λ a b. k.ins a b ∙ h.ins a b; boxes = λ a b. k.boxes a b ∙ h.boxes a b; numbers = λ n. k.numbers n ∙ h.numbers n }
+  keeps_then x y z h k = record {
+    outs = λ a b. k.outs a b ∙ h.outs a b;
+    ins = λ a b. k.ins a b ∙ h.ins a b;
+    boxes = λ a b. k.boxes a b ∙ h.boxes a b;
+    numbers = λ n. k.numbers n ∙ h.numbers n;
+  }
 
   pub keeps_pause : (cells : List (Cell A I)) (k : ℕ) (x y : Cell A I) → k < length cells → slice_get cells k ≡ Some x → PausesCell x y
       → KeepsEnds cells (set cells k y)
   keeps_pause cells k x y k_in is p = record {
-    outs = λ a b. by_index a (λ n. out_end (set cells k y) n b ≡ out_end cells n b) (rw (here, is, ap (λ (z : Cell A I). z.rings) p.only) refl) (λ ne. ap (λ o. out_of o b) (slice_get-set_other cells k a y ne));
-    ins = λ a b. by_index b (λ n. in_end (set cells k y) a n ≡ in_end cells a n) (rw (here, is, ap (λ (z : Cell A I). z.ins) p.only) refl) (λ ne. ap (λ o. in_of o a) (slice_get-set_other cells k b y ne));
-    boxes = λ a b. by_index a (λ n. box_of (slice_get (set cells k y) n) b ≡ box_of (slice_get cells n) b) (rw (here, is) (p.edges.edges b)) (λ ne. ap (λ o. box_of o b) (slice_get-set_other cells k a y ne));
-    numbers = λ n. by_index n (λ n. cell_number (slice_get (set cells k y) n) n ≡ cell_number (slice_get cells n) n) (rw (here, is) p.edges.actor) (λ ne. ap (λ o. cell_number o n) (slice_get-set_other cells k n y ne));
+    outs = λ a b. by_index a (λ n. out_end (set cells k y) n b ≡ out_end cells n b)
+        (rw (here, is, ap (λ (z : Cell A I). z.rings) p.only) refl) (λ ne. ap (λ o. out_of o b) (slice_get-set_other cells k a y ne));
+    ins = λ a b. by_index b (λ n. in_end (set cells k y) a n ≡ in_end cells a n)
+        (rw (here, is, ap (λ (z : Cell A I). z.ins) p.only) refl) (λ ne. ap (λ o. in_of o a) (slice_get-set_other cells k b y ne));
+    boxes = λ a b. by_index a (λ n. box_of (slice_get (set cells k y) n) b ≡ box_of (slice_get cells n) b)
+        (rw (here, is) (p.edges.edges b)) (λ ne. ap (λ o. box_of o b) (slice_get-set_other cells k a y ne));
+    numbers = λ n. by_index n (λ n. cell_number (slice_get (set cells k y) n) n ≡ cell_number (slice_get cells n) n)
+        (rw (here, is) p.edges.actor) (λ ne. ap (λ o. cell_number o n) (slice_get-set_other cells k n y ne));
   }
     where
       here : slice_get (set cells k y) k ≡ Some y
@@ -138,9 +148,16 @@ module _ {A I : Type 0} where
 
   pub level_view : (old new : List (Cell A I)) (edges : List (ℕ × ℕ)) (l : LevelsAll old new) → AllAt (view_of new edges) l.clock
   level_view old new edges l k h =
-      let k_in : k < length old = omega (arith, h, ap (λ cells. length (map (λ (z : Cell A I). z.actor) cells)) l.all, ap (λ zs. length zs) (map_actors l.clock old), length-map (λ (z : Cell A I). z.actor) old) in
+      let k_in : k < length old = omega (
+        arith,
+        h,
+        ap (λ cells. length (map (λ (z : Cell A I). z.actor) cells)) l.all,
+        ap (λ zs. length zs) (map_actors l.clock old),
+        length-map (λ (z : Cell A I). z.actor) old,
+      ) in
       ap (λ cells. clock_in (slice_get cells k)) l.all
-      ∙ ap (λ o. clock_in o) (slice_get-map (with_clock l.clock) old k ∙ ap (λ o. option_map (with_clock l.clock) o) (slice_get-get_or old k (some_cell old k k_in) k_in))
+      ∙ ap (λ o. clock_in o)
+      (slice_get-map (with_clock l.clock) old k ∙ ap (λ o. option_map (with_clock l.clock) o) (slice_get-get_or old k (some_cell old k k_in) k_in))
 
   pub only_clocks : (old new : List (Cell A I)) (edges : List (ℕ × ℕ)) → LevelsAll old new → OnlyClocks (view_of old edges) (view_of new edges)
   only_clocks old new edges l = subst (λ cells. OnlyClocks (view_of old edges) (view_of cells edges)) (sym l.all) (record {
@@ -148,12 +165,14 @@ module _ {A I : Type 0} where
     journals = λ k. ap (λ o. journal_of o) (slice_get-map (with_clock l.clock) old k) ∙ map_journal l.clock (slice_get old k);
     edges = λ a b. refl;
     channels = λ a b. ap (λ o. ring_known o ++ waits_of (slice_get (map (with_clock l.clock) old) a) b) ((keeps_clock l.clock old).ins a b)
-        ∙ ap (λ ws. ring_known (in_end old a b) ++ ws) (ap (λ o. waits_of o b) (slice_get-map (with_clock l.clock) old a) ∙ map_waits l.clock (slice_get old a) b);
+        ∙ ap (λ ws. ring_known (in_end old a b) ++ ws)
+        (ap (λ o. waits_of o b) (slice_get-map (with_clock l.clock) old a) ∙ map_waits l.clock (slice_get old a) b);
     rings = λ a b. ap (λ o. length (ring_known o)) ((keeps_clock l.clock old).ins a b);
   })
 
   pub levelled : (old new : List (Cell A I)) (edges : List (ℕ × ℕ)) → LevelsAll old new → Levelled (view_of old edges) (view_of new edges)
-  levelled old new edges l = record { only = only_clocks old new edges l; clock = l.clock; greatest = greatest_view old new edges l; level = level_view old new edges l }
+  levelled old new edges l =
+      record { only = only_clocks old new edges l; clock = l.clock; greatest = greatest_view old new edges l; level = level_view old new edges l }
 
 module _ {I : Type 0} where
   counted_rises : (c d : ℕ) (ds : List (Deed I)) → Counted c ds d → c ≤ d
@@ -267,9 +286,11 @@ module _ {A P I : Type 0} (part : A → P) (makes : Makes P I) (moves : A → Li
       has_box b e = sym (ap (λ o. box_of o b) at_first) ∙ first_linked.boxes k b ∙ e
 
       middle : (b : ℕ) → is_edge edges k b ≡ true
-          → ring_known (in_end second k b) ++ waits_of (slice_get second k) b ≡ (ring_known (in_end p.first k b) ++ waits_of (slice_get p.first k) b) ++ sent_by b ds
+          → ring_known (in_end second k b) ++ waits_of (slice_get second k) b
+          ≡ (ring_known (in_end p.first k b) ++ waits_of (slice_get p.first k) b) ++ sent_by b ds
       middle b e = ap (λ o. ring_known o ++ waits_of (slice_get second k) b) (kept.ins k b)
-          ∙ ap (λ ws. ring_known (in_end p.first k b) ++ ws) (ap (λ o. waits_of o b) at_second ∙ m.wrote.boxes b (has_box b e) ∙ ap (λ ws. ws ++ sent_by b ds) (sym (ap (λ o. waits_of o b) at_first)))
+          ∙ ap (λ ws. ring_known (in_end p.first k b) ++ ws)
+          (ap (λ o. waits_of o b) at_second ∙ m.wrote.boxes b (has_box b e) ∙ ap (λ ws. ws ++ sent_by b ds) (sym (ap (λ o. waits_of o b) at_first)))
           ∙ sym (append_assoc (ring_known (in_end p.first k b)) (waits_of (slice_get p.first k) b) (sent_by b ds))
 
       aside : (a b : ℕ) → a ≢ k

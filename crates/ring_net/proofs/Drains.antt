@@ -1,5 +1,6 @@
 -- What is on its way is taken edge by edge.
-use Rattle.std.proofs.Common.{◌≡◌, ◌≢◌, ◌≤◌, ◌<◌, ◌+◌, ℕ, zero, suc, List, [], ◌∷◌, ◌++◌, length, get_or, map, take, Some, refl, ap, sym, subst, ◌∙◌, arith, inl, inr}
+use Rattle.std.proofs.Common.{◌≡◌, ◌≢◌, ◌≤◌, ◌<◌, ◌+◌, ℕ, zero, suc, List, [], ◌∷◌, ◌++◌, length, get_or}
+use Rattle.std.proofs.Common.{map, take, Some, refl, ap, sym, subst, ◌∙◌, arith, inl, inr}
 use Rattle.std.proofs.Math.ListN.{set}
 use Rattle.std.specs.Prelude.{slice_get}
 use Rattle.std.proofs.lemmas.List.{take_more, map-append}
@@ -79,7 +80,8 @@ module _ {A I : Type 0} where
   pub drained : (cells : List (Cell A I)) (a b : ℕ) (c d e f : Cell A I) → a < length cells → b < length cells → slice_get cells b ≡ Some c
       → WithoutRing a c d → slice_get (set cells b d) a ≡ Some e → a < length (set cells b d) → WithoutBox b e f
       → DrainsChannel a b cells (set (set cells b d) a f)
-  drained cells a b c d e f a_in b_in is w is' a_in' w' = drains_then a b cells (set cells b d) (set (set cells b d) a f) (without_ring cells a b c d b_in is w) (without_box (set cells b d) a b e f a_in' is' w')
+  drained cells a b c d e f a_in b_in is w is' a_in' w' = drains_then a b cells (set cells b d)
+      (set (set cells b d) a f) (without_ring cells a b c d b_in is w) (without_box (set cells b d) a b e f a_in' is' w')
 
   -- ---- edge by edge
 
@@ -87,9 +89,11 @@ module _ {A I : Type 0} where
   pub record Draining (edges : List (ℕ × ℕ)) (i : ℕ) (old new : List (Cell A I)) (taken : List (Left I)) : Type 0 where
     pub left : taken ≡ items_left (view_of old edges) (take i edges)
     pub rings : (j : ℕ) → i ≤ j → j < length edges
-        → ring_known (in_end new (get_or edges j (0, 0)).0 (get_or edges j (0, 0)).1) ≡ ring_known (in_end old (get_or edges j (0, 0)).0 (get_or edges j (0, 0)).1)
+        → ring_known (in_end new (get_or edges j (0, 0)).0 (get_or edges j (0, 0)).1)
+        ≡ ring_known (in_end old (get_or edges j (0, 0)).0 (get_or edges j (0, 0)).1)
     pub boxes : (j : ℕ) → i ≤ j → j < length edges
-        → waits_of (slice_get new (get_or edges j (0, 0)).0) (get_or edges j (0, 0)).1 ≡ waits_of (slice_get old (get_or edges j (0, 0)).0) (get_or edges j (0, 0)).1
+        → waits_of (slice_get new (get_or edges j (0, 0)).0) (get_or edges j (0, 0)).1
+        ≡ waits_of (slice_get old (get_or edges j (0, 0)).0) (get_or edges j (0, 0)).1
     pub actors : actors_of new ≡ actors_of old
     pub journals : journals_of new ≡ journals_of old
 
@@ -118,10 +122,12 @@ module _ {A I : Type 0} where
       pair u v p q = grind arith
 
       apart : (j : ℕ) → i + 1 ≤ j → j < length edges → (get_or edges j (0, 0)).0 ≡ a → (get_or edges j (0, 0)).1 ≡ b → ⊥
-      apart j low j_in p q = absurd (let s : j ≡ i = once j i j_in i_in (pair (get_or edges j (0, 0)) (get_or edges i (0, 0)) (p ∙ is_a) (q ∙ is_b)) in omega arith)
+      apart j low j_in p q =
+          absurd (let s : j ≡ i = once j i j_in i_in (pair (get_or edges j (0, 0)) (get_or edges i (0, 0)) (p ∙ is_a) (q ∙ is_b)) in omega arith)
 
       at_edge : (u v : ℕ) → u ≡ (get_or edges i (0, 0)).0 → v ≡ (get_or edges i (0, 0)).1
-          → record { from = u; to = v; items = map (λ (x : Stamped I). x.item) (ring_known (in_end mid u v) ++ waits_of (slice_get mid u) v) } ≡ step (get_or edges i (0, 0))
+          → record { from = u; to = v; items = map (λ (x : Stamped I). x.item) (ring_known (in_end mid u v) ++ waits_of (slice_get mid u) v) }
+          ≡ step (get_or edges i (0, 0))
       at_edge u v p q = rw (p, q, h.rings i (omega arith) i_in, h.boxes i (omega arith) i_in) refl
 
       here : record { from = a; to = b; items = items } ≡ step (get_or edges i (0, 0))

@@ -1,5 +1,6 @@
 -- A read of one edge, in a list of cells.
-use Rattle.std.proofs.Common.{◌≡◌, ◌≢◌, ◌<◌, ◌-◌, ℕ, zero, suc, List, [], ◌∷◌, ◌++◌, length, get_or, Option, Some, None, refl, ap, sym, subst, ◌∙◌, arith, append_assoc, length-append, inl, inr}
+use Rattle.std.proofs.Common.{◌≡◌, ◌≢◌, ◌<◌, ◌-◌, ℕ, zero, suc, List, [], ◌∷◌, ◌++◌, length, get_or, Option, Some, None}
+use Rattle.std.proofs.Common.{refl, ap, sym, subst, ◌∙◌, arith, append_assoc, length-append, inl, inr}
 use Rattle.std.proofs.Math.ListN.{set}
 use Rattle.std.specs.Prelude.{slice_get}
 use Rattle.std.proofs.lemmas.List.{length-set, set-append_left, set-append_right, append-nil}
@@ -98,7 +99,8 @@ module _ {A I : Type 0} where
   reads_set old new a b f t x y apart a_in b_in is_f is_t writes ends out into =
       let at_b : slice_get new b ≡ Some y = rw writes (slice_get-set_same (set old a x) b y (rw length-set b_in)) in
       let at_a : slice_get new a ≡ Some x = rw writes (slice_get-set_other (set old a x) b a y apart ∙ slice_get-set_same old a x a_in) in
-      let else_at : (n : ℕ) → n ≢ a → n ≢ b → slice_get new n ≡ slice_get old n = λ n na nb. rw writes (slice_get-set_other (set old a x) b n y nb ∙ slice_get-set_other old a n x na) in
+      let else_at : (n : ℕ) → n ≢ a → n ≢ b → slice_get new n ≡ slice_get old n =
+      λ n na nb. rw writes (slice_get-set_other (set old a x) b n y nb ∙ slice_get-set_other old a n x na) in
       let x_ins : x.ins ≡ f.ins = ap (λ (c : Cell A I). c.ins) out.only in
       let y_rings : y.rings ≡ t.rings = ap (λ (c : Cell A I). c.rings) into.only in
       let out_same : (n m : ℕ) → (n ≡ a → m ≡ b → ⊥) → out_end new n m ≡ out_end old n m = λ n m ne. elim (eqb_tells n a) [
@@ -123,12 +125,16 @@ module _ {A I : Type 0} where
       ] in
       record {
         looked = record {
-          outs = λ n m. here_or n m (λ p q. LookedOut (out_end old p q) (out_end new p q)) (rw (at_a, is_f) ends.outs) (λ ne. rw (out_same n m ne) (looked_out_self _));
-          ins = λ n m. here_or n m (λ p q. LookedIn (in_end old p q) (in_end new p q)) (rw (at_b, is_t) ends.ins) (λ ne. rw (in_same n m ne) (looked_in_self _));
+          outs = λ n m. here_or n m (λ p q. LookedOut (out_end old p q) (out_end new p q))
+              (rw (at_a, is_f) ends.outs) (λ ne. rw (out_same n m ne) (looked_out_self _));
+          ins = λ n m. here_or n m (λ p q. LookedIn (in_end old p q) (in_end new p q))
+              (rw (at_b, is_t) ends.ins) (λ ne. rw (in_same n m ne) (looked_in_self _));
           rest = λ k. elim (eqb_tells k a) [
-            | inl s ↦ subst (λ n. rest_of (slice_get new n) ≡ rest_of (slice_get old n)) (sym s.1) (rw (at_a, is_f) (ap (λ (c : Cell A I). Some (c.actor, c.post, c.has_failed)) out.only))
+            | inl s ↦ subst (λ n. rest_of (slice_get new n) ≡ rest_of (slice_get old n)) (sym s.1)
+                (rw (at_a, is_f) (ap (λ (c : Cell A I). Some (c.actor, c.post, c.has_failed)) out.only))
             | inr na ↦ elim (eqb_tells k b) [
-              | inl r ↦ subst (λ n. rest_of (slice_get new n) ≡ rest_of (slice_get old n)) (sym r.1) (rw (at_b, is_t) (ap (λ (c : Cell A I). Some (c.actor, c.post, c.has_failed)) into.only))
+              | inl r ↦ subst (λ n. rest_of (slice_get new n) ≡ rest_of (slice_get old n)) (sym r.1)
+                  (rw (at_b, is_t) (ap (λ (c : Cell A I). Some (c.actor, c.post, c.has_failed)) into.only))
               | inr nb ↦ ap (λ o. rest_of o) (else_at k na.1 nb.1)
             ]
           ];
@@ -177,17 +183,22 @@ module _ {A I : Type 0} where
       → ReadsEnds (ring_to (get_or front a d) b) (ring_from (get_or back 0 e) a) (ring_to x b) (ring_from y a) → LooksOut b (get_or front a d) x
       → LooksIn a (get_or back 0 e) y
       → ReadsEdge a b old (set front a x ++ set back 0 y)
-  reads_up old front back a b d e x y parts len up b_in ends out into = reads_set old (set front a x ++ set back 0 y) a b (get_or front a d) (get_or back 0 e) x y (omega arith) (omega arith) b_in
-      (split_front old front back a d parts (omega (arith, len))) (split_head old front back b e parts len b_in) (writes_up old front back a b x y parts len up) ends out into
+  reads_up old front back a b d e x y parts len up b_in ends out into =
+      reads_set old (set front a x ++ set back 0 y) a b (get_or front a d) (get_or back 0 e) x y (omega arith) (omega arith) b_in
+      (split_front old front back a d parts (omega (arith, len))) (split_head old front back b e parts len b_in)
+      (writes_up old front back a b x y parts len up) ends out into
 
   pub reads_down : (old front back : List (Cell A I)) (a b : ℕ) (d e x y : Cell A I) → old ≡ front ++ back → length front ≡ a → b < a → a < length old
       → ReadsEnds (ring_to (get_or back 0 d) b) (ring_from (get_or front b e) a) (ring_to x b) (ring_from y a) → LooksOut b (get_or back 0 d) x
       → LooksIn a (get_or front b e) y
       → ReadsEdge a b old (set front b y ++ set back 0 x)
-  reads_down old front back a b d e x y parts len down a_in ends out into = reads_set old (set front b y ++ set back 0 x) a b (get_or back 0 d) (get_or front b e) x y (omega arith) a_in (omega arith)
-      (split_head old front back a d parts len a_in) (split_front old front back b e parts (omega (arith, len))) (writes_down old front back a b x y parts len down) ends out into
+  reads_down old front back a b d e x y parts len down a_in ends out into =
+      reads_set old (set front b y ++ set back 0 x) a b (get_or back 0 d) (get_or front b e) x y (omega arith) a_in (omega arith)
+      (split_head old front back a d parts len a_in) (split_front old front back b e parts (omega (arith, len)))
+      (writes_down old front back a b x y parts len down) ends out into
 
   pub paired_at : (old : List (Cell A I)) (a b : ℕ) (f t : Cell A I) → slice_get old a ≡ Some f → slice_get old b ≡ Some t
-      → ((p : Producer (Stamped I) Global AnyItems) (c : Consumer (Stamped I) Global AnyItems) → out_end old a b ≡ Some p → in_end old a b ≡ Some c → IsPair p c)
+      → ((p : Producer (Stamped I) Global AnyItems) (c : Consumer (Stamped I) Global AnyItems)
+      → out_end old a b ≡ Some p → in_end old a b ≡ Some c → IsPair p c)
       → (p : Producer (Stamped I) Global AnyItems) (c : Consumer (Stamped I) Global AnyItems) → ring_to f b ≡ Some p → ring_from t a ≡ Some c → IsPair p c
   paired_at old a b f t is_f is_t h p c out into = h p c (ap (λ o. out_of o b) is_f ∙ out) (ap (λ o. in_of o a) is_t ∙ into)

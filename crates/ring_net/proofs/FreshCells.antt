@@ -1,5 +1,6 @@
 -- Blank cells, and one edge after another.
-use Rattle.std.proofs.Common.{◌≡◌, ◌≢◌, ◌<◌, ◌+◌, ℕ, zero, suc, Bool, true, false, ◌==◌, ◌&&◌, ◌||◌, if◌then◌else◌, List, [], ◌∷◌, ◌++◌, length, get_or, take, map, Option, Some, None, refl, ap, sym, subst, ◌∙◌, arith, ◌⊎◌, inl, inr}
+use Rattle.std.proofs.Common.{◌≡◌, ◌≢◌, ◌<◌, ◌+◌, ℕ, zero, suc, Bool, true, false, ◌==◌, ◌&&◌, ◌||◌, if◌then◌else◌, List, [], ◌∷◌, ◌++◌}
+use Rattle.std.proofs.Common.{length, get_or, take, map, Option, Some, None, refl, ap, sym, subst, ◌∙◌, arith, ◌⊎◌, inl, inr}
 use Rattle.std.proofs.Math.ListN.{set}
 use Rattle.std.specs.Prelude.{slice_get, is_some}
 use Rattle.std.proofs.lemmas.List.{length-set, map-append}
@@ -36,14 +37,16 @@ module _ {A I : Type 0} where
 
   -- ---- one edge more
 
-  pub connects_set : (old new : List (Cell A I)) (a b : ℕ) (f t x y : Cell A I) (p : Producer (Stamped I) Global AnyItems) (c : Consumer (Stamped I) Global AnyItems)
+  pub connects_set : (old new : List (Cell A I)) (a b : ℕ) (f t x y : Cell A I)
+      (p : Producer (Stamped I) Global AnyItems) (c : Consumer (Stamped I) Global AnyItems)
       → a ≢ b → a < length old → b < length old
       → slice_get old a ≡ Some f → slice_get old b ≡ Some t → new ≡ set (set old a x) b y → AddsOut b p f x → AddsIn a c t y → IsOneRing p c
       → Known p c → known_items c ≡ [] → Connects a b old new
   connects_set old new a b f t x y p c apart a_in b_in is_f is_t writes out into joined known empty =
       let at_b : slice_get new b ≡ Some y = rw writes (slice_get-set_same (set old a x) b y (rw length-set b_in)) in
       let at_a : slice_get new a ≡ Some x = rw writes (slice_get-set_other (set old a x) b a y apart ∙ slice_get-set_same old a x a_in) in
-      let else_at : (n : ℕ) → n ≢ a → n ≢ b → slice_get new n ≡ slice_get old n = λ n na nb. rw writes (slice_get-set_other (set old a x) b n y nb ∙ slice_get-set_other old a n x na) in
+      let else_at : (n : ℕ) → n ≢ a → n ≢ b → slice_get new n ≡ slice_get old n =
+      λ n na nb. rw writes (slice_get-set_other (set old a x) b n y nb ∙ slice_get-set_other old a n x na) in
       let y_rings : y.rings ≡ t.rings = ap (λ (z : Cell A I). z.rings) into.only in
       let y_post : y.post ≡ t.post = ap (λ (z : Cell A I). z.post) into.only in
       let y_actor : y.actor ≡ t.actor = ap (λ (z : Cell A I). z.actor) into.only in
@@ -61,7 +64,8 @@ module _ {A I : Type 0} where
             (λ s. rw (at_a, is_f, out.ins, not_b apart) (both n))
             (λ s. rw (at_b, is_t, yes b) (into.ends n))
             (λ na nb s. rw (else_at m na nb, no m b nb) (both n));
-        boxes = λ n m. cases n (λ n. box_of (slice_get new n) m ≡ (if n == a then (if m == b then true else box_of (slice_get old n) m) else box_of (slice_get old n) m))
+        boxes = λ n m. cases n
+            (λ n. box_of (slice_get new n) m ≡ (if n == a then (if m == b then true else box_of (slice_get old n) m) else box_of (slice_get old n) m))
             (λ s. rw (at_a, is_f, s) (out.edges m))
             (λ s. rw (at_b, is_t, y_post, s) refl)
             (λ na nb s. rw (else_at n na nb, s) refl);
@@ -69,10 +73,14 @@ module _ {A I : Type 0} where
             (λ s. rw at_a (out.boxes (λ z. sym (ap (λ o. waits_of o z) is_f) ∙ h a z) m))
             (λ s. rw (at_b, y_post) (sym (ap (λ o. waits_of o m) is_t) ∙ h b m))
             (λ na nb s. rw (else_at n na nb) (h n m));
-        journals = λ n. cases n (λ n. journal_of (slice_get new n) ≡ journal_of (slice_get old n)) (λ s. rw (at_a, is_f) out.entries) (λ s. rw (at_b, is_t, y_post) refl) (λ na nb s. rw (else_at n na nb) refl);
-        clocks = λ n. cases n (λ n. clock_in (slice_get new n) ≡ clock_in (slice_get old n)) (λ s. rw (at_a, is_f) out.clock) (λ s. rw (at_b, is_t, y_post) refl) (λ na nb s. rw (else_at n na nb) refl);
-        numbers = λ n. cases n (λ n. cell_number (slice_get new n) n ≡ cell_number (slice_get old n) n) (λ s. rw (at_a, is_f) out.number) (λ s. rw (at_b, is_t, y_post) refl) (λ na nb s. rw (else_at n na nb) refl);
-        actors = rw writes (map_same (set old a x) b y t (slice_get-set_other old a b x (λ e. apart (sym e)) ∙ is_t) y_actor ∙ map_same old a x f is_f out.actor);
+        journals = λ n. cases n (λ n. journal_of (slice_get new n) ≡ journal_of (slice_get old n))
+            (λ s. rw (at_a, is_f) out.entries) (λ s. rw (at_b, is_t, y_post) refl) (λ na nb s. rw (else_at n na nb) refl);
+        clocks = λ n. cases n (λ n. clock_in (slice_get new n) ≡ clock_in (slice_get old n))
+            (λ s. rw (at_a, is_f) out.clock) (λ s. rw (at_b, is_t, y_post) refl) (λ na nb s. rw (else_at n na nb) refl);
+        numbers = λ n. cases n (λ n. cell_number (slice_get new n) n ≡ cell_number (slice_get old n) n)
+            (λ s. rw (at_a, is_f) out.number) (λ s. rw (at_b, is_t, y_post) refl) (λ na nb s. rw (else_at n na nb) refl);
+        actors = rw writes
+            (map_same (set old a x) b y t (slice_get-set_other old a b x (λ e. apart (sym e)) ∙ is_t) y_actor ∙ map_same old a x f is_f out.actor);
       }
     where
       yes : (n : ℕ) → (n == n) ≡ true
@@ -166,7 +174,8 @@ module _ {A I : Type 0} where
     net = record {
       linked = record {
         joined = λ x y p c out into. elim (here x y) [
-          | inl s ↦ subst (λ q. IsOneRing q c) (same_some k.out p (sym (out_here x y s.0 s.1) ∙ out)) (subst (λ d. IsOneRing k.out d) (same_some k.into c (sym (in_here x y s.0 s.1) ∙ into)) k.joined)
+          | inl s ↦ subst (λ q. IsOneRing q c) (same_some k.out p (sym (out_here x y s.0 s.1) ∙ out))
+              (subst (λ d. IsOneRing k.out d) (same_some k.into c (sym (in_here x y s.0 s.1) ∙ into)) k.joined)
           | inr ne ↦ f.net.linked.joined x y p c (sym (out_else x y ne) ∙ out) (sym (in_else x y ne) ∙ into)
         ];
         outs = λ x y. elim (here x y) [
@@ -185,7 +194,8 @@ module _ {A I : Type 0} where
         numbers = λ n. k.numbers n ∙ f.net.linked.numbers n;
       };
       known = λ x y p c out into. elim (here x y) [
-        | inl s ↦ subst (λ q. Known q c) (same_some k.out p (sym (out_here x y s.0 s.1) ∙ out)) (subst (λ d. Known k.out d) (same_some k.into c (sym (in_here x y s.0 s.1) ∙ into)) k.known)
+        | inl s ↦ subst (λ q. Known q c) (same_some k.out p (sym (out_here x y s.0 s.1) ∙ out))
+            (subst (λ d. Known k.out d) (same_some k.into c (sym (in_here x y s.0 s.1) ∙ into)) k.known)
         | inr ne ↦ f.net.known x y p c (sym (out_else x y ne) ∙ out) (sym (in_else x y ne) ∙ into)
       ];
     };

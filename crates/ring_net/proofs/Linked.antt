@@ -1,5 +1,6 @@
 -- What keeps the ends of rings linked.
-use Rattle.std.proofs.Common.{◌≡◌, ◌≢◌, ◌<◌, ◌+◌, ℕ, zero, suc, Bool, true, false, ◌==◌, ◌&&◌, ◌||◌, List, [], ◌∷◌, length, get_or, take, Option, Some, None, refl, ap, sym, subst, ◌∙◌, arith, ◌⊎◌, inl, inr}
+use Rattle.std.proofs.Common.{◌≡◌, ◌≢◌, ◌<◌, ◌+◌, ℕ, zero, suc, Bool, true, false, ◌==◌, ◌&&◌, ◌||◌, List, [], ◌∷◌, length}
+use Rattle.std.proofs.Common.{get_or, take, Option, Some, None, refl, ap, sym, subst, ◌∙◌, arith, ◌⊎◌, inl, inr}
 use Rattle.std.specs.Prelude.{slice_get, is_some}
 use Rattle.std.specs.List.{list_any}
 use Rattle.std.proofs.lemmas.List.{get_or_default}
@@ -167,7 +168,8 @@ module _ {A I : Type 0} where
   reading_more edges i e old mid new i_in is h r = record {
     looked = looked_then old mid new h.looked r.looked;
     level = λ a b was p c out into. elim (here a b) [
-      | inl s ↦ r.level p c (subst (λ x. out_end new x e.1 ≡ Some p) s.0 (subst (λ y. out_end new a y ≡ Some p) s.1 out)) (subst (λ x. in_end new x e.1 ≡ Some c) s.0 (subst (λ y. in_end new a y ≡ Some c) s.1 into))
+      | inl s ↦ r.level p c (subst (λ x. out_end new x e.1 ≡ Some p) s.0 (subst (λ y. out_end new a y ≡ Some p) s.1 out))
+          (subst (λ x. in_end new x e.1 ≡ Some c) s.0 (subst (λ y. in_end new a y ≡ Some c) s.1 into))
       | inr ne ↦ h.level a b (before a b ne was) p c (sym (r.other_outs a b ne) ∙ out) (sym (r.other_ins a b ne) ∙ into)
     ];
   }
@@ -197,7 +199,8 @@ module _ {A I : Type 0} where
   pub reading_next : (edges : List (ℕ × ℕ)) (i a b : ℕ) (old mid new : List (Cell A I)) → i < length edges → a ≡ (get_or edges i (0, 0)).0
       → b ≡ (get_or edges i (0, 0)).1
       → Reading edges i old mid → ReadsEdge a b mid new → Reading edges (i + 1) old new
-  reading_next edges i a b old mid new h is_a is_b r e = reading_more edges i (get_or edges i (0, 0)) old mid new h (get_or_default edges i (get_or edges i (0, 0)) (0, 0) h) r
+  reading_next edges i a b old mid new h is_a is_b r e =
+      reading_more edges i (get_or edges i (0, 0)) old mid new h (get_or_default edges i (get_or edges i (0, 0)) (0, 0) h) r
       (subst (λ x. ReadsEdge x (get_or edges i (0, 0)).1 mid new) is_a (subst (λ y. ReadsEdge a y mid new) is_b e))
 
   pub level_all : (cells : List (Cell A I)) (edges : List (ℕ × ℕ)) → Linked cells edges → ((a b : ℕ) → is_edge edges a b ≡ true → LevelAt cells a b)

@@ -1,5 +1,6 @@
 -- What each cell did, what each channel carried: a phase.
-use Rattle.std.proofs.Common.{◌≡◌, ◌≤◌, ◌<◌, ◌+◌, ℕ, zero, suc, Bool, true, false, ◌||◌, List, [], ◌∷◌, ◌++◌, length, get_or, map, min, Option, Some, None, refl, ap, sym, subst, ◌∙◌, arith, append_assoc, length-append, ◌⊎◌, inl, inr}
+use Rattle.std.proofs.Common.{◌≡◌, ◌≤◌, ◌<◌, ◌+◌, ℕ, zero, suc, Bool, true, false, ◌||◌, List, [], ◌∷◌, ◌++◌, length, get_or, map, min}
+use Rattle.std.proofs.Common.{Option, Some, None, refl, ap, sym, subst, ◌∙◌, arith, append_assoc, length-append, ◌⊎◌, inl, inr}
 use Rattle.std.specs.Prelude.{slice_get, is_some}
 use Rattle.std.specs.List.{list_any}
 use Rattle.std.proofs.lemmas.Option.{slice_get_within, slice_get-get_or, slice_get_past, get_or_from_slice_get}
@@ -20,7 +21,8 @@ use Rattle.ring_net.specs.Turns.{ActorDid}
 use Rattle.ring_net.specs.Ends.{SameOut, SameIn, IsSmall, Emptied, ring_sent, ring_free, ring_received, ring_known}
 use Rattle.ring_net.specs.Cells.{CellDid, CellTurned}
 use Rattle.ring_net.specs.Phases.{NetPhase}
-use Rattle.ring_net.specs.Nets.{LookedOut, LookedIn, Level, Known, IsOneRing, Linked, IsNet, LevelAt, out_of, in_of, out_end, in_end, box_of, waits_of, journal_of, clock_in, cell_number, view_of}
+use Rattle.ring_net.specs.Nets.{LookedOut, LookedIn, Level, Known, IsOneRing, Linked, IsNet, LevelAt, out_of, in_of}
+use Rattle.ring_net.specs.Nets.{out_end, in_end, box_of, waits_of, journal_of, clock_in, cell_number, view_of}
 use Rattle.ring_net.specs.Phases.{is_edge}
 use Rattle.ring_net.specs.Reads.{rest_of, Looked}
 use Rattle.ring_net.proofs.TakesEach.{emptied_none}
@@ -44,7 +46,8 @@ carried rec known sent box new taken rec' known' sent' box' more p count said le
     append_assoc rec known (r ++ (known' ++ box')) ∙ ap (λ xs. rec ++ xs) (sym (append_assoc known r (known' ++ box')) ∙ ap (λ xs. xs ++ (known' ++ box')) p.1)
     ∙ sym (append_assoc rec taken (known' ++ box')) ∙ ap (λ xs. xs ++ (known' ++ box')) (sym more) ∙ sym (append_assoc rec' known' box')
     ∙ ap (λ xs. xs ++ box') level ∙ said in
-    let rest : r ++ (known' ++ box') ≡ box ++ new = same_tails (rec ++ known) sent (r ++ (known' ++ box')) (box ++ new) (length-append rec known ∙ count) whole in
+    let rest : r ++ (known' ++ box') ≡ box ++ new =
+    same_tails (rec ++ known) sent (r ++ (known' ++ box')) (box ++ new) (length-append rec known ∙ count) whole in
     append_assoc known box new ∙ ap (λ xs. known ++ xs) (sym rest) ∙ sym (append_assoc known r (known' ++ box')) ∙ ap (λ xs. xs ++ (known' ++ box')) p.1
 
 prefix_length : {X : Type 0} (xs ys : List X) → IsPrefix xs ys → length xs ≤ length ys
@@ -64,7 +67,15 @@ pushed {X} rec known sent box new taken rec' known' sent' box' free more e pushe
     lengths = ap (λ (zs : List X). length zs) e
 
     by_case : (0 < length box') ⊎ (length box' ≡ 0) → min 256 (length (known ++ box)) ≤ length taken + length known'
-    by_case (inl h) = omega (arith, pushes h, room, ap (λ (zs : List X). length zs) more, length-append rec taken, ap (λ (zs : List X). length zs) level, length-append rec' known')
+    by_case (inl h) = omega (
+      arith,
+      pushes h,
+      room,
+      ap (λ (zs : List X). length zs) more,
+      length-append rec taken,
+      ap (λ (zs : List X). length zs) level,
+      length-append rec' known',
+    )
     by_case (inr h) = omega (arith, h, lengths, length-append (known ++ box) new, length-append taken (known' ++ box'), length-append known' box')
 
 -- ---- one cell
@@ -104,7 +115,8 @@ module _ {A P I : Type 0} (part : A → P) (makes : Makes P I) (took : A → ℕ
               nothing (y ∷ ys) zero l f = absurd cc
               nothing (y ∷ ys) (suc m) l f = nothing ys m (omega arith) f
       go (Some c) e = let k_in : k < length old = slice_get_within old k c e in
-          rw (slice_get-get_or mid k c (omega (arith, len, k_in))) (subst (λ x. CellTurned part makes took turned x (get_or mid k c)) (get_or_from_slice_get old k c c e) (h k c k_in))
+          rw (slice_get-get_or mid k c (omega (arith, len, k_in)))
+          (subst (λ x. CellTurned part makes took turned x (get_or mid k c)) (get_or_from_slice_get old k c c e) (h k c k_in))
 
   kept_outs : (o o' : Option (Cell A I)) (b : ℕ) → TurnedAt o o' → SameOut (out_of o b) (out_of o' b)
   kept_outs None None b h = tt
@@ -358,7 +370,12 @@ module _ {A P I : Type 0} (part : A → P) (makes : Makes P I) (took : A → ℕ
   phase_done old mid new edges len len' net turns looked level fine = record {
     notes = notes;
     size = length_actors new ∙ len' ∙ len ∙ sym (length_actors old);
-    actors = λ k d k_in. rw (actor_get old k d, actor_get new k d, same_actor (slice_get mid k) (slice_get new k) d (looked.rest k), same_clock (slice_get mid k) (slice_get new k) (looked.rest k))
+    actors = λ k d k_in. rw (
+      actor_get old k d,
+      actor_get new k d,
+      same_actor (slice_get mid k) (slice_get new k) d (looked.rest k),
+      same_clock (slice_get mid k) (slice_get new k) (looked.rest k),
+    )
         (did_actor (slice_get old k) (slice_get mid k) (did k) k d (some_at old k (omega (arith, length_actors old, k_in))) (net.linked.numbers k));
     none = λ k past. no_notes (slice_get old k) (slice_get mid k) (did k) (slice_get_past old k (omega (arith, length_actors old, past)));
     journals = λ k. same_journal (slice_get mid k) (slice_get new k) (looked.rest k)
@@ -374,7 +391,8 @@ module _ {A P I : Type 0} (part : A → P) (makes : Makes P I) (took : A → ℕ
       at = turned_at part makes took turned old mid len turns
 
       did : (k : ℕ) → DidAt part makes took turned (slice_get old k) (slice_get mid k)
-      did k = did_at part makes took turned (slice_get old k) (slice_get mid k) (memory_at (slice_get mid k) (sym (same_failed (slice_get mid k) (slice_get new k) (looked.rest k)) ∙ none_failed new k fine)) (at k)
+      did k = did_at part makes took turned (slice_get old k) (slice_get mid k)
+          (memory_at (slice_get mid k) (sym (same_failed (slice_get mid k) (slice_get new k) (looked.rest k)) ∙ none_failed new k fine)) (at k)
 
       notes : ℕ → List (Noted I)
       notes k = notes_at part makes took turned (slice_get old k) (slice_get mid k) (did k)
@@ -403,8 +421,10 @@ module _ {A P I : Type 0} (part : A → P) (makes : Makes P I) (took : A → ℕ
       level_new a b = level_lists (out_end new a b) (in_end new a b) (linked.outs a b ∙ sym (linked.ins a b)) (level a b)
 
       carries : (a b : ℕ) → is_edge edges a b ≡ true
-          → (ring_known (in_end old a b) ++ waits_of (slice_get old a) b) ++ sent_to b (notes a) ≡ taken_from a (notes b) ++ (ring_known (in_end new a b) ++ waits_of (slice_get new a) b)
-      carries a b e = carried (ring_received (in_end old a b)) (ring_known (in_end old a b)) (ring_sent (out_end old a b)) (waits_of (slice_get old a) b) (sent_to b (notes a)) (taken_from a (notes b))
+          → (ring_known (in_end old a b) ++ waits_of (slice_get old a) b) ++ sent_to b (notes a)
+          ≡ taken_from a (notes b) ++ (ring_known (in_end new a b) ++ waits_of (slice_get new a) b)
+      carries a b e = carried (ring_received (in_end old a b)) (ring_known (in_end old a b))
+          (ring_sent (out_end old a b)) (waits_of (slice_get old a) b) (sent_to b (notes a)) (taken_from a (notes b))
           (ring_received (in_end new a b)) (ring_known (in_end new a b)) (ring_sent (out_end new a b)) (waits_of (slice_get new a) b)
           (more a b) (known_taken a b) (known_counts (out_end old a b) (in_end old a b) (both a b) (net.known a b)) (said a b e) (level_new a b)
 
@@ -415,20 +435,27 @@ module _ {A P I : Type 0} (part : A → P) (makes : Makes P I) (took : A → ℕ
           sym (ap (λ i. ring_received i ++ taken_from a (notes b)) was) ∙ sym (more a b) ∙ ap (λ i. ring_received i) is
 
       by_edge : (a b : ℕ) (t : Bool) → is_edge edges a b ≡ t
-          → min 256 (length (ring_known (in_end old a b) ++ waits_of (slice_get old a) b)) ≤ length (taken_from a (notes b)) + length (ring_known (in_end new a b))
+          → min 256 (length (ring_known (in_end old a b) ++ waits_of (slice_get old a) b))
+          ≤ length (taken_from a (notes b)) + length (ring_known (in_end new a b))
       by_edge a b false e = rw (none_out (in_end old a b) (net.linked.ins a b ∙ e), no_box (slice_get old a) b (net.linked.boxes a b ∙ e)) (omega arith)
-      by_edge a b true e = pushed (ring_received (in_end old a b)) (ring_known (in_end old a b)) (ring_sent (out_end old a b)) (waits_of (slice_get old a) b) (sent_to b (notes a)) (taken_from a (notes b))
-          (ring_received (in_end new a b)) (ring_known (in_end new a b)) (ring_sent (out_end new a b)) (waits_of (slice_get new a) b) (ring_free (out_end old a b))
+      by_edge a b true e = pushed (ring_received (in_end old a b)) (ring_known (in_end old a b))
+          (ring_sent (out_end old a b)) (waits_of (slice_get old a) b) (sent_to b (notes a)) (taken_from a (notes b))
+          (ring_received (in_end new a b)) (ring_known (in_end new a b))
+          (ring_sent (out_end new a b)) (waits_of (slice_get new a) b) (ring_free (out_end old a b))
           (more a b) (carries a b e)
-          (λ h. rw (looked_sent (out_end mid a b) (out_end new a b) (looked.outs a b)) (did_pushes part makes took turned (slice_get old a) (slice_get mid a) (did a) b (subst (λ xs. 0 < length xs) (same_waits (slice_get mid a) (slice_get new a) b (looked.rest a)) h)))
-          (room_out (out_end old a b) (in_end old a b) (net.linked.outs a b ∙ e) (net.linked.ins a b ∙ e) (net.linked.joined a b) (net.known a b)) (level_new a b)
+          (λ h. rw (looked_sent (out_end mid a b) (out_end new a b) (looked.outs a b)) (did_pushes part makes took turned (slice_get old a)
+          (slice_get mid a) (did a) b (subst (λ xs. 0 < length xs) (same_waits (slice_get mid a) (slice_get new a) b (looked.rest a)) h)))
+          (room_out (out_end old a b) (in_end old a b) (net.linked.outs a b ∙ e) (net.linked.ins a b ∙ e) (net.linked.joined a b) (net.known a b))
+          (level_new a b)
 
   pub net_after : (old mid new : List (Cell A I)) (edges : List (ℕ × ℕ)) → length mid ≡ length old → IsNet old edges
       → ((k : ℕ) (d : Cell A I) → k < length old → CellTurned part makes took turned (get_or old k d) (get_or mid k d)) → Looked mid new
       → ((a b : ℕ) → LevelAt new a b) → IsNet new edges
   net_after old mid new edges len net turns looked level = net_read new edges
-      (linked_kept mid new edges (kept_looked mid new looked) (linked_kept old mid edges (kept_turned part makes took turned old mid (turned_at part makes took turned old mid len turns)) net.linked)) level
+      (linked_kept mid new edges (kept_looked mid new looked)
+      (linked_kept old mid edges (kept_turned part makes took turned old mid (turned_at part makes took turned old mid len turns)) net.linked)) level
 
   pub linked_after : (old mid : List (Cell A I)) (edges : List (ℕ × ℕ)) → length mid ≡ length old → IsNet old edges
       → ((k : ℕ) (d : Cell A I) → k < length old → CellTurned part makes took turned (get_or old k d) (get_or mid k d)) → Linked mid edges
-  linked_after old mid edges len net turns = linked_kept old mid edges (kept_turned part makes took turned old mid (turned_at part makes took turned old mid len turns)) net.linked
+  linked_after old mid edges len net turns =
+      linked_kept old mid edges (kept_turned part makes took turned old mid (turned_at part makes took turned old mid len turns)) net.linked

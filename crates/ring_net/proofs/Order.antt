@@ -1,5 +1,6 @@
 -- A net's journals stay in order.
-use Rattle.std.proofs.Common.{◌≡◌, ◌≤◌, ◌<◌, ℕ, zero, suc, Bool, List, [], ◌∷◌, ◌++◌, length, get_or, map, take, drop, refl, ap, sym, subst, ◌∙◌, arith, ◌⊎◌, inl, inr}
+use Rattle.std.proofs.Common.{◌≡◌, ◌≤◌, ◌<◌, ℕ, zero, suc, Bool, List, [], ◌∷◌, ◌++◌, length, get_or, map}
+use Rattle.std.proofs.Common.{take, drop, refl, ap, sym, subst, ◌∙◌, arith, ◌⊎◌, inl, inr}
 use Rattle.std.specs.Prelude.{slice_get}
 use Rattle.std.specs.List.{AllByRecursion}
 use Rattle.std.proofs.lemmas.Bool.Decides.{eqb_tells}
@@ -125,26 +126,32 @@ module _ {A P I : Type 0} (part : A → P) (makes : Makes P I) where
 
       journals : (k : ℕ) → (k < length old.actors) ⊎ (length old.actors ≤ k) → IsJournal k (new.journal k)
       journals k (inl k_in) = let did = p.actors k (some_of old.actors k k_in) k_in in
-          rw (journal k) (grown k (old.clock k) (new.clock k) (old.journal k) (deeds (p.notes k)) (h.journals k) (h.clocks k k_in) did.own (clocked_rises (old.clock k) (new.clock k) (p.notes k) did.clocks))
+          rw (journal k) (grown k (old.clock k) (new.clock k) (old.journal k) (deeds (p.notes k)) (h.journals k)
+          (h.clocks k k_in) did.own (clocked_rises (old.clock k) (new.clock k) (p.notes k) did.clocks))
       journals k (inr past) = rw (p.journals k, p.none k past, append-nil (old.journal k)) (h.journals k)
 
       none : (k : ℕ) → length new.actors ≤ k → new.journal k ≡ []
-      none k past = let old_past : length old.actors ≤ k = omega (arith, past, p.size) in rw (p.journals k, p.none k old_past, append-nil (old.journal k)) (h.none k old_past)
+      none k past = let old_past : length old.actors ≤ k = omega (arith, past, p.size) in
+          rw (p.journals k, p.none k old_past, append-nil (old.journal k)) (h.none k old_past)
 
       clocks : (k : ℕ) → k < length new.actors → AllByRecursion (λ (e : JournalEntry). e.clock ≤ new.clock k) (new.journal k)
       clocks k k_in = let k_old : k < length old.actors = omega (arith, k_in, p.size) in let did = p.actors k (some_of old.actors k k_old) k_old in
-          rw (journal k) (grown_below (old.clock k) (new.clock k) (old.journal k) (deeds (p.notes k)) (h.clocks k k_old) (clocked_rises (old.clock k) (new.clock k) (p.notes k) did.clocks))
+          rw (journal k) (grown_below (old.clock k) (new.clock k) (old.journal k) (deeds (p.notes k))
+          (h.clocks k k_old) (clocked_rises (old.clock k) (new.clock k) (p.notes k) did.clocks))
 
   pub order_between : (pauses : A → List (Deed I) → A → Type 0) (k : ℕ) (old new : View A I) (result : Bool) → k < length old.actors
       → Between part makes pauses k old new result → InOrder old → InOrder new
   order_between pauses k old new result k_old p h = record {
     journals = λ j. elim (eqb_tells j k) [
-      | inl s ↦ subst (λ n. IsJournal n (new.journal n)) (sym s.1) (rw (p.journal) (grown k p.from p.to (old.journal k) p.deeds (h.journals k) from_below p.own rising))
+      | inl s ↦ subst (λ n. IsJournal n (new.journal n)) (sym s.1)
+          (rw (p.journal) (grown k p.from p.to (old.journal k) p.deeds (h.journals k) from_below p.own rising))
       | inr ne ↦ rw (p.journals j ne.1) (h.journals j)
     ];
-    none = λ j past. let old_past : length old.actors ≤ j = omega (arith, past, p.size) in p.journals j (λ s. absurd (omega (arith, s, k_old, old_past))) ∙ h.none j old_past;
+    none = λ j past. let old_past : length old.actors ≤ j = omega (arith, past, p.size) in
+        p.journals j (λ s. absurd (omega (arith, s, k_old, old_past))) ∙ h.none j old_past;
     clocks = λ j j_in. let j_old : j < length old.actors = omega (arith, j_in, p.size) in rw (p.level j j_in) (elim (eqb_tells j k) [
-      | inl s ↦ subst (λ n. AllByRecursion (λ (e : JournalEntry). e.clock ≤ p.to) (new.journal n)) (sym s.1) (rw (p.journal) (grown_below p.from p.to (old.journal k) p.deeds from_below rising))
+      | inl s ↦ subst (λ n. AllByRecursion (λ (e : JournalEntry). e.clock ≤ p.to) (new.journal n))
+          (sym s.1) (rw (p.journal) (grown_below p.from p.to (old.journal k) p.deeds from_below rising))
       | inr ne ↦ rw (p.journals j ne.1) (below (old.clock j) p.to (old.journal j) (high j j_old) (h.clocks j j_old))
     ]);
   }
@@ -156,4 +163,5 @@ module _ {A P I : Type 0} (part : A → P) (makes : Makes P I) where
       from_below = below (old.clock k) p.from (old.journal k) (p.greatest.bound k k_old) (h.clocks k k_old)
 
       high : (j : ℕ) → j < length old.actors → old.clock j ≤ p.to
-      high j j_in = let l : old.clock j ≤ p.from = p.greatest.bound j j_in in let m : p.from ≤ p.to = rising_ends p.from p.to p.deeds rising in omega (arith, l, m)
+      high j j_in = let l : old.clock j ≤ p.from = p.greatest.bound j j_in in
+          let m : p.from ≤ p.to = rising_ends p.from p.to p.deeds rising in omega (arith, l, m)

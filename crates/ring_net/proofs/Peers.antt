@@ -1,5 +1,6 @@
 -- Walks over the peers to which there are ends of rings.
-use Rattle.std.proofs.Common.{◌≡◌, ◌≢◌, ◌≤◌, ◌<◌, ◌+◌, ℕ, zero, suc, Bool, true, false, if◌then◌else◌, List, [], ◌∷◌, ◌++◌, length, get_or, drop, Option, Some, None, refl, ap, sym, subst, ◌∙◌, arith, add-one, ◌⊎◌, inl, inr}
+use Rattle.std.proofs.Common.{◌≡◌, ◌≢◌, ◌≤◌, ◌<◌, ◌+◌, ℕ, zero, suc, Bool, true, false, if◌then◌else◌, List, [], ◌∷◌, ◌++◌, length}
+use Rattle.std.proofs.Common.{get_or, drop, Option, Some, None, refl, ap, sym, subst, ◌∙◌, arith, add-one, ◌⊎◌, inl, inr}
 use Rattle.std.specs.Prelude.{is_some}
 use Rattle.std.specs.List.{insert}
 use Rattle.std.proofs.Math.ListN.{set}
@@ -49,23 +50,39 @@ module _ {T : Type 0} where
       → ((k : ℕ) → n ≤ k → is_some (get_or xs k None) ≡ false → is_some (get_or ys k None) ≡ false)
       → ListsFrom xs n ps → ListsFrom ys n ps
   lists_kept xs ys n [] len f h = λ k l. f k l (h k l)
-  lists_kept xs ys n (p ∷ ps) len f h = (h.0, (omega (arith, h.1.0, len), (λ k l m. f k l (h.1.1.0 k l m), lists_kept xs ys (p + 1) ps len (λ k l. f k (omega (arith, h.0, l))) h.1.1.1)))
+  lists_kept xs ys n (p ∷ ps) len f h =
+      (h.0, (omega (arith, h.1.0, len), (λ k l m. f k l (h.1.1.0 k l m), lists_kept xs ys (p + 1) ps len (λ k l. f k (omega (arith, h.0, l))) h.1.1.1)))
 
   -- something is put at an index that the list has
   pub lists_put : (xs ys : List (Option T)) (n : ℕ) (ps : List ℕ) (index peer : ℕ) → length xs ≤ length ys
       → ((k : ℕ) → k ≢ peer → is_some (get_or xs k None) ≡ false → is_some (get_or ys k None) ≡ false)
       → ((k : ℕ) → k < index → get_or ps k 0 < peer) → index < length ps → get_or ps index 0 ≡ peer → ListsFrom xs n ps → ListsFrom ys n ps
   lists_put xs ys n [] index peer len f below within is h = absurd (omega arith)
-  lists_put xs ys n (p ∷ ps) zero peer len f below within is h = (h.0, (omega (arith, h.1.0, len), (λ k l m. f k (omega (arith, m, is)) (h.1.1.0 k l m), lists_kept xs ys (p + 1) ps len (λ k l. f k (omega (arith, l, is))) h.1.1.1)))
-  lists_put xs ys n (p ∷ ps) (suc j) peer len f below within is h = let first : p < peer = below 0 (omega arith) in
-      (h.0, (omega (arith, h.1.0, len), (λ k l m. f k (omega (arith, m, first)) (h.1.1.0 k l m), lists_put xs ys (p + 1) ps j peer len f (λ k l. below (suc k) (omega arith)) (omega (arith, within)) is h.1.1.1)))
+  lists_put xs ys n (p ∷ ps) zero peer len f below within is h = (
+    h.0,
+    (
+      omega (arith, h.1.0, len),
+      (λ k l m. f k (omega (arith, m, is)) (h.1.1.0 k l m), lists_kept xs ys (p + 1) ps len (λ k l. f k (omega (arith, l, is))) h.1.1.1),
+    ),
+  )
+  lists_put xs ys n (p ∷ ps) (suc j) peer len f below within is h = let first : p < peer = below 0 (omega arith) in (
+    h.0,
+    (
+      omega (arith, h.1.0, len),
+      (
+        λ k l m. f k (omega (arith, m, first)) (h.1.1.0 k l m),
+        lists_put xs ys (p + 1) ps j peer len f (λ k l. below (suc k) (omega arith)) (omega (arith, within)) is h.1.1.1,
+      ),
+    ),
+  )
 
   -- something is put at an index that the list has from now on
   pub lists_insert : (xs ys : List (Option T)) (n : ℕ) (ps : List ℕ) (index peer : ℕ) → length xs ≤ length ys → peer < length ys → n ≤ peer
       → ((k : ℕ) → k ≢ peer → is_some (get_or xs k None) ≡ false → is_some (get_or ys k None) ≡ false)
       → ((k : ℕ) → k < index → get_or ps k 0 < peer) → index ≤ length ps → (index < length ps → peer < get_or ps index 0) → ListsFrom xs n ps
       → ListsFrom ys n (insert ps index peer)
-  lists_insert xs ys n [] zero peer len in_ys low f below within rest h = (low, (in_ys, (λ k l m. f k (omega (arith, m)) (h k l), λ k l. f k (omega (arith, l)) (h k (omega (arith, l, low))))))
+  lists_insert xs ys n [] zero peer len in_ys low f below within rest h =
+      (low, (in_ys, (λ k l m. f k (omega (arith, m)) (h k l), λ k l. f k (omega (arith, l)) (h k (omega (arith, l, low))))))
   lists_insert xs ys n [] (suc j) peer len in_ys low f below within rest h = absurd (omega arith)
   lists_insert xs ys n (p ∷ ps) zero peer len in_ys low f below within rest h = let over : peer < p = rest (omega arith) in (
     low,
@@ -73,7 +90,16 @@ module _ {T : Type 0} where
       in_ys,
       (
         λ k l m. f k (omega (arith, m)) (h.1.1.0 k l (omega (arith, m, over))),
-        (omega (arith, over), (omega (arith, h.1.0, len), (λ k l m. f k (omega (arith, l)) (h.1.1.0 k (omega (arith, l, low)) m), lists_kept xs ys (p + 1) ps len (λ k l. f k (omega (arith, l, over))) h.1.1.1))),
+        (
+          omega (arith, over),
+          (
+            omega (arith, h.1.0, len),
+            (
+              λ k l m. f k (omega (arith, l)) (h.1.1.0 k (omega (arith, l, low)) m),
+              lists_kept xs ys (p + 1) ps len (λ k l. f k (omega (arith, l, over))) h.1.1.1,
+            ),
+          ),
+        ),
       ),
     ),
   )
@@ -83,7 +109,8 @@ module _ {T : Type 0} where
       omega (arith, h.1.0, len),
       (
         λ k l m. f k (omega (arith, m, first)) (h.1.1.0 k l m),
-        lists_insert xs ys (p + 1) ps j peer len in_ys (omega (arith, first)) f (λ k l. below (suc k) (omega arith)) (omega (arith, within)) (λ l. rest (omega arith)) h.1.1.1,
+        lists_insert xs ys (p + 1) ps j peer len in_ys (omega (arith, first)) f
+            (λ k l. below (suc k) (omega arith)) (omega (arith, within)) (λ l. rest (omega arith)) h.1.1.1,
       ),
     ),
   )
@@ -130,11 +157,13 @@ module _ {T : Type 0} where
 
   pub lists_set_added : (xs : List (Option T)) (b : ℕ) (v : Option T) (ps ps' : List ℕ) → b < length xs → AddsPeer b ps ps' → ListsIndices xs ps
       → ListsIndices (set xs b v) ps'
-  lists_set_added xs b v ps ps' b_in a h = lists_added xs (set xs b v) ps ps' b (omega (arith, length-set xs b v)) (omega (arith, b_in, length-set xs b v)) (λ k ne. set_other xs b v k ne) a h
+  lists_set_added xs b v ps ps' b_in a h = lists_added xs (set xs b v) ps ps' b (omega (arith, length-set xs b v))
+      (omega (arith, b_in, length-set xs b v)) (λ k ne. set_other xs b v k ne) a h
 
   -- an empty index more at the end, or none
   pub lists_longer : (xs ys : List (Option T)) (t : Bool) (ps : List ℕ) → ys ≡ (if t then xs ++ None ∷ [] else xs) → ListsIndices xs ps → ListsIndices ys ps
-  lists_longer xs ys true ps e h = subst (λ zs. ListsIndices zs ps) (sym e) (lists_kept xs (xs ++ None ∷ []) 0 ps (omega (arith, length-append xs (None ∷ []))) (λ k l g. ap is_some (get_or-append_default xs k None) ∙ g) h)
+  lists_longer xs ys true ps e h = subst (λ zs. ListsIndices zs ps) (sym e)
+      (lists_kept xs (xs ++ None ∷ []) 0 ps (omega (arith, length-append xs (None ∷ []))) (λ k l g. ap is_some (get_or-append_default xs k None) ∙ g) h)
   lists_longer xs ys false ps e h = subst (λ zs. ListsIndices zs ps) (sym e) h
 
   -- the next index of the list
@@ -204,7 +233,8 @@ module _ {A P I : Type 0} (part : A → P) (makes : Makes P I) (took : A → ℕ
   }
 
   -- the first i senders were taken from
-  pub record WalkingEach (peers : List ℕ) (i : ℕ) (old : A) (before : Post I) (rings : List (Option (Consumer (Stamped I) Global AnyItems))) (new : A) (after : Post I) (rings' : List (Option (Consumer (Stamped I) Global AnyItems))) : Type 0 where
+  pub record WalkingEach (peers : List ℕ) (i : ℕ) (old : A) (before : Post I) (rings : List (Option (Consumer (Stamped I) Global AnyItems)))
+      (new : A) (after : Post I) (rings' : List (Option (Consumer (Stamped I) Global AnyItems))) : Type 0 where
     pub next : ℕ
     pub within : next ≤ length rings
     pub left : ListsFrom rings next (drop i peers)
@@ -241,7 +271,8 @@ module _ {I : Type 0} where
   flushed_none box = record { same = tt; edge = refl; said = refl; pushes = λ h. omega arith }
 
   -- the first i receivers are flushed, and the others are as before
-  pub record FlushingEach (peers : List ℕ) (i : ℕ) (rings : List (Option (Producer (Stamped I) Global AnyItems))) (boxes : List (Option (VecDeque (Stamped I) Global)))
+  pub record FlushingEach (peers : List ℕ) (i : ℕ) (rings : List (Option (Producer (Stamped I) Global AnyItems)))
+      (boxes : List (Option (VecDeque (Stamped I) Global)))
       (rings' : List (Option (Producer (Stamped I) Global AnyItems))) (boxes' : List (Option (VecDeque (Stamped I) Global))) : Type 0 where
     pub next : ℕ
     pub left : ListsFrom rings next (drop i peers)
@@ -254,9 +285,11 @@ module _ {I : Type 0} where
       → Flushed (get_or r x None) (get_or b x None) (get_or r' x None) (get_or b' x None)
   untouched r r' b b' x none same = rw (same.0, same.1, none_of (get_or r x None) none) (flushed_none (get_or b x None))
 
-  pub flushing_more : (peers : List ℕ) (i : ℕ) (r r' r'' : List (Option (Producer (Stamped I) Global AnyItems))) (b b' b'' : List (Option (VecDeque (Stamped I) Global)))
+  pub flushing_more : (peers : List ℕ) (i : ℕ) (r r' r'' : List (Option (Producer (Stamped I) Global AnyItems)))
+      (b b' b'' : List (Option (VecDeque (Stamped I) Global)))
       → i < length peers → FlushingEach peers i r b r' b'
-      → Flushed (get_or r' (get_or peers i 0) None) (get_or b' (get_or peers i 0) None) (get_or r'' (get_or peers i 0) None) (get_or b'' (get_or peers i 0) None)
+      → Flushed (get_or r' (get_or peers i 0) None) (get_or b' (get_or peers i 0) None)
+      (get_or r'' (get_or peers i 0) None) (get_or b'' (get_or peers i 0) None)
       → ((x : ℕ) → x ≢ get_or peers i 0 → (get_or r'' x None ≡ get_or r' x None) × (get_or b'' x None ≡ get_or b' x None))
       → FlushingEach peers (i + 1) r b r'' b''
   flushing_more peers i r r' r'' b b' b'' i_in w here others = record {
@@ -264,7 +297,8 @@ module _ {I : Type 0} where
     left = l.1.1.1;
     flushed = λ x h. elim (eqb_tells x p) [
       | inl s ↦ subst (λ y. Flushed (get_or r y None) (get_or b y None) (get_or r'' y None) (get_or b'' y None)) (sym s.1)
-          (subst (λ o. Flushed (get_or r p None) o (get_or r'' p None) (get_or b'' p None)) (w.rest p l.0).1 (subst (λ o. Flushed o (get_or b' p None) (get_or r'' p None) (get_or b'' p None)) (w.rest p l.0).0 here))
+          (subst (λ o. Flushed (get_or r p None) o (get_or r'' p None) (get_or b'' p None)) (w.rest p l.0).1
+          (subst (λ o. Flushed o (get_or b' p None) (get_or r'' p None) (get_or b'' p None)) (w.rest p l.0).0 here))
       | inr ne ↦ rw ((others x ne.1).0, (others x ne.1).1) (elim (below_or_not x w.next) [
         | inl low ↦ w.flushed x low
         | inr high ↦ untouched r r' b b' x (l.1.1.0 x high (omega (arith, h, ne.1))) (w.rest x high)

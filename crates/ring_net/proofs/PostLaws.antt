@@ -60,5 +60,6 @@ module _ {I : Type 0} where
       }
     where
       one : (c b : ℕ)
-          → for_one to (record { stamp = record { 0 = c }; item = x }) b ≡ sent_by b (record { entry = record e { clock = c }; taken = taken; sent = (to, x) ∷ [] } ∷ [])
+          → for_one to (record { stamp = record { 0 = c }; item = x }) b
+          ≡ sent_by b (record { entry = record e { clock = c }; taken = taken; sent = (to, x) ∷ [] } ∷ [])
       one c b = grind (arith, nat_tests)

@@ -3,7 +3,8 @@ use Rattle.std.proofs.Common.{◌≡◌, ◌≤◌, ◌+◌, ℕ, max, map, List
 use Rattle.std.specs.List.{AllByRecursion}
 use Rattle.std.proofs.lemmas.Bool.Decides.{nat_tests}
 use Rattle.ring_net.specs.declared.entry.Stamped.{Stamped}
-use Rattle.ring_net.specs.Deeds.{Deed, Noted, Makes, Replay, IsLater, TakesNone, TakesFirst, Counted, met, Clocked, Rising, Climbs, ClimbsTo, deeds, noted, entries_of, puts_by, senders, sent_by, sent_to, taken_from}
+use Rattle.ring_net.specs.Deeds.{Deed, Noted, Makes, Replay, IsLater, TakesNone, TakesFirst, Counted, met, Clocked, Rising, Climbs}
+use Rattle.ring_net.specs.Deeds.{ClimbsTo, deeds, noted, entries_of, puts_by, senders, sent_by, sent_to, taken_from}
 
 pub all-append : {A : Type 0} (Q : A → Type 0) (xs ys : List A) → AllByRecursion Q xs → AllByRecursion Q ys → AllByRecursion Q (xs ++ ys)
 all-append Q [] ys h k = k
@@ -72,7 +73,8 @@ module _ {I : Type 0} where
 
   pub clocked_later : (c d : ℕ) (ns : List (Noted I)) → Clocked c ns d → AllByRecursion IsLater ns
   clocked_later c d [] h = tt
-  clocked_later c d (n ∷ ns) h = (λ x e. (let k : n.deed.entry.clock ≡ max c n.stamp + 1 = rw e at h.0 in omega (arith, k)), clocked_later n.deed.entry.clock d ns h.1)
+  clocked_later c d (n ∷ ns) h =
+      (λ x e. (let k : n.deed.entry.clock ≡ max c n.stamp + 1 = rw e at h.0 in omega (arith, k)), clocked_later n.deed.entry.clock d ns h.1)
 
   weaker : (b c : ℕ) (ds : List (Deed I)) (e : ℕ) → b ≤ c → Rising c ds e → Rising b ds e
   weaker b c [] e l h = omega (arith, l, h)

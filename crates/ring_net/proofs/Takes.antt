@@ -1,5 +1,6 @@
 -- Takes, one after another.
-use Rattle.std.proofs.Common.{◌≡◌, ◌≤◌, ◌+◌, ℕ, List, [], ◌∷◌, ◌++◌, length, refl, ap, sym, subst, ◌∙◌, arith, append_assoc, length-append, map, max, ◌⊎◌, inl, inr}
+use Rattle.std.proofs.Common.{◌≡◌, ◌≤◌, ◌+◌, ℕ, List, [], ◌∷◌, ◌++◌, length, refl, ap, sym, subst, ◌∙◌}
+use Rattle.std.proofs.Common.{arith, append_assoc, length-append, map, max, ◌⊎◌, inl, inr}
 use mathlib.Core.List.{IsPrefix}
 use Rattle.std.specs.declared.alloc.Global.{Global}
 use Rattle.rtrb.specs.Ring.{received, known_items, consumer_capacity}
@@ -12,10 +13,12 @@ use Rattle.std.proofs.lemmas.List.{append-nil, map-append}
 use Rattle.std.proofs.lemmas.List.Concat.{flat_map-append}
 use Rattle.ring_net.specs.declared.entry.Stamped.{Stamped}
 use Rattle.ring_net.specs.declared.post.Post.{Post}
-use Rattle.ring_net.specs.Deeds.{Deed, Noted, Makes, Replay, IsDeedOf, TakesFirst, deeds, noted, entries_of, gets, puts, sent_to, taken_from, senders, item_sender}
+use Rattle.ring_net.specs.Deeds.{Deed, Noted, Makes, Replay, IsDeedOf, TakesFirst, deeds, noted}
+use Rattle.ring_net.specs.Deeds.{entries_of, gets, puts, sent_to, taken_from, senders, item_sender}
 use Rattle.ring_net.specs.Posts.{actor_of, clock_of, entries_in, waits, Wrote, TookItem}
 use Rattle.ring_net.specs.Turns.{Posted, TookAll, stays, takes}
-use Rattle.ring_net.proofs.Replays.{all-append, replay-append, deeds_noted, entries_noted, sent_noted, clocked-append, clocked_first, first_taken, first_senders}
+use Rattle.ring_net.proofs.Replays.{all-append, replay-append, deeds_noted, entries_noted, sent_noted}
+use Rattle.ring_net.proofs.Replays.{clocked-append, clocked_first, first_taken, first_senders}
 
 module _ {I : Type 0} where
   pub posted_none : (old : Post I) → Posted old [] old
@@ -27,7 +30,8 @@ module _ {I : Type 0} where
   pub posted_then : (old mid new : Post I) (ns ms : List (Noted I)) → Posted old ns mid → Posted mid ms new → Posted old (ns ++ ms) new
   posted_then old mid new ns ms h k = record {
     actor = k.actor ∙ h.actor;
-    own = rw (deeds_both ns ms) (all-append (IsDeedOf (actor_of old)) (deeds ns) (deeds ms) h.own (subst (λ a. AllByRecursion (IsDeedOf a) (deeds ms)) h.actor k.own));
+    own = rw (deeds_both ns ms)
+        (all-append (IsDeedOf (actor_of old)) (deeds ns) (deeds ms) h.own (subst (λ a. AllByRecursion (IsDeedOf a) (deeds ms)) h.actor k.own));
     clocks = clocked-append (clock_of old) (clock_of mid) (clock_of new) ns ms h.clocks k.clocks;
     entries = k.entries ∙ ap (λ xs. xs ++ entries_of ms) h.entries ∙ append_assoc (entries_in old) (entries_of ns) (entries_of ms)
         ∙ ap (λ xs. entries_in old ++ xs) (sym (map-append (λ (n : Noted I). n.deed.entry) ns ms));
@@ -75,12 +79,14 @@ module _ {A P I : Type 0} (part : A → P) (makes : Makes P I) (took : A → ℕ
       let e : deeds (ns ++ noted s h.deeds) ≡ deeds ns ++ h.deeds = deeds-append ns s h.deeds in
       record {
         posted = posted_then old mid new ns (noted s h.deeds) k.posted (posted_wrote mid new s from x h.deeds h.wrote h.first);
-        replay = rw e (replay-append makes (actor_of old) (part a) (part b) (part c) (deeds ns) h.deeds k.replay (subst (λ n. Replay makes n (part b) h.deeds (part c)) k.posted.actor h.replay));
+        replay = rw e (replay-append makes (actor_of old) (part a) (part b) (part c) (deeds ns) h.deeds k.replay
+            (subst (λ n. Replay makes n (part b) h.deeds (part c)) k.posted.actor h.replay));
         tooks = rw e (takes a b c (deeds ns) h.deeds from x k.tooks h.took);
       }
 
   -- what was taken from one ring, n items so far
-  pub record Taking (from : ℕ) (old : A) (before : Post I) (ring : Consumer (Stamped I) Global AnyItems) (n : ℕ) (new : A) (after : Post I) (ring' : Consumer (Stamped I) Global AnyItems) : Type 0 where
+  pub record Taking (from : ℕ) (old : A) (before : Post I) (ring : Consumer (Stamped I) Global AnyItems)
+      (n : ℕ) (new : A) (after : Post I) (ring' : Consumer (Stamped I) Global AnyItems) : Type 0 where
     pub notes : List (Noted I)
     pub all : TookAll part makes took old before notes new after
     pub more : received ring' ≡ received ring ++ taken_from from notes

@@ -1,5 +1,6 @@
 -- Takes of one sender after those of another.
-use Rattle.std.proofs.Common.{◌≡◌, ◌≢◌, ◌≤◌, ◌<◌, ◌+◌, ℕ, List, [], ◌∷◌, ◌++◌, length, get_or, Option, Some, None, refl, sym, subst, ◌∙◌, arith, append_assoc, ◌⊎◌, inl, inr}
+use Rattle.std.proofs.Common.{◌≡◌, ◌≢◌, ◌≤◌, ◌<◌, ◌+◌, ℕ, List, [], ◌∷◌, ◌++◌, length, get_or, Option, Some}
+use Rattle.std.proofs.Common.{None, refl, sym, subst, ◌∙◌, arith, append_assoc, ◌⊎◌, inl, inr}
 use Rattle.std.specs.List.{AllByRecursion}
 use Rattle.std.proofs.lemmas.Bool.Decides.{eqb_tells, nat_tests}
 use Rattle.std.proofs.lemmas.List.{append-nil, get_or_past}
@@ -38,7 +39,8 @@ module _ {T : Type 0} where
       → SameIn (get_or r' n None) (get_or r'' n None)
       → ((a : ℕ) → a ≢ n → get_or r'' a None ≡ get_or r' a None) → (a : ℕ) → SameIn (get_or r a None) (get_or r'' a None)
   same_in_more n r r' r'' h k others a = elim (eqb_tells a n) [
-    | inl s ↦ subst (λ x. SameIn (get_or r x None) (get_or r'' x None)) (sym s.1) (same_in_then (get_or r n None) (get_or r' n None) (get_or r'' n None) (h n) k)
+    | inl s ↦ subst (λ x. SameIn (get_or r x None) (get_or r'' x None)) (sym s.1)
+        (same_in_then (get_or r n None) (get_or r' n None) (get_or r'' n None) (h n) k)
     | inr ne ↦ rw (others a ne.1) (h a)
   ]
 
@@ -72,14 +74,16 @@ module _ {I : Type 0} where
 module _ {A I : Type 0} (took : A → ℕ → I → List (Deed I) → A → Type 0) where
   pub tooks_then : (a b c : A) (ds es : List (Deed I)) → Tooks took a ds b → Tooks took b es c → Tooks took a (ds ++ es) c
   tooks_then a b c ds es h (stays _) = subst (λ xs. Tooks took a xs b) (sym (append-nil ds)) h
-  tooks_then a b c ds es h (takes _ m _ fs gs from x k t) = subst (λ xs. Tooks took a xs c) (append_assoc ds fs gs) (takes a m c (ds ++ fs) gs from x (tooks_then a b m ds fs h k) t)
+  tooks_then a b c ds es h (takes _ m _ fs gs from x k t) =
+      subst (λ xs. Tooks took a xs c) (append_assoc ds fs gs) (takes a m c (ds ++ fs) gs from x (tooks_then a b m ds fs h k) t)
 
 module _ {A P I : Type 0} (part : A → P) (makes : Makes P I) (took : A → ℕ → I → List (Deed I) → A → Type 0) where
   pub took_then : (a b c : A) (old mid new : Post I) (ns ms : List (Noted I)) → TookAll part makes took a old ns b mid
       → TookAll part makes took b mid ms c new → TookAll part makes took a old (ns ++ ms) c new
   took_then a b c old mid new ns ms h k = let e = deeds_both ns ms in record {
     posted = posted_then old mid new ns ms h.posted k.posted;
-    replay = rw e (replay-append makes (actor_of old) (part a) (part b) (part c) (deeds ns) (deeds ms) h.replay (subst (λ n. Replay makes n (part b) (deeds ms) (part c)) h.posted.actor k.replay));
+    replay = rw e (replay-append makes (actor_of old) (part a) (part b) (part c) (deeds ns) (deeds ms) h.replay
+        (subst (λ n. Replay makes n (part b) (deeds ms) (part c)) h.posted.actor k.replay));
     tooks = rw e (tooks_then took a b c (deeds ns) (deeds ms) h.tooks k.tooks);
   }
 
@@ -88,7 +92,8 @@ module _ {A P I : Type 0} (part : A → P) (makes : Makes P I) (took : A → ℕ
   took_one_none from a old ring e = rw e (record { notes = []; all = took_none part makes took a old; only = tt; emptied = emptied_none })
 
   -- what was taken from the rings of the senders below n
-  pub record TakingEach (old : A) (before : Post I) (rings : List (Option (Consumer (Stamped I) Global AnyItems))) (n : ℕ) (new : A) (after : Post I) (rings' : List (Option (Consumer (Stamped I) Global AnyItems))) : Type 0 where
+  pub record TakingEach (old : A) (before : Post I) (rings : List (Option (Consumer (Stamped I) Global AnyItems)))
+      (n : ℕ) (new : A) (after : Post I) (rings' : List (Option (Consumer (Stamped I) Global AnyItems))) : Type 0 where
     pub notes : List (Noted I)
     pub all : TookAll part makes took old before notes new after
     pub order : ClimbsTo 0 (senders (deeds notes)) n
@@ -96,7 +101,8 @@ module _ {A P I : Type 0} (part : A → P) (makes : Makes P I) (took : A → ℕ
     pub rest : (a : ℕ) → n ≤ a → (get_or rings' a None ≡ get_or rings a None) × (taken_from a notes ≡ [])
 
   pub taking_each_none : (a : A) (old : Post I) (rings : List (Option (Consumer (Stamped I) Global AnyItems))) → TakingEach a old rings 0 a old rings
-  taking_each_none a old rings = record { notes = []; all = took_none part makes took a old; order = omega arith; emptied = λ x h. absurd (omega arith); rest = λ x h. (refl, refl) }
+  taking_each_none a old rings =
+      record { notes = []; all = took_none part makes took a old; order = omega arith; emptied = λ x h. absurd (omega arith); rest = λ x h. (refl, refl) }
 
   pub taking_each_more : (n : ℕ) (a b c : A) (old mid new : Post I) (r r' r'' : List (Option (Consumer (Stamped I) Global AnyItems)))
       → TakingEach a old r n b mid r'
@@ -108,11 +114,14 @@ module _ {A P I : Type 0} (part : A → P) (makes : Makes P I) (took : A → ℕ
       record {
         notes = ns ++ ms;
         all = took_then a b c old mid new ns ms t.all k.all;
-        order = rw (senders_both ns ms) (climbs-append 0 n (n + 1) (senders (deeds ns)) (senders (deeds ms)) t.order (climbs_one n n (n + 1) (senders (deeds ms)) (omega arith) (omega arith) k.only));
+        order = rw (senders_both ns ms) (climbs-append 0 n (n + 1) (senders (deeds ns)) (senders (deeds ms)) t.order
+            (climbs_one n n (n + 1) (senders (deeds ms)) (omega arith) (omega arith) k.only));
         emptied = λ x h. elim (eqb_tells x n) [
           | inl s ↦ subst (λ y. Emptied (get_or r y None) (taken_from y (ns ++ ms)) (get_or r'' y None)) (sym s.1)
-              (rw (flat_map-append (gets n) ns ms, (t.rest n (omega arith)).1) (subst (λ o. Emptied o (taken_from n ms) (get_or r'' n None)) (t.rest n (omega arith)).0 k.emptied))
-          | inr ne ↦ rw (others x ne.1, flat_map-append (gets x) ns ms, taken_other x n ms ne.1 k.only, append-nil (taken_from x ns)) (t.emptied x (omega (arith, ne.1)))
+              (rw (flat_map-append (gets n) ns ms, (t.rest n (omega arith)).1)
+              (subst (λ o. Emptied o (taken_from n ms) (get_or r'' n None)) (t.rest n (omega arith)).0 k.emptied))
+          | inr ne ↦ rw (others x ne.1, flat_map-append (gets x) ns ms, taken_other x n ms ne.1 k.only, append-nil (taken_from x ns))
+              (t.emptied x (omega (arith, ne.1)))
         ];
         rest = λ x h. let ne : x ≢ n = omega arith in
             (others x ne ∙ (t.rest x (omega arith)).0, flat_map-append (gets x) ns ms ∙ rw ((t.rest x (omega arith)).1, taken_other x n ms ne k.only) refl);

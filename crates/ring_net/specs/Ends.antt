@@ -56,7 +56,8 @@ pub record Flushed {I : Type 0} (ring : Option (Producer (Stamped I) Global AnyI
   pub pushes : 0 < length (box_items outbox') → length (ring_sent ring) + ring_free ring ≤ length (ring_sent ring')
 
 -- These items were taken out of the ring, including all that were known to be in it.
-pub record Emptied {I : Type 0} (ring : Option (Consumer (Stamped I) Global AnyItems)) (items : List (Stamped I)) (ring' : Option (Consumer (Stamped I) Global AnyItems)) : Type 0 where
+pub record Emptied {I : Type 0} (ring : Option (Consumer (Stamped I) Global AnyItems))
+    (items : List (Stamped I)) (ring' : Option (Consumer (Stamped I) Global AnyItems)) : Type 0 where
   pub same : SameIn ring ring'
   pub received : ring_received ring' ≡ ring_received ring ++ items
   pub known : IsSmall ring → IsPrefix (ring_known ring) items

@@ -20,7 +20,8 @@ module _ {T : Type 0} where
   -- From this index on, there is nothing at an index that isn't in the list, and the list ascends.
   abbrev pub ListsFrom : List (Option T) → ℕ → List ℕ → Type 0
   ListsFrom slots n [] = (k : ℕ) → n ≤ k → is_some (slice_index_or slots k None) ≡ false
-  ListsFrom slots n (p ∷ ps) = (n ≤ p) × ((p < length slots) × (((k : ℕ) → n ≤ k → k < p → is_some (slice_index_or slots k None) ≡ false) × ListsFrom slots (p + 1) ps))
+  ListsFrom slots n (p ∷ ps) =
+      (n ≤ p) × ((p < length slots) × (((k : ℕ) → n ≤ k → k < p → is_some (slice_index_or slots k None) ≡ false) × ListsFrom slots (p + 1) ps))
 
   -- the indices at which there is something are in the list, in ascending order
   abbrev pub ListsIndices : List (Option T) → List ℕ → Type 0
@@ -28,4 +29,5 @@ module _ {T : Type 0} where
 
   pub ListsFrom-prop : (slots : List (Option T)) (n : ℕ) (indices : List ℕ) → IsProp (ListsFrom slots n indices)
   ListsFrom-prop slots n [] = Π_prop (λ k. Π_prop (λ h. Bool-set _ _))
-  ListsFrom-prop slots n (p ∷ ps) = ×_prop le_prop (×_prop le_prop (×_prop (Π_prop (λ k. Π_prop (λ h. Π_prop (λ l. Bool-set _ _)))) (ListsFrom-prop slots (p + 1) ps)))
+  ListsFrom-prop slots n (p ∷ ps) =
+      ×_prop le_prop (×_prop le_prop (×_prop (Π_prop (λ k. Π_prop (λ h. Π_prop (λ l. Bool-set _ _)))) (ListsFrom-prop slots (p + 1) ps)))

@@ -68,7 +68,8 @@ pub record Wrote {I : Type 0} (old : Post I) (ds : List (Deed I)) (new : Post I)
 
 module _ {A P I : Type 0} (part : A → P) (makes : Makes P I) where
   -- An actor's take of an item: the events that it made and wrote, the first of which takes the item.
-  pub record TookItem (took_by : A → ℕ → I → List (Deed I) → A → Type 0) (from : ℕ) (x : I) (old : A) (before : Post I) (new : A) (after : Post I) : Type 0 where
+  pub record TookItem (took_by : A → ℕ → I → List (Deed I) → A → Type 0) (from : ℕ)
+      (x : I) (old : A) (before : Post I) (new : A) (after : Post I) : Type 0 where
     pub deeds : List (Deed I)
     pub wrote : Wrote before deeds after
     pub first : TakesFirst from x deeds

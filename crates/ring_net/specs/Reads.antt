@@ -11,7 +11,8 @@ use Rattle.ring_net.specs.Cells.{ring_to, ring_from}
 use Rattle.ring_net.specs.Nets.{LookedOut, LookedIn, Level, out_end, in_end}
 
 -- both ends are read, and they are level if both are there
-pub record ReadsEnds {T : Type 0} (out : Option (Producer T Global AnyItems)) (into : Option (Consumer T Global AnyItems)) (out' : Option (Producer T Global AnyItems)) (into' : Option (Consumer T Global AnyItems)) : Type 0 where
+pub record ReadsEnds {T : Type 0} (out : Option (Producer T Global AnyItems)) (into : Option (Consumer T Global AnyItems))
+    (out' : Option (Producer T Global AnyItems)) (into' : Option (Consumer T Global AnyItems)) : Type 0 where
   pub outs : LookedOut out out'
   pub ins : LookedIn into into'
   pub level : (p : Producer T Global AnyItems) (c : Consumer T Global AnyItems) → out' ≡ Some p → into' ≡ Some c → Level p c

@@ -1,6 +1,7 @@
 //! The cells of a net before its first phase.
 
-ghost use Rattle.std.specs.Prelude.{◌≡◌, ◌≢◌, ◌≤◌, ◌<◌, ◌==◌, ◌++◌, ◌∷◌, [], ℕ, None, Some, true, false, if◌then◌else◌, length, map, slice_index_or, OnOk, IfOk};
+ghost use Rattle.std.specs.Prelude.{◌≡◌, ◌≢◌, ◌≤◌, ◌<◌, ◌==◌, ◌++◌, ◌∷◌, [], ℕ, None, Some, true, false};
+ghost use Rattle.std.specs.Prelude.{if◌then◌else◌, length, map, slice_index_or, OnOk, IfOk};
 ghost use Rattle.ring_net.specs.Posts.{actor_of, clock_of, entries_in, has_edge, waits};
 ghost use Rattle.ring_net.specs.Fresh.{IsBlank, AllBlank, AddsOut, AddsIn, Connects, Fresh};
 ghost use Rattle.ring_net.specs.Nets.{Linked, IsOneRing, Known};

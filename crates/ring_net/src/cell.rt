@@ -64,8 +64,10 @@ fn flush_at<I: Drop>(
     b: usize,
 )
     requires { b < length rings.old }
-    ensures here { Flushed (slice_index_or rings.old b None) (slice_index_or boxes.old b None) (slice_index_or rings.new b None) (slice_index_or boxes.new b None) }
-    ensures others { (x : ℕ) → x ≢ b → (slice_index_or rings.new x None ≡ slice_index_or rings.old x None) × (slice_index_or boxes.new x None ≡ slice_index_or boxes.old x None) }
+    ensures here { Flushed (slice_index_or rings.old b None) (slice_index_or boxes.old b None)
+        (slice_index_or rings.new b None) (slice_index_or boxes.new b None) }
+    ensures others { (x : ℕ) → x ≢ b
+        → (slice_index_or rings.new x None ≡ slice_index_or rings.old x None) × (slice_index_or boxes.new x None ≡ slice_index_or boxes.old x None) }
 {
     if b < boxes.len() {
         flush_one(&mut rings[b], &mut boxes[b]);
@@ -79,7 +81,8 @@ fn flush_each<I: Drop>(
     boxes: &mut [Option<VecDeque<Stamped<I>>>],
 )
     requires { ListsIndices rings.old receivers.now }
-    ensures { (b : ℕ) → Flushed (slice_index_or rings.old b None) (slice_index_or boxes.old b None) (slice_index_or rings.new b None) (slice_index_or boxes.new b None) }
+    ensures { (b : ℕ)
+        → Flushed (slice_index_or rings.old b None) (slice_index_or boxes.old b None) (slice_index_or rings.new b None) (slice_index_or boxes.new b None) }
 {
     for b in receivers {
         flush_at(rings, boxes, *b);
@@ -91,7 +94,8 @@ fn flush_all<I: Drop>(
     rings: &mut Ends<Producer<Stamped<I>>>,
     boxes: &mut [Option<VecDeque<Stamped<I>>>],
 )
-    ensures { (b : ℕ) → Flushed (slice_index_or rings.old.slots.items b None) (slice_index_or boxes.old b None) (slice_index_or rings.new.slots.items b None) (slice_index_or boxes.new b None) }
+    ensures { (b : ℕ) → Flushed (slice_index_or rings.old.slots.items b None) (slice_index_or boxes.old b None)
+        (slice_index_or rings.new.slots.items b None) (slice_index_or boxes.new b None) }
 {
     flush_each(rings.peers.as_slice(), rings.slots.as_mut_slice(), boxes);
 }
@@ -113,7 +117,8 @@ fn take_one<A: Actor>(
     post: &mut Post<A::Item>,
 ) -> Result<(), NoMemory>
     ensures edges { SameEdges post.old post.new }
-    ensures took { OnOk result (TookItem A.part A.makes A.took from mail.item actor.old (record post.old { clock = max post.old.clock mail.stamp.0 }) actor.new post.new) }
+    ensures took { OnOk result
+        (TookItem A.part A.makes A.took from mail.item actor.old (record post.old { clock = max post.old.clock mail.stamp.0 }) actor.new post.new) }
 {
     let Stamped { stamp, item } = mail;
     post.meet(stamp);
@@ -168,7 +173,8 @@ fn take_at<A: Actor>(
     ensures ring { SameIn (slice_index_or ins.old from None) (slice_index_or ins.new from None) }
     ensures edges { SameEdges post.old post.new }
     ensures others { (a : ℕ) → a ≢ from → slice_index_or ins.new a None ≡ slice_index_or ins.old a None }
-    ensures took { OnOk result (TookOne A.part A.makes A.took from actor.old post.old (slice_index_or ins.old from None) actor.new post.new (slice_index_or ins.new from None)) }
+    ensures took { OnOk result
+        (TookOne A.part A.makes A.took from actor.old post.old (slice_index_or ins.old from None) actor.new post.new (slice_index_or ins.new from None)) }
 {
     take_maybe(actor, from, &mut ins[from], post)
 }

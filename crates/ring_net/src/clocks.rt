@@ -67,7 +67,8 @@ pub(crate) fn pause_all<A: Actor>(cells: &mut [Cell<A>], k: usize) -> Result<boo
     requires { k < length cells.old }
     ensures net { (edges : List (ℕ × ℕ)) → IsNet cells.old edges → IsNet cells.new edges }
     ensures order { OnOk result ((edges : List (ℕ × ℕ)) → IsNet cells.old edges → InOrder (view_of cells.old edges) → InOrder (view_of cells.new edges)) }
-    ensures pauses { IfOk result (λ answer. (edges : List (ℕ × ℕ)) → IsNet cells.old edges → Between A.part A.makes A.paused k (view_of cells.old edges) (view_of cells.new edges) answer) }
+    ensures pauses { IfOk result (λ answer. (edges : List (ℕ × ℕ)) → IsNet cells.old edges
+        → Between A.part A.makes A.paused k (view_of cells.old edges) (view_of cells.new edges) answer) }
 {
     let answer = pause_at(cells, k)?;
     Ok(answer)

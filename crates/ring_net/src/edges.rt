@@ -48,7 +48,8 @@ fn read_slots<I: Drop>(
     b: usize,
 )
     requires { (p : _) (c : _) → slice_index_or rings.old.slots.items b None ≡ Some p → slice_index_or ins.old.slots.items a None ≡ Some c → IsPair p c }
-    ensures ends { ReadsEnds (slice_index_or rings.old.slots.items b None) (slice_index_or ins.old.slots.items a None) (slice_index_or rings.new.slots.items b None) (slice_index_or ins.new.slots.items a None) }
+    ensures ends { ReadsEnds (slice_index_or rings.old.slots.items b None) (slice_index_or ins.old.slots.items a None)
+        (slice_index_or rings.new.slots.items b None) (slice_index_or ins.new.slots.items a None) }
     ensures rings { (x : ℕ) → x ≢ b → slice_index_or rings.new.slots.items x None ≡ slice_index_or rings.old.slots.items x None }
     ensures ins { (x : ℕ) → x ≢ a → slice_index_or ins.new.slots.items x None ≡ slice_index_or ins.old.slots.items x None }
 {

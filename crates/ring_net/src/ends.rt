@@ -41,7 +41,8 @@ impl<T: Drop> Ends<T> {
 
     /// Puts the end of a ring at this peer's index.
     pub(crate) fn put(&mut self, peer: usize, end: T) -> Result<(), NoMemory>
-        ensures { OnOk result ((x : ℕ) → slice_index_or self.new.slots.items x None ≡ (if x == peer then Some end else slice_index_or self.old.slots.items x None)) }
+        ensures { OnOk result
+            ((x : ℕ) → slice_index_or self.new.slots.items x None ≡ (if x == peer then Some end else slice_index_or self.old.slots.items x None)) }
     {
         while self.slots.len() <= peer {
             self.slots.push(None)?;

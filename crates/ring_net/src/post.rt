@@ -1,6 +1,7 @@
 //! What an actor writes while it acts: entries of its journal, and items for others.
 
-ghost use Rattle.std.specs.Prelude.{◌≡◌, ◌+◌, ◌++◌, ◌∷◌, ◌≢◌, ◌↔◌, [], ℕ, max, option_map, None, true, OnOk, OnErr, IfOk, IfErr, IfSome, IfNone, IsNone, Contains, IsTrue};
+ghost use Rattle.std.specs.Prelude.{◌≡◌, ◌+◌, ◌++◌, ◌∷◌, ◌≢◌, ◌↔◌, [], ℕ, max, option_map, None, true, OnOk};
+ghost use Rattle.std.specs.Prelude.{OnErr, IfOk, IfErr, IfSome, IfNone, IsNone, Contains, IsTrue};
 ghost use Rattle.std.specs.List.{list_any};
 ghost use Rattle.ring_net.specs.Posts.{actor_of, clock_of, entries_in, has_edge, waits, NotesEntry, SendsItem, Wrote, SameEdges};
 

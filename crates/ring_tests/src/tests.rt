@@ -22,7 +22,11 @@ struct Toy {
 /// Writes an event to the journal, and sends an item.
 fn event(post: &mut Post<u32>, kind: u16, to: usize, item: u32) -> Result<(), NoMemory>
     ensures ok { OnOk result ((taken : Option (ℕ × ℕ)) → Wrote post.old
-        (record { entry = record { clock = clock_of post.old + 1; actor = actor_of post.old; kind = kind; a = item; b = 0; c = 0 }; taken = taken; sent = (to, item) ∷ [] } ∷ []) post.new) }
+        (record {
+          entry = record { clock = clock_of post.old + 1; actor = actor_of post.old; kind = kind; a = item; b = 0; c = 0 };
+          taken = taken;
+          sent = (to, item) ∷ [];
+        } ∷ []) post.new) }
     ensures edges { SameEdges post.old post.new }
 {
     post.note(kind, item, 0, 0)?;

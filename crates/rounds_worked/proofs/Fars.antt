@@ -1,5 +1,6 @@
 -- Rounds of a far side in which one field is false.
-use Rattle.std.proofs.Common.{◌≡◌, ◌≢◌, ◌<◌, ◌≤◌, ◌+◌, ℕ, zero, suc, Bool, true, false, List, [], ◌∷◌, ◌++◌, length, Option, Some, None, refl, sym, ap, ◌∙◌, subst, inl, inr, ◌⊎◌, lit<, lit≤, arith, unwrap_or}
+use Rattle.std.proofs.Common.{◌≡◌, ◌≢◌, ◌<◌, ◌≤◌, ◌+◌, ℕ, zero, suc, Bool, true, false, List, [], ◌∷◌, ◌++◌, length, Option}
+use Rattle.std.proofs.Common.{Some, None, refl, sym, ap, ◌∙◌, subst, inl, inr, ◌⊎◌, lit<, lit≤, arith, unwrap_or}
 use Rattle.std.specs.Prelude.{map, filter, slice_get}
 use Rattle.std.specs.List.{AllByRecursion}
 use Rattle.link_bag.specs.declared.plan.Fault.{Fault}
@@ -23,7 +24,10 @@ use Rattle.real_rounds.specs.Fars.{is_take, Links, empty_links, nothing_lies, fa
 use Rattle.graft_worked.specs.Base.{base}
 use Rattle.graft_worked.specs.Places.{idle_far}
 use Rattle.graft_worked.specs.Others.{beating}
-use Rattle.rounds_worked.specs.Fars.{FarField, Is, Takes, Delivers, Resends, Says, Sends, Replies, Due, Rested, GoesOn, AreTaken, AreSent, Home, Remote, NoField, RealFarBut, FalseAloneInFar, saying, with_slice_sent, one_put, two_put, one_to_lose, one_elsewhere, one_never_put, one_to_remote, one_gone, both_octets, one_octet, other_octet, an_answer, a_delivery, a_segment, with_taken, one_taken, a_take, a_loss, a_point, a_beat}
+use Rattle.rounds_worked.specs.Fars.{FarField, Is, Takes, Delivers, Resends, Says, Sends, Replies, Due, Rested, GoesOn, AreTaken, AreSent, Home}
+use Rattle.rounds_worked.specs.Fars.{Remote, NoField, RealFarBut, FalseAloneInFar, saying, with_slice_sent, one_put, two_put, one_to_lose}
+use Rattle.rounds_worked.specs.Fars.{one_elsewhere, one_never_put, one_to_remote, one_gone, both_octets, one_octet, other_octet, an_answer}
+use Rattle.rounds_worked.specs.Fars.{a_delivery, a_segment, with_taken, one_taken, a_take, a_loss, a_point, a_beat}
 use Rattle.rounds_worked.proofs.Marks.{heads, tails, not_some, not_empty, apart, less}
 use Rattle.rounds_worked.proofs.Routers.{emits_at}
 
@@ -151,7 +155,7 @@ first_from pointer round from len start turning delivered resent said level end 
 first_from pointer round from len start turning delivered resent said level end xs [] again keepalives fresh answers [] e are due takes delivers resends says
     sends replies =
     turn_from round (Send from len) start turning delivered resent said level end xs again keepalives fresh answers
-        e due takes delivers resends says sends replies
+    e due takes delivers resends says sends replies
 
 first_is : (round from len : ℕ) (start end : FarPart) (xs : List FarEvent) (after : Links)
     → RealFar base [] 0 round start empty_links (Send from len ∷ xs) end after → SendsAny start (Send from len)
@@ -402,7 +406,8 @@ one_segment_put = (record { fates = refl }, (refl, tt))
 
 pub short_again : FalseAloneInFar Resends base 1 (saying 2) empty_links (one_octet ∷ []) (with_slice_sent (saying 2) 0 1) one_put
 short_again = (
-  plain Resends base 1 (saying 2) (one_octet ∷ []) (with_slice_sent (saying 2) 0 1) one_put (with_slice_sent (saying 2) 0 1) (with_slice_sent (saying 2) 0 1) (one_octet ∷ []) [] []
+  plain Resends base 1 (saying 2) (one_octet ∷ []) (with_slice_sent (saying 2) 0 1) one_put
+      (with_slice_sent (saying 2) 0 1) (with_slice_sent (saying 2) 0 1) (one_octet ∷ []) [] []
       (put_now fate.Pass 0 ∷ [])
       (λ other. refl) (λ other. not_due 1 (saying 2)) (λ other. absurd (other refl)) (λ other. refl) (λ other. refl)
       (λ other. record { emitted = refl; answered = refl }) (lit≤ tt)
@@ -419,9 +424,11 @@ no_octet_alone (inr (inl new)) = elim new.all [
 ]
 no_octet_alone (inr (inr answer)) = answer
 
-pub short_slices : FalseAloneInFar Sends base 1 (saying 0) empty_links (one_octet ∷ other_octet ∷ []) (with_slice_sent (with_slice_sent (saying 0) 0 1) 1 1) two_put
+pub short_slices : FalseAloneInFar Sends base 1 (saying 0) empty_links
+    (one_octet ∷ other_octet ∷ []) (with_slice_sent (with_slice_sent (saying 0) 0 1) 1 1) two_put
 short_slices = (
-  plain Sends base 1 (saying 0) (one_octet ∷ other_octet ∷ []) (with_slice_sent (with_slice_sent (saying 0) 0 1) 1 1) two_put (saying 0) (with_slice_sent (with_slice_sent (saying 0) 0 1) 1 1)
+  plain Sends base 1 (saying 0) (one_octet ∷ other_octet ∷ []) (with_slice_sent (with_slice_sent (saying 0) 0 1) 1 1) two_put
+      (saying 0) (with_slice_sent (with_slice_sent (saying 0) 0 1) 1 1)
       [] (one_octet ∷ other_octet ∷ []) [] (put_now fate.Pass 0 ∷ put_now fate.Pass 0 ∷ []) (λ other. refl) (λ other. not_due 1 (saying 0)) (λ other. refl)
       (λ other. absurd (other refl)) (λ other. refl)
       (λ other. record { emitted = refl; answered = refl }) (lit≤ tt) (λ other out. absurd (less 0 1 (lit< tt) out))

@@ -1,5 +1,6 @@
 -- The marks of small laboratories.
-use Rattle.std.proofs.Common.{◌≡◌, ◌≢◌, ◌<◌, ◌≤◌, ℕ, zero, suc, ◌==◌, Bool, true, false, cond, List, [], ◌∷◌, length, Option, Some, None, is_some, refl, sym, ap, ◌∙◌, subst, inl, inr, lit<, lit≤, arith}
+use Rattle.std.proofs.Common.{◌≡◌, ◌≢◌, ◌<◌, ◌≤◌, ℕ, zero, suc, ◌==◌, Bool, true, false, cond, List, [], ◌∷◌, length, Option}
+use Rattle.std.proofs.Common.{Some, None, is_some, refl, sym, ap, ◌∙◌, subst, inl, inr, lit<, lit≤, arith}
 use Rattle.std.specs.FinMap as map
 use Rattle.std.specs.Prelude.{slice_get}
 use Rattle.std.specs.List.{AllByRecursion, last_or}
@@ -18,7 +19,9 @@ use Rattle.lab_report.specs.declared.lab.RunEnd.{RunEnd}
 use Rattle.lab_report.specs.declared.lab.RunEnd.TheVariants.{Settled, Unsettled, StreamFull, JournalFull}
 use Rattle.node_configs.specs.declared.budget.Budget.{Budget}
 use Rattle.lab_run.specs.Ends.{NoneIsStuck, IsBelowLimits, MayEnd, MarkCounts, NoneBegins, MarksName, HasMarks}
-use Rattle.rounds_worked.specs.Marks.{MarksField, Is, Empty, BeginsNone, IsLast, Whole, Name, NoField, HasMarksBut, FalseAloneInMarks, lone, once, twice, busy, calm, busy_at, usual, patient, one, hear_entry, begun_entry, note_entry, begun_second, mark_of, one_round, two_rounds, go_behind, two_behind}
+use Rattle.rounds_worked.specs.Marks.{MarksField, Is, Empty, BeginsNone, IsLast, Whole, Name, NoField, HasMarksBut, FalseAloneInMarks}
+use Rattle.rounds_worked.specs.Marks.{lone, once, twice, busy, calm, busy_at, usual, patient, one, hear_entry, begun_entry, note_entry}
+use Rattle.rounds_worked.specs.Marks.{begun_second, mark_of, one_round, two_rounds, go_behind, two_behind}
 
 -- ---- quiet worlds
 
@@ -378,7 +381,8 @@ begins_twice (inr (inl over)) = over.1.0.1.0 refl
 begins_twice (inr (inr ends)) = ends.0
 
 pub two_gos : FalseAloneInMarks Name twice (begun_entry ∷ begun_second ∷ []) (calm twice) (usual ∷ usual ∷ []) two_behind (1 ∷ 1 ∷ []) Settled
-two_gos = named_wrongly twice (begun_entry ∷ begun_second ∷ []) (calm twice) (usual ∷ usual ∷ []) (mark_of 0 0 ∷ mark_of 0 2 ∷ []) (1 ∷ 1 ∷ []) Settled (mark_of 0 2)
+two_gos = named_wrongly twice (begun_entry ∷ begun_second ∷ []) (calm twice)
+    (usual ∷ usual ∷ []) (mark_of 0 0 ∷ mark_of 0 2 ∷ []) (1 ∷ 1 ∷ []) Settled (mark_of 0 2)
     tt refl (whole_of (begun_entry ∷ begun_second ∷ []) 0 2 refl refl (lit< tt, (lit< tt, tt))) begins_twice
 
 begins_busy : MarksName once (begun_entry ∷ []) (busy_at 1 once) 1 1 0 (usual ∷ []) (mark_of 0 0 ∷ mark_of 0 1 ∷ []) (2 ∷ []) Settled → ⊥

@@ -1,5 +1,6 @@
 -- Rounds of a router in which one field is false.
-use Rattle.std.proofs.Common.{◌≡◌, ◌≢◌, ◌<◌, ◌≤◌, ◌+◌, max, ℕ, zero, suc, ◌==◌, Bool, true, false, cond, List, [], ◌∷◌, ◌++◌, drop, take, length, Option, Some, None, is_some, refl, sym, ap, ◌∙◌, subst, inl, inr, ◌⊎◌, lit<, lit≤, arith}
+use Rattle.std.proofs.Common.{◌≡◌, ◌≢◌, ◌<◌, ◌≤◌, ◌+◌, max, ℕ, zero, suc, ◌==◌, Bool, true, false, cond, List, [], ◌∷◌, ◌++◌, drop, take}
+use Rattle.std.proofs.Common.{length, Option, Some, None, is_some, refl, sym, ap, ◌∙◌, subst, inl, inr, ◌⊎◌, lit<, lit≤, arith}
 use Rattle.std.specs.Prelude.{map}
 use Rattle.std.specs.FinMap.{entries, empty, get, len-entries, len-empty, entries-from_sorted}
 use Rattle.std.specs.Ordering.{nat_cmp}
@@ -38,7 +39,9 @@ use Rattle.graft_worked.specs.Start.{a_with, ack_segment}
 use Rattle.graft_worked.proofs.Points.{at-at, at_all}
 use Rattle.graft_worked.proofs.GraftEnds.{nothing_begins}
 use Rattle.graft_worked.proofs.Tens.{got_none, got_it}
-use Rattle.rounds_worked.specs.Routers.{RouterField, Is, Takes, Sends, Works, InOrder, Rested, GoesOn, Ticks, NoField, RealRouterBut, FalseAloneInRouter, undecided, open_unsent, waiting_session, waiting, timed_session, timed, all_octets, ten_octets, other_octets, stray}
+use Rattle.rounds_worked.specs.Routers.{RouterField, Is, Takes, Sends, Works, InOrder, Rested, GoesOn, Ticks, NoField}
+use Rattle.rounds_worked.specs.Routers.{RealRouterBut, FalseAloneInRouter, undecided, open_unsent, waiting_session, waiting}
+use Rattle.rounds_worked.specs.Routers.{timed_session, timed, all_octets, ten_octets, other_octets, stray}
 use Rattle.rounds_worked.proofs.Marks.{heads, apart, less}
 
 -- ---- all fields, and all but one
@@ -119,7 +122,8 @@ first_from setup r start turning sent end x xs [] (y ∷ again) work first secon
 first_from setup r start turning sent end x xs [] [] (y ∷ work) first second third e takes sends works order =
     inr (inr (
       subst (rounds.IsNewWork setup r start) (sym (heads _ _ _ _ e))
-          (subst (λ part. rounds.IsNewWork setup r part y) (goes_nowhere setup r rounds.RouterRetransmits _ _ second sends ∙ goes_nowhere setup r turned.IsRouterTake _ _ first
+          (subst (λ part. rounds.IsNewWork setup r part y)
+          (goes_nowhere setup r rounds.RouterRetransmits _ _ second sends ∙ goes_nowhere setup r turned.IsRouterTake _ _ first
           takes) (is_allowed setup r (rounds.IsNewWork setup r) _ _ y _ third works)),
       subst (λ events. Climbs 1 (map stage_of events)) (sym e) order,
     ))
@@ -448,7 +452,8 @@ strays = record { absent = λ s o live. let e : Vacant ≡ Live s o = live.is in
 
 pub taken_behind_work : FalseAloneInRouter InOrder base 1 open_unsent (all_octets ∷ stray ∷ []) waiting
 taken_behind_work = (
-  moving InOrder 0 (all_octets ∷ stray ∷ []) [] [] (all_octets ∷ stray ∷ []) open_unsent open_unsent [] [] (waiting ∷ waiting ∷ []) refl (λ other. refl) (λ other. refl)
+  moving InOrder 0 (all_octets ∷ stray ∷ []) [] [] (all_octets ∷ stray ∷ []) open_unsent open_unsent [] []
+      (waiting ∷ waiting ∷ []) refl (λ other. refl) (λ other. refl)
       (λ other. (
         None,
         _,

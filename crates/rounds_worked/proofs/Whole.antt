@@ -1,5 +1,6 @@
 -- Rounds in which one field is false of their run.
-use Rattle.std.proofs.Common.{◌≡◌, ◌<◌, ◌≤◌, ◌+◌, ◌==◌, ℕ, zero, suc, false, cond, List, [], ◌∷◌, Some, None, refl, sym, ap, ◌∙◌, subst, inl, inr, lit<, lit≤, arith}
+use Rattle.std.proofs.Common.{◌≡◌, ◌<◌, ◌≤◌, ◌+◌, ◌==◌, ℕ, zero, suc, false, cond, List, [], ◌∷◌, Some}
+use Rattle.std.proofs.Common.{None, refl, sym, ap, ◌∙◌, subst, inl, inr, lit<, lit≤, arith}
 use Rattle.std.specs.Prelude.{slice_get}
 use Rattle.std.proofs.lemmas.Bool.Decides.{nat_tests}
 use Rattle.ring_net.specs.declared.entry.JournalEntry.{JournalEntry}
@@ -15,7 +16,8 @@ use Rattle.graft_actors.specs.Laws.{IsEntryOf, AreEntriesOf}
 use Rattle.real_rounds.specs.Entries.{count_taken_from}
 use Rattle.real_rounds.specs.Whole.{Slices, RoundGoes, Drains}
 use Rattle.rounds_worked.specs.Marks.{once, busy, hear_entry, begun_entry}
-use Rattle.rounds_worked.specs.Whole.{RoundField, Merged, EntriesOf, Runs, NoField, RoundGoesBut, FalseAloneInRound, thrice, next_group, first_group, last_group, two_gos, none_noted, slices_of_one, groups_in_order, out_of_order, ordered, admitted}
+use Rattle.rounds_worked.specs.Whole.{RoundField, Merged, EntriesOf, Runs, NoField, RoundGoesBut, FalseAloneInRound, thrice, next_group, first_group}
+use Rattle.rounds_worked.specs.Whole.{last_group, two_gos, none_noted, slices_of_one, groups_in_order, out_of_order, ordered, admitted}
 use Rattle.rounds_worked.proofs.Marks.{apart, less, not_empty, not_say, quiet_in}
 
 -- ---- all fields, and all but one

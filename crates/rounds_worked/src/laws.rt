@@ -31,13 +31,17 @@ ghost use Rattle.graft_worked.specs.Places.{idle_router, idle_far};
 ghost use Rattle.run_clocks.specs.Clocks.{AreClocked};
 ghost use Rattle.rounds_worked.specs.Clocks.{four_at};
 ghost use Rattle.rounds_worked.specs.Fars as fars;
-ghost use Rattle.rounds_worked.specs.Fars.{saying, with_slice_sent, one_put, two_put, one_to_lose, one_elsewhere, one_never_put, one_to_remote, one_gone, both_octets, one_octet, other_octet, an_answer, a_delivery, one_taken, a_take, a_loss, a_point, a_beat};
+ghost use Rattle.rounds_worked.specs.Fars.{saying, with_slice_sent, one_put, two_put, one_to_lose, one_elsewhere};
+ghost use Rattle.rounds_worked.specs.Fars.{one_never_put, one_to_remote, one_gone, both_octets, one_octet, other_octet};
+ghost use Rattle.rounds_worked.specs.Fars.{an_answer, a_delivery, one_taken, a_take, a_loss, a_point, a_beat};
 ghost use Rattle.rounds_worked.specs.Routers as routers;
 ghost use Rattle.rounds_worked.specs.Routers.{undecided, open_unsent, waiting, timed, all_octets, ten_octets, other_octets, stray};
 ghost use Rattle.rounds_worked.specs.Whole as whole;
-ghost use Rattle.rounds_worked.specs.Whole.{thrice, first_group, last_group, two_gos, none_noted, slices_of_one, groups_in_order, out_of_order, ordered, admitted};
+ghost use Rattle.rounds_worked.specs.Whole.{thrice, first_group, last_group, two_gos, none_noted, slices_of_one};
+ghost use Rattle.rounds_worked.specs.Whole.{groups_in_order, out_of_order, ordered, admitted};
 ghost use Rattle.rounds_worked.specs.Marks as marks;
-ghost use Rattle.rounds_worked.specs.Marks.{once, twice, calm, busy_at, usual, patient, one, busy, hear_entry, begun_entry, note_entry, begun_second, mark_of, one_round, two_rounds, go_behind, two_behind};
+ghost use Rattle.rounds_worked.specs.Marks.{once, twice, calm, busy_at, usual, patient, one, busy, hear_entry, begun_entry};
+ghost use Rattle.rounds_worked.specs.Marks.{note_entry, begun_second, mark_of, one_round, two_rounds, go_behind, two_behind};
 
 /// Small runs that have their marks: of one round in which nothing happens, and of two groups, the second of which
 /// begins after the first round.
@@ -56,7 +60,8 @@ pub fn each_field_of_marks_is_needed()
         → HasMarks setup journal world budgets all made end → marks.HasMarksBut field setup journal world budgets all made end }
     ensures is { marks.FalseAloneInMarks marks.Is once [] (calm once) (usual ∷ []) (mark_of 0 0 ∷ []) (1 ∷ []) Settled }
     ensures empty { marks.FalseAloneInMarks marks.Empty once (hear_entry ∷ []) (calm once) (usual ∷ []) (mark_of 1 0 ∷ mark_of 1 0 ∷ []) (1 ∷ []) Settled }
-    ensures begins_none { marks.FalseAloneInMarks marks.BeginsNone once (begun_entry ∷ []) (calm once) (usual ∷ []) (mark_of 0 0 ∷ mark_of 0 1 ∷ []) (1 ∷ []) Settled }
+    ensures begins_none { marks.FalseAloneInMarks marks.BeginsNone once (begun_entry ∷ [])
+        (calm once) (usual ∷ []) (mark_of 0 0 ∷ mark_of 0 1 ∷ []) (1 ∷ []) Settled }
     ensures is_last { marks.FalseAloneInMarks marks.IsLast once (hear_entry ∷ []) (calm once) (usual ∷ []) one_round (1 ∷ []) Settled }
     ensures whole { marks.FalseAloneInMarks marks.Whole once (hear_entry ∷ []) (calm once) (usual ∷ []) one_round (1 ∷ []) Settled }
 {}
@@ -146,7 +151,8 @@ pub fn fields_of_a_far_sides_round_are_needed()
     ensures delivers { fars.FalseAloneInFar fars.Delivers base 1 idle_far one_put (a_delivery ∷ []) idle_far one_gone }
     ensures resends { fars.FalseAloneInFar fars.Resends base 1 (saying 2) empty_links (one_octet ∷ []) (with_slice_sent (saying 2) 0 1) one_put }
     ensures says { fars.FalseAloneInFar fars.Says beating 30 idle_far empty_links (a_beat ∷ []) idle_far empty_links }
-    ensures sends { fars.FalseAloneInFar fars.Sends base 1 (saying 0) empty_links (one_octet ∷ other_octet ∷ []) (with_slice_sent (with_slice_sent (saying 0) 0 1) 1 1) two_put }
+    ensures sends { fars.FalseAloneInFar fars.Sends base 1 (saying 0) empty_links
+        (one_octet ∷ other_octet ∷ []) (with_slice_sent (with_slice_sent (saying 0) 0 1) 1 1) two_put }
     ensures replies { fars.FalseAloneInFar fars.Replies base 1 idle_far empty_links (an_answer ∷ []) (with_slice_sent idle_far 0 0) one_put }
     ensures due { fars.FalseAloneInFar fars.Due beating 30 idle_far empty_links [] idle_far empty_links }
     ensures rested { fars.FalseAloneInFar fars.Rested base 1 (saying 0) empty_links [] (saying 0) empty_links }

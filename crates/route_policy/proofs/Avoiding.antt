@@ -1,5 +1,6 @@
 -- An AS that isn't in a path, and isn't the one that is put in front, isn't in the longer path.
-use Rattle.std.proofs.Common.{◌≡◌, ◌≢◌, ℕ, zero, suc, ◌==◌, nat_lt, Bool, true, false, ◌||◌, cond, List, [], ◌∷◌, length, Option, Some, None, refl, subst, ap, ◌∙◌, arith}
+use Rattle.std.proofs.Common.{◌≡◌, ◌≢◌, ℕ, zero, suc, ◌==◌, nat_lt, Bool, true, false, ◌||◌, cond, List, []}
+use Rattle.std.proofs.Common.{◌∷◌, length, Option, Some, None, refl, subst, ap, ◌∙◌, arith}
 use Rattle.std.specs.Prelude.{unwrap_or}
 use Rattle.std.specs.List.{list_any}
 use Rattle.std.proofs.lemmas.Bool.{or_parts}
@@ -39,7 +40,8 @@ module _ (home_as other : ℕ) (differ : home_as ≢ other) where
   policy_avoids (rule ∷ rules) prefix route out e is = by_match (matches rule prefix route) (policy_avoids rules prefix route out e) is where
     by_deny : (t : Bool) → cond t None (Some (changed rule home_as route)) ≡ Some out → holds_as out.attrs.path other ≡ false
     by_deny true f = absurd cc
-    by_deny false f = subst (λ (r : Route). holds_as r.attrs.path other ≡ false) (same_Some (changed rule home_as route) out f) (times_avoid rule.prepend route.attrs.path e)
+    by_deny false f = subst (λ (r : Route). holds_as r.attrs.path other ≡ false)
+        (same_Some (changed rule home_as route) out f) (times_avoid rule.prepend route.attrs.path e)
 
     by_match : (t : Bool) → (policy rules prefix home_as route ≡ Some out → holds_as out.attrs.path other ≡ false)
         → cond t (decision rule home_as route) (policy rules prefix home_as route) ≡ Some out → holds_as out.attrs.path other ≡ false
@@ -53,16 +55,19 @@ told_avoids home_as out prefix (Some best) attrs differ is = by_kept (is_kept_ba
   by_size : (route : Route) → holds_as route.attrs.path out.remote_as ≡ false → (t : Bool)
       → cond t None (Some (told_attrs home_as out route)) ≡ Some attrs → holds_as attrs.path out.remote_as ≡ false
   by_size route e true f = absurd cc
-  by_size route e false f = subst (λ (a : Attrs). holds_as a.path out.remote_as ≡ false) (same_Some (told_attrs home_as out route) attrs f) (prepend_avoids home_as out.remote_as differ route.attrs.path e)
+  by_size route e false f = subst (λ (a : Attrs). holds_as a.path out.remote_as ≡ false)
+      (same_Some (told_attrs home_as out route) attrs f) (prepend_avoids home_as out.remote_as differ route.attrs.path e)
 
   by_export : holds_as best.route.attrs.path out.remote_as ≡ false → (o : Option Route) → exported home_as out prefix best.route ≡ o
       → told_where_it_fits home_as out prefix o ≡ Some attrs → holds_as attrs.path out.remote_as ≡ false
   by_export e None told f = absurd cc
   by_export e (Some route) told f =
-      by_size route (policy_avoids home_as out.remote_as differ (unwrap_or out.export_rules []) prefix (without_med best.route) route e told) (is_too_long prefix (told_attrs home_as out route)) f
+      by_size route (policy_avoids home_as out.remote_as differ (unwrap_or out.export_rules []) prefix (without_med best.route) route e told)
+      (is_too_long prefix (told_attrs home_as out route)) f
 
   by_kept : (t : Bool) → is_kept_back out best ≡ t
       → cond t None (told_where_it_fits home_as out prefix (exported home_as out prefix best.route)) ≡ Some attrs
       → holds_as attrs.path out.remote_as ≡ false
   by_kept true e f = absurd cc
-  by_kept false e f = by_export (or_parts (comes_from best.from out.peering) (holds_as best.route.attrs.path out.remote_as) e).1 (exported home_as out prefix best.route) refl f
+  by_kept false e f = by_export (or_parts (comes_from best.from out.peering) (holds_as best.route.attrs.path out.remote_as) e).1
+      (exported home_as out prefix best.route) refl f

@@ -31,7 +31,8 @@ holds_as_decides path as_number = (
       let found = Any-from_list_any (λ part. list_any (λ other. other == as_number) (ases_of part)) path h in
       (found.0, found.1, found.2, found.3, Contains-from_test (ases_of found.1) as_number found.4)),
   (λ (k, part, within, is, there).
-      list_any_at (λ part. list_any (λ other. other == as_number) (ases_of part)) path k part within (rw is (test_from_Contains (ases_of part) as_number there))),
+      list_any_at (λ part. list_any (λ other. other == as_number) (ases_of part)) path k part within
+      (rw is (test_from_Contains (ases_of part) as_number there))),
 )
 
 pub holds_as-is : (path : List PathPart) (as_number : ℕ) (answer : Bool)
@@ -53,7 +54,8 @@ policy-first : (rules : List Rule) (prefix : PrefixValue) (as_number : ℕ) (rou
 policy-first [] prefix as_number route index d within here before = absurd (omega arith)
 policy-first (rule ∷ rules) prefix as_number route zero d within here before = rw here refl
 policy-first (rule ∷ rules) prefix as_number route (suc index) d within here before =
-    tried (matches rule prefix route) (decision rule as_number route) (policy rules prefix as_number route) (decision (get_or rules index d) as_number route) (before 0 (omega arith))
+    tried (matches rule prefix route) (decision rule as_number route) (policy rules prefix as_number route)
+    (decision (get_or rules index d) as_number route) (before 0 (omega arith))
     (policy-first rules prefix as_number route index d (omega (arith, within)) here (λ k below. before (suc k) (omega (arith, below))))
 
 pub policy-matching : (rules : List Rule) (prefix : PrefixValue) (as_number : ℕ) (route : Route) (index : ℕ) (d : Rule)
@@ -72,7 +74,8 @@ policy-unmatched : (rules : List Rule) (prefix : PrefixValue) (as_number : ℕ) 
 policy-unmatched [] prefix as_number route n h = refl
 policy-unmatched (rule ∷ rules) prefix as_number route n h =
     let parts = none_found (matches rule prefix route) n (position_from (λ rule. matches rule prefix route) (n + 1) rules) h in
-    tried (matches rule prefix route) (decision rule as_number route) (policy rules prefix as_number route) (Some route) parts.0 (policy-unmatched rules prefix as_number route (n + 1) parts.1)
+    tried (matches rule prefix route) (decision rule as_number route) (policy rules prefix as_number route)
+    (Some route) parts.0 (policy-unmatched rules prefix as_number route (n + 1) parts.1)
 
 pub policy-no_match : (rules : List Rule) (prefix : PrefixValue) (as_number : ℕ) (route : Route)
     → position (λ rule. matches rule prefix route) rules ≡ None → policy rules prefix as_number route ≡ Some route

@@ -14,4 +14,5 @@ partial_more xs ys i x below is read =
 
 -- no attribute is lost
 pub partial_length : (xs ys : List RawAttr) (i : ℕ) → ys ≡ map made_partial (take i xs) ++ drop i xs → length ys ≡ length xs
-partial_length xs ys i is = rw is (omega (arith, length-append (map made_partial (take i xs)) (drop i xs), length-map (take i xs) made_partial, length-take i xs, length-drop i xs))
+partial_length xs ys i is =
+    rw is (omega (arith, length-append (map made_partial (take i xs)) (drop i xs), length-map (take i xs) made_partial, length-take i xs, length-drop i xs))

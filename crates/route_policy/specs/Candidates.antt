@@ -96,7 +96,8 @@ session_candidate home_as session (Some route) =
 
 -- the candidate that the entry of a peering, given by number, makes
 abbrev pub entry_candidate : ℕ → ℕ → Option Entry → Option Candidate
-entry_candidate home_as p entry = option_map (λ e. (record { from = Peering (record { 0 = p }); route = e.route }, rank_of home_as true 0 e.identifier e.address e.route)) entry
+entry_candidate home_as p entry =
+    option_map (λ e. (record { from = Peering (record { 0 = p }); route = e.route }, rank_of home_as true 0 e.identifier e.address e.route)) entry
 
 -- the identifier of the router that told a route counts as the route's identifier and as its address
 abbrev pub router_candidate : ℕ → RouterRoute → Option Route → Option Candidate

@@ -41,7 +41,8 @@ pub record OutSide : Type 0 where
 
 -- the same for the code's value, which holds its policy by reference
 abbrev pub out_side_of_view : OutView → OutSide
-out_side_of_view view = record { peering = view.peering; remote_as = view.remote_as; local_address = view.local_address; export_rules = option_copied view.export }
+out_side_of_view view =
+    record { peering = view.peering; remote_as = view.remote_as; local_address = view.local_address; export_rules = option_copied view.export }
 
 abbrev pub comes_from : From → PeeringId → Bool
 comes_from Own peering = false

@@ -20,7 +20,15 @@ worked_prefix = record { address = 167772160; len = 8 }
 
 -- path 65001, next hop 192.0.2.1, MED 7, and an unknown transitive attribute
 abbrev pub attrs_heard : Attrs
-attrs_heard = record { origin = Igp; path = Sequence (65001 ∷ []) ∷ []; next_hop = 3221225985; med = Some 7; atomic = true; aggregator = None; unknown = record { kind = 200; partial = false; bytes = 1 ∷ [] } ∷ [] }
+attrs_heard = record {
+  origin = Igp;
+  path = Sequence (65001 ∷ []) ∷ [];
+  next_hop = 3221225985;
+  med = Some 7;
+  atomic = true;
+  aggregator = None;
+  unknown = record { kind = 200; partial = false; bytes = 1 ∷ [] } ∷ [];
+}
 
 -- preference 200, and the AS once more in front
 abbrev pub raising_rule : Rule
@@ -28,7 +36,8 @@ raising_rule = record { within = None; has_as = None; origin = None; deny = fals
 
 -- from peering 3, whose import policy is that rule
 abbrev pub raising_session : SessionRoute
-raising_session = record { peering = record { 0 = 3 }; remote_as = 65001; identifier = 9; address = 8; import_rules = Some (raising_rule ∷ []); heard = Some attrs_heard }
+raising_session =
+    record { peering = record { 0 = 3 }; remote_as = 65001; identifier = 9; address = 8; import_rules = Some (raising_rule ∷ []); heard = Some attrs_heard }
 
 -- the import policy puts the remote's AS in front and sets the preference
 abbrev pub raised_route : Route
@@ -54,14 +63,18 @@ two_ranks =
 -- ---- told on peering 2, whose remote is in AS 65002, whose local address is 192.0.2.6, and whose policy puts the home AS in front and sets MED 50
 
 abbrev pub raising_side : OutSide
-raising_side = record { peering = record { 0 = 2 }; remote_as = 65002; local_address = 3221225990; export_rules = Some (record raising_rule { med = Some 50 } ∷ []) }
+raising_side =
+    record { peering = record { 0 = 2 }; remote_as = 65002; local_address = 3221225990; export_rules = Some (record raising_rule { med = Some 50 } ∷ []) }
 
 abbrev pub silent_side : OutSide
 silent_side = record raising_side { export_rules = Some (record raising_rule { deny = true } ∷ []) }
 
 -- the best route is from peering 3, and its unknown attribute has this many octets
 abbrev pub best_of_size : ℕ → Best
-best_of_size n = record { from = Peering (record { 0 = 3 }); route = record { attrs = record attrs_heard { unknown = record { kind = 200; partial = false; bytes = replicate n 1 } ∷ [] }; pref = 200 } }
+best_of_size n = record {
+  from = Peering (record { 0 = 3 });
+  route = record { attrs = record attrs_heard { unknown = record { kind = 200; partial = false; bytes = replicate n 1 } ∷ [] }; pref = 200 };
+}
 
 -- the best route is from peering 3, with this path
 abbrev pub best_over : List PathPart → Best
@@ -77,7 +90,15 @@ best_aggregated = best_over (Sequence (65001 ∷ []) ∷ (Set (65003 ∷ (65002 
 
 -- the home AS once more than the policy says, the local address, the policy's MED, Partial set
 abbrev pub attrs_told : Attrs
-attrs_told = record { origin = Igp; path = Sequence (65000 ∷ (65000 ∷ (65001 ∷ []))) ∷ []; next_hop = 3221225990; med = Some 50; atomic = true; aggregator = None; unknown = record { kind = 200; partial = true; bytes = 1 ∷ [] } ∷ [] }
+attrs_told = record {
+  origin = Igp;
+  path = Sequence (65000 ∷ (65000 ∷ (65001 ∷ []))) ∷ [];
+  next_hop = 3221225990;
+  med = Some 50;
+  atomic = true;
+  aggregator = None;
+  unknown = record { kind = 200; partial = true; bytes = 1 ∷ [] } ∷ [];
+}
 
 -- without an export policy: the home AS once, and no MED
 abbrev pub attrs_told_plainly : Attrs

@@ -7,7 +7,9 @@ ghost use Rattle.route_policy.specs.Candidates.{imported, candidates};
 ghost use Rattle.route_policy.specs.Rules.{holds_as};
 ghost use Rattle.route_policy.specs.Telling.{OutSide, tell_in, tell_out};
 ghost use Rattle.route_policy.specs.declared.best.Best.{Best};
-ghost use Rattle.route_policy.specs.Worked.{worked_prefix, attrs_heard, raising_session, raised_route, telling_router, interior_best, three_sources, two_ranks, raising_side, silent_side, best_of_size, best_through, best_aggregated, attrs_told, attrs_told_plainly, attrs_told_through};
+ghost use Rattle.route_policy.specs.Worked.{worked_prefix, attrs_heard, raising_session, raised_route, telling_router, interior_best};
+ghost use Rattle.route_policy.specs.Worked.{three_sources, two_ranks, raising_side, silent_side, best_of_size, best_through};
+ghost use Rattle.route_policy.specs.Worked.{best_aggregated, attrs_told, attrs_told_plainly, attrs_told_through};
 
 /// No path that is told on a session contains the remote's AS, unless that is the home AS.
 pub fn told_paths_avoid_the_remote_as()

@@ -1,7 +1,8 @@
 //! Rules of policies.
 
 ghost use Rattle.std.specs.Prelude.{◌≡◌};
-ghost use Rattle.route_policy.specs.Rules.{is_in_range as is_in_range_lem, is_in_some_range, holds_as as holds_as_lem, holds_some_as, has_some_origin, matches as matches_lem};
+ghost use Rattle.route_policy.specs.Rules.{is_in_range as is_in_range_lem, is_in_some_range};
+ghost use Rattle.route_policy.specs.Rules.{holds_as as holds_as_lem, holds_some_as, has_some_origin, matches as matches_lem};
 
 use bgp_types::{AsPath, Items, NoMemory, Origin, Prefix, Route, TryCopy, holds_as};
 

@@ -1,7 +1,9 @@
 //! What a router advertises of its best route (RFC 4271, sections 5.1, 9.1.3 and 9.2).
 
 ghost use Rattle.std.specs.Prelude.{◌≡◌, map, IfOk, None, Some, option_copied, if◌then◌else◌};
-ghost use Rattle.route_policy.specs.Telling.{tell_in as tell_in_lem, tell_out as tell_out_lem, comes_from as comes_from_lem, is_kept_back as is_kept_back_lem, out_side_of_view, exported, told_attrs as told_attrs_lem, made_partial, is_too_long as is_too_long_lem};
+ghost use Rattle.route_policy.specs.Telling.{tell_in as tell_in_lem, tell_out as tell_out_lem, comes_from as comes_from_lem};
+ghost use Rattle.route_policy.specs.Telling.{is_kept_back as is_kept_back_lem, out_side_of_view, exported};
+ghost use Rattle.route_policy.specs.Telling.{told_attrs as told_attrs_lem, made_partial, is_too_long as is_too_long_lem};
 
 use crate::best::Best;
 use crate::path::prepend;

@@ -1,5 +1,7 @@
 -- A router as it begins.
-use Rattle.std.proofs.Common.{◌≡◌, ℕ, zero, suc, ◌+◌, ◌<◌, ◌≤◌, ◌==◌, List, [], ◌∷◌, ◌++◌, length, map as list_map, filter, replicate, set, Option, option_map, unwrap_or, Some, None, Bool, true, false, cond, is_some, inl, inr, ◌⊎◌, refl, sym, ap, subst, ◌∙◌, arith, append_assoc}
+use Rattle.std.proofs.Common.{◌≡◌, ℕ, zero, suc, ◌+◌, ◌<◌, ◌≤◌, ◌==◌, List, [], ◌∷◌, ◌++◌, length, map as list_map}
+use Rattle.std.proofs.Common.{filter, replicate, set, Option, option_map, unwrap_or, Some, None, Bool, true, false, cond}
+use Rattle.std.proofs.Common.{is_some, inl, inr, ◌⊎◌, refl, sym, ap, subst, ◌∙◌, arith, append_assoc}
 use Rattle.std.specs.Prelude.{count_by, if◌then◌else◌, slice_get}
 use Rattle.std.specs.FinMap as map
 use Rattle.std.specs.List.{AllByRecursion}
@@ -53,7 +55,10 @@ length_vacant zero = refl
 length_vacant (suc n) = omega (arith, length_vacant n)
 
 pub begun_none : (count : ℕ) (places : List (Option Place)) → places ≡ replicate count None → AreBegun count [] places
-begun_none count places is = record { length = ap (λ (xs : List (Option Place)). length xs) is ∙ length_vacant count; each = λ p. ap (λ (xs : List (Option Place)). place_at xs p) is ∙ vacant_at count p }
+begun_none count places is = record {
+  length = ap (λ (xs : List (Option Place)). length xs) is ∙ length_vacant count;
+  each = λ p. ap (λ (xs : List (Option Place)). place_at xs p) is ∙ vacant_at count p;
+}
 
 pub begun_more : (count : ℕ) (config : SessionConfig) (configs : List SessionConfig) (places : List (Option Place)) → config.peering.0 < count
     → AreBegun count configs places
@@ -64,10 +69,12 @@ begun_more count config configs places there begun = record {
     | inl e ↦
         ap (λ (k : ℕ). place_at (set places config.peering.0 (Some (Live (begun_session config) None))) k) e
         ∙ set_here places config.peering.0 (Some (Live (begun_session config) None)) (omega (arith, there, begun.length))
-        ∙ sym (ap (λ (b : Bool). let x : Option Place = if b then Some (Live (begun_session config) None) else begun_at configs p in x) (eq-eqb p config.peering.0 e))
+        ∙ sym (ap (λ (b : Bool). let x : Option Place = if b then Some (Live (begun_session config) None) else begun_at configs p in x)
+        (eq-eqb p config.peering.0 e))
     | inr not ↦
         set_other places config.peering.0 (Some (Live (begun_session config) None)) (omega (arith, there, begun.length)) p not ∙ begun.each p
-        ∙ sym (ap (λ (b : Bool). let x : Option Place = if b then Some (Live (begun_session config) None) else begun_at configs p in x) (ne_eqb p config.peering.0 not))
+        ∙ sym (ap (λ (b : Bool). let x : Option Place = if b then Some (Live (begun_session config) None) else begun_at configs p in x)
+        (ne_eqb p config.peering.0 not))
   ];
 }
 
@@ -109,7 +116,8 @@ begun_before r k (x ∷ ps) each p below =
     elim (by_test (x.start == r)) [
       | inl e ↦
           starts r x ps p e
-          ∙ ap (λ (b : Bool). let y : Option Place = if b then Some (Live (begun_session x.config) None) else begun_at (here r ps) p in y) (ne_eqb p x.config.peering.0 (λ same. let no : ⊥ = omega (arith, same, first, below) in no)) ∙ rest
+          ∙ ap (λ (b : Bool). let y : Option Place = if b then Some (Live (begun_session x.config) None) else begun_at (here r ps) p in y)
+          (ne_eqb p x.config.peering.0 (λ same. let no : ⊥ = omega (arith, same, first, below) in no)) ∙ rest
       | inr e ↦ starts_not r x ps p e ∙ rest
     ]
 
@@ -121,7 +129,8 @@ begun_from r k (x ∷ ps) each zero =
     elim (by_test (x.start == r)) [
       | inl e ↦
           starts r x ps (k + 0) e
-          ∙ ap (λ (b : Bool). let y : Option Place = if b then Some (Live (begun_session x.config) None) else begun_at (here r ps) (k + 0) in y) (eq-eqb (k + 0) x.config.peering.0 (sym first))
+          ∙ ap (λ (b : Bool). let y : Option Place = if b then Some (Live (begun_session x.config) None) else begun_at (here r ps) (k + 0) in y)
+          (eq-eqb (k + 0) x.config.peering.0 (sym first))
           ∙ sym (ap (λ (b : Bool). let y : Option Place = if b then Some (Live (begun_session x.config) None) else None in y) e)
       | inr e ↦
           starts_not r x ps (k + 0) e ∙ begun_before r (k + 1) ps (numbered_rest k x ps each) (k + 0) (omega arith)
@@ -134,7 +143,8 @@ begun_from r k (x ∷ ps) each (suc i) =
     elim (by_test (x.start == r)) [
       | inl e ↦
           starts r x ps (k + suc i) e
-          ∙ ap (λ (b : Bool). let y : Option Place = if b then Some (Live (begun_session x.config) None) else begun_at (here r ps) (k + suc i) in y) (ne_eqb (k + suc i) x.config.peering.0 (λ same. let no : ⊥ = omega (arith, same, first) in no)) ∙ rest
+          ∙ ap (λ (b : Bool). let y : Option Place = if b then Some (Live (begun_session x.config) None) else begun_at (here r ps) (k + suc i) in y)
+          (ne_eqb (k + suc i) x.config.peering.0 (λ same. let no : ⊥ = omega (arith, same, first) in no)) ∙ rest
       | inr e ↦ starts_not r x ps (k + suc i) e ∙ rest
     ]
 
@@ -179,7 +189,8 @@ none_got [] rest is (inr (len, fault)) = let x : ⊥ = omega (arith, len) in x
 none_got (b ∷ front) rest is got = let x : ⊥ = cc in x
 
 none_unread : (config : SessionConfig) → unread (begun config) ≡ []
-none_unread config = ap (λ (entries : List (ℕ × ℕ)). run_from 0 entries) (no_entries (map.entries fresh_endpoint.arrived) (sym (map.len-entries fresh_endpoint.arrived) ∙ map.len-empty nat_cmp ℕ))
+none_unread config = ap (λ (entries : List (ℕ × ℕ)). run_from 0 entries)
+    (no_entries (map.entries fresh_endpoint.arrived) (sym (map.len-entries fresh_endpoint.arrived) ∙ map.len-empty nat_cmp ℕ))
   where
     no_entries : (xs : List (ℕ × ℕ)) → length xs ≡ 0 → xs ≡ []
     no_entries [] e = refl
@@ -202,7 +213,8 @@ keeps_from setup r p sound (Some x) is = by_flag (x.start == r)
       record {
         peering = (sound.peerings p x is).number;
         sends = sym (ap (λ (o : Option PeeringSetup). unwrap_or (option_map (λ config. config.send_first.0) (option_map (λ peering. peering.config) o)) 0) is);
-        receives = sym (ap (λ (o : Option PeeringSetup). unwrap_or (option_map (λ config. config.receive_first.0) (option_map (λ peering. peering.config) o)) 0) is);
+        receives = sym
+            (ap (λ (o : Option PeeringSetup). unwrap_or (option_map (λ config. config.receive_first.0) (option_map (λ peering. peering.config) o)) 0) is);
       },
       all_read x.config,
       tt,
@@ -222,9 +234,12 @@ there_is (x ∷ xs) (suc n) below = there_is xs n (omega (arith, below))
 
 pub count_is : (setup : Setup) (firsts : List Firsts) → AreFirstsOf setup firsts → length firsts ≡ peerings_in setup
 count_is setup firsts are = elim (cases_lt (length firsts) (peerings_in setup)) [
-  | inl below ↦ absurd (let e : ◌≡◌ {A = Bool} false true = sym (ap (λ (o : Option Firsts). is_some {T = ℕ × ℕ} (option_map (λ x. (x.home.0, x.remote.0)) o)) (no_more firsts)) ∙ ap is_some (are.each (length firsts) below) in let z : ⊥ = cc in z)
+  | inl below ↦ absurd (let e : ◌≡◌ {A = Bool} false true =
+      sym (ap (λ (o : Option Firsts). is_some {T = ℕ × ℕ} (option_map (λ x. (x.home.0, x.remote.0)) o)) (no_more firsts))
+      ∙ ap is_some (are.each (length firsts) below) in let z : ⊥ = cc in z)
   | inr from ↦ elim (cases_lt (peerings_in setup) (length firsts)) [
-    | inl above ↦ absurd (let e : ◌≡◌ {A = Bool} true false = sym (some_mapped (slice_get firsts (peerings_in setup)) (there_is firsts (peerings_in setup) above)) ∙ ap is_some (are.none (peerings_in setup) (omega arith)) in let z : ⊥ = cc in z)
+    | inl above ↦ absurd (let e : ◌≡◌ {A = Bool} true false = sym (some_mapped (slice_get firsts (peerings_in setup))
+        (there_is firsts (peerings_in setup) above)) ∙ ap is_some (are.none (peerings_in setup) (omega arith)) in let z : ⊥ = cc in z)
     | inr to ↦ omega (arith, from, to)
   ]
 ]
@@ -287,7 +302,8 @@ all_at : (P : SessionConfig → Type 0) (xs ys : List SessionConfig) (x : Sessio
 all_at P [] ys x h = h.0
 all_at P (y ∷ xs) ys x h = all_at P xs ys x h.1
 
-module _ (count room : ℕ) (all left less : List SessionConfig) (places : PlaceList Place) (config : SessionConfig) (can : AllByRecursion (CanBegin count) all) (so_far : Begun count room all left places) (last : left ≡ less ++ config ∷ []) where
+module _ (count room : ℕ) (all left less : List SessionConfig) (places : PlaceList Place) (config : SessionConfig)
+    (can : AllByRecursion (CanBegin count) all) (so_far : Begun count room all left places) (last : left ≡ less ++ config ∷ []) where
   all_is : all ≡ less ++ config ∷ so_far.done
   all_is = so_far.is ∙ ap (λ (xs : List SessionConfig). xs ++ so_far.done) last ∙ append_assoc less (config ∷ []) so_far.done
 
@@ -300,7 +316,8 @@ module _ (count room : ℕ) (all left less : List SessionConfig) (places : Place
   -- the place of the session is made vacant
   module _ (mid : PlaceList Place) (n : ℕ) (at : n ≡ config.peering.0) (cleared : mid ≡ with_place places n None) where
     pub this_there : n < length mid.places
-    this_there = let size : length mid.places ≡ length places.places = ap length (listed cleared) ∙ length-set places.places n None in omega (arith, at, size, this_can.there, so_far.begun.length)
+    this_there = let size : length mid.places ≡ length places.places = ap length (listed cleared) ∙ length-set places.places n None in
+        omega (arith, at, size, this_can.there, so_far.begun.length)
 
     pub this_vacant : place_at mid.places n ≡ None
     this_vacant = ap (λ (xs : List (Option Place)). place_at xs n) (listed cleared)
@@ -321,7 +338,8 @@ module _ (count room : ℕ) (all left less : List SessionConfig) (places : Place
       begun = subst (AreBegun count (config ∷ so_far.done)) (sym list_is) (begun_more count config so_far.done places.places this_can.there so_far.begun);
       reserved = rooms put ∙ (rooms cleared ∙ so_far.reserved);
       few =
-          let count_is : count_by is_some new.places ≡ count_by is_some (set places.places config.peering.0 (Some (Live (begun_session config) None))) = ap (count_by is_some) list_is in
+          let count_is : count_by is_some new.places ≡ count_by is_some (set places.places config.peering.0 (Some (Live (begun_session config) None))) =
+          ap (count_by is_some) list_is in
           let more = count_with places.places config.peering.0 (Live (begun_session config) None) in
           omega (arith, count_is, more, one_less, so_far.few);
     }
@@ -333,13 +351,15 @@ module _ (count room : ℕ) (all left less : List SessionConfig) (places : Place
 
 pub begun_all : (count room : ℕ) (all left : List SessionConfig) (places : PlaceList Place) → Begun count room all left places → left ≡ []
     → AreBegun count all places.places
-begun_all count room all left places so_far none = subst (λ (cs : List SessionConfig). AreBegun count cs places.places) (sym (so_far.is ∙ ap (λ (xs : List SessionConfig). xs ++ so_far.done) none)) so_far.begun
+begun_all count room all left places so_far none = subst (λ (cs : List SessionConfig). AreBegun count cs places.places)
+    (sym (so_far.is ∙ ap (λ (xs : List SessionConfig). xs ++ so_far.done) none)) so_far.begun
 
 -- ---- there is room for the sessions that begin
 
 pub begin_in_room : (setup : Setup) (config : RouterConfig) → IsSetup setup → IsRouterConfigOf setup config → length config.sessions ≤ config.room
 begin_in_room setup config sound is =
-    let count : length config.sessions ≡ starting_at setup config.number.0 = ap (λ (xs : List SessionConfig). length xs) is.sessions ∙ length-map (filter (λ (x : PeeringSetup). x.start == config.number.0) setup.peerings) (λ x. x.config) in
+    let count : length config.sessions ≡ starting_at setup config.number.0 = ap (λ (xs : List SessionConfig). length xs) is.sessions
+    ∙ length-map (filter (λ (x : PeeringSetup). x.start == config.number.0) setup.peerings) (λ x. x.config) in
     let few = sound.room config.number.0 is.there in
     omega (arith, count, few, is.room)
 
@@ -358,10 +378,20 @@ sets_same a b same = map.same_map prefix_total exact_prefixes a b (λ x. unit_sa
 abbrev pub fresh_rib : RouterConfig → RibValue
 fresh_rib config = record { config = config.rib; entries = λ p. map.empty; tellings = λ q. map.empty; best = map.empty; dirty = set_of config.rib.networks }
 
-module _ (f : Fields) (config : RouterConfig) (sound : IsSetup f.known.setup) (is : IsRouterConfigOf f.known.setup config) (rib : rib_of f.rib ≡ fresh_rib config) (begun : AreBegun (length config.firsts) config.sessions f.places.places) (reserved : f.places.room ≡ config.room)
-    (in_count : length f.due_in ≡ config.routers) (in_none : (n : ℕ) → table_at f.due_in n ≡ map.empty) (out_count : length f.due_out ≡ length config.firsts) (out_none : (n : ℕ) → table_at f.due_out n ≡ map.empty) where
+module _ (f : Fields) (config : RouterConfig) (sound : IsSetup f.known.setup) (is : IsRouterConfigOf f.known.setup config) (rib : rib_of f.rib
+    ≡ fresh_rib config) (begun : AreBegun (length config.firsts) config.sessions f.places.places) (reserved : f.places.room ≡ config.room)
+    (in_count : length f.due_in ≡ config.routers) (in_none : (n : ℕ) → table_at f.due_in n ≡ map.empty)
+    (out_count : length f.due_out ≡ length config.firsts) (out_none : (n : ℕ) → table_at f.due_out n ≡ map.empty) where
   abbrev whole : Fields
-  whole = record f { number = config.number; routers = config.routers; room = config.room; home_as = config.rib.home_as; policies = config.policies; firsts = config.firsts; turns = 0 }
+  whole = record f {
+    number = config.number;
+    routers = config.routers;
+    room = config.room;
+    home_as = config.rib.home_as;
+    policies = config.policies;
+    firsts = config.firsts;
+    turns = 0;
+  }
 
   place_is : (p : ℕ) → place_at f.places.places p ≡ place_from config.number.0 (slice_get f.known.setup.peerings p)
   place_is p = begun.each p ∙ ap (λ (cs : List SessionConfig). begun_at cs p) is.sessions ∙ begun_is f.known.setup config.number.0 p sound
@@ -400,7 +430,8 @@ module _ (f : Fields) (config : RouterConfig) (sound : IsSetup f.known.setup) (i
     tellings = λ q from x. ap (λ (v : RibValue). is_some (map.get (v.tellings q) x)) rib ∙ none_at Route x;
     each = λ p. subst (λ (v : RibValue). KeepsPlace f.known.setup config.number.0 p (v.entries p) (table_at f.due_out p) (place_at f.places.places p)) (sym rib)
         (subst (λ (d : Prefixes). KeepsPlace f.known.setup config.number.0 p map.empty d (place_at f.places.places p)) (sym (out_none p))
-        (subst (λ (x : Option Place). KeepsPlace f.known.setup config.number.0 p map.empty map.empty x) (sym (place_is p)) (keeps_from f.known.setup config.number.0 p sound (slice_get f.known.setup.peerings p) refl)));
+        (subst (λ (x : Option Place). KeepsPlace f.known.setup config.number.0 p map.empty map.empty x) (sym (place_is p))
+        (keeps_from f.known.setup config.number.0 p sound (slice_get f.known.setup.peerings p) refl)));
   }
 
   pub begins_as : BeginsAs f.known.setup config whole

@@ -32,7 +32,8 @@ use Rattle.router_core.proofs.Dids.{Sends, did_sent}
 use Rattle.router_core.proofs.PlaceSteps.{at_own, elsewhere, here, keeps_at, part_at, visits_same}
 use Rattle.router_core.proofs.Standing.{none_in}
 
-module _ (f g : Fields) (p q : Post (Item RunningSession)) (n : ℕ) (s : RunningSession) (landing : Landing) (keeps : RouterInvariant f) (there : n < length f.places.places) (clean : f.rib.dirty ≡ map.empty) (told : (r : ℕ) → table_at f.due_in r ≡ map.empty)
+module _ (f g : Fields) (p q : Post (Item RunningSession)) (n : ℕ) (s : RunningSession) (landing : Landing) (keeps : RouterInvariant f)
+    (there : n < length f.places.places) (clean : f.rib.dirty ≡ map.empty) (told : (r : ℕ) → table_at f.due_in r ≡ map.empty)
     (is : place_at f.places.places n ≡ Some (Live s (Some (Owing landing)))) (same : SameButPlaces f g) where
   place_is : KeepsPlace f.known.setup f.number.0 n ((rib_of f.rib).entries n) (table_at f.due_out n) (Some (Live s (Some (Owing landing))))
   place_is = subst (KeepsPlace f.known.setup f.number.0 n ((rib_of f.rib).entries n) (table_at f.due_out n)) is (keeps.each n)
@@ -41,7 +42,8 @@ module _ (f g : Fields) (p q : Post (Item RunningSession)) (n : ℕ) (s : Runnin
   landing_is = place_is.2
 
   -- the next router is asked
-  module _ (k : ℕ) (is_next : IsNextToAsk landing.ids.source.0 landing.ids.target.0 f.routers landing.next k) (items_are : g.places ≡ with_place f.places n (Some (Live s (Some (Asking (record landing { next = k }))))))
+  module _ (k : ℕ) (is_next : IsNextToAsk landing.ids.source.0 landing.ids.target.0 f.routers landing.next k)
+      (items_are : g.places ≡ with_place f.places n (Some (Live s (Some (Asking (record landing { next = k }))))))
       (wrote : WritesEvent p (events.Ask landing.ids.graft k) ((k, items.Asked landing.ids.graft landing.ids.peering) ∷ []) q) where
     next_is : IsNextToAsk landing.ids.source.0 f.number.0 (routers_in f.known.setup) landing.next k
     next_is = subst (λ (t : ℕ). IsNextToAsk landing.ids.source.0 t (routers_in f.known.setup) landing.next k) landing_is.target
@@ -78,14 +80,17 @@ module _ (f g : Fields) (p q : Post (Item RunningSession)) (n : ℕ) (s : Runnin
       events = events.Ask landing.ids.graft k ∷ [];
       did = λ t. subst (λ (u : ℕ → Tally). DidAsRouter f p t (events.Ask landing.ids.graft k ∷ []) g q u) (λ i m. sym (at_own t n (t n) refl m) i) (did_ask t);
       at = (refl, tt);
-      goes = subst (λ (x : Option Place). WordGoes x (place_at g.places.places n)) (sym is) (inl (k, here f g n (Some (Live s (Some (Asking (record landing { next = k }))))) there same items_are));
+      goes = subst (λ (x : Option Place). WordGoes x (place_at g.places.places n)) (sym is)
+          (inl (k, here f g n (Some (Live s (Some (Asking (record landing { next = k }))))) there same items_are));
       others = λ m not. (elsewhere f g n (Some (Live s (Some (Asking (record landing { next = k }))))) there same items_are m not, refl);
       same = same;
-      keeps = keeps_at f g n (Some (Live s (Some (Asking (record landing { next = k }))))) there same items_are keeps (place_is.0, place_is.1, (landing_is, next_is.known), place_is.3);
+      keeps = keeps_at f g n (Some (Live s (Some (Asking (record landing { next = k }))))) there same items_are keeps
+          (place_is.0, place_is.1, (landing_is, next_is.known), place_is.3);
     }
 
   -- the source is told
-  module _ (all : AreAllAsked landing.ids.source.0 landing.ids.target.0 f.routers landing.next) (items_are : g.places ≡ with_place f.places n (Some (Live s None)))
+  module _ (all : AreAllAsked landing.ids.source.0 landing.ids.target.0 f.routers landing.next)
+      (items_are : g.places ≡ with_place f.places n (Some (Live s None)))
       (wrote : WritesEvent p (events.Confirm landing.ids.graft) ((landing.ids.source.0, items.Done landing.ids.graft landing.ids.peering) ∷ []) q) where
     all_asked : AreAllAsked landing.ids.source.0 f.number.0 (routers_in f.known.setup) landing.next
     all_asked = subst (λ (t : ℕ). AreAllAsked landing.ids.source.0 t (routers_in f.known.setup) landing.next) landing_is.target
@@ -101,7 +106,8 @@ module _ (f g : Fields) (p q : Post (Item RunningSession)) (n : ℕ) (s : Runnin
     }
 
     did_confirm : (t : ℕ → Tally) → DidAsRouter f p t (events.Confirm landing.ids.graft ∷ []) g q t
-    did_confirm t = did_sent f g p q t (events.Confirm landing.ids.graft) landing.ids.source.0 (items.Done landing.ids.graft landing.ids.peering) (MeshTo landing.ids.source.0 (Done landing.ids.graft n))
+    did_confirm t = did_sent f g p q t (events.Confirm landing.ids.graft) landing.ids.source.0
+        (items.Done landing.ids.graft landing.ids.peering) (MeshTo landing.ids.source.0 (Done landing.ids.graft n))
         (record { setup = ap (λ (h : Fields). h.known.setup) same; number = ap (λ (h : Fields). h.number) same }) wrote sends_done
         (record {
           peering = n;
@@ -120,7 +126,8 @@ module _ (f g : Fields) (p q : Post (Item RunningSession)) (n : ℕ) (s : Runnin
     confirmed : Visits confirming n f p g q
     confirmed = record {
       events = events.Confirm landing.ids.graft ∷ [];
-      did = λ t. subst (λ (u : ℕ → Tally). DidAsRouter f p t (events.Confirm landing.ids.graft ∷ []) g q u) (λ i k. sym (at_own t n (t n) refl k) i) (did_confirm t);
+      did = λ t. subst (λ (u : ℕ → Tally). DidAsRouter f p t (events.Confirm landing.ids.graft ∷ []) g q u)
+          (λ i k. sym (at_own t n (t n) refl k) i) (did_confirm t);
       at = (refl, tt);
       goes = subst (λ (x : Option Place). WordGoes x (place_at g.places.places n)) (sym is) (inr (here f g n (Some (Live s None)) there same items_are));
       others = λ k not. (elsewhere f g n (Some (Live s None)) there same items_are k not, refl);
@@ -142,7 +149,8 @@ same_ask ids named k r e = let a : Ask named r ≡ Ask ids k = cc in ((let x : n
 ask_or_confirm : (ids named : GraftIds) (r : ℕ) → Some (Ask named r) ≡ Some (Confirm ids) → ⊥
 ask_or_confirm ids named r e = let a : Ask named r ≡ Confirm ids = cc in absurd cc
 
-module _ (f g : Fields) (p q : Post (Item RunningSession)) (n : ℕ) (x : Option Place) (keeps : RouterInvariant f) (there : n < length f.places.places) (same : SameButPlaces f g) (items_are : g.places ≡ with_place f.places n x) where
+module _ (f g : Fields) (p q : Post (Item RunningSession)) (n : ℕ) (x : Option Place) (keeps : RouterInvariant f)
+    (there : n < length f.places.places) (same : SameButPlaces f g) (items_are : g.places ≡ with_place f.places n x) where
   idle : (y : Option Place) → place_at f.places.places n ≡ y → x ≡ y → WordGoes y y → Visits confirming n f p g p
   idle y is x_is goes = visits_same f g n x there same items_are confirming p keeps (ap place_of (x_is ∙ sym is))
       (subst (λ (z : Option Place). WordGoes z x) (sym is) (subst (WordGoes y) (sym x_is) goes)) (λ t. refl) same
@@ -178,9 +186,11 @@ module _ (f g : Fields) (p q : Post (Item RunningSession)) (n : ℕ) (x : Option
   tells_source clean told named wrote None is takes = absurd (no_word (Confirm named) takes.0)
   tells_source clean told named wrote (Some (Live s None)) is takes = absurd (no_word (Confirm named) takes.0)
   tells_source clean told named wrote (Some (Live s (Some (Leaving ids)))) is takes = absurd (no_word (Confirm named) takes.0)
-  tells_source clean told named wrote (Some (Live s (Some (Owing landing)))) is (inl (k, next, answer, new)) = absurd (ask_or_confirm named landing.ids k (sym answer))
+  tells_source clean told named wrote (Some (Live s (Some (Owing landing)))) is (inl (k, next, answer, new)) =
+      absurd (ask_or_confirm named landing.ids k (sym answer))
   tells_source clean told named wrote (Some (Live s (Some (Owing landing)))) is (inr (all, answer, new)) =
       confirmed f g p q n s landing keeps there clean told is same all (items_are ∙ ap (with_place f.places n) new)
-      (subst (λ (k : GraftIds). WritesEvent p (events.Confirm k.graft) ((k.source.0, items.Done k.graft k.peering) ∷ []) q) (same_ids landing.ids named answer) wrote)
+      (subst (λ (k : GraftIds). WritesEvent p (events.Confirm k.graft) ((k.source.0, items.Done k.graft k.peering) ∷ []) q)
+      (same_ids landing.ids named answer) wrote)
   tells_source clean told named wrote (Some (Live s (Some (Asking landing)))) is takes = absurd (no_word (Confirm named) takes.0)
   tells_source clean told named wrote (Some (Shadow away)) is takes = absurd (no_word (Confirm named) takes.0)

@@ -1,5 +1,6 @@
 -- Prefixes are decided, one after another.
-use Rattle.std.proofs.Common.{◌≡◌, ◌≢◌, ℕ, ◌+◌, ◌<◌, ◌≤◌, List, [], ◌∷◌, ◌++◌, length, Option, option_map, Some, None, Bool, true, false, cond, is_some, ◌&&◌, ◌||◌, ◌==◌, not, ◌⊎◌, inl, inr, refl, sym, ap, subst, ◌∙◌, arith, filter_map}
+use Rattle.std.proofs.Common.{◌≡◌, ◌≢◌, ℕ, ◌+◌, ◌<◌, ◌≤◌, List, [], ◌∷◌, ◌++◌, length, Option, option_map, Some, None, Bool, true, false}
+use Rattle.std.proofs.Common.{cond, is_some, ◌&&◌, ◌||◌, ◌==◌, not, ◌⊎◌, inl, inr, refl, sym, ap, subst, ◌∙◌, arith, filter_map}
 use Rattle.std.specs.Prelude.{if◌then◌else◌}
 use Rattle.std.specs.FinMap as map
 use Rattle.std.specs.List.{range_with_len}
@@ -72,7 +73,10 @@ no_add s prefix = record { members = λ x. by_both (has s x) (same_prefix prefix
     by_both false false = refl
 
 one_add : (s : Prefixes) (prefix : PrefixValue) → Adds s (only_prefix prefix true) (map.insert s prefix tt)
-one_add s prefix = record { members = λ x. has_inserted s prefix x ∙ ap (λ (b : Bool). cond b true (has s x)) (either_way x prefix ∙ tests_same prefix x) ∙ by_both (has s x) (same_prefix prefix x) }
+one_add s prefix = record {
+  members = λ x. has_inserted s prefix x ∙ ap (λ (b : Bool). cond b true (has s x)) (either_way x prefix ∙ tests_same prefix x)
+      ∙ by_both (has s x) (same_prefix prefix x);
+}
   where
     by_both : (h b : Bool) → cond b true h ≡ (h || (b && true))
     by_both true true = refl
@@ -100,9 +104,12 @@ adds_next n test prefix xs ys zs b before is size added = record {
     other k not = ap (λ (d : ℕ → Prefixes). d k) added ∙ at_other (table_at ys) n (if b then map.insert (table_at ys n) prefix tt else table_at ys n) k not
 
     here : Adds (table_at xs n) (only_prefix prefix (test n)) (table_at zs n)
-    here = subst (Adds (table_at xs n) (only_prefix prefix (test n))) (sym (ap (λ (d : ℕ → Prefixes). d n) added ∙ at_here (table_at ys) n (if b then map.insert (table_at ys n) prefix tt else table_at ys n) n refl))
-        (subst (λ (s : Prefixes). Adds s (only_prefix prefix (test n)) (if b then map.insert (table_at ys n) prefix tt else table_at ys n)) (before.from n (omega arith))
-        (subst (λ (c : Bool). Adds (table_at ys n) (only_prefix prefix c) (if b then map.insert (table_at ys n) prefix tt else table_at ys n)) is (add_where (table_at ys n) prefix b)))
+    here = subst (Adds (table_at xs n) (only_prefix prefix (test n)))
+        (sym (ap (λ (d : ℕ → Prefixes). d n) added ∙ at_here (table_at ys) n (if b then map.insert (table_at ys n) prefix tt else table_at ys n) n refl))
+        (subst (λ (s : Prefixes). Adds s (only_prefix prefix (test n)) (if b then map.insert (table_at ys n) prefix tt else table_at ys n))
+        (before.from n (omega arith))
+        (subst (λ (c : Bool). Adds (table_at ys n) (only_prefix prefix c) (if b then map.insert (table_at ys n) prefix tt else table_at ys n)) is
+        (add_where (table_at ys n) prefix b)))
 
     lower : (k : ℕ) → k < n + 1 → k ≢ n → k < n
     lower k below not = elim (cases_lt k n) [ inl under ↦ under | inr from ↦ absurd (not (omega (arith, from, below))) ]
@@ -111,7 +118,8 @@ adds_all : (test : ℕ → Bool) (prefix : PrefixValue) (xs ys : List Prefixes) 
     → ((k : ℕ) → length xs ≤ k → test k ≡ false) → (k : ℕ) → Adds (table_at xs k) (only_prefix prefix (test k)) (table_at ys k)
 adds_all test prefix xs ys adds none k = elim (cases_lt k (length xs)) [
   | inl below ↦ adds.below k below
-  | inr from ↦ subst (λ (s : Prefixes). Adds (table_at xs k) (only_prefix prefix (test k)) s) (sym (adds.from k from)) (subst (λ (b : Bool). Adds (table_at xs k) (only_prefix prefix b) (table_at xs k)) (sym (none k from)) (no_add (table_at xs k) prefix))
+  | inr from ↦ subst (λ (s : Prefixes). Adds (table_at xs k) (only_prefix prefix (test k)) s) (sym (adds.from k from))
+      (subst (λ (b : Bool). Adds (table_at xs k) (only_prefix prefix b) (table_at xs k)) (sym (none k from)) (no_add (table_at xs k) prefix))
 ]
 
 -- ---- what a place keeps
@@ -146,7 +154,8 @@ add_keeps setup r p entries due more prefix (Some (Live s o)) keeps adds = (
     | inr new ↦ up_is (state s.session) (both_true (same_prefix prefix y) (is_established (state s.session)) new)
   ],
 )
-add_keeps setup r p entries due more prefix (Some (Shadow away)) keeps adds = (keeps.0, λ y. adds.members y ∙ none_added (has due y) (same_prefix prefix y) (keeps.1 y))
+add_keeps setup r p entries due more prefix (Some (Shadow away)) keeps adds =
+    (keeps.0, λ y. adds.members y ∙ none_added (has due y) (same_prefix prefix y) (keeps.1 y))
 
 -- ---- the choice
 
@@ -158,26 +167,33 @@ none_of (Some x) e = absurd (let y : ⊥ = cc in y)
 pub chosen_is : (f : Fields) (prefix : PrefixValue) → RouterInvariant f
     → rib_choosing.rib_choice (rib_of f.rib) prefix ≡ model_choosing.chosen f.known.setup f.number.0 (router_part f) prefix
 chosen_is f prefix keeps =
-    chosen_among (rib_of f.rib) prefix (peerings_in f.known.setup) (routers_in f.known.setup) keeps.few_peerings (omega (arith, keeps.routers, keeps.few_routers)) behind
+    chosen_among (rib_of f.rib) prefix (peerings_in f.known.setup)
+    (routers_in f.known.setup) keeps.few_peerings (omega (arith, keeps.routers, keeps.few_routers)) behind
     ∙ (λ i. choice (
     own_candidates (keeps.rib.home_as i) (keeps.rib.networks prefix i)
     ++ filter_map (λ p. entry_candidate (keeps.rib.home_as i) p (map.get ((rib_of f.rib).entries p) prefix)) (range_with_len 0 (peerings_in f.known.setup))
-    ++ filter_map (λ q. option_map (λ route. (record { from = Router (record { 0 = q }); route = route }, rank_of (keeps.rib.home_as i) false (keeps.rib.costs q i) (keeps.rib.identifiers q i) (keeps.rib.identifiers q i) route)) (map.get ((rib_of f.rib).tellings q) prefix)) (range_with_len 0 (routers_in f.known.setup))))
+    ++ filter_map (λ q. option_map (λ route. (
+      record { from = Router (record { 0 = q }); route = route },
+      rank_of (keeps.rib.home_as i) false (keeps.rib.costs q i) (keeps.rib.identifiers q i) (keeps.rib.identifiers q i) route,
+    )) (map.get ((rib_of f.rib).tellings q) prefix)) (range_with_len 0 (routers_in f.known.setup))))
   where
     behind : NoneBehind (peerings_in f.known.setup) (routers_in f.known.setup) (rib_of f.rib) prefix
     behind = record {
-      entries = λ p from. none_of _ ((subst (KeepsPlace f.known.setup f.number.0 p ((rib_of f.rib).entries p) (table_at f.due_out p)) (place_at_end f.places.places p (omega (arith, keeps.places, from))) (keeps.each p)).0 prefix);
+      entries = λ p from. none_of _ ((subst (KeepsPlace f.known.setup f.number.0 p ((rib_of f.rib).entries p) (table_at f.due_out p))
+          (place_at_end f.places.places p (omega (arith, keeps.places, from))) (keeps.each p)).0 prefix);
       tellings = λ q from. none_of _ (keeps.tellings q from prefix);
     }
 
 -- ---- one prefix
 
-module _ (f h g : Fields) (p q : Post (Item RunningSession)) (prefix : PrefixValue) (keeps : RouterInvariant f) (dirty : has f.rib.dirty prefix ≡ true) (decided : h ≡ record f { rib = h.rib })
+module _ (f h g : Fields) (p q : Post (Item RunningSession)) (prefix : PrefixValue) (keeps : RouterInvariant f)
+    (dirty : has f.rib.dirty prefix ≡ true) (decided : h ≡ record f { rib = h.rib })
     (rib : h.rib ≡ record f.rib { best = with_best f.rib.best prefix (rib_choosing.rib_choice (rib_of f.rib) prefix); dirty = map.remove f.rib.dirty prefix })
     (wrote : WritesEvent p (Decide prefix) [] q) where
   -- the routes that it has then
   pub keeps_decided : RouterInvariant h
-  keeps_decided = keeps_on f h keeps (subst (λ (x : Fields). x ≡ record f { places = x.places; rib = x.rib; due_in = x.due_in; due_out = x.due_out; turns = x.turns }) (sym decided) refl)
+  keeps_decided = keeps_on f h keeps
+      (subst (λ (x : Fields). x ≡ record f { places = x.places; rib = x.rib; due_in = x.due_in; due_out = x.due_out; turns = x.turns }) (sym decided) refl)
       (record {
         places = ap (λ (x : Fields). length x.places.places) decided;
         reserved = ap (λ (x : Fields). x.places.room) decided;
@@ -186,20 +202,28 @@ module _ (f h g : Fields) (p q : Post (Item RunningSession)) (prefix : PrefixVal
         config = ap (λ (x : RibStore). x.config) rib;
         tellings = λ q out. ap (λ (x : RibStore). (rib_of x).tellings q) rib;
       })
-      (λ k. subst (λ (x : Fields). KeepsPlace f.known.setup f.number.0 k ((rib_of h.rib).entries k) (table_at x.due_out k) (place_at x.places.places k)) (sym decided)
-      (subst (λ (x : RibStore). KeepsPlace f.known.setup f.number.0 k ((rib_of x).entries k) (table_at f.due_out k) (place_at f.places.places k)) (sym rib) (keeps.each k)))
+      (λ k. subst (λ (x : Fields). KeepsPlace f.known.setup f.number.0 k ((rib_of h.rib).entries k) (table_at x.due_out k) (place_at x.places.places k))
+      (sym decided)
+      (subst (λ (x : RibStore). KeepsPlace f.known.setup f.number.0 k ((rib_of x).entries k) (table_at f.due_out k) (place_at f.places.places k))
+      (sym rib) (keeps.each k)))
 
   abbrev part_then : RouterPart
-  part_then = record (router_part f) { best = with_best f.rib.best prefix (model_choosing.chosen f.known.setup f.number.0 (router_part f) prefix); dirty = map.remove f.rib.dirty prefix }
+  part_then = record (router_part f) {
+    best = with_best f.rib.best prefix (model_choosing.chosen f.known.setup f.number.0 (router_part f) prefix);
+    dirty = map.remove f.rib.dirty prefix;
+  }
 
   part_decided : router_part h ≡ part_then
   part_decided = ap router_part decided
-      ∙ ap (λ (x : RibStore). let y : RouterPart = record (router_part f) { entries = (rib_of x).entries; tellings = (rib_of x).tellings; best = x.best; dirty = x.dirty } in y) rib
-      ∙ ap (λ b. let y : RouterPart = record (router_part f) { best = with_best f.rib.best prefix b; dirty = map.remove f.rib.dirty prefix } in y) (chosen_is f prefix keeps)
+      ∙ ap (λ (x : RibStore). let y : RouterPart =
+      record (router_part f) { entries = (rib_of x).entries; tellings = (rib_of x).tellings; best = x.best; dirty = x.dirty } in y) rib
+      ∙ ap (λ b. let y : RouterPart = record (router_part f) { best = with_best f.rib.best prefix b; dirty = map.remove f.rib.dirty prefix } in y)
+      (chosen_is f prefix keeps)
 
   did_decide : (part : RouterPart) → router_part g ≡ part → SameRouter f g → Decides f.known.setup f.number.0 prefix (router_part f) None [] part
       → (t : ℕ → Tally) → DidAsRouter f p t (Decide prefix ∷ []) g q t
-  did_decide part is same row t = did_one f g p q t (Decide prefix) same wrote (subst (Decides f.known.setup f.number.0 prefix (router_part f) None []) (sym is) row) tt
+  did_decide part is same row t =
+      did_one f g p q t (Decide prefix) same wrote (subst (Decides f.known.setup f.number.0 prefix (router_part f) None []) (sym is) row) tt
 
   -- the best route stays
   pub decides_same : DifferIf (rib_choosing.rib_choice (rib_of f.rib) prefix) (map.get f.rib.best prefix) false → g ≡ h → DecidesOne prefix f p g q
@@ -210,7 +234,9 @@ module _ (f h g : Fields) (p q : Post (Item RunningSession)) (prefix : PrefixVal
 
       whole : DecidesOne prefix f p h q
       whole = record {
-        did = λ t. did_one f h p q t (Decide prefix) (record { setup = ap (λ (x : Fields). x.known.setup) decided; number = ap (λ (x : Fields). x.number) decided }) wrote (subst (Decides f.known.setup f.number.0 prefix (router_part f) None []) (sym part_decided) row) tt;
+        did = λ t. did_one f h p q t (Decide prefix)
+            (record { setup = ap (λ (x : Fields). x.known.setup) decided; number = ap (λ (x : Fields). x.number) decided }) wrote
+            (subst (Decides f.known.setup f.number.0 prefix (router_part f) None []) (sym part_decided) row) tt;
         dirty = ap (λ (x : RibStore). x.dirty) rib;
         same = subst (λ (x : Fields). x ≡ record f { rib = x.rib; due_in = x.due_in; due_out = x.due_out }) (sym decided) refl;
         keeps = keeps_decided;
@@ -223,15 +249,26 @@ module _ (f h g : Fields) (p q : Post (Item RunningSession)) (prefix : PrefixVal
     did = did_decide part_new part_is (record { setup = ap (λ (x : Fields). x.known.setup) g_same; number = ap (λ (x : Fields). x.number) g_same }) row;
     dirty = ap (λ (x : Fields). x.rib.dirty) due.same ∙ ap (λ (x : RibStore). x.dirty) rib;
     same = g_same;
-    keeps = keeps_on h g keeps_decided (subst (λ (x : Fields). x ≡ record h { places = x.places; rib = x.rib; due_in = x.due_in; due_out = x.due_out; turns = x.turns }) (sym due.same) refl)
-        (record { places = ap (λ (x : Fields). length x.places.places) due.same; reserved = ap (λ (x : Fields). x.places.room) due.same; due_in = due.due_in.size; due_out = due.due_out.size; config = ap (λ (x : Fields). x.rib.config) due.same; tellings = λ q out. ap (λ (x : Fields). (rib_of x.rib).tellings q) due.same })
-        (λ k. subst (λ (x : Fields). KeepsPlace h.known.setup h.number.0 k ((rib_of x.rib).entries k) (table_at g.due_out k) (place_at x.places.places k)) (sym due.same)
-        (add_keeps h.known.setup h.number.0 k ((rib_of h.rib).entries k) (table_at h.due_out k) (table_at g.due_out k) prefix (place_at h.places.places k) (keeps_decided.each k) (out k)));
+    keeps = keeps_on h g keeps_decided (subst
+        (λ (x : Fields). x ≡ record h { places = x.places; rib = x.rib; due_in = x.due_in; due_out = x.due_out; turns = x.turns }) (sym due.same) refl)
+        (record {
+          places = ap (λ (x : Fields). length x.places.places) due.same;
+          reserved = ap (λ (x : Fields). x.places.room) due.same;
+          due_in = due.due_in.size;
+          due_out = due.due_out.size;
+          config = ap (λ (x : Fields). x.rib.config) due.same;
+          tellings = λ q out. ap (λ (x : Fields). (rib_of x.rib).tellings q) due.same;
+        })
+        (λ k. subst (λ (x : Fields). KeepsPlace h.known.setup h.number.0 k ((rib_of x.rib).entries k) (table_at g.due_out k) (place_at x.places.places k))
+        (sym due.same)
+        (add_keeps h.known.setup h.number.0 k ((rib_of h.rib).entries k) (table_at h.due_out k)
+        (table_at g.due_out k) prefix (place_at h.places.places k) (keeps_decided.each k) (out k)));
   }
     where
       g_same : g ≡ record f { rib = g.rib; due_in = g.due_in; due_out = g.due_out }
       g_same = due.same
-          ∙ ap (λ (x : Fields). let y : Fields = record x { due_in = g.due_in; due_out = g.due_out } in y) decided ∙ ap (λ (x : RibStore). let y : Fields = record f { rib = x; due_in = g.due_in; due_out = g.due_out } in y) (sym (ap (λ (x : Fields). x.rib) due.same))
+          ∙ ap (λ (x : Fields). let y : Fields = record x { due_in = g.due_in; due_out = g.due_out } in y) decided ∙ ap
+          (λ (x : RibStore). let y : Fields = record f { rib = x; due_in = g.due_in; due_out = g.due_out } in y) (sym (ap (λ (x : Fields). x.rib) due.same))
 
       part_new : RouterPart
       part_new = record part_then { due_in = table_at g.due_in; due_out = table_at g.due_out }
@@ -241,15 +278,18 @@ module _ (f h g : Fields) (p q : Post (Item RunningSession)) (prefix : PrefixVal
           ∙ ap (λ (x : RouterPart). let y : RouterPart = record x { due_in = table_at g.due_in; due_out = table_at g.due_out } in y) part_decided
 
       out : (k : ℕ) → Adds (table_at h.due_out k) (only_prefix prefix (holds_established (place_of (place_at h.places.places k)))) (table_at g.due_out k)
-      out = adds_all (is_up_at h) prefix h.due_out g.due_out due.due_out (λ k from. ap (λ (x : Option Place). holds_established (place_of x)) (place_at_end h.places.places k (omega (arith, from, keeps_decided.places, keeps_decided.due_out))))
+      out = adds_all (is_up_at h) prefix h.due_out g.due_out due.due_out (λ k from. ap (λ (x : Option Place). holds_established (place_of x))
+          (place_at_end h.places.places k (omega (arith, from, keeps_decided.places, keeps_decided.due_out))))
 
       into : (k : ℕ) → Adds (table_at h.due_in k) (only_prefix prefix (is_other_router h k)) (table_at g.due_in k)
-      into = adds_all (is_other_router h) prefix h.due_in g.due_in due.due_in (λ k from. ap (λ (b : Bool). b && not (k == h.number.0)) (le-ltb k (routers_in h.known.setup) (omega (arith, from, keeps_decided.due_in))))
+      into = adds_all (is_other_router h) prefix h.due_in g.due_in due.due_in
+          (λ k from. ap (λ (b : Bool). b && not (k == h.number.0)) (le-ltb k (routers_in h.known.setup) (omega (arith, from, keeps_decided.due_in))))
 
       everywhere : DueEverywhere f.known.setup f.number.0 prefix (router_part f) part_new
       everywhere = record {
         routers = subst (λ (x : Fields). (k : ℕ) → Adds (table_at x.due_in k) (only_prefix prefix (is_other_router x k)) (table_at g.due_in k)) decided into;
-        peerings = subst (λ (x : Fields). (k : ℕ) → Adds (table_at x.due_out k) (only_prefix prefix (holds_established (place_of (place_at x.places.places k)))) (table_at g.due_out k)) decided out;
+        peerings = subst (λ (x : Fields). (k : ℕ) → Adds (table_at x.due_out k)
+            (only_prefix prefix (holds_established (place_of (place_at x.places.places k)))) (table_at g.due_out k)) decided out;
       }
 
       row : Decides f.known.setup f.number.0 prefix (router_part f) None [] part_new

@@ -37,14 +37,17 @@ router_then a b c x y = record { setup = y.setup ∙ x.setup; number = y.number 
 
 pub rounds_append : (setup : Setup) (r : ℕ) (a b c : RouterPart) (t u w : ℕ → Tally) (es fs : List RouterEvent) → RouterRound setup r a t es b u
     → RouterRound setup r b u fs c w → RouterRound setup r a t (es ++ fs) c w
-rounds_append setup r a b c t u w [] fs h k = subst (λ (x : RouterPart). RouterRound setup r x t fs c w) h.0 (subst (λ (x : ℕ → Tally). RouterRound setup r b x fs c w) h.1 k)
-rounds_append setup r a b c t u w (e ∷ es) fs (taken, sent, m, row, careful, rest) k = (taken, sent, m, row, careful, rounds_append setup r m b c (router_tally a e t) u w es fs rest k)
+rounds_append setup r a b c t u w [] fs h k =
+    subst (λ (x : RouterPart). RouterRound setup r x t fs c w) h.0 (subst (λ (x : ℕ → Tally). RouterRound setup r b x fs c w) h.1 k)
+rounds_append setup r a b c t u w (e ∷ es) fs (taken, sent, m, row, careful, rest) k =
+    (taken, sent, m, row, careful, rounds_append setup r m b c (router_tally a e t) u w es fs rest k)
 
 -- the round of what another field set is the same router of
 pub round_at : (a b : Fields) (t u : ℕ → Tally) (es : List RouterEvent) (before after : RouterPart) → SameRouter a b
     → RouterRound b.known.setup b.number.0 before t es after u → RouterRound a.known.setup a.number.0 before t es after u
 round_at a b t u es before after same h =
-    subst (λ (s : Setup). RouterRound s a.number.0 before t es after u) same.setup (subst (λ (n : ℕ). RouterRound b.known.setup n before t es after u) (ap (λ k. k.0) same.number) h)
+    subst (λ (s : Setup). RouterRound s a.number.0 before t es after u) same.setup
+    (subst (λ (n : ℕ). RouterRound b.known.setup n before t es after u) (ap (λ k. k.0) same.number) h)
 
 -- nothing that the model sees changes
 pub did_same : (f g : Fields) (p : Post (Item RunningSession)) (t : ℕ → Tally) → SameRouter f g → router_part g ≡ router_part f → DidAsRouter f p t [] g p t
@@ -66,7 +69,8 @@ did_then a b c p q r t u w es fs x y = record {
   wrote = wrote_then p q r x.deeds y.deeds x.wrote y.wrote;
   none = all-append TakesNone x.deeds y.deeds x.none y.none;
   coded = are_deeds-append router_code es fs x.deeds y.deeds x.coded y.coded;
-  replay = replay-append (acts carried) (actor_of p) (own_part a) (own_part b) (own_part c) x.deeds y.deeds x.replay (subst (λ (n : ℕ). Replay (acts carried) n (own_part b) y.deeds (own_part c)) x.wrote.actor y.replay);
+  replay = replay-append (acts carried) (actor_of p) (own_part a) (own_part b) (own_part c) x.deeds y.deeds x.replay
+      (subst (λ (n : ℕ). Replay (acts carried) n (own_part b) y.deeds (own_part c)) x.wrote.actor y.replay);
   round = rounds_append a.known.setup a.number.0 (router_part a) (router_part b) (router_part c) t u w es fs x.round
       (round_at a b u w fs (router_part b) (router_part c) x.router y.round);
 }

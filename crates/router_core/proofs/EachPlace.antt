@@ -12,8 +12,10 @@ use Rattle.session_places.specs.Places.{with_place}
 use Rattle.router_core.specs.Parts.{RouterInvariant}
 use Rattle.router_core.specs.Places.{place_at}
 use Rattle.router_core.specs.Sending.{AtPlace, IsOutletOf, SentNext}
-use Rattle.router_core.specs.Stages.{PlaceGoes, GraftGoes, WordGoes, IsLevel, EmitsAll, SendsAgain, BeginsGrafts, ConfirmsAll, EmitsEverywhere, again_at, answer_at, with_again, with_answers}
-use Rattle.router_core.specs.Visits.{Stage, Visits, Visited, Answers, AllNewOut, EmitsNew, SameButPlaces, SlicesOut, places_twice, answering, beginning_grafts, confirming, emitting, sending_again, sending_new, slicing}
+use Rattle.router_core.specs.Stages.{PlaceGoes, GraftGoes, WordGoes, IsLevel, EmitsAll, SendsAgain, BeginsGrafts}
+use Rattle.router_core.specs.Stages.{ConfirmsAll, EmitsEverywhere, again_at, answer_at, with_again, with_answers}
+use Rattle.router_core.specs.Visits.{Stage, Visits, Visited, Answers, AllNewOut, EmitsNew, SameButPlaces, SlicesOut, places_twice}
+use Rattle.router_core.specs.Visits.{answering, beginning_grafts, confirming, emitting, sending_again, sending_new, slicing}
 use Rattle.router_core.specs.declared.fields.Fields.{Fields}
 use Rattle.router_core.specs.declared.place.Place.{Place}
 use Rattle.router_core.specs.declared.place.Place.TheVariants.{Live, Shadow}
@@ -79,7 +81,8 @@ module _ (f g : Fields) (p q : Post (Item RunningSession)) where
 goes_then : (P Q R : RunningSession → RunningSession → Type 0) → ((s u v : RunningSession) → P s u → Q u v → R s v) → (x y z : Option Place)
     → PlaceGoes P x y → PlaceGoes Q y z → PlaceGoes R x z
 goes_then P Q R both None y z first second = subst (λ (a : Option Place). PlaceGoes Q a z) first second
-goes_then P Q R both (Some (Live s o)) y z (u, is, first) second = let (v, z_is, then) = subst (λ (a : Option Place). PlaceGoes Q a z) is second in (v, z_is, both s u v first then)
+goes_then P Q R both (Some (Live s o)) y z (u, is, first) second =
+    let (v, z_is, then) = subst (λ (a : Option Place). PlaceGoes Q a z) is second in (v, z_is, both s u v first then)
 goes_then P Q R both (Some (Shadow away)) y z first second = subst (λ (a : Option Place). PlaceGoes Q a z) first second
 
 -- and where something is known of what it became
@@ -95,11 +98,13 @@ none_more k l m none more = omega (arith, none, more)
 
 slices_then : (s u v : RunningSession) → SlicesOut s u → SlicesOut u v → SlicesOut s v
 slices_then s u v x y = y
-    ∙ ap (λ (r : RunningSession). let w : RunningSession = record r { session = record r.session { end = record r.session.end { emitted = v.session.end.emitted } } } in w) x
+    ∙ ap (λ (r : RunningSession).
+    let w : RunningSession = record r { session = record r.session { end = record r.session.end { emitted = v.session.end.emitted } } } in w) x
 
 all_emitted : (s u : RunningSession) → SlicesOut s u → u.session.end.emitted ≡ reach_of u.session.end → EmitsNew s u
 all_emitted s u out all = out
-    ∙ ap (λ (m : ℕ). let w : RunningSession = record s { session = record s.session { end = record s.session.end { emitted = m } } } in w) (all ∙ ap (λ (r : RunningSession). reach_of r.session.end) out)
+    ∙ ap (λ (m : ℕ). let w : RunningSession = record s { session = record s.session { end = record s.session.end { emitted = m } } } in w)
+    (all ∙ ap (λ (r : RunningSession). reach_of r.session.end) out)
 
 new_then_answer : (s u v : RunningSession) → EmitsNew s u → Answers u v → EmitsAll s v
 new_then_answer s u v x y = y
@@ -114,16 +119,22 @@ answer_same (Some (Shadow away)) y goes = ap answer_at goes
 module _ (a b c : Fields) (p q r : Post (Item RunningSession)) (n : ℕ) where
   pub slices_more : Visits slicing n a p b q → Visits slicing n b q c r → Visits slicing n a p c r
   slices_more x y = visits_then slicing slicing slicing a b c p q r n x y refl refl
-      (λ k l u v w first second. (none_more k.answers l.answers 0 first.0 second.0, goes_then SlicesOut SlicesOut SlicesOut slices_then u v w first.1 second.1)) (λ k u v t first. refl) (places_twice a b c x.same y.same)
+      (λ k l u v w first second.
+      (none_more k.answers l.answers 0 first.0 second.0, goes_then SlicesOut SlicesOut SlicesOut slices_then u v w first.1 second.1))
+      (λ k u v t first. refl) (places_twice a b c x.same y.same)
 
   pub emits_both : Visits sending_new n a p b q → Visits answering n b q c r → Visits emitting n a p c r
   emits_both x y = visits_then sending_new answering emitting a b c p q r n x y refl refl
-      (λ k l u v w first second. (none_more k.answers l.answers (answer_at u) first.0 (second.0 ∙ answer_same u v first.1), goes_then EmitsNew Answers EmitsAll new_then_answer u v w first.1 second.1))
+      (λ k l u v w first second. (
+        none_more k.answers l.answers (answer_at u) first.0 (second.0 ∙ answer_same u v first.1),
+        goes_then EmitsNew Answers EmitsAll new_then_answer u v w first.1 second.1,
+      ))
       (λ k u v t first. ap (λ (m : ℕ). let w : Tally = record t { answers = t.answers + m } in w) (answer_same u v first.1)) (places_twice a b c x.same y.same)
 
 pub slices_all : (a b : Fields) (p q : Post (Item RunningSession)) (n : ℕ) → Visits slicing n a p b q → AllNewOut (place_at b.places.places n)
     → Visits sending_new n a p b q
-slices_all a b p q n v all = visits_as slicing sending_new a b p q n v refl (λ k goes. (goes.0, goes_with SlicesOut EmitsNew all_emitted (place_at a.places.places n) (place_at b.places.places n) goes.1 all)) (λ t. refl) v.same
+slices_all a b p q n v all = visits_as slicing sending_new a b p q n v refl
+    (λ k goes. (goes.0, goes_with SlicesOut EmitsNew all_emitted (place_at a.places.places n) (place_at b.places.places n) goes.1 all)) (λ t. refl) v.same
 
 -- how much of a session's stream isn't emitted
 abbrev pub left_at : Option Place → ℕ
@@ -139,18 +150,22 @@ same_count stage a b p q n keeps v same there = omega (arith, there, same_places
 less_left_live : (s u : RunningSession) (segment : Segment) → SentNext s (Some segment) u
     → length u.session.end.stream - u.session.end.emitted < length s.session.end.stream - s.session.end.emitted
 less_left_live s u segment sent =
-    let stream : length u.session.end.stream ≡ length s.session.end.stream = ap (λ (v : SessionValue). length v.end.stream) sent.step.effect ∙ ap (λ (e : Endpoint). length e.stream) sent.step.step.rises in
-    let emitted : u.session.end.emitted ≡ s.session.end.emitted + next_length s.session.end = ap (λ (v : SessionValue). v.end.emitted) sent.step.effect ∙ ap (λ (e : Endpoint). e.emitted) sent.step.step.rises in
+    let stream : length u.session.end.stream ≡ length s.session.end.stream =
+    ap (λ (v : SessionValue). length v.end.stream) sent.step.effect ∙ ap (λ (e : Endpoint). length e.stream) sent.step.step.rises in
+    let emitted : u.session.end.emitted ≡ s.session.end.emitted + next_length s.session.end =
+    ap (λ (v : SessionValue). v.end.emitted) sent.step.effect ∙ ap (λ (e : Endpoint). e.emitted) sent.step.step.rises in
     omega (arith, stream, emitted, sent.step.step.some)
 
 pub less_left : (y x : Option Place) (segment : Segment) → AtPlace SentNext y (Some segment) x → left_at x < left_at y
 less_left None x segment at = absurd (some_none segment at.0)
-less_left (Some (Live s o)) x segment (u, x_is, sent) = subst (λ (z : Option Place). left_at z < left_at (Some (Live s o))) (sym x_is) (less_left_live s u segment sent)
+less_left (Some (Live s o)) x segment (u, x_is, sent) =
+    subst (λ (z : Option Place). left_at z < left_at (Some (Live s o))) (sym x_is) (less_left_live s u segment sent)
 less_left (Some (Shadow away)) x segment at = absurd (some_none segment at.0)
 
 -- no slice was sent yet
 pub slices_none : (f : Fields) (p : Post (Item RunningSession)) (n : ℕ) → RouterInvariant f → n < length f.places.places → Visits slicing n f p f p
-slices_none f p n keeps there = visits_same f f n (place_at f.places.places n) there refl (sym (same_there f.places n)) slicing p keeps refl (refl, unchanged (place_at f.places.places n)) (λ t. refl) refl (keeps.each n)
+slices_none f p n keeps there = visits_same f f n (place_at f.places.places n) there refl
+    (sym (same_there f.places n)) slicing p keeps refl (refl, unchanged (place_at f.places.places n)) (λ t. refl) refl (keeps.each n)
   where
     unchanged : (x : Option Place) → PlaceGoes SlicesOut x x
     unchanged None = refl
@@ -162,7 +177,9 @@ pub outlet_stays : (f g : Fields) (n : ℕ) (outlet : Outlet) → SameButPlaces 
 outlet_stays f g n outlet same is = subst (λ (h : Fields). IsOutletOf h n outlet) (sym same) (record { place = is.place; to = is.to; first = is.first })
 
 -- one more slice, at a place that is read as y and becomes x
-module _ (a b c : Fields) (p q r : Post (Item RunningSession)) (n : ℕ) (y x : Option Place) (so_far : Visits slicing n a p b q) (keeps : RouterInvariant a) (there : n < length a.places.places) (same : SameButPlaces b c) (items_are : c.places ≡ with_place b.places n x) (y_is : place_at b.places.places n ≡ y) where
+module _ (a b c : Fields) (p q r : Post (Item RunningSession)) (n : ℕ) (y x : Option Place)
+    (so_far : Visits slicing n a p b q) (keeps : RouterInvariant a) (there : n < length a.places.places)
+    (same : SameButPlaces b c) (items_are : c.places ≡ with_place b.places n x) (y_is : place_at b.places.places n ≡ y) where
   there_still : n < length b.places.places
   there_still = same_count slicing a b p q n keeps so_far (ap (λ (f : Fields). f.known.setup) so_far.same) there
 
@@ -175,7 +192,8 @@ module _ (a b c : Fields) (p q r : Post (Item RunningSession)) (n : ℕ) (y x : 
       (next_some b c q r n x so_far.keeps there_still same items_are outlet (outlet_stays a b n outlet so_far.same outlet_is) segment wrote y y_is at)
 
   pub slice_less : (segment : Segment) → AtPlace SentNext y (Some segment) x → left_at (place_at c.places.places n) < left_at (place_at b.places.places n)
-  slice_less segment at = subst (λ (z : Option Place). left_at z < left_at (place_at b.places.places n)) (sym x_is) (subst (λ (z : Option Place). left_at x < left_at z) (sym y_is) (less_left y x segment at))
+  slice_less segment at = subst (λ (z : Option Place). left_at z < left_at (place_at b.places.places n))
+      (sym x_is) (subst (λ (z : Option Place). left_at x < left_at z) (sym y_is) (less_left y x segment at))
 
   pub slice_last : AtPlace SentNext y None x → Visits sending_new n a p c q
   slice_last at = slices_all a c p q n (slices_more a b c p q q n so_far (next_none b c q q n x so_far.keeps there_still same items_are y y_is at))

@@ -82,7 +82,8 @@ unread_same e f g (inr empty) = ap ready_bytes empty.given
 
 -- The session that is live at a place emits a segment, which is noted and sent.
 module _ (f g : Fields) (p q : Post (Item RunningSession)) (n : ℕ) (s u : RunningSession) (o : Option Errand) (segment : Segment) (from len : ℕ)
-    (keeps : RouterInvariant f) (there : n < length f.places.places) (is : place_at f.places.places n ≡ Some (Live s o)) (same : SameButPlaces f g) (items_are : g.places ≡ with_place f.places n (Some (Live u o)))
+    (keeps : RouterInvariant f) (there : n < length f.places.places) (is : place_at f.places.places n ≡ Some (Live s o))
+    (same : SameButPlaces f g) (items_are : g.places ≡ with_place f.places n (Some (Live u o)))
     (gives : Gives s.session segment u.session from len) (careful : IsCareful s.session.end from len) (short : length segment.bytes ≤ 1024)
     (wrote : WritesEvent p (Emit n from len) ((routers_in f.known.setup + n, items.Seg segment) ∷ []) q) where
   place_is : KeepsPlace f.known.setup f.number.0 n ((rib_of f.rib).entries n) (table_at f.due_out n) (Some (Live s o))
@@ -109,13 +110,15 @@ module _ (f g : Fields) (p q : Post (Item RunningSession)) (n : ℕ) (s u : Runn
         takes = refl;
         sends = refl;
         effect = part_at f g n (Some (Live u o)) there same items_are
-            ∙ ap (λ (v : SessionValue). let x : RouterPart = record (router_part f) { places = at (router_part f).places n (model.Live v (option_map errand_of o)) } in x) gives.effect;
+            ∙ ap (λ (v : SessionValue). let x : RouterPart =
+            record (router_part f) { places = at (router_part f).places n (model.Live v (option_map errand_of o)) } in x) gives.effect;
       })
       (record { session = s.session; errand = option_map errand_of o; live = record { is = part_is }; careful = careful }))
 
   pub keeps_emitted : RouterInvariant g
   keeps_emitted = keeps_at f g n (Some (Live u o)) there same items_are keeps
-      (keeps_live f.known.setup f.number.0 n ((rib_of f.rib).entries n) (table_at f.due_out n) s u o place_is (ap (λ (v : SessionValue). v.config) gives.effect) (ap (λ (v : SessionValue). v.story) gives.effect)
+      (keeps_live f.known.setup f.number.0 n ((rib_of f.rib).entries n) (table_at f.due_out n) s u o place_is
+      (ap (λ (v : SessionValue). v.config) gives.effect) (ap (λ (v : SessionValue). v.story) gives.effect)
       (ap unread gives.effect ∙ unread_same s.session.end gives.end (sent_as s.session.config segment) gives.at.emits))
 
   pub visits_emitted : (stage : Stage) → 7 ≡ stage.number → stage.Goes (events_on n (Emit n from len ∷ [])) (Some (Live s o)) (Some (Live u o))
@@ -126,7 +129,8 @@ module _ (f g : Fields) (p q : Post (Item RunningSession)) (n : ℕ) (s u : Runn
         (subst (λ (x : Tally). DidAsRouter f p t (Emit n from len ∷ []) g q (at t n x)) (count (t n)) (did_emit t));
     at = (number, tt);
     goes = subst (λ (x : Option Place). stage.Goes (events_on n (Emit n from len ∷ [])) x (place_at g.places.places n)) (sym is)
-        (subst (λ (x : Option Place). stage.Goes (events_on n (Emit n from len ∷ [])) (Some (Live s o)) x) (sym (here f g n (Some (Live u o)) there same items_are)) goes);
+        (subst (λ (x : Option Place). stage.Goes (events_on n (Emit n from len ∷ [])) (Some (Live s o)) x)
+        (sym (here f g n (Some (Live u o)) there same items_are)) goes);
     others = λ k not. (elsewhere f g n (Some (Live u o)) there same items_are k not, emit_elsewhere k n from len not);
     same = same_rest;
     keeps = keeps_emitted;

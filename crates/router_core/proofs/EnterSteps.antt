@@ -46,7 +46,8 @@ any_other xs x y e = any_more xs x y ∙ ap (λ (b : Bool). list_any (same_prefi
   or_false false = refl
 
 not_same : (x y : PrefixValue) → same_prefix y x ≡ false → y ≢ x
-not_same x y e is = let a : same_prefix y y ≡ false = subst (λ (z : PrefixValue). same_prefix y z ≡ false) (sym is) e in let b : true ≡ false = sym (same_itself y) ∙ a in absurd cc
+not_same x y e is = let a : same_prefix y y ≡ false = subst (λ (z : PrefixValue). same_prefix y z ≡ false) (sym is) e in
+    let b : true ≡ false = sym (same_itself y) ∙ a in absurd cc
 
 -- ---- one prefix after another
 
@@ -58,7 +59,8 @@ enters_none v p values = record {
   effect = λ i. record v { entries = at_is v.entries v.entries p (v.entries p) refl (λ q not. refl) i };
 }
 
-module _ (a b c : RibValue) (p : ℕ) (values : PrefixValue → Option Entry) (xs : List PrefixValue) (x : PrefixValue) (so_far : EntersAll a p values xs b) (one : SetsEntry b p x (values x) c) where
+module _ (a b c : RibValue) (p : ℕ) (values : PrefixValue → Option Entry) (xs : List PrefixValue)
+    (x : PrefixValue) (so_far : EntersAll a p values xs b) (one : SetsEntry b p x (values x) c) where
   entries_now : c.entries p ≡ with_value (b.entries p) x (values x)
   entries_now = ap (λ (v : RibValue). v.entries p) one.effect ∙ at_own b.entries p (with_value (b.entries p) x (values x))
 
@@ -71,7 +73,8 @@ module _ (a b c : RibValue) (p : ℕ) (values : PrefixValue → Option Entry) (x
   marks_on : Marks a.dirty (a.entries p) (c.entries p) c.dirty
   marks_on = subst (λ (es : Entries). Marks a.dirty (a.entries p) es c.dirty) (sym entries_now) (by_test (list_any (same_prefix x) xs) refl one.dirty) where
     same_again : values x ≡ map.get (b.entries p) x → c.dirty ≡ b.dirty → Marks a.dirty (a.entries p) (with_value (b.entries p) x (values x)) c.dirty
-    same_again is stays = subst (λ (es : Entries). Marks a.dirty (a.entries p) es c.dirty) (sym (with_same (b.entries p) x (values x) is)) (subst (λ (s : Prefixes). Marks a.dirty (a.entries p) (b.entries p) s) (sym stays) so_far.dirty)
+    same_again is stays = subst (λ (es : Entries). Marks a.dirty (a.entries p) es c.dirty) (sym (with_same (b.entries p) x (values x) is))
+        (subst (λ (s : Prefixes). Marks a.dirty (a.entries p) (b.entries p) s) (sym stays) so_far.dirty)
 
     by_test : (t : Bool) → list_any (same_prefix x) xs ≡ t → MarksOne b.dirty x (map.get (b.entries p) x) (values x) c.dirty
         → Marks a.dirty (a.entries p) (with_value (b.entries p) x (values x)) c.dirty
@@ -86,7 +89,8 @@ module _ (a b c : RibValue) (p : ℕ) (values : PrefixValue → Option Entry) (x
       | inr not ↦ get_there y (not_same x y not) ∙ so_far.each y (sym (any_other xs x y not) ∙ e)
     ];
     others = λ y e. elim (same_or_not x y) [
-      | inl is ↦ absurd (let t : true ≡ false = sym (any_last xs x) ∙ ap (λ (z : PrefixValue). list_any (same_prefix z) (xs ++ x ∷ [])) (sym is) ∙ e in let bot : ⊥ = cc in bot)
+      | inl is ↦ absurd (let t : true ≡ false =
+          sym (any_last xs x) ∙ ap (λ (z : PrefixValue). list_any (same_prefix z) (xs ++ x ∷ [])) (sym is) ∙ e in let bot : ⊥ = cc in bot)
       | inr not ↦ get_there y (not_same x y not) ∙ so_far.others y (sym (any_other xs x y not) ∙ e)
     ];
     dirty = marks_on;
@@ -96,11 +100,13 @@ module _ (a b c : RibValue) (p : ℕ) (values : PrefixValue → Option Entry) (x
       at_then : at b.entries p (with_value (b.entries p) x (values x)) ≡ at a.entries p (c.entries p)
       at_then = at_is a.entries (at b.entries p (with_value (b.entries p) x (values x))) p (c.entries p)
           (at_own b.entries p (with_value (b.entries p) x (values x)) ∙ sym entries_now)
-          (λ q not. at_else b.entries p (with_value (b.entries p) x (values x)) q not ∙ ap (λ (v : RibValue). v.entries q) so_far.effect ∙ at_else a.entries p (b.entries p) q not)
+          (λ q not. at_else b.entries p (with_value (b.entries p) x (values x)) q not
+          ∙ ap (λ (v : RibValue). v.entries q) so_far.effect ∙ at_else a.entries p (b.entries p) q not)
 
 -- ---- what an import policy makes of attributes
 
-pub imported_is : (home_as : ℕ) (prefix : PrefixValue) (session : SessionRoute) (rules : Option (List Rule)) (remote_as : ℕ) (heard : Option Attrs) (attrs copy : Attrs)
+pub imported_is : (home_as : ℕ) (prefix : PrefixValue) (session : SessionRoute)
+    (rules : Option (List Rule)) (remote_as : ℕ) (heard : Option Attrs) (attrs copy : Attrs)
     → session.import_rules ≡ rules → session.remote_as ≡ remote_as → heard ≡ Some attrs
     → holds_as attrs.path home_as ≡ false → copy ≡ attrs
     → policy (unwrap_or rules []) prefix remote_as (record { attrs = copy; pref = 100 }) ≡ imported home_as prefix session heard
@@ -108,4 +114,5 @@ imported_is home_as prefix session rules remote_as heard attrs copy same_rules s
     ap (λ (a : Attrs). policy (unwrap_or rules []) prefix remote_as (record { attrs = a; pref = 100 })) same
     ∙ ap (λ (rs : Option (List Rule)). policy (unwrap_or rs []) prefix remote_as (record { attrs = attrs; pref = 100 })) (sym same_rules)
     ∙ ap (λ (n : ℕ). policy (unwrap_or session.import_rules []) prefix n (record { attrs = attrs; pref = 100 })) (sym same_as)
-    ∙ sym (ap (imported home_as prefix session) is ∙ ap (λ (b : Bool). if b then None else policy (unwrap_or session.import_rules []) prefix session.remote_as (record { attrs = attrs; pref = 100 })) not)
+    ∙ sym (ap (imported home_as prefix session) is
+    ∙ ap (λ (b : Bool). if b then None else policy (unwrap_or session.import_rules []) prefix session.remote_as (record { attrs = attrs; pref = 100 })) not)

@@ -68,13 +68,15 @@ away_of (Some (Shadow away)) k e = record { away = away; is = refl; graft = cc }
 
 -- the place of a shadow is there
 pub away_within : (f : Fields) (p k : ℕ) → IsShadowOf (place_at f.places.places p) k → p < length f.places.places
-away_within f p k a = elim (cases_lt p (length f.places.places)) [ inl below ↦ below | inr past ↦ absurd (no_shadow a.away (sym (vacant_past f p past) ∙ a.is)) ]
+away_within f p k a =
+    elim (cases_lt p (length f.places.places)) [ inl below ↦ below | inr past ↦ absurd (no_shadow a.away (sym (vacant_past f p past) ∙ a.is)) ]
 
 -- ---- the order
 
 module _ (f : Fields) (p q : Post (Item RunningSession)) (from k : ℕ) (peering : PeeringId) (target : RouterId) (keeps : RouterInvariant f) where
   -- an order that isn't the operator's, or is of no live session that has nothing to be done for a graft, or to a router that isn't there
-  pub drops_order : (from ≡ f.routers + length f.places.places → target.0 < f.routers → peering.0 < length f.places.places → IsLiveWithoutErrand (place_at f.places.places peering.0) → ⊥)
+  pub drops_order : (from ≡ f.routers + length f.places.places → target.0 < f.routers
+      → peering.0 < length f.places.places → IsLiveWithoutErrand (place_at f.places.places peering.0) → ⊥)
       → WroteOne p dropped [] q → RouterTakesIt from (items.GraftOrder k peering target) f p f q
   drops_order not wrote = drops f p q from (items.GraftOrder k peering target) keeps wrote
       (λ w.
@@ -84,7 +86,8 @@ module _ (f : Fields) (p q : Post (Item RunningSession)) (from k : ℕ) (peering
       not (omega (arith, number, keeps.routers, keeps.places)) (omega (arith, is.1, keeps.routers)) (within free) free)
     where
       within : IsLiveWithoutErrand (place_at f.places.places peering.0) → peering.0 < length f.places.places
-      within free = elim (cases_lt peering.0 (length f.places.places)) [ inl below ↦ below | inr past ↦ absurd (no_live free.session (sym (vacant_past f peering.0 past) ∙ free.is)) ]
+      within free = elim (cases_lt peering.0
+          (length f.places.places)) [ inl below ↦ below | inr past ↦ absurd (no_live free.session (sym (vacant_past f peering.0 past) ∙ free.is)) ]
 
   -- the order is stored with the session
   pub admits : (g : Fields) (s : RunningSession) (ids : GraftIds) → from ≡ f.routers + length f.places.places → target.0 < f.routers
@@ -96,8 +99,10 @@ module _ (f : Fields) (p q : Post (Item RunningSession)) (from k : ℕ) (peering
       let targets : target.0 < routers_in f.known.setup = omega (arith, known, keeps.routers) in
       let from_is : from ≡ routers_in f.known.setup + peerings_in f.known.setup = omega (arith, number, keeps.routers, keeps.places) in
       let at_it : actor_at f.known.setup from ≡ Some Operator = ap (actor_at f.known.setup) from_is ∙ at_operator f.known.setup in
-      let here : place_at g.places.places peering.0 ≡ Some (Live s (Some (Leaving ids))) = ap (λ (xs : List (Option Place)). place_at xs peering.0) (listed held) ∙ placed_here f.places.places peering.0 (Some (Live s (Some (Leaving ids)))) there in
-      let else_ : (n : ℕ) → n ≢ peering.0 → place_at g.places.places n ≡ place_at f.places.places n = λ n not. ap (λ (xs : List (Option Place)). place_at xs n) (listed held) ∙ placed_else f.places.places peering.0 (Some (Live s (Some (Leaving ids)))) n not in
+      let here : place_at g.places.places peering.0 ≡ Some (Live s (Some (Leaving ids))) = ap (λ (xs : List (Option Place)). place_at xs peering.0)
+      (listed held) ∙ placed_here f.places.places peering.0 (Some (Live s (Some (Leaving ids)))) there in
+      let else_ : (n : ℕ) → n ≢ peering.0 → place_at g.places.places n ≡ place_at f.places.places n = λ n not.
+      ap (λ (xs : List (Option Place)). place_at xs n) (listed held) ∙ placed_else f.places.places peering.0 (Some (Live s (Some (Leaving ids)))) n not in
       takes_then f g g p q q from (items.GraftOrder k peering target) (Admit k) []
       (record {
         router = record { setup = ap (λ (h : Fields). h.known.setup) same; number = ap (λ (h : Fields). h.number) same };
@@ -119,8 +124,10 @@ module _ (f : Fields) (p q : Post (Item RunningSession)) (from k : ℕ) (peering
           live = record { is = ap place_of free };
           effect = ap router_part same
               ∙ ap (λ (xs : List (Option Place)). let v : RouterPart = record (router_part f) { places = λ n. place_of (place_at xs n) } in v) (listed held)
-              ∙ ap (λ (ps : ℕ → model.Place). let v : RouterPart = record (router_part f) { places = ps } in v) (places_at f.places.places peering.0 (Some (Live s (Some (Leaving ids)))) there)
-              ∙ ap (λ (o : GraftIds). let v : RouterPart = record (router_part f) { places = at (router_part f).places peering.0 (model.Live s.session (Some (model.Leaving (order_of o)))) } in v) is;
+              ∙ ap (λ (ps : ℕ → model.Place). let v : RouterPart = record (router_part f) { places = ps } in v)
+              (places_at f.places.places peering.0 (Some (Live s (Some (Leaving ids)))) there)
+              ∙ ap (λ (o : GraftIds). let v : RouterPart =
+              record (router_part f) { places = at (router_part f).places peering.0 (model.Live s.session (Some (model.Leaving (order_of o)))) } in v) is;
         };
         sends = refl;
         known = tt;
@@ -146,13 +153,17 @@ module _ (f : Fields) (p q : Post (Item RunningSession)) (from k : ℕ) (peering
         config = ap (λ (h : Fields). h.rib.config) same;
         tellings = λ n out. ap (λ (h : Fields). (rib_of h.rib).tellings n) same;
       })
-      (λ n. subst (λ (h : Fields). KeepsPlace f.known.setup f.number.0 n ((rib_of h.rib).entries n) (table_at h.due_out n) (place_at g.places.places n)) (sym same)
+      (λ n. subst (λ (h : Fields). KeepsPlace f.known.setup f.number.0 n ((rib_of h.rib).entries n) (table_at h.due_out n) (place_at g.places.places n))
+      (sym same)
       (elim (one_or_other peering.0 n) [
         | inl e ↦
             subst (λ (m : ℕ). KeepsPlace f.known.setup f.number.0 m ((rib_of f.rib).entries m) (table_at f.due_out m) (place_at g.places.places m)) (sym e)
-            (subst (λ (x : Option Place). KeepsPlace f.known.setup f.number.0 peering.0 ((rib_of f.rib).entries peering.0) (table_at f.due_out peering.0) x) (sym here)
-            (with_order (subst (λ (x : Option Place). KeepsPlace f.known.setup f.number.0 peering.0 ((rib_of f.rib).entries peering.0) (table_at f.due_out peering.0) x) free (keeps.each peering.0))))
-        | inr not ↦ subst (λ (x : Option Place). KeepsPlace f.known.setup f.number.0 n ((rib_of f.rib).entries n) (table_at f.due_out n) x) (sym (else_ n not)) (keeps.each n)
+            (subst (λ (x : Option Place). KeepsPlace f.known.setup f.number.0 peering.0 ((rib_of f.rib).entries peering.0) (table_at f.due_out peering.0) x)
+            (sym here)
+            (with_order (subst (λ (x : Option Place). KeepsPlace f.known.setup f.number.0 peering.0
+            ((rib_of f.rib).entries peering.0) (table_at f.due_out peering.0) x) free (keeps.each peering.0))))
+        | inr not ↦ subst (λ (x : Option Place). KeepsPlace f.known.setup f.number.0 n ((rib_of f.rib).entries n) (table_at f.due_out n) x)
+            (sym (else_ n not)) (keeps.each n)
       ])))
     where
       live_same : (u v : RunningSession) (o w : Option Errand) → Some (Live u o) ≡ Some (Live s None)
@@ -196,9 +207,12 @@ module _ (f : Fields) (p q : Post (Item RunningSession)) (from k : ℕ) (peering
       let at_from : actor_at f.known.setup from ≡ Some (Router from) = is_there f.known.setup (Router from) known in
       let is_to : to ≡ routers_in f.known.setup + peerings_in f.known.setup = omega (arith, to_is, keeps.routers, keeps.places) in
       let shadow : place_of (place_at f.places.places peering.0) ≡ model.Shadow k = ap place_of away.is ∙ ap model.Shadow away.graft in
-      let here : place_at g.places.places peering.0 ≡ None = ap (λ (xs : List (Option Place)). place_at xs peering.0) (listed held) ∙ placed_here f.places.places peering.0 None there in
-      let else_ : (n : ℕ) → n ≢ peering.0 → place_at g.places.places n ≡ place_at f.places.places n = λ n not. ap (λ (xs : List (Option Place)). place_at xs n) (listed held) ∙ placed_else f.places.places peering.0 None n not in
-      let entries_else : (n : ℕ) → n ≢ peering.0 → (rib_of g.rib).entries n ≡ (rib_of f.rib).entries n = λ n not. ap (λ (v : RibValue). v.entries n) gone.effect ∙ at_else (rib_of f.rib).entries peering.0 ((rib_of g.rib).entries peering.0) n not in
+      let here : place_at g.places.places peering.0 ≡ None =
+      ap (λ (xs : List (Option Place)). place_at xs peering.0) (listed held) ∙ placed_here f.places.places peering.0 None there in
+      let else_ : (n : ℕ) → n ≢ peering.0 → place_at g.places.places n ≡ place_at f.places.places n =
+      λ n not. ap (λ (xs : List (Option Place)). place_at xs n) (listed held) ∙ placed_else f.places.places peering.0 None n not in
+      let entries_else : (n : ℕ) → n ≢ peering.0 → (rib_of g.rib).entries n ≡ (rib_of f.rib).entries n =
+      λ n not. ap (λ (v : RibValue). v.entries n) gone.effect ∙ at_else (rib_of f.rib).entries peering.0 ((rib_of g.rib).entries peering.0) n not in
       takes_then f g g p q q from (items.Done k peering) (Clear from) []
       (record {
         router = record { setup = ap (λ (h : Fields). h.known.setup) same; number = ap (λ (h : Fields). h.number) same };
@@ -221,7 +235,11 @@ module _ (f : Fields) (p q : Post (Item RunningSession)) (from k : ℕ) (peering
               ∙ (λ i. let v : RouterPart = record (with_routes (router_part f) (gone.effect i)) {
                 places = (ap (λ (xs : List (Option Place)). (λ n. place_of (place_at xs n))) (listed held) ∙ places_at f.places.places peering.0 None there) i;
               } in v)
-              ∙ ap (λ (es : Entries). let v : RouterPart = record (router_part f) { places = at (router_part f).places peering.0 model.Vacant; entries = at (rib_of f.rib).entries peering.0 es; dirty = g.rib.dirty } in v) none;
+              ∙ ap (λ (es : Entries). let v : RouterPart = record (router_part f) {
+                places = at (router_part f).places peering.0 model.Vacant;
+                entries = at (rib_of f.rib).entries peering.0 es;
+                dirty = g.rib.dirty;
+              } in v) none;
         };
         sends = ap (λ (n : ℕ). (n, ReportItem (record { graft = k; outcome = Accepted })) ∷ []) is_to;
         known = (tt, tt);
@@ -246,15 +264,19 @@ module _ (f : Fields) (p q : Post (Item RunningSession)) (from k : ℕ) (peering
         config = ap (λ (v : RibValue). v.config) gone.effect;
         tellings = λ n out. ap (λ (v : RibValue). v.tellings n) gone.effect;
       })
-      (λ n. subst (λ (h : Fields). KeepsPlace f.known.setup f.number.0 n ((rib_of g.rib).entries n) (table_at h.due_out n) (place_at g.places.places n)) (sym same)
+      (λ n. subst (λ (h : Fields). KeepsPlace f.known.setup f.number.0 n ((rib_of g.rib).entries n) (table_at h.due_out n) (place_at g.places.places n))
+      (sym same)
       (elim (one_or_other peering.0 n) [
         | inl e ↦
             subst (λ (m : ℕ). KeepsPlace f.known.setup f.number.0 m ((rib_of g.rib).entries m) (table_at f.due_out m) (place_at g.places.places m)) (sym e)
-            (subst (λ (x : Option Place). KeepsPlace f.known.setup f.number.0 peering.0 ((rib_of g.rib).entries peering.0) (table_at f.due_out peering.0) x) (sym here)
-            (emptied away.away (subst (λ (x : Option Place). KeepsPlace f.known.setup f.number.0 peering.0 ((rib_of f.rib).entries peering.0) (table_at f.due_out peering.0) x) away.is (keeps.each peering.0))))
+            (subst (λ (x : Option Place). KeepsPlace f.known.setup f.number.0 peering.0 ((rib_of g.rib).entries peering.0) (table_at f.due_out peering.0) x)
+            (sym here)
+            (emptied away.away (subst (λ (x : Option Place). KeepsPlace f.known.setup f.number.0 peering.0
+            ((rib_of f.rib).entries peering.0) (table_at f.due_out peering.0) x) away.is (keeps.each peering.0))))
         | inr not ↦
             subst (λ (x : Option Place). KeepsPlace f.known.setup f.number.0 n ((rib_of g.rib).entries n) (table_at f.due_out n) x) (sym (else_ n not))
-            (subst (λ (es : Entries). KeepsPlace f.known.setup f.number.0 n es (table_at f.due_out n) (place_at f.places.places n)) (sym (entries_else n not)) (keeps.each n))
+            (subst (λ (es : Entries). KeepsPlace f.known.setup f.number.0 n es (table_at f.due_out n) (place_at f.places.places n))
+            (sym (entries_else n not)) (keeps.each n))
       ])))
     where
       nothing : (x : Rattle.bgp_types.specs.Prefixes.PrefixValue)

@@ -30,12 +30,14 @@ use Rattle.router_core.proofs.Takings.{drops, is_router, all_stay, takes_then}
 module _ (f : Fields) (p q : Post (Item RunningSession)) (from : ℕ) (prefix : PrefixValue) (route : Option Route) (keeps : RouterInvariant f) where
   pub drops_told : f.routers ≤ from → WroteOne p dropped [] q → RouterTakesIt from (items.Told prefix route) f p f q
   drops_told past wrote = drops f p q from (items.Told prefix route) keeps wrote
-      (λ w. let below : from < routers_in f.known.setup = is_router f.known.setup from ((router_told carried f.known.setup from f.number.0 (router_part f) prefix route).0 w) in omega (arith, below, past, keeps.routers))
+      (λ w. let below : from < routers_in f.known.setup = is_router f.known.setup from
+      ((router_told carried f.known.setup from f.number.0 (router_part f) prefix route).0 w) in omega (arith, below, past, keeps.routers))
 
   pub hears : (g : Fields) (m : ℕ) → m ≡ from → from < f.routers → WritesEvent p (Hear from) [] q → g ≡ record f { rib = g.rib }
       → SetsTelling (rib_of f.rib) m prefix route (rib_of g.rib) → RouterTakesIt from (items.Told prefix route) f p g q
   hears g m is below wrote same given =
-      let sets : SetsTelling (rib_of f.rib) from prefix route (rib_of g.rib) = subst (λ (n : ℕ). SetsTelling (rib_of f.rib) n prefix route (rib_of g.rib)) is given in
+      let sets : SetsTelling (rib_of f.rib) from prefix route (rib_of g.rib) =
+      subst (λ (n : ℕ). SetsTelling (rib_of f.rib) n prefix route (rib_of g.rib)) is given in
       let known : from < routers_in f.known.setup = omega (arith, below, keeps.routers) in
       let at : actor_at f.known.setup from ≡ Some (Router from) = there f.known.setup (Router from) known in
       takes_then f g g p q q from (items.Told prefix route) (Hear from) []
@@ -76,7 +78,10 @@ module _ (f : Fields) (p q : Post (Item RunningSession)) (from : ℕ) (prefix : 
         due_out = ap (λ (h : Fields). length h.due_out) same;
         config = ap (λ (v : RibValue). v.config) sets.effect;
         tellings = λ n out. ap (λ (v : RibValue). v.tellings n) sets.effect
-            ∙ at_else (rib_of f.rib).tellings from (with_value ((rib_of f.rib).tellings from) prefix route) n (λ e. let x : ⊥ = omega (arith, e, out, known) in x);
+            ∙ at_else (rib_of f.rib).tellings from (with_value ((rib_of f.rib).tellings from) prefix route) n
+            (λ e. let x : ⊥ = omega (arith, e, out, known) in x);
       })
-      (λ n. subst (λ (h : Fields). KeepsPlace f.known.setup f.number.0 n ((rib_of g.rib).entries n) (table_at h.due_out n) (place_at h.places.places n)) (sym same)
-      (subst (λ (es : Entries). KeepsPlace f.known.setup f.number.0 n es (table_at f.due_out n) (place_at f.places.places n)) (sym (ap (λ (v : RibValue). v.entries n) sets.effect)) (keeps.each n))))
+      (λ n. subst (λ (h : Fields). KeepsPlace f.known.setup f.number.0 n ((rib_of g.rib).entries n) (table_at h.due_out n) (place_at h.places.places n))
+      (sym same)
+      (subst (λ (es : Entries). KeepsPlace f.known.setup f.number.0 n es (table_at f.due_out n) (place_at f.places.places n))
+      (sym (ap (λ (v : RibValue). v.entries n) sets.effect)) (keeps.each n))))

@@ -54,7 +54,8 @@ placed_else places p x q not = get_or-set_other places p q x None not
 -- the places of the part
 pub places_at : (places : List (Option Place)) (p : ℕ) (x : Option Place) → p < length places
     → (λ q. place_of (place_at (set places p x) q)) ≡ at (λ q. place_of (place_at places q)) p (place_of x)
-places_at places p x there = at_is (λ q. place_of (place_at places q)) (λ q. place_of (place_at (set places p x) q)) p (place_of x) (ap place_of (placed_here places p x there)) (λ q not. ap place_of (placed_else places p x q not))
+places_at places p x there = at_is (λ q. place_of (place_at places q)) (λ q. place_of (place_at (set places p x) q)) p
+    (place_of x) (ap place_of (placed_here places p x there)) (λ q not. ap place_of (placed_else places p x q not))
 
 -- ---- what is kept
 
@@ -97,7 +98,8 @@ module _ {Each : ℕ → Type 0} (f g : Fields) (k : KeepsWith Each f) (steady :
 
   pub keeps_on : ((p : ℕ) → KeepsPlace f.known.setup f.number.0 p ((rib_of g.rib).entries p) (table_at g.due_out p) (place_at g.places.places p))
       → RouterInvariant g
-  keeps_on each = keeps_with (KeepsAt g) (λ p. subst (λ (h : Fields). KeepsPlace h.known.setup h.number.0 p ((rib_of g.rib).entries p) (table_at g.due_out p) (place_at g.places.places p)) (sym steady) (each p))
+  keeps_on each = keeps_with (KeepsAt g) (λ p. subst (λ (h : Fields).
+      KeepsPlace h.known.setup h.number.0 p ((rib_of g.rib).entries p) (table_at g.due_out p) (place_at g.places.places p)) (sym steady) (each p))
 
 -- ---- the part with other routes
 

@@ -1,5 +1,6 @@
 -- A session that moves here: whether it is taken in, and how it lands.
-use Rattle.std.proofs.Common.{◌≡◌, ℕ, suc, ◌+◌, ◌<◌, List, [], ◌∷◌, length, get_or, Bool, true, false, Option, Some, None, is_some, inl, inr, refl, sym, ap, ◌∙◌, arith}
+use Rattle.std.proofs.Common.{◌≡◌, ℕ, suc, ◌+◌, ◌<◌, List, [], ◌∷◌, length, get_or, Bool, true, false}
+use Rattle.std.proofs.Common.{Option, Some, None, is_some, inl, inr, refl, sym, ap, ◌∙◌, arith}
 use Rattle.std.specs.Prelude.{count_by, filter, is_none, nat_le, option_map, if◌then◌else◌}
 use Rattle.std.proofs.lemmas.Bool.{cases_lt, le-leb}
 use Rattle.std.specs.FinMap as map
@@ -53,7 +54,8 @@ count_from g (x ∷ xs) k same =
 
 pub taken_is : (f : Fields) → RouterInvariant f → count_by is_some f.places.places ≡ taken_in f.known.setup (router_part f)
 taken_is f keeps =
-    sym (count_from (λ n. is_taken (place_of (place_at f.places.places n))) f.places.places 0 (λ i below. ap (λ (n : ℕ). is_taken (place_of (place_at f.places.places n))) (let e : 0 + i ≡ i = omega arith in e) ∙ held_is (place_at f.places.places i)))
+    sym (count_from (λ n. is_taken (place_of (place_at f.places.places n))) f.places.places 0 (λ i below.
+    ap (λ (n : ℕ). is_taken (place_of (place_at f.places.places n))) (let e : 0 + i ≡ i = omega arith in e) ∙ held_is (place_at f.places.places i)))
     ∙ ap (λ (n : ℕ). length (filter (λ p. is_taken (place_of (place_at f.places.places p))) (range_with_len 0 n))) keeps.places
 
 -- ---- why a session isn't taken in
@@ -64,12 +66,15 @@ unknown_is f (Some name) keeps = ap (λ (o : Option (List Rule)). if is_none o t
 
 pub refusal_is : (f : Fields) (s : SessionValue) → RouterInvariant f
     → admit_refusal (count_by is_some f.places.places) f.room (missing_by f.policies s.config) ≡ refusal_of f.known.setup f.number.0 (router_part f) s
-refusal_is f s keeps = λ i. admit_refusal (taken_is f keeps i) (keeps.room i) (first_name (unknown_is f s.config.import keeps i) (unknown_is f s.config.export keeps i))
+refusal_is f s keeps =
+    λ i. admit_refusal (taken_is f keeps i) (keeps.room i) (first_name (unknown_is f s.config.import keeps i) (unknown_is f s.config.export keeps i))
 
 -- ---- what lands brings in
 
 none_brought : (f : Fields) (s : SessionValue) (x : PrefixValue) → map.get s.adj_rib_in x ≡ None → entry_of f.known.setup f.number.0 s x ≡ None
-none_brought f s x e = ap (λ (h : Option Attrs). option_map (λ route. let v : Entry = record { route = route; identifier = remote_identifier s; address = s.config.remote_address } in v) (imported f.known.setup.home_as x (session_route f.known.setup f.number.0 s x) h)) e
+none_brought f s x e = ap (λ (h : Option Attrs).
+    option_map (λ route. let v : Entry = record { route = route; identifier = remote_identifier s; address = s.config.remote_address } in v)
+    (imported f.known.setup.home_as x (session_route f.known.setup f.number.0 s x) h)) e
 
 no_value : {A : Type 0} (o : Option A) → is_some o ≡ false → o ≡ None
 no_value None e = refl
@@ -91,4 +96,5 @@ has_room held room missing none = by_test (nat_le room held) refl none
   where
     by_test : (b : Bool) → nat_le room held ≡ b → (if b then Some (RouterFull room) else option_map PolicyMissing missing) ≡ None → held < room
     by_test true e passes = absurd (let x : ⊥ = cc in x)
-    by_test false e passes = elim (cases_lt held room) [ inl below ↦ below | inr from ↦ absurd (let y : ◌≡◌ {A = Bool} true false = sym (le-leb room held from) ∙ e in let x : ⊥ = cc in x) ]
+    by_test false e passes = elim (cases_lt held
+        room) [ inl below ↦ below | inr from ↦ absurd (let y : ◌≡◌ {A = Bool} true false = sym (le-leb room held from) ∙ e in let x : ⊥ = cc in x) ]

@@ -65,7 +65,8 @@ unrefused source target from hold none = by_router (target.0 == source.0) from n
     by_router false Established e = refl
     by_router false Closed e = absurd (let x : ⊥ = cc in x)
 
-module _ (f g : Fields) (p q : Post (Item RunningSession)) (n : ℕ) (s : RunningSession) (ids : GraftIds) (keeps : RouterInvariant f) (there : n < length f.places.places) (is : place_at f.places.places n ≡ Some (Live s (Some (Leaving ids)))) where
+module _ (f g : Fields) (p q : Post (Item RunningSession)) (n : ℕ) (s : RunningSession) (ids : GraftIds) (keeps : RouterInvariant f)
+    (there : n < length f.places.places) (is : place_at f.places.places n ≡ Some (Live s (Some (Leaving ids)))) where
   place_is : KeepsPlace f.known.setup f.number.0 n ((rib_of f.rib).entries n) (table_at f.due_out n) (Some (Live s (Some (Leaving ids))))
   place_is = subst (KeepsPlace f.known.setup f.number.0 n ((rib_of f.rib).entries n) (table_at f.due_out n)) is (keeps.each n)
 
@@ -81,13 +82,17 @@ module _ (f g : Fields) (p q : Post (Item RunningSession)) (n : ℕ) (s : Runnin
 
   -- ---- it is refused
 
-  module _ (refusal : Refusal) (cause : freeze_refusal ids.source ids.target (state s.session) (hold_time s.session) ≡ Some refusal) (same : SameButPlaces f g) (items_are : g.places ≡ with_place f.places n (Some (Live s None)))
-      (wrote : WritesEvent p (Refuse ids.graft) ((routers_in f.known.setup + peerings_in f.known.setup, items.Report ids.graft (outcomes.Refused refusal)) ∷ []) q) where
-    sends_report : Sends f (routers_in f.known.setup + peerings_in f.known.setup) (items.Report ids.graft (outcomes.Refused refusal)) (ReportOut (record { graft = ids.graft; outcome = outcomes.Refused refusal }))
+  module _ (refusal : Refusal) (cause : freeze_refusal ids.source ids.target (state s.session) (hold_time s.session) ≡ Some refusal)
+      (same : SameButPlaces f g) (items_are : g.places ≡ with_place f.places n (Some (Live s None)))
+      (wrote : WritesEvent p (Refuse ids.graft)
+      ((routers_in f.known.setup + peerings_in f.known.setup, items.Report ids.graft (outcomes.Refused refusal)) ∷ []) q) where
+    sends_report : Sends f (routers_in f.known.setup + peerings_in f.known.setup) (items.Report ids.graft (outcomes.Refused refusal))
+        (ReportOut (record { graft = ids.graft; outcome = outcomes.Refused refusal }))
     sends_report = record { name = Operator; known = tt; number = refl; thing = refl; may = tt }
 
     did_refuse : (t : ℕ → Tally) → DidAsRouter f p t (Refuse ids.graft ∷ []) g q t
-    did_refuse t = did_sent f g p q t (Refuse ids.graft) (routers_in f.known.setup + peerings_in f.known.setup) (items.Report ids.graft (outcomes.Refused refusal)) (ReportOut (record { graft = ids.graft; outcome = outcomes.Refused refusal }))
+    did_refuse t = did_sent f g p q t (Refuse ids.graft) (routers_in f.known.setup + peerings_in f.known.setup)
+        (items.Report ids.graft (outcomes.Refused refusal)) (ReportOut (record { graft = ids.graft; outcome = outcomes.Refused refusal }))
         (record { setup = ap (λ (h : Fields). h.known.setup) same; number = ap (λ (h : Fields). h.number) same }) wrote sends_report
         (record {
           peering = n;
@@ -118,14 +123,23 @@ module _ (f g : Fields) (p q : Post (Item RunningSession)) (n : ℕ) (s : Runnin
   abbrev mid : RouterPart
   mid = record (router_part f) { places = at (router_part f).places n (model.Frozen s.session (order_of ids)) }
 
-  module _ (m : Post (Item RunningSession)) (no_cause : freeze_refusal ids.source ids.target (state s.session) (hold_time s.session) ≡ None) (same : SameButLeaving f g) (items_are : g.places ≡ with_place f.places n (Some (Shadow ids)))
+  module _ (m : Post (Item RunningSession)) (no_cause : freeze_refusal ids.source ids.target (state s.session) (hold_time s.session) ≡ None)
+      (same : SameButLeaving f g) (items_are : g.places ≡ with_place f.places n (Some (Shadow ids)))
       (due : table_at g.due_out ≡ at (table_at f.due_out) n map.empty) (sizes : length g.due_out ≡ length f.due_out)
       (first : WritesEvent p (Freeze ids.graft) [] m) (second : WritesEvent m (Leave ids.graft) ((ids.target.0, items.Moved ids.graft s) ∷ []) q) where
     same_router : SameRouter f g
     same_router = record { setup = ap (λ (h : Fields). h.known.setup) same; number = ap (λ (h : Fields). h.number) same }
 
     freezes : Freezes f.number.0 ids.graft (router_part f) None [] mid
-    freezes = record { alone = (refl, refl); peering = n; target = ids.target.0; session = s.session; live = record { is = part_is }; no_cause = cause_is None no_cause; effect = refl }
+    freezes = record {
+      alone = (refl, refl);
+      peering = n;
+      target = ids.target.0;
+      session = s.session;
+      live = record { is = part_is };
+      no_cause = cause_is None no_cause;
+      effect = refl;
+    }
 
     -- it leaves a shadow, and nothing is due
     effect : router_part g ≡ record mid { places = at mid.places n (model.Shadow ids.graft); due_out = at mid.due_out n map.empty }
@@ -164,13 +178,18 @@ module _ (f g : Fields) (p q : Post (Item RunningSession)) (n : ℕ) (s : Runnin
       known = graft_is.target;
       number = refl;
       thing = ap (λ (k : ℕ). (Router ids.target.0, MeshItem (Moved ids.graft k s.session))) (sym place_is.0.peering);
-      may = record { established = established_is; sends = place_is.0.sends ∙ ap (home_first f.known.setup) (sym place_is.0.peering); receives = place_is.0.receives ∙ ap (remote_first f.known.setup) (sym place_is.0.peering) };
+      may = record {
+        established = established_is;
+        sends = place_is.0.sends ∙ ap (home_first f.known.setup) (sym place_is.0.peering);
+        receives = place_is.0.receives ∙ ap (remote_first f.known.setup) (sym place_is.0.peering);
+      };
     }
 
     did_leave : (t : ℕ → Tally) → DidAsRouter f p t (Freeze ids.graft ∷ Leave ids.graft ∷ []) g q t
     did_leave t = record {
       router = same_router;
-      deeds = deed_of p (router_code (Freeze ids.graft)) None [] ∷ deed_of m (router_code (Leave ids.graft)) None ((ids.target.0, items.Moved ids.graft s) ∷ []) ∷ [];
+      deeds = deed_of p (router_code (Freeze ids.graft)) None []
+          ∷ deed_of m (router_code (Leave ids.graft)) None ((ids.target.0, items.Moved ids.graft s) ∷ []) ∷ [];
       wrote = wrote_then p m q _ _ (first None) (second None);
       none = (refl, (refl, tt));
       coded = (has_code p (Freeze ids.graft) None [], (has_code m (Leave ids.graft) None [], tt));
@@ -181,7 +200,16 @@ module _ (f g : Fields) (p q : Post (Item RunningSession)) (n : ℕ) (s : Runnin
           name = refl;
           does = inl (record {
             welcome = tt;
-            row = record { event = Freeze ids.graft; coded = has_code p (Freeze ids.graft) None []; took = None; gave = []; holds = freezes; is_taken = refl; is_sent = refl; there = tt };
+            row = record {
+              event = Freeze ids.graft;
+              coded = has_code p (Freeze ids.graft) None [];
+              took = None;
+              gave = [];
+              holds = freezes;
+              is_taken = refl;
+              is_sent = refl;
+              there = tt;
+            };
             fit = tt;
           });
         },
@@ -202,7 +230,14 @@ module _ (f g : Fields) (p q : Post (Item RunningSession)) (n : ℕ) (s : Runnin
                 is_sent = ap (λ x. x ∷ []) (sends_is f ids.target.0 (items.Moved ids.graft s) (MeshTo ids.target.0 (Moved ids.graft n s.session)) sends_moved);
                 there = (sends_name f ids.target.0 (items.Moved ids.graft s) (MeshTo ids.target.0 (Moved ids.graft n s.session)) sends_moved, tt);
               };
-              fit = ((sends_moved.name, sends_at f ids.target.0 (items.Moved ids.graft s) (MeshTo ids.target.0 (Moved ids.graft n s.session)) sends_moved, sends_moved.may), tt);
+              fit = (
+                (
+                  sends_moved.name,
+                  sends_at f ids.target.0 (items.Moved ids.graft s) (MeshTo ids.target.0 (Moved ids.graft n s.session)) sends_moved,
+                  sends_moved.may,
+                ),
+                tt,
+              );
             });
           },
           refl,
@@ -213,7 +248,8 @@ module _ (f g : Fields) (p q : Post (Item RunningSession)) (n : ℕ) (s : Runnin
 
     -- nothing is due on it
     keeps_left : RouterInvariant g
-    keeps_left = keeps_on f g keeps (subst (λ (h : Fields). h ≡ record f { places = h.places; rib = h.rib; due_in = h.due_in; due_out = h.due_out; turns = h.turns }) (sym same) refl)
+    keeps_left = keeps_on f g keeps
+        (subst (λ (h : Fields). h ≡ record f { places = h.places; rib = h.rib; due_in = h.due_in; due_out = h.due_out; turns = h.turns }) (sym same) refl)
         (record {
           places = ap length (listed items_are) ∙ length-set f.places.places n (Some (Shadow ids));
           reserved = rooms items_are;
@@ -222,29 +258,39 @@ module _ (f g : Fields) (p q : Post (Item RunningSession)) (n : ℕ) (s : Runnin
           config = ap (λ (h : Fields). h.rib.config) same;
           tellings = λ q out. ap (λ (h : Fields). (rib_of h.rib).tellings q) same;
         })
-        (λ k. subst (λ (h : Fields). KeepsPlace f.known.setup f.number.0 k ((rib_of h.rib).entries k) (table_at g.due_out k) (place_at g.places.places k)) (sym same)
+        (λ k. subst (λ (h : Fields). KeepsPlace f.known.setup f.number.0 k ((rib_of h.rib).entries k) (table_at g.due_out k) (place_at g.places.places k))
+        (sym same)
         (subst (λ (d : ℕ → Prefixes). KeepsPlace f.known.setup f.number.0 k ((rib_of f.rib).entries k) (d k) (place_at g.places.places k)) (sym due)
-        (subst (λ (xs : List (Option Place)). KeepsPlace f.known.setup f.number.0 k ((rib_of f.rib).entries k) (at (table_at f.due_out) n map.empty k) (place_at xs k)) (sym (listed items_are)) (each k))))
+        (subst (λ (xs : List (Option Place)). KeepsPlace f.known.setup f.number.0 k ((rib_of f.rib).entries k)
+        (at (table_at f.due_out) n map.empty k) (place_at xs k)) (sym (listed items_are)) (each k))))
       where
         each : (k : ℕ)
-            → KeepsPlace f.known.setup f.number.0 k ((rib_of f.rib).entries k) (at (table_at f.due_out) n map.empty k) (place_at (set f.places.places n (Some (Shadow ids))) k)
+            → KeepsPlace f.known.setup f.number.0 k ((rib_of f.rib).entries k)
+            (at (table_at f.due_out) n map.empty k) (place_at (set f.places.places n (Some (Shadow ids))) k)
         each k = elim (same_or_not n k) [
           | inl e ↦
-              subst (λ (j : ℕ). KeepsPlace f.known.setup f.number.0 j ((rib_of f.rib).entries j) (at (table_at f.due_out) n map.empty j) (place_at (set f.places.places n (Some (Shadow ids))) j)) (sym e)
-              (subst (λ (x : Option Place). KeepsPlace f.known.setup f.number.0 n ((rib_of f.rib).entries n) (at (table_at f.due_out) n map.empty n) x) (sym (set_here f.places.places n (Some (Shadow ids)) there))
+              subst (λ (j : ℕ). KeepsPlace f.known.setup f.number.0 j ((rib_of f.rib).entries j)
+              (at (table_at f.due_out) n map.empty j) (place_at (set f.places.places n (Some (Shadow ids))) j)) (sym e)
+              (subst (λ (x : Option Place). KeepsPlace f.known.setup f.number.0 n ((rib_of f.rib).entries n) (at (table_at f.due_out) n map.empty n) x)
+              (sym (set_here f.places.places n (Some (Shadow ids)) there))
               (graft_is, λ x. ap (λ (d : Prefixes). has d x) (at_here (table_at f.due_out) n map.empty n refl) ∙ none_in x))
           | inr not ↦
-              subst (λ (x : Option Place). KeepsPlace f.known.setup f.number.0 k ((rib_of f.rib).entries k) (at (table_at f.due_out) n map.empty k) x) (sym (set_other f.places.places n (Some (Shadow ids)) there k not))
-              (subst (λ (d : Prefixes). KeepsPlace f.known.setup f.number.0 k ((rib_of f.rib).entries k) d (place_at f.places.places k)) (sym (at_other (table_at f.due_out) n map.empty k not)) (keeps.each k))
+              subst (λ (x : Option Place). KeepsPlace f.known.setup f.number.0 k ((rib_of f.rib).entries k) (at (table_at f.due_out) n map.empty k) x)
+              (sym (set_other f.places.places n (Some (Shadow ids)) there k not))
+              (subst (λ (d : Prefixes). KeepsPlace f.known.setup f.number.0 k ((rib_of f.rib).entries k) d (place_at f.places.places k))
+              (sym (at_other (table_at f.due_out) n map.empty k not)) (keeps.each k))
         ]
 
     left : Visits beginning_grafts n f p g q
     left = record {
       events = Freeze ids.graft ∷ Leave ids.graft ∷ [];
-      did = λ t. subst (λ (u : ℕ → Tally). DidAsRouter f p t (Freeze ids.graft ∷ Leave ids.graft ∷ []) g q u) (λ i k. sym (at_own t n (t n) refl k) i) (did_leave t);
+      did = λ t. subst (λ (u : ℕ → Tally). DidAsRouter f p t (Freeze ids.graft ∷ Leave ids.graft ∷ []) g q u)
+          (λ i k. sym (at_own t n (t n) refl k) i) (did_leave t);
       at = (refl, (refl, tt));
-      goes = subst (λ (x : Option Place). GraftGoes x (place_at g.places.places n)) (sym is) (inr (ap (λ (xs : List (Option Place)). place_at xs n) (listed items_are) ∙ set_here f.places.places n (Some (Shadow ids)) there));
-      others = λ k not. (ap (λ (xs : List (Option Place)). place_at xs k) (listed items_are) ∙ set_other f.places.places n (Some (Shadow ids)) there k not, refl);
+      goes = subst (λ (x : Option Place). GraftGoes x (place_at g.places.places n)) (sym is)
+          (inr (ap (λ (xs : List (Option Place)). place_at xs n) (listed items_are) ∙ set_here f.places.places n (Some (Shadow ids)) there));
+      others = λ k not.
+          (ap (λ (xs : List (Option Place)). place_at xs k) (listed items_are) ∙ set_other f.places.places n (Some (Shadow ids)) there k not, refl);
       same = same;
       keeps = keeps_left;
     }
@@ -273,8 +319,10 @@ module _ (f g : Fields) (p q : Post (Item RunningSession)) (n : ℕ) (x : Option
       → (y : Option Place) → place_at f.places.places n ≡ y → BegunAs y (Refused named refusal) x → Visits beginning_grafts n f p g q
   begins_refused same items_are named refusal wrote None is begun = absurd begun
   begins_refused same items_are named refusal wrote (Some (Live s None)) is begun = absurd begun
-  begins_refused same items_are named refusal wrote (Some (Live s (Some (Leaving ids)))) is begun = refused f g p q n s ids keeps there is refusal begun.1 same (items_are ∙ ap (with_place f.places n) begun.2)
-      (subst (λ (k : GraftIds). WritesEvent p (Refuse k.graft) ((routers_in f.known.setup + peerings_in f.known.setup, items.Report k.graft (outcomes.Refused refusal)) ∷ []) q) begun.0 wrote)
+  begins_refused same items_are named refusal wrote (Some (Live s (Some (Leaving ids)))) is begun =
+      refused f g p q n s ids keeps there is refusal begun.1 same (items_are ∙ ap (with_place f.places n) begun.2)
+      (subst (λ (k : GraftIds). WritesEvent p (Refuse k.graft)
+      ((routers_in f.known.setup + peerings_in f.known.setup, items.Report k.graft (outcomes.Refused refusal)) ∷ []) q) begun.0 wrote)
   begins_refused same items_are named refusal wrote (Some (Live s (Some (Owing landing)))) is begun = absurd begun
   begins_refused same items_are named refusal wrote (Some (Live s (Some (Asking landing)))) is begun = absurd begun
   begins_refused same items_are named refusal wrote (Some (Shadow away)) is begun = absurd begun
@@ -286,7 +334,8 @@ module _ (f g : Fields) (p q : Post (Item RunningSession)) (n : ℕ) (x : Option
       → (y : Option Place) → place_at f.places.places n ≡ y → BegunAs y (Left named capsule) x → Visits beginning_grafts n f p g q
   begins_left m same items_are due sizes named capsule first second None is begun = absurd begun
   begins_left m same items_are due sizes named capsule first second (Some (Live s None)) is begun = absurd begun
-  begins_left m same items_are due sizes named capsule first second (Some (Live s (Some (Leaving ids)))) is begun = left f g p q n s ids keeps there is m begun.1 same (items_are ∙ ap (with_place f.places n) begun.3) due sizes
+  begins_left m same items_are due sizes named capsule first second (Some (Live s (Some (Leaving ids)))) is begun =
+      left f g p q n s ids keeps there is m begun.1 same (items_are ∙ ap (with_place f.places n) begun.3) due sizes
       (subst (λ (k : GraftIds). WritesEvent p (Freeze k.graft) [] m) begun.0 first)
       (subst (λ (c : RunningSession). WritesEvent m (Leave ids.graft) ((ids.target.0, items.Moved ids.graft c) ∷ []) q) begun.2
       (subst (λ (k : GraftIds). WritesEvent m (Leave k.graft) ((k.target.0, items.Moved k.graft capsule) ∷ []) q) begun.0 second))

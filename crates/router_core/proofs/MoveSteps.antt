@@ -44,7 +44,8 @@ vacant_of (Some (Shadow away)) e = absurd (let x : ⊥ = cc in x)
 
 -- a session that isn't a router's, or whose place is taken, or that isn't on its way
 pub drops_moved : (f : Fields) (a b : Post (Item RunningSession)) (from k : ℕ) (s : RunningSession) → RouterInvariant f
-    → (from < f.routers → s.session.config.peering.0 < length f.places.places → place_at f.places.places s.session.config.peering.0 ≡ None → IsOnItsWay f.known.setup s.session → ⊥)
+    → (from < f.routers → s.session.config.peering.0 < length f.places.places
+    → place_at f.places.places s.session.config.peering.0 ≡ None → IsOnItsWay f.known.setup s.session → ⊥)
     → WroteOne a dropped [] b → RouterTakesIt from (items.Moved k s) f a f b
 drops_moved f a b from k s keeps not wrote = drops f a b from (items.Moved k s) keeps wrote
     (λ w.
@@ -53,7 +54,8 @@ drops_moved f a b from k s keeps not wrote = drops f a b from (items.Moved k s) 
     not (omega (arith, known, keeps.routers)) (omega (arith, is.2, keeps.places)) (vacant_of (place_at f.places.places s.session.config.peering.0) is.3) is.1)
 
 module _ (f : Fields) (a b : Post (Item RunningSession)) (from k : ℕ) (s : RunningSession) (keeps : RouterInvariant f)
-    (below : from < f.routers) (there : s.session.config.peering.0 < length f.places.places) (vacant : place_at f.places.places s.session.config.peering.0 ≡ None) (way : IsOnItsWay f.known.setup s.session) where
+    (below : from < f.routers) (there : s.session.config.peering.0 < length f.places.places)
+    (vacant : place_at f.places.places s.session.config.peering.0 ≡ None) (way : IsOnItsWay f.known.setup s.session) where
   abbrev p : ℕ
   p = s.session.config.peering.0
 
@@ -97,7 +99,9 @@ module _ (f : Fields) (a b : Post (Item RunningSession)) (from k : ℕ) (s : Run
       keeps
 
   -- it lands
-  module _ (mid h : Fields) (c : Post (Item RunningSession)) (far : ℕ) (landed : Landing) (settles : SettlesIn f s landed mid) (landed_is : landed ≡ record { ids = record { graft = k; peering = s.session.config.peering; source = record { 0 = from }; target = f.number }; next = 0 }) (far_is : far ≡ f.routers + p) (admitted : refusal_of f.known.setup f.number.0 (router_part f) s.session ≡ None)
+  module _ (mid h : Fields) (c : Post (Item RunningSession)) (far : ℕ) (landed : Landing) (settles : SettlesIn f s landed mid) (landed_is : landed
+      ≡ record { ids = record { graft = k; peering = s.session.config.peering; source = record { 0 = from }; target = f.number }; next = 0 })
+      (far_is : far ≡ f.routers + p) (admitted : refusal_of f.known.setup f.number.0 (router_part f) s.session ≡ None)
       (wrote : WritesEvent a (Land from) ((far, items.PointAt k) ∷ []) b) where
     abbrev held : Option Place
     held = Some (Live s (Some (Owing landed)))
@@ -140,11 +144,13 @@ module _ (f : Fields) (a b : Post (Item RunningSession)) (from k : ℕ) (s : Run
       others = λ n not.
           subst (λ (x : Option Place). KeepsPlace f.known.setup f.number.0 n ((rib_of mid.rib).entries n) (table_at mid.due_out n) x) (sym (elsewhere n not))
           (subst (λ (es : Entries). KeepsPlace f.known.setup f.number.0 n es (table_at mid.due_out n) (place_at f.places.places n)) (sym (entries_else n not))
-          (subst (λ (d : Prefixes). KeepsPlace f.known.setup f.number.0 n ((rib_of f.rib).entries n) d (place_at f.places.places n)) (sym (settles.sets.others n not)) (keeps.each n)));
+          (subst (λ (d : Prefixes). KeepsPlace f.known.setup f.number.0 n ((rib_of f.rib).entries n) d (place_at f.places.places n))
+          (sym (settles.sets.others n not)) (keeps.each n)));
     })
 
     -- the place as the model has it
-    lands_at : at (router_part f).places p (place_of held) ≡ at (router_part f).places p (model.Live s.session (Some (model.Owing (record { graft = k; source = from; next = 0 }))))
+    lands_at : at (router_part f).places p (place_of held)
+        ≡ at (router_part f).places p (model.Live s.session (Some (model.Owing (record { graft = k; source = from; next = 0 }))))
     lands_at = ap (λ (l : Landing). at (router_part f).places p (model.Live s.session (Some (model.Owing (word_of l))))) landed_is
 
     pub lands : ReadsAll p mid b h c → RouterTakesIt from (items.Moved k s) f a h c
@@ -170,7 +176,8 @@ module _ (f : Fields) (a b : Post (Item RunningSession)) (from k : ℕ) (s : Run
             due = record { members = settles.due.members };
             effect = ap router_part settles.same
                 ∙ (λ i. let v : RouterPart = record (with_routes (router_part f) (settles.entered.effect i)) {
-                  places = (ap (λ (xs : List (Option Place)). (λ n. place_of (place_at xs n))) (listed settles.held) ∙ places_at f.places.places p held there ∙ lands_at) i;
+                  places = (ap (λ (xs : List (Option Place)). (λ n. place_of (place_at xs n))) (listed settles.held)
+                      ∙ places_at f.places.places p held there ∙ lands_at) i;
                   due_out = at_is (table_at f.due_out) (table_at mid.due_out) p (table_at mid.due_out p) refl (λ n not. settles.sets.others n not) i;
                 } in v);
           };

@@ -20,12 +20,16 @@ same_there places n = ap (λ (xs : List (Option Place)). let p : PlaceList Place
 -- ---- how many places are taken
 
 add_from : (xs : List (Option Place)) (a b : ℕ)
-    → fold (λ (n : ℕ) (y : Option Place). n + (if is_some y then 1 else 0)) (a + b) xs ≡ a + fold (λ (n : ℕ) (y : Option Place). n + (if is_some y then 1 else 0)) b xs
+    → fold (λ (n : ℕ) (y : Option Place). n + (if is_some y then 1 else 0)) (a + b) xs
+    ≡ a + fold (λ (n : ℕ) (y : Option Place). n + (if is_some y then 1 else 0)) b xs
 add_from [] a b = refl
-add_from (y ∷ ys) a b = ap (λ (n : ℕ). fold (λ (m : ℕ) (z : Option Place). m + (if is_some z then 1 else 0)) n ys) (let e : a + b + (if is_some y then 1 else 0) ≡ a + (b + (if is_some y then 1 else 0)) = omega arith in e) ∙ add_from ys a (b + (if is_some y then 1 else 0))
+add_from (y ∷ ys) a b = ap (λ (n : ℕ). fold (λ (m : ℕ) (z : Option Place). m + (if is_some z then 1 else 0)) n ys)
+    (let e : a + b + (if is_some y then 1 else 0) ≡ a + (b + (if is_some y then 1 else 0)) = omega arith in e)
+    ∙ add_from ys a (b + (if is_some y then 1 else 0))
 
 pub count_first : (x : Option Place) (xs : List (Option Place)) → count_by is_some (x ∷ xs) ≡ (if is_some x then 1 else 0) + count_by is_some xs
-count_first x xs = ap (λ (n : ℕ). fold (λ (m : ℕ) (z : Option Place). m + (if is_some z then 1 else 0)) n xs) (let e : 0 + (if is_some x then 1 else 0) ≡ (if is_some x then 1 else 0) + 0 = omega arith in e) ∙ add_from xs (if is_some x then 1 else 0) 0
+count_first x xs = ap (λ (n : ℕ). fold (λ (m : ℕ) (z : Option Place). m + (if is_some z then 1 else 0)) n xs)
+    (let e : 0 + (if is_some x then 1 else 0) ≡ (if is_some x then 1 else 0) + 0 = omega arith in e) ∙ add_from xs (if is_some x then 1 else 0) 0
 
 -- a place that is made vacant counts no more, and one that is taken counts once
 pub count_without : (xs : List (Option Place)) (n : ℕ) → count_by is_some (set xs n None) ≤ count_by is_some xs

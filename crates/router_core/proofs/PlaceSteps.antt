@@ -48,7 +48,8 @@ keeps_live setup r p entries due s u o keeps config story rest = (
 )
 
 -- the places are another list, which has another place at a number
-module _ (f g : Fields) (n : ℕ) (x : Option Place) (there : n < length f.places.places) (same : SameButPlaces f g) (items : g.places ≡ with_place f.places n x) where
+module _ (f g : Fields) (n : ℕ) (x : Option Place) (there : n < length f.places.places)
+    (same : SameButPlaces f g) (items : g.places ≡ with_place f.places n x) where
   pub here : place_at g.places.places n ≡ x
   here = ap (λ (xs : List (Option Place)). place_at xs n) (listed items) ∙ set_here f.places.places n x there
 
@@ -57,7 +58,9 @@ module _ (f g : Fields) (n : ℕ) (x : Option Place) (there : n < length f.place
 
   pub part_at : router_part g ≡ record (router_part f) { places = at (router_part f).places n (place_of x) }
   part_at = ap router_part same
-      ∙ (λ i. record (router_part f) { places = λ q. (ap (λ (xs : List (Option Place)). place_of (place_at xs q)) (listed items) ∙ set_at f.places.places n x there q) i })
+      ∙ (λ i. record (router_part f) {
+        places = λ q. (ap (λ (xs : List (Option Place)). place_of (place_at xs q)) (listed items) ∙ set_at f.places.places n x there q) i;
+      })
 
   pub part_same : place_of x ≡ place_of (place_at f.places.places n) → router_part g ≡ router_part f
   part_same stays = part_at ∙ (λ i. record (router_part f) { places = λ q. at_own (router_part f).places n (place_of x) stays q i })
@@ -73,14 +76,16 @@ module _ (f g : Fields) (n : ℕ) (x : Option Place) (there : n < length f.place
         config = ap (λ (h : Fields). h.rib.config) same;
         tellings = λ q out. ap (λ (h : Fields). (rib_of h.rib).tellings q) same;
       })
-      (λ p. subst (λ (h : Fields). KeepsPlace f.known.setup f.number.0 p ((rib_of h.rib).entries p) (table_at h.due_out p) (place_at g.places.places p)) (sym same) (each p))
+      (λ p. subst (λ (h : Fields). KeepsPlace f.known.setup f.number.0 p ((rib_of h.rib).entries p) (table_at h.due_out p) (place_at g.places.places p))
+      (sym same) (each p))
     where
       each : (p : ℕ) → KeepsPlace f.known.setup f.number.0 p ((rib_of f.rib).entries p) (table_at f.due_out p) (place_at g.places.places p)
       each p = elim (same_or_not n p) [
         | inl e ↦
             subst (λ (q : ℕ). KeepsPlace f.known.setup f.number.0 q ((rib_of f.rib).entries q) (table_at f.due_out q) (place_at g.places.places q)) (sym e)
             (subst (λ (y : Option Place). KeepsPlace f.known.setup f.number.0 n ((rib_of f.rib).entries n) (table_at f.due_out n) y) (sym here) place)
-        | inr not ↦ subst (λ (y : Option Place). KeepsPlace f.known.setup f.number.0 p ((rib_of f.rib).entries p) (table_at f.due_out p) y) (sym (elsewhere p not)) (keeps.each p)
+        | inr not ↦ subst (λ (y : Option Place). KeepsPlace f.known.setup f.number.0 p ((rib_of f.rib).entries p) (table_at f.due_out p) y)
+            (sym (elsewhere p not)) (keeps.each p)
       ]
 
   -- nothing that the model sees changes

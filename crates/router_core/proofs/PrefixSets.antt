@@ -38,7 +38,8 @@ adds_more a b c xs x so_far set = record { members = λ y. ap (λ (s : Prefixes)
 -- ---- what is due
 
 pub due_best : (best : BestRoutes) (set : Prefixes) → AddsAll map.empty (map.keys best) set → IsDueBest best set
-due_best best set adds = record { members = λ x. adds.members x ∙ ap (λ (b : Bool). b || list_any (same_prefix x) (map.keys best)) (none_in x) ∙ keys_any best x }
+due_best best set adds =
+    record { members = λ x. adds.members x ∙ ap (λ (b : Bool). b || list_any (same_prefix x) (map.keys best)) (none_in x) ∙ keys_any best x }
   where
     none_in : (x : PrefixValue) → has map.empty x ≡ false
     none_in x = ap (λ (o : Option (Unit {0})). is_some o) (map.get-empty prefix_cmp x)

@@ -1,5 +1,6 @@
 -- What is put at one place after another.
-use Rattle.std.proofs.Common.{◌≡◌, ◌≢◌, ℕ, zero, suc, ◌+◌, ◌<◌, ◌≤◌, List, [], ◌∷◌, ◌++◌, length, Option, option_map, Some, None, Bool, true, false, is_some, not, ◌&&◌, refl, sym, ap, subst, ◌∙◌, arith, inl, inr, append_assoc, append-nil}
+use Rattle.std.proofs.Common.{◌≡◌, ◌≢◌, ℕ, zero, suc, ◌+◌, ◌<◌, ◌≤◌, List, [], ◌∷◌, ◌++◌, length, Option, option_map, Some, None, Bool, true}
+use Rattle.std.proofs.Common.{false, is_some, not, ◌&&◌, refl, sym, ap, subst, ◌∙◌, arith, inl, inr, append_assoc, append-nil}
 use Rattle.std.specs.FinMap as map
 use Rattle.std.specs.Prelude.{fold, reverse}
 use Rattle.std.proofs.lemmas.List.{reverse-append}
@@ -74,11 +75,19 @@ next_as setup r a b p s batch due dirty best next =
 
 stuck_as : (setup : Setup) (r : ℕ) (a b : RouterPart) (p : ℕ) (s : SessionValue) (n : ℕ) → a.due_out p ≡ b.due_out p → a.dirty ≡ b.dirty
     → a.best ≡ b.best → IsStuck setup r a p s n → IsStuck setup r b p s n
-stuck_as setup r a b p s n due dirty best x = record { established = x.established; batch = x.batch; next = next_as setup r a b p s x.batch due dirty best x.next; writable = x.writable; size = x.size; above = x.above }
+stuck_as setup r a b p s n due dirty best x = record {
+  established = x.established;
+  batch = x.batch;
+  next = next_as setup r a b p s x.batch due dirty best x.next;
+  writable = x.writable;
+  size = x.size;
+  above = x.above;
+}
 
 unwritable_as : (setup : Setup) (r : ℕ) (a b : RouterPart) (p : ℕ) (s : SessionValue) → a.due_out p ≡ b.due_out p → a.dirty ≡ b.dirty
     → a.best ≡ b.best → IsUnwritable setup r a p s → IsUnwritable setup r b p s
-unwritable_as setup r a b p s due dirty best x = record { established = x.established; batch = x.batch; next = next_as setup r a b p s x.batch due dirty best x.next; unwritable = x.unwritable }
+unwritable_as setup r a b p s due dirty best x =
+    record { established = x.established; batch = x.batch; next = next_as setup r a b p s x.batch due dirty best x.next; unwritable = x.unwritable }
 
 done_as : (setup : Setup) (r : ℕ) (a b : RouterPart) (p : ℕ) (place : model.Place) → a.due_out p ≡ b.due_out p → a.dirty ≡ b.dirty → a.best ≡ b.best
     → IsDone setup r a p place → IsDone setup r b p place
@@ -96,7 +105,8 @@ more_then s u v x y = record { acked = y.acked ∙ x.acked; emitted = y.emitted 
 
 goes_then : (x y z : Option Place) → PlaceGoes PutsMore x y → PlaceGoes PutsMore y z → PlaceGoes PutsMore x z
 goes_then None y z first second = subst (λ (a : Option Place). PlaceGoes PutsMore a z) first second
-goes_then (Some (Live s o)) y z (u, is, first) second = let (v, z_is, then) = subst (λ (a : Option Place). PlaceGoes PutsMore a z) is second in (v, z_is, more_then s u v first then)
+goes_then (Some (Live s o)) y z (u, is, first) second =
+    let (v, z_is, then) = subst (λ (a : Option Place). PlaceGoes PutsMore a z) is second in (v, z_is, more_then s u v first then)
 goes_then (Some (Shadow away)) y z first second = subst (λ (a : Option Place). PlaceGoes PutsMore a z) first second
 
 goes_same : (x : Option Place) → PlaceGoes PutsMore x x
@@ -149,12 +159,14 @@ module _ (n : ℕ) (f g h : Fields) (p r s : Post (Item RunningSession)) (before
 
   done_here : IsDone f.known.setup f.number.0 (router_part h) n ((router_part h).places n)
   done_here =
-      subst (λ (x : Fields). IsDone x.known.setup x.number.0 (router_part h) n ((router_part h).places n) → IsDone f.known.setup f.number.0 (router_part h) n ((router_part h).places n)) (sym before.same) (λ d. d) one.done
+      subst (λ (x : Fields). IsDone x.known.setup x.number.0 (router_part h) n ((router_part h).places n)
+      → IsDone f.known.setup f.number.0 (router_part h) n ((router_part h).places n)) (sym before.same) (λ d. d) one.done
 
   done_before : (k : ℕ) → k < n → k ≢ n → IsDone f.known.setup f.number.0 (router_part h) k ((router_part h).places k)
   done_before k below not =
       subst (λ (x : Option Place). IsDone f.known.setup f.number.0 (router_part h) k (place_of x)) (sym (one.some.others k not).0)
-      (done_as f.known.setup f.number.0 (router_part g) (router_part h) k ((router_part g).places k) (sym (one.some.others k not).1) (sym (ap (λ (x : Fields). x.rib.dirty) one.some.same)) (sym (ap (λ (x : Fields). x.rib.best) one.some.same)) (before.done k below))
+      (done_as f.known.setup f.number.0 (router_part g) (router_part h) k ((router_part g).places k) (sym (one.some.others k not).1)
+      (sym (ap (λ (x : Fields). x.rib.dirty) one.some.same)) (sym (ap (λ (x : Fields). x.rib.best) one.some.same)) (before.done k below))
 
   pub puts_next : PutsFirst (suc n) f p h s
   puts_next = record {
@@ -183,12 +195,14 @@ puts_all n f g p q first last last_place last_due = record {
   at = first.at;
   places = λ k. elim (cases_lt k n) [
     | inl below ↦ first.goes k below
-    | inr from ↦ subst (λ (x : Option Place). PlaceGoes PutsMore x (place_at g.places.places k)) (sym (place_at_end f.places.places k (omega (arith, from, last))))
+    | inr from ↦ subst (λ (x : Option Place). PlaceGoes PutsMore x (place_at g.places.places k))
+        (sym (place_at_end f.places.places k (omega (arith, from, last))))
         (place_at_end g.places.places k (omega (arith, from, last_place)))
   ];
   done = λ k. elim (cases_lt k n) [
     | inl below ↦ first.done k below
-    | inr from ↦ subst (λ (x : Option Place). IsDone f.known.setup f.number.0 (router_part g) k (place_of x)) (sym (place_at_end g.places.places k (omega (arith, from, last_place)))) (table_at_end g.due_out k (omega (arith, from, last_due)))
+    | inr from ↦ subst (λ (x : Option Place). IsDone f.known.setup f.number.0 (router_part g) k (place_of x))
+        (sym (place_at_end g.places.places k (omega (arith, from, last_place)))) (table_at_end g.due_out k (omega (arith, from, last_due)))
   ];
   same = first.same;
   keeps = first.keeps;
@@ -196,8 +210,10 @@ puts_all n f g p q first last last_place last_due = record {
 
 -- ---- there was no room
 
-module _ (f g : Fields) (p : Post (Item RunningSession)) (n : ℕ) (s u : RunningSession) (o : Option Errand) (batch : Batch) (keeps : RouterInvariant f) (there : n < length f.places.places) (is : place_at f.places.places n ≡ Some (Live s o))
-    (x : Option Place) (x_is : x ≡ Some (Live u o)) (items : g.places ≡ with_place f.places n x) (same : SameButPlaces f g) (no_room : HadNoRoom s (update_for batch.attrs batch.prefixes) u) where
+module _ (f g : Fields) (p : Post (Item RunningSession)) (n : ℕ) (s u : RunningSession) (o : Option Errand) (batch : Batch)
+    (keeps : RouterInvariant f) (there : n < length f.places.places) (is : place_at f.places.places n ≡ Some (Live s o))
+    (x : Option Place) (x_is : x ≡ Some (Live u o)) (items : g.places ≡ with_place f.places n x)
+    (same : SameButPlaces f g) (no_room : HadNoRoom s (update_for batch.attrs batch.prefixes) u) where
   stays : x ≡ place_at f.places.places n
   stays = x_is ∙ (ap (λ (v : RunningSession). Some (Live v o)) no_room.same ∙ sym is)
 
@@ -207,12 +223,14 @@ module _ (f g : Fields) (p : Post (Item RunningSession)) (n : ℕ) (s u : Runnin
   pub idle : PutsSomeAt n f p g p
   idle = record {
     events = [];
-    did = λ t. did_same f g p t (record { setup = ap (λ (h : Fields). h.known.setup) same; number = ap (λ (h : Fields). h.number) same }) (part_same f g n x there same items (ap place_of stays));
+    did = λ t. did_same f g p t (record { setup = ap (λ (h : Fields). h.known.setup) same; number = ap (λ (h : Fields). h.number) same })
+        (part_same f g n x there same items (ap place_of stays));
     at = tt;
     goes = subst (PlaceGoes PutsMore (place_at f.places.places n)) (sym (here f g n x there same items ∙ stays)) (goes_same (place_at f.places.places n));
     others = λ k not. (elsewhere f g n x there same items k not, ap (λ (d : List Prefixes). table_at d k) same_due);
     same = same ∙ ap (λ (d : List Prefixes). let h : Fields = record f { places = g.places; due_out = d } in h) (sym same_due);
-    keeps = keeps_at f g n x there same items keeps (subst (KeepsPlace f.known.setup f.number.0 n ((rib_of f.rib).entries n) (table_at f.due_out n)) (sym stays) (keeps.each n));
+    keeps = keeps_at f g n x there same items keeps
+        (subst (KeepsPlace f.known.setup f.number.0 n ((rib_of f.rib).entries n) (table_at f.due_out n)) (sym stays) (keeps.each n));
   }
 
   pub stuck_then : NextAt f.known.setup f.number.0 (router_part f) n (Some (Live s o)) batch → IsWritableFor batch
@@ -224,7 +242,9 @@ module _ (f g : Fields) (p : Post (Item RunningSession)) (n : ℕ) (s u : Runnin
         record {
           established = next.0;
           batch = batch;
-          next = next_as f.known.setup f.number.0 (router_part f) (router_part g) n s.session batch (sym (ap (λ (d : List Prefixes). table_at d n) same_due)) (sym (ap (λ (h : Fields). h.rib.dirty) same)) (sym (ap (λ (h : Fields). h.rib.best) same)) next.1;
+          next = next_as f.known.setup f.number.0 (router_part f) (router_part g) n s.session batch
+              (sym (ap (λ (d : List Prefixes). table_at d n) same_due))
+              (sym (ap (λ (h : Fields). h.rib.dirty) same)) (sym (ap (λ (h : Fields). h.rib.best) same)) next.1;
           writable = writable;
           size = refl;
           above = no_room.full;
@@ -260,8 +280,10 @@ unwritable_then f n (Some (Shadow away)) batch next not = absurd next
 nothing_in : (x : PrefixValue) → has map.empty x ≡ false
 nothing_in x = ap is_some (map.get-empty prefix_cmp x)
 
-module _ (f g : Fields) (p q : Post (Item RunningSession)) (n : ℕ) (keeps : RouterInvariant f) (clean : f.rib.dirty ≡ map.empty) (x : PrefixValue) (due : has (table_at f.due_out n) x ≡ true)
-    (cleared : table_at g.due_out ≡ at (table_at f.due_out) n map.empty) (sizes : length g.due_out ≡ length f.due_out) (same : g ≡ record f { due_out = g.due_out }) (wrote : WritesEvent p (Put n 0) [] q) where
+module _ (f g : Fields) (p q : Post (Item RunningSession)) (n : ℕ) (keeps : RouterInvariant f)
+    (clean : f.rib.dirty ≡ map.empty) (x : PrefixValue) (due : has (table_at f.due_out n) x ≡ true)
+    (cleared : table_at g.due_out ≡ at (table_at f.due_out) n map.empty) (sizes : length g.due_out ≡ length f.due_out)
+    (same : g ≡ record f { due_out = g.due_out }) (wrote : WritesEvent p (Put n 0) [] q) where
   cleared_here : table_at g.due_out n ≡ map.empty
   cleared_here = ap (λ (d : ℕ → Prefixes). d n) cleared ∙ at_here (table_at f.due_out) n map.empty n refl
 
@@ -275,7 +297,10 @@ module _ (f g : Fields) (p q : Post (Item RunningSession)) (n : ℕ) (keeps : Ro
   is_clean y = ap (λ (d : Prefixes). has d y) clean ∙ nothing_in y
 
   drops : Drops (table_at f.due_out n) (λ y. not (has f.rib.dirty y)) (table_at g.due_out n)
-  drops = record { members = λ y. ap (λ (d : Prefixes). has d y) cleared_here ∙ (nothing_in y ∙ sym (ap (λ (b : Bool). has (table_at f.due_out n) y && not (not b)) (is_clean y) ∙ and_false (has (table_at f.due_out n) y))) }
+  drops = record {
+    members = λ y. ap (λ (d : Prefixes). has d y) cleared_here
+        ∙ (nothing_in y ∙ sym (ap (λ (b : Bool). has (table_at f.due_out n) y && not (not b)) (is_clean y) ∙ and_false (has (table_at f.due_out n) y)));
+  }
     where
       and_false : (b : Bool) → (b && false) ≡ false
       and_false true = refl
@@ -295,15 +320,19 @@ module _ (f g : Fields) (p q : Post (Item RunningSession)) (n : ℕ) (keeps : Ro
     nothing = plan;
     due = drops;
     effect = ap router_part same
-        ∙ ap (λ (d : ℕ → Prefixes). let y : RouterPart = record (router_part f) { due_out = d } in y) (cleared ∙ ap (at (table_at f.due_out) n) (sym cleared_here));
+        ∙ ap (λ (d : ℕ → Prefixes). let y : RouterPart = record (router_part f) { due_out = d } in y)
+        (cleared ∙ ap (at (table_at f.due_out) n) (sym cleared_here));
   }
 
   each_then : (k : ℕ) → KeepsPlace f.known.setup f.number.0 k ((rib_of f.rib).entries k) (table_at g.due_out k) (place_at g.places.places k)
   each_then k = subst (λ y. KeepsPlace f.known.setup f.number.0 k ((rib_of f.rib).entries k) (table_at g.due_out k) (place_at y.places k)) (sym same_places)
       (elim (same_or_not n k) [
-        | inl e ↦ subst (λ (m : ℕ). KeepsPlace f.known.setup f.number.0 m ((rib_of f.rib).entries m) (table_at g.due_out m) (place_at f.places.places m)) (sym e)
-            (subst (λ (d : Prefixes). KeepsPlace f.known.setup f.number.0 n ((rib_of f.rib).entries n) d (place_at f.places.places n)) (sym cleared_here) (none_due (place_at f.places.places n) (keeps.each n)))
-        | inr not ↦ subst (λ (d : Prefixes). KeepsPlace f.known.setup f.number.0 k ((rib_of f.rib).entries k) d (place_at f.places.places k)) (sym (cleared_other k not)) (keeps.each k)
+        | inl e ↦
+            subst (λ (m : ℕ). KeepsPlace f.known.setup f.number.0 m ((rib_of f.rib).entries m) (table_at g.due_out m) (place_at f.places.places m)) (sym e)
+            (subst (λ (d : Prefixes). KeepsPlace f.known.setup f.number.0 n ((rib_of f.rib).entries n) d (place_at f.places.places n))
+            (sym cleared_here) (none_due (place_at f.places.places n) (keeps.each n)))
+        | inr not ↦ subst (λ (d : Prefixes). KeepsPlace f.known.setup f.number.0 k ((rib_of f.rib).entries k) d (place_at f.places.places k))
+            (sym (cleared_other k not)) (keeps.each k)
       ])
     where
       none_due : (y : Option Place) → KeepsPlace f.known.setup f.number.0 n ((rib_of f.rib).entries n) (table_at f.due_out n) y
@@ -323,13 +352,15 @@ module _ (f g : Fields) (p q : Post (Item RunningSession)) (n : ℕ) (keeps : Ro
         config = ap (λ (h : Fields). h.rib.config) same;
         tellings = λ q out. ap (λ (h : Fields). (rib_of h.rib).tellings q) same;
       })
-      (λ k. subst (λ (h : Fields). KeepsPlace f.known.setup f.number.0 k ((rib_of h.rib).entries k) (table_at g.due_out k) (place_at g.places.places k)) (sym same) (each_then k))
+      (λ k. subst (λ (h : Fields). KeepsPlace f.known.setup f.number.0 k ((rib_of h.rib).entries k) (table_at g.due_out k) (place_at g.places.places k))
+      (sym same) (each_then k))
 
   did_nothing : (place : Option Place) → place_at f.places.places n ≡ place → PlannedAt f.known.setup f.number.0 (router_part f) n place []
       → KeepsPlace f.known.setup f.number.0 n ((rib_of f.rib).entries n) (table_at f.due_out n) place
       → (t : ℕ → Tally) → DidAsRouter f p t (Put n zero ∷ []) g q t
   did_nothing None is plan k t = absurd (false≢true (sym (k.1 x) ∙ due))
-  did_nothing (Some (Live s o)) is plan k t = did_one f g p q t (Put n zero) (record { setup = ap (λ (h : Fields). h.known.setup) same; number = ap (λ (h : Fields). h.number) same }) wrote (nothing_row s o is plan) tt
+  did_nothing (Some (Live s o)) is plan k t = did_one f g p q t (Put n zero)
+      (record { setup = ap (λ (h : Fields). h.known.setup) same; number = ap (λ (h : Fields). h.number) same }) wrote (nothing_row s o is plan) tt
   did_nothing (Some (Shadow away)) is plan k t = absurd (false≢true (sym (k.1 x) ∙ due))
 
   pub puts_nothing : PlannedAt f.known.setup f.number.0 (router_part f) n (place_at f.places.places n) [] → PutsAt n f p g q
@@ -349,7 +380,10 @@ module _ (f g : Fields) (p q : Post (Item RunningSession)) (n : ℕ) (keeps : Ro
 -- nothing is due there
 pub puts_idle : (n : ℕ) (f : Fields) (p : Post (Item RunningSession)) → RouterInvariant f → first_above None (map.keys (table_at f.due_out n)) ≡ None
     → PutsAt n f p f p
-puts_idle n f p keeps none = record { some = some_first n f p keeps; done = done_none f.known.setup f.number.0 (router_part f) n (place_at f.places.places n) (no_least_is (table_at f.due_out n) none) }
+puts_idle n f p keeps none = record {
+  some = some_first n f p keeps;
+  done = done_none f.known.setup f.number.0 (router_part f) n (place_at f.places.places n) (no_least_is (table_at f.due_out n) none);
+}
 
 -- ---- what an offer leaves
 
@@ -359,12 +393,15 @@ offers_at setup r part n None batch next sound writable = next
 offers_at setup r part n (Some (Live s o)) batch next sound writable = can_offer setup r n part s.session batch next.0 next.1 sound writable
 offers_at setup r part n (Some (Shadow away)) batch next sound writable = next
 
-module _ (f g : Fields) (p q : Post (Item RunningSession)) (n : ℕ) (x : Option Place) (batch : Batch) (keeps : RouterInvariant f) (there : n < length f.places.places) (items : g.places ≡ with_place f.places n x) where
-  module _ (due : table_at g.due_out ≡ at (table_at f.due_out) n (fold map.remove (table_at f.due_out n) batch.prefixes)) (sizes : length g.due_out ≡ length f.due_out) (same : SameButLeaving f g) where
+module _ (f g : Fields) (p q : Post (Item RunningSession)) (n : ℕ) (x : Option Place) (batch : Batch)
+    (keeps : RouterInvariant f) (there : n < length f.places.places) (items : g.places ≡ with_place f.places n x) where
+  module _ (due : table_at g.due_out ≡ at (table_at f.due_out) n (fold map.remove (table_at f.due_out n) batch.prefixes))
+      (sizes : length g.due_out ≡ length f.due_out) (same : SameButLeaving f g) where
     pub offered_some : (place : Option Place) → place_at f.places.places n ≡ place → NextAt f.known.setup f.number.0 (router_part f) n place batch
         → OfferedAt true (update_for batch.attrs batch.prefixes) place x → WritesEvent p (Put n (length batch.prefixes)) [] q → PutsSomeAt n f p g q
     offered_some None is next offered wrote = absurd next
-    offered_some (Some (Live s o)) is next (u, x_is, put) wrote = puts_some f g p q n s u o batch keeps there is next.1 put (items ∙ ap (with_place f.places n) x_is) due same sizes wrote
+    offered_some (Some (Live s o)) is next (u, x_is, put) wrote =
+        puts_some f g p q n s u o batch keeps there is next.1 put (items ∙ ap (with_place f.places n) x_is) due same sizes wrote
     offered_some (Some (Shadow away)) is next offered wrote = absurd next
 
     pub offered_rest : (place : Option Place) → place_at f.places.places n ≡ place → NextAt f.known.setup f.number.0 (router_part f) n place batch
@@ -372,7 +409,8 @@ module _ (f g : Fields) (p q : Post (Item RunningSession)) (n : ℕ) (x : Option
     offered_rest None is next offered = absurd next
     offered_rest (Some (Live s o)) is next (u, x_is, put) = record {
       rest = λ batches plan.
-          let is_now : place_at g.places.places n ≡ Some (Live u o) = ap (λ (xs : List (Option Place)). place_at xs n) (listed items) ∙ (set_here f.places.places n x there ∙ x_is) in
+          let is_now : place_at g.places.places n ≡ Some (Live u o) =
+          ap (λ (xs : List (Option Place)). place_at xs n) (listed items) ∙ (set_here f.places.places n x there ∙ x_is) in
           subst (λ (y : Option Place). PlannedAt g.known.setup g.number.0 (router_part g) n y batches) (sym is_now)
           (rest_then f g p q n s u o batch keeps there is next.1 put (items ∙ ap (with_place f.places n) x_is) due same batches
           (subst (λ (y : Option Place). PlannedAt f.known.setup f.number.0 (router_part f) n y (batch ∷ batches)) is plan));
@@ -402,7 +440,8 @@ none_of (Some x) none e f = absurd (false≢true (sym (e ∙ ap not f)))
 pub some_due : (due : Prefixes) (o : Option PrefixValue) (none : Bool) → o ≡ first_above None (map.keys due) → is_some o ≡ not none → none ≡ false
     → (x : PrefixValue) × (has due x ≡ true)
 some_due due None none e f g = absurd (false≢true (f ∙ ap not g))
-some_due due (Some x) none e f g = let found = next_entry None x (map.entries due) (map.entries_sorted due) (sym e) in (x, ap is_some (map.get-entries due x ∙ found.found))
+some_due due (Some x) none e f g =
+    let found = next_entry None x (map.entries due) (map.entries_sorted due) (sym e) in (x, ap is_some (map.get-entries due x ∙ found.found))
 
 pub reversed_pop : (old new : List Batch) (batch : Batch) → old ≡ new ++ batch ∷ [] → reverse old ≡ batch ∷ reverse new
 reversed_pop old new batch e = ap reverse e ∙ reverse-append new (batch ∷ [])
@@ -427,8 +466,10 @@ counted : (wide : Bool) (attrs : Option Attrs) (front xs : List PrefixValue) →
 counted wide attrs front [] = subst (λ (l : List PrefixValue). octets wide attrs front + 0 ≤ octets wide attrs l) (sym (append-nil front)) (omega arith)
 counted wide attrs front (x ∷ xs) =
     let one = one_more wide attrs front x in
-    let rest = subst (λ (l : List PrefixValue). octets wide attrs (front ++ x ∷ []) + length xs ≤ octets wide attrs l) (append_assoc front (x ∷ []) xs) (counted wide attrs (front ++ x ∷ []) xs) in
-    step (octets wide attrs front) (octets wide attrs (front ++ x ∷ [])) (length xs) (octets wide attrs (front ++ x ∷ xs)) (subst (λ m. octets wide attrs front + 1 ≤ m) (sym one) (omega arith)) rest
+    let rest = subst (λ (l : List PrefixValue). octets wide attrs (front ++ x ∷ []) + length xs ≤ octets wide attrs l)
+    (append_assoc front (x ∷ []) xs) (counted wide attrs (front ++ x ∷ []) xs) in
+    step (octets wide attrs front) (octets wide attrs (front ++ x ∷ [])) (length xs)
+    (octets wide attrs (front ++ x ∷ xs)) (subst (λ m. octets wide attrs front + 1 ≤ m) (sym one) (omega arith)) rest
   where
     step : (a b n c : ℕ) → a + 1 ≤ b → b + n ≤ c → a + suc n ≤ c
     step a b n c l m = omega arith
@@ -439,7 +480,8 @@ few_prefixes wide attrs xs fits = let c = counted wide attrs [] xs in omega arit
 pub next_fits : (setup : Setup) (r : ℕ) (part : RouterPart) (n : ℕ) (place : Option Place) (batch : Batch) → NextAt setup r part n place batch
     → length batch.prefixes ≤ 4096
 next_fits setup r part n None batch next = absurd next
-next_fits setup r part n (Some (Live s o)) batch next = few_prefixes (is_wide (peering_of s.session.config) s.session.story) batch.attrs batch.prefixes next.1.fits
+next_fits setup r part n (Some (Live s o)) batch next =
+    few_prefixes (is_wide (peering_of s.session.config) s.session.story) batch.attrs batch.prefixes next.1.fits
 next_fits setup r part n (Some (Shadow away)) batch next = absurd next
 
 -- ---- what was put there, and then all

@@ -40,14 +40,29 @@ module _ (f : Fields) (n : ℕ) (s : RunningSession) (o : Option Errand) (keeps 
 
   pub planned : (due : Prefixes) (adj_rib_out : Routes) (wide : Bool) (out : OutSide) (batches : List Batch) → due ≡ table_at f.due_out n
       → adj_rib_out ≡ s.session.adj_rib_out → wide ≡ is_wide (peering_of s.session.config) s.session.story
-      → out ≡ record { peering = s.session.config.peering; remote_as = s.session.config.remote_as; local_address = s.session.config.local_address; export_rules = rules_by f.policies s.session.config.export }
+      → out ≡ record {
+        peering = s.session.config.peering;
+        remote_as = s.session.config.remote_as;
+        local_address = s.session.config.local_address;
+        export_rules = rules_by f.policies s.session.config.export;
+      }
       → IsPlan (plans.IsPrefixToTell due f.rib.dirty adj_rib_out (plans.rib_to_tell (rib_of f.rib) out)) (plans.rib_to_tell (rib_of f.rib) out) wide batches
       → PlannedAt f.known.setup f.number.0 (router_part f) n (Some (Live s o)) batches
   planned due adj_rib_out wide out batches due_is told_is wide_is out_is plan =
       let rules = rules_are f.known.setup f.number.0 f.policies s.session.config.export keeps.policies in
-      let out_same : out ≡ out_side f.known.setup f.number.0 s.session.config = out_is ∙ ap (λ (x : Option (List Rule)). let y : OutSide = record { peering = s.session.config.peering; remote_as = s.session.config.remote_as; local_address = s.session.config.local_address; export_rules = x } in y) rules in
-      let tells : plans.rib_to_tell (rib_of f.rib) out ≡ to_tell f.known.setup f.number.0 (router_part f) s.session = λ i x. tell_out (keeps.rib.home_as i) (out_same i) x (map.get f.rib.best x) in
-      subst (λ (t : PrefixValue → Option Attrs). IsPlan (plans.IsPrefixToTell (table_at f.due_out n) f.rib.dirty s.session.adj_rib_out t) t (is_wide (peering_of s.session.config) s.session.story) batches) tells
-      (subst (λ (w : Bool). IsPlan (plans.IsPrefixToTell (table_at f.due_out n) f.rib.dirty s.session.adj_rib_out (plans.rib_to_tell (rib_of f.rib) out)) (plans.rib_to_tell (rib_of f.rib) out) w batches) wide_is
-      (subst (λ (t : Routes). IsPlan (plans.IsPrefixToTell (table_at f.due_out n) f.rib.dirty t (plans.rib_to_tell (rib_of f.rib) out)) (plans.rib_to_tell (rib_of f.rib) out) wide batches) told_is
-      (subst (λ (d : Prefixes). IsPlan (plans.IsPrefixToTell d f.rib.dirty adj_rib_out (plans.rib_to_tell (rib_of f.rib) out)) (plans.rib_to_tell (rib_of f.rib) out) wide batches) due_is plan)))
+      let out_same : out ≡ out_side f.known.setup f.number.0 s.session.config = out_is ∙ ap (λ (x : Option (List Rule)). let y : OutSide = record {
+        peering = s.session.config.peering;
+        remote_as = s.session.config.remote_as;
+        local_address = s.session.config.local_address;
+        export_rules = x;
+      } in y) rules in
+      let tells : plans.rib_to_tell (rib_of f.rib) out ≡ to_tell f.known.setup f.number.0 (router_part f) s.session =
+      λ i x. tell_out (keeps.rib.home_as i) (out_same i) x (map.get f.rib.best x) in
+      subst (λ (t : PrefixValue → Option Attrs). IsPlan (plans.IsPrefixToTell (table_at f.due_out n) f.rib.dirty s.session.adj_rib_out t) t
+      (is_wide (peering_of s.session.config) s.session.story) batches) tells
+      (subst (λ (w : Bool). IsPlan (plans.IsPrefixToTell (table_at f.due_out n) f.rib.dirty s.session.adj_rib_out (plans.rib_to_tell (rib_of f.rib) out))
+      (plans.rib_to_tell (rib_of f.rib) out) w batches) wide_is
+      (subst (λ (t : Routes). IsPlan (plans.IsPrefixToTell (table_at f.due_out n) f.rib.dirty t (plans.rib_to_tell (rib_of f.rib) out))
+      (plans.rib_to_tell (rib_of f.rib) out) wide batches) told_is
+      (subst (λ (d : Prefixes). IsPlan (plans.IsPrefixToTell d f.rib.dirty adj_rib_out (plans.rib_to_tell (rib_of f.rib) out))
+      (plans.rib_to_tell (rib_of f.rib) out) wide batches) due_is plan)))

@@ -1,5 +1,6 @@
 -- One UPDATE is put, or what was told as it is to be is due no more.
-use Rattle.std.proofs.Common.{◌≡◌, ◌≢◌, ℕ, ◌<◌, List, [], ◌∷◌, ◌++◌, length, Option, option_map, None, Bool, true, false, cond, ◌||◌, ◌&&◌, not, is_some, refl, sym, ap, subst, ◌∙◌, set, inl, inr, Some}
+use Rattle.std.proofs.Common.{◌≡◌, ◌≢◌, ℕ, ◌<◌, List, [], ◌∷◌, ◌++◌, length, Option, option_map, None, Bool, true, false}
+use Rattle.std.proofs.Common.{cond, ◌||◌, ◌&&◌, not, is_some, refl, sym, ap, subst, ◌∙◌, set, inl, inr, Some}
 use Rattle.std.specs.Prelude.{fold}
 use Rattle.std.specs.FinMap as map
 use Rattle.std.specs.List.{list_any, All}
@@ -126,7 +127,8 @@ less_due xs set p = removed_all xs set p ∙ turned (list_any (same_prefix p) xs
 
 -- ---- the row
 
-some_row : (setup : Setup) (r p : ℕ) (prefixes : List PrefixValue) (before : RouterPart) (taken : Option RouterTaken) (sent : List RouterSent) (then : RouterPart)
+some_row : (setup : Setup) (r p : ℕ) (prefixes : List PrefixValue) (before : RouterPart)
+    (taken : Option RouterTaken) (sent : List RouterSent) (then : RouterPart)
     → prefixes ≢ [] → PutsSome setup r p (length prefixes) before taken sent then → put_row setup r p (length prefixes) before taken sent then
 some_row setup r p [] before taken sent then some row = absurd (some refl)
 some_row setup r p (x ∷ xs) before taken sent then some row = row
@@ -137,16 +139,23 @@ some_careful setup r p [] part some next = absurd (some refl)
 some_careful setup r p (x ∷ xs) part some next = next
 
 -- the places of f with another session at n, and less due on n, are those of g
-module _ (f g : Fields) (p q : Post (Item RunningSession)) (n : ℕ) (s u : RunningSession) (o : Option Errand) (batch : Batch) (keeps : RouterInvariant f) (there : n < length f.places.places)
-    (is : place_at f.places.places n ≡ Some (Live s o)) (next : IsNextUpdate f.known.setup f.number.0 (router_part f) n s.session batch) (put : WasPut s (update_for batch.attrs batch.prefixes) u)
-    (items : g.places ≡ with_place f.places n (Some (Live u o))) (due : table_at g.due_out ≡ at (table_at f.due_out) n (fold map.remove (table_at f.due_out n) batch.prefixes))
+module _ (f g : Fields) (p q : Post (Item RunningSession)) (n : ℕ) (s u : RunningSession)
+    (o : Option Errand) (batch : Batch) (keeps : RouterInvariant f) (there : n < length f.places.places)
+    (is : place_at f.places.places n ≡ Some (Live s o)) (next : IsNextUpdate f.known.setup f.number.0 (router_part f) n s.session batch)
+    (put : WasPut s (update_for batch.attrs batch.prefixes) u)
+    (items : g.places ≡ with_place f.places n (Some (Live u o)))
+    (due : table_at g.due_out ≡ at (table_at f.due_out) n (fold map.remove (table_at f.due_out n) batch.prefixes))
     (same : SameButLeaving f g) where
   same_router_then : SameRouter f g
   same_router_then = record { setup = ap (λ (h : Fields). h.known.setup) same; number = ap (λ (h : Fields). h.number) same }
 
-  part_then : router_part g ≡ record (router_part f) { places = at (router_part f).places n (place_of (Some (Live u o))); due_out = at (router_part f).due_out n ((router_part g).due_out n) }
+  part_then : router_part g ≡ record (router_part f) {
+    places = at (router_part f).places n (place_of (Some (Live u o)));
+    due_out = at (router_part f).due_out n ((router_part g).due_out n);
+  }
   part_then =
-      let here : table_at g.due_out n ≡ fold map.remove (table_at f.due_out n) batch.prefixes = ap (λ (d : ℕ → Prefixes). d n) due ∙ at_here (table_at f.due_out) n (fold map.remove (table_at f.due_out n) batch.prefixes) n refl in
+      let here : table_at g.due_out n ≡ fold map.remove (table_at f.due_out n) batch.prefixes =
+      ap (λ (d : ℕ → Prefixes). d n) due ∙ at_here (table_at f.due_out) n (fold map.remove (table_at f.due_out n) batch.prefixes) n refl in
       ap router_part same
       ∙ (λ i. record (router_part f) {
         places = λ k. (ap (λ (xs : List (Option Place)). place_of (place_at xs k)) (listed items) ∙ set_at f.places.places n (Some (Live u o)) there k) i;
@@ -172,7 +181,8 @@ module _ (f g : Fields) (p q : Post (Item RunningSession)) (n : ℕ) (s u : Runn
     puts = put.puts;
     due = record {
       members = λ x. ap (λ (d : ℕ → Prefixes). has (d n) x) due
-          ∙ (ap (λ (d : Prefixes). has d x) (at_here (table_at f.due_out) n (fold map.remove (table_at f.due_out n) batch.prefixes) n refl) ∙ less_due batch.prefixes (table_at f.due_out n) x);
+          ∙ (ap (λ (d : Prefixes). has d x) (at_here (table_at f.due_out) n (fold map.remove (table_at f.due_out n) batch.prefixes) n refl)
+          ∙ less_due batch.prefixes (table_at f.due_out n) x);
     };
     effect = part_then;
   }
@@ -180,7 +190,8 @@ module _ (f g : Fields) (p q : Post (Item RunningSession)) (n : ℕ) (s u : Runn
   pub did_put : (t : ℕ → Tally) → WritesEvent p (Put n (length batch.prefixes)) [] q → DidAsRouter f p t (Put n (length batch.prefixes) ∷ []) g q t
   did_put t wrote = did_one f g p q t (Put n (length batch.prefixes)) same_router_then wrote
       (some_row f.known.setup f.number.0 n batch.prefixes (router_part f) None [] (router_part g) next.some row)
-      (some_careful f.known.setup f.number.0 n batch.prefixes (router_part f) next.some (record { session = s.session; errand = option_map errand_of o; live = record { is = ap place_of is }; batch = batch; next = next; size = refl }))
+      (some_careful f.known.setup f.number.0 n batch.prefixes (router_part f) next.some
+      (record { session = s.session; errand = option_map errand_of o; live = record { is = ap place_of is }; batch = batch; next = next; size = refl }))
 
   abbrev then : Fields
   then = record f { places = g.places; due_out = g.due_out }
@@ -195,16 +206,20 @@ module _ (f g : Fields) (p q : Post (Item RunningSession)) (n : ℕ) (s u : Runn
   less_due_then : (x : PrefixValue) → has (table_at g.due_out n) x ≡ (has (table_at f.due_out n) x && not (list_any (same_prefix x) batch.prefixes))
   less_due_then x =
       ap (λ (d : ℕ → Prefixes). has (d n) x) due
-      ∙ (ap (λ (d : Prefixes). has d x) (at_here (table_at f.due_out) n (fold map.remove (table_at f.due_out n) batch.prefixes) n refl) ∙ less_due batch.prefixes (table_at f.due_out n) x)
+      ∙ (ap (λ (d : Prefixes). has d x) (at_here (table_at f.due_out) n (fold map.remove (table_at f.due_out n) batch.prefixes) n refl)
+      ∙ less_due batch.prefixes (table_at f.due_out n) x)
 
   -- what is left of the plan is the plan then
   pub rest_then : (batches : List Batch) → PlannedAt f.known.setup f.number.0 (router_part f) n (Some (Live s o)) (batch ∷ batches)
       → PlannedAt g.known.setup g.number.0 (router_part g) n (Some (Live u o)) batches
   rest_then batches plan =
       subst (λ (h : Fields). PlannedAt h.known.setup h.number.0 (router_part h) n (Some (Live u o)) batches) (sym same)
-      (subst (λ (w : Bool). IsPlan (IsToTell f.known.setup f.number.0 (router_part then) n u.session) (to_tell f.known.setup f.number.0 (router_part then) u.session) w batches) (sym (wide_then s.session u.session batch put.puts))
-      (subst (λ (v : SessionValue). IsPlan (IsToTell f.known.setup f.number.0 (router_part then) n v) (to_tell f.known.setup f.number.0 (router_part then) v) (is_wide (peering_of s.session.config) s.session.story) batches) (sym put.puts.effect)
-      (rest (table_at f.due_out n) (table_at g.due_out n) f.rib.dirty s.session.adj_rib_out (to_tell f.known.setup f.number.0 (router_part f) s.session) (is_wide (peering_of s.session.config) s.session.story) batch less_due_then batches plan)))
+      (subst (λ (w : Bool). IsPlan (IsToTell f.known.setup f.number.0 (router_part then) n u.session)
+      (to_tell f.known.setup f.number.0 (router_part then) u.session) w batches) (sym (wide_then s.session u.session batch put.puts))
+      (subst (λ (v : SessionValue). IsPlan (IsToTell f.known.setup f.number.0 (router_part then) n v)
+      (to_tell f.known.setup f.number.0 (router_part then) v) (is_wide (peering_of s.session.config) s.session.story) batches) (sym put.puts.effect)
+      (rest (table_at f.due_out n) (table_at g.due_out n) f.rib.dirty s.session.adj_rib_out (to_tell f.known.setup f.number.0 (router_part f) s.session)
+      (is_wide (peering_of s.session.config) s.session.story) batch less_due_then batches plan)))
 
   -- ---- what stands then
 
@@ -230,7 +245,8 @@ module _ (f g : Fields) (p q : Post (Item RunningSession)) (n : ℕ) (s u : Runn
       sends = ap (λ (c : SessionConfig). c.send_first.0) (config_then s.session u.session batch put.puts) ∙ k.0.sends;
       receives = ap (λ (c : SessionConfig). c.receive_first.0) (config_then s.session u.session batch put.puts) ∙ k.0.receives;
     },
-    λ unclosed. subst BeginsNothing (sym (unread_then s.session u.session batch put.puts)) (k.1 (λ closed. unclosed (state_then s.session u.session batch put.puts ∙ closed))),
+    λ unclosed. subst BeginsNothing (sym (unread_then s.session u.session batch put.puts))
+        (k.1 (λ closed. unclosed (state_then s.session u.session batch put.puts ∙ closed))),
     k.2,
     λ x has_it. state_then s.session u.session batch put.puts
         ∙ k.3 x (of_both (has (table_at f.due_out n) x) (not (list_any (same_prefix x) batch.prefixes)) (sym (less_due_then x) ∙ has_it)),
@@ -247,7 +263,8 @@ module _ (f g : Fields) (p q : Post (Item RunningSession)) (n : ℕ) (s u : Runn
     | inl e ↦ subst (λ (m : ℕ). KeepsPlace f.known.setup f.number.0 m ((rib_of f.rib).entries m) (table_at g.due_out m) (place_at g.places.places m)) (sym e)
         (subst (KeepsPlace f.known.setup f.number.0 n ((rib_of f.rib).entries n) (table_at g.due_out n)) (sym place_here)
         (keeps_here (subst (KeepsPlace f.known.setup f.number.0 n ((rib_of f.rib).entries n) (table_at f.due_out n)) is (keeps.each n))))
-    | inr not ↦ subst (λ (d : Prefixes). KeepsPlace f.known.setup f.number.0 k ((rib_of f.rib).entries k) d (place_at g.places.places k)) (sym (other_due k not))
+    | inr not ↦ subst (λ (d : Prefixes). KeepsPlace f.known.setup f.number.0 k ((rib_of f.rib).entries k) d (place_at g.places.places k))
+        (sym (other_due k not))
         (subst (KeepsPlace f.known.setup f.number.0 k ((rib_of f.rib).entries k) (table_at f.due_out k)) (sym (place_other k not)) (keeps.each k))
   ]
 
@@ -262,7 +279,8 @@ module _ (f g : Fields) (p q : Post (Item RunningSession)) (n : ℕ) (s u : Runn
         config = ap (λ (h : Fields). h.rib.config) same;
         tellings = λ q out. ap (λ (h : Fields). (rib_of h.rib).tellings q) same;
       })
-      (λ k. subst (λ (h : Fields). KeepsPlace f.known.setup f.number.0 k ((rib_of h.rib).entries k) (table_at g.due_out k) (place_at g.places.places k)) (sym same) (each_then k))
+      (λ k. subst (λ (h : Fields). KeepsPlace f.known.setup f.number.0 k ((rib_of h.rib).entries k) (table_at g.due_out k) (place_at g.places.places k))
+      (sym same) (each_then k))
 
   pub puts_some : length g.due_out ≡ length f.due_out → WritesEvent p (Put n (length batch.prefixes)) [] q → PutsSomeAt n f p g q
   puts_some sizes wrote = record {

@@ -36,8 +36,10 @@ use Rattle.router_core.proofs.Kept.{one_or_other, at_is, at_else, places_at, pla
 use Rattle.router_core.proofs.PlaceLists.{listed, rooms, same_there}
 use Rattle.router_core.proofs.ReadSteps.{entry_is, follows_heard, due_then, due_up, less_unread}
 
-module _ (f g : Fields) (p : ℕ) (a b : Post (Item RunningSession)) (s u : RunningSession) (o : Option Errand) (step : ReadStep) (keeps : KeepsBut p f) (live : RunsAt f.places.places p s o) (tied : IsTied s.session) (reads : ReadsFrame step s u)
-    (there : p < length f.places.places) (items : g.places ≡ with_place f.places p (Some (Live u o))) (wrote : WritesEvent a (Got p) [] b) (follows : FollowsStep (record f { places = g.places }) p u step g) where
+module _ (f g : Fields) (p : ℕ) (a b : Post (Item RunningSession)) (s u : RunningSession) (o : Option Errand) (step : ReadStep)
+    (keeps : KeepsBut p f) (live : RunsAt f.places.places p s o) (tied : IsTied s.session) (reads : ReadsFrame step s u)
+    (there : p < length f.places.places) (items : g.places ≡ with_place f.places p (Some (Live u o)))
+    (wrote : WritesEvent a (Got p) [] b) (follows : FollowsStep (record f { places = g.places }) p u step g) where
   same : g ≡ record f { places = g.places; rib = g.rib; due_out = g.due_out }
   same = follows.same
 
@@ -60,13 +62,15 @@ module _ (f g : Fields) (p : ℕ) (a b : Post (Item RunningSession)) (s u : Runn
     next = u.session;
     gets = reads.gets;
     follows = record {
-      entries = follows_heard s.session u.session reads.bytes tied reads.gets (entry_of f.known.setup f.number.0 u.session) ((rib_of f.rib).entries p) ((rib_of g.rib).entries p) step reads.tells
+      entries = follows_heard s.session u.session reads.bytes tied reads.gets (entry_of f.known.setup f.number.0 u.session)
+          ((rib_of f.rib).entries p) ((rib_of g.rib).entries p) step reads.tells
           (λ x e. follows.entered.each x e ∙ entry_is f u.session x keeps.rest) follows.entered.others;
       dirty = follows.entered.dirty;
       due = due_then s.session u.session reads.bytes tied reads.gets f.rib.best (table_at f.due_out p) (table_at g.due_out p) step reads.tells follows.due;
       effect = ap router_part same
           ∙ (λ i. let v : RouterPart = record (with_routes (router_part f) (follows.entered.effect i)) {
-            places = (ap (λ (xs : List (Option Place)). (λ n. place_of (place_at xs n))) (listed items) ∙ places_at f.places.places p (Some (Live u o)) there) i;
+            places =
+                (ap (λ (xs : List (Option Place)). (λ n. place_of (place_at xs n))) (listed items) ∙ places_at f.places.places p (Some (Live u o)) there) i;
             due_out = at_is (table_at f.due_out) (table_at g.due_out) p (table_at g.due_out p) refl (λ n not. follows.sets.others n not) i;
           } in v);
     };
@@ -76,7 +80,8 @@ module _ (f g : Fields) (p : ℕ) (a b : Post (Item RunningSession)) (s u : Runn
   config_is = ap (λ (v : SessionValue). v.config) reads.gets.effect
 
   is_here : (keeps.here.session ≡ s) × (keeps.here.errand ≡ o)
-  is_here = let e : Some (Live keeps.here.session keeps.here.errand) ≡ Some (Live s o) = sym keeps.here.live.is ∙ live.is in (let x : keeps.here.session ≡ s = cc in x, let y : keeps.here.errand ≡ o = cc in y)
+  is_here = let e : Some (Live keeps.here.session keeps.here.errand) ≡ Some (Live s o) = sym keeps.here.live.is ∙ live.is in
+      (let x : keeps.here.session ≡ s = cc in x, let y : keeps.here.errand ≡ o = cc in y)
 
   own : IsOfPeering f.known.setup p s.session
   own = subst (λ (v : RunningSession). IsOfPeering f.known.setup p v.session) is_here.0 keeps.here.own
@@ -109,10 +114,12 @@ module _ (f g : Fields) (p : ℕ) (a b : Post (Item RunningSession)) (s u : Runn
       due = due_up s.session u.session reads.bytes tied reads.gets f.rib.best (table_at f.due_out p) (table_at g.due_out p) step reads.tells follows.due
           (subst (λ (v : RunningSession). Rattle.router_core.specs.Parts.IsDueWhileUp v.session (table_at f.due_out p)) is_here.0 keeps.here.due);
     });
-    others = λ n not. subst (λ (h : Fields). KeepsPlace h.known.setup h.number.0 n ((rib_of g.rib).entries n) (table_at g.due_out n) (place_at g.places.places n)) (sym same)
+    others = λ n not. subst
+        (λ (h : Fields). KeepsPlace h.known.setup h.number.0 n ((rib_of g.rib).entries n) (table_at g.due_out n) (place_at g.places.places n)) (sym same)
         (subst (λ (x : Option Place). KeepsPlace f.known.setup f.number.0 n ((rib_of g.rib).entries n) (table_at g.due_out n) x) (sym (elsewhere n not))
         (subst (λ (es : Entries). KeepsPlace f.known.setup f.number.0 n es (table_at g.due_out n) (place_at f.places.places n)) (sym (entries_else n not))
-        (subst (λ (d : Prefixes). KeepsPlace f.known.setup f.number.0 n ((rib_of f.rib).entries n) d (place_at f.places.places n)) (sym (follows.sets.others n not)) (keeps.others n not))));
+        (subst (λ (d : Prefixes). KeepsPlace f.known.setup f.number.0 n ((rib_of f.rib).entries n) d (place_at f.places.places n))
+        (sym (follows.sets.others n not)) (keeps.others n not))));
   }
 
   stays_one : Stays s u
@@ -132,7 +139,8 @@ module _ (f g : Fields) (p : ℕ) (a b : Post (Item RunningSession)) (s u : Runn
           subst (λ (k : RunningSession). Stays k w) (let e : Some (Live s o) ≡ Some (Live v n) = sym live.is ∙ x.is in let z : s ≡ v = cc in z)
           (subst (λ (k : RunningSession). Stays s k) (let e : Some (Live u o) ≡ Some (Live w m) = sym here ∙ y.is in let z : u ≡ w = cc in z) stays_one);
     };
-    less = subst (λ (x : Option Place). unread_at x < unread_at (place_at f.places.places p)) (sym here) (subst (λ (x : Option Place). length (unread u.session) < unread_at x) (sym live.is) (less_unread s.session u.session reads.bytes tied reads.gets));
+    less = subst (λ (x : Option Place). unread_at x < unread_at (place_at f.places.places p)) (sym here)
+        (subst (λ (x : Option Place). length (unread u.session) < unread_at x) (sym live.is) (less_unread s.session u.session reads.bytes tied reads.gets));
     keeps = kept;
   }
 
@@ -175,18 +183,21 @@ pub reads_last : (p : ℕ) (f g h : Fields) (a b c : Post (Item RunningSession))
 reads_last p f g h a b c some none = record {
   events = some.events ++ [];
   did = λ t. subst (λ (d : Post (Item RunningSession)). DidAsRouter f a t (some.events ++ []) h d t) (sym none.post)
-      (did_then f g h a b b t t t some.events [] (some.did t) (did_same g h b t (record { setup = ap (λ (k : Fields). k.known.setup) none.same; number = ap (λ (k : Fields). k.number) none.same }) part));
+      (did_then f g h a b b t t t some.events [] (some.did t)
+      (did_same g h b t (record { setup = ap (λ (k : Fields). k.known.setup) none.same; number = ap (λ (k : Fields). k.number) none.same }) part));
   at = at-append 0 some.events [] some.at tt;
   stays = record {
     same = none.same
-        ∙ (λ i. let v : Fields = record (some.stays.same i) { places = h.places; rib = sym (ap (λ (k : Fields). k.rib) none.same) i; due_out = sym (ap (λ (k : Fields). k.due_out) none.same) i } in v);
+        ∙ (λ i. let v : Fields = record (some.stays.same
+        i) { places = h.places; rib = sym (ap (λ (k : Fields). k.rib) none.same) i; due_out = sym (ap (λ (k : Fields). k.due_out) none.same) i } in v);
     others = λ n not. at_same n ∙ some.stays.others n not;
     stays = λ s u o q x y. some.stays.stays s u o q x (record { is = sym (at_same p) ∙ y.is });
   };
   keeps = subst RouterInvariant (sym none.same) (keeps_with g (record g { places = h.places }) some.keeps.rest refl
       (record { places = ap length (listed none.places); reserved = rooms none.places; due_in = refl; due_out = refl; config = refl; tellings = λ n out. refl })
       (KeepsAt (record g { places = h.places }))
-      (λ n. subst (λ (xs : List (Option Place)). KeepsPlace g.known.setup g.number.0 n ((rib_of g.rib).entries n) (table_at g.due_out n) (place_at xs n)) (sym (listed none.places)) (each n)));
+      (λ n. subst (λ (xs : List (Option Place)). KeepsPlace g.known.setup g.number.0 n ((rib_of g.rib).entries n) (table_at g.due_out n) (place_at xs n))
+      (sym (listed none.places)) (each n)));
 }
   where
     at_same : (n : ℕ) → place_at h.places.places n ≡ place_at g.places.places n
@@ -204,8 +215,13 @@ reads_last p f g h a b c some none = record {
     each n = elim (one_or_other p n) [
       | inl e ↦
           subst (λ (m : ℕ). KeepsPlace g.known.setup g.number.0 m ((rib_of g.rib).entries m) (table_at g.due_out m) (place_at g.places.places m)) (sym e)
-          (subst (λ (x : Option Place). KeepsPlace g.known.setup g.number.0 p ((rib_of g.rib).entries p) (table_at g.due_out p) x) (sym some.keeps.here.live.is)
-          (some.keeps.here.own, all_read (none.none some.keeps.here.session some.keeps.here.errand some.keeps.here.live), some.keeps.here.for_graft, some.keeps.here.due))
+          (subst (λ (x : Option Place). KeepsPlace g.known.setup g.number.0 p ((rib_of g.rib).entries p) (table_at g.due_out p) x)
+          (sym some.keeps.here.live.is) (
+            some.keeps.here.own,
+            all_read (none.none some.keeps.here.session some.keeps.here.errand some.keeps.here.live),
+            some.keeps.here.for_graft,
+            some.keeps.here.due,
+          ))
       | inr not ↦ some.keeps.others n not
     ]
 
@@ -236,7 +252,8 @@ reads_none f g p i a x new step seen reads none item same held =
 pub live_within : (f : Fields) (p i : ℕ) → KeepsBut p f → i ≡ p → i < length f.places.places
 live_within f p i keeps same = elim (cases_lt p (length f.places.places)) [
   | inl l ↦ omega (arith, l, same)
-  | inr past ↦ absurd (let e : None ≡ Some (Live keeps.here.session keeps.here.errand) = sym (get_or_past f.places.places p None past) ∙ keeps.here.live.is in let z : ⊥ = cc in z)
+  | inr past ↦ absurd (let e : None ≡ Some (Live keeps.here.session keeps.here.errand) =
+      sym (get_or_past f.places.places p None past) ∙ keeps.here.live.is in let z : ⊥ = cc in z)
 ]
 
 -- ---- a message that is read at a place
@@ -247,7 +264,8 @@ pub reads_some : (f g : Fields) (p : ℕ) (a b : Post (Item RunningSession)) (mi
     → WritesEvent a (Got p) [] b
     → ((s : RunningSession) (w : Option Errand) → RunsAt mid.places.places p s w → s.session.config.peering.0 ≡ p → FollowsStep mid p s step g)
     → ReadsOne p f a g b
-reads_some f g p a b mid x new step o keeps seen reads some same held wrote follows = by_place x seen (subst (λ (q : Option ReadStep). ReadsAt q x new) some reads)
+reads_some f g p a b mid x new step o keeps seen reads some same held wrote follows =
+    by_place x seen (subst (λ (q : Option ReadStep). ReadsAt q x new) some reads)
   where
     below : p < length f.places.places
     below = live_within f p p keeps refl
@@ -264,9 +282,11 @@ reads_some f g p a b mid x new step o keeps seen reads some same held wrote foll
     by_place (Some (Live s w)) e (u, is, read) =
         let items_are : mid.places ≡ with_place f.places p (Some (Live u w)) = held ∙ ap (with_place f.places p) is in
         let live : RunsAt f.places.places p s w = record { is = e } in
-        let now : RunsAt mid.places.places p u w = record { is = ap (λ (xs : List (Option Place)). place_at xs p) (listed items_are) ∙ placed_here f.places.places p (Some (Live u w)) below } in
+        let now : RunsAt mid.places.places p u w =
+        record { is = ap (λ (xs : List (Option Place)). place_at xs p) (listed items_are) ∙ placed_here f.places.places p (Some (Live u w)) below } in
         let had : keeps.here.session ≡ s = live_is f.places.places p s keeps.here.session w keeps.here.errand live keeps.here.live in
-        let own : u.session.config.peering.0 ≡ p = ap (λ (v : SessionValue). v.config.peering.0) read.1.gets.effect ∙ ap (λ (v : RunningSession). v.session.config.peering.0) (sym had) ∙ keeps.here.own.peering in
+        let own : u.session.config.peering.0 ≡ p = ap (λ (v : SessionValue). v.config.peering.0) read.1.gets.effect
+        ∙ ap (λ (v : RunningSession). v.session.config.peering.0) (sym had) ∙ keeps.here.own.peering in
         let step_is : FollowsStep mid p u step g = follows u w now own in
         let places_are : g.places ≡ mid.places = ap (λ (h : Fields). h.places) step_is.same in
         reads_one f g p a b s u w step keeps live read.0 read.1 below (places_are ∙ items_are) wrote

@@ -1,5 +1,6 @@
 -- A session reads a message: what it brings in, what it heard, and what is left to read.
-use Rattle.std.proofs.Common.{◌≡◌, ◌≢◌, ℕ, ◌+◌, ◌-◌, ◌<◌, ◌≤◌, List, length, Bool, true, false, Option, Some, None, is_some, option_map, Result, Ok, Err, refl, sym, ap, subst, ◌∙◌, arith, inl, inr, ◌⊎◌}
+use Rattle.std.proofs.Common.{◌≡◌, ◌≢◌, ℕ, ◌+◌, ◌-◌, ◌<◌, ◌≤◌, List, length, Bool, true, false, Option, Some, None, is_some}
+use Rattle.std.proofs.Common.{option_map, Result, Ok, Err, refl, sym, ap, subst, ◌∙◌, arith, inl, inr, ◌⊎◌}
 use Rattle.std.specs.FinMap as map
 use Rattle.std.specs.List.{list_any}
 use Rattle.std.proofs.lemmas.Bool.Decides.{nat_tests}
@@ -46,7 +47,14 @@ use Rattle.router_core.specs.declared.fields.Fields.{Fields}
 entry_by : ℕ → Option (List Rule) → SessionValue → PrefixValue → Option Entry
 entry_by home_as rules s x = option_map
     (λ route. record { route = route; identifier = remote_identifier s; address = s.config.remote_address })
-    (imported home_as x (record { peering = s.config.peering; remote_as = s.config.remote_as; identifier = remote_identifier s; address = s.config.remote_address; import_rules = rules; heard = map.get s.adj_rib_in x }) (map.get s.adj_rib_in x))
+    (imported home_as x (record {
+      peering = s.config.peering;
+      remote_as = s.config.remote_as;
+      identifier = remote_identifier s;
+      address = s.config.remote_address;
+      import_rules = rules;
+      heard = map.get s.adj_rib_in x;
+    }) (map.get s.adj_rib_in x))
 
 rules_is : {Each : ℕ → Type 0} (f : Fields) (name : Option (List ℕ)) → KeepsWith Each f → rules_by f.policies name ≡ rules_for f.known.setup f.number.0 name
 rules_is f None k = refl
@@ -113,7 +121,8 @@ module _ (s u : SessionValue) (bytes : List ℕ) (tied_to : IsTied s) (gets : Ge
   updates_none not = by_message (message_of (expected_next (peering_of s.config) s.story (state s)) bytes) refl where
     by_message : (m : Result Message Notice) → message_of (expected_next (peering_of s.config) s.story (state s)) bytes ≡ m → update_in m ≡ None
     by_message (Ok (OpenMsg o)) e = refl
-    by_message (Ok (UpdateMsg o)) e = absurd (not (only_update (state s) (read_of (expected_next (peering_of s.config) s.story (state s)) bytes (UpdateMsg o) e).in_state))
+    by_message (Ok (UpdateMsg o)) e =
+        absurd (not (only_update (state s) (read_of (expected_next (peering_of s.config) s.story (state s)) bytes (UpdateMsg o) e).in_state))
     by_message (Ok (NoticeMsg n)) e = refl
     by_message (Ok KeepaliveMsg) e = refl
     by_message (Err n) e = refl
@@ -125,7 +134,8 @@ module _ (s u : SessionValue) (bytes : List ℕ) (tied_to : IsTied s) (gets : Ge
 
   pub heard_none : state u ≡ states.Closed → (x : PrefixValue) → map.get u.adj_rib_in x ≡ None
   heard_none closed x =
-      ap (λ (t : Routes). map.get t x) (heard_is ∙ ap (λ (st : SessionState). unless_closed st (apply_if s.adj_rib_in (update_in (message_of (expected_next (peering_of s.config) s.story (state s)) bytes)))) (sym next_is ∙ closed))
+      ap (λ (t : Routes). map.get t x) (heard_is ∙ ap (λ (st : SessionState). unless_closed st
+      (apply_if s.adj_rib_in (update_in (message_of (expected_next (peering_of s.config) s.story (state s)) bytes)))) (sym next_is ∙ closed))
       ∙ map.get-empty prefix_cmp x
 
   -- less is left to read
@@ -134,7 +144,8 @@ module _ (s u : SessionValue) (bytes : List ℕ) (tied_to : IsTied s) (gets : Ge
       let whole : length (unread s) ≡ length bytes + length gets.rest = ap (λ (xs : List ℕ). length xs) gets.front ∙ length-append bytes gets.rest in
       let test = got_long bytes gets.got in
       let long : 19 ≤ length bytes = grind (arith, nat_tests) in
-      let now : length (unread u) ≡ length (received_bytes s.end) - (s.end.read + length bytes) = ap (λ (v : SessionValue). length (unread v)) gets.effect ∙ length-drop (s.end.read + length bytes) (received_bytes s.end) in
+      let now : length (unread u) ≡ length (received_bytes s.end) - (s.end.read + length bytes) =
+      ap (λ (v : SessionValue). length (unread v)) gets.effect ∙ length-drop (s.end.read + length bytes) (received_bytes s.end) in
       let was : length (unread s) ≡ length (received_bytes s.end) - s.end.read = length-drop s.end.read (received_bytes s.end) in
       omega (arith, whole, long, now, was)
 
@@ -144,14 +155,16 @@ module _ (s u : SessionValue) (bytes : List ℕ) (tied_to : IsTied s) (gets : Ge
   pub follows_heard : (entry : PrefixValue → Option Entry) (before after : Entries) (st : ReadStep) → TellsRead st s u
       → ((x : PrefixValue) → list_any (same_prefix x) (prefixes_in st) ≡ true → map.get after x ≡ entry x)
       → ((x : PrefixValue) → list_any (same_prefix x) (prefixes_in st) ≡ false → map.get after x ≡ map.get before x) → (x : PrefixValue)
-      → ((map.get u.adj_rib_in x ≡ map.get s.adj_rib_in x) × (map.get after x ≡ map.get before x)) ⊎ ((map.get u.adj_rib_in x ≢ map.get s.adj_rib_in x) × (map.get after x ≡ entry x))
+      → ((map.get u.adj_rib_in x ≡ map.get s.adj_rib_in x) × (map.get after x ≡ map.get before x))
+      ⊎ ((map.get u.adj_rib_in x ≢ map.get s.adj_rib_in x) × (map.get after x ≡ entry x))
   follows_heard entry before after steps.Opened tells each others x =
       inl (ap (λ (t : Routes). map.get t x) (heard_stays (λ is. sent_up (sym tells.0 ∙ is)) (λ is. confirm_closed (sym tells.1 ∙ is))), others x refl)
   follows_heard entry before after steps.Established tells each others x =
       inl (ap (λ (t : Routes). map.get t x) (heard_stays (λ is. confirm_up (sym tells.0 ∙ is)) (λ is. up_closed (sym tells.1 ∙ is))), others x refl)
   follows_heard entry before after (steps.Changed ps) tells each others x = by_test (list_any (same_prefix x) ps) refl where
     by_test : (b : Bool) → list_any (same_prefix x) ps ≡ b
-        → ((map.get u.adj_rib_in x ≡ map.get s.adj_rib_in x) × (map.get after x ≡ map.get before x)) ⊎ ((map.get u.adj_rib_in x ≢ map.get s.adj_rib_in x) × (map.get after x ≡ entry x))
+        → ((map.get u.adj_rib_in x ≡ map.get s.adj_rib_in x) × (map.get after x ≡ map.get before x))
+        ⊎ ((map.get u.adj_rib_in x ≢ map.get s.adj_rib_in x) × (map.get after x ≡ entry x))
     by_test true e = inr (All-contains (λ p. map.get u.adj_rib_in p ≢ map.get s.adj_rib_in p) ps x tells.2.changed (Contains-from_any is_same x ps e), each x e)
     by_test false e = inl (tells.2.others x e, others x e)
   follows_heard entry before after (steps.Closed ps) tells each others x = by_test (list_any (same_prefix x) ps) refl where
@@ -159,7 +172,8 @@ module _ (s u : SessionValue) (bytes : List ℕ) (tied_to : IsTied s) (gets : Ge
     had = ap (λ (ks : List PrefixValue). list_any (same_prefix x) ks) tells.1 ∙ keys_any s.adj_rib_in x
 
     by_test : (b : Bool) → list_any (same_prefix x) ps ≡ b
-        → ((map.get u.adj_rib_in x ≡ map.get s.adj_rib_in x) × (map.get after x ≡ map.get before x)) ⊎ ((map.get u.adj_rib_in x ≢ map.get s.adj_rib_in x) × (map.get after x ≡ entry x))
+        → ((map.get u.adj_rib_in x ≡ map.get s.adj_rib_in x) × (map.get after x ≡ map.get before x))
+        ⊎ ((map.get u.adj_rib_in x ≢ map.get s.adj_rib_in x) × (map.get after x ≡ entry x))
     by_test true e = inr ((λ same. none_some (map.get s.adj_rib_in x) (sym same ∙ heard_none tells.0 x) (sym had ∙ e)), each x e)
     by_test false e = inl (heard_none tells.0 x ∙ sym (is_none (map.get s.adj_rib_in x) (sym had ∙ e)), others x e)
 
@@ -167,13 +181,17 @@ module _ (s u : SessionValue) (bytes : List ℕ) (tied_to : IsTied s) (gets : Ge
   pub due_then : (best : BestRoutes) (before after : Prefixes) (st : ReadStep) → TellsRead st s u → DueBy st best before after
       → DueThen (state s) (state u) best before after
   due_then best before after steps.Opened tells due =
-      subst (λ (x : SessionState). DueThen x (state u) best before after) (sym tells.0) (subst (λ (y : SessionState). DueThen states.OpenSent y best before after) (sym tells.1) due)
+      subst (λ (x : SessionState). DueThen x (state u) best before after) (sym tells.0)
+      (subst (λ (y : SessionState). DueThen states.OpenSent y best before after) (sym tells.1) due)
   due_then best before after steps.Established tells due =
-      subst (λ (x : SessionState). DueThen x (state u) best before after) (sym tells.0) (subst (λ (y : SessionState). DueThen states.OpenConfirm y best before after) (sym tells.1) due.members)
+      subst (λ (x : SessionState). DueThen x (state u) best before after) (sym tells.0)
+      (subst (λ (y : SessionState). DueThen states.OpenConfirm y best before after) (sym tells.1) due.members)
   due_then best before after (steps.Changed ps) tells due =
-      subst (λ (x : SessionState). DueThen x (state u) best before after) (sym tells.0) (subst (λ (y : SessionState). DueThen states.Established y best before after) (sym tells.1) due)
+      subst (λ (x : SessionState). DueThen x (state u) best before after) (sym tells.0)
+      (subst (λ (y : SessionState). DueThen states.Established y best before after) (sym tells.1) due)
   due_then best before after (steps.Closed ps) tells due =
-      subst (λ (y : SessionState). DueThen (state s) y best before after) (sym tells.0) (closed_due best before after (state s) (λ x. ap (λ (p : Prefixes). has p x) due ∙ none_in x))
+      subst (λ (y : SessionState). DueThen (state s) y best before after) (sym tells.0)
+      (closed_due best before after (state s) (λ x. ap (λ (p : Prefixes). has p x) due ∙ none_in x))
 
   pub due_up : (best : BestRoutes) (before after : Prefixes) (st : ReadStep) → TellsRead st s u → DueBy st best before after → IsDueWhileUp s before
       → IsDueWhileUp u after

@@ -1,5 +1,6 @@
 -- What is left, the lowest of it.
-use Rattle.std.proofs.Common.{◌≡◌, ℕ, ◌+◌, ◌<◌, ◌≤◌, min, List, length, Option, Some, None, Bool, true, false, is_some, inl, inr, ◌⊎◌, ◌↔◌, refl, sym, ap, subst, ◌∙◌, arith}
+use Rattle.std.proofs.Common.{◌≡◌, ℕ, ◌+◌, ◌<◌, ◌≤◌, min, List, length, Option, Some, None, Bool, true, false}
+use Rattle.std.proofs.Common.{is_some, inl, inr, ◌⊎◌, ◌↔◌, refl, sym, ap, subst, ◌∙◌, arith}
 use Rattle.std.specs.FinMap as map
 use Rattle.std.proofs.lemmas.Bool.{cases_lt}
 use Rattle.bgp_types.specs.Prefixes.{PrefixValue}
@@ -46,7 +47,8 @@ none_due s None is e (p, there) = false_true (sym (ap (λ (t : Prefixes). has t 
 none_due s (Some q) is e (p, there) = false_true (sym e)
 
 pub none_behind : (sets : List Prefixes) (n k : ℕ) → length sets ≤ n → n ≤ k → HasSome (table_at sets k) → ⊥
-none_behind sets n k all from (p, there) = false_true (sym (ap (λ (t : Prefixes). has t p) (table_at_end sets k (omega (arith, all, from))) ∙ none_in p) ∙ there)
+none_behind sets n k all from (p, there) =
+    false_true (sym (ap (λ (t : Prefixes). has t p) (table_at_end sets k (omega (arith, all, from))) ∙ none_in p) ∙ there)
 
 -- ---- places
 
@@ -69,17 +71,24 @@ module _ (places : List (Option Place)) (n : ℕ) where
 
   pub lowest_next : (one other : Option ℕ) → LowestBelow places n one → graft_in_place (place_of (place_at places n)) ≡ other
       → LowestBelow places (n + 1) (lower_of one other)
-  lowest_next None None lowest is = λ k has. let (p, below, at) = has in elim (cut p k below at) [ inl under ↦ lowest k (p, under, at) | inr here ↦ (let x : ⊥ = no_some k (sym is ∙ here) in x) ]
+  lowest_next None None lowest is = λ k has. let (p, below, at) = has in
+      elim (cut p k below at) [ inl under ↦ lowest k (p, under, at) | inr here ↦ (let x : ⊥ = no_some k (sym is ∙ here) in x) ]
     where
       no_some : (k : ℕ) → ◌≡◌ {A = Option ℕ} None (Some k) → ⊥
       no_some k e = let x : ⊥ = cc in x
   lowest_next None (Some m) lowest is = (
     (n, omega arith, is),
-    λ k has. let (p, below, at) = has in elim (cut p k below at) [ inl under ↦ absurd (lowest k (p, under, at)) | inr here ↦ (let e : m ≡ k = (let f : ◌≡◌ {A = Option ℕ} (Some m) (Some k) = sym is ∙ here in cc) in omega (arith, e)) ],
+    λ k has. let (p, below, at) = has in elim (cut p k below at) [
+      | inl under ↦ absurd (lowest k (p, under, at))
+      | inr here ↦ (let e : m ≡ k = (let f : ◌≡◌ {A = Option ℕ} (Some m) (Some k) = sym is ∙ here in cc) in omega (arith, e))
+    ],
   )
   lowest_next (Some m) None lowest is = (
     (lowest.0.0, omega (arith, lowest.0.1), lowest.0.2),
-    λ k has. let (p, below, at) = has in elim (cut p k below at) [ inl under ↦ lowest.1 k (p, under, at) | inr here ↦ absurd (let f : ◌≡◌ {A = Option ℕ} None (Some k) = sym is ∙ here in (let x : ⊥ = cc in x)) ],
+    λ k has. let (p, below, at) = has in elim (cut p k below at) [
+      | inl under ↦ lowest.1 k (p, under, at)
+      | inr here ↦ absurd (let f : ◌≡◌ {A = Option ℕ} None (Some k) = sym is ∙ here in (let x : ⊥ = cc in x))
+    ],
   )
   lowest_next (Some m) (Some j) lowest is = (
     elim (cases_lt j m) [
@@ -97,12 +106,14 @@ module _ (places : List (Option Place)) (n : ℕ) where
   lowest_all None all lowest = λ k has. let (p, at) = has in elim (cases_lt p n) [ inl below ↦ lowest k (p, below, at) | inr from ↦ behind p k from at ]
     where
       behind : (p k : ℕ) → n ≤ p → graft_in_place (place_of (place_at places p)) ≡ Some k → ⊥
-      behind p k from at = let f : ◌≡◌ {A = Option ℕ} None (Some k) = sym (ap (λ (x : Option Place). graft_in_place (place_of x)) (place_at_end places p (omega (arith, all, from)))) ∙ at in (let x : ⊥ = cc in x)
+      behind p k from at = let f : ◌≡◌ {A = Option ℕ} None (Some k) =
+          sym (ap (λ (x : Option Place). graft_in_place (place_of x)) (place_at_end places p (omega (arith, all, from)))) ∙ at in (let x : ⊥ = cc in x)
   lowest_all (Some m) all lowest = (
     (lowest.0.0, lowest.0.2),
     λ k has. let (p, at) = has in elim (cases_lt p n) [
       | inl below ↦ lowest.1 k (p, below, at)
-      | inr from ↦ absurd (let f : ◌≡◌ {A = Option ℕ} None (Some k) = sym (ap (λ (x : Option Place). graft_in_place (place_of x)) (place_at_end places p (omega (arith, all, from)))) ∙ at in (let x : ⊥ = cc in x))
+      | inr from ↦ absurd (let f : ◌≡◌ {A = Option ℕ} None (Some k) =
+          sym (ap (λ (x : Option Place). graft_in_place (place_of x)) (place_at_end places p (omega (arith, all, from)))) ∙ at in (let x : ⊥ = cc in x))
     ],
   )
 

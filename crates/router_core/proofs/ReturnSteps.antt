@@ -35,10 +35,13 @@ use Rattle.router_core.proofs.PlaceLists.{listed, rooms}
 use Rattle.router_core.proofs.Takings.{drops, is_router, takes_then}
 
 module _ (f mid h : Fields) (a b c : Post (Item RunningSession)) (from k to : ℕ) (s : RunningSession) (refusal : Refusal) (keeps : RouterInvariant f)
-    (below : from < f.routers) (there : s.session.config.peering.0 < length f.places.places) (away : IsShadowOf (place_at f.places.places s.session.config.peering.0) k) (way : IsOnItsWay f.known.setup s.session)
+    (below : from < f.routers) (there : s.session.config.peering.0 < length f.places.places)
+    (away : IsShadowOf (place_at f.places.places s.session.config.peering.0) k) (way : IsOnItsWay f.known.setup s.session)
     (to_is : to ≡ f.routers + length f.places.places) (wrote : WritesEvent a (Return from) ((to, items.Report k (Refused refusal)) ∷ []) b)
-    (same : mid ≡ record f { places = mid.places; due_out = mid.due_out }) (held : mid.places ≡ with_place f.places s.session.config.peering.0 (Some (Live s None)))
-    (sets : OneSet f.due_out s.session.config.peering.0 mid.due_out) (due : IsDueAgain s.session.adj_rib_out f.rib.best (table_at mid.due_out s.session.config.peering.0)) where
+    (same : mid ≡ record f { places = mid.places; due_out = mid.due_out })
+    (held : mid.places ≡ with_place f.places s.session.config.peering.0 (Some (Live s None)))
+    (sets : OneSet f.due_out s.session.config.peering.0 mid.due_out)
+    (due : IsDueAgain s.session.adj_rib_out f.rib.best (table_at mid.due_out s.session.config.peering.0)) where
   abbrev p : ℕ
   p = s.session.config.peering.0
 
@@ -52,7 +55,14 @@ module _ (f mid h : Fields) (a b c : Post (Item RunningSession)) (from k to : �
   pub keeps_return : KeepsBut p mid
   keeps_return = subst (KeepsBut p) (sym same) (record {
     rest = rest_on f (record f { places = mid.places; due_out = mid.due_out }) keeps refl
-        (record { places = ap length (listed held) ∙ length-set f.places.places p (Some (Live s None)); reserved = rooms held; due_in = refl; due_out = sets.length; config = refl; tellings = λ n out. refl });
+        (record {
+          places = ap length (listed held) ∙ length-set f.places.places p (Some (Live s None));
+          reserved = rooms held;
+          due_in = refl;
+          due_out = sets.length;
+          config = refl;
+          tellings = λ n out. refl;
+        });
     here = record {
       session = s;
       errand = None;
@@ -63,7 +73,8 @@ module _ (f mid h : Fields) (a b c : Post (Item RunningSession)) (from k to : �
     };
     others = λ n not.
         subst (λ (x : Option Place). KeepsPlace f.known.setup f.number.0 n ((rib_of f.rib).entries n) (table_at mid.due_out n) x) (sym (elsewhere n not))
-        (subst (λ (d : Prefixes). KeepsPlace f.known.setup f.number.0 n ((rib_of f.rib).entries n) d (place_at f.places.places n)) (sym (sets.others n not)) (keeps.each n));
+        (subst (λ (d : Prefixes). KeepsPlace f.known.setup f.number.0 n ((rib_of f.rib).entries n) d (place_at f.places.places n))
+        (sym (sets.others n not)) (keeps.each n));
   })
 
   pub returns_back : ReadsAll p mid b h c → RouterTakesIt from (items.Back k s refusal) f a h c
@@ -94,7 +105,8 @@ module _ (f mid h : Fields) (a b c : Post (Item RunningSession)) (from k to : �
           due = record { members = due.members };
           effect = ap router_part same
               ∙ (λ i. let v : RouterPart = record (router_part f) {
-                places = (ap (λ (xs : List (Option Place)). (λ n. place_of (place_at xs n))) (listed held) ∙ places_at f.places.places p (Some (Live s None)) there) i;
+                places = (ap (λ (xs : List (Option Place)). (λ n. place_of (place_at xs n))) (listed held)
+                    ∙ places_at f.places.places p (Some (Live s None)) there) i;
                 due_out = at_is (table_at f.due_out) (table_at mid.due_out) p (table_at mid.due_out p) refl (λ n not. sets.others n not) i;
               } in v);
         };
@@ -118,7 +130,8 @@ module _ (f mid h : Fields) (a b c : Post (Item RunningSession)) (from k to : �
 
 -- a session that isn't a router's, or of no shadow of that graft, or isn't on its way
 pub drops_back : (f : Fields) (a b : Post (Item RunningSession)) (from k : ℕ) (s : RunningSession) (refusal : Refusal) → RouterInvariant f
-    → (from < f.routers → s.session.config.peering.0 < length f.places.places → IsShadowOf (place_at f.places.places s.session.config.peering.0) k → IsOnItsWay f.known.setup s.session → ⊥)
+    → (from < f.routers → s.session.config.peering.0 < length f.places.places
+    → IsShadowOf (place_at f.places.places s.session.config.peering.0) k → IsOnItsWay f.known.setup s.session → ⊥)
     → WroteOne a dropped [] b → RouterTakesIt from (items.Back k s refusal) f a f b
 drops_back f a b from k s refusal keeps not wrote = drops f a b from (items.Back k s refusal) keeps wrote
     (λ w.

@@ -60,7 +60,8 @@ no_answer p q from (suc n) some = refl
 
 pub emit_elsewhere : (p q from len : ℕ) → p ≢ q → events_on p (Emit q from len ∷ []) ≡ none_on
 emit_elsewhere p q from zero not =
-    ap (λ (b : Bool). let x : OnPeering = record { rounds = []; emits = 0 + (if b then 1 else 0); answers = 0 + (if b then 1 else 0) } in x) (ne_eqb q p (λ e. not (sym e)))
+    ap (λ (b : Bool). let x : OnPeering = record { rounds = []; emits = 0 + (if b then 1 else 0); answers = 0 + (if b then 1 else 0) } in x)
+    (ne_eqb q p (λ e. not (sym e)))
 emit_elsewhere p q from (suc n) not =
     ap (λ (b : Bool). let x : OnPeering = record { rounds = []; emits = 0 + (if b then 1 else 0); answers = 0 } in x) (ne_eqb q p (λ e. not (sym e)))
 

@@ -1,5 +1,6 @@
 -- A round passes on a session, and the router follows it.
-use Rattle.std.proofs.Common.{◌≡◌, ◌≢◌, ℕ, ◌+◌, ◌<◌, List, [], ◌∷◌, ◌++◌, length, Option, Some, None, option_map, is_some, Bool, true, false, ◌⊎◌, inl, inr, refl, sym, ap, subst, ◌∙◌}
+use Rattle.std.proofs.Common.{◌≡◌, ◌≢◌, ℕ, ◌+◌, ◌<◌, List, [], ◌∷◌, ◌++◌, length, Option, Some, None, option_map}
+use Rattle.std.proofs.Common.{is_some, Bool, true, false, ◌⊎◌, inl, inr, refl, sym, ap, subst, ◌∙◌}
 use Rattle.std.specs.Prelude.{if◌then◌else◌, fold, nat_lt, Result, OnOk}
 use Rattle.std.proofs.lemmas.Result.{on_ok_weaker}
 use Rattle.std.specs.FinMap as map
@@ -119,18 +120,21 @@ module _ (s u : SessionValue) (round : ℕ) (passes : PassesRound s round u) whe
   -- the state where the session goes on
   plain_state : TellsRound Plain s round u → state u ≡ state s
   plain_state tells = next_is
-      ∙ plain_stays (state s) passes.answer passes.next answers (same_tail s.story (Tick round) passes.answer [] (sym (ap (λ (v : SessionValue). v.story) passes.effect) ∙ tells))
+      ∙ plain_stays (state s) passes.answer passes.next answers
+      (same_tail s.story (Tick round) passes.answer [] (sym (ap (λ (v : SessionValue). v.story) passes.effect) ∙ tells))
 
   beat_state : TellsRound Beat s round u → state u ≡ state s
   beat_state tells = next_is
-      ∙ beat_stays (state s) passes.answer passes.next answers (same_tail s.story (Tick round) passes.answer (Put KeepaliveMsg ∷ []) (sym (ap (λ (v : SessionValue). v.story) passes.effect) ∙ tells))
+      ∙ beat_stays (state s) passes.answer passes.next answers
+      (same_tail s.story (Tick round) passes.answer (Put KeepaliveMsg ∷ []) (sym (ap (λ (v : SessionValue). v.story) passes.effect) ∙ tells))
 
   heard_stays : state u ≡ state s → u.adj_rib_in ≡ s.adj_rib_in
   heard_stays same = ap (λ (v : SessionValue). v.adj_rib_in) passes.effect
       ∙ while_unclosed passes.next s.adj_rib_in (λ e. up_open (state s) passes.up (sym same ∙ next_is ∙ e))
 
   heard_none : state u ≡ Closed → (x : PrefixValue) → map.get u.adj_rib_in x ≡ None
-  heard_none closed x = ap (λ (t : Routes). map.get t x) (ap (λ (v : SessionValue). v.adj_rib_in) passes.effect ∙ ap (λ (st : SessionState). unless_closed st s.adj_rib_in) (sym next_is ∙ closed))
+  heard_none closed x = ap (λ (t : Routes). map.get t x)
+      (ap (λ (v : SessionValue). v.adj_rib_in) passes.effect ∙ ap (λ (st : SessionState). unless_closed st s.adj_rib_in) (sym next_is ∙ closed))
       ∙ map.get-empty _ x
 
   unread_same : unread u ≡ unread s
@@ -140,13 +144,15 @@ module _ (s u : SessionValue) (round : ℕ) (passes : PassesRound s round u) whe
 
   stays_heard : (entry : PrefixValue → Option _) (before after : Entries) → state u ≡ state s
       → ((x : PrefixValue) → map.get after x ≡ map.get before x) → (x : PrefixValue)
-      → ((map.get u.adj_rib_in x ≡ map.get s.adj_rib_in x) × (map.get after x ≡ map.get before x)) ⊎ ((map.get u.adj_rib_in x ≢ map.get s.adj_rib_in x) × (map.get after x ≡ entry x))
+      → ((map.get u.adj_rib_in x ≡ map.get s.adj_rib_in x) × (map.get after x ≡ map.get before x))
+      ⊎ ((map.get u.adj_rib_in x ≢ map.get s.adj_rib_in x) × (map.get after x ≡ entry x))
   stays_heard entry before after same others x = inl (ap (λ (t : Routes). map.get t x) (heard_stays same), others x)
 
   follows_round : (entry : PrefixValue → Option _) (before after : Entries) (st : TickStep) → TellsRound st s round u
       → ((x : PrefixValue) → list_any (same_prefix x) (prefixes_in (followed st)) ≡ true → map.get after x ≡ entry x)
       → ((x : PrefixValue) → list_any (same_prefix x) (prefixes_in (followed st)) ≡ false → map.get after x ≡ map.get before x) → (x : PrefixValue)
-      → ((map.get u.adj_rib_in x ≡ map.get s.adj_rib_in x) × (map.get after x ≡ map.get before x)) ⊎ ((map.get u.adj_rib_in x ≢ map.get s.adj_rib_in x) × (map.get after x ≡ entry x))
+      → ((map.get u.adj_rib_in x ≡ map.get s.adj_rib_in x) × (map.get after x ≡ map.get before x))
+      ⊎ ((map.get u.adj_rib_in x ≢ map.get s.adj_rib_in x) × (map.get after x ≡ entry x))
   follows_round entry before after Plain tells each others x = stays_heard entry before after (plain_state tells) (λ y. others y refl) x
   follows_round entry before after Beat tells each others x = stays_heard entry before after (beat_state tells) (λ y. others y refl) x
   follows_round entry before after (Expired ps) tells each others x = by_test (list_any (same_prefix x) ps) refl where
@@ -154,19 +160,22 @@ module _ (s u : SessionValue) (round : ℕ) (passes : PassesRound s round u) whe
     had = ap (λ (ks : List PrefixValue). list_any (same_prefix x) ks) tells.1 ∙ keys_any s.adj_rib_in x
 
     by_test : (b : Bool) → list_any (same_prefix x) ps ≡ b
-        → ((map.get u.adj_rib_in x ≡ map.get s.adj_rib_in x) × (map.get after x ≡ map.get before x)) ⊎ ((map.get u.adj_rib_in x ≢ map.get s.adj_rib_in x) × (map.get after x ≡ entry x))
+        → ((map.get u.adj_rib_in x ≡ map.get s.adj_rib_in x) × (map.get after x ≡ map.get before x))
+        ⊎ ((map.get u.adj_rib_in x ≢ map.get s.adj_rib_in x) × (map.get after x ≡ entry x))
     by_test true e = inr ((λ same. false_true (sym (ap is_some (sym same ∙ heard_none tells.0 x)) ∙ (sym had ∙ e))), each x e)
     by_test false e = inl (heard_none tells.0 x ∙ sym (none_of (map.get s.adj_rib_in x) (sym had ∙ e)), others x e)
 
   stays_due : (best : BestRoutes) (before after : Prefixes) → state u ≡ state s → after ≡ before → DueThen (state s) (state u) best before after
-  stays_due best before after same due = subst (λ (y : SessionState). DueThen (state s) y best before after) (sym same) (subst (λ (d : Prefixes). DueThen (state s) (state s) best before d) (sym due) (same_due (state s) best before passes.up))
+  stays_due best before after same due = subst (λ (y : SessionState). DueThen (state s) y best before after) (sym same)
+      (subst (λ (d : Prefixes). DueThen (state s) (state s) best before d) (sym due) (same_due (state s) best before passes.up))
 
   due_round : (best : BestRoutes) (before after : Prefixes) (st : TickStep) → TellsRound st s round u → DueBy (followed st) best before after
       → DueThen (state s) (state u) best before after
   due_round best before after Plain tells due = stays_due best before after (plain_state tells) due
   due_round best before after Beat tells due = stays_due best before after (beat_state tells) due
   due_round best before after (Expired ps) tells due =
-      subst (λ (y : SessionState). DueThen (state s) y best before after) (sym tells.0) (closed_due (state s) best before after (λ x. ap (λ (d : Prefixes). has d x) due ∙ none_in x))
+      subst (λ (y : SessionState). DueThen (state s) y best before after) (sym tells.0)
+      (closed_due (state s) best before after (λ x. ap (λ (d : Prefixes). has d x) due ∙ none_in x))
 
   up_round : (best : BestRoutes) (before after : Prefixes) (st : TickStep) → TellsRound st s round u → DueBy (followed st) best before after
       → ((x : PrefixValue) → has before x ≡ true → state s ≡ Established) → (x : PrefixValue) → has after x ≡ true → state u ≡ Established
@@ -176,8 +185,10 @@ module _ (s u : SessionValue) (round : ℕ) (passes : PassesRound s round u) whe
 
 -- ---- the event
 
-module _ (f g : Fields) (p : ℕ) (a b : Post (Item RunningSession)) (round : ℕ) (s u : RunningSession) (o : Option Errand) (step : TickStep) (keeps : RouterInvariant f) (is : place_at f.places.places p ≡ Some (Live s o)) (there : p < length f.places.places)
-    (may : MayPass s.session round) (ticks : SessionTicks step s round u) (items : g.places ≡ with_place f.places p (Some (Live u o))) (wrote : WritesEvent a (events.Tick p round) [] b)
+module _ (f g : Fields) (p : ℕ) (a b : Post (Item RunningSession)) (round : ℕ) (s u : RunningSession) (o : Option Errand)
+    (step : TickStep) (keeps : RouterInvariant f) (is : place_at f.places.places p ≡ Some (Live s o)) (there : p < length f.places.places)
+    (may : MayPass s.session round) (ticks : SessionTicks step s round u)
+    (items : g.places ≡ with_place f.places p (Some (Live u o))) (wrote : WritesEvent a (events.Tick p round) [] b)
     (follows : FollowsStep (record f { places = g.places }) p u (followed step) g) where
   same : g ≡ record f { places = g.places; rib = g.rib; due_out = g.due_out }
   same = follows.same
@@ -200,13 +211,15 @@ module _ (f g : Fields) (p : ℕ) (a b : Post (Item RunningSession)) (round : �
     next = u.session;
     passes = ticks.passes;
     follows = record {
-      entries = follows_round s.session u.session round ticks.passes (entry_of f.known.setup f.number.0 u.session) ((rib_of f.rib).entries p) ((rib_of g.rib).entries p) step ticks.tells
+      entries = follows_round s.session u.session round ticks.passes (entry_of f.known.setup f.number.0 u.session)
+          ((rib_of f.rib).entries p) ((rib_of g.rib).entries p) step ticks.tells
           (λ x e. follows.entered.each x e ∙ entry_is f u.session x keeps) follows.entered.others;
       dirty = follows.entered.dirty;
       due = due_round s.session u.session round ticks.passes f.rib.best (table_at f.due_out p) (table_at g.due_out p) step ticks.tells follows.due;
       effect = ap router_part same
           ∙ (λ i. let v : RouterPart = record (with_routes (router_part f) (follows.entered.effect i)) {
-            places = (ap (λ (xs : List (Option Place)). (λ n. place_of (place_at xs n))) (listed items) ∙ places_at f.places.places p (Some (Live u o)) there) i;
+            places =
+                (ap (λ (xs : List (Option Place)). (λ n. place_of (place_at xs n))) (listed items) ∙ places_at f.places.places p (Some (Live u o)) there) i;
             due_out = at_is (table_at f.due_out) (table_at g.due_out) p (table_at g.due_out p) refl (λ n not. follows.sets.others n not) i;
           } in v);
     };
@@ -231,7 +244,8 @@ module _ (f g : Fields) (p : ℕ) (a b : Post (Item RunningSession)) (round : �
   )
 
   keeps_then : RouterInvariant g
-  keeps_then = keeps_on f g keeps (subst (λ (h : Fields). h ≡ record f { places = h.places; rib = h.rib; due_in = h.due_in; due_out = h.due_out; turns = h.turns }) (sym same) refl)
+  keeps_then = keeps_on f g keeps
+      (subst (λ (h : Fields). h ≡ record f { places = h.places; rib = h.rib; due_in = h.due_in; due_out = h.due_out; turns = h.turns }) (sym same) refl)
       (record {
         places = ap length (listed items) ∙ length-set f.places.places p (Some (Live u o));
         reserved = rooms items;
@@ -247,45 +261,58 @@ module _ (f g : Fields) (p : ℕ) (a b : Post (Item RunningSession)) (round : �
         | inr not ↦
             subst (λ (x : Option Place). KeepsPlace f.known.setup f.number.0 n ((rib_of g.rib).entries n) (table_at g.due_out n) x) (sym (elsewhere n not))
             (subst (λ (es : Entries). KeepsPlace f.known.setup f.number.0 n es (table_at g.due_out n) (place_at f.places.places n)) (sym (entries_else n not))
-            (subst (λ (d : Prefixes). KeepsPlace f.known.setup f.number.0 n ((rib_of f.rib).entries n) d (place_at f.places.places n)) (sym (follows.sets.others n not)) (keeps.each n)))
+            (subst (λ (d : Prefixes). KeepsPlace f.known.setup f.number.0 n ((rib_of f.rib).entries n) d (place_at f.places.places n))
+            (sym (follows.sets.others n not)) (keeps.each n)))
       ])
 
   round_here : rounds_on p (events.Tick p round ∷ []) ≡ round ∷ []
   round_here = ap (λ (t : Bool). let xs : List ℕ = (if t then round ∷ [] else []) ++ [] in xs) (eq-eqb p p refl)
 
   round_else : (n : ℕ) → n ≢ p → events_on n (events.Tick p round ∷ []) ≡ none_on
-  round_else n not = ap (λ (t : Bool). let on : OnPeering = record { rounds = (if t then round ∷ [] else []) ++ []; emits = 0; answers = 0 } in on) (ne_eqb p n (λ e. not (sym e)))
+  round_else n not = ap (λ (t : Bool). let on : OnPeering = record { rounds = (if t then round ∷ [] else []) ++ []; emits = 0; answers = 0 } in on)
+      (ne_eqb p n (λ e. not (sym e)))
 
   more : PutsMore s u
-  more = record { acked = ap (λ (v : SessionValue). v.end.acked) ticks.passes.effect; emitted = ap (λ (v : SessionValue). v.end.emitted) ticks.passes.effect; at_turn = ticks.same_turn }
+  more = record {
+    acked = ap (λ (v : SessionValue). v.end.acked) ticks.passes.effect;
+    emitted = ap (λ (v : SessionValue). v.end.emitted) ticks.passes.effect;
+    at_turn = ticks.same_turn;
+  }
 
   pub ticks_at : Visits (passing_rounds round) p f a g b
   ticks_at = record {
     events = events.Tick p round ∷ [];
     did = λ t. subst (λ (v : ℕ → Tally). DidAsRouter f a t (events.Tick p round ∷ []) g b v) (λ i n. sym (at_own t p (t p) refl n) i)
-        (did_one f g a b t (events.Tick p round) (record { setup = ap (λ (h : Fields). h.known.setup) same; number = ap (λ (h : Fields). h.number) same }) wrote row tt);
+        (did_one f g a b t (events.Tick p round)
+        (record { setup = ap (λ (h : Fields). h.known.setup) same; number = ap (λ (h : Fields). h.number) same }) wrote row tt);
     at = (refl, tt);
     goes = subst (λ (xs : List ℕ). PlaceGoes (PassesWhereItMay round xs) (place_at f.places.places p) (place_at g.places.places p)) (sym round_here)
-        (subst (λ (x : Option Place). PlaceGoes (PassesWhereItMay round (round ∷ [])) x (place_at g.places.places p)) (sym is) (u, here, (more, inl (may, refl))));
+        (subst (λ (x : Option Place). PlaceGoes (PassesWhereItMay round (round ∷ [])) x (place_at g.places.places p))
+        (sym is) (u, here, (more, inl (may, refl))));
     others = λ n not. (elsewhere n not, round_else n not);
     same = same;
     keeps = keeps_then;
   }
 
 -- the router with the session after its round, which it follows then
-module _ {T E : Type 0} (r : Result T E) (f k g : Fields) (p round : ℕ) (a b : Post (Item RunningSession)) (x : Option Place) (step : TickStep) (keeps : RouterInvariant f) (there : p < length f.places.places) (same : k ≡ record f { places = k.places }) (items : k.places ≡ with_place f.places p x)
-    (wrote : WritesEvent a (events.Tick p round) [] b) (follows : (s : RunningSession) (o : Option Errand) → RunsAt k.places.places p s o → s.session.config.peering.0 ≡ p → OnOk r (FollowsStep k p s (followed step) g)) where
+module _ {T E : Type 0} (r : Result T E) (f k g : Fields) (p round : ℕ) (a b : Post (Item RunningSession))
+    (x : Option Place) (step : TickStep) (keeps : RouterInvariant f) (there : p < length f.places.places)
+    (same : k ≡ record f { places = k.places }) (items : k.places ≡ with_place f.places p x)
+    (wrote : WritesEvent a (events.Tick p round) [] b) (follows : (s : RunningSession) (o : Option Errand)
+    → RunsAt k.places.places p s o → s.session.config.peering.0 ≡ p → OnOk r (FollowsStep k p s (followed step) g)) where
   ticks_live : (s u : RunningSession) (o : Option Errand) → place_at f.places.places p ≡ Some (Live s o) → x ≡ Some (Live u o)
       → MayPass s.session round → SessionTicks step s round u → OnOk r (Visits (passing_rounds round) p f a g b)
   ticks_live s u o is x_is may ticks =
-      let own : KeepsPlace f.known.setup f.number.0 p ((rib_of f.rib).entries p) (table_at f.due_out p) (Some (Live s o)) = subst (KeepsPlace f.known.setup f.number.0 p ((rib_of f.rib).entries p) (table_at f.due_out p)) is (keeps.each p) in
+      let own : KeepsPlace f.known.setup f.number.0 p ((rib_of f.rib).entries p) (table_at f.due_out p) (Some (Live s o)) =
+      subst (KeepsPlace f.known.setup f.number.0 p ((rib_of f.rib).entries p) (table_at f.due_out p)) is (keeps.each p) in
       on_ok_weaker r
       (λ (done : FollowsStep k p u (followed step) g).
       let done' : FollowsStep (record f { places = k.places }) p u (followed step) g = subst (λ (h : Fields). FollowsStep h p u (followed step) g) same done in
       let places_are : k.places ≡ g.places = sym (ap (λ (h : Fields). h.places) done.same) in
       ticks_at f g p a b round s u o step keeps is there may ticks (ap (λ (h : Fields). h.places) done.same ∙ items ∙ ap (with_place f.places p) x_is) wrote
       (subst (λ v. FollowsStep (record f { places = v }) p u (followed step) g) places_are done'))
-      (follows u o (record { is = ap (λ (xs : List (Option Place)). place_at xs p) (listed items) ∙ set_here f.places.places p x there ∙ x_is }) (ap (λ (v : SessionValue). v.config.peering.0) ticks.passes.effect ∙ own.0.peering))
+      (follows u o (record { is = ap (λ (xs : List (Option Place)). place_at xs p) (listed items) ∙ set_here f.places.places p x there ∙ x_is })
+      (ap (λ (v : SessionValue). v.config.peering.0) ticks.passes.effect ∙ own.0.peering))
 
   pub ticks_some : (y : Option Place) → place_at f.places.places p ≡ y → AtPlace (Ticked round) y (Some step) x
       → OnOk r (Visits (passing_rounds round) p f a g b)
@@ -298,15 +325,18 @@ module _ {T E : Type 0} (r : Result T E) (f k g : Fields) (p round : ℕ) (a b :
 stays_put : (s : RunningSession) → PutsMore s s
 stays_put s = record { acked = refl; emitted = refl; at_turn = refl }
 
-module _ (f g : Fields) (a : Post (Item RunningSession)) (p round : ℕ) (x : Option Place) (keeps : RouterInvariant f) (there : p < length f.places.places) (same : SameButPlaces f g) (items : g.places ≡ with_place f.places p x) where
+module _ (f g : Fields) (a : Post (Item RunningSession)) (p round : ℕ) (x : Option Place) (keeps : RouterInvariant f)
+    (there : p < length f.places.places) (same : SameButPlaces f g) (items : g.places ≡ with_place f.places p x) where
   same_rest : SameButSessions f g
   same_rest = subst (λ (h : Fields). h ≡ record f { places = h.places; rib = h.rib; due_out = h.due_out }) (sym same) refl
 
   pub ticks_none : (y : Option Place) → place_at f.places.places p ≡ y → AtPlace (Ticked round) y None x → Visits (passing_rounds round) p f a g a
   ticks_none None is ticked = visits_idle f g a a p x keeps there same items (passing_rounds round) same_rest None is ticked.1 refl (λ t. refl)
   ticks_none (Some (Live s o)) is (u, x_is, ticked) =
-      visits_idle f g a a p x keeps there same items (passing_rounds round) same_rest (Some (Live s o)) is (x_is ∙ ap (λ (v : RunningSession). Some (Live v o)) ticked.1) (s, refl, (stays_put s, inr (ticked.0, refl, refl))) (λ t. refl)
-  ticks_none (Some (Shadow away)) is ticked = visits_idle f g a a p x keeps there same items (passing_rounds round) same_rest (Some (Shadow away)) is ticked.1 refl (λ t. refl)
+      visits_idle f g a a p x keeps there same items (passing_rounds round) same_rest (Some (Live s o)) is
+      (x_is ∙ ap (λ (v : RunningSession). Some (Live v o)) ticked.1) (s, refl, (stays_put s, inr (ticked.0, refl, refl))) (λ t. refl)
+  ticks_none (Some (Shadow away)) is ticked =
+      visits_idle f g a a p x keeps there same items (passing_rounds round) same_rest (Some (Shadow away)) is ticked.1 refl (λ t. refl)
 
 -- ---- all places
 

@@ -1,5 +1,6 @@
 -- The segments that a router takes.
-use Rattle.std.proofs.Common.{◌≡◌, ◌≢◌, ℕ, ◌+◌, ◌<◌, ◌≤◌, List, [], length, Bool, true, false, Option, Some, option_map, refl, sym, ap, subst, ◌∙◌, arith, inl, inr, None}
+use Rattle.std.proofs.Common.{◌≡◌, ◌≢◌, ℕ, ◌+◌, ◌<◌, ◌≤◌, List, [], length, Bool, true, false, Option, Some}
+use Rattle.std.proofs.Common.{option_map, refl, sym, ap, subst, ◌∙◌, arith, inl, inr, None}
 use Rattle.std.proofs.lemmas.List.{length-set}
 use Rattle.ring_net.specs.declared.post.Post.{Post}
 use Rattle.graft_steps.specs.declared.item.Item.{Item}
@@ -66,7 +67,8 @@ module _ (f : Fields) (a b : Post (Item RunningSession)) (from p : ℕ) (g : Seg
 
 -- ---- a segment of the peering
 
-module _ (f : Fields) (a b : Post (Item RunningSession)) (from p : ℕ) (g : Segment) (keeps : RouterInvariant f) (number : from ≡ f.routers + p) (there : p < length f.places.places) (is : IsSegmentOf f.known.setup p Home g) where
+module _ (f : Fields) (a b : Post (Item RunningSession)) (from p : ℕ) (g : Segment) (keeps : RouterInvariant f)
+    (number : from ≡ f.routers + p) (there : p < length f.places.places) (is : IsSegmentOf f.known.setup p Home g) where
   abbrev seg : PlacedSegment
   seg = segment_of f.known.setup g
 
@@ -77,7 +79,8 @@ module _ (f : Fields) (a b : Post (Item RunningSession)) (from p : ℕ) (g : Seg
       ap (actor_at f.known.setup) number_is ∙ is_there f.known.setup (FarSide p) known
 
   own_of : (s : RunningSession) (o : Option Errand) → RunsAt f.places.places p s o → IsOfPeering f.known.setup p s.session
-  own_of s o live = (subst (λ (x : Option Place). KeepsPlace f.known.setup f.number.0 p ((rib_of f.rib).entries p) (table_at f.due_out p) x) live.is (keeps.each p)).0
+  own_of s o live =
+      (subst (λ (x : Option Place). KeepsPlace f.known.setup f.number.0 p ((rib_of f.rib).entries p) (table_at f.due_out p) x) live.is (keeps.each p)).0
 
   seg_is : (s : RunningSession) (o : Option Errand) → RunsAt f.places.places p s o → seg ≡ received_as s.session.config g
   seg_is s o live =
@@ -94,7 +97,8 @@ module _ (f : Fields) (a b : Post (Item RunningSession)) (from p : ℕ) (g : Seg
   strays h same held absent wrote =
       let kept : h.places ≡ f.places = held ∙ same_there f.places p in
       let unchanged : h.places.places ≡ f.places.places = listed kept in
-      let part : router_part h ≡ router_part f = ap router_part same ∙ ap (λ (xs : List (Option Place)). let v : RouterPart = record (router_part f) { places = λ n. place_of (place_at xs n) } in v) unchanged in
+      let part : router_part h ≡ router_part f = ap router_part same
+      ∙ ap (λ (xs : List (Option Place)). let v : RouterPart = record (router_part f) { places = λ n. place_of (place_at xs n) } in v) unchanged in
       takes_then f h h a b b from (items.Seg g) (Stray p) []
       (record {
         router = record { setup = ap (λ (k : Fields). k.known.setup) same; number = ap (λ (k : Fields). k.number) same };
@@ -115,7 +119,8 @@ module _ (f : Fields) (a b : Post (Item RunningSession)) (from p : ℕ) (g : Seg
       })
       (λ t. did_same h h b t (same_router h) refl)
       (refl, tt)
-      (λ n u v o w x y. stays_itself u v (live_is f.places.places n u v o w x (record { is = ap (λ (xs : List (Option Place)). place_at xs n) (sym unchanged) ∙ y.is })))
+      (λ n u v o w x y. stays_itself u v
+      (live_is f.places.places n u v o w x (record { is = ap (λ (xs : List (Option Place)). place_at xs n) (sym unchanged) ∙ y.is })))
       (ap (λ (k : Fields). k.turns) same)
       (Rattle.router_core.proofs.Kept.keeps_on f h keeps
       (subst (λ (k : Fields). k ≡ record f { places = k.places; rib = k.rib; due_in = k.due_in; due_out = k.due_out; turns = k.turns }) (sym same) refl)
@@ -127,8 +132,10 @@ module _ (f : Fields) (a b : Post (Item RunningSession)) (from p : ℕ) (g : Seg
         config = ap (λ (k : Fields). k.rib.config) same;
         tellings = λ n out. ap (λ (k : Fields). (rib_of k.rib).tellings n) same;
       })
-      (λ n. subst (λ (k : Fields). KeepsPlace f.known.setup f.number.0 n ((rib_of k.rib).entries n) (table_at k.due_out n) (place_at h.places.places n)) (sym same)
-      (subst (λ (xs : List (Option Place)). KeepsPlace f.known.setup f.number.0 n ((rib_of f.rib).entries n) (table_at f.due_out n) (place_at xs n)) (sym unchanged) (keeps.each n))))
+      (λ n. subst (λ (k : Fields). KeepsPlace f.known.setup f.number.0 n ((rib_of k.rib).entries n) (table_at k.due_out n) (place_at h.places.places n))
+      (sym same)
+      (subst (λ (xs : List (Option Place)). KeepsPlace f.known.setup f.number.0 n ((rib_of f.rib).entries n) (table_at f.due_out n) (place_at xs n))
+      (sym unchanged) (keeps.each n))))
     where
       no_live : (x : Option Place) → place_at f.places.places p ≡ x → (s : SessionValue) (o : Option model.Errand) → place_of x ≡ model.Live s o → ⊥
       no_live None e s o l = cc
@@ -136,7 +143,8 @@ module _ (f : Fields) (a b : Post (Item RunningSession)) (from p : ℕ) (g : Seg
       no_live (Some (Shadow away)) e s o l = cc
 
   -- it arrives at the session that is live there
-  module _ (mid : Fields) (s u : RunningSession) (o : Option Errand) (arrival : Arrival) (live : RunsAt f.places.places p s o) (arr : SegmentArrives arrival s g u)
+  module _ (mid : Fields) (s u : RunningSession) (o : Option Errand) (arrival : Arrival)
+      (live : RunsAt f.places.places p s o) (arr : SegmentArrives arrival s g u)
       (same : mid ≡ record f { places = mid.places }) (held : mid.places ≡ with_place f.places p (Some (Live u o))) where
     here : place_at mid.places.places p ≡ Some (Live u o)
     here = ap (λ (xs : List (Option Place)). place_at xs p) (listed held) ∙ placed_here f.places.places p (Some (Live u o)) there
@@ -150,16 +158,25 @@ module _ (f : Fields) (a b : Post (Item RunningSession)) (from p : ℕ) (g : Seg
     pub keeps_arrival : KeepsBut p mid
     keeps_arrival = subst (KeepsBut p) (sym same) (record {
       rest = rest_on f (record f { places = mid.places }) keeps refl
-          (record { places = ap length (listed held) ∙ length-set f.places.places p (Some (Live u o)); reserved = rooms held; due_in = refl; due_out = refl; config = refl; tellings = λ n out. refl });
+          (record {
+            places = ap length (listed held) ∙ length-set f.places.places p (Some (Live u o));
+            reserved = rooms held;
+            due_in = refl;
+            due_out = refl;
+            config = refl;
+            tellings = λ n out. refl;
+          });
       here = record {
         session = u;
         errand = o;
         live = record { is = here };
-        own = subst (λ (v : RunningSession). IsOfPeering f.known.setup p v.session) (sym arr.effect) (record { peering = keeps_live.0.peering; sends = keeps_live.0.sends; receives = keeps_live.0.receives });
+        own = subst (λ (v : RunningSession). IsOfPeering f.known.setup p v.session) (sym arr.effect)
+            (record { peering = keeps_live.0.peering; sends = keeps_live.0.sends; receives = keeps_live.0.receives });
         for_graft = keeps_live.2;
         due = subst (λ (v : RunningSession). Rattle.router_core.specs.Parts.IsDueWhileUp v.session (table_at f.due_out p)) (sym arr.effect) keeps_live.3;
       };
-      others = λ n not. subst (λ (x : Option Place). KeepsPlace f.known.setup f.number.0 n ((rib_of f.rib).entries n) (table_at f.due_out n) x) (sym (elsewhere n not)) (keeps.each n);
+      others = λ n not. subst (λ (x : Option Place). KeepsPlace f.known.setup f.number.0 n ((rib_of f.rib).entries n) (table_at f.due_out n) x)
+          (sym (elsewhere n not)) (keeps.each n);
     })
 
     rises : s.session.end.acked ≤ u.session.end.acked
@@ -167,7 +184,8 @@ module _ (f : Fields) (a b : Post (Item RunningSession)) (from p : ℕ) (g : Seg
         let e : u.session.end.acked ≡ arr.end.acked = ap (λ (v : RunningSession). v.session.end.acked) arr.effect in
         elim arr.takes [
           | inl d ↦ let x : arr.end.acked ≡ s.session.end.acked = ap (λ v. v.acked) d.stays in omega (arith, e, x)
-          | inr c ↦ let x : arr.end.acked ≡ Rattle.std.specs.Prelude.max s.session.end.acked (received_as s.session.config g).ack = ap (λ v. v.acked) c.changed in omega (arith, e, x)
+          | inr c ↦ let x : arr.end.acked ≡ Rattle.std.specs.Prelude.max s.session.end.acked (received_as s.session.config g).ack =
+              ap (λ v. v.acked) c.changed in omega (arith, e, x)
         ]
 
     emits_none : u.session.end.emitted ≡ s.session.end.emitted
@@ -202,8 +220,10 @@ module _ (f : Fields) (a b : Post (Item RunningSession)) (from p : ℕ) (g : Seg
             arrives = subst (λ (x : PlacedSegment). TakesSegment s.session.end x arr.end) (sym (seg_is s o live)) arr.takes;
             effect = ap router_part same
                 ∙ ap (λ (xs : List (Option Place)). let v : RouterPart = record (router_part f) { places = λ n. place_of (place_at xs n) } in v) (listed held)
-                ∙ ap (λ (ps : ℕ → model.Place). let v : RouterPart = record (router_part f) { places = ps } in v) (places_at f.places.places p (Some (Live u o)) there)
-                ∙ ap (λ (w : RunningSession). let v : RouterPart = record (router_part f) { places = at (router_part f).places p (model.Live w.session (option_map errand_of o)) } in v) arr.effect;
+                ∙ ap (λ (ps : ℕ → model.Place). let v : RouterPart = record (router_part f) { places = ps } in v)
+                (places_at f.places.places p (Some (Live u o)) there)
+                ∙ ap (λ (w : RunningSession). let v : RouterPart =
+                record (router_part f) { places = at (router_part f).places p (model.Live w.session (option_map errand_of o)) } in v) arr.effect;
           };
           sends = refl;
           known = tt;
@@ -224,7 +244,8 @@ module _ (f : Fields) (a b : Post (Item RunningSession)) (from p : ℕ) (g : Seg
         at_it v w m k x y =
             let e : s ≡ v = live_is f.places.places p v s m o x live in
             let later : Stays u w = reads.stays.stays u w o k (record { is = here }) y in
-            subst (λ (z : RunningSession). Stays z w) e (record { acked = omega (arith, rises, later.acked); emitted = later.emitted ∙ emits_none; at_turn = later.at_turn ∙ stays_one.at_turn })
+            subst (λ (z : RunningSession). Stays z w) e
+            (record { acked = omega (arith, rises, later.acked); emitted = later.emitted ∙ emits_none; at_turn = later.at_turn ∙ stays_one.at_turn })
 
 -- ---- what a place answers to a segment
 
@@ -248,5 +269,6 @@ pub record TookIn (place new : Option Place) (g : Segment) : Type 0 where
 
 pub took_in : (place new : Option Place) (g : Segment) (live : Bool) → ArrivesAt live place g new → live ≡ true → TookIn place new g
 took_in None new g live r e = absurd (let x : false ≡ true = sym r.0 ∙ e in let y : ⊥ = cc in y)
-took_in (Some (Live s o)) new g live (is_live, arrival, u, arrives, is) e = record { session = s; errand = o; later = u; arrival = arrival; live = refl; arrives = arrives; is = is }
+took_in (Some (Live s o)) new g live (is_live, arrival, u, arrives, is) e =
+    record { session = s; errand = o; later = u; arrival = arrival; live = refl; arrives = arrives; is = is }
 took_in (Some (Shadow away)) new g live r e = absurd (let x : false ≡ true = sym r.0 ∙ e in let y : ⊥ = cc in y)

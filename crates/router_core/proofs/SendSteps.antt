@@ -1,5 +1,6 @@
 -- The retransmission turn, the new slices and the answer of the session at a place.
-use Rattle.std.proofs.Common.{◌≡◌, ℕ, ◌+◌, ◌<◌, ◌≤◌, [], ◌∷◌, length, Option, option_map, Some, None, Bool, true, false, ◌⊎◌, inl, inr, refl, sym, ap, subst, ◌∙◌, arith}
+use Rattle.std.proofs.Common.{◌≡◌, ℕ, ◌+◌, ◌<◌, ◌≤◌, [], ◌∷◌, length, Option, option_map, Some, None, Bool}
+use Rattle.std.proofs.Common.{true, false, ◌⊎◌, inl, inr, refl, sym, ap, subst, ◌∙◌, arith}
 use Rattle.std.specs.Prelude.{nat_lt, if◌then◌else◌, IsNone, IfNone, ◌↔◌, Result, Ok, Err, IfOk, OnOk}
 use Rattle.std.proofs.lemmas.Bool.{cases_lt, lt-ltb, le-ltb}
 use Rattle.std.proofs.lemmas.Result.{IfOk-weaker}
@@ -48,7 +49,8 @@ some_none x e = let y : ⊥ = cc in y
 
 -- what an outlet notes and sends
 abbrev pub WroteBy : Outlet → Segment → Post (Item RunningSession) → Post (Item RunningSession) → Type 0
-WroteBy outlet segment p q = WritesEvent p (Emit outlet.place (offset_from segment.seq.0 outlet.first.0) (length segment.bytes)) ((outlet.to, items.Seg segment) ∷ []) q
+WroteBy outlet segment p q =
+    WritesEvent p (Emit outlet.place (offset_from segment.seq.0 outlet.first.0) (length segment.bytes)) ((outlet.to, items.Seg segment) ∷ []) q
 
 module _ (f : Fields) (n : ℕ) (outlet : Outlet) (is : IsOutletOf f n outlet) (p q : Post (Item RunningSession)) (segment : Segment) where
   pub wrote_by : (s : SessionValue) (from len : ℕ) → IsOfPeering f.known.setup n s → (sent_as s.config segment).offset ≡ from
@@ -59,11 +61,13 @@ module _ (f : Fields) (n : ℕ) (outlet : Outlet) (is : IsOutletOf f n outlet) (
       subst (λ (m : ℕ). WritesEvent p (Emit n from m) ((routers_in f.known.setup + n, items.Seg segment) ∷ []) q) size
       (subst (λ (m : ℕ). WritesEvent p (Emit n m (length segment.bytes)) ((routers_in f.known.setup + n, items.Seg segment) ∷ []) q) seen
       (subst (λ (m : ℕ). WritesEvent p (Emit n (offset_from segment.seq.0 outlet.first.0) (length segment.bytes)) ((m, items.Seg segment) ∷ []) q) is.to
-      (subst (λ (m : ℕ). WritesEvent p (Emit m (offset_from segment.seq.0 outlet.first.0) (length segment.bytes)) ((outlet.to, items.Seg segment) ∷ []) q) is.place wrote)))
+      (subst (λ (m : ℕ). WritesEvent p (Emit m (offset_from segment.seq.0 outlet.first.0) (length segment.bytes)) ((outlet.to, items.Seg segment) ∷ []) q)
+      is.place wrote)))
 
 -- by a step and the slice that it emits
 pub gives_slice : (Step : Endpoint → PlacedSegment → Endpoint → Type 0) (s u : SessionValue) (segment : Segment) (from len : ℕ)
-    → ((end : Endpoint) → EmitsSlice s.end (sent_as s.config segment) end → Step s.end (sent_as s.config segment) end → EmitsAt from len s.end (sent_as s.config segment) end)
+    → ((end : Endpoint) → EmitsSlice s.end (sent_as s.config segment) end
+    → Step s.end (sent_as s.config segment) end → EmitsAt from len s.end (sent_as s.config segment) end)
     → SessionEmits Step s segment u → SessionEmits EmitsSlice s segment u → Gives s segment u from len
 gives_slice Step s u segment from len at emits slice =
     let same : slice.end ≡ emits.end = sym (ap (λ (v : SessionValue). v.end) slice.effect) ∙ ap (λ (v : SessionValue). v.end) emits.effect in
@@ -89,11 +93,13 @@ module _ (f : Fields) (n : ℕ) (keeps : RouterInvariant f) where
 
 again_is : (s : RunningSession) (o : Option Errand) → s.session.end.acked ≤ s.acked_at_turn → 0 < again_length s.session.end → again_at (Some (Live s o)) ≡ 1
 again_is s o late some =
-    ap (λ (b : Bool). let n : ℕ = if b then 0 else (if nat_lt 0 (again_length s.session.end) then 1 else 0) in n) (le-ltb s.acked_at_turn s.session.end.acked late)
+    ap (λ (b : Bool). let n : ℕ = if b then 0 else (if nat_lt 0 (again_length s.session.end) then 1 else 0) in n)
+    (le-ltb s.acked_at_turn s.session.end.acked late)
     ∙ ap (λ (b : Bool). let n : ℕ = if b then 1 else 0 in n) (lt-ltb 0 (again_length s.session.end) some)
 
 none_is : (s : RunningSession) (o : Option Errand) → (again_length s.session.end ≡ 0) ⊎ (s.acked_at_turn < s.session.end.acked) → again_at (Some (Live s o)) ≡ 0
-none_is s o (inr raised) = ap (λ (b : Bool). let n : ℕ = if b then 0 else (if nat_lt 0 (again_length s.session.end) then 1 else 0) in n) (lt-ltb s.acked_at_turn s.session.end.acked raised)
+none_is s o (inr raised) = ap (λ (b : Bool). let n : ℕ = if b then 0 else (if nat_lt 0 (again_length s.session.end) then 1 else 0) in n)
+    (lt-ltb s.acked_at_turn s.session.end.acked raised)
 none_is s o (inl none) = by_flag (nat_lt s.acked_at_turn s.session.end.acked)
   where
     nothing_out : ◌≡◌ {A = ℕ} (if nat_lt 0 (again_length s.session.end) then 1 else 0) 0
@@ -106,7 +112,8 @@ none_is s o (inl none) = by_flag (nat_lt s.acked_at_turn s.session.end.acked)
 -- a turn that sends is late: nothing was acknowledged since the last one
 late_for : (s : RunningSession) (segment : Segment)
     → (IsNone (Some segment) ↔ ((again_length s.session.end ≡ 0) ⊎ (s.acked_at_turn < s.session.end.acked))) → s.session.end.acked ≤ s.acked_at_turn
-late_for s segment none = elim (cases_lt s.acked_at_turn s.session.end.acked) [ inl raised ↦ absurd (is_none_some segment (none.1 (inr raised))) | inr late ↦ late ]
+late_for s segment none =
+    elim (cases_lt s.acked_at_turn s.session.end.acked) [ inl raised ↦ absurd (is_none_some segment (none.1 (inr raised))) | inr late ↦ late ]
 
 plus_again : (t : Tally) (n : ℕ) → n ≡ 0 → (let u : Tally = record t { again = t.again + n } in u) ≡ t
 plus_again t n is = ap (λ (m : ℕ). let u : Tally = record t { again = m } in u) (let e : t.again + n ≡ t.again = omega (arith, is) in e)
@@ -115,7 +122,8 @@ plus_answers : (t : Tally) (n : ℕ) → n ≡ 0 → (let u : Tally = record t {
 plus_answers t n is = ap (λ (m : ℕ). let u : Tally = record t { answers = m } in u) (let e : t.answers + n ≡ t.answers = omega (arith, is) in e)
 
 -- the places of f with x at n are those of g
-module _ (f g : Fields) (p q : Post (Item RunningSession)) (n : ℕ) (x : Option Place) (keeps : RouterInvariant f) (there : n < length f.places.places) (same : SameButPlaces f g) (items_are : g.places ≡ with_place f.places n x) where
+module _ (f g : Fields) (p q : Post (Item RunningSession)) (n : ℕ) (x : Option Place) (keeps : RouterInvariant f)
+    (there : n < length f.places.places) (same : SameButPlaces f g) (items_are : g.places ≡ with_place f.places n x) where
   items_for : (y : Option Place) → x ≡ y → g.places ≡ with_place f.places n y
   items_for y is = items_are ∙ ap (with_place f.places n) is
 
@@ -126,18 +134,21 @@ module _ (f g : Fields) (p q : Post (Item RunningSession)) (n : ℕ) (x : Option
     visits_idle y is x_is goes count =
         visits_same f g n x there same items_are stage p keeps (ap place_of (x_is ∙ sym is))
         (subst (λ (z : Option Place). stage.Goes none_on z x) (sym is) (subst (stage.Goes none_on y) (sym x_is) goes))
-        (λ t. ap (λ (z : Option Place). stage.count z t) is ∙ count t) same_rest (subst (KeepsPlace f.known.setup f.number.0 n ((rib_of f.rib).entries n) (table_at f.due_out n)) (sym x_is) (keeps_here f n keeps y is))
+        (λ t. ap (λ (z : Option Place). stage.count z t) is ∙ count t) same_rest
+        (subst (KeepsPlace f.known.setup f.number.0 n ((rib_of f.rib).entries n) (table_at f.due_out n)) (sym x_is) (keeps_here f n keeps y is))
 
     -- its session is another one that the model doesn't tell from it
     visits_alike : (s u : RunningSession) (o : Option Errand) → place_at f.places.places n ≡ Some (Live s o) → x ≡ Some (Live u o)
         → u.session ≡ s.session → stage.Goes none_on (Some (Live s o)) (Some (Live u o)) → ((t : Tally) → stage.count (Some (Live s o)) t ≡ t)
         → Visits stage n f p g p
     visits_alike s u o is x_is alike goes count =
-        visits_same f g n x there same items_are stage p keeps (ap place_of x_is ∙ ap (λ (v : SessionValue). model.Live v (option_map errand_of o)) alike ∙ sym (ap place_of is))
+        visits_same f g n x there same items_are stage p keeps
+        (ap place_of x_is ∙ ap (λ (v : SessionValue). model.Live v (option_map errand_of o)) alike ∙ sym (ap place_of is))
         (subst (λ (z : Option Place). stage.Goes none_on z x) (sym is) (subst (stage.Goes none_on (Some (Live s o))) (sym x_is) goes))
         (λ t. ap (λ (z : Option Place). stage.count z t) is ∙ count t) same_rest
         (subst (KeepsPlace f.known.setup f.number.0 n ((rib_of f.rib).entries n) (table_at f.due_out n)) (sym x_is)
-        (keeps_live f.known.setup f.number.0 n ((rib_of f.rib).entries n) (table_at f.due_out n) s u o (keeps_here f n keeps (Some (Live s o)) is) (ap (λ (v : SessionValue). v.config) alike) (ap (λ (v : SessionValue). v.story) alike) (ap unread alike)))
+        (keeps_live f.known.setup f.number.0 n ((rib_of f.rib).entries n) (table_at f.due_out n) s u o (keeps_here f n keeps (Some (Live s o)) is)
+        (ap (λ (v : SessionValue). v.config) alike) (ap (λ (v : SessionValue). v.story) alike) (ap unread alike)))
 
   module _ (outlet : Outlet) (outlet_is : IsOutletOf f n outlet) (segment : Segment) (wrote : WroteBy outlet segment p q) where
     again_live : (s u : RunningSession) (o : Option Errand) → place_at f.places.places n ≡ Some (Live s o) → x ≡ Some (Live u o)
@@ -149,11 +160,15 @@ module _ (f g : Fields) (p q : Post (Item RunningSession)) (n : ℕ) (x : Option
         let some : 0 < again_length e = sent.step.step.some in
         let late : e.acked ≤ s.acked_at_turn = late_for s segment sent.none in
         let out : e.acked < e.emitted = omega (arith, some) in
-        let level : IsLevel s u = running_is u s.session e.acked (sent.step.effect ∙ ap (λ (d : Endpoint). let v : SessionValue = record s.session { end = d } in v) sent.step.step.stays) sent.turned in
-        visits_emitted f g p q n s u o segment e.acked (again_length e) keeps there is same (items_for (Some (Live u o)) x_is) gives (careful_again e some) sent.slice.step.short
-        (wrote_by f n outlet outlet_is p q segment s.session e.acked (again_length e) (keeps_here f n keeps (Some (Live s o)) is).0 gives.at.offset gives.at.size wrote)
+        let level : IsLevel s u = running_is u s.session e.acked
+        (sent.step.effect ∙ ap (λ (d : Endpoint). let v : SessionValue = record s.session { end = d } in v) sent.step.step.stays) sent.turned in
+        visits_emitted f g p q n s u o segment e.acked (again_length e) keeps there is same
+        (items_for (Some (Live u o)) x_is) gives (careful_again e some) sent.slice.step.short
+        (wrote_by f n outlet outlet_is p q segment s.session e.acked (again_length e)
+        (keeps_here f n keeps (Some (Live s o)) is).0 gives.at.offset gives.at.size wrote)
         sending_again refl (emit_here n e.acked (again_length e) ∙ sym (again_is s o late some), (u, refl, level))
-        (λ t. counted_again e (again_length e) t some out ∙ ap (λ (m : ℕ). let v : Tally = record t { again = t.again + m } in v) (sym (again_is s o late some))) same
+        (λ t. counted_again e (again_length e) t some out
+        ∙ ap (λ (m : ℕ). let v : Tally = record t { again = t.again + m } in v) (sym (again_is s o late some))) same
 
     pub again_some : (y : Option Place) → place_at f.places.places n ≡ y → AtPlace SessionSentAgain y (Some segment) x → Visits sending_again n f p g q
     again_some None is at = absurd (some_none segment at.0)
@@ -171,8 +186,10 @@ module _ (f g : Fields) (p q : Post (Item RunningSession)) (n : ℕ) (x : Option
         running_is u (record s.session { end = record e { emitted = e.emitted + next_length e } }) s.acked_at_turn
         (sent.step.effect ∙ ap (λ (d : Endpoint). let v : SessionValue = record s.session { end = d } in v) sent.step.step.rises) sent.same_turn in
         let out : SlicesOut s u = subst (SlicesOut s) (sym rises) refl in
-        visits_emitted f g p q n s u o segment e.emitted (next_length e) keeps there is same (items_for (Some (Live u o)) x_is) gives (careful_next e some) sent.slice.step.short
-        (wrote_by f n outlet outlet_is p q segment s.session e.emitted (next_length e) (keeps_here f n keeps (Some (Live s o)) is).0 gives.at.offset gives.at.size wrote)
+        visits_emitted f g p q n s u o segment e.emitted (next_length e) keeps there is same
+        (items_for (Some (Live u o)) x_is) gives (careful_next e some) sent.slice.step.short
+        (wrote_by f n outlet outlet_is p q segment s.session e.emitted (next_length e)
+        (keeps_here f n keeps (Some (Live s o)) is).0 gives.at.offset gives.at.size wrote)
         slicing refl (no_answer n n e.emitted (next_length e) some, (u, refl, out)) (λ t. counted_next e (next_length e) t some) same
 
     pub next_some : (y : Option Place) → place_at f.places.places n ≡ y → AtPlace SentNext y (Some segment) x → Visits slicing n f p g q
@@ -184,14 +201,24 @@ module _ (f g : Fields) (p q : Post (Item RunningSession)) (n : ℕ) (x : Option
         → SessionSentAnswer s (Some segment) u → Visits answering n f p g q
     answer_live s u o is x_is sent =
         let e : Endpoint = s.session.end in
-        let at : EmitsAt e.emitted 0 e (sent_as s.session.config segment) sent.step.end = at_answer e sent.step.end (sent_as s.session.config segment) sent.step.step in
-        let gives : Gives s.session segment u.session e.emitted 0 = record { end = sent.step.end; at = at; in_streams = sent.step.in_streams; peering = sent.step.peering; way = sent.step.way; effect = sent.step.effect } in
+        let at : EmitsAt e.emitted 0 e (sent_as s.session.config segment) sent.step.end =
+        at_answer e sent.step.end (sent_as s.session.config segment) sent.step.step in
+        let gives : Gives s.session segment u.session e.emitted 0 = record {
+          end = sent.step.end;
+          at = at;
+          in_streams = sent.step.in_streams;
+          peering = sent.step.peering;
+          way = sent.step.way;
+          effect = sent.step.effect;
+        } in
         let given : Answers s u = running_is u (record s.session { end = record e { owed = false } }) s.acked_at_turn
         (sent.step.effect ∙ ap (λ (d : Endpoint). let v : SessionValue = record s.session { end = d } in v) sent.step.step.answer.given) sent.same_turn in
         let one : answer_at (Some (Live s o)) ≡ 1 = ap (λ (b : Bool). let m : ℕ = if b then 1 else 0 in m) sent.step.step.owed in
-        visits_emitted f g p q n s u o segment e.emitted 0 keeps there is same (items_for (Some (Live u o)) x_is) gives sent.step.step.owed (omega (arith, at.size))
+        visits_emitted f g p q n s u o segment e.emitted 0 keeps there is same
+        (items_for (Some (Live u o)) x_is) gives sent.step.step.owed (omega (arith, at.size))
         (wrote_by f n outlet outlet_is p q segment s.session e.emitted 0 (keeps_here f n keeps (Some (Live s o)) is).0 at.offset at.size wrote)
-        answering refl (answer_here n e.emitted ∙ sym one, (u, refl, given)) (λ t. ap (λ (m : ℕ). let v : Tally = record t { answers = t.answers + m } in v) (sym one)) same
+        answering refl (answer_here n e.emitted ∙ sym one, (u, refl, given))
+        (λ t. ap (λ (m : ℕ). let v : Tally = record t { answers = t.answers + m } in v) (sym one)) same
 
     pub answer_some : (y : Option Place) → place_at f.places.places n ≡ y → AtPlace SessionSentAnswer y (Some segment) x → Visits answering n f p g q
     answer_some None is at = absurd (some_none segment at.0)
@@ -202,12 +229,15 @@ module _ (f g : Fields) (p q : Post (Item RunningSession)) (n : ℕ) (x : Option
 
   pub again_none : (y : Option Place) → place_at f.places.places n ≡ y → AtPlace SessionSentAgain y None x → Visits sending_again n f p g p
   again_none None is at = visits_idle sending_again same None is at.1 (refl, refl) (λ t. plus_again t 0 refl)
-  again_none (Some (Live s o)) is (u, x_is, sent) = visits_alike sending_again same s u o is x_is sent.step (sym (none_is s o (sent.none.0 refl)), (u, refl, running_is u s.session s.session.end.acked sent.step sent.turned)) (λ t. plus_again t (again_at (Some (Live s o))) (none_is s o (sent.none.0 refl)))
+  again_none (Some (Live s o)) is (u, x_is, sent) = visits_alike sending_again same s u o is x_is sent.step
+      (sym (none_is s o (sent.none.0 refl)), (u, refl, running_is u s.session s.session.end.acked sent.step sent.turned))
+      (λ t. plus_again t (again_at (Some (Live s o))) (none_is s o (sent.none.0 refl)))
   again_none (Some (Shadow away)) is at = visits_idle sending_again same (Some (Shadow away)) is at.1 (refl, refl) (λ t. plus_again t 0 refl)
 
   pub next_none : (y : Option Place) → place_at f.places.places n ≡ y → AtPlace SentNext y None x → Visits slicing n f p g p
   next_none None is at = visits_idle slicing same None is at.1 (refl, refl) (λ t. refl)
-  next_none (Some (Live s o)) is (u, x_is, sent) = visits_alike slicing same s u o is x_is sent.step (refl, (u, refl, subst (SlicesOut s) (sym (running_is u s.session s.acked_at_turn sent.step sent.same_turn)) refl)) (λ t. refl)
+  next_none (Some (Live s o)) is (u, x_is, sent) = visits_alike slicing same s u o is x_is sent.step
+      (refl, (u, refl, subst (SlicesOut s) (sym (running_is u s.session s.acked_at_turn sent.step sent.same_turn)) refl)) (λ t. refl)
   next_none (Some (Shadow away)) is at = visits_idle slicing same (Some (Shadow away)) is at.1 (refl, refl) (λ t. refl)
 
   pub answer_none : (y : Option Place) → place_at f.places.places n ≡ y → AtPlace SessionSentAnswer y None x → Visits answering n f p g p
@@ -215,8 +245,15 @@ module _ (f g : Fields) (p q : Post (Item RunningSession)) (n : ℕ) (x : Option
   answer_none (Some (Live s o)) is (u, x_is, sent) =
       let not : s.session.end.owed ≡ false = by_owed s.session.end.owed refl in
       let none : answer_at (Some (Live s o)) ≡ 0 = ap (λ (b : Bool). let m : ℕ = if b then 1 else 0 in m) not in
-      visits_alike answering same s u o is x_is sent.step
-      (sym none, (u, refl, running_is u (record s.session { end = record s.session.end { owed = false } }) s.acked_at_turn (sent.step ∙ ap (λ (b : Bool). let v : SessionValue = record s.session { end = record s.session.end { owed = b } } in v) not) sent.same_turn))
+      visits_alike answering same s u o is x_is sent.step (
+        sym none,
+        (
+          u,
+          refl,
+          running_is u (record s.session { end = record s.session.end { owed = false } }) s.acked_at_turn
+              (sent.step ∙ ap (λ (b : Bool). let v : SessionValue = record s.session { end = record s.session.end { owed = b } } in v) not) sent.same_turn,
+        ),
+      )
       (λ t. plus_answers t (answer_at (Some (Live s o))) none)
     where
       by_owed : (b : Bool) → s.session.end.owed ≡ b → s.session.end.owed ≡ false
@@ -227,7 +264,8 @@ module _ (f g : Fields) (p q : Post (Item RunningSession)) (n : ℕ) (x : Option
   -- what was emitted where no new slice is left
   pub next_all : (y : Option Place) → place_at f.places.places n ≡ y → AtPlace SentNext y None x → AllNewOut x
   next_all None is at = subst AllNewOut (sym at.1) tt
-  next_all (Some (Live s o)) is (u, x_is, sent) = subst AllNewOut (sym x_is) (subst (λ (v : SessionValue). v.end.emitted ≡ reach_of v.end) (sym sent.step) sent.all)
+  next_all (Some (Live s o)) is (u, x_is, sent) =
+      subst AllNewOut (sym x_is) (subst (λ (v : SessionValue). v.end.emitted ≡ reach_of v.end) (sym sent.step) sent.all)
   next_all (Some (Shadow away)) is at = subst AllNewOut (sym at.1) tt
 
 -- ---- what a session's call answers

@@ -16,7 +16,8 @@ pub none_in : (x : PrefixValue) → has map.empty x ≡ false
 none_in x = ap is_some (map.get-empty prefix_cmp x)
 
 pub keeps_turns : (f : Fields) (n : ℕ) → RouterInvariant f → RouterInvariant (record f { turns = n })
-keeps_turns f n k = keeps_on f (record f { turns = n }) k refl (record { places = refl; reserved = refl; due_in = refl; due_out = refl; config = refl; tellings = λ q out. refl }) k.each
+keeps_turns f n k = keeps_on f (record f { turns = n }) k refl
+    (record { places = refl; reserved = refl; due_in = refl; due_out = refl; config = refl; tellings = λ q out. refl }) k.each
 
 -- there is a place for each peering, before and after
 pub same_places : (f g : Fields) → RouterInvariant f → RouterInvariant g → g.known.setup ≡ f.known.setup → length g.places.places ≡ length f.places.places
@@ -34,4 +35,5 @@ keeps_due_in f g keeps same sizes = keeps_on f g keeps
       config = ap (λ (h : Fields). h.rib.config) same;
       tellings = λ q out. ap (λ (h : Fields). (rib_of h.rib).tellings q) same;
     })
-    (λ p. subst (λ (h : Fields). KeepsPlace f.known.setup f.number.0 p ((rib_of h.rib).entries p) (table_at h.due_out p) (place_at h.places.places p)) (sym same) (keeps.each p))
+    (λ p. subst (λ (h : Fields). KeepsPlace f.known.setup f.number.0 p ((rib_of h.rib).entries p) (table_at h.due_out p) (place_at h.places.places p))
+    (sym same) (keeps.each p))

@@ -34,12 +34,14 @@ module _ (f : Fields) (n : ℕ) where
   stuck_here : (s : RunningSession) (o : Option Errand) (m : ℕ) → place_at f.places.places n ≡ Some (Live s o)
       → HasNoRoomAt f.known.setup f.number.0 (router_part f) n m → IsStuck f.known.setup f.number.0 (router_part f) n s.session m
   stuck_here s o m is x =
-      subst (λ (v : SessionValue). IsStuck f.known.setup f.number.0 (router_part f) n v m) (live_is x.session s.session x.errand (option_map errand_of o) (sym x.live.is ∙ ap place_of is)) x.stuck
+      subst (λ (v : SessionValue). IsStuck f.known.setup f.number.0 (router_part f) n v m)
+      (live_is x.session s.session x.errand (option_map errand_of o) (sym x.live.is ∙ ap place_of is)) x.stuck
 
   module _ (batch : Batch) where
     one : (s : RunningSession) (m : ℕ) → IsNextUpdate f.known.setup f.number.0 (router_part f) n s.session batch
         → (stuck : IsStuck f.known.setup f.number.0 (router_part f) n s.session m) → stuck.batch ≡ batch
-    one s m next stuck = next_one (IsToTell f.known.setup f.number.0 (router_part f) n s.session) (to_tell f.known.setup f.number.0 (router_part f) s.session) (is_wide (peering_of s.session.config) s.session.story) stuck.batch batch stuck.next next
+    one s m next stuck = next_one (IsToTell f.known.setup f.number.0 (router_part f) n s.session) (to_tell f.known.setup f.number.0
+        (router_part f) s.session) (is_wide (peering_of s.session.config) s.session.story) stuck.batch batch stuck.next next
 
     -- the next UPDATE can't be written
     pub free_unwritable : (place : Option Place) → place_at f.places.places n ≡ place → NextAt f.known.setup f.number.0 (router_part f) n place batch
@@ -70,13 +72,15 @@ module _ (f : Fields) (n : ℕ) where
       stuck = record { established = next.0; batch = batch; next = next.1; writable = writable; size = refl; above = above };
     }
 
-module _ (f : Fields) (n len : ℕ) (batch : Batch) (lens : (s : RunningSession) (o : Option Errand) → place_at f.places.places n ≡ Some (Live s o) → len ≡ length_with s.session batch) where
+module _ (f : Fields) (n len : ℕ) (batch : Batch)
+    (lens : (s : RunningSession) (o : Option Errand) → place_at f.places.places n ≡ Some (Live s o) → len ≡ length_with s.session batch) where
   pub stuck_by_place : (place : Option Place) → place_at f.places.places n ≡ place → NextAt f.known.setup f.number.0 (router_part f) n place batch
       → IsWritableFor batch → 1044480 < len → RoomAnswer f.known.setup f.number.0 (router_part f) n (Some len)
   stuck_by_place None is next writable above = absurd next
   stuck_by_place (Some (Live s o)) is next writable above =
       let e = lens s o is in
-      subst (λ (k : ℕ). RoomAnswer f.known.setup f.number.0 (router_part f) n (Some k)) (sym e) (stuck_there f n batch s o is next writable (subst (λ (k : ℕ). 1044480 < k) e above))
+      subst (λ (k : ℕ). RoomAnswer f.known.setup f.number.0 (router_part f) n (Some k)) (sym e)
+      (stuck_there f n batch s o is next writable (subst (λ (k : ℕ). 1044480 < k) e above))
   stuck_by_place (Some (Shadow away)) is next writable above = absurd next
 
   pub free_by_place : (place : Option Place) → place_at f.places.places n ≡ place → NextAt f.known.setup f.number.0 (router_part f) n place batch
@@ -112,7 +116,8 @@ module _ (f : Fields) (n : ℕ) where
 
     in_time : (s : RunningSession) (o : Option Errand) (m : ℕ) → place_at f.places.places n ≡ Some (Live s o)
         → IsStuckAt f.known.setup f.number.0 (router_part f) n m → IsStuckInTime s.session m
-    in_time s o m is x = subst (λ (v : SessionValue). IsStuckInTime v m) (live_is x.session s.session x.errand (option_map errand_of o) (sym x.live.is ∙ ap place_of is))
+    in_time s o m is x = subst (λ (v : SessionValue). IsStuckInTime v m)
+        (live_is x.session s.session x.errand (option_map errand_of o) (sym x.live.is ∙ ap place_of is))
         (elim x.stuck [ inl stuck ↦ absurd (has_room x.session x.errand x.live m stuck) | inr late ↦ late.1 ])
 
     pub late_by_place : (place : Option Place) → place_at f.places.places n ≡ place → (answer : Option ℕ) → TimeAnswer place answer

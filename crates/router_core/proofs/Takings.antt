@@ -70,7 +70,10 @@ module _ (f g h : Fields) (p q r : Post (Item RunningSession)) (from : ℕ) (ite
         took = Some first.took;
         gave = first.gave;
         holds = first.row;
-        is_taken = λ i. Some ((first.number ∙ sym (ap (λ (x : ActorName × Thing). number_in f.known.setup x.0) first.thing)) i, sym (ap (λ (x : ActorName × Thing). x.1) first.thing) i);
+        is_taken = λ i. Some (
+          (first.number ∙ sym (ap (λ (x : ActorName × Thing). number_in f.known.setup x.0) first.thing)) i,
+          sym (ap (λ (x : ActorName × Thing). x.1) first.thing) i,
+        );
         is_sent = first.sends;
         there = first.known;
       };
@@ -107,7 +110,13 @@ module _ (f g h : Fields) (p q r : Post (Item RunningSession)) (from : ℕ) (ite
           took = record {
             router = router_then f g h first.router d.router;
             turns = turns;
-            rows = λ w. record { events = event ∷ events; coded = (has_code p event (Some (from, item)) first.sent, d.coded); parts = goes.0; goes = goes.1; stays = stays };
+            rows = λ w. record {
+              events = event ∷ events;
+              coded = (has_code p event (Some (from, item)) first.sent, d.coded);
+              parts = goes.0;
+              goes = goes.1;
+              stays = stays;
+            };
           };
         };
         keeps = keeps;
@@ -124,7 +133,12 @@ drops f p q from item keeps wrote not = record {
     first = (refl, tt);
     replay = (
       own_part f,
-      record { setup = refl; name = refl; does = inr (record { from = from; item = item; takes = refl; unwelcome = not; kind = refl; a = refl; b = refl; c = refl; sends = refl; stays = refl }) },
+      record {
+        setup = refl;
+        name = refl;
+        does =
+            inr (record { from = from; item = item; takes = refl; unwelcome = not; kind = refl; a = refl; b = refl; c = refl; sends = refl; stays = refl });
+      },
       refl,
     );
     took = record { router = same_router f; turns = refl; rows = λ w. absurd (not w) };

@@ -1,5 +1,6 @@
 -- Routers are told, one prefix after another.
-use Rattle.std.proofs.Common.{◌≡◌, ◌≢◌, ℕ, zero, suc, ◌+◌, ◌<◌, ◌≤◌, List, [], ◌∷◌, ◌++◌, length, Option, true, false, inl, inr, refl, sym, ap, subst, ◌∙◌, arith}
+use Rattle.std.proofs.Common.{◌≡◌, ◌≢◌, ℕ, zero, suc, ◌+◌, ◌<◌, ◌≤◌, List, [], ◌∷◌, ◌++◌, length, Option}
+use Rattle.std.proofs.Common.{true, false, inl, inr, refl, sym, ap, subst, ◌∙◌, arith}
 use Rattle.std.specs.FinMap as map
 use Rattle.bgp_types.specs.Prefixes.{PrefixValue}
 use Rattle.bgp_types.specs.Tables.{prefix_cmp}
@@ -33,9 +34,12 @@ use Rattle.router_core.proofs.VisitSteps.{same_or_not, at_here, at_other}
 not_dirty : (dirty : Prefixes) (x : PrefixValue) → dirty ≡ map.empty → has dirty x ≡ false
 not_dirty dirty x none = ap (λ (d : Prefixes). has d x) none ∙ none_in x
 
-module _ (f g : Fields) (p q : Post (Item RunningSession)) (to : ℕ) (prefix : PrefixValue) (route : Option Route) (keeps : RouterInvariant f) (clean : f.rib.dirty ≡ map.empty) (there : to < length f.due_in)
-    (due : has (table_at f.due_in to) prefix ≡ true) (is : route ≡ tell_in (map.get f.rib.best prefix)) (same : g ≡ record f { due_in = g.due_in }) (sizes : length g.due_in ≡ length f.due_in)
-    (drops : table_at g.due_in ≡ at (table_at f.due_in) to (map.remove (table_at f.due_in to) prefix)) (wrote : WritesEvent p (Tell to prefix) ((to, items.Told prefix route) ∷ []) q) where
+module _ (f g : Fields) (p q : Post (Item RunningSession)) (to : ℕ) (prefix : PrefixValue) (route : Option Route)
+    (keeps : RouterInvariant f) (clean : f.rib.dirty ≡ map.empty) (there : to < length f.due_in)
+    (due : has (table_at f.due_in to) prefix ≡ true) (is : route ≡ tell_in (map.get f.rib.best prefix))
+    (same : g ≡ record f { due_in = g.due_in }) (sizes : length g.due_in ≡ length f.due_in)
+    (drops : table_at g.due_in ≡ at (table_at f.due_in) to (map.remove (table_at f.due_in to) prefix))
+    (wrote : WritesEvent p (Tell to prefix) ((to, items.Told prefix route) ∷ []) q) where
   sends_told : Sends f to (items.Told prefix route) (MeshTo to (Told prefix (tell_in (map.get f.rib.best prefix))))
   sends_told = record {
     name = Router to;
@@ -81,7 +85,8 @@ same_due_in q f g p r keeps some there = omega (arith, there, keeps.due_in, some
 pub still_clean : (q : ℕ) (f g : Fields) (p r : Post (Item RunningSession)) → TellsSome q f p g r → f.rib.dirty ≡ map.empty → g.rib.dirty ≡ map.empty
 still_clean q f g p r some clean = ap (λ (h : Fields). h.rib.dirty) some.same ∙ clean
 
-module _ (q : ℕ) (f g h : Fields) (p r s : Post (Item RunningSession)) (prefix : PrefixValue) (before : TellsSome q f p g r) (one : TellsOne q prefix g r h s) where
+module _ (q : ℕ) (f g h : Fields) (p r s : Post (Item RunningSession)) (prefix : PrefixValue)
+    (before : TellsSome q f p g r) (one : TellsOne q prefix g r h s) where
   pub some_next : TellsSome q f p h s
   some_next = record {
     events = before.events ++ Tell q prefix ∷ [];
@@ -95,7 +100,8 @@ module _ (q : ℕ) (f g h : Fields) (p r s : Post (Item RunningSession)) (prefix
 
   -- one prefix less is due
   pub fewer_due : has (table_at g.due_in q) prefix ≡ true → map.len (table_at h.due_in q) < map.len (table_at g.due_in q)
-  fewer_due has = subst (λ (d : Prefixes). map.len d < map.len (table_at g.due_in q)) (sym (ap (λ (d : ℕ → Prefixes). d q) one.due ∙ at_here (table_at g.due_in) q (map.remove (table_at g.due_in q) prefix) q refl)) (fewer_left (table_at g.due_in q) prefix has)
+  fewer_due has = subst (λ (d : Prefixes). map.len d < map.len (table_at g.due_in q)) (sym (ap (λ (d : ℕ → Prefixes). d q) one.due
+      ∙ at_here (table_at g.due_in) q (map.remove (table_at g.due_in q) prefix) q refl)) (fewer_left (table_at g.due_in q) prefix has)
 
 -- ---- one router after another
 

@@ -1,5 +1,6 @@
 -- A turn is its stages, one after another.
-use Rattle.std.proofs.Common.{◌≡◌, ℕ, ◌+◌, ◌<◌, ◌≤◌, List, [], ◌∷◌, ◌++◌, Option, option_map, Some, None, Bool, true, false, refl, sym, ap, subst, ◌∙◌, arith, inl, inr, ◌⊎◌, map}
+use Rattle.std.proofs.Common.{◌≡◌, ℕ, ◌+◌, ◌<◌, ◌≤◌, List, [], ◌∷◌, ◌++◌, Option, option_map, Some, None, Bool}
+use Rattle.std.proofs.Common.{true, false, refl, sym, ap, subst, ◌∙◌, arith, inl, inr, ◌⊎◌, map}
 use Rattle.std.proofs.lemmas.List.{append-nil}
 use Rattle.std.specs.Prelude.{nat_lt, if◌then◌else◌}
 use Rattle.std.proofs.lemmas.Bool.{lt-ltb, le-ltb}
@@ -22,7 +23,9 @@ use Rattle.router_core.specs.Places.{place_of, place_at, errand_of, RunsAt}
 use Rattle.settled_check.specs.Left.{AwaitsAtMost}
 use Rattle.router_core.specs.Rested.{IsDone, IsQuietPlace, RestedRouter}
 use Rattle.router_core.specs.Rounds.{RouterRetransmits, IsNewWork, DidAsRouter}
-use Rattle.router_core.specs.Stages.{PlaceGoes, GraftGoes, WordGoes, PutsMore, IsLevel, EmitsAll, PassesWhereItMay, again_at, answer_at, with_again, with_answers, SendsAgain, PassesRounds, BeginsGrafts, DecidesAll, TellsAll, ConfirmsAll, PutsAll, EmitsEverywhere}
+use Rattle.router_core.specs.Stages.{PlaceGoes, GraftGoes, WordGoes, PutsMore, IsLevel, EmitsAll, PassesWhereItMay}
+use Rattle.router_core.specs.Stages.{again_at, answer_at, with_again, with_answers, SendsAgain, PassesRounds}
+use Rattle.router_core.specs.Stages.{BeginsGrafts, DecidesAll, TellsAll, ConfirmsAll, PutsAll, EmitsEverywhere}
 use Rattle.router_core.specs.Turned.{rounds_on, emits_on, answers_on, stage_of, TurnsSession, RouterTurnsOnce}
 use Rattle.router_core.specs.Updates.{IsStuck, IsUnwritable}
 use Rattle.router_core.specs.declared.fields.Fields.{Fields}
@@ -95,7 +98,10 @@ waits_on R (Some (Shadow away)) y goes waits = subst WaitsAtMost (sym goes) tt
 
 all_out : (x y : Option Place) → PlaceGoes EmitsAll x y → AllOut y
 all_out None y goes = subst AllOut (sym goes) tt
-all_out (Some (Live s o)) y (u, is, becomes) = subst AllOut (sym is) (record { emitted = ap (λ (v : RunningSession). v.session.end.emitted) becomes ∙ sym (ap (λ (v : RunningSession). reach_of v.session.end) becomes); answered = ap (λ (v : RunningSession). v.session.end.owed) becomes })
+all_out (Some (Live s o)) y (u, is, becomes) = subst AllOut (sym is) (record {
+  emitted = ap (λ (v : RunningSession). v.session.end.emitted) becomes ∙ sym (ap (λ (v : RunningSession). reach_of v.session.end) becomes);
+  answered = ap (λ (v : RunningSession). v.session.end.owed) becomes;
+})
 all_out (Some (Shadow away)) y goes = subst AllOut (sym goes) tt
 
 quiet : (setup : Setup) (r p : ℕ) (entries : Entries) (due : Prefixes) (x : Option Place) → KeepsPlace setup r p entries due x → WaitsAtMost x
@@ -107,7 +113,8 @@ quiet setup r p entries due (Some (Shadow away)) keeps waits out = tt
 -- what is emitted changes nothing of what is to be told
 stuck_on : (setup : Setup) (r p n : ℕ) (part : RouterPart) (places : ℕ → model.Place) (s : SessionValue) (m : ℕ) (b : Bool) → IsStuck setup r part p s n
     → IsStuck setup r (record part { places = places }) p (record s { end = record s.end { emitted = m; owed = b } }) n
-stuck_on setup r p n part places s m b h = record { established = h.established; batch = h.batch; next = h.next; writable = h.writable; size = h.size; above = h.above }
+stuck_on setup r p n part places s m b h =
+    record { established = h.established; batch = h.batch; next = h.next; writable = h.writable; size = h.size; above = h.above }
 
 unwritable_on : (setup : Setup) (r p : ℕ) (part : RouterPart) (places : ℕ → model.Place) (s : SessionValue) (m : ℕ) (b : Bool) → IsUnwritable setup r part p s
     → IsUnwritable setup r (record part { places = places }) p (record s { end = record s.end { emitted = m; owed = b } })
@@ -124,9 +131,11 @@ done_on : (setup : Setup) (r p : ℕ) (part : RouterPart) (places : ℕ → mode
     → IsDone setup r part p (place_of x) → IsDone setup r (record part { places = places }) p (place_of y)
 done_on setup r p part places None y goes done = subst (λ (z : Option Place). IsDone setup r (record part { places = places }) p (place_of z)) (sym goes) done
 done_on setup r p part places (Some (Live s o)) y (u, is, becomes) done =
-    subst (λ (z : Option Place). IsDone setup r (record part { places = places }) p (place_of z)) (sym (is ∙ ap (λ (v : RunningSession). Some (Live v o)) becomes))
+    subst (λ (z : Option Place). IsDone setup r (record part { places = places }) p (place_of z))
+    (sym (is ∙ ap (λ (v : RunningSession). Some (Live v o)) becomes))
     (done_live setup r p part places s.session (option_map errand_of o) (reach_of s.session.end) false done)
-done_on setup r p part places (Some (Shadow away)) y goes done = subst (λ (z : Option Place). IsDone setup r (record part { places = places }) p (place_of z)) (sym goes) done
+done_on setup r p part places (Some (Shadow away)) y goes done =
+    subst (λ (z : Option Place). IsDone setup r (record part { places = places }) p (place_of z)) (sym goes) done
 
 -- ---- a session through the stages
 
@@ -224,14 +233,16 @@ answer_few (Some (Shadow away)) = omega arith
 again_once : (s : RunningSession) (o : Option Errand) → s.acked_at_turn ≡ s.session.end.acked → s.session.end.acked < s.session.end.emitted
     → again_at (Some (Live s o)) ≡ 1
 again_once s o level out =
-    ap (λ (b : Bool). let n : ℕ = if b then 0 else (if nat_lt 0 (again_length s.session.end) then 1 else 0) in n) (le-ltb s.acked_at_turn s.session.end.acked (omega (arith, level)))
+    ap (λ (b : Bool). let n : ℕ = if b then 0 else (if nat_lt 0 (again_length s.session.end) then 1 else 0) in n)
+    (le-ltb s.acked_at_turn s.session.end.acked (omega (arith, level)))
     ∙ ap (λ (b : Bool). let n : ℕ = if b then 1 else 0 in n) (lt-ltb 0 (again_length s.session.end) (omega (arith, out)))
 
 -- ---- the whole turn
 
 -- f is the router before the turn, a after its turn was counted, and b to k after each stage
 module _ (f a b c d e g m h k : Fields) (p0 p1 p2 p3 p4 p5 p6 p7 p8 : Post (Item RunningSession)) (counted : a ≡ record f { turns = f.turns + 1 })
-    (again : SendsAgain a p0 b p1) (rounds : PassesRounds b p1 c p2) (grafts : BeginsGrafts c p2 d p3) (decides : DecidesAll d p3 e p4) (tells : TellsAll e p4 g p5) (confirms : ConfirmsAll g p5 m p6) (puts : PutsAll m p6 h p7) (emits : EmitsEverywhere h p7 k p8) where
+    (again : SendsAgain a p0 b p1) (rounds : PassesRounds b p1 c p2) (grafts : BeginsGrafts c p2 d p3) (decides : DecidesAll d p3 e p4)
+    (tells : TellsAll e p4 g p5) (confirms : ConfirmsAll g p5 m p6) (puts : PutsAll m p6 h p7) (emits : EmitsEverywhere h p7 k p8) where
   -- what each stage leaves
   b_same : b ≡ record f { turns = f.turns + 1; places = b.places }
   b_same = again.same ∙ ap (λ (x : Fields). let y : Fields = record x { places = b.places } in y) counted
@@ -280,7 +291,8 @@ module _ (f a b c d e g m h k : Fields) (p0 p1 p2 p3 p4 p5 p6 p7 p8 : Post (Item
 
   did_again : DidAsRouter f p0 (λ p. zero_tally) again.events b p1 sent
   did_again =
-      let counted_did : DidAsRouter f p0 (λ p. zero_tally) [] a p0 (λ p. zero_tally) = did_same f a p0 (λ p. zero_tally) (record { setup = ap (λ (x : Fields). x.known.setup) counted; number = ap (λ (x : Fields). x.number) counted }) (ap router_part counted) in
+      let counted_did : DidAsRouter f p0 (λ p. zero_tally) [] a p0 (λ p. zero_tally) = did_same f a p0 (λ p. zero_tally)
+      (record { setup = ap (λ (x : Fields). x.known.setup) counted; number = ap (λ (x : Fields). x.number) counted }) (ap router_part counted) in
       did_then f a b p0 p0 p1 (λ p. zero_tally) (λ p. zero_tally) sent [] again.events counted_did (again.did (λ p. zero_tally))
 
   did_work : DidAsRouter b p1 sent work k p8 tally
@@ -298,15 +310,18 @@ module _ (f a b c d e g m h k : Fields) (p0 p1 p2 p3 p4 p5 p6 p7 p8 : Post (Item
 
   -- old segments first, and the work then
   sends : GoesThrough f.known.setup f.number.0 RouterRetransmits (router_part f) again.events (router_part b)
-  sends = goes_again f.known.setup f.number.0 (router_part f) (router_part b) (λ p. zero_tally) sent again.events did_again.round again.at (λ p. ap (λ (n : ℕ). 0 + n) (sym (again.once p)))
+  sends = goes_again f.known.setup f.number.0 (router_part f) (router_part b)
+      (λ p. zero_tally) sent again.events did_again.round again.at (λ p. ap (λ (n : ℕ). 0 + n) (sym (again.once p)))
 
   works : GoesThrough f.known.setup f.number.0 (IsNewWork f.known.setup f.number.0) (router_part b) work (router_part k)
-  works = goes_working f.known.setup f.number.0 (router_part b) (router_part k) sent tally work (round_at f b sent tally work (router_part b) (router_part k) did_again.router did_work.round) (λ p. refl)
+  works = goes_working f.known.setup f.number.0 (router_part b) (router_part k) sent tally work
+      (round_at f b sent tally work (router_part b) (router_part k) did_again.router did_work.round) (λ p. refl)
 
   in_order : Climbs 1 (map stage_of work)
   in_order =
       let told : List RouterEvent = confirms.events ++ (puts.events ++ emits.events) in
-      let last : Climbs 6 (map stage_of emits.events) = subst (λ (es : List RouterEvent). Climbs 6 (map stage_of es)) (append-nil emits.events) (climbs_at 6 7 emits.events [] (omega arith) emits.at tt) in
+      let last : Climbs 6 (map stage_of emits.events) = subst (λ (es : List RouterEvent). Climbs 6 (map stage_of es))
+      (append-nil emits.events) (climbs_at 6 7 emits.events [] (omega arith) emits.at tt) in
       climbs_at 1 1 rounds.events behind (omega arith) rounds.at
       (climbs_at 1 2 grafts.events (decides.events ++ (tells.events ++ told)) (omega arith) grafts.at
       (climbs_at 2 3 decides.events (tells.events ++ told) (omega arith) decides.at
@@ -350,14 +365,18 @@ module _ (f a b c d e g m h k : Fields) (p0 p1 p2 p3 p4 p5 p6 p7 p8 : Post (Item
       let start : place_at a.places.places p ≡ Some (Live s o) = ap (λ (x : Fields). place_at x.places.places p) counted ∙ before.is in
       let round : b.turns ≡ k.turns = ap (λ (x : Fields). x.turns) b_same ∙ sym (ap (λ (x : Fields). x.turns) k_same) in
       let passes : PlaceGoes (PassesWhereItMay k.turns (rounds_on p rounds.events)) (place_at b.places.places p) (place_at c.places.places p) =
-      subst (λ (n : ℕ). PlaceGoes (PassesWhereItMay n (rounds_on p rounds.events)) (place_at b.places.places p) (place_at c.places.places p)) round (rounds.places p) in
-      let on : LivesOn k.turns (rounds_on p rounds.events) s u = lives_on k.turns (rounds_on p rounds.events) (place_at a.places.places p) (place_at b.places.places p) (place_at c.places.places p) (place_at d.places.places p) (place_at m.places.places p) (place_at h.places.places p) (place_at k.places.places p)
+      subst (λ (n : ℕ). PlaceGoes (PassesWhereItMay n (rounds_on p rounds.events)) (place_at b.places.places p) (place_at c.places.places p)) round
+      (rounds.places p) in
+      let on : LivesOn k.turns (rounds_on p rounds.events) s u =
+      lives_on k.turns (rounds_on p rounds.events) (place_at a.places.places p) (place_at b.places.places p) (place_at c.places.places p)
+      (place_at d.places.places p) (place_at m.places.places p) (place_at h.places.places p) (place_at k.places.places p)
       s u o q start after.is (again.places p) passes (grafts.places p) (confirms_at p) (puts.places p) (emits.places p) in
       record {
         acked = on.acked;
         at_turn = on.at_turn;
         again = λ level out. again.once p ∙ ap again_at start ∙ again_once s o level out;
-        ticked = subst (λ (xs : List ℕ). (MayPass s.session k.turns × (xs ≡ k.turns ∷ [])) ⊎ ((¬ MayPass s.session k.turns) × (xs ≡ []))) (sym (rounds_are p)) on.ticked;
+        ticked = subst (λ (xs : List ℕ). (MayPass s.session k.turns × (xs ≡ k.turns ∷ [])) ⊎ ((¬ MayPass s.session k.turns) × (xs ≡ [])))
+            (sym (rounds_are p)) on.ticked;
       }
 
   session_passes : (p : ℕ) (s : RunningSession) (o : Option Errand) → RunsAt f.places.places p s o
@@ -366,9 +385,11 @@ module _ (f a b c d e g m h k : Fields) (p0 p1 p2 p3 p4 p5 p6 p7 p8 : Post (Item
       let start : place_at a.places.places p ≡ Some (Live s o) = ap (λ (x : Fields). place_at x.places.places p) counted ∙ before.is in
       let round : b.turns ≡ k.turns = ap (λ (x : Fields). x.turns) b_same ∙ sym (ap (λ (x : Fields). x.turns) k_same) in
       let passes : PlaceGoes (PassesWhereItMay k.turns (rounds_on p rounds.events)) (place_at b.places.places p) (place_at c.places.places p) =
-      subst (λ (n : ℕ). PlaceGoes (PassesWhereItMay n (rounds_on p rounds.events)) (place_at b.places.places p) (place_at c.places.places p)) round (rounds.places p) in
+      subst (λ (n : ℕ). PlaceGoes (PassesWhereItMay n (rounds_on p rounds.events)) (place_at b.places.places p) (place_at c.places.places p)) round
+      (rounds.places p) in
       let (s1, b_is, level) = subst (λ (x : Option Place). PlaceGoes IsLevel x (place_at b.places.places p)) start (again.places p) in
-      let (s2, c_is, passed) = subst (λ (x : Option Place). PlaceGoes (PassesWhereItMay k.turns (rounds_on p rounds.events)) x (place_at c.places.places p)) b_is passes in
+      let (s2, c_is, passed) =
+      subst (λ (x : Option Place). PlaceGoes (PassesWhereItMay k.turns (rounds_on p rounds.events)) x (place_at c.places.places p)) b_is passes in
       subst (λ (xs : List ℕ). (MayPass s.session k.turns × (xs ≡ k.turns ∷ [])) ⊎ ((¬ MayPass s.session k.turns) × (xs ≡ []))) (sym (rounds_are p))
       (level_rounds k.turns (rounds_on p rounds.events) s s1 s2 level passed.1)
 
@@ -385,7 +406,8 @@ module _ (f a b c d e g m h k : Fields) (p0 p1 p2 p3 p4 p5 p6 p7 p8 : Post (Item
       subst (λ (s : Setup). IsDone s f.number.0 (router_part h) p (place_of (place_at h.places.places p))) same_setup
       (subst (λ (n : ℕ). IsDone m.known.setup n (router_part h) p (place_of (place_at h.places.places p))) same_number (puts.done p)) in
       subst (λ (x : RouterPart). IsDone f.known.setup f.number.0 x p (place_of (place_at k.places.places p))) (sym (ap router_part emits.same))
-      (done_on f.known.setup f.number.0 p (router_part h) (λ q. place_of (place_at k.places.places q)) (place_at h.places.places p) (place_at k.places.places p) (emits.places p) at_h)
+      (done_on f.known.setup f.number.0 p (router_part h) (λ q. place_of (place_at k.places.places q))
+      (place_at h.places.places p) (place_at k.places.places p) (emits.places p) at_h)
 
   rested : RestedRouter f.known.setup f.number.0 (router_part k)
   rested = record {
@@ -394,7 +416,8 @@ module _ (f a b c d e g m h k : Fields) (p0 p1 p2 p3 p4 p5 p6 p7 p8 : Post (Item
     quiet = λ p. quiet k.known.setup k.number.0 p _ _ (place_at k.places.places p) (emits.keeps.each p)
         (waits_on EmitsAll (place_at h.places.places p) (place_at k.places.places p) (emits.places p)
         (waits_on PutsMore (place_at m.places.places p) (place_at h.places.places p) (puts.places p)
-        (waits_first (place_at d.places.places p) (place_at m.places.places p) (not_leaving (place_at c.places.places p) (place_at d.places.places p) (grafts.places p)) (confirms_at p))))
+        (waits_first (place_at d.places.places p) (place_at m.places.places p)
+        (not_leaving (place_at c.places.places p) (place_at d.places.places p) (grafts.places p)) (confirms_at p))))
         (all_out (place_at h.places.places p) (place_at k.places.places p) (emits.places p));
     done = done;
   }

@@ -1,5 +1,6 @@
 -- A stage goes from place to place.
-use Rattle.std.proofs.Common.{◌≡◌, ◌≢◌, ℕ, zero, suc, ◌+◌, ◌<◌, ◌≤◌, List, [], ◌∷◌, ◌++◌, length, Bool, ◌⊎◌, inl, inr, refl, sym, ap, subst, ◌∙◌, arith, set, None, Option}
+use Rattle.std.proofs.Common.{◌≡◌, ◌≢◌, ℕ, zero, suc, ◌+◌, ◌<◌, ◌≤◌, List, [], ◌∷◌, ◌++◌, length, Bool, ◌⊎◌}
+use Rattle.std.proofs.Common.{inl, inr, refl, sym, ap, subst, ◌∙◌, arith, set, None, Option}
 use Rattle.std.specs.Prelude.{nat_lt, if◌then◌else◌}
 use Rattle.std.proofs.lemmas.List.{get_or-set_same, get_or-set_other}
 use Rattle.std.proofs.lemmas.Bool.{cases_lt, lt-ltb, le-ltb, eq-eqb, ne_eqb}
@@ -53,7 +54,8 @@ module _ (stage : Stage) (a b c : Fields) (p q r : Post (Item RunningSession)) (
   fresh = (before.left n (omega arith)).0
 
   counted_then : (t : ℕ → Tally) (k : ℕ)
-      → at (counted_by stage a.places.places t n) n (stage.count (place_at b.places.places n) (counted_by stage a.places.places t n n)) k ≡ counted_by stage a.places.places t (n + 1) k
+      → at (counted_by stage a.places.places t n) n (stage.count (place_at b.places.places n) (counted_by stage a.places.places t n n)) k
+      ≡ counted_by stage a.places.places t (n + 1) k
   counted_then t k = elim (same_or_not n k) [
     | inl e ↦
         at_here (counted_by stage a.places.places t n) n (stage.count (place_at b.places.places n) (counted_by stage a.places.places t n n)) k e
@@ -76,11 +78,16 @@ module _ (stage : Stage) (a b c : Fields) (p q r : Post (Item RunningSession)) (
   done_then k below = elim (same_or_not n k) [
     | inl e ↦
         subst (λ (m : ℕ). stage.Goes (events_on m (before.events ++ now.events)) (place_at a.places.places m) (place_at c.places.places m)) (sym e)
-        (subst (λ (on : OnPeering). stage.Goes on (place_at a.places.places n) (place_at c.places.places n)) (sym (events_on-append n before.events now.events ∙ ap (λ (on : OnPeering). on_then on (events_on n now.events)) (before.left n (omega arith)).1 ∙ none_then (events_on n now.events)))
+        (subst (λ (on : OnPeering). stage.Goes on (place_at a.places.places n) (place_at c.places.places n))
+        (sym (events_on-append n before.events now.events
+        ∙ ap (λ (on : OnPeering). on_then on (events_on n now.events)) (before.left n (omega arith)).1 ∙ none_then (events_on n now.events)))
         (subst (λ (x : Option Place). stage.Goes (events_on n now.events) x (place_at c.places.places n)) fresh now.goes))
     | inr not ↦
-        subst (λ (on : OnPeering). stage.Goes on (place_at a.places.places k) (place_at c.places.places k)) (sym (events_on-append k before.events now.events ∙ ap (on_then (events_on k before.events)) (now.others k not).1 ∙ then_none (events_on k before.events)))
-        (subst (λ (x : Option Place). stage.Goes (events_on k before.events) (place_at a.places.places k) x) (sym (now.others k not).0) (before.done k (lower k below not)))
+        subst (λ (on : OnPeering). stage.Goes on (place_at a.places.places k) (place_at c.places.places k))
+        (sym (events_on-append k before.events now.events
+        ∙ ap (on_then (events_on k before.events)) (now.others k not).1 ∙ then_none (events_on k before.events)))
+        (subst (λ (x : Option Place). stage.Goes (events_on k before.events) (place_at a.places.places k) x)
+        (sym (now.others k not).0) (before.done k (lower k below not)))
   ]
     where
       lower : (k : ℕ) → k < n + 1 → k ≢ n → k < n
@@ -98,8 +105,10 @@ module _ (stage : Stage) (a b c : Fields) (p q r : Post (Item RunningSession)) (
   pub visited_next : Visited stage (n + 1) a p c r
   visited_next = record {
     events = before.events ++ now.events;
-    did = λ t. did_then a b c p q r t (counted_by stage a.places.places t n) (counted_by stage a.places.places t (n + 1)) before.events now.events (before.did t)
-        (subst (λ (u : ℕ → Tally). DidAsRouter b q (counted_by stage a.places.places t n) now.events c r u) (λ i k. counted_then t k i) (now.did (counted_by stage a.places.places t n)));
+    did = λ t. did_then a b c p q r t (counted_by stage a.places.places t n)
+        (counted_by stage a.places.places t (n + 1)) before.events now.events (before.did t)
+        (subst (λ (u : ℕ → Tally). DidAsRouter b q (counted_by stage a.places.places t n) now.events c r u)
+        (λ i k. counted_then t k i) (now.did (counted_by stage a.places.places t n)));
     at = at-append stage.number before.events now.events before.at now.at;
     done = done_then;
     left = left_then;
@@ -110,7 +119,8 @@ module _ (stage : Stage) (a b c : Fields) (p q r : Post (Item RunningSession)) (
 pub visited_first : (stage : Stage) (f : Fields) (p : Post (Item RunningSession)) → RouterInvariant f → Visited stage zero f p f p
 visited_first stage f p keeps = record {
   events = [];
-  did = λ t. subst (λ (u : ℕ → Tally). DidAsRouter f p t [] f p u) (λ i k. sym (counted_from stage f.places.places t 0 k (omega arith)) i) (did_same f f p t (record { setup = refl; number = refl }) refl);
+  did = λ t. subst (λ (u : ℕ → Tally). DidAsRouter f p t [] f p u) (λ i k. sym (counted_from stage f.places.places t 0 k (omega arith)) i)
+      (did_same f f p t (record { setup = refl; number = refl }) refl);
   at = tt;
   done = λ k below. absurd (omega (arith, below));
   left = λ k from. (refl, refl);
@@ -143,7 +153,8 @@ module _ (xs : List (Option Place)) (p : ℕ) (x : Option Place) (there : p < le
 
 module _ (x y z : Stage) (a b c : Fields) (p q r : Post (Item RunningSession)) (n : ℕ) (before : Visits x n a p b q) (now : Visits y n b q c r) where
   counted_twice : ((k : OnPeering) (u v : Option Place) (t : Tally) → x.Goes k u v → y.count v (x.count u t) ≡ z.count u t) → (t : ℕ → Tally) (k : ℕ)
-      → at (at t n (x.count (place_at a.places.places n) (t n))) n (y.count (place_at b.places.places n) (at t n (x.count (place_at a.places.places n) (t n)) n)) k ≡ at t n (z.count (place_at a.places.places n) (t n)) k
+      → at (at t n (x.count (place_at a.places.places n) (t n))) n (y.count (place_at b.places.places n)
+      (at t n (x.count (place_at a.places.places n) (t n)) n)) k ≡ at t n (z.count (place_at a.places.places n) (t n)) k
   counted_twice counts t k =
       let first : Tally = x.count (place_at a.places.places n) (t n) in
       elim (same_or_not n k) [
@@ -163,11 +174,14 @@ module _ (x y z : Stage) (a b c : Fields) (p q r : Post (Item RunningSession)) (
   visits_then first second goes counts same = record {
     events = before.events ++ now.events;
     did = λ t. subst (λ (u : ℕ → Tally). DidAsRouter a p t (before.events ++ now.events) c r u) (λ i k. counted_twice counts t k i)
-        (did_then a b c p q r t (at t n (x.count (place_at a.places.places n) (t n))) (at (at t n (x.count (place_at a.places.places n) (t n))) n (y.count (place_at b.places.places n) (at t n (x.count (place_at a.places.places n) (t n)) n)))
+        (did_then a b c p q r t (at t n (x.count (place_at a.places.places n) (t n))) (at (at t n (x.count (place_at a.places.places n) (t n))) n
+        (y.count (place_at b.places.places n) (at t n (x.count (place_at a.places.places n) (t n)) n)))
         before.events now.events (before.did t) (now.did (at t n (x.count (place_at a.places.places n) (t n)))));
-    at = at-append z.number before.events now.events (subst (λ (m : ℕ). AreAt m before.events) first before.at) (subst (λ (m : ℕ). AreAt m now.events) second now.at);
+    at = at-append z.number before.events now.events (subst (λ (m : ℕ). AreAt m before.events) first before.at)
+        (subst (λ (m : ℕ). AreAt m now.events) second now.at);
     goes = subst (λ (k : OnPeering). z.Goes k (place_at a.places.places n) (place_at c.places.places n)) (sym (events_on-append n before.events now.events))
-        (goes (events_on n before.events) (events_on n now.events) (place_at a.places.places n) (place_at b.places.places n) (place_at c.places.places n) before.goes now.goes);
+        (goes (events_on n before.events) (events_on n now.events) (place_at a.places.places n)
+        (place_at b.places.places n) (place_at c.places.places n) before.goes now.goes);
     others = λ k not. (
       (now.others k not).0 ∙ (before.others k not).0,
       events_on-append k before.events now.events ∙ ap (λ (on : OnPeering). on_then on (events_on k now.events)) (before.others k not).1
@@ -178,7 +192,8 @@ module _ (x y z : Stage) (a b c : Fields) (p q r : Post (Item RunningSession)) (
   }
 
 pub visits_as : (x z : Stage) (a b : Fields) (p q : Post (Item RunningSession)) (n : ℕ) (v : Visits x n a p b q) → x.number ≡ z.number
-    → ((k : OnPeering) → x.Goes k (place_at a.places.places n) (place_at b.places.places n) → z.Goes k (place_at a.places.places n) (place_at b.places.places n))
+    → ((k : OnPeering) → x.Goes k (place_at a.places.places n) (place_at b.places.places n)
+    → z.Goes k (place_at a.places.places n) (place_at b.places.places n))
     → ((t : Tally) → x.count (place_at a.places.places n) t ≡ z.count (place_at a.places.places n) t) → z.kept.Same a b → Visits z n a p b q
 visits_as x z a b p q n v number goes counts same = record {
   events = v.events;
@@ -218,7 +233,8 @@ module _ (stage : Stage) (f g : Fields) (p q : Post (Item RunningSession)) (v : 
     where
       pointwise : (k : ℕ) → (if nat_lt k (length f.places.places) then stage.count (place_at f.places.places k) (t k) else t k) ≡ total t k
       pointwise k = elim (cases_lt k (length f.places.places)) [
-        | inl below ↦ ap (λ (b : Bool). let x : Tally = if b then stage.count (place_at f.places.places k) (t k) else t k in x) (lt-ltb k (length f.places.places) below) ∙ is t k
+        | inl below ↦ ap (λ (b : Bool). let x : Tally = if b then stage.count (place_at f.places.places k) (t k) else t k in x)
+            (lt-ltb k (length f.places.places) below) ∙ is t k
         | inr from ↦
             ap (λ (b : Bool). let x : Tally = if b then stage.count (place_at f.places.places k) (t k) else t k in x) (le-ltb k (length f.places.places) from)
             ∙ sym (none (t k)) ∙ ap (λ (x : Option Place). stage.count x (t k)) (sym (vacant_from k from)) ∙ is t k

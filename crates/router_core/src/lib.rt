@@ -5,8 +5,8 @@
 mod config;
 mod due;
 mod fields;
-mod place;
 mod outstanding;
+mod place;
 mod router;
 mod stages;
 mod takes;

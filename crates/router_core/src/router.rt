@@ -6,8 +6,8 @@ ghost use Rattle.router_core.specs.FieldProps.{RouterInvariant-prop-if};
 
 use crate::config::RouterConfig;
 use crate::fields::Fields;
-use crate::place::{Place, sessions_of};
 use crate::outstanding::{nothing_left, outstanding};
+use crate::place::{Place, sessions_of};
 use crate::stages::{stuck, turn};
 use crate::takes;
 use bgp_session::{Capsule, Session};

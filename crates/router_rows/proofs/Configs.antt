@@ -42,7 +42,8 @@ one_by true p r e = grind arith
 one_by false p r e = refl
 
 two_by : (a b : Bool) (p q : NamedPolicy) (r s : NamedRules) → p.policy ≡ r.rules → q.policy ≡ s.rules
-    → option_map (λ (x : NamedPolicy). x.policy) (if a then Some p else if b then Some q else None) ≡ option_map (λ (x : NamedRules). x.rules) (if a then Some r else if b then Some s else None)
+    → option_map (λ (x : NamedPolicy). x.policy) (if a then Some p else if b then Some q else None)
+    ≡ option_map (λ (x : NamedRules). x.rules) (if a then Some r else if b then Some s else None)
 two_by true b p q r s e f = grind arith
 two_by false true p q r s e f = grind arith
 two_by false false p q r s e f = refl
@@ -53,7 +54,8 @@ policies_of_0 = record { each = λ name. one_by (bytes_eq name in_name) (record 
 pub policies_of_1 : ArePoliciesOf laboratory 1 policies_1
 policies_of_1 = record {
   each = λ name. two_by (bytes_eq name in_name) (bytes_eq name out_name)
-      (record { name = in_name; policy = prefers ∷ [] }) (record { name = out_name; policy = [] }) (record { name = in_name; rules = prefers ∷ [] }) (record { name = out_name; rules = [] }) refl refl;
+      (record { name = in_name; policy = prefers ∷ [] }) (record { name = out_name; policy = [] })
+      (record { name = in_name; rules = prefers ∷ [] }) (record { name = out_name; rules = [] }) refl refl;
 }
 
 pub policies_of_2 : ArePoliciesOf laboratory 2 []
@@ -70,7 +72,17 @@ config_is : (number room : ℕ) (policies : List NamedPolicy) (networks : List P
     → ArePoliciesOf laboratory number policies → IsRibOf laboratory number (config_with number room policies networks (starting_here laboratory number)).rib
     → IsRouterConfigOf laboratory (config_with number room policies networks (starting_here laboratory number))
 config_is number room policies networks there enough are rib =
-    record { there = there; few_routers = lit≤ tt; few_peerings = lit≤ tt; routers = refl; room = enough; policies = are; firsts = firsts_are; rib = rib; sessions = refl }
+    record {
+      there = there;
+      few_routers = lit≤ tt;
+      few_peerings = lit≤ tt;
+      routers = refl;
+      room = enough;
+      policies = are;
+      firsts = firsts_are;
+      rib = rib;
+      sessions = refl;
+    }
 
 pub config_of_0 : IsRouterConfigOf laboratory (config_with 0 4 policies_0 [] (starting_here laboratory 0))
 config_of_0 = config_is 0 4 policies_0 [] (lit< tt) refl policies_of_0

@@ -19,7 +19,16 @@ peering_is p start identifier hold import export there at remote_some remote_fit
   home_as = refl;
   identifier = at;
   valid = record {
-    home = record { home_as = 65000; offered = false; unicast = false; is = refl; as_number = record { some = lit≤ tt; fits = lit< tt }; hold_fits = fits; hold_time = long; host = host };
+    home = record {
+      home_as = 65000;
+      offered = false;
+      unicast = false;
+      is = refl;
+      as_number = record { some = lit≤ tt; fits = lit< tt };
+      hold_fits = fits;
+      hold_time = long;
+      host = host;
+    };
     remote_as = record { some = remote_some; fits = remote_fits };
   };
   policies = policies;

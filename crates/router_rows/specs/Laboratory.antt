@@ -66,7 +66,13 @@ laboratory = record {
   home_as = 65000;
   routers =
       record { identifier = 0x0AFF0001; room = 4; costs = []; networks = []; policies = record { name = in_name; rules = [] } ∷ [] }
-      ∷ record { identifier = 0x0AFF0002; room = 4; costs = []; networks = []; policies = record { name = in_name; rules = prefers ∷ [] } ∷ record { name = out_name; rules = [] } ∷ [] }
+      ∷ record {
+        identifier = 0x0AFF0002;
+        room = 4;
+        costs = [];
+        networks = [];
+        policies = record { name = in_name; rules = prefers ∷ [] } ∷ record { name = out_name; rules = [] } ∷ [];
+      }
       ∷ record { identifier = 0x0AFF0003; room = 2; costs = []; networks = record { address = 0xC6336400; len = 24 } ∷ []; policies = [] }
       ∷ [];
   peerings =

@@ -34,7 +34,8 @@ impl Report {
         ensures part { OnOk result (self.new.otherwise ≤ self.new.rows) }
         ensures expected { OnOk result (given.now ≡ expected.now → self.new.otherwise ≡ self.old.otherwise) }
         ensures otherwise { OnOk result (given.now ≢ expected.now → self.new.otherwise ≡ self.old.otherwise + 1) }
-        ensures shown { OnOk result (given.now ≢ expected.now → string_bytes self.new.lines ≡ string_bytes self.old.lines ++ row.now ++ codes " - answered " ++ given.now ++ codes "\n") }
+        ensures shown { OnOk result (given.now ≢ expected.now
+            → string_bytes self.new.lines ≡ string_bytes self.old.lines ++ row.now ++ codes " - answered " ++ given.now ++ codes "\n") }
     {
         self.rows += 1;
         if given != expected {

@@ -1,5 +1,6 @@
 -- The events of a run are clocked, if those of its net are.
-use Rattle.std.proofs.Common.{◌≡◌, ◌<◌, ◌+◌, ℕ, max, Bool, true, List, [], ◌∷◌, ◌++◌, ◌==◌, if◌then◌else◌, length, map, refl, ap, sym, subst, ◌∙◌, arith, inl, inr, append_assoc}
+use Rattle.std.proofs.Common.{◌≡◌, ◌<◌, ◌+◌, ℕ, max, Bool, true, List, [], ◌∷◌, ◌++◌, ◌==◌, if◌then◌else◌}
+use Rattle.std.proofs.Common.{length, map, refl, ap, sym, subst, ◌∙◌, arith, inl, inr, append_assoc}
 use Rattle.std.specs.Prelude.{◌⊎◌, Option, Some, None, slice_get, option_map}
 use Rattle.std.proofs.lemmas.Bool.Decides.{nat_tests}
 use Rattle.std.proofs.lemmas.Option.{slice_get-map}
@@ -144,7 +145,8 @@ module _ {I : Type 0} (setup : Setup) (notes : List (Noted I)) where
   pub all_follow : (events : List ClockedEvent) → AreTwins setup events notes → AreInOrder → Along (IsTimed is_go) [] notes → Along IsSupplied [] notes
       → AreClocked events
   all_follow events twins in_order timed supplied earlier later e is =
-      let p : Places setup earlier later e notes = places setup earlier later e notes (subst (λ (all : List ClockedEvent). AreTwins setup all notes) is twins) in
+      let p : Places setup earlier later e notes =
+      places setup earlier later e notes (subst (λ (all : List ClockedEvent). AreTwins setup all notes) is twins) in
       follows p.front p.note p.back p.whole in_order earlier e p.fronts p.twin
       (along_at (IsTimed is_go) [] p.front p.back p.note (subst (λ (ns : List (Noted I)). Along (IsTimed is_go) [] ns) p.whole timed))
       (along_at IsSupplied [] p.front p.back p.note (subst (λ (ns : List (Noted I)). Along IsSupplied [] ns) p.whole supplied))

@@ -1,5 +1,6 @@
 -- The events of a run beside those of its net.
-use Rattle.std.proofs.Common.{◌≡◌, ◌+◌, ℕ, max, Bool, true, false, List, [], ◌∷◌, ◌++◌, ◌==◌, ◌||◌, cond, if◌then◌else◌, length, map, filter, refl, ap, sym, ◌∙◌, arith, inl, inr, length-append}
+use Rattle.std.proofs.Common.{◌≡◌, ◌+◌, ℕ, max, Bool, true, false, List, [], ◌∷◌, ◌++◌, ◌==◌, ◌||◌, cond, if◌then◌else◌}
+use Rattle.std.proofs.Common.{length, map, filter, refl, ap, sym, ◌∙◌, arith, inl, inr, length-append}
 use Rattle.std.specs.Prelude.{Some, fold, replicate}
 use Rattle.std.proofs.lemmas.Bool.Decides.{eqb_tells, nat_tests}
 use Rattle.std.proofs.lemmas.List.{map-append}
@@ -114,7 +115,8 @@ module _ {I : Type 0} (setup : Setup) where
 
   pub behind_is : (x : ActorName) (a : ℕ) → actor_at setup a ≡ Some x → (events : List ClockedEvent) (notes : List (Noted I)) → AreTwins events notes
       → clock_behind x events ≡ behind is_go a notes
-  behind_is x a is events notes twins = greatest_peak (map (λ (e : ClockedEvent). e.clock) (filter (λ (e : ClockedEvent). same_name x e.maker || e.begins) events))
+  behind_is x a is events notes twins =
+      greatest_peak (map (λ (e : ClockedEvent). e.clock) (filter (λ (e : ClockedEvent). same_name x e.maker || e.begins) events))
       ∙ peak_behind x a is events notes twins
 
   -- ---- stamps
@@ -151,12 +153,14 @@ module _ {I : Type 0} (setup : Setup) where
   number_is x y a b x_is y_is (e ∷ events) [] twins = absurd twins
   number_is x y a b x_is y_is (e ∷ events) (n ∷ notes) twins = sum_by-cons (λ (d : ClockedEvent). if same_name y d.maker then d.took x else 0) e events
       ∙ elim (eqb_tells n.deed.entry.actor b) [
-        | inl s ↦ (λ i. (if named_test setup y e.maker b n.deed.entry.actor y_is twins.0.maker i then twins.0.took x a x_is i else 0) + number_is x y a b x_is y_is events notes twins.1 i)
+        | inl s ↦ (λ i. (if named_test setup y e.maker b n.deed.entry.actor y_is twins.0.maker i then twins.0.took x a x_is i else 0)
+            + number_is x y a b x_is y_is events notes twins.1 i)
             ∙ ap (λ (t : Bool). (if t then length (taken_of a n.deed.taken) else 0) + length (taken_from a (noted_by b notes))) s.0
             ∙ ap (λ k. k + length (taken_from a (noted_by b notes))) (sym (gets_many a n.stamp n.deed.taken))
             ∙ sym (length-append (gets a n) (taken_from a (noted_by b notes)))
             ∙ ap (λ (ns : List (Noted I)). length (taken_from a ns)) (sym (own_here b n notes s.1))
-        | inr s ↦ (λ i. (if named_test setup y e.maker b n.deed.entry.actor y_is twins.0.maker i then e.took x else 0) + number_is x y a b x_is y_is events notes twins.1 i)
+        | inr s ↦ (λ i. (if named_test setup y e.maker b n.deed.entry.actor y_is twins.0.maker i then e.took x else 0)
+            + number_is x y a b x_is y_is events notes twins.1 i)
             ∙ ap (λ (t : Bool). (if t then e.took x else 0) + length (taken_from a (noted_by b notes))) s.0
             ∙ omega arith
             ∙ ap (λ (ns : List (Noted I)). length (taken_from a ns)) (sym (own_else b n notes s.1))

@@ -1,5 +1,6 @@
 -- What each call of `Places` does to its keys.
-use Rattle.std.proofs.Common.{◌≡◌, ℕ, ◌+◌, ◌*◌, ◌<◌, ◌≤◌, List, [], length, get_or, set, replicate, Option, Some, None, true, is_some, IsSome, OnSome, cond, count_by, refl, sym, ap, ◌∙◌, arith}
+use Rattle.std.proofs.Common.{◌≡◌, ℕ, ◌+◌, ◌*◌, ◌<◌, ◌≤◌, List, [], length, get_or, set, replicate, Option, Some, None}
+use Rattle.std.proofs.Common.{true, is_some, IsSome, OnSome, cond, count_by, refl, sym, ap, ◌∙◌, arith}
 use Rattle.std.proofs.lemmas.List.{ext_get_or, get_or-replicate, set-get_or, length-map, length-replicate}
 use Rattle.std.proofs.lemmas.List.Sums.{sum_by-set}
 use Rattle.std.proofs.lemmas.List.Folds.{sum_by-replicate}
@@ -30,7 +31,8 @@ module _ {V : Type 0} where
       let moved : get_or keys m None ≡ get_or (replicate n None) m None = ap (λ (ks : List (Option ℕ)). get_or ks m None) vacant in
       cc in
       let len : slab_len slab ≡ 0 = ap (λ (slots : List (Option V)). count_by is_some slots) empty in
-      let count : count_by is_some keys ≡ n * 0 = ap (λ (ks : List (Option ℕ)). count_by is_some ks) vacant ∙ sum_by-replicate (λ (o : Option ℕ). cond (is_some o) 1 0) n None in
+      let count : count_by is_some keys ≡ n * 0 =
+      ap (λ (ks : List (Option ℕ)). count_by is_some ks) vacant ∙ sum_by-replicate (λ (o : Option ℕ). cond (is_some o) 1 0) n None in
       record {
         named = λ m key has. absurd (none m key has);
         apart = λ m l key has had. absurd (none m key has);
@@ -57,7 +59,8 @@ module _ {V : Type 0} where
     pub AreSoundKeys-removed : Updates old new key None → slab_len new + 1 ≡ slab_len old → new.capacity ≡ old.capacity
         → AreSoundKeys new (set keys n None) room
     AreSoundKeys-removed updates len capacity =
-        AreSoundKeys-changed old new keys n key None room sound (changes None updates) (omega (arith, counts None, sound.counted)) (omega (arith, sound.within)) (omega (arith, sound.reserved))
+        AreSoundKeys-changed old new keys n key None room sound (changes None updates)
+        (omega (arith, counts None, sound.counted)) (omega (arith, sound.within)) (omega (arith, sound.reserved))
 
     pub place_list-removed : Updates old new key None → place_list new (set keys n None) room ≡ with_place (place_list old keys room) n None
     place_list-removed updates = place_list-changed old new keys n key None room (changes None updates)
@@ -78,7 +81,8 @@ module _ {V : Type 0} where
       → count_by is_some (values_of slab keys) < room → HasRoomFor slab 1
   HasRoomFor-one slab keys room sound fewer = omega (arith, sound.reserved, sound.counted, count-values_of slab keys sound.named)
 
-  module _ (old new : Slab V) (keys : List (Option ℕ)) (n key room : ℕ) (sound : AreSoundKeys old keys room) (vacant : get_or (values_of old keys) n None ≡ None) (fresh : get old key ≡ None) (value : V) (updates : Updates old new key (Some value)) where
+  module _ (old new : Slab V) (keys : List (Option ℕ)) (n key room : ℕ) (sound : AreSoundKeys old keys room)
+      (vacant : get_or (values_of old keys) n None ≡ None) (fresh : get old key ≡ None) (value : V) (updates : Updates old new key (Some value)) where
     apart_from_all : ChangesAt old new keys n key (Some value)
     apart_from_all = record {
       updates = updates;

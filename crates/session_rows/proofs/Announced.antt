@@ -23,7 +23,8 @@ some_of false a o e = e
 stays : (a : Attrs) (xs : List PrefixValue) (routes : Routes) (p : PrefixValue) → map.get routes p ≡ Some a
     → map.get (fold (announce (Some a)) routes xs) p ≡ Some a
 stays a [] routes p e = e
-stays a (x ∷ xs) routes p e = stays a xs (map.insert routes x a) p (map.get-insert prefix_total routes x a p ∙ some_of (eq_by_cmp prefix_cmp p x) a (map.get routes p) e)
+stays a (x ∷ xs) routes p e =
+    stays a xs (map.insert routes x a) p (map.get-insert prefix_total routes x a p ∙ some_of (eq_by_cmp prefix_cmp p x) a (map.get routes p) e)
 
 itself : (a : Attrs) (routes : Routes) (p : PrefixValue) → map.get (map.insert routes p a) p ≡ Some a
 itself a routes p = map.get-insert prefix_total routes p a p ∙ ap (λ (t : Bool). cond t (Some a) (map.get routes p)) ((eq_by_cmp_equiv prefix_total).refl p)
@@ -53,7 +54,8 @@ changes_by adj_rib_out (Some a) nlri has some none = each a adj_rib_out nlri adj
 pub announced_changes : (adj_rib_out : Routes) (update : Update) (wide : Bool) → IsOneWay update wide → update.withdrawn ≡ []
     → All (λ p. map.get adj_rib_out p ≡ None) update.nlri → Changes adj_rib_out update
 announced_changes adj_rib_out update wide way alone none =
-    subst (λ (ws : List PrefixValue). All (λ p. map.get (fold (announce update.attrs) (fold map.remove adj_rib_out ws) update.nlri) p ≢ map.get adj_rib_out p) (ws ++ update.nlri)) (sym alone)
+    subst (λ (ws : List PrefixValue). All
+    (λ p. map.get (fold (announce update.attrs) (fold map.remove adj_rib_out ws) update.nlri) p ≢ map.get adj_rib_out p) (ws ++ update.nlri)) (sym alone)
     (changes_by adj_rib_out update.attrs update.nlri way.writable.body.attrs (announces way.one_way) none) where
       announces : ((update.withdrawn ≢ []) × (update.nlri ≡ [])) ⊎ ((update.withdrawn ≡ []) × (update.nlri ≢ [])) → update.nlri ≢ []
       announces (inl w) = absurd (w.0 alone)

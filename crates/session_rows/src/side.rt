@@ -31,12 +31,12 @@ impl Side {
         let width = if session.wide() { "wide" } else { "narrow" };
         let acked = session.all_acked();
         let waits = session.frame_waits();
-        let identifier = session.remote_identifier().unwrap_or(0);
+        let remote = session.remote_identifier().unwrap_or(0);
         let (heard, told) = (session.heard().len(), session.told().len());
         let peering = session.config().peering.0;
         let lines = session.story().lines().len();
         Ok(format!(in alloc;
-            "{state:?} {width} hold {hold} put {put} acked {acked} waits {waits} remote {identifier:X} heard {heard} told {told} peering {peering} lines {lines}"
+            "{state:?} {width} hold {hold} put {put} acked {acked} waits {waits} remote {remote:X} heard {heard} told {told} peering {peering} lines {lines}"
         )?)
     }
 

@@ -78,5 +78,7 @@ pub fn announcement_of(alloc: Global, octets: &[u8], wide: bool) -> Result<Updat
 pub fn is_new(adj_rib_out: &AdjRib, prefixes: &[Prefix]) -> bool
     ensures { OnTrue result (All (λ prefix. map.get adj_rib_out.now prefix ≡ None) prefixes.now) }
 {
-    prefixes.iter().all(|prefix| adj_rib_out.get(*prefix).is_none())
+    prefixes
+        .iter()
+        .all(|prefix| adj_rib_out.get(*prefix).is_none())
 }

@@ -30,7 +30,8 @@ round_leads false false state next answer up r e = not_up state up (ap (λ (y : 
 
 pub only_opened : (p : Peering) (lines : List Line) (state : SessionState) → Allowed p lines state → state ≡ OpenSent → lines ≡ Put (OpenMsg p.first) ∷ []
 only_opened p _ _ (opened lines h e) s = e
-only_opened p _ _ (got before state bytes answer next lines l o w r e) s = absurd (reply_leads (message_of (expected_next p before state) bytes) answer next r s)
+only_opened p _ _ (got before state bytes answer next lines l o w r e) s =
+    absurd (reply_leads (message_of (expected_next p before state) bytes) answer next r s)
 only_opened p _ _ (updated before u lines l w c e) s = absurd cc
 only_opened p _ _ (passed before state round answer next lines l up h a r e) s =
     absurd (round_leads (eqb (silence before + 1) (hold p before)) (eqb (round % (hold p before / 3)) 0) state next answer up r s)

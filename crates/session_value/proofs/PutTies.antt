@@ -27,7 +27,8 @@ module _ (before after : SessionValue) (u : Update) (g : PutsUpdate before u aft
   puts_tied tied = subst IsTied (sym g.effect) (record {
     allowed = updates.legal_then p before.story u g.established g.one_way tied.allowed (λ _ _. Unit {0}) tt tied.allowed;
     put = ap (λ (xs : List ℕ). xs ++ octets) tied.put ∙ sym (updates.put_then p before.story u g.established g.one_way tied.allowed);
-    room = subst (λ (s : SessionState). length (before.end.stream ++ octets) ≤ most_put s) (sym (updates.state_next p before.story u g.established g.one_way tied.allowed))
+    room = subst (λ (s : SessionState). length (before.end.stream ++ octets) ≤ most_put s)
+        (sym (updates.state_next p before.story u g.established g.one_way tied.allowed))
         (omega (arith, length-append before.end.stream octets, g.room));
     read = tied.read;
     got = tied.got ∙ sym (updates.got_then p before.story u g.established g.one_way tied.allowed);

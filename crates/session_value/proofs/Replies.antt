@@ -117,7 +117,9 @@ same_update p lines more state bytes answer next l r c = by_message (message_of 
   by_message (Ok (UpdateMsg u)) g f =
       let s : state ≡ Established = only_update state (read_of (expected_next p lines state) bytes (UpdateMsg u) g).in_state in
       let wide : is_wide p (lines ++ more) ≡ is_wide p lines = width_stays p lines more state l (ap is_up s) in
-      let e : later ≡ expected_next p lines state = ap (λ (w : Bool). record { state = Established; remote_as = p.remote_as; offered = offers p.first; wide = w }) wide ∙ ap (expected_next p lines) (sym s) in
+      let e : later ≡ expected_next p lines state =
+      ap (λ (w : Bool). record { state = Established; remote_as = p.remote_as; offered = offers p.first; wide = w }) wide
+      ∙ ap (expected_next p lines) (sym s) in
       ap (λ (x : Expected). update_in (message_of x bytes)) e ∙ ap update_in g
   by_message (Ok (NoticeMsg n)) g f = absurd (c (sym (ap (λ y. y.1) f)))
   by_message (Ok KeepaliveMsg) g f =

@@ -48,7 +48,8 @@ spell_open_size home_as hold identifier false false = let n : length (spell_open
 pub open_size : (first : open_type.OpenMsg) (wide : Bool) → IsHomeOpen first → length (spell (OpenMsg first) wide) ≤ 45
 unfolding spell
 open_size first wide is =
-    let size : length (spell_open first) ≤ 26 = subst (λ (o : open_type.OpenMsg). length (spell_open o) ≤ 26) (sym is.is) (spell_open_size is.home_as first.hold first.identifier is.offered is.unicast) in
+    let size : length (spell_open first) ≤ 26 = subst (λ (o : open_type.OpenMsg). length (spell_open o) ≤ 26)
+    (sym is.is) (spell_open_size is.home_as first.hold first.identifier is.offered is.unicast) in
     let all = framed_size 1 (spell_open first) in
     omega arith
 
@@ -79,7 +80,8 @@ opened_short : (session : SessionValue) → IsTied session → state session ≡
 opened_short session tied s =
     let p = peering_of session.config in
     let lines : session.story ≡ Put (OpenMsg p.first) ∷ [] = only_opened p session.story (state session) tied.allowed s in
-    let put : length session.end.stream ≡ length (put_bytes p (Put (OpenMsg p.first) ∷ [])) = ap (λ (xs : List ℕ). length xs) (tied.put ∙ ap (put_bytes p) lines) in
+    let put : length session.end.stream ≡ length (put_bytes p (Put (OpenMsg p.first) ∷ [])) =
+    ap (λ (xs : List ℕ). length xs) (tied.put ∙ ap (put_bytes p) lines) in
     let one = put_one false (OpenMsg p.first) in
     let size = open_size p.first false (its_peering p session.story (state session) tied.allowed).home in
     omega (arith, put, one, size)
@@ -108,7 +110,8 @@ got_has_room session bytes answer next tied o r =
     let e : Expected = expected_next p session.story (state session) in
     let wide : Bool = is_wide p (session.story ++ Got bytes ∷ answer) in
     subst (λ (x : List Line × SessionState). length session.end.stream + length (flat_map (put_in wide) x.0) ≤ most_put x.1) r
-    (got_room (length session.end.stream) wide e bytes (message_of e bytes) refl (omega (arith, tied.room, most_unclosed (state session) o)) (opened_short session tied))
+    (got_room (length session.end.stream) wide e bytes (message_of e bytes) refl
+    (omega (arith, tied.room, most_unclosed (state session) o)) (opened_short session tied))
 
 round_room : (stream : ℕ) (wide : Bool) (state next : SessionState) (answer : List Line) → Answers state answer next → is_up state ≡ true → stream ≤ 1044461
     → stream + length (flat_map (put_in wide) answer) ≤ most_put next

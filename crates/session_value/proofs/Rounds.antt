@@ -27,7 +27,8 @@ pub data Answers (state : SessionState) : List Line → SessionState → Type 0 
   stays : Answers state [] state
 
 by_tests : (t u : Bool) (state : SessionState) →
-    let r : List Line × SessionState = cond t (Put (NoticeMsg hold_expired) ∷ [], Closed) (cond u (Put KeepaliveMsg ∷ [], state) ([], state)) in Answers state r.0 r.1
+    let r : List Line × SessionState = cond t (Put (NoticeMsg hold_expired) ∷ [], Closed) (cond u (Put KeepaliveMsg ∷ [], state) ([], state)) in
+    Answers state r.0 r.1
 by_tests true u state = ends
 by_tests false true state = says_keepalive
 by_tests false false state = stays

@@ -24,7 +24,8 @@ begun_is config valid =
     let p = peering_of config in
     let lines : List Line = Put (OpenMsg p.first) ∷ [] in
     let size = open_size p.first false valid.home in
-    let one : length (put_bytes p lines) ≡ length (spell (OpenMsg p.first) false) = ap (λ (xs : List ℕ). length xs) (append-nil (spell (OpenMsg p.first) false)) in
+    let one : length (put_bytes p lines) ≡ length (spell (OpenMsg p.first) false) =
+    ap (λ (xs : List ℕ). length xs) (append-nil (spell (OpenMsg p.first) false)) in
     record {
       tied = record { allowed = Legal.opened lines valid refl; put = refl; room = omega (arith, size, one); read = omega arith; got = refl };
       legal = Legal.opened lines valid refl;
@@ -40,7 +41,8 @@ module _ (session : SessionValue) (end : Endpoint)
     (grows : received_bytes session.end ≡ take (received session.end) (received_bytes end)) where
   pub tied_with : IsTied session → IsTied (record session { end = end })
   tied_with tied =
-      let more : received session.end ≤ received end = omega (arith, ap (λ (xs : List ℕ). length xs) grows, length-take (received session.end) (received_bytes end)) in
+      let more : received session.end ≤ received end =
+      omega (arith, ap (λ (xs : List ℕ). length xs) grows, length-take (received session.end) (received_bytes end)) in
       record {
         allowed = tied.allowed;
         put = stream ∙ tied.put;

@@ -33,7 +33,8 @@ module _ (p : Peering) (lines : List Line) (u : Update) (established : state_of 
 
     pub legal_then : (Changes : List Line → Update → Type 0) → Changes lines u → Legal Changes p lines (state_of lines)
         → Legal Changes p (lines ++ more) (state_of (lines ++ more))
-    legal_then Changes changes legal = subst (λ (x : SessionState). Legal Changes p (lines ++ more) x) (sym state_next) (legal_next Changes one_way changes legal)
+    legal_then Changes changes legal =
+        subst (λ (x : SessionState). Legal Changes p (lines ++ more) x) (sym state_next) (legal_next Changes one_way changes legal)
 
     pub got_then : got_bytes (lines ++ more) ≡ got_bytes lines
     got_then = got_grows lines more ∙ append-nil (got_bytes lines)

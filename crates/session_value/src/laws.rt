@@ -29,7 +29,8 @@ pub fn own_messages_are_short()
     ensures keepalive { (wide : Bool) → length (spell KeepaliveMsg wide) ≡ 19 }
     ensures open { (first : open_type.OpenMsg) (wide : Bool) → IsHomeOpen first → length (spell (OpenMsg first) wide) ≤ 45 }
     ensures expired { (wide : Bool) → length (spell (NoticeMsg hold_expired) wide) ≡ 21 }
-    ensures fault { (bytes : List ℕ) (expected : Expected) (notice : Notice) (wide : Bool) → first_fault bytes expected ≡ Some notice → length (spell (NoticeMsg notice) wide) ≤ 4096 }
+    ensures fault { (bytes : List ℕ) (expected : Expected) (notice : Notice) (wide : Bool)
+        → first_fault bytes expected ≡ Some notice → length (spell (NoticeMsg notice) wide) ≤ 4096 }
 {}
 
 /// The answer to what is got, and to a round, fits in the stream.

@@ -82,7 +82,11 @@ module _ (p : ℕ) (part : FarPart) (rest : FarRest) (is : IsFarRest p part rest
   far_names Script left = absurd left
   far_names (Graft k) left = absurd left
   far_names (Channel a b) left = absurd left
-  far_names (Bag q) left = (Bag q, (subst (λ n. 0 < n) (sym both_links) (some_length (part.homeward ++ part.remoteward) left.1), own_peering q left.0), one_number q.0 q.0 (omega arith))
+  far_names (Bag q) left = (
+    Bag q,
+    (subst (λ n. 0 < n) (sym both_links) (some_length (part.homeward ++ part.remoteward) left.1), own_peering q left.0),
+    one_number q.0 q.0 (omega arith),
+  )
   far_names (Stream q) left = (Stream q, (is.unacked.1 left.1, own_peering q left.0), one_number q.0 q.0 (omega arith))
   far_names (Dirty s) left = absurd left
   far_names (DueIn s q) left = absurd left
@@ -117,7 +121,8 @@ module _ (setup : Setup) (part : OperatorPart) (rest : OperatorRest) (is : IsOpe
 
 pub router_first : (r : ℕ) (part : RouterPart) (rest : RouterRest) (answer : Option Pending) → IsRouterRest r part rest
     → IsFirstOf (RouterNames rest) answer → IsFirstOf (LeftAtRouter r part) answer
-router_first r part rest answer is first = first_of_more (RouterNames rest) (LeftAtRouter r part) answer (router_has r part rest is) (router_names r part rest is) first
+router_first r part rest answer is first =
+    first_of_more (RouterNames rest) (LeftAtRouter r part) answer (router_has r part rest is) (router_names r part rest is) first
 
 pub far_first : (p : ℕ) (part : FarPart) (rest : FarRest) (answer : Option Pending) → IsFarRest p part rest → IsFirstOf (FarNames rest) answer
     → IsFirstOf (LeftAtFar p part) answer
@@ -125,4 +130,5 @@ far_first p part rest answer is first = first_of_more (FarNames rest) (LeftAtFar
 
 pub operator_first : (setup : Setup) (part : OperatorPart) (rest : OperatorRest) (answer : Option Pending) → IsOperatorRest setup part rest
     → IsFirstOf (OperatorNames rest) answer → IsFirstOf (LeftToOperator setup part) answer
-operator_first setup part rest answer is first = first_of_more (OperatorNames rest) (LeftToOperator setup part) answer (operator_has setup part rest is) (operator_names setup part rest is) first
+operator_first setup part rest answer is first =
+    first_of_more (OperatorNames rest) (LeftToOperator setup part) answer (operator_has setup part rest is) (operator_names setup part rest is) first

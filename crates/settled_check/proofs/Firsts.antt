@@ -54,7 +54,8 @@ first_of_two cmp derived one other a b m is_a is_b is_m = by_order (pending_cmp 
       inl is_a,
       λ x either. elim either [
         | inl f ↦ subst (λ (z : Pending). pending_cmp a z ≢ Greater) (value one a x is_a f) (not_itself a)
-        | inr f ↦ subst (λ (z : Pending). pending_cmp a z ≢ Greater) (value other b x is_b f) (λ g. not_less (pending_total.antisymm b a ∙ ap ordering_reverse g))
+        | inr f ↦ subst (λ (z : Pending). pending_cmp a z ≢ Greater) (value other b x is_b f)
+            (λ g. not_less (pending_total.antisymm b a ∙ ap ordering_reverse g))
       ],
     )
 

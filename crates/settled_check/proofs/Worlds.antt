@@ -1,5 +1,6 @@
 -- Nothing is left in a world exactly where it is quiet.
-use Rattle.std.proofs.Common.{◌≡◌, ℕ, ◌<◌, ◌≤◌, ◌==◌, nat_lt, Bool, true, false, List, [], ◌∷◌, ◌++◌, length, map, Option, Some, None, refl, sym, ap, ◌∙◌, subst, inl, inr, arith}
+use Rattle.std.proofs.Common.{◌≡◌, ℕ, ◌<◌, ◌≤◌, ◌==◌, nat_lt, Bool, true, false, List, [], ◌∷◌, ◌++◌, length}
+use Rattle.std.proofs.Common.{map, Option, Some, None, refl, sym, ap, ◌∙◌, subst, inl, inr, arith}
 use Rattle.std.specs.Prelude.{◌≢◌, ◌⊎◌, ◌↔◌, is_some, fold, slice_get, unwrap_or}
 use Rattle.std.specs.Option.{option_map}
 use Rattle.std.specs.List.{flat_map}
@@ -24,7 +25,8 @@ use Rattle.graft_model.specs.Parts.{Place, Vacant, Live, Frozen, Shadow, Errand,
 use Rattle.graft_model.specs.First.{first_router, first_far, place_in}
 use Rattle.graft_model.specs.Quiet.{Quiet, HasRead, AllAcked, IsIdle}
 use Rattle.graft_model.specs.Claims.{sessions_at, sessions_on}
-use Rattle.graft_actors.specs.Actors.{ActorName, Router, FarSide, Operator, IsActor, number_in, actor_at, RouterIs, FarIs, MeshItem, OutwardItem, SegmentItem, OrderItem, ReportItem, StepItem}
+use Rattle.graft_actors.specs.Actors.{ActorName, Router, FarSide, Operator, IsActor, number_in, actor_at, RouterIs, FarIs}
+use Rattle.graft_actors.specs.Actors.{MeshItem, OutwardItem, SegmentItem, OrderItem, ReportItem, StepItem}
 use Rattle.graft_actors.specs.Seen.{channel_of}
 use Rattle.graft_actors.specs.Laws.{ActorsHaveNumbers}
 use Rattle.settled_check.specs.Left.{HasSome, HasStream, HasUnread, IsUnacked, graft_in_place, IsUnended, HasUnissued, LeftAtRouter, LeftAtFar}
@@ -70,7 +72,8 @@ flat_map_none f (x ∷ xs) none = ap (λ ys. ys ++ flat_map f xs) (none x) ∙ f
 -- ---- sets of prefixes
 
 no_prefix : (prefixes : Prefixes) → ¬ HasSome prefixes → prefixes ≡ finite.empty
-no_prefix prefixes none = finite.same_map prefix_total exact_prefixes prefixes finite.empty (λ q. is_none_of (finite.get prefixes q) (λ there. none (q, there)) ∙ sym (finite.get-empty prefix_cmp q))
+no_prefix prefixes none = finite.same_map prefix_total exact_prefixes prefixes finite.empty
+    (λ q. is_none_of (finite.get prefixes q) (λ there. none (q, there)) ∙ sym (finite.get-empty prefix_cmp q))
 
 some_prefix : (prefixes : Prefixes) → prefixes ≡ finite.empty → ¬ HasSome prefixes
 some_prefix prefixes none (q, there) =
@@ -99,8 +102,11 @@ all_acked from to fits none =
 idle : (remote : Endpoint) (place : Place) → graft_in_place place ≡ None → ¬ HasStream place → ¬ IsUnacked remote
     → ((session : SessionValue) (order : Option Errand) → place ≡ Live session order → Fits session.end remote × Fits remote session.end) → IsIdle remote place
 idle remote Vacant no_graft no_stream acked fits = tt
-idle remote (Live session None) no_graft no_stream acked fits =
-    (has_read session (λ more. no_stream (inr more)), all_acked session.end remote (fits session None refl).0 (λ more. no_stream (inl more)), all_acked remote session.end (fits session None refl).1 acked)
+idle remote (Live session None) no_graft no_stream acked fits = (
+  has_read session (λ more. no_stream (inr more)),
+  all_acked session.end remote (fits session None refl).0 (λ more. no_stream (inl more)),
+  all_acked remote session.end (fits session None refl).1 acked,
+)
 idle remote (Live session (Some order)) no_graft no_stream acked fits = absurd cc
 idle remote (Frozen session order) no_graft no_stream acked fits = absurd cc
 idle remote (Shadow graft) no_graft no_stream acked fits = absurd cc
@@ -176,7 +182,8 @@ module _ (numbers : ActorsHaveNumbers) (setup : Setup) (w : World) (is : IsOnThe
     decided r = elim (below r (routers_in setup)) [
       | inl l ↦ no_prefix (w.router r).dirty (λ some. none_at_router r l (Dirty (record { 0 = r })) (refl, some))
       | inr le ↦ ap (λ (part : RouterPart). part.dirty) (outside_router r le)
-          ∙ ap (λ (o : Option RouterSetup). fold (λ (prefixes : Prefixes) network. finite.insert prefixes network tt) finite.empty (unwrap_or (option_map (λ (router : RouterSetup). router.networks) o) [])) (slice_get_past setup.routers r le)
+          ∙ ap (λ (o : Option RouterSetup). fold (λ (prefixes : Prefixes) network. finite.insert prefixes network tt) finite.empty
+          (unwrap_or (option_map (λ (router : RouterSetup). router.networks) o) [])) (slice_get_past setup.routers r le)
     ]
 
     told_in : (r q : ℕ) → (w.router r).due_in q ≡ finite.empty
@@ -210,7 +217,8 @@ module _ (numbers : ActorsHaveNumbers) (setup : Setup) (w : World) (is : IsOnThe
           (λ left. none_at_router r l (Stream (record { 0 = p })) left)
           (acked p) (λ session order held. is.streams r p session order held)
       | inr le ↦ subst (λ (place : Place). IsIdle (w.far p).end place)
-          (sym (ap (λ (part : RouterPart). part.places p) (outside_router r le) ∙ vacant_beyond (routers_in setup) r (slice_get setup.peerings p) le (λ peering e. (is.sound.peerings p peering e).start))) tt
+          (sym (ap (λ (part : RouterPart). part.places p) (outside_router r le)
+          ∙ vacant_beyond (routers_in setup) r (slice_get setup.peerings p) le (λ peering e. (is.sound.peerings p peering e).start))) tt
     ]
 
     issued : (n p : ℕ) (bytes : List ℕ) → slice_get setup.steps n ≡ Some (SayStep p bytes) → group_of setup n ≡ w.operator.group → w.operator.issued n ≡ true
@@ -287,7 +295,8 @@ module _ (numbers : ActorsHaveNumbers) (setup : Setup) (w : World) (is : IsOnThe
     far_acked : (p : ℕ) → p < peerings_in setup → ¬ IsUnacked (w.far p).end
     far_acked p l unacked = is.held p l (
         ap (λ xs. xs ++ flat_map (λ a. flat_map (λ b. flat_map (sessions_on p) (w.mesh a b)) (router_numbers setup)) (router_numbers setup))
-        (flat_map_none (λ r. sessions_at ((w.router r).places p)) (router_numbers setup) (λ r. idle_without (w.far p).end ((w.router r).places p) (q.places r p) unacked))
+        (flat_map_none (λ r. sessions_at ((w.router r).places p)) (router_numbers setup)
+        (λ r. idle_without (w.far p).end ((w.router r).places p) (q.places r p) unacked))
         ∙ flat_map_none (λ a. flat_map (λ b. flat_map (sessions_on p) (w.mesh a b)) (router_numbers setup)) (router_numbers setup)
         (λ a. flat_map_none (λ b. flat_map (sessions_on p) (w.mesh a b)) (router_numbers setup) (λ b. ap (flat_map (sessions_on p)) (q.mesh a b))))
 
@@ -305,7 +314,8 @@ module _ (numbers : ActorsHaveNumbers) (setup : Setup) (w : World) (is : IsOnThe
     unended g u = q.ended g u.known u.group u.made u.unended
 
     unissued : ¬ HasUnissued setup w.operator
-    unissued (inl (n, u)) = let e : w.operator.issued n ≡ true = q.issued n u.peering u.bytes u.is u.group in let f : w.operator.issued n ≡ false = u.unissued in absurd cc
+    unissued (inl (n, u)) = let e : w.operator.issued n ≡ true = q.issued n u.peering u.bytes u.is u.group in
+        let f : w.operator.issued n ≡ false = u.unissued in absurd cc
     unissued (inr (g, u)) = unended g u.0
 
     pub nothing_left : (x : Pending) → ¬ IsLeft setup w x

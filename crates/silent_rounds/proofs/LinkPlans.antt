@@ -1,5 +1,6 @@
 -- A link of a far side holds as many segments as the plan has fates for it, and none of these waits for more than six turns.
-use Rattle.std.proofs.Common.{◌≡◌, ◌≤◌, ◌<◌, ◌+◌, ◌∙◌, ℕ, zero, suc, Bool, true, false, List, [], ◌∷◌, ◌++◌, length, map, filter, get_or, if◌then◌else◌, refl, sym, ap, subst, inl, inr, arith, append_assoc, length-append, length-drop}
+use Rattle.std.proofs.Common.{◌≡◌, ◌≤◌, ◌<◌, ◌+◌, ◌∙◌, ℕ, zero, suc, Bool, true, false, List, [], ◌∷◌, ◌++◌, length, map, filter, get_or}
+use Rattle.std.proofs.Common.{if◌then◌else◌, refl, sym, ap, subst, inl, inr, arith, append_assoc, length-append, length-drop}
 use Rattle.std.specs.Prelude.{Option, Some, None, find, not, option_map, slice_get, unwrap_or}
 use Rattle.std.specs.List.{AllByRecursion}
 use Rattle.std.proofs.lemmas.List.{append-nil, length-map, length-take}
@@ -23,7 +24,8 @@ use Rattle.graft_model.specs.First.{first_far}
 use Rattle.graft_model.specs.FarRows.{without}
 use Rattle.graft_model.specs.declared.event.FarEvent.{FarEvent}
 use Rattle.graft_model.specs.declared.event.FarEvent.TheVariants.{Say, Send, Take, Point, Beat}
-use Rattle.far_side.specs.Links.{act_in, is_gone, last_turn, older, left_in_link, home_act, home_event, home_events, remote_act, remote_event, remote_events, pass_events, next_index}
+use Rattle.far_side.specs.Links.{act_in, is_gone, last_turn, older, left_in_link, home_act, home_event, home_events}
+use Rattle.far_side.specs.Links.{remote_act, remote_event, remote_events, pass_events, next_index}
 use Rattle.far_side.specs.Turns.{FarRetransmits, SendsNew, SendsAnswer, SendsNone, FarGoes}
 use Rattle.far_side.specs.declared.link.InLink.{InLink}
 use Rattle.far_side.specs.declared.link.Act.{Act}
@@ -46,7 +48,8 @@ holds_at part h r h' r' same_h same_r holds = record { homeward = holds.homeward
 
 -- a part that is this one
 holds_by : (a b : FarPart) (h r : ℕ) → b ≡ a → length a.homeward ≡ h → length a.remoteward ≡ r → Holds b h r
-holds_by a b h r same is_h is_r = record { homeward = ap (λ (q : FarPart). length q.homeward) same ∙ is_h; remoteward = ap (λ (q : FarPart). length q.remoteward) same ∙ is_r }
+holds_by a b h r same is_h is_r =
+    record { homeward = ap (λ (q : FarPart). length q.homeward) same ∙ is_h; remoteward = ap (λ (q : FarPart). length q.remoteward) same ∙ is_r }
 
 one_more : (xs : List PlacedSegment) (x : PlacedSegment) (n : ℕ) → length xs ≡ n → length (xs ++ x ∷ []) ≡ n + 1
 one_more xs x n is = omega (arith, is, length-append xs (x ∷ []))
@@ -90,7 +93,8 @@ only_answers part (Send from len) allowed = tt
 only_answers part event allowed = absurd allowed
 
 -- the segments that it sends
-sends_hold : (setup : Setup) (p : ℕ) (Allowed : FarPart → FarEvent → Type 0) (only : (part : FarPart) (event : FarEvent) → Allowed part event → IsSend event) (a b : FarPart) (es : List FarEvent) (h r : ℕ)
+sends_hold : (setup : Setup) (p : ℕ) (Allowed : FarPart → FarEvent → Type 0)
+    (only : (part : FarPart) (event : FarEvent) → Allowed part event → IsSend event) (a b : FarPart) (es : List FarEvent) (h r : ℕ)
     → FarGoes setup p Allowed a es b → Holds a h r → Holds b (h + length es) r
 unfolding IsSend
 sends_hold setup p Allowed only a b [] h r goes holds = holds_by _ b (h + 0) r goes (omega (arith, holds.homeward)) holds.remoteward
@@ -139,10 +143,14 @@ home_one : (setup : Setup) (p pointer index : ℕ) (x : InLink) (act : Act) (es 
     → FarGoes setup p SendsNone a (home_act pointer index x act ++ es) b
     → Behind setup p (λ part. Holds part (n + kept act) r) es b
 home_one setup p pointer index x Stays es a b n r holds goes = record { part = a; has = holds; rest = goes }
-home_one setup p pointer index x (Delivered true) es a b n r holds (taken, sent, m, row, allowed, rest) = record { part = m; has = holds_by _ m (n + 1) r row.effect holds.homeward holds.remoteward; rest = rest }
-home_one setup p pointer index x (Delivered false) es a b n r holds (taken, sent, m, row, allowed, rest) = record { part = m; has = home_gone index a m n r holds (slice_get_within a.homeward index row.segment row.there) row.effect; rest = rest }
-home_one setup p pointer index x Copied es a b n r holds (taken, sent, m, row, allowed, rest) = record { part = m; has = home_gone index a m n r holds (slice_get_within a.homeward index row.segment row.there) row.effect; rest = rest }
-home_one setup p pointer index x Lost es a b n r holds (taken, sent, m, row, allowed, rest) = record { part = m; has = home_gone index a m n r holds row.there row.effect; rest = rest }
+home_one setup p pointer index x (Delivered true) es a b n r holds (taken, sent, m, row, allowed, rest) =
+    record { part = m; has = holds_by _ m (n + 1) r row.effect holds.homeward holds.remoteward; rest = rest }
+home_one setup p pointer index x (Delivered false) es a b n r holds (taken, sent, m, row, allowed, rest) =
+    record { part = m; has = home_gone index a m n r holds (slice_get_within a.homeward index row.segment row.there) row.effect; rest = rest }
+home_one setup p pointer index x Copied es a b n r holds (taken, sent, m, row, allowed, rest) =
+    record { part = m; has = home_gone index a m n r holds (slice_get_within a.homeward index row.segment row.there) row.effect; rest = rest }
+home_one setup p pointer index x Lost es a b n r holds (taken, sent, m, row, allowed, rest) =
+    record { part = m; has = home_gone index a m n r holds row.there row.effect; rest = rest }
 
 remote_gone : (index : ℕ) (a b : FarPart) (h n : ℕ) (end : Endpoint) → Holds a h (n + 1) → index < length a.remoteward
     → b ≡ record a { end = end; remoteward = without index a.remoteward } → Holds b h (n + 0)
@@ -152,14 +160,19 @@ remote_one : (setup : Setup) (p index : ℕ) (act : Act) (es : List FarEvent) (a
     → FarGoes setup p SendsNone a (remote_act index act ++ es) b
     → Behind setup p (λ part. Holds part h (n + kept act)) es b
 remote_one setup p index Stays es a b h n holds goes = record { part = a; has = holds; rest = goes }
-remote_one setup p index (Delivered true) es a b h n holds (taken, sent, m, row, allowed, rest) = record { part = m; has = holds_by _ m h (n + 1) row.effect holds.homeward holds.remoteward; rest = rest }
-remote_one setup p index (Delivered false) es a b h n holds (taken, sent, m, row, allowed, rest) = record { part = m; has = remote_gone index a m h n row.end holds (slice_get_within a.remoteward index row.segment row.there) row.effect; rest = rest }
-remote_one setup p index Copied es a b h n holds (taken, sent, m, row, allowed, rest) = record { part = m; has = remote_gone index a m h n row.end holds (slice_get_within a.remoteward index row.segment row.there) row.effect; rest = rest }
-remote_one setup p index Lost es a b h n holds (taken, sent, m, row, allowed, rest) = record { part = m; has = remote_gone index a m h n a.end holds row.there row.effect; rest = rest }
+remote_one setup p index (Delivered true) es a b h n holds (taken, sent, m, row, allowed, rest) =
+    record { part = m; has = holds_by _ m h (n + 1) row.effect holds.homeward holds.remoteward; rest = rest }
+remote_one setup p index (Delivered false) es a b h n holds (taken, sent, m, row, allowed, rest) =
+    record { part = m; has = remote_gone index a m h n row.end holds (slice_get_within a.remoteward index row.segment row.there) row.effect; rest = rest }
+remote_one setup p index Copied es a b h n holds (taken, sent, m, row, allowed, rest) =
+    record { part = m; has = remote_gone index a m h n row.end holds (slice_get_within a.remoteward index row.segment row.there) row.effect; rest = rest }
+remote_one setup p index Lost es a b h n holds (taken, sent, m, row, allowed, rest) =
+    record { part = m; has = remote_gone index a m h n a.end holds row.there row.effect; rest = rest }
 
 -- all of a link: it holds the plans that are left, and so many more
 module _ (setup : Setup) (p : ℕ) (event : ℕ → InLink → List FarEvent) (Has : FarPart → ℕ → Type 0)
-    (one : (index : ℕ) (x : InLink) (es : List FarEvent) (a b : FarPart) (n : ℕ) → Has a (n + 1) → FarGoes setup p SendsNone a (event index x ++ es) b → Behind setup p (λ part. Has part (n + kept (act_in x))) es b) where
+    (one : (index : ℕ) (x : InLink) (es : List FarEvent) (a b : FarPart) (n : ℕ) → Has a (n + 1)
+    → FarGoes setup p SendsNone a (event index x ++ es) b → Behind setup p (λ part. Has part (n + kept (act_in x))) es b) where
   passes_hold : (index : ℕ) (plans : List InLink) (es : List FarEvent) (a b : FarPart) (n : ℕ) → Has a (n + length plans)
       → FarGoes setup p SendsNone a (pass_events event index plans ++ es) b
       → Behind setup p (λ part. Has part (n + length (left_in_link plans))) es b
@@ -185,8 +198,10 @@ delivers_hold setup p pointer home remote a b goes holds = remotes (passes_hold 
     remotes : Behind setup p (λ part. Holds part (0 + length (left_in_link home)) (length remote)) (remote_events remote) b
         → Holds b (length (left_in_link home)) (length (left_in_link remote))
     remotes homes = ends_with setup p b (length (left_in_link home)) (0 + length (left_in_link remote)) (length (left_in_link remote)) (omega arith)
-        (passes_hold setup p remote_event (λ part n. Holds part (length (left_in_link home)) n) (λ index x es c d n. remote_one setup p index (act_in x) es c d (length (left_in_link home)) n) 0 remote [] homes.part b 0
-        (holds_at homes.part (0 + length (left_in_link home)) (length remote) (length (left_in_link home)) (0 + length remote) (omega arith) (omega arith) homes.has)
+        (passes_hold setup p remote_event (λ part n. Holds part (length (left_in_link home)) n)
+        (λ index x es c d n. remote_one setup p index (act_in x) es c d (length (left_in_link home)) n) 0 remote [] homes.part b 0
+        (holds_at homes.part (0 + length (left_in_link home)) (length remote)
+        (length (left_in_link home)) (0 + length remote) (omega arith) (omega arith) homes.has)
         (subst (λ (fs : List FarEvent). FarGoes setup p SendsNone homes.part fs b) (sym (append-nil (remote_events remote))) homes.rest))
 
 -- ---- fates
@@ -197,7 +212,8 @@ IsShort x = last_turn x.fate ≤ 6
 -- no fault has a segment wait for longer
 fate_short : (faults : List Fault) → AreShort faults → (peering : PeeringId) (way : Way) (segment : ℕ) → last_turn (fate_of faults peering way segment) ≤ 6
 fate_short [] short peering way segment = omega arith
-fate_short (fault ∷ faults) short peering way segment = by_flag (is_fault_for peering way segment fault) (find (is_fault_for peering way segment) faults) (fate_short faults short.1 peering way segment)
+fate_short (fault ∷ faults) short peering way segment =
+    by_flag (is_fault_for peering way segment fault) (find (is_fault_for peering way segment) faults) (fate_short faults short.1 peering way segment)
   where
     of_kind : (kind : FaultKind) (after : ℕ) → after ≤ 6 → last_turn (fate_of_kind kind after) ≤ 6
     of_kind kinds.Lose after h = omega arith
@@ -246,7 +262,8 @@ pub record Planned (links : Links) (part : FarPart) : Type 0 where
   pub home : AllByRecursion IsShort links.home.plans
   pub remote : AllByRecursion IsShort links.remote.plans
 
-module _ (setup : Setup) (faults : List Fault) (short : AreShort faults) (p round : ℕ) (start end : FarPart) (before after : Links) (events : List FarEvent) (real : RealFar setup faults p round start before events end after)
+module _ (setup : Setup) (faults : List Fault) (short : AreShort faults) (p round : ℕ) (start end : FarPart)
+    (before after : Links) (events : List FarEvent) (real : RealFar setup faults p round start before events end after)
     (planned : Planned before start) where
   taken_n : length real.took ≡ length (filter is_take real.taken)
   taken_n = put_length faults p _ before.remote.put (length (filter is_take real.taken)) real.took real.are_taken
@@ -256,7 +273,8 @@ module _ (setup : Setup) (faults : List Fault) (short : AreShort faults) (p roun
 
   delivered : Holds real.delivered (length (left_in_link before.home.plans)) (length (left_in_link (before.remote.plans ++ real.took)))
   delivered = delivers_hold setup p end.pointer before.home.plans (before.remote.plans ++ real.took) real.turning real.delivered real.delivers
-      (holds_at real.turning (length before.home.plans) (length before.remote.plans + length (filter is_take real.taken)) (length before.home.plans) (length (before.remote.plans ++ real.took)) refl
+      (holds_at real.turning (length before.home.plans) (length before.remote.plans + length (filter is_take real.taken))
+      (length before.home.plans) (length (before.remote.plans ++ real.took)) refl
       (omega (arith, taken_n, length-append before.remote.plans real.took))
       (takes_hold setup p start real.turning real.taken (length before.home.plans) (length before.remote.plans) real.takes planned.holds))
 
@@ -281,10 +299,13 @@ module _ (setup : Setup) (faults : List Fault) (short : AreShort faults) (p roun
   pub round_planned : Planned after end
   round_planned = record {
     holds = holds_at end (((left + length real.again) + length real.fresh) + length real.answers) others (length after.home.plans) (length after.remote.plans)
-        (omega (arith, sent_n, length-append (left_in_link before.home.plans) real.sent, ap (λ (xs : List InLink). length xs) home_is)) (sym (ap (λ (xs : List InLink). length xs) remote_is)) ended;
-    home = subst (AllByRecursion IsShort) (sym home_is) (all-append IsShort (left_in_link before.home.plans) real.sent (left_short before.home.plans planned.home)
+        (omega (arith, sent_n, length-append (left_in_link before.home.plans) real.sent, ap (λ (xs : List InLink). length xs) home_is))
+        (sym (ap (λ (xs : List InLink). length xs) remote_is)) ended;
+    home = subst (AllByRecursion IsShort) (sym home_is)
+        (all-append IsShort (left_in_link before.home.plans) real.sent (left_short before.home.plans planned.home)
         (fates_short real.sent _ (λ k. fate_of faults (record { 0 = p }) _ k) (fate_short faults short (record { 0 = p }) _) real.are_sent.0.fates));
-    remote = subst (AllByRecursion IsShort) (sym remote_is) (left_short (before.remote.plans ++ real.took) (all-append IsShort before.remote.plans real.took planned.remote
+    remote = subst (AllByRecursion IsShort) (sym remote_is)
+        (left_short (before.remote.plans ++ real.took) (all-append IsShort before.remote.plans real.took planned.remote
         (fates_short real.took _ (λ k. fate_of faults (record { 0 = p }) _ k) (fate_short faults short (record { 0 = p }) _) real.are_taken.fates)));
   }
 
@@ -296,8 +317,10 @@ module _ (setup : Setup) (faults : List Fault) (journal : List JournalEntry) (ma
 
   -- a far side's round
   pub far_did : (k p : ℕ) → k + 1 < length marks → p < peerings_in setup
-      → FarDid setup faults p (k + 1) (real.world k) (real.links k p) (between journal (get_or marks k []) (get_or marks (k + 1) [])) (real.world (k + 1)) (real.links (k + 1) p)
-  far_did k p within known = (real.each k (get_or marks k []) (get_or marks (k + 1) []) (mark_is k (omega (arith, within))) (mark_is (k + 1) within)).far_sides p known
+      → FarDid setup faults p (k + 1) (real.world k) (real.links k p)
+      (between journal (get_or marks k []) (get_or marks (k + 1) [])) (real.world (k + 1)) (real.links (k + 1) p)
+  far_did k p within known =
+      (real.each k (get_or marks k []) (get_or marks (k + 1) []) (mark_is k (omega (arith, within))) (mark_is (k + 1) within)).far_sides p known
 
   first_holds : (peering : Option PeeringSetup) → Holds (first_far peering) 0 0
   first_holds None = record { homeward = refl; remoteward = refl }
@@ -313,4 +336,5 @@ module _ (setup : Setup) (faults : List Fault) (journal : List JournalEntry) (ma
       let next : k + 1 ≡ suc k = omega arith in
       let did = far_did k p (omega (arith, within)) known in
       subst (λ (n : ℕ). Planned (real.links n p) ((real.world n).far p)) next
-      (round_planned setup faults short p (k + 1) ((real.world k).far p) ((real.world (k + 1)).far p) (real.links k p) (real.links (k + 1) p) did.events did.real (all_planned short p known k (omega (arith, within))))
+      (round_planned setup faults short p (k + 1) ((real.world k).far p) ((real.world (k + 1)).far p) (real.links k p)
+      (real.links (k + 1) p) did.events did.real (all_planned short p known k (omega (arith, within))))

@@ -1,5 +1,6 @@
 -- Where all actors are at rest and nothing is on its way, nothing is left to do.
-use Rattle.std.proofs.Common.{◌≡◌, ◌<◌, ◌≤◌, ◌+◌, ◌==◌, ◌∙◌, ℕ, Bool, true, false, List, [], ◌∷◌, ◌++◌, length, map, Option, Some, None, refl, ap, subst, inl, inr, arith}
+use Rattle.std.proofs.Common.{◌≡◌, ◌<◌, ◌≤◌, ◌+◌, ◌==◌, ◌∙◌, ℕ, Bool, true, false, List, [], ◌∷◌, ◌++◌}
+use Rattle.std.proofs.Common.{length, map, Option, Some, None, refl, ap, subst, inl, inr, arith}
 use Rattle.std.specs.Prelude.{◌⊎◌, is_some, min, slice_get, IfSome}
 use Rattle.std.specs.FinMap as finite
 use Rattle.std.proofs.Math.Path.{subst⁻¹}
@@ -97,12 +98,16 @@ none_at_first r (Some peering) = by_test (peering.start == r) refl
     by_test true e = rw e tt
     by_test false e = rw e tt
 
-module _ (numbers : NumbersAreOfActors) (written : WhatIsToldCanBeWritten) (unbroken : SessionsAreUnbroken) (grafts : StillWorldsHaveNoGraftLeft) (setup : Setup) (w : World) (at_rest : IsResting setup w) where
+module _ (numbers : NumbersAreOfActors) (written : WhatIsToldCanBeWritten) (unbroken : SessionsAreUnbroken)
+    (grafts : StillWorldsHaveNoGraftLeft) (setup : Setup) (w : World) (at_rest : IsResting setup w) where
   -- ---- on its way
 
   no_channel : (x y : ActorName) → channel_of w (Some x) (Some y) ≡ []
   no_channel x y = elim (is_actor x) [
-    | inl x_known ↦ elim (is_actor y) [ inl y_known ↦ at_rest.channels x y x_known y_known | inr y_unknown ↦ at_rest.within.channels x y (λ first second. y_unknown second) ]
+    | inl x_known ↦ elim (is_actor y) [
+      | inl y_known ↦ at_rest.channels x y x_known y_known
+      | inr y_unknown ↦ at_rest.within.channels x y (λ first second. y_unknown second)
+    ]
     | inr x_unknown ↦ at_rest.within.channels x y (λ first second. x_unknown first)
   ]
     where
@@ -152,7 +157,8 @@ module _ (numbers : NumbersAreOfActors) (written : WhatIsToldCanBeWritten) (unbr
           subst⁻¹ (λ (part : RouterPart). HasNoneStored (part.places p)) same (none_at_first r (slice_get setup.peerings p))
 
       places : (r p : ℕ) → HasNoneStored ((w.router r).places p)
-      places r p = elim (below_or_past r (routers_in setup)) [ inl l ↦ none_stored ((w.router r).places p) ((at_rest.routers r l).rested.quiet p) | inr past ↦ beyond r p past ]
+      places r p = elim (below_or_past r
+          (routers_in setup)) [ inl l ↦ none_stored ((w.router r).places p) ((at_rest.routers r l).rested.quiet p) | inr past ↦ beyond r p past ]
 
   -- ---- a router
 
@@ -161,9 +167,11 @@ module _ (numbers : NumbersAreOfActors) (written : WhatIsToldCanBeWritten) (unbr
     nothing_due p Vacant is done = some_in ((w.router r).due_out p) done
     nothing_due p (Live session errand) is done = elim done [
       | inl none ↦ some_in ((w.router r).due_out p) none
-      | inr (inl (n, stuck)) ↦ absurd (at_rest.stuck p n (record { router = r; there = known; stuck = record { session = session; errand = errand; live = record { is = is }; stuck = inl stuck } }))
+      | inr (inl (n, stuck)) ↦ absurd (at_rest.stuck p n
+          (record { router = r; there = known; stuck = record { session = session; errand = errand; live = record { is = is }; stuck = inl stuck } }))
       | inr (inr bad) ↦ absurd (bad.unwritable (subst⁻¹ (λ (o : Option Attrs). IfSome o IsWritableAttrs) bad.next.told_first
-          (if_written (to_tell setup r (w.router r) session bad.next.first) (λ attrs told. written setup w r p session errand bad.next.first attrs at_rest.sound at_rest.ranges at_rest.reached is told))))
+          (if_written (to_tell setup r (w.router r) session bad.next.first)
+          (λ attrs told. written setup w r p session errand bad.next.first attrs at_rest.sound at_rest.ranges at_rest.reached is told))))
     ]
     nothing_due p (Frozen session order) is done = absurd done
     nothing_due p (Shadow graft) is done = some_in ((w.router r).due_out p) done
@@ -173,7 +181,8 @@ module _ (numbers : NumbersAreOfActors) (written : WhatIsToldCanBeWritten) (unbr
     no_stream p (Live session errand) is quiet left = elim left [
       | inl unacked ↦ (
           let fits = (at_rest.streams r p session errand is).0 in
-          all_acked session.end quiet.2 ((at_rest.routers r known).sent p session errand (record { is = is })) (omega (arith, fits.acked, fits.received)) unacked)
+          all_acked session.end quiet.2 ((at_rest.routers r known).sent p session errand (record { is = is }))
+          (omega (arith, fits.acked, fits.received)) unacked)
       | inr more ↦ quiet.1 more.unclosed more.front more.rest more.is more.got
     ]
     no_stream p (Frozen session order) is quiet left = quiet
@@ -195,7 +204,8 @@ module _ (numbers : NumbersAreOfActors) (written : WhatIsToldCanBeWritten) (unbr
   not_at_far p known (Bag q) left = left.1 (ap (λ xs. xs ++ (w.far p).remoteward) (at_rest.links p known).0 ∙ (at_rest.links p known).1)
   not_at_far p known (Stream q) left =
       let flows = (unbroken setup w p at_rest.sound at_rest.reached known).more.streams.linked.back in
-      all_acked (w.far p).end (at_rest.far_sides p known).rested (at_rest.far_sides p known).sent (omega (arith, flows.acked, flows.within, flows.emitted)) left.1
+      all_acked (w.far p).end (at_rest.far_sides p known).rested (at_rest.far_sides p known).sent
+      (omega (arith, flows.acked, flows.within, flows.emitted)) left.1
   not_at_far p known Script left = left
   not_at_far p known (Graft k) left = left
   not_at_far p known (Channel a b) left = left

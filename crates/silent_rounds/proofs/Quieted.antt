@@ -32,15 +32,18 @@ drained : (setup : Setup) (w : World) (one other : Slices) → ((n : ℕ) → on
     → (x y : ActorName) → IsActor setup x → IsActor setup y → channel_of w (Some x) (Some y) ≡ []
 drained setup w one other none_in_one none_in_other drains x y x_known y_known =
     let first : count_taken_from x (one (number_in setup y)) ≡ 0 = ap (λ (es : List JournalEntry). count_taken_from x es) (none_in_one (number_in setup y)) in
-    let second : count_taken_from x (other (number_in setup y)) ≡ 0 = ap (λ (es : List JournalEntry). count_taken_from x es) (none_in_other (number_in setup y)) in
+    let second : count_taken_from x (other (number_in setup y)) ≡ 0 =
+    ap (λ (es : List JournalEntry). count_taken_from x es) (none_in_other (number_in setup y)) in
     none_long (channel_of w (Some x) (Some y)) (nothing (length (channel_of w (Some x) (Some y))) _ _ (drains x y x_known y_known) first second)
   where
     nothing : (n taken more : ℕ) → min 256 n ≤ taken + more → taken ≡ 0 → more ≡ 0 → n ≡ 0
     nothing n taken more le first second = grind arith
 
-module _ (numbers : NumbersAreOfActors) (written : WhatIsToldCanBeWritten) (unbroken : SessionsAreUnbroken) (grafts : StillWorldsHaveNoGraftLeft) (on_the_way : WorldsAreOnTheWay) (nothing : QuietIsNothingLeft)
+module _ (numbers : NumbersAreOfActors) (written : WhatIsToldCanBeWritten) (unbroken : SessionsAreUnbroken)
+    (grafts : StillWorldsHaveNoGraftLeft) (on_the_way : WorldsAreOnTheWay) (nothing : QuietIsNothingLeft)
     (empty : SilentLinksAreEmpty) where
-  module _ (setup : Setup) (faults : List Fault) (journal : List JournalEntry) (marks : List (List ℕ)) (sound : IsSetup setup) (ranges : IsInRange setup) (short : AreShort faults)
+  module _ (setup : Setup) (faults : List Fault) (journal : List JournalEntry) (marks : List (List ℕ))
+      (sound : IsSetup setup) (ranges : IsInRange setup) (short : AreShort faults)
       (real : RealRounds setup faults journal marks) (k : ℕ) (there : k + 8 < length marks) (silent : AreSilent real.events k 8)
       (free : IsLowest (IsStuckIn setup (real.world (k + 1))) None) where
     abbrev mark : ℕ → List ℕ
@@ -81,8 +84,10 @@ module _ (numbers : NumbersAreOfActors) (written : WhatIsToldCanBeWritten) (unbr
       reached = reached;
       within = within;
       streams = way.streams;
-      routers = λ r known. router_rests setup r (k + 1) (real.world k) (between journal (mark k) (mark (k + 1))) (real.world (k + 1)) (each.routers r known) here;
-      far_sides = λ p known. far_rests setup faults p (k + 1) (real.world k) (real.links k p) (between journal (mark k) (mark (k + 1))) (real.world (k + 1)) (real.links (k + 1) p) (each.far_sides p known) here;
+      routers = λ r known.
+          router_rests setup r (k + 1) (real.world k) (between journal (mark k) (mark (k + 1))) (real.world (k + 1)) (each.routers r known) here;
+      far_sides = λ p known. far_rests setup faults p (k + 1) (real.world k) (real.links k p)
+          (between journal (mark k) (mark (k + 1))) (real.world (k + 1)) (real.links (k + 1) p) (each.far_sides p known) here;
       operator = nothing_to_order setup (real.world k) (between journal (mark k) (mark (k + 1))) (real.world (k + 1)) each.operator here;
       channels = drained setup (real.world k) (between journal (mark k) (mark (k + 1))) (between journal (mark (k + 1)) (mark (k + 2))) here.none next_none
           (real.drains k (mark k) (mark (k + 1)) (mark (k + 2)) (is_mark k (omega arith)) (is_mark (k + 1) (omega arith)) (is_mark (k + 2) (omega arith)));
@@ -94,4 +99,5 @@ module _ (numbers : NumbersAreOfActors) (written : WhatIsToldCanBeWritten) (unbr
     quiet = (nothing setup (real.world k) way).0 (nothing_left numbers written unbroken grafts setup (real.world k) resting)
 
   pub worlds_quiet : SilentWorldsAreQuiet
-  worlds_quiet setup faults journal marks sound ranges short real k there silent free = quiet setup faults journal marks sound ranges short real k there silent free
+  worlds_quiet setup faults journal marks sound ranges short real k there silent free =
+      quiet setup faults journal marks sound ranges short real k there silent free

@@ -54,7 +54,8 @@ pub silent_round : (setup : Setup) (start : World) (slices : Slices) (events : L
 silent_round setup start slices events end goes none = record {
   same = subst (λ (es : List Event). Run setup start es end) none goes.run;
   none = λ n. sym (goes.merged.each n)
-      ∙ ap (λ (es : List JournalEntry). entries_by n es) (no_entries setup goes.entries (subst (λ (es : List Event). AreEntriesOf setup es goes.entries) none goes.entries_of));
+      ∙ ap (λ (es : List JournalEntry). entries_by n es)
+      (no_entries setup goes.entries (subst (λ (es : List Event). AreEntriesOf setup es goes.entries) none goes.entries_of));
 }
 
 no_events : {E : Type 0} (code : E → Code) (events : List E) (entries : List JournalEntry) → AreCoded code events entries → entries ≡ [] → events ≡ []
@@ -78,7 +79,8 @@ pub record RouterRests (setup : Setup) (r : ℕ) (part : RouterPart) : Type 0 wh
   pub rested : RestedRouter setup r part
   pub sent : (p : ℕ) (s : SessionValue) (o : Option Errand) → IsLive part p s o → s.end.emitted ≤ s.end.acked
 
-goes_nowhere : (setup : Setup) (r : ℕ) (Allowed : RouterPart → RouterEvent → Type 0) (before : RouterPart) (events : List RouterEvent) (parts : List RouterPart) (after : RouterPart)
+goes_nowhere : (setup : Setup) (r : ℕ) (Allowed : RouterPart → RouterEvent → Type 0)
+    (before : RouterPart) (events : List RouterEvent) (parts : List RouterPart) (after : RouterPart)
     → events ≡ []
     → RouterGoes setup r Allowed before events parts after → parts ≡ []
 goes_nowhere setup r Allowed before [] [] after none goes = refl
@@ -88,7 +90,8 @@ goes_nowhere setup r Allowed before (event ∷ events) parts after none goes = a
 all_none : {A : Type 0} (xs ys zs : List A) → xs ≡ [] → ys ≡ [] → zs ≡ [] → xs ++ (ys ++ zs) ≡ []
 all_none xs ys zs first second third = ap (λ vs. vs ++ (ys ++ zs)) first ∙ ap (λ vs. vs ++ zs) second ∙ third
 
-module _ (setup : Setup) (r round : ℕ) (part : RouterPart) (events : List RouterEvent) (end : RouterPart) (real : RealRouter setup r round part events end) (none : events ≡ []) (same : end ≡ part) where
+module _ (setup : Setup) (r round : ℕ) (part : RouterPart) (events : List RouterEvent) (end : RouterPart)
+    (real : RealRouter setup r round part events end) (none : events ≡ []) (same : end ≡ part) where
   pieces : (real.taken ≡ []) × (real.again ≡ []) × (real.work ≡ [])
   pieces =
       let first = append_none real.taken (real.again ++ real.work) (sym real.is ∙ none) in
@@ -97,8 +100,10 @@ module _ (setup : Setup) (r round : ℕ) (part : RouterPart) (events : List Rout
 
   stays : (p : ℕ) (s : SessionValue) (o : Option Errand) → IsLive part p s o → StaysLive p part (real.first ++ (real.second ++ real.third)) end s s
   stays p s o live =
-      let parts : real.first ++ (real.second ++ real.third) ≡ [] = all_none real.first real.second real.third (goes_nowhere setup r _ part real.taken real.first real.turning pieces.0 real.takes)
-      (goes_nowhere setup r _ real.turning real.again real.second real.sent pieces.1 real.sends) (goes_nowhere setup r _ real.sent real.work real.third end pieces.2 real.works) in
+      let parts : real.first ++ (real.second ++ real.third) ≡ [] =
+      all_none real.first real.second real.third (goes_nowhere setup r _ part real.taken real.first real.turning pieces.0 real.takes)
+      (goes_nowhere setup r _ real.turning real.again real.second real.sent pieces.1 real.sends)
+      (goes_nowhere setup r _ real.sent real.work real.third end pieces.2 real.works) in
       record {
         first_order = o;
         last_order = o;
@@ -110,13 +115,15 @@ module _ (setup : Setup) (r round : ℕ) (part : RouterPart) (events : List Rout
   router_at_rest : RouterRests setup r part
   router_at_rest = record {
     rested = subst (λ (x : RouterPart). RestedRouter setup r x) same real.rested;
-    sent = λ p s o live. nothing_out s.end (emits_on p real.again) (ap (λ (es : List RouterEvent). emits_on p es) pieces.1) (real.goes_on p s s (stays p s o live));
+    sent = λ p s o live. nothing_out s.end (emits_on p real.again)
+        (ap (λ (es : List RouterEvent). emits_on p es) pieces.1) (real.goes_on p s s (stays p s o live));
   }
 
 pub router_rests : (setup : Setup) (r round : ℕ) (start : World) (slices : Slices) (end : World) → RouterDid setup r round start slices end
     → IsSilent start slices end → RouterRests setup r (start.router r)
 router_rests setup r round start slices end did silent =
-    router_at_rest setup r round (start.router r) did.events (end.router r) did.real (no_events router_code did.events _ did.coded (silent.none (number_in setup (Router r)))) (ap (λ (w : World). w.router r) silent.same)
+    router_at_rest setup r round (start.router r) did.events (end.router r) did.real
+    (no_events router_code did.events _ did.coded (silent.none (number_in setup (Router r)))) (ap (λ (w : World). w.router r) silent.same)
 
 -- ---- a far side
 
@@ -137,13 +144,15 @@ module _ (setup : Setup) (faults : List Fault) (p round : ℕ) (part : FarPart) 
   far_at_rest : FarRests part
   far_at_rest = record {
     rested = subst (λ (x : FarPart). IsRested x.end) same real.rested;
-    sent = nothing_out part.end (length real.again) (ap (λ (es : List FarEvent). length es) none_again) (subst (λ (x : FarPart). AcksOrResends part.end x.end (length real.again)) same real.goes_on);
+    sent = nothing_out part.end (length real.again) (ap (λ (es : List FarEvent). length es) none_again)
+        (subst (λ (x : FarPart). AcksOrResends part.end x.end (length real.again)) same real.goes_on);
   }
 
 pub far_rests : (setup : Setup) (faults : List Fault) (p round : ℕ) (start : World) (before : Links) (slices : Slices) (end : World) (after : Links)
     → FarDid setup faults p round start before slices end after → IsSilent start slices end → FarRests (start.far p)
 far_rests setup faults p round start before slices end after did silent =
-    far_at_rest setup faults p round (start.far p) before did.events (end.far p) after did.real (no_events far_code did.events _ did.coded (silent.none (number_in setup (FarSide p)))) (ap (λ (w : World). w.far p) silent.same)
+    far_at_rest setup faults p round (start.far p) before did.events (end.far p) after did.real
+    (no_events far_code did.events _ did.coded (silent.none (number_in setup (FarSide p)))) (ap (λ (w : World). w.far p) silent.same)
 
 -- ---- the operator
 

@@ -57,10 +57,12 @@ module _ (link : ℕ → List InLink) (silent : (j : ℕ) → j ≤ 6 → HeadSt
   stays j x xs le w = subst HeadStays w.is (silent j le)
 
   one_later : (j : ℕ) (x : InLink) (xs : List InLink) → j < 6 → Waiting link j x xs → Waiting link (j + 1) (older x) (left_in_link xs)
-  one_later j x xs lt w = record { is = goes j lt ∙ ap left_in_link w.is ∙ head_left x xs (stays j x xs (omega (arith, lt)) w); old = omega (arith, w.old); short = w.short }
+  one_later j x xs lt w =
+      record { is = goes j lt ∙ ap left_in_link w.is ∙ head_left x xs (stays j x xs (omega (arith, lt)) w); old = omega (arith, w.old); short = w.short }
 
   waits : (d j : ℕ) (x : InLink) (xs : List InLink) → j + d ≡ 6 → Waiting link j x xs → ⊥
-  waits zero j x xs size w = let before : x.turns < last_turn x.fate = stays_before x.fate x.turns (stays j x xs (omega (arith, size)) w) in omega (arith, size, w.old, w.short, before)
+  waits zero j x xs size w = let before : x.turns < last_turn x.fate = stays_before x.fate x.turns (stays j x xs (omega (arith, size)) w) in
+      omega (arith, size, w.old, w.short, before)
   waits (suc d) j x xs size w = waits d (j + 1) (older x) (left_in_link xs) (omega (arith, size)) (one_later j x xs (omega (arith, size)) w)
 
   seven_turns : AllByRecursion IsShort (link 0) → link 0 ≡ []
@@ -88,7 +90,8 @@ no_slice : (setup : Setup) (start end : World) (slices : Slices) (events : List 
     → (n : ℕ) → slices n ≡ []
 no_slice setup start end slices events goes none n =
     sym (goes.merged.each n)
-    ∙ ap (λ (es : List JournalEntry). entries_by n es) (no_entries setup goes.entries (subst (λ (es : List Event). AreEntriesOf setup es goes.entries) none goes.entries_of))
+    ∙ ap (λ (es : List JournalEntry). entries_by n es)
+    (no_entries setup goes.entries (subst (λ (es : List Event). AreEntriesOf setup es goes.entries) none goes.entries_of))
 
 no_events : (events : List FarEvent) (entries : List JournalEntry) → AreCoded far_code events entries → entries ≡ [] → events ≡ []
 no_events [] entries coded none = refl
@@ -127,13 +130,16 @@ record Still (before after : Links) : Type 0 where
   remote_left : after.remote.plans ≡ left_in_link before.remote.plans
 
 no_put : (faults : List Fault) (p : ℕ) (way : Way) (from n : ℕ) (new : List InLink) → ArePut faults p way from n new → n ≡ 0 → new ≡ []
-no_put faults p way from n new put none = no_map (λ x. (x.fate, x.turns)) new (subst (λ (m : ℕ). map (λ x. (x.fate, x.turns)) new ≡ fates_put faults p way from m) none put.fates)
+no_put faults p way from n new put none =
+    no_map (λ x. (x.fate, x.turns)) new (subst (λ (m : ℕ). map (λ x. (x.fate, x.turns)) new ≡ fates_put faults p way from m) none put.fates)
 
 none_long : {A : Type 0} (xs : List A) → xs ≡ [] → length xs ≡ 0
 none_long {A = A} xs none = ap (λ (ys : List A). length ys) none
 
-module _ (setup : Setup) (faults : List Fault) (p round : ℕ) (start end : FarPart) (before after : Links) (events : List FarEvent) (real : RealFar setup faults p round start before events end after) (none : events ≡ []) where
-  turn_none : home_events end.pointer before.home.plans ++ (remote_events (before.remote.plans ++ real.took) ++ (real.again ++ (real.keepalives ++ (real.fresh ++ real.answers)))) ≡ []
+module _ (setup : Setup) (faults : List Fault) (p round : ℕ) (start end : FarPart) (before after : Links)
+    (events : List FarEvent) (real : RealFar setup faults p round start before events end after) (none : events ≡ []) where
+  turn_none : home_events end.pointer before.home.plans
+      ++ (remote_events (before.remote.plans ++ real.took) ++ (real.again ++ (real.keepalives ++ (real.fresh ++ real.answers)))) ≡ []
   turn_none = nil_back real.taken _ (sym real.is ∙ none)
 
   link_none : remote_events (before.remote.plans ++ real.took) ++ (real.again ++ (real.keepalives ++ (real.fresh ++ real.answers))) ≡ []
@@ -146,11 +152,17 @@ module _ (setup : Setup) (faults : List Fault) (p round : ℕ) (start end : FarP
   last_none = nil_back real.keepalives _ (nil_back real.again _ sends_none)
 
   took_none : real.took ≡ []
-  took_none = no_put faults p _ before.remote.put (length (filter is_take real.taken)) real.took real.are_taken (ap (λ (es : List FarEvent). length (filter is_take es)) (nil_front real.taken _ (sym real.is ∙ none)))
+  took_none = no_put faults p _ before.remote.put (length (filter is_take real.taken)) real.took real.are_taken
+      (ap (λ (es : List FarEvent). length (filter is_take es)) (nil_front real.taken _ (sym real.is ∙ none)))
 
   sent_none : real.sent ≡ []
   sent_none = no_put faults p _ before.home.put (length real.again + (length real.fresh + length real.answers)) real.sent real.are_sent.0
-      (omega (arith, none_long real.again (nil_front real.again _ sends_none), none_long real.fresh (nil_front real.fresh _ last_none), none_long real.answers (nil_back real.fresh _ last_none)))
+      (omega (
+        arith,
+        none_long real.again (nil_front real.again _ sends_none),
+        none_long real.fresh (nil_front real.fresh _ last_none),
+        none_long real.answers (nil_back real.fresh _ last_none),
+      ))
 
   same_plans : before.remote.plans ++ real.took ≡ before.remote.plans
   same_plans = ap (λ (xs : List InLink). before.remote.plans ++ xs) took_none ∙ append-nil before.remote.plans
@@ -158,7 +170,8 @@ module _ (setup : Setup) (faults : List Fault) (p round : ℕ) (start end : FarP
   round_still : Still before after
   round_still = record {
     home_stays = home_head end.pointer before.home.plans (nil_front (home_events end.pointer before.home.plans) _ turn_none);
-    remote_stays = remote_head before.remote.plans (subst (λ (xs : List InLink). remote_events xs ≡ []) same_plans (nil_front (remote_events (before.remote.plans ++ real.took)) _ link_none));
+    remote_stays = remote_head before.remote.plans
+        (subst (λ (xs : List InLink). remote_events xs ≡ []) same_plans (nil_front (remote_events (before.remote.plans ++ real.took)) _ link_none));
     home_left = ap (λ (x : Lying). x.plans) real.home ∙ ap (λ (xs : List InLink). left_in_link before.home.plans ++ xs) sent_none
         ∙ append-nil (left_in_link before.home.plans);
     remote_left = ap (λ (x : Lying). x.plans) real.remote ∙ ap (λ (xs : List InLink). left_in_link xs) same_plans;
@@ -170,14 +183,17 @@ no_segments : (segments : List PlacedSegment) (plans : List InLink) → length s
 no_segments [] plans same none = refl
 no_segments (x ∷ xs) plans same none = absurd (omega (arith, same, none_long plans none))
 
-module _ (setup : Setup) (faults : List Fault) (journal : List JournalEntry) (marks : List (List ℕ)) (short : AreShort faults) (real : RealRounds setup faults journal marks)
+module _ (setup : Setup) (faults : List Fault) (journal : List JournalEntry)
+    (marks : List (List ℕ)) (short : AreShort faults) (real : RealRounds setup faults journal marks)
     (k p : ℕ) (within : k + 7 < length marks) (known : p < peerings_in setup) (silent : AreSilent real.events k 7) where
   still : (j : ℕ) → j ≤ 6 → Still (real.links (k + j) p) (real.links ((k + j) + 1) p)
   still j le =
       let did = far_did setup faults journal marks real (k + j) p (omega (arith, le, within)) known in
-      let goes = real.goes (k + j) _ _ (mark_is setup faults journal marks real (k + j) (omega (arith, le, within))) (mark_is setup faults journal marks real ((k + j) + 1) (omega (arith, le, within))) in
+      let goes = real.goes (k + j) _ _ (mark_is setup faults journal marks real (k + j) (omega (arith, le, within)))
+      (mark_is setup faults journal marks real ((k + j) + 1) (omega (arith, le, within))) in
       round_still setup faults p ((k + j) + 1) _ _ (real.links (k + j) p) (real.links ((k + j) + 1) p) did.events did.real
-      (no_events did.events _ did.coded (no_slice setup _ _ _ (real.events (k + j)) goes (silent (k + j) (omega arith) (omega (arith, le))) (number_in setup (FarSide p))))
+      (no_events did.events _ did.coded
+      (no_slice setup _ _ _ (real.events (k + j)) goes (silent (k + j) (omega arith) (omega (arith, le))) (number_in setup (FarSide p))))
 
   later : (j : ℕ) → k + (j + 1) ≡ (k + j) + 1
   later j = omega arith

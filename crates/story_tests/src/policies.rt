@@ -50,7 +50,12 @@ fn range(ge: u8, le: u8) -> Rule {
 }
 
 /// Returns the index of the rule that matches the prefix of this address and length.
-fn index_of(alloc: Global, rules: &[Rule], address: u32, len: u8) -> Result<Option<usize>, NoMemory> {
+fn index_of(
+    alloc: Global,
+    rules: &[Rule],
+    address: u32,
+    len: u8,
+) -> Result<Option<usize>, NoMemory> {
     let Some(prefix) = Prefix::new(address, len) else {
         return Ok(None);
     };
@@ -94,7 +99,10 @@ fn the_first_rule_whose_parts_all_match(rt: HostRuntime) -> Result<(), Fail> {
         let found = index_of(rt.alloc(), &rules, 0x0A40_0000, len)?;
         assert_eq!(rt; found, Some(wanted), "length {len}");
     }
-    assert_eq!(rt; index_of(rt.alloc(), &[range(8, 32)], 0x0B00_0000, 12)?, None);
+    assert_eq!(rt;
+        index_of(rt.alloc(), &[range(8, 32)], 0x0B00_0000, 12)?,
+        None
+    );
     Ok(())
 }
 

@@ -26,7 +26,8 @@ use Rattle.bgp_story.proofs.Ranges.{offers_home}
 use Rattle.session_value.specs.declared.config.SessionConfig.{SessionConfig}
 use Rattle.session_value.specs.Sessions.{peering_of}
 use Rattle.graft_model.specs.Setups.{PeeringSetup}
-use Rattle.even_inputs.specs.Readings.{Reading, nothing_read, expected_by, opened_with, with_message, unless_ended, read_next, faulty_front, fronts_in, reading_of}
+use Rattle.even_inputs.specs.Readings.{Reading, nothing_read, expected_by, opened_with, with_message}
+use Rattle.even_inputs.specs.Readings.{unless_ended, read_next, faulty_front, fronts_in, reading_of}
 use Rattle.lab_tables.specs.Peerings.{default_opening}
 use Rattle.sure_inputs.proofs.Openings.{opened, open_bytes, keepalive_bytes, written_frame, offers_so, open_got, open_frame, keepalive_got, keepalive_frame}
 

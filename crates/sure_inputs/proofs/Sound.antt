@@ -10,7 +10,8 @@ use Rattle.std.proofs.lemmas.Slice.Eq.{bytes_eq-Decides}
 use Rattle.bgp_types.specs.declared.message.Message.TheVariants.{UpdateMsg}
 use Rattle.bgp_types.specs.declared.message.SessionState.TheVariants.{Established}
 use Rattle.bgp_types.specs.Writable.{IsWritable}
-use Rattle.graft_model.specs.Setups.{Setup, RouterSetup, PeeringSetup, ScriptStep, EvacuateStep, SettleStep, ScriptGraft, graft_at, group_of, moved_by, room_of, routers_in, peerings_in}
+use Rattle.graft_model.specs.Setups.{Setup, RouterSetup, PeeringSetup, ScriptStep, EvacuateStep, SettleStep}
+use Rattle.graft_model.specs.Setups.{ScriptGraft, graft_at, group_of, moved_by, room_of, routers_in, peerings_in}
 use Rattle.graft_model.specs.Setups.{is_settle as ends_group}
 use Rattle.graft_model.specs.Setups.{said_by as said_in_model}
 use Rattle.graft_model.proofs.Numbers.{step_of_graft}

@@ -123,13 +123,15 @@ module _ (setup : Setup) (config : SessionConfig) (operator : OperatorPart) wher
         let h : HasResult setup config operator r g = all.0 in
         let step : at_front r (g ∷ gs) ≡ at_front (router_after_graft r h.target (result_at setup config r h.target)) gs =
         ap (λ (o : Option ℕ). router_after setup config r (cons_option o (filter_map (target_named setup) gs))) h.named in
-        by_result (result_at setup config r h.target) refl (λ d' e'. by_results (router_after_graft r h.target (result_at setup config r h.target)) d' gs all.1 e')
+        by_result (result_at setup config r h.target) refl
+        (λ d' e'. by_results (router_after_graft r h.target (result_at setup config r h.target)) d' gs all.1 e')
         ∙ sym step
       where
         by_result : (o : Outcome) → result_at setup config r all.0.target ≡ o
             → ((d' : Option ScriptGraft) → placed_then d' ≡ router_after_graft r all.0.target (result_at setup config r all.0.target)
             → placed_then (last_or d' (filter (accepts operator) gs)) ≡ at_front (router_after_graft r all.0.target (result_at setup config r all.0.target)) gs)
-            → placed_then (last_or d (filter (accepts operator) (g ∷ gs))) ≡ at_front (router_after_graft r all.0.target (result_at setup config r all.0.target)) gs
+            → placed_then (last_or d (filter (accepts operator) (g ∷ gs)))
+            ≡ at_front (router_after_graft r all.0.target (result_at setup config r all.0.target)) gs
         by_result Accepted is later =
             let yes : accepts operator g ≡ true = ap is_accepted (all.0.outcome ∙ ap (λ (o : Outcome). Some o) is) in
             ap (λ (b : Bool). placed_then (last_or d (cond b (g ∷ filter (accepts operator) gs) (filter (accepts operator) gs)))) yes

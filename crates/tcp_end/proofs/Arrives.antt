@@ -1,5 +1,6 @@
 -- What a state stands for after a segment arrived.
-use Rattle.std.proofs.Common.{◌≡◌, ℕ, ◌+◌, ◌-◌, ◌^◌, ◌%◌, ◌<◌, ◌≤◌, max, List, ◌++◌, length, drop, Bool, true, false, Option, None, Some, refl, sym, ap, subst, ◌∙◌, arith, ◌⊎◌, inl, inr, length-append}
+use Rattle.std.proofs.Common.{◌≡◌, ℕ, ◌+◌, ◌-◌, ◌^◌, ◌%◌, ◌<◌, ◌≤◌, max, List, ◌++◌, length, drop, Bool, true, false}
+use Rattle.std.proofs.Common.{Option, None, Some, refl, sym, ap, subst, ◌∙◌, arith, ◌⊎◌, inl, inr, length-append}
 use Rattle.std.specs.Prelude.{IsSome, nat_lt, nat_le, ◌||◌, ◌&&◌, if◌then◌else◌, Result, Ok, Err, IfOk, OnOk}
 use Rattle.std.specs.List.{slice_get}
 use Rattle.std.specs.Option.{option_or}
@@ -10,7 +11,8 @@ use Rattle.std.proofs.lemmas.Option.{slice_get-get_or}
 use Rattle.tcp_seq.specs.Numbers.{offset_from, number}
 use Rattle.tcp_seq.specs.Rules.{Acceptable, AcceptableOffset, IsAck, IsInStream}
 use Rattle.tcp_seq.specs.declared.rules.AckKind.TheVariants.{New, Beyond}
-use Rattle.tcp_seq.specs.Endpoint.{Endpoint, PlacedSegment, received, received_bytes, bytes_in_order, byte_from, byte_brought, TakesSegment, IsAcceptable, IsBeyond, IsInStreams}
+use Rattle.tcp_seq.specs.Endpoint.{Endpoint, PlacedSegment, received, received_bytes, bytes_in_order, byte_from}
+use Rattle.tcp_seq.specs.Endpoint.{byte_brought, TakesSegment, IsAcceptable, IsBeyond, IsInStreams}
 use Rattle.tcp_seq.specs.declared.segment.Segment.{Segment}
 use Rattle.tcp_seq.specs.declared.state.EndState.{EndState}
 use Rattle.tcp_seq.proofs.Lookups.{get-append_left, get-append_right}
@@ -75,7 +77,8 @@ hears s after g p rests rests_after numbered fits short same r =
       ready = r.appended;
       each = λ k below. sym (byte_then_is s g p k rests numbered fits short) ∙ r.each k below;
       ends = sym (byte_then_is s g p (length r.given) rests numbered fits short) ∙ r.ends;
-      ahead = λ k. sym (held_from (got after) (got after + 1) (got after + 16384) after.ahead k (omega arith) (omega (arith, rests_after.received)) rests_after.ahead)
+      ahead = λ k. sym (held_from (got after) (got after + 1) (got after + 16384) after.ahead k
+          (omega arith) (omega (arith, rests_after.received)) rests_after.ahead)
           ∙ sym (ap (λ (m : ℕ). held (counted_from m after.ahead) k) small) ∙ r.ahead k ∙ byte_then_is s g p (length r.given + k) rests numbered fits short;
     }
 
@@ -116,7 +119,8 @@ either_in (Some x) more k first second some = first some
 
 accepted_in : (s : EndState) (e : Endpoint) (p : PlacedSegment) (k : ℕ) → EndStands s e → IsInStreams p → IsSome (map.get (accepted e p) k) → IsInStream (k + 1)
 accepted_in s e p k stands streams some =
-    either_in (map.get e.arrived k) (byte_brought e p k) k (stands.in_stream k) (brought_in (nat_le (received e) k && nat_lt k (received e + 16384)) p k streams)
+    either_in (map.get e.arrived k) (byte_brought e p k) k (stands.in_stream k)
+    (brought_in (nat_le (received e) k && nat_lt k (received e + 16384)) p k streams)
     (subst (λ (o : Option ℕ). IsSome o) (get-accepted e p k) some)
 
 -- so not more is received than they have
@@ -127,7 +131,8 @@ given_in s e p given stands streams each = elim (cases_lt 0 (length given)) [
       let last = length given - 1 in
       let below : last < length given = omega (arith, some) in
       let in_stream : IsInStream (got s + last + 1) = accepted_in s e p (got s + last) stands streams
-      (subst (λ (o : Option ℕ). IsSome o) (sym (accepted_from s e p (got s + last) stands (omega arith) ∙ each last below ∙ slice_get-get_or given last 0 below)) refl) in
+      (subst (λ (o : Option ℕ). IsSome o)
+      (sym (accepted_from s e p (got s + last) stands (omega arith) ∙ each last below ∙ slice_get-get_or given last 0 below)) refl) in
       omega (arith, in_stream, some)
   | inr none ↦ omega (arith, none, stands.sound.received)
 ]
@@ -156,7 +161,8 @@ pub acceptable_to : (s : EndState) (e : Endpoint) (g : Segment) (p : PlacedSegme
 acceptable_to s e g p stands numbered streams short is =
     let n : length g.bytes ≡ length p.bytes = ap length numbered.bytes in
     let by_number : Acceptable (number s.receive_first.0 (got s)) 16384 (number s.receive_first.0 p.offset) (length p.bytes) =
-    offset_acceptable s.receive_first.0 (got s) p.offset (length p.bytes) (omega (arith, stands.sound.received)) (omega (arith, streams.end)) (omega (arith, n, short))
+    offset_acceptable s.receive_first.0 (got s) p.offset (length p.bytes)
+    (omega (arith, stands.sound.received)) (omega (arith, streams.end)) (omega (arith, n, short))
     (subst (λ (m : ℕ). AcceptableOffset m 16384 p.offset (length p.bytes)) (received_is s e stands) is) in
     subst (λ (m : ℕ). Acceptable (expected s) 16384 m (length g.bytes)) (sym numbered.seq)
     (subst (λ (m : ℕ). Acceptable (expected s) 16384 (number s.receive_first.0 p.offset) m) (sym n) by_number)
@@ -168,7 +174,8 @@ acceptable_for s e g p stands numbered streams short is =
     let by_number : Acceptable (number s.receive_first.0 (got s)) 16384 (number s.receive_first.0 p.offset) (length p.bytes) =
     subst (λ (m : ℕ). Acceptable (expected s) 16384 m (length p.bytes)) numbered.seq (subst (λ (m : ℕ). Acceptable (expected s) 16384 g.seq.0 m) n is) in
     subst (λ (m : ℕ). AcceptableOffset m 16384 p.offset (length p.bytes)) (sym (received_is s e stands))
-    (acceptable_offset s.receive_first.0 (got s) p.offset (length p.bytes) (omega (arith, stands.sound.received)) (omega (arith, streams.end)) (omega (arith, n, short)) by_number)
+    (acceptable_offset s.receive_first.0 (got s) p.offset (length p.bytes)
+    (omega (arith, stands.sound.received)) (omega (arith, streams.end)) (omega (arith, n, short)) by_number)
 
 emitted_small : (s : EndState) → IsSending s → s.sent < 2 ^ 30
 emitted_small s sending = omega (arith, sending.emitted, sending.stream)
@@ -179,7 +186,8 @@ ack_small p streams = omega (arith, streams.ack)
 pub beyond_for : (s : EndState) (e : Endpoint) (g : Segment) (p : PlacedSegment) → EndStands s e → Numbered s.receive_first.0 s.send_first.0 g p
     → IsInStreams p → SaysAck Beyond s g → IsBeyond e p
 beyond_for s e g p stands numbered streams is =
-    let past : s.sent < p.ack = beyond_offset s.send_first.0 s.acked s.sent p.ack stands.sound.sending.acked (emitted_small s stands.sound.sending) (ack_small p streams)
+    let past : s.sent < p.ack =
+    beyond_offset s.send_first.0 s.acked s.sent p.ack stands.sound.sending.acked (emitted_small s stands.sound.sending) (ack_small p streams)
     (subst (λ (m : ℕ). IsAck Beyond (own_number s s.acked) (own_number s s.sent) m) numbered.ack is) in
     omega (arith, past, stands.emitted)
 
@@ -187,7 +195,8 @@ pub beyond_to : (s : EndState) (e : Endpoint) (g : Segment) (p : PlacedSegment) 
     → IsInStreams p → IsBeyond e p → SaysAck Beyond s g
 beyond_to s e g p stands numbered streams is =
     subst (λ (m : ℕ). IsAck Beyond (own_number s s.acked) (own_number s s.sent) m) (sym numbered.ack)
-    (offset_beyond s.send_first.0 s.acked s.sent p.ack stands.sound.sending.acked (emitted_small s stands.sound.sending) (ack_small p streams) (omega (arith, is, stands.emitted)))
+    (offset_beyond s.send_first.0 s.acked s.sent p.ack stands.sound.sending.acked
+    (emitted_small s stands.sound.sending) (ack_small p streams) (omega (arith, is, stands.emitted)))
 
 pub within_sent : (s : EndState) (e : Endpoint) (g : Segment) (p : PlacedSegment) → EndStands s e → Numbered s.receive_first.0 s.send_first.0 g p
     → IsInStreams p → ¬ SaysAck Beyond s g → p.ack ≤ s.sent
@@ -228,7 +237,10 @@ pub nothing_new : (s : EndState) (e : Endpoint) (g : Segment) (p : PlacedSegment
     → byte_brought e p k ≡ None
 nothing_new s e g p k stands numbered streams short none empty =
     let all : received e ≡ got s = received_is s e stands in
-    let from : got s ≤ k = elim (cases_lt k (received e)) [ inl below ↦ absurd (some_none (map.get e.arrived k) (some_in_order e.arrived k below) empty) | inr from ↦ omega (arith, from, all) ] in
+    let from : got s ≤ k = elim (cases_lt k (received e)) [
+      | inl below ↦ absurd (some_none (map.get e.arrived k) (some_in_order e.arrived k below) empty)
+      | inr from ↦ omega (arith, from, all)
+    ] in
     let j = k - got s in
     let at : got s + j ≡ k = omega (arith, from) in
     let n : length g.bytes ≡ length p.bytes = ap length numbered.bytes in
@@ -239,9 +251,15 @@ nothing_new s e g p k stands numbered streams short none empty =
     ∙ ap (held s.ahead) at ∙ no_piece in
     let both : byte_then (ahead_of s) g.seq.0 g.bytes j ≡ with_ s p k =
     byte_then_is s g p j stands.sound numbered (omega (arith, streams.end)) (omega (arith, n, short)) ∙ ap (with_ s p) at in
-    let new : brought (expected s) g.seq.0 g.bytes j ≡ with_ s p k = ap (λ (o : Option ℕ). option_or o (brought (expected s) g.seq.0 g.bytes j)) (sym old) ∙ both in
+    let new : brought (expected s) g.seq.0 g.bytes j ≡ with_ s p k =
+    ap (λ (o : Option ℕ). option_or o (brought (expected s) g.seq.0 g.bytes j)) (sym old) ∙ both in
     elim (some_or_none (byte_brought e p k)) [
-      | inl some ↦ absurd (none (j, old, subst (λ (o : Option ℕ). IsSome o) (sym new) (right_some (held s.ahead k) (brought_to s p k) (subst (λ (o : Option ℕ). IsSome o) (brought_is s e p k all from) some))))
+      | inl some ↦ absurd (none (
+        j,
+        old,
+        subst (λ (o : Option ℕ). IsSome o) (sym new)
+            (right_some (held s.ahead k) (brought_to s p k) (subst (λ (o : Option ℕ). IsSome o) (brought_is s e p k all from) some)),
+      ))
       | inr same ↦ same
     ]
 
@@ -255,7 +273,8 @@ repeated : (s after : EndState) (g : Segment) (e : Endpoint) (p : PlacedSegment)
     → IsArrival Duplicate s g → ChangesByArrival Duplicate s g after → Becomes (λ e' e''. TakesSegment e' p e'') e after
 repeated s after g e p stands numbered streams short is leaves =
     let within : p.ack ≤ s.sent = within_sent s e g p stands numbered streams is.1 in
-    let old : p.ack ≤ s.acked = new_offset s.send_first.0 s.acked s.sent p.ack stands.sound.sending.acked (emitted_small s stands.sound.sending) (ack_small p streams) within
+    let old : p.ack ≤ s.acked =
+    new_offset s.send_first.0 s.acked s.sent p.ack stands.sound.sending.acked (emitted_small s stands.sound.sending) (ack_small p streams) within
     (λ new. is.2 (subst (λ (m : ℕ). IsAck New (own_number s s.acked) (own_number s s.sent) m) (sym numbered.ack) new)) in
     let same : max e.acked p.ack ≡ e.acked = omega (arith, old, stands.acked) in
     let owed : (e.owed || nat_lt 0 (length p.bytes)) ≡ (s.owed || nat_lt 0 (length g.bytes)) = owed_is s e g p stands numbered.bytes in
@@ -289,7 +308,8 @@ taken_in s after g e p stands numbered streams short is takes at_rest =
     let h : Hears s after p r.given = hears s after g p stands.sound rests numbered fits (omega (arith, n, short)) taken r in
     let now : bytes_in_order (accepted e p) ≡ received_bytes e ++ r.given = received_then s after e p r.given stands h in
     let all : received e ≡ got s = received_is s e stands in
-    let count : length (bytes_in_order (accepted e p)) ≡ got after = omega (arith, ap (λ (xs : List ℕ). length xs) now, length-append (received_bytes e) r.given, all, h.received) in
+    let count : length (bytes_in_order (accepted e p)) ≡ got after =
+    omega (arith, ap (λ (xs : List ℕ). length xs) now, length-append (received_bytes e) r.given, all, h.received) in
     let within : p.ack ≤ s.sent = within_sent s e g p stands numbered streams is.1 in
     let acked : s.acked + newly_acked s g ≡ max e.acked p.ack =
     ap (λ (m : ℕ). s.acked + (let ahead = offset_from m (own_number s s.acked) in if nat_le ahead (s.sent - s.acked) then ahead else 0)) numbered.ack
@@ -338,13 +358,18 @@ becomes s after g Accepted short is leaves at_rest e p stands numbered streams =
 
 -- the numbers of the first bytes stay
 numbers : (s after : EndState) (g : Segment) (arrival : Arrival) → ChangesByArrival arrival s g after → SameNumbers s after
-numbers s after g Outside leaves = record { send_first = ap (λ (t : EndState). t.send_first) leaves; receive_first = ap (λ (t : EndState). t.receive_first) leaves }
-numbers s after g (Ahead ack) leaves = record { send_first = ap (λ (t : EndState). t.send_first) leaves; receive_first = ap (λ (t : EndState). t.receive_first) leaves }
-numbers s after g Duplicate leaves = record { send_first = ap (λ (t : EndState). t.send_first) leaves; receive_first = ap (λ (t : EndState). t.receive_first) leaves }
-numbers s after g Accepted leaves = record { send_first = ap (λ (t : EndState). t.send_first) leaves.changed; receive_first = ap (λ (t : EndState). t.receive_first) leaves.changed }
+numbers s after g Outside leaves =
+    record { send_first = ap (λ (t : EndState). t.send_first) leaves; receive_first = ap (λ (t : EndState). t.receive_first) leaves }
+numbers s after g (Ahead ack) leaves =
+    record { send_first = ap (λ (t : EndState). t.send_first) leaves; receive_first = ap (λ (t : EndState). t.receive_first) leaves }
+numbers s after g Duplicate leaves =
+    record { send_first = ap (λ (t : EndState). t.send_first) leaves; receive_first = ap (λ (t : EndState). t.receive_first) leaves }
+numbers s after g Accepted leaves =
+    record { send_first = ap (λ (t : EndState). t.send_first) leaves.changed; receive_first = ap (λ (t : EndState). t.receive_first) leaves.changed }
 
 pub arrives_if_ok : (s after : EndState) (g : Segment) (result : Result Arrival NoMemory) → length g.bytes < 2 ^ 16
     → IfOk result (λ a. IsArrival a s g) → IfOk result (λ a. ChangesByArrival a s g after) → OnOk result (IsInStream (got after) → IsEndState after)
     → OnOk result (TakesBy s g after)
-arrives_if_ok s after g (Ok arrival) short is leaves at_rest = record { numbers = numbers s after g arrival leaves; becomes = becomes s after g arrival short is leaves at_rest }
+arrives_if_ok s after g (Ok arrival) short is leaves at_rest =
+    record { numbers = numbers s after g arrival leaves; becomes = becomes s after g arrival short is leaves at_rest }
 arrives_if_ok s after g (Err error) short is leaves at_rest = tt

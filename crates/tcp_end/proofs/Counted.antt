@@ -58,7 +58,8 @@ held-counted base [] k runs = refl
 held-counted base (p ∷ ps) k runs =
     let at : offset_from p.offset base ≡ p.offset - base = counted_offset base p.offset runs.0 (omega (arith, runs.2)) in
     ap (λ o. option_or o (held (counted_from base ps) k)) (byte_counted base p.offset (offset_from p.offset base) p.bytes k runs.0 at)
-    ∙ ap (option_or (byte_from p.offset p.bytes (base + k))) (held-counted base ps k (runs_from base (p.offset + length p.bytes) ps (omega (arith, runs.0)) runs.3))
+    ∙ ap (option_or (byte_from p.offset p.bytes (base + k)))
+    (held-counted base ps k (runs_from base (p.offset + length p.bytes) ps (omega (arith, runs.0)) runs.3))
 
 -- what is left of pieces where the first are taken out, and the others are counted from the offset behind them
 pub runs_skipped : (ahead pieces rest counted after : List Piece) (count by low : ℕ) → low ≤ 1 → AreRuns (by + 1) (drop count ahead)

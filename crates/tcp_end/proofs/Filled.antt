@@ -1,5 +1,6 @@
 -- A run that is filled from bytes and the pieces that they reach.
-use Rattle.std.proofs.Common.{◌≡◌, ℕ, suc, ◌+◌, ◌-◌, ◌<◌, ◌≤◌, max, List, [], ◌∷◌, ◌++◌, length, take, drop, None, sym, ap, subst, ◌∙◌, arith, inl, inr, length-append}
+use Rattle.std.proofs.Common.{◌≡◌, ℕ, suc, ◌+◌, ◌-◌, ◌<◌, ◌≤◌, max, List, [], ◌∷◌, ◌++◌, length, take}
+use Rattle.std.proofs.Common.{drop, None, sym, ap, subst, ◌∙◌, arith, inl, inr, length-append}
 use Rattle.std.specs.Prelude.{if◌then◌else◌}
 use Rattle.std.proofs.lemmas.Bool.{cases_lt, le-leb, lt-leb}
 use Rattle.std.proofs.lemmas.List.{length-drop, length-take}
@@ -48,7 +49,8 @@ fills_each bytes at p ps rest above within runs more k here =
     let n : length gap ≡ p.offset - at = gap_length bytes at p.offset above within in
     elim (cases_lt k p.offset) [
       | inl below ↦
-          let none : held (p ∷ ps) k ≡ None = ap (λ o. option_or o (held ps k)) (byte_below p.offset p.bytes k below) ∙ held_below (p.offset + length p.bytes) ps k runs (omega (arith, below)) in
+          let none : held (p ∷ ps) k ≡ None = ap (λ o. option_or o (held ps k)) (byte_below p.offset p.bytes k below)
+          ∙ held_below (p.offset + length p.bytes) ps k runs (omega (arith, below)) in
           get-append_left gap (p.bytes ++ rest) (k - at) (omega (arith, n, below, here))
           ∙ get-take (p.offset - at) (drop at bytes) (k - at) (omega (arith, below, here, above))
           ∙ get-drop at bytes (k - at) (k - 0) (omega (arith, here))
@@ -75,7 +77,8 @@ fills_more bytes at p ps c above within runs more =
     let rest = filled bytes (p.offset + length p.bytes) (take c ps) in
     let gap = take (p.offset - at) (drop at bytes) in
     let n : length gap ≡ p.offset - at = gap_length bytes at p.offset above within in
-    let all : at + length (gap ++ (p.bytes ++ rest)) ≡ p.offset + length p.bytes + length rest = omega (arith, length-append gap (p.bytes ++ rest), length-append p.bytes rest, n, above) in
+    let all : at + length (gap ++ (p.bytes ++ rest)) ≡ p.offset + length p.bytes + length rest =
+    omega (arith, length-append gap (p.bytes ++ rest), length-append p.bytes rest, n, above) in
     record {
       within = rw all more.within;
       past = rw all more.past;
@@ -97,7 +100,8 @@ fills bytes at [] within fits runs = fills_stop bytes at [] within fits tt
 fills bytes at (p ∷ ps) within fits runs = elim (cases_lt (max at (length bytes)) p.offset) [
   | inl above ↦ subst (Fills bytes at (p ∷ ps)) (sym (reached_none (max at (length bytes)) p ps above))
       (fills_stop bytes at (p ∷ ps) within fits (omega (arith, above), runs.1, runs.2, runs.3))
-  | inr le ↦ subst (Fills bytes at (p ∷ ps)) (sym (reached_more (max at (length bytes)) (max (p.offset + length p.bytes) (length bytes)) p ps le (omega (arith, runs.0, le))))
+  | inr le ↦ subst (Fills bytes at (p ∷ ps))
+      (sym (reached_more (max at (length bytes)) (max (p.offset + length p.bytes) (length bytes)) p ps le (omega (arith, runs.0, le))))
       (fills_more bytes at p ps _ runs.0 le runs.3
       (fills bytes (p.offset + length p.bytes) ps runs.2 fits runs.3))
 ]

@@ -1,5 +1,6 @@
 -- Two ends follow a connection of two endpoints.
-use Rattle.std.proofs.Common.{◌≡◌, ℕ, ◌+◌, List, [], ◌∷◌, ◌++◌, length, take, drop, Option, None, Some, refl, sym, ap, subst, ◌∙◌, arith, ◌⊎◌, inl, inr, append-nil}
+use Rattle.std.proofs.Common.{◌≡◌, ℕ, ◌+◌, List, [], ◌∷◌, ◌++◌, length, take, drop, Option, None, Some}
+use Rattle.std.proofs.Common.{refl, sym, ap, subst, ◌∙◌, arith, ◌⊎◌, inl, inr, append-nil}
 use Rattle.std.specs.Prelude.{Contains}
 use Rattle.std.specs.Ordering.{nat_cmp}
 use Rattle.std.specs.FinMap as map
@@ -11,7 +12,8 @@ use Rattle.tcp_seq.specs.declared.seq.Seq.{Seq}
 use Rattle.tcp_seq.specs.declared.segment.Way.{Way}
 use Rattle.tcp_seq.specs.declared.segment.Segment.{Segment}
 use Rattle.tcp_seq.specs.declared.state.EndState.{EndState}
-use Rattle.tcp_seq.specs.Endpoint.{Endpoint, PlacedSegment, fresh_endpoint, received, received_bytes, SendsBytes, EmitsNext, EmitsAgain, EmitsAnswer, EmitsSlice, EmitsEmpty, ReadsBytes, TakesSegment, IsInStreams}
+use Rattle.tcp_seq.specs.Endpoint.{Endpoint, PlacedSegment, fresh_endpoint, received, received_bytes, SendsBytes, EmitsNext}
+use Rattle.tcp_seq.specs.Endpoint.{EmitsAgain, EmitsAnswer, EmitsSlice, EmitsEmpty, ReadsBytes, TakesSegment, IsInStreams}
 use Rattle.tcp_seq.specs.Connection.{Side, Connection, fresh_connection, SideSteps, ConnectionStep, ConnectionRun, IsCarried, IsConnection}
 use Rattle.tcp_seq.proofs.Received.{bytes_are, some_none}
 use Rattle.tcp_seq.proofs.Emitting.{next_is_slice, again_is_slice}
@@ -19,7 +21,8 @@ use Rattle.tcp_seq.proofs.Carried.{at_fresh, runs}
 use Rattle.tcp_seq.proofs.Flows.{emitted_in_streams}
 use Rattle.tcp_end.specs.State.{fresh_end, got}
 use Rattle.tcp_end.specs.Standing.{EndStands, Numbered, SameNumbers, Becomes, BecomesBy}
-use Rattle.tcp_end.specs.Ends.{EndSide, EndPair, fresh_pair, CallsSend, CallsEmit, CallsRead, CallsArrive, EndCalls, answer_segments, PairStep, PairRun, IsNumberedAmong, PairStands, PairBecomes, PairFollows}
+use Rattle.tcp_end.specs.Ends.{EndSide, EndPair, fresh_pair, CallsSend, CallsEmit, CallsRead, CallsArrive, EndCalls}
+use Rattle.tcp_end.specs.Ends.{answer_segments, PairStep, PairRun, IsNumberedAmong, PairStands, PairBecomes, PairFollows}
 use Rattle.tcp_end.proofs.Steps.{stream_is, received_is}
 
 -- a fresh end stands for the fresh endpoint
@@ -97,7 +100,8 @@ side_reads theirs mine before after stands all (n, by, same) =
 abbrev Free : Endpoint → PlacedSegment → Endpoint → Type 0
 Free e p e' = EmitsSlice e p e' ⊎ EmitsEmpty e p e'
 
-side_emits_by : (Step : Endpoint → PlacedSegment → Endpoint → Type 0) (theirs : List PlacedSegment) (mine : Side) (before after : EndSide) (answer : Option Segment)
+side_emits_by : (Step : Endpoint → PlacedSegment → Endpoint → Type 0) (theirs : List PlacedSegment)
+    (mine : Side) (before after : EndSide) (answer : Option Segment)
     → EndStands before.state mine.end → AreNumbered before.state before.emitted mine.emitted
     → ((p : PlacedSegment) (e : Endpoint) → Step mine.end p e → Free mine.end p e) → SameNumbers before.state after.state
     → BecomesBy Step before.state mine.end answer after.state → after.emitted ≡ before.emitted ++ answer_segments answer
@@ -121,7 +125,8 @@ side_emits : (theirs : List PlacedSegment) (mine : Side) (before after : EndSide
     → AreNumbered before.state before.emitted mine.emitted → CallsEmit before after → SideBecomes theirs mine before after
 side_emits theirs mine before after stands all (answer, inl next, adds) =
     side_emits_by EmitsNext theirs mine before after answer stands all
-    (λ p e step. inl (next_is_slice mine.end e p (omega (arith, stands.acked, stands.emitted, stands.sound.sending.acked)) step)) next.numbers (next.becomes mine.end stands) adds
+    (λ p e step. inl (next_is_slice mine.end e p (omega (arith, stands.acked, stands.emitted, stands.sound.sending.acked)) step)) next.numbers
+    (next.becomes mine.end stands) adds
 side_emits theirs mine before after stands all (answer, inr (inl again), adds) =
     side_emits_by EmitsAgain theirs mine before after answer stands all
     (λ p e step. inl (again_is_slice mine.end e p (omega (arith, stands.emitted, stream_is before.state mine.end stands, stands.sound.sending.emitted))
@@ -140,7 +145,8 @@ side_takes : (theirs : Side) (gs : List Segment) (mine : Side) (before after : E
     → SideBecomes theirs.emitted mine before after
 side_takes theirs gs mine before after there back incoming stands all (g, here, by, same) =
     let is : IsNumberedAmong before.state.receive_first.0 before.state.send_first.0 g theirs.emitted = incoming g here in
-    let becomes : Becomes (λ e e'. TakesSegment e is.segment e') mine.end after.state = by.becomes mine.end is.segment stands is.numbered (in_streams mine theirs is.segment there back is.there) in
+    let becomes : Becomes (λ e e'. TakesSegment e is.segment e') mine.end after.state =
+    by.becomes mine.end is.segment stands is.numbered (in_streams mine theirs is.segment there back is.there) in
     record {
       side = record { end = becomes.end; emitted = mine.emitted };
       step = inl (inr (inr (inr (is.segment, is.there, becomes.step, refl))));
@@ -166,7 +172,8 @@ side_calls : (theirs : Side) (gs : List Segment) (mine : Side) (before after : E
 side_calls theirs gs mine before after there back incoming stands all (inl sends) = side_sends theirs.emitted mine before after stands all sends
 side_calls theirs gs mine before after there back incoming stands all (inr (inl emits)) = side_emits theirs.emitted mine before after stands all emits
 side_calls theirs gs mine before after there back incoming stands all (inr (inr (inl reads))) = side_reads theirs.emitted mine before after stands all reads
-side_calls theirs gs mine before after there back incoming stands all (inr (inr (inr (inl takes)))) = side_takes theirs gs mine before after there back incoming stands all takes
+side_calls theirs gs mine before after there back incoming stands all (inr (inr (inr (inl takes)))) =
+    side_takes theirs gs mine before after there back incoming stands all takes
 side_calls theirs gs mine before after there back incoming stands all (inr (inr (inr (inr same)))) = side_stays theirs.emitted mine before after stands all same
 
 -- The pair
@@ -176,18 +183,21 @@ cross : (mine theirs : EndState) (gs : List Segment) (ps : List PlacedSegment) �
     → theirs.receive_first ≡ mine.send_first → AreNumbered theirs gs ps
     → (g : Segment) → Contains gs g → IsNumberedAmong mine.receive_first.0 mine.send_first.0 g ps
 cross mine theirs gs ps there back all g here =
-    subst (λ (n : Seq). IsNumberedAmong n.0 mine.send_first.0 g ps) (sym there) (subst (λ (n : Seq). IsNumberedAmong theirs.send_first.0 n.0 g ps) back (all g here))
+    subst (λ (n : Seq). IsNumberedAmong n.0 mine.send_first.0 g ps) (sym there)
+    (subst (λ (n : Seq). IsNumberedAmong theirs.send_first.0 n.0 g ps) back (all g here))
 
 -- an end whose numbers stay
 renumbered : (s s' : EndState) (gs : List Segment) (ps : List PlacedSegment) → SameNumbers s s' → AreNumbered s gs ps → AreNumbered s' gs ps
 renumbered s s' gs ps same all g here =
-    subst (λ (n : Seq). IsNumberedAmong n.0 s'.receive_first.0 g ps) (sym same.send_first) (subst (λ (n : Seq). IsNumberedAmong s.send_first.0 n.0 g ps) (sym same.receive_first) (all g here))
+    subst (λ (n : Seq). IsNumberedAmong n.0 s'.receive_first.0 g ps) (sym same.send_first)
+    (subst (λ (n : Seq). IsNumberedAmong s.send_first.0 n.0 g ps) (sym same.receive_first) (all g here))
 
 near_acts : (before : EndPair) (near : EndSide) (c : Connection) → PairStands before c → IsConnection c
     → EndCalls before.far.emitted before.near near → PairBecomes c (record { near = near; far = before.far })
 near_acts before near c stands is calls =
     let acts : SideBecomes c.far.emitted c.near before.near near = side_calls c.far before.far.emitted c.near before.near near is.there is.back
-    (cross before.near.state before.far.state before.far.emitted c.far.emitted stands.back stands.there stands.far_emitted) stands.near stands.near_emitted calls in
+    (cross before.near.state before.far.state before.far.emitted c.far.emitted stands.back stands.there stands.far_emitted) stands.near
+    stands.near_emitted calls in
     record {
       connection = record { near = acts.side; far = c.far };
       step = elim acts.step [
@@ -208,7 +218,8 @@ far_acts : (before : EndPair) (far : EndSide) (c : Connection) → PairStands be
     → PairBecomes c (record { near = before.near; far = far })
 far_acts before far c stands is calls =
     let acts : SideBecomes c.near.emitted c.far before.far far = side_calls c.near before.near.emitted c.far before.far far is.back is.there
-    (cross before.far.state before.near.state before.near.emitted c.near.emitted stands.there stands.back stands.near_emitted) stands.far stands.far_emitted calls in
+    (cross before.far.state before.near.state before.near.emitted c.near.emitted stands.there stands.back stands.near_emitted) stands.far
+    stands.far_emitted calls in
     record {
       connection = record { near = c.near; far = acts.side };
       step = elim acts.step [

@@ -46,7 +46,8 @@ runs-counted_back base low from high (p ∷ ps) fits at window lie =
       omega (arith, moved, at, lie.0),
       lie.1,
       omega (arith, moved, window, lie.2, lie.0, at),
-      runs-counted_back base (offset_from p.offset base + length p.bytes) (p.offset + length p.bytes) high ps fits (omega (arith, moved, lie.0, at)) window lie.3,
+      runs-counted_back base (offset_from p.offset base + length p.bytes)
+          (p.offset + length p.bytes) high ps fits (omega (arith, moved, lie.0, at)) window lie.3,
     )
 
 -- what stands ahead of the state is what the endpoint keeps
@@ -92,7 +93,8 @@ pub imported_runs : (s : EndState) (vec counted ahead : List Piece) (len low : �
 imported_runs s vec counted ahead len low rests le lens vecs counts is =
     let base = s.taken + len in
     rw (is ∙ counts ∙ ap (counted_from base) vecs) (runs_from low 1 (counted_from base s.ahead) le
-    (runs-counted_back base 1 (got s + 1) (got s + 16384) s.ahead (omega (arith, lens, rests.received)) (omega (arith, lens)) (omega (arith, lens)) rests.ahead))
+    (runs-counted_back base 1 (got s + 1) (got s + 16384) s.ahead (omega (arith, lens, rests.received))
+    (omega (arith, lens)) (omega (arith, lens)) rests.ahead))
 
 made_is : (s : EndState) (r : Reassembly) (next len : ℕ) (vec counted ahead : List Piece) → len ≡ length s.ready → vec ≡ s.ahead
     → counted ≡ counted_from (s.taken + len) vec → ahead ≡ counted → next ≡ plus s.receive_first.0 (s.taken + len)
@@ -107,7 +109,13 @@ made_is s r next len vec counted ahead lens vecs counts is nexts made =
 pub imported_keeps : (s : EndState) → IsEndState s
     → EndInvariant (inside_of s (record { next = plus s.receive_first.0 (got s); pieces = counted_from (got s) s.ahead }))
 imported_keeps s rests = record {
-  sending = record { acked = rests.sending.acked; flight = rests.sending.flight; emitted = rests.sending.emitted; stream = rests.sending.stream; at_turn = rests.sending.at_turn };
+  sending = record {
+    acked = rests.sending.acked;
+    flight = rests.sending.flight;
+    emitted = rests.sending.emitted;
+    stream = rests.sending.stream;
+    at_turn = rests.sending.at_turn;
+  };
   next = refl;
   runs = imported_runs s s.ahead (counted_from (got s) s.ahead) (counted_from (got s) s.ahead) (length s.ready) 1 rests (omega arith) refl refl refl refl;
 }
@@ -125,7 +133,8 @@ pub fields_are : (s : EndState) (waiting ready : List ℕ) (r : Reassembly) (nex
     → ready ≡ s.ready
     → len ≡ length s.ready → vec ≡ s.ahead → counted ≡ counted_from (s.taken + len) vec → ahead ≡ counted
     → next ≡ plus s.receive_first.0 (s.taken + len) → r ≡ record { next = next; pieces = ahead }
-    → record (inside_of s r) { waiting = waiting; ready = ready } ≡ inside_of s (record { next = plus s.receive_first.0 (got s); pieces = counted_from (got s) s.ahead })
+    → record (inside_of s r) { waiting = waiting; ready = ready }
+    ≡ inside_of s (record { next = plus s.receive_first.0 (got s); pieces = counted_from (got s) s.ahead })
 fields_are s waiting ready r next len vec counted ahead waits readies lens vecs counts is nexts made =
     ap (λ (w : List ℕ). let e : Inside = record (inside_of s r) { waiting = w; ready = ready } in e) waits
     ∙ ap (λ (bytes : List ℕ). let e : Inside = record (inside_of s r) { ready = bytes } in e) readies

@@ -1,5 +1,6 @@
 -- What becomes of bytes that arrive.
-use Rattle.std.proofs.Common.{◌≡◌, ℕ, ◌+◌, ◌-◌, ◌^◌, ◌<◌, ◌≤◌, List, [], ◌∷◌, ◌++◌, length, take, drop, max, None, Some, refl, sym, ap, subst, ◌∙◌, arith, inl, inr, append-nil, length-append, get_or}
+use Rattle.std.proofs.Common.{◌≡◌, ℕ, ◌+◌, ◌-◌, ◌^◌, ◌<◌, ◌≤◌, List, [], ◌∷◌, ◌++◌, length, take, drop, max, None, Some}
+use Rattle.std.proofs.Common.{refl, sym, ap, subst, ◌∙◌, arith, inl, inr, append-nil, length-append, get_or}
 use Rattle.std.specs.Prelude.{IsSome}
 use Rattle.std.proofs.lemmas.Bool.{cases_lt}
 use Rattle.std.proofs.lemmas.List.{take-append-drop}
@@ -40,8 +41,10 @@ past_run : (ps : List Piece) (bytes : List ℕ) (c : ℕ) → Fills bytes 0 ps c
     → option_or (held ps k) (byte_from 0 bytes k) ≡ held (drop c ps) k
 past_run ps bytes c all k past =
     let run = filled bytes 0 (take c ps) in
-    let none : option_or (held (take c ps) k) (byte_from 0 bytes k) ≡ None = sym (all.each k (omega arith)) ∙ slice_get_past run (k - 0) (omega (arith, past)) in
-    ap (λ o. option_or o (byte_from 0 bytes k)) (held_cut c ps k ∙ ap (λ o. option_or o (held (drop c ps) k)) (or_first (held (take c ps) k) (byte_from 0 bytes k) none))
+    let none : option_or (held (take c ps) k) (byte_from 0 bytes k) ≡ None =
+    sym (all.each k (omega arith)) ∙ slice_get_past run (k - 0) (omega (arith, past)) in
+    ap (λ o. option_or o (byte_from 0 bytes k))
+    (held_cut c ps k ∙ ap (λ o. option_or o (held (drop c ps) k)) (or_first (held (take c ps) k) (byte_from 0 bytes k) none))
     ∙ ap (option_or (held (drop c ps) k)) (or_second (held (take c ps) k) (byte_from 0 bytes k) none)
     ∙ or_none (held (drop c ps) k)
 
@@ -52,7 +55,8 @@ in_run ps bytes c all k below =
     let run = filled bytes 0 (take c ps) in
     let here : k - 0 ≡ k = omega arith in
     ap (λ o. option_or o (byte_from 0 bytes k))
-    (held_cut c ps k ∙ ap (option_or (held (take c ps) k)) (held_below (0 + length run + 1) (drop c ps) k all.runs (omega (arith, below))) ∙ or_none (held (take c ps) k))
+    (held_cut c ps k ∙ ap (option_or (held (take c ps) k)) (held_below (0 + length run + 1) (drop c ps) k all.runs (omega (arith, below)))
+    ∙ or_none (held (take c ps) k))
     ∙ sym (all.each k (omega arith)) ∙ ap (slice_get run) here
 
 pub runs_behind : (ps : List Piece) (bytes : List ℕ) (c : ℕ) → Fills bytes 0 ps c → AreRuns (length (filled bytes 0 (take c ps)) + 1) (drop c ps)
@@ -108,7 +112,8 @@ runs_above (p ∷ ps) runs none = elim (cases_lt 0 p.offset) [
 pub runs_ahead : (before after : Reassembly) (seq : ℕ) (bytes kept : List ℕ) (offset : ℕ) → AreRuns 1 before.pieces → 0 < offset
     → ((k : ℕ) → byte_from offset kept k ≡ brought before.next seq bytes k) → Puts before after seq bytes → AreRuns 0 after.pieces → AreRuns 1 after.pieces
 runs_ahead before after seq bytes kept offset runs above same puts left = runs_above after.pieces left
-    (puts.ahead 0 ∙ ap (λ o. option_or o (brought before.next seq bytes 0)) (held_below 1 before.pieces 0 runs (omega arith)) ∙ sym (same 0) ∙ byte_below offset kept 0 above)
+    (puts.ahead 0 ∙ ap (λ o. option_or o (brought before.next seq bytes 0)) (held_below 1 before.pieces 0 runs (omega arith))
+    ∙ sym (same 0) ∙ byte_below offset kept 0 above)
 
 -- how many bytes were added by a run
 pub run_count : (before : Reassembly) (bytes ready ready' : List ℕ) (old_len new_len few : ℕ) (cut : List Piece) → old_len ≡ length ready
@@ -128,7 +133,8 @@ pub run_behind : (before : Reassembly) (bytes : List ℕ) (count few : ℕ) → 
     → AreRuns (count + 1) (drop few before.pieces)
 run_behind before bytes count few fits runs counts reaches =
     let c = reached (length bytes) before.pieces in
-    let behind : AreRuns (length (made_ready before bytes) + 1) (drop c before.pieces) = runs_behind before.pieces bytes c (run_fills bytes before.pieces fits runs) in
+    let behind : AreRuns (length (made_ready before bytes) + 1) (drop c before.pieces) =
+    runs_behind before.pieces bytes c (run_fills bytes before.pieces fits runs) in
     subst (λ (n : ℕ). AreRuns (n + 1) (drop few before.pieces)) (sym counts)
     (subst (λ (n : ℕ). AreRuns (length (made_ready before bytes) + 1) (drop n before.pieces)) (sym reaches) behind)
 

@@ -41,8 +41,10 @@ last_number f offset len some = plus_number f offset (len - 1) ∙ ap (number f)
 pub acceptable_offset : (f next offset len : ℕ) → next < 2 ^ 30 → offset < 2 ^ 30 → len < 2 ^ 16 → Acceptable (number f next) 16384 (number f offset) len
     → AcceptableOffset next 16384 offset len
 acceptable_offset f next offset len small fits short (inl h) = absurd (omega (arith, h.1))
-acceptable_offset f next offset len small fits short (inr (inl h)) = inr (inl (h.0, h.1, in_window f next offset (omega (arith, small)) (omega (arith, fits)) h.2))
-acceptable_offset f next offset len small fits short (inr (inr (some, open', inl first))) = inr (inr (some, open', inl (in_window f next offset (omega (arith, small)) (omega (arith, fits)) first)))
+acceptable_offset f next offset len small fits short (inr (inl h)) =
+    inr (inl (h.0, h.1, in_window f next offset (omega (arith, small)) (omega (arith, fits)) h.2))
+acceptable_offset f next offset len small fits short (inr (inr (some, open', inl first))) =
+    inr (inr (some, open', inl (in_window f next offset (omega (arith, small)) (omega (arith, fits)) first)))
 acceptable_offset f next offset len small fits short (inr (inr (some, open', inr last))) =
     inr (inr (
       some,
@@ -54,8 +56,10 @@ acceptable_offset f next offset len small fits short (inr (inr (some, open', inr
 pub offset_acceptable : (f next offset len : ℕ) → next < 2 ^ 30 → offset < 2 ^ 30 → len < 2 ^ 16 → AcceptableOffset next 16384 offset len
     → Acceptable (number f next) 16384 (number f offset) len
 offset_acceptable f next offset len small fits short (inl h) = absurd (omega (arith, h.1))
-offset_acceptable f next offset len small fits short (inr (inl h)) = inr (inl (h.0, h.1, window_in f next offset (omega (arith, small)) (omega (arith, fits)) h.2))
-offset_acceptable f next offset len small fits short (inr (inr (some, open', inl first))) = inr (inr (some, open', inl (window_in f next offset (omega (arith, small)) (omega (arith, fits)) first)))
+offset_acceptable f next offset len small fits short (inr (inl h)) =
+    inr (inl (h.0, h.1, window_in f next offset (omega (arith, small)) (omega (arith, fits)) h.2))
+offset_acceptable f next offset len small fits short (inr (inr (some, open', inl first))) =
+    inr (inr (some, open', inl (window_in f next offset (omega (arith, small)) (omega (arith, fits)) first)))
 offset_acceptable f next offset len small fits short (inr (inr (some, open', inr last))) =
     inr (inr (
       some,
@@ -84,11 +88,13 @@ pub newly_offset : (f acked emitted ack : ℕ) → acked ≤ emitted → emitted
 newly_offset f acked emitted ack le small fits within = elim (cases_lt ack acked) [
   | inl below ↦
       let far : offset_from (number f ack) (number f acked) ≡ 2 ^ 32 - (acked - ack) = behind_offset f acked ack below (omega (arith, le, small)) in
-      ap (λ (b : Bool). acked + (if b then offset_from (number f ack) (number f acked) else 0)) (lt-leb (offset_from (number f ack) (number f acked)) (emitted - acked) (omega (arith, far, small, below, le)))
+      ap (λ (b : Bool). acked + (if b then offset_from (number f ack) (number f acked) else 0))
+      (lt-leb (offset_from (number f ack) (number f acked)) (emitted - acked) (omega (arith, far, small, below, le)))
       ∙ omega (arith, below)
   | inr from ↦
       let near : offset_from (number f ack) (number f acked) ≡ ack - acked = ahead_offset f acked ack from (omega (arith, fits)) in
-      ap (λ (b : Bool). acked + (if b then offset_from (number f ack) (number f acked) else 0)) (le-leb (offset_from (number f ack) (number f acked)) (emitted - acked) (omega (arith, near, within)))
+      ap (λ (b : Bool). acked + (if b then offset_from (number f ack) (number f acked) else 0))
+      (le-leb (offset_from (number f ack) (number f acked)) (emitted - acked) (omega (arith, near, within)))
       ∙ omega (arith, near, from)
 ]
 

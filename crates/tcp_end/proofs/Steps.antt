@@ -1,5 +1,6 @@
 -- What stands for an endpoint after a call that sends, emits or reads.
-use Rattle.std.proofs.Common.{◌≡◌, ℕ, ◌+◌, ◌-◌, ◌^◌, ◌<◌, ◌≤◌, List, ◌++◌, length, take, drop, Bool, true, false, refl, sym, ap, subst, ◌∙◌, arith, length-append}
+use Rattle.std.proofs.Common.{◌≡◌, ℕ, ◌+◌, ◌-◌, ◌^◌, ◌<◌, ◌≤◌, List, ◌++◌, length, take, drop, Bool}
+use Rattle.std.proofs.Common.{true, false, refl, sym, ap, subst, ◌∙◌, arith, length-append}
 use Rattle.std.specs.Prelude.{Some, None}
 use Rattle.std.proofs.lemmas.List.{drop-append-le, drop-drop, length-drop}
 use Rattle.tcp_seq.specs.Numbers.{plus, number}
@@ -222,23 +223,30 @@ same_numbers s t after sends receives is =
 
 pub sends_by : (s after : EndState) (bytes : List ℕ) → stream_length s + length bytes ≤ 2 ^ 20 → after ≡ record s { waiting = s.waiting ++ bytes }
     → StepsBy (λ e e'. SendsBytes e bytes e') s after
-sends_by s after bytes fits is = record { numbers = same_numbers s (record s { waiting = s.waiting ++ bytes }) after refl refl is; becomes = sends s after bytes fits is }
+sends_by s after bytes fits is =
+    record { numbers = same_numbers s (record s { waiting = s.waiting ++ bytes }) after refl refl is; becomes = sends s after bytes fits is }
 
 pub reads_by : (s after : EndState) (n : ℕ) → n ≤ length s.ready → after ≡ record s { taken = plus s.taken n; ready = drop n s.ready }
     → StepsBy (λ e e'. ReadsBytes e n e') s after
-reads_by s after n within is = record { numbers = same_numbers s (record s { taken = plus s.taken n; ready = drop n s.ready }) after refl refl is; becomes = reads s after n within is }
+reads_by s after n within is = record {
+  numbers = same_numbers s (record s { taken = plus s.taken n; ready = drop n s.ready }) after refl refl is;
+  becomes = reads s after n within is;
+}
 
 pub emits_next_by : (s after : EndState) (g : Segment) → 0 < end_next_length s → g ≡ segment_at s s.sent (end_next_length s)
     → after ≡ record s { sent = s.sent + end_next_length s } → EndEmitsBy EmitsNext s (Some g) after
-emits_next_by s after g some slice is = record { numbers = same_numbers s (record s { sent = s.sent + end_next_length s }) after refl refl is; becomes = emits_next s after g some slice is }
+emits_next_by s after g some slice is =
+    record { numbers = same_numbers s (record s { sent = s.sent + end_next_length s }) after refl refl is; becomes = emits_next s after g some slice is }
 
 pub emits_again_by : (s after : EndState) (g : Segment) → 0 < end_again_length s → g ≡ segment_at s s.acked (end_again_length s)
     → after ≡ record s { acked_at_turn = s.acked } → EndEmitsBy EmitsAgain s (Some g) after
-emits_again_by s after g some slice is = record { numbers = same_numbers s (record s { acked_at_turn = s.acked }) after refl refl is; becomes = emits_again s after g some slice is }
+emits_again_by s after g some slice is =
+    record { numbers = same_numbers s (record s { acked_at_turn = s.acked }) after refl refl is; becomes = emits_again s after g some slice is }
 
 pub answers_by : (s after : EndState) (g : Segment) → s.owed ≡ true → g ≡ segment_at s s.sent 0 → after ≡ record s { owed = false }
     → EndEmitsBy EmitsAnswer s (Some g) after
-answers_by s after g owed empty is = record { numbers = same_numbers s (record s { owed = false }) after refl refl is; becomes = answers s after g owed empty is }
+answers_by s after g owed empty is =
+    record { numbers = same_numbers s (record s { owed = false }) after refl refl is; becomes = answers s after g owed empty is }
 
 -- with no segment
 pub turned_by : (s after : EndState) → after ≡ record s { acked_at_turn = s.acked } → EndEmitsBy EmitsAgain s None after
@@ -246,4 +254,5 @@ turned_by s after is = record { numbers = same_numbers s (record s { acked_at_tu
 
 -- where nothing was acknowledged since the last turn, a turn changes nothing
 pub same_turn : (s : EndState) → IsSending s → s.acked ≤ s.acked_at_turn → s ≡ record s { acked_at_turn = s.acked }
-same_turn s sending late = ap (λ (n : ℕ). let t : EndState = record s { acked_at_turn = n } in t) (let e : s.acked_at_turn ≡ s.acked = omega (arith, sending.at_turn, late) in e)
+same_turn s sending late = ap (λ (n : ℕ). let t : EndState = record s { acked_at_turn = n } in t)
+    (let e : s.acked_at_turn ≡ s.acked = omega (arith, sending.at_turn, late) in e)

@@ -1,5 +1,6 @@
 -- What a segment changes that is taken in.
-use Rattle.std.proofs.Common.{◌≡◌, ℕ, zero, suc, ◌+◌, ◌-◌, ◌^◌, ◌<◌, ◌≤◌, List, [], length, drop, Bool, true, false, Option, None, Some, refl, sym, ap, subst, ◌∙◌, arith, inl, inr, append-nil, length-append}
+use Rattle.std.proofs.Common.{◌≡◌, ℕ, zero, suc, ◌+◌, ◌-◌, ◌^◌, ◌<◌, ◌≤◌, List, [], length, drop, Bool, true, false, Option}
+use Rattle.std.proofs.Common.{None, Some, refl, sym, ap, subst, ◌∙◌, arith, inl, inr, append-nil, length-append}
 use Rattle.std.specs.Prelude.{IsSome, nat_lt, ◌||◌, if◌then◌else◌}
 use Rattle.std.specs.Option.{option_or}
 use Rattle.std.proofs.lemmas.Bool.{lt-ltb}
@@ -34,7 +35,8 @@ keeps_or (Some x) b h = refl
 receives_nothing : (r : Reassembly) (ready : List ℕ) (seq : ℕ) (bytes : List ℕ) → AreRuns 1 r.pieces → r.next < 2 ^ 32 → ¬ BringsByte r seq bytes
     → Receives r r ready ready seq bytes
 receives_nothing r ready seq bytes runs fits none =
-    let old : (k : ℕ) → byte_ahead r k ≡ byte_then r seq bytes k = λ k. keeps_or (byte_ahead r k) (brought r.next seq bytes k) (λ empty some. none (k, empty, some)) in
+    let old : (k : ℕ) → byte_ahead r k ≡ byte_then r seq bytes k =
+    λ k. keeps_or (byte_ahead r k) (brought r.next seq bytes k) (λ empty some. none (k, empty, some)) in
     record {
       given = [];
       appended = sym (append-nil ready);
@@ -46,7 +48,8 @@ receives_nothing r ready seq bytes runs fits none =
 
 -- the fields after a segment was taken in
 abbrev pub taken : Inside → List ℕ → Reassembly → Segment → ℕ → Inside
-taken e ready r g acked = record e { acked = e.acked + acked; waiting = drop acked e.waiting; ready = ready; ahead = r; owed = e.owed || nat_lt 0 (length g.bytes) }
+taken e ready r g acked =
+    record e { acked = e.acked + acked; waiting = drop acked e.waiting; ready = ready; ahead = r; owed = e.owed || nat_lt 0 (length g.bytes) }
 
 -- the number expected next goes on with the ready bytes
 next_after : (e : Inside) (ready : List ℕ) (r : Reassembly) (g : Segment) (acked : ℕ) → EndInvariant e
@@ -79,7 +82,8 @@ nothing_new : (e : Inside) (ready : List ℕ) (r : Reassembly) (g : Segment) →
 nothing_new e ready r g same_ahead same_ready =
     ap (λ (bytes : List ℕ). end_state (taken e bytes r g 0)) same_ready
     ∙ ap (λ (a : Reassembly). end_state (taken e e.ready a g 0)) same_ahead
-    ∙ ap (λ (n : ℕ). let s : EndState = record (end_state e) { acked = n; owed = e.owed || nat_lt 0 (length g.bytes) } in s) (let z : e.acked + 0 ≡ e.acked = omega arith in z)
+    ∙ ap (λ (n : ℕ). let s : EndState = record (end_state e) { acked = n; owed = e.owed || nat_lt 0 (length g.bytes) } in s)
+    (let z : e.acked + 0 ≡ e.acked = omega arith in z)
 
 abbrev taken_as : Bool → Arrival
 taken_as b = if b then Accepted else Duplicate
@@ -102,7 +106,8 @@ taken_in e ready r g (suc n) false keeps runs is =
     (inl some, takes_segment e ready r g (suc n) keeps runs (old_bytes e ready r g keeps is))
 
 -- with what the calls on the fields answered
-pub took : (before : EndState) (e : Inside) (ready waiting : List ℕ) (r : Reassembly) (g : Segment) (acked : ℕ) (brings owed : Bool) (bytes : List ℕ) (answer : Arrival)
+pub took : (before : EndState) (e : Inside) (ready waiting : List ℕ) (r : Reassembly)
+    (g : Segment) (acked : ℕ) (brings owed : Bool) (bytes : List ℕ) (answer : Arrival)
     → end_state e ≡ before
     → EndInvariant e → AreRuns 1 r.pieces → Received brings e.ahead r e.ready ready g.seq.0 bytes → bytes ≡ g.bytes → waiting ≡ drop acked e.waiting
     → owed ≡ (e.owed || nat_lt 0 (length bytes)) → answer ≡ taken_as (brings || nat_lt 0 acked)
@@ -110,10 +115,14 @@ pub took : (before : EndState) (e : Inside) (ready waiting : List ℕ) (r : Reas
 took before e ready waiting r g acked brings owed bytes answer was keeps runs is same drops owes answers =
     let is' : Received brings e.ahead r e.ready ready g.seq.0 g.bytes = subst (λ (b : List ℕ). Received brings e.ahead r e.ready ready g.seq.0 b) same is in
     let owes' : owed ≡ (e.owed || nat_lt 0 (length g.bytes)) = owes ∙ ap (λ (b : List ℕ). e.owed || nat_lt 0 (length b)) same in
-    subst (λ (s : EndState). TakenIn answer s g acked (end_state (record e { acked = e.acked + acked; waiting = waiting; ready = ready; ahead = r; owed = owed }))) was
-    (subst (λ (a : Arrival). TakenIn a (end_state e) g acked (end_state (record e { acked = e.acked + acked; waiting = waiting; ready = ready; ahead = r; owed = owed }))) (sym answers)
-    (subst (λ (w : List ℕ). TakenIn (taken_as (brings || nat_lt 0 acked)) (end_state e) g acked (end_state (record e { acked = e.acked + acked; waiting = w; ready = ready; ahead = r; owed = owed }))) (sym drops)
-    (subst (λ (o : Bool). TakenIn (taken_as (brings || nat_lt 0 acked)) (end_state e) g acked (end_state (record e { acked = e.acked + acked; waiting = drop acked e.waiting; ready = ready; ahead = r; owed = o }))) (sym owes')
+    subst (λ (s : EndState).
+    TakenIn answer s g acked (end_state (record e { acked = e.acked + acked; waiting = waiting; ready = ready; ahead = r; owed = owed }))) was
+    (subst (λ (a : Arrival). TakenIn a (end_state e) g acked
+    (end_state (record e { acked = e.acked + acked; waiting = waiting; ready = ready; ahead = r; owed = owed }))) (sym answers)
+    (subst (λ (w : List ℕ). TakenIn (taken_as (brings || nat_lt 0 acked)) (end_state e) g acked
+    (end_state (record e { acked = e.acked + acked; waiting = w; ready = ready; ahead = r; owed = owed }))) (sym drops)
+    (subst (λ (o : Bool). TakenIn (taken_as (brings || nat_lt 0 acked)) (end_state e) g acked
+    (end_state (record e { acked = e.acked + acked; waiting = drop acked e.waiting; ready = ready; ahead = r; owed = o }))) (sym owes')
     (taken_in e ready r g acked brings keeps runs is'))))
 
 receives_either : (brings : Bool) (e : Inside) (ready : List ℕ) (r : Reassembly) (g : Segment) → EndInvariant e
@@ -150,7 +159,8 @@ rests_took e ready waiting r g acked brings owed bytes within keeps runs is same
     let is' : Received brings e.ahead r e.ready ready g.seq.0 g.bytes = subst (λ (b : List ℕ). Received brings e.ahead r e.ready ready g.seq.0 b) same is in
     let owes' : owed ≡ (e.owed || nat_lt 0 (length g.bytes)) = owes ∙ ap (λ (b : List ℕ). e.owed || nat_lt 0 (length b)) same in
     subst (λ (w : List ℕ). IsEndState (end_state (record e { acked = e.acked + acked; waiting = w; ready = ready; ahead = r; owed = owed }))) (sym drops)
-    (subst (λ (o : Bool). IsEndState (end_state (record e { acked = e.acked + acked; waiting = drop acked e.waiting; ready = ready; ahead = r; owed = o }))) (sym owes')
+    (subst (λ (o : Bool). IsEndState (end_state (record e { acked = e.acked + acked; waiting = drop acked e.waiting; ready = ready; ahead = r; owed = o })))
+    (sym owes')
     (rests_taken e ready r g acked within keeps runs (receives_either brings e ready r g keeps is') few))
 
 -- an owed answer doesn't hinder
@@ -158,7 +168,13 @@ pub rests_owing : (e : Inside) → EndInvariant e → IsInStream (got (end_state
 rests_owing e keeps few =
     let rests : IsEndState (end_state e) = lies e keeps few in
     record {
-      sending = record { acked = rests.sending.acked; flight = rests.sending.flight; emitted = rests.sending.emitted; stream = rests.sending.stream; at_turn = rests.sending.at_turn };
+      sending = record {
+        acked = rests.sending.acked;
+        flight = rests.sending.flight;
+        emitted = rests.sending.emitted;
+        stream = rests.sending.stream;
+        at_turn = rests.sending.at_turn;
+      };
       received = rests.received;
       ahead = rests.ahead;
     }
@@ -176,5 +192,7 @@ pub old_arrival : (s : EndState) (g : Segment) (after : EndState) (arrival : Arr
     → TakenIn arrival s g 0 after → IsArrival arrival s g
 old_arrival s g after Outside sending acceptable old is = absurd is
 old_arrival s g after (Ahead ack) sending acceptable old is = absurd is
-old_arrival s g after Duplicate sending acceptable old is = (acceptable, (λ beyond. old_not_beyond s g old beyond), (λ new. old_not_new s g sending old new), is.1)
-old_arrival s g after Accepted sending acceptable old is = (acceptable, (λ beyond. old_not_beyond s g old beyond), elim is.0 [ inl none ↦ absurd (omega (arith, none)) | inr brings ↦ inr brings ])
+old_arrival s g after Duplicate sending acceptable old is =
+    (acceptable, (λ beyond. old_not_beyond s g old beyond), (λ new. old_not_new s g sending old new), is.1)
+old_arrival s g after Accepted sending acceptable old is =
+    (acceptable, (λ beyond. old_not_beyond s g old beyond), elim is.0 [ inl none ↦ absurd (omega (arith, none)) | inr brings ↦ inr brings ])

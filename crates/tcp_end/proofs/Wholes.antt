@@ -1,5 +1,6 @@
 -- An endpoint is known by its state, its stream and what was read.
-use Rattle.std.proofs.Common.{◌≡◌, ◌≢◌, ℕ, zero, suc, ◌+◌, ◌-◌, ◌<◌, ◌≤◌, List, [], ◌∷◌, ◌++◌, length, take, drop, Option, Some, None, cond, Bool, true, false, refl, sym, ap, subst, ◌∙◌, arith, inl, inr, length-append}
+use Rattle.std.proofs.Common.{◌≡◌, ◌≢◌, ℕ, zero, suc, ◌+◌, ◌-◌, ◌<◌, ◌≤◌, List, [], ◌∷◌, ◌++◌, length, take, drop, Option, Some}
+use Rattle.std.proofs.Common.{None, cond, Bool, true, false, refl, sym, ap, subst, ◌∙◌, arith, inl, inr, length-append}
 use Rattle.std.specs.Prelude.{◌==◌}
 use Rattle.std.specs.List.{slice_get}
 use Rattle.std.specs.Option.{option_or}
@@ -36,9 +37,11 @@ find_numbered k offset [] = elim (cases_lt k offset) [ inl below ↦ sym (byte_b
 find_numbered k offset (b ∷ bs) =
     let rest : find nat_cmp k (numbered_from (offset + 1) bs) ≡ byte_from (offset + 1) bs k = find_numbered k (offset + 1) bs in
     elim (cases_eq k offset) [
-      | inl is ↦ ap (λ (t : Bool). cond t (Some b) (find nat_cmp k (numbered_from (offset + 1) bs))) (unsigned_tied k offset ∙ (let t : (k == offset) ≡ true = grind (arith, nat_tests) in t))
+      | inl is ↦ ap (λ (t : Bool). cond t (Some b) (find nat_cmp k (numbered_from (offset + 1) bs)))
+          (unsigned_tied k offset ∙ (let t : (k == offset) ≡ true = grind (arith, nat_tests) in t))
           ∙ sym (byte_there offset (b ∷ bs) k (omega (arith, is)) ∙ ap (slice_get (b ∷ bs)) (let e : k - offset ≡ zero = omega (arith, is) in e))
-      | inr not ↦ ap (λ (t : Bool). cond t (Some b) (find nat_cmp k (numbered_from (offset + 1) bs))) (unsigned_tied k offset ∙ (let t : (k == offset) ≡ false = grind (arith, nat_tests) in t))
+      | inr not ↦ ap (λ (t : Bool). cond t (Some b) (find nat_cmp k (numbered_from (offset + 1) bs)))
+          (unsigned_tied k offset ∙ (let t : (k == offset) ≡ false = grind (arith, nat_tests) in t))
           ∙ rest ∙ later not
     ]
   where
@@ -87,8 +90,10 @@ same_byte s e bytes stands is k = elim (cases_lt k (received e)) [
 pub endpoint_is : (s : EndState) (e : Endpoint) (stream read : List ℕ) → EndStands s e → e.stream ≡ stream → take e.read (received_bytes e) ≡ read
     → e ≡ endpoint_of stream read s
 endpoint_is s e stream read stands is was =
-    let bytes : received_bytes e ≡ read ++ s.ready = sym (take-append-drop e.read (received_bytes e)) ∙ ap (λ (xs : List ℕ). xs ++ drop e.read (received_bytes e)) was ∙ ap (λ (xs : List ℕ). read ++ xs) (sym stands.ready) in
-    let same : e.arrived ≡ arrived_of (read ++ s.ready) s.ahead = map.same_map nat_cmp_total map.nat_cmp-IsAntisymmetric e.arrived (arrived_of (read ++ s.ready) s.ahead) (same_byte s e (read ++ s.ready) stands bytes) in
+    let bytes : received_bytes e ≡ read ++ s.ready = sym (take-append-drop e.read (received_bytes e))
+    ∙ ap (λ (xs : List ℕ). xs ++ drop e.read (received_bytes e)) was ∙ ap (λ (xs : List ℕ). read ++ xs) (sym stands.ready) in
+    let same : e.arrived ≡ arrived_of (read ++ s.ready) s.ahead = map.same_map nat_cmp_total map.nat_cmp-IsAntisymmetric e.arrived
+    (arrived_of (read ++ s.ready) s.ahead) (same_byte s e (read ++ s.ready) stands bytes) in
     made e (endpoint_of stream read s) is stands.emitted stands.acked same stands.read stands.owed
   where
     made : (e f : Endpoint) → e.stream ≡ f.stream → e.emitted ≡ f.emitted → e.acked ≡ f.acked → e.arrived ≡ f.arrived → e.read ≡ f.read

@@ -38,7 +38,8 @@ answer_segments (Some segment) = segment ∷ []
 -- `next_segment`, `turn` or `answer`
 abbrev pub CallsEmit : EndSide → EndSide → Type 0
 CallsEmit before after =
-    (answer : Option Segment) × (EndEmitsBy EmitsNext before.state answer after.state ⊎ EndEmitsBy EmitsAgain before.state answer after.state ⊎ EndEmitsBy EmitsAnswer before.state answer after.state)
+    (answer : Option Segment) × (EndEmitsBy EmitsNext before.state answer after.state
+    ⊎ EndEmitsBy EmitsAgain before.state answer after.state ⊎ EndEmitsBy EmitsAnswer before.state answer after.state)
     × (after.emitted ≡ before.emitted ++ answer_segments answer)
 
 abbrev pub CallsRead : EndSide → EndSide → Type 0

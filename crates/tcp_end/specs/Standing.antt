@@ -50,7 +50,8 @@ pub record StepsBy (Step : Endpoint → Endpoint → Type 0) (before after : End
   pub becomes : (e : Endpoint) → EndStands before e → Becomes Step e after
 
 -- the same for a step that emits a segment
-pub record BecomesEmitting (Step : Endpoint → PlacedSegment → Endpoint → Type 0) (before : EndState) (e : Endpoint) (g : Segment) (after : EndState) : Type 0 where
+pub record BecomesEmitting (Step : Endpoint → PlacedSegment → Endpoint → Type 0)
+    (before : EndState) (e : Endpoint) (g : Segment) (after : EndState) : Type 0 where
   pub segment : PlacedSegment
   pub end : Endpoint
   pub step : Step e segment end

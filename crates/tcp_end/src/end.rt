@@ -1,6 +1,7 @@
 //! The endpoint of a connection.
 
-ghost use Rattle.std.specs.Prelude.{ℕ, ◌≡◌, ◌≢◌, ◌<◌, ◌≤◌, ◌+◌, ◌-◌, ◌^◌, ◌↔◌, ◌⊎◌, ◌++◌, length, take, drop, true, false, IsNone, IsSome, IfSome, IfOk, OnOk, OnErr, nat_lt, ◌||◌, if◌then◌else◌};
+ghost use Rattle.std.specs.Prelude.{ℕ, ◌≡◌, ◌≢◌, ◌<◌, ◌≤◌, ◌+◌, ◌-◌, ◌^◌, ◌↔◌, ◌⊎◌, ◌++◌, length, take, drop, true, false};
+ghost use Rattle.std.specs.Prelude.{IsNone, IsSome, IfSome, IfOk, OnOk, OnErr, nat_lt, ◌||◌, if◌then◌else◌};
 ghost use Rattle.tcp_seq.specs.Numbers.{plus};
 ghost use Rattle.tcp_seq.specs.Rules.{IsInStream};
 ghost use Rattle.tcp_seq.specs.Endpoint.{Endpoint, SendsBytes, EmitsNext, EmitsAgain, EmitsAnswer, ReadsBytes, fresh_endpoint};

@@ -30,5 +30,6 @@ pub fn received_are_first_bytes()
 
 /// The endpoint that a state stands for is determined by its stream and by the bytes that were read.
 pub fn an_endpoint_is_its_state()
-    ensures { (s : EndState) (e : Endpoint) (stream read : List ℕ) → EndStands s e → e.stream ≡ stream → take e.read (received_bytes e) ≡ read → e ≡ endpoint_of stream read s }
+    ensures { (s : EndState) (e : Endpoint) (stream read : List ℕ) → EndStands s e
+        → e.stream ≡ stream → take e.read (received_bytes e) ≡ read → e ≡ endpoint_of stream read s }
 {}

@@ -33,6 +33,8 @@ point_counts test count none more [] (suc i) within point = absurd (omega (arith
 point_counts test count none more (p ∷ ps) zero within point =
     sym (more p ps ∙ ap (λ b. if b then suc (count ps) else 0) (point.1 0 p (omega arith) (omega arith)))
 point_counts test count none more (p ∷ ps) (suc i) within point =
-    let rest : i ≡ count ps = point_counts test count none more ps i (omega (arith, within))
-    ((λ k d from below. point.0 (suc k) d (omega arith) (omega (arith, below))), (λ k d from below. point.1 (suc k) d (omega (arith, from)) (omega (arith, below)))) in
+    let rest : i ≡ count ps = point_counts test count none more ps i (omega (arith, within)) (
+      (λ k d from below. point.0 (suc k) d (omega arith) (omega (arith, below))),
+      (λ k d from below. point.1 (suc k) d (omega (arith, from)) (omega (arith, below))),
+    ) in
     ap suc rest ∙ sym (more p ps ∙ ap (λ b. if b then suc (count ps) else 0) (point.0 0 p (omega arith) (omega arith)))

@@ -19,7 +19,8 @@ ahead_from : (stream : ℕ → ℕ) (next : ℕ) (puts : List Put) (before after
     → byte_ahead after k ≡ option_or (byte_ahead before k) (if is_brought next puts k then Some (stream k) else None)
 ahead_from stream next [] before after is steps all k = ap (λ (r : Reassembly). byte_ahead r k) steps ∙ sym (or_none (byte_ahead before k))
 ahead_from stream next (p ∷ ps) before after is (between, step, rest) all k =
-    let here : byte_ahead between k ≡ option_or (byte_ahead before k) (brought next p.seq p.bytes k) = step.ahead k ∙ ap (λ n. option_or (byte_ahead before k) (brought n p.seq p.bytes k)) is in
+    let here : byte_ahead between k ≡ option_or (byte_ahead before k) (brought next p.seq p.bytes k) =
+    step.ahead k ∙ ap (λ n. option_or (byte_ahead before k) (brought n p.seq p.bytes k)) is in
     ahead_from stream next ps between after (step.next ∙ is) rest all.1 k
     ∙ ap (λ o. option_or o (if is_brought next ps k then Some (stream k) else None)) here
     ∙ or_assoc (byte_ahead before k) (brought next p.seq p.bytes k) (if is_brought next ps k then Some (stream k) else None)
@@ -42,7 +43,8 @@ same_lists (x ∷ xs) (y ∷ ys) e same =
 no_less : (a b a' b' : Reassembly) (out x y : List ℕ) (m n : ℕ) → ((k : ℕ) → byte_ahead a k ≡ byte_ahead b k) → TakesReady a a' out x m
     → TakesReady b b' out y n → ¬ (m < n)
 no_less a b a' b' out x y m n same first second below =
-    none-some (get_or second.given m 0) (sym first.ends ∙ same m ∙ second.each m below ∙ slice_get-get_or second.given m 0 (omega (arith, below, second.counted)))
+    none-some (get_or second.given m 0)
+    (sym first.ends ∙ same m ∙ second.each m below ∙ slice_get-get_or second.given m 0 (omega (arith, below, second.counted)))
 
 pub given_same : (a b a' b' : Reassembly) (out x y : List ℕ) (m n : ℕ) → ((k : ℕ) → byte_ahead a k ≡ byte_ahead b k) → TakesReady a a' out x m
     → TakesReady b b' out y n → x ≡ y

@@ -31,7 +31,8 @@ runs_from low high (p ∷ ps) le runs = (omega (arith, runs.0, le), runs.1, runs
 pub runs-drop : (low n : ℕ) (ps : List Piece) → AreRuns low ps → AreRuns low (drop n ps)
 runs-drop low zero ps runs = runs
 runs-drop low (suc n) [] runs = tt
-runs-drop low (suc n) (p ∷ ps) runs = runs_from low (p.offset + length p.bytes) (drop n ps) (omega (arith, runs.0)) (runs-drop (p.offset + length p.bytes) n ps runs.3)
+runs-drop low (suc n) (p ∷ ps) runs =
+    runs_from low (p.offset + length p.bytes) (drop n ps) (omega (arith, runs.0)) (runs-drop (p.offset + length p.bytes) n ps runs.3)
 
 -- what a piece holds where it stands in front
 pub held_here : (p : Piece) (ps : List Piece) (k : ℕ) → p.offset ≤ k → k < p.offset + length p.bytes → held (p ∷ ps) k ≡ Some (get_or p.bytes (k - p.offset) 0)

@@ -1,5 +1,6 @@
 -- The runs of bytes that stand between pieces and behind them.
-use Rattle.std.proofs.Common.{◌≡◌, ℕ, suc, ◌+◌, ◌-◌, ◌<◌, ◌≤◌, List, [], ◌∷◌, ◌++◌, length, take, drop, Option, Some, None, refl, sym, ap, subst, ◌∙◌, arith, inl, inr, max}
+use Rattle.std.proofs.Common.{◌≡◌, ℕ, suc, ◌+◌, ◌-◌, ◌<◌, ◌≤◌, List, [], ◌∷◌, ◌++◌, length, take, drop}
+use Rattle.std.proofs.Common.{Option, Some, None, refl, sym, ap, subst, ◌∙◌, arith, inl, inr, max}
 use Rattle.std.specs.Prelude.{if◌then◌else◌}
 use Rattle.std.proofs.lemmas.Bool.{cases_lt, lt-ltb, le-ltb, le-leb, lt-leb}
 use Rattle.std.proofs.lemmas.List.{length-drop, length-take, take_all}
@@ -74,7 +75,8 @@ outside_runs low offset bytes at [] from fits begin runs =
     ]
 outside_runs low offset bytes at (p ∷ ps) from fits begin runs =
     let next = max at (p.offset + length p.bytes) in
-    let rest : AreRuns next (runs_outside offset bytes next ps) = outside_runs (p.offset + length p.bytes) offset bytes next ps (omega (arith, from)) fits begin.1 runs.3 in
+    let rest : AreRuns next (runs_outside offset bytes next ps) =
+    outside_runs (p.offset + length p.bytes) offset bytes next ps (omega (arith, from)) fits begin.1 runs.3 in
     run_runs offset bytes at p.offset (runs_outside offset bytes next ps) from (omega (arith, begin.0)) fits
     (runs_from at next (runs_outside offset bytes next ps) (omega arith) rest)
     (runs_from p.offset next (runs_outside offset bytes next ps) (omega arith) rest)
@@ -133,7 +135,8 @@ begun_held low end (p ∷ ps) k runs below = elim (cases_lt p.offset end) [
 begun_all : (end : ℕ) (ps : List Piece) → AllBegin end (take (begun_below end ps) ps)
 begun_all end [] = tt
 begun_all end (p ∷ ps) = elim (cases_lt p.offset end) [
-  | inl begins ↦ subst (λ b. AllBegin end (take (if b then suc (begun_below end ps) else 0) (p ∷ ps))) (sym (lt-ltb p.offset end begins)) (begins, begun_all end ps)
+  | inl begins ↦ subst (λ b. AllBegin end (take (if b then suc (begun_below end ps) else 0) (p ∷ ps)))
+      (sym (lt-ltb p.offset end begins)) (begins, begun_all end ps)
   | inr above ↦ subst (λ b. AllBegin end (take (if b then suc (begun_below end ps) else 0) (p ∷ ps))) (sym (le-ltb p.offset end above)) tt
 ]
 
@@ -142,13 +145,15 @@ abbrev pub near : ℕ → List ℕ → List Piece → List Piece
 near offset bytes ps = take (begun_below (offset + length bytes) (drop (passed offset ps) ps)) (drop (passed offset ps) ps)
 
 near_runs : (offset : ℕ) (bytes : List ℕ) (ps : List Piece) → AreRuns 0 ps → AreRuns 0 (near offset bytes ps)
-near_runs offset bytes ps runs = runs-take 0 (begun_below (offset + length bytes) (drop (passed offset ps) ps)) (drop (passed offset ps) ps) (runs-drop 0 (passed offset ps) ps runs)
+near_runs offset bytes ps runs = runs-take 0 (begun_below (offset + length bytes) (drop (passed offset ps) ps))
+    (drop (passed offset ps) ps) (runs-drop 0 (passed offset ps) ps runs)
 
 pub missing_runs : (offset : ℕ) (bytes : List ℕ) (ps : List Piece) → offset + length bytes ≤ 16384 → AreRuns 0 ps
     → AreRuns 0 (runs_outside offset bytes offset (near offset bytes ps))
 missing_runs offset bytes ps fits runs =
     runs_from 0 offset (runs_outside offset bytes offset (near offset bytes ps)) (omega arith)
-    (outside_runs 0 offset bytes offset (near offset bytes ps) (omega arith) fits (begun_all (offset + length bytes) (drop (passed offset ps) ps)) (near_runs offset bytes ps runs))
+    (outside_runs 0 offset bytes offset (near offset bytes ps) (omega arith) fits
+    (begun_all (offset + length bytes) (drop (passed offset ps) ps)) (near_runs offset bytes ps runs))
 
 where_none_none : (o : Option ℕ) → where_none o None ≡ None
 where_none_none None = refl
@@ -160,13 +165,15 @@ missing_held offset bytes ps fits runs k =
     let end = offset + length bytes in
     let rest = drop (passed offset ps) ps in
     let begin : AllBegin end (near offset bytes ps) = begun_all end rest in
-    let found : AreRuns offset (runs_outside offset bytes offset (near offset bytes ps)) = outside_runs 0 offset bytes offset (near offset bytes ps) (omega arith) fits begin (near_runs offset bytes ps runs) in
+    let found : AreRuns offset (runs_outside offset bytes offset (near offset bytes ps)) =
+    outside_runs 0 offset bytes offset (near offset bytes ps) (omega arith) fits begin (near_runs offset bytes ps runs) in
     elim (cases_lt k offset) [
       | inl below ↦ held_below offset (runs_outside offset bytes offset (near offset bytes ps)) k found below
           ∙ sym (ap (where_none (held ps k)) (byte_below offset bytes k below) ∙ where_none_none (held ps k))
       | inr from ↦ outside_held 0 offset bytes offset (near offset bytes ps) (omega arith) fits begin (near_runs offset bytes ps runs) k from
           ∙ elim (cases_lt k end) [
-            | inl inside ↦ ap (λ o. where_none o (byte_from offset bytes k)) (begun_held 0 end rest k (runs-drop 0 (passed offset ps) ps runs) inside ∙ passed_held offset ps k from)
+            | inl inside ↦ ap (λ o. where_none o (byte_from offset bytes k))
+                (begun_held 0 end rest k (runs-drop 0 (passed offset ps) ps runs) inside ∙ passed_held offset ps k from)
             | inr past ↦ ap (where_none (held (near offset bytes ps) k)) (byte_past offset bytes k past) ∙ where_none_none (held (near offset bytes ps) k)
                 ∙ sym (ap (where_none (held ps k)) (byte_past offset bytes k past) ∙ where_none_none (held ps k))
           ]
@@ -177,5 +184,6 @@ pub near_is : (offset : ℕ) (bytes : List ℕ) (ps rest cut : List Piece) (from
     → rest ≡ take (length ps - from) (drop from ps) → count ≡ begun_below (offset + length bytes) rest → cut ≡ take count rest
     → cut ≡ near offset bytes ps
 near_is offset bytes ps rest cut from count skips cuts counts takes =
-    let rest_is : rest ≡ drop (passed offset ps) ps = cuts ∙ take_all (length ps - from) (drop from ps) (omega (arith, length-drop from ps)) ∙ ap (λ n. drop n ps) skips in
+    let rest_is : rest ≡ drop (passed offset ps) ps =
+    cuts ∙ take_all (length ps - from) (drop from ps) (omega (arith, length-drop from ps)) ∙ ap (λ n. drop n ps) skips in
     takes ∙ ap (λ n. take n rest) counts ∙ ap (λ qs. take (begun_below (offset + length bytes) qs) qs) rest_is

@@ -1,5 +1,6 @@
 -- Pieces put among others that they don't overlap.
-use Rattle.std.proofs.Common.{◌≡◌, ℕ, suc, ◌+◌, ◌-◌, ◌<◌, ◌≤◌, List, [], ◌∷◌, ◌++◌, length, Option, Some, None, Result, true, false, refl, sym, ap, subst, ◌∙◌, arith, ◌⊎◌, inl, inr, get_or}
+use Rattle.std.proofs.Common.{◌≡◌, ℕ, suc, ◌+◌, ◌-◌, ◌<◌, ◌≤◌, List, [], ◌∷◌, ◌++◌, length, Option, Some, None}
+use Rattle.std.proofs.Common.{Result, true, false, refl, sym, ap, subst, ◌∙◌, arith, ◌⊎◌, inl, inr, get_or}
 use Rattle.std.specs.Prelude.{if◌then◌else◌, is_some, is_ok, IsOk, insert}
 use Rattle.std.proofs.lemmas.Bool.{cases_lt, lt-ltb, le-ltb}
 use Rattle.std.proofs.lemmas.Option.{none-some}
@@ -37,7 +38,8 @@ there p k from below = ap is_some (byte_within p.offset p.bytes k from below)
 ends_below : (p q : Piece) (qs : List Piece) → q.offset < p.offset → 0 < length p.bytes
     → ((k : ℕ) → is_some (byte_from p.offset p.bytes k) ≡ true → held (q ∷ qs) k ≡ None) → q.offset + length q.bytes ≤ p.offset
 ends_below p q qs below some free = elim (cases_lt p.offset (q.offset + length q.bytes)) [
-  | inl inside ↦ absurd (none-some (get_or q.bytes (p.offset - q.offset) 0) (sym (free p.offset (there p p.offset (omega arith) (omega (arith, some)))) ∙ held_here q qs p.offset (omega (arith, below)) inside))
+  | inl inside ↦ absurd (none-some (get_or q.bytes (p.offset - q.offset) 0)
+      (sym (free p.offset (there p p.offset (omega arith) (omega (arith, some)))) ∙ held_here q qs p.offset (omega (arith, below)) inside))
   | inr le ↦ le
 ]
 
@@ -45,7 +47,8 @@ ends_below p q qs below some free = elim (cases_lt p.offset (q.offset + length q
 begins_above : (p q : Piece) (qs : List Piece) → p.offset ≤ q.offset → 0 < length q.bytes
     → ((k : ℕ) → is_some (byte_from p.offset p.bytes k) ≡ true → held (q ∷ qs) k ≡ None) → p.offset + length p.bytes ≤ q.offset
 begins_above p q qs le some free = elim (cases_lt q.offset (p.offset + length p.bytes)) [
-  | inl inside ↦ absurd (none-some (get_or q.bytes (q.offset - q.offset) 0) (sym (free q.offset (there p q.offset le inside)) ∙ held_here q qs q.offset (omega arith) (omega (arith, some))))
+  | inl inside ↦ absurd (none-some (get_or q.bytes (q.offset - q.offset) 0)
+      (sym (free q.offset (there p q.offset le inside)) ∙ held_here q qs q.offset (omega arith) (omega (arith, some))))
   | inr above ↦ above
 ]
 
@@ -57,7 +60,8 @@ placed low p [] above some within runs free = record {
 }
 placed low p (q ∷ qs) above some within runs free = elim (cases_lt q.offset p.offset) [
   | inl below ↦
-      let more = placed (q.offset + length q.bytes) p qs (ends_below p q qs below some free) some within runs.3 (λ k here. none_behind (byte_from q.offset q.bytes k) (held qs k) (free k here)) in
+      let more = placed (q.offset + length q.bytes) p qs (ends_below p q qs below some free) some within runs.3
+      (λ k here. none_behind (byte_from q.offset q.bytes k) (held qs k) (free k here)) in
       subst (λ b. Placed low p (q ∷ qs) (insert (q ∷ qs) (if b then suc (begun_below p.offset qs) else 0) p)) (sym (lt-ltb q.offset p.offset below))
       (record {
         runs = (runs.0, runs.1, runs.2, more.runs);

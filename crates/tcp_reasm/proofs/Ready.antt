@@ -1,5 +1,6 @@
 -- What is taken from the front of a list of pieces.
-use Rattle.std.proofs.Common.{◌≡◌, ℕ, zero, suc, ◌+◌, ◌-◌, ◌<◌, ◌≤◌, List, [], ◌∷◌, ◌++◌, length, take, drop, None, refl, sym, ap, subst, ◌∙◌, arith, inl, inr, get_or, set, eq-eqb, length-append}
+use Rattle.std.proofs.Common.{◌≡◌, ℕ, zero, suc, ◌+◌, ◌-◌, ◌<◌, ◌≤◌, List, [], ◌∷◌, ◌++◌, length, take, drop, None, refl}
+use Rattle.std.proofs.Common.{sym, ap, subst, ◌∙◌, arith, inl, inr, get_or, set, eq-eqb, length-append}
 use Rattle.std.specs.Prelude.{if◌then◌else◌}
 use Rattle.std.proofs.lemmas.List.Edits.{map_over_more}
 use Rattle.std.proofs.lemmas.Bool.{cases_lt, ne_eqb}
@@ -20,14 +21,19 @@ use Rattle.tcp_seq.proofs.Lookups.{get-append_left, get-append_right}
 pub runs-lowered : (by low : ℕ) (ps : List Piece) → AreRuns (by + low) ps → AreRuns low (lowered by ps)
 runs-lowered by low [] runs = tt
 runs-lowered by low (p ∷ ps) runs =
-    let next : p.offset + length p.bytes ≡ by + (p.offset - by + length p.bytes) = omega (arith, runs.0) in
-    (omega (arith, runs.0), runs.1, omega (arith, runs.2, runs.0), runs-lowered by (p.offset - by + length p.bytes) ps (subst (λ (n : ℕ). AreRuns n ps) next runs.3))
+    let next : p.offset + length p.bytes ≡ by + (p.offset - by + length p.bytes) = omega (arith, runs.0) in (
+      omega (arith, runs.0),
+      runs.1,
+      omega (arith, runs.2, runs.0),
+      runs-lowered by (p.offset - by + length p.bytes) ps (subst (λ (n : ℕ). AreRuns n ps) next runs.3),
+    )
 
 byte_lowered : (by offset : ℕ) (bytes : List ℕ) (k : ℕ) → by ≤ offset → byte_from (offset - by) bytes k ≡ byte_from offset bytes (by + k)
 byte_lowered by offset bytes k le = elim (cases_lt k (offset - by)) [
   | inl below ↦ byte_below (offset - by) bytes k below ∙ sym (byte_below offset bytes (by + k) (omega (arith, below)))
   | inr there ↦ byte_there (offset - by) bytes k there
-      ∙ ap (slice_get bytes) (let e : k - (offset - by) ≡ by + k - offset = omega (arith, there, le) in e) ∙ sym (byte_there offset bytes (by + k) (omega (arith, there, le)))
+      ∙ ap (slice_get bytes) (let e : k - (offset - by) ≡ by + k - offset = omega (arith, there, le) in e)
+      ∙ sym (byte_there offset bytes (by + k) (omega (arith, there, le)))
 ]
 
 held-lowered : (by : ℕ) (ps : List Piece) (k : ℕ) → AreRuns by ps → held (lowered by ps) k ≡ held ps (by + k)
@@ -40,7 +46,8 @@ held-lowered by (p ∷ ps) k runs =
 pub bytes_fit : (at n : ℕ) (ps : List Piece) → at ≤ 16384 → AreRuns at ps → at + length (piece_bytes (take n ps)) ≤ 16384
 bytes_fit at zero ps fits runs = omega (arith, fits)
 bytes_fit at (suc n) [] fits runs = omega (arith, fits)
-bytes_fit at (suc n) (p ∷ ps) fits runs = omega (arith, length-append p.bytes (piece_bytes (take n ps)), bytes_fit (p.offset + length p.bytes) n ps runs.2 runs.3, runs.0)
+bytes_fit at (suc n) (p ∷ ps) fits runs =
+    omega (arith, length-append p.bytes (piece_bytes (take n ps)), bytes_fit (p.offset + length p.bytes) n ps runs.2 runs.3, runs.0)
 
 -- the first n pieces stand one behind the other from `at` on, and no byte stands behind them
 pub record InOrder (at : ℕ) (ps : List Piece) (n : ℕ) : Type 0 where

@@ -1,12 +1,14 @@
 -- What a segment that arrives changes.
-use Rattle.std.proofs.Common.{◌≡◌, ◌≢◌, ℕ, zero, suc, ◌+◌, max, length, take, Option, None, Some, cond, Bool, true, false, refl, sym, ap, subst, ◌∙◌, arith, ◌⊎◌, ◌-◌, ◌<◌, inl, inr}
+use Rattle.std.proofs.Common.{◌≡◌, ◌≢◌, ℕ, zero, suc, ◌+◌, max, length, take, Option, None, Some, cond, Bool}
+use Rattle.std.proofs.Common.{true, false, refl, sym, ap, subst, ◌∙◌, arith, ◌⊎◌, ◌-◌, ◌<◌, inl, inr}
 use Rattle.std.specs.Prelude.{nat_lt, nat_le, is_some, ◌==◌, ◌||◌, ◌&&◌, if◌then◌else◌}
 use Rattle.std.specs.Option.{option_or}
 use Rattle.std.specs.Cmp.{nat_cmp_total, unsigned_tied}
 use Rattle.std.specs.FinMap as map
 use Rattle.std.proofs.lemmas.Bool.Decides.{nat_tests}
 use Rattle.std.proofs.lemmas.Bool.{cases_lt, cases_eq, lt-ltb, le-ltb}
-use Rattle.tcp_seq.specs.Endpoint.{Bytes, Endpoint, PlacedSegment, received, received_bytes, byte_from, byte_brought, IsAcceptable, IsBeyond, TakesSegment, IsTaken}
+use Rattle.tcp_seq.specs.Endpoint.{Bytes, Endpoint, PlacedSegment, received, received_bytes, byte_from}
+use Rattle.tcp_seq.specs.Endpoint.{byte_brought, IsAcceptable, IsBeyond, TakesSegment, IsTaken}
 use Rattle.tcp_seq.specs.Rules.{AcceptableOffset, IsOffsetInWindow}
 use Rattle.tcp_seq.specs.Rules.{AcceptableOffset, IsOffsetInWindow}
 use Rattle.tcp_seq.proofs.Lookups.{or_none}
@@ -57,7 +59,8 @@ put_next : (f : ℕ → Option ℕ) (n : ℕ) (m more : Bytes) → ((q : ℕ) �
 put_next f n m more rest q = elim (cases_eq q n) [
   | inl is ↦ subst (λ (k : ℕ). map.get (put_one (f n) n more) k ≡ option_or (map.get m k) (if nat_lt k (suc n) then f k else None)) (sym is)
       (put_here (f n) n more
-      ∙ ap (λ (o : Option ℕ). option_or o (f n)) (rest n ∙ ap (λ (b : Bool). option_or (map.get m n) (if b then f n else None)) (le-ltb n n (omega arith)) ∙ or_none (map.get m n))
+      ∙ ap (λ (o : Option ℕ). option_or o (f n))
+      (rest n ∙ ap (λ (b : Bool). option_or (map.get m n) (if b then f n else None)) (le-ltb n n (omega arith)) ∙ or_none (map.get m n))
       ∙ sym (ap (λ (b : Bool). option_or (map.get m n) (if b then f n else None)) (lt-ltb n (suc n) (omega arith))))
   | inr not ↦ put_other (f n) n q more not ∙ rest q ∙ ap (λ (b : Bool). option_or (map.get m q) (if b then f q else None)) (below_test n q not)
 ]
@@ -103,12 +106,16 @@ received_stays before after segment takes = in_order_grows before.arrived after.
 -- One endpoint is left
 pub leaves_one : (before a b : Endpoint) (segment : PlacedSegment) → TakesSegment before segment a → TakesSegment before segment b → a ≡ b
 leaves_one before a b segment (inl drops) (inl drops') = drops.stays ∙ sym drops'.stays
-leaves_one before a b segment (inl drops) (inr accepts) = elim drops.cause [ inl not ↦ absurd (not accepts.acceptable) | inr beyond ↦ absurd (accepts.within beyond) ]
-leaves_one before a b segment (inr accepts) (inl drops) = elim drops.cause [ inl not ↦ absurd (not accepts.acceptable) | inr beyond ↦ absurd (accepts.within beyond) ]
+leaves_one before a b segment (inl drops) (inr accepts) =
+    elim drops.cause [ inl not ↦ absurd (not accepts.acceptable) | inr beyond ↦ absurd (accepts.within beyond) ]
+leaves_one before a b segment (inr accepts) (inl drops) =
+    elim drops.cause [ inl not ↦ absurd (not accepts.acceptable) | inr beyond ↦ absurd (accepts.within beyond) ]
 leaves_one before a b segment (inr accepts) (inr accepts') =
-    let same : a.arrived ≡ b.arrived = map.same_map nat_cmp_total map.nat_cmp-IsAntisymmetric a.arrived b.arrived (λ k. accepts.arrived k ∙ sym (accepts'.arrived k)) in
+    let same : a.arrived ≡ b.arrived =
+    map.same_map nat_cmp_total map.nat_cmp-IsAntisymmetric a.arrived b.arrived (λ k. accepts.arrived k ∙ sym (accepts'.arrived k)) in
     accepts.changed
-    ∙ ap (λ (m : Bytes). let e : Endpoint = record before { acked = max before.acked segment.ack; arrived = m; owed = before.owed || nat_lt 0 (length segment.bytes) } in e) same
+    ∙ ap (λ (m : Bytes). let e : Endpoint =
+    record before { acked = max before.acked segment.ack; arrived = m; owed = before.owed || nat_lt 0 (length segment.bytes) } in e) same
     ∙ sym accepts'.changed
 
 -- And there is one

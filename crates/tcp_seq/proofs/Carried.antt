@@ -4,7 +4,8 @@ use Rattle.std.specs.Prelude.{Contains}
 use Rattle.std.proofs.lemmas.Bool.{cases_lt}
 use Rattle.std.proofs.lemmas.List.Elements.{Contains-append_left, Contains-push, Contains-push_cases}
 use Rattle.tcp_seq.specs.Endpoint.{Endpoint, PlacedSegment, TakesSegment}
-use Rattle.tcp_seq.specs.Connection.{Side, Connection, fresh_side, fresh_connection, SideSends, SideEmits, SideReads, SideTakes, SideSteps, ConnectionStep, ConnectionRun, IsEmittedBy, IsAmong, AreLinked, StaysLinked, IsCarried, IsConnection}
+use Rattle.tcp_seq.specs.Connection.{Side, Connection, fresh_side, fresh_connection, SideSends, SideEmits, SideReads, SideTakes, SideSteps}
+use Rattle.tcp_seq.specs.Connection.{ConnectionStep, ConnectionRun, IsEmittedBy, IsAmong, AreLinked, StaysLinked, IsCarried, IsConnection}
 use Rattle.tcp_seq.proofs.Flows.{turned, sends_linked, emits_linked, reads_linked, takes_linked, fresh_linked}
 
 record Both (x y : Side) : Type 0 where
@@ -75,7 +76,8 @@ acts x x' y both (inr (inl emits)) = acts_emits x x' y both emits
 acts x x' y both (inr (inr (inl (n, reads, emits)))) =
     no_segment x x' y both (reads_linked x.end x'.end y.end n (both_linked x y both) reads) (ap (λ (e : Endpoint). e.emitted) reads.read) emits
 acts x x' y both (inr (inr (inr (p, here, takes, emits)))) =
-    no_segment x x' y both (takes_linked x.end x'.end y.end p (both_linked x y both) (both.back.segments p here) takes) (emitted_stays x.end x'.end p takes) emits
+    no_segment x x' y both (takes_linked x.end x'.end y.end p (both_linked x y both) (both.back.segments p here) takes)
+    (emitted_stays x.end x'.end p takes) emits
 
 other_way : (x y : Side) → Both x y → Both y x
 other_way x y both = record { there = both.back; back = both.there }
@@ -85,7 +87,8 @@ both_of c is = record { there = is.there; back = is.back }
 
 step_by : (before after : Connection) → Both before.near before.far → ConnectionStep before after → Both after.near after.far
 step_by before after both (inl (near, same)) = subst (λ (y : Side). Both after.near y) (sym same) (acts before.near after.near before.far both near)
-step_by before after both (inr (far, same)) = subst (λ (x : Side). Both x after.far) (sym same) (other_way after.far before.near (acts before.far after.far before.near (other_way before.near before.far both) far))
+step_by before after both (inr (far, same)) = subst (λ (x : Side). Both x after.far) (sym same)
+    (other_way after.far before.near (acts before.far after.far before.near (other_way before.near before.far both) far))
 
 pub steps : (before after : Connection) → IsConnection before → ConnectionStep before after → IsConnection after
 steps before after is step = let both = step_by before after (both_of before is) step in record { there = both.there; back = both.back }

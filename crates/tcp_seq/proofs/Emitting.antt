@@ -26,7 +26,8 @@ next_is_slice before after p acked next =
       flight = omega (arith, at, len, next.some);
       slice = itself before p before.emitted n at len next.slice;
       rises = next.rises
-          ∙ ap (λ (m : ℕ). let e : Endpoint = record before { emitted = m } in e) (let e : before.emitted + n ≡ max before.emitted (p.offset + length p.bytes) = omega (arith, at, len) in e);
+          ∙ ap (λ (m : ℕ). let e : Endpoint = record before { emitted = m } in e)
+          (let e : before.emitted + n ≡ max before.emitted (p.offset + length p.bytes) = omega (arith, at, len) in e);
     }
 
 pub again_is_slice : (before after : Endpoint) (p : PlacedSegment) → before.emitted ≤ length before.stream → before.emitted ≤ before.acked + 15360
@@ -35,7 +36,8 @@ again_is_slice before after p emitted flight again =
     let n = again_length before in
     let within : before.acked + n ≤ before.emitted = omega (arith, again.some) in
     let at : p.offset ≡ before.acked = ap (λ (q : PlacedSegment). q.offset) again.slice in
-    let len : length p.bytes ≡ n = ap (λ (q : PlacedSegment). length q.bytes) again.slice ∙ slice_length before.stream before.acked n (omega (arith, within, emitted)) in
+    let len : length p.bytes ≡ n =
+    ap (λ (q : PlacedSegment). length q.bytes) again.slice ∙ slice_length before.stream before.acked n (omega (arith, within, emitted)) in
     record {
       from = omega (arith, at);
       to = omega (arith, at, within);
@@ -45,5 +47,6 @@ again_is_slice before after p emitted flight again =
       flight = omega (arith, at, len, within, flight);
       slice = itself before p before.acked n at len again.slice;
       rises = again.stays
-          ∙ ap (λ (m : ℕ). let e : Endpoint = record before { emitted = m } in e) (let e : before.emitted ≡ max before.emitted (p.offset + length p.bytes) = omega (arith, at, len, within) in e);
+          ∙ ap (λ (m : ℕ). let e : Endpoint = record before { emitted = m } in e)
+          (let e : before.emitted ≡ max before.emitted (p.offset + length p.bytes) = omega (arith, at, len, within) in e);
     }

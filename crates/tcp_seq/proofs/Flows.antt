@@ -1,5 +1,6 @@
 -- What flows between two endpoints, whatever one of them does.
-use Rattle.std.proofs.Common.{◌≡◌, ℕ, ◌+◌, ◌-◌, ◌^◌, ◌<◌, ◌≤◌, max, List, [], ◌++◌, length, take, drop, get_or, refl, sym, ap, subst, ◌∙◌, arith, ◌⊎◌, inl, inr, length-append, Option, None, Some}
+use Rattle.std.proofs.Common.{◌≡◌, ℕ, ◌+◌, ◌-◌, ◌^◌, ◌<◌, ◌≤◌, max, List, [], ◌++◌, length, take, drop, get_or, refl}
+use Rattle.std.proofs.Common.{sym, ap, subst, ◌∙◌, arith, ◌⊎◌, inl, inr, length-append, Option, None, Some}
 use Rattle.std.specs.Prelude.{Bool, true, false, nat_lt, nat_le, ◌&&◌, ◌||◌, if◌then◌else◌}
 use Rattle.std.specs.Option.{option_or}
 use Rattle.std.specs.List.{slice_get}
@@ -8,7 +9,8 @@ use Rattle.std.specs.FinMap as map
 use Rattle.std.proofs.lemmas.Bool.{cases_lt}
 use Rattle.std.proofs.lemmas.List.{length-drop, length-take, drop-append-le, take-append-le}
 use Rattle.std.proofs.lemmas.Option.{slice_get-get_or, slice_get_within}
-use Rattle.tcp_seq.specs.Endpoint.{Bytes, Endpoint, PlacedSegment, fresh_endpoint, bytes_in_order, received, received_bytes, byte_from, byte_brought, SendsBytes, EmitsSlice, EmitsEmpty, ReadsBytes, TakesSegment, IsInStreams}
+use Rattle.tcp_seq.specs.Endpoint.{Bytes, Endpoint, PlacedSegment, fresh_endpoint, bytes_in_order, received, received_bytes, byte_from}
+use Rattle.tcp_seq.specs.Endpoint.{byte_brought, SendsBytes, EmitsSlice, EmitsEmpty, ReadsBytes, TakesSegment, IsInStreams}
 use Rattle.tcp_seq.specs.Connection.{IsEmittedBy, Flows, AreLinked, StaysLinked}
 use Rattle.tcp_seq.proofs.Lookups.{get-append_left, get-drop, get-take}
 use Rattle.tcp_seq.proofs.ByteFrom.{byte_below, byte_there}
@@ -202,7 +204,8 @@ emitted_on : (x y : Endpoint) (emitted : ℕ) (owed : Bool) → AreLinked x y �
 emitted_on x y emitted owed is more within flight =
     let e : Endpoint = record x { emitted = emitted; owed = owed } in
     record {
-      linked = linked e y (from_emits x y emitted owed (carries_flows x y is.there) more within flight) (to_same y x e (carries_flows y x is.back) refl is.back.read);
+      linked = linked e y (from_emits x y emitted owed (carries_flows x y is.there) more within flight)
+          (to_same y x e (carries_flows y x is.back) refl is.back.read);
       still = λ p old. still_emits x emitted owed p more old;
     }
 
@@ -230,7 +233,8 @@ pub emits_linked : (x after y : Endpoint) (p : PlacedSegment) → AreLinked x y 
     → StaysLinked x after y × IsEmittedBy after p
 emits_linked x after y p is (inl emits) = (
   stays_as x after _ y emits.rises
-      (emitted_on x y (max x.emitted (p.offset + length p.bytes)) x.owed is (omega arith) (omega (arith, is.there.emitted, emits.within)) (omega (arith, is.there.flight, emits.flight))),
+      (emitted_on x y (max x.emitted (p.offset + length p.bytes)) x.owed is (omega arith)
+      (omega (arith, is.there.emitted, emits.within)) (omega (arith, is.there.flight, emits.flight))),
   subst (λ (a : Endpoint). IsEmittedBy a p) (sym emits.rises) (slice_emitted x p after emits),
 )
 emits_linked x after y p is (inr empty) = (

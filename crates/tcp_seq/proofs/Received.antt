@@ -1,5 +1,6 @@
 -- The bytes that stand from offset 0 on without a gap.
-use Rattle.std.proofs.Common.{◌≡◌, ◌≢◌, ℕ, zero, suc, ◌+◌, ◌<◌, ◌≤◌, List, [], ◌∷◌, length, take, get_or, refl, sym, ap, subst, ◌∙◌, arith, inl, inr, Option, None, Some, cond, Bool, true, false}
+use Rattle.std.proofs.Common.{◌≡◌, ◌≢◌, ℕ, zero, suc, ◌+◌, ◌<◌, ◌≤◌, List, [], ◌∷◌, length, take, get_or, refl, sym, ap}
+use Rattle.std.proofs.Common.{subst, ◌∙◌, arith, inl, inr, Option, None, Some, cond, Bool, true, false}
 use Rattle.std.specs.Prelude.{IsSome, T, ◌==◌, ◌&&◌}
 use Rattle.std.specs.List.{slice_get}
 use Rattle.std.specs.Ordering.{nat_cmp, is_lt}
@@ -33,13 +34,19 @@ lt_below x y h = grind (arith, nat_tests)
 rises_above : (x : ℕ) (es : List (ℕ × ℕ)) → T (below_all nat_cmp x es) → T (is_sorted nat_cmp es) → Rises (x + 1) es
 rises_above x [] above sorted = tt
 rises_above x (e ∷ es) above sorted =
-    let below : x < e.0 = lt_below x e.0 (and_first (is_lt (nat_cmp x e.0)) (below_all nat_cmp x es) above) in
-    (omega (arith, below), rises_above e.0 es (and_first (below_all nat_cmp e.0 es) (is_sorted nat_cmp es) sorted) (and_second (below_all nat_cmp e.0 es) (is_sorted nat_cmp es) sorted))
+    let below : x < e.0 = lt_below x e.0 (and_first (is_lt (nat_cmp x e.0)) (below_all nat_cmp x es) above) in (
+      omega (arith, below),
+      rises_above e.0 es (and_first (below_all nat_cmp e.0 es) (is_sorted nat_cmp es) sorted)
+          (and_second (below_all nat_cmp e.0 es) (is_sorted nat_cmp es) sorted),
+    )
 
 rises_all : (es : List (ℕ × ℕ)) → T (is_sorted nat_cmp es) → Rises 0 es
 rises_all [] sorted = tt
-rises_all (e ∷ es) sorted =
-    (omega arith, rises_above e.0 es (and_first (below_all nat_cmp e.0 es) (is_sorted nat_cmp es) sorted) (and_second (below_all nat_cmp e.0 es) (is_sorted nat_cmp es) sorted))
+rises_all (e ∷ es) sorted = (
+  omega arith,
+  rises_above e.0 es (and_first (below_all nat_cmp e.0 es) (is_sorted nat_cmp es) sorted)
+      (and_second (below_all nat_cmp e.0 es) (is_sorted nat_cmp es) sorted),
+)
 
 -- Look-ups
 find_here : (k : ℕ) (e : ℕ × ℕ) (es : List (ℕ × ℕ)) → e.0 ≡ k → find nat_cmp k (e ∷ es) ≡ Some e.1
@@ -102,7 +109,8 @@ byte_in_order m k below =
 pub none_behind : (m : Bytes) → map.get m (length (bytes_in_order m)) ≡ None
 none_behind m =
     map.get-entries m (length (bytes_in_order m))
-    ∙ ap (λ (j : ℕ). find nat_cmp j (map.entries m)) (let same : length (bytes_in_order m) ≡ 0 + length (bytes_in_order m) = omega arith in same) ∙ (whole m).ends
+    ∙ ap (λ (j : ℕ). find nat_cmp j (map.entries m)) (let same : length (bytes_in_order m) ≡ 0 + length (bytes_in_order m) = omega arith in same)
+    ∙ (whole m).ends
 
 pub some_none : {X : Type 0} (o : Option X) → IsSome o → o ≡ None → ⊥
 some_none None some none = let e : false ≡ true = some in cc
@@ -126,7 +134,8 @@ pub first_bytes : (xs ys : List ℕ) → length xs ≤ length ys → ((k : ℕ) 
 first_bytes xs ys within same =
     let n : length xs ≡ length (take (length xs) ys) = omega (arith, within, length-take (length xs) ys) in
     ext_get_or 0 xs (take (length xs) ys) n
-    (λ i below. sym (get_or_from_slice_get (take (length xs) ys) i (get_or xs i 0) 0 (get-take (length xs) ys i below ∙ sym (same i below) ∙ slice_get-get_or xs i 0 below)))
+    (λ i below. sym (get_or_from_slice_get (take (length xs) ys) i (get_or xs i 0) 0
+    (get-take (length xs) ys i below ∙ sym (same i below) ∙ slice_get-get_or xs i 0 below)))
 
 -- the bytes in order are those that stand at their offsets up to one that has none
 pub bytes_are : (m : Bytes) (xs : List ℕ) → ((k : ℕ) → k < length xs → slice_get xs k ≡ map.get m k) → map.get m (length xs) ≡ None → bytes_in_order m ≡ xs
@@ -149,6 +158,7 @@ in_order_grows m m' stays =
     let run = bytes_in_order m in
     let there : (k : ℕ) → k < length run → map.get m' k ≡ Some (get_or run k 0) =
     λ k below. stays k (get_or run k 0) (sym (byte_in_order m k below) ∙ slice_get-get_or run k 0 below) in
-    let long : length run ≤ length (bytes_in_order m') = (received_is m').greatest (length run) (λ k below. subst (λ (o : Option ℕ). IsSome o) (sym (there k below)) refl) in
+    let long : length run ≤ length (bytes_in_order m') =
+    (received_is m').greatest (length run) (λ k below. subst (λ (o : Option ℕ). IsSome o) (sym (there k below)) refl) in
     first_bytes run (bytes_in_order m') long
     (λ k below. slice_get-get_or run k 0 below ∙ sym (there k below) ∙ sym (byte_in_order m' k (omega (arith, below, long))))

@@ -2,7 +2,8 @@
 -- never.
 use Rattle.std.specs.Prelude.{ℕ, ◌≡◌, ◌⊎◌, ◌<◌, ◌≤◌, ◌+◌, ◌^◌, List, [], ◌∷◌, ◌++◌, length, take, drop, Contains, Some, slice_get}
 use Rattle.std.specs.FinMap as map
-use Rattle.tcp_seq.specs.Endpoint.{Endpoint, PlacedSegment, SendsBytes, EmitsSlice, EmitsEmpty, ReadsBytes, TakesSegment, fresh_endpoint, received, received_bytes}
+use Rattle.tcp_seq.specs.Endpoint.{Endpoint, PlacedSegment, SendsBytes, EmitsSlice, EmitsEmpty, ReadsBytes}
+use Rattle.tcp_seq.specs.Endpoint.{TakesSegment, fresh_endpoint, received, received_bytes}
 
 -- an endpoint, and every segment that it ever emitted
 pub record Side : Type 0 where

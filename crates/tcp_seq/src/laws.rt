@@ -6,7 +6,9 @@ ghost use Rattle.std.specs.FinMap as map;
 ghost use Rattle.tcp_seq.specs.declared.rules.AckKind.{AckKind};
 ghost use Rattle.tcp_seq.specs.Numbers.{number, plus, offset_from};
 ghost use Rattle.tcp_seq.specs.Rules.{Acceptable, IsAck, AcceptableOffset, IsOffsetAck, IsInStream};
-ghost use Rattle.tcp_seq.specs.Endpoint.{Endpoint, PlacedSegment, Bytes, bytes_in_order, IsReceived, received, received_bytes, fresh_endpoint, IsInStreams, SendsBytes, ReadsBytes, TakesSegment, IsTaken, EmitsNext, EmitsAgain, EmitsSlice, EmitsEmpty};
+ghost use Rattle.tcp_seq.specs.Endpoint.{Endpoint, PlacedSegment, Bytes, bytes_in_order, IsReceived, received};
+ghost use Rattle.tcp_seq.specs.Endpoint.{received_bytes, fresh_endpoint, IsInStreams, SendsBytes, ReadsBytes};
+ghost use Rattle.tcp_seq.specs.Endpoint.{TakesSegment, IsTaken, EmitsNext, EmitsAgain, EmitsSlice, EmitsEmpty};
 ghost use Rattle.tcp_seq.specs.Placed.{placed};
 ghost use Rattle.tcp_seq.specs.declared.segment.Segment.{Segment};
 ghost use Rattle.tcp_seq.specs.Connection.{Connection, fresh_connection, ConnectionStep, ConnectionRun, IsConnection, IsEmittedBy, AreLinked, StaysLinked};
@@ -23,7 +25,8 @@ pub fn numbers_by_offsets()
 pub fn a_segment_has_its_offsets()
     ensures numbers { (seq_first ack_first : ℕ) (g : Segment) → seq_first < 2 ^ 32 → ack_first < 2 ^ 32 → g.seq.0 < 2 ^ 32 → g.ack.0 < 2 ^ 32
         → (g.seq.0 ≡ number seq_first (placed seq_first ack_first g).offset) × (g.ack.0 ≡ number ack_first (placed seq_first ack_first g).ack) }
-    ensures one { (seq_first ack_first : ℕ) (g : Segment) (p : PlacedSegment) → seq_first < 2 ^ 32 → ack_first < 2 ^ 32 → g.seq.0 < 2 ^ 32 → g.ack.0 < 2 ^ 32 → IsInStreams p
+    ensures one { (seq_first ack_first : ℕ) (g : Segment) (p : PlacedSegment) → seq_first < 2 ^ 32
+        → ack_first < 2 ^ 32 → g.seq.0 < 2 ^ 32 → g.ack.0 < 2 ^ 32 → IsInStreams p
         → g.seq.0 ≡ number seq_first p.offset → g.ack.0 ≡ number ack_first p.ack → g.bytes ≡ p.bytes → p ≡ placed seq_first ack_first g }
 {}
 

@@ -10,8 +10,8 @@ mod seq;
 mod state;
 
 pub use laws::{
-    an_offset_keeps_its_byte, a_segment_has_its_offsets, a_segment_leaves_one_endpoint,
-    acceptance_by_offsets, acknowledgement_by_offsets, connection_carries_streams,
+    a_segment_has_its_offsets, a_segment_leaves_one_endpoint, acceptance_by_offsets,
+    acknowledgement_by_offsets, an_offset_keeps_its_byte, connection_carries_streams,
     emitted_slices_may_be_emitted, ends_stay_linked, numbers_by_offsets, received_is_greatest,
 };
 pub use rules::{AckKind, acceptable, ack_kind};

@@ -43,7 +43,8 @@ module _ (old : Gathered) (attrs : Option Attrs) (code : List ℕ) (keeps : Gath
           → OnOk r (AddsToUpdates old.wide attrs prefix old.batches.items new.batches.items)
       joins_ok (Ok a) room h =
           let is = there number at in
-          joins old.wide attrs prefix old.batches.items old.octets.items keeps.counted number is new.batches.items (h is.before is.batch is.after is.there.is (sym is.is_number))
+          joins old.wide attrs prefix old.batches.items old.octets.items keeps.counted number is new.batches.items
+          (h is.before is.batch is.after is.there.is (sym is.is_number))
           (subst (λ n. get_or old.octets.items number 0 + n ≤ 4096) len_is room)
       joins_ok (Err e) room h = tt
 
@@ -54,9 +55,11 @@ module _ (old : Gathered) (attrs : Option Attrs) (code : List ℕ) (keeps : Gath
           let is = there number at in
           let effect = h is.before is.batch is.after is.there.is (sym is.is_number) in
           record {
-            found = λ v. subst (λ o. IndexFor v new.batches.items o) (ap (λ p. found p v) (sym same)) (found_joined old.wide attrs prefix old.batches.items old.octets.items keeps.counted number is new.batches.items effect old.indices (at_value number at) keeps.found v);
+            found = λ v. subst (λ o. IndexFor v new.batches.items o) (ap (λ p. found p v) (sym same)) (found_joined old.wide attrs prefix
+                old.batches.items old.octets.items keeps.counted number is new.batches.items effect old.indices (at_value number at) keeps.found v);
             counted = subst (λ w. new.octets.items ≡ map (batch_octets w) new.batches.items) (sym wide)
-                (counts ∙ (ap (λ n. slice_set old.octets.items number (get_or old.octets.items number 0 + n)) len_is ∙ counts_joined old.wide attrs prefix old.batches.items old.octets.items keeps.counted number is new.batches.items effect));
+                (counts ∙ (ap (λ n. slice_set old.octets.items number (get_or old.octets.items number 0 + n)) len_is
+                ∙ counts_joined old.wide attrs prefix old.batches.items old.octets.items keeps.counted number is new.batches.items effect));
           }
       keeps_joins (Err e) h wide counts same = tt
 
@@ -65,10 +68,12 @@ module _ (old : Gathered) (attrs : Option Attrs) (code : List ℕ) (keeps : Gath
       Begun = new.batches.items ≡ old.batches.items ++ record { attrs = attrs; prefixes = prefix ∷ [] } ∷ []
 
       is_full : (number : ℕ) → found old.indices attrs ≡ Some number → 4096 < get_or old.octets.items number 0 + prefix_size prefix
-      is_full number at = subst (λ n. 4096 < get_or old.octets.items number 0 + n) len_is (full number (subst (λ c. get (slice_cmp nat_cmp) old.indices c ≡ Some number) (sym code_is) at))
+      is_full number at = subst (λ n. 4096 < get_or old.octets.items number 0 + n) len_is
+          (full number (subst (λ c. get (slice_cmp nat_cmp) old.indices c ≡ Some number) (sym code_is) at))
 
       pub begins_ok : {A E : Type 0} (r : Result A E) → OnOk r Begun → OnOk r (AddsToUpdates old.wide attrs prefix old.batches.items new.batches.items)
-      begins_ok (Ok a) effect = begins old.wide attrs prefix old.batches.items old.octets.items keeps.counted new.batches.items old.indices effect is_full keeps.found
+      begins_ok (Ok a) effect =
+          begins old.wide attrs prefix old.batches.items old.octets.items keeps.counted new.batches.items old.indices effect is_full keeps.found
       begins_ok (Err e) effect = tt
 
       pub keeps_begins : {A E : Type 0} (r : Result A E) → OnOk r Begun → OnOk r (new.wide ≡ old.wide)

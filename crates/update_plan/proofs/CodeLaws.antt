@@ -160,7 +160,8 @@ attrs-same a b e =
     let next_hop : a.next_hop ≡ b.next_hop = cc in
     let atomic : flag a.atomic ≡ flag b.atomic = cc in
     let med = med-splits a.med b.med (aggregator_code a.aggregator) (aggregator_code b.aggregator) cc in
-    attrs-parts a b (origin-same a.origin b.origin origin) path.0 next_hop med.0 (flag-same a.atomic b.atomic atomic) (aggregator-same a.aggregator b.aggregator med.1) unknown.0
+    attrs-parts a b (origin-same a.origin b.origin origin) path.0 next_hop med.0
+    (flag-same a.atomic b.atomic atomic) (aggregator-same a.aggregator b.aggregator med.1) unknown.0
 
 none-apart : (path : List PathPart) (further : List ℕ) → [] ≡ path_code path ++ further → ⊥
 none-apart [] further e = absurd cc

@@ -35,7 +35,8 @@ where_it_fits : (wide : Bool) (home_as : ℕ) (out : OutSide) (prefix : PrefixVa
     → octets wide (told_where_it_fits home_as out prefix route) (prefix ∷ []) ≤ 4096
 where_it_fits wide home_as out prefix None = withdrawal wide prefix
 where_it_fits wide home_as out prefix (Some route) =
-    elim (is_too_long prefix (told_attrs home_as out route)) as (λ b. is_too_long prefix (told_attrs home_as out route) ≡ b → octets wide (if b then None else Some (told_attrs home_as out route)) (prefix ∷ []) ≤ 4096) [
+    elim (is_too_long prefix (told_attrs home_as out route)) as (λ b. is_too_long prefix (told_attrs home_as out route) ≡ b
+    → octets wide (if b then None else Some (told_attrs home_as out route)) (prefix ∷ []) ≤ 4096) [
       | true ↦ λ e. withdrawal wide prefix
       | false ↦ λ e. announced wide prefix (told_attrs home_as out route) e
     ] refl
@@ -44,7 +45,8 @@ pub fits_one : (wide : Bool) (home_as : ℕ) (out : OutSide) (prefix : PrefixVal
     → octets wide (tell_out home_as out prefix best) (prefix ∷ []) ≤ 4096
 fits_one wide home_as out prefix None = withdrawal wide prefix
 fits_one wide home_as out prefix (Some best) =
-    elim (is_kept_back out best) as (λ b. octets wide (if b then None else told_where_it_fits home_as out prefix (exported home_as out prefix best.route)) (prefix ∷ []) ≤ 4096) [
+    elim (is_kept_back out best)
+    as (λ b. octets wide (if b then None else told_where_it_fits home_as out prefix (exported home_as out prefix best.route)) (prefix ∷ []) ≤ 4096) [
       | true ↦ withdrawal wide prefix
       | false ↦ where_it_fits wide home_as out prefix (exported home_as out prefix best.route)
     ]

@@ -1,5 +1,6 @@
 -- The UPDATEs that may be joined are found, as prefixes are added.
-use Rattle.std.proofs.Common.{◌≡◌, ◌≢◌, ℕ, ◌+◌, ◌≤◌, ◌<◌, List, [], ◌∷◌, ◌++◌, length, append_assoc, length-append, get_or, Option, Some, None, Bool, true, false, cond, refl, sym, ap, ◌∙◌, subst, arith, inl, inr}
+use Rattle.std.proofs.Common.{◌≡◌, ◌≢◌, ℕ, ◌+◌, ◌≤◌, ◌<◌, List, [], ◌∷◌, ◌++◌, length, append_assoc, length-append, get_or}
+use Rattle.std.proofs.Common.{Option, Some, None, Bool, true, false, cond, refl, sym, ap, ◌∙◌, subst, arith, inl, inr}
 use Rattle.std.specs.BTreeMap.{BTreeMap, get, is_at, Updates}
 use Rattle.std.specs.Cmp.Lexicographic.{slice_cmp, nat_list_cmp_total}
 use Rattle.std.specs.Cmp.{tied_itself}
@@ -50,7 +51,8 @@ module _ (attrs : Option Attrs) (old new : List Batch) (indices indices' : Indic
   pub found_then : FoundThen → IsIndexOfUpdate attrs new number → ((v : Option Attrs) (o : Option ℕ) → attrs ≢ v → IndexFor v old o → IndexFor v new o)
       → ((v : Option Attrs) → IndexFor v old (found indices v)) → (v : Option Attrs) → IndexFor v new (found indices' v)
   found_then then here others before v =
-      elim (is_at (slice_cmp nat_cmp (value_code attrs)) (value_code v)) as (λ b. is_at (slice_cmp nat_cmp (value_code attrs)) (value_code v) ≡ b → found indices' v ≡ cond b (Some number) (found indices v) → IndexFor v new (found indices' v)) [
+      elim (is_at (slice_cmp nat_cmp (value_code attrs)) (value_code v)) as (λ b. is_at (slice_cmp nat_cmp (value_code attrs)) (value_code v) ≡ b
+      → found indices' v ≡ cond b (Some number) (found indices v) → IndexFor v new (found indices' v)) [
         | true ↦ λ at is. subst (IndexFor v new) (sym is) (subst (λ (w : Option Attrs). IsIndexOfUpdate w new number) (found_here attrs v at) here)
         | false ↦ λ at is. subst (IndexFor v new) (sym is) (others v (found indices v) (found_other attrs v at) (before v))
       ] refl (then v)
@@ -58,7 +60,8 @@ module _ (attrs : Option Attrs) (old new : List Batch) (indices indices' : Indic
 found_still : (attrs : Option Attrs) (indices : Indices) (number : ℕ) → found indices attrs ≡ Some number → (v : Option Attrs)
     → found indices v ≡ cond (is_at (slice_cmp nat_cmp (value_code attrs)) (value_code v)) (Some number) (found indices v)
 found_still attrs indices number is v =
-    elim (is_at (slice_cmp nat_cmp (value_code attrs)) (value_code v)) as (λ b. is_at (slice_cmp nat_cmp (value_code attrs)) (value_code v) ≡ b → found indices v ≡ cond b (Some number) (found indices v)) [
+    elim (is_at (slice_cmp nat_cmp (value_code attrs)) (value_code v))
+    as (λ b. is_at (slice_cmp nat_cmp (value_code attrs)) (value_code v) ≡ b → found indices v ≡ cond b (Some number) (found indices v)) [
       | true ↦ λ at. subst (λ (w : Option Attrs). found indices w ≡ Some number) (found_here attrs v at) is
       | false ↦ λ at. refl
     ] refl
@@ -103,7 +106,8 @@ joined_other before after batch prefix v (Some number) apart is =
     let s = still_last v before is.before after is.after batch (with_prefix batch prefix) is.batch apart apart is.there.is is.there.told is.there.last in
     record { before = s.front; batch = is.batch; after = s.after; there = s.there; is_number = is.is_number ∙ sym s.number }
 
-module _ (wide : Bool) (attrs : Option Attrs) (prefix : PrefixValue) (old : List Batch) (counts : List ℕ) (counted : counts ≡ map (batch_octets wide) old) (number : ℕ) (is : IsIndexOfUpdate attrs old number) where
+module _ (wide : Bool) (attrs : Option Attrs) (prefix : PrefixValue) (old : List Batch) (counts : List ℕ)
+    (counted : counts ≡ map (batch_octets wide) old) (number : ℕ) (is : IsIndexOfUpdate attrs old number) where
   count_is : get_or counts number 0 ≡ batch_octets wide is.batch
   count_is = ap (λ (l : List ℕ). get_or l number 0) (counted ∙ ap (map (batch_octets wide)) is.there.is)
       ∙ octets_at wide is.before is.after is.batch number (sym is.is_number)
@@ -125,9 +129,11 @@ module _ (wide : Bool) (attrs : Option Attrs) (prefix : PrefixValue) (old : List
 
     pub counts_joined : slice_set counts number (get_or counts number 0 + prefix_size prefix) ≡ map (batch_octets wide) new
     counts_joined =
-        let more : get_or counts number 0 + prefix_size prefix ≡ batch_octets wide (with_prefix is.batch prefix) = ap (λ n. n + prefix_size prefix) count_is ∙ sym (one_more wide is.batch.attrs is.batch.prefixes prefix) in
+        let more : get_or counts number 0 + prefix_size prefix ≡ batch_octets wide (with_prefix is.batch prefix) =
+        ap (λ n. n + prefix_size prefix) count_is ∙ sym (one_more wide is.batch.attrs is.batch.prefixes prefix) in
         ap (λ (l : List ℕ). slice_set l number (get_or counts number 0 + prefix_size prefix)) (counted ∙ ap (map (batch_octets wide)) is.there.is)
-        ∙ (octets_set wide is.before is.after is.batch number (sym is.is_number) (with_prefix is.batch prefix) (get_or counts number 0 + prefix_size prefix) more
+        ∙ (octets_set wide is.before is.after is.batch number (sym is.is_number)
+        (with_prefix is.batch prefix) (get_or counts number 0 + prefix_size prefix) more
         ∙ ap (map (batch_octets wide)) (sym effect))
 
     joined_here : IsIndexOfUpdate attrs new number
@@ -142,7 +148,8 @@ module _ (wide : Bool) (attrs : Option Attrs) (prefix : PrefixValue) (old : List
     pub found_joined : (indices : Indices) → found indices attrs ≡ Some number → ((v : Option Attrs) → IndexFor v old (found indices v))
         → (v : Option Attrs) → IndexFor v new (found indices v)
     found_joined indices at before = found_then attrs old new indices indices number (found_still attrs indices number at) joined_here
-        (λ v o apart p. subst (λ (l : List Batch). IndexFor v l o) (sym effect) (joined_other is.before is.after is.batch prefix v o (λ e. apart (sym is.there.told ∙ e)) (subst (λ (l : List Batch). IndexFor v l o) is.there.is p)))
+        (λ v o apart p. subst (λ (l : List Batch). IndexFor v l o) (sym effect) (joined_other is.before is.after is.batch prefix v o
+        (λ e. apart (sym is.there.told ∙ e)) (subst (λ (l : List Batch). IndexFor v l o) is.there.is p)))
         before
 
 -- ---- a prefix begins an UPDATE
@@ -167,7 +174,8 @@ module _ (wide : Bool) (attrs : Option Attrs) (prefix : PrefixValue) (old : List
       → IndexFor attrs old o → LastThatTells attrs old before batch after → 4096 < octets wide attrs (batch.prefixes ++ prefix ∷ [])
   full_index before after batch None full none last = absurd (none_there attrs before after batch (subst (NoneTells attrs) last.is none) last.told)
   full_index before after batch (Some number) full is last =
-      let same : is.batch ≡ batch = one_last attrs is.before before is.after after is.batch batch (sym is.there.is ∙ last.is) is.there.told is.there.last last.told last.last in
+      let same : is.batch ≡ batch =
+      one_last attrs is.before before is.after after is.batch batch (sym is.there.is ∙ last.is) is.there.told is.there.last last.told last.last in
       let size : octets wide attrs (batch.prefixes ++ prefix ∷ []) ≡ get_or counts number 0 + prefix_size prefix =
       ap (λ (b : Batch). octets wide attrs (b.prefixes ++ prefix ∷ [])) (sym same) ∙ grown wide attrs prefix old counts counted number is in
       subst (λ n. 4096 < n) (sym size) (full number refl)
@@ -197,5 +205,6 @@ module _ (wide : Bool) (attrs : Option Attrs) (prefix : PrefixValue) (old : List
     pub found_begun : (indices' : Indices) → Updates (slice_cmp nat_cmp) indices indices' (value_code attrs) (Some (length old))
         → ((v : Option Attrs) → IndexFor v old (found indices v)) → (v : Option Attrs) → IndexFor v new (found indices' v)
     found_begun indices' updates before = found_then attrs old new indices indices' (length old) (λ v. updates.0 (value_code v)) begun_here
-        (λ v o apart p. subst (λ (l : List Batch). IndexFor v l o) (sym effect) (begun_other old (record { attrs = attrs; prefixes = prefix ∷ [] }) v o apart p))
+        (λ v o apart p.
+        subst (λ (l : List Batch). IndexFor v l o) (sym effect) (begun_other old (record { attrs = attrs; prefixes = prefix ∷ [] }) v o apart p))
         before

@@ -55,4 +55,5 @@ front_rises (x ∷ xs) ys h = (front (λ q. prefix_cmp x q ≡ Less) xs ys h.0, 
 
 -- the first of them rise
 pub first_keys_rise : {A : Type 0} (t : table.FinMap prefix_cmp A) (n : ℕ) → IsStrictlySortedBy prefix_cmp (take n (table.keys t))
-first_keys_rise t n = front_rises (take n (table.keys t)) (drop n (table.keys t)) (subst (IsStrictlySortedBy prefix_cmp) (sym (take-append-drop n (table.keys t))) (keys_rise (table.entries t) (table.entries_sorted t)))
+first_keys_rise t n = front_rises (take n (table.keys t)) (drop n (table.keys t))
+    (subst (IsStrictlySortedBy prefix_cmp) (sym (take-append-drop n (table.keys t))) (keys_rise (table.entries t) (table.entries_sorted t)))

@@ -11,7 +11,8 @@ Apart attrs batch = batch.attrs ≢ attrs
 -- those before and behind one
 pub none_before : (attrs : Option Attrs) (before after : List Batch) (batch : Batch) → NoneTells attrs (before ++ batch ∷ after) → NoneTells attrs before
 none_before attrs [] after batch none = All-nil (Apart attrs)
-none_before attrs (x ∷ xs) after batch none = All-cons (Apart attrs) x xs (All-head (Apart attrs) x (xs ++ batch ∷ after) none) (none_before attrs xs after batch (All-tail (Apart attrs) x (xs ++ batch ∷ after) none))
+none_before attrs (x ∷ xs) after batch none = All-cons (Apart attrs) x xs (All-head (Apart attrs) x (xs ++ batch ∷ after) none)
+    (none_before attrs xs after batch (All-tail (Apart attrs) x (xs ++ batch ∷ after) none))
 
 pub none_behind : (attrs : Option Attrs) (before after : List Batch) (batch : Batch) → NoneTells attrs (before ++ batch ∷ after)
     → NoneTells attrs (batch ∷ after)
@@ -38,7 +39,8 @@ one_last attrs [] (y ∷ ys) after after' batch batch' e told none told' none' =
 one_last attrs (x ∷ xs) [] after after' batch batch' e told none told' none' =
     let tail : after' ≡ xs ++ batch ∷ after = cc in
     absurd (none_there attrs xs after batch (subst (NoneTells attrs) tail none') told)
-one_last attrs (x ∷ xs) (y ∷ ys) after after' batch batch' e told none told' none' = let tail : xs ++ batch ∷ after ≡ ys ++ batch' ∷ after' = cc in one_last attrs xs ys after after' batch batch' tail told none told' none'
+one_last attrs (x ∷ xs) (y ∷ ys) after after' batch batch' e told none told' none' =
+    let tail : xs ++ batch ∷ after ≡ ys ++ batch' ∷ after' = cc in one_last attrs xs ys after after' batch batch' tail told none told' none'
 
 -- the index of one, where another changed
 pub record StillLast (attrs : Option Attrs) (batches before : List Batch) (batch : Batch) : Type 0 where
@@ -59,7 +61,8 @@ still_further attrs x y batches before batch s = record {
 pub still_last : (attrs : Option Attrs) (xs ys after after' : List Batch) (old new batch : Batch) → old.attrs ≢ attrs → new.attrs ≢ attrs
     → xs ++ old ∷ after ≡ ys ++ batch ∷ after' → batch.attrs ≡ attrs → NoneTells attrs after'
     → StillLast attrs (xs ++ new ∷ after) ys batch
-still_last attrs [] [] after after' old new batch apart apart' e told none = let same : old ≡ batch = cc in absurd (apart (ap (λ (b : Batch). b.attrs) same ∙ told))
+still_last attrs [] [] after after' old new batch apart apart' e told none =
+    let same : old ≡ batch = cc in absurd (apart (ap (λ (b : Batch). b.attrs) same ∙ told))
 still_last attrs [] (y ∷ ys) after after' old new batch apart apart' e told none =
     let tail : after ≡ ys ++ batch ∷ after' = cc in
     record { front = new ∷ ys; after = after'; there = record { is = ap (λ (l : List Batch). new ∷ l) tail; told = told; last = none }; number = refl }
@@ -69,7 +72,11 @@ still_last attrs (x ∷ xs) [] after after' old new batch apart apart' e told no
     record {
       front = [];
       after = xs ++ new ∷ after;
-      there = record { is = ap (λ (b : Batch). b ∷ (xs ++ new ∷ after)) head; told = told; last = none_replaced attrs xs after old new apart' (subst (NoneTells attrs) (sym tail) none) };
+      there = record {
+        is = ap (λ (b : Batch). b ∷ (xs ++ new ∷ after)) head;
+        told = told;
+        last = none_replaced attrs xs after old new apart' (subst (NoneTells attrs) (sym tail) none);
+      };
       number = refl;
     }
 still_last attrs (x ∷ xs) (y ∷ ys) after after' old new batch apart apart' e told none =

@@ -67,7 +67,8 @@ below_not_above p q l = elim (is_lt (prefix_cmp q p)) as (λ b. is_lt (prefix_cm
 -- what lies above all that stand in a list doesn't stand there
 pub above_all : (p : PrefixValue) (xs : List PrefixValue) → All (λ x. prefix_cmp x p ≡ Less) xs → list_any (same_prefix p) xs ≡ false
 above_all p [] h = refl
-above_all p (x ∷ xs) h = neither_is (same_prefix p x) (list_any (same_prefix p) xs) (below_apart x p (All-head (λ x. prefix_cmp x p ≡ Less) x xs h)) (above_all p xs (All-tail (λ x. prefix_cmp x p ≡ Less) x xs h))
+above_all p (x ∷ xs) h = neither_is (same_prefix p x) (list_any (same_prefix p) xs)
+    (below_apart x p (All-head (λ x. prefix_cmp x p ≡ Less) x xs h)) (above_all p xs (All-tail (λ x. prefix_cmp x p ≡ Less) x xs h))
 
 further : (zs ys : List PrefixValue) (y x : PrefixValue) → AllByRecursion (λ z. prefix_cmp x z ≡ Less) (zs ++ y ∷ ys) → prefix_cmp x y ≡ Less
 further [] ys y x h = h.0
@@ -77,7 +78,8 @@ further (z ∷ zs) ys y x h = further zs ys y x h.1
 pub rising_apart : (xs ys : List PrefixValue) (y : PrefixValue) → IsStrictlySortedBy prefix_cmp (xs ++ y ∷ ys) → list_any (same_prefix y) xs ≡ false
 rising_apart [] ys y r = refl
 rising_apart (x ∷ xs) ys y r =
-    neither_is (same_prefix y x) (list_any (same_prefix y) xs) (below_apart x y (further xs ys y x (sorted_head prefix_cmp x (xs ++ y ∷ ys) r))) (rising_apart xs ys y (sorted_tail prefix_cmp x (xs ++ y ∷ ys) r))
+    neither_is (same_prefix y x) (list_any (same_prefix y) xs) (below_apart x y (further xs ys y x (sorted_head prefix_cmp x (xs ++ y ∷ ys) r)))
+    (rising_apart xs ys y (sorted_tail prefix_cmp x (xs ++ y ∷ ys) r))
 
 -- and what stands before it is below it
 pub before_below : (xs ys : List PrefixValue) (y : PrefixValue) → IsStrictlySortedBy prefix_cmp (xs ++ y ∷ ys) → (x : PrefixValue)
@@ -85,7 +87,8 @@ pub before_below : (xs ys : List PrefixValue) (y : PrefixValue) → IsStrictlySo
 before_below [] ys y r x e = absurd (false≢true e)
 before_below (z ∷ zs) ys y r x e =
     elim (same_prefix x z) as (λ b. same_prefix x z ≡ b → (b || list_any (same_prefix x) zs) ≡ true → prefix_cmp x y ≡ Less) [
-      | true ↦ λ same f. subst (λ (w : PrefixValue). prefix_cmp w y ≡ Less) (sym (is_same x z same)) (further zs ys y z (sorted_head prefix_cmp z (zs ++ y ∷ ys) r))
+      | true ↦ λ same f. subst (λ (w : PrefixValue). prefix_cmp w y ≡ Less)
+          (sym (is_same x z same)) (further zs ys y z (sorted_head prefix_cmp z (zs ++ y ∷ ys) r))
       | false ↦ λ same f. before_below zs ys y (sorted_tail prefix_cmp z (zs ++ y ∷ ys) r) x f
     ] refl e
 
@@ -97,7 +100,10 @@ pub rising_push : (p : PrefixValue) (xs : List PrefixValue) → IsStrictlySorted
     → IsStrictlySortedBy prefix_cmp (xs ++ p ∷ [])
 unfolding IsStrictlySortedBy
 rising_push p [] h a = (tt, tt)
-rising_push p (x ∷ xs) h a = (each_push (λ y. prefix_cmp x y ≡ Less) xs p h.0 (All-head (λ q. prefix_cmp q p ≡ Less) x xs a), rising_push p xs h.1 (All-tail (λ q. prefix_cmp q p ≡ Less) x xs a))
+rising_push p (x ∷ xs) h a = (
+  each_push (λ y. prefix_cmp x y ≡ Less) xs p h.0 (All-head (λ q. prefix_cmp q p ≡ Less) x xs a),
+  rising_push p xs h.1 (All-tail (λ q. prefix_cmp q p ≡ Less) x xs a),
+)
 
 pub one_rises : (p : PrefixValue) → IsStrictlySortedBy prefix_cmp (p ∷ [])
 unfolding IsStrictlySortedBy

@@ -16,7 +16,8 @@ use Rattle.update_plan.proofs.Plain.{plain_fits}
 told_same : (home_as : ℕ) (out : OutSide) (route : Route) → IsPlain route.attrs
     → told_attrs home_as out (without_med route) ≡ passed_on home_as out.local_address route.attrs
 told_same home_as out route plain =
-    ap (λ (l : List RawAttr). record route.attrs { path = prepend home_as route.attrs.path; next_hop = out.local_address; med = None; unknown = map made_partial l }) plain.known
+    ap (λ (l : List RawAttr).
+    record route.attrs { path = prepend home_as route.attrs.path; next_hop = out.local_address; med = None; unknown = map made_partial l }) plain.known
 
 where_it_fits : (home_as : ℕ) (out : OutSide) (prefix : PrefixValue) (route : Route) (told : Attrs) → told_attrs home_as out route ≡ told
     → is_too_long prefix told ≡ false → told_where_it_fits home_as out prefix (Some route) ≡ Some told
@@ -29,7 +30,8 @@ pub told_on : (home_as : ℕ) (out : OutSide) (prefix : PrefixValue) (best : Bes
 told_on home_as out prefix best free not_kept plain =
     ap (λ (b : Bool). if b then None else told_where_it_fits home_as out prefix (exported home_as out prefix best.route)) not_kept
     ∙ (ap (λ (rules : Option (List Rule)). told_where_it_fits home_as out prefix (policy (unwrap_or rules []) prefix home_as (without_med best.route))) free
-    ∙ where_it_fits home_as out prefix (without_med best.route) (passed_on home_as out.local_address best.route.attrs) (told_same home_as out best.route plain) (plain_fits home_as out.local_address prefix best.route.attrs plain))
+    ∙ where_it_fits home_as out prefix (without_med best.route) (passed_on home_as out.local_address best.route.attrs)
+    (told_same home_as out best.route plain) (plain_fits home_as out.local_address prefix best.route.attrs plain))
 
 -- by its parts
 pub passed_by : (told attrs : Attrs) (home_as local_address : ℕ) → told.next_hop ≡ local_address → told.med ≡ None → told.unknown ≡ []

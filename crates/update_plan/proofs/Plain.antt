@@ -1,5 +1,6 @@
 -- The UPDATE that tells one prefix of plain attributes as they pass on isn't too long.
-use Rattle.std.proofs.Common.{◌≡◌, ℕ, ◌+◌, ◌*◌, ◌≤◌, nat_lt, List, [], ◌∷◌, length, Option, Some, None, Bool, true, false, ◌&&◌, ◌||◌, not, refl, sym, subst, arith}
+use Rattle.std.proofs.Common.{◌≡◌, ℕ, ◌+◌, ◌*◌, ◌≤◌, nat_lt, List, [], ◌∷◌, length, Option, Some, None}
+use Rattle.std.proofs.Common.{Bool, true, false, ◌&&◌, ◌||◌, not, refl, sym, subst, arith}
 use Rattle.std.specs.Prelude.{sum_by, if◌then◌else◌}
 use Rattle.std.specs.List.{All}
 use Rattle.std.proofs.lemmas.Bool.Decides.{nat_tests}
@@ -12,7 +13,8 @@ use Rattle.bgp_types.specs.declared.path.PathPart.TheVariants.{Set, Sequence}
 use Rattle.bgp_types.specs.Lengths.{part_size, attrs_size, attr_size, attr_size_of}
 use Rattle.bgp_types.specs.PathOctets.{has_long_as, is_long_as, narrow_as}
 use Rattle.bgp_types.specs.Prefixes.{PrefixValue}
-use Rattle.bgp_types.specs.Spelling.{passed_flags, atomic_written, aggregator_octets, aggregator_written, as4_aggregator_written, as4_path_written, spell_attrs, spell}
+use Rattle.bgp_types.specs.Spelling.{passed_flags, atomic_written, aggregator_octets, aggregator_written}
+use Rattle.bgp_types.specs.Spelling.{as4_aggregator_written, as4_path_written, spell_attrs, spell}
 use Rattle.bgp_types.specs.WireAttrs.{written}
 use Rattle.bgp_types.proofs.Lengths.{part_size_is, as4_path_size, sized, spelled_attrs_size, update_size}
 use Rattle.route_policy.specs.Paths.{prepend, with_as}
@@ -62,7 +64,9 @@ grown : (wide : Bool) (a : ℕ) (path : List PathPart) → sum_by (part_size wid
 grown wide a [] = new_part wide a []
 grown wide a (Set ases ∷ parts) = new_part wide a (Set ases ∷ parts)
 grown wide a (Sequence ases ∷ parts) =
-    elim (nat_lt (length ases) 255) as (λ b. sum_by (part_size wide) (if b then with_as a (Sequence ases) ∷ parts else Sequence (a ∷ []) ∷ (Sequence ases ∷ parts)) ≤ sum_by (part_size wide) (Sequence ases ∷ parts) + 6) [
+    elim (nat_lt (length ases) 255)
+    as (λ b. sum_by (part_size wide) (if b then with_as a (Sequence ases) ∷ parts else Sequence (a ∷ []) ∷ (Sequence ases ∷ parts))
+    ≤ sum_by (part_size wide) (Sequence ases ∷ parts) + 6) [
       | true ↦ longer_part wide a ases parts
       | false ↦ new_part wide a (Sequence ases ∷ parts)
     ]
@@ -112,7 +116,8 @@ as4_aggregator_small wide (Some a) = by_test (not wide && is_long_as a.as_number
   value = aggregator_octets true a.as_number a.address
 
   by_test : (t : Bool) → attrs_size (if t then written 192 18 (aggregator_octets true a.as_number a.address) ∷ [] else []) ≤ 12
-  by_test true = one_small 192 18 (aggregator_octets true a.as_number a.address) (sized 192 18 (aggregator_octets true a.as_number a.address) refl refl) (omega arith)
+  by_test true = one_small 192 18 (aggregator_octets true a.as_number a.address)
+      (sized 192 18 (aggregator_octets true a.as_number a.address) refl refl) (omega arith)
   by_test false = omega arith
 
 as4_path_small : (wide : Bool) (path : List PathPart) → attrs_size (as4_path_written wide path) ≤ sum_by (part_size true) path + 4
@@ -153,4 +158,5 @@ pub plain_fits : (home_as local_address : ℕ) (prefix : PrefixValue) (attrs : A
 plain_fits home_as local_address prefix attrs plain =
     let narrow = message_small false home_as local_address prefix attrs plain in
     let wide = message_small true home_as local_address prefix attrs plain in
-    both_fit (length (spell (announcement prefix (passed_on home_as local_address attrs)) false)) (length (spell (announcement prefix (passed_on home_as local_address attrs)) true)) narrow wide
+    both_fit (length (spell (announcement prefix (passed_on home_as local_address attrs)) false))
+    (length (spell (announcement prefix (passed_on home_as local_address attrs)) true)) narrow wide

@@ -1,5 +1,6 @@
 -- What holds of the next UPDATE of a plan, and of those behind it.
-use Rattle.std.proofs.Common.{◌≡◌, ◌≢◌, ◌⊎◌, List, [], ◌∷◌, ◌++◌, append-nil, Bool, true, false, not, ◌&&◌, ◌||◌, Option, Some, None, refl, sym, ap, ◌∙◌, subst, inl, inr}
+use Rattle.std.proofs.Common.{◌≡◌, ◌≢◌, ◌⊎◌, List, [], ◌∷◌, ◌++◌, append-nil, Bool, true, false, not, ◌&&◌}
+use Rattle.std.proofs.Common.{◌||◌, Option, Some, None, refl, sym, ap, ◌∙◌, subst, inl, inr}
 use Rattle.std.specs.Prelude.{IfSome}
 use Rattle.std.specs.declared.cmp.Ordering.TheVariants.{Less}
 use Rattle.std.specs.FinMap as map
@@ -62,7 +63,8 @@ module _ (due dirty : Prefixes) (adj_rib_out : Routes) (to_tell : PrefixValue �
       let first = front_all (λ x. ToTell x × (to_tell x ≡ batch.attrs)) batch.prefixes next.later next.alike.each in
       let listed = all_listed (λ x. ToTell x × (to_tell x ≡ batch.attrs)) batch.prefixes batch.prefixes first (λ p e. e) in
       all_of_update (λ p. map.get (apply adj_rib_out (update_for batch.attrs batch.prefixes)) p ≢ map.get adj_rib_out p) batch.attrs batch.prefixes
-      (All-weaker (λ p. (ToTell p × (to_tell p ≡ batch.attrs)) × (list_any (same_prefix p) batch.prefixes ≡ true)) (λ p. map.get (apply adj_rib_out (update_for batch.attrs batch.prefixes)) p ≢ map.get adj_rib_out p) changed batch.prefixes listed)
+      (All-weaker (λ p. (ToTell p × (to_tell p ≡ batch.attrs)) × (list_any (same_prefix p) batch.prefixes ≡ true))
+      (λ p. map.get (apply adj_rib_out (update_for batch.attrs batch.prefixes)) p ≢ map.get adj_rib_out p) changed batch.prefixes listed)
 
 -- ---- it is one way
 
@@ -82,11 +84,13 @@ distinct (x ∷ xs) ys r = (others x xs ys r.0, distinct xs ys r.1) where
 
 writable : (attrs : Option Attrs) (prefixes : List PrefixValue) → prefixes ≢ [] → IsDistinct same_prefix prefixes → All IsPrefix prefixes
     → IfSome attrs IsWritableAttrs → IsWritableUpdate (update_for attrs prefixes)
-writable None prefixes some once sound w = record { withdrawn = sound; nlri = All-nil IsPrefix; once = subst (IsDistinct same_prefix) (sym (append-nil prefixes)) once; attrs = refl }
+writable None prefixes some once sound w =
+    record { withdrawn = sound; nlri = All-nil IsPrefix; once = subst (IsDistinct same_prefix) (sym (append-nil prefixes)) once; attrs = refl }
 writable (Some a) prefixes some once sound w = record { withdrawn = All-nil IsPrefix; nlri = sound; once = once; attrs = (some, w) }
 
 way : (attrs : Option Attrs) (prefixes : List PrefixValue) → prefixes ≢ []
-    → (((update_for attrs prefixes).withdrawn ≢ []) × ((update_for attrs prefixes).nlri ≡ [])) ⊎ (((update_for attrs prefixes).withdrawn ≡ []) × ((update_for attrs prefixes).nlri ≢ []))
+    → (((update_for attrs prefixes).withdrawn ≢ []) × ((update_for attrs prefixes).nlri ≡ []))
+    ⊎ (((update_for attrs prefixes).withdrawn ≡ []) × ((update_for attrs prefixes).nlri ≢ []))
 way None prefixes some = inl (some, refl)
 way (Some a) prefixes some = inr (refl, some)
 
@@ -118,7 +122,10 @@ module _ (due then_due dirty : Prefixes) (adj_rib_out : Routes) (to_tell : Prefi
   Then x = IsPrefixToTell then_due dirty (apply adj_rib_out (update_for batch.attrs batch.prefixes)) to_tell x
 
   forth : (x : PrefixValue) → Left x → Then x
-  forth x h = ((less_due x ∙ both_true (has due x) (list_any (same_prefix x) batch.prefixes) h.0.0.0 h.1, h.0.0.1), λ e. h.0.1 (sym (value_of_other batch.attrs batch.prefixes adj_rib_out x h.1) ∙ e))
+  forth x h = (
+    (less_due x ∙ both_true (has due x) (list_any (same_prefix x) batch.prefixes) h.0.0.0 h.1, h.0.0.1),
+    λ e. h.0.1 (sym (value_of_other batch.attrs batch.prefixes adj_rib_out x h.1) ∙ e),
+  )
 
   back : (x : PrefixValue) → Then x → Left x
   back x h =

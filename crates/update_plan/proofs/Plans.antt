@@ -1,5 +1,6 @@
 -- A plan stays one as one prefix after the other, in rising order, joins the last UPDATE that tells the same, or begins another.
-use Rattle.std.proofs.Common.{◌≡◌, ◌≢◌, ◌≤◌, ◌<◌, ◌⊎◌, ◌||◌, Bool, true, false, List, [], ◌∷◌, ◌++◌, append_assoc, append-nil, Option, refl, sym, ap, ◌∙◌, subst, inl, inr}
+use Rattle.std.proofs.Common.{◌≡◌, ◌≢◌, ◌≤◌, ◌<◌, ◌⊎◌, ◌||◌, Bool, true, false, List, [], ◌∷◌, ◌++◌}
+use Rattle.std.proofs.Common.{append_assoc, append-nil, Option, refl, sym, ap, ◌∙◌, subst, inl, inr}
 use Rattle.std.specs.Prelude.{IsTrue}
 use Rattle.std.specs.declared.cmp.Ordering.TheVariants.{Less}
 use Rattle.std.specs.Cmp.Lexicographic.{slice_cmp}
@@ -16,7 +17,8 @@ use Rattle.update_plan.specs.declared.batch.Batch.{Batch}
 use Rattle.update_plan.specs.Codes.{value_code}
 use Rattle.update_plan.specs.Gathering.{NoneTells, LastThatTells, AddsToUpdates, with_prefix}
 use Rattle.update_plan.specs.Plans.{IsLeastPrefix, IsNext, IsPlan, Without, octets}
-use Rattle.update_plan.proofs.Listed.{neither, neither_is, same_itself, is_same, not_below_itself, below_not_above, above_all, rising_apart, rising_push, one_rises, member_has, back_has}
+use Rattle.update_plan.proofs.Listed.{neither, neither_is, same_itself, is_same, not_below_itself, below_not_above}
+use Rattle.update_plan.proofs.Listed.{above_all, rising_apart, rising_push, one_rises, member_has, back_has}
 use Rattle.update_plan.proofs.Indices.{found_here, found_other}
 
 -- ---- kinds of prefixes
@@ -34,10 +36,11 @@ Above Is p = (x : PrefixValue) → Is x → prefix_cmp x p ≡ Less
 
 -- values are the same, or they aren't
 pub same_or_apart : (v w : Option Attrs) → (v ≡ w) ⊎ (v ≢ w)
-same_or_apart v w = elim (is_eq (slice_cmp nat_cmp (value_code v) (value_code w))) as (λ b. is_eq (slice_cmp nat_cmp (value_code v) (value_code w)) ≡ b → (v ≡ w) ⊎ (v ≢ w)) [
-  | true ↦ λ e. inl (found_here v w e)
-  | false ↦ λ e. inr (found_other v w e)
-] refl
+same_or_apart v w = elim (is_eq (slice_cmp nat_cmp (value_code v) (value_code w)))
+    as (λ b. is_eq (slice_cmp nat_cmp (value_code v) (value_code w)) ≡ b → (v ≡ w) ⊎ (v ≢ w)) [
+      | true ↦ λ e. inl (found_here v w e)
+      | false ↦ λ e. inr (found_other v w e)
+    ] refl
 
 module _ (to_tell : PrefixValue → Option Attrs) (wide : Bool) where
   abbrev Next : Kind → Batch → Type 0
@@ -66,8 +69,10 @@ module _ (to_tell : PrefixValue → Option Attrs) (wide : Bool) where
 
   pub plan_of_same : (Is Js : Kind) → ((x : PrefixValue) → Is x → Js x) → ((x : PrefixValue) → Js x → Is x) → (bs : List Batch) → Plan Is bs → Plan Js bs
   plan_of_same Is Js to from [] none = λ x j. none x (from x j)
-  plan_of_same Is Js to from (b ∷ bs) plan =
-      (next_of_same Is Js to from b plan.0, plan_of_same (Without Is b.prefixes) (Without Js b.prefixes) (λ x h. (to x h.0, h.1)) (λ x h. (from x h.0, h.1)) bs plan.1)
+  plan_of_same Is Js to from (b ∷ bs) plan = (
+    next_of_same Is Js to from b plan.0,
+    plan_of_same (Without Is b.prefixes) (Without Js b.prefixes) (λ x h. (to x h.0, h.1)) (λ x h. (from x h.0, h.1)) bs plan.1,
+  )
 
   -- ---- what is told, and what isn't
 
@@ -75,7 +80,8 @@ module _ (to_tell : PrefixValue → Option Attrs) (wide : Bool) where
   none_planned : (v : Option Attrs) (Is : Kind) (bs : List Batch) → ((x : PrefixValue) → Is x → to_tell x ≡ v → ⊥) → Plan Is bs → NoneTells v bs
   none_planned v Is [] none plan = All-nil (λ b. b.attrs ≢ v)
   none_planned v Is (b ∷ bs) none plan =
-      All-cons (λ c. c.attrs ≢ v) b bs (λ e. none plan.0.first plan.0.least.is (sym plan.0.told_first ∙ e)) (none_planned v (Without Is b.prefixes) bs (λ x h. none x h.0) plan.1)
+      All-cons (λ c. c.attrs ≢ v) b bs (λ e. none plan.0.first plan.0.least.is (sym plan.0.told_first ∙ e))
+      (none_planned v (Without Is b.prefixes) bs (λ x h. none x h.0) plan.1)
 
   -- each prefix stands in an UPDATE that tells what is to be told of it
   some_tells : (Is : Kind) (bs : List Batch) (x : PrefixValue) → Plan Is bs → Is x → NoneTells (to_tell x) bs → ⊥
@@ -87,7 +93,8 @@ module _ (to_tell : PrefixValue → Option Attrs) (wide : Bool) where
       ] refl
     where
       here : list_any (same_prefix x) b.prefixes ≡ true → Is x × (to_tell x ≡ b.attrs)
-      here e = member_has (λ y. Is y × (to_tell y ≡ b.attrs)) x (b.prefixes ++ plan.0.later) plan.0.alike.each (list_any-append (same_prefix x) b.prefixes plan.0.later ∙ ap (λ t. t || list_any (same_prefix x) plan.0.later) e)
+      here e = member_has (λ y. Is y × (to_tell y ≡ b.attrs)) x (b.prefixes ++ plan.0.later) plan.0.alike.each
+          (list_any-append (same_prefix x) b.prefixes plan.0.later ∙ ap (λ t. t || list_any (same_prefix x) plan.0.later) e)
 
   -- an UPDATE of a plan tells it of something
   record Told (Is : Kind) (v : Option Attrs) : Type 0 where
@@ -104,7 +111,8 @@ module _ (to_tell : PrefixValue → Option Attrs) (wide : Bool) where
   -- what an UPDATE leaves of what is to be told the same comes later
   nothing_left : (Is : Kind) (b : Batch) (n : Next Is b) → n.later ≡ [] → (x : PrefixValue) → Without Is b.prefixes x → to_tell x ≡ b.attrs → ⊥
   nothing_left Is b n none x h told =
-      let listed : IsTrue (list_any (same_prefix x) b.prefixes) = subst (λ (l : List PrefixValue). IsTrue (list_any (same_prefix x) l)) (ap (λ (l : List PrefixValue). b.prefixes ++ l) none ∙ append-nil b.prefixes) (n.alike.all x (h.0, told)) in
+      let listed : IsTrue (list_any (same_prefix x) b.prefixes) = subst (λ (l : List PrefixValue). IsTrue (list_any (same_prefix x) l))
+      (ap (λ (l : List PrefixValue). b.prefixes ++ l) none ∙ append-nil b.prefixes) (n.alike.all x (h.0, told)) in
       false≢true (sym h.1 ∙ listed)
 
   -- ---- one prefix more, above all others
@@ -131,7 +139,8 @@ module _ (to_tell : PrefixValue → Option Attrs) (wide : Bool) where
       later = n.later;
       alike = record {
         rising = n.alike.rising;
-        each = All-weaker (λ x. Is x × (to_tell x ≡ b.attrs)) (λ x. Plus Is p x × (to_tell x ≡ b.attrs)) (λ x h. (inl h.0, h.1)) (b.prefixes ++ n.later) n.alike.each;
+        each = All-weaker (λ x. Is x × (to_tell x ≡ b.attrs)) (λ x. Plus Is p x × (to_tell x ≡ b.attrs))
+            (λ x h. (inl h.0, h.1)) (b.prefixes ++ n.later) n.alike.each;
         all = λ x h. elim h.0 [
           | inl is ↦ n.alike.all x (is, h.1)
           | inr e ↦ absurd (other (ap to_tell (sym e) ∙ h.1))
@@ -143,7 +152,8 @@ module _ (to_tell : PrefixValue → Option Attrs) (wide : Bool) where
     }
 
     listed_too : (xs : List PrefixValue) (x : PrefixValue) → IsTrue (list_any (same_prefix x) xs) → IsTrue (list_any (same_prefix x) (xs ++ p ∷ []))
-    listed_too xs x h = subst IsTrue (sym (list_any-append (same_prefix x) xs (p ∷ []))) (either (list_any (same_prefix x) xs) (list_any (same_prefix x) (p ∷ [])) h)
+    listed_too xs x h =
+        subst IsTrue (sym (list_any-append (same_prefix x) xs (p ∷ []))) (either (list_any (same_prefix x) xs) (list_any (same_prefix x) (p ∷ [])) h)
       where
         either : (a b : Bool) → IsTrue a → IsTrue (a || b)
         either true b h = refl
@@ -161,7 +171,8 @@ module _ (to_tell : PrefixValue → Option Attrs) (wide : Bool) where
         → Lists (λ x. Plus Is p x × (to_tell x ≡ v)) (xs ++ p ∷ [])
     alike_then Is above v xs told l = record {
       rising = rising_push p xs l.rising (below_all Is above (λ x. to_tell x ≡ v) xs l.each);
-      each = All-push (λ x. Plus Is p x × (to_tell x ≡ v)) xs p (All-weaker (λ x. Is x × (to_tell x ≡ v)) (λ x. Plus Is p x × (to_tell x ≡ v)) (λ x h. (inl h.0, h.1)) xs l.each) (inr refl, told);
+      each = All-push (λ x. Plus Is p x × (to_tell x ≡ v)) xs p
+          (All-weaker (λ x. Is x × (to_tell x ≡ v)) (λ x. Plus Is p x × (to_tell x ≡ v)) (λ x h. (inl h.0, h.1)) xs l.each) (inr refl, told);
       all = λ x h. elim h.0 [
         | inl is ↦ listed_too xs x (l.all x (is, h.1))
         | inr e ↦ subst (λ (y : PrefixValue). IsTrue (list_any (same_prefix y) (xs ++ p ∷ []))) (sym e) (listed_itself xs)
@@ -171,8 +182,10 @@ module _ (to_tell : PrefixValue → Option Attrs) (wide : Bool) where
     whole_then : (b : Batch) (later : List PrefixValue) → (later ≡ [] → 4096 < octets wide b.attrs (b.prefixes ++ p ∷ []))
         → ((next : PrefixValue) (rest : List PrefixValue) → later ≡ next ∷ rest → 4096 < octets wide b.attrs (b.prefixes ++ next ∷ []))
         → (next : PrefixValue) (rest : List PrefixValue) → later ++ p ∷ [] ≡ next ∷ rest → 4096 < octets wide b.attrs (b.prefixes ++ next ∷ [])
-    whole_then b [] full whole next rest e = let head : p ≡ next = cc in subst (λ (x : PrefixValue). 4096 < octets wide b.attrs (b.prefixes ++ x ∷ [])) head (full refl)
-    whole_then b (y ∷ ys) full whole next rest e = let head : y ≡ next = cc in subst (λ (x : PrefixValue). 4096 < octets wide b.attrs (b.prefixes ++ x ∷ [])) head (whole y ys refl)
+    whole_then b [] full whole next rest e =
+        let head : p ≡ next = cc in subst (λ (x : PrefixValue). 4096 < octets wide b.attrs (b.prefixes ++ x ∷ [])) head (full refl)
+    whole_then b (y ∷ ys) full whole next rest e =
+        let head : y ≡ next = cc in subst (λ (x : PrefixValue). 4096 < octets wide b.attrs (b.prefixes ++ x ∷ [])) head (whole y ys refl)
 
     -- an UPDATE that tells the same, and is full or isn't the last of these
     next_alike : (Is : Kind) → Above Is p → (b : Batch) → to_tell p ≡ b.attrs → (n : Next Is b)
@@ -182,7 +195,8 @@ module _ (to_tell : PrefixValue → Option Attrs) (wide : Bool) where
       least = least_then Is above n.first n.least;
       told_first = n.told_first;
       later = n.later ++ p ∷ [];
-      alike = subst (λ (l : List PrefixValue). Lists (λ x. Plus Is p x × (to_tell x ≡ b.attrs)) l) (append_assoc b.prefixes n.later (p ∷ [])) (alike_then Is above b.attrs (b.prefixes ++ n.later) told n.alike);
+      alike = subst (λ (l : List PrefixValue). Lists (λ x. Plus Is p x × (to_tell x ≡ b.attrs)) l)
+          (append_assoc b.prefixes n.later (p ∷ [])) (alike_then Is above b.attrs (b.prefixes ++ n.later) told n.alike);
       some = n.some;
       fits = n.fits;
       whole = whole_then b n.later full n.whole;
@@ -199,7 +213,8 @@ module _ (to_tell : PrefixValue → Option Attrs) (wide : Bool) where
     not_listed : (Is : Kind) → Above Is p → (b : Batch) → Next Is b → list_any (same_prefix p) b.prefixes ≡ false
     not_listed Is above b n =
         (neither (list_any (same_prefix p) b.prefixes) (list_any (same_prefix p) n.later)
-        (sym (list_any-append (same_prefix p) b.prefixes n.later) ∙ above_all p (b.prefixes ++ n.later) (below_all Is above (λ x. to_tell x ≡ b.attrs) (b.prefixes ++ n.later) n.alike.each))).0
+        (sym (list_any-append (same_prefix p) b.prefixes n.later)
+        ∙ above_all p (b.prefixes ++ n.later) (below_all Is above (λ x. to_tell x ≡ b.attrs) (b.prefixes ++ n.later) n.alike.each))).0
 
     plus_without : (Is : Kind) → Above Is p → (b : Batch) → Next Is b → (bs : List Batch) → Plan (Plus (Without Is b.prefixes) p) bs
         → Plan (Without (Plus Is p) b.prefixes) bs
@@ -222,7 +237,8 @@ module _ (to_tell : PrefixValue → Option Attrs) (wide : Bool) where
     none_later Is b n bs plan none (y ∷ ys) e =
         let alike = subst (λ (l : List PrefixValue). Lists (λ x. Is x × (to_tell x ≡ b.attrs)) (b.prefixes ++ l)) e n.alike in
         let is = All-head (λ x. Is x × (to_tell x ≡ b.attrs)) y ys (back_has (λ x. Is x × (to_tell x ≡ b.attrs)) b.prefixes (y ∷ ys) alike.each) in
-        absurd (some_tells (Without Is b.prefixes) bs y plan (is.0, rising_apart b.prefixes ys y alike.rising) (subst (λ (v : Option Attrs). NoneTells v bs) (sym is.1) none))
+        absurd (some_tells (Without Is b.prefixes) bs y plan (is.0, rising_apart b.prefixes ys y alike.rising)
+        (subst (λ (v : Option Attrs). NoneTells v bs) (sym is.1) none))
 
     push_some : (xs : List PrefixValue) → xs ++ p ∷ [] ≢ []
     push_some [] e = absurd cc
@@ -236,7 +252,8 @@ module _ (to_tell : PrefixValue → Option Attrs) (wide : Bool) where
         told_first = n.told_first;
         later = [];
         alike = subst (λ (l : List PrefixValue). Lists (λ x. Plus Is p x × (to_tell x ≡ b.attrs)) l) (sym (append-nil (b.prefixes ++ p ∷ [])))
-            (alike_then Is above b.attrs b.prefixes (sym told) (subst (λ (l : List PrefixValue). Lists (λ x. Is x × (to_tell x ≡ b.attrs)) l) (ap (λ (l : List PrefixValue). b.prefixes ++ l) none ∙ append-nil b.prefixes) n.alike));
+            (alike_then Is above b.attrs b.prefixes (sym told) (subst (λ (l : List PrefixValue). Lists (λ x. Is x × (to_tell x ≡ b.attrs)) l)
+            (ap (λ (l : List PrefixValue). b.prefixes ++ l) none ∙ append-nil b.prefixes) n.alike));
         some = push_some b.prefixes;
         fits = fits;
         whole = λ next rest e. absurd cc;
@@ -244,9 +261,17 @@ module _ (to_tell : PrefixValue → Option Attrs) (wide : Bool) where
 
       rest_joined : (bs : List Batch) → Plan (Without Is b.prefixes) bs → Plan (Without (Plus Is p) (b.prefixes ++ p ∷ [])) bs
       rest_joined bs plan = plan_of_same (Without Is b.prefixes) (Without (Plus Is p) (b.prefixes ++ p ∷ []))
-          (λ x w. (inl w.0, list_any-append (same_prefix x) b.prefixes (p ∷ []) ∙ neither_is (list_any (same_prefix x) b.prefixes) (same_prefix x p || false) w.1 (neither_is (same_prefix x p) false (apart x (above x w.0)) refl)))
+          (λ x w. (
+            inl w.0,
+            list_any-append (same_prefix x) b.prefixes (p ∷ []) ∙ neither_is (list_any (same_prefix x) b.prefixes)
+                (same_prefix x p || false) w.1 (neither_is (same_prefix x p) false (apart x (above x w.0)) refl),
+          ))
           (λ x w. elim w.0 [
-            | inl is ↦ (is, (neither (list_any (same_prefix x) b.prefixes) (list_any (same_prefix x) (p ∷ [])) (sym (list_any-append (same_prefix x) b.prefixes (p ∷ [])) ∙ w.1)).0)
+            | inl is ↦ (
+              is,
+              (neither (list_any (same_prefix x) b.prefixes) (list_any (same_prefix x) (p ∷ []))
+                  (sym (list_any-append (same_prefix x) b.prefixes (p ∷ [])) ∙ w.1)).0,
+            )
             | inr e ↦ absurd (false≢true (sym w.1 ∙ (ap (λ (y : PrefixValue). list_any (same_prefix y) (b.prefixes ++ p ∷ [])) e ∙ listed_itself b.prefixes)))
           ])
           bs plan
@@ -265,7 +290,8 @@ module _ (to_tell : PrefixValue → Option Attrs) (wide : Bool) where
     plan_joined (c ∷ before) Is above b after told fits none plan =
         let some = tells_some (Without Is c.prefixes) before after b plan.1 in (
           next_then Is above c plan.0 (λ same empty. absurd (nothing_left Is c plan.0 empty some.prefix some.is (some.told ∙ (told ∙ same)))),
-          plus_without Is above c plan.0 (before ++ with_prefix b p ∷ after) (plan_joined before (Without Is c.prefixes) (λ x w. above x w.0) b after told fits none plan.1),
+          plus_without Is above c plan.0 (before ++ with_prefix b p ∷ after)
+              (plan_joined before (Without Is c.prefixes) (λ x w. above x w.0) b after told fits none plan.1),
         )
 
     -- ---- it begins another
@@ -300,7 +326,8 @@ module _ (to_tell : PrefixValue → Option Attrs) (wide : Bool) where
       }
 
       pub plan_begun : (bs : List Batch) (Is : Kind) → Above Is p → Plan Is bs
-          → ((before : List Batch) (b : Batch) (after : List Batch) → LastThatTells (to_tell p) bs before b after → 4096 < octets wide (to_tell p) (b.prefixes ++ p ∷ []))
+          → ((before : List Batch) (b : Batch) (after : List Batch)
+          → LastThatTells (to_tell p) bs before b after → 4096 < octets wide (to_tell p) (b.prefixes ++ p ∷ []))
           → Plan (Plus Is p) (bs ++ Begun ∷ [])
       plan_begun [] Is above none full = (
         next_begun Is none,
@@ -328,6 +355,8 @@ module _ (to_tell : PrefixValue → Option Attrs) (wide : Bool) where
     plan_adds Is old new above fits (inl joins) plan =
         let there = joins.there in
         let none : NoneTells joins.batch.attrs joins.after = subst (λ (v : Option Attrs). NoneTells v joins.after) (sym there.told) there.last in
-        let room : octets wide joins.batch.attrs (joins.batch.prefixes ++ p ∷ []) ≤ 4096 = subst (λ (v : Option Attrs). octets wide v (joins.batch.prefixes ++ p ∷ []) ≤ 4096) (sym there.told) joins.fits in
-        subst (Plan (Plus Is p)) (sym joins.effect) (plan_joined joins.before Is above joins.batch joins.after there.told room none (subst (Plan Is) there.is plan))
+        let room : octets wide joins.batch.attrs (joins.batch.prefixes ++ p ∷ []) ≤ 4096 =
+        subst (λ (v : Option Attrs). octets wide v (joins.batch.prefixes ++ p ∷ []) ≤ 4096) (sym there.told) joins.fits in
+        subst (Plan (Plus Is p)) (sym joins.effect)
+        (plan_joined joins.before Is above joins.batch joins.after there.told room none (subst (Plan Is) there.is plan))
     plan_adds Is old new above fits (inr begins) plan = subst (Plan (Plus Is p)) (sym begins.effect) (plan_begun fits old Is above plan begins.full)

@@ -10,7 +10,8 @@ pub prepended : (a : ℕ) (path : List PathPart) → prepend a path ≡ Sequence
 prepended a [] = refl
 prepended a (Set ases ∷ parts) = refl
 prepended a (Sequence ases ∷ parts) =
-    elim (nat_lt (length ases) 255) as (λ b. (if b then with_as a (Sequence ases) ∷ parts else Sequence (a ∷ []) ∷ (Sequence ases ∷ parts)) ≡ Sequence (a ∷ (if b then ases else [])) ∷ (if b then parts else Sequence ases ∷ parts)) [
+    elim (nat_lt (length ases) 255) as (λ b. (if b then with_as a (Sequence ases) ∷ parts else Sequence (a ∷ []) ∷ (Sequence ases ∷ parts))
+    ≡ Sequence (a ∷ (if b then ases else [])) ∷ (if b then parts else Sequence ases ∷ parts)) [
       | true ↦ refl
       | false ↦ refl
     ]

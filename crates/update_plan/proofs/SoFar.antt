@@ -1,5 +1,6 @@
 -- The plan of those that the walk over what is due has passed.
-use Rattle.std.proofs.Common.{◌≡◌, ◌≢◌, ℕ, ◌+◌, ◌<◌, ◌≤◌, ◌⊎◌, Bool, true, false, ◌||◌, List, [], ◌∷◌, ◌++◌, length, take, slice_index_or, Option, refl, sym, ap, ◌∙◌, subst, inl, inr}
+use Rattle.std.proofs.Common.{◌≡◌, ◌≢◌, ℕ, ◌+◌, ◌<◌, ◌≤◌, ◌⊎◌, Bool, true, false, ◌||◌, List, [], ◌∷◌, ◌++◌}
+use Rattle.std.proofs.Common.{length, take, slice_index_or, Option, refl, sym, ap, ◌∙◌, subst, inl, inr}
 use Rattle.std.specs.FinMap as map
 use Rattle.std.specs.List.{list_any}
 use Rattle.std.specs.List.Sorted.{IsStrictlySortedBy}
@@ -19,7 +20,8 @@ use Rattle.update_plan.proofs.Listed.{same_itself, is_same, before_below}
 use Rattle.update_plan.proofs.Plans.{Plus, plan_of_same, plan_adds}
 
 -- those that stand in a list, aren't to be decided again, and were told otherwise
-pub record Among (dirty : Prefixes) (adj_rib_out : map.FinMap prefix_cmp Attrs) (to_tell : PrefixValue → Option Attrs) (ps : List PrefixValue) (x : PrefixValue) : Type 0 where
+pub record Among (dirty : Prefixes) (adj_rib_out : map.FinMap prefix_cmp Attrs)
+    (to_tell : PrefixValue → Option Attrs) (ps : List PrefixValue) (x : PrefixValue) : Type 0 where
   pub clean : has dirty x ≡ false
   pub other : map.get adj_rib_out x ≢ to_tell x
   pub listed : list_any (same_prefix x) ps ≡ true
@@ -56,7 +58,8 @@ module _ (dirty : Prefixes) (adj_rib_out : map.FinMap prefix_cmp Attrs) (to_tell
     ]
 
     among_too : (x : PrefixValue) → Is ps x → Is (ps ++ p ∷ []) x
-    among_too x is = record { clean = is.clean; other = is.other; listed = listed_more x ∙ too (list_any (same_prefix x) ps) (same_prefix x p || false) is.listed }
+    among_too x is =
+        record { clean = is.clean; other = is.other; listed = listed_more x ∙ too (list_any (same_prefix x) ps) (same_prefix x p || false) is.listed }
 
     -- one that isn't to be told is passed over
     passes : (batches : List Batch) → (Is (ps ++ p ∷ []) p → ⊥) → PlanAmong ps batches → PlanAmong (ps ++ p ∷ []) batches
@@ -74,7 +77,8 @@ module _ (dirty : Prefixes) (adj_rib_out : map.FinMap prefix_cmp Attrs) (to_tell
         → Gathers wide (map.get adj_rib_out p) to_tell p old new → PlanAmong ps old → PlanAmong (ps ++ p ∷ []) new
     gathers old new rises clean fits (inl h) plan = subst (PlanAmong (ps ++ p ∷ [])) (sym h.1) (passes old (λ is. is.other h.0) plan)
     gathers old new rises clean fits (inr h) plan =
-        let here : Is (ps ++ p ∷ []) p = record { clean = clean; other = h.0; listed = listed_more p ∙ last (list_any (same_prefix p) ps) (same_prefix p p) (same_itself p) } in
+        let here : Is (ps ++ p ∷ []) p =
+        record { clean = clean; other = h.0; listed = listed_more p ∙ last (list_any (same_prefix p) ps) (same_prefix p p) (same_itself p) } in
         plan_of_same to_tell wide (Plus (Is ps) p) (Is (ps ++ p ∷ []))
         (λ x is. elim is [
           | inl before ↦ among_too x before
@@ -95,8 +99,10 @@ module _ (dirty : Prefixes) (adj_rib_out : map.FinMap prefix_cmp Attrs) (to_tell
     pub plan_then : (due : Prefixes) → ks ≡ map.keys due → (old new : List Batch) → has dirty p ≡ false → octets wide (to_tell p) (p ∷ []) ≤ 4096
         → Gathers wide (map.get adj_rib_out p) to_tell p old new → PlanAmong (take i ks) old → PlanAmong (take (i + 1) ks) new
     plan_then due keys old new clean fits gathered plan =
-        let rises : IsStrictlySortedBy prefix_cmp (take (i + 1) ks) = subst (λ (l : List PrefixValue). IsStrictlySortedBy prefix_cmp (take (i + 1) l)) (sym keys) (first_keys_rise due (i + 1)) in
-        subst (λ (ps : List PrefixValue). PlanAmong ps new) (sym more) (gathers (take i ks) p old new (subst (IsStrictlySortedBy prefix_cmp) more rises) clean fits gathered plan)
+        let rises : IsStrictlySortedBy prefix_cmp (take (i + 1) ks) =
+        subst (λ (l : List PrefixValue). IsStrictlySortedBy prefix_cmp (take (i + 1) l)) (sym keys) (first_keys_rise due (i + 1)) in
+        subst (λ (ps : List PrefixValue). PlanAmong ps new) (sym more)
+        (gathers (take i ks) p old new (subst (IsStrictlySortedBy prefix_cmp) more rises) clean fits gathered plan)
 
   pub plan_ends : (due : Prefixes) (ks : List PrefixValue) → ks ≡ map.keys due → (i : ℕ) → length ks ≤ i → (batches : List Batch)
       → PlanAmong (take i ks) batches → IsPlan (IsPrefixToTell due dirty adj_rib_out to_tell) to_tell wide batches

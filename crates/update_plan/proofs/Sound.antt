@@ -26,9 +26,11 @@ sound_adds wide attrs prefix old new is (inl j) sound =
     let rest = back j.before (j.batch ∷ j.after) all in
     subst AreSound (sym j.effect)
     (All-append Sound j.before (with_prefix j.batch prefix ∷ j.after) (front j.before (j.batch ∷ j.after) all)
-    (All-cons Sound (with_prefix j.batch prefix) j.after (All-push IsPrefix j.batch.prefixes prefix (All-head Sound j.batch j.after rest) is) (All-tail Sound j.batch j.after rest)))
+    (All-cons Sound (with_prefix j.batch prefix) j.after
+    (All-push IsPrefix j.batch.prefixes prefix (All-head Sound j.batch j.after rest) is) (All-tail Sound j.batch j.after rest)))
 sound_adds wide attrs prefix old new is (inr b) sound =
-    subst AreSound (sym b.effect) (All-push Sound old (record { attrs = attrs; prefixes = prefix ∷ [] }) sound (All-cons IsPrefix prefix [] is (All-nil IsPrefix)))
+    subst AreSound (sym b.effect)
+    (All-push Sound old (record { attrs = attrs; prefixes = prefix ∷ [] }) sound (All-cons IsPrefix prefix [] is (All-nil IsPrefix)))
 
 pub sound_ok : {A E : Type 0} (r : Result A E) (wide : Bool) (attrs : Option Attrs) (prefix : PrefixValue) (old new : List Batch) → IsPrefix prefix
     → OnOk r (AddsToUpdates wide attrs prefix old new) → OnOk r (AreSound old → AreSound new)

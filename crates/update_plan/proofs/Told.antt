@@ -34,7 +34,8 @@ get_announced : (a : Attrs) (xs : List PrefixValue) (routes : Routes) (p : Prefi
 get_announced a [] routes p = refl
 get_announced a (x ∷ xs) routes p =
     get_announced a xs (map.insert routes x a) p
-    ∙ (ap (λ (o : Option Attrs). cond (list_any (same_prefix p) xs) (Some a) o) (map.get-insert prefix_total routes x a p ∙ ap (λ (t : Bool). cond t (Some a) (map.get routes p)) (one_test p x))
+    ∙ (ap (λ (o : Option Attrs). cond (list_any (same_prefix p) xs) (Some a) o)
+    (map.get-insert prefix_total routes x a p ∙ ap (λ (t : Bool). cond t (Some a) (map.get routes p)) (one_test p x))
     ∙ either (same_prefix p x) (list_any (same_prefix p) xs) (Some a) (map.get routes p))
 
 get_removed : (xs : List PrefixValue) (routes : Routes) (p : PrefixValue)
@@ -42,7 +43,8 @@ get_removed : (xs : List PrefixValue) (routes : Routes) (p : PrefixValue)
 get_removed [] routes p = refl
 get_removed (x ∷ xs) routes p =
     get_removed xs (map.remove routes x) p
-    ∙ (ap (λ (o : Option Attrs). cond (list_any (same_prefix p) xs) None o) (map.get-remove prefix_total routes x p ∙ ap (λ (t : Bool). cond t None (map.get routes p)) (one_test p x))
+    ∙ (ap (λ (o : Option Attrs). cond (list_any (same_prefix p) xs) None o)
+    (map.get-remove prefix_total routes x p ∙ ap (λ (t : Bool). cond t None (map.get routes p)) (one_test p x))
     ∙ either (same_prefix p x) (list_any (same_prefix p) xs) None (map.get routes p))
 
 -- those of the UPDATE have its attributes, or none, and all others what they had

@@ -44,7 +44,8 @@ AddsToUpdates wide attrs prefix old new = Joins wide attrs prefix old new ⊎ Be
 
 -- If what was told of a prefix is what is to be told, nothing changes. Else the prefix is added.
 abbrev pub Gathers : Bool → Option Attrs → (PrefixValue → Option Attrs) → PrefixValue → List Batch → List Batch → Type 0
-Gathers wide told to_tell prefix old new = ((told ≡ to_tell prefix) × (new ≡ old)) ⊎ ((told ≢ to_tell prefix) × AddsToUpdates wide (to_tell prefix) prefix old new)
+Gathers wide told to_tell prefix old new =
+    ((told ≡ to_tell prefix) × (new ≡ old)) ⊎ ((told ≢ to_tell prefix) × AddsToUpdates wide (to_tell prefix) prefix old new)
 
 -- ---- how the UPDATEs that may be joined are found
 

@@ -72,8 +72,10 @@ impl Gathered {
     fn room_for(&self, code: &Code, len: usize) -> Option<usize>
         requires counted { (number : _) → get (slice_cmp nat_cmp) self.now.indices code.now ≡ Some number → number < length self.now.octets.items }
         requires len { len ≤ 4096 }
-        ensures some { (number : _) → result ≡ Some number → (get (slice_cmp nat_cmp) self.now.indices code.now ≡ Some number) × (slice_index self.now.octets.items number + len ≤ 4096) }
-        ensures none { (number : _) → result ≡ None → get (slice_cmp nat_cmp) self.now.indices code.now ≡ Some number → 4096 < slice_index self.now.octets.items number + len }
+        ensures some { (number : _) → result ≡ Some number
+            → (get (slice_cmp nat_cmp) self.now.indices code.now ≡ Some number) × (slice_index self.now.octets.items number + len ≤ 4096) }
+        ensures none { (number : _) → result ≡ None → get (slice_cmp nat_cmp) self.now.indices code.now ≡ Some number
+            → 4096 < slice_index self.now.octets.items number + len }
     {
         let number = *self.indices.get(code)?;
         if self.octets[number] > LIMIT - len {
@@ -148,7 +150,8 @@ impl Gathered {
         requires keeps { GatheredInvariant self.old }
         ensures keeps { OnOk result (GatheredInvariant self.new) }
         ensures wide { OnOk result (self.new.wide ≡ self.old.wide) }
-        ensures adds { OnOk result (AddsToUpdates self.old.wide (rib_to_tell (rib_of rib.now) (out_side_of_view view.now) prefix) prefix self.old.batches.items self.new.batches.items) }
+        ensures adds { OnOk result (AddsToUpdates self.old.wide
+            (rib_to_tell (rib_of rib.now) (out_side_of_view view.now) prefix) prefix self.old.batches.items self.new.batches.items) }
         ensures sound { IsPrefix prefix }
     {
         let code = passed_code(self.alloc, attrs, rib.home_as(), view.local_address)?;

@@ -22,7 +22,8 @@ pub fn next_update_changes()
 /// can be written.
 pub fn next_update_is_one_way()
     ensures { (due dirty : Prefixes) (adj_rib_out : Routes) (to_tell : PrefixValue → Option Attrs) (wide : Bool) (batch : Batch)
-        → IsNext (IsPrefixToTell due dirty adj_rib_out to_tell) to_tell wide batch → All IsPrefix batch.prefixes → IsWritableFor batch → IsOneWay (update_for batch.attrs batch.prefixes) wide }
+        → IsNext (IsPrefixToTell due dirty adj_rib_out to_tell) to_tell wide batch → All IsPrefix batch.prefixes
+        → IsWritableFor batch → IsOneWay (update_for batch.attrs batch.prefixes) wide }
 {}
 
 /// Once the next UPDATE is told, and its prefixes are no longer due, the rest of the plan is the plan

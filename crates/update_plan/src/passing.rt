@@ -95,7 +95,8 @@ pub(crate) fn is_told_on(
     home_as: u32,
     local_address: u32,
 ) -> bool
-    ensures { MatchBool result (option_copied told.entry ≡ Some (passed_on home_as local_address attrs.now)) (option_copied told.entry ≢ Some (passed_on home_as local_address attrs.now)) }
+    ensures { MatchBool result (option_copied told.entry ≡ Some (passed_on home_as local_address attrs.now))
+        (option_copied told.entry ≢ Some (passed_on home_as local_address attrs.now)) }
 {
     match told {
         Some(told) => is_passed_on(told, attrs, home_as, local_address),

@@ -41,7 +41,8 @@ fn gather_made(
     requires { GatheredInvariant gathered.old }
     ensures keeps { OnOk result (GatheredInvariant gathered.new) }
     ensures wide { OnOk result (gathered.new.wide ≡ gathered.old.wide) }
-    ensures gathers { OnOk result (Gathers gathered.old.wide (map.get adj_rib_out.now prefix) (rib_to_tell (rib_of rib.now) (out_side_of_view view.now)) prefix gathered.old.batches.items gathered.new.batches.items) }
+    ensures gathers { OnOk result (Gathers gathered.old.wide (map.get adj_rib_out.now prefix)
+        (rib_to_tell (rib_of rib.now) (out_side_of_view view.now)) prefix gathered.old.batches.items gathered.new.batches.items) }
     ensures sound { OnOk result (AreSound gathered.old.batches.items → AreSound gathered.new.batches.items) }
 {
     let attrs = rib.tell_out(prefix, view)?;
@@ -64,10 +65,16 @@ fn gather_passing(
     requires passes { TellsPassedOn (rib_of rib.now) (out_side_of_view view.now) prefix attrs.now }
     ensures keeps { OnOk result (GatheredInvariant gathered.new) }
     ensures wide { OnOk result (gathered.new.wide ≡ gathered.old.wide) }
-    ensures gathers { OnOk result (Gathers gathered.old.wide (map.get adj_rib_out.now prefix) (rib_to_tell (rib_of rib.now) (out_side_of_view view.now)) prefix gathered.old.batches.items gathered.new.batches.items) }
+    ensures gathers { OnOk result (Gathers gathered.old.wide (map.get adj_rib_out.now prefix)
+        (rib_to_tell (rib_of rib.now) (out_side_of_view view.now)) prefix gathered.old.batches.items gathered.new.batches.items) }
     ensures sound { OnOk result (AreSound gathered.old.batches.items → AreSound gathered.new.batches.items) }
 {
-    if is_told_on(adj_rib_out.get(prefix), attrs, rib.home_as(), view.local_address) {
+    if is_told_on(
+        adj_rib_out.get(prefix),
+        attrs,
+        rib.home_as(),
+        view.local_address,
+    ) {
         return Ok(());
     }
     gathered.add_passing(rib, view, prefix, attrs)
@@ -84,7 +91,8 @@ fn gather(
     requires { GatheredInvariant gathered.old }
     ensures keeps { OnOk result (GatheredInvariant gathered.new) }
     ensures wide { OnOk result (gathered.new.wide ≡ gathered.old.wide) }
-    ensures gathers { OnOk result (Gathers gathered.old.wide (map.get adj_rib_out.now prefix) (rib_to_tell (rib_of rib.now) (out_side_of_view view.now)) prefix gathered.old.batches.items gathered.new.batches.items) }
+    ensures gathers { OnOk result (Gathers gathered.old.wide (map.get adj_rib_out.now prefix)
+        (rib_to_tell (rib_of rib.now) (out_side_of_view view.now)) prefix gathered.old.batches.items gathered.new.batches.items) }
     ensures sound { OnOk result (AreSound gathered.old.batches.items → AreSound gathered.new.batches.items) }
 {
     match passing(rib, view, prefix) {
@@ -109,7 +117,8 @@ pub fn plan(
     view: &OutView<'_>,
     wide: bool,
 ) -> Result<Items<Batch>, NoMemory>
-    ensures planned { IfOk result (λ batches. IsPlan (IsPrefixToTell due.now rib.now.dirty adj_rib_out.now (rib_to_tell (rib_of rib.now) (out_side_of_view view.now))) (rib_to_tell (rib_of rib.now) (out_side_of_view view.now)) wide batches) }
+    ensures planned { IfOk result (λ batches. IsPlan (IsPrefixToTell due.now rib.now.dirty adj_rib_out.now
+        (rib_to_tell (rib_of rib.now) (out_side_of_view view.now))) (rib_to_tell (rib_of rib.now) (out_side_of_view view.now)) wide batches) }
     ensures sound { IfOk result AreSound }
 {
     let prefixes = due.prefixes()?;

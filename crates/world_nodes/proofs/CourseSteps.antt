@@ -1,5 +1,6 @@
 -- A laboratory that runs: its actors work, and its looks are those of the world.
-use Rattle.std.proofs.Common.{◌≡◌, ◌<◌, ◌+◌, ◌∙◌, ℕ, zero, suc, Bool, false, List, [], ◌∷◌, length, get_or, map, take, Option, Some, None, Result, Ok, Err, IfOk, OnOk, refl, ap, sym, subst, arith, inl, inr}
+use Rattle.std.proofs.Common.{◌≡◌, ◌<◌, ◌+◌, ◌∙◌, ℕ, zero, suc, Bool, false, List, [], ◌∷◌, length, get_or, map, take, Option}
+use Rattle.std.proofs.Common.{Some, None, Result, Ok, Err, IfOk, OnOk, refl, ap, sym, subst, arith, inl, inr}
 use Rattle.std.specs.Prelude.{◌⊎◌, ◌↔◌, slice_get}
 use Rattle.std.specs.List.{AllByRecursion}
 use Rattle.std.proofs.lemmas.Bool.Decides.{eqb_tells}
@@ -111,7 +112,8 @@ held_by (Far old) new ds setup part is p = absurd (let h : names.FarSide old.fie
 held_by (Operator old) (Router new) ds setup part is p = absurd p
 held_by (Operator old) (Far new) ds setup part is p = absurd p
 held_by (Operator old) (Operator new) ds setup part is p =
-    subst (λ (s : Setup). (ds ≡ []) ↔ IsHeldUp s part) (ap (λ (o : OwnPart). o.setup) is) (subst (λ (o : OperatorPart). (ds ≡ []) ↔ IsHeldUp (own (Operator old)).setup o) (same (ap (λ (o : OwnPart). o.part) is)) p.held)
+    subst (λ (s : Setup). (ds ≡ []) ↔ IsHeldUp s part) (ap (λ (o : OwnPart). o.setup) is)
+    (subst (λ (o : OperatorPart). (ds ≡ []) ↔ IsHeldUp (own (Operator old)).setup o) (same (ap (λ (o : OwnPart). o.part) is)) p.held)
   where
     same : {a b : OperatorPart} → names.OperatorIs a ≡ names.OperatorIs b → a ≡ b
     same h = cc
@@ -122,8 +124,10 @@ pub pause_held : (setup : Setup) (old level new : View Node Mail) (w : World) (a
 pause_held setup old level new w answer k seen size is levelled did =
     let k_in : k < length old.actors = omega (arith, is, size) in
     let d = some_of old.actors k k_in in
-    let part = part_is own carried setup old w seen size k names.Operator d (subst (λ n. names.actor_at setup n ≡ Some names.Operator) (sym is) (at_operator setup)) k_in in
-    let held = held_by (get_or level.actors k d) (get_or new.actors k d) did.deeds setup w.operator (ap (λ (xs : List Node). own (get_or xs k d)) levelled.only.actors ∙ part) (did.paused d) in
+    let part = part_is own carried setup old w seen size k names.Operator d
+    (subst (λ n. names.actor_at setup n ≡ Some names.Operator) (sym is) (at_operator setup)) k_in in
+    let held = held_by (get_or level.actors k d) (get_or new.actors k d) did.deeds setup w.operator
+    (ap (λ (xs : List Node). own (get_or xs k d)) levelled.only.actors ∙ part) (did.paused d) in
     (λ e. held.0 (did.answer.0 e), λ h. did.answer.1 (held.1 h))
   where
     some_of : (xs : List Node) (n : ℕ) → n < length xs → Node
@@ -132,7 +136,8 @@ pause_held setup old level new w answer k seen size is levelled did =
 
 -- ---- what the actors tell
 
-module _ (setup : Setup) (v : View Node Mail) (w : World) (seen : IsSeenAs own carried setup v w) (size : length v.actors ≡ actors_in setup) (count : ℕ) (all : count ≡ length v.actors) where
+module _ (setup : Setup) (v : View Node Mail) (w : World) (seen : IsSeenAs own carried setup v w)
+    (size : length v.actors ≡ actors_in setup) (count : ℕ) (all : count ≡ length v.actors) where
   parts : take count (map own v.actors) ≡ map own v.actors
   parts = rw (all ∙ sym (length-map v.actors own)) (take-length (map own v.actors))
 
@@ -153,9 +158,11 @@ module _ (setup : Setup) (v : View Node Mail) (w : World) (seen : IsSeenAs own c
       → ((r : ℕ) → w.mesh r r ≡ []) → (one other answer : Option Pending)
       → IsFirstOf (IsLeftToOne (take count (map own v.actors))) one → IsFirstOf (IsSentOnOne v.channel edges) other
       → IsFirstOf (IsEither one other) answer → IsPending setup w answer
-  pending_world edges viewed each itself one other answer left sent first = first_same (λ x. IsLeftToOne (map own v.actors) x ⊎ IsSentOnOne v.channel edges x) (IsLeft setup w) answer
+  pending_world edges viewed each itself one other answer left sent first =
+      first_same (λ x. IsLeftToOne (map own v.actors) x ⊎ IsSentOnOne v.channel edges x) (IsLeft setup w) answer
       (net_left own carried setup v w seen size edges viewed each itself) (left_net own carried setup v w seen size edges viewed each itself)
-      (first_of_both (IsLeftToOne (map own v.actors)) (IsSentOnOne v.channel edges) one other answer (subst (λ (xs : List OwnPart). IsFirstOf (IsLeftToOne xs) one) parts left) sent first)
+      (first_of_both (IsLeftToOne (map own v.actors)) (IsSentOnOne v.channel edges) one other answer
+      (subst (λ (xs : List OwnPart). IsFirstOf (IsLeftToOne xs) one) parts left) sent first)
 
 -- nothing is pending exactly where nothing is left
 pub none_pending : (setup : Setup) (w : World) (answer : Option Pending) → ((x : Pending) → ¬ IsLeft setup w x) ↔ Quiet setup w

@@ -66,7 +66,8 @@ pub row_none : (routers peerings from : ℕ) (first : List (ℕ × ℕ)) → Are
 row_none routers peerings from first sound none = record {
   sound = sound;
   none = λ a b past ahead. none a b past;
-  added = λ setup counts a b. sym (ap (λ t. is_edge first a b || (a == from && (t && has_channel setup a b))) (not_below 0 b (omega arith)) ∙ ap (λ t. is_edge first a b || t) (and_false (a == from)) ∙ or_false (is_edge first a b));
+  added = λ setup counts a b. sym (ap (λ t. is_edge first a b || (a == from && (t && has_channel setup a b))) (not_below 0 b (omega arith))
+      ∙ ap (λ t. is_edge first a b || t) (and_false (a == from)) ∙ or_false (is_edge first a b));
 }
   where
     and_false : (t : Bool) → (t && false) ≡ false

@@ -61,14 +61,16 @@ module _ {A C : Type 0} (own : A → OwnPart) (session : C → SessionValue) whe
 
   pub goes_first : NewNetsRan own session → (setup : Setup) (actors : List A) (edges : List (ℕ × ℕ)) (v : View A (Item C))
       → AreFirstActors own setup actors → IsNewNet actors edges v → Goes setup v
-  goes_first law setup actors edges v first new = starts setup v 0 (ap (λ (xs : List A). length xs) new.all ∙ first.all) (order_new actors edges v new) (λ k k_in. new.clocks k) (law setup actors edges v first new)
+  goes_first law setup actors edges v first new = starts setup v 0 (ap (λ (xs : List A). length xs) new.all ∙ first.all)
+      (order_new actors edges v new) (λ k k_in. new.clocks k) (law setup actors edges v first new)
 
   pub goes_ran : RunsGoOn own session → (setup : Setup) (v : View A (Item C)) → IsSetup setup → Goes setup v → Ran own session setup v
   goes_ran law setup v sound goes = law setup goes.start v goes.levels goes.notes goes.clock sound goes.size goes.order goes.level goes.grew goes.no_go goes.ran
 
   no_go_joined : (xs ys : List (Noted (Item C))) → AllByRecursion IsNoGo (deeds xs) → AllByRecursion IsNoGo (deeds ys)
       → AllByRecursion IsNoGo (deeds (xs ++ ys))
-  no_go_joined xs ys h k = subst (λ (ds : List (Deed (Item C))). AllByRecursion IsNoGo ds) (sym (map-append (λ (n : Noted (Item C)). n.deed) xs ys)) (all-append IsNoGo (deeds xs) (deeds ys) h k)
+  no_go_joined xs ys h k = subst (λ (ds : List (Deed (Item C))). AllByRecursion IsNoGo ds)
+      (sym (map-append (λ (n : Noted (Item C)). n.deed) xs ys)) (all-append IsNoGo (deeds xs) (deeds ys) h k)
 
   -- ---- a round
 
@@ -122,9 +124,12 @@ module _ {A C : Type 0} (own : A → OwnPart) (session : C → SessionValue) whe
         let level_size : length l.actors ≡ actors_in setup = ap (λ (xs : List A). length xs) levelled.only.actors ∙ goes.grew.size ∙ goes.size in
         let l_in : k < length l.actors = subst (λ (xs : List A). k < length xs) (sym levelled.only.actors) k_in in
         let level_order : InOrder l = order_level u l levelled goes.ordered in
-        let level_ran : Ran own session setup l = goes_on setup goes.start l (goes.levels ++ level_clock ∷ []) (λ j. goes.notes j ++ []) goes.clock sound goes.size goes.order goes.level
-        (joins goes.start u l goes.levels (level_clock ∷ []) goes.notes (λ j. []) goes.grew (levels u l levelled)) (λ j. no_go_joined (goes.notes j) [] (goes.no_go j) tt) goes.ran in
+        let level_ran : Ran own session setup l =
+        goes_on setup goes.start l (goes.levels ++ level_clock ∷ []) (λ j. goes.notes j ++ []) goes.clock sound goes.size goes.order goes.level
+        (joins goes.start u l goes.levels (level_clock ∷ []) goes.notes (λ j. []) goes.grew (levels u l levelled))
+        (λ j. no_go_joined (goes.notes j) [] (goes.no_go j) tt) goes.ran in
         let x = some_of l.actors k l_in in
         starts setup v did.to (did.size ∙ level_size) (order_between own (acts session) paused k l v answer l_in did level_order) did.level
-        (go setup k l v (did.from ∷ did.to ∷ []) did.deeds level_clock sound level_size level_order levelled.level (pauses l v k answer l_in did) (few _ _ did.deeds (did.paused x))
+        (go setup k l v (did.from ∷ did.to ∷ []) did.deeds level_clock sound level_size level_order levelled.level
+        (pauses l v k answer l_in did) (few _ _ did.deeds (did.paused x))
         (λ w seen reached. quiet w (seen_before setup u l w levelled seen) reached) level_ran)

@@ -52,8 +52,10 @@ row_go setup Operator (FarIs p) q entry taken sent row go = absurd row
 row_go setup Operator (OperatorIs p) (OperatorIs q) entry taken sent row go = (refl, by_event row.event refl)
   where
     by_event : (event : OperatorEvent) → row.event ≡ event → taken ≡ None
-    by_event (Order step number) e = let h : (operator_code (Order step number)).kind ≡ (operator_code Go).kind = ap (λ o. (operator_code o).kind) (sym e) ∙ sym row.coded.kind ∙ go in absurd (omega (arith, h))
-    by_event (Note router) e = let h : (operator_code (Note router)).kind ≡ (operator_code Go).kind = ap (λ o. (operator_code o).kind) (sym e) ∙ sym row.coded.kind ∙ go in absurd (omega (arith, h))
+    by_event (Order step number) e = let h : (operator_code (Order step number)).kind ≡ (operator_code Go).kind =
+        ap (λ o. (operator_code o).kind) (sym e) ∙ sym row.coded.kind ∙ go in absurd (omega (arith, h))
+    by_event (Note router) e = let h : (operator_code (Note router)).kind ≡ (operator_code Go).kind =
+        ap (λ o. (operator_code o).kind) (sym e) ∙ sym row.coded.kind ∙ go in absurd (omega (arith, h))
     by_event Go e = row.is_taken ∙ ap (λ o. option_map (λ (t : OperatorTaken). numbered setup (taken_by_operator t)) o) (takes row.event e row.holds)
       where
         takes : (event : OperatorEvent) → event ≡ Go → operator_row setup event p row.took row.gave q → row.took ≡ None
@@ -84,5 +86,6 @@ module _ {C : Type 0} (session : C → SessionValue) where
   pub take_no_go : (k : ℕ) (p q : OwnPart) (from : ℕ) (item : Item C) (ds : List (Deed (Item C))) → length ds ≡ 1 → TakesFirst from item ds
       → Replay (acts session) k p ds q → AllByRecursion IsNoGo ds
   take_no_go k p q from item [] one first replay = absurd first
-  take_no_go k p q from item (d ∷ []) one first replay = (λ go. absurd (let h : Some (from, item) ≡ None = sym first.0 ∙ (act_go p replay.0 d.entry d.taken d.sent replay.1 go).1 in cc), tt)
+  take_no_go k p q from item (d ∷ []) one first replay =
+      (λ go. absurd (let h : Some (from, item) ≡ None = sym first.0 ∙ (act_go p replay.0 d.entry d.taken d.sent replay.1 go).1 in cc), tt)
   take_no_go k p q from item (d ∷ e ∷ ds) one first replay = absurd (omega (arith, one))

@@ -61,17 +61,35 @@ operator_took from item old new before after t = record {
 pub router_turned : (old new : router_type.Router.Router) (before after : Post Mail)
     → Moved routers.router_own_part (acts carried) routers.turned_by_router old before new after
     → Moved own (acts carried) turned (Router old) before (Router new) after
-router_turned old new before after t = record { deeds = t.deeds; wrote = t.wrote; none = t.none; replay = t.replay; moved = (t.moved, any_number (actor_of before) (routers.router_own_part old) (routers.router_own_part new) t.deeds t.replay) }
+router_turned old new before after t = record {
+  deeds = t.deeds;
+  wrote = t.wrote;
+  none = t.none;
+  replay = t.replay;
+  moved = (t.moved, any_number (actor_of before) (routers.router_own_part old) (routers.router_own_part new) t.deeds t.replay);
+}
 
 pub far_turned : (old new : far_type.Far.Far) (before after : Post Mail)
     → Moved fars.far_own_part (acts carried) fars.turned_by_far old before new after
     → Moved own (acts carried) turned (Far old) before (Far new) after
-far_turned old new before after t = record { deeds = t.deeds; wrote = t.wrote; none = t.none; replay = t.replay; moved = (t.moved, any_number (actor_of before) (fars.far_own_part old) (fars.far_own_part new) t.deeds t.replay) }
+far_turned old new before after t = record {
+  deeds = t.deeds;
+  wrote = t.wrote;
+  none = t.none;
+  replay = t.replay;
+  moved = (t.moved, any_number (actor_of before) (fars.far_own_part old) (fars.far_own_part new) t.deeds t.replay);
+}
 
 pub operator_turned : (old new : operator_type.Operator.Operator) (before after : Post Mail)
     → Moved operators.own_part (acts carried) operators.OperatorTurned old before new after
     → Moved own (acts carried) turned (Operator old) before (Operator new) after
-operator_turned old new before after t = record { deeds = t.deeds; wrote = t.wrote; none = t.none; replay = t.replay; moved = (t.moved, any_number (actor_of before) (operators.own_part old) (operators.own_part new) t.deeds t.replay) }
+operator_turned old new before after t = record {
+  deeds = t.deeds;
+  wrote = t.wrote;
+  none = t.none;
+  replay = t.replay;
+  moved = (t.moved, any_number (actor_of before) (operators.own_part old) (operators.own_part new) t.deeds t.replay);
+}
 
 -- ---- marks
 

@@ -1,5 +1,6 @@
 -- What the actors and channels of a net tell of the world that it is.
-use Rattle.std.proofs.Common.{◌≡◌, ◌≤◌, ◌<◌, ◌+◌, ◌-◌, ◌∙◌, ℕ, zero, suc, Bool, true, false, List, [], ◌∷◌, length, get_or, map, Option, Some, None, refl, ap, sym, subst, arith, inl, inr}
+use Rattle.std.proofs.Common.{◌≡◌, ◌≤◌, ◌<◌, ◌+◌, ◌-◌, ◌∙◌, ℕ, zero, suc, Bool, true, false, List, [], ◌∷◌, length}
+use Rattle.std.proofs.Common.{get_or, map, Option, Some, None, refl, ap, sym, subst, arith, inl, inr}
 use Rattle.std.specs.Prelude.{◌⊎◌, ◌==◌, ◌&&◌}
 use Rattle.std.specs.List.{Any}
 use Rattle.std.proofs.lemmas.Bool.Decides.{eqb_tells, nat_tests}
@@ -34,9 +35,12 @@ somebody setup k k_in = elim (below_or_past k (routers_in setup)) [
   | inr past ↦ elim (below_or_past k (routers_in setup + peerings_in setup)) [
     | inl l ↦
         let p_in : k - routers_in setup < peerings_in setup = omega arith in
-        let is : routers_in setup + (k - routers_in setup) ≡ k = omega arith in
-        (FarSide (k - routers_in setup), subst (λ n. actor_at setup n ≡ Some (FarSide (k - routers_in setup))) is (there setup (FarSide (k - routers_in setup)) p_in))
-    | inr last ↦ let is : routers_in setup + peerings_in setup ≡ k = omega arith in (Operator, subst (λ n. actor_at setup n ≡ Some Operator) is (at_operator setup))
+        let is : routers_in setup + (k - routers_in setup) ≡ k = omega arith in (
+          FarSide (k - routers_in setup),
+          subst (λ n. actor_at setup n ≡ Some (FarSide (k - routers_in setup))) is (there setup (FarSide (k - routers_in setup)) p_in),
+        )
+    | inr last ↦ let is : routers_in setup + peerings_in setup ≡ k = omega arith in
+        (Operator, subst (λ n. actor_at setup n ≡ Some Operator) is (at_operator setup))
   ]
 ]
 
@@ -82,7 +86,8 @@ silent w itself (Some Operator) (Some (Router r)) e = absurd cc
 silent w itself (Some Operator) (Some (FarSide p)) e = absurd cc
 silent w itself (Some Operator) (Some Operator) e = refl
 
-module _ {A C : Type 0} (own : A → OwnPart) (session : C → SessionValue) (setup : Setup) (v : View A (Item C)) (w : World) (seen : IsSeenAs own session setup v w) (size : length v.actors ≡ actors_in setup) where
+module _ {A C : Type 0} (own : A → OwnPart) (session : C → SessionValue) (setup : Setup) (v : View A (Item C))
+    (w : World) (seen : IsSeenAs own session setup v w) (size : length v.actors ≡ actors_in setup) where
   -- each actor's part is that of its name in the world
   pub part_is : (k : ℕ) (x : ActorName) (a : A) → actor_at setup k ≡ Some x → k < length v.actors
       → own (get_or v.actors k a) ≡ record { setup = setup; name = x; part = part_of w x }
@@ -98,26 +103,36 @@ module _ {A C : Type 0} (own : A → OwnPart) (session : C → SessionValue) (se
   of_one P any =
       let k_in : any.0 < length v.actors = omega (arith, any.2, length-map v.actors own) in
       let name = somebody setup any.0 (omega (arith, k_in, size)) in
-      let a = some_of v.actors any.0 k_in in
-      (name.0, (of_number setup any.0 name.0 name.1).0, subst P (sym any.3 ∙ get_mapped own v.actors any.0 any.1 a k_in ∙ part_is any.0 name.0 a name.1 k_in) any.4)
+      let a = some_of v.actors any.0 k_in in (
+        name.0,
+        (of_number setup any.0 name.0 name.1).0,
+        subst P (sym any.3 ∙ get_mapped own v.actors any.0 any.1 a k_in ∙ part_is any.0 name.0 a name.1 k_in) any.4,
+      )
 
   pub to_one : (P : OwnPart → Type 0) (x : ActorName) → IsActor setup x → P (record { setup = setup; name = x; part = part_of w x }) → Any P (map own v.actors)
   to_one P x known here =
       let k_in : number_in setup x < length v.actors = omega (arith, number_below setup x known, size) in
       let a = some_of v.actors (number_in setup x) k_in in
-      let part = own (get_or v.actors (number_in setup x) a) in
-      (number_in setup x, part, omega (arith, k_in, length-map v.actors own), get_mapped own v.actors (number_in setup x) part a k_in, subst P (sym (part_is (number_in setup x) x a (there setup x known) k_in)) here)
+      let part = own (get_or v.actors (number_in setup x) a) in (
+        number_in setup x,
+        part,
+        omega (arith, k_in, length-map v.actors own),
+        get_mapped own v.actors (number_in setup x) part a k_in,
+        subst P (sym (part_is (number_in setup x) x a (there setup x known) k_in)) here,
+      )
 
   -- ---- what is left to do
 
-  module _ (edges : List (ℕ × ℕ)) (viewed : (a b : ℕ) → v.edge a b ≡ is_edge edges a b) (each : (a b : ℕ) → is_edge edges a b ≡ has_channel setup a b) (itself : (r : ℕ) → w.mesh r r ≡ []) where
+  module _ (edges : List (ℕ × ℕ)) (viewed : (a b : ℕ) → v.edge a b ≡ is_edge edges a b)
+      (each : (a b : ℕ) → is_edge edges a b ≡ has_channel setup a b) (itself : (r : ℕ) → w.mesh r r ≡ []) where
     things : (a b : ℕ) → is_edge edges a b ≡ true
         → map (thing_of session setup) (map (λ (x : Stamped (Item C)). x.item) (v.channel a b)) ≡ channel_of w (actor_at setup a) (actor_at setup b)
     things a b e = ap (λ items. map (thing_of session setup) items) (sym (seen.is.channels a b (viewed a b ∙ e))) ∙ seen.sees.sees.channels a b
 
     sent_left : (x : Pending) → IsSentOnOne v.channel edges x → IsLeft setup w x
     sent_left x any = subst (λ y. IsLeft setup w y) (sym any.4.0) (OnItsWay (λ none.
-        any.4.1 (no_items (λ (z : Stamped (Item C)). z.item) (v.channel any.1.0 any.1.1) (no_items (thing_of session setup) (map (λ (z : Stamped (Item C)). z.item) (v.channel any.1.0 any.1.1)) (things any.1.0 any.1.1 edge ∙ none)))))
+        any.4.1 (no_items (λ (z : Stamped (Item C)). z.item) (v.channel any.1.0 any.1.1)
+        (no_items (thing_of session setup) (map (λ (z : Stamped (Item C)). z.item) (v.channel any.1.0 any.1.1)) (things any.1.0 any.1.1 edge ∙ none)))))
       where
         edge : is_edge edges any.1.0 any.1.1 ≡ true
         edge = list_any_at (λ (e : ℕ × ℕ). e.0 == any.1.0 && e.1 == any.1.1) edges any.0 any.1 any.2 (rw (any.3) (both any.1.0 any.1.1))

@@ -44,12 +44,15 @@ turned_no_go (Operator old) (Far new) ds t = absurd t.0
 
 tooks_no_go : (old new : Node) (ds : List (Deed Mail)) → Tooks took old ds new → AllByRecursion IsNoGo ds
 tooks_no_go old new ds (stays a) = tt
-tooks_no_go old new ds (takes a b c before more from item tooks t) = all-append IsNoGo before more (tooks_no_go a b before tooks) (took_no_go b c from item more t)
+tooks_no_go old new ds (takes a b c before more from item tooks t) =
+    all-append IsNoGo before more (tooks_no_go a b before tooks) (took_no_go b c from item more t)
 
 pub round_no_go : (k : ℕ) (old new : Node) (before after : ℕ) (notes : List (Noted Mail))
     → ActorDid own (acts carried) took turned k old before notes new after → AllByRecursion IsNoGo (deeds notes)
-round_no_go k old new before after notes did = subst (λ (ds : List (Deed Mail)). AllByRecursion IsNoGo ds) (sym (ap (λ ns. deeds ns) did.split ∙ map-append (λ (n : Noted Mail). n.deed) did.first did.second))
-    (all-append IsNoGo (deeds did.first) (deeds did.second) (tooks_no_go old did.mid (deeds did.first) did.tooks) (turned_no_go did.mid new (deeds did.second) did.turn))
+round_no_go k old new before after notes did = subst (λ (ds : List (Deed Mail)). AllByRecursion IsNoGo ds)
+    (sym (ap (λ ns. deeds ns) did.split ∙ map-append (λ (n : Noted Mail). n.deed) did.first did.second))
+    (all-append IsNoGo (deeds did.first) (deeds did.second)
+    (tooks_no_go old did.mid (deeds did.first) did.tooks) (turned_no_go did.mid new (deeds did.second) did.turn))
 
 -- ---- at a mark one event at most
 
@@ -66,14 +69,17 @@ pause_few (Operator old) (Far new) ds p = absurd p
 
 -- ---- the way
 
-module _ (new : NewNetsRan own carried) (goes_on : RunsGoOn own carried) (go : ExtendsAtMark own carried) (joins : GrowsOn own (acts carried)) (phases : PhaseGrows own (acts carried) took turned)
+module _ (new : NewNetsRan own carried) (goes_on : RunsGoOn own carried) (go : ExtendsAtMark own carried)
+    (joins : GrowsOn own (acts carried)) (phases : PhaseGrows own (acts carried) took turned)
     (levels : LevelGrows own (acts carried)) (pauses : BetweenGrows own (acts carried) paused) where
   goes : (setup : Setup) (a b : Stand) (rounds : List ℕ) → IsSetup setup → IsFirstStand setup a → Way setup a rounds b → Goes own carried setup b.view
   goes setup a b rounds sound begins Here = goes_first own carried new setup begins.actors begins.edges a.view begins.first begins.new
-  goes setup a c rounds sound begins (Rounds past n {b = b} way round) = goes_round own carried took turned round_no_go phases joins setup b.view c.view round.phase (goes setup a b (past ++ n ∷ []) sound begins way)
+  goes setup a c rounds sound begins (Rounds past n {b = b} way round) =
+      goes_round own carried took turned round_no_go phases joins setup b.view c.view round.phase (goes setup a b (past ++ n ∷ []) sound begins way)
   goes setup a c rounds sound begins (Groups before {b = b} way quiet pause) =
       let at = goes setup a b before sound begins way in
-      goes_pause own carried paused pause_few levels pauses joins goes_on go setup (routers_in setup + peerings_in setup) b.view pause.level c.view true sound (omega (arith, at.grew.size, at.size)) pause.levelled pause.between quiet at
+      goes_pause own carried paused pause_few levels pauses joins goes_on go setup (routers_in setup + peerings_in setup)
+      b.view pause.level c.view true sound (omega (arith, at.grew.size, at.size)) pause.levelled pause.between quiet at
 
   pub way_ran : (setup : Setup) (a b : Stand) (rounds : List ℕ) → IsSetup setup → IsFirstStand setup a → Way setup a rounds b → Ran own carried setup b.view
   way_ran setup a b rounds sound begins way = goes_ran own carried goes_on setup b.view sound (goes setup a b rounds sound begins way)

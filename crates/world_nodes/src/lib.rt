@@ -1,5 +1,5 @@
-//! The laboratory as a net of actors: routers, far sides and the operator as one type, the channels between them, the rounds that they make, and what is seen of
-//! them at a mark.
+//! The laboratory as a net of actors: routers, far sides and the operator as one type, the
+//! channels between them, the rounds that they make, and what is seen of them at a mark.
 #![tactic(auto)]
 
 mod edges;

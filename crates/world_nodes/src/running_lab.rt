@@ -55,7 +55,8 @@ impl RunningLab {
         requires few { (routers ≤ 256) × (peerings ≤ 256) }
         requires size { length actors ≡ routers + peerings + 1 }
         requires works { AllByRecursion Works actors }
-        ensures begins { IfOk result (λ running. (setup : Setup) → HasCounts setup (routers, peerings) → AreFirstActors own setup actors → IsFirstStand setup (stand running)) }
+        ensures begins { IfOk result
+            (λ running. (setup : Setup) → HasCounts setup (routers, peerings) → AreFirstActors own setup actors → IsFirstStand setup (stand running)) }
         ensures actors { IfOk result (λ running. (stand running).view.actors ≡ actors) }
         ensures works { IfOk result AllWork }
         ensures counts { IfOk result (λ running. counts running ≡ (routers, peerings)) }
@@ -124,7 +125,8 @@ impl RunningLab {
     /// Returns the first thing that is left to do, or `None` if the world is quiet.
     pub fn pending(&self) -> Option<Pending>
         requires works { AllWork self.now }
-        ensures first { (setup : Setup) (w : World) → HasCounts setup (counts self.now) → IsSetup setup → IsWorldAt setup (stand self.now) w → IsPending setup w result }
+        ensures first { (setup : Setup) (w : World) → HasCounts setup (counts self.now)
+            → IsSetup setup → IsWorldAt setup (stand self.now) w → IsPending setup w result }
         ensures quiet { (setup : Setup) (w : World) → HasCounts setup (counts self.now) → IsSetup setup → IsWorldAt setup (stand self.now) w
             → (result ≡ None) ↔ Quiet setup w }
     {

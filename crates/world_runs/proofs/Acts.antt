@@ -1,5 +1,6 @@
 -- What an actor of a laboratory does is a step of the world.
-use Rattle.std.proofs.Common.{◌≡◌, ℕ, Bool, true, false, List, [], ◌∷◌, ◌++◌, Option, Some, None, map, option_map, if◌then◌else◌, ◌==◌, refl, sym, ap, ◌∙◌, subst, inl, inr}
+use Rattle.std.proofs.Common.{◌≡◌, ℕ, Bool, true, false, List, [], ◌∷◌, ◌++◌, Option, Some, None, map}
+use Rattle.std.proofs.Common.{option_map, if◌then◌else◌, ◌==◌, refl, sym, ap, ◌∙◌, subst, inl, inr}
 use Rattle.std.proofs.lemmas.List.{map-append}
 use Rattle.std.proofs.lemmas.Option.{same_Some}
 use Rattle.ring_net.specs.declared.entry.JournalEntry.{JournalEntry}
@@ -52,10 +53,12 @@ module _ {C : Type 0} (session : C → SessionValue) (setup : Setup) where
   in_things deed = record { entry = deed.entry; taken = option_map (λ x. (x.0, thing_of session setup x.1)) deed.taken; sent = things session setup deed.sent }
 
   takes_things : (deed : Deed (Item C)) (a b : ℕ) → map (thing_of session setup) (takes_on deed a b) ≡ takes_on (in_things deed) a b
-  takes_things deed a b = map_if (thing_of session setup) (b == deed.entry.actor) (taken_of a deed.taken) (taken_of a (in_things deed).taken) (taken_map (thing_of session setup) a deed.taken)
+  takes_things deed a b = map_if (thing_of session setup) (b == deed.entry.actor) (taken_of a deed.taken)
+      (taken_of a (in_things deed).taken) (taken_map (thing_of session setup) a deed.taken)
 
   sends_things : (deed : Deed (Item C)) (a b : ℕ) → map (thing_of session setup) (sends_on deed a b) ≡ sends_on (in_things deed) a b
-  sends_things deed a b = map_if (thing_of session setup) (a == deed.entry.actor) (items_for b deed.sent) (items_for b (in_things deed).sent) (items_map (thing_of session setup) b deed.sent)
+  sends_things deed a b = map_if (thing_of session setup) (a == deed.entry.actor) (items_for b deed.sent)
+      (items_for b (in_things deed).sent) (items_map (thing_of session setup) b deed.sent)
 
 -- ---- one deed
 
@@ -66,15 +69,21 @@ RowsAreEvents {C} session = (n : ℕ) (before after : OwnPart) (entry : JournalE
     → ActsAs session before entry taken sent after → TakesWelcome session before taken
     → makes before.setup n before.part entry (option_map (λ x. (x.0, thing_of session before.setup x.1)) taken) (things session before.setup sent) after.part
 
-module _ {C : Type 0} (session : C → SessionValue) (rows : RowsAreEvents session) (event_is_a_step : AnEventIsAStep) (setup : Setup) (lab next : worlds.DeedWorld OwnPart (Item C)) (deed : Deed (Item C)) (w : World) (x : ActorName)
-    (nothing : NothingIsDropped setup w) (is_lab : IsLab session setup lab w) (is : actor_at setup deed.entry.actor ≡ Some x) (step : worlds.DeedStep (acts session) lab deed next) where
+module _ {C : Type 0} (session : C → SessionValue) (rows : RowsAreEvents session) (event_is_a_step : AnEventIsAStep)
+    (setup : Setup) (lab next : worlds.DeedWorld OwnPart (Item C)) (deed : Deed (Item C)) (w : World) (x : ActorName)
+    (nothing : NothingIsDropped setup w) (is_lab : IsLab session setup lab w)
+    (is : actor_at setup deed.entry.actor ≡ Some x) (step : worlds.DeedStep (acts session) lab deed next) where
   acted : ActsAs session (record { setup = setup; name = x; part = part_of w x }) deed.entry deed.taken deed.sent (next.part deed.entry.actor)
-  acted = subst (λ (own : OwnPart). ActsAs session own deed.entry deed.taken deed.sent (next.part deed.entry.actor)) (own_is session setup lab w is_lab deed.entry.actor x is) step.made
+  acted = subst (λ (own : OwnPart). ActsAs session own deed.entry deed.taken deed.sent (next.part deed.entry.actor))
+      (own_is session setup lab w is_lab deed.entry.actor x is) step.made
 
-  made : makes setup deed.entry.actor (lab.part deed.entry.actor).part deed.entry (in_things session setup deed).taken (in_things session setup deed).sent (next.part deed.entry.actor).part
-  made = subst (λ (own : OwnPart). makes setup deed.entry.actor own.part deed.entry (in_things session setup deed).taken (in_things session setup deed).sent (next.part deed.entry.actor).part)
+  made : makes setup deed.entry.actor (lab.part deed.entry.actor).part deed.entry
+      (in_things session setup deed).taken (in_things session setup deed).sent (next.part deed.entry.actor).part
+  made = subst (λ (own : OwnPart). makes setup deed.entry.actor own.part deed.entry
+      (in_things session setup deed).taken (in_things session setup deed).sent (next.part deed.entry.actor).part)
       (sym (own_is session setup lab w is_lab deed.entry.actor x is))
-      (rows deed.entry.actor (record { setup = setup; name = x; part = part_of w x }) (next.part deed.entry.actor) deed.entry deed.taken deed.sent is acted (takes_welcome session setup lab w nothing is_lab deed x is step.rest step.takes))
+      (rows deed.entry.actor (record { setup = setup; name = x; part = part_of w x }) (next.part deed.entry.actor) deed.entry
+      deed.taken deed.sent is acted (takes_welcome session setup lab w nothing is_lab deed x is step.rest step.takes))
 
   step_of_things : worlds.DeedStep (makes setup) (net_of session setup lab) (in_things session setup deed) (net_of session setup next)
   step_of_things = record {
@@ -107,7 +116,8 @@ module _ {C : Type 0} (session : C → SessionValue) (rows : RowsAreEvents sessi
 
   pub act_is_a_step : (IsGo deed.entry → Quiet setup w) → IsStepOfLab session setup w deed.entry next
   act_is_a_step quiet =
-      let s : IsStepOf setup w deed.entry (net_of session setup next) = event_is_a_step setup (net_of session setup lab) (net_of session setup next) (in_things session setup deed) w is_lab.sees step_of_things quiet in
+      let s : IsStepOf setup w deed.entry (net_of session setup next) =
+      event_is_a_step setup (net_of session setup lab) (net_of session setup next) (in_things session setup deed) w is_lab.sees step_of_things quiet in
       record {
         event = s.event;
         entry_of = s.entry_of;
@@ -116,7 +126,8 @@ module _ {C : Type 0} (session : C → SessionValue) (rows : RowsAreEvents sessi
         lab = record {
           setups = setups_then;
           names = names_then;
-          fits = λ a b. after_goes session setup deed x (part_of w x) is fit a b (takes_on deed a b) (lab.channel a b) (step.rest a b) (next.channel a b) (step.takes a b) (step.sends a b) (is_lab.fits a b);
+          fits = λ a b. after_goes session setup deed x (part_of w x) is fit a b (takes_on deed a b) (lab.channel a b)
+              (step.rest a b) (next.channel a b) (step.takes a b) (step.sends a b) (is_lab.fits a b);
           sees = s.sees;
         };
       }

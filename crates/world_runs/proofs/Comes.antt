@@ -13,7 +13,8 @@ use Rattle.graft_model.specs.FarRows.{OutwardIn, SayIn}
 use Rattle.graft_model.specs.OperatorRows.{ReportIn}
 use Rattle.graft_model.specs.Steps.{Heads}
 use Rattle.graft_laws.specs.Facts.{NothingIsDropped}
-use Rattle.graft_actors.specs.Actors.{ActorPart, Thing, MeshItem, OutwardItem, SegmentItem, OrderItem, ReportItem, StepItem, ActorName, Router, FarSide, Operator, IsActor, actor_at}
+use Rattle.graft_actors.specs.Actors.{ActorPart, Thing, MeshItem, OutwardItem, SegmentItem, OrderItem, ReportItem}
+use Rattle.graft_actors.specs.Actors.{StepItem, ActorName, Router, FarSide, Operator, IsActor, actor_at}
 use Rattle.graft_actors.specs.Seen.{part_of, channel_of}
 use Rattle.graft_actors.proofs.Numbers.{of_number}
 use Rattle.graft_actors.specs.Items.{thing_of}
@@ -69,7 +70,8 @@ own_path : (own : OwnPart) (setup : Setup) (name : ActorName) (part : ActorPart)
     → own ≡ record { setup = setup; name = name; part = part }
 own_path own setup name part a b c = λ i. record { setup = a i; name = b i; part = c i }
 
-module _ {C : Type 0} (session : C → SessionValue) (setup : Setup) (lab : worlds.DeedWorld OwnPart (Item C)) (w : World) (is_lab : IsLab session setup lab w) (me : ℕ) (x : ActorName) (is : actor_at setup me ≡ Some x) where
+module _ {C : Type 0} (session : C → SessionValue) (setup : Setup) (lab : worlds.DeedWorld OwnPart (Item C))
+    (w : World) (is_lab : IsLab session setup lab w) (me : ℕ) (x : ActorName) (is : actor_at setup me ≡ Some x) where
   -- the actor as it is in the world
   pub own_is : lab.part me ≡ record { setup = setup; name = x; part = part_of w x }
   own_is = own_path (lab.part me) setup x (part_of w x) (is_lab.setups me x is) (is_lab.names me x is) (is_lab.sees.parts me x is)
@@ -78,7 +80,8 @@ module _ {C : Type 0} (session : C → SessionValue) (setup : Setup) (lab : worl
       → IsWelcome session (record { setup = setup; name = x; part = part_of w x }) from item
   head_welcome nothing from item rest e = record {
     comes = comes_from session setup (actor_at setup from) x item rest
-        (subst (λ (o : Option ActorName). AllMayGo session setup (actor_at setup from) o (item ∷ rest)) is (subst (λ (items : List (Item C)). AllMayGo session setup (actor_at setup from) (actor_at setup me) items) e (is_lab.fits from me)));
+        (subst (λ (o : Option ActorName). AllMayGo session setup (actor_at setup from) o (item ∷ rest)) is
+        (subst (λ (items : List (Item C)). AllMayGo session setup (actor_at setup from) (actor_at setup me) items) e (is_lab.fits from me)));
     takes = takes_from setup w nothing (actor_at setup from) x (thing_of session setup item) (map (thing_of session setup) rest) (of_number setup me x is).0
         (ap (channel_of w (actor_at setup from)) (sym is) ∙ sym (is_lab.sees.channels from me) ∙ ap (map (thing_of session setup)) e);
   }

@@ -47,7 +47,8 @@ module _ {C : Type 0} (session : C → SessionValue) (setup : Setup) where
       → AllMayGo session setup (Some from) q items
       → AllMayGo session setup (Some from) q (item ∷ items)
   goes_more from to None item items e may goes = absurd cc
-  goes_more from to (Some other) item items e may goes = let same : to ≡ other = cc in (subst (λ (name : ActorName). MayGo session setup from name item) same may, goes)
+  goes_more from to (Some other) item items e may goes =
+      let same : to ≡ other = cc in (subst (λ (name : ActorName). MayGo session setup from name item) same may, goes)
 
   sent_goes : (name : ActorName) (part : ActorPart) (b : ℕ) (sent : List (ℕ × Item C))
       → SendsFit session (record { setup = setup; name = name; part = part }) sent
@@ -59,13 +60,15 @@ module _ {C : Type 0} (session : C → SessionValue) (setup : Setup) where
     | inr ne ↦ subst (AllMayGo session setup (Some name) (actor_at setup b)) (sym (items_else b x sent ne)) (sent_goes name part b sent fit.1)
   ]
 
-  module _ (deed : Deed (Item C)) (name : ActorName) (part : ActorPart) (is : actor_at setup deed.entry.actor ≡ Some name) (fit : SendsFit session (record { setup = setup; name = name; part = part }) deed.sent) where
+  module _ (deed : Deed (Item C)) (name : ActorName) (part : ActorPart) (is : actor_at setup deed.entry.actor ≡ Some name)
+      (fit : SendsFit session (record { setup = setup; name = name; part = part }) deed.sent) where
     deed_goes : (a b : ℕ) → AllMayGo session setup (actor_at setup a) (actor_at setup b) (sends_on deed a b)
     deed_goes a b = elim (equal_or_not a deed.entry.actor) [
       | inl e ↦ subst (λ (n : ℕ). AllMayGo session setup (actor_at setup n) (actor_at setup b) (sends_on deed n b)) (sym e)
           (subst (λ (o : Option ActorName). AllMayGo session setup o (actor_at setup b) (sends_on deed deed.entry.actor b)) (sym is)
           (subst (AllMayGo session setup (Some name) (actor_at setup b)) (sym (sends_here deed b)) (sent_goes name part b deed.sent fit)))
-      | inr ne ↦ subst (AllMayGo session setup (actor_at setup a) (actor_at setup b)) (sym (sends_else deed a b ne)) (nothing_goes (actor_at setup a) (actor_at setup b))
+      | inr ne ↦ subst (AllMayGo session setup (actor_at setup a) (actor_at setup b))
+          (sym (sends_else deed a b ne)) (nothing_goes (actor_at setup a) (actor_at setup b))
     ]
 
     -- what is on its way after the deed may go there
@@ -74,4 +77,5 @@ module _ {C : Type 0} (session : C → SessionValue) (setup : Setup) where
         → AllMayGo session setup (actor_at setup a) (actor_at setup b) now
     after_goes a b taken was rest now before after goes = subst (AllMayGo session setup (actor_at setup a) (actor_at setup b)) (sym after)
         (goes_join (actor_at setup a) (actor_at setup b) rest (sends_on deed a b)
-        (goes_back (actor_at setup a) (actor_at setup b) taken rest (subst (AllMayGo session setup (actor_at setup a) (actor_at setup b)) before goes)) (deed_goes a b))
+        (goes_back (actor_at setup a) (actor_at setup b) taken rest (subst (AllMayGo session setup (actor_at setup a) (actor_at setup b)) before goes))
+        (deed_goes a b))

@@ -69,8 +69,10 @@ by_operator setup Go before after taken sent row entry here is es =
     omega (arith, more, one_counted setup entry es here go)
 
 step_counts : (setup : Setup) (event : Event) (w v : World) (entry : JournalEntry) → Step setup event w v → IsEntryOf setup event entry → Counts setup w v entry
-step_counts setup (ByRouter r event) w v entry step is = same_group setup w v entry (ap (λ (part : OperatorPart). part.group) (router_moves setup r event w v step).operator) (ap (λ (k : ℕ). k == 26) is.coded.kind ∙ router_kind event)
-step_counts setup (ByFar p event) w v entry step is = same_group setup w v entry (ap (λ (part : OperatorPart). part.group) (far_moves setup p event w v step).operator) (ap (λ (k : ℕ). k == 26) is.coded.kind ∙ far_kind event)
+step_counts setup (ByRouter r event) w v entry step is = same_group setup w v entry
+    (ap (λ (part : OperatorPart). part.group) (router_moves setup r event w v step).operator) (ap (λ (k : ℕ). k == 26) is.coded.kind ∙ router_kind event)
+step_counts setup (ByFar p event) w v entry step is = same_group setup w v entry
+    (ap (λ (part : OperatorPart). part.group) (far_moves setup p event w v step).operator) (ap (λ (k : ℕ). k == 26) is.coded.kind ∙ far_kind event)
 step_counts setup (ByOperator event) w v entry step is = λ es.
     ap (λ (part : OperatorPart). part.group + count setup es) (operator_moves setup event w v step).operator
     ∙ by_operator setup event w.operator step.part step.taken step.sent step.row entry is.maker is es
@@ -85,4 +87,5 @@ run_counts setup (event ∷ events) (entry ∷ entries) w v are (u, step, run) =
 
 pub groups_counted : (setup : Setup) (events : List Event) (entries : List JournalEntry) (w : World) → AreEntriesOf setup events entries
     → Run setup (first_world setup) events w → w.operator.group ≡ count setup entries
-groups_counted setup events entries w are run = let all : w.operator.group ≡ 0 + count setup entries = run_counts setup events entries (first_world setup) w are run in omega (arith, all)
+groups_counted setup events entries w are run =
+    let all : w.operator.group ≡ 0 + count setup entries = run_counts setup events entries (first_world setup) w are run in omega (arith, all)

@@ -1,5 +1,6 @@
 -- A router sends nothing to itself.
-use Rattle.std.proofs.Common.{◌≡◌, ◌≢◌, ◌==◌, ℕ, Bool, true, false, List, [], ◌∷◌, ◌++◌, Option, Some, if◌then◌else◌, refl, sym, ap, ◌∙◌, subst, inl, inr, arith}
+use Rattle.std.proofs.Common.{◌≡◌, ◌≢◌, ◌==◌, ℕ, Bool, true, false, List, [], ◌∷◌, ◌++◌, Option, Some}
+use Rattle.std.proofs.Common.{if◌then◌else◌, refl, sym, ap, ◌∙◌, subst, inl, inr, arith}
 use Rattle.std.specs.List.{AllByRecursion}
 use Rattle.std.proofs.lemmas.Bool.Decides.{nat_tests}
 use Rattle.bgp_types.specs.Prefixes.{PrefixValue}
@@ -50,7 +51,8 @@ one_untold r q item untold = by_tests (r == r) (r == q) where
 
 sent_elsewhere : (r : ℕ) (sent : List RouterSent) (a b : ℕ) → a ≢ r → mesh_sent r sent a b ≡ []
 sent_elsewhere r [] a b other = refl
-sent_elsewhere r (MeshTo q item ∷ sent) a b other = let none : only2 r q item a b ≡ [] = grind (arith, nat_tests) in ap (λ (xs : List Mesh). xs ++ mesh_sent r sent a b) none ∙ sent_elsewhere r sent a b other
+sent_elsewhere r (MeshTo q item ∷ sent) a b other = let none : only2 r q item a b ≡ [] = grind (arith, nat_tests) in
+    ap (λ (xs : List Mesh). xs ++ mesh_sent r sent a b) none ∙ sent_elsewhere r sent a b other
 sent_elsewhere r (OutwardTo p item ∷ sent) a b other = sent_elsewhere r sent a b other
 sent_elsewhere r (ReportOut report ∷ sent) a b other = sent_elsewhere r sent a b other
 
@@ -117,8 +119,10 @@ still_nothing setup (ByRouter r event) w v reached step nothing a =
       | inl e ↦ subst (λ (n : ℕ). AreUntold (mesh_sent r step.sent n n)) (sym e) mine
       | inr ne ↦ subst AreUntold (sym (sent_elsewhere r step.sent a a ne)) tt
     ]
-still_nothing setup (ByFar p event) w v reached step nothing a = subst (λ (f : ℕ → ℕ → List Mesh). AreUntold (f a a)) (sym (far_moves setup p event w v step).mesh) (nothing a)
-still_nothing setup (ByOperator event) w v reached step nothing a = subst (λ (f : ℕ → ℕ → List Mesh). AreUntold (f a a)) (sym (operator_moves setup event w v step).mesh) (nothing a)
+still_nothing setup (ByFar p event) w v reached step nothing a =
+    subst (λ (f : ℕ → ℕ → List Mesh). AreUntold (f a a)) (sym (far_moves setup p event w v step).mesh) (nothing a)
+still_nothing setup (ByOperator event) w v reached step nothing a =
+    subst (λ (f : ℕ → ℕ → List Mesh). AreUntold (f a a)) (sym (operator_moves setup event w v step).mesh) (nothing a)
 
 -- ---- grafts
 

@@ -22,7 +22,8 @@ up_to_mark u v mark journal is merge =
       sorted = cut.sorted;
     }
 
-pub world_at_mark : {A C : Type 0} (own : A → OwnPart) (session : C → SessionValue) (setup : Setup) (u v : View A (Item C)) (mark : List ℕ) (journal : List JournalEntry)
+pub world_at_mark : {A C : Type 0} (own : A → OwnPart) (session : C → SessionValue)
+    (setup : Setup) (u v : View A (Item C)) (mark : List ℕ) (journal : List JournalEntry)
     → IsMarkOf u v mark → Interleaves v.journal journal
     → Ran own session setup u → (w : World) × IsWorldAtMark setup journal mark w × IsSeenAs own session setup u w
 world_at_mark own session setup u v mark journal is merge ran =

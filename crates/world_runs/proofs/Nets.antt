@@ -1,5 +1,6 @@
 -- What a net did goes on with its run.
-use Rattle.std.proofs.Common.{◌≡◌, ◌≢◌, ℕ, ◌<◌, ◌≤◌, ◌+◌, List, [], ◌∷◌, ◌++◌, length, Option, Some, None, map, slice_get, slice_index_or, refl, sym, ap, ◌∙◌, subst, inl, inr, arith}
+use Rattle.std.proofs.Common.{◌≡◌, ◌≢◌, ℕ, ◌<◌, ◌≤◌, ◌+◌, List, [], ◌∷◌, ◌++◌, length, Option, Some, None, map}
+use Rattle.std.proofs.Common.{slice_get, slice_index_or, refl, sym, ap, ◌∙◌, subst, inl, inr, arith}
 use Rattle.std.specs.List.{AllByRecursion}
 use Rattle.std.proofs.lemmas.Bool.Decides.{nat_tests}
 use Rattle.std.proofs.lemmas.Option.{slice_get-get_or, slice_get_within}
@@ -79,7 +80,8 @@ module _ {I : Type 0} where
 
 no_entries : (journals : ℕ → List JournalEntry) (merged : List JournalEntry) → ((k : ℕ) → journals k ≡ []) → Interleaves journals merged → merged ≡ []
 no_entries journals [] none merge = refl
-no_entries journals (e ∷ merged) none merge = let some : e ∷ entries_by e.actor merged ≡ [] = sym (by_here e.actor e merged refl) ∙ merge.each e.actor ∙ none e.actor in absurd cc
+no_entries journals (e ∷ merged) none merge =
+    let some : e ∷ entries_by e.actor merged ≡ [] = sym (by_here e.actor e merged refl) ∙ merge.each e.actor ∙ none e.actor in absurd cc
 
 some_item : {A : Type 0} (xs : List A) (n : ℕ) → n < length xs → A
 some_item [] n below = absurd (omega arith)
@@ -98,7 +100,8 @@ module _ {A C : Type 0} (own : A → OwnPart) (session : C → SessionValue) (se
       → own (slice_index_or actors (number_in setup x) d) ≡ record { setup = setup; name = x; part = part_of (first_world setup) x }
   first_own actors first (Router r) d there = first.routers r d there
   first_own actors first (FarSide p) d there = let h = some_peering setup p there in
-      subst (λ (o : Option PeeringSetup). own (slice_index_or actors (routers_in setup + p) d) ≡ record { setup = setup; name = FarSide p; part = FarIs (first_far o) }) (sym h.1) (first.far_sides p d h.0 h.1)
+      subst (λ (o : Option PeeringSetup). own (slice_index_or actors (routers_in setup + p) d)
+      ≡ record { setup = setup; name = FarSide p; part = FarIs (first_far o) }) (sym h.1) (first.far_sides p d h.0 h.1)
   first_own actors first Operator d there = first.operator d
 
   actor_within : (x : ActorName) → IsActor setup x → number_in setup x < actors_in setup
@@ -150,7 +153,8 @@ module _ {A C : Type 0} (own : A → OwnPart) (session : C → SessionValue) (se
     seen = record {
       lab = first_lab actors;
       is = record {
-        parts = λ k d below. (let within : k < length actors = omega (arith, below, ap (λ (xs : List A). length xs) new.all) in part_is actors first k d within ∙ ap (λ (xs : List A). own (slice_index_or xs k d)) (sym new.all));
+        parts = λ k d below. (let within : k < length actors = omega (arith, below, ap (λ (xs : List A). length xs) new.all) in
+            part_is actors first k d within ∙ ap (λ (xs : List A). own (slice_index_or xs k d)) (sym new.all));
         channels = λ a b there. sym (ap (map (λ (x : Stamped (Item C)). x.item)) (new.channels a b));
       };
       sees = first_is_lab actors first begins;
@@ -159,7 +163,8 @@ module _ {A C : Type 0} (own : A → OwnPart) (session : C → SessionValue) (se
 
 -- ---- what comes after
 
-module _ {A C : Type 0} (own : A → OwnPart) (session : C → SessionValue) (setup : Setup) (u v : View A (Item C)) (levels : List ℕ) (notes : ℕ → List (Noted (Item C))) where
+module _ {A C : Type 0} (own : A → OwnPart) (session : C → SessionValue) (setup : Setup)
+    (u v : View A (Item C)) (levels : List ℕ) (notes : ℕ → List (Noted (Item C))) where
   -- the deeds of a piece are a run of the world, from wherever the net is seen as a laboratory of a world that a run leads to
   abbrev IsRunAfter : Type 0
   IsRunAfter = (lab last : worlds.DeedWorld OwnPart (Item C)) (events : List (Noted (Item C))) (w : World) → IsSeenAs own session setup u w
@@ -172,19 +177,22 @@ module _ {A C : Type 0} (own : A → OwnPart) (session : C → SessionValue) (se
   ran_after clock order level grew more ran merged merge =
       let cut : IsCut u.journal (λ k. entries_of (notes k)) merged = cuts_at_level own (acts session) u v levels notes clock merged order level grew merge in
       let r : RanAs own session setup cut.front u = ran cut.front cut.first in
-      let s : RunsTo own (acts session) u r.seen.lab levels notes cut.back v = merge_runs own (acts session) u v levels notes cut.back r.seen.lab grew cut.second r.seen.is in
+      let s : RunsTo own (acts session) u r.seen.lab levels notes cut.back v =
+      merge_runs own (acts session) u v levels notes cut.back r.seen.lab grew cut.second r.seen.is in
       let back : IsRunOfLab session setup r.world (map (λ (d : Deed (Item C)). d.entry) (deeds s.events)) s.last =
       more r.seen.lab s.last s.events r.world r.seen r.seen.sees (record { events = r.events; run = r.run }) s.each s.run in
       record {
         events = r.events ++ back.events;
         entries_of = subst (AreEntriesOf setup (r.events ++ back.events)) (sym cut.whole)
-            (entries_join setup r.events back.events cut.front cut.back r.entries_of (subst (AreEntriesOf setup back.events) (entries_deeds s.events ∙ s.same) back.entries_of));
+            (entries_join setup r.events back.events cut.front cut.back r.entries_of
+            (subst (AreEntriesOf setup back.events) (entries_deeds s.events ∙ s.same) back.entries_of));
         world = back.after;
         run = run_join setup r.events back.events (first_world setup) r.world back.after r.run back.run;
         seen = record { lab = s.last; is = s.is; sees = back.lab };
       }
 
-module _ {A C : Type 0} (own : A → OwnPart) (session : C → SessionValue) (act_is_a_step : AnActIsAStep session) (setup : Setup) (sound : IsSetup setup) (u v : View A (Item C)) (size : length u.actors ≡ actors_in setup) (levels : List ℕ) where
+module _ {A C : Type 0} (own : A → OwnPart) (session : C → SessionValue) (act_is_a_step : AnActIsAStep session) (setup : Setup)
+    (sound : IsSetup setup) (u v : View A (Item C)) (size : length u.actors ≡ actors_in setup) (levels : List ℕ) where
   pub runs_go_on : (notes : ℕ → List (Noted (Item C))) (clock : ℕ) → InOrder u → AllAt u clock → Grew own (acts session) u v levels notes
       → ((k : ℕ) → AllByRecursion IsNoGo (deeds (notes k)))
       → Ran own session setup u → Ran own session setup v
@@ -198,11 +206,18 @@ module _ {A C : Type 0} (own : A → OwnPart) (session : C → SessionValue) (ac
   few_run : (lab last : worlds.DeedWorld OwnPart (Item C)) (did : List (Deed (Item C))) (w : World) → Reached setup w → IsLab session setup lab w
       → Quiet setup w → AllByRecursion (λ (d : Deed (Item C)). d.entry.actor < actors_in setup) did
       → length did ≤ 1 → worlds.DeedRun (acts session) lab did last → IsRunOfLab session setup w (map (λ (d : Deed (Item C)). d.entry) did) last
-  few_run lab last [] w reached is_lab quiet below few same = record { events = []; entries_of = tt; after = w; run = refl; lab = same_lab session setup lab last w same is_lab }
+  few_run lab last [] w reached is_lab quiet below few same =
+      record { events = []; entries_of = tt; after = w; run = refl; lab = same_lab session setup lab last w same is_lab }
   few_run lab last (deed ∷ []) w reached is_lab quiet below few (mid, step, same) =
       let x = actor_below setup deed.entry.actor below.0 in
       let s : IsStepOfLab session setup w deed.entry mid = act_is_a_step setup lab mid deed w x.0 sound reached is_lab x.1 step (λ go. quiet) in
-      record { events = s.event ∷ []; entries_of = (s.entry_of, tt); after = s.after; run = (s.after, s.step, refl); lab = same_lab session setup mid last s.after same s.lab }
+      record {
+        events = s.event ∷ [];
+        entries_of = (s.entry_of, tt);
+        after = s.after;
+        run = (s.after, s.step, refl);
+        lab = same_lab session setup mid last s.after same s.lab;
+      }
   few_run lab last (deed ∷ other ∷ did) w reached is_lab quiet below few run = absurd (omega (arith, few))
 
   pub goes_on : (k : ℕ) (did : List (Deed (Item C))) (clock : ℕ) → InOrder u → AllAt u clock
@@ -217,6 +232,8 @@ module _ {A C : Type 0} (own : A → OwnPart) (session : C → SessionValue) (ac
 
     more : IsRunAfter own session setup u v levels (at_mark own (acts session) k did)
     more lab last events w seen is_lab reached each run =
-        let is : deeds events ≡ did = ap (λ (ns : List (Noted (Item C))). deeds ns) (sym (all_one k events (λ j ne. each j ∙ elsewhere j ne)) ∙ each k ∙ here) ∙ deeds_noted 0 did in
+        let is : deeds events ≡ did =
+        ap (λ (ns : List (Noted (Item C))). deeds ns) (sym (all_one k events (λ j ne. each j ∙ elsewhere j ne)) ∙ each k ∙ here) ∙ deeds_noted 0 did in
         few_run lab last (deeds events) w reached is_lab (quiet w seen reached)
-        (all_below (actors_in setup) events (λ j past. each j ∙ grew.none j (omega (arith, past, size)))) (omega (arith, few, ap (λ (ds : List (Deed (Item C))). length ds) is)) run
+        (all_below (actors_in setup) events (λ j past. each j ∙ grew.none j (omega (arith, past, size))))
+        (omega (arith, few, ap (λ (ds : List (Deed (Item C))). length ds) is)) run

@@ -18,7 +18,8 @@ use Rattle.settled_check.specs.Worlds.{Fits, StreamsFit, IsOnTheWay}
 use Rattle.world_runs.specs.Runs.{TransparentThroughout}
 use Rattle.world_runs.proofs.Runs.{run_cut}
 
-pub transparent_throughout : ((setup : Setup) (events : List Event) (w : World) (p : ℕ) → IsSetup setup → Run setup (first_world setup) events w → p < peerings_in setup → Transparent setup w p)
+pub transparent_throughout : ((setup : Setup) (events : List Event) (w : World) (p : ℕ) → IsSetup setup
+    → Run setup (first_world setup) events w → p < peerings_in setup → Transparent setup w p)
     → (setup : Setup) (events : List Event) (w : World) → IsSetup setup → Run setup (first_world setup) events w → TransparentThroughout setup events
 transparent_throughout transparent setup events w sound run front back e =
     let h = run_cut setup front back (first_world setup) w (subst (λ (all : List Event). Run setup (first_world setup) all w) e run) in

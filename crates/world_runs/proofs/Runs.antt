@@ -87,9 +87,11 @@ module _ {C : Type 0} (session : C → SessionValue) (act_is_a_step : AnActIsASt
       → IsLab session setup lab w → AllByRecursion (λ (d : Deed (Item C)). d.entry.actor < actors_in setup) deeds
       → AllByRecursion IsNoGo deeds → worlds.DeedRun (acts session) lab deeds last
       → IsRunOfLab session setup w (map (λ (d : Deed (Item C)). d.entry) deeds) last
-  acts_run lab last [] w reached is_lab below no_go same = record { events = []; entries_of = tt; after = w; run = refl; lab = same_lab session setup lab last w same is_lab }
+  acts_run lab last [] w reached is_lab below no_go same =
+      record { events = []; entries_of = tt; after = w; run = refl; lab = same_lab session setup lab last w same is_lab }
   acts_run lab last (deed ∷ deeds) w reached is_lab below no_go (mid, step, run) =
       let x = actor_below setup deed.entry.actor below.0 in
       let s : IsStepOfLab session setup w deed.entry mid = act_is_a_step setup lab mid deed w x.0 sound reached is_lab x.1 step (λ go. absurd (no_go.0 go)) in
-      let r : IsRunOfLab session setup s.after (map (λ (d : Deed (Item C)). d.entry) deeds) last = acts_run mid last deeds s.after (reached_more setup s.event w s.after reached s.step) s.lab below.1 no_go.1 run in
+      let r : IsRunOfLab session setup s.after (map (λ (d : Deed (Item C)). d.entry) deeds) last =
+      acts_run mid last deeds s.after (reached_more setup s.event w s.after reached s.step) s.lab below.1 no_go.1 run in
       record { events = s.event ∷ r.events; entries_of = (s.entry_of, r.entries_of); after = r.after; run = (s.after, s.step, r.run); lab = r.lab }

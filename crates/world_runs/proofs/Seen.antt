@@ -1,5 +1,6 @@
 -- Where a group begins.
-use Rattle.std.proofs.Common.{◌≡◌, ◌≢◌, ℕ, ◌-◌, List, ◌++◌, length, take, drop, Option, Some, None, option_map, sym, ap, ◌∙◌, subst, inl, inr, arith, append_assoc}
+use Rattle.std.proofs.Common.{◌≡◌, ◌≢◌, ℕ, ◌-◌, List, ◌++◌, length, take, drop, Option, Some, None}
+use Rattle.std.proofs.Common.{option_map, sym, ap, ◌∙◌, subst, inl, inr, arith, append_assoc}
 use Rattle.std.specs.Prelude.{◌↔◌}
 use Rattle.std.proofs.lemmas.List.{length-append}
 use Rattle.std.proofs.Math.Seq.{take-append_seam, drop-append_seam}
@@ -31,7 +32,8 @@ noted_is : (setup : Setup) (journal : List JournalEntry) (mark next : List ℕ) 
 noted_is setup journal mark next had new more is at_mark at_next =
     let op : ℕ = operator_number setup in
     let all : List JournalEntry = entries_by op journal in
-    let rest : drop (before mark op) all ≡ new ++ more = ap (λ (n : ℕ). drop n all) at_mark ∙ ap (λ (xs : List JournalEntry). drop (length had) xs) (is ∙ append_assoc had new more) ∙ drop-append_seam had (new ++ more) in
+    let rest : drop (before mark op) all ≡ new ++ more = ap (λ (n : ℕ). drop n all) at_mark
+    ∙ ap (λ (xs : List JournalEntry). drop (length had) xs) (is ∙ append_assoc had new more) ∙ drop-append_seam had (new ++ more) in
     let many : before next op - before mark op ≡ length new = omega (arith, at_mark, at_next, length-append had new) in
     ap (λ (n : ℕ). take n (drop (before mark op) all)) many ∙ ap (λ (xs : List JournalEntry). take (length new) xs) rest ∙ take-append_seam new more
 
@@ -39,9 +41,11 @@ pub group_seen : (setup : Setup) (journal : List JournalEntry) (mark next : List
     → entries_by (operator_number setup) journal ≡ (had ++ new) ++ more
     → before mark (operator_number setup) ≡ length had → before next (operator_number setup) ≡ length (had ++ new)
     → (GoFollows setup journal mark next ↔ BeginsWithGo new) × (NoGoFollows setup journal mark next ↔ BeginsNone new)
-group_seen setup journal mark next had new more is at_mark at_next = ((subst BeginsWithGo noted, subst BeginsWithGo (sym noted)), (subst BeginsNone noted, subst BeginsNone (sym noted))) where
-  noted : noted_between setup journal mark next ≡ new
-  noted = noted_is setup journal mark next had new more is at_mark at_next
+group_seen setup journal mark next had new more is at_mark at_next =
+    ((subst BeginsWithGo noted, subst BeginsWithGo (sym noted)), (subst BeginsNone noted, subst BeginsNone (sym noted)))
+  where
+    noted : noted_between setup journal mark next ≡ new
+    noted = noted_is setup journal mark next had new more is at_mark at_next
 
 -- ---- in a quiet world
 
@@ -60,16 +64,21 @@ nothing_open setup w quiet = (
 module _ (setup : Setup) (part : OperatorPart) (none : ¬ HasUnissued setup part) where
   no_order : (step number : ℕ) (taken : Option OperatorTaken) (sent : List OperatorSent) (after : OperatorPart)
       → operator_row setup (Order step number) part taken sent after → ⊥
-  no_order step number taken sent after (inl row) = none (inl (step, record { peering = row.peering; bytes = row.bytes; is = row.is; group = row.group; unissued = row.unissued }))
+  no_order step number taken sent after (inl row) =
+      none (inl (step, record { peering = row.peering; bytes = row.bytes; is = row.is; group = row.group; unissued = row.unissued }))
   no_order step number taken sent after (inr row) =
       let made : target_in setup part row.graft ≢ None = λ e. (let h = row.is in cc) in
-      none (inr (row.graft, (record { known = row.known; group = ap (group_of setup) row.by_step ∙ row.group; made = made; unended = row.unended }, row.unordered)))
+      none (inr (
+        row.graft,
+        (record { known = row.known; group = ap (group_of setup) row.by_step ∙ row.group; made = made; unended = row.unended }, row.unordered),
+      ))
 
   goes : (event : OperatorEvent) (entry : JournalEntry) (taken : Option OperatorTaken) (sent : List OperatorSent) (after : OperatorPart)
       → operator_row setup event part taken sent after → HasCode (operator_code event) entry
       → None ≡ option_map (λ t. numbered setup (taken_by_operator t)) taken → IsGo entry
   goes (Order step number) entry taken sent after row coded untaken = absurd (no_order step number taken sent after row)
-  goes (Note router) entry taken sent after row coded untaken = let some = untaken ∙ ap (option_map (λ (t : OperatorTaken). numbered setup (taken_by_operator t))) row.takes in absurd cc
+  goes (Note router) entry taken sent after row coded untaken =
+      let some = untaken ∙ ap (option_map (λ (t : OperatorTaken). numbered setup (taken_by_operator t))) row.takes in absurd cc
   goes Go entry taken sent after row coded untaken = coded.kind
 
   row_goes : (entry : JournalEntry) (sent : List (ℕ × Thing)) (after : ActorPart)
@@ -78,7 +87,8 @@ module _ (setup : Setup) (part : OperatorPart) (none : ¬ HasUnissued setup part
   row_goes entry sent (FarIs after) row = absurd row
   row_goes entry sent (OperatorIs after) row = goes row.event entry row.took row.gave after row.holds row.coded row.is_taken
 
-pub act_goes : {C : Type 0} (session : C → SessionValue) (setup : Setup) (part : OperatorPart) (entry : JournalEntry) (sent : List (ℕ × Item C)) (after : OwnPart)
+pub act_goes : {C : Type 0} (session : C → SessionValue) (setup : Setup)
+    (part : OperatorPart) (entry : JournalEntry) (sent : List (ℕ × Item C)) (after : OwnPart)
     → ¬ HasUnissued setup part
     → ActsAs session (record { setup = setup; name = Operator; part = OperatorIs part }) entry None sent after → IsGo entry
 act_goes session setup part entry sent after none act = elim act.does [

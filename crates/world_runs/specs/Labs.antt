@@ -41,4 +41,5 @@ pub record AreFirstActors {A : Type 0} (own : A → OwnPart) (setup : Setup) (ac
   pub far_sides : (p : ℕ) (d : A) (peering : PeeringSetup) → slice_get setup.peerings p ≡ Some peering
       → own (slice_index_or actors (routers_in setup + p) d) ≡ record { setup = setup; name = FarSide p; part = FarIs (first_far (Some peering)) }
   pub operator : (d : A)
-      → own (slice_index_or actors (routers_in setup + peerings_in setup) d) ≡ record { setup = setup; name = Operator; part = OperatorIs (first_world setup).operator }
+      → own (slice_index_or actors (routers_in setup + peerings_in setup) d)
+      ≡ record { setup = setup; name = Operator; part = OperatorIs (first_world setup).operator }

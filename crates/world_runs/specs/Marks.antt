@@ -60,7 +60,8 @@ GroupsAreCounted = (setup : Setup) (events : List Event) (entries : List Journal
 
 -- the operator's entries between two marks
 abbrev pub noted_between : Setup → List JournalEntry → (mark next : List ℕ) → List JournalEntry
-noted_between setup journal mark next = take (before next (operator_number setup) - before mark (operator_number setup)) (drop (before mark (operator_number setup)) (entries_by (operator_number setup) journal))
+noted_between setup journal mark next = take (before next (operator_number setup) - before mark (operator_number setup))
+    (drop (before mark (operator_number setup)) (entries_by (operator_number setup) journal))
 
 -- no group begins
 abbrev pub BeginsNone : List JournalEntry → Type 0

@@ -2,7 +2,8 @@
 
 ghost use Rattle.session_value.specs.Sessions.{SessionValue};
 ghost use Rattle.graft_actors.specs.Acts.{OwnPart};
-ghost use Rattle.world_runs.specs.Laws.{AnActIsAStep, ActsAreARun, NothingWasDropped, NewNetsRan, RunsGoOn, ExtendsAtMark, RunsAreTransparent, WorldsAreOnTheWay, NobodyWritesToItself};
+ghost use Rattle.world_runs.specs.Laws.{AnActIsAStep, ActsAreARun, NothingWasDropped, NewNetsRan, RunsGoOn};
+ghost use Rattle.world_runs.specs.Laws.{ExtendsAtMark, RunsAreTransparent, WorldsAreOnTheWay, NobodyWritesToItself};
 ghost use Rattle.std.specs.Prelude.{ℕ, ◌≡◌, List};
 ghost use Rattle.ring_net.specs.declared.entry.JournalEntry.{JournalEntry};
 ghost use Rattle.graft_model.specs.Setups.{Setup, IsSetup};

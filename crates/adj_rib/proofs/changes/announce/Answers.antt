@@ -18,7 +18,8 @@ loop-prefix-preserved c =
     let attrs = c.args.attrs.now in
     let start = c.args.routes.now in
     let lt : i < length prefixes = omega arith in
-    let among : list_any (same_prefix p) prefixes ≡ true = list_any_at (same_prefix p) prefixes i p lt (ap (same_prefix p) (sym c.prefix-item.is) ∙ same_itself p) in
+    let among : list_any (same_prefix p) prefixes ≡ true =
+    list_any_at (same_prefix p) prefixes i p lt (ap (same_prefix p) (sym c.prefix-item.is) ∙ same_itself p) in
     let is : arc_value c.in_ok-shared.shared ≡ attrs = c.in_ok-shared.ensures.ok ∙ c.in_ok-copy.ensures in
     record {
       routes = c.in_ok-announce_one.ensures.routes
@@ -26,5 +27,6 @@ loop-prefix-preserved c =
           ∙ (ap (λ (r : Routes). map.insert r p attrs) c.loop-prefix.invariant.routes
           ∙ (ap (announced (Some attrs) (fold (announced (Some attrs)) start (take i prefixes))) c.prefix-item.is
           ∙ sym (fold_more (announced (Some attrs)) start prefixes i p lt))));
-      changed = λ before to gives m. c.in_ok-announce_one.ensures.changed before to (gives p among ∙ ap Some (sym is)) (c.loop-prefix.invariant.changed before to gives m);
+      changed = λ before to gives m.
+          c.in_ok-announce_one.ensures.changed before to (gives p among ∙ ap Some (sym is)) (c.loop-prefix.invariant.changed before to gives m);
     }

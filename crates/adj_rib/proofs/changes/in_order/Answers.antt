@@ -14,7 +14,8 @@ use Rattle.adj_rib.proofs.changes.in_order.Goals as goal
 pub returns-clause-rising : goal.returns-clause-rising
 returns-clause-rising c =
     let is = c.from_vec.ensures ∙ dedup_is _ _ _ c.dedup.ensures.filtered in
-    subst (λ (ps : List PrefixValue). IsStrictlySortedBy prefix_cmp ps) (sym is) (IsStrictlySortedBy-dedup prefix_total (λ p q. sym (one_test p q)) _ c.sort_unstable.ensures.sorted)
+    subst (λ (ps : List PrefixValue). IsStrictlySortedBy prefix_cmp ps) (sym is)
+    (IsStrictlySortedBy-dedup prefix_total (λ p q. sym (one_test p q)) _ c.sort_unstable.ensures.sorted)
 
 pub returns-clause-same : goal.returns-clause-same
 returns-clause-same c = λ p.

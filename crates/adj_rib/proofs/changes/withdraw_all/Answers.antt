@@ -22,5 +22,6 @@ returns-clause-routes c =
 pub returns-clause-changed : goal.returns-clause-changed
 returns-clause-changed c =
     let u = c.args.update.now in
-    let among : (p : PrefixValue) → list_any (same_prefix p) c.as_slice-2.result.now ≡ is_some (given_by_update u p) = λ p. ap (list_any (same_prefix p)) c.as_slice-2.ensures ∙ c.in_ok-announced.ensures.given p in
+    let among : (p : PrefixValue) → list_any (same_prefix p) c.as_slice-2.result.now ≡ is_some (given_by_update u p) =
+    λ p. ap (list_any (same_prefix p)) c.as_slice-2.ensures ∙ c.in_ok-announced.ensures.given p in
     λ before m. c.in_ok-withdraw.ensures.changed before (given_by_update u) among m

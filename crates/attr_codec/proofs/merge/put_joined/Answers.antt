@@ -6,4 +6,5 @@ use Rattle.attr_codec.proofs.merge.put_joined.Goals as goal
 
 pub returns-in-Some : goal.returns-in-Some
 returns-in-Some c =
-    on_ok_weaker c.put_parts.result (λ d. d ∙ (sym (push_joined_last c.pop.new.self.items c.in-Some.last c.args.part) ∙ ap (λ xs. push_joined xs c.args.part) (sym c.in-Some.ensures.items))) c.put_parts.ensures
+    on_ok_weaker c.put_parts.result (λ d. d ∙ (sym (push_joined_last c.pop.new.self.items c.in-Some.last c.args.part)
+    ∙ ap (λ xs. push_joined xs c.args.part) (sym c.in-Some.ensures.items))) c.put_parts.ensures

@@ -16,7 +16,8 @@ pub loop-rest-preserved : goal.loop-rest-preserved
 loop-rest-preserved c =
     let e : part_at c.args.wide c.loop-rest.rest.now ≡ Some (c.in-Some.part, c.in-Some.after.now) = search rules in
     let p : c.push.new.self ≡ c.loop-rest.path ++ c.in-Some.part ∷ [] = search rules in
-    rw p (after_more (part_at c.args.wide) (part_shortens c.args.wide) c.loop-rest.path c.loop-rest.rest.now (c.in-Some.part, c.in-Some.after.now) (many (part_at c.args.wide) c.args.value.now) e c.loop-rest.invariant)
+    rw p (after_more (part_at c.args.wide) (part_shortens c.args.wide) c.loop-rest.path c.loop-rest.rest.now
+    (c.in-Some.part, c.in-Some.after.now) (many (part_at c.args.wide) c.args.value.now) e c.loop-rest.invariant)
 
 pub returns : goal.returns
 returns c =

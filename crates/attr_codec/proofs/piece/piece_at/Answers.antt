@@ -8,4 +8,5 @@ pub returns-clause-octets : goal.returns-clause-octets
 returns-clause-octets c =
     let f = c.in_ok-flags in
     let e : attr_at c.args.bytes.now ≡ Some (wire_of f.flags f.kind f.value.now, f.after.now) = search rules in
-    front_is c.args.bytes.now (wire_of f.flags f.kind f.value.now) f.after.now c.octets_before-octets.result.now (λ i. omega (arith, c.type_inv.bytes i)) e c.octets_before-octets.ensures
+    front_is c.args.bytes.now (wire_of f.flags f.kind f.value.now) f.after.now c.octets_before-octets.result.now
+    (λ i. omega (arith, c.type_inv.bytes i)) e c.octets_before-octets.ensures

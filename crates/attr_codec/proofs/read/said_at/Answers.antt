@@ -11,13 +11,16 @@ use Rattle.attr_codec.proofs.read.said_at.Goals as goal
 pub loop-rest-init : goal.loop-rest-init
 loop-rest-init c =
     let e = c.no_types-seen.ensures in
-    begins c.args.wide c.args.bytes.now c.new-said.result c.no_types-seen.result (c.new-said.ensures c.args.wide) e.size (λ k lt. let size = e.size in All-get_or (λ there. there ≡ false) c.no_types-seen.result k false (omega arith) e.none)
+    begins c.args.wide c.args.bytes.now c.new-said.result c.no_types-seen.result (c.new-said.ensures c.args.wide) e.size
+    (λ k lt. let size = e.size in All-get_or (λ there. there ≡ false) c.no_types-seen.result k false (omega arith) e.none)
 
 pub returns-in_default : goal.returns-in_default
 returns-in_default c =
     let e : attr_at c.loop-rest.rest.now ≡ None = search rules in
     let lt : 0 < length c.loop-rest.rest.now = search rules in
-    subst (Stops c.bare_fault.result) (sym (cut_short c.args.wide c.args.bytes.now c.loop-rest.rest.now c.loop-rest.said c.loop-rest.seen c.loop-rest.invariant e lt)) c.bare_fault.ensures
+    subst (Stops c.bare_fault.result)
+    (sym (cut_short c.args.wide c.args.bytes.now c.loop-rest.rest.now c.loop-rest.said c.loop-rest.seen c.loop-rest.invariant e lt))
+    c.bare_fault.ensures
 
 pub returns-then-seen-kind : goal.returns-then-seen-kind
 returns-then-seen-kind c =
@@ -26,7 +29,8 @@ returns-then-seen-kind c =
     let k = c.from-kind.ensures in
     let h = c.if-seen-kind.true in
     let old : get_or c.loop-rest.seen c.in-Some.piece.kind false ≡ true = subst (λ (i : ℕ). get_or c.loop-rest.seen i false ≡ true) k h in
-    subst (Stops c.bare_fault-then-seen-kind.result) (sym (repeats c.args.wide c.args.bytes.now c.loop-rest.rest.now c.loop-rest.said c.loop-rest.seen c.loop-rest.invariant (wire c.in-Some.piece) c.in-Some.after.now e lt old)) c.bare_fault-then-seen-kind.ensures
+    subst (Stops c.bare_fault-then-seen-kind.result) (sym (repeats c.args.wide c.args.bytes.now c.loop-rest.rest.now c.loop-rest.said
+    c.loop-rest.seen c.loop-rest.invariant (wire c.in-Some.piece) c.in-Some.after.now e lt old)) c.bare_fault-then-seen-kind.ensures
 
 pub returns-in_err-add : goal.returns-in_err-add
 returns-in_err-add c =
@@ -36,7 +40,8 @@ returns-in_err-add c =
     let h = c.if-seen-kind.false in
     let new : get_or c.loop-rest.seen c.in-Some.piece.kind false ≡ false = subst (λ (i : ℕ). get_or c.loop-rest.seen i false ≡ false) k h in
     let p = err_from_is_err_and c.from_residual.result c.from_residual.ensures.1 in
-    rw (p.1, p.2) (fails c.args.wide c.args.bytes.now c.loop-rest.rest.now c.loop-rest.said c.loop-rest.seen c.loop-rest.invariant (wire c.in-Some.piece) c.in-Some.after.now c.in_err-add.field-0.0 e lt new c.in_err-add.ensures.fault)
+    rw (p.1, p.2) (fails c.args.wide c.args.bytes.now c.loop-rest.rest.now c.loop-rest.said c.loop-rest.seen c.loop-rest.invariant
+    (wire c.in-Some.piece) c.in-Some.after.now c.in_err-add.field-0.0 e lt new c.in_err-add.ensures.fault)
 
 pub loop-rest-preserved : goal.loop-rest-preserved
 loop-rest-preserved c =
@@ -45,7 +50,9 @@ loop-rest-preserved c =
     let k = c.from-kind.ensures in
     let h = c.if-seen-kind.false in
     let new : get_or c.loop-rest.seen c.in-Some.piece.kind false ≡ false = subst (λ (i : ℕ). get_or c.loop-rest.seen i false ≡ false) k h in
-    goes_on c.args.wide c.args.bytes.now c.loop-rest.rest.now c.loop-rest.said c.loop-rest.seen (wire c.in-Some.piece) c.in-Some.after.now c.add.new.self _ c.loop-rest.invariant e lt new c.in_ok-add.ensures.fault c.in_ok-add.ensures.said (ap (λ (i : ℕ). set c.loop-rest.seen i true) k) (length-set c.loop-rest.seen c.from-kind.result true ∙ c.loop-rest.invariant.table.size)
+    goes_on c.args.wide c.args.bytes.now c.loop-rest.rest.now c.loop-rest.said c.loop-rest.seen
+    (wire c.in-Some.piece) c.in-Some.after.now c.add.new.self _ c.loop-rest.invariant e lt new c.in_ok-add.ensures.fault c.in_ok-add.ensures.said
+    (ap (λ (i : ℕ). set c.loop-rest.seen i true) k) (length-set c.loop-rest.seen c.from-kind.result true ∙ c.loop-rest.invariant.table.size)
 
 pub returns : goal.returns
 returns c =

@@ -14,4 +14,6 @@ returns c =
     let e3 : c.put_attr-3.new.out ≡ c.put_attr-2.new.out ++ attr_octets (next_hop_written a.next_hop) = search rules in
     let e4 : c.put_med.new.out ≡ c.put_attr-3.new.out ++ flat_map attr_octets (med_written a.med) = search rules in
     let e5 : c.put_atomic.new.out ≡ c.put_med.new.out ++ flat_map attr_octets (atomic_written a.atomic) = search rules in
-    on_ok_weaker c.put_aggregator.result (λ e6. known_put c.args.out.now c.put_attr.new.out c.put_attr-2.new.out c.put_attr-3.new.out c.put_med.new.out c.put_atomic.new.out c.put_aggregator.new.out (origin_written a.origin) (path_written c.args.wide a.path) (next_hop_written a.next_hop) (med_written a.med) (atomic_written a.atomic) (aggregator_written c.args.wide a.aggregator) e1 e2 e3 e4 e5 e6) c.put_aggregator.ensures
+    on_ok_weaker c.put_aggregator.result (λ e6. known_put c.args.out.now c.put_attr.new.out c.put_attr-2.new.out c.put_attr-3.new.out c.put_med.new.out
+    c.put_atomic.new.out c.put_aggregator.new.out (origin_written a.origin) (path_written c.args.wide a.path) (next_hop_written a.next_hop)
+    (med_written a.med) (atomic_written a.atomic) (aggregator_written c.args.wide a.aggregator) e1 e2 e3 e4 e5 e6) c.put_aggregator.ensures

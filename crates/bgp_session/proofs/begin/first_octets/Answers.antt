@@ -6,4 +6,5 @@ use Rattle.bgp_session.proofs.Begun.{first_writable}
 use Rattle.bgp_session.proofs.begin.first_octets.Goals as goal
 
 pub write_message-requires : goal.write_message-requires
-write_message-requires c = subst (λ (o : open_type.OpenMsg). IsWritable (OpenMsg o) false) (sym c.in_ok-open.ensures) (first_writable c.args.config.now c.requires)
+write_message-requires c =
+    subst (λ (o : open_type.OpenMsg). IsWritable (OpenMsg o) false) (sym c.in_ok-open.ensures) (first_writable c.args.config.now c.requires)

@@ -15,6 +15,8 @@ first_end-requires c = rw (c.as_slice.ensures, c.in_ok-octets.ensures) (let shor
 pub returns-clause-keeps : goal.returns-clause-keeps
 returns-clause-keeps c =
     (begins c.args.config c.args.alloc c.requires (omega arith) (omega arith) c.in_ok-story.story c.new.result c.new-2.result c.in_ok-end.end
-    (c.in_ok-story.ensures ∙ ap (λ (o : open_type.OpenMsg). let s : StoryValue = record { lines = Put (OpenMsg o) ∷ []; remote_as = c.args.config.remote_as } in s) c.in_ok-open.ensures)
+    (c.in_ok-story.ensures ∙ ap (λ (o : open_type.OpenMsg).
+    let s : StoryValue = record { lines = Put (OpenMsg o) ∷ []; remote_as = c.args.config.remote_as } in s) c.in_ok-open.ensures)
     c.new.ensures c.new-2.ensures
-    (c.in_ok-end.ensures ∙ ap (λ (xs : List ℕ). let e : EndState = record (fresh_end Remote c.args.config.peering c.args.config.send_first c.args.config.receive_first) { waiting = xs } in e) (c.as_slice.ensures ∙ c.in_ok-octets.ensures))).1
+    (c.in_ok-end.ensures ∙ ap (λ (xs : List ℕ). let e : EndState = record (fresh_end Remote c.args.config.peering
+    c.args.config.send_first c.args.config.receive_first) { waiting = xs } in e) (c.as_slice.ensures ∙ c.in_ok-octets.ensures))).1

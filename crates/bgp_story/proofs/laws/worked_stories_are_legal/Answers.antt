@@ -1,5 +1,7 @@
 use Rattle.std.proofs.Common.{refl, lit<}
-use Rattle.bgp_story.proofs.WorkedStories.{peering_is, heard_all, heard_routes, told_all, told_routes, withdrawn_all, none_told, beaten, expired, wide_all, wide_puts, offered_in_vain, stays_narrow, lesser_hold, unicast_all, unicast_puts, unicast_stays_narrow, both_all, both_puts, both_is_wide}
+use Rattle.bgp_story.proofs.WorkedStories.{peering_is, heard_all, heard_routes, told_all, told_routes, withdrawn_all, none_told, beaten}
+use Rattle.bgp_story.proofs.WorkedStories.{expired, wide_all, wide_puts, offered_in_vain, stays_narrow, lesser_hold, unicast_all}
+use Rattle.bgp_story.proofs.WorkedStories.{unicast_puts, unicast_stays_narrow, both_all, both_puts, both_is_wide}
 use Rattle.bgp_story.proofs.laws.worked_stories_are_legal.Goals as goal
 
 pub returns : goal.returns

@@ -9,7 +9,8 @@ none_found Is None e none = none
 none_found Is (Some x) e none = absurd cc
 
 pub returns-in_err-address : goal.returns-in_err-address
-returns-in_err-address c = none_found (IsPrefixText c.args.text.now) c.from_residual.result c.from_residual.ensures (prefix_parts c.args.text.now None c.in_err-address.ensures.cases)
+returns-in_err-address c = none_found (IsPrefixText c.args.text.now) c.from_residual.result c.from_residual.ensures
+    (prefix_parts c.args.text.now None c.in_err-address.ensures.cases)
 
 pub returns-in_err-address-2 : goal.returns-in_err-address-2
 returns-in_err-address-2 c = none_found (IsPrefixText c.args.text.now) c.from_residual-in_err-address-2.result c.from_residual-in_err-address-2.ensures (λ p is.

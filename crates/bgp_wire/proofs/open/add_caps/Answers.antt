@@ -17,7 +17,8 @@ returns-in_default-clause-fault c =
 pub loop-rest-preserved : goal.loop-rest-preserved
 loop-rest-preserved c =
     let e : cap_at c.loop-rest.rest.now ≡ Some (cap_of c.in-Some.item, c.in-Some.after.now) = search rules in
-    adds_one c.args.octets.now c.loop-rest.rest.now c.args.caps.now c.loop-rest.caps (cap_of c.in-Some.item) c.in-Some.after.now c.push.new.self c.loop-rest.invariant e (search rules)
+    adds_one c.args.octets.now c.loop-rest.rest.now c.args.caps.now c.loop-rest.caps
+    (cap_of c.in-Some.item) c.in-Some.after.now c.push.new.self c.loop-rest.invariant e (search rules)
 
 pub returns-clause-fault : goal.returns-clause-fault
 returns-clause-fault c = (added_all c.args.octets.now c.loop-rest.rest.now c.args.caps.now c.loop-rest.caps c.loop-rest.invariant (search rules)).1

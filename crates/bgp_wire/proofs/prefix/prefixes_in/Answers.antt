@@ -17,5 +17,6 @@ pub loop-rest-preserved : goal.loop-rest-preserved
 loop-rest-preserved c =
     let e : front_said c.loop-rest.rest.now ≡ Some (c.in-Some.prefix, c.in-Some.after.now) = search rules in
     let p : c.put_once.new.list ≡ put_once c.loop-rest.prefixes c.in-Some.prefix = search rules in
-    let s : Reading c.args.field.now c.in-Some.after.now c.put_once.new.list = goes_on c.args.field.now c.loop-rest.rest.now c.loop-rest.prefixes c.in-Some.prefix c.in-Some.after.now c.put_once.new.list c.loop-rest.invariant.so_far e p in
+    let s : Reading c.args.field.now c.in-Some.after.now c.put_once.new.list = goes_on c.args.field.now c.loop-rest.rest.now
+    c.loop-rest.prefixes c.in-Some.prefix c.in-Some.after.now c.put_once.new.list c.loop-rest.invariant.so_far e p in
     record { set = search rules; so_far = subst (λ (left : List ℕ). Reading c.args.field.now left c.put_once.new.list) (search rules) s }

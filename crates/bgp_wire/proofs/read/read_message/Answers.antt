@@ -16,7 +16,8 @@ split_at-requires c = let s = (sound_is c.args.bytes.now c.requires).long in ome
 pub returns-then-not-is_in_state : goal.returns-then-not-is_in_state
 returns-then-not-is_in_state c =
     let t : is_in_state c.args.expected.now.state (kind_in c.args.bytes.now) ≡ false = search rules in
-    subst (Stops c.fault.result) (sym (ap fault_in (not_taken c.args.expected.now c.args.bytes.now (sound_is c.args.bytes.now c.requires).header t))) c.fault.ensures
+    subst (Stops c.fault.result)
+    (sym (ap fault_in (not_taken c.args.expected.now c.args.bytes.now (sound_is c.args.bytes.now c.requires).header t))) c.fault.ensures
 
 pub read_body-requires-clause-open_long : goal.read_body-requires-clause-open_long
 read_body-requires-clause-open_long c =

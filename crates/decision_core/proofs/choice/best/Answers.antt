@@ -7,8 +7,10 @@ use Rattle.decision_core.proofs.choice.best.Goals.{then-is_next, else-is_next}
 
 pub loop-index-preserved : goal.loop-index-preserved
 loop-index-preserved c = elim c.if-is_next.branch [
-  | then-is_next w ↦ nearest_more c.in_ok-leader.leader c.args.list.now c.loop-index.index no_rank _ _ c.loop-index-test.true c.loop-index.invariant (chosen _ _ _ _ (sym c.is_next.ensures ∙ w.if-is_next.true) w.nearest-is)
-  | else-is_next w ↦ nearest_more c.in_ok-leader.leader c.args.list.now c.loop-index.index no_rank _ _ c.loop-index-test.true c.loop-index.invariant (passed_over _ _ _ _ (sym c.is_next.ensures ∙ w.if-is_next.false) w.nearest-is)
+  | then-is_next w ↦ nearest_more c.in_ok-leader.leader c.args.list.now c.loop-index.index no_rank _ _ c.loop-index-test.true c.loop-index.invariant
+      (chosen _ _ _ _ (sym c.is_next.ensures ∙ w.if-is_next.true) w.nearest-is)
+  | else-is_next w ↦ nearest_more c.in_ok-leader.leader c.args.list.now c.loop-index.index no_rank _ _ c.loop-index-test.true c.loop-index.invariant
+      (passed_over _ _ _ _ (sym c.is_next.ensures ∙ w.if-is_next.false) w.nearest-is)
 ]
 
 pub returns-clause-choice : goal.returns-clause-choice

@@ -14,7 +14,8 @@ returns-clause-found c =
     let es = c.args.entries.now in
     let facts = c.binary_search_by_key.ensures in
     let by_key = facts.position (λ e. e.0) (answers_always _ _ _ (λ f a r h called. search rules)) in
-    let by_order = subst (λ (f : RankedSource → Ordering). IsBinarySearchResult f es c.binary_search_by_key.result) (fun_ext (λ (e : RankedSource). derived_order e.0 c.args.from)) by_key in
+    let by_order = subst (λ (f : RankedSource → Ordering). IsBinarySearchResult f es c.binary_search_by_key.result)
+    (fun_ext (λ (e : RankedSource). derived_order e.0 c.args.from)) by_key in
     (searched from_order_total c.args.from es c.requires c.binary_search_by_key.result facts.bound by_order).found
 
 pub returns-clause-absent : goal.returns-clause-absent
@@ -22,5 +23,6 @@ returns-clause-absent c =
     let es = c.args.entries.now in
     let facts = c.binary_search_by_key.ensures in
     let by_key = facts.position (λ e. e.0) (answers_always _ _ _ (λ f a r h called. search rules)) in
-    let by_order = subst (λ (f : RankedSource → Ordering). IsBinarySearchResult f es c.binary_search_by_key.result) (fun_ext (λ (e : RankedSource). derived_order e.0 c.args.from)) by_key in
+    let by_order = subst (λ (f : RankedSource → Ordering). IsBinarySearchResult f es c.binary_search_by_key.result)
+    (fun_ext (λ (e : RankedSource). derived_order e.0 c.args.from)) by_key in
     (searched from_order_total c.args.from es c.requires c.binary_search_by_key.result facts.bound by_order).absent

@@ -22,4 +22,5 @@ returns-clause-sent g c = on_ok_weaker c.send.result
     (late_from c.args.far.now.remote c.in_ok-segment.field-0 c.in-Some.segment c.in-Some.is c.in_ok-segment.ensures.none)
     (subst (λ (o : Option Segment). EmitsOf EmitsAgain c.args.far.now.remote o c.again.new.self.end) c.in-Some.is c.in_ok-segment.ensures.emits)
     c.in_ok-segment.ensures.same sent.1
-    (subst (λ (n : ℕ). WroteOne c.args.post.now (far_code (Send n (length c.in-Some.segment.bytes))) [] c.send.new.post) c.acked-from.ensures sent.0)) c.send.ensures.sent
+    (subst (λ (n : ℕ). WroteOne c.args.post.now (far_code (Send n (length c.in-Some.segment.bytes))) [] c.send.new.post)
+    c.acked-from.ensures sent.0)) c.send.ensures.sent

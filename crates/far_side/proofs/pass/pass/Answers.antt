@@ -8,12 +8,14 @@ pub loop-count-init : goal.loop-count-init
 loop-count-init g c = (passing_first c.args.way c.args.far.now c.args.post.now c.requires, same_edges_self c.args.post.now)
 
 pub step-requires-clause-index : goal.step-requires-clause-index
-step-requires-clause-index g c = passing_index c.args.way c.args.far.now c.loop-count.far c.args.post.now c.loop-count.post c.loop-count.index c.loop-count._count c.loop-count.invariant.0
+step-requires-clause-index g c = passing_index c.args.way c.args.far.now c.loop-count.far
+    c.args.post.now c.loop-count.post c.loop-count.index c.loop-count._count c.loop-count.invariant.0
     (omega (arith, c.len-count-end.ensures.plans, ap (λ (l : LinkValue). length l.plans) c.link.ensures))
 
 pub loop-count-preserved : goal.loop-count-preserved
 loop-count-preserved g c = (
-  passing_next c.args.way c.args.far.now c.loop-count.far c.step.new.far c.args.post.now c.loop-count.post c.step.new.post c.loop-count.index c.in_ok-index.index c.loop-count._count c.loop-count.invariant.0 c.in_ok-index.ensures.step,
+  passing_next c.args.way c.args.far.now c.loop-count.far c.step.new.far c.args.post.now c.loop-count.post c.step.new.post
+      c.loop-count.index c.in_ok-index.index c.loop-count._count c.loop-count.invariant.0 c.in_ok-index.ensures.step,
   same_edges_then c.args.post.now c.loop-count.post c.step.new.post c.loop-count.invariant.1 c.step.ensures.edges,
 )
 
@@ -24,5 +26,6 @@ pub returns-clause-edges : goal.returns-clause-edges
 returns-clause-edges g c = c.loop-count.invariant.1
 
 pub returns-clause-pass : goal.returns-clause-pass
-returns-clause-pass g c = passing_last c.args.way c.args.far.now c.loop-count.far c.args.post.now c.loop-count.post c.loop-count.index c.loop-count._count c.loop-count.invariant.0
+returns-clause-pass g c = passing_last c.args.way c.args.far.now c.loop-count.far c.args.post.now
+    c.loop-count.post c.loop-count.index c.loop-count._count c.loop-count.invariant.0
     (omega (arith, c.len-count-end.ensures.plans, ap (λ (l : LinkValue). length l.plans) c.link.ensures))

@@ -16,14 +16,17 @@ pub returns-in_err-pass-2-clause-edges : goal.returns-in_err-pass-2-clause-edges
 returns-in_err-pass-2-clause-edges g c = same_edges_then _ _ _ c.pass.ensures.edges c.pass-2.ensures.edges
 
 pub returns-in_err-send_again-clause-edges : goal.returns-in_err-send_again-clause-edges
-returns-in_err-send_again-clause-edges g c = same_edges_then _ _ _ c.pass.ensures.edges (same_edges_then _ _ _ c.pass-2.ensures.edges c.send_again.ensures.edges)
+returns-in_err-send_again-clause-edges g c =
+    same_edges_then _ _ _ c.pass.ensures.edges (same_edges_then _ _ _ c.pass-2.ensures.edges c.send_again.ensures.edges)
 
 pub returns-in_err-send_keepalive-clause-edges : goal.returns-in_err-send_keepalive-clause-edges
-returns-in_err-send_keepalive-clause-edges g c = same_edges_then _ _ _ c.pass.ensures.edges (same_edges_then _ _ _ c.pass-2.ensures.edges (same_edges_then _ _ _ c.send_again.ensures.edges c.send_keepalive.ensures.edges))
+returns-in_err-send_keepalive-clause-edges g c = same_edges_then _ _ _ c.pass.ensures.edges
+    (same_edges_then _ _ _ c.pass-2.ensures.edges (same_edges_then _ _ _ c.send_again.ensures.edges c.send_keepalive.ensures.edges))
 
 pub returns-in_err-send_fresh-clause-edges : goal.returns-in_err-send_fresh-clause-edges
 returns-in_err-send_fresh-clause-edges g c =
-    same_edges_then _ _ _ c.pass.ensures.edges (same_edges_then _ _ _ c.pass-2.ensures.edges (same_edges_then _ _ _ c.send_again.ensures.edges (same_edges_then _ _ _ c.send_keepalive.ensures.edges c.send_fresh.ensures.edges)))
+    same_edges_then _ _ _ c.pass.ensures.edges (same_edges_then _ _ _ c.pass-2.ensures.edges
+    (same_edges_then _ _ _ c.send_again.ensures.edges (same_edges_then _ _ _ c.send_keepalive.ensures.edges c.send_fresh.ensures.edges)))
 
 pub returns-clause-edges : goal.returns-clause-edges
 returns-clause-edges g c =
@@ -38,6 +41,8 @@ returns-clause-turned g c =
     (λ session. turns_once session c.args.far.now c.pass.new.far c.pass-2.new.far c.send_again.new.far
     c.send_keepalive.new.far c.send_fresh.new.far c.send_answer.new.far
     c.args.post.now c.pass.new.post c.pass-2.new.post c.send_again.new.post c.send_keepalive.new.post c.send_fresh.new.post c.send_answer.new.post
-    (subst (λ (n : ℕ). LinkPass session Home (let f : Fields = record c.args.far.now { turns = n } in f) c.args.post.now c.pass.new.far c.pass.new.post) counted (c.in_ok-pass.ensures.pass.each session))
-    (c.in_ok-pass-2.ensures.pass.each session) (c.in_ok-send_again.ensures.sent.each session) (c.in_ok-send_keepalive.ensures.beaten.each session) (c.in_ok-send_fresh.ensures.sent.each session) (answer.each session))
+    (subst (λ (n : ℕ). LinkPass session Home (let f : Fields = record c.args.far.now { turns = n } in f) c.args.post.now c.pass.new.far c.pass.new.post)
+    counted (c.in_ok-pass.ensures.pass.each session))
+    (c.in_ok-pass-2.ensures.pass.each session) (c.in_ok-send_again.ensures.sent.each session)
+    (c.in_ok-send_keepalive.ensures.beaten.each session) (c.in_ok-send_fresh.ensures.sent.each session) (answer.each session))
     (λ session t. t.keeps)) c.send_answer.ensures.sent

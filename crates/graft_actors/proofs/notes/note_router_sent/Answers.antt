@@ -5,4 +5,5 @@ use Rattle.graft_actors.proofs.notes.note_router_sent.Goals as goal
 
 -- src/notes.rt
 pub returns-clause-ok : goal.returns-clause-ok
-returns-clause-ok g c = subst (λ (code : Code). OnOk c.note_and_send.result (WroteOne c.args.post.now code ((c.args.to, c.args.item) ∷ []) c.note_and_send.new.post)) c.code.ensures c.note_and_send.ensures.ok
+returns-clause-ok g c = subst (λ (code : Code). OnOk c.note_and_send.result
+    (WroteOne c.args.post.now code ((c.args.to, c.args.item) ∷ []) c.note_and_send.new.post)) c.code.ensures c.note_and_send.ensures.ok

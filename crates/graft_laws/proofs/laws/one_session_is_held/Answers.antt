@@ -9,6 +9,7 @@ pub returns : goal.returns
 returns c = record {
   phase = one_phase;
   one = one_session;
-  count = λ setup w p ok reached l. let h = (always_owned setup ok w reached).peerings p l in ap (λ (x : List SessionValue). length x) (one_session setup w p h.phase h.session h.stands);
+  count = λ setup w p ok reached l. let h = (always_owned setup ok w reached).peerings p l in
+      ap (λ (x : List SessionValue). length x) (one_session setup w p h.phase h.session h.stands);
   alone = λ setup w p r ok reached l some. let h = (always_owned setup ok w reached).peerings p l in nowhere_else setup w p r h.phase h.session h.stands some;
 }

@@ -7,7 +7,8 @@ use Rattle.graft_model.proofs.conditions.grafts_are_numbered.Goals as goal
 -- src/conditions.rt
 pub returns-clause-step : goal.returns-clause-step
 returns-clause-step c setup n p target there =
-    subst (λ (k : ℕ). graft_at setup k ≡ Some (record { graft = k; peering = p; step = n })) (let e : grafts_before setup n + 0 + 1 ≡ grafts_before setup n + 1 = omega arith in e)
+    subst (λ (k : ℕ). graft_at setup k ≡ Some (record { graft = k; peering = p; step = n }))
+    (let e : grafts_before setup n + 0 + 1 ≡ grafts_before setup n + 1 = omega arith in e)
     (graft_of_step setup n 0 p (MoveStep p target) there refl)
 
 pub returns-clause-evacuation : goal.returns-clause-evacuation

@@ -1,4 +1,5 @@
-use Rattle.graft_worked.proofs.Unchanged.{of_unchanged, unchanged_of, another_lands, landed_alone, lands_elsewhere, target_alone, another_returns, returned_alone, returns_elsewhere, source_alone}
+use Rattle.graft_worked.proofs.Unchanged.{of_unchanged, unchanged_of, another_lands, landed_alone, lands_elsewhere}
+use Rattle.graft_worked.proofs.Unchanged.{target_alone, another_returns, returned_alone, returns_elsewhere, source_alone}
 use Rattle.graft_worked.proofs.frozen_sessions.each_field_of_unchanged_can_be_false.Goals as goal
 
 pub returns : goal.returns

@@ -1,4 +1,5 @@
-use Rattle.graft_worked.proofs.Weaker.{unsaid, empty_line, another_address, second_open, one_octet_more, never_said, unheard, told_without, word_owed, not_to_tell, keepalive_missing, keepalive_said, shadow_left, best_missing}
+use Rattle.graft_worked.proofs.Weaker.{unsaid, empty_line, another_address, second_open, one_octet_more, never_said, unheard, told_without}
+use Rattle.graft_worked.proofs.Weaker.{word_owed, not_to_tell, keepalive_missing, keepalive_said, shadow_left, best_missing}
 use Rattle.graft_worked.proofs.laws.each_field_of_a_claim_can_be_false.Goals as goal
 
 pub returns : goal.returns

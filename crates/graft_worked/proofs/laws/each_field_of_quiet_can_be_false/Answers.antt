@@ -1,4 +1,6 @@
-use Rattle.graft_worked.proofs.Weaker.{word_goes, goes_outward, goes_inward, order_goes, report_goes, say_goes, goes_homeward, goes_remoteward, dirty, due_in, due_out, errand_left, update_unread, update_missing, put_missing, remote_unanswered, session_unanswered, say_unordered, outcome_unknown}
+use Rattle.graft_worked.proofs.Weaker.{word_goes, goes_outward, goes_inward, order_goes, report_goes, say_goes, goes_homeward}
+use Rattle.graft_worked.proofs.Weaker.{goes_remoteward, dirty, due_in, due_out, errand_left, update_unread, update_missing}
+use Rattle.graft_worked.proofs.Weaker.{put_missing, remote_unanswered, session_unanswered, say_unordered, outcome_unknown}
 use Rattle.graft_worked.proofs.laws.each_field_of_quiet_can_be_false.Goals as goal
 
 pub returns : goal.returns

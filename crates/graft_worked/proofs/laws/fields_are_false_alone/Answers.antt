@@ -1,4 +1,6 @@
-use Rattle.graft_worked.proofs.Alone.{all_said_alone, all_whole_alone, transparent_of, solves_of, of_transparent, one_alone, linked_alone, tellings_alone, own_alone, legal_alone, received_alone, got_alone, heard_alone, told_alone, placed_alone, all_told_alone, all_received_alone, all_got_alone, elsewhere_alone, best_alone}
+use Rattle.graft_worked.proofs.Alone.{all_said_alone, all_whole_alone, transparent_of, solves_of, of_transparent, one_alone, linked_alone}
+use Rattle.graft_worked.proofs.Alone.{tellings_alone, own_alone, legal_alone, received_alone, got_alone, heard_alone, told_alone}
+use Rattle.graft_worked.proofs.Alone.{placed_alone, all_told_alone, all_received_alone, all_got_alone, elsewhere_alone, best_alone}
 use Rattle.graft_worked.proofs.laws.fields_are_false_alone.Goals as goal
 
 pub returns : goal.returns

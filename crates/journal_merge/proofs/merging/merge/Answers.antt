@@ -11,11 +11,13 @@ both P Q R (Ok x) f p q = f x p q
 both P Q R (Err e) f p q = tt
 
 pub merge_all-requires : goal.merge_all-requires
-merge_all-requires c = subst (λ zs. AllOrdered zs) (sym (c.into_vec.ensures ∙ c.into_items.ensures.value)) (journals_ordered c.args.journals c.into_items.ensures.journals)
+merge_all-requires c = subst (λ zs. AllOrdered zs) (sym (c.into_vec.ensures ∙ c.into_items.ensures.value))
+    (journals_ordered c.args.journals c.into_items.ensures.journals)
 
 merged : (c : After-merge_all) → IfOk c.merge_all.result (IsMerged c.args.journals)
 merged c = both (IsPermutation (joined c.into_vec.result.items)) NoneBefore (IsMerged c.args.journals) c.merge_all.result
-    (λ es all order. is_merged c.args.journals es c.into_items.ensures.journals (subst (λ zs. IsPermutation (joined zs) es) (c.into_vec.ensures ∙ c.into_items.ensures.value) all) order)
+    (λ es all order. is_merged c.args.journals es c.into_items.ensures.journals
+    (subst (λ zs. IsPermutation (joined zs) es) (c.into_vec.ensures ∙ c.into_items.ensures.value) all) order)
     c.merge_all.ensures.all c.merge_all.ensures.order
 
 pub returns-clause-merged : goal.returns-clause-merged

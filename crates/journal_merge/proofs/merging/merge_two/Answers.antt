@@ -11,7 +11,8 @@ ended c = elim c.loop-i-test.branch [ then-loop-i-test+else-j-second w ↦ inr w
 whole : (c : After-from_vec) → c.from_vec.result ≡ merged c.args.first.now c.args.second.now
 whole c = c.from_vec.ensures ∙ c.in_ok-extend_from_slice-2.ensures.items
     ∙ ap (λ zs. c.extend_from_slice.new.self.items ++ zs) (all_left c.loop-i.j c.args.second.now)
-    ∙ ap (λ zs. zs ++ drop c.loop-i.j c.args.second.now) (c.in_ok-extend_from_slice.ensures.items ∙ ap (λ zs. c.loop-i.merged.items ++ zs) (all_left c.loop-i.i c.args.first.now))
+    ∙ ap (λ zs. zs ++ drop c.loop-i.j c.args.second.now)
+    (c.in_ok-extend_from_slice.ensures.items ∙ ap (λ zs. c.loop-i.merged.items ++ zs) (all_left c.loop-i.i c.args.first.now))
     ∙ merging_done c.args.first.now c.args.second.now c.loop-i.i c.loop-i.j c.loop-i.merged.items (ended c) c.loop-i.invariant.merging
 
 pub returns-clause-all : goal.returns-clause-all

@@ -17,6 +17,9 @@ returns-clause-first c =
     let peerings : peerings_in setup ≡ length c.args.input.now.peerings = as_many_peerings c.args.input.now in
     let same : routers_in setup + peerings_in setup ≡ before = omega (arith, routers, peerings) in
     let at : actor_at setup before ≡ Some Operator = ap (actor_at setup) (sym same) ∙ there setup Operator tt in
-    let all : AreFirstUpTo setup c.args.input.now.faults (before + 1) c.push.new.self = subst (AreFirstUpTo setup c.args.input.now.faults (before + 1)) (sym c.in_ok-push.ensures.ok)
-    (one_more setup c.args.input.now.faults before c.in_ok-actors.actors Operator c.in_ok-operator.operator c.in_ok-actors.ensures at c.in_ok-operator.ensures) in
-    are_first setup c.args.input.now.faults c.push.new.self (subst (λ (k : ℕ). AreFirstUpTo setup c.args.input.now.faults (k + 1) c.push.new.self) (sym same) all)
+    let all : AreFirstUpTo setup c.args.input.now.faults (before + 1) c.push.new.self =
+    subst (AreFirstUpTo setup c.args.input.now.faults (before + 1)) (sym c.in_ok-push.ensures.ok)
+    (one_more setup c.args.input.now.faults before c.in_ok-actors.actors Operator
+    c.in_ok-operator.operator c.in_ok-actors.ensures at c.in_ok-operator.ensures) in
+    are_first setup c.args.input.now.faults c.push.new.self
+    (subst (λ (k : ℕ). AreFirstUpTo setup c.args.input.now.faults (k + 1) c.push.new.self) (sym same) all)

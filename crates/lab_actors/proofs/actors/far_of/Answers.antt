@@ -10,6 +10,7 @@ new-requires c = subst (λ (s : Setup). IsFarConfigOf s c.in_ok-config.config) (
 
 pub returns : goal.returns
 returns c =
-    far_first (setup_of c.args.input.now) c.args.input.now.faults c.args.peering c.in_ok-config.config c.in_ok-far.far c.in_ok-config.ensures.config c.in_ok-config.ensures.peering
+    far_first (setup_of c.args.input.now) c.args.input.now.faults c.args.peering
+    c.in_ok-config.config c.in_ok-far.far c.in_ok-config.ensures.config c.in_ok-config.ensures.peering
     (subst (λ (s : Setup). IsNewFar s c.in_ok-config.config c.in_ok-far.far) c.known_for-known.ensures c.in_ok-far.ensures)
     (c.in_ok-config.ensures.plan)

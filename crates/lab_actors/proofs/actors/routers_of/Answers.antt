@@ -22,4 +22,5 @@ loop-n-preserved c =
     let many : routers_in setup ≡ length c.args.input.now.routers = as_many_routers c.args.input.now in
     let below : c.loop-n.n < routers_in setup = omega (arith, c.loop-n-test.true, c.len-n-end.ensures, many) in
     subst (AreFirstUpTo setup c.args.input.now.faults (c.loop-n.n + 1)) (sym c.in_ok-push.ensures.ok)
-    (one_more setup c.args.input.now.faults c.loop-n.n c.loop-n.actors (Router c.loop-n.n) c.in_ok-node.node c.loop-n.invariant (there setup (Router c.loop-n.n) below) c.in_ok-node.ensures)
+    (one_more setup c.args.input.now.faults c.loop-n.n c.loop-n.actors
+    (Router c.loop-n.n) c.in_ok-node.node c.loop-n.invariant (there setup (Router c.loop-n.n) below) c.in_ok-node.ensures)

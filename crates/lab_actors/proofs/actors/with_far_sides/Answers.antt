@@ -23,7 +23,8 @@ loop-n-preserved c =
     let routers : routers_in setup ≡ length c.args.input.now.routers = as_many_routers c.args.input.now in
     let peerings : peerings_in setup ≡ length c.args.input.now.peerings = as_many_peerings c.args.input.now in
     let below : c.loop-n.n < peerings_in setup = omega (arith, c.loop-n-test.true, c.len-n-end.ensures, peerings) in
-    let at : actor_at setup before ≡ Some (FarSide c.loop-n.n) = ap (λ (k : ℕ). actor_at setup (k + c.loop-n.n)) (sym routers) ∙ there setup (FarSide c.loop-n.n) below in
+    let at : actor_at setup before ≡ Some (FarSide c.loop-n.n) =
+    ap (λ (k : ℕ). actor_at setup (k + c.loop-n.n)) (sym routers) ∙ there setup (FarSide c.loop-n.n) below in
     let next : before + 1 ≡ length c.args.input.now.routers + (c.loop-n.n + 1) = omega arith in
     subst (λ (k : ℕ). AreFirstUpTo setup c.args.input.now.faults k c.push.new.self) next
     (subst (AreFirstUpTo setup c.args.input.now.faults (before + 1)) (sym c.in_ok-push.ensures.ok)

@@ -40,4 +40,5 @@ returns c =
     let f : ℕ × PeeringInput → List Med = λ q. meds_by (setup_of c.args.input.now) (q.0, peering_setup c.args.input.now q) in
     let count : length c.deref-peering-items.result.now ≡ length ps = ap length c.deref-peering-items.ensures in
     let past : length ps ≤ c.loop-i.i = omega (arith, c.loop-i-test.false, count) in
-    adds_same _ _ _ _ (ap (λ (xs : List PeeringInput). flat_map f (enumerate_from 0 xs)) (take_all c.loop-i.i ps past) ∙ peerings_over c.args.input.now) c.loop-i.invariant
+    adds_same _ _ _ _ (ap (λ (xs : List PeeringInput). flat_map f (enumerate_from 0 xs)) (take_all c.loop-i.i ps past)
+    ∙ peerings_over c.args.input.now) c.loop-i.invariant

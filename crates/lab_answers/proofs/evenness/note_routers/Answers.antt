@@ -15,8 +15,10 @@ loop-router-preserved c =
     let below : c.loop-router.router-index < length rs = omega (arith, c.loop-router-test.true, count) in
     let is : c.router-item.result ≡ slice_index_or rs c.loop-router.router-index c.router-item.result
     = c.router-item.is ∙ ap (λ (xs : List RouterInput). slice_index_or xs c.loop-router.router-index c.router-item.result) same in
-    flat_step (λ (router : RouterInput). map (own_med c.args.input.now.home_as) router.networks) rs c.loop-router.router-index c.router-item.result _ _ _ below is
-    c.loop-router.invariant (adds_same _ _ _ _ (ap (λ (l : List PrefixValue). map (own_med c.args.input.now.home_as) l) c.deref.ensures) c.in_ok-note_networks.ensures)
+    flat_step (λ (router : RouterInput). map (own_med c.args.input.now.home_as) router.networks)
+    rs c.loop-router.router-index c.router-item.result _ _ _ below is
+    c.loop-router.invariant
+    (adds_same _ _ _ _ (ap (λ (l : List PrefixValue). map (own_med c.args.input.now.home_as) l) c.deref.ensures) c.in_ok-note_networks.ensures)
 
 pub returns : goal.returns
 returns c =

@@ -22,9 +22,12 @@ pub returns : goal.returns
 returns c = λ p e.
     let x : PeeringInput = c.index-deref-from.result in
     let there : slice_get c.args.input.now.peerings c.args.peering.0 ≡ Some x
-    = read_at c.args.input.now.peerings c.deref.result.now c.from.result c.args.peering.0 x c.deref.ensures c.from.ensures c.requires.there c.index-deref-from.is in
-    subst (λ (y : PeeringInput). IfOk c.with_steps.result (λ said. said ≡ said_in_all (setup_of c.args.input.now) c.args.peering.0 (peering_setup c.args.input.now (c.args.peering.0, y))))
+    = read_at c.args.input.now.peerings c.deref.result.now c.from.result c.args.peering.0
+    x c.deref.ensures c.from.ensures c.requires.there c.index-deref-from.is in
+    subst (λ (y : PeeringInput). IfOk c.with_steps.result
+    (λ said. said ≡ said_in_all (setup_of c.args.input.now) c.args.peering.0 (peering_setup c.args.input.now (c.args.peering.0, y))))
     (some_is x p (sym there ∙ e))
     (IfOk-weaker c.with_steps.result _ _
-    (λ said is. is ∙ said_is c.args.input.now c.args.peering.0 x there c.in_ok-opening.opening c.is_wide-wide.result c.deref-2.result.now c.in_ok-opening.ensures c.is_wide-wide.ensures c.deref-2.ensures)
+    (λ said is. is ∙ said_is c.args.input.now c.args.peering.0 x there c.in_ok-opening.opening
+    c.is_wide-wide.result c.deref-2.result.now c.in_ok-opening.ensures c.is_wide-wide.ensures c.deref-2.ensures)
     c.with_steps.ensures)

@@ -12,5 +12,6 @@ abbrev pub invariant-loop-step : goal.invariant-loop-step
 invariant-loop-step l = record {
   settled : l.settled ≡ list_any is_settle_step (take l.step-index l.steps);
   rest : (input : LabInput) → l.plain ≡ plain_in input.steps input.peerings → l.steps ≡ input.steps
-      → all_from (λ step. is_sure_step input step.0 step.1) input.steps l.step-index ≡ list_all (λ step. is_sure_step input step.0 step.1) (enumerate_from 0 input.steps);
+      → all_from (λ step. is_sure_step input step.0 step.1) input.steps l.step-index
+      ≡ list_all (λ step. is_sure_step input step.0 step.1) (enumerate_from 0 input.steps);
 }

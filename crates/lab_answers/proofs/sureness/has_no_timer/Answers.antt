@@ -19,13 +19,15 @@ overflow_cast-i c =
 
 pub has_no_timer_on-requires-clause-there : goal.has_no_timer_on-requires-clause-there
 has_no_timer_on-requires-clause-there c =
-    item_at c.args.input.now.peerings c.deref-peering-items.result.now c.loop-i.i c.peering-item.result c.deref-peering-items.ensures (omega (arith, c.loop-i-test.true)) c.peering-item.is
+    item_at c.args.input.now.peerings c.deref-peering-items.result.now c.loop-i.i c.peering-item.result c.deref-peering-items.ensures
+    (omega (arith, c.loop-i-test.true)) c.peering-item.is
 
 pub returns-then-not-branch : goal.returns-then-not-branch
 returns-then-not-branch c =
     let x : PeeringInput = c.peering-item.result in
     let there : slice_get c.args.input.now.peerings c.loop-i.i ≡ Some x
-    = item_at c.args.input.now.peerings c.deref-peering-items.result.now c.loop-i.i x c.deref-peering-items.ensures (omega (arith, c.loop-i-test.true)) c.peering-item.is in
+    = item_at c.args.input.now.peerings c.deref-peering-items.result.now c.loop-i.i x c.deref-peering-items.ensures
+    (omega (arith, c.loop-i-test.true)) c.peering-item.is in
     sym (all_fail (has_no_timer_on (setup_of c.args.input.now)) (setup_of c.args.input.now).peerings c.loop-i.i (peering_setup c.args.input.now (c.loop-i.i, x))
     (peering_there c.args.input.now c.loop-i.i x there) (sym c.in_ok-has_no_timer_on.ensures ∙ c.if-not-branch.true))
     ∙ c.loop-i.invariant
@@ -34,7 +36,8 @@ pub loop-i-preserved : goal.loop-i-preserved
 loop-i-preserved c =
     let x : PeeringInput = c.peering-item.result in
     let there : slice_get c.args.input.now.peerings c.loop-i.i ≡ Some x
-    = item_at c.args.input.now.peerings c.deref-peering-items.result.now c.loop-i.i x c.deref-peering-items.ensures (omega (arith, c.loop-i-test.true)) c.peering-item.is in
+    = item_at c.args.input.now.peerings c.deref-peering-items.result.now c.loop-i.i x c.deref-peering-items.ensures
+    (omega (arith, c.loop-i-test.true)) c.peering-item.is in
     sym (all_next (has_no_timer_on (setup_of c.args.input.now)) (setup_of c.args.input.now).peerings c.loop-i.i (peering_setup c.args.input.now (c.loop-i.i, x))
     (peering_there c.args.input.now c.loop-i.i x there) (sym c.in_ok-has_no_timer_on.ensures ∙ c.if-not-branch.false))
     ∙ c.loop-i.invariant

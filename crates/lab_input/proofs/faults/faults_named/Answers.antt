@@ -22,9 +22,11 @@ returns-in-Some c =
     let i = c.loop-table.table-index in
     let key : SegmentKey = segment_key (fault_of peerings t) in
     let is : c.segment_of.result ≡ key = c.segment_of.ensures ∙ ap segment_key c.fault_of-fault.ensures in
-    let had : contains (key_eq.ghosts).eq c.loop-table.seen c.segment_of.result ≡ list_any (has_segment peerings key) (map (λ u. table_view u.now) (take i tables)) =
+    let had : contains (key_eq.ghosts).eq c.loop-table.seen c.segment_of.result
+    ≡ list_any (has_segment peerings key) (map (λ u. table_view u.now) (take i tables)) =
     ap (contains (key_eq.ghosts).eq c.loop-table.seen) is ∙ c.loop-table.invariant.seen key in
-    let again : not c.in_ok-is_new.is_new ≡ list_any (has_segment peerings key) (map (λ u. table_view u.now) (take i tables)) = again_is _ _ _ c.in_ok-is_new.ensures.added had in
+    let again : not c.in_ok-is_new.is_new ≡ list_any (has_segment peerings key) (map (λ u. table_view u.now) (take i tables)) =
+    again_is _ _ _ c.in_ok-is_new.ensures.added had in
     after_stops (fault_named peerings) (λ u. table_view u.now) tables i c.table-item.result (omega arith) c.table-item.is c.in-Some.bad
     (each_after (fault_named peerings) [] (map (λ u. table_view u.now) tables)) c.loop-table.invariant.walk
     (sym c.in-Some.is ∙ c.in_ok-found.ensures ∙ ap (λ (a : Bool). first_of (unknown peerings text ∷ repeated_if a text ∷ [])) again)
@@ -39,9 +41,11 @@ loop-table-preserved c =
     let within : i < length tables = omega arith in
     let key : SegmentKey = segment_key (fault_of peerings t) in
     let is : c.segment_of.result ≡ key = c.segment_of.ensures ∙ ap segment_key c.fault_of-fault.ensures in
-    let had : contains (key_eq.ghosts).eq c.loop-table.seen c.segment_of.result ≡ list_any (has_segment peerings key) (map (λ u. table_view u.now) (take i tables)) =
+    let had : contains (key_eq.ghosts).eq c.loop-table.seen c.segment_of.result
+    ≡ list_any (has_segment peerings key) (map (λ u. table_view u.now) (take i tables)) =
     ap (contains (key_eq.ghosts).eq c.loop-table.seen) is ∙ c.loop-table.invariant.seen key in
-    let again : not c.in_ok-is_new.is_new ≡ list_any (has_segment peerings key) (map (λ u. table_view u.now) (take i tables)) = again_is _ _ _ c.in_ok-is_new.ensures.added had in
+    let again : not c.in_ok-is_new.is_new ≡ list_any (has_segment peerings key) (map (λ u. table_view u.now) (take i tables)) =
+    again_is _ _ _ c.in_ok-is_new.ensures.added had in
     record {
       seen = λ other. any_next (has_segment peerings other) (λ u. table_view u.now) tables i c.table-item.result within c.table-item.is _ _
           (c.in_ok-is_new.ensures.updates.0 other

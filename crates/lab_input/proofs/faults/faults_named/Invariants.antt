@@ -12,6 +12,7 @@ abbrev pub invariant-loop-table : goal.invariant-loop-table
 invariant-loop-table l = record {
   seen : (key : SegmentKey)
       → contains (key_eq.ghosts).eq l.seen key ≡ list_any (has_segment l.peerings key) (map (λ u. table_view u.now) (take l.table-index l.tables));
-  walk : each_after (fault_named l.peerings) (map (λ u. table_view u.now) (take l.table-index l.tables)) (map (λ u. table_view u.now) (drop l.table-index l.tables))
+  walk : each_after (fault_named l.peerings) (map (λ u. table_view u.now) (take l.table-index l.tables))
+      (map (λ u. table_view u.now) (drop l.table-index l.tables))
       ≡ each_after (fault_named l.peerings) [] (map (λ u. table_view u.now) l.tables);
 }

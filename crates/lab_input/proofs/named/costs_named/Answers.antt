@@ -22,10 +22,12 @@ returns-in-Some c =
     let key : Ends = ends_key routers t in
     let had : contains (ends_eq.ghosts).eq c.loop-table.seen c.ends_of.result ≡ list_any (has_ends routers key) (map (λ u. table_view u.now) (take i tables)) =
     ap (contains (ends_eq.ghosts).eq c.loop-table.seen) c.ends_of.ensures ∙ c.loop-table.invariant.seen key in
-    let again : not c.in_ok-is_new.is_new ≡ list_any (has_ends routers key) (map (λ u. table_view u.now) (take i tables)) = again_is _ _ _ c.in_ok-is_new.ensures.added had in
+    let again : not c.in_ok-is_new.is_new ≡ list_any (has_ends routers key) (map (λ u. table_view u.now) (take i tables)) =
+    again_is _ _ _ c.in_ok-is_new.ensures.added had in
     after_stops (cost_named routers) (λ u. table_view u.now) tables i c.table-item.result (omega arith) c.table-item.is c.in-Some.bad
     (each_after (cost_named routers) [] (map (λ u. table_view u.now) tables)) c.loop-table.invariant.walk
-    (sym c.in-Some.is ∙ c.in_ok-found.ensures ∙ ap (λ (a : Bool). first_of (unknown routers (text_at (codes "from") t) ∷ unknown routers text ∷ repeated_if a text ∷ [])) again)
+    (sym c.in-Some.is ∙ c.in_ok-found.ensures
+    ∙ ap (λ (a : Bool). first_of (unknown routers (text_at (codes "from") t) ∷ unknown routers text ∷ repeated_if a text ∷ [])) again)
 
 pub loop-table-preserved : goal.loop-table-preserved
 loop-table-preserved c =
@@ -38,12 +40,15 @@ loop-table-preserved c =
     let key : Ends = ends_key routers t in
     let had : contains (ends_eq.ghosts).eq c.loop-table.seen c.ends_of.result ≡ list_any (has_ends routers key) (map (λ u. table_view u.now) (take i tables)) =
     ap (contains (ends_eq.ghosts).eq c.loop-table.seen) c.ends_of.ensures ∙ c.loop-table.invariant.seen key in
-    let again : not c.in_ok-is_new.is_new ≡ list_any (has_ends routers key) (map (λ u. table_view u.now) (take i tables)) = again_is _ _ _ c.in_ok-is_new.ensures.added had in
+    let again : not c.in_ok-is_new.is_new ≡ list_any (has_ends routers key) (map (λ u. table_view u.now) (take i tables)) =
+    again_is _ _ _ c.in_ok-is_new.ensures.added had in
     record {
       seen = λ ends. any_next (has_ends routers ends) (λ u. table_view u.now) tables i c.table-item.result within c.table-item.is _ _
-          (c.in_ok-is_new.ensures.updates.0 ends ∙ ap (λ (k : Ends). cond ((ends_eq.ghosts).eq k ends) true (contains (ends_eq.ghosts).eq c.loop-table.seen ends)) c.ends_of.ensures)
+          (c.in_ok-is_new.ensures.updates.0 ends
+          ∙ ap (λ (k : Ends). cond ((ends_eq.ghosts).eq k ends) true (contains (ends_eq.ghosts).eq c.loop-table.seen ends)) c.ends_of.ensures)
           (c.loop-table.invariant.seen ends);
       walk = after_goes_on (cost_named routers) (λ u. table_view u.now) tables i c.table-item.result within c.table-item.is
           (each_after (cost_named routers) [] (map (λ u. table_view u.now) tables)) c.loop-table.invariant.walk
-          (sym c.in-None.is ∙ c.in_ok-found.ensures ∙ ap (λ (a : Bool). first_of (unknown routers (text_at (codes "from") t) ∷ unknown routers text ∷ repeated_if a text ∷ [])) again);
+          (sym c.in-None.is ∙ c.in_ok-found.ensures
+          ∙ ap (λ (a : Bool). first_of (unknown routers (text_at (codes "from") t) ∷ unknown routers text ∷ repeated_if a text ∷ [])) again);
     }

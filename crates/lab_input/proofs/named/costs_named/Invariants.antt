@@ -12,6 +12,7 @@ abbrev pub invariant-loop-table : goal.invariant-loop-table
 invariant-loop-table l = record {
   seen : (ends : Ends)
       → contains (ends_eq.ghosts).eq l.seen ends ≡ list_any (has_ends l.routers ends) (map (λ u. table_view u.now) (take l.table-index l.tables));
-  walk : each_after (cost_named l.routers) (map (λ u. table_view u.now) (take l.table-index l.tables)) (map (λ u. table_view u.now) (drop l.table-index l.tables))
+  walk : each_after (cost_named l.routers) (map (λ u. table_view u.now) (take l.table-index l.tables))
+      (map (λ u. table_view u.now) (drop l.table-index l.tables))
       ≡ each_after (cost_named l.routers) [] (map (λ u. table_view u.now) l.tables);
 }

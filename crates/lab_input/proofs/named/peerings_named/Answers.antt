@@ -17,9 +17,11 @@ returns-in-Some c =
     let i = c.loop-table.table-index in
     let before = map (λ u. table_view u.now) (take i tables) in
     let called : not c.in_ok-new_name.new_name ≡ list_any (λ u. bytes_eq (text_at (codes "name") u) (text_at (codes "name") t)) before =
-    again_is _ _ _ c.in_ok-new_name.ensures.added (c.loop-table.invariant.called c.text_at.result ∙ ap (λ (x : List ℕ). list_any (λ u. bytes_eq (text_at (codes "name") u) x) before) c.text_at.ensures) in
+    again_is _ _ _ c.in_ok-new_name.ensures.added (c.loop-table.invariant.called c.text_at.result
+    ∙ ap (λ (x : List ℕ). list_any (λ u. bytes_eq (text_at (codes "name") u) x) before) c.text_at.ensures) in
     let remote : not c.in_ok-new_remote.new_remote ≡ list_any (λ u. remote_address_of u == remote_address_of t) before =
-    again_is _ _ _ c.in_ok-new_remote.ensures.added (c.loop-table.invariant.remotes c.remote_of.result ∙ ap (λ (x : ℕ). list_any (λ u. remote_address_of u == x) before) c.remote_of.ensures) in
+    again_is _ _ _ c.in_ok-new_remote.ensures.added
+    (c.loop-table.invariant.remotes c.remote_of.result ∙ ap (λ (x : ℕ). list_any (λ u. remote_address_of u == x) before) c.remote_of.ensures) in
     after_stops (peering_named routers) (λ u. table_view u.now) tables i c.table-item.result (omega arith) c.table-item.is c.in-Some.bad
     (each_after (peering_named routers) [] (map (λ u. table_view u.now) tables)) c.loop-table.invariant.walk
     (sym c.in-Some.is ∙ c.in_ok-found.ensures
@@ -35,15 +37,20 @@ loop-table-preserved c =
     let within : i < length tables = omega arith in
     let before = map (λ u. table_view u.now) (take i tables) in
     let called : not c.in_ok-new_name.new_name ≡ list_any (λ u. bytes_eq (text_at (codes "name") u) (text_at (codes "name") t)) before =
-    again_is _ _ _ c.in_ok-new_name.ensures.added (c.loop-table.invariant.called c.text_at.result ∙ ap (λ (x : List ℕ). list_any (λ u. bytes_eq (text_at (codes "name") u) x) before) c.text_at.ensures) in
+    again_is _ _ _ c.in_ok-new_name.ensures.added (c.loop-table.invariant.called c.text_at.result
+    ∙ ap (λ (x : List ℕ). list_any (λ u. bytes_eq (text_at (codes "name") u) x) before) c.text_at.ensures) in
     let remote : not c.in_ok-new_remote.new_remote ≡ list_any (λ u. remote_address_of u == remote_address_of t) before =
-    again_is _ _ _ c.in_ok-new_remote.ensures.added (c.loop-table.invariant.remotes c.remote_of.result ∙ ap (λ (x : ℕ). list_any (λ u. remote_address_of u == x) before) c.remote_of.ensures) in
+    again_is _ _ _ c.in_ok-new_remote.ensures.added
+    (c.loop-table.invariant.remotes c.remote_of.result ∙ ap (λ (x : ℕ). list_any (λ u. remote_address_of u == x) before) c.remote_of.ensures) in
     record {
-      called = λ text. any_next (λ u. bytes_eq (text_at (codes "name") u) text.now) (λ u. table_view u.now) tables i c.table-item.result within c.table-item.is _ _
-          (c.in_ok-new_name.ensures.updates.0 text ∙ ap (λ (x : List ℕ). cond (bytes_eq x text.now) true (contains_by (λ k. bytes_eq text.now k.now) c.loop-table.called)) c.text_at.ensures)
+      called = λ text. any_next (λ u. bytes_eq (text_at (codes "name") u) text.now)
+          (λ u. table_view u.now) tables i c.table-item.result within c.table-item.is _ _
+          (c.in_ok-new_name.ensures.updates.0 text
+          ∙ ap (λ (x : List ℕ). cond (bytes_eq x text.now) true (contains_by (λ k. bytes_eq text.now k.now) c.loop-table.called)) c.text_at.ensures)
           (c.loop-table.invariant.called text);
       remotes = λ address. any_next (λ u. remote_address_of u == address) (λ u. table_view u.now) tables i c.table-item.result within c.table-item.is _ _
-          (c.in_ok-new_remote.ensures.updates.0 address ∙ ap (λ (x : ℕ). cond (x == address) true (contains nat_eq c.loop-table.remotes address)) c.remote_of.ensures)
+          (c.in_ok-new_remote.ensures.updates.0 address
+          ∙ ap (λ (x : ℕ). cond (x == address) true (contains nat_eq c.loop-table.remotes address)) c.remote_of.ensures)
           (c.loop-table.invariant.remotes address);
       walk = after_goes_on (peering_named routers) (λ u. table_view u.now) tables i c.table-item.result within c.table-item.is
           (each_after (peering_named routers) [] (map (λ u. table_view u.now) tables)) c.loop-table.invariant.walk

@@ -14,6 +14,7 @@ invariant-loop-table l = record {
       ≡ list_any (λ u. bytes_eq (text_at (codes "name") u) text.now) (map (λ u. table_view u.now) (take l.table-index l.tables));
   remotes : (address : ℕ)
       → contains nat_eq l.remotes address ≡ list_any (λ u. remote_address_of u == address) (map (λ u. table_view u.now) (take l.table-index l.tables));
-  walk : each_after (peering_named l.routers) (map (λ u. table_view u.now) (take l.table-index l.tables)) (map (λ u. table_view u.now) (drop l.table-index l.tables))
+  walk : each_after (peering_named l.routers) (map (λ u. table_view u.now) (take l.table-index l.tables))
+      (map (λ u. table_view u.now) (drop l.table-index l.tables))
       ≡ each_after (peering_named l.routers) [] (map (λ u. table_view u.now) l.tables);
 }

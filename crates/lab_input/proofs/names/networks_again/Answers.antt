@@ -11,7 +11,8 @@ returns-in-Some c =
     let p : PrefixValue = c.network-item.result in
     let ns = c.args.networks.now in
     let i = c.loop-network.network-index in
-    let again : not c.in_ok-is_new.is_new ≡ list_any (λ q. same_prefix q p) (take i ns) = again_is _ _ _ c.in_ok-is_new.ensures.added (c.loop-network.invariant.seen p) in
+    let again : not c.in_ok-is_new.is_new ≡ list_any (λ q. same_prefix q p) (take i ns) =
+    again_is _ _ _ c.in_ok-is_new.ensures.added (c.loop-network.invariant.seen p) in
     plain_stops network_again ns i p (omega arith) c.network-item.is c.in-Some.bad (each_after network_again [] ns) c.loop-network.invariant.walk
     (sym c.in-Some.is ∙ c.in_ok-found.ensures ∙ ap (λ (t : Bool). repeated_if t (prefix_text p)) again)
 
@@ -21,7 +22,8 @@ loop-network-preserved c =
     let ns = c.args.networks.now in
     let i = c.loop-network.network-index in
     let within : i < length ns = omega arith in
-    let again : not c.in_ok-is_new.is_new ≡ list_any (λ q. same_prefix q p) (take i ns) = again_is _ _ _ c.in_ok-is_new.ensures.added (c.loop-network.invariant.seen p) in
+    let again : not c.in_ok-is_new.is_new ≡ list_any (λ q. same_prefix q p) (take i ns) =
+    again_is _ _ _ c.in_ok-is_new.ensures.added (c.loop-network.invariant.seen p) in
     record {
       seen = λ q. any_here (λ r. same_prefix r q) ns i p within c.network-item.is _ _ (c.in_ok-is_new.ensures.updates.0 q) (c.loop-network.invariant.seen q);
       walk = plain_goes_on network_again ns i p within c.network-item.is (each_after network_again [] ns) c.loop-network.invariant.walk

@@ -31,7 +31,8 @@ loop-policy-preserved c =
     let again : not c.in_ok-is_new.is_new ≡ list_any (λ q. bytes_eq q.name p.name) (take i ps) = again_is _ _ _ c.in_ok-is_new.ensures.added had in
     record {
       seen = λ text. any_here (λ q. bytes_eq q.name text.now) ps i p within c.policy-item.is _ _
-          (c.in_ok-is_new.ensures.updates.0 text ∙ ap (λ (x : List ℕ). cond (bytes_eq x text.now) true (contains_by (λ k. bytes_eq text.now k.now) c.loop-policy.seen)) is)
+          (c.in_ok-is_new.ensures.updates.0 text
+          ∙ ap (λ (x : List ℕ). cond (bytes_eq x text.now) true (contains_by (λ k. bytes_eq text.now k.now) c.loop-policy.seen)) is)
           (c.loop-policy.invariant.seen text);
       walk = plain_goes_on policy_again ps i p within c.policy-item.is (each_after policy_again [] ps) c.loop-policy.invariant.walk
           (sym c.in-None.is ∙ c.in_ok-found.ensures ∙ ap (repeated_if (not c.in_ok-is_new.is_new)) is ∙ ap (λ (t : Bool). repeated_if t p.name) again);

@@ -19,7 +19,8 @@ returns-in-Some c =
     let had : contains_by (λ k. bytes_eq c.as_str-name.result.now k.now) c.loop-router.names ≡ list_any (λ q. bytes_eq q.name r.name) (take i rs) =
     c.loop-router.invariant.names c.as_str-name.result ∙ ap (λ (x : List ℕ). list_any (λ q. bytes_eq q.name x) (take i rs)) is in
     let name : not c.in_ok-new_name.new_name ≡ list_any (λ q. bytes_eq q.name r.name) (take i rs) = again_is _ _ _ c.in_ok-new_name.ensures.added had in
-    let id : not c.in_ok-new_id.new_id ≡ list_any (λ q. q.id == r.id) (take i rs) = again_is _ _ _ c.in_ok-new_id.ensures.added (c.loop-router.invariant.ids r.id) in
+    let id : not c.in_ok-new_id.new_id ≡ list_any (λ q. q.id == r.id) (take i rs) =
+    again_is _ _ _ c.in_ok-new_id.ensures.added (c.loop-router.invariant.ids r.id) in
     plain_stops router_again rs i r (omega arith) c.router-item.is c.in-Some.bad (each_after router_again [] rs) c.loop-router.invariant.walk
     (sym c.in-Some.is ∙ c.in_ok-found.ensures
     ∙ ap (λ (t : Bool). first_of (repeated_if t r.name ∷ repeated_if (not c.in_ok-new_id.new_id) (address_text r.id) ∷ behind)) name
@@ -36,14 +37,18 @@ loop-router-preserved c =
     let had : contains_by (λ k. bytes_eq c.as_str-name.result.now k.now) c.loop-router.names ≡ list_any (λ q. bytes_eq q.name r.name) (take i rs) =
     c.loop-router.invariant.names c.as_str-name.result ∙ ap (λ (x : List ℕ). list_any (λ q. bytes_eq q.name x) (take i rs)) is in
     let name : not c.in_ok-new_name.new_name ≡ list_any (λ q. bytes_eq q.name r.name) (take i rs) = again_is _ _ _ c.in_ok-new_name.ensures.added had in
-    let id : not c.in_ok-new_id.new_id ≡ list_any (λ q. q.id == r.id) (take i rs) = again_is _ _ _ c.in_ok-new_id.ensures.added (c.loop-router.invariant.ids r.id) in
+    let id : not c.in_ok-new_id.new_id ≡ list_any (λ q. q.id == r.id) (take i rs) =
+    again_is _ _ _ c.in_ok-new_id.ensures.added (c.loop-router.invariant.ids r.id) in
     record {
       names = λ text. any_here (λ q. bytes_eq q.name text.now) rs i r within c.router-item.is _ _
-          (c.in_ok-new_name.ensures.updates.0 text ∙ ap (λ (x : List ℕ). cond (bytes_eq x text.now) true (contains_by (λ k. bytes_eq text.now k.now) c.loop-router.names)) is)
+          (c.in_ok-new_name.ensures.updates.0 text
+          ∙ ap (λ (x : List ℕ). cond (bytes_eq x text.now) true (contains_by (λ k. bytes_eq text.now k.now) c.loop-router.names)) is)
           (c.loop-router.invariant.names text);
-      ids = λ other. any_here (λ q. q.id == other) rs i r within c.router-item.is _ _ (c.in_ok-new_id.ensures.updates.0 other) (c.loop-router.invariant.ids other);
+      ids = λ other. any_here (λ q. q.id == other) rs i r within c.router-item.is _ _
+          (c.in_ok-new_id.ensures.updates.0 other) (c.loop-router.invariant.ids other);
       walk = plain_goes_on router_again rs i r within c.router-item.is (each_after router_again [] rs) c.loop-router.invariant.walk
           (sym c.in-None.is ∙ c.in_ok-found.ensures
           ∙ ap (λ (t : Bool). first_of (repeated_if t r.name ∷ repeated_if (not c.in_ok-new_id.new_id) (address_text r.id) ∷ behind)) name
-          ∙ ap (λ (t : Bool). first_of (repeated_if (list_any (λ q. bytes_eq q.name r.name) (take i rs)) r.name ∷ repeated_if t (address_text r.id) ∷ behind)) id);
+          ∙ ap (λ (t : Bool).
+          first_of (repeated_if (list_any (λ q. bytes_eq q.name r.name) (take i rs)) r.name ∷ repeated_if t (address_text r.id) ∷ behind)) id);
     }

@@ -20,7 +20,8 @@ returns c =
     let routers : lab.routers ≡ routers_of doc = ap (λ (l : LabInput). l.routers) c.requires in
     let peerings : lab.peerings ≡ peerings_of doc = ap (λ (l : LabInput). l.peerings) c.requires in
     let names : c.in_ok-names.names ≡ router_names_of doc = c.in_ok-names.ensures ∙ ap (map (λ (r : RouterInput). r.name)) (c.deref.ensures ∙ routers) in
-    let remotes : c.in_ok-remotes.remotes ≡ peering_names_of doc = c.in_ok-remotes.ensures ∙ ap (map (λ (p : PeeringInput). p.name)) (c.deref-2.ensures ∙ peerings) in
+    let remotes : c.in_ok-remotes.remotes ≡ peering_names_of doc =
+    c.in_ok-remotes.ensures ∙ ap (map (λ (p : PeeringInput). p.name)) (c.deref-2.ensures ∙ peerings) in
     let again : List RouterInput → Option BadInput = λ rs. each_after router_again [] rs in
     let cost : List (List ℕ) → Option BadInput = λ ns. each_after (cost_named ns) [] (tables_at (codes "cost") doc) in
     let peering : List RouterInput → Option BadInput = λ rs. each_after (peering_named rs) [] (tables_at (codes "peering") doc) in

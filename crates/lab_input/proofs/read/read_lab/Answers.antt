@@ -27,5 +27,6 @@ pub returns-else-is_memory : goal.returns-else-is_memory
 returns-else-is_memory c =
     let bytes = c.args.bytes.now in
     let same = c.in-Ok.ensures.cases.0 in
-    let read : parse_document bytes ≡ None = ap parse_document (sym same) ∙ c.in-Err-table_from_str.ensures.refused (λ memory. absurd (false≢true (c.if-is_memory.ensures.1 memory))) in
+    let read : parse_document bytes ≡ None =
+    ap parse_document (sym same) ∙ c.in-Err-table_from_str.ensures.refused (λ memory. absurd (false≢true (c.if-is_memory.ensures.1 memory))) in
     input_of-short bytes (omega arith) ∙ ap input_in (document_of-text bytes c.in-Ok.ensures.cases.1 ∙ read)

@@ -8,4 +8,5 @@ use Rattle.lab_keys.proofs.arrays.addresses_of.Goals as goal
 pub loop-value-preserved : goal.loop-value-preserved
 loop-value-preserved c =
     c.in_ok-push_some.ensures ∙ ap (λ o. c.loop-value.addresses ++ cons_option o []) c.address_of.ensures
-    ∙ filter_goes_on address_of_data view c.args.values.now c.loop-value.value-index c.value-item.result c.loop-value.addresses (omega arith) c.value-item.is c.loop-value.invariant
+    ∙ filter_goes_on address_of_data view c.args.values.now c.loop-value.value-index c.value-item.result c.loop-value.addresses
+    (omega arith) c.value-item.is c.loop-value.invariant

@@ -16,7 +16,9 @@ returns-in-Some-beyond g c =
     let low = c.args.at.low in
     let high = c.args.at.high in
     let values = c.in-Some-as_array.array.now.items in
-    counted_stops at low high flaw view values c.in-Some-beyond.flaw (c.in-Some-beyond.ensures ∙ ap (λ p. beyond p low high (length c.as_slice-values.result.now)) c.of-spot.ensures ∙ ap (λ vs. beyond at low high (length vs)) c.as_slice-values.ensures.value)
+    counted_stops at low high flaw view values c.in-Some-beyond.flaw
+    (c.in-Some-beyond.ensures ∙ ap (λ p. beyond p low high (length c.as_slice-values.result.now)) c.of-spot.ensures
+    ∙ ap (λ vs. beyond at low high (length vs)) c.as_slice-values.ensures.value)
     ∙ array_seen at low high flaw (view c.in-Some.value.now) values c.in-Some-as_array.ensures
     ∙ ap (present at c.args.at.needed (array_flaw at low high flaw)) c.in-Some.ensures
 
@@ -28,6 +30,7 @@ returns g c =
     let high = c.args.at.high in
     let values = c.in-Some-as_array.array.now.items in
     c.items_flaw.ensures ∙ ap (λ vs. each_from flaw 0 (map view vs)) c.as_slice-values.ensures.value
-    ∙ counted_goes_on at low high flaw view values (c.in_default-beyond.ensures ∙ ap (λ p. beyond p low high (length c.as_slice-values.result.now)) c.of-spot.ensures ∙ ap (λ vs. beyond at low high (length vs)) c.as_slice-values.ensures.value)
+    ∙ counted_goes_on at low high flaw view values (c.in_default-beyond.ensures ∙ ap (λ p. beyond p low high (length c.as_slice-values.result.now))
+    c.of-spot.ensures ∙ ap (λ vs. beyond at low high (length vs)) c.as_slice-values.ensures.value)
     ∙ array_seen at low high flaw (view c.in-Some.value.now) values c.in-Some-as_array.ensures
     ∙ ap (present at c.args.at.needed (array_flaw at low high flaw)) c.in-Some.ensures

@@ -10,6 +10,7 @@ loop-index-preserved c =
     let below : c.loop-index.index < length c.args.routers.now = omega (arith, c.loop-index-test.true) in
     let lines = flat_map (short_router_line c.args.tables.now) (enumerate_from 0 (take c.loop-index.index c.args.routers.now)) in
     let piece = short_router_line c.args.tables.now (c.loop-index.index, c.index-routers-index.result) in
-    let more = flat_map_numbered (short_router_line c.args.tables.now) c.args.routers.now c.loop-index.index c.index-routers-index.result below c.index-routers-index.is in
+    let more = flat_map_numbered (short_router_line c.args.tables.now) c.args.routers.now
+    c.loop-index.index c.index-routers-index.result below c.index-routers-index.is in
     c.in_ok-push_short_router.ensures ∙ ap (λ t. t ++ piece) c.loop-index.invariant ∙ append_assoc (string_bytes c.args.text.now) lines piece
     ∙ ap (λ l. string_bytes c.args.text.now ++ l) (sym more)

@@ -8,8 +8,10 @@ use Rattle.lab_report.proofs.texts.push_peerings.Goals as goal
 pub loop-index-preserved : goal.loop-index-preserved
 loop-index-preserved c =
     let below : c.loop-index.index < length c.as_slice-peerings.result.now = omega (arith, c.loop-index-test.true) in
-    let lines = flat_map (peering_line c.args.input.now c.args.sessions.now c.args.placement.now) (enumerate_from 0 (take c.loop-index.index c.as_slice-peerings.result.now)) in
+    let lines = flat_map (peering_line c.args.input.now c.args.sessions.now c.args.placement.now)
+    (enumerate_from 0 (take c.loop-index.index c.as_slice-peerings.result.now)) in
     let piece = peering_line c.args.input.now c.args.sessions.now c.args.placement.now (c.loop-index.index, c.index-peerings-index.result) in
-    let more = flat_map_numbered (peering_line c.args.input.now c.args.sessions.now c.args.placement.now) c.as_slice-peerings.result.now c.loop-index.index c.index-peerings-index.result below c.index-peerings-index.is in
+    let more = flat_map_numbered (peering_line c.args.input.now c.args.sessions.now c.args.placement.now)
+    c.as_slice-peerings.result.now c.loop-index.index c.index-peerings-index.result below c.index-peerings-index.is in
     c.in_ok-push_peering.ensures ∙ ap (λ t. t ++ piece) c.loop-index.invariant ∙ append_assoc (string_bytes c.args.text.now) lines piece
     ∙ ap (λ l. string_bytes c.args.text.now ++ l) (sym more)

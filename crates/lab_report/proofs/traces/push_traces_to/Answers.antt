@@ -5,7 +5,8 @@ use Rattle.lab_report.proofs.traces.push_traces_to.Goals as goal
 -- the number of a router fits an octet
 pub overflow_cast-index : goal.overflow_cast-index
 overflow_cast-index c =
-    let numbered : length c.numbered-routers.result.now ≡ min 256 (length c.as_slice.result.now) = ap length c.numbered-routers.ensures ∙ length-take 256 c.as_slice.result.now in
+    let numbered : length c.numbered-routers.result.now ≡ min 256 (length c.as_slice.result.now) =
+    ap length c.numbered-routers.ensures ∙ length-take 256 c.as_slice.result.now in
     omega (arith, numbered, c.loop-index-test.true)
 
 pub loop-index-init : goal.loop-index-init
@@ -15,5 +16,6 @@ loop-index-init c = none_walked c.args.input.now c.args.forwarder.now c.args.add
 pub loop-index-preserved : goal.loop-index-preserved
 loop-index-preserved c =
     let below : c.loop-index.index < length c.numbered-routers.result.now = omega (arith, c.loop-index-test.true) in
-    walked_more c.args.input.now c.args.forwarder.now c.args.address c.numbered-routers.result.now c.loop-index.index c.index-routers-index.result c.walk-walk.result
+    walked_more c.args.input.now c.args.forwarder.now c.args.address c.numbered-routers.result.now
+    c.loop-index.index c.index-routers-index.result c.walk-walk.result
     below c.index-routers-index.is c.walk-walk.ensures.ends _ _ _ c.loop-index.invariant c.in_ok-push_trace.ensures

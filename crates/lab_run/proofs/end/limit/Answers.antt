@@ -13,4 +13,5 @@ returns-in-Some c = λ setup w budget d has at total. record {
 
 pub returns-in-None : goal.returns-in-None
 returns-in-None c = λ setup w budget d has at total. c.full.ensures setup w budget d
-    (subst (λ (o : Option (PeeringId × ℕ)). IsLowest (IsStuckIn setup w) (as_numbers o)) c.in-None.is (c.in_ok-peering.ensures.lowest setup w has at)) (same_total _ d.events c.events.result total c.events.ensures)
+    (subst (λ (o : Option (PeeringId × ℕ)). IsLowest (IsStuckIn setup w) (as_numbers o)) c.in-None.is (c.in_ok-peering.ensures.lowest setup w has at))
+    (same_total _ d.events c.events.result total c.events.ensures)

@@ -4,8 +4,10 @@ use Rattle.lab_run.specs.Ends.{LimitNames}
 use Rattle.lab_run.proofs.end.mark_names.Goals as goal
 
 pub returns-in-Some : goal.returns-in-Some
-returns-in-Some c = λ setup w d sound has at step_is rounds_is total. subst (λ (o : Option RunEnd). LimitNames setup w c.args.budget d o) c.in-Some.is (c.in_ok-end.ensures setup w c.args.budget d has at total)
+returns-in-Some c = λ setup w d sound has at step_is rounds_is total.
+    subst (λ (o : Option RunEnd). LimitNames setup w c.args.budget d o) c.in-Some.is (c.in_ok-end.ensures setup w c.args.budget d has at total)
 
 pub returns-in-None : goal.returns-in-None
 returns-in-None c = λ setup w d sound has at step_is rounds_is total.
-    c.budget_verdict.ensures setup w d sound has at step_is rounds_is (subst (λ (o : Option RunEnd). LimitNames setup w c.args.budget d o) c.in-None.is (c.in_ok-end.ensures setup w c.args.budget d has at total))
+    c.budget_verdict.ensures setup w d sound has at step_is rounds_is
+    (subst (λ (o : Option RunEnd). LimitNames setup w c.args.budget d o) c.in-None.is (c.in_ok-end.ensures setup w c.args.budget d has at total))

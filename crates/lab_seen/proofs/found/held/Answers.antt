@@ -18,8 +18,10 @@ loop-number-preserved c =
     let at = c.loop-number in
     let actors = c.args.actors in
     let held : ℕ → List Found = λ r. held_by r (slice_get actors r) in
-    let next : IsNext actors at.number c.next.result (into_iter_items c.next.new.self) = walked actors at.number c.next.result (into_iter_items c.next.new.self) (sym at.invariant.0 ∙ c.next.ensures.items)
-    (λ none. sym at.invariant.0 ∙ nil_from_length (into_iter_items at.nodes) (sym at.nodes.rest.ok.0 ∙ (MatchOption-at_none _ _ none c.next.ensures.cases).0)) in (
+    let next : IsNext actors at.number c.next.result (into_iter_items c.next.new.self) =
+    walked actors at.number c.next.result (into_iter_items c.next.new.self) (sym at.invariant.0 ∙ c.next.ensures.items)
+    (λ none. sym at.invariant.0
+    ∙ nil_from_length (into_iter_items at.nodes) (sym at.nodes.rest.ok.0 ∙ (MatchOption-at_none _ _ none c.next.ensures.cases).0)) in (
       next.left,
       c.in_ok-add_held.ensures
           ∙ ap (λ (xs : List Found). xs ++ map (found_at (Held (record { 0 = at.number }))) c.in_ok-sessions.sessions) at.invariant.1

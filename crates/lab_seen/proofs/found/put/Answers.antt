@@ -7,7 +7,8 @@ use Rattle.lab_seen.proofs.found.put.Goals as goal
 pub returns-then-is_none : goal.returns-then-is_none
 returns-then-is_none c found is =
     let slots = c.args.slots.now in
-    put_in found c.args.one slots (length slots) is c.from-p.result c.index-slots-p.result c.from-p.ensures c.if-p-slots.true (c.is_none.ensures ∙ ap not c.if-is_none.true)
+    put_in found c.args.one slots (length slots) is c.from-p.result c.index-slots-p.result c.from-p.ensures c.if-p-slots.true
+    (c.is_none.ensures ∙ ap not c.if-is_none.true)
 
 pub returns-else-p-slots : goal.returns-else-p-slots
 returns-else-p-slots c found is =

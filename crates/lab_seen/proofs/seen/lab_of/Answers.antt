@@ -12,7 +12,8 @@ use Rattle.lab_seen.proofs.Observing.{observed}
 use Rattle.lab_seen.proofs.seen.lab_of.Goals as goal
 
 pub fars_of-requires : goal.fars_of-requires
-fars_of-requires c = let f = few c.args.input c.requires.accepted in record { few = (omega (arith, f.routers, c.len-routers.ensures), omega (arith, f.peerings, c.len-peerings.ensures)) }
+fars_of-requires c = let f = few c.args.input c.requires.accepted in
+    record { few = (omega (arith, f.routers, c.len-routers.ensures), omega (arith, f.peerings, c.len-peerings.ensures)) }
 
 pub tables_of-requires : goal.tables_of-requires
 tables_of-requires c = let f = few c.args.input c.requires.accepted in omega (arith, f.routers, c.len-routers.ensures)

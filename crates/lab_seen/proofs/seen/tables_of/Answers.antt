@@ -26,7 +26,8 @@ same_table setup part routers seen best tellings many same_best same_tellings be
     let all : List BestEntry = map best_entry (table.entries part.best) in
     let told : (ℕ → Tellings) → ℕ → List ToldEntry = λ t q. map (told_entry q) (table.entries (t q)) in
     ap (λ (b : List BestEntry). record { best = b; heard = seen.heard }) (best_is ∙ ap (λ (b : BestRoutes). map best_entry (table.entries b)) same_best)
-    ∙ ap (λ (h : List ToldEntry). record { best = all; heard = h }) (heard_is ∙ ap (λ (t : ℕ → Tellings). flat_map (told t) (range_with_len 0 routers)) same_tellings ∙ ap (λ n. flat_map (told part.tellings) (range_with_len 0 n)) (sym many))
+    ∙ ap (λ (h : List ToldEntry). record { best = all; heard = h }) (heard_is ∙ ap (λ (t : ℕ → Tellings). flat_map (told t) (range_with_len 0 routers))
+    same_tellings ∙ ap (λ n. flat_map (told part.tellings) (range_with_len 0 n)) (sym many))
 
 pub loop-number-preserved : goal.loop-number-preserved
 loop-number-preserved c = λ setup many.
@@ -39,7 +40,8 @@ loop-number-preserved c = λ setup many.
           let found : router_in (slice_get c.args.actors.now at.number) ≡ Some router = sym c.router_at.ensures ∙ ap option_copied w.in-Some.is in
           let seen = w.in_ok-table_of.field-0 in
           let same : seen ≡ router_table_of setup (part_of_router router) =
-          same_table setup (part_of_router router) c.args.routers seen w.rib.result.now.best _ many w.rib.ensures.best w.rib.ensures.tellings w.in_ok-table_of.ensures.best w.in_ok-table_of.ensures.heard in
+          same_table setup (part_of_router router) c.args.routers seen w.rib.result.now.best _ many w.rib.ensures.best
+          w.rib.ensures.tellings w.in_ok-table_of.ensures.best w.in_ok-table_of.ensures.heard in
           w.tables-is
           ∙ w.in_ok-push.ensures.ok
           ∙ ap (λ (t : RouterTable). at.tables ++ t ∷ []) same

@@ -19,11 +19,13 @@ loop-prefix-preserved c =
     let named = c.prefix-item.is ∙ ap (λ (xs : List PrefixValue). get_or xs i p) list in
     elim c.match-best.branch [
       | in-Some+in_ok-best_seen+in_ok-push w ↦
-          let found : table.find prefix_cmp p es ≡ Some w.in-Some.route.now = sym (table.get-entries held p) ∙ (sym c.best-in-loop-prefix.ensures.best ∙ ap option_copied w.in-Some.is) in
+          let found : table.find prefix_cmp p es ≡ Some w.in-Some.route.now =
+          sym (table.get-entries held p) ∙ (sym c.best-in-loop-prefix.ensures.best ∙ ap option_copied w.in-Some.is) in
           w.best-is ∙ (w.in_ok-push.ensures.ok ∙ (ap (λ e. c.loop-prefix.best ++ e ∷ []) w.in_ok-best_seen.ensures
           ∙ one_more best_entry es (table.entries_sorted held) [] c.loop-prefix.best i p w.in-Some.route.now within named found c.loop-prefix.invariant))
       | in_default w ↦
-          let none : table.find prefix_cmp p es ≡ None = sym (table.get-entries held p) ∙ (sym c.best-in-loop-prefix.ensures.best ∙ ap option_copied w.in_default.is) in
+          let none : table.find prefix_cmp p es ≡ None =
+          sym (table.get-entries held p) ∙ (sym c.best-in-loop-prefix.ensures.best ∙ ap option_copied w.in_default.is) in
           absurd (has_one best_entry es (table.entries_sorted held) i p within named none)
     ]
 

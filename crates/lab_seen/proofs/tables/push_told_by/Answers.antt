@@ -20,9 +20,11 @@ loop-prefix-preserved c =
     let named = c.prefix-item.is ∙ ap (λ (xs : List PrefixValue). get_or xs i p) list in
     elim c.match-entry.branch [
       | in-Some+in_ok-told_seen+in_ok-push w ↦
-          let found : table.find prefix_cmp p es ≡ Some w.in-Some.route.now = sym (table.get-entries held p) ∙ (sym c.entry.ensures ∙ ap option_copied w.in-Some.is) in
+          let found : table.find prefix_cmp p es ≡ Some w.in-Some.route.now =
+          sym (table.get-entries held p) ∙ (sym c.entry.ensures ∙ ap option_copied w.in-Some.is) in
           w.told-is ∙ (w.in_ok-push.ensures.ok ∙ (ap (λ e. c.loop-prefix.told ++ e ∷ []) w.in_ok-told_seen.ensures
-          ∙ one_more (told_entry c.args.router.0) es (table.entries_sorted held) c.args.told.now c.loop-prefix.told i p w.in-Some.route.now within named found c.loop-prefix.invariant))
+          ∙ one_more (told_entry c.args.router.0) es
+          (table.entries_sorted held) c.args.told.now c.loop-prefix.told i p w.in-Some.route.now within named found c.loop-prefix.invariant))
       | in_default w ↦
           let none : table.find prefix_cmp p es ≡ None = sym (table.get-entries held p) ∙ (sym c.entry.ensures ∙ ap option_copied w.in_default.is) in
           absurd (has_one (told_entry c.args.router.0) es (table.entries_sorted held) i p within named none)

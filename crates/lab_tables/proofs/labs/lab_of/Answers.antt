@@ -33,7 +33,8 @@ returns c =
     let doc = table_view c.args.doc.now in
     let routers : c.in_ok-routers.routers ≡ routers_of doc = c.in_ok-routers.ensures in
     let names : c.in_ok-names.names ≡ router_names_of doc = c.in_ok-names.ensures ∙ ap (map (λ r. r.name)) (c.deref.ensures ∙ routers) in
-    let peerings : c.in_ok-peerings.peerings ≡ peerings_of doc = c.in_ok-peerings.ensures ∙ ap (λ ns. map (peering_input doc ns) (tables_at (codes "peering") doc)) names in
+    let peerings : c.in_ok-peerings.peerings ≡ peerings_of doc =
+    c.in_ok-peerings.ensures ∙ ap (λ ns. map (peering_input doc ns) (tables_at (codes "peering") doc)) names in
     let remotes : c.in_ok-remotes.remotes ≡ peering_names_of doc = c.in_ok-remotes.ensures ∙ ap (map (λ p. p.name)) (c.deref-2.ensures ∙ peerings) in
     lab_same _ _ _ _ _ _ _ _ _ _ _ _ _ _
     c.number_or.ensures

@@ -5,5 +5,17 @@ use Rattle.lab_tables.proofs.opening.wide_opening.Goals as goal
 pub returns : goal.returns
 returns c =
     c.in_ok-octets-7.ensures
-    ∙ rw (c.in_ok-octets-6.ensures, c.in_ok-octets-5.ensures, c.in_ok-octets-4.ensures, c.in_ok-octets-3.ensures, c.in_ok-octets-2.ensures, c.in_ok-octets.ensures, c.to_be_bytes.ensures, c.to_be_bytes-2.ensures, c.to_be_bytes-3.ensures, c.to_be_bytes-4.ensures, c.as_field.ensures)
+    ∙ rw (
+      c.in_ok-octets-6.ensures,
+      c.in_ok-octets-5.ensures,
+      c.in_ok-octets-4.ensures,
+      c.in_ok-octets-3.ensures,
+      c.in_ok-octets-2.ensures,
+      c.in_ok-octets.ensures,
+      c.to_be_bytes.ensures,
+      c.to_be_bytes-2.ensures,
+      c.to_be_bytes-3.ensures,
+      c.to_be_bytes-4.ensures,
+      c.as_field.ensures,
+    )
     (wide_is c.args.remote_as c.args.hold c.args.remote_id)

@@ -6,4 +6,5 @@ use Rattle.lab_tables.proofs.Groups.{any_of_mapped}
 use Rattle.lab_tables.proofs.peerings.has_raw.Goals as goal
 
 pub returns-in-Some : goal.returns-in-Some
-returns-in-Some c = c.any_raw.ensures ∙ any_of_mapped (is_raw_of c.args.name.now) view c.in-Some.steps.now ∙ ap (list_any (is_raw_of c.args.name.now)) c.in-Some.ensures
+returns-in-Some c = c.any_raw.ensures ∙ any_of_mapped (is_raw_of c.args.name.now) view c.in-Some.steps.now
+    ∙ ap (list_any (is_raw_of c.args.name.now)) c.in-Some.ensures

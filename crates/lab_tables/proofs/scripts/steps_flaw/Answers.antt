@@ -22,7 +22,8 @@ returns-in-Some-beyond c =
     let values = c.in-Some.array.now.items in
     let flaw : ℕ → Data → Option Flaw = flaw_in (items_at (codes "step") doc) in
     counted_stops at 0 4096 flaw view values c.in-Some-beyond.flaw
-    (c.in-Some-beyond.ensures ∙ ap (λ p. beyond p 0 4096 (length c.as_slice-steps.result.now)) c.of-2.ensures ∙ ap (λ vs. beyond at 0 4096 (length vs)) c.as_slice-steps.ensures.value)
+    (c.in-Some-beyond.ensures ∙ ap (λ p. beyond p 0 4096 (length c.as_slice-steps.result.now)) c.of-2.ensures
+    ∙ ap (λ vs. beyond at 0 4096 (length vs)) c.as_slice-steps.ensures.value)
     ∙ array_seen at 0 4096 flaw (view c.in_ok-value.value.now) values c.in-Some.ensures
     ∙ ap (present at false (array_flaw at 0 4096 flaw)) c.in_ok-value.ensures
 
@@ -32,10 +33,12 @@ returns c =
     let doc = table_view c.args.doc.now in
     let values = c.in-Some.array.now.items in
     let flaw : ℕ → Data → Option Flaw = flaw_in (map view values) in
-    let items : map view values ≡ items_at (codes "step") doc = items_seen (view c.in_ok-value.value.now) values (get_member (codes "step") doc) c.in-Some.ensures c.in_ok-value.ensures in
+    let items : map view values ≡ items_at (codes "step") doc =
+    items_seen (view c.in_ok-value.value.now) values (get_member (codes "step") doc) c.in-Some.ensures c.in_ok-value.ensures in
     c.items_flaw.ensures ∙ ap (λ vs. each_from (flaw_in (map view vs)) 0 (map view vs)) c.as_slice-steps.ensures.value
     ∙ counted_goes_on at 0 4096 flaw view values
-    (c.in_default-beyond.ensures ∙ ap (λ p. beyond p 0 4096 (length c.as_slice-steps.result.now)) c.of-2.ensures ∙ ap (λ vs. beyond at 0 4096 (length vs)) c.as_slice-steps.ensures.value)
+    (c.in_default-beyond.ensures ∙ ap (λ p. beyond p 0 4096 (length c.as_slice-steps.result.now)) c.of-2.ensures
+    ∙ ap (λ vs. beyond at 0 4096 (length vs)) c.as_slice-steps.ensures.value)
     ∙ array_seen at 0 4096 flaw (view c.in_ok-value.value.now) values c.in-Some.ensures
     ∙ ap (present at false (array_flaw at 0 4096 flaw)) c.in_ok-value.ensures
     ∙ ap (λ ds. tables_flaw Top (codes "step") false 0 4096 (step_flaw ds) doc) items

@@ -20,8 +20,10 @@ pub returns-in-Some : goal.returns-in-Some
 returns-in-Some g c words ask =
     let is = ap input_of (sym c.deref.ensures) ∙ c.in-Ok-input_in.ensures in
     let built = subst (λ found. BuiltOr c.in-Ok-input_in.input (Ok found)) c.in-Some.is c.in_ok-lab.ensures in
-    let told = c.deref-in-Some-2.ensures ∙ c.in_ok-text-in-Some.ensures ∙ ap (λ bytes. journal_text bytes c.as_slice.result.now) c.deref-in-Some.ensures ∙ ap (λ journal. journal_text c.in-Ok.bytes journal) c.as_slice.ensures in
-    journal_ends words _ _ _ c.in-Ok-input_in.input c.in-Some.lab c.deref-in-Some-2.result.now c.end_run.result ask c.in-Ok.ensures is built told c.end_run.ensures
+    let told = c.deref-in-Some-2.ensures ∙ c.in_ok-text-in-Some.ensures ∙ ap (λ bytes. journal_text bytes c.as_slice.result.now) c.deref-in-Some.ensures
+    ∙ ap (λ journal. journal_text c.in-Ok.bytes journal) c.as_slice.ensures in
+    journal_ends words _ _ _ c.in-Ok-input_in.input c.in-Some.lab c.deref-in-Some-2.result.now
+    c.end_run.result ask c.in-Ok.ensures is built told c.end_run.ensures
 
 pub returns : goal.returns
 returns g c words ask =

@@ -1,4 +1,5 @@
-use Rattle.lab_top.proofs.Facts.{statuses, usage_told, refused, made_told, checked_told, bad_input, bad_unwritten, read_failed, write_failed, nothing_written, run_ended, no_run, ran, input_taken, drilled, headline, reported, summed, journaled}
+use Rattle.lab_top.proofs.Facts.{statuses, usage_told, refused, made_told, checked_told, bad_input, bad_unwritten, read_failed, write_failed}
+use Rattle.lab_top.proofs.Facts.{nothing_written, run_ended, no_run, ran, input_taken, drilled, headline, reported, summed, journaled}
 use Rattle.lab_top.proofs.top.graft_main.Goals as goal
 
 pub returns-clause-statuses : goal.returns-clause-statuses

@@ -24,11 +24,13 @@ says_of-requires-clause-writable c =
 
 -- the peering of the number
 there : (c : goal.After-keepalive_interval_of) → slice_get c.args.input.now.peerings c.args.peering.0 ≡ Some c.index-deref-from.result
-there c = read_at c.args.input.now.peerings c.deref.result.now c.from.result c.args.peering.0 c.index-deref-from.result c.deref.ensures c.from.ensures c.requires.there c.index-deref-from.is
+there c = read_at c.args.input.now.peerings c.deref.result.now c.from.result c.args.peering.0
+    c.index-deref-from.result c.deref.ensures c.from.ensures c.requires.there c.index-deref-from.is
 
 pub returns-clause-config : goal.returns-clause-config
 returns-clause-config c =
-    is_config c.args.input.now c.requires.accepted _ c.index-deref-from.result (there c) c.counts-routers.ensures.routers c.counts-routers.ensures.peerings refl refl refl c.in_ok-copy.ensures
+    is_config c.args.input.now c.requires.accepted _ c.index-deref-from.result
+    (there c) c.counts-routers.ensures.routers c.counts-routers.ensures.peerings refl refl refl c.in_ok-copy.ensures
     (c.in_ok-says_of.ensures ∙ ap (λ (w : Bool). says_of w c.args.peering.0 c.deref-2.result.now) c.is_wide-wide.ensures
     ∙ ap (λ (steps : List Step). says_of (is_wide c.index-deref-from.result) c.args.peering.0 steps) c.deref-2.ensures)
     (c.keepalive_interval_of.ensures c.args.input.now c.args.peering.0)

@@ -14,5 +14,6 @@ returns-in-Some c h =
     let p = c.args.prefix in
     elim c.args.slots.now as (λ xs. T (map.is_sorted prefix_cmp xs) → Some last ≡ slice_get xs (length xs - 1) → AllBelow p xs) [
       | [] ↦ λ rise is. tt
-      | x ∷ xs ↦ λ rise is. above_last (x ∷ xs) (length xs) last p rise refl (is ∙ ap (slice_get (x ∷ xs)) (omega arith)) (sym (lt_same (nat_cmp last.0.address p.address) (nat_cmp last.0.len p.len)) ∙ (sym c.lt.ensures ∙ h))
+      | x ∷ xs ↦ λ rise is. above_last (x ∷ xs) (length xs) last p rise refl (is ∙ ap (slice_get (x ∷ xs)) (omega arith))
+          (sym (lt_same (nat_cmp last.0.address p.address) (nat_cmp last.0.len p.len)) ∙ (sym c.lt.ensures ∙ h))
     ] c.requires c.in-Some.ensures.value

@@ -25,7 +25,8 @@ returns-then-has_value g t c =
     ∙ first_own n.prefix (value_at c.args.values.now c.args.index) (es n.zero) (es n.one) (sym c.has_value.ensures ∙ c.if-has_value.true))
 
 pub returns-in-None : goal.returns-in-None
-returns-in-None g t c = sym (ap (λ (es : List (PrefixValue × g.row.V.Denot)). first_above None (keys es)) (none_at c.args.nodes.now c.args.values.now c.args.index (sym c.node_at.ensures ∙ ap option_copied c.in-None.is)))
+returns-in-None g t c = sym (ap (λ (es : List (PrefixValue × g.row.V.Denot)). first_above None (keys es))
+    (none_at c.args.nodes.now c.args.values.now c.args.index (sym c.node_at.ensures ∙ ap option_copied c.in-None.is)))
 
 pub first-requires-in-None-first : goal.first-requires-in-None-first
 first-requires-in-None-first g t c =

@@ -1,4 +1,5 @@
-use Rattle.std.proofs.Common.{rules, ◌≡◌, ◌<◌, List, [], ◌∷◌, ◌++◌, append_assoc, append-nil, map, Bool, true, false, Option, Some, None, is_some, refl, sym, ap, ◌∙◌, arith}
+use Rattle.std.proofs.Common.{rules, ◌≡◌, ◌<◌, List, [], ◌∷◌, ◌++◌, append_assoc, append-nil, map, Bool, true}
+use Rattle.std.proofs.Common.{false, Option, Some, None, is_some, refl, sym, ap, ◌∙◌, arith}
 use Rattle.std.specs.Option.{option_copied}
 use Rattle.std.proofs.lemmas.List.{map-append}
 use Rattle.bgp_types.specs.Prefixes.{PrefixValue}
@@ -26,7 +27,8 @@ list-requires-in-Some g t c =
     search rules
 
 pub returns-in_default : goal.returns-in_default
-returns-in_default g t c = sym (ap (λ (es : List (PrefixValue × g.row.V.Denot)). c.args.prefixes.now ++ map (λ e. e.0) es) (none_at c.args.nodes.now c.args.values.now c.args.index (sym c.node_at.ensures ∙ ap option_copied c.in_default.is)) ∙ append-nil c.args.prefixes.now)
+returns-in_default g t c = sym (ap (λ (es : List (PrefixValue × g.row.V.Denot)). c.args.prefixes.now ++ map (λ e. e.0) es)
+    (none_at c.args.nodes.now c.args.values.now c.args.index (sym c.node_at.ensures ∙ ap option_copied c.in_default.is)) ∙ append-nil c.args.prefixes.now)
 
 abbrev first_of : {V : Type 0} → PrefixValue × V → PrefixValue
 first_of e = e.0
@@ -44,7 +46,8 @@ three : {V : Type 0} (done : List PrefixValue) (a b c : List (PrefixValue × V))
 three done a b c =
     append_assoc (done ++ map first_of a) (map first_of b) (map first_of c)
     ∙ (append_assoc done (map first_of a) (map first_of b ++ map first_of c)
-    ∙ ap (λ (xs : List PrefixValue). done ++ xs) (ap (λ (xs : List PrefixValue). map first_of a ++ xs) (sym (map-append first_of b c)) ∙ sym (map-append first_of a (b ++ c))))
+    ∙ ap (λ (xs : List PrefixValue). done ++ xs)
+    (ap (λ (xs : List PrefixValue). map first_of a ++ xs) (sym (map-append first_of b c)) ∙ sym (map-append first_of a (b ++ c))))
 
 pub returns-in_ok-list-2 : goal.returns-in_ok-list-2
 returns-in_ok-list-2 g t c =
@@ -54,11 +57,14 @@ returns-in_ok-list-2 g t c =
     let f = at_index c.args.nodes.now c.args.values.now c.args.index n (sym c.node_at.ensures ∙ ap option_copied c.in-Some.is) c.requires in
     let here : c.if-has_value.prefixes ≡ c.args.prefixes.now ++ map first_of (own n.prefix v) = elim c.if-has_value.branch [
       | then-has_value+in_ok-push w ↦ w.prefixes-is
-          ∙ (w.in_ok-push.ensures.ok ∙ ap (λ (xs : List PrefixValue). c.args.prefixes.now ++ xs) (sym (own_some n.prefix v (sym c.has_value.ensures ∙ w.if-has_value.true))))
+          ∙ (w.in_ok-push.ensures.ok
+          ∙ ap (λ (xs : List PrefixValue). c.args.prefixes.now ++ xs) (sym (own_some n.prefix v (sym c.has_value.ensures ∙ w.if-has_value.true))))
       | else-has_value w ↦ w.prefixes-is
-          ∙ (sym (append-nil c.args.prefixes.now) ∙ ap (λ (xs : List PrefixValue). c.args.prefixes.now ++ xs) (sym (own_none n.prefix v (sym c.has_value.ensures ∙ w.if-has_value.false))))
+          ∙ (sym (append-nil c.args.prefixes.now)
+          ∙ ap (λ (xs : List PrefixValue). c.args.prefixes.now ++ xs) (sym (own_none n.prefix v (sym c.has_value.ensures ∙ w.if-has_value.false))))
     ] in
     c.in_ok-list-2.ensures
-    ∙ (ap (λ (xs : List PrefixValue). xs ++ map first_of (es n.one)) (c.in_ok-list.ensures ∙ ap (λ (xs : List PrefixValue). xs ++ map first_of (es n.zero)) here)
+    ∙ (ap (λ (xs : List PrefixValue). xs ++ map first_of (es n.one))
+    (c.in_ok-list.ensures ∙ ap (λ (xs : List PrefixValue). xs ++ map first_of (es n.zero)) here)
     ∙ (three c.args.prefixes.now (own n.prefix v) (es n.zero) (es n.one)
     ∙ ap (λ (xs : List (PrefixValue × g.row.V.Denot)). c.args.prefixes.now ++ map first_of xs) (sym f.is)))

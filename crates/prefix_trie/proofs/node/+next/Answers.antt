@@ -12,7 +12,8 @@ use Rattle.prefix_trie.proofs.Indices.{at_index}
 use Rattle.prefix_trie.proofs.node.+next.Goals as goal
 
 pub returns-in-None : goal.returns-in-None
-returns-in-None g t c = sym (ap (λ (es : List (PrefixValue × g.row.V.Denot)). first_above (Some c.args.prefix) (keys es)) (none_at c.args.nodes.now c.args.values.now c.args.index (sym c.node_at.ensures ∙ ap option_copied c.in-None.is)))
+returns-in-None g t c = sym (ap (λ (es : List (PrefixValue × g.row.V.Denot)). first_above (Some c.args.prefix) (keys es))
+    (none_at c.args.nodes.now c.args.values.now c.args.index (sym c.node_at.ensures ∙ ap option_copied c.in-None.is)))
 
 pub returns-then-lt : goal.returns-then-lt
 returns-then-lt g t c =
@@ -24,7 +25,8 @@ returns-then-lt g t c =
     let whole = ap (λ (es : List (PrefixValue × g.row.V.Denot)). first_above (Some p) (keys es)) f.is in
     c.first.ensures
     ∙ (ap (λ (es : List (PrefixValue × g.row.V.Denot)). first_above None (keys es)) f.is
-    ∙ sym (whole ∙ next_before n.prefix v (es n.zero) (es n.one) f.node p (less_from_test (prefix_cmp p n.prefix) (sym (lt_same (nat_cmp p.address n.prefix.address) (nat_cmp p.len n.prefix.len)) ∙ (sym c.lt.ensures ∙ c.if-lt.true)))))
+    ∙ sym (whole ∙ next_before n.prefix v (es n.zero) (es n.one) f.node p (less_from_test (prefix_cmp p n.prefix)
+    (sym (lt_same (nat_cmp p.address n.prefix.address) (nat_cmp p.len n.prefix.len)) ∙ (sym c.lt.ensures ∙ c.if-lt.true)))))
 
 pub next-requires : goal.next-requires
 next-requires g t c =
@@ -43,7 +45,9 @@ returns-in-Some-next g t c =
     let f = at_index c.args.nodes.now c.args.values.now c.args.index n (sym c.node_at.ensures ∙ ap option_copied c.in-Some.is) c.requires in
     let whole = ap (λ (es : List (PrefixValue × g.row.V.Denot)). first_above (Some p) (keys es)) f.is in
     sym (whole
-    ∙ (next_early n.prefix v (es n.zero) (es n.one) f.node p (sym (lt_same (nat_cmp p.address n.prefix.address) (nat_cmp p.len n.prefix.len)) ∙ (sym c.lt.ensures ∙ c.if-lt.false)) (is_before c.is_early.result c.address.result p.address (middle n.prefix) c.address.ensures.value c.is_early.ensures c.if-is_early.true)
+    ∙ (next_early n.prefix v (es n.zero) (es n.one) f.node p
+    (sym (lt_same (nat_cmp p.address n.prefix.address) (nat_cmp p.len n.prefix.len)) ∙ (sym c.lt.ensures ∙ c.if-lt.false))
+    (is_before c.is_early.result c.address.result p.address (middle n.prefix) c.address.ensures.value c.is_early.ensures c.if-is_early.true)
     ∙ ap (λ (o : Option PrefixValue). option_or o (first_above None (keys (es n.one)))) (sym c.next.ensures ∙ c.in-Some-next.is)))
 
 pub first-requires-then-is_early : goal.first-requires-then-is_early
@@ -61,7 +65,9 @@ returns-then-is_early g t c =
     let whole = ap (λ (es : List (PrefixValue × g.row.V.Denot)). first_above (Some p) (keys es)) f.is in
     c.first-then-is_early.ensures
     ∙ sym (whole
-    ∙ (next_early n.prefix v (es n.zero) (es n.one) f.node p (sym (lt_same (nat_cmp p.address n.prefix.address) (nat_cmp p.len n.prefix.len)) ∙ (sym c.lt.ensures ∙ c.if-lt.false)) (is_before c.is_early.result c.address.result p.address (middle n.prefix) c.address.ensures.value c.is_early.ensures c.if-is_early.true)
+    ∙ (next_early n.prefix v (es n.zero) (es n.one) f.node p
+    (sym (lt_same (nat_cmp p.address n.prefix.address) (nat_cmp p.len n.prefix.len)) ∙ (sym c.lt.ensures ∙ c.if-lt.false))
+    (is_before c.is_early.result c.address.result p.address (middle n.prefix) c.address.ensures.value c.is_early.ensures c.if-is_early.true)
     ∙ ap (λ (o : Option PrefixValue). option_or o (first_above None (keys (es n.one)))) (sym c.next.ensures ∙ c.in_default.is)))
 
 pub next-requires-in-Some : goal.next-requires-in-Some
@@ -80,4 +86,6 @@ returns-else-is_early g t c =
     let v = value_at c.args.values.now c.args.index in
     let f = at_index c.args.nodes.now c.args.values.now c.args.index n (sym c.node_at.ensures ∙ ap option_copied c.in-Some.is) c.requires in
     let whole = ap (λ (es : List (PrefixValue × g.row.V.Denot)). first_above (Some p) (keys es)) f.is in
-    c.next-in-Some.ensures ∙ sym (whole ∙ next_late n.prefix v (es n.zero) (es n.one) f.node p (sym (lt_same (nat_cmp p.address n.prefix.address) (nat_cmp p.len n.prefix.len)) ∙ (sym c.lt.ensures ∙ c.if-lt.false)) (is_past c.is_early.result c.address.result p.address (middle n.prefix) c.address.ensures.value c.is_early.ensures c.if-is_early.false))
+    c.next-in-Some.ensures ∙ sym (whole ∙ next_late n.prefix v (es n.zero) (es n.one) f.node p
+    (sym (lt_same (nat_cmp p.address n.prefix.address) (nat_cmp p.len n.prefix.len)) ∙ (sym c.lt.ensures ∙ c.if-lt.false))
+    (is_past c.is_early.result c.address.result p.address (middle n.prefix) c.address.ensures.value c.is_early.ensures c.if-is_early.false))

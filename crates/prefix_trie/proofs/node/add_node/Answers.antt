@@ -17,7 +17,8 @@ returns-in_default c =
     let r = c.add_at-added.result in
     elim c.requires.spot.way [
       | inl top ↦ subst (λ (from : ℕ). IsAdded a.nodes.now c.add_at-added.new.nodes a.prefix a.fresh a.spare from r.root r.forked) top.1 c.add_at-added.ensures
-      | inr b ↦ absurd (let e : None ≡ Some b.node = sym (sym c.copy_at.ensures ∙ c.in_default.is) ∙ above_still a.nodes.now c.add_at-added.new.nodes a.prefix a.fresh a.spare a.root s.above s.at r.root r.forked c.requires.can b c.add_at-added.ensures in cc)
+      | inr b ↦ absurd (let e : None ≡ Some b.node = sym (sym c.copy_at.ensures ∙ c.in_default.is) ∙ above_still a.nodes.now
+          c.add_at-added.new.nodes a.prefix a.fresh a.spare a.root s.above s.at r.root r.forked c.requires.can b c.add_at-added.ensures in cc)
     ]
 
 pub set_node-requires : goal.set_node-requires
@@ -37,5 +38,7 @@ returns c =
           let is = top.0 in
           let e : None ≡ Some n = sym (slice_get_past c.add_at-added.new.nodes s.above (omega (arith, few, many, is))) ∙ there in
           cc)
-      | inr b ↦ linked a.nodes.now c.add_at-added.new.nodes a.prefix a.fresh a.spare a.root s.above s.at r.root r.forked c.requires.can b c.add_at-added.ensures c.set_node.new.nodes c.set_node.ensures.as_many c.set_node.ensures.others n c.linked.result there c.set_node.ensures.node c.linked.ensures
+      | inr b ↦ linked a.nodes.now c.add_at-added.new.nodes a.prefix a.fresh a.spare a.root s.above s.at r.root
+          r.forked c.requires.can b c.add_at-added.ensures c.set_node.new.nodes c.set_node.ensures.as_many
+          c.set_node.ensures.others n c.linked.result there c.set_node.ensures.node c.linked.ensures
     ]

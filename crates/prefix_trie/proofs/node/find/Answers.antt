@@ -15,19 +15,23 @@ returns-then-eq-clause-index c =
 
 pub returns-then-eq-clause-node : goal.returns-then-eq-clause-node
 returns-then-eq-clause-node c =
-    ap (option_map (λ (n : Node). n.prefix)) (sym c.node_at.ensures ∙ ap option_copied c.in-Some.is) ∙ ap Some (same_prefix c.in-Some.node.now.prefix c.args.prefix (sym c.eq.ensures ∙ c.if-eq.true))
+    ap (option_map (λ (n : Node). n.prefix)) (sym c.node_at.ensures ∙ ap option_copied c.in-Some.is)
+    ∙ ap Some (same_prefix c.in-Some.node.now.prefix c.args.prefix (sym c.eq.ensures ∙ c.if-eq.true))
 
 pub returns-else-eq-clause-none : goal.returns-else-eq-clause-none
 returns-else-eq-clause-none c =
     let l = c.loop-node in
     let n = c.in-Some.node.now in
-    l.invariant.absent (none_longer c.args.nodes.now l.at n (sym c.node_at.ensures ∙ ap option_copied c.in-Some.is) l.invariant.trie c.args.prefix (other_prefix n.prefix c.args.prefix (sym c.eq.ensures ∙ c.if-eq.false)) (omega arith))
+    l.invariant.absent (none_longer c.args.nodes.now l.at n (sym c.node_at.ensures ∙ ap option_copied c.in-Some.is) l.invariant.trie c.args.prefix
+    (other_prefix n.prefix c.args.prefix (sym c.eq.ensures ∙ c.if-eq.false)) (omega arith))
 
 pub returns-clause-none : goal.returns-clause-none
-returns-clause-none c = c.loop-node.invariant.absent (none_there c.args.nodes.now c.loop-node.at c.args.prefix (sym c.node_at.ensures ∙ ap option_copied c.in_default.is))
+returns-clause-none c =
+    c.loop-node.invariant.absent (none_there c.args.nodes.now c.loop-node.at c.args.prefix (sym c.node_at.ensures ∙ ap option_copied c.in_default.is))
 
 pub loop-node-smaller-then-is_early : goal.loop-node-smaller-then-is_early
-loop-node-smaller-then-is_early c = zero_less c.args.nodes.now c.loop-node.at c.in-Some.node.now (sym c.node_at.ensures ∙ ap option_copied c.in-Some.is) c.loop-node.invariant.trie
+loop-node-smaller-then-is_early c =
+    zero_less c.args.nodes.now c.loop-node.at c.in-Some.node.now (sym c.node_at.ensures ∙ ap option_copied c.in-Some.is) c.loop-node.invariant.trie
 
 pub loop-node-preserved-then-is_early : goal.loop-node-preserved-then-is_early
 loop-node-preserved-then-is_early c =
@@ -44,7 +48,8 @@ loop-node-preserved-then-is_early c =
     }
 
 pub loop-node-smaller : goal.loop-node-smaller
-loop-node-smaller c = one_less c.args.nodes.now c.loop-node.at c.in-Some.node.now (sym c.node_at.ensures ∙ ap option_copied c.in-Some.is) c.loop-node.invariant.trie
+loop-node-smaller c =
+    one_less c.args.nodes.now c.loop-node.at c.in-Some.node.now (sym c.node_at.ensures ∙ ap option_copied c.in-Some.is) c.loop-node.invariant.trie
 
 pub loop-node-preserved : goal.loop-node-preserved
 loop-node-preserved c =

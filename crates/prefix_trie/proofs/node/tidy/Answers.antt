@@ -15,6 +15,10 @@ returns g c =
     let bare : value_at a.values.now a.index ≡ None = none_of (value_at a.values.now a.index) (sym c.has_value.ensures ∙ c.if-has_value.false) in
     let which = pushed (is_ok c.push.result) a.free.now.items c.push.new.self.items a.index c.push.ensures.items in
     elim c.if-node.branch [
-      | then-node w ↦ subst (λ (to : ℕ). IsTrimmed a.nodes.now a.nodes.now a.values.now a.free.now.items c.push.new.self.items a.index to) (sym w.branch'-is) (lift_late a.nodes.now a.values.now a.free.now.items a.index n there c.push.new.self.items bare which c.requires (is_nowhere n.zero w.if-node.true))
-      | else-node+then-node-2 w ↦ subst (λ (to : ℕ). IsTrimmed a.nodes.now a.nodes.now a.values.now a.free.now.items c.push.new.self.items a.index to) (sym w.branch'-is) (lift_early a.nodes.now a.values.now a.free.now.items a.index n there c.push.new.self.items bare which c.requires (is_nowhere n.one w.if-node-2.true))
+      | then-node w ↦ subst (λ (to : ℕ). IsTrimmed a.nodes.now a.nodes.now a.values.now a.free.now.items c.push.new.self.items a.index to)
+          (sym w.branch'-is) (lift_late a.nodes.now a.values.now a.free.now.items a.index n there c.push.new.self.items bare which c.requires
+          (is_nowhere n.zero w.if-node.true))
+      | else-node+then-node-2 w ↦ subst (λ (to : ℕ). IsTrimmed a.nodes.now a.nodes.now a.values.now a.free.now.items c.push.new.self.items a.index to)
+          (sym w.branch'-is) (lift_early a.nodes.now a.values.now a.free.now.items a.index n there c.push.new.self.items bare which c.requires
+          (is_nowhere n.one w.if-node-2.true))
     ]

@@ -25,7 +25,8 @@ trim_at-requires-clause-way g c =
       | inl no_index ↦ absurd (somewhere no_index)
       | inr way ↦ elim c.requires.spot.way [
         | inl top ↦ absurd (somewhere top.0)
-        | inr b ↦ way_kept a.nodes.now fs a.root a.prefix s.grand s.above b.node b.there c.requires.can.trie (left_apart (indices_at a.nodes.now a.root) a.free.now.items c.requires.can.apart) c.trim_at-begin.ensures.others way
+        | inr b ↦ way_kept a.nodes.now fs a.root a.prefix s.grand s.above b.node b.there c.requires.can.trie
+            (left_apart (indices_at a.nodes.now a.root) a.free.now.items c.requires.can.apart) c.trim_at-begin.ensures.others way
       ]
     ]
 
@@ -38,5 +39,7 @@ returns g c =
       | inl none ↦ absurd (let e : None ≡ Some c.in-Some.node.now = sym none ∙ there in cc)
       | inr is ↦ is
     ] in
-    both_trimmed a.nodes.now first.new.nodes c.trim_at.new.nodes a.values.now a.free.now.items first.new.free.items c.trim_at.new.free.items a.root a.root c.trim_at.result
-    (subst (λ (to : ℕ). IsTrimmed a.nodes.now first.new.nodes a.values.now a.free.now.items first.new.free.items a.root to) begins first.ensures.trimmed) c.trim_at.ensures.trimmed
+    both_trimmed a.nodes.now first.new.nodes c.trim_at.new.nodes a.values.now a.free.now.items
+    first.new.free.items c.trim_at.new.free.items a.root a.root c.trim_at.result
+    (subst (λ (to : ℕ). IsTrimmed a.nodes.now first.new.nodes a.values.now a.free.now.items first.new.free.items a.root to) begins first.ensures.trimmed)
+    c.trim_at.ensures.trimmed

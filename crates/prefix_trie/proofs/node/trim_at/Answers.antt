@@ -16,7 +16,8 @@ returns-in_default-clause-trimmed g c =
     let a = c.args in
     let s = a in
     elim c.requires.way [
-      | inl top ↦ subst (λ (from : ℕ). IsTrimmed a.nodes.now a.nodes.now a.values.now a.free.now.items c.tidy-to.new.free.items from c.tidy-to.result) top.1 c.tidy-to.ensures
+      | inl top ↦ subst (λ (from : ℕ). IsTrimmed a.nodes.now a.nodes.now a.values.now a.free.now.items c.tidy-to.new.free.items from c.tidy-to.result)
+          top.1 c.tidy-to.ensures
       | inr b ↦ absurd (let e : None ≡ Some b.node = sym (sym c.copy_at.ensures ∙ c.in_default.is) ∙ b.there in cc)
     ]
 
@@ -35,5 +36,7 @@ returns-clause-trimmed g c =
           let is = top.0 in
           let e : None ≡ Some n = sym (slice_get_past a.nodes.now s.above (omega (arith, few, is))) ∙ there in
           cc)
-      | inr b ↦ linked a.nodes.now a.values.now a.free.now.items a.nodes.now c.tidy-to.new.free.items a.prefix a.root s.above s.at c.tidy-to.result c.requires.can b c.tidy-to.ensures c.set_node.new.nodes c.set_node.ensures.as_many c.set_node.ensures.others n c.linked.result there c.set_node.ensures.node c.linked.ensures
+      | inr b ↦ linked a.nodes.now a.values.now a.free.now.items a.nodes.now c.tidy-to.new.free.items a.prefix a.root
+          s.above s.at c.tidy-to.result c.requires.can b c.tidy-to.ensures c.set_node.new.nodes c.set_node.ensures.as_many
+          c.set_node.ensures.others n c.linked.result there c.set_node.ensures.node c.linked.ensures
     ]

@@ -35,8 +35,10 @@ empty-requires g t c κs within =
     let there = sym c.node_at.ensures ∙ ap option_copied c.in-Some.is in
     let at = at_node a.nodes.now a.index n there c.requires.trie in
     let trie : IsTrieAt a.nodes.now n.zero = at.zero_below in
-    let apart : AreApart (indices_at a.nodes.now n.zero ++ c.push.new.self.items) = zero_apart a.nodes.now a.index n at a.free.now.items c.requires.apart (is_ok c.push.result) c.push.new.self.items c.push.ensures.items in
-    let bare : (q : ℕ) → Contains c.push.new.self.items q → value_at (set a.values.now a.index None) q ≡ None = index_bare a.nodes.now a.index n at a.free.now.items c.requires.apart (is_ok c.push.result) c.push.new.self.items c.push.ensures.items a.values.now c.requires.bare in
+    let apart : AreApart (indices_at a.nodes.now n.zero ++ c.push.new.self.items) =
+    zero_apart a.nodes.now a.index n at a.free.now.items c.requires.apart (is_ok c.push.result) c.push.new.self.items c.push.ensures.items in
+    let bare : (q : ℕ) → Contains c.push.new.self.items q → value_at (set a.values.now a.index None) q ≡ None = index_bare a.nodes.now a.index
+    n at a.free.now.items c.requires.apart (is_ok c.push.result) c.push.new.self.items c.push.ensures.items a.values.now c.requires.bare in
     let falls = zero_less a.nodes.now a.index n there c.requires.trie in
     let less : left a.nodes.now n.zero < t = omega (arith, falls, c.decreases) in
     let valued = c.requires.valued in
@@ -49,7 +51,8 @@ empty-requires-2 g t c κs within =
     let there = sym c.node_at.ensures ∙ ap option_copied c.in-Some.is in
     let at = at_node a.nodes.now a.index n there c.requires.trie in
     let trie : IsTrieAt a.nodes.now n.one = at.one_below in
-    let apart : AreApart (indices_at a.nodes.now n.one ++ c.empty.new.free.items) = one_apart a.nodes.now a.index n at a.free.now.items c.requires.apart (is_ok c.push.result) c.push.new.self.items c.push.ensures.items c.empty.new.free.items c.empty.ensures.apart c.empty.ensures.among in
+    let apart : AreApart (indices_at a.nodes.now n.one ++ c.empty.new.free.items) = one_apart a.nodes.now a.index n at a.free.now.items c.requires.apart
+    (is_ok c.push.result) c.push.new.self.items c.push.ensures.items c.empty.new.free.items c.empty.ensures.apart c.empty.ensures.among in
     let bare = c.empty.ensures.bare in
     let falls = one_less a.nodes.now a.index n there c.requires.trie in
     let less : left a.nodes.now n.one < t = omega (arith, falls, c.decreases) in
@@ -62,4 +65,5 @@ returns-clause-among g t c =
     let n = c.in-Some.node.now in
     let there = sym c.node_at.ensures ∙ ap option_copied c.in-Some.is in
     let at = at_node a.nodes.now a.index n there c.requires.trie in
-    node_among a.nodes.now a.index n at a.free.now.items c.requires.apart (is_ok c.push.result) c.push.new.self.items c.push.ensures.items c.empty.new.free.items c.empty.ensures.apart c.empty.ensures.among c.empty-2.new.free.items c.empty-2.ensures.among
+    node_among a.nodes.now a.index n at a.free.now.items c.requires.apart (is_ok c.push.result) c.push.new.self.items c.push.ensures.items
+    c.empty.new.free.items c.empty.ensures.apart c.empty.ensures.among c.empty-2.new.free.items c.empty-2.ensures.among

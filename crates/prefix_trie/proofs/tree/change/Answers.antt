@@ -13,12 +13,14 @@ use Rattle.prefix_trie.proofs.tree.change.Goals as goal
 pub returns-in_err-index-clause-changed : goal.returns-in_err-index-clause-changed
 returns-in_err-index-clause-changed g c =
     let t = c.args.tree.now in
-    let absent : find prefix_cmp c.args.prefix (entries t) ≡ None = none_found t.nodes.items t.values.items c.args.prefix t.root c.requires.trie.trie (subst (λ (ns : List Node). HasNone ns t.root c.args.prefix) c.deref.ensures.value c.in_err-index.ensures.none) in
+    let absent : find prefix_cmp c.args.prefix (entries t) ≡ None = none_found t.nodes.items t.values.items c.args.prefix t.root c.requires.trie.trie
+    (subst (λ (ns : List Node). HasNone ns t.root c.args.prefix) c.deref.ensures.value c.in_err-index.ensures.none) in
     search rules
 
 pub index_mut-requires : goal.index_mut-requires
 index_mut-requires g c =
-    let lt = found_valued c.args.tree.now c.args.prefix c.deref.result.now c.in_ok-index.index c.requires.trie c.deref.ensures.value c.in_ok-index.ensures.index c.in_ok-index.ensures.node in
+    let lt = found_valued c.args.tree.now c.args.prefix c.deref.result.now c.in_ok-index.index
+    c.requires.trie c.deref.ensures.value c.in_ok-index.ensures.index c.in_ok-index.ensures.node in
     omega (arith, lt)
 
 pub returns-in-Some-clause-trie : goal.returns-in-Some-clause-trie
@@ -53,5 +55,6 @@ returns-in-None-clause-changed g c =
     c.index_mut.result.now c.index_mut.result.now c.index_mut.ensures.value refl refl refl refl in
     record {
       none = same.there ∙ c.in-None.is;
-      entries = ap (λ (vs : _). entries_at t.nodes.items vs t.root) (ap (λ (o : _). set t.values.items q o) c.index_mut.ensures.value ∙ set-get_or t.values.items q c.index_mut.result.now);
+      entries = ap (λ (vs : _). entries_at t.nodes.items vs t.root)
+          (ap (λ (o : _). set t.values.items q o) c.index_mut.ensures.value ∙ set-get_or t.values.items q c.index_mut.result.now);
     }

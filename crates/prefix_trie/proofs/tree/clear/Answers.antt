@@ -14,7 +14,8 @@ returns-clause-trie g c =
     let ws = c.empty.new.values in
     let nodes_are = c.deref.ensures.value in
     let as_many : length ws ≡ length t.nodes.items = c.empty.ensures.valued ∙ ap (λ (ns : List Node). length ns) nodes_are in
-    let all : length ws ≡ t.values.len = as_many ∙ (sym c.requires.valued ∙ (sym (ap (λ (vs : List (Option g.row.V.Denot)). length vs) c.deref_mut.ensures.value) ∙ c.deref_mut.ensures.len)) in
+    let all : length ws ≡ t.values.len = as_many
+    ∙ (sym c.requires.valued ∙ (sym (ap (λ (vs : List (Option g.row.V.Denot)). length vs) c.deref_mut.ensures.value) ∙ c.deref_mut.ensures.len)) in
     let values_are : (with_items t.values ws).items ≡ ws = with_items_is t.values ws all in
     let u : Tree g.row.V.Denot = record { nodes = t.nodes; values = with_items t.values ws; free = c.empty.new.free; root = nowhere } in
     emptied_trie t u c.requires refl refl c.empty.ensures.apart

@@ -11,7 +11,8 @@ use Rattle.prefix_trie.proofs.tree.get.Goals as goal
 pub returns-in_err-index : goal.returns-in_err-index
 returns-in_err-index g c =
     let t = c.args.tree.now in
-    let absent : find prefix_cmp c.args.prefix (entries t) ≡ None = none_found t.nodes.items t.values.items c.args.prefix t.root c.requires.trie (subst (λ (ns : List Node). HasNone ns t.root c.args.prefix) c.deref.ensures.value c.in_err-index.ensures.none) in
+    let absent : find prefix_cmp c.args.prefix (entries t) ≡ None = none_found t.nodes.items t.values.items c.args.prefix t.root c.requires.trie
+    (subst (λ (ns : List Node). HasNone ns t.root c.args.prefix) c.deref.ensures.value c.in_err-index.ensures.none) in
     search rules
 
 pub returns-in_err-get : goal.returns-in_err-get

@@ -12,7 +12,8 @@ pub index_mut-requires : goal.index_mut-requires
 index_mut-requires g c =
     let t = c.args.tree.now in
     let s = c.seek-spot.result in
-    let node = subst (λ (ns : List Node). option_map (λ n. n.prefix) (slice_get ns s.at) ≡ Some c.args.prefix) c.deref-2.ensures.value (c.is_at.ensures.0 c.if-is_at.true) in
+    let node = subst (λ (ns : List Node). option_map (λ n. n.prefix) (slice_get ns s.at) ≡ Some c.args.prefix) c.deref-2.ensures.value
+    (c.is_at.ensures.0 c.if-is_at.true) in
     let lt = node_in t.nodes.items s.at c.args.prefix node in
     let same = c.requires.trie.valued in
     omega (arith, lt, same)
@@ -22,8 +23,10 @@ returns-then-is_at-clause-trie g c =
     let t = c.args.tree.now in
     let s = c.seek-spot.result in
     let spot = subst (λ (ns : List Node). IsSpot ns t.root c.args.prefix s.above s.at) c.deref.ensures.value c.seek-spot.ensures.spot in
-    let node = subst (λ (ns : List Node). option_map (λ n. n.prefix) (slice_get ns s.at) ≡ Some c.args.prefix) c.deref-2.ensures.value (c.is_at.ensures.0 c.if-is_at.true) in
-    (exchanged t c.args.prefix t.nodes.items s.at c.requires.trie refl (spot_inside t.nodes.items t.root c.args.prefix s.above s.at c.requires.trie.trie spot node) node
+    let node = subst (λ (ns : List Node). option_map (λ n. n.prefix) (slice_get ns s.at) ≡ Some c.args.prefix) c.deref-2.ensures.value
+    (c.is_at.ensures.0 c.if-is_at.true) in
+    (exchanged t c.args.prefix t.nodes.items s.at c.requires.trie refl
+    (spot_inside t.nodes.items t.root c.args.prefix s.above s.at c.requires.trie.trie spot node) node
     (record { nodes = t.nodes; values = with_item t.values s.at c.replace.new.dest; free = t.free; root = t.root })
     c.index_mut.result.now c.replace.new.dest c.index_mut.ensures.value refl refl refl refl).trie
 
@@ -32,8 +35,10 @@ returns-then-is_at-clause-put g c =
     let t = c.args.tree.now in
     let s = c.seek-spot.result in
     let spot = subst (λ (ns : List Node). IsSpot ns t.root c.args.prefix s.above s.at) c.deref.ensures.value c.seek-spot.ensures.spot in
-    let node = subst (λ (ns : List Node). option_map (λ n. n.prefix) (slice_get ns s.at) ≡ Some c.args.prefix) c.deref-2.ensures.value (c.is_at.ensures.0 c.if-is_at.true) in
-    let same = exchanged t c.args.prefix t.nodes.items s.at c.requires.trie refl (spot_inside t.nodes.items t.root c.args.prefix s.above s.at c.requires.trie.trie spot node) node
+    let node = subst (λ (ns : List Node). option_map (λ n. n.prefix) (slice_get ns s.at) ≡ Some c.args.prefix) c.deref-2.ensures.value
+    (c.is_at.ensures.0 c.if-is_at.true) in
+    let same = exchanged t c.args.prefix t.nodes.items s.at c.requires.trie refl
+    (spot_inside t.nodes.items t.root c.args.prefix s.above s.at c.requires.trie.trie spot node) node
     (record { nodes = t.nodes; values = with_item t.values s.at (Some c.args.value); free = t.free; root = t.root })
     c.index_mut.result.now (Some c.args.value) c.index_mut.ensures.value refl refl refl refl in
     record {
@@ -49,7 +54,8 @@ put_new-requires-clause-absent g c =
     let s = c.seek-spot.result in
     let spot = subst (λ (ns : List Node). IsSpot ns t.root c.args.prefix s.above s.at) c.deref.ensures.value c.seek-spot.ensures.spot in
     spot_absent t.nodes.items t.root c.args.prefix s.above s.at c.requires.sound c.requires.trie.trie spot
-    (λ node. false_is (sym c.if-is_at.false ∙ c.is_at.ensures.1 (subst (λ (ns : List Node). option_map (λ n. n.prefix) (slice_get ns s.at) ≡ Some c.args.prefix) (sym c.deref-2.ensures.value) node)))
+    (λ node. false_is (sym c.if-is_at.false ∙ c.is_at.ensures.1
+    (subst (λ (ns : List Node). option_map (λ n. n.prefix) (slice_get ns s.at) ≡ Some c.args.prefix) (sym c.deref-2.ensures.value) node)))
   where
     false_is : ◌≡◌ {A = Bool} false true → ⊥
     false_is e = cc

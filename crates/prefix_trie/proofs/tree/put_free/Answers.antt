@@ -30,9 +30,12 @@ returns-then-not-added-clause-trie g c =
     let t = a.tree.now in
     let rest = c.pop-2.new.self.items in
     let free = s.ensures.items ∙ ap (λ (xs : List ℕ). xs ++ s.fresh ∷ []) s.ensures'.items in
-    let added = subst (λ (ns : List Node). IsAdded ns c.add_node-added.new.nodes a.prefix s.fresh s.spare t.root c.add_node-added.result.root c.add_node-added.result.forked) c.deref_mut.ensures.value c.add_node-added.ensures in
-    let kept = kept_pushed t a.prefix rest s.spare s.fresh c.requires.trie free c.add_node-added.result.forked c.if-not-added.true c.push.new.self.items _ c.push.ensures.items in
-    put_trie t a.prefix rest s.spare s.fresh c.requires.trie free _ c.add_node-added.new.nodes a.value c.add_node-added.result.root c.add_node-added.result.forked added
+    let added = subst (λ (ns : List Node). IsAdded ns c.add_node-added.new.nodes a.prefix s.fresh s.spare t.root
+    c.add_node-added.result.root c.add_node-added.result.forked) c.deref_mut.ensures.value c.add_node-added.ensures in
+    let kept = kept_pushed t a.prefix rest s.spare s.fresh c.requires.trie free
+    c.add_node-added.result.forked c.if-not-added.true c.push.new.self.items _ c.push.ensures.items in
+    put_trie t a.prefix rest s.spare s.fresh c.requires.trie free _ c.add_node-added.new.nodes
+    a.value c.add_node-added.result.root c.add_node-added.result.forked added
     (with_items_is t.nodes c.add_node-added.new.nodes (added.as_many ∙ sym t.nodes.ok.0)) refl refl kept.0 kept.1
 
 pub returns-then-not-added-clause-put : goal.returns-then-not-added-clause-put
@@ -42,9 +45,16 @@ returns-then-not-added-clause-put g c =
     let t = a.tree.now in
     let rest = c.pop-2.new.self.items in
     let free = s.ensures.items ∙ ap (λ (xs : List ℕ). xs ++ s.fresh ∷ []) s.ensures'.items in
-    let added = subst (λ (ns : List Node). IsAdded ns c.add_node-added.new.nodes a.prefix s.fresh s.spare t.root c.add_node-added.result.root c.add_node-added.result.forked) c.deref_mut.ensures.value c.add_node-added.ensures in
-    let kept = kept_pushed t a.prefix rest s.spare s.fresh c.requires.trie free c.add_node-added.result.forked c.if-not-added.true c.push.new.self.items _ c.push.ensures.items in
-    put_entries t a.prefix rest s.spare s.fresh c.requires.trie free (record { nodes = with_items t.nodes c.add_node-added.new.nodes; values = with_item t.values s.fresh (Some a.value); free = c.push.new.self; root = c.add_node-added.result.root }) c.add_node-added.new.nodes a.value c.add_node-added.result.root c.add_node-added.result.forked added
+    let added = subst (λ (ns : List Node). IsAdded ns c.add_node-added.new.nodes a.prefix s.fresh s.spare t.root
+    c.add_node-added.result.root c.add_node-added.result.forked) c.deref_mut.ensures.value c.add_node-added.ensures in
+    let kept = kept_pushed t a.prefix rest s.spare s.fresh c.requires.trie free
+    c.add_node-added.result.forked c.if-not-added.true c.push.new.self.items _ c.push.ensures.items in
+    put_entries t a.prefix rest s.spare s.fresh c.requires.trie free (record {
+      nodes = with_items t.nodes c.add_node-added.new.nodes;
+      values = with_item t.values s.fresh (Some a.value);
+      free = c.push.new.self;
+      root = c.add_node-added.result.root;
+    }) c.add_node-added.new.nodes a.value c.add_node-added.result.root c.add_node-added.result.forked added
     (with_items_is t.nodes c.add_node-added.new.nodes (added.as_many ∙ sym t.nodes.ok.0)) refl refl kept.0 kept.1
 
 pub returns-else-not-added-clause-trie : goal.returns-else-not-added-clause-trie
@@ -54,9 +64,12 @@ returns-else-not-added-clause-trie g c =
     let t = a.tree.now in
     let rest = c.pop-2.new.self.items in
     let free = s.ensures.items ∙ ap (λ (xs : List ℕ). xs ++ s.fresh ∷ []) s.ensures'.items in
-    let added = subst (λ (ns : List Node). IsAdded ns c.add_node-added.new.nodes a.prefix s.fresh s.spare t.root c.add_node-added.result.root c.add_node-added.result.forked) c.deref_mut.ensures.value c.add_node-added.ensures in
-    put_trie t a.prefix rest s.spare s.fresh c.requires.trie free _ c.add_node-added.new.nodes a.value c.add_node-added.result.root c.add_node-added.result.forked added
-    (with_items_is t.nodes c.add_node-added.new.nodes (added.as_many ∙ sym t.nodes.ok.0)) refl refl (kept_rest t a.prefix rest s.spare s.fresh c.requires.trie free) (λ q at. inl at)
+    let added = subst (λ (ns : List Node). IsAdded ns c.add_node-added.new.nodes a.prefix s.fresh s.spare t.root
+    c.add_node-added.result.root c.add_node-added.result.forked) c.deref_mut.ensures.value c.add_node-added.ensures in
+    put_trie t a.prefix rest s.spare s.fresh c.requires.trie free _ c.add_node-added.new.nodes
+    a.value c.add_node-added.result.root c.add_node-added.result.forked added
+    (with_items_is t.nodes c.add_node-added.new.nodes (added.as_many ∙ sym t.nodes.ok.0)) refl refl
+    (kept_rest t a.prefix rest s.spare s.fresh c.requires.trie free) (λ q at. inl at)
 
 pub returns-else-not-added-clause-put : goal.returns-else-not-added-clause-put
 returns-else-not-added-clause-put g c =
@@ -65,6 +78,13 @@ returns-else-not-added-clause-put g c =
     let t = a.tree.now in
     let rest = c.pop-2.new.self.items in
     let free = s.ensures.items ∙ ap (λ (xs : List ℕ). xs ++ s.fresh ∷ []) s.ensures'.items in
-    let added = subst (λ (ns : List Node). IsAdded ns c.add_node-added.new.nodes a.prefix s.fresh s.spare t.root c.add_node-added.result.root c.add_node-added.result.forked) c.deref_mut.ensures.value c.add_node-added.ensures in
-    put_entries t a.prefix rest s.spare s.fresh c.requires.trie free (record { nodes = with_items t.nodes c.add_node-added.new.nodes; values = with_item t.values s.fresh (Some a.value); free = c.pop-2.new.self; root = c.add_node-added.result.root }) c.add_node-added.new.nodes a.value c.add_node-added.result.root c.add_node-added.result.forked added
-    (with_items_is t.nodes c.add_node-added.new.nodes (added.as_many ∙ sym t.nodes.ok.0)) refl refl (kept_rest t a.prefix rest s.spare s.fresh c.requires.trie free) (λ q at. inl at)
+    let added = subst (λ (ns : List Node). IsAdded ns c.add_node-added.new.nodes a.prefix s.fresh s.spare t.root
+    c.add_node-added.result.root c.add_node-added.result.forked) c.deref_mut.ensures.value c.add_node-added.ensures in
+    put_entries t a.prefix rest s.spare s.fresh c.requires.trie free (record {
+      nodes = with_items t.nodes c.add_node-added.new.nodes;
+      values = with_item t.values s.fresh (Some a.value);
+      free = c.pop-2.new.self;
+      root = c.add_node-added.result.root;
+    }) c.add_node-added.new.nodes a.value c.add_node-added.result.root c.add_node-added.result.forked added
+    (with_items_is t.nodes c.add_node-added.new.nodes (added.as_many ∙ sym t.nodes.ok.0)) refl refl
+    (kept_rest t a.prefix rest s.spare s.fresh c.requires.trie free) (λ q at. inl at)

@@ -21,10 +21,12 @@ returns-then-is_err-clause-put g c =
     }
 
 pub put_free-requires-clause-spot : goal.put_free-requires-clause-spot
-put_free-requires-clause-spot g c = let s = c.args.spot in spot_grown c.args.tree.now c.reserve.new.tree c.args.prefix s.above s.at c.requires.trie c.reserve.ensures.grown c.reserve.ensures.trie.few c.requires.spot
+put_free-requires-clause-spot g c = let s = c.args.spot in spot_grown c.args.tree.now c.reserve.new.tree
+    c.args.prefix s.above s.at c.requires.trie c.reserve.ensures.grown c.reserve.ensures.trie.few c.requires.spot
 
 pub put_free-requires-clause-absent : goal.put_free-requires-clause-absent
-put_free-requires-clause-absent g c = grown_none c.args.tree.now c.reserve.new.tree c.requires.trie c.reserve.ensures.grown c.reserve.ensures.trie.few c.args.prefix c.requires.absent
+put_free-requires-clause-absent g c =
+    grown_none c.args.tree.now c.reserve.new.tree c.requires.trie c.reserve.ensures.grown c.reserve.ensures.trie.few c.args.prefix c.requires.absent
 
 pub returns-clause-put : goal.returns-clause-put
 returns-clause-put g c =

@@ -9,7 +9,8 @@ pub returns-in_err-reserve-2-clause-trie : goal.returns-in_err-reserve-2-clause-
 returns-in_err-reserve-2-clause-trie g c = same_trie c.args.tree.now _ c.requires refl c.reserve.ensures.items c.reserve-2.ensures.items refl
 
 pub returns-in_err-reserve-3-clause-trie : goal.returns-in_err-reserve-3-clause-trie
-returns-in_err-reserve-3-clause-trie g c = same_trie c.args.tree.now _ c.requires refl c.reserve.ensures.items c.reserve-2.ensures.items c.reserve-3.ensures.items
+returns-in_err-reserve-3-clause-trie g c =
+    same_trie c.args.tree.now _ c.requires refl c.reserve.ensures.items c.reserve-2.ensures.items c.reserve-3.ensures.items
 
 pub fill-requires : goal.fill-requires
 fill-requires g c = same_trie c.args.tree.now _ c.requires refl c.reserve.ensures.items c.reserve-2.ensures.items c.reserve-3.ensures.items

@@ -30,10 +30,15 @@ write_message-requires c =
     let rib = rib_of c.args.rib.now in
     let out : OutSide = record { peering = record { 0 = c.args.peering }; remote_as = c.args.remote_as; local_address = 3221225990; export_rules = None } in
     let adj_rib_out = c.new-adj_rib_out.result in
-    let is : c.in_ok-batches.batches ≡ c.in-Some.batch ∷ [] = alone c.in_ok-batches.batches c.pop.new.self.items c.in-Some.batch (sym c.into_vec-batches.ensures ∙ c.in-Some.ensures.items) (none_before c.pop.new.self.items c.in-Some.batch c.in_ok-batches.batches (sym c.into_vec-batches.ensures ∙ c.in-Some.ensures.items) (sym c.len.ensures ∙ c.if-len-ne1.false)) in
+    let is : c.in_ok-batches.batches ≡ c.in-Some.batch ∷ [] = alone c.in_ok-batches.batches c.pop.new.self.items c.in-Some.batch
+    (sym c.into_vec-batches.ensures ∙ c.in-Some.ensures.items) (none_before c.pop.new.self.items c.in-Some.batch c.in_ok-batches.batches
+    (sym c.into_vec-batches.ensures ∙ c.in-Some.ensures.items) (sym c.len.ensures ∙ c.if-len-ne1.false)) in
     let kind : PrefixValue → Type 0 = λ x. IsPrefixToTell c.args.due.now c.args.rib.now.dirty adj_rib_out (rib_to_tell rib out) x in
-    let plan : IsPlan kind (rib_to_tell rib out) false (c.in-Some.batch ∷ []) = subst (λ (l : List Batch). IsPlan kind (rib_to_tell rib out) false l) is c.in_ok-batches.ensures.planned in
+    let plan : IsPlan kind (rib_to_tell rib out) false (c.in-Some.batch ∷ []) =
+    subst (λ (l : List Batch). IsPlan kind (rib_to_tell rib out) false l) is c.in_ok-batches.ensures.planned in
     let sound : AreSound (c.in-Some.batch ∷ []) = subst AreSound is c.in_ok-batches.ensures.sound in
-    let writable = when_true (IsWritableFor c.in-Some.batch) (¬ IsWritableFor c.in-Some.batch) c.is_writable.result c.if-not-is_writable.false c.is_writable.ensures in
-    let way = one_way kind (rib_to_tell rib out) false c.in-Some.batch plan.0 (All-head (λ (b : Batch). All IsPrefix b.prefixes) c.in-Some.batch [] sound) writable in
+    let writable = when_true (IsWritableFor c.in-Some.batch)
+    (¬ IsWritableFor c.in-Some.batch) c.is_writable.result c.if-not-is_writable.false c.is_writable.ensures in
+    let way = one_way kind (rib_to_tell rib out) false c.in-Some.batch plan.0
+    (All-head (λ (b : Batch). All IsPrefix b.prefixes) c.in-Some.batch [] sound) writable in
     subst (λ (u : Update). IsWritable (UpdateMsg u) false) (sym c.into_update.ensures) way.writable

@@ -13,9 +13,11 @@ pub loop-from-preserved : goal.loop-from-preserved
 loop-from-preserved g c = record {
   rings = same_in_more _ c.args.ins.now c.loop-from.ins c.take_at.new.ins c.loop-from.invariant.rings c.take_at.ensures.ring c.take_at.ensures.others;
   edges = same_edges_then c.args.post.now c.loop-from.post c.take_at.new.post c.loop-from.invariant.edges c.take_at.ensures.edges;
-  walk = walking_more g.A.Actor.part g.A.Actor.makes g.A.Actor.took c.args.senders.now c.loop-from.from-index c.args.actor.now c.loop-from.actor c.take_at.new.actor c.args.post.now c.loop-from.post c.take_at.new.post
+  walk = walking_more g.A.Actor.part g.A.Actor.makes g.A.Actor.took c.args.senders.now c.loop-from.from-index
+      c.args.actor.now c.loop-from.actor c.take_at.new.actor c.args.post.now c.loop-from.post c.take_at.new.post
       c.args.ins.now c.loop-from.ins c.take_at.new.ins c.loop-from-test.true c.loop-from.invariant.walk c.in_ok-take_at.ensures.took c.take_at.ensures.others;
 }
 
 pub returns-clause-took : goal.returns-clause-took
-returns-clause-took g c = walking_done g.A.Actor.part g.A.Actor.makes g.A.Actor.took c.args.senders.now c.loop-from.from-index c.args.actor.now c.loop-from.actor c.args.post.now c.loop-from.post c.args.ins.now c.loop-from.ins c.loop-from-test.false c.loop-from.invariant.walk
+returns-clause-took g c = walking_done g.A.Actor.part g.A.Actor.makes g.A.Actor.took c.args.senders.now c.loop-from.from-index c.args.actor.now
+    c.loop-from.actor c.args.post.now c.loop-from.post c.args.ins.now c.loop-from.ins c.loop-from-test.false c.loop-from.invariant.walk

@@ -9,9 +9,12 @@ pub returns-clause-net : goal.returns-clause-net
 returns-clause-net g c = λ edges net. net_keeps c.args.cells.now c.pause_at.new.cells edges c.pause_at.ensures.kept net
 
 pub returns-clause-pauses : goal.returns-clause-pauses
-returns-clause-pauses g c = λ edges net. between g.A.Actor.part g.A.Actor.makes g.A.Actor.paused c.args.k c.args.cells.now c.pause_at.new.cells edges c.in_ok-answer.answer net c.requires c.in_ok-answer.ensures.pauses
+returns-clause-pauses g c = λ edges net. between g.A.Actor.part g.A.Actor.makes g.A.Actor.paused c.args.k
+    c.args.cells.now c.pause_at.new.cells edges c.in_ok-answer.answer net c.requires c.in_ok-answer.ensures.pauses
 
 pub returns-clause-order : goal.returns-clause-order
-returns-clause-order g c = λ edges net. order_between g.A.Actor.part g.A.Actor.makes g.A.Actor.paused c.args.k (view_of c.args.cells.now edges) (view_of c.pause_at.new.cells edges) c.in_ok-answer.answer
+returns-clause-order g c = λ edges net. order_between g.A.Actor.part g.A.Actor.makes g.A.Actor.paused c.args.k
+    (view_of c.args.cells.now edges) (view_of c.pause_at.new.cells edges) c.in_ok-answer.answer
     (omega (arith, c.requires, length-map (λ (z : Cell _ _). z.actor) c.args.cells.now))
-    (between g.A.Actor.part g.A.Actor.makes g.A.Actor.paused c.args.k c.args.cells.now c.pause_at.new.cells edges c.in_ok-answer.answer net c.requires c.in_ok-answer.ensures.pauses)
+    (between g.A.Actor.part g.A.Actor.makes g.A.Actor.paused c.args.k c.args.cells.now
+    c.pause_at.new.cells edges c.in_ok-answer.answer net c.requires c.in_ok-answer.ensures.pauses)

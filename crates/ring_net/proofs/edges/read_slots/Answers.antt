@@ -10,7 +10,8 @@ invariant_of-rings g c =
     let within : c.args.b < length old.slots.items = omega (arith, c.len.ensures, old.slots.ok.0) in
     record {
       listed = lists_set old.slots.items c.args.b c.read_both.new.out old.peers.items
-          (λ h. looked_out_none c.index_mut.result.now c.read_both.new.out c.read_both.ensures.outs (ap is_some (c.index_mut.ensures.value ∙ get_or_default old.slots.items c.args.b c.index_mut.result.now None within) ∙ h)) old.listed;
+          (λ h. looked_out_none c.index_mut.result.now c.read_both.new.out c.read_both.ensures.outs
+          (ap is_some (c.index_mut.ensures.value ∙ get_or_default old.slots.items c.args.b c.index_mut.result.now None within) ∙ h)) old.listed;
     }
 
 pub invariant_of-ins : goal.invariant_of-ins
@@ -19,5 +20,6 @@ invariant_of-ins g c =
     let within : c.args.a < length old.slots.items = omega (arith, c.len-then-b-len.ensures, old.slots.ok.0) in
     record {
       listed = lists_set old.slots.items c.args.a c.read_both.new.into old.peers.items
-          (λ h. looked_in_none c.index_mut-then-a-len.result.now c.read_both.new.into c.read_both.ensures.ins (ap is_some (c.index_mut-then-a-len.ensures.value ∙ get_or_default old.slots.items c.args.a c.index_mut-then-a-len.result.now None within) ∙ h)) old.listed;
+          (λ h. looked_in_none c.index_mut-then-a-len.result.now c.read_both.new.into c.read_both.ensures.ins (ap is_some
+          (c.index_mut-then-a-len.ensures.value ∙ get_or_default old.slots.items c.args.a c.index_mut-then-a-len.result.now None within) ∙ h)) old.listed;
     }

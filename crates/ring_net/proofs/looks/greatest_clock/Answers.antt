@@ -12,4 +12,5 @@ loop-cell-init g c = record {
 }
 
 pub loop-cell-preserved : goal.loop-cell-preserved
-loop-cell-preserved g c = greatest_more (λ (z : Cell _ _). clock_of z.post) c.args.cells.now c.loop-cell.cell-index c.loop-cell.greatest c.max-greatest.result c.cell-item.result c.loop-cell-test.true c.cell-item.is c.max-greatest.ensures c.loop-cell.invariant
+loop-cell-preserved g c = greatest_more (λ (z : Cell _ _). clock_of z.post) c.args.cells.now c.loop-cell.cell-index c.loop-cell.greatest
+    c.max-greatest.result c.cell-item.result c.loop-cell-test.true c.cell-item.is c.max-greatest.ensures c.loop-cell.invariant

@@ -1,4 +1,5 @@
-use Rattle.rounds_worked.proofs.Routers.{router_of, of_router, another_event, emitted_among_takes, short_again, short_slices, taken_behind_work, left_undecided, not_sent_again, round_never_passes}
+use Rattle.rounds_worked.proofs.Routers.{router_of, of_router, another_event, emitted_among_takes, short_again, short_slices}
+use Rattle.rounds_worked.proofs.Routers.{taken_behind_work, left_undecided, not_sent_again, round_never_passes}
 use Rattle.rounds_worked.proofs.laws.fields_of_a_routers_round_are_needed.Goals as goal
 
 pub returns : goal.returns

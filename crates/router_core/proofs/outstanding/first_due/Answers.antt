@@ -7,12 +7,14 @@ use Rattle.router_core.proofs.outstanding.first_due.Goals as goal
 pub returns-then-is_some : goal.returns-then-is_some
 returns-then-is_some c =
     let there : is_some c.first.result ≡ true = search rules in
-    lowest_is (λ n. HasSome (table_at c.args.due.now n)) c.loop-number.number c.loop-number.invariant (some_due (table_at c.args.due.now c.loop-number.number) c.first.result c.first.ensures there)
+    lowest_is (λ n. HasSome (table_at c.args.due.now n)) c.loop-number.number c.loop-number.invariant
+    (some_due (table_at c.args.due.now c.loop-number.number) c.first.result c.first.ensures there)
 
 pub loop-number-preserved : goal.loop-number-preserved
 loop-number-preserved c =
     let none : is_some c.first.result ≡ false = search rules in
-    none_next (λ n. HasSome (table_at c.args.due.now n)) c.loop-number.number c.loop-number.invariant (none_due (table_at c.args.due.now c.loop-number.number) c.first.result c.first.ensures none)
+    none_next (λ n. HasSome (table_at c.args.due.now n)) c.loop-number.number c.loop-number.invariant
+    (none_due (table_at c.args.due.now c.loop-number.number) c.first.result c.first.ensures none)
 
 pub returns : goal.returns
 returns c = lowest_none (λ n. HasSome (table_at c.args.due.now n)) c.loop-number.number c.loop-number.invariant

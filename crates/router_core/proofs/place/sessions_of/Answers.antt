@@ -41,4 +41,5 @@ returns c =
     let empty : into_iter_items at.place-iterator ≡ [] = nothing_left _ (sym at.invariant.2 ∙ none.0) in
     let all = sym (append-nil at.yielded) ∙ rw empty at at.invariant.0 ∙ c.into_iter-place-iterator.ensures.into_iter_gives.0 in
     at.invariant.1
-    ∙ (ap (λ (xs : List Place). sessions_in (map Some xs)) (all ∙ c.into_vec-place-items.ensures ∙ c.in_ok-into_values.ensures) ∙ of_values c.args.places.places)
+    ∙ (ap (λ (xs : List Place). sessions_in (map Some xs)) (all ∙ c.into_vec-place-items.ensures ∙ c.in_ok-into_values.ensures)
+    ∙ of_values c.args.places.places)

@@ -14,6 +14,7 @@ returns g c =
     let key = c.in_ok-key.key in
     let has : HasKey keys n key = cc (c.in_ok-key.ensures, c.deref.ensures.value) in
     rw (← c.self.view_is) (
-      λ t. read_of (ghost_name_of c.get_mut.result) (λ (w : g.row.V.Denot). place_list-written fields.values keys n key fields.room c.self.invariant has w t) (place_list fields.values keys fields.room),
+      λ t. read_of (ghost_name_of c.get_mut.result) (λ (w : g.row.V.Denot).
+          place_list-written fields.values keys n key fields.room c.self.invariant has w t) (place_list fields.values keys fields.room),
       record { writes_back = tt; value = c.get_mut.ensures.value ∙ sym (get_or-values_of fields.values keys n ∙ ap (value_under fields.values) has) },
     )

@@ -6,4 +6,5 @@ use Rattle.session_rows.proofs.update.message_in.Goals as goal
 pub returns : goal.returns
 returns c =
     let fits : length (spell c.in-Ok.message c.args.expected.now.wide) ≤ written_limit c.in-Ok.message = search rules in
-    (c.read_message_is_writable.ensures.answered c.args.frame.now c.args.expected.now c.in-Ok.message c.args.expected.now.wide (λ i. omega (arith, c.type_inv.frame i)) c.requires c.in-Ok.ensures).1 fits
+    (c.read_message_is_writable.ensures.answered c.args.frame.now c.args.expected.now c.in-Ok.message c.args.expected.now.wide
+    (λ i. omega (arith, c.type_inv.frame i)) c.requires c.in-Ok.ensures).1 fits

@@ -1,4 +1,5 @@
-use Rattle.story_tests.proofs.HostileStories.{hears_cut, hears_endless, hears_flipped, hears_marker, hears_length, hears_kind, hears_open, hears_cease, hears_capable}
+use Rattle.story_tests.proofs.HostileStories.{hears_cut, hears_endless, hears_flipped, hears_marker, hears_length}
+use Rattle.story_tests.proofs.HostileStories.{hears_kind, hears_open, hears_cease, hears_capable}
 use Rattle.story_tests.proofs.hostile.hostile_remotes_are_answered.Goals as goal
 
 pub returns : goal.returns

@@ -10,4 +10,5 @@ returns-clause-count c =
     let end = λ (p : Piece). p.offset + length p.bytes in
     let parted = IsPartitionedBy-leb end c.args.pieces.now c.args.offset (ends_rise 0 c.args.pieces.now c.requires) in
     let point = IsPartitionPoint-from_clause (λ p. leb (end p) c.args.offset) _ _ c.partition_point.ensures.partitioned parted (λ a r q k. search rules) in
-    point_counts (λ p. leb (end p) c.args.offset) (passed c.args.offset) refl (λ p ps. refl) c.args.pieces.now c.partition_point.result c.partition_point.ensures.bound point
+    point_counts (λ p. leb (end p) c.args.offset) (passed c.args.offset) refl
+    (λ p ps. refl) c.args.pieces.now c.partition_point.result c.partition_point.ensures.bound point

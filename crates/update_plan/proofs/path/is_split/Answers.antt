@@ -10,6 +10,7 @@ not_false false e = absurd cc
 
 pub returns : goal.returns
 returns c =
-    let same : c.args.ases.now ≡ first_ases c.args.path.now = (bytes_eq-Decides c.args.ases.now c.split.result.0.now).0 (not_false _ (sym c.ne.ensures ∙ c.if-ne.false)) ∙ c.split.ensures.ases in
+    let same : c.args.ases.now ≡ first_ases c.args.path.now =
+    (bytes_eq-Decides c.args.ases.now c.split.result.0.now).0 (not_false _ (sym c.ne.ensures ∙ c.if-ne.false)) ∙ c.split.ensures.ases in
     let equal = paths_equal c.args.parts.now c.split.result.1.now in
     (λ e. (same, equal.0 (sym c.eq.ensures ∙ e) ∙ c.split.ensures.parts), λ h. c.eq.ensures ∙ equal.1 (h.1 ∙ sym c.split.ensures.parts))

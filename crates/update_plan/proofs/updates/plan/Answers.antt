@@ -16,7 +16,8 @@ loop-prefix-preserved-then-is_dirty c =
     record {
       keeps = inv.keeps;
       wide = inv.wide;
-      planned = plan_passes c.args.rib.now.dirty c.args.adj_rib_out.now (rib_to_tell (rib_of c.args.rib.now) (out_side_of_view c.args.view.now)) c.args.wide c.deref-prefix-items.result.now c.loop-prefix.prefix-index c.prefix-item.result
+      planned = plan_passes c.args.rib.now.dirty c.args.adj_rib_out.now (rib_to_tell (rib_of c.args.rib.now) (out_side_of_view c.args.view.now))
+          c.args.wide c.deref-prefix-items.result.now c.loop-prefix.prefix-index c.prefix-item.result
           c.loop-prefix-test.true c.prefix-item.is c.loop-prefix.gathered.batches.items (sym c.is_dirty.ensures ∙ c.if-is_dirty.true) inv.planned;
       sound = inv.sound;
     }
@@ -33,7 +34,8 @@ loop-prefix-preserved c =
     record {
       keeps = c.in_ok-gather.ensures.keeps;
       wide = c.in_ok-gather.ensures.wide ∙ inv.wide;
-      planned = plan_then c.args.rib.now.dirty c.args.adj_rib_out.now tell c.args.wide c.deref-prefix-items.result.now c.loop-prefix.prefix-index p c.loop-prefix-test.true c.prefix-item.is
+      planned = plan_then c.args.rib.now.dirty c.args.adj_rib_out.now tell c.args.wide
+          c.deref-prefix-items.result.now c.loop-prefix.prefix-index p c.loop-prefix-test.true c.prefix-item.is
           c.args.due.now (c.deref-prefix-items.ensures ∙ c.in_ok-prefixes.ensures) old new (sym c.is_dirty.ensures ∙ c.if-is_dirty.false)
           (fits_one c.args.wide rib.config.home_as (out_side_of_view c.args.view.now) p (map.get rib.best p))
           (subst (λ w. Gathers w (map.get c.args.adj_rib_out.now p) tell p old new) inv.wide gathers)
@@ -45,6 +47,7 @@ pub returns-clause-planned : goal.returns-clause-planned
 returns-clause-planned c =
     let tell = rib_to_tell (rib_of c.args.rib.now) (out_side_of_view c.args.view.now) in
     subst (λ (l : List Batch). IsPlan (IsPrefixToTell c.args.due.now c.args.rib.now.dirty c.args.adj_rib_out.now tell) tell c.args.wide l)
-        (sym c.into_batches.ensures)
-    (plan_ends c.args.rib.now.dirty c.args.adj_rib_out.now tell c.args.wide c.args.due.now c.deref-prefix-items.result.now (c.deref-prefix-items.ensures ∙ c.in_ok-prefixes.ensures)
+    (sym c.into_batches.ensures)
+    (plan_ends c.args.rib.now.dirty c.args.adj_rib_out.now tell c.args.wide c.args.due.now c.deref-prefix-items.result.now
+    (c.deref-prefix-items.ensures ∙ c.in_ok-prefixes.ensures)
     c.loop-prefix.prefix-index c.loop-prefix-test.false c.loop-prefix.gathered.batches.items c.loop-prefix.invariant.planned)

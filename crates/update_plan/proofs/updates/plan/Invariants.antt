@@ -10,6 +10,7 @@ abbrev pub invariant-loop-prefix : goal.invariant-loop-prefix
 invariant-loop-prefix l = record {
   keeps : GatheredInvariant l.gathered;
   wide : l.gathered.wide ≡ l.wide;
-  planned : PlanAmong l.rib.dirty l.adj_rib_out (rib_to_tell (rib_of l.rib) (out_side_of_view l.view)) l.wide (take l.prefix-index l.prefix-items) l.gathered.batches.items;
+  planned : PlanAmong l.rib.dirty l.adj_rib_out (rib_to_tell (rib_of l.rib) (out_side_of_view l.view)) l.wide
+      (take l.prefix-index l.prefix-items) l.gathered.batches.items;
   sound : AreSound l.gathered.batches.items;
 }

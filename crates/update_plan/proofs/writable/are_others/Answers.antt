@@ -23,7 +23,8 @@ returns-then-not-is_other c = λ both.
     let h = subst (RiseFrom c.loop-other.least) is (c.loop-other.invariant.only (from_both xs both)) in
     elim c.then-not-is_other.branch [
       | then-not-is_other-via-then-not-is_other w ↦ no_other x (sym c.is_other.ensures ∙ w.if-not-is_other.true) h.0
-      | then-not-is_other-via-else-not-is_other+then-kind-least w ↦ not_low c.from-kind.result c.loop-other.least w.if-kind-least.true (subst (λ n. c.loop-other.least ≤ n) (sym c.from-kind.ensures) h.1)
+      | then-not-is_other-via-else-not-is_other+then-kind-least w ↦
+          not_low c.from-kind.result c.loop-other.least w.if-kind-least.true (subst (λ n. c.loop-other.least ≤ n) (sym c.from-kind.ensures) h.1)
     ]
 
 pub returns : goal.returns

@@ -14,7 +14,8 @@ loop-to-preserved c =
           (row_more c.args.routers c.args.peerings c.args.from c.loop-to.to c.args.edges.now.items c.loop-to.edges.items c.requires.there c.loop-to-test.true
           (λ setup counts. sym w.if-may_talk.true ∙ c.may_talk.ensures.is setup counts) (c.may_talk.ensures.apart w.if-may_talk.true) c.loop-to.invariant)
       | else-may_talk w ↦ subst row (sym (ap (λ v. v.items) w.edges-is))
-          (row_same c.args.routers c.args.peerings c.args.from c.loop-to.to c.args.edges.now.items c.loop-to.edges.items (λ setup counts. sym w.if-may_talk.false ∙ c.may_talk.ensures.is setup counts) c.loop-to.invariant)
+          (row_same c.args.routers c.args.peerings c.args.from c.loop-to.to c.args.edges.now.items c.loop-to.edges.items
+          (λ setup counts. sym w.if-may_talk.false ∙ c.may_talk.ensures.is setup counts) c.loop-to.invariant)
     ]
 
 pub returns-clause-none : goal.returns-clause-none

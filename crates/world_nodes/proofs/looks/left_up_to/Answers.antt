@@ -17,8 +17,10 @@ loop-k-init c = first_of_none (λ (o : OwnPart) x. IsLeftWith o x)
 pub loop-k-preserved : goal.loop-k-preserved
 loop-k-preserved c =
     let actors = (view c.args.net.now).actors in
-    subst (λ (xs : List OwnPart). IsFirstOf (IsLeftToOne xs) c.first_pending-first.result) (sym (take_mapped own actors c.loop-k.k c.actor.result.now c.actor.ensures))
-    (first_of_more (λ (o : OwnPart) x. IsLeftWith o x) (take c.loop-k.k (map own actors)) (own c.actor.result.now) c.loop-k.first c.left_at.result c.first_pending-first.result c.loop-k.invariant c.left_at.ensures c.first_pending-first.ensures)
+    subst (λ (xs : List OwnPart). IsFirstOf (IsLeftToOne xs) c.first_pending-first.result)
+    (sym (take_mapped own actors c.loop-k.k c.actor.result.now c.actor.ensures))
+    (first_of_more (λ (o : OwnPart) x. IsLeftWith o x) (take c.loop-k.k (map own actors)) (own c.actor.result.now) c.loop-k.first
+    c.left_at.result c.first_pending-first.result c.loop-k.invariant c.left_at.ensures c.first_pending-first.ensures)
 
 pub returns : goal.returns
 returns c =

@@ -22,13 +22,18 @@ loop-from-preserved c =
     let i = c.loop-from.from-index in
     let edge = get_or edges i (0, 0) in
     let on_edge = λ (e : ℕ × ℕ) (x : Pending). (x ≡ Channel e.0 e.1) × (channel e.0 e.1 ≢ []) in
-    let count : c.in_flight.result ≡ length (channel edge.0 edge.1) = c.in_flight.ensures ∙ ap (λ a. length (channel a c.from-in-loop-from.result)) c.from.ensures ∙ ap (λ b. length (channel edge.0 b)) c.from-in-loop-from.ensures in
-    subst (λ (es : List (ℕ × ℕ)). IsFirstOf (IsSentOnOne channel es) c.if-in_flight-gt0.first) (sym (take_more edges i (0, 0) c.loop-from-test.true)) (elim c.if-in_flight-gt0.branch [
-      | then-in_flight-gt0 w ↦ first_of_more on_edge (take i edges) edge c.loop-from.first (Some (Channel edge.0 edge.1)) c.if-in_flight-gt0.first c.loop-from.invariant
+    let count : c.in_flight.result ≡ length (channel edge.0 edge.1) = c.in_flight.ensures
+    ∙ ap (λ a. length (channel a c.from-in-loop-from.result)) c.from.ensures ∙ ap (λ b. length (channel edge.0 b)) c.from-in-loop-from.ensures in
+    subst (λ (es : List (ℕ × ℕ)). IsFirstOf (IsSentOnOne channel es) c.if-in_flight-gt0.first)
+    (sym (take_more edges i (0, 0) c.loop-from-test.true)) (elim c.if-in_flight-gt0.branch [
+      | then-in_flight-gt0 w ↦
+          first_of_more on_edge (take i edges) edge c.loop-from.first (Some (Channel edge.0 edge.1)) c.if-in_flight-gt0.first c.loop-from.invariant
           (first_sent channel edge.0 edge.1 (λ none. absurd (omega (arith, w.if-in_flight-gt0.true, count, ap length none))))
-          (subst (λ (first : Option Pending). IsFirstOf (IsEither c.loop-from.first (Some (Channel edge.0 edge.1))) first) (sym w.first-is) w.first_pending-first.ensures)
+          (subst (λ (first : Option Pending). IsFirstOf (IsEither c.loop-from.first (Some (Channel edge.0 edge.1))) first)
+          (sym w.first-is) w.first_pending-first.ensures)
       | else-in_flight-gt0 w ↦ subst (λ (first : Option Pending). IsFirstOf (IsSentOnOne channel (take i edges ++ edge ∷ [])) first) (sym w.first-is)
-          (first_of_same on_edge (take i edges) edge c.loop-from.first c.loop-from.invariant (λ x is. is.1 (empty_by_length (channel edge.0 edge.1) (omega (arith, w.if-in_flight-gt0.false, count)))))
+          (first_of_same on_edge (take i edges) edge c.loop-from.first c.loop-from.invariant
+          (λ x is. is.1 (empty_by_length (channel edge.0 edge.1) (omega (arith, w.if-in_flight-gt0.false, count)))))
     ])
 
 pub returns : goal.returns

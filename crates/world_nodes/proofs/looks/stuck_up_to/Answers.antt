@@ -12,8 +12,10 @@ loop-k-init c = lowest_of_none (λ (o : OwnPart) p n. IsStuckWith o p n)
 pub loop-k-preserved : goal.loop-k-preserved
 loop-k-preserved c =
     let actors = (view c.args.net.now).actors in
-    subst (λ (xs : List OwnPart). IsLowest (IsStuckAtOne xs) (as_numbers c.lower-lowest.result)) (sym (take_mapped own actors c.loop-k.k c.actor.result.now c.actor.ensures))
-    (lowest_of_more (λ (o : OwnPart) p n. IsStuckWith o p n) (take c.loop-k.k (map own actors)) (own c.actor.result.now) (as_numbers c.loop-k.lowest) (as_numbers c.in_ok-stuck_at.field-0) (as_numbers c.lower-lowest.result)
+    subst (λ (xs : List OwnPart). IsLowest (IsStuckAtOne xs) (as_numbers c.lower-lowest.result))
+    (sym (take_mapped own actors c.loop-k.k c.actor.result.now c.actor.ensures))
+    (lowest_of_more (λ (o : OwnPart) p n. IsStuckWith o p n) (take c.loop-k.k (map own actors)) (own c.actor.result.now)
+    (as_numbers c.loop-k.lowest) (as_numbers c.in_ok-stuck_at.field-0) (as_numbers c.lower-lowest.result)
     c.loop-k.invariant c.in_ok-stuck_at.ensures c.lower-lowest.ensures)
 
 pub returns : goal.returns

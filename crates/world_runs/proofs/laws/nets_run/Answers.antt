@@ -2,7 +2,8 @@ use Rattle.world_runs.proofs.Nets.{new_ran, runs_go_on, goes_on}
 use Rattle.world_runs.proofs.laws.nets_run.Goals as goal
 
 pub returns-clause-new : goal.returns-clause-new
-returns-clause-new g c = λ own session setup actors edges v first new. new_ran own session setup (c.parts_begin_as_the_first_world.ensures setup) actors edges v first new
+returns-clause-new g c =
+    λ own session setup actors edges v first new. new_ran own session setup (c.parts_begin_as_the_first_world.ensures setup) actors edges v first new
 
 pub returns-clause-phases : goal.returns-clause-phases
 returns-clause-phases g c = λ own session setup u v levels notes clock sound size order level grew no_go.

@@ -12,7 +12,8 @@ pub returns-clause-routes : goal.returns-clause-routes
 returns-clause-routes c =
     let old = c.args.self.now in
     let u = c.args.update.now in
-    let left : fold (announce u.attrs) c.withdraw_all.new.routes u.nlri ≡ apply old u = c.in_ok-withdraw_all.ensures.routes ∙ ap (λ (r : Routes). apply r u) c.self.view_is in
+    let left : fold (announce u.attrs) c.withdraw_all.new.routes u.nlri ≡ apply old u =
+    c.in_ok-withdraw_all.ensures.routes ∙ ap (λ (r : Routes). apply r u) c.self.view_is in
     elim c.match-update.branch [
       | in-Some+in_ok-announce w ↦
           let end : w.announce.new.routes ≡ fold (announce (Some w.in-Some.attrs)) c.withdraw_all.new.routes u.nlri = w.in_ok-announce.ensures.routes
@@ -26,7 +27,8 @@ returns-clause-changed c =
     let old = c.args.self.now in
     let u = c.args.update.now in
     let none : RoutesMoved (given_by_update u) old c.self.inside.routes c.in_ok-changed.changed =
-    subst (λ (ps : List PrefixValue). RoutesMoved (given_by_update u) old c.self.inside.routes ps) (sym c.in_ok-changed.ensures) (subst (λ (r : Routes). RoutesMoved (given_by_update u) old r []) (sym c.self.view_is) (starts (given_by_update u) old)) in
+    subst (λ (ps : List PrefixValue). RoutesMoved (given_by_update u) old c.self.inside.routes ps) (sym c.in_ok-changed.ensures)
+    (subst (λ (r : Routes). RoutesMoved (given_by_update u) old r []) (sym c.self.view_is) (starts (given_by_update u) old)) in
     let withdrawn = c.in_ok-withdraw_all.ensures.changed old none in
     listed (given_by_update u) old c.match-update.self c.match-update.changed c.in_order.result
     (elim c.match-update.branch [
@@ -34,7 +36,8 @@ returns-clause-changed c =
           let gives : (p : PrefixValue) → list_any (same_prefix p) w.as_slice.result.now ≡ true → given_by_update u p ≡ Some w.in-Some.attrs =
           λ p e. given_announced u w.in-Some.attrs w.in-Some.is p (ap (list_any (same_prefix p)) (sym w.as_slice.ensures) ∙ e) in
           subst (λ (r : Routes). RoutesMoved (given_by_update u) old r c.match-update.changed) (sym w.self-is)
-          (subst (λ (ps : List PrefixValue). RoutesMoved (given_by_update u) old w.announce.new.routes ps) (sym w.changed-is) (w.in_ok-announce.ensures.changed old (given_by_update u) gives withdrawn))
+          (subst (λ (ps : List PrefixValue). RoutesMoved (given_by_update u) old w.announce.new.routes ps)
+          (sym w.changed-is) (w.in_ok-announce.ensures.changed old (given_by_update u) gives withdrawn))
       | in_default w ↦
           subst (λ (r : Routes). RoutesMoved (given_by_update u) old r c.match-update.changed) (sym w.self-is)
           (subst (λ (ps : List PrefixValue). RoutesMoved (given_by_update u) old c.withdraw_all.new.routes ps) (sym w.changed-is) withdrawn)

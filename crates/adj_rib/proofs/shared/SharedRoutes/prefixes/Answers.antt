@@ -8,4 +8,5 @@ use Rattle.adj_rib.proofs.Shares.{each_keys}
 use Rattle.adj_rib.proofs.shared.SharedRoutes.prefixes.Goals as goal
 
 pub returns : goal.returns
-returns c = subst (λ (keys : List PrefixValue). IfOk c.prefixes.result (λ prefixes. prefixes ≡ keys)) (sym (each_keys arc_value c.self.inside.trie.contents) ∙ ap (λ (r : Routes). map.keys r) c.self.view_is) c.prefixes.ensures
+returns c = subst (λ (keys : List PrefixValue). IfOk c.prefixes.result (λ prefixes. prefixes ≡ keys))
+    (sym (each_keys arc_value c.self.inside.trie.contents) ∙ ap (λ (r : Routes). map.keys r) c.self.view_is) c.prefixes.ensures

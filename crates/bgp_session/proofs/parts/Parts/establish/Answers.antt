@@ -11,10 +11,12 @@ pub take_down-requires-clause-reply : goal.take_down-requires-clause-reply
 take_down-requires-clause-reply c = ap (λ m. (reply_to m).0) c.requires.reading
 
 pub returns-then-eq-clause-step : goal.returns-then-eq-clause-step
-returns-then-eq-clause-step c = (establishes c.args.self.now c.args.bytes c.requires.front c.requires.reading c.take_down.new.self c.in_ok-take_down.ensures.ok (search rules)).0
+returns-then-eq-clause-step c =
+    (establishes c.args.self.now c.args.bytes c.requires.front c.requires.reading c.take_down.new.self c.in_ok-take_down.ensures.ok (search rules)).0
 
 pub returns-then-eq-clause-keeps : goal.returns-then-eq-clause-keeps
-returns-then-eq-clause-keeps c = (establishes c.args.self.now c.args.bytes c.requires.front c.requires.reading c.take_down.new.self c.in_ok-take_down.ensures.ok (search rules)).1
+returns-then-eq-clause-keeps c =
+    (establishes c.args.self.now c.args.bytes c.requires.front c.requires.reading c.take_down.new.self c.in_ok-take_down.ensures.ok (search rules)).1
 
 pub returns-else-eq-clause-step : goal.returns-else-eq-clause-step
 returns-else-eq-clause-step c =
@@ -22,4 +24,5 @@ returns-else-eq-clause-step c =
     (stays_established c.args.self.now c.args.bytes c.requires.front c.requires.reading c.take_down.new.self c.in_ok-take_down.ensures.ok (search rules)).0
 
 pub returns-else-eq-clause-keeps : goal.returns-else-eq-clause-keeps
-returns-else-eq-clause-keeps c = (stays_established c.args.self.now c.args.bytes c.requires.front c.requires.reading c.take_down.new.self c.in_ok-take_down.ensures.ok (search rules)).1
+returns-else-eq-clause-keeps c =
+    (stays_established c.args.self.now c.args.bytes c.requires.front c.requires.reading c.take_down.new.self c.in_ok-take_down.ensures.ok (search rules)).1

@@ -4,10 +4,12 @@ use Rattle.bgp_session.proofs.Rounds.{passed_begins, passed_room, reply_of, roun
 use Rattle.bgp_session.proofs.parts.Parts.pass_down.Goals as goal
 
 pub written-requires : goal.written-requires
-written-requires c = round_writable c.args.self.now c.args.round _ _ c.requires.at (reply_of c.args.self.now c.args.round c.requires.at c.args.answer c.requires.reply) c.args.answer refl
+written-requires c = round_writable c.args.self.now c.args.round _ _ c.requires.at
+    (reply_of c.args.self.now c.args.round c.requires.at c.args.answer c.requires.reply) c.args.answer refl
 
 pub write_down-requires-clause-begins : goal.write_down-requires-clause-begins
-write_down-requires-clause-begins c = passed_begins c.args.self.now c.args.round _ _ c.requires.at (reply_of c.args.self.now c.args.round c.requires.at c.args.answer c.requires.reply)
+write_down-requires-clause-begins c =
+    passed_begins c.args.self.now c.args.round _ _ c.requires.at (reply_of c.args.self.now c.args.round c.requires.at c.args.answer c.requires.reply)
 
 pub write_down-requires-clause-room : goal.write_down-requires-clause-room
 write_down-requires-clause-room c =

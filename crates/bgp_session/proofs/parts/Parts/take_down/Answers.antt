@@ -7,7 +7,8 @@ pub written-requires : goal.written-requires
 written-requires c = reply_writable _ c.args.bytes _ c.args.answer refl c.requires.reply
 
 pub write_down-requires-clause-begins : goal.write_down-requires-clause-begins
-write_down-requires-clause-begins c = got_begins c.args.self.now c.args.bytes _ _ c.requires.front (reply_of c.args.self.now c.args.bytes c.args.answer c.requires.reply)
+write_down-requires-clause-begins c =
+    got_begins c.args.self.now c.args.bytes _ _ c.requires.front (reply_of c.args.self.now c.args.bytes c.args.answer c.requires.reply)
 
 pub write_down-requires-clause-room : goal.write_down-requires-clause-room
 write_down-requires-clause-room c =

@@ -6,4 +6,5 @@ use Rattle.bgp_session.specs.Steps.{SegmentArrives}
 use Rattle.bgp_session.proofs.session.Session.arrive.Goals as goal
 
 pub returns : goal.returns
-returns c = subst (λ (r : RunningSession). IfOk c.arrive.result (λ a. SegmentArrives a r c.args.segment.now (running c.arrive.new.self))) (ap running c.deref_mut.ensures.value ∙ c.self.view_is) c.arrive.ensures.arrives
+returns c = subst (λ (r : RunningSession). IfOk c.arrive.result (λ a. SegmentArrives a r c.args.segment.now (running c.arrive.new.self)))
+    (ap running c.deref_mut.ensures.value ∙ c.self.view_is) c.arrive.ensures.arrives

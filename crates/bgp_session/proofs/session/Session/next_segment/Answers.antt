@@ -7,13 +7,20 @@ use Rattle.bgp_session.specs.Steps.{SessionEmitsIfAny}
 use Rattle.bgp_session.proofs.session.Session.next_segment.Goals as goal
 
 pub returns-clause-step : goal.returns-clause-step
-returns-clause-step c = subst (λ (r : RunningSession). IfOk c.next_segment.result (λ a. SessionEmitsIfAny EmitsNext r.session a (value_of c.next_segment.new.self))) (ap running c.deref_mut.ensures.value ∙ c.self.view_is) c.next_segment.ensures.step
+returns-clause-step c =
+    subst (λ (r : RunningSession). IfOk c.next_segment.result (λ a. SessionEmitsIfAny EmitsNext r.session a (value_of c.next_segment.new.self)))
+    (ap running c.deref_mut.ensures.value ∙ c.self.view_is) c.next_segment.ensures.step
 
 pub returns-clause-slice : goal.returns-clause-slice
-returns-clause-slice c = subst (λ (r : RunningSession). IfOk c.next_segment.result (λ a. SessionEmitsIfAny EmitsSlice r.session a (value_of c.next_segment.new.self))) (ap running c.deref_mut.ensures.value ∙ c.self.view_is) c.next_segment.ensures.slice
+returns-clause-slice c =
+    subst (λ (r : RunningSession). IfOk c.next_segment.result (λ a. SessionEmitsIfAny EmitsSlice r.session a (value_of c.next_segment.new.self)))
+    (ap running c.deref_mut.ensures.value ∙ c.self.view_is) c.next_segment.ensures.slice
 
 pub returns-clause-none : goal.returns-clause-none
-returns-clause-none c = subst (λ (r : RunningSession). IfOk c.next_segment.result (λ a. IsNone a ↔ (next_length r.session.end ≡ 0))) (ap running c.deref_mut.ensures.value ∙ c.self.view_is) c.next_segment.ensures.none
+returns-clause-none c = subst (λ (r : RunningSession). IfOk c.next_segment.result (λ a. IsNone a ↔ (next_length r.session.end ≡ 0)))
+    (ap running c.deref_mut.ensures.value ∙ c.self.view_is) c.next_segment.ensures.none
 
 pub returns-clause-all : goal.returns-clause-all
-returns-clause-all c = subst (λ (r : RunningSession). IfOk c.next_segment.result (λ a. IfNone a (r.session.end.emitted ≡ min (length r.session.end.stream) (r.session.end.acked + 15360)))) (ap running c.deref_mut.ensures.value ∙ c.self.view_is) c.next_segment.ensures.all
+returns-clause-all c = subst (λ (r : RunningSession).
+    IfOk c.next_segment.result (λ a. IfNone a (r.session.end.emitted ≡ min (length r.session.end.stream) (r.session.end.acked + 15360))))
+    (ap running c.deref_mut.ensures.value ∙ c.self.view_is) c.next_segment.ensures.all

@@ -6,4 +6,5 @@ use Rattle.bgp_session.specs.Steps.{ReadsFrameIfAny}
 use Rattle.bgp_session.proofs.session.Session.read.Goals as goal
 
 pub returns : goal.returns
-returns c = subst (λ (r : RunningSession). IfOk c.read.result (λ step. ReadsFrameIfAny step r (running c.read.new.self))) (ap running c.deref_mut.ensures.value ∙ c.self.view_is) c.read.ensures.step
+returns c = subst (λ (r : RunningSession). IfOk c.read.result (λ step. ReadsFrameIfAny step r (running c.read.new.self)))
+    (ap running c.deref_mut.ensures.value ∙ c.self.view_is) c.read.ensures.step

@@ -6,4 +6,5 @@ use Rattle.bgp_session.specs.Steps.{SessionTicks}
 use Rattle.bgp_session.proofs.session.Session.tick.Goals as goal
 
 pub returns : goal.returns
-returns c = subst (λ (r : RunningSession). IfOk c.tick.result (λ step. SessionTicks step r c.args.round (running c.tick.new.self))) (ap running c.deref_mut.ensures.value ∙ c.self.view_is) c.tick.ensures.step
+returns c = subst (λ (r : RunningSession). IfOk c.tick.result (λ step. SessionTicks step r c.args.round (running c.tick.new.self)))
+    (ap running c.deref_mut.ensures.value ∙ c.self.view_is) c.tick.ensures.step

@@ -9,9 +9,11 @@ pub returns-clause-choice : goal.returns-clause-choice
 returns-clause-choice c =
     let from : c.map.result ≡ option_map (λ (x : RankedSource). x.0) c.best_champion.result = search rules in
     from
-    ∙ (sym (best-chosen c.self.inside.ranks c.self.inside.groups c.best_champion.result c.self.invariant c.best_champion.ensures.numbered (sym c.best_champion.ensures.best)) ∙ ap choice c.self.view_is)
+    ∙ (sym (best-chosen c.self.inside.ranks c.self.inside.groups c.best_champion.result c.self.invariant c.best_champion.ensures.numbered
+    (sym c.best_champion.ensures.best)) ∙ ap choice c.self.view_is)
 
 pub returns-clause-empty : goal.returns-clause-empty
 returns-clause-empty c =
     let from : c.map.result ≡ option_map (λ (x : RankedSource). x.0) c.best_champion.result = search rules in
-    empty_exactly _ _ (from ∙ (sym (best-chosen c.self.inside.ranks c.self.inside.groups c.best_champion.result c.self.invariant c.best_champion.ensures.numbered (sym c.best_champion.ensures.best)) ∙ ap choice c.self.view_is))
+    empty_exactly _ _ (from ∙ (sym (best-chosen c.self.inside.ranks c.self.inside.groups c.best_champion.result
+    c.self.invariant c.best_champion.ensures.numbered (sym c.best_champion.ensures.best)) ∙ ap choice c.self.view_is))

@@ -25,4 +25,5 @@ pub loop-group-preserved : goal.loop-group-preserved
 loop-group-preserved c =
     c.better-best.ensures
     ∙ (ap (λ o. better_of c.loop-group.best o) c.champion.ensures
-    ∙ one_more _ _ _ c.loop-group-item.result _ (c.deref-group-items.ensures.value ∙ c.self.view_is) c.loop-group-test.true c.loop-group-item.is c.loop-group.invariant)
+    ∙ one_more _ _ _ c.loop-group-item.result _
+    (c.deref-group-items.ensures.value ∙ c.self.view_is) c.loop-group-test.true c.loop-group-item.is c.loop-group.invariant)

@@ -31,7 +31,8 @@ returns-in-Ok-clause-ok c =
     let es = c.self.inside.entries.items in
     let here = rw c.deref.ensures.value at c.in-Ok.ensures.found in
     on_ok c.set.result c.set.ensures.ok (λ set n.
-    group-changed es c.args.rank.neighbour c.in-Ok.at c.index_mut.result.now c.index_mut.ensures.value here n (λ ms. with_rank ms c.args.from c.args.rank) c.set.new.self set
+    group-changed es c.args.rank.neighbour c.in-Ok.at c.index_mut.result.now c.index_mut.ensures.value here n
+    (λ ms. with_rank ms c.args.from c.args.rank) c.set.new.self set
     ∙ ap (λ gs. cond (n == c.args.rank.neighbour) (Some (with_rank (members_of gs n) c.args.from c.args.rank)) (group_at gs n)) c.self.view_is)
 
 -- ---- where it has none
@@ -46,12 +47,14 @@ pub invariant_of-self-in-Err : goal.invariant_of-self-in-Err
 invariant_of-self-in-Err c =
     let es = c.self.inside.entries.items in
     let gap = rw c.deref.ensures.value at c.in-Err.ensures.absent in
-    subst AreNumbered (sym c.in_ok-insert-in-Err.ensures.items) (made_numbers es c.args.rank.neighbour c.in-Err.at gap c.self.invariant c.in_ok-group-in-Err.group)
+    subst AreNumbered (sym c.in_ok-insert-in-Err.ensures.items)
+    (made_numbers es c.args.rank.neighbour c.in-Err.at gap c.self.invariant c.in_ok-group-in-Err.group)
 
 pub returns-in_ok-insert-in-Err-clause-ok : goal.returns-in_ok-insert-in-Err-clause-ok
 returns-in_ok-insert-in-Err-clause-ok c n =
     let es = c.self.inside.entries.items in
     let gap = rw c.deref.ensures.value at c.in-Err.ensures.absent in
-    ap (λ (gs : List NumberedGroup). group_at gs n) (c.in_ok-insert-in-Err.ensures.items ∙ ap (λ (ms : List RankedSource). list.insert es c.in-Err.at (c.args.rank.neighbour, ms)) c.in_ok-group-in-Err.ensures)
+    ap (λ (gs : List NumberedGroup). group_at gs n) (c.in_ok-insert-in-Err.ensures.items
+    ∙ ap (λ (ms : List RankedSource). list.insert es c.in-Err.at (c.args.rank.neighbour, ms)) c.in_ok-group-in-Err.ensures)
     ∙ (group-made es c.args.rank.neighbour c.in-Err.at gap n (λ ms. with_rank ms c.args.from c.args.rank)
     ∙ ap (λ gs. cond (n == c.args.rank.neighbour) (Some (with_rank (members_of gs n) c.args.from c.args.rank)) (group_at gs n)) c.self.view_is)

@@ -42,7 +42,8 @@ returns-then-is_empty c n =
     let es = c.self.inside.entries.items in
     let here = rw c.deref.ensures.value at c.in-Ok.ensures.found in
     ap (λ gs. group_at gs n) c.remove-then-is_empty.ensures.items
-    ∙ (group-gone es c.args.neighbour c.in-Ok.at c.index_mut.result.now c.index_mut.ensures.value here c.self.invariant n (λ ms. without_source ms c.args.from) c.remove.new.self c.remove.ensures (c.is_empty.ensures.0 c.if-is_empty.true)
+    ∙ (group-gone es c.args.neighbour c.in-Ok.at c.index_mut.result.now c.index_mut.ensures.value here c.self.invariant n
+    (λ ms. without_source ms c.args.from) c.remove.new.self c.remove.ensures (c.is_empty.ensures.0 c.if-is_empty.true)
     ∙ ap (λ gs. cond (n == c.args.neighbour) (some_members (without_source (members_of gs n) c.args.from)) (group_at gs n)) c.self.view_is)
 
 pub invariant_of-self-else-is_empty : goal.invariant_of-self-else-is_empty
@@ -56,5 +57,6 @@ returns-else-is_empty c n =
     let es = c.self.inside.entries.items in
     let here = rw c.deref.ensures.value at c.in-Ok.ensures.found in
     let some : c.remove.new.self ≡ [] → ⊥ = λ none. let yes = c.is_empty.ensures.1 none in let no = c.if-is_empty.false in cc in
-    group-stays es c.args.neighbour c.in-Ok.at c.index_mut.result.now c.index_mut.ensures.value here n (λ ms. without_source ms c.args.from) c.remove.new.self c.remove.ensures some
+    group-stays es c.args.neighbour c.in-Ok.at c.index_mut.result.now c.index_mut.ensures.value here n
+    (λ ms. without_source ms c.args.from) c.remove.new.self c.remove.ensures some
     ∙ ap (λ gs. cond (n == c.args.neighbour) (some_members (without_source (members_of gs n) c.args.from)) (group_at gs n)) c.self.view_is

@@ -5,4 +5,5 @@ use Rattle.decision_groups.proofs.ranks.Ranks.one.Goals as goal
 
 pub invariant_of-result : goal.invariant_of-result
 unfolding IsStrictlySortedBy
-invariant_of-result c = subst IsInOrder (sym (c.in_ok-push.ensures.items ∙ ap (λ (ranks : List RankedSource). ranks ++ (c.args.from, c.args.rank) ∷ []) c.in_ok-entries.ensures.items)) (tt, tt)
+invariant_of-result c = subst IsInOrder
+    (sym (c.in_ok-push.ensures.items ∙ ap (λ (ranks : List RankedSource). ranks ++ (c.args.from, c.args.rank) ∷ []) c.in_ok-entries.ensures.items)) (tt, tt)

@@ -19,5 +19,6 @@ loop-policy-preserved c =
     = c.policy-item.is ∙ ap (λ (xs : List (List Rule)). slice_index_or xs c.loop-policy.policy-index c.policy-item.result) same in
     let answer : c.in_ok-answer.answer ≡ policy c.policy-item.result c.args.prefix c.args.self.now.remote_as c.args.route.now
     = c.in_ok-answer.ensures ∙ ap (λ (r : Route). policy c.policy-item.result c.args.prefix c.args.self.now.remote_as r) c.in_ok-copy.ensures in
-    filter_step (let_in_by c.args.self.now c.args.prefix c.args.route.now) ps c.loop-policy.policy-index c.policy-item.result _ _ _ below is c.loop-policy.invariant
+    filter_step (let_in_by c.args.self.now c.args.prefix c.args.route.now) ps
+    c.loop-policy.policy-index c.policy-item.result _ _ _ below is c.loop-policy.invariant
     (adds_same _ _ _ _ (ap (λ (o : Option Route). cons_option (option_map (med_of c.args.self.now.home_as c.args.prefix) o) []) answer) c.in_ok-note_if.ensures)

@@ -15,7 +15,8 @@ loop-len-preserved c =
     let cut : frame_at c.loop-len.left.now ≡ Some (c.split_at.result.0.now, c.split_at.result.1.now) =
     (c.in-Some.ensures).0 ∙ ap (λ (x : List ℕ). Some (x, drop c.in-Some.len c.loop-len.left.now)) (sym c.split_at.ensures.front)
     ∙ ap (λ (y : List ℕ). Some (c.split_at.result.0.now, y)) (sym c.split_at.ensures.back) in
-    one_frame c.args.self.now c.args.expected.now c.split_at.result.0.now c.split_at.result.1.now c.loop-len.left.now c.args.said.now _ _ _ cut c.loop-len.invariant
+    one_frame c.args.self.now c.args.expected.now c.split_at.result.0.now c.split_at.result.1.now
+    c.loop-len.left.now c.args.said.now _ _ _ cut c.loop-len.invariant
     (adds_same _ _ _ _ (ap (λ (o : Option Update). meds_of_updates c.args.self.now (cons_option o [])) c.in_ok-update.ensures) c.in_ok-note_if_update.ensures)
 
 pub loop-len-preserved-in_ok-note_if_update : goal.loop-len-preserved-in_ok-note_if_update
@@ -23,7 +24,8 @@ loop-len-preserved-in_ok-note_if_update c =
     let cut : frame_at c.loop-len.left.now ≡ Some (c.split_at.result.0.now, c.split_at.result.1.now) =
     (c.in-Some.ensures).0 ∙ ap (λ (x : List ℕ). Some (x, drop c.in-Some.len c.loop-len.left.now)) (sym c.split_at.ensures.front)
     ∙ ap (λ (y : List ℕ). Some (c.split_at.result.0.now, y)) (sym c.split_at.ensures.back) in
-    one_frame c.args.self.now c.args.expected.now c.split_at.result.0.now c.split_at.result.1.now c.loop-len.left.now c.args.said.now _ _ _ cut c.loop-len.invariant
+    one_frame c.args.self.now c.args.expected.now c.split_at.result.0.now c.split_at.result.1.now
+    c.loop-len.left.now c.args.said.now _ _ _ cut c.loop-len.invariant
     (adds_same _ _ _ _ (ap (λ (o : Option Update). meds_of_updates c.args.self.now (cons_option o [])) c.in_ok-update.ensures) c.in_ok-note_if_update.ensures)
 
 pub loop-len-smaller : goal.loop-len-smaller

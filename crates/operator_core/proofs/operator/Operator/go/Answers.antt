@@ -23,6 +23,8 @@ returns-clause-paused g c = if_ok c.go.result (λ answer t session. record {
 
 pub returns-clause-emptied : goal.returns-clause-emptied
 returns-clause-emptied g c = if_ok c.go.result (λ answer t yes step router there group. record {
-  given = λ x known of_step. t.emptied yes x router known (ap (slice_get (operator_setup c.args.self.now).steps) of_step ∙ there) (ap (group_of (operator_setup c.args.self.now)) of_step ∙ group);
-  well = c.emptied_routers_give_by_plan.ensures.well (operator_setup c.args.self.now) (placement (operator_setup c.args.self.now) (operator_part c.args.self.now)) router;
+  given = λ x known of_step. t.emptied yes x router known (ap (slice_get (operator_setup c.args.self.now).steps) of_step ∙ there)
+      (ap (group_of (operator_setup c.args.self.now)) of_step ∙ group);
+  well = c.emptied_routers_give_by_plan.ensures.well (operator_setup c.args.self.now)
+      (placement (operator_setup c.args.self.now) (operator_part c.args.self.now)) router;
 }) c.go.ensures.ok

@@ -8,4 +8,5 @@ use Rattle.operator_core.proofs.GraftLog.{log_is}
 use Rattle.operator_core.proofs.progress.Progress.log.Goals as goal
 
 pub returns : goal.returns
-returns c = subst (λ (xs : List GraftEntry). IfOk c.logged.result (λ log. log ≡ xs)) (ap (flat_map entries_in_slot) c.as_slice.ensures.value ∙ log_is (progress_state c.args.self.now) c.requires.keeps) c.logged.ensures
+returns c = subst (λ (xs : List GraftEntry). IfOk c.logged.result (λ log. log ≡ xs))
+    (ap (flat_map entries_in_slot) c.as_slice.ensures.value ∙ log_is (progress_state c.args.self.now) c.requires.keeps) c.logged.ensures

@@ -17,14 +17,16 @@ use Rattle.operator_core.proofs.progress.Progress.new.Goals as goal
 pub group_from-requires-clause-numbered : goal.group_from-requires-clause-numbered
 group_from-requires-clause-numbered c =
     let numbers : AreNumbers (length c.args.script.starts) c.args.script.steps c.in_ok-numbers.numbers =
-    subst (λ (n : ℕ). AreNumbers n c.args.script.steps c.in_ok-numbers.numbers) c.len-peerings.ensures (subst (λ (xs : List ScriptStep). AreNumbers c.len-peerings.result xs c.in_ok-numbers.numbers) c.as_slice-steps.ensures c.in_ok-numbers.ensures) in
+    subst (λ (n : ℕ). AreNumbers n c.args.script.steps c.in_ok-numbers.numbers) c.len-peerings.ensures
+    (subst (λ (xs : List ScriptStep). AreNumbers c.len-peerings.result xs c.in_ok-numbers.numbers) c.as_slice-steps.ensures c.in_ok-numbers.ensures) in
     subst (NumbersFit c.args.script.steps) (sym c.as_slice-2.ensures)
     (numbers_fit (length c.args.script.starts) c.args.script.steps c.in_ok-numbers.numbers c.requires.sound.peerings c.requires.sound.short numbers)
 
 pub give-requires : goal.give-requires
 give-requires c =
     let numbers : AreNumbers (length c.args.script.starts) c.args.script.steps c.in_ok-numbers.numbers =
-    subst (λ (n : ℕ). AreNumbers n c.args.script.steps c.in_ok-numbers.numbers) c.len-peerings.ensures (subst (λ (xs : List ScriptStep). AreNumbers c.len-peerings.result xs c.in_ok-numbers.numbers) c.as_slice-steps.ensures c.in_ok-numbers.ensures) in
+    subst (λ (n : ℕ). AreNumbers n c.args.script.steps c.in_ok-numbers.numbers) c.len-peerings.ensures
+    (subst (λ (xs : List ScriptStep). AreNumbers c.len-peerings.result xs c.in_ok-numbers.numbers) c.as_slice-steps.ensures c.in_ok-numbers.ensures) in
     let seats : c.in_ok-seats.seats.items ≡ map seat_at c.args.script.starts = c.in_ok-seats.ensures ∙ ap (map seat_at) c.as_slice.ensures in
     let slots : c.in_ok-slots.slots.items ≡ first_slots (length c.args.script.starts) 0 c.args.script.steps =
     c.in_ok-slots.ensures ∙ ap (λ (n : ℕ). first_slots n 0 c.as_slice-steps.result.now) c.len-peerings.ensures
@@ -34,12 +36,14 @@ give-requires c =
     (subst (λ (xs : List Seat). IsGroupFrom c.args.script c.as_slice-2.result.now xs 0 c.in_ok-first.first) c.deref.ensures.value c.in_ok-first.ensures) in
     subst (λ (xs : List Slot). All (λ (gift : Gift). (1 ≤ gift.graft) × (gift.graft ≤ length xs)) c.as_slice-3.result.now) (sym c.deref_mut.ensures.value)
     (subst (All (λ (gift : Gift). (1 ≤ gift.graft) × (gift.graft ≤ length c.in_ok-slots.slots.items))) (sym c.as_slice-3.ensures)
-    (first_gifts_fit c.args.known.setup c.args.script c.requires.script c.requires.sound c.in_ok-numbers.numbers numbers c.in_ok-seats.seats.items seats c.in_ok-slots.slots.items slots c.in_ok-first.first begins))
+    (first_gifts_fit c.args.known.setup c.args.script c.requires.script c.requires.sound c.in_ok-numbers.numbers
+    numbers c.in_ok-seats.seats.items seats c.in_ok-slots.slots.items slots c.in_ok-first.first begins))
 
 pub returns : goal.returns
 returns c =
     let numbers : AreNumbers (length c.args.script.starts) c.args.script.steps c.in_ok-numbers.numbers =
-    subst (λ (n : ℕ). AreNumbers n c.args.script.steps c.in_ok-numbers.numbers) c.len-peerings.ensures (subst (λ (xs : List ScriptStep). AreNumbers c.len-peerings.result xs c.in_ok-numbers.numbers) c.as_slice-steps.ensures c.in_ok-numbers.ensures) in
+    subst (λ (n : ℕ). AreNumbers n c.args.script.steps c.in_ok-numbers.numbers) c.len-peerings.ensures
+    (subst (λ (xs : List ScriptStep). AreNumbers c.len-peerings.result xs c.in_ok-numbers.numbers) c.as_slice-steps.ensures c.in_ok-numbers.ensures) in
     let seats : c.in_ok-seats.seats.items ≡ map seat_at c.args.script.starts = c.in_ok-seats.ensures ∙ ap (map seat_at) c.as_slice.ensures in
     let slots : c.in_ok-slots.slots.items ≡ first_slots (length c.args.script.starts) 0 c.args.script.steps =
     c.in_ok-slots.ensures ∙ ap (λ (n : ℕ). first_slots n 0 c.as_slice-steps.result.now) c.len-peerings.ensures
@@ -60,7 +64,8 @@ returns c =
       seats = c.in_ok-seats.seats;
     })
     refl c.requires.script c.requires.sound numbers refl c.in_ok-first.first begins refl refl c.in_ok-slots.slots.items slots
-    (with_items_is c.in_ok-slots.slots c.give.new.slots (ap (λ (xs : List Slot). length xs) c.give.ensures ∙ length_give c.as_slice-3.result.now c.deref_mut.result.now ∙ ap (λ (xs : List Slot). length xs) c.deref_mut.ensures.value ∙ sym c.in_ok-slots.slots.ok.0)
+    (with_items_is c.in_ok-slots.slots c.give.new.slots (ap (λ (xs : List Slot). length xs) c.give.ensures ∙ length_give c.as_slice-3.result.now
+    c.deref_mut.result.now ∙ ap (λ (xs : List Slot). length xs) c.deref_mut.ensures.value ∙ sym c.in_ok-slots.slots.ok.0)
     ∙ c.give.ensures ∙ ap (λ (xs : List Slot). give c.as_slice-3.result.now xs) c.deref_mut.ensures.value
     ∙ ap (λ (gifts : List Gift). give gifts c.in_ok-slots.slots.items) c.as_slice-3.ensures)
     seats

@@ -10,7 +10,8 @@ pub visit-requires-clause-known : goal.visit-requires-clause-known
 visit-requires-clause-known g c = known_still c.args.self.now c.loop-index.self c.loop-index.invariant.turning.same c.requires.known
 
 pub visit-requires-clause-within : goal.visit-requires-clause-within
-visit-requires-clause-within g c = step_within c.loop-index.self c.loop-index.index c.task-task.result (known_still c.args.self.now c.loop-index.self c.loop-index.invariant.turning.same c.requires.known)
+visit-requires-clause-within g c = step_within c.loop-index.self c.loop-index.index c.task-task.result
+    (known_still c.args.self.now c.loop-index.self c.loop-index.invariant.turning.same c.requires.known)
     c.loop-index.invariant.turning.keeps c.task-task.ensures (not_issued _ c.if-not-task.true)
 
 pub visit-requires-clause-seated : goal.visit-requires-clause-seated
@@ -19,14 +20,18 @@ visit-requires-clause-seated g c = have_seats c.loop-index.self c.loop-index.inv
 pub loop-index-preserved : goal.loop-index-preserved
 loop-index-preserved g c = elim c.if-not-task.branch [
   | then-not-task+in_ok-visit w ↦ record {
-    turning = turning_moves c.args.self.now c.loop-index.self w.visit.new.self c.if-not-task.self c.args.post.now c.loop-index.post w.visit.new.post c.if-not-task.post c.loop-index.index c.requires.known
+    turning = turning_moves c.args.self.now c.loop-index.self w.visit.new.self c.if-not-task.self
+        c.args.post.now c.loop-index.post w.visit.new.post c.if-not-task.post c.loop-index.index c.requires.known
         c.loop-index.invariant.turning w.in_ok-visit.ensures.ok w.self-is w.post-is;
     edges = edges_move c.args.post.now c.loop-index.post w.visit.new.post c.if-not-task.post c.loop-index.invariant.edges w.visit.ensures.edges w.post-is;
   }
   | else-not-task w ↦ record {
-    turning = turning_moves c.args.self.now c.loop-index.self c.loop-index.self c.if-not-task.self c.args.post.now c.loop-index.post c.loop-index.post c.if-not-task.post c.loop-index.index c.requires.known
-        c.loop-index.invariant.turning (visit_done c.loop-index.self c.loop-index.index c.task-task.result c.task-task.ensures c.loop-index.post (issued_then _ w.if-not-task.false)) w.self-is w.post-is;
-    edges = edges_move c.args.post.now c.loop-index.post c.loop-index.post c.if-not-task.post c.loop-index.invariant.edges (same_edges_self c.loop-index.post) w.post-is;
+    turning = turning_moves c.args.self.now c.loop-index.self c.loop-index.self c.if-not-task.self c.args.post.now
+        c.loop-index.post c.loop-index.post c.if-not-task.post c.loop-index.index c.requires.known
+        c.loop-index.invariant.turning (visit_done c.loop-index.self c.loop-index.index c.task-task.result c.task-task.ensures c.loop-index.post
+        (issued_then _ w.if-not-task.false)) w.self-is w.post-is;
+    edges = edges_move c.args.post.now c.loop-index.post c.loop-index.post c.if-not-task.post c.loop-index.invariant.edges
+        (same_edges_self c.loop-index.post) w.post-is;
   }
 ]
 

@@ -11,6 +11,7 @@ returns-then-is_ok-clause-ok c =
       | then-is_ok-via-then-is_ok w ↦ if_it_is_ok c.add.result (sym w.if-is_ok.ensures.value) c.add.ensures.ok
       | then-is_ok-via-else-is_ok+then-contains w ↦ (
           let same = if_it_failed c.add.result (sym w.if-is_ok.ensures.value) c.add.ensures.err in
-          let there = ap (λ (set : PrefixSet). map.get set c.args.prefix) (sym same) ∙ one_value (map.get c.add.new.self c.args.prefix) (sym w.if-contains.ensures) in
+          let there = ap (λ (set : PrefixSet). map.get set c.args.prefix) (sym same)
+          ∙ one_value (map.get c.add.new.self c.args.prefix) (sym w.if-contains.ensures) in
           same ∙ sym (inserted_again c.args.self.now c.args.prefix tt there))
     ]

@@ -11,7 +11,8 @@ pub invariant_of-self-then-is_past : goal.invariant_of-self-then-is_past
 invariant_of-self-then-is_past c =
     let es = c.self.inside.slots.items in
     let below = subst (λ (xs : List Slot). AllBelow c.args.prefix xs) c.deref.ensures.value (c.if-is_past.ensures refl) in
-    subst (λ (xs : List Slot). AreSlots xs c.self.inside.start) (sym c.in_ok-push.ensures.items) (slots_push es c.self.inside.start c.args.prefix c.self.invariant below)
+    subst (λ (xs : List Slot). AreSlots xs c.self.inside.start) (sym c.in_ok-push.ensures.items)
+    (slots_push es c.self.inside.start c.args.prefix c.self.invariant below)
 
 pub returns-then-is_past-clause-taken : goal.returns-then-is_past-clause-taken
 returns-then-is_past-clause-taken c same beside =
@@ -37,8 +38,10 @@ returns-in-Ok-clause-taken c same beside =
 
 pub returns-in_default-clause-passed : goal.returns-in_default-clause-passed
 returns-in_default-clause-passed c same beside =
-    subst (λ (xs : List Slot). united xs (map.insert beside c.args.prefix tt) ≡ map.insert (united xs beside) c.args.prefix tt) c.self.view_is (insert_late c.self.inside.slots.items c.self.invariant.rise beside c.args.prefix)
+    subst (λ (xs : List Slot). united xs (map.insert beside c.args.prefix tt) ≡ map.insert (united xs beside) c.args.prefix tt) c.self.view_is
+    (insert_late c.self.inside.slots.items c.self.invariant.rise beside c.args.prefix)
 
 pub returns-in_default-2-clause-passed : goal.returns-in_default-2-clause-passed
 returns-in_default-2-clause-passed c same beside =
-    subst (λ (xs : List Slot). united xs (map.insert beside c.args.prefix tt) ≡ map.insert (united xs beside) c.args.prefix tt) c.self.view_is (insert_late c.self.inside.slots.items c.self.invariant.rise beside c.args.prefix)
+    subst (λ (xs : List Slot). united xs (map.insert beside c.args.prefix tt) ≡ map.insert (united xs beside) c.args.prefix tt) c.self.view_is
+    (insert_late c.self.inside.slots.items c.self.invariant.rise beside c.args.prefix)

@@ -28,4 +28,5 @@ returns-in-Err c beside =
     let es = c.self.inside.slots.items in
     let gap = subst (λ (xs : List Slot). IsGapForPrefix xs c.args.prefix c.in-Err.field-0) c.deref-2.ensures.value c.in-Err.ensures.absent in
     ap (λ (xs : List Slot). is_some (map.get (united xs beside) c.args.prefix)) (sym c.self.view_is)
-    ∙ (is_in_either es c.self.invariant.rise beside c.args.prefix ∙ ap (λ (b : Bool). b || is_some (map.get beside c.args.prefix)) (ap is_held (find_gap es c.args.prefix c.in-Err.field-0 gap)))
+    ∙ (is_in_either es c.self.invariant.rise beside c.args.prefix
+    ∙ ap (λ (b : Bool). b || is_some (map.get beside c.args.prefix)) (ap is_held (find_gap es c.args.prefix c.in-Err.field-0 gap)))

@@ -10,7 +10,8 @@ pub returns : goal.returns
 returns c beside =
     let es = c.self.inside.slots.items in
     let start = c.self.inside.start in
-    let first = c.first_of.ensures ∙ (ap (λ (xs : List Slot). first_due_slot (take (length xs - start) (drop start xs))) c.deref.ensures.value ∙ first_past es start c.self.invariant.out) in
+    let first = c.first_of.ensures ∙ (ap (λ (xs : List Slot). first_due_slot (take (length xs - start) (drop start xs))) c.deref.ensures.value
+    ∙ first_past es start c.self.invariant.out) in
     ap (λ (xs : List Slot). first_above None (map.keys (united xs beside))) (sym c.self.view_is)
     ∙ (first_united es c.self.invariant.rise beside
     ∙ ap (λ (o : Option PrefixValue). lesser_of o (first_above None (map.keys beside))) (sym first))

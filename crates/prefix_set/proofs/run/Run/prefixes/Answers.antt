@@ -23,6 +23,8 @@ returns-clause-all c =
 pub returns-clause-alone : goal.returns-clause-alone
 returns-clause-alone c =
     let es = c.self.inside.slots.items in
-    IfOk-weaker c.listed.result _ (λ prefixes. (beside : PrefixSet) → map.len beside ≡ 0 → map.keys (united c.args.self.now beside) ≡ prefixes) (λ prefixes is beside none.
+    IfOk-weaker c.listed.result _ (λ prefixes. (beside : PrefixSet) → map.len beside ≡ 0 → map.keys (united c.args.self.now beside) ≡ prefixes)
+    (λ prefixes is beside none.
     ap (λ (xs : List Slot). map.keys (united xs beside)) (sym c.self.view_is)
-    ∙ (keys_united es c.self.invariant.rise beside none ∙ sym (listed_all es c.deref.result.now c.self.inside.start prefixes c.deref.ensures.value c.self.invariant.out is))) c.listed.ensures
+    ∙ (keys_united es c.self.invariant.rise beside none
+    ∙ sym (listed_all es c.deref.result.now c.self.inside.start prefixes c.deref.ensures.value c.self.invariant.out is))) c.listed.ensures

@@ -11,7 +11,8 @@ use Rattle.prefix_set.proofs.run.Run.remove.Goals as goal
 pub returns-then-is_before : goal.returns-then-is_before
 returns-then-is_before c beside =
     let out = ap (λ (xs : List Slot). is_held (map.find prefix_cmp c.args.prefix xs)) (sym c.deref.ensures.value) ∙ c.if-is_before.ensures refl in
-    subst (λ (xs : List Slot). united xs (map.remove beside c.args.prefix) ≡ map.remove (united xs beside) c.args.prefix) c.self.view_is (remove_out c.self.inside.slots.items c.self.invariant.rise beside c.args.prefix out)
+    subst (λ (xs : List Slot). united xs (map.remove beside c.args.prefix) ≡ map.remove (united xs beside) c.args.prefix) c.self.view_is
+    (remove_out c.self.inside.slots.items c.self.invariant.rise beside c.args.prefix out)
 
 pub invariant_of-self : goal.invariant_of-self
 invariant_of-self c =

@@ -19,7 +19,8 @@ returns-in-Ok g c =
 pub returns-in-Err : goal.returns-in-Err
 returns-in-Err g c =
     let es = c.self.inside.entries.items in
-    let gap = subst (λ (xs : List (PrefixValue × g.row.V.Denot)). IsGapForPrefix xs c.args.prefix c.in-Err.field-0) c.deref.ensures.value c.in-Err.ensures.absent in
+    let gap =
+    subst (λ (xs : List (PrefixValue × g.row.V.Denot)). IsGapForPrefix xs c.args.prefix c.in-Err.field-0) c.deref.ensures.value c.in-Err.ensures.absent in
     sym (find_gap es c.args.prefix c.in-Err.field-0 gap)
     ∙ (sym (table_get es c.self.invariant c.args.prefix)
     ∙ ap (λ (m : map.FinMap prefix_cmp g.row.V.Denot). map.get m c.args.prefix) c.self.view_is)

@@ -12,7 +12,8 @@ pub invariant_of-self : goal.invariant_of-self
 invariant_of-self g c =
     let es = c.self.inside.entries.items in
     let here = subst (λ (xs : List (PrefixValue × g.row.V.Denot)). IsIndexOfPrefix xs c.args.prefix c.in-Ok.at) c.deref.ensures.value c.in-Ok.ensures.found in
-    subst (λ (xs : List (PrefixValue × g.row.V.Denot)). T (map.is_sorted prefix_cmp xs)) (without_at es c.args.prefix c.in-Ok.at here c.remove.result ∙ sym c.remove.ensures.items)
+    subst (λ (xs : List (PrefixValue × g.row.V.Denot)). T (map.is_sorted prefix_cmp xs))
+    (without_at es c.args.prefix c.in-Ok.at here c.remove.result ∙ sym c.remove.ensures.items)
     (rise_without es c.self.invariant c.args.prefix)
 
 pub returns-in-Ok-clause-before : goal.returns-in-Ok-clause-before
@@ -35,7 +36,8 @@ returns-in-Ok-clause-removed g c =
 pub returns-in-Err-clause-before : goal.returns-in-Err-clause-before
 returns-in-Err-clause-before g c =
     let es = c.self.inside.entries.items in
-    let gap = subst (λ (xs : List (PrefixValue × g.row.V.Denot)). IsGapForPrefix xs c.args.prefix c.in-Err.field-0) c.deref.ensures.value c.in-Err.ensures.absent in
+    let gap =
+    subst (λ (xs : List (PrefixValue × g.row.V.Denot)). IsGapForPrefix xs c.args.prefix c.in-Err.field-0) c.deref.ensures.value c.in-Err.ensures.absent in
     sym (find_gap es c.args.prefix c.in-Err.field-0 gap)
     ∙ (sym (table_get es c.self.invariant c.args.prefix)
     ∙ ap (λ (m : map.FinMap prefix_cmp g.row.V.Denot). map.get m c.args.prefix) c.self.view_is)
@@ -43,7 +45,8 @@ returns-in-Err-clause-before g c =
 pub returns-in-Err-clause-removed : goal.returns-in-Err-clause-removed
 returns-in-Err-clause-removed g c =
     let es = c.self.inside.entries.items in
-    let gap = subst (λ (xs : List (PrefixValue × g.row.V.Denot)). IsGapForPrefix xs c.args.prefix c.in-Err.field-0) c.deref.ensures.value c.in-Err.ensures.absent in
+    let gap =
+    subst (λ (xs : List (PrefixValue × g.row.V.Denot)). IsGapForPrefix xs c.args.prefix c.in-Err.field-0) c.deref.ensures.value c.in-Err.ensures.absent in
     sym c.self.view_is
     ∙ (ap (map.from_sorted {R = prefix_cmp}) (sym (without_gap es c.args.prefix c.in-Err.field-0 gap))
     ∙ (table_without es c.self.invariant c.args.prefix

@@ -12,7 +12,8 @@ pub invariant_of-self : goal.invariant_of-self
 invariant_of-self g c =
     let es = c.self.inside.entries.items in
     let here = subst (λ (xs : List (PrefixValue × g.row.V.Denot)). IsIndexOfPrefix xs c.args.prefix c.in-Ok.at) c.deref.ensures.value c.in-Ok.ensures.found in
-    subst (λ (xs : List (PrefixValue × g.row.V.Denot)). T (map.is_sorted prefix_cmp xs)) (put_over es c.args.prefix c.in-Ok.at here c.index_mut.result.now c.replace.new.dest c.index_mut.ensures.value)
+    subst (λ (xs : List (PrefixValue × g.row.V.Denot)). T (map.is_sorted prefix_cmp xs))
+    (put_over es c.args.prefix c.in-Ok.at here c.index_mut.result.now c.replace.new.dest c.index_mut.ensures.value)
     (rise_put es c.self.invariant c.args.prefix c.replace.new.dest)
 
 pub returns-in-Ok-clause-before : goal.returns-in-Ok-clause-before
@@ -37,7 +38,8 @@ pub invariant_of-self-in-Err : goal.invariant_of-self-in-Err
 invariant_of-self-in-Err g c =
     let es = c.self.inside.entries.items in
     let gap = subst (λ (xs : List (PrefixValue × g.row.V.Denot)). IsGapForPrefix xs c.args.prefix c.in-Err.at) c.deref.ensures.value c.in-Err.ensures.absent in
-    subst (λ (xs : List (PrefixValue × g.row.V.Denot)). T (map.is_sorted prefix_cmp xs)) (put_gap es c.args.prefix c.in-Err.at gap c.args.value ∙ sym c.in_default.ensures.items)
+    subst (λ (xs : List (PrefixValue × g.row.V.Denot)). T (map.is_sorted prefix_cmp xs))
+    (put_gap es c.args.prefix c.in-Err.at gap c.args.value ∙ sym c.in_default.ensures.items)
     (rise_put es c.self.invariant c.args.prefix c.args.value)
 
 pub returns-in-Err-insert-clause-present : goal.returns-in-Err-insert-clause-present

@@ -16,7 +16,8 @@ pub returns : goal.returns
 returns g c =
     let es = entries c.self.inside.tree in
     let rise = rising_trie c.self.inside.tree c.self.invariant.trie in
-    let same : (p : PrefixValue) → map.find prefix_cmp p es ≡ map.get c.args.self.now.contents p = λ p. sym (table_get es rise p) ∙ ap (λ (t : TableValue g.row.V.Denot). map.get t.contents p) c.self.view_is in
+    let same : (p : PrefixValue) → map.find prefix_cmp p es ≡ map.get c.args.self.now.contents p =
+    λ p. sym (table_get es rise p) ∙ ap (λ (t : TableValue g.row.V.Denot). map.get t.contents p) c.self.view_is in
     let same_entries = as_entries c.self.inside.tree c.deref.result.now c.deref-in-Some.result.now c.deref.ensures.value c.deref-in-Some.ensures.value in
     subst (λ (host : PrefixValue). LongestOf (λ p. IsSome (map.get c.args.self.now.contents p)) host c.longest.result) c.in-Some.ensures.value
     (same_longest (Has es) (λ p. IsSome (map.get c.args.self.now.contents p)) c.in-Some.host c.longest.result

@@ -15,4 +15,5 @@ returns g c =
     c.in_ok-list.ensures
     ∙ (ap (λ (xs : List (PrefixValue × g.row.V.Denot)). c.from_vec-prefixes.result ++ map (λ e. e.0) xs) same_entries
     ∙ (ap (λ (ps : List PrefixValue). ps ++ map (λ e. e.0) es) (c.from_vec-prefixes.ensures ∙ c.in_ok-with_capacity.ensures.items)
-    ∙ (sym (table_keys es (rising_trie c.self.inside.tree c.self.invariant.trie)) ∙ ap (λ (t : TableValue g.row.V.Denot). table.keys t.contents) c.self.view_is)))
+    ∙ (sym (table_keys es (rising_trie c.self.inside.tree c.self.invariant.trie))
+    ∙ ap (λ (t : TableValue g.row.V.Denot). table.keys t.contents) c.self.view_is)))

@@ -10,4 +10,5 @@ pub returns : goal.returns
 returns g c =
     let es = entries c.self.inside.tree in
     c.get.ensures
-    ∙ (sym (table_get es (rising_trie c.self.inside.tree c.self.invariant.trie) c.args.prefix) ∙ ap (λ (t : TableValue g.row.V.Denot). map.get t.contents c.args.prefix) c.self.view_is)
+    ∙ (sym (table_get es (rising_trie c.self.inside.tree c.self.invariant.trie) c.args.prefix)
+    ∙ ap (λ (t : TableValue g.row.V.Denot). map.get t.contents c.args.prefix) c.self.view_is)

@@ -51,7 +51,8 @@ pub returns-in_err-taken-clause-before : goal.returns-in_err-taken-clause-before
 returns-in_err-taken-clause-before g c =
     let es = entries c.self.inside.tree in
     let rise = rising_trie c.self.inside.tree c.self.invariant.trie in
-    let none : None ≡ map.get c.args.self.now.contents c.args.prefix = c.in_err-taken.ensures.taken ∙ (sym (table_get es rise c.args.prefix) ∙ ap (λ (t : TableValue g.row.V.Denot). map.get t.contents c.args.prefix) c.self.view_is) in
+    let none : None ≡ map.get c.args.self.now.contents c.args.prefix = c.in_err-taken.ensures.taken
+    ∙ (sym (table_get es rise c.args.prefix) ∙ ap (λ (t : TableValue g.row.V.Denot). map.get t.contents c.args.prefix) c.self.view_is) in
     cc
 
 pub returns-in_err-taken-clause-removed : goal.returns-in_err-taken-clause-removed

@@ -13,7 +13,9 @@ pub returns-in_err-before-clause-present : goal.returns-in_err-before-clause-pre
 returns-in_err-before-clause-present g c there =
     let es = entries c.self.inside.tree in
     let rise = rising_trie c.self.inside.tree c.self.invariant.trie in
-    let none : map.get c.args.self.now.contents c.args.prefix ≡ None = sym (sym (table_get es rise c.args.prefix) ∙ ap (λ (t : TableValue g.row.V.Denot). map.get t.contents c.args.prefix) c.self.view_is) ∙ c.in_err-before.ensures.put.new in
+    let none : map.get c.args.self.now.contents c.args.prefix ≡ None =
+    sym (sym (table_get es rise c.args.prefix) ∙ ap (λ (t : TableValue g.row.V.Denot). map.get t.contents c.args.prefix) c.self.view_is)
+    ∙ c.in_err-before.ensures.put.new in
     let gone : false ≡ true = subst (λ (o : Option g.row.V.Denot). IsSome o) none there in
     absurd cc
 

@@ -17,7 +17,8 @@ returns-in-Peering c =
     let same = c.is_same_entry.result in
     subst (λ (from : From). MatchBool same (SetsIn rib from entry rib) (IsOther rib from entry)) (sym c.in-Peering.is)
     (set_or_other rib (Peering c.in-Peering.p) entry same (not_own-peering c.in-Peering.p.0)
-    (subst (λ (held : Option Entry). MatchBool same (given entry ≡ held) (given entry ≢ held)) (c.get.ensures ∙ ap (λ (s : RibStore). map.get (table_at s.entries c.in-Peering.p.0) entry.prefix) c.self.view_is) c.is_same_entry.ensures))
+    (subst (λ (held : Option Entry). MatchBool same (given entry ≡ held) (given entry ≢ held))
+    (c.get.ensures ∙ ap (λ (s : RibStore). map.get (table_at s.entries c.in-Peering.p.0) entry.prefix) c.self.view_is) c.is_same_entry.ensures))
 
 pub returns-in-Router : goal.returns-in-Router
 returns-in-Router c =
@@ -26,4 +27,5 @@ returns-in-Router c =
     let same = c.is_same_route.result in
     subst (λ (from : From). MatchBool same (SetsIn rib from entry rib) (IsOther rib from entry)) (sym c.in-Router.is)
     (set_or_other rib (Router c.in-Router.q) entry same (not_own-router c.in-Router.q.0)
-    (subst (λ (held : Option Route). MatchBool same (entry.route ≡ held) (entry.route ≢ held)) (c.get-in-Router.ensures ∙ ap (λ (s : RibStore). map.get (table_at s.tellings c.in-Router.q.0) entry.prefix) c.self.view_is) c.is_same_route.ensures))
+    (subst (λ (held : Option Route). MatchBool same (entry.route ≡ held) (entry.route ≢ held)) (c.get-in-Router.ensures
+    ∙ ap (λ (s : RibStore). map.get (table_at s.tellings c.in-Router.q.0) entry.prefix) c.self.view_is) c.is_same_route.ensures))

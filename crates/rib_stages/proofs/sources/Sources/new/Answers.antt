@@ -3,7 +3,8 @@ use Rattle.rib_stages.proofs.Tables.{contents_more, length_is}
 use Rattle.rib_stages.proofs.sources.Sources.new.Goals as goal
 
 pub loop-n-preserved : goal.loop-n-preserved
-loop-n-preserved g c = contents_more c.loop-n.tables.items c.push.new.self.items c.new.result c.loop-n._n c.loop-n.invariant c.in_ok-push.ensures.items c.new.ensures.contents
+loop-n-preserved g c = contents_more c.loop-n.tables.items c.push.new.self.items c.new.result
+    c.loop-n._n c.loop-n.invariant c.in_ok-push.ensures.items c.new.ensures.contents
 
 pub invariant_of-result : goal.invariant_of-result
 invariant_of-result g c =

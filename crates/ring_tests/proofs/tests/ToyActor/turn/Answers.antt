@@ -15,7 +15,11 @@ loop-item-init c = record { wrote = ([], wrote_none c.args.post.now, tt); edges 
 pub loop-item-preserved : goal.loop-item-preserved
 loop-item-preserved c =
     let before = c.loop-item.invariant.wrote in record {
-      wrote = (_, wrote_then c.args.post.now c.loop-item.post c.event.new.post before.0 _ before.1 (c.in_ok-event.ensures.ok None), all-append TakesNone before.0 (_ ∷ []) before.2 (refl, tt));
+      wrote = (
+        _,
+        wrote_then c.args.post.now c.loop-item.post c.event.new.post before.0 _ before.1 (c.in_ok-event.ensures.ok None),
+        all-append TakesNone before.0 (_ ∷ []) before.2 (refl, tt),
+      );
       edges = same_edges_then c.args.post.now c.loop-item.post c.event.new.post c.loop-item.invariant.edges c.event.ensures.edges;
     }
 

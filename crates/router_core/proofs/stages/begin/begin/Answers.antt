@@ -6,7 +6,8 @@ use Rattle.router_core.proofs.BeginSteps.{begin_in_room, begins_as, config_can_b
 use Rattle.router_core.proofs.stages.begin.begin.Goals as goal
 
 pub begin_places-requires-clause-each : goal.begin_places-requires-clause-each
-begin_places-requires-clause-each c = subst (λ (n : ℕ). AllByRecursion (CanBegin n) c.args.config.sessions) (sym c.len-count.ensures) (config_can_begin c.args.known.setup c.args.config c.requires.setup c.requires.config)
+begin_places-requires-clause-each c = subst (λ (n : ℕ). AllByRecursion (CanBegin n) c.args.config.sessions)
+    (sym c.len-count.ensures) (config_can_begin c.args.known.setup c.args.config c.requires.setup c.requires.config)
 
 pub begin_places-requires-clause-room : goal.begin_places-requires-clause-room
 begin_places-requires-clause-room c = begin_in_room c.args.known.setup c.args.config c.requires.setup c.requires.config
@@ -28,5 +29,7 @@ returns c =
       due_out = c.in_ok-due_out.due_out;
       turns = 0;
     } in
-    begins_as f c.args.config c.requires.setup c.requires.config c.in_ok-rib.ensures (subst (λ (n : ℕ). AreBegun n c.args.config.sessions c.in_ok-places.places.places) c.len-count.ensures c.in_ok-places.ensures.begun) c.in_ok-places.ensures.room
+    begins_as f c.args.config c.requires.setup c.requires.config c.in_ok-rib.ensures
+    (subst (λ (n : ℕ). AreBegun n c.args.config.sessions c.in_ok-places.places.places) c.len-count.ensures c.in_ok-places.ensures.begun)
+    c.in_ok-places.ensures.room
     c.in_ok-due_in.ensures.count c.in_ok-due_in.ensures.empty (c.in_ok-due_out.ensures.count ∙ c.len-count.ensures) c.in_ok-due_out.ensures.empty

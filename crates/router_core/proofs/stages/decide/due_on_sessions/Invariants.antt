@@ -4,4 +4,5 @@ use Rattle.router_core.proofs.stages.decide.due_on_sessions.Given as goal
 
 -- it is due on the first so many
 abbrev pub invariant-loop-n : goal.invariant-loop-n
-invariant-loop-n l = AddsBelow l.n (is_up_at l.initial.router) l.fn.prefix l.initial.router.due_out l.router.due_out × (l.router ≡ record l.initial.router { due_out = l.router.due_out })
+invariant-loop-n l = AddsBelow l.n (is_up_at l.initial.router) l.fn.prefix l.initial.router.due_out l.router.due_out
+    × (l.router ≡ record l.initial.router { due_out = l.router.due_out })

@@ -20,12 +20,27 @@ returns-clause-planned c =
     let s = c.in-Some-Live.session in
     let o = c.in-Some-Live.field-0-1 in
     let is : place_at f.places.places n ≡ Some (Live s o) = sym c.get.ensures ∙ ap option_copied c.in-Some-Live.is ∙ ap Some c.in-Some-Live.field-0-is in
-    let all : reverse c.reverse.new.self.items ≡ c.in_ok-batches.batches = ap reverse c.reverse.ensures.items ∙ (reverse-reverse c.into_vec-batches.result.items ∙ c.into_vec-batches.ensures) in
+    let all : reverse c.reverse.new.self.items ≡ c.in_ok-batches.batches =
+    ap reverse c.reverse.ensures.items ∙ (reverse-reverse c.into_vec-batches.result.items ∙ c.into_vec-batches.ensures) in
     let config = c.config-config.result.now in
-    let out : OutSide = record { peering = config.peering; remote_as = config.remote_as; local_address = config.local_address; export_rules = option_copied c.policy_of.result } in
-    let out_is : out ≡ record { peering = s.session.config.peering; remote_as = s.session.config.remote_as; local_address = s.session.config.local_address; export_rules = rules_by f.policies s.session.config.export } =
-    ap (λ x. let y : OutSide = record { peering = config.peering; remote_as = config.remote_as; local_address = config.local_address; export_rules = x } in y) c.policy_of.ensures
-    ∙ ap (λ (k : SessionConfig). let y : OutSide = record { peering = k.peering; remote_as = k.remote_as; local_address = k.local_address; export_rules = rules_by f.policies k.export } in y) c.config-config.ensures in
+    let out : OutSide = record {
+      peering = config.peering;
+      remote_as = config.remote_as;
+      local_address = config.local_address;
+      export_rules = option_copied c.policy_of.result;
+    } in
+    let out_is : out ≡ record {
+      peering = s.session.config.peering;
+      remote_as = s.session.config.remote_as;
+      local_address = s.session.config.local_address;
+      export_rules = rules_by f.policies s.session.config.export;
+    } =
+    ap (λ x. let y : OutSide = record { peering = config.peering; remote_as = config.remote_as; local_address = config.local_address; export_rules = x } in
+    y) c.policy_of.ensures
+    ∙ ap (λ (k : SessionConfig). let y : OutSide =
+    record { peering = k.peering; remote_as = k.remote_as; local_address = k.local_address; export_rules = rules_by f.policies k.export } in y)
+    c.config-config.ensures in
     subst (λ (x : Option Place). PlannedAt f.known.setup f.number.0 (router_part f) n x (reverse c.reverse.new.self.items)) (sym is)
     (subst (λ (l : List Batch). PlannedAt f.known.setup f.number.0 (router_part f) n (Some (Live s o)) l) (sym all)
-    (planned f n s o c.requires.keeps is c.set-due.result.now c.told.result.now c.wide.result out c.in_ok-batches.batches c.set-due.ensures c.told.ensures c.wide.ensures out_is c.in_ok-batches.ensures.planned))
+    (planned f n s o c.requires.keeps is c.set-due.result.now c.told.result.now c.wide.result out
+    c.in_ok-batches.batches c.set-due.ensures c.told.ensures c.wide.ensures out_is c.in_ok-batches.ensures.planned))

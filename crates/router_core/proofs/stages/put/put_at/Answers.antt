@@ -13,7 +13,8 @@ use Rattle.router_core.specs.Putting.{PlannedAt, PutOrDone, PutsAt}
 use Rattle.router_core.specs.declared.fields.Fields.{Fields}
 use Rattle.router_core.proofs.PutPlaces.{next_at, reversed_pop, some_first, some_then, unwritable_then, puts_done, puts_then}
 use Rattle.router_core.proofs.stages.put.put_at.Goals as goal
-use Rattle.router_core.proofs.stages.put.put_at.Goals.{then-not-is_writable-via-then-not-is_writable, then-not-is_writable-via-else-not-is_writable+in_ok-put_one+then-not-branch}
+use Rattle.router_core.proofs.stages.put.put_at.Goals.{then-not-is_writable-via-then-not-is_writable}
+use Rattle.router_core.proofs.stages.put.put_at.Goals.{then-not-is_writable-via-else-not-is_writable+in_ok-put_one+then-not-branch}
 
 abbrev Planned : Fields → ℕ → List Batch → Type 0
 Planned f n batches = PlannedAt f.known.setup f.number.0 (router_part f) n (place_at f.places.places n) batches
@@ -30,13 +31,15 @@ loop-batch-init c = record {
 }
 
 pub put_one-requires-clause-sound : goal.put_one-requires-clause-sound
-put_one-requires-clause-sound c = (All-pop (λ (b : Batch). All IsPrefix b.prefixes) c.loop-batch.batches.items c.pop.new.self.items (Some c.in-Some.batch) c.in-Some.ensures.items c.loop-batch.invariant.sound).1
+put_one-requires-clause-sound c = (All-pop (λ (b : Batch). All IsPrefix b.prefixes) c.loop-batch.batches.items c.pop.new.self.items
+    (Some c.in-Some.batch) c.in-Some.ensures.items c.loop-batch.invariant.sound).1
 
 pub returns-then-not-is_writable-clause-puts : goal.returns-then-not-is_writable-clause-puts
 returns-then-not-is_writable-clause-puts c =
     let f = c.loop-batch.router in
     let n = c.args.n in
-    let plan = subst (λ (l : List Batch). Planned f n l) (reversed_pop c.loop-batch.batches.items c.pop.new.self.items c.in-Some.batch c.in-Some.ensures.items) c.loop-batch.invariant.planned in
+    let plan = subst (λ (l : List Batch). Planned f n l)
+    (reversed_pop c.loop-batch.batches.items c.pop.new.self.items c.in-Some.batch c.in-Some.ensures.items) c.loop-batch.invariant.planned in
     let next = next_at f n (place_at f.places.places n) c.in-Some.batch (reverse c.pop.new.self.items) c.loop-batch.invariant.some.keeps refl plan in
     elim c.then-not-is_writable.branch [
       | then-not-is_writable-via-then-not-is_writable w ↦
@@ -49,22 +52,29 @@ returns-then-not-is_writable-clause-puts c =
           subst (λ (g : Fields). PutsAt n c.args.router.now c.args.post.now g c.then-not-is_writable.post) (sym w.router-is)
           (subst (λ q. PutsAt n c.args.router.now c.args.post.now w.put_one.new.router q) (sym w.post-is)
           (puts_then n c.args.router.now f w.put_one.new.router c.args.post.now c.loop-batch.post w.put_one.new.post c.loop-batch.invariant.some
-          (record { some = w.in_ok-put_one.ensures.some; done = subst (λ (b : Bool). PutOrDone b n c.in-Some.batch f w.put_one.new.router) w.if-not-branch.true w.in_ok-put_one.ensures.put })))
+          (record {
+            some = w.in_ok-put_one.ensures.some;
+            done = subst (λ (b : Bool). PutOrDone b n c.in-Some.batch f w.put_one.new.router) w.if-not-branch.true w.in_ok-put_one.ensures.put;
+          })))
     ]
 
 pub loop-batch-preserved : goal.loop-batch-preserved
 loop-batch-preserved c =
     let f = c.loop-batch.router in
     let n = c.args.n in
-    let plan = subst (λ (l : List Batch). Planned f n l) (reversed_pop c.loop-batch.batches.items c.pop.new.self.items c.in-Some.batch c.in-Some.ensures.items) c.loop-batch.invariant.planned in
+    let plan = subst (λ (l : List Batch). Planned f n l)
+    (reversed_pop c.loop-batch.batches.items c.pop.new.self.items c.in-Some.batch c.in-Some.ensures.items) c.loop-batch.invariant.planned in
     let put = subst (λ (b : Bool). PutOrDone b n c.in-Some.batch f c.put_one.new.router) c.if-not-branch.false c.in_ok-put_one.ensures.put in
     record {
       edges = same_edges_then c.args.post.now c.loop-batch.post c.put_one.new.post c.loop-batch.invariant.edges c.put_one.ensures.edges;
-      some = some_then n c.args.router.now f c.put_one.new.router c.args.post.now c.loop-batch.post c.put_one.new.post c.loop-batch.invariant.some c.in_ok-put_one.ensures.some;
+      some = some_then n c.args.router.now f c.put_one.new.router c.args.post.now c.loop-batch.post
+          c.put_one.new.post c.loop-batch.invariant.some c.in_ok-put_one.ensures.some;
       planned = put.rest (reverse c.pop.new.self.items) plan;
-      sound = (All-pop (λ (b : Batch). All IsPrefix b.prefixes) c.loop-batch.batches.items c.pop.new.self.items (Some c.in-Some.batch) c.in-Some.ensures.items c.loop-batch.invariant.sound).0;
+      sound = (All-pop (λ (b : Batch). All IsPrefix b.prefixes) c.loop-batch.batches.items c.pop.new.self.items
+          (Some c.in-Some.batch) c.in-Some.ensures.items c.loop-batch.invariant.sound).0;
     }
 
 pub returns-clause-puts : goal.returns-clause-puts
 returns-clause-puts c = on_ok_weaker c.put_nothing.result
-    (λ puts. puts_then c.args.n c.args.router.now c.loop-batch.router c.put_nothing.new.router c.args.post.now c.loop-batch.post c.put_nothing.new.post c.loop-batch.invariant.some puts) c.put_nothing.ensures.puts
+    (λ puts. puts_then c.args.n c.args.router.now c.loop-batch.router c.put_nothing.new.router c.args.post.now
+    c.loop-batch.post c.put_nothing.new.post c.loop-batch.invariant.some puts) c.put_nothing.ensures.puts

@@ -15,6 +15,8 @@ loop-prefix-preserved c =
     let lt : i < length prefixes = omega arith in
     record {
       length = c.remove.ensures.length ∙ c.loop-prefix.invariant.length;
-      settled = settled_more (table_at c.args.due.now) (table_at c.loop-prefix.due) (table_at c.remove.new.self) c.args.n (fold map.remove start (take i prefixes)) (fold map.remove start (take (i + 1) prefixes)) p
-          c.loop-prefix.invariant.settled c.remove.ensures.removed (ap (map.remove (fold map.remove start (take i prefixes))) c.prefix-item.is ∙ sym (fold_more map.remove start prefixes i p lt));
+      settled = settled_more (table_at c.args.due.now) (table_at c.loop-prefix.due) (table_at c.remove.new.self) c.args.n
+          (fold map.remove start (take i prefixes)) (fold map.remove start (take (i + 1) prefixes)) p
+          c.loop-prefix.invariant.settled c.remove.ensures.removed
+          (ap (map.remove (fold map.remove start (take i prefixes))) c.prefix-item.is ∙ sym (fold_more map.remove start prefixes i p lt));
     }

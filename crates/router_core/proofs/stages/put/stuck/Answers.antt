@@ -7,7 +7,8 @@ use Rattle.router_core.proofs.stages.put.stuck.Goals as goal
 pub loop-n-preserved : goal.loop-n-preserved
 loop-n-preserved c =
     let f = c.args.router.now in
-    none_more f c.loop-n.n c.loop-n.invariant (subst (λ (a : Option ℕ). StuckAnswer f.known.setup f.number.0 (router_part f) c.loop-n.n a) c.in-None.is c.in_ok-length.ensures)
+    none_more f c.loop-n.n c.loop-n.invariant
+    (subst (λ (a : Option ℕ). StuckAnswer f.known.setup f.number.0 (router_part f) c.loop-n.n a) c.in-None.is c.in_ok-length.ensures)
 
 pub returns-in-Some : goal.returns-in-Some
 returns-in-Some c =

@@ -8,7 +8,8 @@ use Rattle.router_core.proofs.stages.put.stuck_at.Goals as goal
 pub returns-in-Some : goal.returns-in-Some
 returns-in-Some c =
     let f = c.args.router.now in
-    some_stuck f c.args.n c.in-Some.length (subst (λ (a : Option ℕ). RoomAnswer f.known.setup f.number.0 (router_part f) c.args.n a) c.in-Some.is c.in_ok-length.ensures)
+    some_stuck f c.args.n c.in-Some.length
+    (subst (λ (a : Option ℕ). RoomAnswer f.known.setup f.number.0 (router_part f) c.args.n a) c.in-Some.is c.in_ok-length.ensures)
 
 pub returns-in-None : goal.returns-in-None
 returns-in-None c =

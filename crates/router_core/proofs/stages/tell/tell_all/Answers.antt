@@ -14,16 +14,19 @@ pub tell_router-requires-clause-clean : goal.tell_router-requires-clause-clean
 tell_router-requires-clause-clean c = ap (λ (f : Fields). f.rib.dirty) c.loop-q.invariant.0.same ∙ c.requires.clean
 
 pub tell_router-requires-clause-there : goal.tell_router-requires-clause-there
-tell_router-requires-clause-there c = omega (arith, c.loop-q.invariant.0.keeps.due_in, c.loop-q.invariant.0.keeps.routers, ap (λ (f : Fields). f.routers) c.loop-q.invariant.0.same)
+tell_router-requires-clause-there c =
+    omega (arith, c.loop-q.invariant.0.keeps.due_in, c.loop-q.invariant.0.keeps.routers, ap (λ (f : Fields). f.routers) c.loop-q.invariant.0.same)
 
 pub loop-q-preserved : goal.loop-q-preserved
 loop-q-preserved c = (
-  told_next c.loop-q.q c.args.router.now c.loop-q.router c.tell_router.new.router c.args.post.now c.loop-q.post c.tell_router.new.post c.loop-q.invariant.0 c.in_ok-tell_router.ensures.told,
+  told_next c.loop-q.q c.args.router.now c.loop-q.router c.tell_router.new.router c.args.post.now
+      c.loop-q.post c.tell_router.new.post c.loop-q.invariant.0 c.in_ok-tell_router.ensures.told,
   same_edges_then c.args.post.now c.loop-q.post c.tell_router.new.post c.loop-q.invariant.1 c.tell_router.ensures.edges,
 )
 
 pub returns-in_err-tell_router-clause-edges : goal.returns-in_err-tell_router-clause-edges
-returns-in_err-tell_router-clause-edges c = same_edges_then c.args.post.now c.loop-q.post c.tell_router.new.post c.loop-q.invariant.1 c.tell_router.ensures.edges
+returns-in_err-tell_router-clause-edges c =
+    same_edges_then c.args.post.now c.loop-q.post c.tell_router.new.post c.loop-q.invariant.1 c.tell_router.ensures.edges
 
 pub returns-clause-edges : goal.returns-clause-edges
 returns-clause-edges c = c.loop-q.invariant.1

@@ -14,14 +14,20 @@ pub visit-requires-clause-place : goal.visit-requires-clause-place
 visit-requires-clause-place g c =
     let stage = g.V.Visit.stage c.args.stage.now in
     let done = c.loop-n.invariant.0 in
-    omega (arith, c.len-n-end.ensures, same_places c.args.router.now c.loop-n.router c.requires.keeps done.keeps (stage.kept.setup c.args.router.now c.loop-n.router done.same))
+    omega (
+      arith,
+      c.len-n-end.ensures,
+      same_places c.args.router.now c.loop-n.router c.requires.keeps done.keeps (stage.kept.setup c.args.router.now c.loop-n.router done.same),
+    )
 
 pub visit-requires-clause-needs : goal.visit-requires-clause-needs
-visit-requires-clause-needs g c = let stage = g.V.Visit.stage c.args.stage.now in stage.kept.still c.args.router.now c.loop-n.router c.loop-n.invariant.0.same c.requires.needs
+visit-requires-clause-needs g c =
+    let stage = g.V.Visit.stage c.args.stage.now in stage.kept.still c.args.router.now c.loop-n.router c.loop-n.invariant.0.same c.requires.needs
 
 pub loop-n-preserved : goal.loop-n-preserved
 loop-n-preserved g c = (
-  visited_next (g.V.Visit.stage c.args.stage.now) c.args.router.now c.loop-n.router c.visit.new.router c.args.post.now c.loop-n.post c.visit.new.post c.loop-n.n c.loop-n.invariant.0 c.in_ok-visit.ensures.visits,
+  visited_next (g.V.Visit.stage c.args.stage.now) c.args.router.now c.loop-n.router c.visit.new.router
+      c.args.post.now c.loop-n.post c.visit.new.post c.loop-n.n c.loop-n.invariant.0 c.in_ok-visit.ensures.visits,
   same_edges_then c.args.post.now c.loop-n.post c.visit.new.post c.loop-n.invariant.1 c.visit.ensures.edges,
 )
 

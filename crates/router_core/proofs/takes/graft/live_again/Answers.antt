@@ -11,5 +11,6 @@ returns-in-Some c = record {
   same = refl;
   held = ap (λ (x : Place). with_place c.args.router.now.places c.args.place (Some x)) c.set_live.ensures;
   sets = one_set c.args.router.now.due_out c.args.place c.put.new.self c.in_ok-all.all c.put.ensures.length c.put.ensures.put;
-  due = subst (λ (d : Prefixes). IsDueAgain c.args.session.session.adj_rib_out c.args.router.now.rib.best d) (sym (set_is c.args.router.now.due_out c.args.place c.put.new.self c.in_ok-all.all c.put.ensures.put)) c.in_ok-all.ensures;
+  due = subst (λ (d : Prefixes). IsDueAgain c.args.session.session.adj_rib_out c.args.router.now.rib.best d)
+      (sym (set_is c.args.router.now.due_out c.args.place c.put.new.self c.in_ok-all.all c.put.ensures.put)) c.in_ok-all.ensures;
 }

@@ -9,5 +9,6 @@ returns c = record {
   same = refl;
   held = c.put-2.ensures;
   sets = one_set c.args.router.now.due_out c.args.place c.put.new.self c.in_ok-due.due c.put.ensures.length c.put.ensures.put;
-  due = subst (λ (d : Prefixes). IsDueAgain c.args.session.session.adj_rib_out c.args.router.now.rib.best d) (sym (set_is c.args.router.now.due_out c.args.place c.put.new.self c.in_ok-due.due c.put.ensures.put)) c.in_ok-due.ensures;
+  due = subst (λ (d : Prefixes). IsDueAgain c.args.session.session.adj_rib_out c.args.router.now.rib.best d)
+      (sym (set_is c.args.router.now.due_out c.args.place c.put.new.self c.in_ok-due.due c.put.ensures.put)) c.in_ok-due.ensures;
 }

@@ -13,6 +13,7 @@ loop-prefix-preserved c =
     let list : List PrefixValue = c.args.prefixes.now in
     let i = c.loop-prefix.prefix-index in
     let x : PrefixValue = c.prefix-item.result in
-    let more : take (i + 1) list ≡ take i list ++ x ∷ [] = take_more list i x c.loop-prefix-test.true ∙ ap (λ (y : PrefixValue). take i list ++ y ∷ []) (sym c.prefix-item.is) in
+    let more : take (i + 1) list ≡ take i list ++ x ∷ [] =
+    take_more list i x c.loop-prefix-test.true ∙ ap (λ (y : PrefixValue). take i list ++ y ∷ []) (sym c.prefix-item.is) in
     subst (λ (xs : List PrefixValue). AddsAll c.args.set.now xs c.insert.new.self) (sym more)
     (adds_more c.args.set.now c.loop-prefix.set c.insert.new.self (take i list) x c.loop-prefix.invariant c.in_ok-insert.ensures.ok)

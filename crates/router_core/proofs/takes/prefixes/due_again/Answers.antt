@@ -8,4 +8,5 @@ use Rattle.router_core.proofs.takes.prefixes.due_again.Goals as goal
 
 pub returns : goal.returns
 returns c = due_again_is c.args.session.now.session.adj_rib_out c.args.rib.now.best c.in_ok-set.set c.add_all.new.set c.in_ok-set.ensures
-    (subst (λ (ks : List PrefixValue). AddsAll c.in_ok-set.set ks c.add_all.new.set) (c.as_slice.ensures ∙ c.in_ok-prefixes.ensures ∙ ap (λ (t : Routes). map.keys t) c.told.ensures) c.in_ok-add_all.ensures)
+    (subst (λ (ks : List PrefixValue). AddsAll c.in_ok-set.set ks c.add_all.new.set)
+    (c.as_slice.ensures ∙ c.in_ok-prefixes.ensures ∙ ap (λ (t : Routes). map.keys t) c.told.ensures) c.in_ok-add_all.ensures)

@@ -15,4 +15,5 @@ pub returns-in-Old-clause-arrival : goal.returns-in-Old-clause-arrival
 returns-in-Old-clause-arrival c =
     let sending : IsSending c.args.self.now = subst IsSending c.self.view_is c.self.invariant.sending in
     let acceptable : IsAcceptableTo c.args.self.now c.args.segment.now = search rules in
-    IfOk-weaker c.take_in-in-Old.result _ _ (λ arrival is. old_arrival c.args.self.now c.args.segment.now c.take_in-in-Old.new.self arrival sending acceptable c.in-Old.ensures is) c.take_in-in-Old.ensures.arrival
+    IfOk-weaker c.take_in-in-Old.result _ _ (λ arrival is. old_arrival c.args.self.now c.args.segment.now
+    c.take_in-in-Old.new.self arrival sending acceptable c.in-Old.ensures is) c.take_in-in-Old.ensures.arrival

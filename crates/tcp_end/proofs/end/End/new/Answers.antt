@@ -10,4 +10,5 @@ returns-clause-fresh c = search rules
 
 pub returns-clause-stands : goal.returns-clause-stands
 returns-clause-stands c =
-    subst (λ (s : EndState). EndStands s fresh_endpoint) (sym (returns-clause-fresh c)) (fresh_stands c.args.way c.args.peering c.args.send_first c.args.receive_first)
+    subst (λ (s : EndState). EndStands s fresh_endpoint) (sym (returns-clause-fresh c))
+    (fresh_stands c.args.way c.args.peering c.args.send_first c.args.receive_first)

@@ -21,7 +21,8 @@ code_is told attrs home_as given local_address code e f g = g ∙ (ap (λ n. val
 pub room_for-requires-clause-counted : goal.room_for-requires-clause-counted
 room_for-requires-clause-counted c = λ number at.
     let told = rib_to_tell (rib_of c.args.rib.now) (out_side_of_view c.args.view.now) c.args.prefix in
-    let is = code_is told c.args.attrs.now c.args.rib.now.config.home_as c.home_as.result c.args.view.now.local_address c.in_ok-code.code c.home_as.ensures c.requires.passes c.in_ok-code.ensures in
+    let is = code_is told c.args.attrs.now c.args.rib.now.config.home_as c.home_as.result
+    c.args.view.now.local_address c.in_ok-code.code c.home_as.ensures c.requires.passes c.in_ok-code.ensures in
     is_counted c.args.self.now told c.in_ok-code.code c.requires.keeps is number at
 
 pub room_for-requires-clause-len : goal.room_for-requires-clause-len
@@ -30,29 +31,35 @@ room_for-requires-clause-len c = few_octets c.args.prefix c.prefix_len-len.resul
 pub join-requires-clause-counted : goal.join-requires-clause-counted
 join-requires-clause-counted c =
     let told = rib_to_tell (rib_of c.args.rib.now) (out_side_of_view c.args.view.now) c.args.prefix in
-    let is = code_is told c.args.attrs.now c.args.rib.now.config.home_as c.home_as.result c.args.view.now.local_address c.in_ok-code.code c.home_as.ensures c.requires.passes c.in_ok-code.ensures in
+    let is = code_is told c.args.attrs.now c.args.rib.now.config.home_as c.home_as.result
+    c.args.view.now.local_address c.in_ok-code.code c.home_as.ensures c.requires.passes c.in_ok-code.ensures in
     is_counted c.args.self.now told c.in_ok-code.code c.requires.keeps is c.in-Some.number (c.room_for.ensures.some c.in-Some.number c.in-Some.is).0
 
 pub join-requires-clause-number : goal.join-requires-clause-number
 join-requires-clause-number c =
     let told = rib_to_tell (rib_of c.args.rib.now) (out_side_of_view c.args.view.now) c.args.prefix in
-    let is = code_is told c.args.attrs.now c.args.rib.now.config.home_as c.home_as.result c.args.view.now.local_address c.in_ok-code.code c.home_as.ensures c.requires.passes c.in_ok-code.ensures in
+    let is = code_is told c.args.attrs.now c.args.rib.now.config.home_as c.home_as.result
+    c.args.view.now.local_address c.in_ok-code.code c.home_as.ensures c.requires.passes c.in_ok-code.ensures in
     among c.args.self.now told c.in_ok-code.code c.requires.keeps is c.in-Some.number (c.room_for.ensures.some c.in-Some.number c.in-Some.is).0
 
 pub returns-in-Some-clause-keeps : goal.returns-in-Some-clause-keeps
 returns-in-Some-clause-keeps c =
     let told = rib_to_tell (rib_of c.args.rib.now) (out_side_of_view c.args.view.now) c.args.prefix in
-    let is = code_is told c.args.attrs.now c.args.rib.now.config.home_as c.home_as.result c.args.view.now.local_address c.in_ok-code.code c.home_as.ensures c.requires.passes c.in_ok-code.ensures in
+    let is = code_is told c.args.attrs.now c.args.rib.now.config.home_as c.home_as.result
+    c.args.view.now.local_address c.in_ok-code.code c.home_as.ensures c.requires.passes c.in_ok-code.ensures in
     let some = c.room_for.ensures.some c.in-Some.number c.in-Some.is in
-    keeps_joins c.args.self.now told c.in_ok-code.code c.requires.keeps is c.join.new.self c.args.prefix c.prefix_len-len.result c.prefix_len-len.ensures.octets c.in-Some.number some.0
+    keeps_joins c.args.self.now told c.in_ok-code.code c.requires.keeps is c.join.new.self
+    c.args.prefix c.prefix_len-len.result c.prefix_len-len.ensures.octets c.in-Some.number some.0
     c.join.result c.join.ensures.batches c.join.ensures.wide c.join.ensures.octets c.join.ensures.indices
 
 pub returns-in-Some-clause-adds : goal.returns-in-Some-clause-adds
 returns-in-Some-clause-adds c =
     let told = rib_to_tell (rib_of c.args.rib.now) (out_side_of_view c.args.view.now) c.args.prefix in
-    let is = code_is told c.args.attrs.now c.args.rib.now.config.home_as c.home_as.result c.args.view.now.local_address c.in_ok-code.code c.home_as.ensures c.requires.passes c.in_ok-code.ensures in
+    let is = code_is told c.args.attrs.now c.args.rib.now.config.home_as c.home_as.result
+    c.args.view.now.local_address c.in_ok-code.code c.home_as.ensures c.requires.passes c.in_ok-code.ensures in
     let some = c.room_for.ensures.some c.in-Some.number c.in-Some.is in
-    joins_ok c.args.self.now told c.in_ok-code.code c.requires.keeps is c.join.new.self c.args.prefix c.prefix_len-len.result c.prefix_len-len.ensures.octets c.in-Some.number some.0
+    joins_ok c.args.self.now told c.in_ok-code.code c.requires.keeps is c.join.new.self c.args.prefix
+    c.prefix_len-len.result c.prefix_len-len.ensures.octets c.in-Some.number some.0
     c.join.result some.1 c.join.ensures.batches
 
 pub begin-requires : goal.begin-requires
@@ -62,14 +69,19 @@ begin-requires c = subst (λ told. octets c.args.self.now.wide told (c.args.pref
 pub returns-in_ok-told-in-None-clause-keeps : goal.returns-in_ok-told-in-None-clause-keeps
 returns-in_ok-told-in-None-clause-keeps c =
     let told = c.in_ok-told-in-None.told in
-    let is = code_is told c.args.attrs.now c.args.rib.now.config.home_as c.home_as.result c.args.view.now.local_address c.in_ok-code.code c.home_as.ensures (c.in_ok-told-in-None.ensures ∙ c.requires.passes) c.in_ok-code.ensures in
-    keeps_begins c.args.self.now told c.in_ok-code.code c.requires.keeps is c.begin.new.self c.args.prefix c.prefix_len-len.result c.prefix_len-len.ensures.octets
-    (λ number at. c.room_for.ensures.none number c.in-None.is at) c.begin.result c.begin.ensures.batches c.begin.ensures.wide c.begin.ensures.octets c.begin.ensures.indices
+    let is = code_is told c.args.attrs.now c.args.rib.now.config.home_as c.home_as.result c.args.view.now.local_address
+    c.in_ok-code.code c.home_as.ensures (c.in_ok-told-in-None.ensures ∙ c.requires.passes) c.in_ok-code.ensures in
+    keeps_begins c.args.self.now told c.in_ok-code.code c.requires.keeps is c.begin.new.self
+    c.args.prefix c.prefix_len-len.result c.prefix_len-len.ensures.octets
+    (λ number at. c.room_for.ensures.none number c.in-None.is at) c.begin.result
+    c.begin.ensures.batches c.begin.ensures.wide c.begin.ensures.octets c.begin.ensures.indices
 
 pub returns-in_ok-told-in-None-clause-adds : goal.returns-in_ok-told-in-None-clause-adds
 returns-in_ok-told-in-None-clause-adds c =
     let told = c.in_ok-told-in-None.told in
-    let is = code_is told c.args.attrs.now c.args.rib.now.config.home_as c.home_as.result c.args.view.now.local_address c.in_ok-code.code c.home_as.ensures (c.in_ok-told-in-None.ensures ∙ c.requires.passes) c.in_ok-code.ensures in
-    subst (λ t. OnOk c.begin.result (AddsToUpdates c.args.self.now.wide t c.args.prefix c.args.self.now.batches.items c.begin.new.self.batches.items)) c.in_ok-told-in-None.ensures
+    let is = code_is told c.args.attrs.now c.args.rib.now.config.home_as c.home_as.result c.args.view.now.local_address
+    c.in_ok-code.code c.home_as.ensures (c.in_ok-told-in-None.ensures ∙ c.requires.passes) c.in_ok-code.ensures in
+    subst (λ t. OnOk c.begin.result (AddsToUpdates c.args.self.now.wide t c.args.prefix c.args.self.now.batches.items c.begin.new.self.batches.items))
+    c.in_ok-told-in-None.ensures
     (begins_ok c.args.self.now told c.in_ok-code.code c.requires.keeps is c.begin.new.self c.args.prefix c.prefix_len-len.result c.prefix_len-len.ensures.octets
     (λ number at. c.room_for.ensures.none number c.in-None.is at) c.begin.result c.begin.ensures.batches)

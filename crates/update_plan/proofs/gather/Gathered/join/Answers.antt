@@ -19,4 +19,5 @@ joined items before after batch lent n prefixes prefix is at lends pushed =
 
 pub returns-clause-batches : goal.returns-clause-batches
 returns-clause-batches c = λ before batch after is at.
-    joined c.args.self.now.batches.items before after batch c.index_mut-batch.result.now c.args.number c.push.new.self c.args.prefix is at c.index_mut-batch.ensures.value c.in_ok-push.ensures.ok
+    joined c.args.self.now.batches.items before after batch c.index_mut-batch.result.now c.args.number
+    c.push.new.self c.args.prefix is at c.index_mut-batch.ensures.value c.in_ok-push.ensures.ok

@@ -23,7 +23,8 @@ pub returns-clause-held : goal.returns-clause-held
 returns-clause-held c =
     let running = c.args.self.now in
     IfOk-weaker c.between.result _ _ (λ answer did setup w counts at.
-    pause_held setup (view running.net) (view c.level.new.self) (view c.between.new.self) w answer (c.count-last.result - 1) at.0 (size_in setup running.routers running.peerings _ counts c.requires.works.size)
+    pause_held setup (view running.net) (view c.level.new.self) (view c.between.new.self) w answer
+    (c.count-last.result - 1) at.0 (size_in setup running.routers running.peerings _ counts c.requires.works.size)
     (omega (arith, c.count-last.ensures, counts.routers, counts.peerings)) c.level.ensures.level did) c.between.ensures.between
 
 pub returns-clause-works : goal.returns-clause-works
@@ -32,5 +33,6 @@ returns-clause-works c =
     if_on _ c.between.result (λ answer did. record {
       size = pause_size (c.count-last.result - 1) (view running.net) (view c.level.new.self) (view c.between.new.self) answer c.level.ensures.level did
           ∙ c.requires.works.size;
-      each = pause_works (c.count-last.result - 1) (view running.net) (view c.level.new.self) (view c.between.new.self) answer c.level.ensures.level did c.requires.works.each;
+      each = pause_works (c.count-last.result - 1) (view running.net) (view c.level.new.self)
+          (view c.between.new.self) answer c.level.ensures.level did c.requires.works.each;
     }) c.between.ensures.between

@@ -22,5 +22,6 @@ returns-clause-works g c =
     let phase = c.in_ok-phase.ensures.phase in
     always_ok c.mark.result (record {
       size = ap (λ (v : View Node Mail). length v.actors) c.mark.ensures.view ∙ phase.size ∙ c.requires.works.size;
-      each = subst (λ (v : View Node Mail). AllByRecursion Works v.actors) (sym c.mark.ensures.view) (phase_works (view running.net) (view c.phase.new.self) phase);
+      each = subst (λ (v : View Node Mail). AllByRecursion Works v.actors)
+          (sym c.mark.ensures.view) (phase_works (view running.net) (view c.phase.new.self) phase);
     })

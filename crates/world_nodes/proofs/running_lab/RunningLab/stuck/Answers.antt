@@ -10,5 +10,6 @@ returns c =
     let running = c.args.self.now in
     record {
       lowest = IfOk-weaker c.stuck_up_to.result _ _ (λ answer low setup w counts at.
-          stuck_world setup (view running.net) w at.0 (size_in setup running.routers running.peerings _ counts c.requires.works.size) c.count.result (c.count.ensures ∙ sym c.requires.works.size) (as_numbers answer) low) c.stuck_up_to.ensures;
+          stuck_world setup (view running.net) w at.0 (size_in setup running.routers running.peerings _ counts c.requires.works.size) c.count.result
+          (c.count.ensures ∙ sym c.requires.works.size) (as_numbers answer) low) c.stuck_up_to.ensures;
     }
