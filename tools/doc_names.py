@@ -3,8 +3,9 @@
 
     tools/doc_names.py
 
-In lines of prose and tables each word between backquotes is looked for: a path among the files, each other name among the words of crates/, tools/
-and examples/. Words in capitals stand for something else and are left out. Links are followed too. What isn't found is printed, and then the status is 1.
+In lines of prose and tables each word between backquotes is looked for: a path among the files, each other name among the words of crates/,
+tools/ and examples/. Words in capitals and the ends of patterns (`*_rows`) are left out. Links are followed too. What isn't found is printed,
+and then the status is 1.
 """
 import pathlib
 import re
@@ -12,7 +13,7 @@ import sys
 
 TOP = pathlib.Path(__file__).resolve().parent.parent
 PATH = re.compile(r"[\w.-]*/[\w./-]*|[\w-]+\.(?:md|py|rt|antt|toml|txt|c|rs)")
-NAME = re.compile(r"[A-Za-z_]\w*")
+NAME = re.compile(r"(?<![*\w])[A-Za-z_]\w*")
 
 
 def files():
@@ -27,8 +28,8 @@ def unknown(line, doc, paths, words):
         if code.startswith("rattle-kit"):
             continue
         for path in PATH.findall(code):
-            place = path.removeprefix("./").strip("/")
-            if place not in ("", "out") and "NAME" not in place and not any(f"/{known}".endswith(f"/{place}") for known in paths):
+            bare = path.removeprefix("./").strip("/")
+            if bare not in ("", "out") and "NAME" not in bare and not any(f"/{known}".endswith(f"/{bare}") for known in paths):
                 yield path
         for name in NAME.findall(PATH.sub(" ", code)):
             if name not in words and not name.isupper():

@@ -3,8 +3,9 @@
 
     tools/quick.py [--jobs N] [CRATE ..]
 
-With no names it tries every crate that has tests, or a run with a wanted output: N side by side, as many as there are processors
-where N isn't given. It proves nothing. The status is 1 where a test failed.
+Of a crate with no tests and no run it tries those that have some and cite it (the tests of router_core are in router_rows). With no names
+it tries every crate that has tests, or a run with a wanted output: N side by side, as many as there are processors where N isn't given.
+It proves nothing. The status is 1 where a test failed.
 """
 import argparse
 import concurrent.futures
@@ -21,9 +22,9 @@ SECONDS = 600
 
 
 def crates():
-    """The names of all crates, as crates.txt lists them."""
-    lines = (TOP / "crates.txt").read_text().splitlines()
-    return [line.split(":")[0].split()[0] for line in lines if line.strip() and not line.startswith("#")]
+    """All crates, each with what it cites, as crates.txt lists them."""
+    lines = (line.split(":") for line in (TOP / "crates.txt").read_text().splitlines() if line.strip() and not line.startswith("#"))
+    return {name.split()[0]: cited.split() for name, cited in lines}
 
 
 def has_tests(name):
@@ -33,6 +34,17 @@ def has_tests(name):
 def has_run(name):
     folder = TOP / "crates" / name
     return (folder / "src/main.rt").exists() and (folder / "stdout").exists()
+
+
+def is_tried(name):
+    return has_tests(name) or has_run(name)
+
+
+def tests_of(name, cited_by):
+    """The crate itself, or those with tests that cite it."""
+    if name not in cited_by:
+        sys.exit(f"no crate is named {name}")
+    return [name] if is_tried(name) else [other for other, cited in cited_by.items() if name in cited and is_tried(other)]
 
 
 def lines_of(file):
@@ -83,11 +95,14 @@ def main():
     parser.add_argument("--jobs", type=int, default=os.cpu_count())
     parser.add_argument("crates", nargs="*", metavar="CRATE")
     words = parser.parse_args()
-    names = [name for name in words.crates or crates() if has_tests(name) or has_run(name)]
+    cited_by = crates()
+    names = list(dict.fromkeys(test for name in words.crates or cited_by if words.crates or is_tried(name) for test in tests_of(name, cited_by)))
+    if not names:
+        sys.exit("no crate with tests cites " + ", ".join(words.crates))
     with concurrent.futures.ThreadPoolExecutor(words.jobs) as pool:
         faults = [it for it in pool.map(fault_of, names) if it is not None]
     print(f"{len(names) - len(faults)} passed, {len(faults)} failed, none proved")
-    return 1 if faults or not names else 0
+    return 1 if faults else 0
 
 
 sys.exit(main())

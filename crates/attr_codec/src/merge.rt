@@ -6,12 +6,8 @@ ghost use Rattle.bgp_types.specs.declared.path.PathPart.TheVariants as parts;
 ghost use Rattle.bgp_types.specs.Merge.{lead_part, lead, join_parts, push_joined, meet, merged_path};
 ghost use Rattle.bgp_types.specs.Paths.{part_count, path_count};
 
-use bgp_types::{AsList, AsPath, NoMemory, PathPart, TryCopy};
+use bgp_types::{AsList, AsPath, MOST_ASES, NoMemory, PathPart, TryCopy};
 use std::alloc::Global;
-
-/// The most ASes of a part.
-const MOST_ASES: usize = 255;
-
 /// Returns the number of ASes that a part counts as; a set counts as one.
 fn count_of(part: &PathPart) -> usize
     ensures { result ≡ part_count part.now }

@@ -14,4 +14,5 @@ mod tick;
 
 pub use answers::{OfferStop, ReadStep, TickStep};
 pub use moving::{Capsule, FrozenSession};
+pub use offer::MOST_PUT;
 pub use session::Session;

@@ -19,7 +19,7 @@ use bgp_wire::write_message;
 
 /// The limit of the bytes put on a session that isn't closed, so that a NOTIFICATION has room after them in a stream of
 /// 1,048,576.
-const MOST_PUT: usize = 1_044_480;
+pub const MOST_PUT: usize = 1_044_480;
 
 /// Applies a message to the routes that were told. Only an UPDATE changes them.
 fn tell(adj_rib_out: &mut AdjRib, message: &Message) -> Result<(), NoMemory>

@@ -5,12 +5,6 @@ ghost use Rattle.bgp_story.specs.States.{is_type as is_type_lem};
 
 use bgp_types::{HEADER, header_fault};
 
-/// The type of a NOTIFICATION.
-pub const NOTIFICATION: u8 = 3;
-
-/// The type of a KEEPALIVE.
-pub const KEEPALIVE: u8 = 4;
-
 /// Whether octets begin with a sound header of this type.
 pub fn is_type(kind: u8, octets: &[u8]) -> bool
     ensures { result ≡ is_type_lem kind octets.now }

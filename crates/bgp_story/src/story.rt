@@ -6,8 +6,9 @@ ghost use Rattle.bgp_story.specs.Legal.{IsPeering};
 ghost use Rattle.bgp_story.specs.States.{BeginsStory, state_of, answer_lines, after as after_lem, after_put as after_put_lem, after_got as after_got_lem};
 ghost use Rattle.bgp_story.specs.declared.line.Line.TheVariants.{Put, Got, Tick};
 
-use crate::header::{KEEPALIVE, NOTIFICATION, is_type};
+use crate::header::is_type;
 use crate::line::Line;
+use bgp_types::types::{KEEPALIVE, NOTIFICATION};
 use bgp_types::{Message, NoMemory, Octets, OpenMsg, SessionState};
 use std::alloc::Global;
 use std::marker::Model;

@@ -1,5 +1,6 @@
 -- What some frames read as, computed.
-use Rattle.std.proofs.Common.{◌≡◌, [], ◌∷◌, Result, Ok, Some, None, true, false, refl}
+use Rattle.std.proofs.Common.{◌≡◌, List, [], ◌∷◌, Result, Ok, Some, None, true, false, refl}
+use Rattle.bgp_types.specs.declared.attrs.Attrs.{Attrs}
 use Rattle.bgp_types.specs.declared.attrs.Origin.TheVariants as origins
 use Rattle.bgp_types.specs.declared.message.Message.{Message}
 use Rattle.bgp_types.specs.declared.message.Message.TheVariants as messages
@@ -13,7 +14,7 @@ use Rattle.bgp_types.specs.Many.{many, many_within}
 use Rattle.bgp_types.specs.Merge.{merged_path}
 use Rattle.bgp_types.specs.OpenBody.{cap_at, caps_of, params_of, open_of}
 use Rattle.bgp_types.specs.PathOctets.{part_at}
-use Rattle.bgp_types.specs.Prefixes.{prefix_at, prefixes_of}
+use Rattle.bgp_types.specs.Prefixes.{PrefixValue, prefix_at, prefixes_of}
 use Rattle.bgp_types.specs.Spelling.{framed}
 use Rattle.bgp_types.specs.UpdateBody.{fields_of, all_known, update_of}
 use Rattle.bgp_types.specs.WireAttrs.{attr_at}
@@ -22,40 +23,33 @@ use Rattle.bgp_types.proofs.FaultRows.{opening, established, wide_session}
 abbrev pub reads : Message → Result Message Notice
 reads m = Ok m
 
+-- ORIGIN IGP, path 65001 and next hop 192.0.2.1
+abbrev pub plain_attrs : Attrs
+plain_attrs = record {
+  origin = origins.Igp;
+  path = parts.Sequence (65001 ∷ []) ∷ [];
+  next_hop = 0xC0000201;
+  med = None;
+  atomic = false;
+  aggregator = None;
+  unknown = [];
+}
+
+-- these prefixes are announced with these attributes
+abbrev pub announcement : List PrefixValue → Message
+announcement nlri = messages.UpdateMsg (record { withdrawn = []; attrs = Some plain_attrs; nlri = nlri })
+
 -- an announcement
 pub announced_one : message_of established (framed 2 (0x00 ∷ 0x00 ∷ 0x00 ∷ 0x12 ∷ 0x40 ∷ 0x01 ∷ 0x01 ∷ 0x00 ∷ 0x40 ∷ 0x02 ∷ 0x04 ∷ 0x02 ∷ 0x01
-    ∷ 0xFD ∷ 0xE9 ∷ 0x40 ∷ 0x03 ∷ 0x04 ∷ 0xC0 ∷ 0x00 ∷ 0x02 ∷ 0x01 ∷ 0x08 ∷ 0x0A ∷ [])) ≡ reads (messages.UpdateMsg (record {
-      withdrawn = [];
-      attrs = Some (record {
-        origin = origins.Igp;
-        path = parts.Sequence (65001 ∷ []) ∷ [];
-        next_hop = 0xC0000201;
-        med = None;
-        atomic = false;
-        aggregator = None;
-        unknown = [];
-      });
-      nlri = record { address = 0x0A000000; len = 8 } ∷ [];
-    }))
+    ∷ 0xFD ∷ 0xE9 ∷ 0x40 ∷ 0x03 ∷ 0x04 ∷ 0xC0 ∷ 0x00 ∷ 0x02 ∷ 0x01 ∷ 0x08 ∷ 0x0A ∷ [])) ≡ reads (announcement (record { address = 0x0A000000; len = 8 } ∷ []))
 unfolding message_of header_fault body_of open_of update_of fields_of prefixes_of prefix_at many many_within attrs_in attrs_fault own_fault
     origin_in path_in next_hop_in med_in atomic_in aggregator_in other_in found_in all_known part_at attr_at cap_at caps_of params_of merged_path
 announced_one = refl
 
 -- extended length on a short value
 pub announced_extended : message_of established (framed 2 (0x00 ∷ 0x00 ∷ 0x00 ∷ 0x13 ∷ 0x50 ∷ 0x01 ∷ 0x00 ∷ 0x01 ∷ 0x00 ∷ 0x40 ∷ 0x02 ∷ 0x04
-    ∷ 0x02 ∷ 0x01 ∷ 0xFD ∷ 0xE9 ∷ 0x40 ∷ 0x03 ∷ 0x04 ∷ 0xC0 ∷ 0x00 ∷ 0x02 ∷ 0x01 ∷ 0x08 ∷ 0x0A ∷ [])) ≡ reads (messages.UpdateMsg (record {
-      withdrawn = [];
-      attrs = Some (record {
-        origin = origins.Igp;
-        path = parts.Sequence (65001 ∷ []) ∷ [];
-        next_hop = 0xC0000201;
-        med = None;
-        atomic = false;
-        aggregator = None;
-        unknown = [];
-      });
-      nlri = record { address = 0x0A000000; len = 8 } ∷ [];
-    }))
+    ∷ 0x02 ∷ 0x01 ∷ 0xFD ∷ 0xE9 ∷ 0x40 ∷ 0x03 ∷ 0x04 ∷ 0xC0 ∷ 0x00 ∷ 0x02 ∷ 0x01 ∷ 0x08 ∷ 0x0A ∷ [])) ≡ reads
+    (announcement (record { address = 0x0A000000; len = 8 } ∷ []))
 unfolding message_of header_fault body_of open_of update_of fields_of prefixes_of prefix_at many many_within attrs_in attrs_fault own_fault
     origin_in path_in next_hop_in med_in atomic_in aggregator_in other_in found_in all_known part_at attr_at cap_at caps_of params_of merged_path
 announced_extended = refl
@@ -64,15 +58,7 @@ announced_extended = refl
 pub announced_dirty : message_of established (framed 2 (0x00 ∷ 0x00 ∷ 0x00 ∷ 0x12 ∷ 0x40 ∷ 0x01 ∷ 0x01 ∷ 0x00 ∷ 0x40 ∷ 0x02 ∷ 0x04 ∷ 0x02 ∷ 0x01
     ∷ 0xFD ∷ 0xE9 ∷ 0x40 ∷ 0x03 ∷ 0x04 ∷ 0xC0 ∷ 0x00 ∷ 0x02 ∷ 0x01 ∷ 0x07 ∷ 0x0B ∷ 0x00 ∷ [])) ≡ reads (messages.UpdateMsg (record {
       withdrawn = [];
-      attrs = Some (record {
-        origin = origins.Igp;
-        path = parts.Sequence (65001 ∷ []) ∷ [];
-        next_hop = 0xC0000201;
-        med = None;
-        atomic = false;
-        aggregator = None;
-        unknown = [];
-      });
+      attrs = Some plain_attrs;
       nlri = record { address = 0x0A000000; len = 7 } ∷ record { address = 0; len = 0 } ∷ [];
     }))
 unfolding message_of header_fault body_of open_of update_of fields_of prefixes_of prefix_at many many_within attrs_in attrs_fault own_fault
@@ -84,15 +70,7 @@ pub announced_and_withdrawn : message_of established
     (framed 2 (0x00 ∷ 0x08 ∷ 0x08 ∷ 0x0A ∷ 0x08 ∷ 0x14 ∷ 0x08 ∷ 0x0A ∷ 0x08 ∷ 0x14 ∷ 0x00 ∷ 0x12 ∷ 0x40 ∷ 0x01 ∷ 0x01 ∷ 0x00 ∷ 0x40 ∷ 0x02 ∷ 0x04 ∷ 0x02
     ∷ 0x01 ∷ 0xFD ∷ 0xE9 ∷ 0x40 ∷ 0x03 ∷ 0x04 ∷ 0xC0 ∷ 0x00 ∷ 0x02 ∷ 0x01 ∷ 0x08 ∷ 0x0A ∷ 0x08 ∷ 0x0A ∷ [])) ≡ reads (messages.UpdateMsg (record {
       withdrawn = record { address = 0x14000000; len = 8 } ∷ [];
-      attrs = Some (record {
-        origin = origins.Igp;
-        path = parts.Sequence (65001 ∷ []) ∷ [];
-        next_hop = 0xC0000201;
-        med = None;
-        atomic = false;
-        aggregator = None;
-        unknown = [];
-      });
+      attrs = Some plain_attrs;
       nlri = record { address = 0x0A000000; len = 8 } ∷ [];
     }))
 unfolding message_of header_fault body_of open_of update_of fields_of prefixes_of prefix_at many many_within attrs_in attrs_fault own_fault
@@ -164,19 +142,7 @@ merged_front = refl
 pub merged_longer : message_of established
     (framed 2 (0x00 ∷ 0x00 ∷ 0x00 ∷ 0x1F ∷ 0x40 ∷ 0x01 ∷ 0x01 ∷ 0x00 ∷ 0x40 ∷ 0x02 ∷ 0x04 ∷ 0x02 ∷ 0x01 ∷ 0xFD ∷ 0xE9 ∷ 0x40 ∷ 0x03 ∷ 0x04
     ∷ 0xC0 ∷ 0x00 ∷ 0x02 ∷ 0x01 ∷ 0xC0 ∷ 0x11 ∷ 0x0A ∷ 0x02 ∷ 0x02 ∷ 0x00 ∷ 0x01 ∷ 0x11 ∷ 0x70 ∷ 0x00 ∷ 0x00 ∷ 0xFD ∷ 0xE7 ∷ 0x08 ∷ 0x0A ∷ []))
-    ≡ reads (messages.UpdateMsg (record {
-      withdrawn = [];
-      attrs = Some (record {
-        origin = origins.Igp;
-        path = parts.Sequence (65001 ∷ []) ∷ [];
-        next_hop = 0xC0000201;
-        med = None;
-        atomic = false;
-        aggregator = None;
-        unknown = [];
-      });
-      nlri = record { address = 0x0A000000; len = 8 } ∷ [];
-    }))
+    ≡ reads (announcement (record { address = 0x0A000000; len = 8 } ∷ []))
 unfolding message_of header_fault body_of open_of update_of fields_of prefixes_of prefix_at many many_within attrs_in attrs_fault own_fault
     origin_in path_in next_hop_in med_in atomic_in aggregator_in other_in found_in all_known part_at attr_at cap_at caps_of params_of merged_path
 merged_longer = refl
@@ -267,19 +233,7 @@ aggregator_length = refl
 -- AS4_PATH that is not transitive is dropped
 pub as4_not_transitive : message_of established (framed 2 (0x00 ∷ 0x00 ∷ 0x00 ∷ 0x1B ∷ 0x40 ∷ 0x01 ∷ 0x01 ∷ 0x00 ∷ 0x40 ∷ 0x02 ∷ 0x04 ∷ 0x02 ∷ 0x01
     ∷ 0xFD ∷ 0xE9 ∷ 0x40 ∷ 0x03 ∷ 0x04 ∷ 0xC0 ∷ 0x00 ∷ 0x02 ∷ 0x01 ∷ 0x80 ∷ 0x11 ∷ 0x06 ∷ 0x02 ∷ 0x01 ∷ 0x00 ∷ 0x01 ∷ 0x11 ∷ 0x70 ∷ 0x08 ∷ 0x0A ∷ []))
-    ≡ reads (messages.UpdateMsg (record {
-      withdrawn = [];
-      attrs = Some (record {
-        origin = origins.Igp;
-        path = parts.Sequence (65001 ∷ []) ∷ [];
-        next_hop = 0xC0000201;
-        med = None;
-        atomic = false;
-        aggregator = None;
-        unknown = [];
-      });
-      nlri = record { address = 0x0A000000; len = 8 } ∷ [];
-    }))
+    ≡ reads (announcement (record { address = 0x0A000000; len = 8 } ∷ []))
 unfolding message_of header_fault body_of open_of update_of fields_of prefixes_of prefix_at many many_within attrs_in attrs_fault own_fault
     origin_in path_in next_hop_in med_in atomic_in aggregator_in other_in found_in all_known part_at attr_at cap_at caps_of params_of merged_path
 as4_not_transitive = refl
@@ -287,19 +241,8 @@ as4_not_transitive = refl
 -- AS4 attributes are dropped in a wide UPDATE
 pub as4_in_wide : message_of wide_session (framed 2 (0x00 ∷ 0x00 ∷ 0x00 ∷ 0x28 ∷ 0x40 ∷ 0x01 ∷ 0x01 ∷ 0x00 ∷ 0x40 ∷ 0x02 ∷ 0x06 ∷ 0x02 ∷ 0x01
     ∷ 0x00 ∷ 0x00 ∷ 0xFD ∷ 0xE9 ∷ 0x40 ∷ 0x03 ∷ 0x04 ∷ 0xC0 ∷ 0x00 ∷ 0x02 ∷ 0x01 ∷ 0xC0 ∷ 0x11 ∷ 0x06 ∷ 0x02 ∷ 0x01 ∷ 0x00 ∷ 0x01 ∷ 0x11 ∷ 0x70
-    ∷ 0xC0 ∷ 0x12 ∷ 0x08 ∷ 0x00 ∷ 0x01 ∷ 0x11 ∷ 0x70 ∷ 0xC0 ∷ 0x00 ∷ 0x02 ∷ 0x02 ∷ 0x08 ∷ 0x0A ∷ [])) ≡ reads (messages.UpdateMsg (record {
-      withdrawn = [];
-      attrs = Some (record {
-        origin = origins.Igp;
-        path = parts.Sequence (65001 ∷ []) ∷ [];
-        next_hop = 0xC0000201;
-        med = None;
-        atomic = false;
-        aggregator = None;
-        unknown = [];
-      });
-      nlri = record { address = 0x0A000000; len = 8 } ∷ [];
-    }))
+    ∷ 0xC0 ∷ 0x12 ∷ 0x08 ∷ 0x00 ∷ 0x01 ∷ 0x11 ∷ 0x70 ∷ 0xC0 ∷ 0x00 ∷ 0x02 ∷ 0x02 ∷ 0x08 ∷ 0x0A ∷ [])) ≡ reads
+    (announcement (record { address = 0x0A000000; len = 8 } ∷ []))
 unfolding message_of header_fault body_of open_of update_of fields_of prefixes_of prefix_at many many_within attrs_in attrs_fault own_fault
     origin_in path_in next_hop_in med_in atomic_in aggregator_in other_in found_in all_known part_at attr_at cap_at caps_of params_of merged_path
 as4_in_wide = refl

@@ -15,6 +15,7 @@ mod prefix;
 mod rank;
 mod table;
 mod text;
+pub mod types;
 
 pub use as_number::{AS_TRANS, as_size, has_long_as, is_long_as, narrow_as};
 pub use attrs::{Aggregator, Attrs, Origin, RawAttr, RawAttrs, Route};
@@ -27,7 +28,7 @@ pub use laws::{
 };
 pub use length::{message_len, update_len};
 pub use message::{Cap, Caps, Message, Notice, OpenMsg, SessionState, Update};
-pub use path::{AsList, AsPath, PathPart, holds_as, neighbour, path_len};
+pub use path::{AsList, AsPath, MOST_ASES, PathPart, holds_as, neighbour, path_len};
 pub use prefix::{Prefix, PrefixList};
 pub use rank::{From, Rank};
 pub use table::{SpareTable, Table, prefix_order};

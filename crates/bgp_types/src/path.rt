@@ -8,6 +8,9 @@ use graft_edge::{Items, NoMemory, TryCopy};
 /// A list of AS numbers.
 pub type AsList = Items<u32>;
 
+/// The most ASes in a part of a path, whose count is one octet (RFC 4271, section 4.3).
+pub const MOST_ASES: usize = 255;
+
 /// A segment of a path: a set of ASes, or a sequence of ASes with the last one that the route passed
 /// first. A part has 1 to 255 ASes.
 #[derive(Debug, Drop, PartialEq, Eq)]

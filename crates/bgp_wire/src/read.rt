@@ -9,17 +9,9 @@ use crate::fault::fault;
 use crate::open::read_open;
 use crate::update::read_update;
 use attr_codec::CodecFault;
+use bgp_types::types::{KEEPALIVE, NOTIFICATION, OPEN, UPDATE};
 use bgp_types::{Expected, HEADER, HeaderFault, Message, NoMemory, Notice, Octets, SessionState};
 use std::alloc::Global;
-
-/// The types of messages.
-pub const OPEN: u8 = 1;
-
-pub const UPDATE: u8 = 2;
-
-pub const NOTIFICATION: u8 = 3;
-
-pub const KEEPALIVE: u8 = 4;
 
 /// The error code of a fault in the state machine.
 const STATE_FAULT: u8 = 5;

@@ -9,8 +9,8 @@ ghost use Rattle.bgp_wire.specs.Written.{FitsSome, FitsUpdate, FitsBody};
 
 use crate::open::{CAPABILITIES, VERSION};
 use crate::prefix::prefixes_out;
-use crate::read::{KEEPALIVE, NOTIFICATION, OPEN, UPDATE};
 use attr_codec::write_attrs;
+use bgp_types::types::{KEEPALIVE, NOTIFICATION, OPEN, UPDATE};
 use bgp_types::{Attrs, Cap, HEADER, Message, NoMemory, Notice, Octets, OpenMsg, Update};
 use std::alloc::Global;
 

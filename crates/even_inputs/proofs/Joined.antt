@@ -124,7 +124,7 @@ module _ (setup : Setup) (even : is_even setup ≡ true) where
         route = session_route setup r has.session prefix
 
         brought_even : IfSome (meshes.session_brings (prefix_mesh setup w prefix) route) IsEvenly
-        brought_even = of_route route (imported setup.home_as prefix route route.adj_rib_in) (by_heard (finmap.get has.session.adj_rib_in prefix) refl)
+        brought_even = of_route route (imported setup.home_as prefix route route.heard) (by_heard (finmap.get has.session.adj_rib_in prefix) refl)
           where
             by_heard : (o : Option Attrs) → finmap.get has.session.adj_rib_in prefix ≡ o
                 → IfSome (option_map (med_of setup.home_as prefix) (imported setup.home_as prefix route o)) IsFirst

@@ -10,15 +10,11 @@ ghost use Rattle.far_side.specs.Remotes.{IsFor, SendingInvariant, EmitsOf};
 use graft_edge::{ByteQueue, NoMemory, Octets, PeeringId};
 use std::alloc::Global;
 use std::marker::Model;
-use tcp_end::End;
+use tcp_end::{End, MOST_BYTES};
 use tcp_seq::{Segment, Seq, Way};
 
 /// The most bytes that a remote says.
 const MOST_SAID: usize = 1_048_576;
-
-/// The most bytes that a segment has.
-const MOST_BYTES: usize = 65_535;
-
 /// A scripted remote: all bytes that it said, and its end of the connection, of which it leaves all input unread.
 /// Contracts see its endpoint over whole numbers.
 #[derive(Drop)]

@@ -37,8 +37,8 @@ abbrev pub number_by : Option ScriptStep → ℕ → ℕ
 number_by (Some (EvacuateStep router)) k = k
 number_by _ k = 0
 
--- A graft is ordered at the router where the session belongs by the log. Its step is in the current group, and the earlier grafts of the peering have
--- their outcomes.
+-- A graft is ordered at the router where the session belongs by the log. Its step is in the current group, and the earlier grafts of the peering that
+-- have a target have their outcomes.
 pub record OrdersGraft (setup : Setup) (step number : ℕ) (before : OperatorPart)
     (taken : Option OperatorTaken) (sent : List OperatorSent) (after : OperatorPart) : Type 0 where
   pub graft : ScriptGraft

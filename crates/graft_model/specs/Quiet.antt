@@ -25,7 +25,7 @@ IsIdle remote (Live session None) = HasRead session × AllAcked session.end remo
 IsIdle remote place = ⊥
 
 -- Nothing is left to do: all channels and links are empty, no prefix is dirty or due, every place is idle, and in the current group each say was
--- ordered and each graft has its outcome.
+-- ordered and each graft that has a target has its outcome.
 pub record Quiet (setup : Setup) (w : World) : Type 0 where
   pub mesh : (a b : ℕ) → w.mesh a b ≡ []
   pub outward : (r p : ℕ) → w.outward r p ≡ []

@@ -14,7 +14,7 @@ use Rattle.graft_model.specs.Parts.{Place, Vacant, Live, Shadow, Done, RouterPar
 use Rattle.graft_model.specs.Points.{at}
 use Rattle.graft_model.specs.Setups.{Setup, RouterSetup, SettleStep}
 
--- the routers 0 and 1, without networks and policies
+-- a router of this BGP Identifier, with room for one session, without networks and policies
 abbrev pub router_named : ℕ → RouterSetup
 router_named identifier = record { identifier = identifier; room = 1; costs = []; networks = []; policies = [] }
 

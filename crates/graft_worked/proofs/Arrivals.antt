@@ -109,7 +109,7 @@ all_arrives = record {
   sends = refl;
   end = session_arrived.end;
   arrives = said_arrives;
-  effect = λ i. record (a_with session_arrived) { offsets = sym (at-at (λ p. Vacant) 0 (Live session_first None) (Live session_arrived None)) i };
+  effect = λ i. record (a_with session_arrived) { places = sym (at-at (λ p. Vacant) 0 (Live session_first None) (Live session_arrived None)) i };
 }
 
 pub all_reaches : Reaches 0 false far_taken None [] far_reached
@@ -125,5 +125,5 @@ acknowledged = record {
   sends = refl;
   end = session.end;
   arrives = ack_arrives;
-  effect = λ i. record (a_got session) { offsets = sym (at-at (λ p. Vacant) 0 (Live session_emitted None) (Live session None)) i };
+  effect = λ i. record (a_got session) { places = sym (at-at (λ p. Vacant) 0 (Live session_emitted None) (Live session None)) i };
 }

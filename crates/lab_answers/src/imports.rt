@@ -9,11 +9,7 @@ ghost use Rattle.lab_answers.specs.Noted.{NotesMeds};
 
 use crate::meds::Meds;
 use bgp_types::{Attrs, Items, NoMemory, Prefix, Route, TryCopy, Update};
-use route_policy::Policy;
-
-/// The preference of a route for which no policy sets one.
-const PREFERENCE: u32 = 100;
-
+use route_policy::{PREFERENCE, Policy};
 /// How routes of a session are let in: the policies of its name that routers have, and the AS numbers of both sides.
 #[derive(Drop)]
 pub(crate) struct Imports {

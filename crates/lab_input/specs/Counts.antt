@@ -8,6 +8,7 @@ use Rattle.bgp_types.specs.Spelling.{spell}
 use Rattle.lab_keys.specs.Kinds.{first_of, each_from}
 use Rattle.lab_input.specs.declared.bad.BadInput.{BadInput}
 use Rattle.lab_input.specs.declared.bad.BadInput.TheVariants.{Limit}
+use Rattle.lab_input.specs.declared.counts.Tally.{Tally}
 use Rattle.lab_tables.specs.declared.input.LabInput.{LabInput}
 use Rattle.lab_tables.specs.declared.input.PeeringInput.{PeeringInput}
 use Rattle.lab_tables.specs.declared.input.RouterInput.{RouterInput}
@@ -86,6 +87,13 @@ abbrev pub AreSaid : List Step → List PeeringInput → List ℕ → Type 0
 AreSaid steps peerings said =
     (length said ≡ length peerings)
     × ((k : ℕ) (p : PeeringInput) → k < length peerings → p ≡ slice_index_or peerings k p → slice_index_or said k 0 ≡ said_on steps k p)
+
+-- what steps count, with these networks
+pub record IsTally (networks : List PrefixValue) (peerings : List PeeringInput) (steps : List Step) (t : Tally) : Type 0 where
+  pub grafts : t.grafts ≡ sum_by (step_grafts (length peerings)) steps
+  pub settles : t.settles ≡ sum_by settles_of steps
+  pub prefixes : t.prefixes ≡ networks ++ flat_map step_prefixes steps
+  pub said : AreSaid steps peerings t.said.items
 
 -- a remote that sends KEEPALIVEs of its own has half the limit, so that they have room
 abbrev pub most_said : PeeringInput → ℕ

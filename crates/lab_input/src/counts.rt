@@ -1,16 +1,15 @@
 //! Counts over a whole input.
 
-ghost use Rattle.std.specs.Prelude.{◌≡◌, ◌==◌, ◌&&◌, ◌++◌, List, length, map, sum_by, count_by, option_copied, IfOk};
+ghost use Rattle.std.specs.Prelude.{◌≡◌, ◌==◌, ◌&&◌, ◌++◌, List, length, map, option_copied, IfOk};
 ghost use Rattle.std.specs.List.{flat_map};
 ghost use Rattle.bgp_types.specs.declared.message.Message.TheVariants.{UpdateMsg};
 ghost use Rattle.bgp_types.specs.Spelling.{spell};
 ghost use Rattle.lab_keys.specs.Kinds.{first_of, each_from};
 ghost use Rattle.lab_tables.specs.declared.input.Step.{Step as StepOf};
 ghost use Rattle.lab_input.specs.Said.{step_update};
-ghost use Rattle.lab_input.specs.Counts.{step_grafts, settles_of as settles_of_lem, added_settle as added_settle_lem, step_prefixes};
-ghost use Rattle.lab_input.specs.Counts.{prefixes_named as prefixes_named_lem, peering_count_at, room_flaw as room_flaw_lem};
-ghost use Rattle.lab_input.specs.Counts.{is_wide as is_wide_lem, octets_said, speaker as speaker_lem, AreSaid};
-ghost use Rattle.lab_input.specs.Counts.{most_said as most_said_lem, said_flaw as said_flaw_lem, over_limit, count_fault};
+ghost use Rattle.lab_input.specs.Counts.{step_grafts, settles_of as settles_of_lem, added_settle as added_settle_lem, step_prefixes, IsTally};
+ghost use Rattle.lab_input.specs.Counts.{peering_count_at, room_flaw as room_flaw_lem, is_wide as is_wide_lem, octets_said, speaker as speaker_lem};
+ghost use Rattle.lab_input.specs.Counts.{AreSaid, most_said as most_said_lem, said_flaw as said_flaw_lem, over_limit, count_fault};
 
 use crate::bad::BadInput;
 use crate::told::{first, over};
@@ -33,6 +32,19 @@ const MOST_SAID: u64 = 1_048_576;
 /// The same limit for a remote that sends KEEPALIVEs of its own.
 const MOST_SAID_BEATING: u64 = 524_288;
 
+/// What is counted in one walk over the steps of an input.
+#[derive(Drop)]
+struct Tally {
+    /// How many grafts the steps make at most.
+    grafts: u64,
+    /// The number of settles, without an added one.
+    settles: u64,
+    /// The prefixes of networks and of announce and withdraw steps.
+    prefixes: PrefixList,
+    /// The number of octets that the remote of each peering says.
+    said: Vec<u64>,
+}
+
 /// Returns how many grafts a step makes at most, given the number of peerings.
 fn grafts_of(peerings: u64, step: &Step) -> u64
     ensures { result ≡ step_grafts peerings step.now }
@@ -42,19 +54,6 @@ fn grafts_of(peerings: u64, step: &Step) -> u64
         Step::Evacuate { .. } => peerings,
         _ => 0,
     }
-}
-
-/// Returns how many grafts steps make at most. No steps that fit in memory have a sum above 64 bits.
-fn grafts_in(peerings: u64, steps: &[Step]) -> Result<u64, NoMemory>
-    ensures { IfOk result (λ n. n ≡ sum_by (step_grafts peerings) steps.now) }
-{
-    let mut grafts = 0u64;
-    for step in steps {
-        grafts = grafts
-            .checked_add(grafts_of(peerings, step))
-            .ok_or(NoMemory)?;
-    }
-    Ok(grafts)
 }
 
 fn settles_of(step: &Step) -> u64
@@ -74,17 +73,6 @@ fn added_settle(steps: &[Step]) -> u64
         return 1;
     }
     1 - settles_of(&steps[steps.len() - 1])
-}
-
-/// Returns the number of settles in steps, including an added one.
-fn settles_in(steps: &[Step]) -> Result<u64, NoMemory>
-    ensures { IfOk result (λ n. n ≡ sum_by settles_of_lem steps.now + added_settle_lem steps.now) }
-{
-    let mut settles = 0u64;
-    for step in steps {
-        settles = settles.checked_add(settles_of(step)).ok_or(NoMemory)?;
-    }
-    settles.checked_add(added_settle(steps)).ok_or(NoMemory)
 }
 
 /// Adds the prefixes of a step.
@@ -109,23 +97,11 @@ fn networks_of(alloc: Global, routers: &[RouterInput]) -> Result<PrefixList, NoM
     Ok(all)
 }
 
-/// Returns a list with the prefixes of steps added.
-fn add_all(all: PrefixList, steps: &[Step]) -> Result<PrefixList, NoMemory>
-    ensures { IfOk result (λ whole. whole ≡ all ++ flat_map step_prefixes steps.now) }
+/// Returns the number of distinct prefixes.
+fn distinct(alloc: Global, prefixes: &[Prefix]) -> Result<u64, NoMemory>
+    ensures { IfOk result (λ n. n ≡ length (once_after [] prefixes.now)) }
 {
-    let mut all = all;
-    for step in steps {
-        add_prefixes(&mut all, step)?;
-    }
-    Ok(all)
-}
-
-/// Returns the number of distinct prefixes that an input names.
-fn prefixes_in(alloc: Global, input: &LabInput) -> Result<u64, NoMemory>
-    ensures { IfOk result (λ n. n ≡ length (once_after [] (prefixes_named_lem input.now))) }
-{
-    let all = add_all(networks_of(alloc, &input.routers)?, &input.steps)?;
-    let once = each_once(alloc, &all)?;
+    let once = each_once(alloc, prefixes)?;
     Ok(once.len() as u64)
 }
 
@@ -276,15 +252,43 @@ fn add_said(peerings: &[PeeringInput], said: &mut Vec<u64>, step: &Step) -> Resu
     Ok(())
 }
 
-/// Returns the number of octets that the remote of each peering says.
-fn all_said(alloc: Global, steps: &[Step], peerings: &[PeeringInput]) -> Result<Vec<u64>, NoMemory>
-    ensures { IfOk result (λ said. AreSaid steps.now peerings.now said.items) }
+/// Adds what a step counts. No counts that fit in memory have a sum above 64 bits.
+fn count_step(peerings: &[PeeringInput], tally: &mut Tally, step: &Step) -> Result<(), NoMemory>
+    requires { length tally.old.said.items ≡ length peerings.now }
+    ensures grafts { OnOk result (tally.new.grafts ≡ tally.old.grafts + step_grafts (length peerings.now) step.now) }
+    ensures settles { OnOk result (tally.new.settles ≡ tally.old.settles + settles_of_lem step.now) }
+    ensures prefixes { OnOk result (tally.new.prefixes ≡ tally.old.prefixes ++ step_prefixes step.now) }
+    ensures said { OnOk result
+        ((steps : List StepOf) → AreSaid steps peerings.now tally.old.said.items → AreSaid (steps ++ step.now ∷ []) peerings.now tally.new.said.items) }
 {
-    let mut said = openings(alloc, peerings)?;
+    let grafts = grafts_of(peerings.len() as u64, step);
+    tally.grafts = tally.grafts.checked_add(grafts).ok_or(NoMemory)?;
+    let settles = settles_of(step);
+    tally.settles = tally.settles.checked_add(settles).ok_or(NoMemory)?;
+    add_prefixes(&mut tally.prefixes, step)?;
+    add_said(peerings, &mut tally.said, step)?;
+    Ok(())
+}
+
+/// Returns what steps count, with these networks.
+fn counts_of(
+    alloc: Global,
+    networks: PrefixList,
+    peerings: &[PeeringInput],
+    steps: &[Step],
+) -> Result<Tally, NoMemory>
+    ensures { IfOk result (λ tally. IsTally networks peerings.now steps.now tally) }
+{
+    let mut tally = Tally {
+        grafts: 0,
+        settles: 0,
+        prefixes: networks,
+        said: openings(alloc, peerings)?,
+    };
     for step in steps {
-        add_said(peerings, &mut said, step)?;
+        count_step(peerings, &mut tally, step)?;
     }
-    Ok(said)
+    Ok(tally)
 }
 
 /// Returns the limit of octets that the remote of a peering says. One that sends KEEPALIVEs of its own has half the
@@ -299,15 +303,15 @@ fn most_said(peering: &PeeringInput) -> u64
     }
 }
 
-/// Returns the fault of the first peering whose remote says too much.
+/// Returns the fault of the first peering whose remote says too much, given the number of octets that each one says.
 fn said_flaw(
     alloc: Global,
-    steps: &[Step],
     peerings: &[PeeringInput],
+    said: &[u64],
 ) -> Result<Option<BadInput>, NoMemory>
-    ensures { IfOk result (λ bad. bad ≡ each_from (said_flaw_lem steps.now) 0 peerings.now) }
+    requires { length said.now ≡ length peerings.now }
+    ensures { IfOk result (λ bad. (steps : List StepOf) → AreSaid steps peerings.now said.now → bad ≡ each_from (said_flaw_lem steps) 0 peerings.now) }
 {
-    let said = all_said(alloc, steps, peerings)?;
     for (i, peering) in peerings.iter().enumerate() {
         let found = over(alloc, "said", most_said(peering), said[i])?;
         match found {
@@ -318,62 +322,46 @@ fn said_flaw(
     Ok(None)
 }
 
-/// Returns the fault of more grafts than a script may have.
-fn grafts_flaw(alloc: Global, input: &LabInput) -> Result<Option<BadInput>, NoMemory>
-    ensures { IfOk result (λ bad. bad ≡ over_limit (codes "grafts") 256 (sum_by (step_grafts (length input.now.peerings)) input.now.steps)) }
+/// Returns the fault of more settles than a script may have, including an added one.
+fn settles_flaw(alloc: Global, steps: &[Step], settles: u64) -> Result<Option<BadInput>, NoMemory>
+    ensures { IfOk result (λ bad. bad ≡ over_limit (codes "settles") 64 (settles + added_settle_lem steps.now)) }
 {
-    let grafts = grafts_in(input.peerings.len() as u64, &input.steps)?;
-    let bad = over(alloc, "grafts", MOST_GRAFTS, grafts)?;
-    Ok(bad)
-}
-
-/// Returns the fault of more settles than a script may have.
-fn settles_flaw(alloc: Global, input: &LabInput) -> Result<Option<BadInput>, NoMemory>
-    ensures { IfOk result (λ bad. bad ≡ over_limit (codes "settles") 64 (sum_by settles_of_lem input.now.steps + added_settle_lem input.now.steps)) }
-{
-    let settles = settles_in(&input.steps)?;
+    let settles = settles.checked_add(added_settle(steps)).ok_or(NoMemory)?;
     let bad = over(alloc, "settles", MOST_SETTLES, settles)?;
     Ok(bad)
 }
 
 /// Returns the fault of more distinct prefixes than an input may name.
-fn prefixes_flaw(alloc: Global, input: &LabInput) -> Result<Option<BadInput>, NoMemory>
-    ensures { IfOk result (λ bad. bad ≡ over_limit (codes "prefixes") 4096 (length (once_after [] (prefixes_named_lem input.now)))) }
+fn prefixes_flaw(alloc: Global, prefixes: &[Prefix]) -> Result<Option<BadInput>, NoMemory>
+    ensures { IfOk result (λ bad. bad ≡ over_limit (codes "prefixes") 4096 (length (once_after [] prefixes.now))) }
 {
-    let prefixes = prefixes_in(alloc, input)?;
-    let bad = over(alloc, "prefixes", MOST_PREFIXES, prefixes)?;
+    let n = distinct(alloc, prefixes)?;
+    let bad = over(alloc, "prefixes", MOST_PREFIXES, n)?;
     Ok(bad)
 }
 
 /// Returns the fault of the first count of a whole input that is above its limit.
-fn whole_flaw(alloc: Global, input: &LabInput) -> Result<Option<BadInput>, NoMemory>
-    ensures { IfOk result (λ bad. bad ≡ first_of (over_limit (codes "grafts") 256 (sum_by (step_grafts (length input.now.peerings)) input.now.steps)
-        ∷ over_limit (codes "settles") 64 (sum_by settles_of_lem input.now.steps + added_settle_lem input.now.steps)
-        ∷ over_limit (codes "prefixes") 4096 (length (once_after [] (prefixes_named_lem input.now))) ∷ [])) }
+fn whole_flaw(alloc: Global, steps: &[Step], tally: &Tally) -> Result<Option<BadInput>, NoMemory>
+    ensures { IfOk result (λ bad. bad ≡ first_of (over_limit (codes "grafts") 256 tally.now.grafts
+        ∷ over_limit (codes "settles") 64 (tally.now.settles + added_settle_lem steps.now)
+        ∷ over_limit (codes "prefixes") 4096 (length (once_after [] tally.now.prefixes)) ∷ [])) }
 {
-    let grafts = grafts_flaw(alloc, input)?;
-    let settles = settles_flaw(alloc, input)?;
-    let prefixes = prefixes_flaw(alloc, input)?;
+    let grafts = over(alloc, "grafts", MOST_GRAFTS, tally.grafts)?;
+    let settles = settles_flaw(alloc, steps, tally.settles)?;
+    let prefixes = prefixes_flaw(alloc, &tally.prefixes)?;
     Ok(first(grafts, first(settles, first(prefixes, None))))
-}
-
-/// Returns the fault of the first count of a router or of a peering that is above its limit.
-fn part_flaw(alloc: Global, input: &LabInput) -> Result<Option<BadInput>, NoMemory>
-    ensures { IfOk result (λ bad. bad
-        ≡ first_of (each_from (room_flaw_lem input.now.peerings) 0 input.now.routers ∷ each_from (said_flaw_lem input.now.steps) 0 input.now.peerings ∷ [])) }
-{
-    let room = room_flaw(alloc, &input.peerings, &input.routers)?;
-    let said = said_flaw(alloc, &input.steps, &input.peerings)?;
-    Ok(first(room, first(said, None)))
 }
 
 /// Returns the fault of the first count of an input that is above its limit.
 pub(crate) fn counted(alloc: Global, input: &LabInput) -> Result<Option<BadInput>, NoMemory>
     ensures { IfOk result (λ bad. bad ≡ count_fault input.now) }
 {
-    let whole = whole_flaw(alloc, input)?;
-    let part = part_flaw(alloc, input)?;
-    Ok(first(whole, part))
+    let networks = networks_of(alloc, &input.routers)?;
+    let tally = counts_of(alloc, networks, &input.peerings, &input.steps)?;
+    let whole = whole_flaw(alloc, &input.steps, &tally)?;
+    let room = room_flaw(alloc, &input.peerings, &input.routers)?;
+    let said = said_flaw(alloc, &input.peerings, &tally.said)?;
+    Ok(first(whole, first(room, first(said, None))))
 }
 
 ghost use Rattle.std.specs.Prelude.{◌+◌, [], ◌∷◌, OnOk, codes};

@@ -1,21 +1,21 @@
 //! The names of tables.
 
 ghost use Rattle.std.specs.Prelude.{◌≡◌, [], IfOk, map, codes, option_copied};
-ghost use Rattle.std.specs.List.{find};
+ghost use Rattle.std.specs.List.{find, list_any};
 ghost use Rattle.std.specs.Option.{option_map_or};
 ghost use Rattle.toml.specs.View.{table_view};
 ghost use Rattle.lab_keys.specs.Kinds.{first_of};
-ghost use Rattle.lab_keys.specs.Values.{text_at as text_at_lem, maybe_text};
+ghost use Rattle.lab_keys.specs.Values.{text_at as text_at_lem, maybe_text as maybe_text_lem};
 ghost use Rattle.bgp_types.specs.Texts.{address_text};
 ghost use Rattle.lab_tables.specs.Peerings.{cost_of};
 ghost use Rattle.lab_input.specs.Names.{each_after, cost_named as cost_named_lem, remote_address_of, policies_at as policies_at_lem, peering_fault};
 ghost use Rattle.lab_input.specs.Names.{peering_named as peering_named_lem, worded_named as worded_named_lem, step_named as step_named_lem};
 
 use crate::bad::BadInput;
-use crate::names::{repeated_address, unknown, unknown_at};
+use crate::names::{repeated_address, unknown};
 use crate::told::{first, repeated_if};
-use bgp_types::{Items, Name, NoMemory, RouterId, TryCopy};
-use lab_keys::{address_or, text_at};
+use bgp_types::{Name, NoMemory, RouterId};
+use lab_keys::{address_or, maybe_text, text_at};
 use lab_tables::{NameIndex, PolicyInput, RouterInput, StepWord, word_at};
 use std::alloc::Global;
 use std::collections::HashSet;
@@ -107,34 +107,47 @@ fn router_called<'r>(routers: &'r [RouterInput], name: &str) -> Option<&'r Route
     routers.iter().find(|router| is_called(name, router))
 }
 
-/// Returns the names of policies.
-fn policy_names(alloc: Global, policies: &[PolicyInput]) -> Result<Items<Name>, NoMemory>
-    ensures { IfOk result (λ names. names ≡ map (λ p. p.name) policies.now) }
+/// Returns whether a policy has this name.
+fn is_policy(name: &str, policy: &PolicyInput) -> bool
+    ensures { result ≡ bytes_eq name.now policy.now.name }
 {
-    let mut names = Items::new(alloc);
-    for policy in policies {
-        names.push(policy.name.copy()?)?;
-    }
-    Ok(names)
+    name == policy.name.as_str()
 }
 
-/// Returns the names of the policies of a router, or none if there is no router.
-fn names_at(alloc: Global, router: Option<&RouterInput>) -> Result<Items<Name>, NoMemory>
-    ensures { IfOk result (λ names. names ≡ option_map_or (λ r. map (λ p. p.name) r.policies) (option_copied router.entry) []) }
+/// Returns whether one of these policies has this name.
+fn any_policy(name: &str, policies: &[PolicyInput]) -> bool
+    ensures { result ≡ list_any (λ p. bytes_eq name.now p.name) policies.now }
+{
+    policies.iter().any(|policy| is_policy(name, policy))
+}
+
+/// Returns whether there is a router, and it has a policy of this name.
+fn has_policy(router: Option<&RouterInput>, name: &str) -> bool
+    ensures { result ≡ list_any (bytes_eq name.now) (option_map_or (λ r. map (λ p. p.name) r.policies) (option_copied router.entry) []) }
 {
     match router {
-        Some(router) => policy_names(alloc, &router.policies),
-        None => Ok(Items::new(alloc)),
+        Some(router) => any_policy(name, &router.policies),
+        None => false,
     }
 }
 
-/// Returns the names of the policies of the router of this name.
-fn policies_at(alloc: Global, routers: &[RouterInput], name: &str) -> Result<NameIndex, NoMemory>
-    ensures { IfOk result (λ names. names ≡ policies_at_lem routers.now name.now) }
+/// Returns the fault of a policy, named at a key, that the router doesn't have.
+fn policy_unknown(
+    alloc: Global,
+    router: Option<&RouterInput>,
+    key: &str,
+    table: &Table,
+) -> Result<Option<BadInput>, NoMemory>
+    ensures { IfOk result (λ bad. bad
+        ≡ unknown_at_lem (option_map_or (λ r. map (λ p. p.name) r.policies) (option_copied router.entry) []) (maybe_text_lem key.now (table_view table.now))) }
 {
-    let names = names_at(alloc, router_called(routers, name))?;
-    let index = NameIndex::of(names)?;
-    Ok(index)
+    let Some(name) = maybe_text(key, table) else {
+        return Ok(None);
+    };
+    if has_policy(router, name) {
+        return Ok(None);
+    }
+    Ok(Some(BadInput::Unknown(Name::from_text(alloc, name)?)))
 }
 
 /// Returns the fault of a peering whose name or remote's address an earlier one has, or whose router is unknown.
@@ -161,13 +174,13 @@ fn policy_named(
     table: &Table,
 ) -> Result<Option<BadInput>, NoMemory>
     ensures { IfOk result (λ bad. bad ≡ first_of (
-        unknown_at_lem (policies_at_lem routers.now (text_at_lem (codes "at") (table_view table.now))) (maybe_text (codes "import") (table_view table.now))
+        unknown_at_lem (policies_at_lem routers.now (text_at_lem (codes "at") (table_view table.now))) (maybe_text_lem (codes "import") (table_view table.now))
         ∷ unknown_at_lem (policies_at_lem routers.now (text_at_lem (codes "at") (table_view table.now)))
-        (maybe_text (codes "export") (table_view table.now)) ∷ [])) }
+        (maybe_text_lem (codes "export") (table_view table.now)) ∷ [])) }
 {
-    let policies = policies_at(alloc, routers, text_at("at", table))?;
-    let import = unknown_at(alloc, &policies, "import", table)?;
-    let export = unknown_at(alloc, &policies, "export", table)?;
+    let router = router_called(routers, text_at("at", table));
+    let import = policy_unknown(alloc, router, "import", table)?;
+    let export = policy_unknown(alloc, router, "export", table)?;
     Ok(first(import, first(export, None)))
 }
 

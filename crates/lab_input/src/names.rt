@@ -1,20 +1,16 @@
 //! Repeated names and unknown names.
 
 ghost use Rattle.std.specs.Prelude.{◌≡◌, [], IfOk};
-ghost use Rattle.toml.specs.View.{table_view};
 ghost use Rattle.bgp_types.specs.Texts.{address_text, prefix_text};
-ghost use Rattle.lab_keys.specs.Values.{maybe_text as maybe_text_lem};
-ghost use Rattle.lab_input.specs.Names.{unknown as unknown_lem, unknown_at as unknown_at_lem, each_after, network_again as network_again_lem};
+ghost use Rattle.lab_input.specs.Names.{unknown as unknown_lem, each_after, network_again as network_again_lem};
 ghost use Rattle.lab_input.specs.Names.{policy_again as policy_again_lem, router_again as router_again_lem, repeated_if as repeated_if_lem};
 
 use crate::bad::BadInput;
 use crate::told::{first, repeated_if};
 use bgp_types::{Address, Name, NoMemory, Prefix};
-use lab_keys::maybe_text;
 use lab_tables::{NameIndex, PolicyInput, RouterInput};
 use std::alloc::Global;
 use std::collections::HashSet;
-use toml::Table;
 
 /// Returns the fault of a text that is none of these names.
 pub(crate) fn unknown(
@@ -28,21 +24,6 @@ pub(crate) fn unknown(
         return Ok(None);
     }
     Ok(Some(BadInput::Unknown(Name::from_text(alloc, text)?)))
-}
-
-/// Returns the fault of a text at a key that is none of these names.
-pub(crate) fn unknown_at(
-    alloc: Global,
-    names: &NameIndex,
-    key: &str,
-    table: &Table,
-) -> Result<Option<BadInput>, NoMemory>
-    ensures { IfOk result (λ bad. bad ≡ unknown_at_lem names.now (maybe_text_lem key.now (table_view table.now))) }
-{
-    match maybe_text(key, table) {
-        Some(text) => unknown(alloc, names, text),
-        None => Ok(None),
-    }
 }
 
 /// Returns the fault of a repeated address, if the test is true.

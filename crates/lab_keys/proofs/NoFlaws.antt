@@ -1,7 +1,6 @@
 -- What is known of a table whose keys have no flaw.
-use Rattle.std.proofs.Common.{◌≡◌, ℕ, ◌+◌, ◌^◌, ◌<◌, ◌≤◌, zero, suc, Bool, true, false, cond, ◌||◌, not, List, []}
-use Rattle.std.proofs.Common.{◌∷◌, length, map, refl, sym, ap, ◌∙◌, subst, arith, inl, inr, ◌⊎◌}
-use Rattle.std.specs.Prelude.{Option, Some, None, pos, negsuc, ℤ, nat_lt, is_some, option_and_then, unwrap_or, IfSome}
+use Rattle.std.proofs.Common.{◌≡◌, ℕ, ◌+◌, ◌^◌, ◌<◌, ◌≤◌, suc, Bool, true, false, cond, ◌||◌, not, List, [], ◌∷◌, length, refl, sym, ap, ◌∙◌, subst, arith}
+use Rattle.std.specs.Prelude.{Option, Some, None, pos, negsuc, nat_lt, is_some, option_and_then, unwrap_or, IfSome}
 use Rattle.std.specs.Option.{option_or}
 use Rattle.std.specs.List.{AllByRecursion, filter_map, cons_option}
 use Rattle.std.proofs.lemmas.Bool.{false≢true}
@@ -17,12 +16,10 @@ use Rattle.lab_keys.specs.declared.flaw.Flaw.TheVariants.{Shape, Limit}
 use Rattle.lab_keys.specs.declared.key.Kind.TheVariants.{Number, Host, Prefix}
 use Rattle.lab_keys.specs.declared.table_at.TableAt.{TableAt}
 use Rattle.lab_keys.specs.Spots.{KeySpot, spot_of, member_of}
-use Rattle.lab_keys.specs.Texts.{host_if, address_in, host_address_in, prefix_in}
-use Rattle.lab_keys.specs.Kinds.{each_from, flaw_if, beyond, number_flaw, text_flaw, kind_flaw, list_of, bounded_array_flaw, array_flaw, table_flaw}
-use Rattle.lab_keys.specs.KeyRows.{KeyRow}
+use Rattle.lab_keys.specs.Texts.{host_if, address_in, prefix_in}
+use Rattle.lab_keys.specs.Kinds.{each_from, flaw_if, beyond, number_flaw, kind_flaw, list_of, array_flaw, table_flaw}
 use Rattle.lab_keys.specs.Keys.{required, optional, required_array, optional_array, present, key_flaw, tables_flaw}
-use Rattle.lab_keys.specs.Values.{number_in, maybe_number, number_or, maybe_text, address_or, items_in}
-use Rattle.lab_keys.specs.Values.{items_at, prefix_of_data, prefixes_at, numbers_at, tables_at}
+use Rattle.lab_keys.specs.Values.{number_in, number_or, address_or, items_in, items_at, prefix_of_data, prefixes_at, numbers_at, tables_at}
 use Rattle.lab_keys.proofs.TextFinds.{prefix_in-finds}
 
 -- ---- none of several

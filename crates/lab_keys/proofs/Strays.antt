@@ -1,28 +1,38 @@
 -- The first key that isn't known, among the keys of a map.
-use Rattle.std.proofs.Common.{◌≡◌, ℕ, Bool, true, false, not, ◌||◌, cond, List, [], ◌∷◌, map, refl, ap, ◌∙◌, sym, string_bytes, String, Global}
-use Rattle.std.specs.Prelude.{Option, Some, None, option_map}
+use Rattle.std.proofs.Common.{◌≡◌, ℕ, Bool, true, false, not, ◌||◌, cond, List, [], ◌∷◌, ◌++◌, map, refl, ap, string_bytes, String, Global}
+use Rattle.std.specs.Prelude.{Option, Some, option_map}
 use Rattle.std.specs.Borrow.{Bor}
 use Rattle.std.specs.List.{list_any, find}
 use Rattle.std.specs.Map.{keys_of}
 use Rattle.std.specs.Str.{bytes_eq}
 use Rattle.toml.specs.declared.value.Value.{Value}
 use Rattle.toml.specs.View.{members_view}
+use Rattle.lab_keys.specs.KeyRows.{KeyRow}
 use Rattle.lab_keys.specs.Kinds.{is_one_of}
-use Rattle.lab_keys.specs.Keys.{stray_in}
+use Rattle.lab_keys.specs.Keys.{names_of, stray_in}
 
-known_same : (key : List ℕ) (known : List (Bor (List ℕ))) → list_any (λ k. bytes_eq key k.now) known ≡ is_one_of (map (λ k. k.now) known) key
-known_same key [] = refl
-known_same key (k ∷ ks) = ap (λ b. bytes_eq key k.now || b) (known_same key ks)
+array_same : (key : List ℕ) (arrays : List (Bor (List ℕ))) → list_any (λ k. bytes_eq key k.now) arrays ≡ is_one_of (map (λ k. k.now) arrays) key
+array_same key [] = refl
+array_same key (k ∷ ks) = ap (λ b. bytes_eq key k.now || b) (array_same key ks)
 
-pub stray_found : (known : List (Bor (List ℕ))) (es : List (String Global × Value))
-    → option_map string_bytes (find (λ k. not (list_any (λ w. bytes_eq (string_bytes k) w.now) known)) (keys_of es))
-    ≡ stray_in (map (λ k. k.now) known) (members_view es)
+-- a key is known if it has a row or names an array
+pub known_same : (key : List ℕ) (rows : List KeyRow) (arrays : List (Bor (List ℕ)))
+    → (list_any (λ k. bytes_eq key k.name) rows || list_any (λ k. bytes_eq key k.now) arrays) ≡ is_one_of (names_of rows ++ map (λ k. k.now) arrays) key
+known_same key [] arrays = array_same key arrays
+known_same key (k ∷ ks) arrays = by_first (bytes_eq key k.name) (known_same key ks arrays) where
+  by_first : (t : Bool)
+      → (list_any (λ r. bytes_eq key r.name) ks || list_any (λ r. bytes_eq key r.now) arrays) ≡ is_one_of (names_of ks ++ map (λ r. r.now) arrays) key
+      → ((t || list_any (λ r. bytes_eq key r.name) ks) || list_any (λ r. bytes_eq key r.now) arrays)
+      ≡ (t || is_one_of (names_of ks ++ map (λ r. r.now) arrays) key)
+  by_first true rest = refl
+  by_first false rest = rest
+
+pub stray_found : (known : List (List ℕ)) (es : List (String Global × Value))
+    → option_map string_bytes (find (λ k. not (is_one_of known (string_bytes k))) (keys_of es)) ≡ stray_in known (members_view es)
 stray_found known [] = refl
 stray_found known (e ∷ es) =
-    ap (λ (t : Bool). option_map string_bytes
-    (cond (not t) (Some e.0) (find (λ k. not (list_any (λ w. bytes_eq (string_bytes k) w.now) known)) (keys_of es)))) (known_same (string_bytes e.0) known)
-    ∙ by_test (is_one_of (map (λ k. k.now) known) (string_bytes e.0)) (find (λ k. not (list_any (λ w. bytes_eq (string_bytes k) w.now) known)) (keys_of es))
-    (stray_in (map (λ k. k.now) known) (members_view es)) (stray_found known es)
+    by_test (is_one_of known (string_bytes e.0)) (find (λ k. not (is_one_of known (string_bytes k))) (keys_of es))
+    (stray_in known (members_view es)) (stray_found known es)
   where
     by_test : (t : Bool) (o : Option (String Global)) (r : Option (List ℕ)) → option_map string_bytes o ≡ r
         → option_map string_bytes (cond (not t) (Some e.0) o) ≡ cond t r (Some (string_bytes e.0))

@@ -1,6 +1,5 @@
 -- Keys of tables: which of them are required, which are optional, and the kinds of their values.
-use Rattle.std.specs.Prelude.{ℕ, ◌+◌, Bool, true, false, not, List, [], ◌∷◌, ◌++◌, map, length, Option, Some, None, if◌then◌else◌, codes}
-use Rattle.std.specs.Option.{option_or}
+use Rattle.std.specs.Prelude.{ℕ, Bool, true, false, List, map, Option, Some, None, if◌then◌else◌}
 use Rattle.toml.specs.Data.{Data, Members, no_members, member, get_member}
 use Rattle.lab_keys.specs.declared.flaw.Flaw.{Flaw}
 use Rattle.lab_keys.specs.declared.flaw.Flaw.TheVariants.{Shape}
@@ -8,7 +7,7 @@ use Rattle.lab_keys.specs.declared.key.Kind.{Kind}
 use Rattle.lab_keys.specs.declared.key.Counts.{Counts}
 use Rattle.lab_keys.specs.declared.table_at.TableAt.{TableAt}
 use Rattle.lab_keys.specs.Spots.{KeySpot, spot_of, member_of}
-use Rattle.lab_keys.specs.Kinds.{first_of, each_from, flaw_if, is_one_of, kind_flaw, array_flaw, table_flaw}
+use Rattle.lab_keys.specs.Kinds.{first_of, flaw_if, is_one_of, kind_flaw, array_flaw, table_flaw}
 use Rattle.lab_keys.specs.KeyRows.{KeyRow}
 
 -- ---- rows of a table of keys

@@ -1,6 +1,6 @@
 -- What may be at a key: the kinds of values, and the first flaw of a value that isn't of its kind.
-use Rattle.std.specs.Prelude.{ℕ, ◌+◌, ◌/◌, ◌==◌, pos, negsuc, nat_lt, nat_le, Bool, true, false, ◌&&◌, ◌||◌, not}
-use Rattle.std.specs.Prelude.{List, [], ◌∷◌, length, Option, Some, None, is_some, if◌then◌else◌, codes}
+use Rattle.std.specs.Prelude.{ℕ, ◌+◌, ◌/◌, ◌==◌, pos, negsuc, nat_lt, Bool, false, ◌||◌, not, List, []}
+use Rattle.std.specs.Prelude.{◌∷◌, length, Option, Some, None, is_some, if◌then◌else◌, codes}
 use Rattle.std.specs.Option.{option_or}
 use Rattle.std.specs.List.{list_any}
 use Rattle.std.specs.Str.{bytes_eq}
@@ -11,7 +11,7 @@ use Rattle.lab_keys.specs.declared.key.Kind.{Kind}
 use Rattle.lab_keys.specs.declared.key.Kind.TheVariants.{Number, HoldTime, Name, Host, Address, Prefix, Flag, Word, Hex, Misplaced}
 use Rattle.lab_keys.specs.declared.key.Words.{Words}
 use Rattle.lab_keys.specs.declared.key.Words.TheVariants.{Origins, Ways, FaultKinds, StepKinds}
-use Rattle.lab_keys.specs.Spots.{KeySpot, member_of}
+use Rattle.lab_keys.specs.Spots.{KeySpot}
 use Rattle.lab_keys.specs.Texts.{is_name, address_in, host_address_in, prefix_in, is_hex}
 
 -- ---- the first of several flaws

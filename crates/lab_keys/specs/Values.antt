@@ -1,10 +1,10 @@
 -- The value at a key, or its default.
-use Rattle.std.specs.Prelude.{ℕ, ◌^◌, pos, nat_lt, Bool, List, [], ◌∷◌, Option, Some, None, option_and_then, unwrap_or, is_some, if◌then◌else◌}
+use Rattle.std.specs.Prelude.{ℕ, ◌^◌, pos, nat_lt, Bool, List, [], Option, Some, None, option_and_then, unwrap_or, is_some, if◌then◌else◌}
 use Rattle.std.specs.List.{filter_map}
-use Rattle.toml.specs.Data.{Data, string, integer, boolean, array, table, Items, Members, get_member, as_str, as_bool, as_table}
+use Rattle.toml.specs.Data.{Data, integer, array, Members, get_member, as_str, as_bool, as_table}
 use Rattle.bgp_types.specs.Prefixes.{PrefixValue}
 use Rattle.lab_keys.specs.Kinds.{list_of}
-use Rattle.lab_keys.specs.Texts.{address_in, host_address_in, prefix_in, octets_in}
+use Rattle.lab_keys.specs.Texts.{address_in, prefix_in, octets_in}
 
 -- a number that fits in n bits
 abbrev pub number_in : ℕ → Data → Option ℕ

@@ -4,7 +4,7 @@ ghost use Rattle.std.specs.Prelude.{◌≡◌, ℕ, List, Option, Some, None, ma
 ghost use Rattle.toml.specs.Data.{get_member};
 ghost use Rattle.toml.specs.View.{view, table_view};
 ghost use Rattle.lab_keys.specs.Spots.{spot_of, member_of};
-ghost use Rattle.lab_keys.specs.Kinds.{first_of, kind_flaw as kind_flaw_lem, bounded_array_flaw};
+ghost use Rattle.lab_keys.specs.Kinds.{first_of, is_one_of, kind_flaw as kind_flaw_lem, bounded_array_flaw};
 ghost use Rattle.lab_keys.specs.Keys.{value_flaw as value_flaw_lem, key_flaw as key_flaw_lem};
 ghost use Rattle.lab_keys.specs.Keys.{keys_flaw as keys_flaw_lem, stray_in as stray_in_lem, stray_flaw as stray_flaw_lem};
 
@@ -87,37 +87,61 @@ pub fn keys_flaw<'a>(at: TableAt, keys: &[Key], table: &Table) -> Option<Flaw<'a
     None
 }
 
-/// Returns whether a key is one of the known ones.
-fn is_known(key: &str, known: &[&str]) -> bool
-    ensures { result ≡ list_any (λ k. bytes_eq key.now k.now) known.now }
+/// Returns whether a key has a row.
+fn has_row(key: &str, keys: &[Key]) -> bool
+    ensures { result ≡ list_any (λ k. bytes_eq key.now k.name) keys.now }
 {
-    known.iter().any(|k| key == *k)
+    keys.iter().any(|k| key == k.name())
+}
+
+/// Returns whether a key is the name of one of the arrays.
+fn is_array(key: &str, arrays: &[&str]) -> bool
+    ensures { result ≡ list_any (λ k. bytes_eq key.now k.now) arrays.now }
+{
+    arrays.iter().any(|k| key == *k)
+}
+
+/// Returns whether a key has a row or is the name of one of the arrays.
+fn is_known(key: &str, keys: &[Key], arrays: &[&str]) -> bool
+    ensures { result ≡ is_one_of (names_of keys.now ++ map (λ k. k.now) arrays.now) key.now }
+{
+    has_row(key, keys) || is_array(key, arrays)
 }
 
 /// Returns the first unknown key of a table, in the order of bytes.
-fn first_stray<'a>(known: &[&str], table: &'a Table) -> Option<&'a String>
-    ensures { option_map (λ k. k.now) result ≡ find (λ k. not (list_any (λ w. bytes_eq (string_bytes k) w.now) known.now)) (keys table.now) }
+fn first_stray<'a>(keys: &[Key], arrays: &[&str], table: &'a Table) -> Option<&'a String>
+    ensures { option_map (λ k. k.now) result
+        ≡ find (λ k. not (is_one_of (names_of keys.now ++ map (λ k. k.now) arrays.now) (string_bytes k))) (keys_of_map table.now) }
 {
-    table.keys().find(|key| !is_known(key.as_str(), known))
+    table
+        .keys()
+        .find(|key| !is_known(key.as_str(), keys, arrays))
 }
 
 /// Returns the text of the first unknown key of a table.
-fn stray_in<'a>(known: &[&str], table: &'a Table) -> Option<&'a str>
-    ensures { option_map (λ key. key.now) result ≡ stray_in_lem (map (λ k. k.now) known.now) (table_view table.now) }
+fn stray_in<'a>(keys: &[Key], arrays: &[&str], table: &'a Table) -> Option<&'a str>
+    ensures { option_map (λ key. key.now) result ≡ stray_in_lem (names_of keys.now ++ map (λ k. k.now) arrays.now) (table_view table.now) }
 {
-    let key = first_stray(known, table)?;
+    let key = first_stray(keys, arrays, table)?;
     Some(key.as_str())
 }
 
-/// Returns the flaw of the first unknown key of a table, if there is one.
-pub fn stray_flaw<'a>(at: TableAt, known: &[&str], table: &'a Table) -> Option<Flaw<'a>>
-    ensures { result ≡ stray_flaw_lem at (map (λ k. k.now) known.now) (table_view table.now) }
+/// Returns the flaw of the first key of a table that has no row and isn't the name of one of its arrays of tables, if
+/// there is one.
+pub fn stray_flaw<'a>(
+    at: TableAt,
+    keys: &[Key],
+    arrays: &[&str],
+    table: &'a Table,
+) -> Option<Flaw<'a>>
+    ensures { result ≡ stray_flaw_lem at (names_of keys.now ++ map (λ k. k.now) arrays.now) (table_view table.now) }
 {
-    let key = stray_in(known, table)?;
+    let key = stray_in(keys, arrays, table)?;
     Some(Flaw::Shape(Spot::of(at, key)))
 }
 
-ghost use Rattle.std.specs.Prelude.{not, string_bytes};
+ghost use Rattle.std.specs.Prelude.{◌++◌, not, string_bytes};
 ghost use Rattle.std.specs.List.{list_any, find};
 ghost use Rattle.std.specs.Str.{bytes_eq};
-ghost use Rattle.std.specs.BTreeMap.{keys};
+ghost use Rattle.std.specs.BTreeMap.{keys as keys_of_map};
+ghost use Rattle.lab_keys.specs.Keys.{names_of};

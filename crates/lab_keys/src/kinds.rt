@@ -77,7 +77,7 @@ fn hold_time_flaw<'a>(at: Spot<'a>, value: &Value) -> Option<Flaw<'a>>
         Value::Integer(n) => {
             if *n < 0 {
                 Some(Flaw::Limit(at, 0))
-            } else if *n == 1 || *n == 2 || *n > 65535 {
+            } else if *n == 1 || *n == 2 || *n > i64::from(u16::MAX) {
                 Some(Flaw::Limit(at, *n as u64))
             } else {
                 None

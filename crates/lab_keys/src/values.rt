@@ -28,7 +28,7 @@ pub fn number_in(value: &Value) -> Option<u32>
     ensures { result ≡ number_in_lem 32 (view value.now) }
 {
     match value {
-        Value::Integer(n) if 0 <= *n && *n <= 4_294_967_295 => Some(*n as u32),
+        Value::Integer(n) if 0 <= *n && *n <= i64::from(u32::MAX) => Some(*n as u32),
         _ => None,
     }
 }
@@ -51,7 +51,7 @@ fn short_in(value: &Value) -> Option<u16>
     ensures { result ≡ number_in_lem 16 (view value.now) }
 {
     match value {
-        Value::Integer(n) if 0 <= *n && *n <= 65535 => Some(*n as u16),
+        Value::Integer(n) if 0 <= *n && *n <= i64::from(u16::MAX) => Some(*n as u16),
         _ => None,
     }
 }
@@ -73,7 +73,7 @@ fn small_in(value: &Value) -> Option<u8>
     ensures { result ≡ number_in_lem 8 (view value.now) }
 {
     match value {
-        Value::Integer(n) if 0 <= *n && *n <= 255 => Some(*n as u8),
+        Value::Integer(n) if 0 <= *n && *n <= i64::from(u8::MAX) => Some(*n as u8),
         _ => None,
     }
 }

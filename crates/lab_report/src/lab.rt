@@ -23,7 +23,7 @@ pub enum RunEnd {
         peering: PeeringId,
         length: u32,
     },
-    /// The journals have so many entries, at least 4,194,304.
+    /// The journals together have this many entries, at least 4,194,304.
     JournalFull {
         events: u64,
     },

@@ -74,11 +74,11 @@ module _ (setup : Setup) (z : Stand) (journal : List JournalEntry) (merge : Inte
       world_at_mark own carried setup c.view z.view round.marked.mark journal (mark_of setup c z b.marks round.marked is on) merge ran
 
   -- the mark of a round names this of the world of its number, which is that of the marks before it
-  mark_names : (budget : Budget) (step rounds : ℕ) (b c : Stand) (verdict : Verdict) (names : RoundNames setup budget step rounds b c verdict) → IsWhole setup c
+  decide_at_mark : (budget : Budget) (step rounds : ℕ) (b c : Stand) (verdict : Verdict) (names : RoundNames setup budget step rounds b c verdict) → IsWhole setup c
       → GoesOnTo c.view z.view → Ran own carried setup c.view → (later : List (List ℕ)) → z.marks ≡ b.marks ++ names.round.marked.mark ∷ later
       → (world : ℕ → World) → WorldsStand setup journal z.marks world
       → MarkNames setup (world (length b.marks)) budget step rounds names.round.marked.mark verdict
-  mark_names budget step rounds b c verdict names is on ran later whole world stand =
+  decide_at_mark budget step rounds b c verdict names is on ran later whole world stand =
       let mark : List ℕ = names.round.marked.mark in
       let h = world_behind b c names.round is on ran in
       let at : slice_get z.marks (length b.marks) ≡ Some mark =
@@ -140,7 +140,7 @@ module _ (setup : Setup) (z : Stand) (journal : List JournalEntry) (merge : Inte
           later = marks;
           whole = whole;
           name = λ world stand. name_goes setup journal world (length b.marks) step n budget budgets names.round.marked.mark marks made end
-              (mark_names budget step (n + 1) b c GoesOn names is on ran marks whole world stand)
+              (decide_at_mark budget step (n + 1) b c GoesOn names is on ran marks whole world stand)
               (none_begins step (n + 1) (budget ∷ budgets) c names.round.marked.mark made end is (mark_of setup c z b.marks names.round.marked is on) behind)
               (subst (λ (k : ℕ). MarksName setup journal world k step (n + 1) (budget ∷ budgets) marks made end)
               (one_more b c names.round) (behind.name world stand));
@@ -163,7 +163,7 @@ module _ (setup : Setup) (z : Stand) (journal : List JournalEntry) (merge : Inte
           later = [];
           whole = whole;
           name = λ world stand. name_ends setup journal world (length b.marks) step n budget budgets names.round.marked.mark end
-              (mark_names budget step (n + 1) b c (Ends end) names is on ran [] whole world stand);
+              (decide_at_mark budget step (n + 1) b c (Ends end) names is on ran [] whole world stand);
           last = names.round.marked.mark;
           is_last = refl;
           ends = λ k. (mark_of setup c z b.marks names.round.marked is on).lengths k ∙ sym (ap (λ (s : Stand). length (s.view.journal k)) same);
@@ -182,7 +182,7 @@ module _ (setup : Setup) (z : Stand) (journal : List JournalEntry) (merge : Inte
           is_whole = is;
           later = [];
           whole = whole;
-          name = λ world stand. inr (inl (mark_names budget step (n + 1) b c IsQuiet names is on ran [] whole world stand, (refl, refl, refl)));
+          name = λ world stand. inr (inl (decide_at_mark budget step (n + 1) b c IsQuiet names is on ran [] whole world stand, (refl, refl, refl)));
           last = names.round.marked.mark;
           is_last = refl;
           ends = λ k. (mark_of setup c z b.marks names.round.marked is on).lengths k ∙ sym (ap (λ (xs : List JournalEntry). length xs) (journals k));
@@ -215,7 +215,7 @@ module _ (setup : Setup) (z : Stand) (journal : List JournalEntry) (merge : Inte
           later = marks;
           whole = whole;
           name = λ world stand. inr (inl (
-            mark_names budget step (n + 1) b c IsQuiet names is on ran marks whole world stand,
+            decide_at_mark budget step (n + 1) b c IsQuiet names is on ran marks whole world stand,
             (
               next_begins (step + 1) 0 (next ∷ budgets) c d names.round.marked.mark made end is (mark_of setup c z b.marks names.round.marked is on) pause
                   (pause_goes setup c d w.0 is w.1 w.2 pause) behind,

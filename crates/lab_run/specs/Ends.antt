@@ -27,7 +27,7 @@ pub record MarkCounts : Type 0 where
 abbrev pub NoneIsStuck : Setup → World → Type 0
 NoneIsStuck setup w = IsLowest (IsStuckIn setup w) None
 
--- no session is stuck, and no journal is full
+-- no session is stuck, and the journals together aren't full
 pub record IsBelowLimits (setup : Setup) (w : World) (c : MarkCounts) : Type 0 where
   pub free : NoneIsStuck setup w
   pub room : c.events < 4194304
@@ -37,7 +37,7 @@ pub record MayEnd (setup : Setup) (w : World) (budget : Budget) (c : MarkCounts)
   pub quiet : Quiet setup w
   pub enough : budget.least ≤ c.rounds
 
--- the budget is made, and this is the first thing that is left to do
+-- the budget is used up, and this is the first thing that is left to do
 pub record IsUnsettled (setup : Setup) (w : World) (budget : Budget) (c : MarkCounts) (step rounds : ℕ) (answer : Option Pending) : Type 0 where
   pub below : IsBelowLimits setup w c
   pub made : budget.rounds ≤ c.rounds
@@ -51,8 +51,8 @@ pub record IsStreamFull (setup : Setup) (w : World) (peering length : ℕ) : Typ
   pub lowest : IsLowest (IsStuckIn setup w) (Some (peering, whole))
   pub length_is : length ≡ min whole (2 ^ 32 - 1)
 
--- A mark names, in this order: the lowest session that is stuck; full journals, with their entries up to the end of a count of 64 bits; that the group
--- is at its end; that its budget is made; else another round.
+-- What is decided at a mark, in this order: the stuck session of the lowest peering number ends the run; full journals end it, with the number of
+-- their entries, up to the end of a count of 64 bits; the group is at its end; its budget is used up, which ends the run; else another round follows.
 abbrev pub Names : Setup → World → Budget → MarkCounts → Verdict → Type 0
 Names setup w budget c (Ends (StreamFull peering length)) = IsStreamFull setup w peering.0 length
 Names setup w budget c (Ends (JournalFull events)) = NoneIsStuck setup w × (4194304 ≤ c.events) × (events ≡ min c.events (2 ^ 64 - 1))
@@ -75,7 +75,7 @@ pub record CountsTo {A I : Type 0} (v : View A I) (total : ℕ) : Type 0 where
 
 -- ---- all marks of a journal
 
--- a mark of this world names this
+-- this is decided at the mark of this world
 abbrev pub MarkNames : Setup → World → Budget → (step rounds : ℕ) → List ℕ → Verdict → Type 0
 MarkNames setup w budget step rounds mark verdict = Names setup w budget (record { events = sum mark; step = step; rounds = rounds }) verdict
 
@@ -89,8 +89,8 @@ abbrev pub NoneBegins : Setup → List JournalEntry → List ℕ → List (List 
 NoneBegins setup journal mark [] = Unit {0}
 NoneBegins setup journal mark (next ∷ marks) = NoGoFollows setup journal mark next
 
--- A mark names another round, in which no group begins, and this holds of the marks behind it; or the end of the group, and this holds; or how the run
--- ends, at the last mark.
+-- At a mark another round is decided on, in which no group begins, and this holds of the marks
+-- behind it; or the end of the group, and this holds; or how the run ends, at the last mark.
 abbrev pub AtMark : Setup → List JournalEntry → World → Budget → (step rounds : ℕ) → (mark : List ℕ) (marks : List (List ℕ)) → (made : List ℕ) → RunEnd
     → (Further Over : Type 0) → Type 0
 AtMark setup journal w budget step rounds mark marks made end Further Over =

@@ -18,12 +18,12 @@ pub record RoundNames (setup : Setup) (budget : Budget) (step rounds : ℕ) (a b
   pub round : Round a b
   pub names : (w : World) → IsWorldAt setup b w → Names setup w budget (record { events = sum round.marked.mark; step = step; rounds = rounds }) verdict
 
--- what the last mark of a group names: a limit, or its end
+-- what is decided at the last mark of a group: how the run ends, or that the group is at its end
 abbrev pub verdict_of : Option RunEnd → Verdict
 verdict_of None = IsQuiet
 verdict_of (Some end) = Ends end
 
--- so many rounds of a group, each of whose marks names another round
+-- this many rounds of a group, at each of whose marks another round is decided on
 pub data MakesRounds (setup : Setup) (budget : Budget) (step : ℕ) (a : Stand) : ℕ → Stand → Type 0 where
   NoRound : MakesRounds setup budget step a 0 a
   OneMore : (n : ℕ) {b c : Stand} → MakesRounds setup budget step a n b → RoundNames setup budget step (n + 1) b c GoesOn
@@ -47,7 +47,7 @@ abbrev pub PassAnswers : Setup → Stand → Stand → Option RunEnd → Type 0
 PassAnswers setup a b None = PassesPause setup a b true
 PassAnswers setup a b (Some end) = (end ≡ Settled) × PassesPause setup a b false
 
--- A group from its beginning to the beginning of the next one, or to how the run ends: by a limit, or settled.
+-- A group from its beginning to the beginning of the next one, or to how the run ends: by a limit or its budget, or settled.
 pub record GroupAnswers (setup : Setup) (budget : Budget) (step : ℕ) (a : Stand) (rounds : ℕ) (end : Option RunEnd) (b : Stand) : Type 0 where
   pub limit : Option RunEnd
   pub marked : Stand

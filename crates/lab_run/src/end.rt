@@ -14,10 +14,10 @@ use lab_report::RunEnd;
 use node_configs::Budget;
 use world_nodes::RunningLab;
 
-/// From so many events on a journal is full.
+/// From this number of events on, the journals together are full.
 const MOST_EVENTS: u64 = 4_194_304;
 
-/// What a mark names.
+/// What is decided at a mark.
 #[derive(Drop)]
 pub(crate) enum Verdict {
     /// Another round.
@@ -35,7 +35,7 @@ fn short(length: usize) -> u32
     length.min(4_294_967_295) as u32
 }
 
-/// A journal that is full.
+/// Returns how a run with this many events ends, if its journals are full.
 fn full(events: u64) -> Option<RunEnd>
     ensures { (setup : Setup) (w : World) (budget : Budget) (c : MarkCounts) → NoneIsStuck setup w
         → events ≡ min c.events (2 ^ 64 - 1) → LimitNames setup w budget c result }
@@ -62,7 +62,7 @@ fn limit(running: &RunningLab) -> Result<Option<RunEnd>, NoMemory>
     }
 }
 
-/// Where no limit of the whole run is met: whether the world is quiet, or the budget is made.
+/// Where no limit of the whole run is met: whether the world is quiet, or the budget is used up.
 fn budget_verdict(running: &RunningLab, budget: Budget, step: u32, rounds: u32) -> Verdict
     requires works { AllWork running.now }
     requires sound { budget.least ≤ budget.rounds }
@@ -92,8 +92,8 @@ fn budget_verdict(running: &RunningLab, budget: Budget, step: u32, rounds: u32) 
     }
 }
 
-/// What the mark names behind a round, when the settle of number `step` has made so many rounds.
-pub(crate) fn mark_names(
+/// Decides at the mark behind a round how the run goes on, where the settle of number `step` has made `rounds` rounds.
+pub(crate) fn decide_at_mark(
     running: &RunningLab,
     budget: Budget,
     step: u32,

@@ -32,10 +32,11 @@ fn begin(alloc: Global, input: &LabInput) -> Result<RunningLab, NoMemory>
     RunningLab::begin(alloc, actors, routers, peerings)
 }
 
-/// Runs the laboratory of an input by 1 to 8 workers, until nothing is left to do after the last group of its script, or a limit is met. Each actor passes
-/// the gate before each of its turns. The input is one that was accepted. The lab tells of one run: the clocks of its journal follow what each event takes;
-/// from mark to mark one chain of worlds leads from the first world to the last one, which is what the lab shows; and what is claimed of sessions on their
-/// way holds along the journal, and along the rounds one after another. Where eight rounds behind a mark have no event, nothing was left to do at it.
+/// Runs the laboratory of an input by 1 to 8 workers, until nothing is left to do after the last group of its script, or a limit or the budget
+/// of a group is met. Each actor passes the gate before each of its turns. The input is one that was accepted. The lab tells of one run: the
+/// clocks of its journal follow what each event takes; from mark to mark one chain of worlds leads from the first world to the last one, which
+/// is what the lab shows; and what is claimed of sessions on their way holds along the journal, and along the rounds one after another. Where
+/// eight rounds behind a mark have no event, nothing was left to do at it.
 pub fn run_lab<R: Threads + Sync, G: Gate>(
     rt: &R,
     alloc: Global,

@@ -8,7 +8,7 @@ ghost use Rattle.std.specs.List.{AllByRecursion};
 ghost use Rattle.node_configs.specs.Budgets.{IsSoundBudget};
 ghost use Rattle.lab_run.specs.Stories.{RoundNames, GroupGoes, GroupAnswers, PassAnswers, RunGoes, verdict_of};
 
-use crate::end::{Verdict, mark_names};
+use crate::end::{Verdict, decide_at_mark};
 use graft_edge::{Gate, Items, NoMemory};
 use lab_report::RunEnd;
 use node_configs::Budget;
@@ -41,7 +41,7 @@ fn run_round<R: Threads + Sync, G: Gate>(
     ensures counts { counts running.new ≡ counts running.old }
 {
     running.round(rt, workers, gate)?;
-    mark_names(running, budget, step, rounds)
+    decide_at_mark(running, budget, step, rounds)
 }
 
 /// Runs rounds until the world is quiet or a limit is met.

@@ -2,7 +2,7 @@
 use Rattle.std.proofs.Common.{◌≡◌, ℕ, ◌+◌, ◌-◌, ◌<◌, zero, suc, Bool, true, false, cond, not, ◌||◌, List, [], ◌∷◌, ◌++◌}
 use Rattle.std.proofs.Common.{length, get_or, take, drop, map, refl, sym, ap, ◌∙◌, arith, length-drop}
 use Rattle.std.specs.Prelude.{reverse}
-use Rattle.std.specs.List.{list_any, before_first, position_or_len, prefix_len}
+use Rattle.std.specs.List.{list_any, before_first, prefix_len}
 use Rattle.std.proofs.lemmas.List.{take_more, drop_more, take_all, reverse-append}
 use Rattle.toml.specs.Data.{Data}
 use Rattle.lab_tables.specs.Scripts.{is_word, is_settle_word, is_evacuate, evacuates, group_from, group_before}

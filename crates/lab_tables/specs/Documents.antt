@@ -1,12 +1,12 @@
 -- The tables of an input: the first flaw of a document, and its value.
-use Rattle.std.specs.Prelude.{ℕ, Bool, true, false, List, [], ◌∷◌, map, Option, codes}
+use Rattle.std.specs.Prelude.{ℕ, true, false, List, [], ◌∷◌, ◌++◌, map, Option, codes}
 use Rattle.toml.specs.Data.{Members}
 use Rattle.lab_keys.specs.declared.flaw.Flaw.{Flaw}
 use Rattle.lab_keys.specs.declared.key.Kind.TheVariants.{Number, Address}
 use Rattle.lab_keys.specs.declared.table_at.TableAt.TheVariants.{Top}
 use Rattle.lab_keys.specs.KeyRows.{KeyRow}
 use Rattle.lab_keys.specs.Kinds.{first_of}
-use Rattle.lab_keys.specs.Keys.{required, optional_array, keys_flaw, tables_flaw, stray_flaw}
+use Rattle.lab_keys.specs.Keys.{required, optional_array, keys_flaw, tables_flaw, stray_flaw, names_of}
 use Rattle.lab_keys.specs.Values.{number_or, tables_at, addresses_at, items_at}
 use Rattle.lab_tables.specs.declared.input.LabInput.{LabInput}
 use Rattle.lab_tables.specs.declared.input.PeeringInput.{PeeringInput}
@@ -24,7 +24,7 @@ abbrev pub trace_keys : List KeyRow
 trace_keys = optional_array (codes "trace") 0 64 Address ∷ []
 
 abbrev pub top_names : List (List ℕ)
-top_names = codes "home_as" ∷ codes "router" ∷ codes "cost" ∷ codes "peering" ∷ codes "fault" ∷ codes "step" ∷ codes "trace" ∷ []
+top_names = names_of (home_keys ++ trace_keys) ++ codes "router" ∷ codes "cost" ∷ codes "peering" ∷ codes "fault" ∷ codes "step" ∷ []
 
 abbrev pub shaped : Members → Option Flaw
 shaped doc = first_of (

@@ -1,5 +1,5 @@
 -- Words of an input, and their meanings.
-use Rattle.std.specs.Prelude.{ℕ, Bool, List, [], ◌∷◌, Option, Some, None, option_and_then, unwrap_or, codes, if◌then◌else◌}
+use Rattle.std.specs.Prelude.{ℕ, List, Option, Some, None, option_and_then, unwrap_or, codes, if◌then◌else◌}
 use Rattle.std.specs.List.{position}
 use Rattle.std.specs.Str.{bytes_eq}
 use Rattle.toml.specs.Data.{Members}
@@ -11,7 +11,7 @@ use Rattle.link_bag.specs.declared.plan.FaultKind.{FaultKind}
 use Rattle.link_bag.specs.declared.plan.FaultKind.TheVariants.{Lose, Repeat, Hold, Stray}
 use Rattle.lab_tables.specs.declared.words.StepWord.{StepWord}
 use Rattle.lab_tables.specs.declared.words.StepWord.TheVariants.{Announces, Withdraws, SaysRaw, Grafts, Settles, Evacuates, Other}
-use Rattle.lab_keys.specs.Values.{maybe_text, text_at}
+use Rattle.lab_keys.specs.Values.{maybe_text}
 
 -- an origin by its name (RFC 4271, section 4.3)
 abbrev pub origin_named : List ℕ → Option Origin

@@ -1,7 +1,6 @@
 -- Routers, their policies and rules.
-use Rattle.std.specs.Prelude.{ℕ, ◌^◌, Bool, true, false, List, [], ◌∷◌, Option, Some, None, option_map, unwrap_or, map, codes, if◌then◌else◌}
+use Rattle.std.specs.Prelude.{ℕ, Bool, false, List, [], ◌∷◌, ◌++◌, Option, option_map, map, codes, if◌then◌else◌}
 use Rattle.toml.specs.Data.{Members}
-use Rattle.bgp_types.specs.declared.attrs.Origin.{Origin}
 use Rattle.bgp_types.specs.Prefixes.{PrefixValue}
 use Rattle.route_policy.specs.declared.rule.PrefixRange.{PrefixRange}
 use Rattle.route_policy.specs.declared.rule.Rule.{Rule}
@@ -74,7 +73,7 @@ abbrev pub policy_flaw : ℕ → ℕ → Members → Option Flaw
 policy_flaw i j t = first_of (
     keys_flaw (tables.Policy i j) policy_keys t
     ∷ tables_flaw (tables.Policy i j) (codes "rule") false 0 64 (rule_flaw i j) t
-    ∷ stray_flaw (tables.Policy i j) (codes "name" ∷ codes "rule" ∷ []) t
+    ∷ stray_flaw (tables.Policy i j) (names_of policy_keys ++ codes "rule" ∷ []) t
     ∷ [])
 
 abbrev pub policy_of : Members → PolicyInput
@@ -91,14 +90,11 @@ router_keys =
     ∷ optional_array (codes "networks") 0 256 Prefix
     ∷ []
 
-abbrev pub router_names : List (List ℕ)
-router_names = codes "name" ∷ codes "id" ∷ codes "sessions" ∷ codes "by_bytes" ∷ codes "networks" ∷ codes "policy" ∷ []
-
 abbrev pub router_flaw : ℕ → Members → Option Flaw
 router_flaw i t = first_of (
     keys_flaw (tables.Router i) router_keys t
     ∷ tables_flaw (tables.Router i) (codes "policy") false 0 16 (policy_flaw i) t
-    ∷ stray_flaw (tables.Router i) router_names t
+    ∷ stray_flaw (tables.Router i) (names_of router_keys ++ codes "policy" ∷ []) t
     ∷ [])
 
 abbrev pub router_of : Members → RouterInput

@@ -2,8 +2,7 @@
 
 ghost use Rattle.std.specs.Prelude.{◌≡◌, IfOk, List, ℕ, map};
 ghost use Rattle.toml.specs.View.{table_view};
-ghost use Rattle.lab_keys.specs.Keys.{keys_flaw as keys_flaw_lem};
-ghost use Rattle.lab_tables.specs.Peerings.{cost_flaw as cost_flaw_lem, cost_of as cost_of_lem, fault_keys as fault_keys_lem};
+ghost use Rattle.lab_tables.specs.Peerings.{cost_ends, cost_rest, cost_flaw as cost_flaw_lem, cost_of as cost_of_lem, fault_keys as fault_keys_lem};
 ghost use Rattle.lab_tables.specs.Peerings.{after_keys as after_keys_lem, fault_flaw as fault_flaw_lem, fault_of as fault_of_lem};
 
 use crate::input::CostInput;
@@ -18,32 +17,40 @@ use link_bag::Fault;
 use std::alloc::Global;
 use toml::Table;
 
+/// Returns the keys of a cost: its two ends, and the cost.
+fn cost_keys() -> [Key; 3]
+    ensures { result ≡ cost_ends ++ cost_rest }
+{
+    [
+        Key::required("from", Kind::Name),
+        Key::required("to", Kind::Name),
+        Key::required(
+            "cost",
+            Kind::Number {
+                low: 0,
+                high: u32::from(u16::MAX),
+            },
+        ),
+    ]
+}
+
 /// Returns the first flaw of the cost at index `i`.
 fn cost_flaw<'a>(i: usize, table: &'a Table) -> Option<Flaw<'a>>
     ensures { result ≡ cost_flaw_lem i (table_view table.now) }
 {
     let at = TableAt::Cost(i);
-    let ends = [
-        Key::required("from", Kind::Name),
-        Key::required("to", Kind::Name),
-    ];
-    if let Some(flaw) = keys_flaw(at, &ends, table) {
+    let rows = cost_keys();
+    let keys = &rows[..];
+    if let Some(flaw) = keys_flaw(at, &keys[..2], table) {
         return Some(flaw);
     }
     if text_at("to", table) == text_at("from", table) {
         return Some(Flaw::Shape(Spot::of(at, "to")));
     }
-    let rest = [Key::required(
-        "cost",
-        Kind::Number {
-            low: 0,
-            high: 65535,
-        },
-    )];
-    if let Some(flaw) = keys_flaw(at, &rest, table) {
+    if let Some(flaw) = keys_flaw(at, &keys[2..], table) {
         return Some(flaw);
     }
-    stray_flaw(at, &["from", "to", "cost"], table)
+    stray_flaw(at, keys, &[], table)
 }
 
 /// The array of costs of an input.
@@ -76,25 +83,6 @@ impl<'p> TableReader<CostInput> for CostReader<'p> {
     }
 }
 
-/// Returns the first flaw of the keys of a planned fault up to its kind.
-fn fault_keys_flaw<'a>(at: TableAt, table: &Table) -> Option<Flaw<'a>>
-    ensures { result ≡ keys_flaw_lem at fault_keys_lem (table_view table.now) }
-{
-    let keys = [
-        Key::required("peering", Kind::Name),
-        Key::required("way", Kind::Word(Words::Ways)),
-        Key::required(
-            "segment",
-            Kind::Number {
-                low: 1,
-                high: 1_000_000,
-            },
-        ),
-        Key::required("kind", Kind::Word(Words::FaultKinds)),
-    ];
-    keys_flaw(at, &keys, table)
-}
-
 /// Returns the key `after`. A lost segment has no later time.
 fn after_key(is_lost: bool) -> Key
     ensures { result ∷ [] ≡ after_keys_lem is_lost }
@@ -106,22 +94,43 @@ fn after_key(is_lost: bool) -> Key
     }
 }
 
+/// Returns the keys of a planned fault, given whether it loses a segment.
+fn fault_keys(is_lost: bool) -> [Key; 5]
+    ensures { result ≡ fault_keys_lem ++ after_keys_lem is_lost }
+{
+    [
+        Key::required("peering", Kind::Name),
+        Key::required("way", Kind::Word(Words::Ways)),
+        Key::required(
+            "segment",
+            Kind::Number {
+                low: 1,
+                high: 1_000_000,
+            },
+        ),
+        Key::required("kind", Kind::Word(Words::FaultKinds)),
+        after_key(is_lost),
+    ]
+}
+
 /// Returns the first flaw of the planned fault at index `i`.
 fn fault_flaw<'a>(i: usize, table: &'a Table) -> Option<Flaw<'a>>
     ensures { result ≡ fault_flaw_lem i (table_view table.now) }
 {
     let at = TableAt::Fault(i);
-    if let Some(flaw) = fault_keys_flaw(at, table) {
+    let kind = text_at("kind", table);
+    let rows = fault_keys(kind == "lose");
+    let keys = &rows[..];
+    if let Some(flaw) = keys_flaw(at, &keys[..4], table) {
         return Some(flaw);
     }
-    let kind = text_at("kind", table);
     if kind == "stray" && text_at("way", table) == "remote" {
         return Some(Flaw::Shape(Spot::of(at, "kind")));
     }
-    if let Some(flaw) = keys_flaw(at, &[after_key(kind == "lose")], table) {
+    if let Some(flaw) = keys_flaw(at, &keys[4..], table) {
         return Some(flaw);
     }
-    stray_flaw(at, &["peering", "way", "segment", "kind", "after"], table)
+    stray_flaw(at, keys, &[], table)
 }
 
 /// The array of planned faults of an input.
@@ -163,4 +172,4 @@ impl<'p> TableReader<Fault> for FaultReader<'p> {
     }
 }
 
-ghost use Rattle.std.specs.Prelude.{◌∷◌, []};
+ghost use Rattle.std.specs.Prelude.{◌∷◌, ◌++◌, []};

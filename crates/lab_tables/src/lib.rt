@@ -5,6 +5,7 @@ mod costs;
 mod input;
 mod labs;
 mod name_index;
+mod numbers;
 mod once;
 mod opening;
 mod peerings;

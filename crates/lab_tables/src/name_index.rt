@@ -40,7 +40,7 @@ fn index_in(text: &str, names: &[Name]) -> Option<usize>
 
 impl NameIndex {
     /// Returns a list of these names. More than 255 of them are refused with `NoMemory`; no input that meets the rules
-    /// has so many.
+    /// has more than 255.
     pub fn of(names: Items<Name>) -> Result<NameIndex, NoMemory>
         ensures { IfOk result (λ index. index ≡ names) }
     {

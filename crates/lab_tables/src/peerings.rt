@@ -3,12 +3,15 @@
 ghost use Rattle.std.specs.Prelude.{◌≡◌, Option, IfOk, option_copied, codes};
 ghost use Rattle.std.specs.List.{list_any};
 ghost use Rattle.toml.specs.View.{view, table_view};
-ghost use Rattle.lab_keys.specs.Keys.{keys_flaw as keys_flaw_lem};
 ghost use Rattle.lab_keys.specs.Values.{text_at as text_at_lem, maybe_text as maybe_text_lem, items_at as items_at_lem};
-ghost use Rattle.lab_tables.specs.Peerings.{peering_ends as peering_ends_lem, peering_rest as peering_rest_lem, peering_last as peering_last_lem, is_raw_of as is_raw_of_lem, may_beat as may_beat_lem, peering_flaw as peering_flaw_lem, remote_id_of as remote_id_of_lem, remote_as4_of as remote_as4_of_lem, opening_of as opening_of_lem, peering_input};
+ghost use Rattle.lab_tables.specs.Peerings.{peering_ends, peering_rest, peering_last, is_raw_of as is_raw_of_lem};
+ghost use Rattle.lab_tables.specs.Peerings.{may_beat as may_beat_lem, peering_flaw as peering_flaw_lem};
+ghost use Rattle.lab_tables.specs.Peerings.{remote_id_of as remote_id_of_lem, remote_as4_of as remote_as4_of_lem};
+ghost use Rattle.lab_tables.specs.Peerings.{opening_of as opening_of_lem, peering_input};
 
 use crate::input::PeeringInput;
 use crate::name_index::NameIndex;
+use crate::numbers::{ANY_NUMBER, AS_NUMBER, MOST_OCTETS};
 use crate::opening::default_opening;
 use bgp_types::{Name, NoMemory, Octets, RouterId};
 use lab_keys::{
@@ -18,48 +21,41 @@ use lab_keys::{
 use std::alloc::Global;
 use toml::{Table, Value};
 
-/// Returns the first flaw of the keys of a peering up to its AS number.
-fn ends_flaw<'a>(at: TableAt, table: &Table) -> Option<Flaw<'a>>
-    ensures { result ≡ keys_flaw_lem at peering_ends_lem (table_view table.now) }
+/// The number of keys of a peering up to its AS number.
+const END_KEYS: usize = 3;
+
+/// The number of keys of a peering up to `beats`.
+const FIRST_KEYS: usize = 16;
+
+/// Returns the keys of a peering.
+fn peering_keys() -> [Key; 17]
+    ensures { result ≡ peering_ends ++ peering_rest ++ peering_last }
 {
-    let keys = [
+    [
         Key::required("name", Kind::Name),
         Key::required("at", Kind::Name),
-        Key::required(
-            "remote_as",
-            Kind::Number {
-                low: 1,
-                high: u32::MAX,
-            },
-        ),
-    ];
-    keys_flaw(at, &keys, table)
-}
-
-/// Returns the first flaw of the further keys of a peering, up to `beats`.
-fn rest_flaw<'a>(at: TableAt, table: &Table) -> Option<Flaw<'a>>
-    ensures { result ≡ keys_flaw_lem at peering_rest_lem (table_view table.now) }
-{
-    let any = Kind::Number {
-        low: 0,
-        high: u32::MAX,
-    };
-    let keys = [
+        Key::required("remote_as", AS_NUMBER),
         Key::required("remote_address", Kind::Host),
         Key::required("local_address", Kind::Host),
         Key::optional("remote_id", Kind::Host),
         Key::optional("import", Kind::Name),
         Key::optional("export", Kind::Name),
-        Key::optional("home_seq", any),
-        Key::optional("remote_seq", any),
+        Key::optional("home_seq", ANY_NUMBER),
+        Key::optional("remote_seq", ANY_NUMBER),
         Key::optional("hold", Kind::HoldTime),
-        Key::optional("opening", Kind::Hex { low: 0, high: 4096 }),
+        Key::optional(
+            "opening",
+            Kind::Hex {
+                low: 0,
+                high: MOST_OCTETS,
+            },
+        ),
         Key::optional("as4", Kind::Flag),
         Key::optional("remote_as4", Kind::Flag),
         Key::optional("home_hold", Kind::HoldTime),
         Key::optional("beats", Kind::Flag),
-    ];
-    keys_flaw(at, &keys, table)
+        Key::optional("unicast", Kind::Flag),
+    ]
 }
 
 /// Returns whether a step says raw octets on the peering of this name.
@@ -96,11 +92,19 @@ fn says_raw(doc: &Table, table: &Table) -> bool
     has_raw(text_at("name", table), doc)
 }
 
+/// Returns the remote's hold time.
+fn hold_of(table: &Table) -> u16
+    ensures { result ≡ number_or_lem 16 180 (codes "hold") (table_view table.now) }
+{
+    short_or(180, "hold", table)
+}
+
 /// Returns whether the hold times of both sides are above 0.
 fn both_hold(table: &Table) -> bool
-    ensures { result ≡ (nat_lt 0 (number_or_lem 16 0 (codes "home_hold") (table_view table.now)) && nat_lt 0 (number_or_lem 16 180 (codes "hold") (table_view table.now))) }
+    ensures { result
+        ≡ (nat_lt 0 (number_or_lem 16 0 (codes "home_hold") (table_view table.now)) && nat_lt 0 (number_or_lem 16 180 (codes "hold") (table_view table.now))) }
 {
-    short_or(0, "home_hold", table) > 0 && short_or(180, "hold", table) > 0
+    short_or(0, "home_hold", table) > 0 && hold_of(table) > 0
 }
 
 /// Returns whether the remote of a peering can send KEEPALIVEs of its own: both sides' hold times are above 0, and all
@@ -118,60 +122,29 @@ fn beats_wrongly(doc: &Table, table: &Table) -> bool
     flag_or(false, "beats", table) && !may_beat(doc, table)
 }
 
-/// Returns the flaw of the last key of a peering.
-fn last_flaw<'a>(at: TableAt, table: &Table) -> Option<Flaw<'a>>
-    ensures { result ≡ keys_flaw_lem at peering_last_lem (table_view table.now) }
-{
-    keys_flaw(at, &[Key::optional("unicast", Kind::Flag)], table)
-}
-
-/// Returns the flaw of the first key that isn't a peering's, if there is one.
-fn stray_of_peering<'a>(at: TableAt, table: &'a Table) -> Option<Flaw<'a>>
-    ensures { result ≡ stray_flaw_lem at (names_of (peering_ends_lem ++ peering_rest_lem ++ peering_last_lem)) (table_view table.now) }
-{
-    let known = [
-        "name",
-        "at",
-        "remote_as",
-        "remote_address",
-        "local_address",
-        "remote_id",
-        "import",
-        "export",
-        "home_seq",
-        "remote_seq",
-        "hold",
-        "opening",
-        "as4",
-        "remote_as4",
-        "home_hold",
-        "beats",
-        "unicast",
-    ];
-    stray_flaw(at, &known, table)
-}
-
 /// Returns the first flaw of the peering at index `i`.
 fn peering_flaw<'a>(doc: &Table, i: usize, table: &'a Table) -> Option<Flaw<'a>>
     ensures { result ≡ peering_flaw_lem (table_view doc.now) i (table_view table.now) }
 {
     let at = TableAt::Peering(i);
-    if let Some(flaw) = ends_flaw(at, table) {
+    let rows = peering_keys();
+    let keys = &rows[..];
+    if let Some(flaw) = keys_flaw(at, &keys[..END_KEYS], table) {
         return Some(flaw);
     }
     if number_or(0, "remote_as", table) == number_or(0, "home_as", doc) {
         return Some(Flaw::Shape(Spot::of(at, "remote_as")));
     }
-    if let Some(flaw) = rest_flaw(at, table) {
+    if let Some(flaw) = keys_flaw(at, &keys[END_KEYS..FIRST_KEYS], table) {
         return Some(flaw);
     }
     if beats_wrongly(doc, table) {
         return Some(Flaw::Shape(Spot::of(at, "beats")));
     }
-    if let Some(flaw) = last_flaw(at, table) {
+    if let Some(flaw) = keys_flaw(at, &keys[FIRST_KEYS..], table) {
         return Some(flaw);
     }
-    stray_of_peering(at, table)
+    stray_flaw(at, keys, &[], table)
 }
 
 /// The array of peerings of an input.
@@ -210,11 +183,10 @@ fn opening_of(alloc: Global, table: &Table) -> Result<Octets, NoMemory>
         return octets_at(alloc, "opening", table);
     }
     let remote_as = number_or(0, "remote_as", table);
-    let hold = short_or(180, "hold", table);
     default_opening(
         alloc,
         remote_as,
-        hold,
+        hold_of(table),
         remote_id_of(table),
         remote_as4_of(table),
     )
@@ -250,7 +222,7 @@ fn peering_of(
         export: name_at(alloc, "export", table)?,
         home_seq: number_or(1000, "home_seq", table),
         remote_seq: number_or(5000, "remote_seq", table),
-        hold: short_or(180, "hold", table),
+        hold: hold_of(table),
         opening: opening_of(alloc, table)?,
         as4: flag_or(false, "as4", table),
         remote_as4: remote_as4_of(table),
@@ -276,6 +248,5 @@ impl<'d> TableReader<PeeringInput> for PeeringReader<'d> {
 }
 
 ghost use Rattle.std.specs.Prelude.{◌&&◌, ◌++◌, false, not};
-ghost use Rattle.lab_keys.specs.Keys.{stray_flaw as stray_flaw_lem, names_of};
 ghost use Rattle.std.specs.Prelude.{nat_lt};
 ghost use Rattle.lab_keys.specs.Values.{flag_or as flag_or_lem, number_or as number_or_lem};

@@ -2,7 +2,6 @@
 
 ghost use Rattle.std.specs.Prelude.{◌≡◌, IfOk};
 ghost use Rattle.toml.specs.View.{table_view};
-ghost use Rattle.lab_keys.specs.Keys.{keys_flaw as keys_flaw_lem};
 ghost use Rattle.lab_tables.specs.Routers.{router_keys as router_keys_lem, router_flaw as router_flaw_lem, router_of as router_of_lem};
 
 use crate::input::RouterInput;
@@ -15,18 +14,17 @@ use lab_keys::{
 use std::alloc::Global;
 use toml::Table;
 
-/// Returns the first flaw of the keys of a router.
-fn router_keys_flaw<'a>(at: TableAt, table: &Table) -> Option<Flaw<'a>>
-    ensures { result ≡ keys_flaw_lem at router_keys_lem (table_view table.now) }
+/// Returns the keys of a router.
+fn router_keys() -> [Key; 5]
+    ensures { result ≡ router_keys_lem }
 {
-    let keys = [
+    [
         Key::required("name", Kind::Name),
         Key::required("id", Kind::Host),
         Key::required("sessions", Kind::Number { low: 0, high: 32 }),
         Key::optional("by_bytes", Kind::Flag),
         Key::optional_array("networks", 0, 256, Kind::Prefix),
-    ];
-    keys_flaw(at, &keys, table)
+    ]
 }
 
 /// Returns the first flaw of the router at index `i`.
@@ -34,7 +32,8 @@ fn router_flaw<'a>(i: usize, table: &'a Table) -> Option<Flaw<'a>>
     ensures { result ≡ router_flaw_lem i (table_view table.now) }
 {
     let at = TableAt::Router(i);
-    if let Some(flaw) = router_keys_flaw(at, table) {
+    let keys = router_keys();
+    if let Some(flaw) = keys_flaw(at, &keys, table) {
         return Some(flaw);
     }
     let array = ArrayAt {
@@ -46,8 +45,7 @@ fn router_flaw<'a>(i: usize, table: &'a Table) -> Option<Flaw<'a>>
     if let Some(flaw) = tables_flaw(&PolicyTables { router: i }, array, "policy", table) {
         return Some(flaw);
     }
-    let known = ["name", "id", "sessions", "by_bytes", "networks", "policy"];
-    stray_flaw(at, &known, table)
+    stray_flaw(at, &keys, &["policy"], table)
 }
 
 /// Returns the router that a table stands for.

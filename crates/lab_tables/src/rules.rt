@@ -2,13 +2,11 @@
 
 ghost use Rattle.std.specs.Prelude.{◌≡◌, IfOk, option_map};
 ghost use Rattle.toml.specs.View.{table_view};
-ghost use Rattle.lab_keys.specs.Keys.{keys_flaw as keys_flaw_lem};
-ghost use Rattle.lab_keys.specs.Values.{has_member};
-ghost use Rattle.lab_tables.specs.Routers.{length_kind as length_kind_lem, rule_keys as rule_keys_lem};
-ghost use Rattle.lab_tables.specs.Routers.{rule_flaw as rule_flaw_lem, range_of as range_of_lem, rule_of as rule_of_lem};
-ghost use Rattle.lab_tables.specs.Routers.{policy_keys as policy_keys_lem, policy_flaw as policy_flaw_lem, policy_of as policy_of_lem};
+ghost use Rattle.lab_tables.specs.Routers.{length_kind as length_kind_lem, rule_keys as rule_keys_lem, rule_flaw as rule_flaw_lem};
+ghost use Rattle.lab_tables.specs.Routers.{range_of as range_of_lem, rule_of as rule_of_lem, policy_flaw as policy_flaw_lem, policy_of as policy_of_lem};
 
 use crate::input::PolicyInput;
+use crate::numbers::{ANY_NUMBER, AS_NUMBER};
 use crate::words::origin_at;
 use bgp_types::{Name, NoMemory, Prefix};
 use lab_keys::{
@@ -30,33 +28,21 @@ fn length_kind(ranged: bool) -> Kind
     }
 }
 
-/// Returns the first flaw of the keys of a rule.
-fn rule_keys_flaw<'a>(at: TableAt, table: &Table) -> Option<Flaw<'a>>
-    ensures { result ≡ keys_flaw_lem at (rule_keys_lem (has_member (codes "prefix") (table_view table.now))) (table_view table.now) }
+/// Returns the keys of a rule, given whether it has a prefix.
+fn rule_keys(ranged: bool) -> [Key; 9]
+    ensures { result ≡ rule_keys_lem ranged }
 {
-    let ranged = has("prefix", table);
-    let any = Kind::Number {
-        low: 0,
-        high: u32::MAX,
-    };
-    let keys = [
+    [
         Key::optional("prefix", Kind::Prefix),
         Key::optional("ge", length_kind(ranged)),
         Key::optional("le", length_kind(ranged)),
-        Key::optional(
-            "has_as",
-            Kind::Number {
-                low: 1,
-                high: u32::MAX,
-            },
-        ),
+        Key::optional("has_as", AS_NUMBER),
         Key::optional("origin", Kind::Word(Words::Origins)),
         Key::optional("deny", Kind::Flag),
-        Key::optional("pref", any),
-        Key::optional("med", any),
+        Key::optional("pref", ANY_NUMBER),
+        Key::optional("med", ANY_NUMBER),
         Key::optional("prepend", Kind::Number { low: 0, high: 8 }),
-    ];
-    keys_flaw(at, &keys, table)
+    ]
 }
 
 /// Returns the first flaw of the rule at these indices of router, policy and rule.
@@ -64,13 +50,11 @@ fn rule_flaw<'a>(i: usize, j: usize, k: usize, table: &'a Table) -> Option<Flaw<
     ensures { result ≡ rule_flaw_lem i j k (table_view table.now) }
 {
     let at = TableAt::Rule(i, j, k);
-    if let Some(flaw) = rule_keys_flaw(at, table) {
+    let keys = rule_keys(has("prefix", table));
+    if let Some(flaw) = keys_flaw(at, &keys, table) {
         return Some(flaw);
     }
-    let known = [
-        "prefix", "ge", "le", "has_as", "origin", "deny", "pref", "med", "prepend",
-    ];
-    stray_flaw(at, &known, table)
+    stray_flaw(at, &keys, &[], table)
 }
 
 /// Returns the range of a rule that has a prefix.
@@ -149,7 +133,7 @@ fn policy_flaw<'a>(i: usize, j: usize, table: &'a Table) -> Option<Flaw<'a>>
     if let Some(flaw) = tables_flaw(&rules, array, "rule", table) {
         return Some(flaw);
     }
-    stray_flaw(at, &["name", "rule"], table)
+    stray_flaw(at, &keys, &["rule"], table)
 }
 
 /// Returns the policy that a table stands for.

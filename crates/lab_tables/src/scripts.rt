@@ -8,10 +8,11 @@ ghost use Rattle.lab_keys.specs.Spots.{spot_of, member_of};
 ghost use Rattle.lab_keys.specs.Kinds.{each_from, table_flaw};
 ghost use Rattle.lab_keys.specs.Keys.{keys_flaw as keys_flaw_lem, tables_flaw as tables_flaw_lem};
 ghost use Rattle.lab_keys.specs.Values.{items_at as items_at_lem};
-ghost use Rattle.lab_tables.specs.Scripts.{word_at as word_at_lem, is_word, is_settle_word, is_evacuate, evacuates as evacuates_lem, group_from};
-ghost use Rattle.lab_tables.specs.Scripts.{is_crowded as is_crowded_lem, keys_of as keys_of_lem, least_flaw as least_flaw_lem};
+ghost use Rattle.lab_tables.specs.Scripts.{word_at as word_at_lem, is_word, is_settle_word, is_evacuate, evacuates as evacuates_lem};
+ghost use Rattle.lab_tables.specs.Scripts.{group_from, is_crowded as is_crowded_lem, least_flaw as least_flaw_lem};
 ghost use Rattle.lab_tables.specs.Scripts.{worded_flaw as worded_flaw_lem, grouped_flaw as grouped_flaw_lem, step_flaw as step_flaw_lem};
 
+use crate::numbers::{ANY_NUMBER, AS_NUMBER, MOST_OCTETS, MOST_PREFIXES};
 use crate::words::{StepWord, step_word_of};
 use lab_keys::{
     Flaw, Key, Kind, Spot, TableAt, Words, beyond, flaw_if, keys_flaw, number_or, stray_flaw,
@@ -74,64 +75,97 @@ fn is_crowded(before: bool, whole: bool, word: StepWord) -> bool
     }
 }
 
-fn announce_flaw<'a>(at: TableAt, table: &Table) -> Option<Flaw<'a>>
-    ensures { result ≡ keys_flaw_lem at announce_keys (table_view table.now) }
+/// Returns the key of a step's word.
+fn do_key() -> Key
+    ensures { result ∷ [] ≡ do_keys }
 {
-    let as_number = Kind::Number {
-        low: 1,
-        high: u32::MAX,
-    };
+    Key::required("do", Kind::Word(Words::StepKinds))
+}
+
+/// Returns the first flaw of the keys of a step after its word, which is the first key, or of an unknown key.
+fn rows_flaw<'a>(at: TableAt, keys: &[Key], table: &'a Table) -> Option<Flaw<'a>>
+    requires { 0 < length keys.now }
+    ensures { result ≡ option_or (keys_flaw_lem at (drop 1 keys.now) (table_view table.now))
+        (option_or (stray_flaw_lem at (names_of keys.now) (table_view table.now)) None) }
+{
+    if let Some(flaw) = keys_flaw(at, &keys[1..], table) {
+        return Some(flaw);
+    }
+    stray_flaw(at, keys, &[], table)
+}
+
+fn announce_flaw<'a>(i: usize, table: &'a Table) -> Option<Flaw<'a>>
+    ensures { result ≡ worded_flaw_lem words.Announces i (table_view table.now) }
+{
     let keys = [
+        do_key(),
         Key::required("peering", Kind::Name),
-        Key::required_array("prefixes", 1, 200, Kind::Prefix),
-        Key::optional_array("path", 0, 64, as_number),
+        Key::required_array("prefixes", 1, MOST_PREFIXES, Kind::Prefix),
+        Key::optional_array("path", 0, 64, AS_NUMBER),
         Key::optional("origin", Kind::Word(Words::Origins)),
-        Key::optional(
-            "med",
-            Kind::Number {
-                low: 0,
-                high: u32::MAX,
-            },
-        ),
+        Key::optional("med", ANY_NUMBER),
         Key::optional("next_hop", Kind::Host),
     ];
-    keys_flaw(at, &keys, table)
+    rows_flaw(TableAt::Step(i), &keys, table)
 }
 
-fn withdraw_flaw<'a>(at: TableAt, table: &Table) -> Option<Flaw<'a>>
-    ensures { result ≡ keys_flaw_lem at withdraw_keys (table_view table.now) }
+fn withdraw_flaw<'a>(i: usize, table: &'a Table) -> Option<Flaw<'a>>
+    ensures { result ≡ worded_flaw_lem words.Withdraws i (table_view table.now) }
 {
     let keys = [
+        do_key(),
         Key::required("peering", Kind::Name),
-        Key::required_array("prefixes", 1, 200, Kind::Prefix),
+        Key::required_array("prefixes", 1, MOST_PREFIXES, Kind::Prefix),
     ];
-    keys_flaw(at, &keys, table)
+    rows_flaw(TableAt::Step(i), &keys, table)
 }
 
-fn raw_flaw<'a>(at: TableAt, table: &Table) -> Option<Flaw<'a>>
-    ensures { result ≡ keys_flaw_lem at raw_keys (table_view table.now) }
+fn raw_flaw<'a>(i: usize, table: &'a Table) -> Option<Flaw<'a>>
+    ensures { result ≡ worded_flaw_lem words.SaysRaw i (table_view table.now) }
 {
     let keys = [
+        do_key(),
         Key::required("peering", Kind::Name),
-        Key::required("hex", Kind::Hex { low: 1, high: 4096 }),
+        Key::required(
+            "hex",
+            Kind::Hex {
+                low: 1,
+                high: MOST_OCTETS,
+            },
+        ),
     ];
-    keys_flaw(at, &keys, table)
+    rows_flaw(TableAt::Step(i), &keys, table)
 }
 
-fn graft_flaw<'a>(at: TableAt, table: &Table) -> Option<Flaw<'a>>
-    ensures { result ≡ keys_flaw_lem at graft_keys (table_view table.now) }
+fn graft_flaw<'a>(i: usize, table: &'a Table) -> Option<Flaw<'a>>
+    ensures { result ≡ worded_flaw_lem words.Grafts i (table_view table.now) }
 {
     let keys = [
+        do_key(),
         Key::required("peering", Kind::Name),
         Key::required("to", Kind::Name),
     ];
-    keys_flaw(at, &keys, table)
+    rows_flaw(TableAt::Step(i), &keys, table)
 }
 
-fn settle_flaw<'a>(at: TableAt, table: &Table) -> Option<Flaw<'a>>
-    ensures { result ≡ keys_flaw_lem at settle_keys (table_view table.now) }
+/// Returns the flaw of a least number of rounds above the greatest one.
+fn least_flaw<'a>(i: usize, table: &Table) -> Option<Flaw<'a>>
+    ensures { result ≡ least_flaw_lem words.Settles i (table_view table.now) }
 {
-    let keys = [
+    let least = number_or(0, "least", table);
+    let spot = Spot::of(TableAt::Step(i), "least");
+    flaw_if(
+        number_or(least, "rounds", table) < least,
+        Flaw::Limit(spot, least as u64),
+    )
+}
+
+fn settle_flaw<'a>(i: usize, table: &'a Table) -> Option<Flaw<'a>>
+    ensures { result ≡ worded_flaw_lem words.Settles i (table_view table.now) }
+{
+    let at = TableAt::Step(i);
+    let rows = [
+        do_key(),
         Key::optional(
             "rounds",
             Kind::Number {
@@ -141,75 +175,35 @@ fn settle_flaw<'a>(at: TableAt, table: &Table) -> Option<Flaw<'a>>
         ),
         Key::optional("least", Kind::Number { low: 0, high: 1024 }),
     ];
-    keys_flaw(at, &keys, table)
-}
-
-fn evacuate_flaw<'a>(at: TableAt, table: &Table) -> Option<Flaw<'a>>
-    ensures { result ≡ keys_flaw_lem at evacuate_keys (table_view table.now) }
-{
-    keys_flaw(at, &[Key::required("router", Kind::Name)], table)
-}
-
-/// Returns the first flaw of the keys of a step, by its word.
-fn word_keys_flaw<'a>(word: StepWord, at: TableAt, table: &Table) -> Option<Flaw<'a>>
-    ensures { result ≡ keys_flaw_lem at (keys_of_lem word) (table_view table.now) }
-{
-    match word {
-        StepWord::Announces => announce_flaw(at, table),
-        StepWord::Withdraws => withdraw_flaw(at, table),
-        StepWord::SaysRaw => raw_flaw(at, table),
-        StepWord::Grafts => graft_flaw(at, table),
-        StepWord::Settles => settle_flaw(at, table),
-        _ => evacuate_flaw(at, table),
+    let keys = &rows[..];
+    if let Some(flaw) = keys_flaw(at, &keys[1..], table) {
+        return Some(flaw);
     }
-}
-
-/// Returns the flaw of a least number of rounds above the greatest one.
-fn least_flaw<'a>(word: StepWord, i: usize, table: &Table) -> Option<Flaw<'a>>
-    ensures { result ≡ least_flaw_lem word i (table_view table.now) }
-{
-    let StepWord::Settles = word else {
-        return None;
-    };
-    let least = number_or(0, "least", table);
-    let spot = Spot::of(TableAt::Step(i), "least");
-    flaw_if(
-        number_or(least, "rounds", table) < least,
-        Flaw::Limit(spot, least as u64),
-    )
-}
-
-/// Returns the flaw of the first key that is unknown for a step of this word, if there is one.
-fn word_stray<'a>(word: StepWord, at: TableAt, table: &'a Table) -> Option<Flaw<'a>>
-    ensures { result ≡ stray_flaw_lem at (codes "do" ∷ names_of (keys_of_lem word)) (table_view table.now) }
-{
-    match word {
-        StepWord::Announces => {
-            let known = [
-                "do", "peering", "prefixes", "path", "origin", "med", "next_hop",
-            ];
-            stray_flaw(at, &known, table)
-        }
-        StepWord::Withdraws => stray_flaw(at, &["do", "peering", "prefixes"], table),
-        StepWord::SaysRaw => stray_flaw(at, &["do", "peering", "hex"], table),
-        StepWord::Grafts => stray_flaw(at, &["do", "peering", "to"], table),
-        StepWord::Settles => stray_flaw(at, &["do", "rounds", "least"], table),
-        _ => stray_flaw(at, &["do", "router"], table),
+    if let Some(flaw) = least_flaw(i, table) {
+        return Some(flaw);
     }
+    stray_flaw(at, keys, &[], table)
+}
+
+fn evacuate_flaw<'a>(i: usize, table: &'a Table) -> Option<Flaw<'a>>
+    ensures { result ≡ worded_flaw_lem words.Evacuates i (table_view table.now) }
+{
+    let keys = [do_key(), Key::required("router", Kind::Name)];
+    rows_flaw(TableAt::Step(i), &keys, table)
 }
 
 /// Returns the first flaw of a step after its word.
 fn worded_flaw<'a>(word: StepWord, i: usize, table: &'a Table) -> Option<Flaw<'a>>
     ensures { result ≡ worded_flaw_lem word i (table_view table.now) }
 {
-    let at = TableAt::Step(i);
-    if let Some(flaw) = word_keys_flaw(word, at, table) {
-        return Some(flaw);
+    match word {
+        StepWord::Announces => announce_flaw(i, table),
+        StepWord::Withdraws => withdraw_flaw(i, table),
+        StepWord::SaysRaw => raw_flaw(i, table),
+        StepWord::Grafts => graft_flaw(i, table),
+        StepWord::Settles => settle_flaw(i, table),
+        _ => evacuate_flaw(i, table),
     }
-    if let Some(flaw) = least_flaw(word, i, table) {
-        return Some(flaw);
-    }
-    word_stray(word, at, table)
 }
 
 /// Returns the first flaw of the step at index `i`, given whether a step evacuates before it in its group, and anywhere
@@ -218,8 +212,7 @@ fn grouped_flaw<'a>(before: bool, whole: bool, i: usize, table: &'a Table) -> Op
     ensures { result ≡ grouped_flaw_lem before whole i (table_view table.now) }
 {
     let at = TableAt::Step(i);
-    let keys = [Key::required("do", Kind::Word(Words::StepKinds))];
-    if let Some(flaw) = keys_flaw(at, &keys, table) {
+    if let Some(flaw) = keys_flaw(at, &[do_key()], table) {
         return Some(flaw);
     }
     let word = word_at(table);
@@ -291,6 +284,8 @@ pub(crate) fn steps_flaw<'a>(doc: &'a Table) -> Option<Flaw<'a>>
     items_flaw(steps)
 }
 
-ghost use Rattle.std.specs.Prelude.{◌∷◌, ◌||◌, false, not, if◌then◌else◌};
+ghost use Rattle.std.specs.Prelude.{◌<◌, ◌∷◌, ◌||◌, [], None, drop, length, false, not, if◌then◌else◌};
+ghost use Rattle.std.specs.Option.{option_or};
 ghost use Rattle.lab_keys.specs.Keys.{stray_flaw as stray_flaw_lem, names_of};
-ghost use Rattle.lab_tables.specs.Scripts.{announce_keys, withdraw_keys, raw_keys, graft_keys, settle_keys, evacuate_keys};
+ghost use Rattle.lab_tables.specs.declared.words.StepWord.TheVariants as words;
+ghost use Rattle.lab_tables.specs.Scripts.{do_keys};

@@ -7,6 +7,7 @@ ghost use Rattle.lab_keys.specs.Keys.{keys_flaw as keys_flaw_lem, stray_flaw as 
 ghost use Rattle.lab_tables.specs.Documents.{home_keys, trace_keys, top_names, shaped as shaped_lem};
 
 use crate::costs::{CostTables, FaultTables};
+use crate::numbers::AS_NUMBER;
 use crate::peerings::PeeringTables;
 use crate::routers::RouterTables;
 use crate::scripts::steps_flaw;
@@ -25,32 +26,30 @@ fn at_top(high: usize) -> ArrayAt
     }
 }
 
+/// Returns the key of the addresses to which packets are followed.
+fn trace_key() -> Key
+    ensures { result ∷ [] ≡ trace_keys }
+{
+    Key::optional_array("trace", 0, 64, Kind::Address)
+}
+
 /// Returns the first flaw of what comes before the routers: the home AS number, and unknown keys.
 fn head_flaw<'a>(doc: &'a Table) -> Option<Flaw<'a>>
     ensures { result ≡ option_or (keys_flaw_lem Top home_keys (table_view doc.now)) (stray_flaw_lem Top top_names (table_view doc.now)) }
 {
-    let home = [Key::required(
-        "home_as",
-        Kind::Number {
-            low: 1,
-            high: u32::MAX,
-        },
-    )];
-    if let Some(flaw) = keys_flaw(TableAt::Top, &home, doc) {
+    let keys = [Key::required("home_as", AS_NUMBER), trace_key()];
+    if let Some(flaw) = keys_flaw(TableAt::Top, &keys[..1], doc) {
         return Some(flaw);
     }
-    let known = [
-        "home_as", "router", "cost", "peering", "fault", "step", "trace",
-    ];
-    stray_flaw(TableAt::Top, &known, doc)
+    let arrays = ["router", "cost", "peering", "fault", "step"];
+    stray_flaw(TableAt::Top, &keys, &arrays, doc)
 }
 
 /// Returns the flaw of the addresses to which packets are followed.
 fn trace_flaw<'a>(doc: &Table) -> Option<Flaw<'a>>
     ensures { result ≡ keys_flaw_lem Top trace_keys (table_view doc.now) }
 {
-    let keys = [Key::optional_array("trace", 0, 64, Kind::Address)];
-    keys_flaw(TableAt::Top, &keys, doc)
+    keys_flaw(TableAt::Top, &[trace_key()], doc)
 }
 
 /// Returns the first flaw of what comes after the peerings.
@@ -104,7 +103,7 @@ pub fn shaped<'a>(doc: &'a Table) -> Option<Flaw<'a>>
     further_flaw(doc)
 }
 
-ghost use Rattle.std.specs.Prelude.{None, codes};
+ghost use Rattle.std.specs.Prelude.{◌∷◌, [], None, codes};
 ghost use Rattle.std.specs.Option.{option_or};
 ghost use Rattle.lab_keys.specs.Keys.{tables_flaw as tables_flaw_lem};
 ghost use Rattle.lab_keys.specs.Values.{items_at};

@@ -73,7 +73,7 @@ module _ (setup : Setup) (w v : World) (p : ℕ) (peering : PeeringSetup) (one :
       one.reads other.reads
 
   same_heard : other.session.adj_rib_in ≡ one.session.adj_rib_in
-  same_heard = other.adj_rib_in ∙ alike_there.adj_rib_in ∙ sym one.adj_rib_in
+  same_heard = other.adj_rib_in ∙ alike_there.heard ∙ sym one.adj_rib_in
 
   same_config : other.session.config ≡ one.session.config
   same_config = other.config ∙ sym one.config

@@ -256,7 +256,7 @@ module _ (setup : Setup) (sound : StepsAreSound setup)
           let start : start_of setup p ≡ found.0.start = ap (λ o. unwrap_or (option_map (λ (peering : PeeringSetup). peering.start) o) 0) found.1 in
           record {
             place = ap (λ (x : Seat). x.place.0) same ∙ sym start ∙ sym (placed_first setup p (with_slots setup first_slots_of) no_outcome);
-            there = subst (λ (x : Seat). x.index.0 < routers_in setup) (sym same) (starts p found.0 found.1);
+            there = subst (λ (x : Seat). x.place.0 < routers_in setup) (sym same) (starts p found.0 found.1);
             still = (λ still i entry f of_p. ap is_open (waits i entry f).1, λ none. ap (λ (x : Seat). x.moving) same);
           }
 

@@ -18,7 +18,7 @@ use crate::ranks::{Choices, best_from};
 use crate::sources::Sources;
 use bgp_types::{Attrs, From, Items, NoMemory, Origin, Prefix, PrefixList, Rank, Route, Table};
 use prefix_trie::TrieTable;
-use route_policy::{Best, Entry, OutView, own_rank, router_rank, session_rank};
+use route_policy::{Best, Entry, OutView, PREFERENCE, own_rank, router_rank, session_rank};
 use std::alloc::Global;
 use std::marker::Model;
 
@@ -81,7 +81,7 @@ fn own_route(alloc: Global) -> Route
             aggregator: None,
             unknown: Items::new(alloc),
         },
-        pref: 100,
+        pref: PREFERENCE,
     }
 }
 

@@ -16,6 +16,6 @@ pub use entry::Entry;
 pub use laws::{told_paths_avoid_the_remote_as, worked_candidates, worked_telling};
 pub use path::prepend;
 pub use policy::Policy;
-pub use rank::{own_rank, router_rank, session_rank};
+pub use rank::{PREFERENCE, own_rank, router_rank, session_rank};
 pub use rule::{PrefixRange, Rule, Rules};
 pub use tell::{OutView, is_kept_back, tell_in, tell_out};

@@ -3,17 +3,13 @@
 ghost use Rattle.std.specs.Prelude.{◌≡◌, IfOk};
 ghost use Rattle.route_policy.specs.Paths.{has_room_for_as, with_as, prepend as prepend_lem, prepend_times as prepend_times_lem};
 
-use bgp_types::{AsPath, Items, NoMemory, PathPart};
-
-/// The most ASes of a part of a path.
-const PART_LIMIT: usize = 255;
-
+use bgp_types::{AsPath, Items, MOST_ASES, NoMemory, PathPart};
 /// Whether a path begins with a sequence to which an AS can be added.
 fn has_room(parts: &[PathPart]) -> bool
     ensures { result ≡ has_room_for_as parts.now }
 {
     match parts {
-        [PathPart::Sequence(ases), ..] => ases.len() < PART_LIMIT,
+        [PathPart::Sequence(ases), ..] => ases.len() < MOST_ASES,
         _ => false,
     }
 }

@@ -7,7 +7,7 @@ ghost use Rattle.route_policy.specs.Candidates.{own_rank as own_rank_lem, rank_o
 use bgp_types::{Origin, Rank, Route, neighbour, path_len};
 
 /// The preference of a route if no policy sets one.
-const PREFERENCE: u32 = 100;
+pub const PREFERENCE: u32 = 100;
 
 /// Returns the number of an ORIGIN. The lowest is the best.
 fn origin_number(origin: Origin) -> u8

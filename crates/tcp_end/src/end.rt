@@ -23,6 +23,9 @@ const FLIGHT: u32 = 15_360;
 /// The most bytes of a segment.
 const PAYLOAD: u32 = 1_024;
 
+/// The most bytes that a segment may have when it arrives.
+pub const MOST_BYTES: usize = 65_535;
+
 /// The most bytes of the stream that is sent.
 const STREAM: usize = 1_048_576;
 
@@ -157,8 +160,8 @@ impl End {
         Ok(self.waiting.extend(bytes)?)
     }
 
-    /// Removes the last `n` bytes of the stream, none of which was emitted, as if they had never been
-    /// sent.
+    /// Removes the last `n` bytes of the stream, none of which was emitted, as if `send` hadn't been called
+    /// with them.
     pub fn take_back(&mut self, n: usize)
         requires { n ≤ unsent self.old }
         ensures { self.new ≡ record self.old { waiting = take (length self.old.waiting - n) self.old.waiting } }

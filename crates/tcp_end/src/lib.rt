@@ -9,6 +9,6 @@ mod end;
 mod laws;
 
 pub use arrival::{Arrival, SendStop};
-pub use end::End;
+pub use end::{End, MOST_BYTES};
 pub use laws::{an_endpoint_is_its_state, calls_are_steps, received_are_first_bytes};
 pub use tcp_seq::{EndState, Piece, Pieces};

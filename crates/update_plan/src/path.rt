@@ -4,11 +4,7 @@ ghost use Rattle.std.specs.Prelude.{◌≡◌, ◌↔◌, IsTrue};
 ghost use Rattle.route_policy.specs.Paths.{prepend};
 ghost use Rattle.update_plan.specs.Passing.{first_ases, parts_behind};
 
-use bgp_types::PathPart;
-
-/// The most ASes in a part of a path.
-const PART_LIMIT: usize = 255;
-
+use bgp_types::{MOST_ASES, PathPart};
 /// Returns the ASes of a leading sequence that has room for one more, and the parts behind it. If there
 /// is no such sequence, it returns no AS and the whole path.
 pub(crate) fn split(path: &[PathPart]) -> (&[u32], &[PathPart])
@@ -16,7 +12,7 @@ pub(crate) fn split(path: &[PathPart]) -> (&[u32], &[PathPart])
     ensures parts { result.1.now ≡ parts_behind path.now }
 {
     match path {
-        [PathPart::Sequence(ases), parts @ ..] if ases.len() < PART_LIMIT => {
+        [PathPart::Sequence(ases), parts @ ..] if ases.len() < MOST_ASES => {
             (ases.as_slice(), parts)
         }
         _ => (&[], path),

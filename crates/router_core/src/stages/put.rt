@@ -19,7 +19,7 @@ use crate::due::DueSets;
 use crate::fields::Fields;
 use crate::place::Place;
 use crate::takes::named::policy_of;
-use bgp_session::{Capsule, OfferStop, Session};
+use bgp_session::{Capsule, MOST_PUT, OfferStop, Session};
 use bgp_types::{Prefix, SessionState, TryCopy, Update};
 use graft_actors::note_router;
 use graft_edge::{NoMemory, PeeringId};
@@ -29,10 +29,6 @@ use rib_stages::OutView;
 use ring_net::Post;
 use session_places::Places;
 use update_plan::{Batch, plan};
-
-/// The limit of the bytes put on an established session, so that a NOTIFICATION has room after them.
-const MOST_PUT: usize = 1_044_480;
-
 /// The length of a KEEPALIVE in bytes (RFC 4271, section 4.4).
 const KEEPALIVE_LEN: usize = 19;
 

@@ -11,11 +11,7 @@ use crate::takes::named::policy_of;
 use bgp_session::Session;
 use bgp_types::{Attrs, From, NoMemory, Prefix, Route, TryCopy, holds_as};
 use rib_stages::{InEntry, Rib};
-use route_policy::Policy;
-
-/// The preference of a route if no policy sets one.
-const PREFERENCE: u32 = 100;
-
+use route_policy::{PREFERENCE, Policy};
 /// Returns the route that an import policy makes of attributes that were heard. If the path has the home AS it would be
 /// a loop, so there is no route (RFC 4271, sections 9.1.1 and 9.1.2).
 fn import(

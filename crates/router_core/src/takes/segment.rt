@@ -17,11 +17,8 @@ use graft_edge::{NoMemory, PeeringId};
 use graft_model::RouterEvent;
 use graft_steps::Item;
 use ring_net::Post;
+use tcp_end::MOST_BYTES;
 use tcp_seq::{Segment, Way};
-
-/// The most bytes that a segment has.
-const MOST_BYTES: usize = 65_535;
-
 /// Returns whether a segment is of this peering and goes home, with sequence numbers within its streams.
 fn is_of(router: &Fields, peering: PeeringId, segment: &Segment) -> bool
     requires keeps { RouterInvariant router.now }

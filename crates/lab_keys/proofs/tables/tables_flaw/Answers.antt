@@ -4,7 +4,7 @@ use Rattle.toml.specs.Data.{Data}
 use Rattle.toml.specs.View.{view}
 use Rattle.lab_keys.specs.declared.flaw.Flaw.{Flaw}
 use Rattle.lab_keys.specs.Spots.{KeySpot, spot_of, member_of}
-use Rattle.lab_keys.specs.Kinds.{bounded_array_flaw, beyond, each_from, array_flaw, table_flaw}
+use Rattle.lab_keys.specs.Kinds.{beyond, each_from, array_flaw, table_flaw}
 use Rattle.lab_keys.specs.Keys.{present}
 use Rattle.lab_keys.proofs.Walks.{array_seen, counted_stops, counted_goes_on}
 use Rattle.lab_keys.proofs.tables.tables_flaw.Goals as goal

@@ -1,4 +1,4 @@
-use Rattle.std.proofs.Common.{◌≡◌, ℕ, [], take}
+use Rattle.std.proofs.Common.{◌≡◌, [], take}
 use Rattle.std.specs.HashSet.{contains}
 use Rattle.std.specs.List.{list_any}
 use Rattle.bgp_types.specs.Prefixes.{PrefixValue, same_prefix, once_after}

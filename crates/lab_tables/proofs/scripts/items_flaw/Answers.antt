@@ -1,10 +1,9 @@
-use Rattle.std.proofs.Common.{◌≡◌, ◌+◌, ◌-◌, ◌<◌, ◌∙◌, ◌||◌, Bool, true, false, cond, List, ℕ, length, map, take, drop, refl, sym, ap, arith}
-use Rattle.std.specs.Prelude.{Option, None, codes}
+use Rattle.std.proofs.Common.{◌≡◌, ◌+◌, ◌-◌, ◌<◌, ◌∙◌, Bool, cond, List, length, map, take, drop, refl, sym, ap, arith}
+use Rattle.std.specs.Prelude.{None, codes}
 use Rattle.std.specs.List.{list_any, before_first}
 use Rattle.std.proofs.lemmas.List.{length-map}
 use Rattle.toml.specs.Data.{Data}
 use Rattle.toml.specs.View.{view}
-use Rattle.lab_keys.specs.declared.flaw.Flaw.{Flaw}
 use Rattle.lab_keys.specs.declared.table_at.TableAt.TheVariants.{Top}
 use Rattle.lab_keys.specs.Spots.{KeySpot, spot_of, member_of}
 use Rattle.lab_keys.specs.Kinds.{each_from, table_flaw}

@@ -1,7 +1,7 @@
 use Rattle.std.proofs.Common.{Option, subst}
 use Rattle.lab_report.specs.declared.lab.RunEnd.{RunEnd}
 use Rattle.lab_run.specs.Ends.{LimitNames}
-use Rattle.lab_run.proofs.end.mark_names.Goals as goal
+use Rattle.lab_run.proofs.end.decide_at_mark.Goals as goal
 
 pub returns-in-Some : goal.returns-in-Some
 returns-in-Some c = λ setup w d sound has at step_is rounds_is total.
