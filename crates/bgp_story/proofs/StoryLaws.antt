@@ -82,6 +82,14 @@ stepped : (before step lines : List Line) (state next : SessionState) → lines 
     → fold after state step ≡ next → state_of lines ≡ next
 stepped before step lines state next e f g = ap state_of e ∙ (fold-append after OpenSent before step ∙ (ap (λ (x : SessionState). fold after x step) f ∙ g))
 
+-- what is got, and its answer, lead from the state of any story to the state of the reply
+pub state_got : (p : Peering) (before : List Line) (bytes : List ℕ) (answer : List Line) (next : SessionState) → IsGot bytes
+    → reply_to (message_of (expected_next p before (state_of before)) bytes) ≡ (answer, next) → state_of (before ++ Got bytes ∷ answer) ≡ next
+state_got p before bytes answer next w r =
+    stepped before (Got bytes ∷ answer) (before ++ Got bytes ∷ answer) (state_of before) next refl refl
+    (replied (state_of before) (Got bytes) _ answer next r
+    (got_step (expected_next p before (state_of before)) bytes w (message_of (expected_next p before (state_of before)) bytes) refl))
+
 pub state_is : (p : Peering) (lines : List Line) (state : SessionState) → Allowed p lines state → state_of lines ≡ state
 state_is p _ _ (opened lines h e) = ap state_of e
 state_is p _ _ (got before state bytes answer next lines l o w r e) =

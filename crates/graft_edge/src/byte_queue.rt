@@ -12,8 +12,6 @@ use std::marker::Model;
 /// long as the rest, the rest moves to the front. So over all calls at most one byte moves for each
 /// byte that is dropped, and the slice is at most twice as long as the queue was at its longest. Its
 /// memory is kept until the queue is dropped.
-/// dropped, and the slice is at most twice as long as the queue was at its longest. Its memory is kept
-/// until the queue is dropped.
 #[derive(Debug, Drop)]
 pub struct ByteQueue {
     bytes: Vec<u8>,

@@ -13,7 +13,6 @@ use Rattle.bgp_session.specs.declared.answers.ReadStep.{ReadStep}
 use Rattle.session_value.specs.declared.config.SessionConfig.{SessionConfig}
 use Rattle.session_value.specs.Sessions.{SessionValue, unread}
 use Rattle.session_value.specs.Sets.{Entries, Prefixes}
-use Rattle.session_value.specs.Ties.{IsTied}
 use Rattle.rib_stages.specs.Values.{RibValue, rib_of, table_at}
 use Rattle.graft_model.specs.Decisions.{entry_of}
 use Rattle.graft_model.specs.Parts.{RouterPart}
@@ -37,7 +36,7 @@ use Rattle.router_core.proofs.PlaceLists.{listed, rooms, same_there}
 use Rattle.router_core.proofs.ReadSteps.{entry_is, follows_heard, due_then, due_up, less_unread}
 
 module _ (f g : Fields) (p : ℕ) (a b : Post (Item RunningSession)) (s u : RunningSession) (o : Option Errand) (step : ReadStep)
-    (keeps : KeepsBut p f) (live : RunsAt f.places.places p s o) (tied : IsTied s.session) (reads : ReadsFrame step s u)
+    (keeps : KeepsBut p f) (live : RunsAt f.places.places p s o) (reads : ReadsFrame step s u)
     (there : p < length f.places.places) (items : g.places ≡ with_place f.places p (Some (Live u o)))
     (wrote : WritesEvent a (Got p) [] b) (follows : FollowsStep (record f { places = g.places }) p u step g) where
   same : g ≡ record f { places = g.places; rib = g.rib; due_out = g.due_out }
@@ -62,11 +61,11 @@ module _ (f g : Fields) (p : ℕ) (a b : Post (Item RunningSession)) (s u : Runn
     next = u.session;
     gets = reads.gets;
     follows = record {
-      entries = follows_heard s.session u.session reads.bytes tied reads.gets (entry_of f.known.setup f.number.0 u.session)
+      entries = follows_heard s.session u.session reads.bytes reads.gets (entry_of f.known.setup f.number.0 u.session)
           ((rib_of f.rib).entries p) ((rib_of g.rib).entries p) step reads.tells
           (λ x e. follows.entered.each x e ∙ entry_is f u.session x keeps.rest) follows.entered.others;
       dirty = follows.entered.dirty;
-      due = due_then s.session u.session reads.bytes tied reads.gets f.rib.best (table_at f.due_out p) (table_at g.due_out p) step reads.tells follows.due;
+      due = due_then s.session u.session reads.bytes reads.gets f.rib.best (table_at f.due_out p) (table_at g.due_out p) step reads.tells follows.due;
       effect = ap router_part same
           ∙ (λ i. let v : RouterPart = record (with_routes (router_part f) (follows.entered.effect i)) {
             places =
@@ -111,7 +110,7 @@ module _ (f g : Fields) (p : ℕ) (a b : Post (Item RunningSession)) (s u : Runn
         receives = ap (λ (c : SessionConfig). c.receive_first.0) config_is ∙ own.receives;
       };
       for_graft = subst (λ (w : Option Errand). Rattle.router_core.specs.Parts.IsErrandOf f.known.setup f.number.0 p w) is_here.1 keeps.here.for_graft;
-      due = due_up s.session u.session reads.bytes tied reads.gets f.rib.best (table_at f.due_out p) (table_at g.due_out p) step reads.tells follows.due
+      due = due_up s.session u.session reads.bytes reads.gets f.rib.best (table_at f.due_out p) (table_at g.due_out p) step reads.tells follows.due
           (subst (λ (v : RunningSession). Rattle.router_core.specs.Parts.IsDueWhileUp v.session (table_at f.due_out p)) is_here.0 keeps.here.due);
     });
     others = λ n not. subst
@@ -140,7 +139,7 @@ module _ (f g : Fields) (p : ℕ) (a b : Post (Item RunningSession)) (s u : Runn
           (subst (λ (k : RunningSession). Stays s k) (let e : Some (Live u o) ≡ Some (Live w m) = sym here ∙ y.is in let z : u ≡ w = cc in z) stays_one);
     };
     less = subst (λ (x : Option Place). unread_at x < unread_at (place_at f.places.places p)) (sym here)
-        (subst (λ (x : Option Place). length (unread u.session) < unread_at x) (sym live.is) (less_unread s.session u.session reads.bytes tied reads.gets));
+        (subst (λ (x : Option Place). length (unread u.session) < unread_at x) (sym live.is) (less_unread s.session u.session reads.bytes reads.gets));
     keeps = kept;
   }
 

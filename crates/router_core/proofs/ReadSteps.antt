@@ -20,14 +20,13 @@ use Rattle.bgp_types.proofs.OnceLaws.{is_same}
 use Rattle.bgp_story.specs.Legal.{expected_next}
 use Rattle.bgp_story.specs.Readings.{Routes, apply_if, unless_closed, update_in}
 use Rattle.bgp_story.proofs.HeaderKinds.{read_of, got_long}
+use Rattle.bgp_story.proofs.StoryLaws.{state_got}
 use Rattle.route_policy.specs.Candidates.{imported}
 use Rattle.route_policy.specs.declared.entry.Entry.{Entry}
 use Rattle.route_policy.specs.declared.rule.Rule.{Rule}
 use Rattle.session_value.specs.Cases.{GetsFrame}
 use Rattle.session_value.specs.Sessions.{SessionValue, peering_of, state, unread}
 use Rattle.session_value.specs.Sets.{BestRoutes, Entries, Prefixes, has}
-use Rattle.session_value.specs.Ties.{IsTied}
-use Rattle.session_value.proofs.Gets.{state_next}
 use Rattle.session_value.proofs.Replies.{while_unclosed}
 use Rattle.tcp_seq.specs.Endpoint.{received_bytes}
 use Rattle.graft_model.specs.Decisions.{entry_of, remote_identifier}
@@ -108,9 +107,9 @@ only_update states.OpenConfirm e = absurd cc
 only_update states.Established e = refl
 only_update states.Closed e = absurd cc
 
-module _ (s u : SessionValue) (bytes : List ℕ) (tied_to : IsTied s) (gets : GetsFrame s bytes u) where
+module _ (s u : SessionValue) (bytes : List ℕ) (gets : GetsFrame s bytes u) where
   next_is : state u ≡ gets.next
-  next_is = ap state gets.effect ∙ state_next (peering_of s.config) s.story bytes gets.answer gets.next gets.unclosed gets.got gets.reply tied_to.allowed
+  next_is = ap state gets.effect ∙ state_got (peering_of s.config) s.story bytes gets.answer gets.next gets.got gets.reply
 
   heard_is : u.adj_rib_in ≡ unless_closed gets.next
       (apply_if s.adj_rib_in (update_in (message_of (expected_next (peering_of s.config) s.story (state s)) bytes)))

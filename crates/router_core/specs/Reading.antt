@@ -12,7 +12,6 @@ use Rattle.tcp_seq.specs.declared.segment.Way.TheVariants.{Home}
 use Rattle.session_value.specs.declared.config.SessionConfig.{SessionConfig}
 use Rattle.session_value.specs.Sessions.{unread}
 use Rattle.session_value.specs.Sets.{BestRoutes, Prefixes, has}
-use Rattle.session_value.specs.Ties.{IsTied}
 use Rattle.rib_stages.specs.Values.{rib_of, table_at}
 use Rattle.bgp_session.specs.Fronts.{CantRead}
 use Rattle.bgp_session.specs.Running.{RunningSession}
@@ -73,11 +72,11 @@ ArrivesAt live (Some (Live s errand)) g new = (live ≡ true) × (arrival : Arri
 ArrivesAt live (Some (Shadow away)) g new = (live ≡ false) × (new ≡ Some (Shadow away))
 
 -- The live session reads, if it can.
-abbrev pub ReadsTied : RunningSession → Option ReadStep → RunningSession → Type 0
-ReadsTied s step u = IsTied s.session × ReadsFrameIfAny step s u
+abbrev pub SessionReads : RunningSession → Option ReadStep → RunningSession → Type 0
+SessionReads s step u = ReadsFrameIfAny step s u
 
 abbrev pub ReadsAt : Option ReadStep → Option Place → Option Place → Type 0
-ReadsAt step old new = AtPlace ReadsTied old step new
+ReadsAt step old new = AtPlace SessionReads old step new
 
 -- ---- after a message
 

@@ -175,10 +175,7 @@ pub(crate) fn read(places: &mut Places<Place>, n: usize) -> Result<Option<ReadSt
     ensures { IfOk result (λ step. AtOne (ReadsAt step) places.old n places.new) }
 {
     match live_mut(places, n) {
-        Some(session) => {
-            let _story = session.story();
-            session.read()
-        }
+        Some(session) => session.read(),
         None => Ok(None),
     }
 }
