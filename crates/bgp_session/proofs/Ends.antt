@@ -1,6 +1,6 @@
 -- What endpoint an end stands for after bytes were sent and read.
-use Rattle.std.proofs.Common.{◌≡◌, ℕ, ◌+◌, ◌-◌, ◌^◌, ◌≤◌, List, ◌++◌, length, length-append, take, drop, refl, sym, ap, ◌∙◌, subst, append_assoc, arith}
-use Rattle.std.proofs.Math.Seq.{drop-append_seam, take-append_seam}
+use Rattle.std.proofs.Common.{◌≡◌, ℕ, ◌+◌, ◌-◌, ◌^◌, ◌≤◌, List, ◌++◌, length, length-append, drop, refl, sym, ap, ◌∙◌, subst, append_assoc, arith}
+use Rattle.std.proofs.Math.Seq.{drop-append_seam}
 use Rattle.tcp_seq.specs.Numbers.{plus}
 use Rattle.tcp_seq.specs.Endpoint.{Bytes, ReadsBytes, SendsBytes}
 use Rattle.tcp_seq.specs.declared.state.EndState.{EndState}

@@ -1,6 +1,6 @@
 -- What is got leaves a session that is tied, by the case of a frame.
 use Rattle.std.proofs.Common.{◌≡◌, ℕ, ◌+◌, ◌^◌, ◌≤◌, Bool, false, List, [], ◌∷◌, ◌++◌, length, Option, Some, None, Result}
-use Rattle.std.proofs.Common.{Ok, Err, refl, sym, ap, ◌∙◌, subst, append-nil, length-append, lit≤, arith}
+use Rattle.std.proofs.Common.{Ok, Err, refl, sym, ap, ◌∙◌, subst, append-nil, lit≤, arith}
 use Rattle.std.specs.Prelude.{IfSome, fold}
 use Rattle.std.specs.Option.{option_map}
 use Rattle.std.specs.List.{flat_map}
@@ -16,7 +16,6 @@ use Rattle.bgp_types.specs.Spelling.{spell}
 use Rattle.bgp_types.specs.Writable.{IsWritable}
 use Rattle.bgp_types.proofs.NoticeLaws.{fault_writable}
 use Rattle.tcp_seq.specs.Endpoint.{Endpoint}
-use Rattle.tcp_seq.specs.declared.state.EndState.{EndState}
 use Rattle.tcp_end.specs.State.{stream_length}
 use Rattle.tcp_end.specs.Standing.{EndStands}
 use Rattle.tcp_end.specs.Whole.{endpoint_of}

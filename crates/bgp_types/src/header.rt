@@ -10,6 +10,11 @@ use byteorder::{BigEndian, ByteOrder};
 /// The length of a header in octets: a marker of 16, a length of two, and a type of one.
 pub const HEADER: usize = 19;
 
+/// A whole KEEPALIVE, which is a header alone (RFC 4271, section 4.4).
+pub const KEEPALIVE_MESSAGE: [u8; 19] = [
+    255, 255, 255, 255, 255, 255, 255, 255, 255, 255, 255, 255, 255, 255, 255, 255, 0, 19, 4,
+];
+
 /// Returns the length field of a header: the octets of the whole message.
 pub fn header_len(octets: &[u8]) -> u16
     requires { 19 ≤ length octets.now }

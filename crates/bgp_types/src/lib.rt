@@ -21,7 +21,7 @@ pub use as_number::{AS_TRANS, as_size, has_long_as, is_long_as, narrow_as};
 pub use attrs::{Aggregator, Attrs, Origin, RawAttr, RawAttrs, Route};
 pub use fault::{Expected, FoundAttrs, HeaderFault};
 pub use graft_edge::{Items, Name, NoMemory, Octets, PeeringId, RouterId, TryCopy};
-pub use header::{HEADER, header_fault, header_len};
+pub use header::{HEADER, KEEPALIVE_MESSAGE, header_fault, header_len};
 pub use laws::{
     each_prefix_once, equal_is_same, fault_is_writable, printed_address_reads,
     printed_prefix_reads, reads_exactly, reads_once, written_reads,

@@ -14,7 +14,7 @@ use Rattle.bgp_types.specs.declared.message.Update.{Update}
 use Rattle.bgp_types.specs.Header.{frame_at, header_fault, len_in, kind_in, has_room, fault_of_kind}
 use Rattle.bgp_types.specs.Prefixes.{PrefixValue}
 use Rattle.bgp_types.specs.Spelling.{cap_octets, param_octets, spell_some_attrs, spell_update, spell_body, kind_of, spell}
-use Rattle.bgp_types.specs.Writable.{HasAttrsFor, IsWritable, IsWritableBody}
+use Rattle.bgp_types.specs.Writable.{HasAttrsFor, IsWritableBody}
 use Rattle.bgp_types.proofs.FrameLaws.{frame_is}
 use Rattle.bgp_types.proofs.Lengths.{framed_size, update_fields_size}
 use Rattle.bgp_types.proofs.MessageLaws.{room_is}

@@ -1,9 +1,9 @@
 -- The search for the least loaded router, and the turns in which peerings are given.
-use Rattle.std.proofs.Common.{◌≡◌, ◌≢◌, ℕ, suc, ◌+◌, ◌<◌, ◌≤◌, inl, inr, List, [], ◌∷◌, ◌++◌, length, get_or, set, Option, Some, None}
+use Rattle.std.proofs.Common.{◌≡◌, ◌≢◌, ℕ, suc, ◌+◌, ◌<◌, inl, inr, List, [], ◌∷◌, ◌++◌, length, get_or, set, Option, Some, None}
 use Rattle.std.proofs.Common.{MatchOption, refl, sym, ap, ◌∙◌, subst, append_assoc, add-zero, zero-add, arith}
 use Rattle.std.specs.Prelude.{slice_index}
 use Rattle.std.proofs.lemmas.List.{append-nil, get_or_read}
-use Rattle.std.proofs.lemmas.Bool.{cases_eq, cases_lt}
+use Rattle.std.proofs.lemmas.Bool.{cases_lt}
 use Rattle.graft_edge.specs.declared.ids.RouterId.{RouterId}
 use Rattle.evacuation.specs.Plans.{TargetList, IsLessLoaded, IsFree, IsLeastLoaded, IsFull, Plan, Done, Given, NotGiven, one_more_load}
 use Rattle.evacuation.proofs.Loads.{length-one_more}

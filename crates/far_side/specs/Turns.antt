@@ -13,7 +13,7 @@ use Rattle.graft_model.specs.Codes.{far_code}
 use Rattle.graft_model.specs.declared.event.FarEvent.{FarEvent}
 use Rattle.graft_model.specs.declared.event.FarEvent.TheVariants.{Send}
 use Rattle.graft_model.specs.Steps.{far_row}
-use Rattle.graft_actors.specs.Makes.{HasCode, AreDeeds}
+use Rattle.graft_actors.specs.Makes.{AreDeeds}
 use Rattle.graft_actors.specs.Acts.{acts}
 use Rattle.graft_actors.specs.Emissions.{IsOld, IsNewSlice, IsCareful, Tally, tallied}
 use Rattle.far_side.specs.Parts.{far_part, own_part}

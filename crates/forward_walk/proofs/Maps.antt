@@ -1,15 +1,14 @@
 -- The map of a list of entries, which are set from the last to the first, and the table of a router beyond the last.
-use Rattle.std.proofs.Common.{ℕ, ◌≡◌, ◌≤◌, List, [], ◌∷◌, ◌++◌, length, reverse, None, ap, ◌∙◌, subst}
+use Rattle.std.proofs.Common.{ℕ, ◌≡◌, ◌≤◌, List, length, None, ap, ◌∙◌, subst}
 use Rattle.std.specs.Prelude.{IsSome}
-use Rattle.std.specs.FinMap.{empty, get, get-empty, insert}
-use Rattle.std.proofs.lemmas.List.{reverse-append, length-map, get_or_past}
+use Rattle.std.specs.FinMap.{empty, get, get-empty}
+use Rattle.std.proofs.lemmas.List.{length-map, get_or_past}
 use Rattle.bgp_types.specs.Prefixes.{PrefixValue}
 use Rattle.bgp_types.specs.Tables.{prefix_cmp}
 use Rattle.bgp_types.specs.declared.rank.From.{From}
 use Rattle.graft_edge.specs.declared.ids.RouterId.{RouterId}
 use Rattle.prefix_trie.specs.Table.{TableValue}
-use Rattle.forward_walk.specs.declared.entry.ForwardEntry.{ForwardEntry}
-use Rattle.forward_walk.specs.Tables.{map_of, forward_map_of, tables_in}
+use Rattle.forward_walk.specs.Tables.{forward_map_of, tables_in}
 use Rattle.forward_walk.specs.Walks.{HasNoEntryFor}
 
 -- a router beyond the last table has no entry

@@ -18,7 +18,7 @@ use Rattle.bgp_story.specs.Readings.{Routes, IsLegal, told, apply, unless_closed
 use Rattle.bgp_story.proofs.Updates.{PutUpdate, told_announced, told_withdrawn, told_others}
 use Rattle.session_value.specs.declared.config.SessionConfig.{SessionConfig}
 use Rattle.session_value.specs.Cases.{GetsFrame, PassesRound, Changes}
-use Rattle.session_value.specs.Sessions.{SessionValue, peering_of, state, hold_time}
+use Rattle.session_value.specs.Sessions.{SessionValue, peering_of, state}
 use Rattle.session_value.specs.Sets.{BestRoutes, Prefixes, has}
 use Rattle.session_value.specs.Ties.{IsOfStory}
 use Rattle.session_value.proofs.Gets as gets

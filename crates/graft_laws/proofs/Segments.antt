@@ -8,7 +8,7 @@ use Rattle.tcp_seq.specs.Endpoint.{Endpoint, PlacedSegment}
 use Rattle.tcp_seq.specs.Connection.{IsEmittedBy}
 use Rattle.graft_model.specs.Parts.{Outward, Seg, PointAt}
 use Rattle.graft_model.specs.FarRows.{without, left_by}
-use Rattle.graft_laws.specs.Phases.{only_at, only2}
+use Rattle.graft_laws.specs.Phases.{only_at}
 use Rattle.graft_laws.specs.Streams.{IsOutwardOf}
 use Rattle.graft_laws.proofs.Lists.{all_front, all_back, all_join}
 

@@ -13,7 +13,7 @@ use Rattle.bgp_story.specs.Readings.{IsLegal, put_bytes, got_bytes, heard, told}
 use Rattle.bgp_story.specs.WorkedSessions.{ten, open_bytes, keepalive_bytes, update_bytes, sent_lines, heard_lines, attrs_over, heard_attrs}
 use Rattle.bgp_story.proofs.Shapes.{allowed_of, opens_once_is}
 use Rattle.bgp_story.proofs.WorkedStories.{heard_routes}
-use Rattle.tcp_seq.specs.Endpoint.{Endpoint, received_bytes, run_from}
+use Rattle.tcp_seq.specs.Endpoint.{received_bytes, run_from}
 use Rattle.session_value.specs.Sessions.{SessionValue, peering_of, state, while_established}
 use Rattle.session_value.specs.Fronts.{AreFirst}
 use Rattle.graft_model.specs.Claims.{Transparent, Solves, SolvesOn}

@@ -2,10 +2,7 @@
 use Rattle.std.specs.Prelude.{ℕ, List, [], ◌∷◌, ◌++◌, Some, None, true, false}
 use Rattle.std.specs.FinMap as map
 use Rattle.std.specs.List.{enumerate_from}
-use Rattle.bgp_types.specs.declared.attrs.Attrs.{Attrs}
-use Rattle.bgp_types.specs.declared.attrs.Origin.TheVariants.{Igp}
 use Rattle.bgp_types.specs.declared.attrs.Route.{Route}
-use Rattle.bgp_types.specs.declared.path.PathPart.TheVariants.{Sequence}
 use Rattle.bgp_types.specs.declared.rank.From.TheVariants as from
 use Rattle.bgp_types.specs.Spelling.{framed}
 use Rattle.bgp_types.specs.Tables.{prefix_cmp}

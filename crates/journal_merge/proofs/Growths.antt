@@ -1,5 +1,5 @@
 -- A net that doesn't go on.
-use Rattle.std.proofs.Common.{List, [], refl, sym}
+use Rattle.std.proofs.Common.{[], refl, sym}
 use Rattle.std.proofs.lemmas.List.{append-nil}
 use Rattle.ring_net.specs.Deeds.{Makes}
 use Rattle.ring_net.specs.Phases.{View}

@@ -7,7 +7,7 @@ use Rattle.std.proofs.lemmas.Option.{slice_get-map, slice_get_past, slice_get_wi
 use Rattle.bgp_types.specs.Prefixes.{same_prefix}
 use Rattle.rib_stages.specs.declared.config.RibConfig.{RibConfig}
 use Rattle.session_value.specs.declared.config.SessionConfig.{SessionConfig}
-use Rattle.graft_model.specs.Setups.{Setup, RouterSetup, PeeringSetup, NamedRules, of_router, routers_in, peerings_in}
+use Rattle.graft_model.specs.Setups.{RouterSetup, PeeringSetup, NamedRules, of_router, peerings_in}
 use Rattle.graft_model.specs.Setups as model
 use Rattle.lab_tables.specs.declared.input.LabInput.{LabInput}
 use Rattle.lab_tables.specs.declared.input.PeeringInput.{PeeringInput}

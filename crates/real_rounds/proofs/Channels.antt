@@ -3,7 +3,7 @@ use Rattle.std.proofs.Common.{◌≡◌, ◌≤◌, ◌+◌, ◌∙◌, ℕ, Lis
 use Rattle.std.proofs.Common.{if◌then◌else◌, refl, ap, sym, subst, inl, inr, arith, length-append}
 use Rattle.std.specs.Prelude.{◌⊎◌, Option, Some, None, min}
 use Rattle.std.specs.List.{AllByRecursion, count_by}
-use Rattle.std.proofs.lemmas.Bool.Decides.{eqb_tells, nat_tests}
+use Rattle.std.proofs.lemmas.Bool.Decides.{eqb_tells}
 use Rattle.std.proofs.lemmas.List.{length-map}
 use Rattle.std.proofs.lemmas.List.Sums.{sum_by-cons}
 use Rattle.ring_net.specs.declared.entry.JournalEntry.{JournalEntry}
@@ -12,7 +12,7 @@ use Rattle.ring_net.specs.Deeds.{Noted, Replay, deeds, entries_of, from_option, 
 use Rattle.ring_net.specs.Phases.{View}
 use Rattle.graft_model.specs.Setups.{Setup}
 use Rattle.graft_model.specs.Parts.{World}
-use Rattle.graft_actors.specs.Actors.{Thing, MeshItem, ActorName, Router, FarSide, Operator, number_in, IsActor, actor_at}
+use Rattle.graft_actors.specs.Actors.{Thing, ActorName, number_in, IsActor, actor_at}
 use Rattle.graft_actors.specs.Seen.{channel_of}
 use Rattle.graft_actors.proofs.Numbers.{there, once, same_itself, same_tells, some_same}
 use Rattle.graft_actors.specs.Items.{thing_of}

@@ -6,7 +6,7 @@ use Rattle.std.proofs.Math.Path.{subst⁻¹}
 use Rattle.std.proofs.lemmas.Bool.Decides.{nat_tests}
 use Rattle.link_bag.specs.declared.plan.Fault.{Fault}
 use Rattle.ring_net.specs.declared.entry.JournalEntry.{JournalEntry}
-use Rattle.ring_net.specs.Deeds.{Deed, deeds, entries_of}
+use Rattle.ring_net.specs.Deeds.{Deed, entries_of}
 use Rattle.ring_net.specs.Phases.{View}
 use Rattle.ring_net.proofs.Replays.{all-append}
 use Rattle.journal_merge.specs.Merges.{Interleaves, entries_by, upto}

@@ -51,7 +51,7 @@ use Rattle.real_rounds.specs.Whole.{RouterDid, FarDid, OperatorDid}
 use Rattle.real_rounds.proofs.FarRounds.{FarAt, links_of, real_far, far_after}
 use Rattle.real_rounds.proofs.FarRounds as far_rounds
 use Rattle.real_rounds.proofs.Leading as leading
-use Rattle.real_rounds.proofs.Leading.{EntryKept, deeds_kept, next_is}
+use Rattle.real_rounds.proofs.Leading.{deeds_kept, next_is}
 use Rattle.real_rounds.proofs.Lists.{all_at}
 use Rattle.real_rounds.proofs.Legs.{Paused, Legs, entry_in}
 use Rattle.real_rounds.proofs.NodeRounds.{RouterPhase, router_phase, FarPhase, far_phase, operator_phase, operator_events, replay_setup}

@@ -3,15 +3,9 @@ use Rattle.std.proofs.Common.{◌≡◌, ◌-◌, ◌∙◌, ℕ, zero, suc, Lis
 use Rattle.ring_net.specs.declared.entry.JournalEntry.{JournalEntry}
 use Rattle.ring_net.specs.Deeds.{Deed, Noted, deeds, entries_of}
 use Rattle.journal_merge.specs.Merges.{entries_by}
-use Rattle.graft_model.specs.Codes.{router_code, far_code, operator_code}
-use Rattle.graft_model.specs.declared.event.RouterEvent.{RouterEvent}
-use Rattle.graft_model.specs.declared.event.FarEvent.{FarEvent}
-use Rattle.graft_model.specs.declared.event.OperatorEvent.{OperatorEvent}
 use Rattle.world_runs.specs.Marks.{before}
 use Rattle.world_nodes.specs.Nodes.{Mail}
 use Rattle.real_rounds.specs.Entries.{between}
-use Rattle.graft_actors.specs.Makes.{AreCoded}
-
 cut_out : {A : Type 0} (had new more : List A) (m n : ℕ) → m ≡ length had → length new ≡ n → take n (drop m ((had ++ new) ++ more)) ≡ new
 cut_out [] new more zero n e f = take_at new more n f
 cut_out [] new more (suc m) n e f = absurd (omega (arith, e))

@@ -31,7 +31,7 @@ use Rattle.graft_model.specs.RouterRows.{RouterTaken, RouterSent, IsLive, update
 use Rattle.graft_model.specs.declared.event.RouterEvent.TheVariants as events
 use Rattle.graft_model.specs.declared.event.RouterEvent.{RouterEvent}
 use Rattle.graft_model.specs.declared.event.RouterEvent.TheVariants.{Emit, Arrive, Decide, Tell, Hear, Admit, Refuse, Freeze, Leave}
-use Rattle.graft_model.specs.declared.event.RouterEvent.TheVariants.{Land, Return, Clear, Ask, Answer, Collect, Confirm}
+use Rattle.graft_model.specs.declared.event.RouterEvent.TheVariants.{Land, Return, Clear, Ask, Collect, Confirm}
 use Rattle.graft_model.specs.Steps.{router_row}
 use Rattle.bgp_session.specs.Steps.{MayPass}
 use Rattle.router_core.specs.Parts.{router_part}

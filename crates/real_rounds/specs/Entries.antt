@@ -1,5 +1,5 @@
 -- What an actor's journal holds between two marks, and which items are taken from which channel.
-use Rattle.std.specs.Prelude.{ℕ, ◌-◌, ◌==◌, if◌then◌else◌, Bool, true, false, List, [], ◌∷◌, map, ◌++◌, take, drop, count_by, Option, Some, None}
+use Rattle.std.specs.Prelude.{ℕ, ◌-◌, ◌==◌, if◌then◌else◌, Bool, false, List, [], ◌∷◌, map, ◌++◌, take, drop, count_by, Option, Some, None}
 use Rattle.std.specs.List.{list_any}
 use Rattle.ring_net.specs.declared.entry.JournalEntry.{JournalEntry}
 use Rattle.journal_merge.specs.Merges.{entries_by}
@@ -9,7 +9,6 @@ use Rattle.graft_model.specs.declared.event.FarEvent.TheVariants.{Say, Take, Poi
 use Rattle.graft_model.specs.declared.event.OperatorEvent.TheVariants.{Note}
 use Rattle.graft_model.specs.Codes.{router_code, far_code, operator_code}
 use Rattle.graft_actors.specs.Actors.{ActorName, Router, FarSide, Operator, same_name}
-use Rattle.graft_actors.specs.Makes.{HasCode}
 use Rattle.world_runs.specs.Marks.{before}
 
 -- the entries of an actor after a mark and before the next one

@@ -7,7 +7,7 @@ use Rattle.std.specs.List.{list_any}
 use Rattle.std.specs.Ordering.{eq_by_cmp}
 use Rattle.bgp_types.specs.Prefixes.{PrefixValue}
 use Rattle.bgp_types.specs.Tables.{prefix_cmp, first_above}
-use Rattle.bgp_types.proofs.TableLaws.{prefix_total, tied}
+use Rattle.bgp_types.proofs.TableLaws.{prefix_total}
 use Rattle.bgp_types.specs.declared.rank.From.{From}
 use Rattle.bgp_types.specs.declared.rank.From.TheVariants.{Own, Peering, Router}
 use Rattle.loc_rib.specs.Values.{with_value}
@@ -15,7 +15,7 @@ use Rattle.session_value.specs.Points.{at}
 use Rattle.session_value.specs.Sets.{Entries, Tellings, Prefixes, Marks}
 use Rattle.rib_stages.specs.Values.{RibValue, Given, table_from}
 use Rattle.rib_stages.specs.Choosing.{prefixes_from}
-use Rattle.rib_stages.specs.Steps.{Enters, Drops, DropsAll, DropsSome, with_table}
+use Rattle.rib_stages.specs.Steps.{Enters, Drops, DropsAll, with_table}
 use Rattle.rib_stages.proofs.Marks.{with_gives, marks_next, itself}
 use Rattle.rib_stages.proofs.Tables.{at-itself, there_at}
 

@@ -13,7 +13,6 @@ use Rattle.loc_rib.specs.Values.{LocValue, with_best, with_value}
 use Rattle.route_policy.specs.Candidates.{own_rank, own_route}
 use Rattle.route_policy.specs.declared.best.Best.{Best}
 use Rattle.route_policy.specs.declared.entry.Entry.{Entry}
-use Rattle.session_value.specs.Sets.{Prefixes}
 use Rattle.prefix_trie.specs.Table.{TableValue}
 use Rattle.rib_stages.specs.declared.config.InEntry.{InEntry}
 use Rattle.rib_stages.specs.declared.ranks.Choices.{Choices}
@@ -21,7 +20,7 @@ use Rattle.rib_stages.specs.declared.rib.Rib.TheInside.{Inside}
 use Rattle.rib_stages.specs.Values.{RibStore, RibValue, Given, rib_of, contents_of, set_of, table_at, table_from, tables_of}
 use Rattle.rib_stages.specs.Choosing.{rib_choice}
 use Rattle.rib_stages.specs.Ranks.{SetsRank, HasOwnRanks, MarksRank, MarksAtMost, IsRib}
-use Rattle.rib_stages.specs.Steps.{Enters, Sets, SetsIn, IsOther, MayMark, entries_with, tellings_with, with_table, given, given_from, taken}
+use Rattle.rib_stages.specs.Steps.{Enters, Sets, SetsIn, IsOther, entries_with, tellings_with, with_table, given, given_from, taken}
 use Rattle.rib_stages.proofs.Drops.{same_table}
 use Rattle.rib_stages.proofs.Kept.{number_of, rank_given, entered, kept_entered, kept_marked, kept_ranks, kept_decided, kept_fresh}
 use Rattle.rib_stages.proofs.Marks.{with_same}

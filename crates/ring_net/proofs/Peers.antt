@@ -14,8 +14,8 @@ use Rattle.rtrb.specs.declared.consumer.Consumer.{Consumer}
 use Rattle.rtrb.specs.declared.AnyItems.{AnyItems}
 use Rattle.ring_net.specs.declared.entry.Stamped.{Stamped}
 use Rattle.ring_net.specs.declared.post.Post.{Post}
-use Rattle.ring_net.specs.Deeds.{Deed, Makes, ClimbsTo, deeds, senders, taken_from}
-use Rattle.ring_net.specs.Ends.{Emptied, Flushed, SameIn, SameOut}
+use Rattle.ring_net.specs.Deeds.{Deed, Makes, ClimbsTo, deeds, senders}
+use Rattle.ring_net.specs.Ends.{Flushed, SameIn, SameOut}
 use Rattle.ring_net.specs.Peers.{ListsFrom, ListsIndices, Ascends, AddsPeer}
 use Rattle.ring_net.specs.Nets.{LookedOut, LookedIn}
 use Rattle.ring_net.specs.Takes.{TookOne, TookEach}

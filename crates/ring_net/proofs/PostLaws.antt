@@ -7,7 +7,7 @@ use Rattle.std.proofs.lemmas.List.Concat.{flat_map-append}
 use Rattle.ring_net.specs.declared.entry.JournalEntry.{JournalEntry}
 use Rattle.ring_net.specs.declared.post.Post.{Post}
 use Rattle.ring_net.specs.Deeds.{Deed, IsDeedOf, Counted, puts_by, sent_by}
-use Rattle.ring_net.specs.Posts.{actor_of, clock_of, entries_in, waits, for_one, NotesEntry, SendsItem, Wrote, SameEdges}
+use Rattle.ring_net.specs.Posts.{actor_of, clock_of, entries_in, waits, for_one, NotesEntry, SendsItem, Wrote}
 use Rattle.ring_net.proofs.Replays.{all-append}
 
 module _ {I : Type 0} where

@@ -26,7 +26,6 @@ use Rattle.rib_stages.proofs.Kept.{set_has}
 use Rattle.graft_model.specs.First.{first_router, place_in}
 use Rattle.graft_model.specs.Setups.{Setup, PeeringSetup, IsSetup, of_router, peerings_in, starting_at}
 use Rattle.graft_model.specs.Parts as model
-use Rattle.graft_model.specs.Parts.{RouterPart}
 use Rattle.graft_actors.specs.Actors.{Router, RouterIs}
 use Rattle.session_places.specs.Places.{PlaceList, with_place}
 use Rattle.router_core.proofs.PlaceLists.{count_first, count_with, count_without, listed, rooms, set_again}

@@ -36,7 +36,7 @@ use Rattle.rib_stages.specs.Values.{RibValue, rib_of, table_at}
 use Rattle.graft_model.specs.Decisions.{entry_of}
 use Rattle.graft_model.specs.Parts.{RouterPart}
 use Rattle.graft_model.specs.RouterRows as rows
-use Rattle.graft_model.specs.RouterRows.{DueThen, FollowsHeard}
+use Rattle.graft_model.specs.RouterRows.{DueThen}
 use Rattle.graft_model.specs.declared.event.RouterEvent.TheVariants as events
 use Rattle.graft_actors.specs.Emissions.{Tally}
 use Rattle.update_plan.proofs.Keys.{keys_any}

@@ -29,7 +29,7 @@ use Rattle.graft_actors.proofs.Numbers.{there as is_there, of_number}
 use Rattle.graft_actors.specs.Items.{home_first, remote_first, placed_for, segment_of, segment_thing, IsSegmentOf}
 use Rattle.graft_actors.specs.Notes.{WroteOne, dropped}
 use Rattle.graft_actors.proofs.Welcome.{router_segment}
-use Rattle.router_core.specs.Parts.{router_part, own_part, carried, RouterInvariant, KeepsPlace, IsOfPeering}
+use Rattle.router_core.specs.Parts.{router_part, carried, RouterInvariant, KeepsPlace, IsOfPeering}
 use Rattle.router_core.specs.Places.{errand_of, place_of, place_at, RunsAt}
 use Rattle.router_core.specs.Reading.{ArrivesAt, KeepsBut, ReadsAll}
 use Rattle.router_core.specs.Takes.{Stays, RouterTakesIt}

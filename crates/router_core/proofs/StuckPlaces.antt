@@ -10,7 +10,6 @@ use Rattle.update_plan.specs.Plans.{IsWritableFor}
 use Rattle.update_plan.specs.declared.batch.Batch.{Batch}
 use Rattle.graft_model.specs.Decisions.{to_tell}
 use Rattle.graft_model.specs.Parts as model
-use Rattle.graft_model.specs.Parts.{RouterPart}
 use Rattle.graft_model.specs.RouterRows.{IsLive, IsToTell}
 use Rattle.router_core.specs.Parts.{router_part}
 use Rattle.router_core.specs.Places.{errand_of, place_of, place_at}

@@ -2,7 +2,7 @@
 use Rattle.std.proofs.Common.{◌≡◌, ◌+◌, ℕ, max, Bool, true, false, List, [], ◌∷◌, ◌++◌, ◌==◌, ◌||◌, cond, if◌then◌else◌}
 use Rattle.std.proofs.Common.{length, map, filter, refl, ap, sym, ◌∙◌, arith, inl, inr, length-append}
 use Rattle.std.specs.Prelude.{Some, fold, replicate}
-use Rattle.std.proofs.lemmas.Bool.Decides.{eqb_tells, nat_tests}
+use Rattle.std.proofs.lemmas.Bool.Decides.{eqb_tells}
 use Rattle.std.proofs.lemmas.List.{map-append}
 use Rattle.std.proofs.lemmas.List.Sums.{sum_by-cons}
 use Rattle.ring_net.specs.declared.entry.Stamped.{Stamped}
@@ -11,7 +11,7 @@ use Rattle.journal_merge.specs.Worlds.{taken_of}
 use Rattle.journal_merge.specs.Growth.{noted_by}
 use Rattle.journal_merge.proofs.Runs.{own_here, own_else}
 use Rattle.graft_model.specs.Setups.{Setup}
-use Rattle.graft_actors.specs.Actors.{ActorName, Router, FarSide, Operator, IsActor, actor_at, same_name}
+use Rattle.graft_actors.specs.Actors.{ActorName, IsActor, actor_at, same_name}
 use Rattle.graft_actors.proofs.Numbers.{once, same_itself, same_tells, some_same}
 use Rattle.world_runs.specs.Marks.{is_go}
 use Rattle.run_clocks.specs.Clocks.{ClockedEvent, stamps_sent, number_taken, greatest, clock_behind}

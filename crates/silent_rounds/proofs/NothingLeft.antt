@@ -14,7 +14,7 @@ use Rattle.session_value.specs.Sets.{Prefixes, has}
 use Rattle.graft_steps.specs.declared.rest.Pending.{Pending}
 use Rattle.graft_steps.specs.declared.rest.Pending.TheVariants.{Script, Graft, Channel, Bag, Stream, Dirty, DueIn, DueOut}
 use Rattle.graft_model.specs.Setups.{Setup, PeeringSetup, IsSetup, routers_in, peerings_in}
-use Rattle.graft_model.specs.Parts.{Errand, Leaving, Owing, Asking, Place, Vacant, Live, Frozen, Shadow, RouterPart, World}
+use Rattle.graft_model.specs.Parts.{Errand, Place, Vacant, Live, Frozen, Shadow, RouterPart, World}
 use Rattle.graft_model.specs.Decisions.{to_tell}
 use Rattle.graft_model.specs.First.{first_router, place_in}
 use Rattle.graft_laws.specs.Keeps.{Reached, Has}

@@ -1,5 +1,5 @@
 -- Worlds in which nothing of a graft is on its way, none is stored, and no step may be ordered.
-use Rattle.std.specs.Prelude.{ℕ, ◌≡◌, [], Option, Some, None}
+use Rattle.std.specs.Prelude.{ℕ, ◌≡◌, []}
 use Rattle.graft_model.specs.Setups.{Setup, IsSetup}
 use Rattle.graft_model.specs.Parts.{Place, Vacant, Live, Frozen, Shadow, World}
 use Rattle.graft_laws.specs.Keeps.{Reached}

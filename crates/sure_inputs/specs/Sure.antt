@@ -6,7 +6,7 @@ use Rattle.lab_tables.specs.declared.input.LabInput.{LabInput}
 use Rattle.lab_tables.specs.declared.input.PeeringInput.{PeeringInput}
 use Rattle.lab_tables.specs.declared.input.RouterInput.{RouterInput}
 use Rattle.lab_tables.specs.declared.input.Step.{Step}
-use Rattle.lab_tables.specs.declared.input.Step.TheVariants.{Raw, Graft, Settle, Evacuate}
+use Rattle.lab_tables.specs.declared.input.Step.TheVariants.{Raw, Graft, Evacuate}
 use Rattle.lab_tables.specs.Peerings.{default_opening}
 use Rattle.lab_tables.specs.Scripts.{is_settle_step}
 use Rattle.lab_setup.specs.Setups.{setup_of}

@@ -1,6 +1,6 @@
 -- A worked laboratory that is sure: two routers, and a peering that starts at the first one. Its remote announces a prefix. Once all is settled the script
 -- moves its session to the second router, twice, and then back to the first.
-use Rattle.std.specs.Prelude.{ℕ, List, [], ◌∷◌, Option, None}
+use Rattle.std.specs.Prelude.{ℕ, List, [], ◌∷◌, Option}
 use Rattle.graft_model.specs.Setups.{Setup, PeeringSetup, ScriptGraft, SayStep, MoveStep, SettleStep}
 use Rattle.even_inputs.specs.Worked.{router, peering, with_med}
 

@@ -4,7 +4,7 @@ use Rattle.std.proofs.Common.{true, false, refl, sym, ap, subst, ◌∙◌, arit
 use Rattle.std.specs.Prelude.{Some, None}
 use Rattle.std.proofs.lemmas.List.{drop-append-le, drop-drop, length-drop}
 use Rattle.tcp_seq.specs.Numbers.{plus, number}
-use Rattle.tcp_seq.specs.Endpoint.{Endpoint, PlacedSegment, SendsBytes, EmitsNext, EmitsAgain, EmitsAnswer, ReadsBytes, received, received_bytes, slice_at}
+use Rattle.tcp_seq.specs.Endpoint.{Endpoint, SendsBytes, EmitsNext, EmitsAgain, EmitsAnswer, ReadsBytes, received, received_bytes, slice_at}
 use Rattle.tcp_seq.specs.Endpoint.{next_length as next_length_of, again_length as again_length_of}
 use Rattle.tcp_seq.specs.declared.segment.Segment.{Segment}
 use Rattle.tcp_seq.specs.declared.state.EndState.{EndState}

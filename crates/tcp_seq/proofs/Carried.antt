@@ -1,13 +1,12 @@
 -- What a connection keeps.
-use Rattle.std.proofs.Common.{◌≡◌, ℕ, ◌+◌, ◌<◌, ◌≤◌, max, List, [], ◌∷◌, ◌++◌, length, refl, sym, ap, subst, ◌∙◌, arith, ◌⊎◌, inl, inr}
+use Rattle.std.proofs.Common.{◌≡◌, ℕ, ◌+◌, ◌<◌, ◌≤◌, max, List, [], ◌∷◌, ◌++◌, length, sym, ap, subst, arith, ◌⊎◌, inl, inr}
 use Rattle.std.specs.Prelude.{Contains}
 use Rattle.std.proofs.lemmas.Bool.{cases_lt}
 use Rattle.std.proofs.lemmas.List.Elements.{Contains-append_left, Contains-push, Contains-push_cases}
 use Rattle.tcp_seq.specs.Endpoint.{Endpoint, PlacedSegment, TakesSegment}
-use Rattle.tcp_seq.specs.Connection.{Side, Connection, fresh_side, fresh_connection, SideSends, SideEmits, SideReads, SideTakes, SideSteps}
+use Rattle.tcp_seq.specs.Connection.{Side, Connection, fresh_side, fresh_connection, SideEmits, SideSteps}
 use Rattle.tcp_seq.specs.Connection.{ConnectionStep, ConnectionRun, IsEmittedBy, IsAmong, AreLinked, StaysLinked, IsCarried, IsConnection}
-use Rattle.tcp_seq.proofs.Flows.{turned, sends_linked, emits_linked, reads_linked, takes_linked, fresh_linked}
-
+use Rattle.tcp_seq.proofs.Flows.{sends_linked, emits_linked, reads_linked, takes_linked, fresh_linked}
 record Both (x y : Side) : Type 0 where
   there : IsCarried x y
   back : IsCarried y x

@@ -1,5 +1,5 @@
 -- What flows between two endpoints, whatever one of them does.
-use Rattle.std.proofs.Common.{◌≡◌, ℕ, ◌+◌, ◌-◌, ◌^◌, ◌<◌, ◌≤◌, max, List, [], ◌++◌, length, take, drop, get_or, refl}
+use Rattle.std.proofs.Common.{◌≡◌, ℕ, ◌+◌, ◌-◌, ◌^◌, ◌<◌, ◌≤◌, max, List, ◌++◌, length, take, drop, get_or, refl}
 use Rattle.std.proofs.Common.{sym, ap, subst, ◌∙◌, arith, ◌⊎◌, inl, inr, length-append, Option, None, Some}
 use Rattle.std.specs.Prelude.{Bool, true, false, nat_lt, nat_le, ◌&&◌, ◌||◌, if◌then◌else◌}
 use Rattle.std.specs.Option.{option_or}

@@ -1,8 +1,8 @@
 -- A net that goes on, from one level to the next, is a run of the world.
-use Rattle.std.proofs.Common.{◌≡◌, ◌∙◌, ◌≤◌, ◌<◌, ℕ, Bool, List, [], ◌∷◌, ◌++◌, length, get_or, map, refl, ap, sym, subst, arith, inl, inr}
+use Rattle.std.proofs.Common.{◌≡◌, ◌∙◌, ◌≤◌, ◌<◌, ℕ, Bool, List, [], ◌∷◌, ◌++◌, length, get_or, map, ap, sym, subst, arith, inl, inr}
 use Rattle.std.specs.Prelude.{◌⊎◌}
 use Rattle.std.specs.List.{AllByRecursion}
-use Rattle.std.proofs.lemmas.List.{append-nil, map-append}
+use Rattle.std.proofs.lemmas.List.{map-append}
 use Rattle.ring_net.specs.Deeds.{Deed, Noted, deeds}
 use Rattle.ring_net.specs.Turns.{ActorDid}
 use Rattle.ring_net.specs.Phases.{View, IsNewNet, InOrder, AllAt, Levelled, NetPhase, Between}

@@ -1,4 +1,4 @@
-use Rattle.std.proofs.Common.{ℕ, Some, sym, ap, ◌∙◌, arith}
+use Rattle.std.proofs.Common.{Some, sym, ap, ◌∙◌, arith}
 use Rattle.std.specs.Option.{option_copied, option_map}
 use Rattle.prefix_trie.specs.Halves.{middle}
 use Rattle.prefix_trie.specs.declared.node.Node.{Node}

@@ -1,6 +1,5 @@
-use Rattle.std.proofs.Common.{List, [], Option, None, refl, sym, ap, ◌∙◌}
+use Rattle.std.proofs.Common.{List, [], None, refl, sym, ap, ◌∙◌}
 use Rattle.std.specs.FinMap as map
-use Rattle.bgp_types.specs.Prefixes.{PrefixValue}
 use Rattle.bgp_types.specs.Tables.{first_above}
 use Rattle.prefix_set.specs.Slots.{PrefixSet, Slot, lesser_of, united}
 use Rattle.prefix_set.proofs.Slots.{keys_united, lesser_none}
