@@ -18,6 +18,7 @@ use Rattle.lab_words.specs.declared.job.WordStop.TheVariants.{Usage, NoMemory}
 use Rattle.lab_words.specs.Asked.{Given, given_in, line_of, faults_of, rows_read, IsSeedText, IsSeed, AreWorkers, IsJob, Asks}
 use Rattle.lab_words.specs.Reading.{digits_after, some_above_0, seed_of, workers_of, seed_in, workers_in, run_of, make_of, drill_of, journal_of, run_with}
 use Rattle.lab_words.specs.Reading.{check_with, make_with, drill_with, journal_with, job_of, job_in_rows, job_by, answer_of}
+
 -- the value, or none where there is no such value
 abbrev Finds : {A : Type 0} → (A → Type 0) → Option A → Type 0
 Finds Is (Some x) = Is x

@@ -6,6 +6,7 @@ use Rattle.journal_merge.specs.Merges.{entries_by}
 use Rattle.world_runs.specs.Marks.{before}
 use Rattle.world_nodes.specs.Nodes.{Mail}
 use Rattle.real_rounds.specs.Entries.{between}
+
 cut_out : {A : Type 0} (had new more : List A) (m n : ℕ) → m ≡ length had → length new ≡ n → take n (drop m ((had ++ new) ++ more)) ≡ new
 cut_out [] new more zero n e f = take_at new more n f
 cut_out [] new more (suc m) n e f = absurd (omega (arith, e))

@@ -2,6 +2,7 @@
 use Rattle.std.proofs.Common.{◌≡◌, ℕ, ◌+◌, ◌-◌, ◌≤◌, List, ◌++◌, length, take, drop, sym, ap, ◌∙◌, arith, length-append}
 use Rattle.std.proofs.lemmas.List.{length-drop, length-take, take-append-drop, take-take}
 use Rattle.std.proofs.Math.Seq.{take-add, take-append_seam}
+
 -- bytes at the front of what is unread are read
 pub read_more : (n : ℕ) (xs bytes rest : List ℕ) → drop n xs ≡ bytes ++ rest → take (n + length bytes) xs ≡ take n xs ++ bytes
 read_more n xs bytes rest front =

@@ -7,6 +7,7 @@ use Rattle.tcp_seq.specs.Endpoint.{Endpoint, PlacedSegment, TakesSegment}
 use Rattle.tcp_seq.specs.Connection.{Side, Connection, fresh_side, fresh_connection, SideEmits, SideSteps}
 use Rattle.tcp_seq.specs.Connection.{ConnectionStep, ConnectionRun, IsEmittedBy, IsAmong, AreLinked, StaysLinked, IsCarried, IsConnection}
 use Rattle.tcp_seq.proofs.Flows.{sends_linked, emits_linked, reads_linked, takes_linked, fresh_linked}
+
 record Both (x y : Side) : Type 0 where
   there : IsCarried x y
   back : IsCarried y x
