@@ -19,6 +19,9 @@ pub(crate) type Swaps = Vec<(usize, usize)>;
 /// How much load each worker has to get at least, for the start of its thread to be worth its time.
 const WORTH: u64 = 64;
 
+/// The number of last rounds whose loads say in which order actors are dealt.
+const ROUNDS: usize = 8;
+
 /// What a worker has been dealt: the first index of its chunk that is still free, the end of the chunk,
 /// and the load of the actors before.
 #[derive(Drop)]
@@ -67,7 +70,7 @@ fn next_place(hands: &mut [Hand], load: u64) -> Option<usize>
 {
     let index = lightest(hands)?;
     let place = hands[index].next;
-    hands[index].next += 1;
+    hands[index].next = place.saturating_add(1);
     hands[index].load = hands[index].load.saturating_add(load);
     Some(place)
 }
@@ -133,6 +136,21 @@ fn by_load(alloc: Global, loads: &[u64]) -> Result<Vec<(u64, usize)>, NoMemory>
     Ok(order)
 }
 
+/// Deals actors in this order, each behind its load, to these workers, and returns the swaps.
+fn deal_all(order: &[(u64, usize)], hands: &mut [Hand], mut table: Table) -> Result<Swaps, NoMemory>
+    requires actors { All (λ dealt. dealt.1 < length table.places.items) order.now }
+    requires hands { All (λ hand. hand.end ≤ length table.places.items) hands.old }
+    ensures { IfOk result (λ swaps. SwapsBelow (length table.places.items) swaps.items) }
+{
+    for (load, actor) in order {
+        if let Some(place) = next_place(hands, *load) {
+            table.put(*actor, place)?;
+        }
+    }
+    let Table { swaps, .. } = table;
+    Ok(swaps)
+}
+
 /// Returns the swaps that deal actors of these loads: in descending order of load, each comes to the
 /// worker that has the least load so far and room for one more.
 fn swaps_of(alloc: Global, loads: &[u64], workers: usize) -> Result<Swaps, NoMemory>
@@ -141,14 +159,8 @@ fn swaps_of(alloc: Global, loads: &[u64], workers: usize) -> Result<Swaps, NoMem
 {
     let order = by_load(alloc, loads)?;
     let mut hands = hands(alloc, loads.len(), workers)?;
-    let mut table = Table::new(alloc, loads.len())?;
-    for (load, actor) in order.as_slice() {
-        if let Some(place) = next_place(hands.as_mut_slice(), *load) {
-            table.put(*actor, place)?;
-        }
-    }
-    let Table { swaps, .. } = table;
-    Ok(swaps)
+    let table = Table::new(alloc, loads.len())?;
+    deal_all(order.as_slice(), hands.as_mut_slice(), table)
 }
 
 /// How the cells of a phase go to workers: they change places, and then each worker has a chunk of them.
@@ -175,15 +187,16 @@ fn total(loads: &[u64]) -> u64 {
     total
 }
 
-/// Returns the mark before the last one, or the only one.
-fn before_last(marks: &[Mark]) -> &[u64] {
-    match marks.get(marks.len().saturating_sub(2)) {
+/// Returns the mark this many rounds before the last one, or the first one.
+fn mark_before(marks: &[Mark], rounds: usize) -> &[u64] {
+    match marks.get(marks.len().saturating_sub(1).saturating_sub(rounds)) {
         Some(mark) => mark.as_slice(),
         None => &[],
     }
 }
 
-/// Deals cells by their loads since the mark before the last one.
+/// Deals cells in the order of their loads over some rounds. The load of the last round says how many
+/// workers they are worth.
 fn deal_by_load<A: Actor>(
     alloc: Global,
     cells: &[Cell<A>],
@@ -193,17 +206,18 @@ fn deal_by_load<A: Actor>(
     requires { 0 < workers }
     ensures { IfOk result (IsDeal (length cells.now)) }
 {
-    let loads = loads(alloc, cells, before_last(marks))?;
-    let workers = worth(total(loads.as_slice()), workers);
-    let swaps = if workers > 1 {
-        swaps_of(alloc, loads.as_slice(), workers)?
-    } else {
-        Vec::new(alloc)
-    };
+    let last = loads(alloc, cells, mark_before(marks, 1))?;
+    let workers = worth(total(last.as_slice()), workers);
+    if workers == 1 {
+        let swaps = Vec::new(alloc);
+        return Ok(Deal { workers, swaps });
+    }
+    let lately = loads(alloc, cells, mark_before(marks, ROUNDS))?;
+    let swaps = swaps_of(alloc, lately.as_slice(), workers)?;
     Ok(Deal { workers, swaps })
 }
 
-/// Deals cells to at most this many workers, by what the actors did in the last round and by what has
+/// Deals cells to at most this many workers, by what the actors did in the last rounds and by what has
 /// come to them since. One worker gets them in the order of their numbers, and so do several if memory
 /// runs out.
 pub(crate) fn deal_cells<A: Actor>(

@@ -26,6 +26,14 @@ use std::alloc::Global;
 use std::thread;
 use std::thread::Threads;
 
+/// Passes the gate with the number of the cell's actor, and then lets the cell make one turn.
+fn pass_and_turn<G: Gate, A: Actor>(gate: &G, cell: &mut Cell<A>)
+    ensures { CellTurned A.part A.makes A.took A.turned cell.old cell.new }
+{
+    gate.pass(usize::from(cell.post.actor));
+    turn(cell);
+}
+
 /// Lets each cell make one turn, in threads that own a chunk of cells each. The gate is passed once at
 /// the start of each turn.
 fn turn_chunks<R: Threads + Sync, G: Gate, A: Actor + Send>(
@@ -44,12 +52,9 @@ where
         rt,
         cells,
         workers,
-        &|_: usize, cell: &mut Cell<A>|
+        &|_k: usize, cell: &mut Cell<A>|
             ensures { CellTurned A.part A.makes A.took A.turned cell.entry.now cell.exit.now }
-        {
-            gate.pass(usize::from(cell.post.actor));
-            turn(cell)
-        },
+        { pass_and_turn(gate, cell) },
     );
 }
 

@@ -1,4 +1,4 @@
-use Rattle.std.proofs.Common.{ℕ, ◌<◌, length, get_or}
+use Rattle.std.proofs.Common.{◌<◌, length, get_or}
 use Rattle.std.specs.Prelude.{IfSome}
 use Rattle.ring_net.specs.declared.deal.Hand.{Hand}
 use Rattle.ring_net.proofs.deal.lightest.Given as goal
