@@ -195,8 +195,8 @@ fn mark_before(marks: &[Mark], rounds: usize) -> &[u64] {
     }
 }
 
-/// Deals cells in the order of their loads over some rounds. The load of the last round says how many
-/// workers they are worth.
+/// Deals cells in the order of their loads over the last rounds. Their load over the last round alone says
+/// how many workers they are worth.
 fn deal_by_load<A: Actor>(
     alloc: Global,
     cells: &[Cell<A>],

@@ -169,11 +169,12 @@ impl<A: Actor> Net<A> {
     /// Makes a phase: each actor takes the items in the rings that lead to it, at most 256 from each,
     /// in ascending order of the senders' numbers, and then makes one turn, which may push items into
     /// the rings that lead from it. There are 1 to 8 workers: each is a thread that owns some of the
-    /// actors. Actors are dealt to workers by what they did since the mark before the last one and by
-    /// what has come to them, so that each worker has about as much to do; where this is little, there
-    /// are fewer workers. One worker lets the actors act in the order of their numbers. The gate is
-    /// passed once at the start of each actor's part. If memory runs out, nothing more is promised
-    /// about the actors, and every later phase returns `NoMemory` too.
+    /// actors. Actors are dealt to workers by what they did since one of the last marks and by what has
+    /// come to them, so that each worker has about as much to do. Where little was done since the mark
+    /// before the last one and little has come, there are fewer workers. One worker lets the actors act
+    /// in the order of their numbers. The gate is passed once at the start of each actor's part. If
+    /// memory runs out, nothing more is promised about the actors, and every later phase returns
+    /// `NoMemory` too.
     pub fn phase<R: Threads + Sync, G: Gate>(
         &mut self,
         rt: &R,
