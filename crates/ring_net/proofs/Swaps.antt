@@ -1,11 +1,12 @@
 -- Lists whose elements changed places and changed back.
-use Rattle.std.proofs.Common.{◌≡◌, ◌<◌, ℕ, List, [], ◌∷◌, ◌++◌, length, get_or, refl, ap, sym, subst, ◌∙◌, arith, ◌⊎◌, inl, inr}
+use Rattle.std.proofs.Common.{◌≡◌, ◌<◌, ℕ, List, [], ◌∷◌, length, get_or, refl, ap, sym, subst, ◌∙◌, arith, ◌⊎◌, inl, inr}
 use Rattle.std.specs.Prelude.{reverse}
-use Rattle.std.specs.List.{fold, swap}
+use Rattle.std.specs.List.{swap}
 use Rattle.std.proofs.lemmas.Bool.{cases_eq}
 use Rattle.std.proofs.lemmas.List.{reverse-append}
 use Rattle.std.proofs.lemmas.List.Edits.{length-swap, Swapped, swapped_from_swap}
 use Rattle.std.proofs.lemmas.List.Elements.{All-head, All-tail}
+use Rattle.std.proofs.lemmas.List.Sorted.{All-permutation, IsPermutation-reverse}
 use Rattle.std.proofs.lemmas.List.Sums.{fold-append}
 use Rattle.ring_net.specs.Deals.{SwapsBelow, swapped}
 
@@ -44,18 +45,27 @@ pub undone : {X : Type 0} (R : X → X → Type 0) (swaps : List (ℕ × ℕ)) (
     → Pairs R (swapped xs swaps) ys → Pairs R xs (swapped ys (reverse swaps))
 undone {X} R [] xs ys below len h = h
 undone {X} R (s ∷ swaps) xs ys below len h = subst (λ zs. Pairs R xs zs) whole
-    (unswap R xs (swapped ys (reverse swaps)) s.0 s.1 (length_swapped ys (reverse swaps) ∙ len) here.0 here.1 rest)
+    (unswap R xs (swapped ys (reverse swaps)) s.0 s.1 (length_swapped ys (reverse swaps) ∙ len) here.0 here.1
+    (undone R swaps (swap xs s.0 s.1) ys rest (len ∙ sym (length-swap xs s.0 s.1)) h))
   where
     here : (s.0 < length xs) × (s.1 < length xs)
     here = All-head (λ s. (s.0 < length xs) × (s.1 < length xs)) s swaps below
 
-    rest : Pairs R (swap xs s.0 s.1) (swapped ys (reverse swaps))
-    rest = undone R swaps (swap xs s.0 s.1) ys (subst (λ n. SwapsBelow n swaps) (sym (length-swap xs s.0 s.1))
-        (All-tail (λ s. (s.0 < length xs) × (s.1 < length xs)) s swaps below)) (len ∙ sym (length-swap xs s.0 s.1)) h
+    rest : SwapsBelow (length (swap xs s.0 s.1)) swaps
+    rest = subst (λ n. SwapsBelow n swaps) (sym (length-swap xs s.0 s.1))
+        (All-tail (λ s. (s.0 < length xs) × (s.1 < length xs)) s swaps below)
 
     whole : swap (swapped ys (reverse swaps)) s.0 s.1 ≡ swapped ys (reverse (s ∷ swaps))
     whole = sym (ap (λ ss. swapped ys ss) (reverse-append (s ∷ []) swaps)
         ∙ fold-append (λ (zs : List X) (s : ℕ × ℕ). swap zs s.0 s.1) ys (reverse swaps) (s ∷ []))
+
+-- the swaps that undo these are of a list of the same length
+pub back_below : {X : Type 0} (swaps back : List (ℕ × ℕ)) (xs ys zs : List X) → SwapsBelow (length xs) swaps
+    → ys ≡ swapped xs swaps → length zs ≡ length ys → back ≡ reverse swaps → SwapsBelow (length zs) back
+back_below swaps back xs ys zs below first len e =
+    subst (λ n. SwapsBelow n back) (sym (len ∙ ap (λ l. length l) first ∙ length_swapped xs swaps))
+    (subst (λ ss. SwapsBelow (length xs) ss) (sym e) (All-permutation (λ (s : ℕ × ℕ). (s.0 < length xs) × (s.1 < length xs))
+    swaps (reverse swaps) (IsPermutation-reverse swaps) below))
 
 -- the same, over the steps of a turn
 pub turned_back : {X : Type 0} (R : X → X → Type 0) (swaps back : List (ℕ × ℕ)) (xs ys zs us : List X) → SwapsBelow (length xs) swaps
