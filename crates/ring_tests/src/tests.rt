@@ -148,17 +148,20 @@ impl Gate for Hold {
     }
 }
 
-/// Returns four toys. The first two send 100 items to each other in their first turn, and one in the second.
+/// Returns a toy that sends 100 items in its first turn, and one in the second.
+fn busy_toy(next: usize) -> Toy {
+    let mut toy = make_toy(next, 100);
+    toy.then = 1;
+    toy
+}
+
+/// Returns four toys. The first two send to each other.
 fn four(alloc: Global) -> Result<Net<Toy>, NoMemory> {
     let mut actors = Items::new(alloc);
-    for next in [1usize, 0] {
-        let mut toy = make_toy(next, 100);
-        toy.then = 1;
-        actors.push(toy)?;
-    }
-    for _ in 0..2u32 {
-        actors.push(make_toy(9, 0))?;
-    }
+    actors.push(busy_toy(1))?;
+    actors.push(busy_toy(0))?;
+    actors.push(make_toy(9, 0))?;
+    actors.push(make_toy(9, 0))?;
     Net::build(alloc, actors, &[(0, 1), (1, 0)])
 }
 
