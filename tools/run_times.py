@@ -14,7 +14,6 @@ machine meanwhile.
 """
 import argparse
 import math
-import resource
 import statistics
 import sys
 
@@ -91,7 +90,7 @@ def main():
     printed("---" for _ in HEADS)
     for (name, workers), taken in runs.items():
         printed(row(name, workers, taken, runs[name, first]))
-    floor = resource.getrusage(resource.RUSAGE_SELF).ru_maxrss / 1024
+    floor = measuring.graftlab("true", b"", 1).memory
     print(f"\n{options.runs} runs of each, by turns. Memory below {floor:.0f} MB can't be told.\n{meanwhile.told()}")
 
 
