@@ -13,4 +13,4 @@ pub use laws::{
     updates_change_what_was_told, width_and_hold_stay, worked_stories_are_legal,
 };
 pub use line::Line;
-pub use story::Story;
+pub use story::{Story, after};

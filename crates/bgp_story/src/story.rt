@@ -86,8 +86,8 @@ fn add_both(lines: &mut Vec<Line>, line: Line, answer: Message) -> Result<(), No
     }
 }
 
-/// Returns the state after a line was added.
-fn after(state: SessionState, line: &Line) -> SessionState
+/// Returns the state after a line, of a session that has this state before it.
+pub fn after(state: SessionState, line: &Line) -> SessionState
     ensures { result ≡ after_lem state line.now }
 {
     match line {

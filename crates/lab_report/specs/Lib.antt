@@ -1,6 +1,5 @@
 pub mod BadText
 pub mod CheckText
-pub mod Journals
 pub mod Report
 pub mod Traces
 pub mod Summary

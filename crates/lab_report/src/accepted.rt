@@ -8,8 +8,8 @@ use lab_tables::LabInput;
 use std::alloc::Global;
 use std::fmt::Write;
 
-/// The word for the outcome of a test.
-fn yes_or_no(holds: bool) -> &'static str
+/// Returns the word for the outcome of a test.
+pub fn yes_or_no(holds: bool) -> &'static str
     ensures { result.now ≡ yes_or_no_lem holds }
 {
     if holds { "yes" } else { "no" }

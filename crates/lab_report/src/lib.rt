@@ -1,8 +1,7 @@
-//! What is said of an input, accepted or refused, and of a run: its report, its summary and its journal as texts.
+//! What is said of an input, accepted or refused, and of a run: its report and its summary.
 #![tactic(auto)]
 
 mod accepted;
-mod journal;
 mod lab;
 mod refused;
 mod short;
@@ -10,10 +9,12 @@ mod texts;
 mod traces;
 mod whole;
 
-pub use accepted::check_text;
-pub use journal::journal_text;
+pub use accepted::{check_text, yes_or_no};
 pub use lab::{BestEntry, FarView, Lab, Place, RouterTable, RunEnd, SessionView, ToldEntry};
 pub use refused::bad_text;
-pub use short::summary;
-pub use texts::{push_end, push_log, push_peerings, push_routers};
+pub use short::{push_short_router, summary};
+pub use texts::{
+    peering_name, place_at, push_end, push_from, push_graft, push_log, push_path, push_peerings,
+    push_place, push_refusal, push_routers, router_name, source_name, state_name,
+};
 pub use whole::report;

@@ -175,8 +175,8 @@ fn best_count(tables: &[RouterTable], index: usize) -> usize
     }
 }
 
-/// The line of a router.
-fn push_short_router(
+/// Adds the line of a router: how many best routes it has.
+pub fn push_short_router(
     text: &mut String,
     tables: &[RouterTable],
     index: usize,

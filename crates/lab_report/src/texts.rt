@@ -13,8 +13,8 @@ use graft_steps::{GraftEntry, GraftStage, Outcome, Refusal};
 use lab_tables::{LabInput, PeeringInput, RouterInput};
 use std::fmt::Write;
 
-/// The name of a router of the input.
-pub(crate) fn router_name(input: &LabInput, index: u8) -> &str
+/// Returns the name of the router of a number, or a dash.
+pub fn router_name(input: &LabInput, index: u8) -> &str
     ensures { result.now ≡ router_name input.now index }
 {
     match input.routers.get(usize::from(index)) {
@@ -23,8 +23,8 @@ pub(crate) fn router_name(input: &LabInput, index: u8) -> &str
     }
 }
 
-/// The name of a peering of the input.
-pub(crate) fn peering_name(input: &LabInput, index: u8) -> &str
+/// Returns the name of the peering of a number, or a dash.
+pub fn peering_name(input: &LabInput, index: u8) -> &str
     ensures { result.now ≡ peering_name input.now index }
 {
     match input.peerings.get(usize::from(index)) {
@@ -81,8 +81,8 @@ fn push_further_parts(text: &mut String, parts: &[PathPart]) -> Result<(), NoMem
     Ok(())
 }
 
-/// A path: a dash where it is empty, else its parts joined by commas.
-fn push_path(text: &mut String, path: &AsPath) -> Result<(), NoMemory>
+/// Adds a path: a dash where it is empty, else its parts joined by commas.
+pub fn push_path(text: &mut String, path: &AsPath) -> Result<(), NoMemory>
     ensures { OnOk result (string_bytes text.new ≡ string_bytes text.old ++ path_text path.now) }
 {
     let Some((first, further)) = path.split_first() else {
@@ -93,8 +93,8 @@ fn push_path(text: &mut String, path: &AsPath) -> Result<(), NoMemory>
     push_further_parts(text, further)
 }
 
-/// Where a route comes from.
-fn push_from(text: &mut String, input: &LabInput, from: From) -> Result<(), NoMemory>
+/// Adds where a route comes from.
+pub fn push_from(text: &mut String, input: &LabInput, from: From) -> Result<(), NoMemory>
     ensures { OnOk result (string_bytes text.new ≡ string_bytes text.old ++ from_text input.now from) }
 {
     match from {
@@ -189,7 +189,8 @@ pub fn push_routers(
     Ok(())
 }
 
-fn state_name(state: SessionState) -> &'static str
+/// Returns the name of a state (RFC 4271, section 8.2.2).
+pub fn state_name(state: SessionState) -> &'static str
     ensures { result.now ≡ state_text state }
 {
     match state {
@@ -215,8 +216,8 @@ fn push_where(text: &mut String, input: &LabInput, place: Option<Place>) -> Resu
     Ok(())
 }
 
-/// A peering's name and where its session is.
-pub(crate) fn push_place(
+/// Adds a peering's name and where its session is.
+pub fn push_place(
     text: &mut String,
     input: &LabInput,
     name: &str,
@@ -256,8 +257,8 @@ fn push_view(
     push_session(text, view)
 }
 
-/// The place of a session, by the number of its peering.
-pub(crate) fn place_at(placement: &[Place], index: usize) -> Option<Place>
+/// Returns the place of a session, by the number of its peering.
+pub fn place_at(placement: &[Place], index: usize) -> Option<Place>
     ensures { result ≡ slice_get placement.now index }
 {
     placement.get(index).copied()
@@ -350,8 +351,8 @@ fn push_counted(text: &mut String, name: &str, count: u32) -> Result<(), NoMemor
     Ok(())
 }
 
-/// Why a graft was refused.
-fn push_refusal(text: &mut String, refusal: &Refusal) -> Result<(), NoMemory>
+/// Adds why a graft was refused.
+pub fn push_refusal(text: &mut String, refusal: &Refusal) -> Result<(), NoMemory>
     ensures { OnOk result (string_bytes text.new ≡ string_bytes text.old ++ refusal_text refusal.now) }
 {
     match refusal {
@@ -396,8 +397,8 @@ fn push_stage(text: &mut String, stage: &GraftStage) -> Result<(), NoMemory>
     Ok(())
 }
 
-/// The router at which a graft was ordered; a dash where it wasn't.
-fn source_name(input: &LabInput, source: Option<RouterId>) -> &str
+/// Returns the name of the router at which a graft was ordered, or a dash where it wasn't.
+pub fn source_name(input: &LabInput, source: Option<RouterId>) -> &str
     ensures { result.now ≡ source_text input.now source }
 {
     match source {
@@ -406,8 +407,8 @@ fn source_name(input: &LabInput, source: Option<RouterId>) -> &str
     }
 }
 
-/// The line of a graft.
-fn push_graft(text: &mut String, input: &LabInput, entry: &GraftEntry) -> Result<(), NoMemory>
+/// Adds the line of a graft.
+pub fn push_graft(text: &mut String, input: &LabInput, entry: &GraftEntry) -> Result<(), NoMemory>
     ensures { OnOk result (string_bytes text.new ≡ string_bytes text.old ++ graft_line input.now entry.now) }
 {
     let graft = entry.graft;

@@ -74,7 +74,8 @@ module _ (setup : Setup) (z : Stand) (journal : List JournalEntry) (merge : Inte
       world_at_mark own carried setup c.view z.view round.marked.mark journal (mark_of setup c z b.marks round.marked is on) merge ran
 
   -- the mark of a round names this of the world of its number, which is that of the marks before it
-  decide_at_mark : (budget : Budget) (step rounds : ℕ) (b c : Stand) (verdict : Verdict) (names : RoundNames setup budget step rounds b c verdict) → IsWhole setup c
+  decide_at_mark : (budget : Budget) (step rounds : ℕ) (b c : Stand) (verdict : Verdict)
+      (names : RoundNames setup budget step rounds b c verdict) → IsWhole setup c
       → GoesOnTo c.view z.view → Ran own carried setup c.view → (later : List (List ℕ)) → z.marks ≡ b.marks ++ names.round.marked.mark ∷ later
       → (world : ℕ → World) → WorldsStand setup journal z.marks world
       → MarkNames setup (world (length b.marks)) budget step rounds names.round.marked.mark verdict

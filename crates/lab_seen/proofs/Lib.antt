@@ -1,5 +1,4 @@
 pub mod Ranges
-pub mod Listing
 pub mod Fronts
 pub mod Slots
 pub mod Phases

@@ -14,7 +14,8 @@ wide_head = 255 ∷ 255 ∷ 255 ∷ 255 ∷ 255 ∷ 255 ∷ 255 ∷ 255 ∷ 255 
 abbrev pub keepalive : List ℕ
 keepalive = 255 ∷ 255 ∷ 255 ∷ 255 ∷ 255 ∷ 255 ∷ 255 ∷ 255 ∷ 255 ∷ 255 ∷ 255 ∷ 255 ∷ 255 ∷ 255 ∷ 255 ∷ 255 ∷ 0 ∷ 19 ∷ 4 ∷ []
 
-pub plain_is : (a h i : ℕ) → plain_head ++ to_be_bytes w16 (narrow_as a) ++ to_be_bytes w16 h ++ to_be_bytes w32 i ++ 0 ∷ keepalive ≡ default_opening a h i false
+pub plain_is : (a h i : ℕ)
+    → plain_head ++ to_be_bytes w16 (narrow_as a) ++ to_be_bytes w16 h ++ to_be_bytes w32 i ++ 0 ∷ keepalive ≡ default_opening a h i false
 unfolding spell
 plain_is a h i = refl
 

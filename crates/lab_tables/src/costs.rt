@@ -3,7 +3,8 @@
 ghost use Rattle.std.specs.Prelude.{◌≡◌, IfOk, List, ℕ, map};
 ghost use Rattle.toml.specs.View.{table_view};
 ghost use Rattle.lab_tables.specs.Peerings.{cost_ends, cost_rest, cost_flaw as cost_flaw_lem, cost_of as cost_of_lem, fault_keys as fault_keys_lem};
-ghost use Rattle.lab_tables.specs.Peerings.{after_keys as after_keys_lem, is_lost as is_lost_lem, strays_out as strays_out_lem, fault_flaw as fault_flaw_lem, fault_of as fault_of_lem};
+ghost use Rattle.lab_tables.specs.Peerings.{after_keys as after_keys_lem, is_lost as is_lost_lem, strays_out as strays_out_lem};
+ghost use Rattle.lab_tables.specs.Peerings.{fault_flaw as fault_flaw_lem, fault_of as fault_of_lem};
 
 use crate::input::CostInput;
 use crate::name_index::NameIndex;

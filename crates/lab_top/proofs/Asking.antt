@@ -1,132 +1,138 @@
--- Words ask for one job, and the numbers that they name are small.
-use Rattle.std.proofs.Common.{◌≡◌, ℕ, ◌≤◌, Bool, true, false, ◌==◌, ◌||◌, List, [], ◌∷◌, length, inl, inr, refl, ap, sym, ◌∙◌, arith}
-use Rattle.std.specs.Prelude.{Option, Some, None}
-use Rattle.std.specs.Str.Parse.{AllDigits, digits_value}
-use Rattle.std.proofs.lemmas.Bool.{false≢true}
+-- Words ask for one job; and what holds of each job.
+use Rattle.std.proofs.Common.{◌≡◌, ℕ, List, inl, inr, refl, sym, ap, subst}
+use Rattle.std.specs.Prelude.{◌⊎◌, Option, Some, None, Result}
+use Rattle.lab_tables.specs.declared.input.LabInput.{LabInput}
+use Rattle.lab_input.specs.declared.bad.BadInput.{BadInput}
 use Rattle.lab_words.specs.declared.job.Job.{Job}
-use Rattle.lab_words.specs.declared.job.Job.TheVariants.{Run, Check, Make, Drill, Journal}
-use Rattle.lab_words.specs.Asked.{line_of, rows_read, given_in, IsSeed, AreWorkers, Asks}
-use Rattle.lab_top.specs.Ends.{AreRefused, RunsSource, AskToDrill, AskForLab}
+use Rattle.lab_words.specs.declared.job.Job.TheVariants as jobs
+use Rattle.lab_words.specs.Asked.{Asks}
+use Rattle.lab_words.proofs.Answers.{one_job}
+use Rattle.lab_make.specs.Made.{made}
+use Rattle.lab_report.specs.declared.lab.Lab.{Lab}
+use Rattle.lab_top.specs.declared.views.ViewName.{ViewName}
+use Rattle.lab_top.specs.declared.views.ViewName.TheVariants as names
+use Rattle.lab_top.specs.Views.{ShowsView, viewing}
+use Rattle.lab_top.specs.Ends.{AreRefused, RunsSource, AskForLab, AskToMake, AskForLine, AskUnread, ReadsInput}
+use Rattle.lab_top.specs.Cases.{TookWhole, ReadsSource, RunsLab, plain_text, Gives, Answers, Tells}
 
--- ---- one job
+-- what holds of the job that is asked for holds of a job that the same words ask for
+pub of_asked : (P : Job → Type 0) (words : List (List ℕ)) (job asked : Job) → Asks words job → Asks words asked → P job → P asked
+of_asked P words job asked ask also = subst P (one_job words job asked ask also)
 
-abbrev letter_of : Option (List ℕ) → ℕ
-letter_of None = 0
-letter_of (Some []) = 0
-letter_of (Some (letter ∷ letters)) = letter
+none_some : (a : List ℕ) → None ≡ Some a → ⊥
+none_some a e = let f : ⊥ = cc in f
 
--- the first letter of a job's word: no two have the same
-abbrev pub letter : Job → ℕ
-letter (Run workers) = 114
-letter Check = 99
-letter (Make seed) = 109
-letter (Drill seed workers) = 100
-letter (Journal workers) = 106
+-- ---- kinds of jobs
 
-abbrev pub letter_in : List (List ℕ) → ℕ
-letter_in words = letter_of (given_in (rows_read (line_of words))).job
+pub plain_is_no_lab : (job : Job) (text : List ℕ) → plain_text job ≡ Some text → RunsLab job → ⊥
+plain_is_no_lab (jobs.Make seed) text is lab = lab
+plain_is_no_lab jobs.Help text is lab = lab
+plain_is_no_lab jobs.Version text is lab = lab
+plain_is_no_lab _ text is lab = none_some text is
 
-asked : (words : List (List ℕ)) (job : Job) → Asks words job → letter_in words ≡ letter job
-asked words (Run workers) ask = ap letter_of ask.1.0
-asked words Check ask = ap letter_of ask.1.0
-asked words (Make seed) ask = ap letter_of ask.1.0
-asked words (Drill seed workers) ask = ap letter_of ask.1.0
-asked words (Journal workers) ask = ap letter_of ask.1.0
+pub plain_reads_none : (job : Job) (text : List ℕ) → plain_text job ≡ Some text → ReadsSource job → ⊥
+plain_reads_none (jobs.Make seed) text is reads = reads
+plain_reads_none jobs.Help text is reads = reads
+plain_reads_none jobs.Version text is reads = reads
+plain_reads_none _ text is reads = none_some text is
 
--- a test of letters that the words pass is one that the letter of their job passes
-pub passed : (words : List (List ℕ)) (job : Job) (test : ℕ → Bool) → test (letter job) ≡ true → Asks words job → test (letter_in words) ≡ true
-passed words job test is ask = ap test (asked words job ask) ∙ is
+pub views_run : (view : ViewName) (workers : ℕ) → RunsLab (viewing view workers)
+views_run names.Timeline workers = tt
+views_run (names.Story name) workers = tt
+views_run (names.Why name prefix) workers = tt
 
-pub against : (words : List (List ℕ)) (job : Job) (test : ℕ → Bool) → test (letter job) ≡ false → Asks words job → test (letter_in words) ≡ true → ⊥
-against words job test fails ask is = false≢true (sym fails ∙ ap test (sym (asked words job ask)) ∙ is)
+-- a job that runs what it reads
+pub answers_of : (job : Job) (before after : Option (List ℕ)) (answer : Result LabInput BadInput) → ReadsSource job → ReadsInput before after answer
+    → Answers job before after answer
+answers_of (jobs.Drill seed workers) before after answer reads read = absurd reads
+answers_of _ before after answer reads read = read
 
-abbrev pub is_report : ℕ → Bool
-is_report n = n == 114
+pub gives_of : (job : Job) (before after : Option (List ℕ)) (bytes : List ℕ) → ReadsSource job → TookWhole before after bytes
+    → Gives job before after bytes
+gives_of (jobs.Drill seed workers) before after bytes reads took = absurd reads
+gives_of _ before after bytes reads took = took
 
-abbrev pub is_journal : ℕ → Bool
-is_journal n = n == 106
+pub took_of : (job : Job) (before after : Option (List ℕ)) (bytes : List ℕ) → ReadsSource job → Gives job before after bytes
+    → TookWhole before after bytes
+took_of (jobs.Drill seed workers) before after bytes reads gives = absurd reads
+took_of _ before after bytes reads gives = gives
 
-abbrev pub is_drill : ℕ → Bool
-is_drill n = n == 100
+pub views_read : (view : ViewName) (workers : ℕ) → ReadsSource (viewing view workers)
+views_read names.Timeline workers = tt
+views_read (names.Story name) workers = tt
+views_read (names.Why name prefix) workers = tt
 
-abbrev pub is_check : ℕ → Bool
-is_check n = n == 99
+pub view_told : (view : ViewName) (workers : ℕ) (bytes : List ℕ) (lab : Lab) (text : List ℕ) → ShowsView lab view text
+    → Tells (viewing view workers) bytes lab text
+view_told names.Timeline workers bytes lab text shows = shows
+view_told (names.Story name) workers bytes lab text shows = shows
+view_told (names.Why name prefix) workers bytes lab text shows = shows
 
-abbrev pub is_make : ℕ → Bool
-is_make n = n == 109
+pub view_shown : (view : ViewName) (workers : ℕ) (bytes : List ℕ) (lab : Lab) (text : List ℕ) → Tells (viewing view workers) bytes lab text
+    → ShowsView lab view text
+view_shown names.Timeline workers bytes lab text tells = tells
+view_shown (names.Story name) workers bytes lab text tells = tells
+view_shown (names.Why name prefix) workers bytes lab text tells = tells
 
-abbrev pub is_lab : ℕ → Bool
-is_lab n = n == 114 || n == 106 || n == 100
+-- ---- what words ask for
 
-pub lab_passes : (words : List (List ℕ)) → AskForLab words → is_lab (letter_in words) ≡ true
-lab_passes words (inl (inl run)) = passed words (Run run.0) is_lab refl run.1
-lab_passes words (inl (inr journal)) = passed words (Journal journal.0) is_lab refl journal.1
-lab_passes words (inr drill) = passed words (Drill drill.0 drill.1.0) is_lab refl drill.1.1
+-- they ask for a run where their job runs a laboratory
+pub lab_asked : (words : List (List ℕ)) (job : Job) → Asks words job → RunsLab job → AskForLab words
+lab_asked words (jobs.Run workers) ask lab = inl (inl (workers, ask))
+lab_asked words (jobs.Drill seed workers) ask lab = inr (seed, (workers, ask))
+lab_asked words (jobs.Journal workers) ask lab = inl (inr (inl (workers, ask)))
+lab_asked words (jobs.Timeline workers) ask lab = inl (inr (inr (names.Timeline, (workers, ask))))
+lab_asked words (jobs.Story name workers) ask lab = inl (inr (inr (names.Story name, (workers, ask))))
+lab_asked words (jobs.Why name prefix workers) ask lab = inl (inr (inr (names.Why name prefix, (workers, ask))))
+lab_asked words _ ask lab = absurd lab
 
-pub source_against : (words : List (List ℕ)) (test : ℕ → Bool) → test 114 ≡ false → test 106 ≡ false → RunsSource words → test (letter_in words) ≡ true → ⊥
-source_against words test run journal (inl ask) is = against words (Run ask.0) test run ask.1 is
-source_against words test run journal (inr ask) is = against words (Journal ask.0) test journal ask.1 is
+-- the job that words ask for
+abbrev Asked : List (List ℕ) → (Job → Type 0) → Type 0
+Asked words Is = (job : Job) × Asks words job × Is job
 
-pub lab_against : (words : List (List ℕ)) (test : ℕ → Bool) → test 114 ≡ false → test 106 ≡ false → test 100 ≡ false → AskForLab words
-    → test (letter_in words) ≡ true → ⊥
-lab_against words test run journal drill (inl ask) is = source_against words test run journal ask is
-lab_against words test run journal drill (inr ask) is = against words (Drill ask.0 ask.1.0) test drill ask.1.1 is
+abbrev Both : Job → Type 0
+Both job = RunsLab job × ReadsSource job
+
+source_job : (words : List (List ℕ)) → RunsSource words → Asked words Both
+source_job words (inl run) = (jobs.Run run.0, run.1, (tt, tt))
+source_job words (inr (inl journal)) = (jobs.Journal journal.0, journal.1, (tt, tt))
+source_job words (inr (inr view)) = (viewing view.0 view.1.0, view.1.1, (views_run view.0 view.1.0, views_read view.0 view.1.0))
+
+lab_job : (words : List (List ℕ)) → AskForLab words → Asked words RunsLab
+lab_job words (inl source) = let job = source_job words source in (job.0, job.1, job.2.0)
+lab_job words (inr drill) = (jobs.Drill drill.0 drill.1.0, drill.1.1, tt)
+
+pub reads_source : (words : List (List ℕ)) (job : Job) → Asks words job → RunsSource words → ReadsSource job
+reads_source words job ask source = let asked = source_job words source in of_asked ReadsSource words asked.0 job asked.1 ask asked.2.1
+
+pub runs_lab : (words : List (List ℕ)) (job : Job) → Asks words job → AskForLab words → RunsLab job
+runs_lab words job ask run = let asked = lab_job words run in of_asked RunsLab words asked.0 job asked.1 ask asked.2
 
 pub none_run : (words : List (List ℕ)) → AreRefused words → AskForLab words → ⊥
-none_run words none (inl (inl run)) = none (Run run.0) run.1
-none_run words none (inl (inr journal)) = none (Journal journal.0) journal.1
-none_run words none (inr drill) = none (Drill drill.0 drill.1.0) drill.1.1
+none_run words none run = let asked = lab_job words run in none asked.0 asked.1
 
--- ---- one seed
+-- the plain text that a line is
+line_job : (words : List (List ℕ)) (line : List ℕ) → AskForLine words line → Asked words (λ job. plain_text job ≡ Some line)
+line_job words line (inl help) = (jobs.Help, help.0, ap Some (sym help.1))
+line_job words line (inr version) = (jobs.Version, version.0, ap Some (sym version.1))
 
-seed_by_text : (number : Option (List ℕ)) (seed other : ℕ) → IsSeed number seed → IsSeed number other → seed ≡ other
-seed_by_text None seed other is also = absurd is
-seed_by_text (Some text) seed other is also = sym is.value ∙ also.value
+pub line_asked : (words : List (List ℕ)) (line : List ℕ) (job : Job) → AskForLine words line → Asks words job → plain_text job ≡ Some line
+line_asked words line job is ask =
+    let asked = line_job words line is in of_asked (λ j. plain_text j ≡ Some line) words asked.0 job asked.1 ask asked.2
 
-pub one_seed : (words : List (List ℕ)) (seed other : ℕ) → Asks words (Make seed) → Asks words (Make other) → seed ≡ other
-one_seed words seed other make also = seed_by_text _ seed other make.1.1 also.1.1
+pub make_asked : (words : List (List ℕ)) (seed : ℕ) (job : Job) → Asks words (jobs.Make seed) → Asks words job → plain_text job ≡ Some (made seed)
+make_asked words seed job make ask = of_asked (λ j. plain_text j ≡ Some (made seed)) words (jobs.Make seed) job make ask refl
 
-pub one_drill : (words : List (List ℕ)) (seed other : ℕ) → AskToDrill words seed → AskToDrill words other → seed ≡ other
-one_drill words seed other drill also = let one = drill.1 in let two = also.1 in seed_by_text _ seed other one.1.1 two.1.1
+-- words that are refused, or ask for a job without a run
+pub no_lab : (words : List (List ℕ)) (job : Job) → Asks words job
+    → AreRefused words ⊎ AskToMake words ⊎ Asks words jobs.Check ⊎ ((line : List ℕ) × AskForLine words line) → RunsLab job → ⊥
+no_lab words job ask (inl none) lab = none job ask
+no_lab words job ask (inr (inl make)) lab = plain_is_no_lab job (made make.0) (make_asked words make.0 job make.1 ask) lab
+no_lab words job ask (inr (inr (inl check))) lab = of_asked RunsLab words job jobs.Check ask check lab
+no_lab words job ask (inr (inr (inr line))) lab = plain_is_no_lab job line.0 (line_asked words line.0 job line.1 ask) lab
 
--- ---- small seeds
-
-four_digits : (text : List ℕ) → AllDigits 10 text → length text ≤ 4 → digits_value 10 text ≤ 9999
-four_digits [] digits short = omega arith
-four_digits (a ∷ []) digits short = omega arith
-four_digits (a ∷ b ∷ []) digits short = omega arith
-four_digits (a ∷ b ∷ c ∷ []) digits short = omega arith
-four_digits (a ∷ b ∷ c ∷ d ∷ []) digits short = omega arith
-four_digits (a ∷ b ∷ c ∷ d ∷ e ∷ more) digits short = absurd (omega arith)
-
-small_text : (number : Option (List ℕ)) (seed : ℕ) → IsSeed number seed → seed ≤ 9999
-small_text None seed is = absurd is
-small_text (Some text) seed is = let value = is.value in omega (arith, four_digits text is.digits.1 is.short)
-
-pub seed_is_small : (words : List (List ℕ)) (seed : ℕ) → Asks words (Make seed) → seed ≤ 9999
-seed_is_small words seed make = small_text _ seed make.1.1
-
-pub drill_is_small : (words : List (List ℕ)) (seed workers : ℕ) → Asks words (Drill seed workers) → seed ≤ 9999
-drill_is_small words seed workers drill = small_text _ seed drill.1.1
-
-above_text : (number : Option (List ℕ)) (seed : ℕ) → IsSeed number seed → 1 ≤ seed
-above_text None seed is = absurd is
-above_text (Some text) seed is = let above = is.above in omega arith
-
-pub drill_is_above : (words : List (List ℕ)) (seed workers : ℕ) → Asks words (Drill seed workers) → 1 ≤ seed
-drill_is_above words seed workers drill = above_text _ seed drill.1.1
-
--- ---- few workers
-
-few_by_text : (given : Option (List ℕ)) (workers : ℕ) → AreWorkers given workers → (1 ≤ workers) × (workers ≤ 8)
-few_by_text None workers two = (omega arith, omega arith)
-few_by_text (Some text) workers are = (are.0, are.1)
-
-pub workers_are_few : (words : List (List ℕ)) (workers : ℕ) → Asks words (Run workers) → (1 ≤ workers) × (workers ≤ 8)
-workers_are_few words workers run = few_by_text _ workers run.1.2
-
-pub journal_are_few : (words : List (List ℕ)) (workers : ℕ) → Asks words (Journal workers) → (1 ≤ workers) × (workers ≤ 8)
-journal_are_few words workers ask = few_by_text _ workers ask.1.2
-
-pub drill_are_few : (words : List (List ℕ)) (seed workers : ℕ) → Asks words (Drill seed workers) → (1 ≤ workers) × (workers ≤ 8)
-drill_are_few words seed workers ask = few_by_text _ workers ask.1.2
+pub unread_job : (words : List (List ℕ)) (job : Job) → Asks words job → AskUnread words → ¬ (ReadsSource job)
+unread_job words job ask (inl none) = λ reads. none job ask
+unread_job words job ask (inr (inl make)) = plain_reads_none job (made make.0) (make_asked words make.0 job make.1 ask)
+unread_job words job ask (inr (inr (inl drill))) = of_asked ReadsSource words job (jobs.Drill drill.0 drill.1.0) ask drill.1.1
+unread_job words job ask (inr (inr (inr line))) = plain_reads_none job line.0 (line_asked words line.0 job line.1 ask)

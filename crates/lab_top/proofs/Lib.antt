@@ -1,3 +1,4 @@
 pub mod Asking
 pub mod Facts
+pub mod Numbers
 pub mod Parts

@@ -1,57 +1,47 @@
 -- How a job ends, of what its parts give.
-use Rattle.std.proofs.Common.{◌≡◌, ℕ, false, List, inl, inr, refl, sym, ap, ◌∙◌, subst}
-use Rattle.std.specs.Prelude.{◌⊎◌, Option, Some, None, Result, Ok, Err}
-use Rattle.graft_edge.specs.Outside.{FaultRose}
+use Rattle.std.proofs.Common.{◌≡◌, ℕ, ◌<◌, true, false, List, length, inl, inr, refl, sym, ap, ◌∙◌, subst, arith}
+use Rattle.std.specs.Prelude.{◌⊎◌, nat_lt, Option, Some, None, Result, Ok, Err}
+use Rattle.std.proofs.lemmas.Bool.Decides.{nat_tests}
+use Rattle.graft_edge.specs.Outside.{FaultRose, Took, TookSome, IsAtEnd}
 use Rattle.graft_edge.specs.declared.memory.NoMemory.{NoMemory}
 use Rattle.lab_tables.specs.declared.input.LabInput.{LabInput}
 use Rattle.lab_input.specs.declared.bad.BadInput.{BadInput}
-use Rattle.lab_input.specs.Labs.{input_of, InputOf}
-use Rattle.lab_words.specs.declared.job.Job.TheVariants.{Check, Make}
-use Rattle.lab_words.specs.Asked.{Asks}
+use Rattle.lab_input.specs.declared.bad.BadInput.TheVariants.{Unknown}
+use Rattle.lab_input.specs.Labs.{input_of, InputOf, too_long}
+use Rattle.lab_words.specs.declared.job.Job.{Job}
+use Rattle.lab_words.specs.declared.job.Job.TheVariants as jobs
+use Rattle.lab_words.specs.Asked.{usage_text, Asks}
 use Rattle.lab_make.specs.Made.{made}
 use Rattle.lab_report.specs.BadText.{bad_line}
 use Rattle.lab_report.specs.declared.lab.Lab.{Lab}
-use Rattle.lab_report.specs.Journals.{journal_text}
-use Rattle.lab_report.specs.Summary.{summary_text}
-use Rattle.lab_report.specs.Traces.{IsReport}
 use Rattle.lab_top.specs.Built.{is_built}
-use Rattle.lab_top.specs.Ends.{AskToRun, AskForJournal, RunsSource, AskToDrill, ReadsInput, SaysWhy, WritesText, end_status, not_built_text, verdict_text}
+use Rattle.lab_top.specs.declared.views.ViewName.{ViewName}
+use Rattle.lab_top.specs.Views.{view_named, viewing}
+use Rattle.lab_top.specs.Ends.{AreRefused, ReadsInput, WritesText, end_status, not_built_text, verdict_text}
 use Rattle.lab_top.specs.declared.finish.Finish.{Finish}
 use Rattle.lab_top.specs.declared.finish.InputStop.{InputStop}
 use Rattle.lab_top.specs.declared.finish.InputStop.TheVariants as stops
-use Rattle.lab_top.specs.Cases.{Outside, TookWhole, GivesNoInput, AnswersOrStops, WritesOr, FailsUnread, FindsNone}
-use Rattle.lab_top.specs.Cases.{BuiltOr, EndsRun, EndsUnbuilt, StopsFor, shows_report, shows_journal, shows_summary}
-use Rattle.lab_top.specs.Cases.{makes, checks, refuses, drops, runs, Ended, wrote, unread, EndsOr}
+use Rattle.lab_top.specs.Cases.{Outside, TookWhole, GivesNoInput, AnswersOrStops, WritesOr, FailsUnread, FindsNone, BuiltOr, EndsRun, EndsUnbuilt, StopsFor}
+use Rattle.lab_top.specs.Cases.{ReadsSource, RunsLab, plain_text, Gives, Answers, Tells, Cause, tells, checks, refuses, misses, runs}
+use Rattle.lab_top.specs.Cases.{Did, wrote, unread, DidOr, Ended, refused, did, EndsOr}
+use Rattle.lab_top.proofs.Asking.{answers_of, gives_of}
 
--- jobs that read the source
-abbrev AskToRead : List (List ℕ) → Type 0
-AskToRead words = RunsSource words ⊎ Asks words Check
+-- ---- bytes
 
--- ---- a source without an input
+long_is_refused : (bytes : List ℕ) → 4194304 < length bytes → input_of bytes ≡ Err too_long
+unfolding input_of
+long_is_refused bytes long = let tested : nat_lt 4194304 (length bytes) ≡ true = grind (arith, nat_tests) in rw tested refl
 
-bad_ends : (words : List (List ℕ)) (o n : Outside) (bad : BadInput) (result : Result Finish NoMemory) → AskToRead words → ReadsInput o.left n.left (Err bad)
-    → WritesOr (bad_line bad) 2 o.write_faults n.write_faults o.written n.written result → EndsOr words o n result
-bad_ends words o n bad (Ok finish) (inl run) read w = wrote (bad_line bad) 2 (refuses (Err bad) run read refl refl w.0) w.1
-bad_ends words o n bad (Ok finish) (inr check) read w = wrote (bad_line bad) 2 (checks (Err bad) check read refl refl w.0) w.1
-bad_ends words o n bad (Err e) ask read w = w
-
-failed_ends : (words : List (List ℕ)) (o n : Outside) (result : Result Finish NoMemory) → AskToRead words → FaultRose o.read_faults n.read_faults
-    → FailsUnread o.written n.written result → EndsOr words o n result
-failed_ends words o n (Ok finish) ask rose is = unread ask is.1 rose is.2 is.0
-failed_ends words o n (Err e) ask rose is = absurd is
-
-none_ends : (words : List (List ℕ)) (o n : Outside) (result : Result Finish NoMemory) → FindsNone o.written n.written result → EndsOr words o n result
-none_ends words o n (Ok finish) is = absurd is
-none_ends words o n (Err e) is = is
-
-pub stopped_ends : (words : List (List ℕ)) (o n : Outside) (stop : InputStop) (result : Result Finish NoMemory) → AskToRead words
-    → GivesNoInput o.left n.left o.read_faults n.read_faults stop
-    → StopsFor stop o.write_faults n.write_faults o.written n.written result → EndsOr words o n result
-stopped_ends words o n (stops.Bad bad) result ask read is = bad_ends words o n bad result ask read is
-stopped_ends words o n stops.Failed result ask rose is = failed_ends words o n result ask rose is
-stopped_ends words o n stops.NoMemory result ask read is = none_ends words o n result is
-
--- ---- bytes that were taken
+-- more bytes than an input has
+pub too_long_stops : (before after : Option (List ℕ)) (faults_before faults_after : ℕ) (stop : InputStop) → TookSome before after (λ n. 4194304 < n)
+    → (stop ≡ stops.NoMemory) ⊎ (stop ≡ stops.Bad too_long)
+    → GivesNoInput before after faults_before faults_after stop
+too_long_stops before after faults_before faults_after stop took (inl none) =
+    subst (λ s. GivesNoInput before after faults_before faults_after s) (sym none) tt
+too_long_stops before after faults_before faults_after stop took (inr bad) =
+    let read : ReadsInput before after (Err too_long) =
+    record { bytes = took.0; took = took.2; enough = inr (took.1, refl); is = long_is_refused took.0 took.1 } in
+    subst (λ s. GivesNoInput before after faults_before faults_after s) (sym bad) read
 
 pub reads_of : (before after : Option (List ℕ)) (bytes : List ℕ) (answer : Result LabInput BadInput) → TookWhole before after bytes
     → input_of bytes ≡ answer → ReadsInput before after answer
@@ -64,74 +54,111 @@ stops_of before after faults_before faults_after bytes (stops.Bad bad) took is =
 stops_of before after faults_before faults_after bytes stops.Failed took is = absurd is
 stops_of before after faults_before faults_after bytes stops.NoMemory took is = tt
 
--- ---- a source with an input
+no_input : (bad : BadInput) (input : LabInput) → Err bad ≡ Ok input → ⊥
+no_input bad input e = let r : Result LabInput BadInput = Err bad in let same : r ≡ Ok input = e in absurd (cc)
 
-pub writes_as : (text told : List ℕ) (planned meant faults_before faults_after : ℕ) (before after : Option (List ℕ)) (status : ℕ) → text ≡ told
-    → planned ≡ meant
-    → WritesText text planned faults_before faults_after before after status → WritesText told meant faults_before faults_after before after status
-writes_as text told planned meant faults_before faults_after before after status same also w =
-    subst (λ t. WritesText t meant faults_before faults_after before after status) same
-    (subst (λ k. WritesText text k faults_before faults_after before after status) also w)
+-- what is read as an input was taken whole
+whole_by : (before after : Option (List ℕ)) (bytes : List ℕ) (input : LabInput) → Took before after bytes
+    → IsAtEnd after ⊎ ((4194304 < length bytes) × (Ok input ≡ Err too_long)) → TookWhole before after bytes
+whole_by before after bytes input took (inl end) = record { took = took; end = end }
+whole_by before after bytes input took (inr long) = absurd (no_input too_long input (sym long.1))
 
-pub checked_ends : (words : List (List ℕ)) (o n : Outside) (input : LabInput) (text : List ℕ) (status : ℕ) (lab : Option Lab) → Asks words Check
-    → ReadsInput o.left n.left (Ok input)
-    → text ≡ verdict_text (Ok input) → lab ≡ None → WritesText text 0 o.write_faults n.write_faults o.written n.written status → Ended words o n status lab
-checked_ends words o n input text status lab check read is none w = wrote text 0 (checks (Ok input) check read is refl none) w
+whole : (before after : Option (List ℕ)) (input : LabInput) (read : ReadsInput before after (Ok input)) → TookWhole before after read.bytes
+whole before after input read = whole_by before after read.bytes input read.took read.enough
 
--- ---- runs of what was read
+-- ---- a source without an input
 
-pub unbuilt_ends : (words : List (List ℕ)) (o n : Outside) (input : LabInput) (finish : Finish) → RunsSource words
-    → ReadsInput o.left n.left (Ok input) → is_built input ≡ false
-    → EndsUnbuilt o.write_faults n.write_faults o.written n.written finish → Ended words o n finish.status finish.lab
-unbuilt_ends words o n input finish run read built end = wrote not_built_text 2 (refuses (Ok input) run read (built, refl) refl end.0) end.1
+-- the cause of a line that says what is bad of a source
+abbrev pub BadCause : Job → (before after : Option (List ℕ)) → Type 0
+BadCause job before after = (bad : BadInput) → ReadsInput before after (Err bad) → (lab : Option Lab) → lab ≡ None
+    → Cause job before after (bad_line bad) 2 lab
 
-pub report_ends : (words : List (List ℕ)) (o n : Outside) (input : LabInput) (lab : Lab) (text : List ℕ) (finish : Finish) → AskToRun words
-    → ReadsInput o.left n.left (Ok input) → BuiltOr input (Ok (Some lab))
-    → IsReport lab text → EndsRun text lab o.write_faults n.write_faults o.written n.written finish → Ended words o n finish.status finish.lab
-report_ends words o n input lab text finish run read built is end =
-    let its : ReadsInput o.left n.left (Ok lab.input) = rw built.0 read in
-    wrote text (end_status lab.end) (runs lab (shows_report run its is) built.1 refl end.0) end.1
+pub bad_check : (before after : Option (List ℕ)) → BadCause jobs.Check before after
+bad_check before after bad read lab none = checks (Err bad) refl read refl refl none
 
-pub journal_ends : (words : List (List ℕ)) (o n : Outside) (bytes : List ℕ) (input : LabInput) (lab : Lab) (text : List ℕ) (finish : Finish)
-    → AskForJournal words → TookWhole o.left n.left bytes → InputOf bytes input
-    → BuiltOr input (Ok (Some lab)) → text ≡ journal_text bytes lab.journal
-    → EndsRun text lab o.write_faults n.write_faults o.written n.written finish → Ended words o n finish.status finish.lab
-journal_ends words o n bytes input lab text finish ask took is built same end =
+pub bad_run : (job : Job) (before after : Option (List ℕ)) → RunsLab job → ReadsSource job → BadCause job before after
+bad_run job before after lab reads bad read end none = refuses (Err bad) lab (answers_of job before after (Err bad) reads read) refl refl none
+
+written_ends : (job : Job) (o n : Outside) (text : List ℕ) (planned : ℕ) (result : Result Finish NoMemory)
+    → ((lab : Option Lab) → lab ≡ None → Cause job o.left n.left text planned lab)
+    → WritesOr text planned o.write_faults n.write_faults o.written n.written result → DidOr job o n result
+written_ends job o n text planned (Ok finish) cause w = wrote text planned (cause finish.lab w.0) w.1
+written_ends job o n text planned (Err e) cause w = w
+
+failed_ends : (job : Job) (o n : Outside) (result : Result Finish NoMemory) → ReadsSource job → FaultRose o.read_faults n.read_faults
+    → FailsUnread o.written n.written result → DidOr job o n result
+failed_ends job o n (Ok finish) reads rose is = unread reads is.1 rose is.2 is.0
+failed_ends job o n (Err e) reads rose is = absurd is
+
+none_ends : (job : Job) (o n : Outside) (result : Result Finish NoMemory) → FindsNone o.written n.written result → DidOr job o n result
+none_ends job o n (Ok finish) is = absurd is
+none_ends job o n (Err e) is = is
+
+pub stopped_ends : (job : Job) (o n : Outside) (stop : InputStop) (result : Result Finish NoMemory) → ReadsSource job → BadCause job o.left n.left
+    → GivesNoInput o.left n.left o.read_faults n.read_faults stop
+    → StopsFor stop o.write_faults n.write_faults o.written n.written result → DidOr job o n result
+stopped_ends job o n (stops.Bad bad) result reads cause read is = written_ends job o n (bad_line bad) 2 result (cause bad read) is
+stopped_ends job o n stops.Failed result reads cause rose is = failed_ends job o n result reads rose is
+stopped_ends job o n stops.NoMemory result reads cause read is = none_ends job o n result is
+
+-- ---- texts without a run
+
+pub plain_did : (job : Job) (o n : Outside) (text told : List ℕ) (status : ℕ) (lab : Option Lab) → plain_text job ≡ Some told → text ≡ told → lab ≡ None
+    → WritesText text 0 o.write_faults n.write_faults o.written n.written status → Did job o n status lab
+plain_did job o n text told status lab plain same none w = wrote text 0 (tells (plain ∙ ap Some (sym same)) refl none) w
+
+pub checked_ends : (o n : Outside) (input : LabInput) (text : List ℕ) (status : ℕ) (lab : Option Lab) → ReadsInput o.left n.left (Ok input)
+    → text ≡ verdict_text (Ok input) → lab ≡ None → WritesText text 0 o.write_faults n.write_faults o.written n.written status
+    → Did jobs.Check o n status lab
+checked_ends o n input text status lab read is none w = wrote text 0 (checks (Ok input) refl read is refl none) w
+
+-- an input that hasn't what a view names
+pub unknown_ends : (view : ViewName) (workers : ℕ) (o n : Outside) (input : LabInput) (name : List ℕ) (result : Result Finish NoMemory)
+    → ReadsInput o.left n.left (Ok input) → view_named input view ≡ Err name
+    → WritesOr (bad_line (Unknown name)) 2 o.write_faults n.write_faults o.written n.written result → DidOr (viewing view workers) o n result
+unknown_ends view workers o n input name result read none w =
+    written_ends (viewing view workers) o n (bad_line (Unknown name)) 2 result (λ lab no_lab. misses input view workers name refl read none refl refl no_lab) w
+
+-- ---- runs
+
+pub unbuilt_ends : (job : Job) (o n : Outside) (input : LabInput) (finish : Finish) → RunsLab job → Answers job o.left n.left (Ok input)
+    → is_built input ≡ false → EndsUnbuilt o.write_faults n.write_faults o.written n.written finish → Did job o n finish.status finish.lab
+unbuilt_ends job o n input finish lab answers built end = wrote not_built_text 2 (refuses (Ok input) lab answers (built, refl) refl end.0) end.1
+
+pub run_ends : (job : Job) (o n : Outside) (bytes : List ℕ) (input : LabInput) (lab : Lab) (text : List ℕ) (finish : Finish) → RunsLab job
+    → Gives job o.left n.left bytes → InputOf bytes input → BuiltOr input (Ok (Some lab)) → Tells job bytes lab text
+    → EndsRun text lab o.write_faults n.write_faults o.written n.written finish → Did job o n finish.status finish.lab
+run_ends job o n bytes input lab text finish runs_lab gives is built told end =
     let its : InputOf bytes lab.input = rw built.0 is in
-    wrote text (end_status lab.end) (runs lab (shows_journal ask bytes took its same) built.1 refl end.0) end.1
+    wrote text (end_status lab.end) (runs bytes lab runs_lab gives its told built.1 refl end.0) end.1
+
+-- a run of an input that was read
+pub read_ends : (job : Job) (o n : Outside) (input : LabInput) (lab : Lab) (text : List ℕ) (finish : Finish) → RunsLab job → ReadsSource job
+    → ReadsInput o.left n.left (Ok input) → BuiltOr input (Ok (Some lab)) → ((bytes : List ℕ) → Tells job bytes lab text)
+    → EndsRun text lab o.write_faults n.write_faults o.written n.written finish → Did job o n finish.status finish.lab
+read_ends job o n input lab text finish runs_lab reads read built told end =
+    run_ends job o n read.bytes input lab text finish runs_lab (gives_of job o.left n.left read.bytes reads (whole o.left n.left input read)) read.is built
+    (told read.bytes) end
 
 -- ---- runs of the laboratory of a seed
 
-pub drill_stopped : (words : List (List ℕ)) (o n : Outside) (seed : ℕ) (bytes : List ℕ) (stop : InputStop) (result : Result Finish NoMemory)
-    → AskToDrill words seed → bytes ≡ made seed
-    → AnswersOrStops (input_of bytes) (Err stop) → StopsFor stop o.write_faults n.write_faults o.written n.written result → EndsOr words o n result
-drill_stopped words o n seed bytes (stops.Bad bad) (Ok finish) ask same is w =
+pub drill_stopped : (o n : Outside) (seed workers : ℕ) (bytes : List ℕ) (stop : InputStop) (result : Result Finish NoMemory) → bytes ≡ made seed
+    → AnswersOrStops (input_of bytes) (Err stop) → StopsFor stop o.write_faults n.write_faults o.written n.written result
+    → DidOr (jobs.Drill seed workers) o n result
+drill_stopped o n seed workers bytes (stops.Bad bad) result same is w =
     let answer : input_of (made seed) ≡ Err bad = ap input_of (sym same) ∙ is in
-    let why : SaysWhy (input_of (made seed)) (bad_line bad) = rw answer refl in
-    wrote (bad_line bad) 2 (drops seed ask why refl w.0) w.1
-drill_stopped words o n seed bytes (stops.Bad bad) (Err e) ask same is w = w
-drill_stopped words o n seed bytes stops.Failed result ask same is w = absurd is
-drill_stopped words o n seed bytes stops.NoMemory result ask same is w = none_ends words o n result w
+    written_ends (jobs.Drill seed workers) o n (bad_line bad) 2 result (λ lab none. refuses (Err bad) tt answer refl refl none) w
+drill_stopped o n seed workers bytes stops.Failed result same is w = absurd is
+drill_stopped o n seed workers bytes stops.NoMemory result same is w = none_ends (jobs.Drill seed workers) o n result w
 
-pub drill_unbuilt : (words : List (List ℕ)) (o n : Outside) (seed : ℕ) (bytes : List ℕ) (input : LabInput) (finish : Finish) → AskToDrill words seed
-    → bytes ≡ made seed → InputOf bytes input
-    → is_built input ≡ false → EndsUnbuilt o.write_faults n.write_faults o.written n.written finish → Ended words o n finish.status finish.lab
-drill_unbuilt words o n seed bytes input finish ask same is built end =
-    let answer : input_of (made seed) ≡ Ok input = ap input_of (sym same) ∙ is in
-    let why : SaysWhy (input_of (made seed)) not_built_text = rw answer (built, refl) in
-    wrote not_built_text 2 (drops seed ask why refl end.0) end.1
+-- ---- the words
 
-pub summary_ends : (words : List (List ℕ)) (o n : Outside) (seed : ℕ) (bytes : List ℕ) (input : LabInput) (lab : Lab) (text : List ℕ) (finish : Finish)
-    → AskToDrill words seed → bytes ≡ made seed → InputOf bytes input
-    → BuiltOr input (Ok (Some lab)) → text ≡ summary_text lab → EndsRun text lab o.write_faults n.write_faults o.written n.written finish
-    → Ended words o n finish.status finish.lab
-summary_ends words o n seed bytes input lab text finish ask bytes_are is built same end =
-    let answer : InputOf (made seed) lab.input = ap input_of (sym bytes_are) ∙ is ∙ ap Ok (sym built.0) in
-    wrote text (end_status lab.end) (runs lab (shows_summary seed ask answer same) built.1 refl end.0) end.1
+pub did_ends : (words : List (List ℕ)) (job : Job) (o n : Outside) (result : Result Finish NoMemory) → Asks words job → DidOr job o n result
+    → EndsOr words o n result
+did_ends words job o n (Ok finish) ask is = did job ask is
+did_ends words job o n (Err e) ask is = is
 
--- ---- a laboratory is made
-
-pub made_ends : (words : List (List ℕ)) (o n : Outside) (seed : ℕ) (result : Result Finish NoMemory) → Asks words (Make seed)
-    → WritesOr (made seed) 0 o.write_faults n.write_faults o.written n.written result → EndsOr words o n result
-made_ends words o n seed (Ok finish) make w = wrote (made seed) 0 (makes seed make refl refl w.0) w.1
-made_ends words o n seed (Err e) make w = w
+pub refused_ends : (words : List (List ℕ)) (o n : Outside) (text : List ℕ) (status : ℕ) (lab : Option Lab) → AreRefused words → text ≡ usage_text
+    → WritesText text 1 o.write_faults n.write_faults o.written n.written status → lab ≡ None → Ended words o n status lab
+refused_ends words o n text status lab none same w no_lab =
+    refused none (subst (λ t. WritesText t 1 o.write_faults n.write_faults o.written n.written status) same w) no_lab

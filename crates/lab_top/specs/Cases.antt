@@ -1,16 +1,18 @@
 -- How a command ends, case by case. `graft_main` says what holds of every end; here is what its parts give.
-use Rattle.std.specs.Prelude.{◌≡◌, ◌⊎◌, ℕ, List, false, Option, Some, None, Result, Ok, Err}
+use Rattle.std.specs.Prelude.{◌≡◌, ℕ, List, false, Option, Some, None, Result, Ok, Err}
 use Rattle.graft_edge.specs.Outside.{FaultRose, Took, IsAtEnd}
 use Rattle.graft_edge.specs.declared.memory.NoMemory.{NoMemory}
 use Rattle.lab_tables.specs.declared.input.LabInput.{LabInput}
 use Rattle.lab_input.specs.declared.bad.BadInput.{BadInput}
+use Rattle.lab_input.specs.declared.bad.BadInput.TheVariants.{Unknown}
 use Rattle.lab_input.specs.Labs.{input_of, InputOf}
-use Rattle.lab_words.specs.declared.job.Job.TheVariants.{Check, Make}
-use Rattle.lab_words.specs.Asked.{usage_text, Asks}
+use Rattle.lab_words.specs.declared.job.Job.{Job}
+use Rattle.lab_words.specs.declared.job.Job.TheVariants as jobs
+use Rattle.lab_words.specs.Asked.{usage_text, version_text, Asks}
 use Rattle.lab_make.specs.Made.{made}
 use Rattle.lab_report.specs.BadText.{bad_line}
 use Rattle.lab_report.specs.declared.lab.Lab.{Lab}
-use Rattle.lab_report.specs.Journals.{journal_text}
+use Rattle.journal_form.specs.Journals.{journal_text}
 use Rattle.lab_report.specs.Summary.{summary_text}
 use Rattle.lab_report.specs.Traces.{IsReport}
 use Rattle.lab_run.specs.Runs.{RanLab}
@@ -18,8 +20,10 @@ use Rattle.lab_top.specs.declared.finish.Finish.{Finish}
 use Rattle.lab_top.specs.declared.finish.InputStop.{InputStop}
 use Rattle.lab_top.specs.declared.finish.InputStop.TheVariants as stops
 use Rattle.lab_top.specs.Built.{is_built}
-use Rattle.lab_top.specs.Ends.{AreRefused, AskToRun, AskForJournal, RunsSource, AskToDrill, ReadsInput, SaysWhy}
-use Rattle.lab_top.specs.Ends.{WritesText, end_status, not_built_text, verdict_text, verdict_status}
+use Rattle.lab_top.specs.declared.views.ViewName.{ViewName}
+use Rattle.lab_top.specs.declared.views.ViewName.TheVariants as names
+use Rattle.lab_top.specs.Views.{view_named, ShowsView, viewing}
+use Rattle.lab_top.specs.Ends.{AreRefused, ReadsInput, SaysWhy, WritesText, end_status, not_built_text, verdict_text, verdict_status}
 
 -- what the source and the sink tell
 pub record Outside : Type 0 where
@@ -97,37 +101,83 @@ StopsFor (stops.Bad bad) faults_before faults_after before after end = WritesOr 
 StopsFor stops.Failed faults_before faults_after before after end = FailsUnread before after end
 StopsFor stops.NoMemory faults_before faults_after before after end = FindsNone before after end
 
+-- ---- jobs
+
+-- the jobs that read the source
+abbrev pub ReadsSource : Job → Type 0
+ReadsSource (jobs.Make seed) = ⊥
+ReadsSource (jobs.Drill seed workers) = ⊥
+ReadsSource jobs.Help = ⊥
+ReadsSource jobs.Version = ⊥
+ReadsSource _ = Unit {0}
+
+-- the jobs that run a laboratory
+abbrev pub RunsLab : Job → Type 0
+RunsLab jobs.Check = ⊥
+RunsLab (jobs.Make seed) = ⊥
+RunsLab jobs.Help = ⊥
+RunsLab jobs.Version = ⊥
+RunsLab _ = Unit {0}
+
+-- what a job writes that needs neither a source nor a run
+abbrev pub plain_text : Job → Option (List ℕ)
+plain_text (jobs.Make seed) = Some (made seed)
+plain_text jobs.Help = Some usage_text
+plain_text jobs.Version = Some version_text
+plain_text _ = None
+
+-- What is run is the laboratory of the seed, or what all bytes of the source are.
+abbrev pub Gives : Job → (before after : Option (List ℕ)) → List ℕ → Type 0
+Gives (jobs.Drill seed workers) before after bytes = bytes ≡ made seed
+Gives _ before after bytes = TookWhole before after bytes
+
+-- What it is read as.
+abbrev pub Answers : Job → (before after : Option (List ℕ)) → Result LabInput BadInput → Type 0
+Answers (jobs.Drill seed workers) before after answer = input_of (made seed) ≡ answer
+Answers _ before after answer = ReadsInput before after answer
+
+-- What is written of a run: its report, its summary, its input and its journal, or a view.
+abbrev pub Tells : Job → (bytes : List ℕ) → Lab → (text : List ℕ) → Type 0
+Tells (jobs.Run workers) bytes lab text = IsReport lab text
+Tells (jobs.Drill seed workers) bytes lab text = text ≡ summary_text lab
+Tells (jobs.Journal workers) bytes lab text = text ≡ journal_text bytes lab.journal
+Tells (jobs.Timeline workers) bytes lab text = ShowsView lab names.Timeline text
+Tells (jobs.Story name workers) bytes lab text = ShowsView lab (names.Story name) text
+Tells (jobs.Why name prefix workers) bytes lab text = ShowsView lab (names.Why name prefix) text
+Tells _ bytes lab text = ⊥
+
 -- ---- ends
 
--- What was run, and which text of the run it is: the report of what was read, its journal
--- behind the bytes that were read, or the summary of a seed's laboratory.
-pub data Shows (words : List (List ℕ)) (left_before left_after : Option (List ℕ)) (end : Lab) (text : List ℕ) : Type 0 where
-  shows_report : AskToRun words → ReadsInput left_before left_after (Ok end.input) → IsReport end text → Shows words left_before left_after end text
-  shows_journal : AskForJournal words → (bytes : List ℕ) → TookWhole left_before left_after bytes → InputOf bytes end.input
-      → text ≡ journal_text bytes end.journal → Shows words left_before left_after end text
-  shows_summary : (seed : ℕ) → AskToDrill words seed → InputOf (made seed) end.input → text ≡ summary_text end → Shows words left_before left_after end text
+-- The text of a job that is written under a planned status, and its cause.
+pub data Cause (job : Job) (left_before left_after : Option (List ℕ)) (text : List ℕ) (planned : ℕ) (lab : Option Lab) : Type 0 where
+  tells : plain_text job ≡ Some text → planned ≡ 0 → lab ≡ None → Cause job left_before left_after text planned lab
+  checks : (answer : Result LabInput BadInput) → job ≡ jobs.Check → ReadsInput left_before left_after answer → text ≡ verdict_text answer
+      → planned ≡ verdict_status answer → lab ≡ None → Cause job left_before left_after text planned lab
+  refuses : (answer : Result LabInput BadInput) → RunsLab job → Answers job left_before left_after answer → SaysWhy answer text → planned ≡ 2
+      → lab ≡ None → Cause job left_before left_after text planned lab
+  misses : (input : LabInput) (view : ViewName) (workers : ℕ) (name : List ℕ) → job ≡ viewing view workers → ReadsInput left_before left_after (Ok input)
+      → view_named input view ≡ Err name → text ≡ bad_line (Unknown name) → planned ≡ 2 → lab ≡ None → Cause job left_before left_after text planned lab
+  runs : (bytes : List ℕ) (end : Lab) → RunsLab job → Gives job left_before left_after bytes → InputOf bytes end.input → Tells job bytes end text
+      → RanLab end → planned ≡ end_status end.end → lab ≡ Some end → Cause job left_before left_after text planned lab
 
--- The text that is written under a planned status, and its cause.
-pub data Cause (words : List (List ℕ)) (left_before left_after : Option (List ℕ)) (text : List ℕ) (planned : ℕ) (lab : Option Lab) : Type 0 where
-  usage : AreRefused words → text ≡ usage_text → planned ≡ 1 → lab ≡ None → Cause words left_before left_after text planned lab
-  makes : (seed : ℕ) → Asks words (Make seed) → text ≡ made seed → planned ≡ 0 → lab ≡ None → Cause words left_before left_after text planned lab
-  checks : (answer : Result LabInput BadInput) → Asks words Check → ReadsInput left_before left_after answer → text ≡ verdict_text answer
-      → planned ≡ verdict_status answer → lab ≡ None
-      → Cause words left_before left_after text planned lab
-  refuses : (answer : Result LabInput BadInput) → RunsSource words → ReadsInput left_before left_after answer → SaysWhy answer text → planned ≡ 2 → lab ≡ None
-      → Cause words left_before left_after text planned lab
-  drops : (seed : ℕ) → AskToDrill words seed → SaysWhy (input_of (made seed)) text → planned ≡ 2 → lab ≡ None
-      → Cause words left_before left_after text planned lab
-  runs : (end : Lab) → Shows words left_before left_after end text → RanLab end → planned ≡ end_status end.end → lab ≡ Some end
-      → Cause words left_before left_after text planned lab
+-- A text of a job was written, whole or in part; or a read failed.
+pub data Did (job : Job) (before after : Outside) (status : ℕ) (lab : Option Lab) : Type 0 where
+  wrote : (text : List ℕ) (planned : ℕ) → Cause job before.left after.left text planned lab
+      → WritesText text planned before.write_faults after.write_faults before.written after.written status → Did job before after status lab
+  unread : ReadsSource job → status ≡ 4 → FaultRose before.read_faults after.read_faults → after.written ≡ before.written → lab ≡ None
+      → Did job before after status lab
 
--- A text was written, whole or in part; or a read failed; or memory ran out.
+-- The words are refused, or a job is done that they ask for; or memory ran out.
 pub data Ended (words : List (List ℕ)) (before after : Outside) (status : ℕ) (lab : Option Lab) : Type 0 where
-  wrote : (text : List ℕ) (planned : ℕ) → Cause words before.left after.left text planned lab
-      → WritesText text planned before.write_faults after.write_faults before.written after.written status → Ended words before after status lab
-  unread : RunsSource words ⊎ Asks words Check → status ≡ 4 → FaultRose before.read_faults after.read_faults → after.written ≡ before.written
-      → lab ≡ None → Ended words before after status lab
+  refused : AreRefused words → WritesText usage_text 1 before.write_faults after.write_faults before.written after.written status → lab ≡ None
+      → Ended words before after status lab
+  did : (job : Job) → Asks words job → Did job before after status lab → Ended words before after status lab
   no_memory : status ≡ 6 → after.written ≡ before.written → lab ≡ None → Ended words before after status lab
+
+-- The job is done; or memory ran out before anything was written.
+abbrev pub DidOr : Job → Outside → Outside → Result Finish NoMemory → Type 0
+DidOr job before after (Ok finish) = Did job before after finish.status finish.lab
+DidOr job before after (Err _) = after.written ≡ before.written
 
 -- The command ended; or memory ran out before anything was written.
 abbrev pub EndsOr : List (List ℕ) → Outside → Outside → Result Finish NoMemory → Type 0

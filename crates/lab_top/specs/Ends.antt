@@ -3,11 +3,12 @@ use Rattle.std.specs.Prelude.{◌≡◌, ◌⊎◌, ℕ, ◌<◌, false, List, [
 use Rattle.graft_edge.specs.Outside.{FaultRose, Took, IsAtEnd, Appended, AppendedFront}
 use Rattle.lab_tables.specs.declared.input.LabInput.{LabInput}
 use Rattle.lab_input.specs.declared.bad.BadInput.{BadInput}
+use Rattle.lab_input.specs.declared.bad.BadInput.TheVariants.{Unknown}
 use Rattle.lab_top.specs.Built.{is_built}
 use Rattle.lab_input.specs.Labs.{input_of, InputOf, too_long}
 use Rattle.lab_words.specs.declared.job.Job.{Job}
-use Rattle.lab_words.specs.declared.job.Job.TheVariants.{Run, Make, Drill, Journal}
-use Rattle.lab_words.specs.Asked.{Asks}
+use Rattle.lab_words.specs.declared.job.Job.TheVariants.{Run, Make, Drill, Journal, Help, Version}
+use Rattle.lab_words.specs.Asked.{usage_text, version_text, Asks}
 use Rattle.lab_make.specs.Made.{made}
 use Rattle.lab_report.specs.declared.lab.Lab.{Lab}
 use Rattle.lab_report.specs.declared.lab.RunEnd.{RunEnd}
@@ -17,8 +18,10 @@ use Rattle.lab_report.specs.CheckText.{check_text}
 use Rattle.lab_setup.specs.Setups.{setup_of}
 use Rattle.even_inputs.specs.Evenness.{is_even}
 use Rattle.sure_inputs.specs.Sure.{is_sure}
-use Rattle.lab_report.specs.Journals.{journal_text}
+use Rattle.journal_form.specs.Journals.{journal_text}
 use Rattle.lab_report.specs.Traces.{IsReport}
+use Rattle.lab_top.specs.declared.views.ViewName.{ViewName}
+use Rattle.lab_top.specs.Views.{view_named, ShowsView, viewing}
 
 -- ---- words
 
@@ -34,9 +37,13 @@ AskToRun words = (workers : ℕ) × Asks words (Run workers)
 abbrev pub AskForJournal : List (List ℕ) → Type 0
 AskForJournal words = (workers : ℕ) × Asks words (Journal workers)
 
+-- They ask for a view of it.
+abbrev pub AskToView : List (List ℕ) → ViewName → Type 0
+AskToView words name = (workers : ℕ) × Asks words (viewing name workers)
+
 -- They ask for a run of what the source has.
 abbrev pub RunsSource : List (List ℕ) → Type 0
-RunsSource words = AskToRun words ⊎ AskForJournal words
+RunsSource words = AskToRun words ⊎ AskForJournal words ⊎ ((name : ViewName) × AskToView words name)
 
 -- They ask for a run of the laboratory of this seed.
 abbrev pub AskToDrill : List (List ℕ) → ℕ → Type 0
@@ -50,9 +57,13 @@ AskForLab words = RunsSource words ⊎ ((seed : ℕ) × AskToDrill words seed)
 abbrev pub AskToMake : List (List ℕ) → Type 0
 AskToMake words = (seed : ℕ) × Asks words (Make seed)
 
+-- They ask for a line that the program says of itself.
+abbrev pub AskForLine : List (List ℕ) → List ℕ → Type 0
+AskForLine words line = (Asks words Help × (line ≡ usage_text)) ⊎ (Asks words Version × (line ≡ version_text))
+
 -- The source isn't read for them.
 abbrev pub AskUnread : List (List ℕ) → Type 0
-AskUnread words = AreRefused words ⊎ AskToMake words ⊎ ((seed : ℕ) × AskToDrill words seed)
+AskUnread words = AreRefused words ⊎ AskToMake words ⊎ ((seed : ℕ) × AskToDrill words seed) ⊎ ((line : List ℕ) × AskForLine words line)
 
 -- ---- the source
 
@@ -84,9 +95,21 @@ pub record TookBadInput (before after : Option (List ℕ)) (text : List ℕ) : T
   pub read : ReadsInput before after answer
   pub why : SaysWhy answer text
 
--- What is to be checked or run is none, for the reason that the text says: what was taken from a source, or the laboratory of a seed.
+-- What was taken from a source is an input, but it hasn't the router or peering that the words name, and the text says so.
+pub record NamesUnknown (words : List (List ℕ)) (before after : Option (List ℕ)) (text : List ℕ) : Type 0 where
+  pub input : LabInput
+  pub view : ViewName
+  pub name : List ℕ
+  pub read : ReadsInput before after (Ok input)
+  pub asks : AskToView words view
+  pub none : view_named input view ≡ Err name
+  pub says : text ≡ bad_line (Unknown name)
+
+-- What is to be checked or run is none, for the reason that the text says: what was taken from a source, or the laboratory of a seed; or it hasn't
+-- what the words name.
 abbrev pub GaveBadInput : (words : List (List ℕ)) → (before after : Option (List ℕ)) → (text : List ℕ) → Type 0
-GaveBadInput words before after text = TookBadInput before after text ⊎ ((seed : ℕ) × AskToDrill words seed × SaysWhy (input_of (made seed)) text)
+GaveBadInput words before after text =
+    TookBadInput before after text ⊎ ((seed : ℕ) × AskToDrill words seed × SaysWhy (input_of (made seed)) text) ⊎ NamesUnknown words before after text
 
 -- ---- the sink
 
@@ -135,3 +158,9 @@ pub record WritesJournal (left_before left_after : Option (List ℕ)) (lab : Lab
   pub end : IsAtEnd left_after
   pub is : InputOf bytes lab.input
   pub wrote : WritesText (journal_text bytes lab.journal) (end_status lab.end) faults_before faults_after before after status
+
+-- The view of a run that has this name was written under the status of its end.
+pub record WritesView (lab : Lab) (name : ViewName) (faults_before faults_after : ℕ) (before after : Option (List ℕ)) (status : ℕ) : Type 0 where
+  pub text : List ℕ
+  pub shows : ShowsView lab name text
+  pub wrote : WritesText text (end_status lab.end) faults_before faults_after before after status

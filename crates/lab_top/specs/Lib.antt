@@ -1,3 +1,4 @@
 pub mod Built
 pub mod Cases
 pub mod Ends
+pub mod Views

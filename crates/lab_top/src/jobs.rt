@@ -1,23 +1,24 @@
 //! What each job does.
 
 ghost use Rattle.std.specs.Prelude.{◌≡◌, ◌⊎◌, ◌≤◌, ◌<◌, ℕ, List, Option, Ok, IfOk};
-ghost use Rattle.lab_words.specs.declared.job.Job.TheVariants.{Check};
-ghost use Rattle.lab_words.specs.Asked.{Asks};
-ghost use Rattle.lab_make.specs.Made.{made};
+ghost use Rattle.lab_words.specs.declared.job.Job.TheVariants.{Run, Check, Make, Drill, Journal};
 ghost use Rattle.lab_input.specs.Labs.{input_of, too_long as too_long_bad};
 ghost use Rattle.node_configs.specs.Accepted.{IsAccepted};
-ghost use Rattle.lab_top.specs.Ends.{AskToRun, AskForJournal, AskToDrill, end_status, verdict_text};
-ghost use Rattle.lab_top.specs.Cases.{outside, BytesOrStops, ReadsOrStops, AnswersOrStops, WritesOr, BuiltOr, EndsRun, EndsUnbuilt, StopsFor, EndsOr};
+ghost use Rattle.lab_top.specs.Ends.{end_status, verdict_text};
+ghost use Rattle.lab_top.specs.Views.{viewing};
+ghost use Rattle.lab_top.specs.Cases.{outside, BytesOrStops, ReadsOrStops, AnswersOrStops, BuiltOr, EndsRun, EndsUnbuilt, StopsFor, DidOr};
 
 use crate::built::is_built;
 use crate::finish::{
     BAD_INPUT, DONE, Finish, InputStop, LIMIT, READ_FAILED, UNSETTLED, end_with, without_run,
 };
+use crate::views::{ViewName, view_named, view_text};
 use graft_edge::{Gate, NoMemory, Octets, ReadStop, Sink, Source, read_all};
+use journal_form::journal_text;
 use lab_answers::{even, sure};
-use lab_input::{LabInput, LabStop, MOST_BYTES, read_lab, too_long};
+use lab_input::{BadInput, LabInput, LabStop, MOST_BYTES, read_lab, too_long};
 use lab_make::make_lab;
-use lab_report::{Lab, RunEnd, bad_text, check_text, journal_text, report, summary};
+use lab_report::{Lab, RunEnd, bad_text, check_text, report, summary};
 use lab_run::run_lab;
 use std::alloc::Global;
 use std::thread::Threads;
@@ -134,7 +135,7 @@ pub(crate) fn run_job<R: Threads + Sync + AllocGlobal, S: Source, K: Sink, G: Ga
     gate: &G,
 ) -> Result<Finish, NoMemory>
     requires workers { (1 ≤ workers) × (workers ≤ 8) }
-    ensures { (words : List (List ℕ)) → AskToRun words → EndsOr words (outside (S.left source.old) (S.faults source.old) (K.written sink.old)
+    ensures { DidOr (Run workers) (outside (S.left source.old) (S.faults source.old) (K.written sink.old)
         (K.faults sink.old)) (outside (S.left source.new) (S.faults source.new) (K.written sink.new) (K.faults sink.new)) result }
 {
     let alloc = rt.alloc();
@@ -160,7 +161,7 @@ pub(crate) fn journal_job<R: Threads + Sync + AllocGlobal, S: Source, K: Sink, G
     gate: &G,
 ) -> Result<Finish, NoMemory>
     requires workers { (1 ≤ workers) × (workers ≤ 8) }
-    ensures { (words : List (List ℕ)) → AskForJournal words → EndsOr words (outside (S.left source.old) (S.faults source.old) (K.written sink.old)
+    ensures { DidOr (Journal workers) (outside (S.left source.old) (S.faults source.old) (K.written sink.old)
         (K.faults sink.old)) (outside (S.left source.new) (S.faults source.new) (K.written sink.new) (K.faults sink.new)) result }
 {
     let alloc = rt.alloc();
@@ -181,6 +182,37 @@ pub(crate) fn journal_job<R: Threads + Sync + AllocGlobal, S: Source, K: Sink, G
     }
 }
 
+/// Reads an input from the source, runs it and writes a view of the run.
+pub(crate) fn view_job<R: Threads + Sync + AllocGlobal, S: Source, K: Sink, G: Gate>(
+    rt: &R,
+    source: &mut S,
+    sink: &mut K,
+    view: ViewName,
+    workers: usize,
+    gate: &G,
+) -> Result<Finish, NoMemory>
+    requires workers { (1 ≤ workers) × (workers ≤ 8) }
+    ensures { DidOr (viewing view workers) (outside (S.left source.old) (S.faults source.old) (K.written sink.old)
+        (K.faults sink.old)) (outside (S.left source.new) (S.faults source.new) (K.written sink.new) (K.faults sink.new)) result }
+{
+    let alloc = rt.alloc();
+    let input = match read_source(alloc, source) {
+        Ok(input) => input,
+        Err(stop) => return end_stopped(alloc, sink, stop),
+    };
+    let view = match view_named(&input, view) {
+        Ok(view) => view,
+        Err(name) => return end_stopped(alloc, sink, InputStop::Bad(BadInput::Unknown(name))),
+    };
+    match run_built(rt, input, workers, gate)? {
+        Some(lab) => {
+            let text = view_text(alloc, &lab, view)?;
+            Ok(end_run(sink, &text, lab))
+        }
+        None => Ok(end_unbuilt(sink)),
+    }
+}
+
 /// Runs the laboratory of a seed and writes the summary.
 pub(crate) fn drill_job<R: Threads + Sync + AllocGlobal, K: Sink, G: Gate>(
     rt: &R,
@@ -192,8 +224,8 @@ pub(crate) fn drill_job<R: Threads + Sync + AllocGlobal, K: Sink, G: Gate>(
     requires lowest { 1 ≤ seed }
     requires highest { seed ≤ 9999 }
     requires workers { (1 ≤ workers) × (workers ≤ 8) }
-    ensures { (words : List (List ℕ)) (left : Option (List ℕ)) (faults : ℕ) → AskToDrill words seed
-        → EndsOr words (outside left faults (K.written sink.old) (K.faults sink.old)) (outside left faults (K.written sink.new) (K.faults sink.new)) result }
+    ensures { (left : Option (List ℕ)) (faults : ℕ) → DidOr (Drill seed workers) (outside left faults (K.written sink.old) (K.faults sink.old))
+        (outside left faults (K.written sink.new) (K.faults sink.new)) result }
 {
     let alloc = rt.alloc();
     let bytes = make_lab(alloc, seed)?;
@@ -226,7 +258,7 @@ pub(crate) fn check_job<S: Source, K: Sink>(
     source: &mut S,
     sink: &mut K,
 ) -> Result<Finish, NoMemory>
-    ensures { (words : List (List ℕ)) → Asks words Check → EndsOr words (outside (S.left source.old) (S.faults source.old) (K.written sink.old)
+    ensures { DidOr Check (outside (S.left source.old) (S.faults source.old) (K.written sink.old)
         (K.faults sink.old)) (outside (S.left source.new) (S.faults source.new) (K.written sink.new) (K.faults sink.new)) result }
 {
     let input = match read_source(alloc, source) {
@@ -241,7 +273,8 @@ pub(crate) fn check_job<S: Source, K: Sink>(
 pub(crate) fn make_job<K: Sink>(alloc: Global, sink: &mut K, seed: u32) -> Result<Finish, NoMemory>
     requires lowest { 1 ≤ seed }
     requires highest { seed ≤ 9999 }
-    ensures { WritesOr (made seed) 0 (K.faults sink.old) (K.faults sink.new) (K.written sink.old) (K.written sink.new) result }
+    ensures { (left : Option (List ℕ)) (faults : ℕ) → DidOr (Make seed) (outside left faults (K.written sink.old) (K.faults sink.old))
+        (outside left faults (K.written sink.new) (K.faults sink.new)) result }
 {
     let text = make_lab(alloc, seed)?;
     Ok(end_with(sink, &text, DONE, None))

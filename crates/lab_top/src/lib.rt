@@ -5,8 +5,10 @@ mod built;
 mod finish;
 mod jobs;
 mod top;
+mod views;
 
 pub use finish::{
     BAD_INPUT, DONE, Finish, LIMIT, NO_MEMORY, READ_FAILED, UNSETTLED, USAGE, WRITE_FAILED,
 };
 pub use top::graft_main;
+pub use views::{View, ViewName};

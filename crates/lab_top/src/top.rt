@@ -1,25 +1,70 @@
 //! The program's top call.
 
-ghost use Rattle.std.specs.Prelude.{◌≡◌, ◌⊎◌, ℕ, None, IsSome, IfSome, OnSome};
+ghost use Rattle.std.specs.Prelude.{◌≡◌, ◌⊎◌, ℕ, List, None, IsSome, IfSome, OnSome};
 ghost use Rattle.graft_edge.specs.Outside.{FaultRose, Appended, AppendedFront};
 ghost use Rattle.lab_words.specs.declared.job.Job.TheVariants.{Check, Make};
-ghost use Rattle.lab_words.specs.Asked.{usage_text, Asks};
+ghost use Rattle.lab_words.specs.Asked.{usage_text, Asks, HasNumbers};
 ghost use Rattle.lab_make.specs.Made.{made};
 ghost use Rattle.lab_input.specs.Labs.{InputOf};
 ghost use Rattle.lab_report.specs.Summary.{summary_text};
 ghost use Rattle.lab_run.specs.Runs.{RanLab};
-ghost use Rattle.lab_top.specs.Ends.{AreRefused, AskToRun, AskForJournal, RunsSource, AskToDrill, AskForLab, AskToMake, AskUnread};
-ghost use Rattle.lab_top.specs.Ends.{TookInput, GaveBadInput, IsStatus, WritesText, WritesReport, WritesJournal, Checks, end_status};
-ghost use Rattle.lab_top.specs.Cases.{outside, EndsOr, Ended};
+ghost use Rattle.lab_top.specs.declared.views.ViewName.{ViewName};
+ghost use Rattle.lab_top.specs.Ends.{AreRefused, AskToRun, AskForJournal, AskToView, RunsSource, AskToDrill, AskForLab, AskToMake, AskForLine, AskUnread};
+ghost use Rattle.lab_top.specs.Ends.{TookInput, GaveBadInput, IsStatus, WritesText, WritesReport, WritesJournal, WritesView, Checks, end_status};
+ghost use Rattle.lab_top.specs.Cases.{outside, ReadsSource, DidOr, EndsOr, Ended};
 
-use crate::finish::{Finish, NO_MEMORY, USAGE, end_with, without_run};
-use crate::jobs::{check_job, drill_job, journal_job, make_job, run_job};
+use crate::finish::{DONE, Finish, NO_MEMORY, USAGE, end_with, without_run};
+use crate::jobs::{check_job, drill_job, journal_job, make_job, run_job, view_job};
+use crate::views::ViewName;
 use graft_edge::{Gate, NoMemory, Sink, Source, Words};
-use lab_words::{Job, USAGE_TEXT, WordStop, read_words};
+use lab_words::{Job, USAGE_TEXT, VERSION_TEXT, WordStop, read_words};
 use std::thread::Threads;
 
-/// Does the job that the words ask for. If memory runs out, nothing was written.
+/// Does a job. If memory runs out, nothing was written.
 fn do_job<R: Threads + Sync + AllocGlobal, S: Source, K: Sink, G: Gate>(
+    rt: &R,
+    job: Job,
+    source: &mut S,
+    sink: &mut K,
+    gate: &G,
+) -> Result<Finish, NoMemory>
+    requires { HasNumbers job }
+    ensures unread { ¬ (ReadsSource job) → source.new ≡ source.old }
+    ensures did { DidOr job (outside (S.left source.old) (S.faults source.old) (K.written sink.old) (K.faults sink.old))
+        (outside (S.left source.new) (S.faults source.new) (K.written sink.new) (K.faults sink.new)) result }
+{
+    let alloc = rt.alloc();
+    match job {
+        Job::Run { workers } => run_job(rt, source, sink, workers, gate),
+        Job::Check => check_job(alloc, source, sink),
+        Job::Make { seed } => make_job(alloc, sink, seed),
+        Job::Drill { seed, workers } => drill_job(rt, sink, seed, workers, gate),
+        Job::Journal { workers } => journal_job(rt, source, sink, workers, gate),
+        Job::Timeline { workers } => {
+            view_job(rt, source, sink, ViewName::Timeline, workers, gate)
+        }
+        Job::Story { peering, workers } => {
+            view_job(rt, source, sink, ViewName::Story(peering), workers, gate)
+        }
+        Job::Why {
+            router,
+            prefix,
+            workers,
+        } => view_job(
+            rt,
+            source,
+            sink,
+            ViewName::Why(router, prefix),
+            workers,
+            gate,
+        ),
+        Job::Help => Ok(end_with(sink, USAGE_TEXT.as_bytes(), DONE, None)),
+        Job::Version => Ok(end_with(sink, VERSION_TEXT.as_bytes(), DONE, None)),
+    }
+}
+
+/// Does what the words ask for. If memory runs out, nothing was written.
+fn do_words<R: Threads + Sync + AllocGlobal, S: Source, K: Sink, G: Gate>(
     rt: &R,
     words: &Words,
     source: &mut S,
@@ -30,13 +75,8 @@ fn do_job<R: Threads + Sync + AllocGlobal, S: Source, K: Sink, G: Gate>(
     ensures ended { EndsOr words.now (outside (S.left source.old) (S.faults source.old) (K.written sink.old) (K.faults sink.old))
         (outside (S.left source.new) (S.faults source.new) (K.written sink.new) (K.faults sink.new)) result }
 {
-    let alloc = rt.alloc();
-    match read_words(alloc, words) {
-        Ok(Job::Run { workers }) => run_job(rt, source, sink, workers, gate),
-        Ok(Job::Check) => check_job(alloc, source, sink),
-        Ok(Job::Make { seed }) => make_job(alloc, sink, seed),
-        Ok(Job::Drill { seed, workers }) => drill_job(rt, sink, seed, workers, gate),
-        Ok(Job::Journal { workers }) => journal_job(rt, source, sink, workers, gate),
+    match read_words(rt.alloc(), words) {
+        Ok(job) => do_job(rt, job, source, sink, gate),
         Err(WordStop::Usage) => Ok(end_with(sink, USAGE_TEXT.as_bytes(), USAGE, None)),
         Err(WordStop::NoMemory) => Err(NoMemory),
     }
@@ -54,7 +94,7 @@ fn finish_of<R: Threads + Sync + AllocGlobal, S: Source, K: Sink, G: Gate>(
     ensures ended { Ended words.now (outside (S.left source.old) (S.faults source.old) (K.written sink.old) (K.faults sink.old))
         (outside (S.left source.new) (S.faults source.new) (K.written sink.new) (K.faults sink.new)) result.status result.lab }
 {
-    match do_job(rt, words, source, sink, gate) {
+    match do_words(rt, words, source, sink, gate) {
         Ok(finish) => finish,
         Err(_) => without_run(NO_MEMORY),
     }
@@ -62,8 +102,9 @@ fn finish_of<R: Threads + Sync + AllocGlobal, S: Source, K: Sink, G: Gate>(
 
 /// Does what the words of a command ask for. `run` reads an input from the source to its end, runs it and
 /// writes the report to the sink; each actor's turn passes the gate first. `journal` writes the input and the
-/// journal of its run in place of a report. `check` reads an input and writes whether it is one. `make` writes the
-/// laboratory of a seed; `drill` runs it and writes the summary. Other words are refused with the usage.
+/// journal of its run in place of a report, `timeline`, `story` and `why` write a view of it. `check` reads an input and
+/// writes whether it is one. `make` writes the laboratory of a seed; `drill` runs it and writes the summary. `--help`
+/// writes the usage, and `--version` the version. Other words are refused with the usage.
 pub fn graft_main<R, S, K, G>(
     rt: &R,
     words: &Words,
@@ -78,7 +119,7 @@ where
     G: Gate,
     ensures statuses { IsStatus result.status }
 
-    // Words that ask for no job are refused. The source isn't read for them, nor for `make` and `drill`.
+    // Words that ask for no job are refused. The source isn't read for them, nor for `make`, `drill`, `--help` and `--version`.
     ensures usage { AreRefused words.now
         → (result.status ≡ 6) ⊎ WritesText usage_text 1 (K.faults sink.old) (K.faults sink.new) (K.written sink.old) (K.written sink.new) result.status }
     ensures refused { result.status ≡ 1 → AreRefused words.now }
@@ -88,11 +129,16 @@ where
     ensures made { (seed : ℕ) → Asks words.now (Make seed)
         → (result.status ≡ 6) ⊎ WritesText (made seed) 0 (K.faults sink.old) (K.faults sink.new) (K.written sink.old) (K.written sink.new) result.status }
 
+    // `--help` writes the usage line, and `--version` the version line.
+    ensures told { (line : List ℕ) → AskForLine words.now line
+        → (result.status ≡ 6) ⊎ WritesText line 0 (K.faults sink.old) (K.faults sink.new) (K.written sink.old) (K.written sink.new) result.status }
+
     // `check` reads the source to its end, or past the most bytes of an input, and says in a line what was read.
     ensures checked { Asks words.now Check → (result.status ≡ 4) ⊎ (result.status ≡ 6)
         ⊎ Checks (S.left source.old) (S.left source.new) (K.faults sink.old) (K.faults sink.new) (K.written sink.old) (K.written sink.new) result.status }
 
-    // An input is refused only where the bytes are none, or none that can be run yet, and then a line says why.
+    // An input is refused only where the bytes are none, or none that can be run yet, or where it hasn't the router or
+    // peering of a view, and then a line says why.
     ensures bad_input { result.status ≡ 2
         → (text : _) × GaveBadInput words.now (S.left source.old) (S.left source.new) text × Appended (K.written sink.old) (K.written sink.new) text }
     ensures bad_input_unwritten { AskForLab words.now → result.status ≡ 5 → result.lab ≡ None
@@ -106,7 +152,8 @@ where
     // A run is there only where it was asked for, came to its end and its text was built: it is the run of the
     // bytes that were read, or of the laboratory of the seed.
     ensures ended { AskForLab words.now → (result.status ≡ 0) ⊎ (result.status ≡ 3) ⊎ (result.status ≡ 7) → IsSome result.lab }
-    ensures no_run { AreRefused words.now ⊎ AskToMake words.now ⊎ Asks words.now Check → result.lab ≡ None }
+    ensures no_run { AreRefused words.now ⊎ AskToMake words.now ⊎ Asks words.now Check ⊎ ((line : List ℕ) × AskForLine words.now line)
+        → result.lab ≡ None }
     ensures ran { OnSome result.lab (AskForLab words.now × ((result.status ≡ 0) ⊎ (result.status ≡ 3) ⊎ (result.status ≡ 5) ⊎ (result.status ≡ 7))) }
     ensures input { IfSome result.lab (λ lab. RunsSource words.now → TookInput (S.left source.old) (S.left source.new) lab.input) }
     ensures drilled { IfSome result.lab (λ lab. (seed : ℕ) → AskToDrill words.now seed → InputOf (made seed) lab.input) }
@@ -121,13 +168,16 @@ where
     ensures headline { IfSome result.lab RanLab }
 
     // Its text is written whole, under the status of its end, or a write failed and a front of it stands: a report,
-    // which ends with where packets go to the addresses of the input, a summary, or the input with the journal behind it.
+    // which ends with where packets go to the addresses of the input, a summary, the input with the journal behind it, or
+    // a view: a timeline, the story of a peering's session, or why a router has its route to a prefix.
     ensures reported { IfSome result.lab
         (λ lab. AskToRun words.now → WritesReport lab (K.faults sink.old) (K.faults sink.new) (K.written sink.old) (K.written sink.new) result.status) }
     ensures summed { IfSome result.lab (λ lab. ((seed : ℕ) × AskToDrill words.now seed) → WritesText (summary_text lab)
         (end_status lab.end) (K.faults sink.old) (K.faults sink.new) (K.written sink.old) (K.written sink.new) result.status) }
     ensures journaled { IfSome result.lab (λ lab. AskForJournal words.now → WritesJournal (S.left source.old)
         (S.left source.new) lab (K.faults sink.old) (K.faults sink.new) (K.written sink.old) (K.written sink.new) result.status) }
+    ensures viewed { IfSome result.lab (λ lab. (name : ViewName) → AskToView words.now name
+        → WritesView lab name (K.faults sink.old) (K.faults sink.new) (K.written sink.old) (K.written sink.new) result.status) }
 {
     finish_of(rt, words, source, sink, gate)
 }

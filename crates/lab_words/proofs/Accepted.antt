@@ -1,14 +1,16 @@
 -- What `clap` says of a line, beside the answer.
-use Rattle.std.proofs.Common.{◌≡◌, List, [], ◌∷◌, ap, sym, ◌∙◌, refl, inl, inr}
-use Rattle.std.specs.Prelude.{true, Err}
+use Rattle.std.proofs.Common.{◌≡◌, List, [], ◌∷◌, ap, sym, ◌∙◌, refl, inl, inr, subst}
+use Rattle.std.specs.Prelude.{true, Result, Ok, Err}
 use Rattle.clap.specs.Words.{App, Row, Text, fault_of, matches_of, is_simple, is_simple_and_free, HasKind, IsAmong, Kinds, kind_of}
 use Rattle.clap.specs.declared.error.Error.{Error}
 use Rattle.clap.specs.declared.error.kind.ErrorKind.{ErrorKind}
 use Rattle.clap.specs.declared.error.kind.ErrorKind.TheVariants.{OutOfMemory}
 use Rattle.clap.proofs.OnLiterals.{clap_on_literals}
-use Rattle.lab_words.specs.declared.job.WordStop.TheVariants.{Usage}
-use Rattle.lab_words.specs.Asked.{graft_command, faults_of, rows_read}
-use Rattle.lab_words.specs.Reading.{job_by, answer_of}
+use Rattle.lab_words.specs.declared.job.Job.{Job}
+use Rattle.lab_words.specs.declared.job.WordStop.{WordStop}
+use Rattle.lab_words.specs.declared.job.WordStop.TheVariants.{Usage, NoMemory}
+use Rattle.lab_words.specs.Asked.{graft_command, faults_of, rows_read, given_in, IsJob, AskInLine}
+use Rattle.lab_words.specs.Reading.{Answers}
 
 pub is_simple-graft : is_simple graft_command ≡ true
 unfolding clap_on_literals
@@ -26,16 +28,23 @@ pub rows_read-is : (a : App) (line : List Text) (rows : List Row) → a ≡ graf
 unfolding rows_read
 rows_read-is a line rows same read = read ∙ ap (λ (b : App). matches_of b line) same
 
-among_refused : (k : ErrorKind) (kinds : Kinds) (rows : List Row) → IsAmong k kinds → job_by kinds rows ≡ Err Usage
-among_refused k [] rows h = absurd h
-among_refused k (x ∷ xs) rows h = refl
+-- the job of a line that `clap` accepts
+pub accepted_line : (line : List Text) (rows : List Row) (r : Result Job WordStop) → faults_of line ≡ [] → rows ≡ rows_read line
+    → Answers (IsJob (given_in rows)) r → Answers (AskInLine line) r
+accepted_line line rows (Ok job) none same is = (none, subst (λ read. IsJob (given_in read) job) same is)
+accepted_line line rows (Err Usage) none same never = λ job is. never job (subst (λ read. IsJob (given_in read) job) (sym same) is.1)
+accepted_line line rows (Err NoMemory) none same is = tt
 
--- a line that `clap` refuses, but for memory, is answered with the usage
-pub answer_of-refused : (a : App) (line : List Text) (e : Error) → a ≡ graft_command → HasKind (fault_of a line) e → (kind_of e ≡ OutOfMemory → ⊥)
-    → answer_of line ≡ Err Usage
+no_fault : (k : ErrorKind) (kinds : Kinds) → IsAmong k kinds → kinds ≡ [] → ⊥
+no_fault k [] among none = absurd among
+no_fault k (x ∷ xs) among none = let f : ⊥ = cc in f
+
+-- a line that `clap` refuses, but for memory, has a fault
+pub refused_line : (a : App) (line : List Text) (e : Error) → a ≡ graft_command → HasKind (fault_of a line) e → (kind_of e ≡ OutOfMemory → ⊥)
+    → faults_of line ≡ [] → ⊥
 unfolding faults_of
-answer_of-refused a line e same has other =
+refused_line a line e same has other none =
     elim has [
-      | inl memory ↦ absurd (other memory)
-      | inr among ↦ ap (λ (b : App). job_by (fault_of b line) (rows_read line)) (sym same) ∙ among_refused (kind_of e) (fault_of a line) (rows_read line) among
+      | inl memory ↦ other memory
+      | inr among ↦ no_fault (kind_of e) (fault_of a line) among (ap (λ (b : App). fault_of b line) same ∙ none)
     ]

@@ -2,26 +2,40 @@
 use Rattle.std.specs.Prelude.{◌≡◌, ℕ, ◌+◌, ◌<◌, ◌≤◌, true, List, [], ◌∷◌, ◌++◌, length, Option, Some, None, codes}
 use Rattle.std.specs.Str.Parse.{IsNumeral, digits_value}
 use Rattle.clap.specs.Words.{App, Row, Rule, Text, first_of, matches_of, new_app, new_rule, with_rule, fault_of, Kinds}
+use Rattle.bgp_types.specs.Finds.{Finds}
+use Rattle.bgp_types.specs.Texts.{IsPrefixText}
+use Rattle.lab_words.specs.declared.arguments.Arguments.{Arguments}
 use Rattle.lab_words.specs.declared.job.Job.{Job}
-use Rattle.lab_words.specs.declared.job.Job.TheVariants.{Run, Check, Make, Drill, Journal}
+use Rattle.lab_words.specs.declared.job.Job.TheVariants.{Run, Check, Make, Drill, Journal, Timeline, Story, Why, Help, Version}
 
 -- the usage line of the program
 abbrev pub usage_text : List ℕ
-usage_text = codes "usage: graftlab run|check|make N|drill N|journal [--workers W]" ++ 10 ∷ []
+usage_text = codes "usage: graftlab run|check|make N|drill N|journal|timeline|why ROUTER PREFIX|story PEERING [--workers W]" ++ 10 ∷ []
 
--- ---- the command that `clap` reads: a text `job`, maybe a text `number`, and an option `--workers` with a text
+-- the version line of the program
+abbrev pub version_text : List ℕ
+version_text = codes "graftlab 0.1.0" ++ 10 ∷ []
+
+-- ---- the command that `clap` reads: a text `job`, maybe a text `subject`, maybe a text `prefix`, and an option `--workers` with a text
 
 abbrev pub job_rule : Rule
 job_rule = record (new_rule (codes "job")) { required = true }
 
-abbrev pub number_rule : Rule
-number_rule = new_rule (codes "number")
+abbrev pub subject_rule : Rule
+subject_rule = new_rule (codes "subject")
+
+abbrev pub prefix_rule : Rule
+prefix_rule = new_rule (codes "prefix")
 
 abbrev pub workers_rule : Rule
 workers_rule = record (new_rule (codes "workers")) { long = Some (codes "workers") }
 
+-- the texts by their places, and with them the option
+abbrev pub placed_command : App
+placed_command = with_rule (with_rule (with_rule (new_app (codes "graftlab")) job_rule) subject_rule) prefix_rule
+
 abbrev pub graft_command : App
-graft_command = with_rule (with_rule (with_rule (new_app (codes "graftlab")) job_rule) number_rule) workers_rule
+graft_command = with_rule placed_command workers_rule
 
 -- the words of a command after the name of the program
 abbrev pub line_of : List Text → List Text
@@ -35,16 +49,20 @@ faults_of line = fault_of graft_command line
 unfoldable pub rows_read : List Text → List Row
 rows_read line = matches_of graft_command line
 
--- the texts that are given for `job`, for `number` and for `--workers`
+-- the texts that are given for `job`, for `subject`, for `prefix` and for `--workers`
 pub record Given : Type 0 where
   pub job : Option Text
-  pub number : Option Text
+  pub subject : Option Text
+  pub prefix : Option Text
   pub workers : Option Text
 
-abbrev pub given_in : List Row → Given
-given_in rows = record { job = first_of (codes "job") rows; number = first_of (codes "number") rows; workers = first_of (codes "workers") rows }
+abbrev pub given_by : Option Text → Option Text → Option Text → Option Text → Given
+given_by job subject prefix workers = record { job = job; subject = subject; prefix = prefix; workers = workers }
 
--- ---- the jobs
+abbrev pub given_in : List Row → Given
+given_in rows = given_by (first_of (codes "job") rows) (first_of (codes "subject") rows) (first_of (codes "prefix") rows) (first_of (codes "workers") rows)
+
+-- ---- what stands beside the name of a job
 
 -- The text writes a seed: 1 to 4 decimal digits of a value above 0.
 pub record IsSeedText (text : Text) (seed : ℕ) : Type 0 where
@@ -57,19 +75,94 @@ abbrev pub IsSeed : Option Text → ℕ → Type 0
 IsSeed None seed = ⊥
 IsSeed (Some text) seed = IsSeedText text seed
 
--- The number of workers: one digit from 1 to 8, or 2 if none is given.
-abbrev pub AreWorkers : Option Text → ℕ → Type 0
-AreWorkers None workers = workers ≡ 2
-AreWorkers (Some text) workers = (1 ≤ workers) × (workers ≤ 8) × (text ≡ (48 + workers) ∷ [])
+-- The text writes a number of workers: one digit from 1 to 8.
+abbrev pub IsWorkersText : Text → ℕ → Type 0
+IsWorkersText text workers = (1 ≤ workers) × (workers ≤ 8) × (text ≡ (48 + workers) ∷ [])
 
--- `run` and `journal` may have `--workers`, `check` has nothing else, `make` has a number, and `drill` has a number and may have `--workers`.
+-- What is given is read as this: nothing as nothing, and a text as the value that it writes.
+abbrev pub IsReadAs : {A : Type 0} → (Text → A → Type 0) → Option Text → Option A → Type 0
+IsReadAs Is None None = Unit {0}
+IsReadAs Is None (Some value) = ⊥
+IsReadAs Is (Some text) None = ⊥
+IsReadAs Is (Some text) (Some value) = Is text value
+
+-- These texts are read as these arguments: a subject is kept as it is, and is a seed where it writes one.
+pub record AreArguments (subject prefix workers : Option Text) (arguments : Arguments) : Type 0 where
+  pub as_subject : arguments.subject ≡ subject
+  pub as_seed : Finds (IsSeed subject) arguments.seed
+  pub as_prefix : IsReadAs IsPrefixText prefix arguments.prefix
+  pub as_workers : IsReadAs IsWorkersText workers arguments.workers
+
+-- ---- the jobs
+
+-- the word that names a job
+abbrev pub name_of : Job → Text
+name_of (Run workers) = codes "run"
+name_of Check = codes "check"
+name_of (Make seed) = codes "make"
+name_of (Drill seed workers) = codes "drill"
+name_of (Journal workers) = codes "journal"
+name_of (Timeline workers) = codes "timeline"
+name_of (Story peering workers) = codes "story"
+name_of (Why router prefix workers) = codes "why"
+name_of Help = codes "--help"
+name_of Version = codes "--version"
+
+-- the number of workers: 2 if none is given
+abbrev pub several : Option ℕ → ℕ
+several None = 2
+several (Some workers) = workers
+
+-- Nothing but maybe a number of workers is given.
+abbrev pub AreWorkersAlone : Arguments → ℕ → Type 0
+AreWorkersAlone arguments workers = (arguments.subject ≡ None) × (arguments.prefix ≡ None) × (workers ≡ several arguments.workers)
+
+-- What stands beside the name of a job. `--help` and `--version` are names of no line.
+abbrev pub HasArguments : Arguments → Job → Type 0
+HasArguments given (Run workers) = AreWorkersAlone given workers
+HasArguments given Check = (given.subject ≡ None) × (given.prefix ≡ None) × (given.workers ≡ None)
+HasArguments given (Make seed) = (given.seed ≡ Some seed) × (given.prefix ≡ None) × (given.workers ≡ None)
+HasArguments given (Drill seed workers) = (given.seed ≡ Some seed) × (given.prefix ≡ None) × (workers ≡ several given.workers)
+HasArguments given (Journal workers) = AreWorkersAlone given workers
+HasArguments given (Timeline workers) = AreWorkersAlone given workers
+HasArguments given (Story peering workers) = (given.subject ≡ Some peering) × (given.prefix ≡ None) × (workers ≡ several given.workers)
+HasArguments given (Why router prefix workers) = (given.subject ≡ Some router) × (given.prefix ≡ Some prefix) × (workers ≡ several given.workers)
+HasArguments given Help = ⊥
+HasArguments given Version = ⊥
+
+-- What is given beside the name is read as what the job takes.
+abbrev pub TakesGiven : Given → Job → Type 0
+TakesGiven given job = (arguments : Arguments) × AreArguments given.subject given.prefix given.workers arguments × HasArguments arguments job
+
+-- A job is given by its name, with what it takes beside it.
 abbrev pub IsJob : Given → Job → Type 0
-IsJob given (Run workers) = (given.job ≡ Some (codes "run")) × (given.number ≡ None) × AreWorkers given.workers workers
-IsJob given Check = (given.job ≡ Some (codes "check")) × (given.number ≡ None) × (given.workers ≡ None)
-IsJob given (Make seed) = (given.job ≡ Some (codes "make")) × IsSeed given.number seed × (given.workers ≡ None)
-IsJob given (Drill seed workers) = (given.job ≡ Some (codes "drill")) × IsSeed given.number seed × AreWorkers given.workers workers
-IsJob given (Journal workers) = (given.job ≡ Some (codes "journal")) × (given.number ≡ None) × AreWorkers given.workers workers
+IsJob given job = (given.job ≡ Some (name_of job)) × TakesGiven given job
 
--- The words ask for the job: `clap` accepts them, and what it reads is this job.
+-- A line asks for the job: `clap` accepts it, and what it reads is this job.
+abbrev pub AskInLine : List Text → Job → Type 0
+AskInLine line job = (faults_of line ≡ []) × IsJob (given_in (rows_read line)) job
+
+-- The words ask for the job: `--help` and `--version` alone do, and other words by the line that they are.
 abbrev pub Asks : List Text → Job → Type 0
-Asks words job = (faults_of (line_of words) ≡ []) × IsJob (given_in (rows_read (line_of words))) job
+Asks words Help = words ≡ codes "--help" ∷ []
+Asks words Version = words ≡ codes "--version" ∷ []
+Asks words job = AskInLine (line_of words) job
+
+-- ---- the numbers of a job
+
+abbrev pub AreFew : ℕ → Type 0
+AreFew workers = (1 ≤ workers) × (workers ≤ 8)
+
+abbrev pub IsSmall : ℕ → Type 0
+IsSmall seed = (1 ≤ seed) × (seed ≤ 9999)
+
+-- There are 1 to 8 workers, and a seed is 1 to 9,999.
+abbrev pub HasNumbers : Job → Type 0
+HasNumbers (Run workers) = AreFew workers
+HasNumbers (Make seed) = IsSmall seed
+HasNumbers (Drill seed workers) = IsSmall seed × AreFew workers
+HasNumbers (Journal workers) = AreFew workers
+HasNumbers (Timeline workers) = AreFew workers
+HasNumbers (Story peering workers) = AreFew workers
+HasNumbers (Why router prefix workers) = AreFew workers
+HasNumbers _ = Unit {0}

@@ -1,23 +1,53 @@
 //! Jobs: what a command asks for.
 
 ghost use Rattle.std.specs.Prelude.{◌≡◌};
-ghost use Rattle.lab_words.specs.Asked.{usage_text};
+ghost use Rattle.lab_words.specs.Asked.{usage_text, version_text};
 
+use bgp_types::Prefix;
+use graft_edge::Name;
 use thiserror::Error;
 
-/// What is to be done.
-#[derive(Clone, Copy, Debug, PartialEq, Eq)]
+/// What is to be done. A seed is 1 to 9,999, and a run has 1 to 8 workers.
+#[derive(Debug, Drop)]
 pub enum Job {
-    /// Run the laboratory of the source with 1 to 8 workers.
-    Run { workers: usize },
+    /// Run the laboratory of the source, and write its report.
+    Run {
+        workers: usize,
+    },
     /// Say whether the source is the input of a laboratory.
     Check,
-    /// Write the laboratory of a seed of 1 to 9,999.
-    Make { seed: u32 },
-    /// Run the laboratory of a seed of 1 to 9,999 with 1 to 8 workers, and write its summary.
-    Drill { seed: u32, workers: usize },
-    /// Run the laboratory of the source with 1 to 8 workers, and write the input followed by its journal.
-    Journal { workers: usize },
+    /// Write the laboratory of a seed.
+    Make {
+        seed: u32,
+    },
+    /// Run the laboratory of a seed, and write its summary.
+    Drill {
+        seed: u32,
+        workers: usize,
+    },
+    /// Run the laboratory of the source, and write the input followed by its journal.
+    Journal {
+        workers: usize,
+    },
+    /// Run the laboratory of the source, and write its events round by round.
+    Timeline {
+        workers: usize,
+    },
+    /// Run the laboratory of the source, and write the session of this peering message by message.
+    Story {
+        peering: Name,
+        workers: usize,
+    },
+    /// Run the laboratory of the source, and write why this router chose the route that it has to a prefix.
+    Why {
+        router: Name,
+        prefix: Prefix,
+        workers: usize,
+    },
+    /// Write the usage line.
+    Help,
+    /// Write the version of the program.
+    Version,
 }
 
 /// The reason why the words give no job.
@@ -31,9 +61,18 @@ pub enum WordStop {
 }
 
 /// The usage line of the program.
-pub const USAGE_TEXT: &str = "usage: graftlab run|check|make N|drill N|journal [--workers W]\n";
+pub const USAGE_TEXT: &str =
+    "usage: graftlab run|check|make N|drill N|journal|timeline|why ROUTER PREFIX|story PEERING [--workers W]\n";
+
+/// The version line of the program.
+pub const VERSION_TEXT: &str = "graftlab 0.1.0\n";
 
 /// Law: the usage line is that of the definition.
 pub fn usage_is_as_told()
     ensures { USAGE_TEXT.now ≡ usage_text }
+{}
+
+/// Law: the version line is that of the definition.
+pub fn version_is_as_told()
+    ensures { VERSION_TEXT.now ≡ version_text }
 {}

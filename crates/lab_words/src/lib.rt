@@ -1,9 +1,10 @@
 //! The words of a command of `graftlab`: which ones are accepted, and the job that they ask for.
 #![tactic(auto)]
 
+mod arguments;
 mod command;
 mod job;
-mod texts;
+mod table;
 
 pub use command::read_words;
-pub use job::{Job, USAGE_TEXT, WordStop, usage_is_as_told};
+pub use job::{Job, USAGE_TEXT, VERSION_TEXT, WordStop, usage_is_as_told, version_is_as_told};

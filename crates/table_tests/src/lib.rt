@@ -1,5 +1,4 @@
-//! The two tables of prefixes side by side. Both are proved to be the same finite map; these tests run both through the
-//! same commands, and check that each call answers.
+//! The two tables of prefixes, sets of prefixes, an Adj-RIB and a Loc-RIB: each call of them answers, by worked values.
 #![tactic(auto)]
 
 #[cfg(test)]

@@ -21,6 +21,7 @@ use Rattle.tcp_seq.proofs.Carried.{at_fresh, runs}
 use Rattle.tcp_seq.proofs.Flows.{emitted_in_streams}
 use Rattle.tcp_end.specs.State.{fresh_end, got}
 use Rattle.tcp_end.specs.Standing.{EndStands, Numbered, SameNumbers, Becomes, BecomesBy}
+use Rattle.tcp_end.specs.Emitting.{EmitsPart}
 use Rattle.tcp_end.specs.Ends.{EndSide, EndPair, fresh_pair, CallsSend, CallsEmit, CallsRead, CallsArrive, EndCalls}
 use Rattle.tcp_end.specs.Ends.{answer_segments, PairStep, PairRun, IsNumberedAmong, PairStands, PairBecomes, PairFollows}
 use Rattle.tcp_end.proofs.Steps.{stream_is, received_is}
@@ -131,8 +132,10 @@ side_emits theirs mine before after stands all (answer, inr (inl again), adds) =
     side_emits_by EmitsAgain theirs mine before after answer stands all
     (λ p e step. inl (again_is_slice mine.end e p (omega (arith, stands.emitted, stream_is before.state mine.end stands, stands.sound.sending.emitted))
     (omega (arith, stands.acked, stands.emitted, stands.sound.sending.flight)) step)) again.numbers (again.becomes mine.end stands) adds
-side_emits theirs mine before after stands all (answer, inr (inr given), adds) =
+side_emits theirs mine before after stands all (answer, inr (inr (inl given)), adds) =
     side_emits_by EmitsAnswer theirs mine before after answer stands all (λ p e step. inr step.answer) given.numbers (given.becomes mine.end stands) adds
+side_emits theirs mine before after stands all (answer, inr (inr (inr (from, len, part))), adds) =
+    side_emits_by (EmitsPart from len) theirs mine before after answer stands all (λ p e step. step.2) part.numbers (part.becomes mine.end stands) adds
 
 -- what arrives has offsets of the streams
 in_streams : (mine theirs : Side) (p : PlacedSegment) → IsCarried mine theirs → IsCarried theirs mine → Contains theirs.emitted p → IsInStreams p

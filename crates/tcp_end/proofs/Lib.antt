@@ -5,6 +5,7 @@ pub mod InOrder
 pub mod Handed
 pub mod Taken
 pub mod Steps
+pub mod Emitted
 pub mod Offsets
 pub mod Arrives
 pub mod Followed

@@ -217,7 +217,7 @@ reads s after n within is e stands =
 -- The same of the calls
 
 -- the numbers of the first bytes stay where other fields change
-same_numbers : (s t after : EndState) → t.send_first ≡ s.send_first → t.receive_first ≡ s.receive_first → after ≡ t → SameNumbers s after
+pub same_numbers : (s t after : EndState) → t.send_first ≡ s.send_first → t.receive_first ≡ s.receive_first → after ≡ t → SameNumbers s after
 same_numbers s t after sends receives is =
     record { send_first = ap (λ (r : EndState). r.send_first) is ∙ sends; receive_first = ap (λ (r : EndState). r.receive_first) is ∙ receives }
 

@@ -9,6 +9,7 @@ use Rattle.tcp_seq.specs.Endpoint.{PlacedSegment, SendsBytes, EmitsNext, EmitsAg
 use Rattle.tcp_seq.specs.Connection.{Connection, fresh_connection, ConnectionStep, ConnectionRun}
 use Rattle.tcp_end.specs.State.{fresh_end}
 use Rattle.tcp_end.specs.Standing.{EndStands, Numbered, StepsBy, EndEmitsBy, TakesBy}
+use Rattle.tcp_end.specs.Emitting.{EmitsPart}
 
 -- an end as contracts see it, and every segment that it ever emitted
 pub record EndSide : Type 0 where
@@ -35,11 +36,12 @@ abbrev pub answer_segments : Option Segment → List Segment
 answer_segments None = []
 answer_segments (Some segment) = segment ∷ []
 
--- `next_segment`, `turn` or `answer`
+-- `next_segment`, `turn`, `answer` or `emit_at`
 abbrev pub CallsEmit : EndSide → EndSide → Type 0
 CallsEmit before after =
     (answer : Option Segment) × (EndEmitsBy EmitsNext before.state answer after.state
-    ⊎ EndEmitsBy EmitsAgain before.state answer after.state ⊎ EndEmitsBy EmitsAnswer before.state answer after.state)
+    ⊎ EndEmitsBy EmitsAgain before.state answer after.state ⊎ EndEmitsBy EmitsAnswer before.state answer after.state
+    ⊎ ((from : ℕ) × (len : ℕ) × EndEmitsBy (EmitsPart from len) before.state answer after.state))
     × (after.emitted ≡ before.emitted ++ answer_segments answer)
 
 abbrev pub CallsRead : EndSide → EndSide → Type 0

@@ -5,5 +5,6 @@ pub mod Inner
 pub mod Receiving
 pub mod Arriving
 pub mod Standing
+pub mod Emitting
 pub mod Whole
 pub mod Ends

@@ -1,11 +1,12 @@
 //! The endpoint of a connection.
 
-ghost use Rattle.std.specs.Prelude.{ℕ, ◌≡◌, ◌≢◌, ◌<◌, ◌≤◌, ◌+◌, ◌-◌, ◌^◌, ◌↔◌, ◌⊎◌, ◌++◌, length, take, drop, true, false};
-ghost use Rattle.std.specs.Prelude.{IsNone, IsSome, IfSome, IfOk, OnOk, OnErr, nat_lt, ◌||◌, if◌then◌else◌};
+ghost use Rattle.std.specs.Prelude.{ℕ, ◌≡◌, ◌≢◌, ◌<◌, ◌≤◌, ◌+◌, ◌-◌, ◌^◌, ◌↔◌, ◌⊎◌, ◌++◌, max, length, take, drop, true, false};
+ghost use Rattle.std.specs.Prelude.{IsTrue, IsNone, IsSome, IfNone, IfSome, IfOk, OnOk, OnErr, nat_lt, ◌||◌, if◌then◌else◌};
 ghost use Rattle.tcp_seq.specs.Numbers.{plus};
 ghost use Rattle.tcp_seq.specs.Rules.{IsInStream};
 ghost use Rattle.tcp_seq.specs.Endpoint.{Endpoint, SendsBytes, EmitsNext, EmitsAgain, EmitsAnswer, ReadsBytes, fresh_endpoint};
 ghost use Rattle.tcp_end.specs.Standing.{EndStands, StepsBy, EndEmitsBy, TakesBy};
+ghost use Rattle.tcp_end.specs.Emitting.{CanEmit, IsSlice, IsEmptySlice, EmitsNone, EmitsPart, emitted_at};
 ghost use Rattle.tcp_end.specs.Arriving.{IsArrival, ChangesByArrival, TakenIn, SaysAck};
 ghost use Rattle.tcp_end.specs.State.{fresh_end, stream_length, unsent, outstanding, got, segment_at, end_next_length, end_again_length, IsSending, IsEndState};
 
@@ -244,15 +245,79 @@ impl End {
         if !self.owed {
             return None;
         }
+        Some(self.emit_empty())
+    }
+
+    /// Emits the slice without bytes, at the offset that is emitted next. It allocates nothing.
+    fn emit_empty(&mut self) -> Segment
+        ensures empty { result ≡ segment_at self.old self.old.sent 0 }
+        ensures after { self.new ≡ record self.old { owed = false } }
+    {
         self.owed = false;
-        Some(Segment {
+        Segment {
             peering: self.peering,
             way: self.way,
             seq: self.send_first.plus(self.sent),
             ack: self.ahead.next(),
             window: WINDOW as u16,
             bytes: Octets::new(self.waiting.allocator()),
-        })
+        }
+    }
+
+    /// Emits a slice with bytes. If memory runs out, nothing changes.
+    fn emit_slice(&mut self, from: u32, len: u32) -> Result<Segment, NoMemory>
+        requires acked { self.old.acked ≤ from }
+        requires within { from + len ≤ stream_length self.old }
+        requires flight { from + len ≤ self.old.acked + 15360 }
+        ensures slice { IfOk result (λ segment. segment ≡ segment_at self.old from len) }
+        ensures after { OnOk result (self.new ≡ record self.old { sent = max self.old.sent (from + len) }) }
+        ensures err { OnErr result (self.new ≡ self.old) }
+    {
+        let segment = self.segment_at(from, len)?;
+        self.sent = self.sent.max(from + len);
+        Ok(segment)
+    }
+
+    /// Whether it is the slice without bytes.
+    fn is_empty_slice(&self, from: u32, len: u32) -> bool
+        ensures { IsTrue result ↔ IsEmptySlice self.now from len }
+    {
+        from == self.sent && len == 0
+    }
+
+    /// Whether it is a slice with bytes that may be emitted.
+    fn is_slice(&self, from: u32, len: u32) -> bool
+        ensures { IsTrue result ↔ IsSlice self.now from len }
+    {
+        (self.acked..=self.sent).contains(&from)
+            && (1..=PAYLOAD).contains(&len)
+            && from + len <= self.stream_len().min(self.acked + FLIGHT)
+    }
+
+    /// Emits the slice of `len` bytes from an offset on, which may have been emitted before. One with
+    /// bytes begins at an offset from the acknowledged to the emitted one, has at most 1,024 bytes, and
+    /// ends within the stream and within the flight of 15,360 outstanding bytes. One without bytes
+    /// stands at the offset that is emitted next, and no acknowledgement is owed after it. Returns
+    /// `None` for any other offset and length, and then nothing changes. If memory runs out, nothing
+    /// changes either.
+    pub fn emit_at(&mut self, from: u32, len: u32) -> Result<Option<Segment>, NoMemory>
+        ensures some { IfOk result (λ answer. IsSome answer ↔ CanEmit self.old from len) }
+        ensures slice { IfOk result (λ answer. IfSome answer (λ segment. segment ≡ segment_at self.old from len)) }
+        ensures after { IfOk result (λ answer. IfSome answer (λ _. self.new ≡ emitted_at self.old from len)) }
+        ensures none { IfOk result (λ answer. IfNone answer (self.new ≡ self.old)) }
+        ensures err { OnErr result (self.new ≡ self.old) }
+        ensures step { IfOk result (λ answer. EndEmitsBy (EmitsPart from len) self.old answer self.new) }
+
+        // None is the answer only where no endpoint that the end stands for emits such a segment.
+        ensures refused { IfOk result (λ answer. IfNone answer (EmitsNone self.old from len)) }
+    {
+        if self.is_empty_slice(from, len) {
+            return Ok(Some(self.emit_empty()));
+        }
+        if !self.is_slice(from, len) {
+            return Ok(None);
+        }
+        Ok(Some(self.emit_slice(from, len)?))
     }
 
     /// Returns what an acknowledgement says of the bytes that were emitted.

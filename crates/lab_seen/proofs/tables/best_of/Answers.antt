@@ -4,7 +4,7 @@ use Rattle.std.specs.FinMap as table
 use Rattle.bgp_types.specs.Prefixes.{PrefixValue}
 use Rattle.bgp_types.specs.Tables.{prefix_cmp}
 use Rattle.lab_seen.specs.Seen.{best_entry}
-use Rattle.lab_seen.proofs.Listing.{one_more, has_one, all_listed}
+use Rattle.prefix_table.proofs.Listing.{one_more, has_one, all_listed}
 use Rattle.lab_seen.proofs.tables.best_of.Goals.{in-Some+in_ok-best_seen+in_ok-push, in_default}
 use Rattle.lab_seen.proofs.tables.best_of.Goals as goal
 

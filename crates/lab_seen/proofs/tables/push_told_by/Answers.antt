@@ -5,7 +5,7 @@ use Rattle.bgp_types.specs.Prefixes.{PrefixValue}
 use Rattle.bgp_types.specs.Tables.{prefix_cmp}
 use Rattle.rib_stages.specs.Values.{rib_of}
 use Rattle.lab_seen.specs.Seen.{told_entry}
-use Rattle.lab_seen.proofs.Listing.{one_more, has_one, all_listed}
+use Rattle.prefix_table.proofs.Listing.{one_more, has_one, all_listed}
 use Rattle.lab_seen.proofs.tables.push_told_by.Goals.{in-Some+in_ok-told_seen+in_ok-push, in_default}
 use Rattle.lab_seen.proofs.tables.push_told_by.Goals as goal
 

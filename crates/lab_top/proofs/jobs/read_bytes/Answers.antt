@@ -1,6 +1,6 @@
 use Rattle.std.proofs.Common.{ap}
 use Rattle.std.specs.Prelude.{Err}
-use Rattle.lab_top.proofs.Facts.{too_long_stops}
+use Rattle.lab_top.proofs.Parts.{too_long_stops}
 use Rattle.lab_top.proofs.jobs.read_bytes.Goals as goal
 
 pub returns-in-Err-TooLong : goal.returns-in-Err-TooLong

@@ -1,5 +1,5 @@
-use Rattle.lab_top.proofs.Facts.{statuses, usage_told, refused, made_told, checked_told, bad_input, bad_unwritten, read_failed, write_failed}
-use Rattle.lab_top.proofs.Facts.{nothing_written, run_ended, no_run, ran, input_taken, drilled, headline, reported, summed, journaled}
+use Rattle.lab_top.proofs.Facts.{statuses, usage_told, refused_words, made_told, line_told, checked_told, bad_input, bad_unwritten, read_failed}
+use Rattle.lab_top.proofs.Facts.{write_failed, nothing_written, run_ended, no_run, ran, input_taken, drilled, headline, reported, summed, journaled, viewed}
 use Rattle.lab_top.proofs.top.graft_main.Goals as goal
 
 pub returns-clause-statuses : goal.returns-clause-statuses
@@ -9,10 +9,13 @@ pub returns-clause-usage : goal.returns-clause-usage
 returns-clause-usage g c = usage_told _ _ _ _ _ c.finish_of.ensures.ended
 
 pub returns-clause-refused : goal.returns-clause-refused
-returns-clause-refused g c = refused _ _ _ _ _ c.finish_of.ensures.ended
+returns-clause-refused g c = refused_words _ _ _ _ _ c.finish_of.ensures.ended
 
 pub returns-clause-made : goal.returns-clause-made
 returns-clause-made g c = made_told _ _ _ _ _ c.finish_of.ensures.ended
+
+pub returns-clause-told : goal.returns-clause-told
+returns-clause-told g c = line_told _ _ _ _ _ c.finish_of.ensures.ended
 
 pub returns-clause-checked : goal.returns-clause-checked
 returns-clause-checked g c = checked_told _ _ _ _ _ c.finish_of.ensures.ended
@@ -58,3 +61,6 @@ returns-clause-summed g c = summed _ _ _ _ _ c.finish_of.ensures.ended
 
 pub returns-clause-journaled : goal.returns-clause-journaled
 returns-clause-journaled g c = journaled _ _ _ _ _ c.finish_of.ensures.ended
+
+pub returns-clause-viewed : goal.returns-clause-viewed
+returns-clause-viewed g c = viewed _ _ _ _ _ c.finish_of.ensures.ended

@@ -1,0 +1,6 @@
+mod Dividing
+mod Entries
+mod Lines
+mod Numbers
+mod OneReading
+mod ReadSoFar

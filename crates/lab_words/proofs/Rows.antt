@@ -1,0 +1,178 @@
+-- The job that is read is the one that is given.
+use Rattle.std.proofs.Common.{◌≡◌, ℕ, ◌+◌, [], ◌∷◌, ap, sym, ◌∙◌, refl, arith, codes, subst}
+use Rattle.std.specs.Prelude.{Bool, true, false, if◌then◌else◌, Option, Some, None, option_map, IfSome, Err}
+use Rattle.std.specs.Bool.{Decides}
+use Rattle.std.specs.Str.{bytes_eq}
+use Rattle.std.proofs.lemmas.Slice.Eq.{bytes_eq-Decides}
+use Rattle.clap.specs.Words.{Text}
+use Rattle.bgp_types.specs.Finds.{Finds}
+use Rattle.bgp_types.specs.Prefixes.{PrefixValue}
+use Rattle.bgp_types.specs.Texts.{IsPrefixText}
+use Rattle.bgp_types.proofs.PrintedTexts.{IsPrefixText_unique}
+use Rattle.lab_words.specs.declared.arguments.Arguments.{Arguments}
+use Rattle.lab_words.specs.declared.job.Job.{Job}
+use Rattle.lab_words.specs.declared.job.Job.TheVariants.{Run, Check, Make, Drill, Journal, Timeline, Story, Why, Help, Version}
+use Rattle.lab_words.specs.declared.job.WordStop.{WordStop}
+use Rattle.lab_words.specs.declared.job.WordStop.TheVariants.{Usage, NoMemory}
+use Rattle.lab_words.specs.Asked.{given_by, IsSeed, IsWorkersText, IsReadAs, AreArguments, name_of, several, HasArguments, IsJob}
+use Rattle.lab_words.specs.Reading.{Answers, unless, workers_alone, check_with, make_with, drill_with, story_with, why_with, job_named}
+
+-- ---- what is read is what is taken, row by row
+
+unless_so : {A B : Type 0} (P : B → Type 0) (o : Option A) (there : Option B) → (o ≡ None → IfSome there P) → IfSome (unless o there) P
+unless_so P None there so = so refl
+unless_so P (Some x) there so = tt
+
+map_so : {A B : Type 0} (P : B → Type 0) (f : A → B) (o : Option A) → ((x : A) → o ≡ Some x → P (f x)) → IfSome (option_map f o) P
+map_so P f None so = tt
+map_so P f (Some x) so = so x refl
+
+-- the job has this name, and takes what stands beside it
+abbrev Fits : Text → Arguments → Job → Type 0
+Fits name given job = (name ≡ name_of job) × HasArguments given job
+
+alone_fits : (name : Text) (given : Arguments) (of_workers : ℕ → Job)
+    → ((given.subject ≡ None) × (given.prefix ≡ None) → Fits name given (of_workers (several given.workers)))
+    → IfSome (option_map of_workers (workers_alone given.subject given.prefix given.workers)) (Fits name given)
+alone_fits name given of_workers fits = alone given.subject given.prefix fits where
+  alone : (subject : Option Text) (prefix : Option PrefixValue)
+      → ((subject ≡ None) × (prefix ≡ None) → Fits name given (of_workers (several given.workers)))
+      → IfSome (option_map of_workers (workers_alone subject prefix given.workers)) (Fits name given)
+  alone None None fit = fit (refl, refl)
+  alone None (Some p) fit = tt
+  alone (Some s) prefix fit = tt
+
+check_fits : (given : Arguments) → IfSome (check_with given.subject given.prefix given.workers) (Fits (codes "check") given)
+check_fits given =
+    let P = Fits (codes "check") given in
+    unless_so P given.subject (unless given.prefix (unless given.workers (Some Check)))
+    (λ s. unless_so P given.prefix (unless given.workers (Some Check)) (λ p. unless_so P given.workers (Some Check) (λ w. (refl, (s, p, w)))))
+
+make_fits : (given : Arguments) → IfSome (make_with given.seed given.prefix given.workers) (Fits (codes "make") given)
+make_fits given =
+    let P = Fits (codes "make") given in
+    unless_so P given.prefix (unless given.workers (option_map Make given.seed))
+    (λ p. unless_so P given.workers (option_map Make given.seed) (λ w. map_so P Make given.seed (λ n s. (refl, (s, p, w)))))
+
+-- a job with workers that takes something, and no prefix beside it
+several_fits : {A : Type 0} (name : Text) (given : Arguments) (about : Option A) (job : A → Job)
+    → ((x : A) → about ≡ Some x → given.prefix ≡ None → Fits name given (job x)) → IfSome (unless given.prefix (option_map job about)) (Fits name given)
+several_fits name given about job fits =
+    unless_so (Fits name given) given.prefix (option_map job about) (λ p. map_so (Fits name given) job about (λ x is. fits x is p))
+
+drill_fits : (given : Arguments) → IfSome (drill_with given.seed given.prefix given.workers) (Fits (codes "drill") given)
+drill_fits given = several_fits (codes "drill") given given.seed (λ (n : ℕ). Drill n (several given.workers)) (λ n s p. (refl, (s, p, refl)))
+
+story_fits : (given : Arguments) → IfSome (story_with given.subject given.prefix given.workers) (Fits (codes "story") given)
+story_fits given =
+    several_fits (codes "story") given given.subject (λ (peering : Text). Story peering (several given.workers)) (λ peering s p. (refl, (s, p, refl)))
+
+why_fits : (given : Arguments) → IfSome (why_with given.subject given.prefix given.workers) (Fits (codes "why") given)
+why_fits given = of_router given.subject refl where
+  of_router : (subject : Option Text) → given.subject ≡ subject → IfSome (why_with subject given.prefix given.workers) (Fits (codes "why") given)
+  of_router None s = tt
+  of_router (Some router) s =
+      map_so (Fits (codes "why") given) (λ (prefix : PrefixValue). Why router prefix (several given.workers)) given.prefix
+      (λ prefix p. (refl, (s, p, refl)))
+
+-- the row of a name, or the rows behind it
+row : (name own : Text) (given : Arguments) (o others : Option Job) → IfSome o (Fits own given) → IfSome others (Fits name given)
+    → IfSome (if bytes_eq name own then o else others) (Fits name given)
+row name own given o others fits rest = by_test (bytes_eq name own) (bytes_eq-Decides name own) where
+  by_test : (b : Bool) → Decides b (name ≡ own) → IfSome (if b then o else others) (Fits name given)
+  by_test true is = subst (λ n. IfSome o (Fits n given)) (sym (is.0 refl)) fits
+  by_test false is = rest
+
+named_fits : (name : Text) (given : Arguments) → IfSome (job_named name given) (Fits name given)
+named_fits name given =
+    row name (codes "run") given _ _ (alone_fits (codes "run") given Run (λ none. (refl, (none.0, none.1, refl))))
+    (row name (codes "check") given _ _ (check_fits given)
+    (row name (codes "make") given _ _ (make_fits given)
+    (row name (codes "drill") given _ _ (drill_fits given)
+    (row name (codes "journal") given _ _ (alone_fits (codes "journal") given Journal (λ none. (refl, (none.0, none.1, refl))))
+    (row name (codes "timeline") given _ _ (alone_fits (codes "timeline") given Timeline (λ none. (refl, (none.0, none.1, refl))))
+    (row name (codes "story") given _ _ (story_fits given)
+    (row name (codes "why") given _ None (why_fits given) tt)))))))
+
+-- ---- each job is read by its name: no row before its own has that name
+
+pub read_by_name : (given : Arguments) (job : Job) → HasArguments given job → job_named (name_of job) given ≡ Some job
+read_by_name given (Run workers) has = rw (has.0, has.1, has.2) refl
+read_by_name given Check has = rw (has.0, has.1, has.2) refl
+read_by_name given (Make seed) has = rw (has.0, has.1, has.2) refl
+read_by_name given (Drill seed workers) has = rw (has.0, has.1, has.2) refl
+read_by_name given (Journal workers) has = rw (has.0, has.1, has.2) refl
+read_by_name given (Timeline workers) has = rw (has.0, has.1, has.2) refl
+read_by_name given (Story peering workers) has = rw (has.0, has.1, has.2) refl
+read_by_name given (Why router prefix workers) has = rw (has.0, has.1, has.2) refl
+read_by_name given Help has = absurd has
+read_by_name given Version has = absurd has
+
+-- ---- texts are read as one list of arguments
+
+same_seed : (text : Option Text) (a b : Option ℕ) → Finds (IsSeed text) a → Finds (IsSeed text) b → a ≡ b
+same_seed text None None is also = refl
+same_seed text None (Some n) is also = absurd (is n also)
+same_seed text (Some n) None is also = absurd (also n is)
+same_seed None (Some n) (Some m) is also = absurd is
+same_seed (Some text) (Some n) (Some m) is also = ap Some (sym is.value ∙ also.value)
+
+same_read : {A : Type 0} (Is : Text → A → Type 0) → ((text : Text) (x y : A) → Is text x → Is text y → x ≡ y) → (text : Option Text) (a b : Option A)
+    → IsReadAs Is text a → IsReadAs Is text b → a ≡ b
+same_read Is one None None None is also = refl
+same_read Is one None None (Some y) is also = absurd also
+same_read Is one None (Some x) b is also = absurd is
+same_read Is one (Some text) None b is also = absurd is
+same_read Is one (Some text) (Some x) None is also = absurd also
+same_read Is one (Some text) (Some x) (Some y) is also = ap Some (one text x y is also)
+
+head_is : (v w : ℕ) → v ∷ [] ≡ w ∷ [] → v ≡ w
+head_is v w e = cc
+
+one_number : (text : Text) (x y : ℕ) → IsWorkersText text x → IsWorkersText text y → x ≡ y
+one_number text x y is also =
+    let same : 48 + x ≡ 48 + y = head_is (48 + x) (48 + y) (sym is.2 ∙ also.2) in
+    omega arith
+
+abbrev arguments : Option Text → Option ℕ → Option PrefixValue → Option ℕ → Arguments
+arguments subject seed prefix workers = record { subject = subject; seed = seed; prefix = prefix; workers = workers }
+
+same_arguments : (subject prefix workers : Option Text) (a b : Arguments) → AreArguments subject prefix workers a → AreArguments subject prefix workers b
+    → a ≡ b
+same_arguments subject prefix workers a b is also =
+    let s : a.subject ≡ b.subject = is.as_subject ∙ sym also.as_subject in
+    let n : a.seed ≡ b.seed = same_seed subject a.seed b.seed is.as_seed also.as_seed in
+    let p : a.prefix ≡ b.prefix = same_read IsPrefixText IsPrefixText_unique prefix a.prefix b.prefix is.as_prefix also.as_prefix in
+    let w : a.workers ≡ b.workers = same_read IsWorkersText one_number workers a.workers b.workers is.as_workers also.as_workers in
+    ap (λ x. arguments x a.seed a.prefix a.workers) s ∙ ap (λ x. arguments b.subject x a.prefix a.workers) n
+    ∙ ap (λ x. arguments b.subject b.seed x a.workers) p ∙ ap (λ x. arguments b.subject b.seed b.prefix x) w
+
+-- ---- the job of what is given
+
+some_is : (a b : Text) → Some a ≡ Some b → a ≡ b
+some_is a b e = cc
+
+-- a given job is the one that its name and its arguments are read as
+pub job_by_name : (name : Text) (subject prefix workers : Option Text) (given : Arguments) (job : Job) → AreArguments subject prefix workers given
+    → IsJob (given_by (Some name) subject prefix workers) job → job_named name given ≡ Some job
+job_by_name name subject prefix workers given job are is =
+    let same = same_arguments subject prefix workers given is.1.0 are is.1.1 in
+    let named = some_is name (name_of job) is.0 in
+    ap (λ n. job_named n given) named ∙ ap (job_named (name_of job)) same ∙ read_by_name is.1.0 job is.1.2
+
+some_no_none : (job : Job) → None ≡ Some job → ⊥
+some_no_none job e = let f : ⊥ = cc in f
+
+pub job_found : (job : Option Text) (name : Text) (subject prefix workers : Option Text) (given : Arguments) (o : Option Job)
+    → AreArguments subject prefix workers given → job ≡ Some name → o ≡ job_named name given → Finds (IsJob (given_by job subject prefix workers)) o
+job_found job name subject prefix workers given None are named same =
+    λ found is. some_no_none found (same ∙ job_by_name name subject prefix workers given found are (sym named ∙ is.0, is.1))
+job_found job name subject prefix workers given (Some found) are named same =
+    let fits : Fits name given found = subst (λ o. IfSome o (Fits name given)) (sym same) (named_fits name given) in
+    (named ∙ ap Some fits.0, (given, are, fits.1))
+
+-- no job is given where its arguments can't be read
+pub unread_arguments : (job subject prefix workers : Option Text) (e : WordStop) → Answers (AreArguments subject prefix workers) (Err e)
+    → Answers (IsJob (given_by job subject prefix workers)) (Err e)
+unread_arguments job subject prefix workers Usage none = λ found is. none is.1.0 is.1.1
+unread_arguments job subject prefix workers NoMemory none = tt

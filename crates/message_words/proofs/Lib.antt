@@ -1,0 +1,4 @@
+pub mod Frames
+pub mod Listed
+pub mod Openings
+pub mod Plain

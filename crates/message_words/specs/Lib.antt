@@ -1,0 +1,4 @@
+pub mod Messages
+pub mod Names
+pub mod Notices
+pub mod Updates

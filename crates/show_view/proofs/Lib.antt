@@ -1,0 +1,5 @@
+pub mod Octets
+pub mod Telling
+pub mod Counting
+pub mod Lasts
+pub mod Pieces

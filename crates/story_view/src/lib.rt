@@ -1,0 +1,12 @@
+//! The story of a session, message by message, each line with its round and with the router that held the session.
+#![tactic(auto)]
+
+mod lines;
+mod moments;
+mod reading;
+mod whole;
+
+pub use lines::begins;
+pub use moments::{Moment, Moments, adds_to};
+pub use reading::open_put;
+pub use whole::{expected_first, lines_of, story_text};

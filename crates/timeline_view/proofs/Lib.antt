@@ -1,0 +1,7 @@
+pub mod ByRound
+pub mod Counted
+pub mod Moves
+pub mod Numbered
+pub mod Stories
+pub mod Told
+pub mod Windows

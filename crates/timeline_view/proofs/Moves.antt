@@ -1,0 +1,110 @@
+-- The next graft between two routers is found among the moves alone.
+use Rattle.std.proofs.Common.{ℕ, ◌≡◌, ◌+◌, ◌==◌, ◌||◌, inl, inr, Bool, true, false, cond, List, [], ◌∷◌, map, filter, count_by, get_or}
+use Rattle.std.proofs.Common.{refl, sym, ap, ◌∙◌, arith}
+use Rattle.std.proofs.lemmas.Bool.{true≢false, eqb-true, and_parts, or_cases, cases_Bool}
+use Rattle.std.specs.List.{flat_map, enumerate_from}
+use Rattle.ring_net.specs.declared.entry.JournalEntry.{JournalEntry}
+use Rattle.graft_steps.specs.declared.log.GraftEntry.{GraftEntry}
+use Rattle.lab_report.specs.declared.lab.Lab.{Lab}
+use Rattle.timeline_view.specs.declared.event.Event.{Event}
+use Rattle.timeline_view.specs.declared.event.Event.TheVariants.{Land, TurnBack, Return, Clear}
+use Rattle.timeline_view.specs.Events.{taken_event}
+use Rattle.timeline_view.specs.Numbers.{leaves, grafts_left, arrives, next_to_arrive, turned_back_at, grafts_turned_back, returns, next_to_return}
+use Rattle.timeline_view.specs.Numbers.{confirms, grafts_confirmed, clears, next_to_clear}
+use Rattle.timeline_view.specs.Walks.{is_move_kind, is_move}
+
+-- ---- a test that only moves pass
+
+module _ {X : Type 0} (p q : X → Bool) (within : (x : X) → p x ≡ true → q x ≡ true) where
+  -- what doesn't pass the second test doesn't pass the first
+  neither : (x : X) → q x ≡ false → p x ≡ false
+  neither x failed = elim (cases_Bool (p x)) [ inl passes ↦ absurd (true≢false (sym (within x passes) ∙ failed)) | inr none ↦ none ]
+
+  filter_within : (xs : List X) → filter p (filter q xs) ≡ filter p xs
+  filter_within [] = refl
+  filter_within (x ∷ xs) = by_test (q x) refl (filter_within xs) where
+    stays : (t : Bool) → filter p (filter q xs) ≡ filter p xs
+        → cond t (x ∷ filter p (filter q xs)) (filter p (filter q xs)) ≡ cond t (x ∷ filter p xs) (filter p xs)
+    stays true rest = ap (λ (l : List X). x ∷ l) rest
+    stays false rest = rest
+
+    by_test : (c : Bool) → q x ≡ c → filter p (filter q xs) ≡ filter p xs
+        → filter p (cond c (x ∷ filter q xs) (filter q xs)) ≡ cond (p x) (x ∷ filter p xs) (filter p xs)
+    by_test true passed rest = stays (p x) rest
+    by_test false failed rest = rest ∙ ap (λ (t : Bool). cond t (x ∷ filter p xs) (filter p xs)) (sym (neither x failed))
+
+  count_within : (xs : List X) → count_by p (filter q xs) ≡ count_by p xs
+  count_within [] = refl
+  count_within (x ∷ xs) = by_test (q x) refl (count_within xs) where
+    by_test : (c : Bool) → q x ≡ c → count_by p (filter q xs) ≡ count_by p xs
+        → count_by p (cond c (x ∷ filter q xs) (filter q xs)) ≡ cond (p x) 1 0 + count_by p xs
+    by_test true passed rest = ap (λ n. cond (p x) 1 0 + n) rest
+    by_test false failed rest =
+        let none : count_by p xs ≡ 0 + count_by p xs = omega arith in
+        rest ∙ none ∙ ap (λ (t : Bool). cond t 1 0 + count_by p xs) (sym (neither x failed))
+
+-- ---- moves
+
+of_kind : (e : JournalEntry) (kind : ℕ) → is_move_kind kind ≡ true → (e.kind == kind) ≡ true → is_move e ≡ true
+of_kind e kind is same = ap is_move_kind (eqb-true e.kind kind same) ∙ is
+
+module _ (log : List GraftEntry) (source target : ℕ) where
+  leaves_moves : (e : JournalEntry) → leaves log source target e ≡ true → is_move e ≡ true
+  leaves_moves e h = of_kind e 12 refl (and_parts (e.kind == 12) _ h).0
+
+  arrives_moves : (e : JournalEntry) → arrives source target e ≡ true → is_move e ≡ true
+  arrives_moves e h = elim (or_cases (e.kind == 13) (e.kind == 14) (and_parts ((e.kind == 13) || (e.kind == 14)) _ h).0) [
+    | inl land ↦ of_kind e 13 refl land
+    | inr turn ↦ of_kind e 14 refl turn
+  ]
+
+  returns_moves : (e : JournalEntry) → returns source target e ≡ true → is_move e ≡ true
+  returns_moves e h = of_kind e 15 refl (and_parts (e.kind == 15) _ h).0
+
+  confirms_moves : (e : JournalEntry) → confirms log source target e ≡ true → is_move e ≡ true
+  confirms_moves e h = of_kind e 33 refl (and_parts (e.kind == 33) _ h).0
+
+  clears_moves : (e : JournalEntry) → clears source target e ≡ true → is_move e ≡ true
+  clears_moves e h = of_kind e 16 refl (and_parts (e.kind == 16) _ h).0
+
+  module _ (es : List JournalEntry) where
+    same_left : grafts_left log source target (filter is_move es) ≡ grafts_left log source target es
+    same_left = ap (map (λ (e : JournalEntry). e.a)) (filter_within (leaves log source target) is_move leaves_moves es)
+
+    same_arrival : next_to_arrive log source target (filter is_move es) ≡ next_to_arrive log source target es
+    same_arrival =
+        ap (λ l. get_or l (count_by (arrives source target) (filter is_move es)) 0) same_left
+        ∙ ap (λ n. get_or (grafts_left log source target es) n 0) (count_within (arrives source target) is_move arrives_moves es)
+
+    same_turned_back : grafts_turned_back log source target (filter is_move es) ≡ grafts_turned_back log source target es
+    same_turned_back =
+        ap (λ l. flat_map (turned_back_at l) (enumerate_from 0 (filter (arrives source target) (filter is_move es)))) same_left
+        ∙ ap (λ (l : List JournalEntry). flat_map (turned_back_at (grafts_left log source target es)) (enumerate_from 0 l))
+        (filter_within (arrives source target) is_move arrives_moves es)
+
+    same_return : next_to_return log source target (filter is_move es) ≡ next_to_return log source target es
+    same_return =
+        ap (λ l. get_or l (count_by (returns source target) (filter is_move es)) 0) same_turned_back
+        ∙ ap (λ n. get_or (grafts_turned_back log source target es) n 0) (count_within (returns source target) is_move returns_moves es)
+
+    same_confirmed : grafts_confirmed log source target (filter is_move es) ≡ grafts_confirmed log source target es
+    same_confirmed = ap (map (λ (e : JournalEntry). e.a)) (filter_within (confirms log source target) is_move confirms_moves es)
+
+    same_clear : next_to_clear log source target (filter is_move es) ≡ next_to_clear log source target es
+    same_clear =
+        ap (λ l. get_or l (count_by (clears source target) (filter is_move es)) 0) same_confirmed
+        ∙ ap (λ n. get_or (grafts_confirmed log source target es) n 0) (count_within (clears source target) is_move clears_moves es)
+
+-- ---- events
+
+abbrev chosen : JournalEntry → (arrived returned cleared : ℕ) → Event
+chosen e arrived returned cleared =
+    cond (e.kind == 13) (Land arrived) (cond (e.kind == 14) (TurnBack arrived) (cond (e.kind == 15) (Return returned) (Clear cleared)))
+
+pub same_taken : (lab : Lab) (es : List JournalEntry) (e : JournalEntry) → taken_event lab (filter is_move es) e ≡ taken_event lab es e
+same_taken lab es e =
+    ap (λ n. chosen e n (next_to_return lab.log e.actor e.a (filter is_move es)) (next_to_clear lab.log e.actor e.a (filter is_move es)))
+    (same_arrival lab.log e.a e.actor es)
+    ∙ ap (λ n. chosen e (next_to_arrive lab.log e.a e.actor es) n (next_to_clear lab.log e.actor e.a (filter is_move es)))
+    (same_return lab.log e.actor e.a es)
+    ∙ ap (chosen e (next_to_arrive lab.log e.a e.actor es) (next_to_return lab.log e.actor e.a es)) (same_clear lab.log e.actor e.a es)

@@ -1,0 +1,10 @@
+pub mod Events
+pub mod Grafts
+pub mod Lines
+pub mod Messages
+pub mod Moments
+pub mod Numbers
+pub mod Rounds
+pub mod Sessions
+pub mod Timeline
+pub mod Walks

@@ -1,0 +1,16 @@
+//! The timeline of a run: what happened by round, what each graft took, and what its remote heard of it.
+#![tactic(auto)]
+
+mod event;
+mod events;
+mod grafts;
+mod lines;
+mod messages;
+mod moments;
+mod numbers;
+mod outline;
+mod rounds;
+mod sessions;
+mod timeline;
+
+pub use timeline::timeline_text;

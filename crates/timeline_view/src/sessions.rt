@@ -1,0 +1,209 @@
+//! OPENs and NOTIFICATIONs of sessions.
+
+ghost use Rattle.std.specs.Prelude.{◌≡◌, ◌++◌, Some, OnOk, IfOk, sum_by, string_bytes, slice_get};
+ghost use Rattle.std.specs.List.{flat_map, enumerate_from};
+ghost use Rattle.bgp_story.specs.States.{is_type as is_type_lem};
+ghost use Rattle.timeline_view.specs.Messages.{outlines_of};
+ghost use Rattle.timeline_view.specs.Sessions.{is_open_put, is_notice_put, is_got, opens_put, opens_got, notices_put, notices_got};
+ghost use Rattle.timeline_view.specs.Sessions.{session_line, peering_session_line, further_opens, notices, withdrawn_after, total_line};
+
+use crate::event::Happening;
+use crate::grafts::updates_after;
+use crate::outline::Outline;
+use bgp_story::Line;
+use bgp_types::types::{NOTIFICATION, OPEN};
+use bgp_types::{HEADER, Message, header_fault};
+use graft_edge::NoMemory;
+use graft_steps::GraftEntry;
+use lab_report::{Lab, SessionView};
+use lab_tables::PeeringInput;
+use std::fmt::Write;
+
+/// Whether octets begin with a sound header of this type.
+fn is_type(kind: u8, octets: &[u8]) -> bool
+    ensures { result ≡ is_type_lem kind octets.now }
+{
+    octets.len() >= HEADER && header_fault(octets).is_none() && octets[18] == kind
+}
+
+fn is_open_put(line: &Line) -> bool
+    ensures { result ≡ is_open_put line.now }
+{
+    matches!(line, Line::Put(Message::OpenMsg(_)))
+}
+
+fn is_notice_put(line: &Line) -> bool
+    ensures { result ≡ is_notice_put line.now }
+{
+    matches!(line, Line::Put(Message::NoticeMsg(_)))
+}
+
+/// Whether a message of this type was got.
+fn is_got(kind: u8, line: &Line) -> bool
+    ensures { result ≡ is_got kind line.now }
+{
+    match line {
+        Line::Got(octets) => is_type(kind, octets),
+        _ => false,
+    }
+}
+
+fn opens_put(view: &SessionView) -> usize
+    ensures { result ≡ opens_put view.now }
+{
+    let lines = view.story.lines();
+    lines.iter().filter(|line| is_open_put(*line)).count()
+}
+
+fn opens_got(view: &SessionView) -> usize
+    ensures { result ≡ opens_got view.now }
+{
+    let lines = view.story.lines();
+    lines.iter().filter(|line| is_got(OPEN, *line)).count()
+}
+
+fn notices_put(view: &SessionView) -> usize
+    ensures { result ≡ notices_put view.now }
+{
+    let lines = view.story.lines();
+    lines.iter().filter(|line| is_notice_put(*line)).count()
+}
+
+fn notices_got(view: &SessionView) -> usize
+    ensures { result ≡ notices_got view.now }
+{
+    let lines = view.story.lines();
+    lines
+        .iter()
+        .filter(|line| is_got(NOTIFICATION, *line))
+        .count()
+}
+
+/// The line of a session.
+fn push_session(text: &mut String, name: &str, view: &SessionView) -> Result<(), NoMemory>
+    ensures { OnOk result (string_bytes text.new ≡ string_bytes text.old ++ session_line name.now (Some view.now)) }
+{
+    let open_put = opens_put(view);
+    let open_got = opens_got(view);
+    let notice_put = notices_put(view);
+    let notice_got = notices_got(view);
+    text.push_str("session ")?;
+    text.push_str(name)?;
+    write!(text, "  OPEN put {open_put} got {open_got}")?;
+    write!(text, "  NOTIFICATION put {notice_put}")?;
+    write!(text, " got {notice_got}\n")?;
+    Ok(())
+}
+
+/// The line of a peering, if it has a session.
+fn push_peering(
+    text: &mut String,
+    sessions: &[SessionView],
+    index: usize,
+    name: &str,
+) -> Result<(), NoMemory>
+    ensures { OnOk result (string_bytes text.new ≡ string_bytes text.old ++ session_line name.now (slice_get sessions.now index)) }
+{
+    match sessions.get(index) {
+        Some(view) => push_session(text, name, view),
+        None => Ok(()),
+    }
+}
+
+/// The lines of the sessions of these peerings.
+fn push_peerings(
+    text: &mut String,
+    sessions: &[SessionView],
+    peerings: &[PeeringInput],
+) -> Result<(), NoMemory>
+    ensures { OnOk result (string_bytes text.new ≡ string_bytes text.old ++ flat_map (peering_session_line sessions.now) (enumerate_from 0 peerings.now)) }
+{
+    for (index, peering) in peerings.iter().enumerate() {
+        push_peering(text, sessions, index, peering.name.as_str())?;
+    }
+    Ok(())
+}
+
+/// The lines of all sessions.
+pub(crate) fn push_sessions(text: &mut String, lab: &Lab) -> Result<(), NoMemory>
+    ensures { OnOk result (string_bytes text.new ≡ string_bytes text.old
+        ++ flat_map (peering_session_line lab.now.sessions) (enumerate_from 0 lab.now.input.peerings)) }
+{
+    push_peerings(text, lab.sessions.as_slice(), lab.input.peerings.as_slice())
+}
+
+/// How many OPENs stand behind the first one each way. A count that doesn't fit is NoMemory.
+fn further_opens(view: &SessionView) -> Result<usize, NoMemory>
+    ensures { IfOk result (λ count. count ≡ further_opens view.now) }
+{
+    let put = opens_put(view).saturating_sub(1);
+    let got = opens_got(view).saturating_sub(1);
+    put.checked_add(got).ok_or(NoMemory)
+}
+
+/// The same of all sessions.
+fn all_further_opens(sessions: &[SessionView]) -> Result<usize, NoMemory>
+    ensures { IfOk result (λ count. count ≡ sum_by further_opens sessions.now) }
+{
+    let mut count: usize = 0;
+    for view in sessions {
+        count = count.checked_add(further_opens(view)?).ok_or(NoMemory)?;
+    }
+    Ok(count)
+}
+
+fn notices(view: &SessionView) -> Result<usize, NoMemory>
+    ensures { IfOk result (λ count. count ≡ notices view.now) }
+{
+    notices_put(view)
+        .checked_add(notices_got(view))
+        .ok_or(NoMemory)
+}
+
+/// How many NOTIFICATIONs were put and got on all sessions.
+fn all_notices(sessions: &[SessionView]) -> Result<usize, NoMemory>
+    ensures { IfOk result (λ count. count ≡ sum_by notices sessions.now) }
+{
+    let mut count: usize = 0;
+    for view in sessions {
+        count = count.checked_add(notices(view)?).ok_or(NoMemory)?;
+    }
+    Ok(count)
+}
+
+/// How many prefixes were withdrawn from the remotes of these grafts, from the landing to the end of the group.
+fn withdrawn_in(
+    lab: &Lab,
+    outlines: &[Outline],
+    all: &[Happening],
+    log: &[GraftEntry],
+) -> Result<usize, NoMemory>
+    requires { outlines.now ≡ outlines_of lab.now }
+    ensures { IfOk result (λ count. count ≡ sum_by (withdrawn_after lab.now all.now) log.now) }
+{
+    let mut count: usize = 0;
+    for graft in log {
+        let counts = updates_after(lab, outlines, graft, all)?;
+        count = count.checked_add(counts.withdrawn).ok_or(NoMemory)?;
+    }
+    Ok(count)
+}
+
+/// The line of the whole run.
+pub(crate) fn push_total(
+    text: &mut String,
+    lab: &Lab,
+    outlines: &[Outline],
+    all: &[Happening],
+) -> Result<(), NoMemory>
+    requires { outlines.now ≡ outlines_of lab.now }
+    ensures { OnOk result (string_bytes text.new ≡ string_bytes text.old ++ total_line lab.now all.now) }
+{
+    let opens = all_further_opens(lab.sessions.as_slice())?;
+    let notices = all_notices(lab.sessions.as_slice())?;
+    let withdrawn = withdrawn_in(lab, outlines, all, lab.log.as_slice())?;
+    write!(text, "total  further OPENs {opens}")?;
+    write!(text, "  NOTIFICATIONs {notices}")?;
+    write!(text, "  withdrawn from moved remotes {withdrawn}\n")?;
+    Ok(())
+}

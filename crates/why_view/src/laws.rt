@@ -1,0 +1,19 @@
+//! What holds of the candidates that are shown.
+
+ghost use Rattle.why_view.specs.Laws.{RulesAreTheNine, TheWinnerIsTheBest, WhatGoesNowhereIsLeft};
+
+/// The rules at which candidates go are the nine of the decision process, in their order.
+pub fn rules_are_the_nine()
+    ensures { RulesAreTheNine }
+{}
+
+/// Where a router's best route to a prefix is the choice between its candidates, as in the tables of a settled run, it is the candidate
+/// that is shown as the best.
+pub fn the_winner_is_the_best()
+    ensures { TheWinnerIsTheBest }
+{}
+
+/// A candidate goes at none of the nine rules exactly where they leave its rank.
+pub fn what_goes_nowhere_is_left()
+    ensures { WhatGoesNowhereIsLeft }
+{}

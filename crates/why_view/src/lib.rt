@@ -1,0 +1,16 @@
+//! Why a router has its best route to a prefix: its candidates at the end of a run, with the rule of the decision process at
+//! which each went, and the routes that it heard and excluded.
+#![tactic(auto)]
+
+mod candidates;
+mod entries;
+mod laws;
+mod lines;
+mod rules;
+mod sources;
+mod stories;
+mod why;
+
+pub use laws::{rules_are_the_nine, the_winner_is_the_best, what_goes_nowhere_is_left};
+pub use rules::DecisionRule;
+pub use why::why_text;
