@@ -107,7 +107,8 @@ still_there {X} p (y ∷ xs) x (suc k) lt at passes = by_test (p y) (still_there
   by_test false there = there
 
 -- a rule keeps what nothing is better than
-kept_if : (rule : Rule) (left : List Rank) (rank : Rank) → Contains left rank → list_any (λ other. rule other rank) left ≡ false → Contains (keep rule left) rank
+kept_if : (rule : Rule) (left : List Rank) (rank : Rank) → Contains left rank → list_any (λ other. rule other rank) left ≡ false
+    → Contains (keep rule left) rank
 unfolding keep
 kept_if rule left rank there unbeaten =
     still_there (λ x. not (list_any (λ y. rule y x) left)) left rank there.0 there.1 there.2 (ap not unbeaten)
