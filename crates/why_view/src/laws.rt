@@ -1,6 +1,6 @@
 //! What holds of the candidates that are shown.
 
-ghost use Rattle.why_view.specs.Laws.{RulesAreTheNine, TheWinnerIsTheBest, WhatGoesNowhereIsLeft};
+ghost use Rattle.why_view.specs.Laws.{RulesAreTheNine, TheWinnerIsTheBest, WhatARuleLeavesOutGoesThere, WhatGoesNowhereIsLeft};
 
 /// The rules at which candidates go are the nine of the decision process, in their order.
 pub fn rules_are_the_nine()
@@ -16,4 +16,9 @@ pub fn the_winner_is_the_best()
 /// A candidate goes at none of the nine rules exactly where they leave its rank.
 pub fn what_goes_nowhere_is_left()
     ensures { WhatGoesNowhereIsLeft }
+{}
+
+/// A candidate whose rank the first rules leave, and the next one doesn't, goes at this next one.
+pub fn what_a_rule_leaves_out_goes_there()
+    ensures { WhatARuleLeavesOutGoesThere }
 {}
