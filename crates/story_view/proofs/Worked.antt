@@ -1,5 +1,6 @@
 -- The story of the worked run, computed.
 use Rattle.std.proofs.Common.{◌≡◌, refl}
+use Rattle.std.specs.Fmt.{digits}
 use Rattle.bgp_types.specs.Faults.{origin_in, path_in, next_hop_in, med_in, atomic_in, aggregator_in, other_in, own_fault, attrs_fault}
 use Rattle.bgp_types.specs.FirstFault.{body_of, message_of}
 use Rattle.bgp_types.specs.Found.{found_in, attrs_in}
@@ -15,6 +16,6 @@ use Rattle.story_view.specs.Story.{story_text}
 use Rattle.story_view.specs.Worked.{worked_lab, worked_text}
 
 pub story_is : story_text worked_lab 0 ≡ worked_text
-unfolding message_of header_fault frame_at body_of open_of update_of fields_of prefixes_of prefix_at many many_within attrs_in attrs_fault own_fault
+unfolding digits message_of header_fault frame_at body_of open_of update_of fields_of prefixes_of prefix_at many many_within attrs_in attrs_fault own_fault
     origin_in path_in next_hop_in med_in atomic_in aggregator_in other_in found_in all_known part_at attr_at cap_at caps_of params_of merged_path
 story_is = refl
