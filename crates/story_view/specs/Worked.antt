@@ -1,6 +1,6 @@
 -- A worked run of two routers, in which the session of a remote moves from the first to the second, and its story as a text. The lines are those of
 -- the worked stories of bgp_story: home AS 65000, hold time 90, and a remote of AS 65001.
-use Rattle.std.specs.Prelude.{ℕ, List, [], ◌∷◌, ◌++◌, None, Some, false, codes}
+use Rattle.std.specs.Prelude.{ℕ, List, [], ◌∷◌, ◌++◌, None, false, codes}
 use Rattle.bgp_types.specs.declared.message.Message.TheVariants.{UpdateMsg, NoticeMsg, KeepaliveMsg}
 use Rattle.bgp_story.specs.declared.line.Line.{Line}
 use Rattle.bgp_story.specs.declared.line.Line.TheVariants.{Put, Got, Tick}

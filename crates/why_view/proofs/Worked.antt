@@ -60,10 +60,12 @@ abbrev text_by : List SessionRoute → List ℕ
 text_by sessions = candidate_lines worked_input (candidates 65000 ten false sessions (routers_beside worked_lab 0 ten))
     ++ flat_map (excluded_lines worked_input ten) sessions
 
-text_is : (c1 c2 c3 : Option Attrs) → c1 ≡ Some heard_attrs → c2 ≡ Some heard_attrs → c3 ≡ Some looped_attrs
-    → text_by (sessions_of c1 c2 c3) ≡ worked_text
+text_is : text_by (sessions_of (Some heard_attrs) (Some heard_attrs) (Some looped_attrs)) ≡ worked_text
 unfolding digits message_of header_fault frame_at body_of open_of many many_within cap_at caps_of params_of choice keep left_of
-text_is c1 c2 c3 is is' is'' = rw (is, is', is'') refl
+text_is = refl
 
 pub why_is : why_text worked_lab 0 ten ≡ worked_text
-why_is = ap text_by sessions_are ∙ text_is _ _ _ ten_heard ten_heard looped_heard
+why_is =
+    ap text_by (sessions_are ∙ ap (λ c. sessions_of c c (map.get (heard (worked_peering 0) looped_lines) ten)) ten_heard
+    ∙ ap (sessions_of (Some heard_attrs) (Some heard_attrs)) looped_heard)
+    ∙ text_is

@@ -40,7 +40,7 @@ abbrev router_b : RouterInput
 router_b = record { name = codes "b"; id = 0x0AFF0002; sessions = 8; by_bytes = false; networks = []; policies = [] }
 
 -- a peering that starts at the first router
-abbrev peering_of : List ℕ → (address : ℕ) → Option (List ℕ) → PeeringInput
+abbrev pub peering_of : List ℕ → (address : ℕ) → Option (List ℕ) → PeeringInput
 peering_of name address policy = record {
   name = name;
   at = record { 0 = 0 };
