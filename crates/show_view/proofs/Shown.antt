@@ -1,5 +1,5 @@
 -- The lines of a session, by the values that the code found.
-use Rattle.std.proofs.Common.{◌≡◌, ℕ, ◌++◌, Bool, List, Option, Some, None, sym, ap, ◌∙◌}
+use Rattle.std.proofs.Common.{◌≡◌, ℕ, ◌++◌, Bool, List, Option, Some, None, ap, ◌∙◌}
 use Rattle.std.specs.Prelude.{option_and_then, option_map, slice_get}
 use Rattle.std.specs.FinMap as map
 use Rattle.std.specs.List.{flat_map}

@@ -1,5 +1,4 @@
 use Rattle.std.proofs.Common.{◌≡◌, min, string_bytes, arith}
-use Rattle.bgp_types.specs.declared.message.OpenMsg as open_type
 use Rattle.why_view.specs.Stories.{story_peering}
 use Rattle.show_view.proofs.Agreeing.{agreed_are}
 use Rattle.show_view.proofs.Pieces.{worded}

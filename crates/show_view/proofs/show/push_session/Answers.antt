@@ -1,6 +1,5 @@
 use Rattle.std.proofs.Common.{List, ℕ, ◌++◌, sym, ap, ◌∙◌, string_bytes}
 use Rattle.std.proofs.lemmas.Result.{on_ok_weaker}
-use Rattle.bgp_types.specs.declared.message.OpenMsg as open_type
 use Rattle.bgp_story.specs.Legal.{both_offer, got_open}
 use Rattle.why_view.specs.Stories.{story_peering}
 use Rattle.show_view.specs.Sessions.{before_last, closed_line, closing_words, last_of, messages_line, state_line}

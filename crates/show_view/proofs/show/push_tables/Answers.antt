@@ -1,4 +1,4 @@
-use Rattle.std.proofs.Common.{ℕ, Some, None, sym, ap, ◌∙◌, option_copied, string_bytes}
+use Rattle.std.proofs.Common.{ℕ, sym, ap, ◌∙◌, option_copied, string_bytes}
 use Rattle.std.specs.Prelude.{Option, option_map, slice_get}
 use Rattle.std.proofs.lemmas.Result.{on_ok_weaker}
 use Rattle.lab_tables.specs.declared.input.RouterInput.{RouterInput}

@@ -1,5 +1,4 @@
 use Rattle.std.proofs.Common.{ap, ◌∙◌}
-use Rattle.bgp_types.specs.declared.message.OpenMsg as open_type
 use Rattle.bgp_story.specs.Legal.{both_offer}
 use Rattle.why_view.specs.Stories.{story_peering}
 use Rattle.show_view.proofs.Waited.{unreceived_so}
