@@ -1,7 +1,8 @@
 -- The next graft between two routers is found among the moves alone.
-use Rattle.std.proofs.Common.{ℕ, ◌≡◌, ◌+◌, ◌==◌, ◌||◌, inl, inr, Bool, true, false, cond, List, [], ◌∷◌, map, filter, count_by, get_or}
-use Rattle.std.proofs.Common.{refl, sym, ap, ◌∙◌, arith}
+use Rattle.std.proofs.Common.{ℕ, ◌≡◌, ◌==◌, ◌||◌, inl, inr, Bool, true, false, cond, List, [], ◌∷◌, map, length, filter, count_by, get_or}
+use Rattle.std.proofs.Common.{refl, sym, ap, ◌∙◌}
 use Rattle.std.proofs.lemmas.Bool.{true≢false, eqb-true, and_parts, or_cases, cases_Bool}
+use Rattle.std.proofs.lemmas.List.Sums.{length-filter}
 use Rattle.std.specs.List.{flat_map, enumerate_from}
 use Rattle.ring_net.specs.declared.entry.JournalEntry.{JournalEntry}
 use Rattle.graft_steps.specs.declared.log.GraftEntry.{GraftEntry}
@@ -34,14 +35,7 @@ module _ {X : Type 0} (p q : X → Bool) (within : (x : X) → p x ≡ true → 
     by_test false failed rest = rest ∙ ap (λ (t : Bool). cond t (x ∷ filter p xs) (filter p xs)) (sym (neither x failed))
 
   count_within : (xs : List X) → count_by p (filter q xs) ≡ count_by p xs
-  count_within [] = refl
-  count_within (x ∷ xs) = by_test (q x) refl (count_within xs) where
-    by_test : (c : Bool) → q x ≡ c → count_by p (filter q xs) ≡ count_by p xs
-        → count_by p (cond c (x ∷ filter q xs) (filter q xs)) ≡ cond (p x) 1 0 + count_by p xs
-    by_test true passed rest = ap (λ n. cond (p x) 1 0 + n) rest
-    by_test false failed rest =
-        let none : count_by p xs ≡ 0 + count_by p xs = omega arith in
-        rest ∙ none ∙ ap (λ (t : Bool). cond t 1 0 + count_by p xs) (sym (neither x failed))
+  count_within xs = sym (length-filter p (filter q xs)) ∙ ap (λ (l : List X). length l) (filter_within xs) ∙ length-filter p xs
 
 -- ---- moves
 

@@ -155,7 +155,12 @@ pub(crate) struct UpdateCounts {
 }
 
 /// The UPDATE that an event of a peering put, if it put one.
-fn update_of(lab: &Lab, outlines: &[Outline], remote: u32, event: Event) -> Option<&Update>
+fn update_of<'a>(
+    lab: &'a Lab,
+    outlines: &[Outline],
+    remote: u32,
+    event: Event,
+) -> Option<&'a Update>
     requires { outlines.now ≡ outlines_of lab.now }
     ensures { option_copied result ≡ update_of lab.now remote event }
 {

@@ -187,7 +187,11 @@ pub(crate) fn push_session(
 }
 
 /// Returns the UPDATE that the session's event of this number put, if it put one.
-pub(crate) fn update_at(view: &SessionView, outline: &Outline, nth: usize) -> Option<&Update>
+pub(crate) fn update_at<'a>(
+    view: &'a SessionView,
+    outline: &Outline,
+    nth: usize,
+) -> Option<&'a Update>
     requires { outline.now ≡ outline_of view.now.story }
     ensures { option_copied result ≡ update_at nth (Some view.now) }
 {
