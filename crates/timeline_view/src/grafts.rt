@@ -100,30 +100,43 @@ fn push_span(text: &mut String, from: Option<usize>, to: Option<usize>) -> Resul
     Ok(())
 }
 
-/// Words, and how many rounds one event was after another.
+/// Words, and how many rounds one moment of a graft was after another.
 fn push_named_span(
     text: &mut String,
     words: &str,
-    from: Option<usize>,
-    to: Option<usize>,
+    from: Moment,
+    to: Moment,
+    graft: u32,
+    all: &[Happening],
 ) -> Result<(), NoMemory>
-    ensures { OnOk result (string_bytes text.new ≡ string_bytes text.old ++ (words.now ++ span_text from to)) }
+    ensures { OnOk result (string_bytes text.new ≡ string_bytes text.old
+        ++ (words.now ++ span_text (round_of_graft from graft all.now) (round_of_graft to graft all.now))) }
 {
     text.push_str(words)?;
-    push_span(text, from, to)
+    push_span(text, round_of(from, graft, all), round_of(to, graft, all))
 }
 
 /// The rounds from the order to the freeze, frozen, and on the way until the session landed.
 fn push_spans(text: &mut String, graft: u32, all: &[Happening]) -> Result<(), NoMemory>
     ensures { OnOk result (string_bytes text.new ≡ string_bytes text.old ++ spans_words graft all.now) }
 {
-    let ordered = round_of(Moment::Ordered, graft, all);
-    let frozen = round_of(Moment::Frozen, graft, all);
-    let left = round_of(Moment::Left, graft, all);
-    let landed = round_of(Moment::Landed, graft, all);
-    push_named_span(text, " rounds to freeze ", ordered, frozen)?;
-    push_named_span(text, " frozen ", frozen, left)?;
-    push_named_span(text, " to landing ", left, landed)
+    push_named_span(
+        text,
+        " rounds to freeze ",
+        Moment::Ordered,
+        Moment::Frozen,
+        graft,
+        all,
+    )?;
+    push_named_span(text, " frozen ", Moment::Frozen, Moment::Left, graft, all)?;
+    push_named_span(
+        text,
+        " to landing ",
+        Moment::Left,
+        Moment::Landed,
+        graft,
+        all,
+    )
 }
 
 fn is_stray_of(remote: u32, event: Event) -> bool
