@@ -5,11 +5,12 @@ ghost use Rattle.std.specs.List.{flat_map, filter_map, cons_option, position, be
 ghost use Rattle.std.specs.Option.{option_copied};
 ghost use Rattle.bgp_types.specs.declared.message.Update.{Update as UpdateValue};
 ghost use Rattle.timeline_view.specs.Grafts.{is_begin, is_of, round_of_graft, from_then, span_text, spans_words, is_stray_of, strays_of};
-ghost use Rattle.timeline_view.specs.Grafts.{update_of, updates_after, graft_lines};
+ghost use Rattle.timeline_view.specs.Grafts.{update_of, updates_after, updates_words, graft_lines};
 ghost use Rattle.timeline_view.specs.Messages.{outlines_of};
 ghost use Rattle.timeline_view.specs.Walks.{CountsUpdates};
 
 use crate::event::{Event, Happening, Moment};
+use crate::lines::push_number;
 use crate::messages::update_at;
 use crate::moments::graft_at;
 use crate::outline::Outline;
@@ -37,7 +38,7 @@ fn is_of(moment: Moment, graft: u32, happening: &Happening) -> bool
 }
 
 /// The round of a graft's moment, if it came.
-fn round_of(moment: Moment, graft: u32, all: &[Happening]) -> Option<usize>
+pub fn round_of(moment: Moment, graft: u32, all: &[Happening]) -> Option<usize>
     ensures { result ≡ round_of_graft moment graft all.now }
 {
     all.iter()
@@ -149,7 +150,7 @@ fn is_stray_of(remote: u32, event: Event) -> bool
 }
 
 /// How many segments of a graft's remote came astray, from the freeze to the end of the group.
-fn strays_of(graft: &GraftEntry, all: &[Happening]) -> usize
+pub fn strays_of(graft: &GraftEntry, all: &[Happening]) -> usize
     ensures { result ≡ strays_of graft.now all.now }
 {
     let remote = u32::from(graft.peering.0);
@@ -161,7 +162,7 @@ fn strays_of(graft: &GraftEntry, all: &[Happening]) -> usize
 
 /// UPDATEs, and how many prefixes they announce and withdraw.
 #[derive(Clone, Copy, Debug)]
-pub(crate) struct UpdateCounts {
+pub struct UpdateCounts {
     pub updates: usize,
     pub announced: usize,
     pub withdrawn: usize,
@@ -234,7 +235,7 @@ fn updates_in(
 }
 
 /// Returns the counts of what was put to a graft's remote, from the landing to the end of the group.
-pub(crate) fn updates_after(
+pub fn updates_after(
     lab: &Lab,
     outlines: &[Outline],
     graft: &GraftEntry,
@@ -245,6 +246,16 @@ pub(crate) fn updates_after(
 {
     let here = from_then(Moment::Landed, graft.graft, all);
     updates_in(lab, outlines, u32::from(graft.peering.0), here)
+}
+
+/// How many UPDATEs there were, and how many prefixes they announce and withdraw.
+fn push_updates(text: &mut String, counts: UpdateCounts) -> Result<(), NoMemory>
+    ensures { OnOk result ((these : List UpdateValue) → CountsUpdates these counts
+        → string_bytes text.new ≡ string_bytes text.old ++ updates_words these) }
+{
+    push_number(text, " UPDATEs ", counts.updates)?;
+    push_number(text, " announced ", counts.announced)?;
+    push_number(text, " withdrawn ", counts.withdrawn)
 }
 
 /// The lines of a graft.
@@ -258,18 +269,14 @@ fn push_graft_lines(
     requires { outlines.now ≡ outlines_of lab.now }
     ensures { OnOk result (string_bytes text.new ≡ string_bytes text.old ++ graft_lines lab.now all.now graft.now) }
 {
-    let number = graft.graft;
     let astray = strays_of(graft, all);
     let counts = updates_after(lab, outlines, graft, all)?;
-    let updates = counts.updates;
-    let announced = counts.announced;
-    let withdrawn = counts.withdrawn;
     push_graft(text, &lab.input, graft)?;
-    write!(text, "graft {number}")?;
-    push_spans(text, number, all)?;
-    write!(text, " astray {astray}")?;
-    write!(text, " UPDATEs {updates} announced {announced}")?;
-    write!(text, " withdrawn {withdrawn}\n")?;
+    push_number(text, "graft ", graft.graft as usize)?;
+    push_spans(text, graft.graft, all)?;
+    push_number(text, " astray ", astray)?;
+    push_updates(text, counts)?;
+    text.push_str("\n")?;
     Ok(())
 }
 
