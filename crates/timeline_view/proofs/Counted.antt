@@ -1,5 +1,5 @@
 -- Counts, one more at a time.
-use Rattle.std.proofs.Common.{ℕ, ◌≡◌, ◌+◌, ◌<◌, inl, inr, Bool, true, false, cond, ◌==◌, List, [], ◌∷◌, ◌++◌, length, count_by, sum_by, take, Option}
+use Rattle.std.proofs.Common.{ℕ, ◌≡◌, ◌+◌, ◌<◌, inl, inr, Bool, true, false, cond, ◌==◌, List, [], ◌∷◌, ◌++◌, length, count_by, take, Option}
 use Rattle.std.proofs.Common.{refl, sym, ap, ◌∙◌, subst, slice_index, slice_index_or, set, length-append, append-nil, get_or-set_same, get_or-set_other, arith}
 use Rattle.std.proofs.lemmas.Bool.{ne_eqb, and_left, cases_eq}
 use Rattle.std.proofs.lemmas.List.{take_more, length-set}

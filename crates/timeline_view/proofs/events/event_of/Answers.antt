@@ -1,4 +1,4 @@
-use Rattle.std.proofs.Common.{◌≡◌, Option, Some, List, ap, ◌∙◌, rules}
+use Rattle.std.proofs.Common.{◌≡◌, Some, List, ap, ◌∙◌, rules}
 use Rattle.ring_net.specs.declared.entry.JournalEntry.{JournalEntry}
 use Rattle.timeline_view.specs.declared.event.Event.{Event}
 use Rattle.timeline_view.specs.Events.{event_of, taken_event}

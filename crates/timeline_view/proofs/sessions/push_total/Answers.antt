@@ -1,4 +1,4 @@
-use Rattle.std.proofs.Common.{string_bytes, sym, append-nil, ap, ◌∙◌, sum_by, [], List}
+use Rattle.std.proofs.Common.{string_bytes, sym, append-nil, ap, ◌∙◌, sum_by, []}
 use Rattle.std.specs.Prelude.{codes}
 use Rattle.lab_report.specs.Report.{line_end}
 use Rattle.timeline_view.specs.Sessions.{further_opens, notices, withdrawn_after}
