@@ -43,9 +43,7 @@ fn do_job<R: Threads + Sync + AllocGlobal, S: Source, K: Sink, G: Gate>(
         Job::Timeline { workers } => {
             view_job(rt, source, sink, ViewName::Timeline, workers, gate)
         }
-        Job::Show { workers } => {
-            view_job(rt, source, sink, ViewName::Show, workers, gate)
-        }
+        Job::Show { workers } => { view_job(rt, source, sink, ViewName::Show, workers, gate) }
         Job::Story { peering, workers } => {
             view_job(rt, source, sink, ViewName::Story(peering), workers, gate)
         }
