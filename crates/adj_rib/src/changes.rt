@@ -1,7 +1,6 @@
 //! Applies an UPDATE to routes, and lists the prefixes whose routes changed.
 
-ghost use Rattle.std.specs.Prelude.{◌≡◌, ◌≢◌, [], Option, None, Some, true, MatchBool, fold, is_some, option_map, IfOk, OnOk};
-ghost use Rattle.std.specs.Arc.{arc_value};
+ghost use Rattle.std.specs.Prelude.{◌≡◌, ◌≢◌, [], Option, None, Some, true, MatchBool, fold, is_some, IfOk, OnOk};
 ghost use Rattle.std.specs.FinMap as map;
 ghost use Rattle.std.specs.List.{list_any};
 ghost use Rattle.std.specs.List.Sorted.{IsStrictlySortedBy};
@@ -11,10 +10,9 @@ ghost use Rattle.bgp_types.specs.Tables.{prefix_cmp};
 ghost use Rattle.bgp_story.specs.Readings.{Routes, apply, announce as announced};
 ghost use Rattle.adj_rib.specs.Changes.{RoutesMoved, given_by_update, withdraw_unless};
 
-use crate::shared::{SharedAttrs, SharedRoutes};
-use bgp_types::{Attrs, Items, NoMemory, Prefix, PrefixList, TryCopy, Update};
+use crate::shared::SharedRoutes;
+use bgp_types::{Attrs, Items, NoMemory, Prefix, PrefixList, SharedAttrs, TryCopy, Update};
 use std::alloc::Global;
-use std::sync::Arc;
 
 /// Returns an empty list with room for `count` prefixes.
 pub fn with_room(alloc: Global, count: usize) -> Result<PrefixList, NoMemory>
@@ -123,14 +121,10 @@ pub fn withdraw_all(
 /// Whether this is the route that a prefix had.
 #[tactic(auto, using(bgp_types::proofs::Equality::attrs_equal))]
 fn is_same(had: &Option<SharedAttrs>, attrs: &SharedAttrs) -> bool
-    ensures { MatchBool result (option_map arc_value had.now ≡ Some (arc_value attrs.now)) (option_map arc_value had.now ≢ Some (arc_value attrs.now)) }
+    ensures { MatchBool result (had.now ≡ Some attrs.now) (had.now ≢ Some attrs.now) }
 {
-    let attrs: &Attrs = attrs;
     match had {
-        Some(had) => {
-            let had: &Attrs = had;
-            had == attrs
-        }
+        Some(had) => had == attrs,
         None => false,
     }
 }
@@ -142,8 +136,8 @@ fn announce_one(
     attrs: &SharedAttrs,
     changed: &mut PrefixList,
 ) -> Result<(), NoMemory>
-    ensures routes { OnOk result (routes.new ≡ map.insert routes.old prefix (arc_value attrs.now)) }
-    ensures changed { OnOk result ((before : Routes) (to : PrefixValue → Option Attrs) → to prefix ≡ Some (arc_value attrs.now)
+    ensures routes { OnOk result (routes.new ≡ map.insert routes.old prefix attrs.now) }
+    ensures changed { OnOk result ((before : Routes) (to : PrefixValue → Option Attrs) → to prefix ≡ Some attrs.now
         → RoutesMoved to before routes.old changed.old → RoutesMoved to before routes.new changed.new) }
 {
     let had = routes.set(prefix, attrs)?;
@@ -167,7 +161,7 @@ pub fn announce(
         ((before : Routes) (to : PrefixValue → Option Attrs) → ((p : PrefixValue) → list_any (same_prefix p) prefixes.now ≡ true → to p ≡ Some attrs.now)
         → RoutesMoved to before routes.old changed.old → RoutesMoved to before routes.new changed.new) }
 {
-    let shared = Arc::new(alloc, attrs.copy()?)?;
+    let shared = SharedAttrs::new(attrs.copy()?)?;
     for prefix in prefixes {
         announce_one(routes, *prefix, &shared, changed)?;
     }

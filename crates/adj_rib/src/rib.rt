@@ -8,7 +8,7 @@ ghost use Rattle.adj_rib.specs.Changes.{Changed};
 
 use crate::changes::{announce, in_order, with_room, withdraw_all};
 use crate::shared::SharedRoutes;
-use bgp_types::{Attrs, NoMemory, Prefix, PrefixList, Update};
+use bgp_types::{NoMemory, Prefix, PrefixList, SharedAttrs, Update};
 use std::alloc::Global;
 use std::marker::Model;
 
@@ -67,7 +67,7 @@ impl AdjRib {
     }
 
     /// Returns the route of a prefix.
-    pub fn get(&self, prefix: Prefix) -> Option<&Attrs>
+    pub fn get(&self, prefix: Prefix) -> Option<&SharedAttrs>
         ensures { option_copied result ≡ map.get self.now prefix }
     {
         self.routes.get(prefix)

@@ -1,18 +1,13 @@
 //! Routes by prefix. Those that were set together share their attributes.
 
-ghost use Rattle.std.specs.Prelude.{◌≡◌, OnOk, IfOk, is_some, option_copied, option_map};
-ghost use Rattle.std.specs.Arc.{arc_value};
+ghost use Rattle.std.specs.Prelude.{◌≡◌, OnOk, IfOk, is_some, option_copied};
 ghost use Rattle.std.specs.FinMap as map;
 ghost use Rattle.bgp_types.specs.Tables.{first_above};
 
-use bgp_types::{Attrs, NoMemory, Prefix, PrefixList, Table};
+use bgp_types::{NoMemory, Prefix, PrefixList, SharedAttrs, Table, TryCopy};
 use prefix_trie::TrieTable;
 use std::alloc::Global;
 use std::marker::Model;
-use std::sync::Arc;
-
-/// Attributes that several prefixes share.
-pub type SharedAttrs = Arc<Attrs, Global>;
 
 /// A table of routes.
 #[derive(Drop)]
@@ -21,18 +16,16 @@ pub struct SharedRoutes {
 }
 
 impl Model for SharedRoutes {
-    ghost use Rattle.std.specs.Arc.{arc_value};
     ghost use Rattle.std.specs.FinMap as map;
     ghost use Rattle.bgp_types.specs.Tables.{coded_prefix};
     ghost use Rattle.bgp_types.specs.contracts.attrs.Attrs as attrs;
     ghost use Rattle.bgp_story.specs.Readings.{Routes};
-    ghost use Rattle.adj_rib.specs.Shares.{each_value};
 
     ghost Value = { Routes };
 
     ghost coded = { map.code coded_prefix attrs.the_row.coded };
 
-    ghost view = { λ table. each_value arc_value table.trie.contents };
+    ghost view = { λ table. table.trie.contents };
 }
 
 impl SharedRoutes {
@@ -46,16 +39,10 @@ impl SharedRoutes {
     }
 
     /// Returns the route of a prefix.
-    pub fn get(&self, prefix: Prefix) -> Option<&Attrs>
+    pub fn get(&self, prefix: Prefix) -> Option<&SharedAttrs>
         ensures { option_copied result ≡ map.get self.now prefix }
     {
-        match self.trie.get(prefix) {
-            Some(shared) => {
-                let attrs: &Attrs = shared;
-                Some(attrs)
-            }
-            None => None,
-        }
+        self.trie.get(prefix)
     }
 
     /// Sets the route of a prefix, and returns the one that it had.
@@ -64,10 +51,10 @@ impl SharedRoutes {
         prefix: Prefix,
         attrs: &SharedAttrs,
     ) -> Result<Option<SharedAttrs>, NoMemory>
-        ensures set { OnOk result (self.new ≡ map.insert self.old prefix (arc_value attrs.now)) }
-        ensures had { IfOk result (λ had. option_map arc_value had ≡ map.get self.old prefix) }
+        ensures set { OnOk result (self.new ≡ map.insert self.old prefix attrs.now) }
+        ensures had { IfOk result (λ had. had ≡ map.get self.old prefix) }
     {
-        match self.trie.set(prefix, Arc::try_clone(attrs)?) {
+        match self.trie.set(prefix, attrs.copy()?) {
             Ok(had) => Ok(had),
             Err(_) => Err(NoMemory),
         }

@@ -9,7 +9,8 @@ use crate::best::Best;
 use crate::path::prepend;
 use crate::policy::Policy;
 use bgp_types::{
-    Attrs, From, Items, NoMemory, PeeringId, Prefix, RawAttrs, Route, TryCopy, holds_as, update_len,
+    Attrs, From, Items, NoMemory, PeeringId, Prefix, RawAttrs, Route, SharedAttrs, TryCopy, holds_as,
+    update_len,
 };
 
 /// What an advertisement on a session depends on.
@@ -60,6 +61,22 @@ pub fn is_kept_back(view: &OutView<'_>, best: &Best) -> bool
     comes_from(best.from, view.peering) || holds_as(&best.route.attrs.path, view.remote_as)
 }
 
+/// Returns a route without its MED.
+fn without_med(route: Route) -> Result<Route, NoMemory>
+    ensures { IfOk result (λ plain. plain ≡ record route { attrs = record route.attrs { med = None } }) }
+{
+    if route.attrs.med.is_none() {
+        return Ok(route);
+    }
+    let Route { attrs, pref } = route;
+    let mut attrs = attrs.into_attrs()?;
+    attrs.med = None;
+    Ok(Route {
+        attrs: SharedAttrs::new(attrs)?,
+        pref,
+    })
+}
+
 /// Returns what the export policy makes of a route. The policy gets the route without its MED, which
 /// isn't passed on from another AS (RFC 4271, section 5.1.4).
 fn export(
@@ -70,8 +87,7 @@ fn export(
 ) -> Result<Option<Route>, NoMemory>
     ensures { IfOk result (λ answer. answer ≡ exported home_as (out_side_of_view view.now) prefix route) }
 {
-    let mut route = route;
-    route.attrs.med = None;
+    let route = without_med(route)?;
     match view.export {
         Some(policy) => policy.apply(prefix, route, home_as),
         None => Ok(Some(route)),
@@ -93,7 +109,7 @@ fn all_partial(unknown: RawAttrs) -> RawAttrs
 fn told_attrs(home_as: u32, view: &OutView<'_>, route: Route) -> Result<Attrs, NoMemory>
     ensures { IfOk result (λ attrs. attrs ≡ told_attrs_lem home_as (out_side_of_view view.now) route) }
 {
-    let mut attrs = route.attrs;
+    let mut attrs = route.attrs.into_attrs()?;
     attrs.path = prepend(attrs.path, home_as)?;
     attrs.next_hop = view.local_address;
     attrs.unknown = all_partial(attrs.unknown);
