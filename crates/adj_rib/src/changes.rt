@@ -10,9 +10,14 @@ ghost use Rattle.bgp_types.specs.Tables.{prefix_cmp};
 ghost use Rattle.bgp_story.specs.Readings.{Routes, apply, announce as announced};
 ghost use Rattle.adj_rib.specs.Changes.{RoutesMoved, given_by_update, withdraw_unless};
 
-use crate::shared::SharedRoutes;
-use bgp_types::{Attrs, Items, NoMemory, Prefix, PrefixList, SharedAttrs, TryCopy, Update};
+use bgp_types::{
+    Attrs, Items, NoMemory, Prefix, PrefixList, SharedAttrs, Table, TryCopy, Update,
+};
+use prefix_trie::TrieTable;
 use std::alloc::Global;
+
+/// The attributes of the route to each prefix that has one.
+pub type AttrsTable = TrieTable<SharedAttrs>;
 
 /// Returns an empty list with room for `count` prefixes.
 pub fn with_room(alloc: Global, count: usize) -> Result<PrefixList, NoMemory>
@@ -54,20 +59,20 @@ fn list_announced(alloc: Global, update: &Update) -> Result<PrefixList, NoMemory
 /// Removes the route of a prefix unless it is announced, and lists the prefix if it had one.
 /// `announced` is in ascending order.
 fn withdraw_one(
-    routes: &mut SharedRoutes,
+    routes: &mut AttrsTable,
     prefix: Prefix,
     announced: &[Prefix],
     changed: &mut PrefixList,
 ) -> Result<(), NoMemory>
     requires { IsStrictlySortedBy prefix_cmp announced.now }
-    ensures routes { OnOk result (routes.new ≡ withdraw_unless announced.now routes.old prefix) }
+    ensures routes { OnOk result (routes.new.contents ≡ withdraw_unless announced.now routes.old.contents prefix) }
     ensures changed { OnOk result ((before : Routes) (to : PrefixValue → Option Attrs) → list_any (same_prefix prefix) announced.now ≡ is_some (to prefix)
-        → RoutesMoved to before routes.old changed.old → RoutesMoved to before routes.new changed.new) }
+        → RoutesMoved to before routes.old.contents changed.old → RoutesMoved to before routes.new.contents changed.new) }
 {
     if is_among(prefix, announced) {
         return Ok(());
     }
-    if routes.remove(prefix) {
+    if routes.remove(prefix).is_some() {
         changed.push(prefix)?;
     }
     Ok(())
@@ -76,16 +81,16 @@ fn withdraw_one(
 /// Removes the routes of the prefixes that aren't announced, and lists those that had one. `announced`
 /// is in ascending order.
 fn withdraw(
-    routes: &mut SharedRoutes,
+    routes: &mut AttrsTable,
     prefixes: &[Prefix],
     announced: &[Prefix],
     changed: &mut PrefixList,
 ) -> Result<(), NoMemory>
     requires { IsStrictlySortedBy prefix_cmp announced.now }
-    ensures routes { OnOk result (routes.new ≡ fold (withdraw_unless announced.now) routes.old prefixes.now) }
+    ensures routes { OnOk result (routes.new.contents ≡ fold (withdraw_unless announced.now) routes.old.contents prefixes.now) }
     ensures changed { OnOk result
         ((before : Routes) (to : PrefixValue → Option Attrs) → ((p : PrefixValue) → list_any (same_prefix p) announced.now ≡ is_some (to p))
-        → RoutesMoved to before routes.old changed.old → RoutesMoved to before routes.new changed.new) }
+        → RoutesMoved to before routes.old.contents changed.old → RoutesMoved to before routes.new.contents changed.new) }
 {
     for prefix in prefixes {
         withdraw_one(routes, *prefix, announced, changed)?;
@@ -97,13 +102,13 @@ fn withdraw(
 /// one. The announced prefixes are sorted for that only if the UPDATE withdraws any.
 pub fn withdraw_all(
     alloc: Global,
-    routes: &mut SharedRoutes,
+    routes: &mut AttrsTable,
     update: &Update,
     changed: &mut PrefixList,
 ) -> Result<(), NoMemory>
-    ensures routes { OnOk result (fold (announced update.now.attrs) routes.new update.now.nlri ≡ apply routes.old update.now) }
-    ensures changed { OnOk result ((before : Routes) → RoutesMoved (given_by_update update.now) before routes.old changed.old
-        → RoutesMoved (given_by_update update.now) before routes.new changed.new) }
+    ensures routes { OnOk result (fold (announced update.now.attrs) routes.new.contents update.now.nlri ≡ apply routes.old.contents update.now) }
+    ensures changed { OnOk result ((before : Routes) → RoutesMoved (given_by_update update.now) before routes.old.contents changed.old
+        → RoutesMoved (given_by_update update.now) before routes.new.contents changed.new) }
 {
     if update.withdrawn.is_empty() {
         return Ok(());
@@ -131,16 +136,18 @@ fn is_same(had: &Option<SharedAttrs>, attrs: &SharedAttrs) -> bool
 
 /// Sets the route of a prefix, and lists the prefix if it had another route or none.
 fn announce_one(
-    routes: &mut SharedRoutes,
+    routes: &mut AttrsTable,
     prefix: Prefix,
     attrs: &SharedAttrs,
     changed: &mut PrefixList,
 ) -> Result<(), NoMemory>
-    ensures routes { OnOk result (routes.new ≡ map.insert routes.old prefix attrs.now) }
+    ensures routes { OnOk result (routes.new.contents ≡ map.insert routes.old.contents prefix attrs.now) }
     ensures changed { OnOk result ((before : Routes) (to : PrefixValue → Option Attrs) → to prefix ≡ Some attrs.now
-        → RoutesMoved to before routes.old changed.old → RoutesMoved to before routes.new changed.new) }
+        → RoutesMoved to before routes.old.contents changed.old → RoutesMoved to before routes.new.contents changed.new) }
 {
-    let had = routes.set(prefix, attrs)?;
+    let Ok(had) = routes.set(prefix, attrs.copy()?) else {
+        return Err(NoMemory);
+    };
     if is_same(&had, attrs) {
         return Ok(());
     }
@@ -151,15 +158,15 @@ fn announce_one(
 /// Sets this route for each of the prefixes, and lists those that had another route or none.
 pub fn announce(
     alloc: Global,
-    routes: &mut SharedRoutes,
+    routes: &mut AttrsTable,
     prefixes: &[Prefix],
     attrs: &Attrs,
     changed: &mut PrefixList,
 ) -> Result<(), NoMemory>
-    ensures routes { OnOk result (routes.new ≡ fold (announced (Some attrs.now)) routes.old prefixes.now) }
+    ensures routes { OnOk result (routes.new.contents ≡ fold (announced (Some attrs.now)) routes.old.contents prefixes.now) }
     ensures changed { OnOk result
         ((before : Routes) (to : PrefixValue → Option Attrs) → ((p : PrefixValue) → list_any (same_prefix p) prefixes.now ≡ true → to p ≡ Some attrs.now)
-        → RoutesMoved to before routes.old changed.old → RoutesMoved to before routes.new changed.new) }
+        → RoutesMoved to before routes.old.contents changed.old → RoutesMoved to before routes.new.contents changed.new) }
 {
     let shared = SharedAttrs::new(attrs.copy()?)?;
     for prefix in prefixes {

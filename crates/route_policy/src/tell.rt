@@ -3,7 +3,8 @@
 ghost use Rattle.std.specs.Prelude.{◌≡◌, map, IfOk, None, Some, option_copied, if◌then◌else◌};
 ghost use Rattle.route_policy.specs.Telling.{tell_in as tell_in_lem, tell_out as tell_out_lem, comes_from as comes_from_lem};
 ghost use Rattle.route_policy.specs.Telling.{is_kept_back as is_kept_back_lem, out_side_of_view, exported};
-ghost use Rattle.route_policy.specs.Telling.{told_attrs as told_attrs_lem, made_partial, is_too_long as is_too_long_lem};
+ghost use Rattle.route_policy.specs.Telling.{told_attrs as told_attrs_lem, without_med as without_med_lem, made_partial};
+ghost use Rattle.route_policy.specs.Telling.{is_too_long as is_too_long_lem};
 
 use crate::best::Best;
 use crate::path::prepend;
@@ -63,7 +64,7 @@ pub fn is_kept_back(view: &OutView<'_>, best: &Best) -> bool
 
 /// Returns a route without its MED.
 fn without_med(route: Route) -> Result<Route, NoMemory>
-    ensures { IfOk result (λ plain. plain ≡ record route { attrs = record route.attrs { med = None } }) }
+    ensures { IfOk result (λ plain. plain ≡ without_med_lem route) }
 {
     if route.attrs.med.is_none() {
         return Ok(route);

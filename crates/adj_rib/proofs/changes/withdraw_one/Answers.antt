@@ -7,12 +7,12 @@ use Rattle.adj_rib.proofs.changes.withdraw_one.Goals as goal
 pub returns-in_ok-push-clause-changed : goal.returns-in_ok-push-clause-changed
 returns-in_ok-push-clause-changed c = λ before to among m.
     let gone = sym among ∙ (sym c.is_among.ensures ∙ c.if-is_among.false) in
-    subst (λ (ps : List PrefixValue). RoutesMoved to before c.remove.new.self ps) (sym c.in_ok-push.ensures.ok)
-    (withdrawn to before c.args.routes.now c.remove.new.self c.args.changed.now m c.args.prefix c.remove.ensures.removed gone
+    subst (λ (ps : List PrefixValue). RoutesMoved to before c.remove.new.self.contents ps) (sym c.in_ok-push.ensures.ok)
+    (withdrawn to before c.args.routes.now.contents c.remove.new.self.contents c.args.changed.now m c.args.prefix c.remove.ensures.removed gone
     (sym c.remove.ensures.there ∙ c.if-remove.true))
 
 pub returns-else-remove-clause-changed : goal.returns-else-remove-clause-changed
 returns-else-remove-clause-changed c = λ before to among m.
     let gone = sym among ∙ (sym c.is_among.ensures ∙ c.if-is_among.false) in
-    not_there to before c.args.routes.now c.remove.new.self c.args.changed.now m c.args.prefix c.remove.ensures.removed gone
+    not_there to before c.args.routes.now.contents c.remove.new.self.contents c.args.changed.now m c.args.prefix c.remove.ensures.removed gone
     (sym c.remove.ensures.there ∙ c.if-remove.false)
