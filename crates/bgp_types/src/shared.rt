@@ -71,12 +71,12 @@ impl Deref for SharedAttrs {
 }
 
 impl PartialEq for SharedAttrs {
-    ghost use Rattle.std.specs.Cmp.{on_per};
     ghost use Rattle.bgp_types.specs.contracts.attrs.AttrsPartialEq.TheImpl as attrs_eq;
+    ghost use Rattle.bgp_types.specs.contracts.attrs.AttrsPartialEq.TheImpl.Laws as attrs_laws;
 
     ghost eq = { attrs_eq.eq-value.it };
 
-    ghost laws = { attrs_eq.laws };
+    ghost laws = { attrs_laws.laws-law };
 
     fn eq(&self, other: &SharedAttrs) -> bool {
         **self == **other
