@@ -157,7 +157,6 @@ fn announce_one(
 
 /// Sets this route for each of the prefixes, and lists those that had another route or none.
 pub fn announce(
-    alloc: Global,
     routes: &mut AttrsTable,
     prefixes: &[Prefix],
     attrs: &Attrs,

@@ -56,7 +56,6 @@ impl AdjRib {
         withdraw_all(self.alloc, &mut self.routes, update, &mut changed)?;
         if let Some(attrs) = &update.attrs {
             announce(
-                self.alloc,
                 &mut self.routes,
                 update.nlri.as_slice(),
                 attrs,

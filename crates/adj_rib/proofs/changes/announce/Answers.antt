@@ -19,7 +19,7 @@ loop-prefix-preserved c =
     let lt : i < length prefixes = omega arith in
     let among : list_any (same_prefix p) prefixes ≡ true =
     list_any_at (same_prefix p) prefixes i p lt (ap (same_prefix p) (sym c.prefix-item.is) ∙ same_itself p) in
-    let is : c.in_ok-shared.field-0 ≡ attrs = c.in_ok-shared.ensures ∙ c.in_ok-copy.ensures in
+    let is : c.in_ok-shared.shared ≡ attrs = c.in_ok-shared.ensures ∙ c.in_ok-copy.ensures in
     record {
       routes = c.in_ok-announce_one.ensures.routes
           ∙ (ap (map.insert c.loop-prefix.routes.contents p) is
