@@ -10,9 +10,7 @@ ghost use Rattle.bgp_types.specs.Tables.{prefix_cmp};
 ghost use Rattle.bgp_story.specs.Readings.{Routes, apply, announce as announced};
 ghost use Rattle.adj_rib.specs.Changes.{RoutesMoved, given_by_update, withdraw_unless};
 
-use bgp_types::{
-    Attrs, Items, NoMemory, Prefix, PrefixList, SharedAttrs, Table, TryCopy, Update,
-};
+use bgp_types::{Attrs, Items, NoMemory, Prefix, PrefixList, SharedAttrs, Table, TryCopy, Update};
 use prefix_trie::TrieTable;
 use std::alloc::Global;
 

@@ -2,7 +2,9 @@
 
 use crate::plain::{Held, Plain, best_at, put_in, source, take_out};
 use crate::tables::tables;
-use bgp_types::{Attrs, From, Items, NoMemory, Origin, PathPart, Prefix, Route, SharedAttrs, TryCopy};
+use bgp_types::{
+    Attrs, From, Items, NoMemory, Origin, PathPart, Prefix, Route, SharedAttrs, TryCopy,
+};
 use rib_stages::{InEntry, Rib};
 use row_harness::Random;
 use std::alloc::Global;

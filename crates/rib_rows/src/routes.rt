@@ -3,7 +3,9 @@
 
 use crate::words::{address, number_after};
 use anyhow::{Context, Result};
-use bgp_types::{Attrs, Items, NoMemory, Origin, PathPart, Prefix, RawAttr, RawAttrs, Route, SharedAttrs};
+use bgp_types::{
+    Attrs, Items, NoMemory, Origin, PathPart, Prefix, RawAttr, RawAttrs, Route, SharedAttrs,
+};
 use route_policy::{Policy, Rule};
 use row_harness::value;
 use std::alloc::Global;

@@ -65,6 +65,7 @@ impl Policy {
 
 /// Returns a route as a rule changes it. Its attributes stay shared if the rule has no MED and puts no AS in front of the
 /// path.
+#[tactic(auto, using(crate::proofs::PolicyLemmas::unchanged))]
 fn changed(rule: &Rule, route: Route, as_number: u32) -> Result<Route, NoMemory>
     ensures { IfOk result (λ answer. answer ≡ changed_lem rule.now as_number route) }
 {

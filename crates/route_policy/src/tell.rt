@@ -10,8 +10,8 @@ use crate::best::Best;
 use crate::path::prepend;
 use crate::policy::Policy;
 use bgp_types::{
-    Attrs, From, Items, NoMemory, PeeringId, Prefix, RawAttrs, Route, SharedAttrs, TryCopy, holds_as,
-    update_len,
+    Attrs, From, Items, NoMemory, PeeringId, Prefix, RawAttrs, Route, SharedAttrs, TryCopy,
+    holds_as, update_len,
 };
 
 /// What an advertisement on a session depends on.
@@ -62,7 +62,8 @@ pub fn is_kept_back(view: &OutView<'_>, best: &Best) -> bool
     comes_from(best.from, view.peering) || holds_as(&best.route.attrs.path, view.remote_as)
 }
 
-/// Returns a route without its MED.
+/// Returns a route without its MED. Attributes that have none stay shared.
+#[tactic(auto, using(crate::proofs::Tells::without_none))]
 fn without_med(route: Route) -> Result<Route, NoMemory>
     ensures { IfOk result (λ plain. plain ≡ without_med_lem route) }
 {

@@ -25,7 +25,10 @@ fn is_told(told: Option<&SharedAttrs>, attrs: &Option<Attrs>) -> bool
 {
     match (told, attrs) {
         (None, None) => true,
-        (Some(told), Some(attrs)) => **told == *attrs,
+        (Some(told), Some(attrs)) => {
+            let told: &Attrs = told;
+            told == attrs
+        }
         _ => false,
     }
 }

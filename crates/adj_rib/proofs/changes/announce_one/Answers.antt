@@ -12,8 +12,8 @@ pub returns-then-is_same-clause-changed : goal.returns-then-is_same-clause-chang
 returns-then-is_same-clause-changed c =
     let set = c.in-Ok.ensures.ok ∙ ap (map.insert c.args.routes.now.contents c.args.prefix) c.in_ok-copy.ensures in
     λ before to gives m.
-        had_it to before c.args.routes.now.contents c.set.new.self.contents c.args.changed.now m c.args.prefix
-        c.args.attrs.now set gives (sym c.in-Ok.ensures.before ∙ c.if-is_same.ensures)
+    had_it to before c.args.routes.now.contents c.set.new.self.contents c.args.changed.now m c.args.prefix
+    c.args.attrs.now set gives (sym c.in-Ok.ensures.before ∙ c.if-is_same.ensures)
 
 pub returns-clause-routes : goal.returns-clause-routes
 returns-clause-routes c = c.in-Ok.ensures.ok ∙ ap (map.insert c.args.routes.now.contents c.args.prefix) c.in_ok-copy.ensures
@@ -22,6 +22,6 @@ pub returns-clause-changed : goal.returns-clause-changed
 returns-clause-changed c =
     let set = c.in-Ok.ensures.ok ∙ ap (map.insert c.args.routes.now.contents c.args.prefix) c.in_ok-copy.ensures in
     λ before to gives m.
-        subst (λ (ps : List PrefixValue). RoutesMoved to before c.set.new.self.contents ps) (sym c.in_ok-push.ensures.ok)
-        (announced to before c.args.routes.now.contents c.set.new.self.contents c.args.changed.now m c.args.prefix
-        c.args.attrs.now set gives (λ e. c.if-is_same.ensures (c.in-Ok.ensures.before ∙ e)))
+    subst (λ (ps : List PrefixValue). RoutesMoved to before c.set.new.self.contents ps) (sym c.in_ok-push.ensures.ok)
+    (announced to before c.args.routes.now.contents c.set.new.self.contents c.args.changed.now m c.args.prefix
+    c.args.attrs.now set gives (λ e. c.if-is_same.ensures (c.in-Ok.ensures.before ∙ e)))
