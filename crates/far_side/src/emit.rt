@@ -15,17 +15,13 @@ ghost use Rattle.far_side.specs.Parts.{FarSideInvariant, ForEach};
 ghost use Rattle.far_side.specs.Passes.{put_in, SentAgain, SentFresh, SentAnswer, Beaten, IsDue};
 
 use crate::fields::Fields;
+use bgp_types::KEEPALIVE_MESSAGE;
 use graft_actors::note_far;
 use graft_edge::NoMemory;
 use graft_model::FarEvent;
 use graft_steps::Item;
 use ring_net::Post;
 use tcp_seq::Segment;
-
-/// A KEEPALIVE in the wire format (RFC 4271, section 4.4).
-const KEEPALIVE: [u8; 19] = [
-    255, 255, 255, 255, 255, 255, 255, 255, 255, 255, 255, 255, 255, 255, 255, 255, 0, 19, 4,
-];
 
 /// The most KEEPALIVEs that are said at the interval.
 const MOST_KEEPALIVES: u32 = 27_594;
@@ -106,7 +102,7 @@ fn is_due(far: &Fields) -> bool
         && far.turns % far.keepalive_interval == 0
         && far.last_keepalive < far.turns
         && far.keepalives < MOST_KEEPALIVES
-        && far.remote.has_room(KEEPALIVE.len())
+        && far.remote.has_room(KEEPALIVE_MESSAGE.len())
 }
 
 /// Sends a KEEPALIVE if one is due.
@@ -122,7 +118,7 @@ pub(crate) fn send_keepalive<C: Drop>(
         return Ok(());
     }
     note_far(post, FarEvent::Beat { round: far.turns })?;
-    far.remote.say(&KEEPALIVE)?;
+    far.remote.say(&KEEPALIVE_MESSAGE)?;
     far.keepalives += 1;
     far.last_keepalive = far.turns;
     Ok(())

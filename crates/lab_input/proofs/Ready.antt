@@ -20,8 +20,7 @@ use Rattle.bgp_types.proofs.Lengths.{update_size}
 use Rattle.lab_keys.specs.declared.flaw.Flaw.{Flaw}
 use Rattle.lab_keys.specs.declared.flaw.Flaw.TheVariants.{Shape}
 use Rattle.lab_keys.specs.Spots.{spot_of}
-use Rattle.lab_keys.specs.declared.key.Kind.TheVariants.{Number, Name, Host, Prefix, Word}
-use Rattle.lab_keys.specs.declared.key.Words.TheVariants.{Origins}
+use Rattle.lab_keys.specs.declared.key.Kind.TheVariants.{Number, Name, Host, Prefix, Origin}
 use Rattle.lab_keys.specs.declared.table_at.TableAt.TheVariants as tables
 use Rattle.lab_keys.specs.Kinds.{flaw_if}
 use Rattle.lab_keys.specs.Keys.{required, optional, required_array, optional_array, key_flaw, keys_flaw, tables_flaw}
@@ -31,10 +30,11 @@ use Rattle.lab_tables.specs.declared.input.LabInput.{LabInput}
 use Rattle.lab_tables.specs.declared.input.PeeringInput.{PeeringInput}
 use Rattle.lab_tables.specs.declared.input.Step.{Step}
 use Rattle.lab_tables.specs.declared.input.Step.TheVariants.{Announce, Withdraw}
-use Rattle.lab_tables.specs.declared.words.StepWord.{StepWord}
-use Rattle.lab_tables.specs.declared.words.StepWord.TheVariants.{Announces, Withdraws, SaysRaw, Grafts, Settles, Evacuates, Other}
+use Rattle.lab_keys.specs.declared.words.StepWord.{StepWord}
+use Rattle.lab_keys.specs.declared.words.StepWord.TheVariants.{Announces, Withdraws, SaysRaw, Grafts, Settles, Evacuates}
 use Rattle.lab_tables.specs.Peerings.{peering_ends, peering_rest, peering_flaw}
-use Rattle.lab_tables.specs.Scripts.{word_at, announce_keys, withdraw_keys, do_keys, is_crowded, worded_flaw, grouped_flaw}
+use Rattle.lab_tables.specs.Meanings.{word_at}
+use Rattle.lab_tables.specs.Scripts.{announce_keys, withdraw_keys, do_keys, is_crowded, worded_flaw, grouped_flaw}
 use Rattle.lab_tables.specs.Scripts.{step_flaw, step_ases, said_prefixes, said_attrs, peering_number, worded_step, step_of}
 use Rattle.lab_tables.specs.Documents.{shaped, lab_of}
 use Rattle.lab_input.specs.declared.bad.BadInput.{BadInput}
@@ -120,7 +120,7 @@ announce_kept remote_as remote_address i t none =
     let b = none_right (key_flaw at t (required_array (codes "prefixes") 1 200 Prefix)) _ a in
     let path = none_left (key_flaw at t (optional_array (codes "path") 0 64 (Number 1 4294967295))) _ b in
     let c = none_right (key_flaw at t (optional_array (codes "path") 0 64 (Number 1 4294967295))) _ b in
-    let d = none_right (key_flaw at t (optional (codes "origin") (Word Origins))) _ c in
+    let d = none_right (key_flaw at t (optional (codes "origin") Origin)) _ c in
     let e = none_right (key_flaw at t (optional (codes "med") (Number 0 4294967295))) _ d in
     let hop = none_left (key_flaw at t (optional (codes "next_hop") Host)) _ e in
     record {
@@ -174,7 +174,6 @@ worded_said SaysRaw routers ps i t of none says = absurd (false≢true says)
 worded_said Grafts routers ps i t of none says = absurd (false≢true says)
 worded_said Settles routers ps i t of none says = absurd (false≢true says)
 worded_said Evacuates routers ps i t of none says = absurd (false≢true says)
-worded_said Other routers ps i t of none says = absurd (false≢true says)
 
 abbrev pub SaysWell : List (List ℕ) → List PeeringInput → Members → Type 0
 SaysWell routers ps t = (says_update (step_of routers ps t) ≡ true → IsRemoteOf (slice_get ps (peering_number ps t)))

@@ -17,9 +17,9 @@ use Rattle.link_bag.specs.declared.plan.Fault.{Fault}
 use Rattle.link_bag.specs.Planned.{is_fault_for}
 use Rattle.lab_tables.specs.Documents.{routers_of, router_names_of, peering_names_of}
 use Rattle.lab_tables.specs.Peerings.{cost_of, fault_of}
-use Rattle.lab_tables.specs.declared.words.StepWord.{StepWord}
-use Rattle.lab_tables.specs.declared.words.StepWord.TheVariants.{Grafts, Settles, Evacuates}
-use Rattle.lab_tables.specs.Scripts.{word_at}
+use Rattle.lab_keys.specs.declared.words.StepWord.{StepWord}
+use Rattle.lab_keys.specs.declared.words.StepWord.TheVariants.{Grafts, Settles, Evacuates}
+use Rattle.lab_tables.specs.Meanings.{word_at}
 
 -- the first fault in a list, each member checked against those before it
 abbrev pub each_after : {A : Type 0} → (List A → A → Option BadInput) → List A → List A → Option BadInput

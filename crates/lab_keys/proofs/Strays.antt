@@ -8,8 +8,7 @@ use Rattle.std.specs.Str.{bytes_eq}
 use Rattle.toml.specs.declared.value.Value.{Value}
 use Rattle.toml.specs.View.{members_view}
 use Rattle.lab_keys.specs.KeyRows.{KeyRow}
-use Rattle.lab_keys.specs.Kinds.{is_one_of}
-use Rattle.lab_keys.specs.Keys.{names_of, stray_in}
+use Rattle.lab_keys.specs.Keys.{names_of, is_one_of, stray_in}
 
 array_same : (key : List ℕ) (arrays : List (Bor (List ℕ))) → list_any (λ k. bytes_eq key k.now) arrays ≡ is_one_of (map (λ k. k.now) arrays) key
 array_same key [] = refl

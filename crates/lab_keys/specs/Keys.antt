@@ -1,5 +1,7 @@
 -- Keys of tables: which of them are required, which are optional, and the kinds of their values.
 use Rattle.std.specs.Prelude.{ℕ, Bool, true, false, List, map, Option, Some, None, if◌then◌else◌}
+use Rattle.std.specs.List.{list_any}
+use Rattle.std.specs.Str.{bytes_eq}
 use Rattle.toml.specs.Data.{Data, Members, no_members, member, get_member}
 use Rattle.lab_keys.specs.declared.flaw.Flaw.{Flaw}
 use Rattle.lab_keys.specs.declared.flaw.Flaw.TheVariants.{Shape}
@@ -7,7 +9,7 @@ use Rattle.lab_keys.specs.declared.key.Kind.{Kind}
 use Rattle.lab_keys.specs.declared.key.Counts.{Counts}
 use Rattle.lab_keys.specs.declared.table_at.TableAt.{TableAt}
 use Rattle.lab_keys.specs.Spots.{KeySpot, spot_of, member_of}
-use Rattle.lab_keys.specs.Kinds.{first_of, flaw_if, is_one_of, kind_flaw, array_flaw, table_flaw}
+use Rattle.lab_keys.specs.Kinds.{first_of, flaw_if, kind_flaw, array_flaw, table_flaw}
 use Rattle.lab_keys.specs.KeyRows.{KeyRow}
 
 -- ---- rows of a table of keys
@@ -52,6 +54,9 @@ tables_flaw at key needed low high flaw t =
     present (spot_of at key) needed (array_flaw (spot_of at key) low high (λ i. table_flaw (member_of (spot_of at key) i) (flaw i))) (get_member key t)
 
 -- ---- keys that aren't known
+
+abbrev pub is_one_of : List (List ℕ) → List ℕ → Bool
+is_one_of known key = list_any (λ name. bytes_eq key name) known
 
 -- the first unknown key; a table's keys are in the order of their bytes
 abbrev pub stray_in : List (List ℕ) → Members → Option (List ℕ)

@@ -1,18 +1,16 @@
 -- What may be at a key: the kinds of values, and the first flaw of a value that isn't of its kind.
 use Rattle.std.specs.Prelude.{ℕ, ◌+◌, ◌/◌, ◌==◌, pos, negsuc, nat_lt, Bool, false, ◌||◌, not, List, []}
-use Rattle.std.specs.Prelude.{◌∷◌, length, Option, Some, None, is_some, if◌then◌else◌, codes}
+use Rattle.std.specs.Prelude.{◌∷◌, length, Option, Some, None, is_some, if◌then◌else◌}
 use Rattle.std.specs.Option.{option_or}
-use Rattle.std.specs.List.{list_any}
-use Rattle.std.specs.Str.{bytes_eq}
 use Rattle.toml.specs.Data.{Data, string, integer, boolean, array, table, Items, no_items, item, Members}
 use Rattle.lab_keys.specs.declared.flaw.Flaw.{Flaw}
 use Rattle.lab_keys.specs.declared.flaw.Flaw.TheVariants.{Shape, Limit}
 use Rattle.lab_keys.specs.declared.key.Kind.{Kind}
-use Rattle.lab_keys.specs.declared.key.Kind.TheVariants.{Number, HoldTime, Name, Host, Address, Prefix, Flag, Word, Hex, Misplaced}
-use Rattle.lab_keys.specs.declared.key.Words.{Words}
-use Rattle.lab_keys.specs.declared.key.Words.TheVariants.{Origins, Ways, FaultKinds, StepKinds}
+use Rattle.lab_keys.specs.declared.key.Kind.TheVariants.{Number, HoldTime, Name, Host, Address, Prefix, Flag, Hex, Misplaced}
+use Rattle.lab_keys.specs.declared.key.Kind.TheVariants.{Origin, Way, FaultKind, StepWord}
 use Rattle.lab_keys.specs.Spots.{KeySpot}
 use Rattle.lab_keys.specs.Texts.{is_name, address_in, host_address_in, prefix_in, is_hex}
+use Rattle.lab_keys.specs.Words.{origin_in, way_in, fault_kind_in, step_word_in}
 
 -- ---- the first of several flaws
 
@@ -34,15 +32,6 @@ abbrev pub beyond : KeySpot → (low high n : ℕ) → Option Flaw
 beyond at low high n = flaw_if (nat_lt n low || nat_lt high n) (Limit at n)
 
 -- ---- kinds of values
-
-abbrev pub words_of : Words → List (List ℕ)
-words_of Origins = codes "igp" ∷ codes "egp" ∷ codes "incomplete" ∷ []
-words_of Ways = codes "home" ∷ codes "remote" ∷ []
-words_of FaultKinds = codes "lose" ∷ codes "repeat" ∷ codes "hold" ∷ codes "stray" ∷ []
-words_of StepKinds = codes "announce" ∷ codes "withdraw" ∷ codes "raw" ∷ codes "graft" ∷ codes "settle" ∷ codes "evacuate" ∷ []
-
-abbrev pub is_one_of : List (List ℕ) → List ℕ → Bool
-is_one_of words text = list_any (λ word. bytes_eq text word) words
 
 -- a number from low to high; a negative one is reported as 0
 abbrev pub number_flaw : KeySpot → (low high : ℕ) → Data → Option Flaw
@@ -76,7 +65,10 @@ is_formed Name text = is_name text
 is_formed Host text = is_some (host_address_in text)
 is_formed Address text = is_some (address_in text)
 is_formed Prefix text = is_some (prefix_in text)
-is_formed (Word words) text = is_one_of (words_of words) text
+is_formed Origin text = is_some (origin_in text)
+is_formed Way text = is_some (way_in text)
+is_formed FaultKind text = is_some (fault_kind_in text)
+is_formed StepWord text = is_some (step_word_in text)
 is_formed _ text = false
 
 -- the first flaw of a value of a kind

@@ -1,5 +1,6 @@
 pub mod Spots
 pub mod Texts
+pub mod Words
 pub mod Kinds
 pub mod KeyRows
 pub mod Keys

@@ -1,4 +1,4 @@
--- Texts that are names, addresses, prefixes, words or octets in hexadecimal.
+-- Texts that are names, addresses, prefixes or octets in hexadecimal.
 use Rattle.std.specs.Prelude.{ℕ, zero, suc, ◌%◌, ◌==◌, nat_le, Bool, ◌&&◌, ◌||◌, List, [], length}
 use Rattle.std.specs.Prelude.{slice_index, Option, Some, None, option_and_then, if◌then◌else◌, decimal}
 use Rattle.std.specs.Int.{w32, from_be_bytes}

@@ -2,15 +2,6 @@
 
 use std::marker::Model;
 
-/// A set of allowed words.
-#[derive(Clone, Copy, Debug, PartialEq, Eq)]
-pub enum Words {
-    Origins,
-    Ways,
-    FaultKinds,
-    StepKinds,
-}
-
 /// The kind of a value.
 #[derive(Clone, Copy, Debug, PartialEq, Eq)]
 pub enum Kind {
@@ -22,7 +13,10 @@ pub enum Kind {
     Address,
     Prefix,
     Flag,
-    Word(Words),
+    Origin,
+    Way,
+    FaultKind,
+    StepWord,
     /// Octets in hexadecimal, from `low` to `high` of them.
     Hex { low: usize, high: usize },
     /// The key isn't allowed here.

@@ -4,7 +4,7 @@ ghost use Rattle.std.specs.Prelude.{◌≡◌, ℕ, List, Option, Some, None, ma
 ghost use Rattle.toml.specs.Data.{get_member};
 ghost use Rattle.toml.specs.View.{view, table_view};
 ghost use Rattle.lab_keys.specs.Spots.{spot_of, member_of};
-ghost use Rattle.lab_keys.specs.Kinds.{first_of, is_one_of, kind_flaw as kind_flaw_lem, bounded_array_flaw};
+ghost use Rattle.lab_keys.specs.Kinds.{first_of, kind_flaw as kind_flaw_lem, bounded_array_flaw};
 ghost use Rattle.lab_keys.specs.Keys.{value_flaw as value_flaw_lem, key_flaw as key_flaw_lem};
 ghost use Rattle.lab_keys.specs.Keys.{keys_flaw as keys_flaw_lem, stray_in as stray_in_lem, stray_flaw as stray_flaw_lem};
 
@@ -144,4 +144,4 @@ ghost use Rattle.std.specs.Prelude.{◌++◌, not, string_bytes};
 ghost use Rattle.std.specs.List.{list_any, find};
 ghost use Rattle.std.specs.Str.{bytes_eq};
 ghost use Rattle.std.specs.BTreeMap.{keys as keys_of_map};
-ghost use Rattle.lab_keys.specs.Keys.{names_of};
+ghost use Rattle.lab_keys.specs.Keys.{names_of, is_one_of};

@@ -4,16 +4,16 @@ ghost use Rattle.std.specs.Prelude.{◌≡◌, ℕ, List, Bool, IsTrue, is_some,
 ghost use Rattle.toml.specs.View.{view};
 ghost use Rattle.lab_keys.specs.Spots.{spot_of, member_of};
 ghost use Rattle.lab_keys.specs.Texts.{is_hex as is_hex_lem};
-ghost use Rattle.lab_keys.specs.Kinds.{words_of as words_of_lem, is_one_of as is_one_of_lem, beyond as beyond_lem};
-ghost use Rattle.lab_keys.specs.Kinds.{number_flaw as number_flaw_lem, hold_time_flaw as hold_time_flaw_lem};
+ghost use Rattle.lab_keys.specs.Kinds.{beyond as beyond_lem, number_flaw as number_flaw_lem, hold_time_flaw as hold_time_flaw_lem};
 ghost use Rattle.lab_keys.specs.Kinds.{hex_flaw as hex_flaw_lem, flag_flaw as flag_flaw_lem, kind_flaw as kind_flaw_lem};
 ghost use Rattle.lab_keys.specs.Kinds.{flaw_if as flaw_if_lem, text_flaw as text_flaw_lem, is_formed as is_formed_lem, each_from};
 
 use crate::flaw::Flaw;
-use crate::key::{Kind, Words};
+use crate::key::Kind;
 use crate::spot::Spot;
 use crate::table_at::TableAt;
 use crate::texts::{address_in, host_in, is_hex, is_name, prefix_in};
+use crate::words::{fault_kind_in, origin_in, step_word_in, way_in};
 use toml::Value;
 
 /// Returns the flaw of a number or a count that is beyond its limits.
@@ -31,28 +31,6 @@ pub fn flaw_if<'a>(test: bool, flaw: Flaw<'a>) -> Option<Flaw<'a>>
     ensures { result ≡ flaw_if_lem test flaw.entry }
 {
     if test { Some(flaw) } else { None }
-}
-
-/// Returns whether a text is one of the words.
-fn is_word(words: Words, text: &str) -> bool
-    ensures { result ≡ is_one_of_lem (words_of_lem words) text.now }
-{
-    match words {
-        Words::Origins => text == "igp" || text == "egp" || text == "incomplete",
-        Words::Ways => text == "home" || text == "remote",
-        Words::FaultKinds => text == "lose"
-            || text == "repeat"
-            || text == "hold"
-            || text == "stray",
-        Words::StepKinds => {
-            text == "announce"
-                || text == "withdraw"
-                || text == "raw"
-                || text == "graft"
-                || text == "settle"
-                || text == "evacuate"
-        }
-    }
 }
 
 fn number_flaw<'a>(at: Spot<'a>, low: u32, high: u32, value: &Value) -> Option<Flaw<'a>>
@@ -117,7 +95,10 @@ fn is_formed(kind: Kind, text: &str) -> bool
         Kind::Host => host_in(text).is_some(),
         Kind::Address => address_in(text).is_some(),
         Kind::Prefix => prefix_in(text).is_some(),
-        Kind::Word(words) => is_word(words, text),
+        Kind::Origin => origin_in(text).is_some(),
+        Kind::Way => way_in(text).is_some(),
+        Kind::FaultKind => fault_kind_in(text).is_some(),
+        Kind::StepWord => step_word_in(text).is_some(),
         _ => false,
     }
 }

@@ -14,10 +14,11 @@ mod table_at;
 mod tables;
 mod texts;
 mod values;
+mod words;
 
 pub use arrays::{addresses_at, items_at, numbers_at, prefixes_at};
 pub use flaw::Flaw;
-pub use key::{Counts, Key, Kind, Words};
+pub use key::{Counts, Key, Kind};
 pub use keys::{keys_flaw, stray_flaw, value_at};
 pub use kinds::{beyond, flaw_if};
 pub use paths::path_of;
@@ -30,3 +31,4 @@ pub use values::{
     address_or, flag_or, has, maybe_number, maybe_prefix, maybe_text, number_or, octets_at,
     short_or, small_or, text_at,
 };
+pub use words::{StepWord, fault_kind_in, origin_in, step_word_in, way_in};

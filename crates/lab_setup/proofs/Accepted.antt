@@ -28,12 +28,12 @@ use Rattle.lab_tables.specs.declared.input.LabInput.{LabInput}
 use Rattle.lab_tables.specs.declared.input.PeeringInput.{PeeringInput}
 use Rattle.lab_tables.specs.declared.input.Step.{Step}
 use Rattle.lab_tables.specs.declared.input.Step.TheVariants.{Announce, Withdraw, Raw, Graft, Settle, Evacuate}
-use Rattle.lab_tables.specs.declared.words.StepWord.{StepWord}
-use Rattle.lab_tables.specs.declared.words.StepWord.TheVariants.{Announces, Withdraws, SaysRaw, Grafts, Settles, Evacuates, Other}
-use Rattle.lab_tables.specs.Meanings.{index_of_name}
+use Rattle.lab_keys.specs.declared.words.StepWord.{StepWord}
+use Rattle.lab_keys.specs.declared.words.StepWord.TheVariants.{Announces, Withdraws, SaysRaw, Grafts, Settles, Evacuates}
+use Rattle.lab_tables.specs.Meanings.{index_of_name, word_at}
 use Rattle.lab_tables.specs.Routers.{router_flaw, router_of}
 use Rattle.lab_tables.specs.Peerings.{cost_flaw, peering_flaw, peering_input, fault_flaw}
-use Rattle.lab_tables.specs.Scripts.{word_at, step_flaw, peering_number, worded_step, step_of}
+use Rattle.lab_tables.specs.Scripts.{step_flaw, peering_number, worded_step, step_of}
 use Rattle.lab_tables.specs.Documents.{home_keys, top_names, trace_keys, shaped, router_names_of, peerings_of, peering_names_of, lab_of}
 use Rattle.lab_input.specs.Names.{unknown, worded_named, step_named}
 use Rattle.lab_input.specs.Said.{step_update}
@@ -193,7 +193,6 @@ module _ (doc : Members) (kept : HasTables doc) where
   named Grafts t none says = absurd (false≢true says)
   named Settles t none says = absurd (false≢true says)
   named Evacuates t none says = absurd (false≢true says)
-  named Other t none says = absurd (false≢true says)
 
   said_well : (t : Members) → SaysWell routers peerings t → step_named routers (peering_names_of doc) t ≡ None → Says (step_of routers peerings t)
   said_well t well none = by_test (says_update (step_of routers peerings t)) refl where

@@ -3,7 +3,7 @@ use Rattle.std.proofs.Common.{◌≡◌, ℕ, zero, suc, ◌-◌, ◌<◌, ◌�
 use Rattle.std.proofs.Common.{length, take, map, refl, sym, ap, ◌∙◌, subst, arith, ◌⊎◌, inl, inr}
 use Rattle.std.specs.Prelude.{Option, Some, None, option_map, slice_get, filter, codes}
 use Rattle.std.specs.Option.{option_or}
-use Rattle.std.specs.List.{AllByRecursion, last_or}
+use Rattle.std.specs.List.{last_or}
 use Rattle.std.proofs.lemmas.Bool.{false≢true, cases_lt}
 use Rattle.std.proofs.lemmas.List.{length-map, take-append-le}
 use Rattle.toml.specs.Data.{Data, table, Members}
@@ -23,16 +23,17 @@ use Rattle.lab_keys.proofs.NoFlaws.{none_left, none_right}
 use Rattle.lab_tables.specs.declared.input.LabInput.{LabInput}
 use Rattle.lab_tables.specs.declared.input.PeeringInput.{PeeringInput}
 use Rattle.lab_tables.specs.declared.input.Step.{Step}
-use Rattle.lab_tables.specs.declared.words.StepWord.{StepWord}
-use Rattle.lab_tables.specs.declared.words.StepWord.TheVariants.{Announces, Withdraws, SaysRaw, Grafts, Settles, Evacuates, Other}
-use Rattle.lab_tables.specs.Scripts.{word_at, is_word, is_settle_word, is_evacuate, is_crowded, do_keys, worded_flaw, step_flaw, worded_step, step_of}
+use Rattle.lab_keys.specs.declared.words.StepWord.{StepWord}
+use Rattle.lab_keys.specs.declared.words.StepWord.TheVariants.{Announces, Withdraws, SaysRaw, Grafts, Settles, Evacuates}
+use Rattle.lab_tables.specs.Meanings.{word_at}
+use Rattle.lab_tables.specs.Scripts.{is_word, is_settle_word, is_evacuate, is_crowded, do_keys, worded_flaw, step_flaw, worded_step, step_of}
 use Rattle.lab_tables.specs.Documents.{router_names_of, peerings_of, lab_of}
 use Rattle.lab_input.specs.Labs.{InputOf}
 use Rattle.lab_input.proofs.Ready.{accepted}
 use Rattle.lab_setup.specs.Setups.{script_step, ended_by, ended, setup_of}
 use Rattle.lab_setup.proofs.Groups.{StepsAreTables, ends, before, whole, one_group, evacuates_before, evacuates_whole}
-use Rattle.lab_setup.proofs.Kept.{IsWorded, HasTables, tables_kept}
-use Rattle.lab_setup.proofs.Lists.{get_below, get_mapped, made_of, some_is, none_is, all_at}
+use Rattle.lab_setup.proofs.Kept.{HasTables, tables_kept}
+use Rattle.lab_setup.proofs.Lists.{get_below, get_mapped, made_of, some_is, none_is}
 
 -- ---- one step
 
@@ -58,26 +59,23 @@ module _ (setup : Setup) (called : List (List ℕ)) (ps : List PeeringInput) whe
   ends_as Grafts t = refl
   ends_as Settles t = refl
   ends_as Evacuates t = refl
-  ends_as Other t = refl
 
-  evacuates_by : (word : StepWord) (t : Members) → (word ≡ Other → ⊥) → (router : ℕ) → made word t ≡ EvacuateStep router → word ≡ Evacuates
-  evacuates_by Announces t known router e = absurd (cc)
-  evacuates_by Withdraws t known router e = absurd (cc)
-  evacuates_by SaysRaw t known router e = absurd (cc)
-  evacuates_by Grafts t known router e = absurd (cc)
-  evacuates_by Settles t known router e = absurd (cc)
-  evacuates_by Evacuates t known router e = refl
-  evacuates_by Other t known router e = absurd (known refl)
+  evacuates_by : (word : StepWord) (t : Members) (router : ℕ) → made word t ≡ EvacuateStep router → word ≡ Evacuates
+  evacuates_by Announces t router e = absurd (cc)
+  evacuates_by Withdraws t router e = absurd (cc)
+  evacuates_by SaysRaw t router e = absurd (cc)
+  evacuates_by Grafts t router e = absurd (cc)
+  evacuates_by Settles t router e = absurd (cc)
+  evacuates_by Evacuates t router e = refl
 
-  moves_by : (word : StepWord) (t : Members) → (word ≡ Other → ⊥) → (i p : ℕ) → slice_get (moved_by setup (made word t)) i ≡ Some p
+  moves_by : (word : StepWord) (t : Members) (i p : ℕ) → slice_get (moved_by setup (made word t)) i ≡ Some p
       → (word ≡ Grafts) ⊎ (word ≡ Evacuates)
-  moves_by Announces t known i p e = absurd (none_is p e)
-  moves_by Withdraws t known i p e = absurd (none_is p e)
-  moves_by SaysRaw t known i p e = absurd (none_is p e)
-  moves_by Grafts t known i p e = inl refl
-  moves_by Settles t known i p e = absurd (none_is p e)
-  moves_by Evacuates t known i p e = inr refl
-  moves_by Other t known i p e = absurd (known refl)
+  moves_by Announces t i p e = absurd (none_is p e)
+  moves_by Withdraws t i p e = absurd (none_is p e)
+  moves_by SaysRaw t i p e = absurd (none_is p e)
+  moves_by Grafts t i p e = inl refl
+  moves_by Settles t i p e = absurd (none_is p e)
+  moves_by Evacuates t i p e = inr refl
 
 -- ---- the script
 
@@ -110,7 +108,7 @@ map_twice : {A B C : Type 0} (f : B → C) (g : A → B) (xs : List A) → map f
 map_twice f g [] = refl
 map_twice f g (x ∷ xs) = ap (λ ys. f (g x) ∷ ys) (map_twice f g xs)
 
-module _ (doc : Members) (tables : StepsAreTables doc) (words : AllByRecursion IsWorded (tables_at (codes "step") doc)) where
+module _ (doc : Members) (tables : StepsAreTables doc) where
   abbrev setup : Setup
   setup = setup_of (lab_of doc)
 
@@ -214,9 +212,6 @@ module _ (doc : Members) (tables : StepsAreTables doc) (words : AllByRecursion I
       | inr least ↦ elim (cases_lt n m) [ inl more ↦ absurd (ahead more moves) | inr most ↦ omega (arith, least, most) ]
     ]
 
-  known : (k : ℕ) (v : Members) → slice_get ts k ≡ Some v → IsWorded v
-  known k v there = all_at IsWorded ts k v words there
-
   moves_none : (i p : ℕ) → slice_get (moved_by setup SettleStep) i ≡ Some p → ⊥
   moves_none i p e = none_is p e
 
@@ -230,8 +225,8 @@ module _ (doc : Members) (tables : StepsAreTables doc) (words : AllByRecursion I
       let a = get_below ts n here.t here.at in
       let b = get_below ts m there.t there.at in
       let same : ends steps m ≡ ends steps n = sym (group_as m (omega (arith, b))) ∙ group ∙ group_as n (omega (arith, a)) in
-      one_index n m here.t there.t here.at there.at (evacuates_by setup called ps (word_at here.t) here.t (known n here.t here.at) router here.is) same
-      (moves_by setup called ps (word_at there.t) there.t (known m there.t there.at) i p (ap (λ z. slice_get (moved_by setup z) i) there.is ∙ moved))
+      one_index n m here.t there.t here.at there.at (evacuates_by setup called ps (word_at here.t) here.t router here.is) same
+      (moves_by setup called ps (word_at there.t) there.t i p (ap (λ z. slice_get (moved_by setup z) i) there.is ∙ moved))
 
 pub accepted_alone : (bytes : List ℕ) (input : LabInput) → InputOf bytes input → EmptyAlone (setup_of input)
 accepted_alone bytes input e =
@@ -241,4 +236,4 @@ accepted_alone bytes input e =
     alone : (doc : Members) → HasTables doc → EmptyAlone (setup_of (lab_of doc))
     alone doc kept step router g at found group =
         let of = step_of_graft (setup_of (lab_of doc)) g.graft g found in
-        only_one doc kept.grouped kept.words step router g.step of.index g.peering of.step at of.there of.moved group
+        only_one doc kept.grouped step router g.step of.index g.peering of.step at of.there of.moved group

@@ -20,12 +20,12 @@ use Rattle.lab_tables.specs.declared.input.PeeringInput.{PeeringInput}
 use Rattle.lab_tables.specs.declared.input.RouterInput.{RouterInput}
 use Rattle.lab_tables.specs.declared.input.Step.{Step}
 use Rattle.lab_tables.specs.declared.input.Step.TheVariants.{Announce, Withdraw}
-use Rattle.lab_tables.specs.declared.words.StepWord.{StepWord}
-use Rattle.lab_tables.specs.declared.words.StepWord.TheVariants.{Announces, Withdraws, SaysRaw, Grafts, Settles, Evacuates, Other}
-use Rattle.lab_tables.specs.Meanings.{index_of_name}
+use Rattle.lab_keys.specs.declared.words.StepWord.{StepWord}
+use Rattle.lab_keys.specs.declared.words.StepWord.TheVariants.{Announces, Withdraws, SaysRaw, Grafts, Settles, Evacuates}
+use Rattle.lab_tables.specs.Meanings.{index_of_name, word_at}
 use Rattle.lab_tables.specs.Routers.{rule_of, policy_of, router_of}
 use Rattle.lab_tables.specs.Peerings.{remote_id_of, remote_as4_of, peering_input}
-use Rattle.lab_tables.specs.Scripts.{word_at, said_prefixes, said_attrs, peering_number, worded_step, step_of}
+use Rattle.lab_tables.specs.Scripts.{said_prefixes, said_attrs, peering_number, worded_step, step_of}
 use Rattle.lab_tables.specs.Documents.{routers_of, router_names_of, peerings_of, peering_names_of, lab_of}
 use Rattle.lab_input.specs.Labs.{InputOf}
 use Rattle.lab_input.specs.Names.{unknown, worded_named, step_named}
@@ -101,7 +101,6 @@ step_octets SaysRaw routers ps t says = hex_octets (text_at (codes "hex") t)
 step_octets Grafts routers ps t says = tt
 step_octets Settles routers ps t says = tt
 step_octets Evacuates routers ps t says = tt
-step_octets Other routers ps t says = tt
 
 -- ---- the whole
 
@@ -141,7 +140,6 @@ module _ (doc : Members) (tables : HasTables doc) (names : HasNames doc) where
   remote_of_step Grafts t none says = absurd (false≢true says)
   remote_of_step Settles t none says = absurd (false≢true says)
   remote_of_step Evacuates t none says = absurd (false≢true says)
-  remote_of_step Other t none says = absurd (false≢true says)
 
   step_ranged : (t : Members) → step_named called remotes t ≡ None → SaysWell called (peerings_of doc) t
       → SaysOctets (script_step (peerings_of doc) (step_of called (peerings_of doc) t))

@@ -1,8 +1,7 @@
 -- What is known of a document whose tables have no flaw, and whose names are known.
-use Rattle.std.proofs.Common.{◌≡◌, ℕ, ◌*◌, ◌/◌, ◌%◌, ◌^◌, ◌<◌, ◌≤◌, Bool, true, false, cond, not, ◌||◌, List, [], length, map, refl, sym, subst, arith, nat_lt}
+use Rattle.std.proofs.Common.{◌≡◌, ℕ, ◌*◌, ◌/◌, ◌%◌, ◌^◌, ◌<◌, ◌≤◌, Bool, true, false, cond, ◌||◌, List, [], length, map, refl, sym, subst, arith, nat_lt}
 use Rattle.std.specs.Prelude.{◌==◌, Option, Some, None, option_and_then, unwrap_or, pos, negsuc, codes, is_some, IfSome, Result, Ok, Err}
 use Rattle.std.specs.Result.{result_unwrap_or}
-use Rattle.std.specs.Str.{bytes_eq}
 use Rattle.hex.specs.Hex.{decode_pairs}
 use Rattle.hex.specs.declared.error.FromHexError.{FromHexError}
 use Rattle.hex.specs.declared.error.FromHexError.TheVariants.{OddLength}
@@ -13,12 +12,11 @@ use Rattle.std.proofs.lemmas.Bool.Decides.{nat_tests}
 use Rattle.toml.specs.Data.{Data, string, integer, float, boolean, datetime, array, table, as_str, Members, get_member}
 use Rattle.bgp_types.specs.Values.{is_no_host, is_short_hold}
 use Rattle.lab_keys.specs.declared.flaw.Flaw.TheVariants.{Shape, Limit}
-use Rattle.lab_keys.specs.declared.key.Kind.TheVariants.{Number, HoldTime, Host, Word, Hex}
-use Rattle.lab_keys.specs.declared.key.Words.TheVariants.{StepKinds}
+use Rattle.lab_keys.specs.declared.key.Kind.TheVariants.{Number, HoldTime, Host, Hex}
 use Rattle.lab_keys.specs.declared.table_at.TableAt.{TableAt}
 use Rattle.lab_keys.specs.declared.table_at.TableAt.TheVariants as tables
 use Rattle.lab_keys.specs.Spots.{KeySpot, spot_of}
-use Rattle.lab_keys.specs.Kinds.{flaw_if, beyond, words_of, is_one_of, hold_time_flaw, hex_flaw, kind_flaw}
+use Rattle.lab_keys.specs.Kinds.{flaw_if, beyond, hold_time_flaw, hex_flaw, kind_flaw}
 use Rattle.lab_keys.specs.Keys.{required, optional, present, key_flaw, keys_flaw, stray_flaw, tables_flaw}
 use Rattle.lab_keys.specs.Texts.{is_hex, octets_in}
 use Rattle.lab_keys.specs.Values.{number_in, number_or, address_or, items_at, tables_at}
@@ -26,9 +24,7 @@ use Rattle.lab_keys.proofs.NoFlaws.{none_left, none_right, IsWithin, number_with
 use Rattle.lab_tables.specs.Routers.{router_keys, router_flaw}
 use Rattle.lab_tables.specs.Peerings.{cost_flaw, fault_flaw, peering_ends, peering_rest, peering_flaw, opening_of, default_opening, remote_id_of, remote_as4_of}
 use Rattle.lab_tables.specs.declared.input.PeeringInput.{PeeringInput}
-use Rattle.lab_tables.specs.declared.words.StepWord.TheVariants.{Announces, Withdraws, SaysRaw, Grafts, Settles, Evacuates, Other}
-use Rattle.lab_tables.specs.Meanings.{step_word_of}
-use Rattle.lab_tables.specs.Scripts.{word_at, do_keys, step_flaw}
+use Rattle.lab_tables.specs.Scripts.{step_flaw}
 use Rattle.lab_tables.specs.Documents.{home_keys, top_names, shaped}
 use Rattle.lab_tables.proofs.Openings.{plain_is, wide_is}
 use Rattle.lab_input.proofs.Ready.{SaysWell, steps_well}
@@ -134,49 +130,6 @@ opening_few at t none = by_value (get_member (codes "opening") t) none where
   by_value None none = default_few (number_or 32 0 (codes "remote_as") t) (number_or 16 180 (codes "hold") t) (remote_id_of t) (remote_as4_of t)
   by_value (Some d) none = hex_there (spot_of at (codes "opening")) d none
 
--- ---- words of steps
-
-no_other : (a b c d e f : Bool) → (a || (b || (c || (d || (e || (f || false)))))) ≡ true
-    → cond a Announces (cond b Withdraws (cond c SaysRaw (cond d Grafts (cond e Settles (cond f Evacuates Other))))) ≡ Other → ⊥
-no_other true b c d e f any other = absurd (cc)
-no_other false true c d e f any other = absurd (cc)
-no_other false false true d e f any other = absurd (cc)
-no_other false false false true e f any other = absurd (cc)
-no_other false false false false true f any other = absurd (cc)
-no_other false false false false false true any other = absurd (cc)
-no_other false false false false false false any other = absurd (false≢true any)
-
--- what stands at `do` is a word of a step
-word_there : (at : KeySpot) (d : Data) → kind_flaw (Word StepKinds) at d ≡ None → step_word_of (unwrap_or (as_str d) []) ≡ Other → ⊥
-word_there at (string text) none = by_test (is_one_of (words_of StepKinds) text) refl none where
-  by_test : (t : Bool) → is_one_of (words_of StepKinds) text ≡ t → flaw_if (not t) (Shape at) ≡ None → step_word_of text ≡ Other → ⊥
-  by_test true e none =
-      no_other (bytes_eq text (codes "announce")) (bytes_eq text (codes "withdraw")) (bytes_eq text (codes "raw")) (bytes_eq text (codes "graft"))
-      (bytes_eq text (codes "settle")) (bytes_eq text (codes "evacuate")) e
-  by_test false e none = absurd (none_some (Shape at) none)
-word_there at (integer _) none = absurd (none_some (Shape at) none)
-word_there at (float _) none = absurd (none_some (Shape at) none)
-word_there at (boolean _) none = absurd (none_some (Shape at) none)
-word_there at (datetime _) none = absurd (none_some (Shape at) none)
-word_there at (array _) none = absurd (none_some (Shape at) none)
-word_there at (table _) none = absurd (none_some (Shape at) none)
-
--- a step of a document without a flaw does one of the things that a step may do
-abbrev pub IsWorded : Members → Type 0
-IsWorded t = word_at t ≡ Other → ⊥
-
-word_kept : (steps : List Data) (i : ℕ) (t : Members) → step_flaw steps i t ≡ None → IsWorded t
-word_kept steps i t none = by_value (get_member (codes "do") t)
-    (none_left (key_flaw at t (required (codes "do") (Word StepKinds))) None (none_left (keys_flaw at do_keys t) _ none))
-  where
-    at : TableAt
-    at = tables.Step i
-
-    by_value : (o : Option Data) → present (spot_of at (codes "do")) true (kind_flaw (Word StepKinds) (spot_of at (codes "do"))) o ≡ None
-        → step_word_of (unwrap_or (option_and_then as_str o) []) ≡ Other → ⊥
-    by_value None none = absurd (none_some (Shape (spot_of at (codes "do"))) none)
-    by_value (Some d) none = word_there (spot_of at (codes "do")) d none
-
 -- ---- tables
 
 pub record IsPeeringTable (t : Members) : Type 0 where
@@ -227,7 +180,6 @@ pub record HasTables (doc : Members) : Type 0 where
   pub routers : AllByRecursion IsRouterTable (tables_at (codes "router") doc)
   pub peerings : AllByRecursion IsPeeringTable (tables_at (codes "peering") doc)
   pub steps : (routers : List (List ℕ)) (ps : List PeeringInput) → AllByRecursion (SaysWell routers ps) (tables_at (codes "step") doc)
-  pub words : AllByRecursion IsWorded (tables_at (codes "step") doc)
   pub grouped : StepsAreTables doc
 
 pub tables_kept : (doc : Members) → shaped doc ≡ None → HasTables doc
@@ -248,7 +200,5 @@ tables_kept doc none =
       routers = tables_all tables.Top doc (codes "router") true 1 8 router_flaw IsRouterTable router_kept routers;
       peerings = tables_all tables.Top doc (codes "peering") false 0 32 (peering_flaw doc) IsPeeringTable (peering_kept doc) peerings;
       steps = λ routers ps. steps_well doc routers ps steps;
-      words = tables_all tables.Top doc (codes "step") false 0 4096
-          (step_flaw (items_at (codes "step") doc)) IsWorded (word_kept (items_at (codes "step") doc)) steps;
       grouped = steps_tables doc steps;
     }

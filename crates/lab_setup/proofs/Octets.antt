@@ -35,7 +35,7 @@ use Rattle.bgp_types.specs.Writable.{IsPart}
 use Rattle.bgp_types.proofs.OrderLaws.{all_rising}
 use Rattle.lab_keys.specs.Texts.{octets_in}
 use Rattle.lab_tables.specs.Peerings.{default_opening}
-use Rattle.lab_tables.proofs.Openings.{plain_head, plain_tail, wide_head, wide_tail, plain_is, wide_is}
+use Rattle.lab_tables.proofs.Openings.{plain_head, wide_head, keepalive, plain_is, wide_is}
 use Rattle.lab_setup.proofs.Lists.{all_append, all_mapped}
 
 abbrev IsOctet : ℕ → Type 0
@@ -259,18 +259,19 @@ update_octets wide u withdrawn nlri has =
 
 default_octets : (as_number hold identifier : ℕ) (as4 : Bool) → AreOctets (default_opening as_number hold identifier as4)
 default_octets a h i false =
-    let fourth = to_be_bytes w32 i ++ plain_tail in
+    let tail : List ℕ = 0 ∷ keepalive in
+    let fourth = to_be_bytes w32 i ++ tail in
     let third = to_be_bytes w16 h ++ fourth in
     let second = to_be_bytes w16 (narrow_as a) ++ third in
     let each : Each (plain_head ++ second) =
     joined plain_head second (tested plain_head refl)
     (joined (to_be_bytes w16 (narrow_as a)) third (number_each w16 (narrow_as a))
     (joined (to_be_bytes w16 h) fourth (number_each w16 h)
-    (joined (to_be_bytes w32 i) plain_tail (number_each w32 i) (tested plain_tail refl)))) in
+    (joined (to_be_bytes w32 i) tail (number_each w32 i) (tested tail refl)))) in
     subst AreOctets (plain_is a h i) (octets_are (plain_head ++ second) each)
 default_octets a h i true =
     let cap : List ℕ = 8 ∷ 2 ∷ 6 ∷ 65 ∷ 4 ∷ [] in
-    let sixth = to_be_bytes w32 a ++ wide_tail in
+    let sixth = to_be_bytes w32 a ++ keepalive in
     let fifth = cap ++ sixth in
     let fourth = to_be_bytes w32 i ++ fifth in
     let third = to_be_bytes w16 h ++ fourth in
@@ -281,7 +282,7 @@ default_octets a h i true =
     (joined (to_be_bytes w16 h) fourth (number_each w16 h)
     (joined (to_be_bytes w32 i) fifth (number_each w32 i)
     (joined cap sixth (tested cap refl)
-    (joined (to_be_bytes w32 a) wide_tail (number_each w32 a) (tested wide_tail refl)))))) in
+    (joined (to_be_bytes w32 a) keepalive (number_each w32 a) (tested keepalive refl)))))) in
     subst AreOctets (wide_is a h i) (octets_are (wide_head ++ second) each)
 
 none_octets : AreOctets []

@@ -23,12 +23,12 @@ use Rattle.lab_tables.specs.declared.input.PeeringInput.{PeeringInput}
 use Rattle.lab_tables.specs.declared.input.PolicyInput.{PolicyInput}
 use Rattle.lab_tables.specs.declared.input.RouterInput.{RouterInput}
 use Rattle.lab_tables.specs.declared.input.Step.{Step}
-use Rattle.lab_tables.specs.declared.words.StepWord.{StepWord}
-use Rattle.lab_tables.specs.declared.words.StepWord.TheVariants.{Announces, Withdraws, SaysRaw, Grafts, Settles, Evacuates, Other}
-use Rattle.lab_tables.specs.Meanings.{index_of_name}
+use Rattle.lab_keys.specs.declared.words.StepWord.{StepWord}
+use Rattle.lab_keys.specs.declared.words.StepWord.TheVariants.{Announces, Withdraws, SaysRaw, Grafts, Settles, Evacuates}
+use Rattle.lab_tables.specs.Meanings.{index_of_name, word_at}
 use Rattle.lab_tables.specs.Routers.{router_of}
 use Rattle.lab_tables.specs.Peerings.{peering_input}
-use Rattle.lab_tables.specs.Scripts.{word_at, worded_step, step_of}
+use Rattle.lab_tables.specs.Scripts.{worded_step, step_of}
 use Rattle.lab_tables.specs.Documents.{routers_of, router_names_of, peerings_of, peering_names_of, lab_of}
 use Rattle.lab_input.specs.declared.bad.BadInput.{BadInput}
 use Rattle.lab_input.specs.declared.bad.BadInput.TheVariants.{Limit}
@@ -38,8 +38,8 @@ use Rattle.lab_input.specs.Counts.{over_limit, step_grafts, settles_of, added_se
 use Rattle.lab_input.specs.Counts.{peering_count_at, room_flaw, said_on, most_said, said_flaw, count_fault}
 use Rattle.lab_setup.specs.Setups.{named_rules, router_setup, identifier_at, peering_setup, script_step, ended, setup_of}
 use Rattle.lab_input.proofs.Ready.{accepted}
-use Rattle.lab_setup.proofs.Kept.{IsPeeringTable, IsRouterTable, HasTables, IsWorded, tables_kept, number_below}
-use Rattle.lab_setup.proofs.Lists.{made_of, none_of, none_here, all_at, all_mapped, all_both, all_numbered, first_of_text}
+use Rattle.lab_setup.proofs.Kept.{IsPeeringTable, IsRouterTable, HasTables, tables_kept, number_below}
+use Rattle.lab_setup.proofs.Lists.{made_of, none_of, none_here, all_at, all_mapped, all_numbered, first_of_text}
 use Rattle.lab_setup.proofs.Lists.{get_mapped, get_numbered, length_numbered, IsIn, below_get, count_numbered}
 use Rattle.lab_setup.proofs.Names.{known, IsNamedPeering, HasNames, names_kept}
 use Rattle.lab_setup.proofs.Names.{number_below as index_below}
@@ -277,20 +277,19 @@ module _ (doc : Members) (tables : HasTables doc) (names : HasNames doc) (counts
       let whole = as_many_routers input in
       omega arith
 
-  step_ready : (word : StepWord) (t : Members) → (word ≡ Other → ⊥) → worded_named word called remotes t ≡ None
+  step_ready : (word : StepWord) (t : Members) → worded_named word called remotes t ≡ None
       → IsStep (setup_of input) (script_step (peerings_of doc) (worded_step word called (peerings_of doc) t))
-  step_ready Announces t known none = peering_below (text_at (codes "peering") t) none
-  step_ready Withdraws t known none = peering_below (text_at (codes "peering") t) none
-  step_ready SaysRaw t known none = peering_below (text_at (codes "peering") t) none
-  step_ready Grafts t known none =
+  step_ready Announces t none = peering_below (text_at (codes "peering") t) none
+  step_ready Withdraws t none = peering_below (text_at (codes "peering") t) none
+  step_ready SaysRaw t none = peering_below (text_at (codes "peering") t) none
+  step_ready Grafts t none =
       let peering = unknown remotes (text_at (codes "peering") t) in
       let target = unknown called (text_at (codes "to") t) in (
         peering_below (text_at (codes "peering") t) (none_left peering (option_or target None) none),
         router_below (text_at (codes "to") t) (none_left target None (none_right peering (option_or target None) none)),
       )
-  step_ready Settles t known none = tt
-  step_ready Evacuates t known none = router_below (text_at (codes "router") t) none
-  step_ready Other t known none = absurd (known refl)
+  step_ready Settles t none = tt
+  step_ready Evacuates t none = router_below (text_at (codes "router") t) none
 
   steps_ready : AllByRecursion (IsStep (setup_of input))
       (ended (map (script_step (peerings_of doc)) (map (step_of called (peerings_of doc)) (tables_at (codes "step") doc))))
@@ -298,12 +297,9 @@ module _ (doc : Members) (tables : HasTables doc) (names : HasNames doc) (counts
       let ts : List Members = tables_at (codes "step") doc in
       let of : Members → Step = step_of called (peerings_of doc) in
       let script : List ScriptStep = map (script_step (peerings_of doc)) (map of ts) in
-      let of_tables : AllByRecursion (λ t. IsStep (setup_of input) (script_step (peerings_of doc) (of t))) ts =
-      all_both IsWorded (λ t. step_named called remotes t ≡ None) (λ t. IsStep (setup_of input) (script_step (peerings_of doc) (of t)))
-      (λ t. step_ready (word_at t) t) ts tables.words names.steps in
       let inputs : AllByRecursion (λ step. IsStep (setup_of input) (script_step (peerings_of doc) step)) (map of ts) =
-      all_mapped of (λ t. IsStep (setup_of input) (script_step (peerings_of doc) (of t)))
-      (λ step. IsStep (setup_of input) (script_step (peerings_of doc) step)) (λ t is. is) ts of_tables in
+      all_mapped of (λ t. step_named called remotes t ≡ None) (λ step. IsStep (setup_of input) (script_step (peerings_of doc) step))
+      (λ t. step_ready (word_at t) t) ts names.steps in
       let whole : AllByRecursion (IsStep (setup_of input)) script =
       all_mapped (script_step (peerings_of doc)) (λ step. IsStep (setup_of input) (script_step (peerings_of doc) step))
       (IsStep (setup_of input)) (λ step is. is) (map of ts) inputs in

@@ -8,21 +8,18 @@ use Rattle.lab_tables.specs.Peerings.{default_opening}
 abbrev pub plain_head : List ℕ
 plain_head = 255 ∷ 255 ∷ 255 ∷ 255 ∷ 255 ∷ 255 ∷ 255 ∷ 255 ∷ 255 ∷ 255 ∷ 255 ∷ 255 ∷ 255 ∷ 255 ∷ 255 ∷ 255 ∷ 0 ∷ 29 ∷ 1 ∷ 4 ∷ []
 
-abbrev pub plain_tail : List ℕ
-plain_tail = 0 ∷ 255 ∷ 255 ∷ 255 ∷ 255 ∷ 255 ∷ 255 ∷ 255 ∷ 255 ∷ 255 ∷ 255 ∷ 255 ∷ 255 ∷ 255 ∷ 255 ∷ 255 ∷ 255 ∷ 0 ∷ 19 ∷ 4 ∷ []
-
 abbrev pub wide_head : List ℕ
 wide_head = 255 ∷ 255 ∷ 255 ∷ 255 ∷ 255 ∷ 255 ∷ 255 ∷ 255 ∷ 255 ∷ 255 ∷ 255 ∷ 255 ∷ 255 ∷ 255 ∷ 255 ∷ 255 ∷ 0 ∷ 37 ∷ 1 ∷ 4 ∷ []
 
-abbrev pub wide_tail : List ℕ
-wide_tail = 255 ∷ 255 ∷ 255 ∷ 255 ∷ 255 ∷ 255 ∷ 255 ∷ 255 ∷ 255 ∷ 255 ∷ 255 ∷ 255 ∷ 255 ∷ 255 ∷ 255 ∷ 255 ∷ 0 ∷ 19 ∷ 4 ∷ []
+abbrev pub keepalive : List ℕ
+keepalive = 255 ∷ 255 ∷ 255 ∷ 255 ∷ 255 ∷ 255 ∷ 255 ∷ 255 ∷ 255 ∷ 255 ∷ 255 ∷ 255 ∷ 255 ∷ 255 ∷ 255 ∷ 255 ∷ 0 ∷ 19 ∷ 4 ∷ []
 
-pub plain_is : (a h i : ℕ) → plain_head ++ to_be_bytes w16 (narrow_as a) ++ to_be_bytes w16 h ++ to_be_bytes w32 i ++ plain_tail ≡ default_opening a h i false
+pub plain_is : (a h i : ℕ) → plain_head ++ to_be_bytes w16 (narrow_as a) ++ to_be_bytes w16 h ++ to_be_bytes w32 i ++ 0 ∷ keepalive ≡ default_opening a h i false
 unfolding spell
 plain_is a h i = refl
 
 pub wide_is : (a h i : ℕ)
-    → wide_head ++ to_be_bytes w16 (narrow_as a) ++ to_be_bytes w16 h ++ to_be_bytes w32 i ++ (8 ∷ 2 ∷ 6 ∷ 65 ∷ 4 ∷ []) ++ to_be_bytes w32 a ++ wide_tail
+    → wide_head ++ to_be_bytes w16 (narrow_as a) ++ to_be_bytes w16 h ++ to_be_bytes w32 i ++ (8 ∷ 2 ∷ 6 ∷ 65 ∷ 4 ∷ []) ++ to_be_bytes w32 a ++ keepalive
     ≡ default_opening a h i true
 unfolding spell
 wide_is a h i = refl

@@ -1,50 +1,31 @@
--- Words of an input, and their meanings.
-use Rattle.std.specs.Prelude.{ℕ, List, Option, Some, None, option_and_then, unwrap_or, codes, if◌then◌else◌}
+-- What the words and names of a table stand for. The defaults stand where a word is missing or unknown, so that the table has a flaw.
+use Rattle.std.specs.Prelude.{ℕ, List, Option, option_and_then, unwrap_or, codes}
 use Rattle.std.specs.List.{position}
 use Rattle.std.specs.Str.{bytes_eq}
 use Rattle.toml.specs.Data.{Members}
 use Rattle.bgp_types.specs.declared.attrs.Origin.{Origin}
-use Rattle.bgp_types.specs.declared.attrs.Origin.TheVariants.{Igp, Egp, Incomplete}
 use Rattle.tcp_seq.specs.declared.segment.Way.{Way}
-use Rattle.tcp_seq.specs.declared.segment.Way.TheVariants.{Home, Remote}
+use Rattle.tcp_seq.specs.declared.segment.Way.TheVariants.{Home}
 use Rattle.link_bag.specs.declared.plan.FaultKind.{FaultKind}
-use Rattle.link_bag.specs.declared.plan.FaultKind.TheVariants.{Lose, Repeat, Hold, Stray}
-use Rattle.lab_tables.specs.declared.words.StepWord.{StepWord}
-use Rattle.lab_tables.specs.declared.words.StepWord.TheVariants.{Announces, Withdraws, SaysRaw, Grafts, Settles, Evacuates, Other}
-use Rattle.lab_keys.specs.Values.{maybe_text}
-
--- an origin by its name (RFC 4271, section 4.3)
-abbrev pub origin_named : List ℕ → Option Origin
-origin_named text =
-    if bytes_eq text (codes "igp") then Some Igp
-    else if bytes_eq text (codes "egp") then Some Egp
-    else if bytes_eq text (codes "incomplete") then Some Incomplete
-    else None
+use Rattle.link_bag.specs.declared.plan.FaultKind.TheVariants.{Lose}
+use Rattle.lab_keys.specs.declared.words.StepWord.{StepWord}
+use Rattle.lab_keys.specs.declared.words.StepWord.TheVariants.{Announces}
+use Rattle.lab_keys.specs.Words.{origin_in, way_in, fault_kind_in, step_word_in}
+use Rattle.lab_keys.specs.Values.{maybe_text, text_at}
 
 abbrev pub origin_at : List ℕ → Members → Option Origin
-origin_at key t = option_and_then origin_named (maybe_text key t)
+origin_at key t = option_and_then origin_in (maybe_text key t)
 
--- the side that a segment goes to
-abbrev pub way_of : List ℕ → Way
-way_of text = if bytes_eq text (codes "remote") then Remote else Home
+-- the side that a fault's segment goes to
+abbrev pub way_at : Members → Way
+way_at t = unwrap_or (way_in (text_at (codes "way") t)) Home
 
-abbrev pub fault_kind_of : List ℕ → FaultKind
-fault_kind_of text =
-    if bytes_eq text (codes "repeat") then Repeat
-    else if bytes_eq text (codes "hold") then Hold
-    else if bytes_eq text (codes "stray") then Stray
-    else Lose
+abbrev pub fault_kind_at : Members → FaultKind
+fault_kind_at t = unwrap_or (fault_kind_in (text_at (codes "kind") t)) Lose
 
--- what a step does, by its word
-abbrev pub step_word_of : List ℕ → StepWord
-step_word_of text =
-    if bytes_eq text (codes "announce") then Announces
-    else if bytes_eq text (codes "withdraw") then Withdraws
-    else if bytes_eq text (codes "raw") then SaysRaw
-    else if bytes_eq text (codes "graft") then Grafts
-    else if bytes_eq text (codes "settle") then Settles
-    else if bytes_eq text (codes "evacuate") then Evacuates
-    else Other
+-- what a step does; the default neither ends a group nor evacuates
+abbrev pub word_at : Members → StepWord
+word_at t = unwrap_or (step_word_in (text_at (codes "do") t)) Announces
 
 -- the index of a name among others
 abbrev pub index_of_name : List (List ℕ) → List ℕ → ℕ

@@ -8,12 +8,18 @@ use Rattle.bgp_types.specs.declared.message.Cap.{Cap}
 use Rattle.bgp_types.specs.declared.message.Message.TheVariants.{OpenMsg, KeepaliveMsg}
 use Rattle.bgp_types.specs.PathOctets.{narrow_as}
 use Rattle.bgp_types.specs.Spelling.{spell}
+use Rattle.tcp_seq.specs.declared.segment.Way.{Way}
+use Rattle.tcp_seq.specs.declared.segment.Way.TheVariants.{Remote}
 use Rattle.link_bag.specs.declared.plan.Fault.{Fault}
+use Rattle.link_bag.specs.declared.plan.FaultKind.{FaultKind}
+use Rattle.link_bag.specs.declared.plan.FaultKind.TheVariants.{Lose, Stray}
 use Rattle.lab_keys.specs.declared.flaw.Flaw.{Flaw}
 use Rattle.lab_keys.specs.declared.flaw.Flaw.TheVariants.{Shape}
-use Rattle.lab_keys.specs.declared.key.Kind.TheVariants.{Number, HoldTime, Name, Host, Flag, Word, Hex, Misplaced}
-use Rattle.lab_keys.specs.declared.key.Words.TheVariants.{Ways, FaultKinds}
+use Rattle.lab_keys.specs.declared.key.Kind.TheVariants as kinds
+use Rattle.lab_keys.specs.declared.key.Kind.TheVariants.{Number, HoldTime, Name, Host, Flag, Hex, Misplaced}
 use Rattle.lab_keys.specs.declared.table_at.TableAt.TheVariants as tables
+use Rattle.lab_keys.specs.declared.words.StepWord.{StepWord}
+use Rattle.lab_keys.specs.declared.words.StepWord.TheVariants.{SaysRaw}
 use Rattle.lab_keys.specs.KeyRows.{KeyRow}
 use Rattle.lab_keys.specs.Spots.{spot_of}
 use Rattle.lab_keys.specs.Kinds.{first_of, flaw_if}
@@ -21,7 +27,7 @@ use Rattle.lab_keys.specs.Keys.{required, optional, keys_flaw, stray_flaw, names
 use Rattle.lab_keys.specs.Values.{has_member, text_at, maybe_text, number_or, flag_or, address_or, octets_at, items_at}
 use Rattle.lab_tables.specs.declared.input.CostInput.{CostInput}
 use Rattle.lab_tables.specs.declared.input.PeeringInput.{PeeringInput}
-use Rattle.lab_tables.specs.Meanings.{index_of_name, way_of, fault_kind_of}
+use Rattle.lab_tables.specs.Meanings.{index_of_name, way_at, fault_kind_at, word_at}
 
 -- ---- costs
 
@@ -71,9 +77,13 @@ peering_rest =
 abbrev pub peering_last : List KeyRow
 peering_last = optional (codes "unicast") Flag ∷ []
 
+abbrev pub is_raw : StepWord → Bool
+is_raw SaysRaw = true
+is_raw _ = false
+
 -- the step says raw octets on the peering of this name
 abbrev pub is_raw_of : List ℕ → Data → Bool
-is_raw_of name (table t) = bytes_eq (text_at (codes "do") t) (codes "raw") && bytes_eq (text_at (codes "peering") t) name
+is_raw_of name (table t) = is_raw (word_at t) && bytes_eq (text_at (codes "peering") t) name
 is_raw_of name _ = false
 
 -- A remote can send KEEPALIVEs of its own if both sides' hold times are above 0 and all that it says is said by its steps and the default opening.
@@ -139,30 +149,37 @@ peering_input doc routers t = record {
 abbrev pub fault_keys : List KeyRow
 fault_keys =
     required (codes "peering") Name
-    ∷ required (codes "way") (Word Ways)
+    ∷ required (codes "way") kinds.Way
     ∷ required (codes "segment") (Number 1 1000000)
-    ∷ required (codes "kind") (Word FaultKinds)
+    ∷ required (codes "kind") kinds.FaultKind
     ∷ []
+
+abbrev pub is_lost : FaultKind → Bool
+is_lost Lose = true
+is_lost _ = false
 
 -- a lost segment has no later time
 abbrev pub after_keys : Bool → List KeyRow
-after_keys is_lost = (if is_lost then optional (codes "after") Misplaced else required (codes "after") (Number 1 6)) ∷ []
+after_keys lost = (if lost then optional (codes "after") Misplaced else required (codes "after") (Number 1 6)) ∷ []
+
+-- a copy strays that goes to the remote; only what goes home can stray
+abbrev pub strays_out : FaultKind → Way → Bool
+strays_out Stray Remote = true
+strays_out _ _ = false
 
 abbrev pub fault_flaw : ℕ → Members → Option Flaw
-fault_flaw i t =
-    let kind = text_at (codes "kind") t in
-    first_of (
+fault_flaw i t = first_of (
     keys_flaw (tables.Fault i) fault_keys t
-    ∷ flaw_if (bytes_eq kind (codes "stray") && bytes_eq (text_at (codes "way") t) (codes "remote")) (Shape (spot_of (tables.Fault i) (codes "kind")))
-    ∷ keys_flaw (tables.Fault i) (after_keys (bytes_eq kind (codes "lose"))) t
+    ∷ flaw_if (strays_out (fault_kind_at t) (way_at t)) (Shape (spot_of (tables.Fault i) (codes "kind")))
+    ∷ keys_flaw (tables.Fault i) (after_keys (is_lost (fault_kind_at t))) t
     ∷ stray_flaw (tables.Fault i) (names_of (fault_keys ++ after_keys true)) t
     ∷ [])
 
 abbrev pub fault_of : List (List ℕ) → Members → Fault
 fault_of peerings t = record {
   peering = record { 0 = index_of_name peerings (text_at (codes "peering") t) };
-  way = way_of (text_at (codes "way") t);
+  way = way_at t;
   segment = number_or 32 0 (codes "segment") t;
-  kind = fault_kind_of (text_at (codes "kind") t);
+  kind = fault_kind_at t;
   after = number_or 32 0 (codes "after") t;
 }

@@ -6,8 +6,7 @@ use Rattle.route_policy.specs.declared.rule.PrefixRange.{PrefixRange}
 use Rattle.route_policy.specs.declared.rule.Rule.{Rule}
 use Rattle.lab_keys.specs.declared.flaw.Flaw.{Flaw}
 use Rattle.lab_keys.specs.declared.key.Kind.{Kind}
-use Rattle.lab_keys.specs.declared.key.Kind.TheVariants.{Number, Name, Host, Prefix, Flag, Word, Misplaced}
-use Rattle.lab_keys.specs.declared.key.Words.TheVariants.{Origins}
+use Rattle.lab_keys.specs.declared.key.Kind.TheVariants.{Number, Name, Host, Prefix, Flag, Origin, Misplaced}
 use Rattle.lab_keys.specs.declared.table_at.TableAt.TheVariants as tables
 use Rattle.lab_keys.specs.KeyRows.{KeyRow}
 use Rattle.lab_keys.specs.Kinds.{first_of}
@@ -29,7 +28,7 @@ rule_keys ranged =
     ∷ optional (codes "ge") (length_kind ranged)
     ∷ optional (codes "le") (length_kind ranged)
     ∷ optional (codes "has_as") (Number 1 4294967295)
-    ∷ optional (codes "origin") (Word Origins)
+    ∷ optional (codes "origin") Origin
     ∷ optional (codes "deny") Flag
     ∷ optional (codes "pref") (Number 0 4294967295)
     ∷ optional (codes "med") (Number 0 4294967295)

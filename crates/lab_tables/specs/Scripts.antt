@@ -10,8 +10,8 @@ use Rattle.bgp_types.specs.declared.path.PathPart.TheVariants.{Sequence}
 use Rattle.bgp_types.specs.Prefixes.{PrefixValue, once_after}
 use Rattle.lab_keys.specs.declared.flaw.Flaw.{Flaw}
 use Rattle.lab_keys.specs.declared.flaw.Flaw.TheVariants.{Shape, Limit}
-use Rattle.lab_keys.specs.declared.key.Kind.TheVariants.{Number, Name, Host, Prefix, Word, Hex}
-use Rattle.lab_keys.specs.declared.key.Words.TheVariants.{Origins, StepKinds}
+use Rattle.lab_keys.specs.declared.key.Kind.TheVariants as kinds
+use Rattle.lab_keys.specs.declared.key.Kind.TheVariants.{Number, Name, Host, Prefix, Origin, Hex}
 use Rattle.lab_keys.specs.declared.table_at.TableAt.TheVariants as tables
 use Rattle.lab_keys.specs.KeyRows.{KeyRow}
 use Rattle.lab_keys.specs.Spots.{spot_of}
@@ -21,14 +21,11 @@ use Rattle.lab_keys.specs.Values.{has_member, text_at, number_or, maybe_number, 
 use Rattle.lab_tables.specs.declared.input.PeeringInput.{PeeringInput}
 use Rattle.lab_tables.specs.declared.input.Step.{Step}
 use Rattle.lab_tables.specs.declared.input.Step.TheVariants.{Announce, Withdraw, Raw, Graft, Settle, Evacuate}
-use Rattle.lab_tables.specs.declared.words.StepWord.{StepWord}
-use Rattle.lab_tables.specs.declared.words.StepWord.TheVariants.{Announces, Withdraws, SaysRaw, Grafts, Settles, Evacuates}
-use Rattle.lab_tables.specs.Meanings.{index_of_name, origin_at, step_word_of}
+use Rattle.lab_keys.specs.declared.words.StepWord.{StepWord}
+use Rattle.lab_keys.specs.declared.words.StepWord.TheVariants.{Announces, Withdraws, SaysRaw, Grafts, Settles, Evacuates}
+use Rattle.lab_tables.specs.Meanings.{index_of_name, origin_at, word_at}
 
 -- ---- the groups of a script, which settle steps end
-
-abbrev pub word_at : Members → StepWord
-word_at t = step_word_of (text_at (codes "do") t)
 
 -- the test on the word of a value in the array of steps
 abbrev pub is_word : (StepWord → Bool) → Data → Bool
@@ -71,7 +68,7 @@ announce_keys =
     required (codes "peering") Name
     ∷ required_array (codes "prefixes") 1 200 Prefix
     ∷ optional_array (codes "path") 0 64 (Number 1 4294967295)
-    ∷ optional (codes "origin") (Word Origins)
+    ∷ optional (codes "origin") Origin
     ∷ optional (codes "med") (Number 0 4294967295)
     ∷ optional (codes "next_hop") Host
     ∷ []
@@ -97,10 +94,10 @@ keys_of Withdraws = withdraw_keys
 keys_of SaysRaw = raw_keys
 keys_of Grafts = graft_keys
 keys_of Settles = settle_keys
-keys_of _ = evacuate_keys
+keys_of Evacuates = evacuate_keys
 
 abbrev pub do_keys : List KeyRow
-do_keys = required (codes "do") (Word StepKinds) ∷ []
+do_keys = required (codes "do") kinds.StepWord ∷ []
 
 -- The least number of rounds is at most the greatest, if that is given.
 abbrev pub least_flaw : StepWord → ℕ → Members → Option Flaw
@@ -170,7 +167,7 @@ worded_step Withdraws routers peerings t = Withdraw (record { 0 = peering_number
 worded_step SaysRaw routers peerings t = Raw (record { 0 = peering_number peerings t }) (octets_at (codes "hex") t)
 worded_step Grafts routers peerings t = Graft (record { 0 = peering_number peerings t }) (record { 0 = index_of_name routers (text_at (codes "to") t) })
 worded_step Settles routers peerings t = Settle (maybe_number 32 (codes "rounds") t) (number_or 32 0 (codes "least") t)
-worded_step _ routers peerings t = Evacuate (record { 0 = index_of_name routers (text_at (codes "router") t) })
+worded_step Evacuates routers peerings t = Evacuate (record { 0 = index_of_name routers (text_at (codes "router") t) })
 
 abbrev pub step_of : List (List ℕ) → List PeeringInput → Members → Step
 step_of routers peerings t = worded_step (word_at t) routers peerings t

@@ -3,18 +3,19 @@
 ghost use Rattle.std.specs.Prelude.{◌≡◌, IfOk, List, ℕ, map};
 ghost use Rattle.toml.specs.View.{table_view};
 ghost use Rattle.lab_tables.specs.Peerings.{cost_ends, cost_rest, cost_flaw as cost_flaw_lem, cost_of as cost_of_lem, fault_keys as fault_keys_lem};
-ghost use Rattle.lab_tables.specs.Peerings.{after_keys as after_keys_lem, fault_flaw as fault_flaw_lem, fault_of as fault_of_lem};
+ghost use Rattle.lab_tables.specs.Peerings.{after_keys as after_keys_lem, is_lost as is_lost_lem, strays_out as strays_out_lem, fault_flaw as fault_flaw_lem, fault_of as fault_of_lem};
 
 use crate::input::CostInput;
 use crate::name_index::NameIndex;
-use crate::words::{fault_kind_of, way_of};
+use crate::words::{fault_kind_at, way_at};
 use bgp_types::{NoMemory, PeeringId, RouterId};
 use lab_keys::{
-    Flaw, Key, Kind, Spot, TableAt, TableKind, TableReader, Words, flaw_if, keys_flaw, number_or,
+    Flaw, Key, Kind, Spot, TableAt, TableKind, TableReader, flaw_if, keys_flaw, number_or,
     stray_flaw, text_at,
 };
-use link_bag::Fault;
+use link_bag::{Fault, FaultKind};
 use std::alloc::Global;
+use tcp_seq::Way;
 use toml::Table;
 
 /// Returns the keys of a cost: its two ends, and the cost.
@@ -100,7 +101,7 @@ fn fault_keys(is_lost: bool) -> [Key; 5]
 {
     [
         Key::required("peering", Kind::Name),
-        Key::required("way", Kind::Word(Words::Ways)),
+        Key::required("way", Kind::Way),
         Key::required(
             "segment",
             Kind::Number {
@@ -108,9 +109,23 @@ fn fault_keys(is_lost: bool) -> [Key; 5]
                 high: 1_000_000,
             },
         ),
-        Key::required("kind", Kind::Word(Words::FaultKinds)),
+        Key::required("kind", Kind::FaultKind),
         after_key(is_lost),
     ]
+}
+
+/// Returns whether a fault loses its segment.
+fn is_lost(kind: FaultKind) -> bool
+    ensures { result ≡ is_lost_lem kind }
+{
+    matches!(kind, FaultKind::Lose)
+}
+
+/// Returns whether a fault makes a copy stray that goes to the remote. Only what goes home can stray.
+fn strays_out(kind: FaultKind, way: Way) -> bool
+    ensures { result ≡ strays_out_lem kind way }
+{
+    matches!((kind, way), (FaultKind::Stray, Way::Remote))
 }
 
 /// Returns the first flaw of the planned fault at index `i`.
@@ -118,13 +133,13 @@ fn fault_flaw<'a>(i: usize, table: &'a Table) -> Option<Flaw<'a>>
     ensures { result ≡ fault_flaw_lem i (table_view table.now) }
 {
     let at = TableAt::Fault(i);
-    let kind = text_at("kind", table);
-    let rows = fault_keys(kind == "lose");
+    let kind = fault_kind_at(table);
+    let rows = fault_keys(is_lost(kind));
     let keys = &rows[..];
     if let Some(flaw) = keys_flaw(at, &keys[..4], table) {
         return Some(flaw);
     }
-    if kind == "stray" && text_at("way", table) == "remote" {
+    if strays_out(kind, way_at(table)) {
         return Some(Flaw::Shape(Spot::of(at, "kind")));
     }
     if let Some(flaw) = keys_flaw(at, &keys[4..], table) {
@@ -151,9 +166,9 @@ pub fn fault_of(peerings: &NameIndex, table: &Table) -> Fault
 {
     Fault {
         peering: PeeringId(peerings.number_of(text_at("peering", table))),
-        way: way_of(text_at("way", table)),
+        way: way_at(table),
         segment: number_or(0, "segment", table),
-        kind: fault_kind_of(text_at("kind", table)),
+        kind: fault_kind_at(table),
         after: number_or(0, "after", table),
     }
 }

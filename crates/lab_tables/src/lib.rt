@@ -26,6 +26,5 @@ pub use labs::{lab_of, peering_names, router_names};
 pub use name_index::NameIndex;
 pub use once::each_once;
 pub use opening::default_opening;
-pub use scripts::word_at;
 pub use shapes::shaped;
-pub use words::StepWord;
+pub use words::word_at;

@@ -4,7 +4,7 @@ ghost use Rattle.std.specs.Prelude.{◌≡◌, ◌++◌, true, false, IfOk};
 ghost use Rattle.bgp_types.specs.PathOctets.{narrow_as as narrow_as_lem};
 ghost use Rattle.lab_tables.specs.Peerings.{default_opening as default_opening_lem};
 
-use bgp_types::{NoMemory, Octets, narrow_as};
+use bgp_types::{KEEPALIVE_MESSAGE, NoMemory, Octets, narrow_as};
 use std::alloc::Global;
 
 /// Returns an AS number as the two-octet field of an OPEN (RFC 6793, section 4.1).
@@ -35,14 +35,12 @@ fn plain_opening(
     let head = [
         255, 255, 255, 255, 255, 255, 255, 255, 255, 255, 255, 255, 255, 255, 255, 255, 0, 29, 1, 4,
     ];
-    let tail = [
-        0, 255, 255, 255, 255, 255, 255, 255, 255, 255, 255, 255, 255, 255, 255, 255, 255, 0, 19, 4,
-    ];
     let octets = Octets::from_slice(alloc, &head)?;
     let octets = extended(octets, &as_field(remote_as).to_be_bytes())?;
     let octets = extended(octets, &hold.to_be_bytes())?;
     let octets = extended(octets, &remote_id.to_be_bytes())?;
-    let octets = extended(octets, &tail)?;
+    let octets = extended(octets, &[0])?;
+    let octets = extended(octets, &KEEPALIVE_MESSAGE)?;
     Ok(octets)
 }
 
@@ -58,16 +56,13 @@ fn wide_opening(
     let head = [
         255, 255, 255, 255, 255, 255, 255, 255, 255, 255, 255, 255, 255, 255, 255, 255, 0, 37, 1, 4,
     ];
-    let tail = [
-        255, 255, 255, 255, 255, 255, 255, 255, 255, 255, 255, 255, 255, 255, 255, 255, 0, 19, 4,
-    ];
     let octets = Octets::from_slice(alloc, &head)?;
     let octets = extended(octets, &as_field(remote_as).to_be_bytes())?;
     let octets = extended(octets, &hold.to_be_bytes())?;
     let octets = extended(octets, &remote_id.to_be_bytes())?;
     let octets = extended(octets, &[8, 2, 6, 65, 4])?;
     let octets = extended(octets, &remote_as.to_be_bytes())?;
-    let octets = extended(octets, &tail)?;
+    let octets = extended(octets, &KEEPALIVE_MESSAGE)?;
     Ok(octets)
 }
 

@@ -13,10 +13,11 @@ use crate::input::PeeringInput;
 use crate::name_index::NameIndex;
 use crate::numbers::{ANY_NUMBER, AS_NUMBER, MOST_OCTETS};
 use crate::opening::default_opening;
+use crate::words::word_at;
 use bgp_types::{Name, NoMemory, Octets, RouterId};
 use lab_keys::{
-    Flaw, Key, Kind, Spot, TableAt, TableKind, TableReader, address_or, flag_or, has, items_at,
-    keys_flaw, maybe_text, number_or, octets_at, short_or, stray_flaw, text_at,
+    Flaw, Key, Kind, Spot, StepWord, TableAt, TableKind, TableReader, address_or, flag_or, has,
+    items_at, keys_flaw, maybe_text, number_or, octets_at, short_or, stray_flaw, text_at,
 };
 use std::alloc::Global;
 use toml::{Table, Value};
@@ -63,7 +64,9 @@ fn is_raw_of(name: &str, step: &Value) -> bool
     ensures { result ≡ is_raw_of_lem name.now (view step.now) }
 {
     match step.as_table() {
-        Some(table) => text_at("do", table) == "raw" && text_at("peering", table) == name,
+        Some(table) => {
+            matches!(word_at(table), StepWord::SaysRaw) && text_at("peering", table) == name
+        }
         None => false,
     }
 }

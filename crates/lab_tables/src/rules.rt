@@ -10,7 +10,7 @@ use crate::numbers::{ANY_NUMBER, AS_NUMBER};
 use crate::words::origin_at;
 use bgp_types::{Name, NoMemory, Prefix};
 use lab_keys::{
-    ArrayAt, Flaw, Key, Kind, TableAt, TableKind, TableReader, Words, flag_or, has, keys_flaw,
+    ArrayAt, Flaw, Key, Kind, TableAt, TableKind, TableReader, flag_or, has, keys_flaw,
     maybe_number, maybe_prefix, small_or, stray_flaw, tables_flaw, text_at, values_at,
 };
 use route_policy::{PrefixRange, Rule};
@@ -37,7 +37,7 @@ fn rule_keys(ranged: bool) -> [Key; 9]
         Key::optional("ge", length_kind(ranged)),
         Key::optional("le", length_kind(ranged)),
         Key::optional("has_as", AS_NUMBER),
-        Key::optional("origin", Kind::Word(Words::Origins)),
+        Key::optional("origin", Kind::Origin),
         Key::optional("deny", Kind::Flag),
         Key::optional("pref", ANY_NUMBER),
         Key::optional("med", ANY_NUMBER),

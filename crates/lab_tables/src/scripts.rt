@@ -8,24 +8,17 @@ ghost use Rattle.lab_keys.specs.Spots.{spot_of, member_of};
 ghost use Rattle.lab_keys.specs.Kinds.{each_from, table_flaw};
 ghost use Rattle.lab_keys.specs.Keys.{keys_flaw as keys_flaw_lem, tables_flaw as tables_flaw_lem};
 ghost use Rattle.lab_keys.specs.Values.{items_at as items_at_lem};
-ghost use Rattle.lab_tables.specs.Scripts.{word_at as word_at_lem, is_word, is_settle_word, is_evacuate, evacuates as evacuates_lem};
+ghost use Rattle.lab_tables.specs.Scripts.{is_word, is_settle_word, is_evacuate, evacuates as evacuates_lem};
 ghost use Rattle.lab_tables.specs.Scripts.{group_from, is_crowded as is_crowded_lem, least_flaw as least_flaw_lem};
 ghost use Rattle.lab_tables.specs.Scripts.{worded_flaw as worded_flaw_lem, grouped_flaw as grouped_flaw_lem, step_flaw as step_flaw_lem};
 
 use crate::numbers::{ANY_NUMBER, AS_NUMBER, MOST_OCTETS, MOST_PREFIXES};
-use crate::words::{StepWord, step_word_of};
+use crate::words::word_at;
 use lab_keys::{
-    Flaw, Key, Kind, Spot, TableAt, Words, beyond, flaw_if, keys_flaw, number_or, stray_flaw,
-    text_at, value_at,
+    Flaw, Key, Kind, Spot, StepWord, TableAt, beyond, flaw_if, keys_flaw, number_or, stray_flaw,
+    value_at,
 };
 use toml::{Table, Value};
-
-/// Returns what a step does.
-pub fn word_at(table: &Table) -> StepWord
-    ensures { result ≡ word_at_lem (table_view table.now) }
-{
-    step_word_of(text_at("do", table))
-}
 
 /// Returns whether a value in the array of steps ends a group.
 fn ends_group(step: &Value) -> bool
@@ -34,10 +27,7 @@ fn ends_group(step: &Value) -> bool
     let Some(table) = step.as_table() else {
         return false;
     };
-    match word_at(table) {
-        StepWord::Settles => true,
-        _ => false,
-    }
+    matches!(word_at(table), StepWord::Settles)
 }
 
 /// Returns whether a value in the array of steps evacuates a router.
@@ -47,10 +37,7 @@ fn evacuates(step: &Value) -> bool
     let Some(table) = step.as_table() else {
         return false;
     };
-    match word_at(table) {
-        StepWord::Evacuates => true,
-        _ => false,
-    }
+    matches!(word_at(table), StepWord::Evacuates)
 }
 
 /// Returns whether some step evacuates a router, up to the next one that ends a group.
@@ -79,7 +66,7 @@ fn is_crowded(before: bool, whole: bool, word: StepWord) -> bool
 fn do_key() -> Key
     ensures { result ∷ [] ≡ do_keys }
 {
-    Key::required("do", Kind::Word(Words::StepKinds))
+    Key::required("do", Kind::StepWord)
 }
 
 /// Returns the first flaw of the keys of a step after its word, which is the first key, or of an unknown key.
@@ -102,7 +89,7 @@ fn announce_flaw<'a>(i: usize, table: &'a Table) -> Option<Flaw<'a>>
         Key::required("peering", Kind::Name),
         Key::required_array("prefixes", 1, MOST_PREFIXES, Kind::Prefix),
         Key::optional_array("path", 0, 64, AS_NUMBER),
-        Key::optional("origin", Kind::Word(Words::Origins)),
+        Key::optional("origin", Kind::Origin),
         Key::optional("med", ANY_NUMBER),
         Key::optional("next_hop", Kind::Host),
     ];
@@ -202,7 +189,7 @@ fn worded_flaw<'a>(word: StepWord, i: usize, table: &'a Table) -> Option<Flaw<'a
         StepWord::SaysRaw => raw_flaw(i, table),
         StepWord::Grafts => graft_flaw(i, table),
         StepWord::Settles => settle_flaw(i, table),
-        _ => evacuate_flaw(i, table),
+        StepWord::Evacuates => evacuate_flaw(i, table),
     }
 }
 
@@ -287,5 +274,5 @@ pub(crate) fn steps_flaw<'a>(doc: &'a Table) -> Option<Flaw<'a>>
 ghost use Rattle.std.specs.Prelude.{◌<◌, ◌∷◌, ◌||◌, [], None, drop, length, false, not, if◌then◌else◌};
 ghost use Rattle.std.specs.Option.{option_or};
 ghost use Rattle.lab_keys.specs.Keys.{stray_flaw as stray_flaw_lem, names_of};
-ghost use Rattle.lab_tables.specs.declared.words.StepWord.TheVariants as words;
+ghost use Rattle.lab_keys.specs.declared.words.StepWord.TheVariants as words;
 ghost use Rattle.lab_tables.specs.Scripts.{do_keys};

@@ -7,10 +7,9 @@ ghost use Rattle.lab_tables.specs.Scripts.{peering_number as peering_number_lem,
 use crate::input::{PeeringInput, Step};
 use crate::name_index::NameIndex;
 use crate::said::{said_attrs, said_prefixes};
-use crate::scripts::word_at;
-use crate::words::StepWord;
+use crate::words::word_at;
 use bgp_types::{NoMemory, PeeringId, RouterId};
-use lab_keys::{TableReader, maybe_number, number_or, octets_at, text_at};
+use lab_keys::{StepWord, TableReader, maybe_number, number_or, octets_at, text_at};
 use std::alloc::Global;
 use toml::Table;
 
@@ -66,7 +65,7 @@ impl<'p> StepReader<'p> {
                 rounds: maybe_number("rounds", table),
                 least: number_or(0, "least", table),
             }),
-            _ => Ok(Step::Evacuate {
+            StepWord::Evacuates => Ok(Step::Evacuate {
                 router: RouterId(self.routers.number_of(text_at("router", table))),
             }),
         }
@@ -81,4 +80,4 @@ impl<'p> TableReader<Step> for StepReader<'p> {
     }
 }
 
-ghost use Rattle.lab_tables.specs.declared.words.StepWord.TheVariants as words;
+ghost use Rattle.lab_keys.specs.declared.words.StepWord.TheVariants as words;

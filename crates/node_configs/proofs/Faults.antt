@@ -1,8 +1,7 @@
 -- Each planned fault of an accepted input lets its segment go on soon.
 use Rattle.std.proofs.Common.{◌≡◌, ℕ, ◌≤◌, Bool, true, false, List, [], ◌∷◌, ◌++◌, refl, sym, subst, arith}
-use Rattle.std.specs.Prelude.{◌&&◌, Option, Some, None, option_and_then, unwrap_or, codes}
+use Rattle.std.specs.Prelude.{Option, Some, None, option_and_then, unwrap_or, codes}
 use Rattle.std.specs.List.{AllByRecursion}
-use Rattle.std.specs.Str.{bytes_eq}
 use Rattle.toml.specs.Data.{Data, Members, get_member}
 use Rattle.link_bag.specs.declared.plan.Fault.{Fault}
 use Rattle.lab_keys.specs.declared.flaw.Flaw.{Flaw}
@@ -13,11 +12,12 @@ use Rattle.lab_keys.specs.declared.table_at.TableAt.TheVariants as tables
 use Rattle.lab_keys.specs.Spots.{KeySpot, spot_of}
 use Rattle.lab_keys.specs.Kinds.{flaw_if, kind_flaw}
 use Rattle.lab_keys.specs.Keys.{required, optional, present, key_flaw, keys_flaw, stray_flaw, tables_flaw, names_of}
-use Rattle.lab_keys.specs.Values.{number_in, number_or, text_at, items_at, tables_at}
+use Rattle.lab_keys.specs.Values.{number_in, number_or, items_at, tables_at}
 use Rattle.lab_keys.proofs.NoFlaws.{none_left, number_within, tables_all}
 use Rattle.lab_tables.specs.declared.input.LabInput.{LabInput}
+use Rattle.lab_tables.specs.Meanings.{way_at, fault_kind_at}
 use Rattle.lab_tables.specs.Routers.{router_flaw}
-use Rattle.lab_tables.specs.Peerings.{cost_flaw, peering_flaw, fault_keys, after_keys, fault_flaw, fault_of}
+use Rattle.lab_tables.specs.Peerings.{cost_flaw, peering_flaw, fault_keys, is_lost, after_keys, strays_out, fault_flaw, fault_of}
 use Rattle.lab_tables.specs.Scripts.{step_flaw}
 use Rattle.lab_tables.specs.Documents.{home_keys, trace_keys, top_names, shaped, peering_names_of, lab_of}
 use Rattle.lab_input.specs.Labs.{InputOf}
@@ -35,7 +35,7 @@ misplaced : (at : KeySpot) (o : Option Data) → present at false (kind_flaw Mis
 misplaced at None none = omega arith
 misplaced at (Some d) none = absurd (none_is (Shape at) (sym none))
 
-after_soon : (at : TableAt) (t : Members) (is_lost : Bool) → keys_flaw at (after_keys is_lost) t ≡ None → after_of t ≤ 6
+after_soon : (at : TableAt) (t : Members) (lost : Bool) → keys_flaw at (after_keys lost) t ≡ None → after_of t ≤ 6
 after_soon at t true none =
     misplaced (spot_of at (codes "after")) (get_member (codes "after") t) (none_left (key_flaw at t (optional (codes "after") Misplaced)) None none)
 after_soon at t false none =
@@ -45,14 +45,14 @@ after_soon at t false none =
 fault_soon : (i : ℕ) (t : Members) → fault_flaw i t ≡ None → after_of t ≤ 6
 fault_soon i t none =
     let at : TableAt = tables.Fault i in
-    let kind : List ℕ = text_at (codes "kind") t in
-    let after : Option Flaw = keys_flaw at (after_keys (bytes_eq kind (codes "lose"))) t in
+    let lost : Bool = is_lost (fault_kind_at t) in
+    let after : Option Flaw = keys_flaw at (after_keys lost) t in
     let flaws : List (Option Flaw) = keys_flaw at fault_keys t
-    ∷ flaw_if (bytes_eq kind (codes "stray") && bytes_eq (text_at (codes "way") t) (codes "remote")) (Shape (spot_of at (codes "kind")))
+    ∷ flaw_if (strays_out (fault_kind_at t) (way_at t)) (Shape (spot_of at (codes "kind")))
     ∷ after
     ∷ stray_flaw at (names_of (fault_keys ++ after_keys true)) t
     ∷ [] in
-    after_soon at t (bytes_eq kind (codes "lose")) (none_of flaws 2 after none refl)
+    after_soon at t lost (none_of flaws 2 after none refl)
 
 -- ---- the whole
 

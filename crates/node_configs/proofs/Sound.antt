@@ -17,11 +17,12 @@ use Rattle.lab_keys.specs.Values.{number_in, number_or, maybe_number, items_at, 
 use Rattle.lab_keys.proofs.NoFlaws.{none_left, none_right, IsWithin, number_within, tables_all}
 use Rattle.lab_tables.specs.declared.input.LabInput.{LabInput}
 use Rattle.lab_tables.specs.declared.input.PeeringInput.{PeeringInput}
-use Rattle.lab_tables.specs.declared.words.StepWord.{StepWord}
-use Rattle.lab_tables.specs.declared.words.StepWord.TheVariants.{Announces, Withdraws, SaysRaw, Grafts, Settles, Evacuates, Other}
+use Rattle.lab_keys.specs.declared.words.StepWord.{StepWord}
+use Rattle.lab_keys.specs.declared.words.StepWord.TheVariants.{Announces, Withdraws, SaysRaw, Grafts, Settles, Evacuates}
 use Rattle.lab_tables.specs.Routers.{router_flaw}
 use Rattle.lab_tables.specs.Peerings.{cost_flaw, peering_flaw, fault_flaw}
-use Rattle.lab_tables.specs.Scripts.{word_at, settle_keys, do_keys, is_crowded, least_flaw, worded_flaw, grouped_flaw, step_flaw, worded_step, step_of}
+use Rattle.lab_tables.specs.Meanings.{word_at}
+use Rattle.lab_tables.specs.Scripts.{settle_keys, do_keys, is_crowded, least_flaw, worded_flaw, grouped_flaw, step_flaw, worded_step, step_of}
 use Rattle.lab_tables.specs.Documents.{home_keys, trace_keys, top_names, shaped, router_names_of, peerings_of, lab_of}
 use Rattle.lab_input.specs.Labs.{InputOf}
 use Rattle.lab_input.proofs.Ready.{accepted}
@@ -94,7 +95,6 @@ module _ (usual : ℕ) (long : 2048 ≤ usual) where
   worded_sound Grafts routers ps i t none = tt
   worded_sound Settles routers ps i t none = (settle_sound i t none, tt)
   worded_sound Evacuates routers ps i t none = tt
-  worded_sound Other routers ps i t none = tt
 
   step_sound : (routers : List (List ℕ)) (ps : List PeeringInput) (before whole : Bool) (i : ℕ) (t : Members) → grouped_flaw before whole i t ≡ None
       → AreSound (budget_of usual (step_of routers ps t))

@@ -1,4 +1,5 @@
 pub mod Lists
+pub mod Swaps
 pub mod Replays
 pub mod Takes
 pub mod TakesEach

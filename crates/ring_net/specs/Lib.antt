@@ -13,3 +13,4 @@ pub mod Shown
 pub mod Fresh
 pub mod Clocks
 pub mod Left
+pub mod Deals

@@ -6,6 +6,7 @@ mod actor;
 mod build;
 mod cell;
 mod clocks;
+mod deal;
 mod edges;
 mod ends;
 mod entry;

@@ -112,6 +112,38 @@ pub(crate) fn channel_count<A: Actor>(cells: &[Cell<A>], a: usize, b: usize) -> 
     ring_count(cells, a, b) + wait_count(cells, a, b)
 }
 
+/// Returns how many items are in the rings that lead to a cell. The count stops at 2^64 - 1.
+fn arrived_count<A: Actor>(cell: &Cell<A>) -> u64 {
+    let mut count = 0u64;
+    for from in cell.ins.peers.as_slice() {
+        count = count.saturating_add(ring_len(cell, *from) as u64);
+    }
+    count
+}
+
+/// Returns the load of a cell: how many entries its journal has beyond the first `marked`, and how many
+/// items are in the rings that lead to it. The load stops at 2^64 - 1.
+fn load_of<A: Actor>(cell: &Cell<A>, marked: u64) -> u64 {
+    let noted = (cell.post.entries().len() as u64).saturating_sub(marked);
+    noted.saturating_add(arrived_count(cell))
+}
+
+/// Returns the load of each cell since this mark.
+pub(crate) fn loads<A: Actor>(
+    alloc: Global,
+    cells: &[Cell<A>],
+    mark: &[u64],
+) -> Result<Vec<u64>, NoMemory>
+    ensures { IfOk result (λ loads. length loads.items ≡ length cells.now) }
+{
+    let mut loads = Vec::with_capacity(alloc, cells.len())?;
+    for (k, cell) in cells.iter().enumerate() {
+        let marked = mark.get(k).copied().unwrap_or(0);
+        loads.push(load_of(cell, marked))?;
+    }
+    Ok(loads)
+}
+
 /// Returns the greatest clock.
 pub(crate) fn greatest_clock<A: Actor>(cells: &[Cell<A>]) -> u64
     requires { 0 < length cells.now }

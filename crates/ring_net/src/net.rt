@@ -5,6 +5,7 @@ ghost use Rattle.ring_net.specs.Posts.{entries_in};
 ghost use Rattle.std.specs.List.{list_any};
 ghost use Rattle.ring_net.specs.declared.cell.Cell.{Cell};
 ghost use Rattle.ring_net.specs.Cells.{CellTurned};
+ghost use Rattle.ring_net.specs.Deals.{IsDeal, SwapsBelow, swapped};
 ghost use Rattle.ring_net.specs.Phases.{NetPhase, InOrder};
 ghost use Rattle.ring_net.specs.Fresh.{EdgesOnce};
 ghost use Rattle.ring_net.specs.Journals.{ClocksRise-prop};
@@ -15,6 +16,7 @@ use crate::actor::Actor;
 use crate::build::fresh_cells;
 use crate::cell::{Cell, turn};
 use crate::clocks::{level_all, pause_all};
+use crate::deal::{Deal, deal_cells};
 use crate::edges::read_all;
 use crate::finish::{drain_all, split};
 use crate::looks::{channel_count, entry_count, lengths};
@@ -24,9 +26,17 @@ use std::alloc::Global;
 use std::thread;
 use std::thread::Threads;
 
+/// Passes the gate with the number of the cell's actor, and then lets the cell make one turn.
+fn pass_and_turn<G: Gate, A: Actor>(gate: &G, cell: &mut Cell<A>)
+    ensures { CellTurned A.part A.makes A.took A.turned cell.old cell.new }
+{
+    gate.pass(usize::from(cell.post.actor));
+    turn(cell);
+}
+
 /// Lets each cell make one turn, in threads that own a chunk of cells each. The gate is passed once at
 /// the start of each turn.
-fn turn_all<R: Threads + Sync, G: Gate, A: Actor + Send>(
+fn turn_chunks<R: Threads + Sync, G: Gate, A: Actor + Send>(
     rt: &R,
     cells: &mut [Cell<A>],
     workers: usize,
@@ -42,13 +52,40 @@ where
         rt,
         cells,
         workers,
-        &|k: usize, cell: &mut Cell<A>|
+        &|_k: usize, cell: &mut Cell<A>|
             ensures { CellTurned A.part A.makes A.took A.turned cell.entry.now cell.exit.now }
-        {
-            gate.pass(k);
-            turn(cell)
-        },
+        { pass_and_turn(gate, cell) },
     );
+}
+
+/// Lets the two cells at each of these pairs of indices change places, in order.
+fn swap_all<A: Actor>(cells: &mut [Cell<A>], swaps: &[(usize, usize)])
+    requires { SwapsBelow (length cells.old) swaps.now }
+    ensures { cells.new ≡ swapped cells.old swaps.now }
+{
+    for (a, b) in swaps {
+        cells.swap(*a, *b);
+    }
+}
+
+/// Deals the cells to the workers, lets each cell make one turn, and puts the cells back in their order.
+fn turn_all<R: Threads + Sync, G: Gate, A: Actor + Send>(
+    rt: &R,
+    cells: &mut [Cell<A>],
+    deal: Deal,
+    gate: &G,
+)
+where
+    A::Item: Send,
+    requires { IsDeal (length cells.old) deal }
+    ensures { (k : ℕ) (d : Cell A A.Item) → k < length cells.old
+        → CellTurned A.part A.makes A.took A.turned (slice_index_or cells.old k d) (slice_index_or cells.new k d) }
+{
+    let Deal { workers, mut swaps } = deal;
+    swap_all(cells, swaps.as_slice());
+    turn_chunks(rt, cells, workers, gate);
+    swaps.reverse();
+    swap_all(cells, swaps.as_slice());
 }
 
 /// Whether a cell ran out of memory.
@@ -63,19 +100,19 @@ fn phase_all<R: Threads + Sync, G: Gate, A: Actor + Send>(
     rt: &R,
     cells: &mut [Cell<A>],
     edges: &[(u16, u16)],
-    workers: usize,
+    deal: Deal,
     gate: &G,
 ) -> Result<(), NoMemory>
 where
     A::Item: Send,
-    requires workers { 0 < workers }
+    requires deal { IsDeal (length cells.old) deal }
     requires net { IsNet cells.old edges.now }
     requires order { InOrder (view_of cells.old edges.now) }
     ensures net { IsNet cells.new edges.now }
     ensures order { OnOk result (InOrder (view_of cells.new edges.now)) }
     ensures phase { OnOk result (NetPhase A.part A.makes A.took A.turned (view_of cells.old edges.now) (view_of cells.new edges.now)) }
 {
-    turn_all(rt, cells, workers, gate);
+    turn_all(rt, cells, deal, gate);
     read_all(cells, edges);
     if any_failed(cells) {
         return Err(NoMemory);
@@ -131,10 +168,13 @@ impl<A: Actor> Net<A> {
 
     /// Makes a phase: each actor takes the items in the rings that lead to it, at most 256 from each,
     /// in ascending order of the senders' numbers, and then makes one turn, which may push items into
-    /// the rings that lead from it. There are 1 to 8 workers: each is a thread that owns a chunk of the
-    /// actors, whose size is the number of actors divided by the number of workers, rounded up. The
-    /// gate is passed once at the start of each actor's part. If memory runs out, nothing more is
-    /// promised about the actors, and every later phase returns `NoMemory` too.
+    /// the rings that lead from it. There are 1 to 8 workers: each is a thread that owns some of the
+    /// actors. Actors are dealt to workers by what they did since one of the last marks and by what has
+    /// come to them, so that each worker has about as much to do. Where little was done since the mark
+    /// before the last one and little has come, there are fewer workers. One worker lets the actors act
+    /// in the order of their numbers. The gate is passed once at the start of each actor's part. If
+    /// memory runs out, nothing more is promised about the actors, and every later phase returns
+    /// `NoMemory` too.
     pub fn phase<R: Threads + Sync, G: Gate>(
         &mut self,
         rt: &R,
@@ -154,11 +194,17 @@ impl<A: Actor> Net<A> {
         if self.has_failed {
             return Err(NoMemory);
         }
+        let deal = deal_cells(
+            *self.cells.allocator(),
+            self.cells.as_slice(),
+            self.marks.as_slice(),
+            workers,
+        );
         let turned = phase_all(
             rt,
             self.cells.as_mut_slice(),
             self.edges.as_slice(),
-            workers,
+            deal,
             gate,
         );
         self.has_failed = turned.is_err();

@@ -10,11 +10,12 @@ use std::alloc::Global;
 use std::sync::atomic::{AtomicU64, Ordering};
 use std::test::Fail;
 
-/// An actor that sends a number of items in its next turn, and passes on what it takes.
+/// An actor that sends a number of items in its next turn and another number in the one after it, and passes on what it takes.
 #[derive(Drop)]
 struct Toy {
     next: usize,
     to_send: u32,
+    then: u32,
     seen: u32,
     last: u32,
 }
@@ -62,7 +63,8 @@ impl Actor for Toy {
         for item in 0..self.to_send {
             event(post, 2, self.next, item)?;
         }
-        self.to_send = 0;
+        self.to_send = self.then;
+        self.then = 0;
         Ok(())
     }
 
@@ -75,6 +77,7 @@ fn make_toy(next: usize, to_send: u32) -> Toy {
     Toy {
         next,
         to_send,
+        then: 0,
         seen: 0,
         last: 0,
     }
@@ -145,27 +148,68 @@ impl Gate for Hold {
     }
 }
 
-/// Returns four toys. The first and the third send one item to each other.
-fn four(alloc: Global) -> Result<Net<Toy>, NoMemory> {
-    let mut actors = Items::new(alloc);
-    actors.push(make_toy(2, 1))?;
-    actors.push(make_toy(9, 0))?;
-    actors.push(make_toy(0, 1))?;
-    actors.push(make_toy(9, 0))?;
-    Net::build(alloc, actors, &[(0, 2), (2, 0)])
+/// Returns a toy that sends 100 items in its first turn, and one in the second.
+fn busy_toy(next: usize) -> Toy {
+    let mut toy = make_toy(next, 100);
+    toy.then = 1;
+    toy
 }
 
-/// Two workers run at the same time: one of them is held until the other has gone past an actor that sends. What that
-/// actor pushed is taken in the same phase. This holds in both directions.
+/// Returns four toys. The first two send to each other.
+fn four(alloc: Global) -> Result<Net<Toy>, NoMemory> {
+    let mut actors = Items::new(alloc);
+    actors.push(busy_toy(1))?;
+    actors.push(busy_toy(0))?;
+    actors.push(make_toy(9, 0))?;
+    actors.push(make_toy(9, 0))?;
+    Net::build(alloc, actors, &[(0, 1), (1, 0)])
+}
+
+/// After a phase with much to do the first two toys are dealt to two workers, and the third and the fourth act after one of them each.
+/// The workers run at the same time: one of the first two is held until the other one's turn is over. What that one pushed is taken in
+/// the same phase. This holds in both directions.
 #[test]
 fn two_workers_hand_over(rt: HostRuntime) -> Result<(), Fail> {
-    for (held, until) in [(0usize, 3usize), (2, 1)] {
+    for (held, other, until, events) in [(0usize, 1usize, 3usize, 503u64), (1, 0, 2, 703)] {
         let mut net = four(rt.alloc())?;
+        net.phase(&rt, 2, &FreeGate)?;
+        assert_eq!(rt; net.in_flight(1, 0), 200);
         let gate = make_hold(held, until);
         net.phase(&rt, 2, &gate)?;
         assert_eq!(rt; gate.missed.load(Ordering::SeqCst), 0);
-        assert_eq!(rt; net.in_flight(until - 1, held), 0);
-        assert_eq!(rt; net.events(), 3);
+        assert_eq!(rt; net.in_flight(other, held), 0);
+        assert_eq!(rt; net.events(), events);
+    }
+    Ok(())
+}
+
+/// A gate that keeps the digits of the actors that passed, each plus one.
+#[derive(Drop)]
+struct Digits {
+    passed: AtomicU64,
+}
+
+impl Gate for Digits {
+    fn pass(&self, actor: usize) {
+        let before = self.passed.load(Ordering::SeqCst);
+        let digits = before.saturating_mul(10).saturating_add(actor as u64);
+        self.passed
+            .store(digits.saturating_add(1), Ordering::SeqCst);
+    }
+}
+
+/// One worker lets the actors act in the order of their numbers, and so do several where there is little to do.
+#[test]
+fn few_items_are_for_one_worker(rt: HostRuntime) -> Result<(), Fail> {
+    for (workers, phases) in [(1usize, 3u32), (8, 1)] {
+        let mut net = four(rt.alloc())?;
+        for _ in 0..phases {
+            let gate = Digits {
+                passed: AtomicU64::new(0),
+            };
+            net.phase(&rt, workers, &gate)?;
+            assert_eq!(rt; gate.passed.load(Ordering::SeqCst), 1234);
+        }
     }
     Ok(())
 }

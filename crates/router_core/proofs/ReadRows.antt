@@ -228,12 +228,12 @@ reads_last p f g h a b c some none = record {
 
 new_is : (x new : Option Place) → ReadsAt None x new → new ≡ x
 new_is None new r = r.1
-new_is (Some (Live s o)) new (u, is, read) = is ∙ ap (λ (v : RunningSession). Some (Live v o)) read.1.1
+new_is (Some (Live s o)) new (u, is, read) = is ∙ ap (λ (v : RunningSession). Some (Live v o)) read.1
 new_is (Some (Shadow away)) new r = r.1
 
 cant : (x new : Option Place) → ReadsAt None x new → (s : RunningSession) (o : Option Errand) → x ≡ Some (Live s o) → CantRead s.session
 cant None new r s o e = absurd (let z : ⊥ = cc in z)
-cant (Some (Live v w)) new (u, is, read) s o e = subst (λ (k : RunningSession). CantRead k.session) (let z : v ≡ s = cc in z) read.1.0
+cant (Some (Live v w)) new (u, is, read) s o e = subst (λ (k : RunningSession). CantRead k.session) (let z : v ≡ s = cc in z) read.0
 cant (Some (Shadow away)) new r s o e = absurd (let z : ⊥ = cc in z)
 
 pub reads_none : (f g : Fields) (p i : ℕ) (a : Post (Item RunningSession)) (x new : Option Place) (step : Option ReadStep)
@@ -284,9 +284,9 @@ reads_some f g p a b mid x new step o keeps seen reads some same held wrote foll
         let now : RunsAt mid.places.places p u w =
         record { is = ap (λ (xs : List (Option Place)). place_at xs p) (listed items_are) ∙ placed_here f.places.places p (Some (Live u w)) below } in
         let had : keeps.here.session ≡ s = live_is f.places.places p s keeps.here.session w keeps.here.errand live keeps.here.live in
-        let own : u.session.config.peering.0 ≡ p = ap (λ (v : SessionValue). v.config.peering.0) read.1.gets.effect
+        let own : u.session.config.peering.0 ≡ p = ap (λ (v : SessionValue). v.config.peering.0) read.gets.effect
         ∙ ap (λ (v : RunningSession). v.session.config.peering.0) (sym had) ∙ keeps.here.own.peering in
         let step_is : FollowsStep mid p u step g = follows u w now own in
         let places_are : g.places ≡ mid.places = ap (λ (h : Fields). h.places) step_is.same in
-        reads_one f g p a b s u w step keeps live read.0 read.1 below (places_are ∙ items_are) wrote
+        reads_one f g p a b s u w step keeps live read below (places_are ∙ items_are) wrote
         (subst (λ (h : Fields). FollowsStep h p u step g) (same ∙ (λ i. let h : Fields = record f { places = sym places_are i } in h)) step_is)

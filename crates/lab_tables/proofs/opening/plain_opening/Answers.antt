@@ -4,8 +4,9 @@ use Rattle.lab_tables.proofs.opening.plain_opening.Goals as goal
 
 pub returns : goal.returns
 returns c =
-    c.in_ok-octets-5.ensures
+    c.in_ok-octets-6.ensures
     ∙ rw (
+      c.in_ok-octets-5.ensures,
       c.in_ok-octets-4.ensures,
       c.in_ok-octets-3.ensures,
       c.in_ok-octets-2.ensures,
