@@ -1,7 +1,6 @@
 //! Applies an UPDATE to routes, and lists the prefixes whose routes changed.
 
-ghost use Rattle.std.specs.Prelude.{◌≡◌, ◌≢◌, [], Option, None, Some, true, MatchBool, fold, is_some, option_map, IfOk, OnOk};
-ghost use Rattle.std.specs.Arc.{arc_value};
+ghost use Rattle.std.specs.Prelude.{◌≡◌, ◌≢◌, [], Option, None, Some, true, MatchBool, fold, is_some, IfOk, OnOk};
 ghost use Rattle.std.specs.FinMap as map;
 ghost use Rattle.std.specs.List.{list_any};
 ghost use Rattle.std.specs.List.Sorted.{IsStrictlySortedBy};
@@ -11,10 +10,12 @@ ghost use Rattle.bgp_types.specs.Tables.{prefix_cmp};
 ghost use Rattle.bgp_story.specs.Readings.{Routes, apply, announce as announced};
 ghost use Rattle.adj_rib.specs.Changes.{RoutesMoved, given_by_update, withdraw_unless};
 
-use crate::shared::{SharedAttrs, SharedRoutes};
-use bgp_types::{Attrs, Items, NoMemory, Prefix, PrefixList, TryCopy, Update};
+use bgp_types::{Attrs, Items, NoMemory, Prefix, PrefixList, SharedAttrs, Table, TryCopy, Update};
+use prefix_trie::TrieTable;
 use std::alloc::Global;
-use std::sync::Arc;
+
+/// The attributes of the route to each prefix that has one.
+pub type AttrsTable = TrieTable<SharedAttrs>;
 
 /// Returns an empty list with room for `count` prefixes.
 pub fn with_room(alloc: Global, count: usize) -> Result<PrefixList, NoMemory>
@@ -56,20 +57,20 @@ fn list_announced(alloc: Global, update: &Update) -> Result<PrefixList, NoMemory
 /// Removes the route of a prefix unless it is announced, and lists the prefix if it had one.
 /// `announced` is in ascending order.
 fn withdraw_one(
-    routes: &mut SharedRoutes,
+    routes: &mut AttrsTable,
     prefix: Prefix,
     announced: &[Prefix],
     changed: &mut PrefixList,
 ) -> Result<(), NoMemory>
     requires { IsStrictlySortedBy prefix_cmp announced.now }
-    ensures routes { OnOk result (routes.new ≡ withdraw_unless announced.now routes.old prefix) }
+    ensures routes { OnOk result (routes.new.contents ≡ withdraw_unless announced.now routes.old.contents prefix) }
     ensures changed { OnOk result ((before : Routes) (to : PrefixValue → Option Attrs) → list_any (same_prefix prefix) announced.now ≡ is_some (to prefix)
-        → RoutesMoved to before routes.old changed.old → RoutesMoved to before routes.new changed.new) }
+        → RoutesMoved to before routes.old.contents changed.old → RoutesMoved to before routes.new.contents changed.new) }
 {
     if is_among(prefix, announced) {
         return Ok(());
     }
-    if routes.remove(prefix) {
+    if routes.remove(prefix).is_some() {
         changed.push(prefix)?;
     }
     Ok(())
@@ -78,16 +79,16 @@ fn withdraw_one(
 /// Removes the routes of the prefixes that aren't announced, and lists those that had one. `announced`
 /// is in ascending order.
 fn withdraw(
-    routes: &mut SharedRoutes,
+    routes: &mut AttrsTable,
     prefixes: &[Prefix],
     announced: &[Prefix],
     changed: &mut PrefixList,
 ) -> Result<(), NoMemory>
     requires { IsStrictlySortedBy prefix_cmp announced.now }
-    ensures routes { OnOk result (routes.new ≡ fold (withdraw_unless announced.now) routes.old prefixes.now) }
+    ensures routes { OnOk result (routes.new.contents ≡ fold (withdraw_unless announced.now) routes.old.contents prefixes.now) }
     ensures changed { OnOk result
         ((before : Routes) (to : PrefixValue → Option Attrs) → ((p : PrefixValue) → list_any (same_prefix p) announced.now ≡ is_some (to p))
-        → RoutesMoved to before routes.old changed.old → RoutesMoved to before routes.new changed.new) }
+        → RoutesMoved to before routes.old.contents changed.old → RoutesMoved to before routes.new.contents changed.new) }
 {
     for prefix in prefixes {
         withdraw_one(routes, *prefix, announced, changed)?;
@@ -99,13 +100,13 @@ fn withdraw(
 /// one. The announced prefixes are sorted for that only if the UPDATE withdraws any.
 pub fn withdraw_all(
     alloc: Global,
-    routes: &mut SharedRoutes,
+    routes: &mut AttrsTable,
     update: &Update,
     changed: &mut PrefixList,
 ) -> Result<(), NoMemory>
-    ensures routes { OnOk result (fold (announced update.now.attrs) routes.new update.now.nlri ≡ apply routes.old update.now) }
-    ensures changed { OnOk result ((before : Routes) → RoutesMoved (given_by_update update.now) before routes.old changed.old
-        → RoutesMoved (given_by_update update.now) before routes.new changed.new) }
+    ensures routes { OnOk result (fold (announced update.now.attrs) routes.new.contents update.now.nlri ≡ apply routes.old.contents update.now) }
+    ensures changed { OnOk result ((before : Routes) → RoutesMoved (given_by_update update.now) before routes.old.contents changed.old
+        → RoutesMoved (given_by_update update.now) before routes.new.contents changed.new) }
 {
     if update.withdrawn.is_empty() {
         return Ok(());
@@ -123,30 +124,28 @@ pub fn withdraw_all(
 /// Whether this is the route that a prefix had.
 #[tactic(auto, using(bgp_types::proofs::Equality::attrs_equal))]
 fn is_same(had: &Option<SharedAttrs>, attrs: &SharedAttrs) -> bool
-    ensures { MatchBool result (option_map arc_value had.now ≡ Some (arc_value attrs.now)) (option_map arc_value had.now ≢ Some (arc_value attrs.now)) }
+    ensures { MatchBool result (had.now ≡ Some attrs.now) (had.now ≢ Some attrs.now) }
 {
-    let attrs: &Attrs = attrs;
     match had {
-        Some(had) => {
-            let had: &Attrs = had;
-            had == attrs
-        }
+        Some(had) => had == attrs,
         None => false,
     }
 }
 
 /// Sets the route of a prefix, and lists the prefix if it had another route or none.
 fn announce_one(
-    routes: &mut SharedRoutes,
+    routes: &mut AttrsTable,
     prefix: Prefix,
     attrs: &SharedAttrs,
     changed: &mut PrefixList,
 ) -> Result<(), NoMemory>
-    ensures routes { OnOk result (routes.new ≡ map.insert routes.old prefix (arc_value attrs.now)) }
-    ensures changed { OnOk result ((before : Routes) (to : PrefixValue → Option Attrs) → to prefix ≡ Some (arc_value attrs.now)
-        → RoutesMoved to before routes.old changed.old → RoutesMoved to before routes.new changed.new) }
+    ensures routes { OnOk result (routes.new.contents ≡ map.insert routes.old.contents prefix attrs.now) }
+    ensures changed { OnOk result ((before : Routes) (to : PrefixValue → Option Attrs) → to prefix ≡ Some attrs.now
+        → RoutesMoved to before routes.old.contents changed.old → RoutesMoved to before routes.new.contents changed.new) }
 {
-    let had = routes.set(prefix, attrs)?;
+    let Ok(had) = routes.set(prefix, attrs.copy()?) else {
+        return Err(NoMemory);
+    };
     if is_same(&had, attrs) {
         return Ok(());
     }
@@ -156,18 +155,17 @@ fn announce_one(
 
 /// Sets this route for each of the prefixes, and lists those that had another route or none.
 pub fn announce(
-    alloc: Global,
-    routes: &mut SharedRoutes,
+    routes: &mut AttrsTable,
     prefixes: &[Prefix],
     attrs: &Attrs,
     changed: &mut PrefixList,
 ) -> Result<(), NoMemory>
-    ensures routes { OnOk result (routes.new ≡ fold (announced (Some attrs.now)) routes.old prefixes.now) }
+    ensures routes { OnOk result (routes.new.contents ≡ fold (announced (Some attrs.now)) routes.old.contents prefixes.now) }
     ensures changed { OnOk result
         ((before : Routes) (to : PrefixValue → Option Attrs) → ((p : PrefixValue) → list_any (same_prefix p) prefixes.now ≡ true → to p ≡ Some attrs.now)
-        → RoutesMoved to before routes.old changed.old → RoutesMoved to before routes.new changed.new) }
+        → RoutesMoved to before routes.old.contents changed.old → RoutesMoved to before routes.new.contents changed.new) }
 {
-    let shared = Arc::new(alloc, attrs.copy()?)?;
+    let shared = SharedAttrs::new(attrs.copy()?)?;
     for prefix in prefixes {
         announce_one(routes, *prefix, &shared, changed)?;
     }

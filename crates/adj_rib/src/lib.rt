@@ -3,6 +3,5 @@
 
 mod changes;
 mod rib;
-mod shared;
 
 pub use rib::AdjRib;

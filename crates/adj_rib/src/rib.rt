@@ -6,17 +6,17 @@ ghost use Rattle.bgp_types.specs.Tables.{first_above};
 ghost use Rattle.bgp_story.specs.Readings.{apply};
 ghost use Rattle.adj_rib.specs.Changes.{Changed};
 
-use crate::changes::{announce, in_order, with_room, withdraw_all};
-use crate::shared::SharedRoutes;
-use bgp_types::{Attrs, NoMemory, Prefix, PrefixList, Update};
+use crate::changes::{AttrsTable, announce, in_order, with_room, withdraw_all};
+use bgp_types::{NoMemory, Prefix, PrefixList, SharedAttrs, Table, Update};
+use prefix_trie::TrieTable;
 use std::alloc::Global;
 use std::marker::Model;
 
-/// The routes that were heard and not withdrawn.
+/// The routes that were heard and not withdrawn. Those that were announced together share their attributes.
 #[derive(Drop)]
 pub struct AdjRib {
     alloc: Global,
-    routes: SharedRoutes,
+    routes: AttrsTable,
 }
 
 impl Model for AdjRib {
@@ -29,7 +29,7 @@ impl Model for AdjRib {
 
     ghost coded = { map.code coded_prefix attrs.the_row.coded };
 
-    ghost view = { λ rib. rib.routes };
+    ghost view = { λ rib. rib.routes.contents };
 }
 
 impl AdjRib {
@@ -39,7 +39,7 @@ impl AdjRib {
     {
         AdjRib {
             alloc,
-            routes: SharedRoutes::new(alloc),
+            routes: TrieTable::new(alloc),
         }
     }
 
@@ -56,7 +56,6 @@ impl AdjRib {
         withdraw_all(self.alloc, &mut self.routes, update, &mut changed)?;
         if let Some(attrs) = &update.attrs {
             announce(
-                self.alloc,
                 &mut self.routes,
                 update.nlri.as_slice(),
                 attrs,
@@ -67,7 +66,7 @@ impl AdjRib {
     }
 
     /// Returns the route of a prefix.
-    pub fn get(&self, prefix: Prefix) -> Option<&Attrs>
+    pub fn get(&self, prefix: Prefix) -> Option<&SharedAttrs>
         ensures { option_copied result ≡ map.get self.now prefix }
     {
         self.routes.get(prefix)
@@ -77,7 +76,7 @@ impl AdjRib {
     pub fn clear(&mut self)
         ensures { self.new ≡ map.empty }
     {
-        self.routes = SharedRoutes::new(self.alloc);
+        self.routes = TrieTable::new(self.alloc);
     }
 
     /// Returns the least prefix with a route that is above another, or the least of all for `None`.

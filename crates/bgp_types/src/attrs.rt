@@ -1,6 +1,7 @@
 //! Path attributes and routes (RFC 4271, sections 4.3 and 5).
 
 use crate::path::AsPath;
+use crate::shared::SharedAttrs;
 use graft_edge::{Items, NoMemory, Octets, TryCopy};
 
 /// How a route came into BGP: the value of ORIGIN.
@@ -45,7 +46,7 @@ pub struct Attrs {
 /// A route to a prefix, with its degree of preference.
 #[derive(Debug, Drop, PartialEq, Eq)]
 pub struct Route {
-    pub attrs: Attrs,
+    pub attrs: SharedAttrs,
     pub pref: u32,
 }
 

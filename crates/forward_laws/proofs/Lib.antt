@@ -1,4 +1,5 @@
 pub mod Lists
+pub mod Seen
 pub mod Sources
 pub mod Placed
 pub mod Forwarding

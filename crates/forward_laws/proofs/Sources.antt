@@ -15,7 +15,7 @@ use Rattle.bgp_types.specs.Tables.{prefix_cmp}
 use Rattle.bgp_types.specs.declared.attrs.Route.{Route}
 use Rattle.bgp_types.specs.declared.rank.From.{From}
 use Rattle.bgp_types.specs.declared.rank.From.TheVariants.{Own, Peering, Router}
-use Rattle.adj_rib.proofs.Shares.{each_get}
+use Rattle.forward_laws.proofs.Seen.{each_get}
 use Rattle.route_policy.specs.declared.best.Best.{Best}
 use Rattle.route_policy.specs.Candidates.{SessionRoute, RouterRoute, Candidate, imported, own_candidates, session_candidate, router_candidate, candidates}
 use Rattle.route_policy.specs.Telling.{inside, tell_in}

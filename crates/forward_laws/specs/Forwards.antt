@@ -1,6 +1,6 @@
 -- Where the best routes of the home routers come from, as forwarding sees it.
 use Rattle.std.specs.Prelude.{ℕ, ◌<◌, List, map}
-use Rattle.adj_rib.specs.Shares.{each_value}
+use Rattle.forward_laws.specs.Seen.{each_value}
 use Rattle.forward_walk.specs.Tables.{ForwardMap}
 use Rattle.session_value.specs.Sets.{BestRoutes}
 use Rattle.graft_model.specs.Setups.{Setup, peerings_in, router_numbers}

@@ -8,7 +8,7 @@ ghost use Rattle.lab_answers.specs.Imports.{let_in_by, meds_of_route, meds_of};
 ghost use Rattle.lab_answers.specs.Noted.{NotesMeds};
 
 use crate::meds::Meds;
-use bgp_types::{Attrs, Items, NoMemory, Prefix, Route, TryCopy, Update};
+use bgp_types::{Attrs, Items, NoMemory, Prefix, Route, SharedAttrs, TryCopy, Update};
 use route_policy::{PREFERENCE, Policy};
 /// How routes of a session are let in: the policies of its name that routers have, and the AS numbers of both sides.
 #[derive(Drop)]
@@ -23,7 +23,7 @@ fn announced(attrs: &Attrs) -> Result<Route, NoMemory>
     ensures { IfOk result (λ route. route ≡ announced_route attrs.now) }
 {
     Ok(Route {
-        attrs: attrs.copy()?,
+        attrs: SharedAttrs::new(attrs.copy()?)?,
         pref: PREFERENCE,
     })
 }

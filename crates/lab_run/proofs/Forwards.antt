@@ -9,7 +9,7 @@ use Rattle.bgp_types.specs.Prefixes.{PrefixValue}
 use Rattle.bgp_types.specs.Tables.{prefix_cmp}
 use Rattle.bgp_types.proofs.TableLaws.{prefix_total, exact_prefixes}
 use Rattle.bgp_types.specs.declared.rank.From.{From}
-use Rattle.adj_rib.proofs.Shares.{each_get}
+use Rattle.forward_laws.proofs.Seen.{each_get}
 use Rattle.route_policy.specs.declared.best.Best.{Best}
 use Rattle.session_value.specs.Sets.{BestRoutes}
 use Rattle.forward_walk.specs.Solved.{TwoRoutersAtMost}

@@ -2,7 +2,9 @@
 
 use crate::plain::{Held, Plain, best_at, put_in, source, take_out};
 use crate::tables::tables;
-use bgp_types::{Attrs, From, Items, NoMemory, Origin, PathPart, Prefix, Route, TryCopy};
+use bgp_types::{
+    Attrs, From, Items, NoMemory, Origin, PathPart, Prefix, Route, SharedAttrs, TryCopy,
+};
 use rib_stages::{InEntry, Rib};
 use row_harness::Random;
 use std::alloc::Global;
@@ -30,7 +32,7 @@ fn route(
         ases.push(65_010)?;
     }
     Ok(Route {
-        attrs: Attrs {
+        attrs: SharedAttrs::new(Attrs {
             origin: Origin::Igp,
             path: Items::one(alloc, PathPart::Sequence(ases))?,
             next_hop: 1,
@@ -38,7 +40,7 @@ fn route(
             atomic: false,
             aggregator: None,
             unknown: Items::new(alloc),
-        },
+        })?,
         pref,
     })
 }
@@ -53,12 +55,12 @@ fn any_route(alloc: Global, random: &mut Random) -> Result<Route, NoMemory> {
 }
 
 /// Returns the entry for an own network of the router. Its route has an empty path.
-fn own(alloc: Global, prefix: Prefix) -> Held {
-    Held {
+fn own(alloc: Global, prefix: Prefix) -> Result<Held, NoMemory> {
+    Ok(Held {
         from: From::Own,
         prefix,
         route: Route {
-            attrs: Attrs {
+            attrs: SharedAttrs::new(Attrs {
                 origin: Origin::Igp,
                 path: Items::new(alloc),
                 next_hop: 0,
@@ -66,11 +68,11 @@ fn own(alloc: Global, prefix: Prefix) -> Held {
                 atomic: false,
                 aggregator: None,
                 unknown: Items::new(alloc),
-            },
+            })?,
             pref: 100,
         },
         identifier: 0,
-    }
+    })
 }
 
 /// Sets a source's route to a prefix, in both.
@@ -233,6 +235,6 @@ pub fn commands_that_differ(alloc: Global) -> Result<u32, NoMemory> {
     };
     let mut rib = tables(alloc, &[network])?;
     let mut plain = Vec::new(alloc);
-    plain.push(own(alloc, network))?;
+    plain.push(own(alloc, network)?)?;
     steps_that_differ(alloc, &mut rib, &mut plain)
 }

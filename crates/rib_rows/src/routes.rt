@@ -3,7 +3,9 @@
 
 use crate::words::{address, number_after};
 use anyhow::{Context, Result};
-use bgp_types::{Attrs, Items, NoMemory, Origin, PathPart, Prefix, RawAttr, RawAttrs, Route};
+use bgp_types::{
+    Attrs, Items, NoMemory, Origin, PathPart, Prefix, RawAttr, RawAttrs, Route, SharedAttrs,
+};
 use route_policy::{Policy, Rule};
 use row_harness::value;
 use std::alloc::Global;
@@ -47,7 +49,7 @@ fn community_of(alloc: Global, words: &[&str]) -> Result<RawAttrs> {
 fn route_with(alloc: Global, numbers: RouteNumbers, unknown: RawAttrs) -> Result<Route, NoMemory> {
     let ases = Items::one(alloc, numbers.as_number)?;
     Ok(Route {
-        attrs: Attrs {
+        attrs: SharedAttrs::new(Attrs {
             origin: Origin::Igp,
             path: Items::one(alloc, PathPart::Sequence(ases))?,
             next_hop: numbers.next_hop,
@@ -55,7 +57,7 @@ fn route_with(alloc: Global, numbers: RouteNumbers, unknown: RawAttrs) -> Result
             atomic: false,
             aggregator: None,
             unknown,
-        },
+        })?,
         pref: 100,
     })
 }

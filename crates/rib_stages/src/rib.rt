@@ -16,7 +16,9 @@ ghost use Rattle.rib_stages.specs.Steps.{SetsIn, Enters, IsOther, MayMark, Drops
 use crate::config::{InEntry, RibConfig};
 use crate::ranks::{Choices, best_from};
 use crate::sources::Sources;
-use bgp_types::{Attrs, From, Items, NoMemory, Origin, Prefix, PrefixList, Rank, Route, Table};
+use bgp_types::{
+    Attrs, From, Items, NoMemory, Origin, Prefix, PrefixList, Rank, Route, SharedAttrs, Table,
+};
 use prefix_trie::TrieTable;
 use route_policy::{Best, Entry, OutView, PREFERENCE, own_rank, router_rank, session_rank};
 use std::alloc::Global;
@@ -68,21 +70,22 @@ impl Model for Rib {
 }
 
 /// Returns the route to a network of the router's own.
-fn own_route(alloc: Global) -> Route
-    ensures { result ≡ own_route_lem }
+fn own_route(alloc: Global) -> Result<Route, NoMemory>
+    ensures { IfOk result (λ route. route ≡ own_route_lem) }
 {
-    Route {
-        attrs: Attrs {
-            origin: Origin::Igp,
-            path: Items::new(alloc),
-            next_hop: 0,
-            med: None,
-            atomic: false,
-            aggregator: None,
-            unknown: Items::new(alloc),
-        },
+    let attrs = Attrs {
+        origin: Origin::Igp,
+        path: Items::new(alloc),
+        next_hop: 0,
+        med: None,
+        atomic: false,
+        aggregator: None,
+        unknown: Items::new(alloc),
+    };
+    Ok(Route {
+        attrs: SharedAttrs::new(attrs)?,
         pref: PREFERENCE,
-    }
+    })
 }
 
 /// Whether a peering's entry is this one, or both are absent.
@@ -191,7 +194,7 @@ impl Rib {
     {
         let networks = config.networks.as_slice();
         Ok(Rib {
-            own_route: own_route(alloc),
+            own_route: own_route(alloc)?,
             networks: set_from(alloc, networks)?,
             peerings: Sources::new(alloc)?,
             routers: Sources::new(alloc)?,

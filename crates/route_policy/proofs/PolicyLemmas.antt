@@ -1,7 +1,9 @@
 -- What the tests of a rule mean, and the first rule that matches.
 use Rattle.std.proofs.Common.{◌≡◌, ℕ, zero, suc, ◌+◌, ◌<◌, Bool, true, false, List, [], ◌∷◌, get_or, length, Option, Some, None, refl, sym, ◌∙◌, subst, arith}
-use Rattle.std.specs.Prelude.{◌==◌, IsTrue, Contains, position, cond}
+use Rattle.std.specs.Prelude.{◌==◌, IsTrue, Contains, position, cond, unwrap_or}
 use Rattle.std.specs.Bool.{Decides}
+use Rattle.std.specs.Option.{is_none}
+use Rattle.std.proofs.lemmas.Bool.{eqb-true}
 use Rattle.std.proofs.lemmas.Iterator.Adapters.{position_from-zero}
 use Rattle.std.specs.List.{list_any, position_from}
 use Rattle.std.proofs.lemmas.Bool.Decides.{same_from_decides, Decides-eqb}
@@ -12,7 +14,7 @@ use Rattle.bgp_types.specs.Paths.{ases_of, HoldsAs}
 use Rattle.bgp_types.specs.declared.attrs.Route.{Route}
 use Rattle.bgp_types.specs.declared.path.PathPart.{PathPart}
 use Rattle.route_policy.specs.Rules.{holds_as, holds_some_as, matches}
-use Rattle.route_policy.specs.Policies.{policy, decision}
+use Rattle.route_policy.specs.Policies.{policy, decision, changed}
 use Rattle.route_policy.specs.declared.rule.Rule.{Rule}
 
 Contains-from_test : (ases : List ℕ) (as_number : ℕ) → list_any (λ other. other == as_number) ases ≡ true → Contains ases as_number
@@ -42,6 +44,16 @@ holds_as-is path as_number answer h = same_from_decides answer (holds_as path as
 pub holds_some_as-is : (path : List PathPart) (as_number : ℕ) (wanted : Option ℕ) (answer : Bool) → wanted ≡ Some as_number
     → (IsTrue answer → HoldsAs path as_number) × (HoldsAs path as_number → IsTrue answer) → answer ≡ holds_some_as wanted path
 holds_some_as-is path as_number wanted answer is h = rw is (holds_as-is path as_number answer h)
+
+-- ---- a rule that changes no attribute
+
+pub none_is : {A : Type 0} (o : Option A) → is_none o ≡ true → o ≡ None
+none_is None e = refl
+none_is (Some x) e = absurd cc
+
+pub unchanged : (rule : Rule) (as_number : ℕ) (route : Route) → (rule.prepend == 0) ≡ true → is_none rule.med ≡ true
+    → record { attrs = route.attrs; pref = unwrap_or rule.pref route.pref } ≡ changed rule as_number route
+unchanged rule as_number route times med = rw (eqb-true rule.prepend 0 times, none_is rule.med med) refl
 
 -- ---- the first rule that matches
 

@@ -1,9 +1,16 @@
 -- What is told of a route.
-use Rattle.std.proofs.Common.{length-drop, ◌≡◌, ℕ, true, ◌+◌, ◌<◌, length, arith, List, map, take, drop, ◌++◌, get_or, set, refl, ap, ◌∙◌}
+use Rattle.std.proofs.Common.{length-drop, ◌≡◌, ℕ, true, Option, ◌+◌, ◌<◌, length, arith, List, map, take, drop, ◌++◌, get_or, set, refl, ap, ◌∙◌}
 use Rattle.std.proofs.lemmas.List.Edits.{map_over_more}
 use Rattle.std.proofs.lemmas.List.{length-take, length-append, length-map}
+use Rattle.std.specs.Option.{is_none}
 use Rattle.bgp_types.specs.declared.attrs.RawAttr.{RawAttr}
-use Rattle.route_policy.specs.Telling.{made_partial}
+use Rattle.bgp_types.specs.declared.attrs.Route.{Route}
+use Rattle.route_policy.specs.Telling.{made_partial, without_med}
+use Rattle.route_policy.proofs.PolicyLemmas.{none_is}
+
+-- a route that has no MED is that route without it
+pub without_none : (route : Route) → is_none route.attrs.med ≡ true → route ≡ without_med route
+without_none route none = ap (λ (med : Option ℕ). record route { attrs = record route.attrs { med = med } }) (none_is route.attrs.med none)
 
 -- one more attribute passes on
 pub partial_more : (xs ys : List RawAttr) (i : ℕ) (x : RawAttr) → i < length xs → ys ≡ map made_partial (take i xs) ++ drop i xs → x ≡ get_or ys i x

@@ -1,11 +1,11 @@
 //! Policies.
 
 ghost use Rattle.std.specs.Prelude.{◌≡◌, IfOk, position};
-ghost use Rattle.route_policy.specs.Policies.{decision};
+ghost use Rattle.route_policy.specs.Policies.{changed as changed_lem, decision};
 
 use crate::path::prepend_times;
 use crate::rule::{Rule, Rules, matches};
-use bgp_types::{Attrs, NoMemory, Prefix, Route, TryCopy};
+use bgp_types::{NoMemory, Prefix, Route, SharedAttrs, TryCopy};
 use std::marker::Model;
 
 /// A list of rules. The first rule that matches a route decides what becomes of it.
@@ -63,6 +63,26 @@ impl Policy {
     }
 }
 
+/// Returns a route as a rule changes it. Its attributes stay shared if the rule has no MED and puts no AS in front of the
+/// path.
+#[tactic(auto, using(crate::proofs::PolicyLemmas::unchanged))]
+fn changed(rule: &Rule, route: Route, as_number: u32) -> Result<Route, NoMemory>
+    ensures { IfOk result (λ answer. answer ≡ changed_lem rule.now as_number route) }
+{
+    let Route { attrs, pref } = route;
+    let pref = rule.pref.unwrap_or(pref);
+    if rule.prepend == 0 && rule.med.is_none() {
+        return Ok(Route { attrs, pref });
+    }
+    let mut attrs = attrs.into_attrs()?;
+    attrs.path = prepend_times(attrs.path, as_number, rule.prepend)?;
+    attrs.med = rule.med.or(attrs.med);
+    Ok(Route {
+        attrs: SharedAttrs::new(attrs)?,
+        pref,
+    })
+}
+
 /// Returns what a rule that matches makes of a route.
 fn decide(rule: &Rule, route: Route, as_number: u32) -> Result<Option<Route>, NoMemory>
     ensures { IfOk result (λ answer. answer ≡ decision rule.now as_number route) }
@@ -70,13 +90,7 @@ fn decide(rule: &Rule, route: Route, as_number: u32) -> Result<Option<Route>, No
     if rule.deny {
         return Ok(None);
     }
-    let Route { mut attrs, pref } = route;
-    attrs.path = prepend_times(attrs.path, as_number, rule.prepend)?;
-    attrs.med = rule.med.or(attrs.med);
-    Ok(Some(Route {
-        attrs,
-        pref: rule.pref.unwrap_or(pref),
-    }))
+    Ok(Some(changed(rule, route, as_number)?))
 }
 
 impl TryCopy for Policy {

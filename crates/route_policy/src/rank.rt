@@ -4,7 +4,7 @@ ghost use Rattle.std.specs.Prelude.{◌≡◌, true, false};
 ghost use Rattle.bgp_types.specs.Spelling.{origin_number as origin_number_lem};
 ghost use Rattle.route_policy.specs.Candidates.{own_rank as own_rank_lem, rank_of};
 
-use bgp_types::{Origin, Rank, Route, neighbour, path_len};
+use bgp_types::{Attrs, Origin, Rank, Route, neighbour, path_len};
 
 /// The preference of a route if no policy sets one.
 pub const PREFERENCE: u32 = 100;
@@ -62,13 +62,14 @@ pub fn router_rank(home_as: u32, cost: u32, identifier: u32, route: &Route) -> R
 fn told_rank(home_as: u32, cost: u32, identifier: u32, address: u32, route: &Route) -> Rank
     ensures { result ≡ rank_of home_as false cost identifier address route.now }
 {
+    let attrs: &Attrs = &route.attrs;
     Rank {
         own: false,
         pref: route.pref,
-        path_len: path_len(&route.attrs.path),
-        origin: origin_number(route.attrs.origin),
-        neighbour: neighbour(&route.attrs.path, home_as),
-        med: route.attrs.med.unwrap_or(0),
+        path_len: path_len(&attrs.path),
+        origin: origin_number(attrs.origin),
+        neighbour: neighbour(&attrs.path, home_as),
+        med: attrs.med.unwrap_or(0),
         external: false,
         cost,
         identifier,

@@ -3,13 +3,15 @@
 ghost use Rattle.std.specs.Prelude.{◌≡◌, map, IfOk, None, Some, option_copied, if◌then◌else◌};
 ghost use Rattle.route_policy.specs.Telling.{tell_in as tell_in_lem, tell_out as tell_out_lem, comes_from as comes_from_lem};
 ghost use Rattle.route_policy.specs.Telling.{is_kept_back as is_kept_back_lem, out_side_of_view, exported};
-ghost use Rattle.route_policy.specs.Telling.{told_attrs as told_attrs_lem, made_partial, is_too_long as is_too_long_lem};
+ghost use Rattle.route_policy.specs.Telling.{told_attrs as told_attrs_lem, without_med as without_med_lem, made_partial};
+ghost use Rattle.route_policy.specs.Telling.{is_too_long as is_too_long_lem};
 
 use crate::best::Best;
 use crate::path::prepend;
 use crate::policy::Policy;
 use bgp_types::{
-    Attrs, From, Items, NoMemory, PeeringId, Prefix, RawAttrs, Route, TryCopy, holds_as, update_len,
+    Attrs, From, Items, NoMemory, PeeringId, Prefix, RawAttrs, Route, SharedAttrs, TryCopy,
+    holds_as, update_len,
 };
 
 /// What an advertisement on a session depends on.
@@ -60,6 +62,23 @@ pub fn is_kept_back(view: &OutView<'_>, best: &Best) -> bool
     comes_from(best.from, view.peering) || holds_as(&best.route.attrs.path, view.remote_as)
 }
 
+/// Returns a route without its MED. Attributes that have none stay shared.
+#[tactic(auto, using(crate::proofs::Tells::without_none))]
+fn without_med(route: Route) -> Result<Route, NoMemory>
+    ensures { IfOk result (λ plain. plain ≡ without_med_lem route) }
+{
+    if route.attrs.med.is_none() {
+        return Ok(route);
+    }
+    let Route { attrs, pref } = route;
+    let mut attrs = attrs.into_attrs()?;
+    attrs.med = None;
+    Ok(Route {
+        attrs: SharedAttrs::new(attrs)?,
+        pref,
+    })
+}
+
 /// Returns what the export policy makes of a route. The policy gets the route without its MED, which
 /// isn't passed on from another AS (RFC 4271, section 5.1.4).
 fn export(
@@ -70,8 +89,7 @@ fn export(
 ) -> Result<Option<Route>, NoMemory>
     ensures { IfOk result (λ answer. answer ≡ exported home_as (out_side_of_view view.now) prefix route) }
 {
-    let mut route = route;
-    route.attrs.med = None;
+    let route = without_med(route)?;
     match view.export {
         Some(policy) => policy.apply(prefix, route, home_as),
         None => Ok(Some(route)),
@@ -93,7 +111,7 @@ fn all_partial(unknown: RawAttrs) -> RawAttrs
 fn told_attrs(home_as: u32, view: &OutView<'_>, route: Route) -> Result<Attrs, NoMemory>
     ensures { IfOk result (λ attrs. attrs ≡ told_attrs_lem home_as (out_side_of_view view.now) route) }
 {
-    let mut attrs = route.attrs;
+    let mut attrs = route.attrs.into_attrs()?;
     attrs.path = prepend(attrs.path, home_as)?;
     attrs.next_hop = view.local_address;
     attrs.unknown = all_partial(attrs.unknown);

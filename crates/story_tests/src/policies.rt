@@ -2,7 +2,7 @@
 
 use bgp_types::{
     AsPath, Attrs, From, Items, NoMemory, Origin, PathPart, Prefix, Rank, RawAttrs, Route,
-    RouterId, TryCopy,
+    RouterId, SharedAttrs, TryCopy,
 };
 use route_policy::{Best, Policy, PrefixRange, Rule, own_rank, prepend, router_rank, session_rank};
 use std::alloc::Global;
@@ -24,7 +24,7 @@ fn route(alloc: Global) -> Result<Route, NoMemory> {
     path.push(PathPart::Sequence(Items::from_slice(alloc, &[65001, 65002])?))?;
     let unknown: RawAttrs = Items::new(alloc);
     Ok(Route {
-        attrs: Attrs {
+        attrs: SharedAttrs::new(Attrs {
             origin: Origin::Egp,
             path,
             next_hop: 0xC000_0201,
@@ -32,7 +32,7 @@ fn route(alloc: Global) -> Result<Route, NoMemory> {
             atomic: false,
             aggregator: None,
             unknown,
-        },
+        })?,
         pref: 100,
     })
 }

@@ -8,7 +8,7 @@ ghost use Rattle.route_policy.specs.Telling.{out_side_of_view};
 ghost use Rattle.update_plan.specs.Passing.{IsPlain, IsShort, TellsPassedOn, passed_on};
 
 use crate::path::is_prepended;
-use bgp_types::{Attrs, PathPart, Prefix};
+use bgp_types::{Attrs, PathPart, Prefix, SharedAttrs};
 use rib_stages::{OutView, Rib};
 use route_policy::is_kept_back;
 
@@ -55,10 +55,11 @@ pub(crate) fn passing<'a>(rib: &'a Rib, view: &OutView<'_>, prefix: Prefix) -> O
         return None;
     }
     let best = rib.best(prefix)?;
-    if is_kept_back(view, best) || !is_plain(&best.route.attrs) {
+    let attrs: &Attrs = &best.route.attrs;
+    if is_kept_back(view, best) || !is_plain(attrs) {
         return None;
     }
-    Some(&best.route.attrs)
+    Some(attrs)
 }
 
 /// Whether attributes have this next hop, no MED, and no attribute of an unknown type.
@@ -90,7 +91,7 @@ fn is_passed_on(told: &Attrs, attrs: &Attrs, home_as: u32, local_address: u32) -
 
 /// Whether what was told is these plain attributes as they are passed on.
 pub(crate) fn is_told_on(
-    told: Option<&Attrs>,
+    told: Option<&SharedAttrs>,
     attrs: &Attrs,
     home_as: u32,
     local_address: u32,

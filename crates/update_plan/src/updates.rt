@@ -13,19 +13,22 @@ use crate::batch::Batch;
 use crate::gather::Gathered;
 use crate::passing::{is_told_on, passing};
 use adj_rib::AdjRib;
-use bgp_types::{Attrs, Items, NoMemory, Prefix};
+use bgp_types::{Attrs, Items, NoMemory, Prefix, SharedAttrs};
 use prefix_set::PrefixSet;
 use rib_stages::{OutView, Rib};
 use std::alloc::Global;
 
 /// Whether what was told of a prefix is this.
 #[tactic(auto, using(bgp_types::proofs::Equality::attrs_equal))]
-fn is_told(told: Option<&Attrs>, attrs: &Option<Attrs>) -> bool
+fn is_told(told: Option<&SharedAttrs>, attrs: &Option<Attrs>) -> bool
     ensures { MatchBool result (option_copied told.entry ≡ attrs.now) (option_copied told.entry ≢ attrs.now) }
 {
     match (told, attrs) {
         (None, None) => true,
-        (Some(told), Some(attrs)) => told == attrs,
+        (Some(told), Some(attrs)) => {
+            let told: &Attrs = told;
+            told == attrs
+        }
         _ => false,
     }
 }

@@ -9,7 +9,8 @@ ghost use Rattle.why_view.specs.Winners.{ranks_of as ranks_of_lem};
 
 use crate::entries::{RouterEntry, SessionEntry};
 use bgp_types::{
-    AsPath, Attrs, From, Items, NoMemory, Origin, Prefix, Rank, RawAttrs, Route, TryCopy, holds_as,
+    AsPath, Attrs, From, Items, NoMemory, Origin, Prefix, Rank, RawAttrs, Route, SharedAttrs, TryCopy,
+    holds_as,
 };
 use route_policy::{Best, PREFERENCE, own_rank, router_rank, session_rank};
 use std::alloc::Global;
@@ -18,21 +19,22 @@ use std::alloc::Global;
 pub(crate) type Candidate = (Best, Rank);
 
 /// A network of the router's own.
-fn own_route(alloc: Global) -> Route
-    ensures { result ≡ own_route_lem }
+fn own_route(alloc: Global) -> Result<Route, NoMemory>
+    ensures { IfOk result (λ route. route ≡ own_route_lem) }
 {
-    Route {
-        attrs: Attrs {
-            origin: Origin::Igp,
-            path: AsPath::new(alloc),
-            next_hop: 0,
-            med: None,
-            atomic: false,
-            aggregator: None,
-            unknown: RawAttrs::new(alloc),
-        },
+    let attrs = Attrs {
+        origin: Origin::Igp,
+        path: AsPath::new(alloc),
+        next_hop: 0,
+        med: None,
+        atomic: false,
+        aggregator: None,
+        unknown: RawAttrs::new(alloc),
+    };
+    Ok(Route {
+        attrs: SharedAttrs::new(attrs)?,
         pref: PREFERENCE,
-    }
+    })
 }
 
 /// The route that a session brings in. A path with the home AS would be a loop and gives none (RFC 4271, section 9.1.2).
@@ -107,7 +109,7 @@ fn own_alone(alloc: Global, home_as: u32, has_network: bool) -> Result<Items<Can
     if has_network {
         let best = Best {
             from: From::Own,
-            route: own_route(alloc),
+            route: own_route(alloc)?,
         };
         candidates.push((best, own_rank(home_as)))?;
     }

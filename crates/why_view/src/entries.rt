@@ -1,6 +1,6 @@
 //! What a session, and another router, give a router for a prefix.
 
-use bgp_types::{Attrs, PeeringId, Route, RouterId};
+use bgp_types::{PeeringId, Route, RouterId, SharedAttrs};
 use route_policy::Policy;
 use std::marker::Model;
 
@@ -13,7 +13,7 @@ pub(crate) struct SessionEntry {
     pub identifier: u32,
     pub address: u32,
     pub import: Option<Policy>,
-    pub heard: Option<Attrs>,
+    pub heard: Option<SharedAttrs>,
 }
 
 impl Model for SessionEntry {

@@ -16,7 +16,7 @@ ghost use Rattle.why_view.specs.Stories.{expected_open, message_in as message_in
 use adj_rib::AdjRib;
 use bgp_story::{Line, Story};
 use bgp_types::{
-    Attrs, Expected, Message, NoMemory, OpenMsg, Prefix, SessionState, TryCopy, header_fault,
+    Expected, Message, NoMemory, OpenMsg, Prefix, SessionState, SharedAttrs, TryCopy, header_fault,
 };
 use bgp_wire::{CodecFault, as_said, read_message};
 use lab_tables::PeeringInput;
@@ -228,7 +228,7 @@ pub fn routes_on(
 }
 
 /// A copy of attributes, if there are any.
-fn copy_of(attrs: Option<&Attrs>) -> Result<Option<Attrs>, NoMemory>
+fn copy_of(attrs: Option<&SharedAttrs>) -> Result<Option<SharedAttrs>, NoMemory>
     ensures { IfOk result (λ copy. copy ≡ option_copied attrs.entry) }
 {
     match attrs {
@@ -244,7 +244,7 @@ pub(crate) fn heard_on(
     story: &Story,
     opened: &Option<OpenMsg>,
     prefix: Prefix,
-) -> Result<Option<Attrs>, NoMemory>
+) -> Result<Option<SharedAttrs>, NoMemory>
     ensures { (input : LabInput) → opened.now ≡ got_open_lem (story_peering input peering.now) story.now.lines
         → IfOk result (λ attrs. attrs ≡ map.get (heard_lem (story_peering input peering.now) story.now.lines) prefix) }
 {

@@ -8,6 +8,7 @@ use Rattle.graft_edge.specs.contracts.name.Name as Name
 use Rattle.graft_edge.specs.contracts.byte_queue.ByteQueue as ByteQueue
 use Rattle.bgp_types.specs.contracts.attrs.Attrs as Attrs
 use Rattle.bgp_types.specs.contracts.attrs.Route as Route
+use Rattle.bgp_types.specs.contracts.shared.SharedAttrs as SharedAttrs
 use Rattle.prefix_trie.specs.contracts.trie.TrieTable as TrieTable
 use Rattle.session_value.specs.contracts.config.SessionConfig as SessionConfig
 use Rattle.tcp_seq.specs.contracts.segment.Segment as Segment
@@ -32,11 +33,14 @@ table V s = search (sendable, crosses) depth 40
 pub attrs : IsSend (Attrs.the_field).row
 attrs = search (sendable, crosses, items) depth 40
 
-pub attrs_sync : IsSync (Attrs.the_field).row
+attrs_sync : IsSync (Attrs.the_field).row
 attrs_sync = search (sendable, crosses, items_sync) depth 40
 
+pub shared : IsSend SharedAttrs.the_row
+shared = let a = attrs in let y = attrs_sync in search (sendable, crosses) depth 40
+
 pub route : IsSend (Route.the_field).row
-route = let a = attrs in search (sendable, crosses) depth 40
+route = let s = shared in search (sendable, crosses) depth 40
 
 pub config : IsSend (SessionConfig.the_field).row
 config = let n = name in search (sendable, crosses) depth 40

@@ -9,7 +9,7 @@ ghost use Rattle.router_core.specs.Entering.{entry_here, IsBrought, EntersAll};
 use crate::config::Policies;
 use crate::takes::named::policy_of;
 use bgp_session::Session;
-use bgp_types::{Attrs, From, NoMemory, Prefix, Route, TryCopy, holds_as};
+use bgp_types::{From, NoMemory, Prefix, Route, SharedAttrs, TryCopy, holds_as};
 use rib_stages::{InEntry, Rib};
 use route_policy::{PREFERENCE, Policy};
 /// Returns the route that an import policy makes of attributes that were heard. If the path has the home AS it would be
@@ -19,7 +19,7 @@ fn import(
     policy: Option<&Policy>,
     remote_as: u32,
     prefix: Prefix,
-    heard: Option<&Attrs>,
+    heard: Option<&SharedAttrs>,
 ) -> Result<Option<Route>, NoMemory>
     ensures { (session : SessionRoute) → session.import_rules ≡ option_copied policy.entry → session.remote_as ≡ remote_as
         → IfOk result (λ route. route ≡ imported home_as prefix session (option_copied heard.entry)) }

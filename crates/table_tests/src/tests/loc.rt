@@ -1,4 +1,4 @@
-use bgp_types::{AsPath, Attrs, From, Origin, Prefix, RawAttrs, Route};
+use bgp_types::{AsPath, Attrs, From, NoMemory, Origin, Prefix, RawAttrs, Route, SharedAttrs};
 use loc_rib::LocRib;
 use route_policy::Best;
 use std::alloc::Global;
@@ -9,11 +9,11 @@ fn prefix(address: u32, len: u8) -> Result<Prefix, Fail> {
 }
 
 /// Returns a route of the router's own, with this preference.
-fn best(alloc: Global, pref: u32) -> Best {
-    Best {
+fn best(alloc: Global, pref: u32) -> Result<Best, NoMemory> {
+    Ok(Best {
         from: From::Own,
         route: Route {
-            attrs: Attrs {
+            attrs: SharedAttrs::new(Attrs {
                 origin: Origin::Igp,
                 path: AsPath::new(alloc),
                 next_hop: 0,
@@ -21,10 +21,10 @@ fn best(alloc: Global, pref: u32) -> Best {
                 atomic: false,
                 aggregator: None,
                 unknown: RawAttrs::new(alloc),
-            },
+            })?,
             pref,
         },
-    }
+    })
 }
 
 /// Checks what `set` returns, one call after another.
@@ -40,7 +40,10 @@ fn a_best_route_changes(rt: HostRuntime) -> Result<(), Fail> {
         (None, true),
         (None, false),
     ] {
-        let next = pref.map(|pref| best(rt.alloc(), pref));
+        let next = match pref {
+            Some(pref) => Some(best(rt.alloc(), pref)?),
+            None => None,
+        };
         assert_eq!(rt; rib.set(ten, next)?, changed, "{pref:?}");
         assert_eq!(rt; rib.get(ten).map(|best| best.route.pref), pref);
         assert_eq!(rt; rib.next_after(None), pref.map(|_| ten));
@@ -58,7 +61,7 @@ fn dirty_prefixes(rt: HostRuntime) -> Result<(), Fail> {
     }
     for dirty in [low, high] {
         assert_eq!(rt; rib.next_dirty(), Some(dirty));
-        assert!(rt; rib.set(dirty, Some(best(rt.alloc(), 100)))?);
+        assert!(rt; rib.set(dirty, Some(best(rt.alloc(), 100)?))?);
         rib.settle(dirty);
     }
     assert_eq!(rt; rib.next_dirty(), None);

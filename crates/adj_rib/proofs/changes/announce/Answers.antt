@@ -1,4 +1,3 @@
-use Rattle.std.specs.Arc.{arc_value}
 use Rattle.std.proofs.Common.{◌≡◌, ◌<◌, true, Some, length, take, sym, ap, ◌∙◌, arith}
 use Rattle.std.specs.Prelude.{fold}
 use Rattle.std.specs.FinMap as map
@@ -16,14 +15,14 @@ loop-prefix-preserved c =
     let i = c.loop-prefix.prefix-index in
     let prefixes = c.args.prefixes.now in
     let attrs = c.args.attrs.now in
-    let start = c.args.routes.now in
+    let start = c.args.routes.now.contents in
     let lt : i < length prefixes = omega arith in
     let among : list_any (same_prefix p) prefixes ≡ true =
     list_any_at (same_prefix p) prefixes i p lt (ap (same_prefix p) (sym c.prefix-item.is) ∙ same_itself p) in
-    let is : arc_value c.in_ok-shared.shared ≡ attrs = c.in_ok-shared.ensures.ok ∙ c.in_ok-copy.ensures in
+    let is : c.in_ok-shared.shared ≡ attrs = c.in_ok-shared.ensures ∙ c.in_ok-copy.ensures in
     record {
       routes = c.in_ok-announce_one.ensures.routes
-          ∙ (ap (map.insert c.loop-prefix.routes p) is
+          ∙ (ap (map.insert c.loop-prefix.routes.contents p) is
           ∙ (ap (λ (r : Routes). map.insert r p attrs) c.loop-prefix.invariant.routes
           ∙ (ap (announced (Some attrs) (fold (announced (Some attrs)) start (take i prefixes))) c.prefix-item.is
           ∙ sym (fold_more (announced (Some attrs)) start prefixes i p lt))));

@@ -9,8 +9,8 @@ use Rattle.adj_rib.proofs.changes.announce.Given as goal
 
 abbrev pub invariant-loop-prefix : goal.invariant-loop-prefix
 invariant-loop-prefix l = record {
-  routes : l.routes ≡ fold (announced (Some l.attrs)) l.fn.routes (take l.prefix-index l.prefixes);
+  routes : l.routes.contents ≡ fold (announced (Some l.attrs)) l.fn.routes.contents (take l.prefix-index l.prefixes);
   changed : (before : Routes) (to : PrefixValue → Option Attrs)
-      → ((p : PrefixValue) → list_any (same_prefix p) l.prefixes ≡ true → to p ≡ Some l.attrs) → RoutesMoved to before l.fn.routes l.fn.changed
-      → RoutesMoved to before l.routes l.changed;
+      → ((p : PrefixValue) → list_any (same_prefix p) l.prefixes ≡ true → to p ≡ Some l.attrs) → RoutesMoved to before l.fn.routes.contents l.fn.changed
+      → RoutesMoved to before l.routes.contents l.changed;
 }

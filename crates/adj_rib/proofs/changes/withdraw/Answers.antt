@@ -11,7 +11,7 @@ loop-prefix-preserved c =
     let i = c.loop-prefix.prefix-index in
     let prefixes = c.args.prefixes.now in
     let announced = c.args.announced.now in
-    let start = c.args.routes.now in
+    let start = c.args.routes.now.contents in
     let lt : i < length prefixes = omega arith in
     record {
       routes = c.in_ok-withdraw_one.ensures.routes

@@ -9,7 +9,7 @@ use Rattle.adj_rib.proofs.changes.withdraw.Given as goal
 
 abbrev pub invariant-loop-prefix : goal.invariant-loop-prefix
 invariant-loop-prefix l = record {
-  routes : l.routes ≡ fold (withdraw_unless l.announced) l.fn.routes (take l.prefix-index l.prefixes);
+  routes : l.routes.contents ≡ fold (withdraw_unless l.announced) l.fn.routes.contents (take l.prefix-index l.prefixes);
   changed : (before : Routes) (to : PrefixValue → Option Attrs) → ((p : PrefixValue) → list_any (same_prefix p) l.announced ≡ is_some (to p))
-      → RoutesMoved to before l.fn.routes l.fn.changed → RoutesMoved to before l.routes l.changed;
+      → RoutesMoved to before l.fn.routes.contents l.fn.changed → RoutesMoved to before l.routes.contents l.changed;
 }

@@ -1,4 +1,5 @@
-use Rattle.std.proofs.Common.{List, sym, ◌∙◌, subst}
+use Rattle.std.proofs.Common.{List, sym, ap, ◌∙◌, subst}
+use Rattle.std.specs.Prelude.{is_some}
 use Rattle.bgp_types.specs.Prefixes.{PrefixValue}
 use Rattle.adj_rib.specs.Changes.{RoutesMoved}
 use Rattle.adj_rib.proofs.Moves.{withdrawn, not_there}
@@ -7,12 +8,12 @@ use Rattle.adj_rib.proofs.changes.withdraw_one.Goals as goal
 pub returns-in_ok-push-clause-changed : goal.returns-in_ok-push-clause-changed
 returns-in_ok-push-clause-changed c = λ before to among m.
     let gone = sym among ∙ (sym c.is_among.ensures ∙ c.if-is_among.false) in
-    subst (λ (ps : List PrefixValue). RoutesMoved to before c.remove.new.self ps) (sym c.in_ok-push.ensures.ok)
-    (withdrawn to before c.args.routes.now c.remove.new.self c.args.changed.now m c.args.prefix c.remove.ensures.removed gone
-    (sym c.remove.ensures.there ∙ c.if-remove.true))
+    let there = sym (c.is_some.ensures ∙ ap is_some c.remove.ensures.before) ∙ c.if-is_some.true in
+    subst (λ (ps : List PrefixValue). RoutesMoved to before c.remove.new.self.contents ps) (sym c.in_ok-push.ensures.ok)
+    (withdrawn to before c.args.routes.now.contents c.remove.new.self.contents c.args.changed.now m c.args.prefix c.remove.ensures.removed gone there)
 
-pub returns-else-remove-clause-changed : goal.returns-else-remove-clause-changed
-returns-else-remove-clause-changed c = λ before to among m.
+pub returns-else-is_some-clause-changed : goal.returns-else-is_some-clause-changed
+returns-else-is_some-clause-changed c = λ before to among m.
     let gone = sym among ∙ (sym c.is_among.ensures ∙ c.if-is_among.false) in
-    not_there to before c.args.routes.now c.remove.new.self c.args.changed.now m c.args.prefix c.remove.ensures.removed gone
-    (sym c.remove.ensures.there ∙ c.if-remove.false)
+    let absent = sym (c.is_some.ensures ∙ ap is_some c.remove.ensures.before) ∙ c.if-is_some.false in
+    not_there to before c.args.routes.now.contents c.remove.new.self.contents c.args.changed.now m c.args.prefix c.remove.ensures.removed gone absent

@@ -9,5 +9,6 @@ returns-else-comes_from c =
     let best = c.args.best.now in
     let view = c.args.view.now in
     let other : comes_from best.from view.peering ≡ false = sym c.comes_from.ensures ∙ c.if-comes_from.false in
-    holds_as-is best.route.attrs.path view.remote_as c.holds_as.result c.holds_as.ensures
+    let held = rw c.deref.ensures at c.holds_as.ensures in
+    holds_as-is best.route.attrs.path view.remote_as c.holds_as.result held
     ∙ sym (ap (λ (b : Bool). b || holds_as best.route.attrs.path view.remote_as) other)

@@ -13,7 +13,7 @@ invariant_of-result c =
     let choices = c.in_ok-own_choices.field-0 in
     whole_fresh (record {
       config = c.args.config;
-      own_route = c.own_route.result;
+      own_route = c.in_ok-own_route.field-0;
       networks = c.in_ok-set_from.field-0;
       peerings = c.in_ok-new.field-0;
       routers = c.in_ok-new-2.field-0;
@@ -23,13 +23,13 @@ invariant_of-result c =
     (subst (λ (ns : List PrefixValue). HasOwnRanks (own_rank c.args.config.home_as) ns choices.groups.contents) c.as_slice-networks.ensures
     (subst (λ (r : Rank). HasOwnRanks r c.as_slice-networks.result.now choices.groups.contents) c.own_rank.ensures c.in_ok-own_choices.ensures.ranks))
     (c.in_ok-set_from.ensures ∙ ap set_of c.as_slice-networks.ensures)
-    c.own_route.ensures
+    c.in_ok-own_route.ensures
 
 pub returns : goal.returns
 returns c =
     fresh_is (record {
       config = c.args.config;
-      own_route = c.own_route.result;
+      own_route = c.in_ok-own_route.field-0;
       networks = c.in_ok-set_from.field-0;
       peerings = c.in_ok-new.field-0;
       routers = c.in_ok-new-2.field-0;
