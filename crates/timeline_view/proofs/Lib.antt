@@ -1,7 +1,7 @@
 pub mod ByRound
 pub mod Counted
+pub mod Elements
 pub mod Moves
-pub mod Numbered
 pub mod Pieces
 pub mod Stories
 pub mod Told

@@ -8,7 +8,8 @@ use Rattle.timeline_view.specs.declared.event.Event.{Event}
 use Rattle.timeline_view.specs.declared.event.Happening.{Happening}
 use Rattle.timeline_view.specs.Events.{event_of, happening_of, happening_at}
 use Rattle.timeline_view.specs.Walks.{AreCounts, is_move}
-use Rattle.timeline_view.proofs.Numbered.{listed_more, taken_more}
+use Rattle.story_view.proofs.Steps.{numbered_more}
+use Rattle.timeline_view.proofs.Elements.{taken_more}
 
 module _ (lab : Lab) (rounds : List ℕ) (journal : List JournalEntry) (whole : journal ≡ lab.journal) (i : ℕ) (e : JournalEntry)
     (lt : i < length journal) (at : e ≡ slice_index_or journal i e) where
@@ -19,7 +20,7 @@ module _ (lab : Lab) (rounds : List ℕ) (journal : List JournalEntry) (whole : 
       let here : happening_of e round event ≡ happening_at lab rounds (i, e) =
       ap (λ r. happening_of e r event) in_round
       ∙ ap (happening_of e (get_or rounds i 0)) (tells ∙ ap (λ (j : List JournalEntry). event_of lab (take i j) e) whole) in
-      listed_more (happening_at lab rounds) journal i e so_far after lt at so (is ∙ ap (λ (l : List Happening). so_far ++ l) here)
+      numbered_more (happening_at lab rounds) journal i e [] so_far after lt at so (is ∙ ap (λ (l : List Happening). so_far ++ l) here)
 
   pub moves_more : (moves after : List JournalEntry) → moves ≡ filter is_move (take i journal) → after ≡ moves ++ filter is_move (e ∷ [])
       → after ≡ filter is_move (take (i + 1) journal)

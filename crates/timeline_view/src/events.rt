@@ -18,6 +18,7 @@ use std::alloc::Global;
 use story_view::adds_to;
 use tcp_seq::Way;
 
+/// Events, in the order of the journal.
 pub type Happenings = Items<Happening>;
 
 /// The count of a session, if the lab has it.
@@ -325,7 +326,7 @@ fn happenings_in(
     Ok(all)
 }
 
-/// What all entries of the journal tell of, in their order, with their rounds.
+/// Returns what all entries of the journal tell of, in their order, with their rounds.
 pub fn happenings(alloc: Global, lab: &Lab) -> Result<Happenings, NoMemory>
     ensures { IfOk result (λ all. all ≡ happenings lab.now) }
 {

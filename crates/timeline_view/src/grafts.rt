@@ -37,7 +37,7 @@ fn is_of(moment: Moment, graft: u32, happening: &Happening) -> bool
     }
 }
 
-/// The round of a graft's moment, if it came.
+/// Returns the round of a graft's moment, if it came.
 pub fn round_of(moment: Moment, graft: u32, all: &[Happening]) -> Option<usize>
     ensures { result ≡ round_of_graft moment graft all.now }
 {
@@ -149,7 +149,7 @@ fn is_stray_of(remote: u32, event: Event) -> bool
     }
 }
 
-/// How many segments of a graft's remote came astray, from the freeze to the end of the group.
+/// Returns how many segments of a graft's remote came astray, from the freeze to the end of the group.
 pub fn strays_of(graft: &GraftEntry, all: &[Happening]) -> usize
     ensures { result ≡ strays_of graft.now all.now }
 {

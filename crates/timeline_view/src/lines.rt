@@ -40,7 +40,7 @@ fn remote_or_operator(input: &LabInput, remote: usize) -> &str
     }
 }
 
-/// The name of an actor: routers come first, then the remotes by their peerings, then the operator.
+/// Returns the name of an actor: routers come first, then the remotes by their peerings, then the operator.
 pub fn actor_name(input: &LabInput, actor: u16) -> &str
     ensures { result.now ≡ actor_name input.now actor }
 {
@@ -51,7 +51,7 @@ pub fn actor_name(input: &LabInput, actor: u16) -> &str
     }
 }
 
-/// The name of a peering's remote, or a dash.
+/// Returns the name of a peering's remote, or a dash.
 pub fn remote_name(input: &LabInput, peering: u32) -> &str
     ensures { result.now ≡ peering_name input.now peering }
 {

@@ -108,7 +108,7 @@ fn put(rounds: &mut Vec<Happenings>, happening: &Happening) -> Result<(), NoMemo
     Ok(())
 }
 
-/// What happened, by rounds.
+/// Returns what happened, by rounds.
 pub fn by_rounds(
     alloc: Global,
     count: usize,
@@ -141,7 +141,7 @@ fn is_hear(event: Event) -> bool
     matches!(event, Event::Hear)
 }
 
-/// How many prefixes a router decided.
+/// Returns how many prefixes a router decided.
 pub fn decided_at(router: usize, here: &[Happening]) -> usize
     ensures { result ≡ count_at is_decide router here.now }
 {
@@ -150,7 +150,7 @@ pub fn decided_at(router: usize, here: &[Happening]) -> usize
         .count()
 }
 
-/// How often a router told another one of a prefix.
+/// Returns how often a router told another one of a prefix.
 pub fn told_at(router: usize, here: &[Happening]) -> usize
     ensures { result ≡ count_at is_tell router here.now }
 {
@@ -159,7 +159,7 @@ pub fn told_at(router: usize, here: &[Happening]) -> usize
         .count()
 }
 
-/// How often a router heard of a prefix from another one.
+/// Returns how often a router heard of a prefix from another one.
 pub fn heard_at(router: usize, here: &[Happening]) -> usize
     ensures { result ≡ count_at is_hear router here.now }
 {

@@ -10,6 +10,8 @@ returns-in_ok-taken_event-in-13-to-16 c =
     let lab = c.args.lab.now in
     let before = c.args.before.now in
     let entry = c.args.entry.now in
-    let same = c.in_ok-taken_event-in-13-to-16.ensures ∙ ap (λ (es : List JournalEntry). taken_event lab es entry) c.requires.moves ∙ same_taken lab before entry in
+    let same =
+    c.in_ok-taken_event-in-13-to-16.ensures ∙ ap (λ (es : List JournalEntry). taken_event lab es entry) c.requires.moves
+    ∙ same_taken lab before entry in
     let told : Some (taken_event lab before entry) ≡ event_of lab before entry = search rules in
     ap (λ (e : Event). Some e) same ∙ told

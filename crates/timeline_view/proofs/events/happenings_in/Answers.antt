@@ -1,5 +1,5 @@
 use Rattle.std.proofs.Common.{◌<◌, length, arith}
-use Rattle.timeline_view.proofs.Numbered.{read_at}
+use Rattle.timeline_view.proofs.Elements.{read_at}
 use Rattle.timeline_view.proofs.Told.{told_more, moves_more, counts_more}
 use Rattle.timeline_view.proofs.events.happenings_in.Goals as goal
 

@@ -1,6 +1,6 @@
 use Rattle.std.proofs.Common.{arith}
 use Rattle.timeline_view.specs.Grafts.{graft_lines}
-use Rattle.timeline_view.proofs.Numbered.{piece_more}
+use Rattle.timeline_view.proofs.Elements.{piece_more}
 use Rattle.timeline_view.proofs.grafts.push_each_graft.Goals as goal
 
 -- the lines of one more

@@ -1,7 +1,7 @@
 use Rattle.std.proofs.Common.{◌<◌, length, arith}
 use Rattle.timeline_view.specs.Grafts.{update_of}
 use Rattle.timeline_view.proofs.Counted.{counts_further}
-use Rattle.timeline_view.proofs.Numbered.{read_at}
+use Rattle.timeline_view.proofs.Elements.{read_at}
 use Rattle.timeline_view.proofs.grafts.updates_in.Goals as goal
 
 -- one event more

@@ -1,7 +1,7 @@
 use Rattle.std.proofs.Common.{ℕ, List, ◌++◌, string_bytes, ap, ◌∙◌, arith}
 use Rattle.timeline_view.specs.Rounds.{lines_of_round}
 use Rattle.timeline_view.specs.declared.event.Happening.{Happening}
-use Rattle.timeline_view.proofs.Numbered.{numbered_more}
+use Rattle.story_view.proofs.Steps.{numbered_more}
 use Rattle.timeline_view.proofs.rounds.push_each_round.Goals as goal
 
 -- the lines of one more

@@ -1,6 +1,6 @@
 use Rattle.std.proofs.Common.{arith}
 use Rattle.timeline_view.specs.Rounds.{router_line}
-use Rattle.timeline_view.proofs.Numbered.{numbered_more}
+use Rattle.story_view.proofs.Steps.{numbered_more}
 use Rattle.timeline_view.proofs.rounds.push_routers.Goals as goal
 
 -- the lines of one more
