@@ -13,4 +13,7 @@ mod rounds;
 mod sessions;
 mod timeline;
 
+pub use event::{Event, Happening};
+pub use events::happenings;
+pub use numbers::graft_in;
 pub use timeline::timeline_text;

@@ -1,0 +1,231 @@
+//! What stands above the lanes, and below them.
+
+ghost use Rattle.std.specs.Prelude.{◌≡◌, ◌++◌, IfOk, OnOk, string_bytes, count_by};
+ghost use Rattle.lab_report.specs.Report.{graft_line as graft_line_lem, end_line as end_line_lem};
+ghost use Rattle.lab_report.specs.Summary.{was_refused};
+ghost use Rattle.picture_view.specs.Heads.{refused_line, refused_text, size_words, root_start, text_style, path_style, style_text};
+ghost use Rattle.picture_view.specs.Heads.{title_words, counts_words, titles, legend, head_text};
+
+use crate::elements::{push_escaped, push_text_at, push_text_start};
+use crate::plan::{Plan, last_round};
+use crate::positions::{bottom_y, plus, times};
+use graft_edge::NoMemory;
+use graft_steps::{GraftEntry, GraftStage, Outcome};
+use lab_report::{Lab, push_end, push_graft};
+use lab_tables::LabInput;
+use std::alloc::Global;
+use std::fmt::Write;
+
+/// The line of the refused graft of a number, in memory.
+fn refused_words(alloc: Global, input: &LabInput, graft: &GraftEntry) -> Result<String, NoMemory>
+    ensures { IfOk result (λ words. string_bytes words ≡ graft_line_lem input.now graft.now) }
+{
+    let mut words = String::new(alloc);
+    push_graft(&mut words, input, graft)?;
+    Ok(words)
+}
+
+/// A refused graft, with its number among them.
+fn push_refused_line(
+    text: &mut String,
+    alloc: Global,
+    input: &LabInput,
+    plan: &Plan,
+    number: usize,
+    graft: &GraftEntry,
+) -> Result<(), NoMemory>
+    ensures { OnOk result (string_bytes text.new ≡ string_bytes text.old ++ refused_line input.now plan.now (number, graft.now)) }
+{
+    let words = refused_words(alloc, input, graft)?;
+    let first = plus(bottom_y(plan)?, 36)?;
+    let y = plus(first, times(16, number)?)?;
+    push_text_at(text, "t", 16, y, words.as_str())
+}
+
+/// Whether a graft was refused.
+fn was_refused(graft: &GraftEntry) -> bool
+    ensures { result ≡ was_refused graft.now }
+{
+    matches!(&graft.stage, GraftStage::Ended(Outcome::Refused(_)))
+}
+
+/// How many grafts were refused.
+pub(crate) fn refused_in(log: &[GraftEntry]) -> usize
+    ensures { result ≡ count_by was_refused log.now }
+{
+    log.iter().filter(|graft| was_refused(*graft)).count()
+}
+
+/// The refused grafts, in the order of the log.
+pub(crate) fn push_refused(
+    text: &mut String,
+    alloc: Global,
+    input: &LabInput,
+    plan: &Plan,
+    log: &[GraftEntry],
+) -> Result<(), NoMemory>
+    ensures { OnOk result (string_bytes text.new ≡ string_bytes text.old ++ refused_text input.now plan.now log.now) }
+{
+    let mut number: usize = 0;
+    for graft in log {
+        if was_refused(graft) {
+            push_refused_line(text, alloc, input, plan, number, graft)?;
+            number = plus(number, 1)?;
+        }
+    }
+    Ok(())
+}
+
+fn push_size(text: &mut String, width: usize, height: usize) -> Result<(), NoMemory>
+    ensures { OnOk result (string_bytes text.new ≡ string_bytes text.old ++ size_words width height) }
+{
+    write!(text, "width='{width}' height='{height}'")?;
+    Ok(())
+}
+
+/// The start tag of the picture.
+fn push_root_start(text: &mut String, width: usize, height: usize) -> Result<(), NoMemory>
+    ensures { OnOk result (string_bytes text.new ≡ string_bytes text.old ++ root_start width height) }
+{
+    text.push_str("<svg xmlns='http://www.w3.org/2000/svg' ")?;
+    push_size(text, width, height)?;
+    write!(text, " viewBox='0 0 {width} {height}'>\n")?;
+    Ok(())
+}
+
+/// How texts, the paper and lanes look.
+fn push_text_style(text: &mut String) -> Result<(), NoMemory>
+    ensures { OnOk result (string_bytes text.new ≡ string_bytes text.old ++ text_style) }
+{
+    text.push_str(
+        "text{font:11px DejaVu Sans,Verdana,sans-serif;fill:#333}path{fill:none}.p{fill:#fff}.e{fill:#f0f2f5}\n",
+    )?;
+    text.push_str(
+        ".h{font-size:18px;font-weight:bold}.r{font-size:12px;font-weight:bold}.n{font-size:10px;text-anchor:end}\n",
+    )?;
+    text.push_str(
+        ".l{font-size:10px;fill:#666}.a{font-size:10px;fill:#666;text-anchor:middle}.g{font-size:9px}\n",
+    )?;
+    text.push_str(".r,.n,.g{paint-order:stroke;stroke:#f0f2f5;stroke-width:3px}\n")?;
+    Ok(())
+}
+
+/// How paths look, and the colours of peerings.
+fn push_path_style(text: &mut String) -> Result<(), NoMemory>
+    ensures { OnOk result (string_bytes text.new ≡ string_bytes text.old ++ path_style) }
+{
+    text.push_str(
+        ".s{stroke-width:3px;stroke-linecap:round}.d{stroke-width:7px;stroke-linecap:round}\n",
+    )?;
+    text.push_str(
+        ".w{stroke-width:2px;stroke-dasharray:5 3}.k{stroke-width:1px;stroke-dasharray:2 3}\n",
+    )?;
+    text.push_str(
+        ".x{stroke:#000;stroke-width:2px}.o{stroke:#d4d9e0}.b{stroke:#999;stroke-width:2px}\n",
+    )?;
+    text.push_str(
+        ".c0{stroke:#332288}.c1{stroke:#cc6677}.c2{stroke:#44aa99}.c3{stroke:#882255}\n",
+    )?;
+    text.push_str(".c4{stroke:#88ccee}.c5{stroke:#117733}.c6{stroke:#aa4499}\n")?;
+    Ok(())
+}
+
+/// How all looks.
+fn push_style(text: &mut String) -> Result<(), NoMemory>
+    ensures { OnOk result (string_bytes text.new ≡ string_bytes text.old ++ style_text) }
+{
+    text.push_str("<style>")?;
+    push_text_style(text)?;
+    push_path_style(text)?;
+    text.push_str("</style>\n")?;
+    Ok(())
+}
+
+/// How the run ended, in memory.
+fn end_words(alloc: Global, lab: &Lab) -> Result<String, NoMemory>
+    ensures { IfOk result (λ words. string_bytes words ≡ end_line_lem lab.now.input lab.now.end) }
+{
+    let mut words = String::new(alloc);
+    push_end(&mut words, &lab.input, lab.end)?;
+    Ok(words)
+}
+
+/// How the run ended.
+fn push_title_words(text: &mut String, alloc: Global, lab: &Lab) -> Result<(), NoMemory>
+    ensures { OnOk result (string_bytes text.new ≡ string_bytes text.old ++ title_words lab.now) }
+{
+    let words = end_words(alloc, lab)?;
+    text.push_str("Sessions and grafts: ")?;
+    push_escaped(text, words.as_str())
+}
+
+/// How many routers, peerings, grafts and rounds there are.
+fn push_counts(text: &mut String, lab: &Lab) -> Result<(), NoMemory>
+    ensures { OnOk result (string_bytes text.new ≡ string_bytes text.old ++ counts_words lab.now) }
+{
+    let routers = lab.input.routers.len();
+    let peerings = lab.input.peerings.len();
+    let grafts = lab.log.len();
+    let rounds = last_round(lab.marks.len());
+    write!(text, "routers {routers}, peerings {peerings}")?;
+    write!(text, ", grafts {grafts}, rounds {rounds}")?;
+    Ok(())
+}
+
+/// The title, and the counts below it.
+fn push_titles(text: &mut String, alloc: Global, lab: &Lab) -> Result<(), NoMemory>
+    ensures { OnOk result (string_bytes text.new ≡ string_bytes text.old ++ titles lab.now) }
+{
+    push_text_start(text, "h", 16, 30)?;
+    push_title_words(text, alloc, lab)?;
+    text.push_str("</text>\n")?;
+    push_text_start(text, "t", 16, 50)?;
+    push_counts(text, lab)?;
+    text.push_str("</text>\n")?;
+    Ok(())
+}
+
+/// What each shape says.
+fn push_legend(text: &mut String) -> Result<(), NoMemory>
+    ensures { OnOk result (string_bytes text.new ≡ string_bytes text.old ++ legend) }
+{
+    text.push_str("<path class='s c0' d='M16 78h32'/><text x='56' y='82'>at a router</text>\n")?;
+    text.push_str(
+        "<path class='w c0' d='M144 84C160 84 160 72 176 72'/><text x='184' y='82'>on its way</text>\n",
+    )?;
+    text.push_str(
+        "<path class='k c0' d='M272 78h32'/><text x='312' y='82'>its place kept at the source</text>\n",
+    )?;
+    text.push_str(
+        "<path class='d c0' d='M500 78h0'/><text class='g' x='507' y='76'>7</text><text x='520' y='82'>landed by graft 7</text>\n",
+    )?;
+    text.push_str(
+        "<path class='x' d='M639 73l10 10m0 -10l-10 10'/><text x='656' y='82'>refused</text>\n",
+    )?;
+    text.push_str(
+        "<path class='b' d='M728 70v16'/><text x='736' y='82'>a group of the script begins</text>\n",
+    )?;
+    Ok(())
+}
+
+/// What stands above the lanes.
+pub(crate) fn push_head(
+    text: &mut String,
+    alloc: Global,
+    lab: &Lab,
+    width: usize,
+    height: usize,
+) -> Result<(), NoMemory>
+    ensures { OnOk result (string_bytes text.new ≡ string_bytes text.old ++ head_text lab.now width height) }
+{
+    push_root_start(text, width, height)?;
+    text.push_str("<title>")?;
+    push_title_words(text, alloc, lab)?;
+    text.push_str("</title>\n")?;
+    push_style(text)?;
+    text.push_str("<rect class='p' ")?;
+    push_size(text, width, height)?;
+    text.push_str("/>\n")?;
+    push_titles(text, alloc, lab)?;
+    push_legend(text)
+}
