@@ -14,16 +14,16 @@ escaped_char c =
     else if c == 39 then codes "&#39;"
     else encode_utf8_all (c ∷ [])
 
-abbrev pub escaped : (text : List ℕ) → List ℕ
+unfoldable pub escaped : (text : List ℕ) → List ℕ
 escaped text = flat_map escaped_char (chars text)
 
-abbrev pub text_start : (class : List ℕ) → (x y : ℕ) → List ℕ
+unfoldable pub text_start : (class : List ℕ) → (x y : ℕ) → List ℕ
 text_start class x y = codes "<text class='" ++ class ++ codes "' x='" ++ decimal x ++ codes "' y='" ++ decimal y ++ codes "'>"
 
-abbrev pub text_at : (class : List ℕ) → (x y : ℕ) → (words : List ℕ) → List ℕ
+unfoldable pub text_at : (class : List ℕ) → (x y : ℕ) → (words : List ℕ) → List ℕ
 text_at class x y words = text_start class x y ++ escaped words ++ codes "</text>\n"
 
-abbrev pub number_at : (class : List ℕ) → (x y number : ℕ) → List ℕ
+unfoldable pub number_at : (class : List ℕ) → (x y number : ℕ) → List ℕ
 number_at class x y number = text_start class x y ++ decimal number ++ codes "</text>\n"
 
 -- ---- paths
@@ -32,20 +32,20 @@ number_at class x y number = text_start class x y ++ decimal number ++ codes "</
 abbrev pub colour : (peering : ℕ) → List ℕ
 colour peering = codes " c" ++ decimal (peering % 7)
 
-abbrev pub path_start : (class : List ℕ) → (x y : ℕ) → List ℕ
+unfoldable pub path_start : (class : List ℕ) → (x y : ℕ) → List ℕ
 path_start class x y = codes "<path class='" ++ class ++ codes "' d='M" ++ decimal x ++ codes " " ++ decimal y
 
 -- what a reader sees who points at the path
-abbrev pub titled_end : (title : List ℕ) → List ℕ
+unfoldable pub titled_end : (title : List ℕ) → List ℕ
 titled_end title = codes "'><title>" ++ title ++ codes "</title></path>\n"
 
 abbrev pub plain_end : List ℕ
 plain_end = codes "'/>\n"
 
 -- a line of a peering's colour along a row, from one place to another
-abbrev pub row_line : (class : List ℕ) → (peering x y to : ℕ) → List ℕ
+unfoldable pub row_line : (class : List ℕ) → (peering x y to : ℕ) → List ℕ
 row_line class peering x y to = path_start (class ++ colour peering) x y ++ codes "H" ++ decimal to
 
 -- a line down
-abbrev pub down_line : (class : List ℕ) → (x y to : ℕ) → List ℕ
+unfoldable pub down_line : (class : List ℕ) → (x y to : ℕ) → List ℕ
 down_line class x y to = path_start class x y ++ codes "V" ++ decimal to ++ plain_end

@@ -5,3 +5,4 @@ pub mod Picture
 pub mod Plans
 pub mod Positions
 pub mod Shapes
+pub mod Worked

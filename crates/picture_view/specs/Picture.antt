@@ -11,7 +11,7 @@ use Rattle.picture_view.specs.Positions.{width_of, height_of}
 use Rattle.picture_view.specs.Shapes.{kept_from, bow_from, first_stay, stay_from, mark_from}
 
 -- Where sessions were: places that were kept for them, their ways, their stays, and marks. What comes later lies above.
-abbrev pub shapes_text : Lab → Plan → List ℕ
+unfoldable pub shapes_text : Lab → Plan → List ℕ
 shapes_text lab plan = flat_map (kept_from plan) plan.points
     ++ flat_map (bow_from lab.input plan) plan.points
     ++ flat_map (first_stay lab.input plan) (enumerate_from 0 lab.input.peerings)
@@ -19,7 +19,7 @@ shapes_text lab plan = flat_map (kept_from plan) plan.points
     ++ flat_map (mark_from lab.input plan) plan.points
 
 -- the head with its legend; lanes, rounds and groups; where sessions were; the names of routers and peerings; and the refused grafts
-abbrev pub text_of : Lab → Plan → List ℕ
+unfoldable pub text_of : Lab → Plan → List ℕ
 text_of lab plan = head_text lab (width_of plan) (height_of plan (count_by was_refused lab.log))
     ++ axes_text plan
     ++ shapes_text lab plan
@@ -27,5 +27,5 @@ text_of lab plan = head_text lab (width_of plan) (height_of plan (count_by was_r
     ++ refused_text lab.input plan lab.log
     ++ codes "</svg>\n"
 
-abbrev pub picture_text : Lab → List ℕ
+unfoldable pub picture_text : Lab → List ℕ
 picture_text lab = text_of lab (plan_of lab)

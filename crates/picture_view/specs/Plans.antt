@@ -39,7 +39,7 @@ points_in round log (Refuse graft) = point_of round Refused (graft_in log graft)
 points_in round log event = []
 
 -- the points of all grafts, in the order of the journal
-abbrev pub points_of : List GraftEntry → List Happening → List GraftPoint
+unfoldable pub points_of : List GraftEntry → List Happening → List GraftPoint
 points_of log all = flat_map (λ h. points_in h.round log h.event) all
 
 -- ---- groups of the script
@@ -49,7 +49,7 @@ starts_in round (Begin group) = (record { round = round; group = group }) ∷ []
 starts_in round event = []
 
 -- the first group is at work from the beginning
-abbrev pub starts_of : List Happening → List GroupStart
+unfoldable pub starts_of : List Happening → List GroupStart
 starts_of all = (record { round = 0; group = 1 }) ∷ flat_map (λ h. starts_in h.round h.event) all
 
 -- ---- rounds
@@ -63,7 +63,7 @@ abbrev pub is_shown : List GraftPoint → List GroupStart → (last round : ℕ)
 is_shown points starts last round =
     (round == last) || (list_any (λ p. p.round == round) points || list_any (λ s. s.round == round) starts)
 
-abbrev pub rounds_shown : List GraftPoint → List GroupStart → (marks : ℕ) → List ℕ
+unfoldable pub rounds_shown : List GraftPoint → List GroupStart → (marks : ℕ) → List ℕ
 rounds_shown points starts marks = filter (is_shown points starts (last_round marks)) (range_with_len 0 marks)
 
 -- ---- lanes
@@ -84,15 +84,15 @@ abbrev pub row_in : List GraftPoint → (router : ℕ) → ℕ × PeeringInput �
 row_in points router p = if comes_to points router p then p.0 ∷ [] else []
 
 -- the peerings that have a row in the lane of a router
-abbrev pub lane_of : List PeeringInput → List GraftPoint → (router : ℕ) → List ℕ
+unfoldable pub lane_of : List PeeringInput → List GraftPoint → (router : ℕ) → List ℕ
 lane_of peerings points router = flat_map (row_in points router) (enumerate_from 0 peerings)
 
-abbrev pub lanes_of : (routers : ℕ) → List PeeringInput → List GraftPoint → List (List ℕ)
+unfoldable pub lanes_of : (routers : ℕ) → List PeeringInput → List GraftPoint → List (List ℕ)
 lanes_of routers peerings points = map (lane_of peerings points) (range_with_len 0 routers)
 
 -- ---- all
 
-abbrev pub plan_by : Lab → List GraftPoint → List GroupStart → Plan
+unfoldable pub plan_by : Lab → List GraftPoint → List GroupStart → Plan
 plan_by lab points starts = record {
   points = points;
   starts = starts;
@@ -100,5 +100,5 @@ plan_by lab points starts = record {
   lanes = lanes_of (length lab.input.routers) lab.input.peerings points;
 }
 
-abbrev pub plan_of : Lab → Plan
+unfoldable pub plan_of : Lab → Plan
 plan_of lab = plan_by lab (points_of lab.log (happenings lab)) (starts_of (happenings lab))

@@ -12,17 +12,17 @@ use Rattle.picture_view.specs.Positions.{point_x, graft_x, next_leave_x, round_x
 
 -- ---- titles
 
-abbrev pub stay_title : LabInput → (router peering : ℕ) → List ℕ
+unfoldable pub stay_title : LabInput → (router peering : ℕ) → List ℕ
 stay_title input router peering = escaped (peering_name input peering) ++ codes " at " ++ escaped (router_name input router)
 
-abbrev pub graft_title : LabInput → GraftPoint → List ℕ
+unfoldable pub graft_title : LabInput → GraftPoint → List ℕ
 graft_title input p = codes "graft " ++ decimal p.graft ++ codes " of " ++ escaped (peering_name input p.peering)
     ++ codes " from " ++ escaped (router_name input p.source) ++ codes " to " ++ escaped (router_name input p.target)
 
 -- ---- where sessions stay
 
 -- A session is at a router from a place in a round until it next leaves in a later round.
-abbrev pub stay : LabInput → Plan → (router peering round x : ℕ) → List ℕ
+unfoldable pub stay : LabInput → Plan → (router peering round x : ℕ) → List ℕ
 stay input plan router peering round x =
     row_line (codes "s") peering x (row_y plan router peering) (next_leave_x plan peering round) ++ titled_end (stay_title input router peering)
 
@@ -53,7 +53,7 @@ kept_from plan p = kept_by plan p p.change
 -- ---- where a session is on its way
 
 -- a bow from one place to another
-abbrev pub bow : (peering x y to_x to_y : ℕ) → List ℕ
+unfoldable pub bow : (peering x y to_x to_y : ℕ) → List ℕ
 bow peering x y to_x to_y = path_start (codes "w" ++ colour peering) x y
     ++ codes "C" ++ decimal ((x + to_x) / 2) ++ codes " " ++ decimal y
     ++ codes " " ++ decimal ((x + to_x) / 2) ++ codes " " ++ decimal to_y
@@ -74,15 +74,15 @@ bow_from input plan p = bow_by input plan p p.change
 
 -- ---- marks, with the number of the graft
 
-abbrev pub graft_number : (x y graft : ℕ) → List ℕ
+unfoldable pub graft_number : (x y graft : ℕ) → List ℕ
 graft_number x y graft = number_at (codes "g") (x + 7) (y - 4) graft
 
 -- a dot where a session has landed
-abbrev pub dot : GraftPoint → (x y : ℕ) → List ℕ
+unfoldable pub dot : GraftPoint → (x y : ℕ) → List ℕ
 dot p x y = path_start (codes "d" ++ colour p.peering) x y ++ codes "h0" ++ plain_end ++ graft_number x y p.graft
 
 -- a cross where a graft was refused
-abbrev pub cross : LabInput → GraftPoint → (x y : ℕ) → List ℕ
+unfoldable pub cross : LabInput → GraftPoint → (x y : ℕ) → List ℕ
 cross input p x y = path_start (codes "x") (x - 5) (y - 5) ++ codes "l10 10m0 -10l-10 10" ++ titled_end (graft_title input p)
     ++ graft_number x y p.graft
 

@@ -17,6 +17,7 @@ use lab_tables::LabInput;
 use std::fmt::Write;
 
 /// A rectangle of a class.
+#[tactic(auto, unfolding(crate::specs::Axes::rectangle))]
 fn push_rectangle(
     text: &mut String,
     class: &str,
@@ -27,10 +28,10 @@ fn push_rectangle(
 ) -> Result<(), NoMemory>
     ensures { OnOk result (string_bytes text.new ≡ string_bytes text.old ++ rectangle class.now x y width height) }
 {
-    text.push_str("<rect class='")?;
-    text.push_str(class)?;
-    write!(text, "' x='{x}' y='{y}' width='{width}'")?;
-    write!(text, " height='{height}' rx='4'/>\n")?;
+    write!(
+        text,
+        "<rect class='{class}' x='{x}' y='{y}' width='{width}' height='{height}' rx='4'/>\n"
+    )?;
     Ok(())
 }
 
@@ -55,6 +56,7 @@ fn push_lanes(text: &mut String, plan: &Plan, lanes: &[Lane]) -> Result<(), NoMe
 }
 
 /// What the numbers along are.
+#[tactic(auto, unfolding(crate::specs::Axes::axis_words))]
 fn push_axis_words(text: &mut String, plan: &Plan) -> Result<(), NoMemory>
     ensures { OnOk result (string_bytes text.new ≡ string_bytes text.old ++ axis_words plan.now) }
 {
@@ -65,6 +67,7 @@ fn push_axis_words(text: &mut String, plan: &Plan) -> Result<(), NoMemory>
 }
 
 /// A line where a round begins, and its number above and below it.
+#[tactic(auto, unfolding(crate::specs::Axes::round_shape))]
 fn push_round(text: &mut String, plan: &Plan, round: usize) -> Result<(), NoMemory>
     ensures { OnOk result (string_bytes text.new ≡ string_bytes text.old ++ round_shape plan.now round) }
 {
@@ -87,6 +90,7 @@ fn push_rounds(text: &mut String, plan: &Plan, rounds: &[usize]) -> Result<(), N
 }
 
 /// A line where a group begins, and its number above it.
+#[tactic(auto, unfolding(crate::specs::Axes::start_shape))]
 fn push_start(text: &mut String, plan: &Plan, start: &GroupStart) -> Result<(), NoMemory>
     ensures { OnOk result (string_bytes text.new ≡ string_bytes text.old ++ start_shape plan.now start.now) }
 {
@@ -106,6 +110,7 @@ fn push_starts(text: &mut String, plan: &Plan, starts: &[GroupStart]) -> Result<
 }
 
 /// Lanes, rounds and groups.
+#[tactic(auto, unfolding(crate::specs::Axes::axes_text))]
 pub(crate) fn push_axes(text: &mut String, plan: &Plan) -> Result<(), NoMemory>
     ensures { OnOk result (string_bytes text.new ≡ string_bytes text.old ++ axes_text plan.now) }
 {
@@ -116,6 +121,7 @@ pub(crate) fn push_axes(text: &mut String, plan: &Plan) -> Result<(), NoMemory>
 }
 
 /// The name of a peering in front of its row.
+#[tactic(auto, unfolding(crate::specs::Axes::row_name))]
 fn push_row_name(
     text: &mut String,
     input: &LabInput,
@@ -149,6 +155,7 @@ fn push_row_names(
 }
 
 /// The name of a router, and those of its rows.
+#[tactic(auto, unfolding(crate::specs::Axes::lane_names))]
 fn push_lane_names(
     text: &mut String,
     input: &LabInput,
@@ -182,6 +189,7 @@ fn push_all_names(
 }
 
 /// All names in front of a sixteen of rounds.
+#[tactic(auto, unfolding(crate::specs::Axes::names_before))]
 fn push_names_before(
     text: &mut String,
     input: &LabInput,
@@ -195,6 +203,7 @@ fn push_names_before(
 }
 
 /// All names, in front of each sixteen of rounds.
+#[tactic(auto, unfolding(crate::specs::Axes::names_text))]
 pub(crate) fn push_names(text: &mut String, input: &LabInput, plan: &Plan) -> Result<(), NoMemory>
     ensures { OnOk result (string_bytes text.new ≡ string_bytes text.old ++ names_text input.now plan.now) }
 {

@@ -23,6 +23,7 @@ fn push_escaped_char(text: &mut String, character: char) -> Result<(), NoMemory>
 }
 
 /// Words, as they stand in an element.
+#[tactic(auto, unfolding(crate::specs::Elements::escaped))]
 pub(crate) fn push_escaped(text: &mut String, words: &str) -> Result<(), NoMemory>
     ensures { OnOk result (string_bytes text.new ≡ string_bytes text.old ++ escaped words.now) }
 {
@@ -33,6 +34,7 @@ pub(crate) fn push_escaped(text: &mut String, words: &str) -> Result<(), NoMemor
 }
 
 /// The beginning of a text of a class at a place.
+#[tactic(auto, unfolding(crate::specs::Elements::text_start))]
 pub(crate) fn push_text_start(
     text: &mut String,
     class: &str,
@@ -41,13 +43,12 @@ pub(crate) fn push_text_start(
 ) -> Result<(), NoMemory>
     ensures { OnOk result (string_bytes text.new ≡ string_bytes text.old ++ text_start class.now x y) }
 {
-    text.push_str("<text class='")?;
-    text.push_str(class)?;
-    write!(text, "' x='{x}' y='{y}'>")?;
+    write!(text, "<text class='{class}' x='{x}' y='{y}'>")?;
     Ok(())
 }
 
 /// Words of a class at a place.
+#[tactic(auto, unfolding(crate::specs::Elements::text_at))]
 pub(crate) fn push_text_at(
     text: &mut String,
     class: &str,
@@ -64,6 +65,7 @@ pub(crate) fn push_text_at(
 }
 
 /// A number of a class at a place.
+#[tactic(auto, unfolding(crate::specs::Elements::number_at))]
 pub(crate) fn push_number_at(
     text: &mut String,
     class: &str,
@@ -79,6 +81,7 @@ pub(crate) fn push_number_at(
 }
 
 /// The beginning of a path of a class at a place.
+#[tactic(auto, unfolding(crate::specs::Elements::path_start))]
 pub(crate) fn push_path_start(
     text: &mut String,
     class: &str,
@@ -87,13 +90,12 @@ pub(crate) fn push_path_start(
 ) -> Result<(), NoMemory>
     ensures { OnOk result (string_bytes text.new ≡ string_bytes text.old ++ path_start class.now x y) }
 {
-    text.push_str("<path class='")?;
-    text.push_str(class)?;
-    write!(text, "' d='M{x} {y}")?;
+    write!(text, "<path class='{class}' d='M{x} {y}")?;
     Ok(())
 }
 
 /// The beginning of a path in the colour of a peering.
+#[tactic(auto, unfolding(crate::specs::Elements::path_start))]
 pub(crate) fn push_coloured_start(
     text: &mut String,
     class: &str,
@@ -104,13 +106,12 @@ pub(crate) fn push_coloured_start(
     ensures { OnOk result (string_bytes text.new ≡ string_bytes text.old ++ path_start (class.now ++ colour peering) x y) }
 {
     let colour = peering % 7;
-    text.push_str("<path class='")?;
-    text.push_str(class)?;
-    write!(text, " c{colour}' d='M{x} {y}")?;
+    write!(text, "<path class='{class} c{colour}' d='M{x} {y}")?;
     Ok(())
 }
 
 /// A line in the colour of a peering along a row, up to its end tag.
+#[tactic(auto, unfolding(crate::specs::Elements::row_line))]
 pub(crate) fn push_row_line(
     text: &mut String,
     class: &str,
@@ -127,6 +128,7 @@ pub(crate) fn push_row_line(
 }
 
 /// A line down.
+#[tactic(auto, unfolding(crate::specs::Elements::down_line))]
 pub(crate) fn push_down_line(
     text: &mut String,
     class: &str,

@@ -1,9 +1,10 @@
 //! What stands above the lanes, and below them.
 
-ghost use Rattle.std.specs.Prelude.{◌≡◌, ◌++◌, IfOk, OnOk, string_bytes, count_by};
+ghost use Rattle.std.specs.Prelude.{◌≡◌, ◌+◌, ◌++◌, ◌∷◌, [], IfOk, OnOk, length, filter, count_by, string_bytes};
+ghost use Rattle.std.specs.List.{flat_map, enumerate_from};
 ghost use Rattle.lab_report.specs.Report.{graft_line as graft_line_lem, end_line as end_line_lem};
 ghost use Rattle.lab_report.specs.Summary.{was_refused};
-ghost use Rattle.picture_view.specs.Heads.{refused_line, refused_text, size_words, root_start, text_style, path_style, style_text};
+ghost use Rattle.picture_view.specs.Heads.{refused_line, refused_text, root_start, paper, text_style, path_style, style_text};
 ghost use Rattle.picture_view.specs.Heads.{title_words, counts_words, titles, legend, head_text};
 
 use crate::elements::{push_escaped, push_text_at, push_text_start};
@@ -26,6 +27,7 @@ fn refused_words(alloc: Global, input: &LabInput, graft: &GraftEntry) -> Result<
 }
 
 /// A refused graft, with its number among them.
+#[tactic(auto, unfolding(crate::specs::Heads::refused_line))]
 fn push_refused_line(
     text: &mut String,
     alloc: Global,
@@ -56,7 +58,28 @@ pub(crate) fn refused_in(log: &[GraftEntry]) -> usize
     log.iter().filter(|graft| was_refused(*graft)).count()
 }
 
+/// Adds a graft, if it was refused, behind so many others, and returns how many there are then.
+fn push_if_refused(
+    text: &mut String,
+    alloc: Global,
+    input: &LabInput,
+    plan: &Plan,
+    number: usize,
+    graft: &GraftEntry,
+) -> Result<usize, NoMemory>
+    ensures text { OnOk result (string_bytes text.new ≡ string_bytes text.old
+        ++ flat_map (refused_line input.now plan.now) (enumerate_from number (filter was_refused (graft.now ∷ [])))) }
+    ensures number { IfOk result (λ next. next ≡ number + length (filter was_refused (graft.now ∷ []))) }
+{
+    if !was_refused(graft) {
+        return Ok(number);
+    }
+    push_refused_line(text, alloc, input, plan, number, graft)?;
+    plus(number, 1)
+}
+
 /// The refused grafts, in the order of the log.
+#[tactic(auto, unfolding(crate::specs::Heads::refused_text))]
 pub(crate) fn push_refused(
     text: &mut String,
     alloc: Global,
@@ -68,32 +91,37 @@ pub(crate) fn push_refused(
 {
     let mut number: usize = 0;
     for graft in log {
-        if was_refused(graft) {
-            push_refused_line(text, alloc, input, plan, number, graft)?;
-            number = plus(number, 1)?;
-        }
+        number = push_if_refused(text, alloc, input, plan, number, graft)?;
     }
     Ok(())
 }
 
-fn push_size(text: &mut String, width: usize, height: usize) -> Result<(), NoMemory>
-    ensures { OnOk result (string_bytes text.new ≡ string_bytes text.old ++ size_words width height) }
-{
-    write!(text, "width='{width}' height='{height}'")?;
-    Ok(())
-}
-
 /// The start tag of the picture.
+#[tactic(auto, unfolding(crate::specs::Heads::root_start))]
 fn push_root_start(text: &mut String, width: usize, height: usize) -> Result<(), NoMemory>
     ensures { OnOk result (string_bytes text.new ≡ string_bytes text.old ++ root_start width height) }
 {
-    text.push_str("<svg xmlns='http://www.w3.org/2000/svg' ")?;
-    push_size(text, width, height)?;
-    write!(text, " viewBox='0 0 {width} {height}'>\n")?;
+    write!(
+        text,
+        "<svg xmlns='http://www.w3.org/2000/svg' width='{width}' height='{height}' viewBox='0 0 {width} {height}'>\n"
+    )?;
+    Ok(())
+}
+
+/// The paper.
+#[tactic(auto, unfolding(crate::specs::Heads::paper))]
+fn push_paper(text: &mut String, width: usize, height: usize) -> Result<(), NoMemory>
+    ensures { OnOk result (string_bytes text.new ≡ string_bytes text.old ++ paper width height) }
+{
+    write!(
+        text,
+        "<rect class='p' width='{width}' height='{height}'/>\n"
+    )?;
     Ok(())
 }
 
 /// How texts, the paper and lanes look.
+#[tactic(auto, unfolding(crate::specs::Heads::text_style))]
 fn push_text_style(text: &mut String) -> Result<(), NoMemory>
     ensures { OnOk result (string_bytes text.new ≡ string_bytes text.old ++ text_style) }
 {
@@ -111,6 +139,7 @@ fn push_text_style(text: &mut String) -> Result<(), NoMemory>
 }
 
 /// How paths look, and the colours of peerings.
+#[tactic(auto, unfolding(crate::specs::Heads::path_style))]
 fn push_path_style(text: &mut String) -> Result<(), NoMemory>
     ensures { OnOk result (string_bytes text.new ≡ string_bytes text.old ++ path_style) }
 {
@@ -131,6 +160,7 @@ fn push_path_style(text: &mut String) -> Result<(), NoMemory>
 }
 
 /// How all looks.
+#[tactic(auto, unfolding(crate::specs::Heads::style_text))]
 fn push_style(text: &mut String) -> Result<(), NoMemory>
     ensures { OnOk result (string_bytes text.new ≡ string_bytes text.old ++ style_text) }
 {
@@ -151,6 +181,7 @@ fn end_words(alloc: Global, lab: &Lab) -> Result<String, NoMemory>
 }
 
 /// How the run ended.
+#[tactic(auto, unfolding(crate::specs::Heads::title_words))]
 fn push_title_words(text: &mut String, alloc: Global, lab: &Lab) -> Result<(), NoMemory>
     ensures { OnOk result (string_bytes text.new ≡ string_bytes text.old ++ title_words lab.now) }
 {
@@ -160,6 +191,7 @@ fn push_title_words(text: &mut String, alloc: Global, lab: &Lab) -> Result<(), N
 }
 
 /// How many routers, peerings, grafts and rounds there are.
+#[tactic(auto, unfolding(crate::specs::Heads::counts_words))]
 fn push_counts(text: &mut String, lab: &Lab) -> Result<(), NoMemory>
     ensures { OnOk result (string_bytes text.new ≡ string_bytes text.old ++ counts_words lab.now) }
 {
@@ -173,6 +205,7 @@ fn push_counts(text: &mut String, lab: &Lab) -> Result<(), NoMemory>
 }
 
 /// The title, and the counts below it.
+#[tactic(auto, unfolding(crate::specs::Heads::titles))]
 fn push_titles(text: &mut String, alloc: Global, lab: &Lab) -> Result<(), NoMemory>
     ensures { OnOk result (string_bytes text.new ≡ string_bytes text.old ++ titles lab.now) }
 {
@@ -186,6 +219,7 @@ fn push_titles(text: &mut String, alloc: Global, lab: &Lab) -> Result<(), NoMemo
 }
 
 /// What each shape says.
+#[tactic(auto, unfolding(crate::specs::Heads::legend))]
 fn push_legend(text: &mut String) -> Result<(), NoMemory>
     ensures { OnOk result (string_bytes text.new ≡ string_bytes text.old ++ legend) }
 {
@@ -209,6 +243,7 @@ fn push_legend(text: &mut String) -> Result<(), NoMemory>
 }
 
 /// What stands above the lanes.
+#[tactic(auto, unfolding(crate::specs::Heads::head_text))]
 pub(crate) fn push_head(
     text: &mut String,
     alloc: Global,
@@ -223,9 +258,7 @@ pub(crate) fn push_head(
     push_title_words(text, alloc, lab)?;
     text.push_str("</title>\n")?;
     push_style(text)?;
-    text.push_str("<rect class='p' ")?;
-    push_size(text, width, height)?;
-    text.push_str("/>\n")?;
+    push_paper(text, width, height)?;
     push_titles(text, alloc, lab)?;
     push_legend(text)
 }

@@ -4,9 +4,11 @@
 mod axes;
 mod elements;
 mod heads;
+mod laws;
 mod picture;
 mod plan;
 mod positions;
 mod shapes;
 
+pub use laws::{worked_bow, worked_columns, worked_escape, worked_rows};
 pub use picture::picture_text;

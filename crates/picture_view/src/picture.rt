@@ -13,6 +13,7 @@ use lab_report::Lab;
 use std::alloc::Global;
 
 /// Where sessions were.
+#[tactic(auto, unfolding(crate::specs::Picture::shapes_text))]
 fn push_shapes(text: &mut String, lab: &Lab, plan: &Plan) -> Result<(), NoMemory>
     ensures { OnOk result (string_bytes text.new ≡ string_bytes text.old ++ shapes_text lab.now plan.now) }
 {
@@ -25,6 +26,7 @@ fn push_shapes(text: &mut String, lab: &Lab, plan: &Plan) -> Result<(), NoMemory
 }
 
 /// The text of what the picture shows.
+#[tactic(auto, unfolding(crate::specs::Picture::text_of))]
 fn push_text(text: &mut String, alloc: Global, lab: &Lab, plan: &Plan) -> Result<(), NoMemory>
     ensures { OnOk result (string_bytes text.new ≡ string_bytes text.old ++ text_of lab.now plan.now) }
 {
@@ -42,6 +44,7 @@ fn push_text(text: &mut String, alloc: Global, lab: &Lab, plan: &Plan) -> Result
 
 /// The picture of a run, as an SVG: a lane for each router, in which the sessions that it holds are lines; bows where they are on their way; marks
 /// where they landed and where grafts were refused; rounds along, a legend, and the refused grafts below. It has no script and needs no other file.
+#[tactic(auto, unfolding(crate::specs::Picture::picture_text))]
 pub fn picture_text(alloc: Global, lab: &Lab) -> Result<Octets, NoMemory>
     ensures { IfOk result (λ text. text ≡ picture_text_lem lab.now) }
 {

@@ -1,7 +1,7 @@
 //! What the picture of a run shows.
 
-ghost use Rattle.std.specs.Prelude.{◌≡◌, ◌++◌, IfOk, OnOk, map, filter, length};
-ghost use Rattle.std.specs.List.{flat_map, enumerate_from, list_any, range_with_len};
+ghost use Rattle.std.specs.Prelude.{◌≡◌, ◌++◌, ◌∷◌, ◌==◌, [], IfOk, OnOk, filter};
+ghost use Rattle.std.specs.List.{list_any};
 ghost use Rattle.timeline_view.specs.Numbers.{graft_in as graft_in_lem};
 ghost use Rattle.picture_view.specs.Plans.{point_from, point_of, points_in, points_of, starts_in, starts_of, last_round, is_shown, rounds_shown};
 ghost use Rattle.picture_view.specs.Plans.{is_left, leaves_for, comes_to, row_in, lane_of, lanes_of, plan_of};
@@ -130,6 +130,7 @@ fn push_change(
 }
 
 /// The changes that these events are.
+#[tactic(auto, unfolding(crate::specs::Plans::points_of))]
 fn points_of(alloc: Global, log: &[GraftEntry], all: &[Happening]) -> Result<GraftPoints, NoMemory>
     ensures { IfOk result (λ points. points ≡ points_of log.now all.now) }
 {
@@ -151,6 +152,7 @@ fn push_start(starts: &mut GroupStarts, round: usize, event: Event) -> Result<()
 }
 
 /// The beginnings of all groups, of which the first is at work from the beginning.
+#[tactic(auto, unfolding(crate::specs::Plans::starts_of))]
 fn starts_of(alloc: Global, all: &[Happening]) -> Result<GroupStarts, NoMemory>
     ensures { IfOk result (λ starts. starts ≡ starts_of all.now) }
 {
@@ -168,16 +170,45 @@ pub(crate) fn last_round(marks: usize) -> usize
     marks.saturating_sub(1)
 }
 
+/// Whether a session changed in a round.
+fn has_point(points: &[GraftPoint], round: usize) -> bool
+    ensures { result ≡ list_any (λ p. p.round == round) points.now }
+{
+    points.iter().any(|point| point.round == round)
+}
+
+/// Whether a group began in a round.
+fn has_start(starts: &[GroupStart], round: usize) -> bool
+    ensures { result ≡ list_any (λ s. s.round == round) starts.now }
+{
+    starts.iter().any(|start| start.round == round)
+}
+
 /// Whether a round has room in the picture.
 fn is_shown(points: &[GraftPoint], starts: &[GroupStart], last: usize, round: usize) -> bool
     ensures { result ≡ is_shown points.now starts.now last round }
 {
-    round == last
-        || points.iter().any(|point| point.round == round)
-        || starts.iter().any(|start| start.round == round)
+    round == last || has_point(points, round) || has_start(starts, round)
+}
+
+/// Adds a round, if it has room in the picture.
+fn push_shown(
+    rounds: &mut Rounds,
+    points: &[GraftPoint],
+    starts: &[GroupStart],
+    last: usize,
+    round: usize,
+) -> Result<(), NoMemory>
+    ensures { OnOk result (rounds.new ≡ rounds.old ++ filter (is_shown points.now starts.now last) (round ∷ [])) }
+{
+    if is_shown(points, starts, last, round) {
+        rounds.push(round)?;
+    }
+    Ok(())
 }
 
 /// The rounds that have room in the picture.
+#[tactic(auto, unfolding(crate::specs::Plans::rounds_shown))]
 fn rounds_shown(
     alloc: Global,
     points: &[GraftPoint],
@@ -189,9 +220,7 @@ fn rounds_shown(
     let last = last_round(marks);
     let mut rounds = Items::new(alloc);
     for round in 0..marks {
-        if is_shown(points, starts, last, round) {
-            rounds.push(round)?;
-        }
+        push_shown(&mut rounds, points, starts, last, round)?;
     }
     Ok(rounds)
 }
@@ -234,6 +263,7 @@ fn push_row(
 }
 
 /// The lane of a router.
+#[tactic(auto, unfolding(crate::specs::Plans::lane_of))]
 fn lane_of(
     alloc: Global,
     peerings: &[PeeringInput],
@@ -250,6 +280,7 @@ fn lane_of(
 }
 
 /// The lanes of so many routers.
+#[tactic(auto, unfolding(crate::specs::Plans::lanes_of))]
 fn lanes_of(
     alloc: Global,
     routers: usize,
@@ -260,12 +291,14 @@ fn lanes_of(
 {
     let mut lanes = Items::new(alloc);
     for router in 0..routers {
-        lanes.push(lane_of(alloc, peerings, points, router)?)?;
+        let lane = lane_of(alloc, peerings, points, router)?;
+        lanes.push(lane)?;
     }
     Ok(lanes)
 }
 
 /// What the picture of a run shows.
+#[tactic(auto, unfolding(crate::specs::Plans::plan_of, crate::specs::Plans::plan_by))]
 pub(crate) fn plan_of(alloc: Global, lab: &Lab) -> Result<Plan, NoMemory>
     ensures { IfOk result (λ plan. plan ≡ plan_of lab.now) }
 {

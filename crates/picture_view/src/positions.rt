@@ -23,6 +23,7 @@ pub(crate) fn times(a: usize, b: usize) -> Result<usize, NoMemory>
 }
 
 /// An eighth of the width of a round.
+#[tactic(auto, unfolding(crate::specs::Positions::eighth))]
 pub(crate) fn eighth(plan: &Plan) -> usize
     ensures { result ≡ eighth plan.now }
 {
@@ -31,6 +32,7 @@ pub(crate) fn eighth(plan: &Plan) -> usize
 }
 
 /// Where the round of this number among those that are shown begins.
+#[tactic(auto, unfolding(crate::specs::Positions::column_x))]
 pub(crate) fn column_x(plan: &Plan, number: usize) -> Result<usize, NoMemory>
     ensures { IfOk result (λ x. x ≡ column_x plan.now number) }
 {
@@ -40,6 +42,7 @@ pub(crate) fn column_x(plan: &Plan, number: usize) -> Result<usize, NoMemory>
 }
 
 /// Where a round begins.
+#[tactic(auto, unfolding(crate::specs::Positions::round_x))]
 pub(crate) fn round_x(plan: &Plan, round: usize) -> Result<usize, NoMemory>
     ensures { IfOk result (λ x. x ≡ round_x plan.now round) }
 {
@@ -59,6 +62,7 @@ fn eighths(change: Change) -> usize
 }
 
 /// Where a change is.
+#[tactic(auto, unfolding(crate::specs::Positions::point_x))]
 pub(crate) fn point_x(plan: &Plan, point: &GraftPoint) -> Result<usize, NoMemory>
     ensures { IfOk result (λ x. x ≡ point_x plan.now point.now) }
 {
@@ -67,6 +71,7 @@ pub(crate) fn point_x(plan: &Plan, point: &GraftPoint) -> Result<usize, NoMemory
 }
 
 /// Where the last round ends.
+#[tactic(auto, unfolding(crate::specs::Positions::end_x))]
 pub(crate) fn end_x(plan: &Plan) -> Result<usize, NoMemory>
     ensures { IfOk result (λ x. x ≡ end_x plan.now) }
 {
@@ -75,6 +80,7 @@ pub(crate) fn end_x(plan: &Plan) -> Result<usize, NoMemory>
 }
 
 /// How often names stand in front of rounds.
+#[tactic(auto, unfolding(crate::specs::Positions::name_columns))]
 pub(crate) fn name_columns(plan: &Plan) -> usize
     ensures { result ≡ name_columns plan.now }
 {
@@ -83,7 +89,7 @@ pub(crate) fn name_columns(plan: &Plan) -> usize
 
 /// Where a change is, or the end of the picture.
 fn x_of(plan: &Plan, point: Option<&GraftPoint>) -> Result<usize, NoMemory>
-    ensures { IfOk result (λ x. x ≡ x_of plan.now (option_copied point)) }
+    ensures { IfOk result (λ x. x ≡ x_of plan.now (option_copied point.entry)) }
 {
     match point {
         Some(point) => point_x(plan, point),
@@ -110,6 +116,7 @@ fn frees(change: Change) -> bool
 }
 
 /// Where the session of a graft arrives at its target.
+#[tactic(auto, unfolding(crate::specs::Positions::graft_x))]
 pub(crate) fn arrival_x(plan: &Plan, graft: u32) -> Result<usize, NoMemory>
     ensures { IfOk result (λ x. x ≡ graft_x plan.now arrives graft) }
 {
@@ -122,6 +129,7 @@ pub(crate) fn arrival_x(plan: &Plan, graft: u32) -> Result<usize, NoMemory>
 }
 
 /// Where the session of a graft is back at its source.
+#[tactic(auto, unfolding(crate::specs::Positions::graft_x))]
 pub(crate) fn return_x(plan: &Plan, graft: u32) -> Result<usize, NoMemory>
     ensures { IfOk result (λ x. x ≡ graft_x plan.now is_back graft) }
 {
@@ -134,6 +142,7 @@ pub(crate) fn return_x(plan: &Plan, graft: u32) -> Result<usize, NoMemory>
 }
 
 /// Where the source keeps the place of a graft's session no longer.
+#[tactic(auto, unfolding(crate::specs::Positions::graft_x))]
 pub(crate) fn freed_x(plan: &Plan, graft: u32) -> Result<usize, NoMemory>
     ensures { IfOk result (λ x. x ≡ graft_x plan.now frees graft) }
 {
@@ -146,6 +155,7 @@ pub(crate) fn freed_x(plan: &Plan, graft: u32) -> Result<usize, NoMemory>
 }
 
 /// Where the session of a peering next leaves after a round.
+#[tactic(auto, unfolding(crate::specs::Positions::next_leave_x))]
 pub(crate) fn next_leave_x(plan: &Plan, peering: usize, round: usize) -> Result<usize, NoMemory>
     ensures { IfOk result (λ x. x ≡ next_leave_x plan.now peering round) }
 {
@@ -158,6 +168,7 @@ pub(crate) fn next_leave_x(plan: &Plan, peering: usize, round: usize) -> Result<
 }
 
 /// The height of a lane.
+#[tactic(auto, unfolding(crate::specs::Positions::lane_height))]
 pub(crate) fn lane_height(lane: &Lane) -> Result<usize, NoMemory>
     ensures { IfOk result (λ height. height ≡ lane_height lane.now) }
 {
@@ -176,6 +187,7 @@ fn lanes_height(lanes: &[Lane]) -> Result<usize, NoMemory>
 }
 
 /// Where the lane of a router begins.
+#[tactic(auto, unfolding(crate::specs::Positions::lane_y))]
 pub(crate) fn lane_y(plan: &Plan, router: usize) -> Result<usize, NoMemory>
     ensures { IfOk result (λ y. y ≡ lane_y plan.now router) }
 {
@@ -184,6 +196,7 @@ pub(crate) fn lane_y(plan: &Plan, router: usize) -> Result<usize, NoMemory>
 }
 
 /// Where the last lane ends.
+#[tactic(auto, unfolding(crate::specs::Positions::bottom_y))]
 pub(crate) fn bottom_y(plan: &Plan) -> Result<usize, NoMemory>
     ensures { IfOk result (λ y. y ≡ bottom_y plan.now) }
 {
@@ -201,6 +214,7 @@ fn rows_above(plan: &Plan, router: usize, peering: usize) -> usize
 }
 
 /// The row of a peering in the lane of a router.
+#[tactic(auto, unfolding(crate::specs::Positions::row_y))]
 pub(crate) fn row_y(plan: &Plan, router: usize, peering: usize) -> Result<usize, NoMemory>
     ensures { IfOk result (λ y. y ≡ row_y plan.now router peering) }
 {
@@ -209,6 +223,7 @@ pub(crate) fn row_y(plan: &Plan, router: usize, peering: usize) -> Result<usize,
 }
 
 /// The width of the picture.
+#[tactic(auto, unfolding(crate::specs::Positions::width_of))]
 pub(crate) fn width_of(plan: &Plan) -> Result<usize, NoMemory>
     ensures { IfOk result (λ width. width ≡ width_of plan.now) }
 {
@@ -216,6 +231,7 @@ pub(crate) fn width_of(plan: &Plan) -> Result<usize, NoMemory>
 }
 
 /// The height of the picture, where so many grafts were refused.
+#[tactic(auto, unfolding(crate::specs::Positions::height_of))]
 pub(crate) fn height_of(plan: &Plan, refused: usize) -> Result<usize, NoMemory>
     ensures { IfOk result (λ height. height ≡ height_of plan.now refused) }
 {

@@ -3,8 +3,10 @@
 ghost use Rattle.std.specs.Prelude.{◌≡◌, ◌++◌, OnOk, string_bytes, codes};
 ghost use Rattle.std.specs.List.{flat_map, enumerate_from};
 ghost use Rattle.lab_report.specs.Report.{router_name as router_name_lem, peering_name as peering_name_lem};
-ghost use Rattle.picture_view.specs.Elements.{titled_end, plain_end};
-ghost use Rattle.picture_view.specs.Shapes.{stay_title, graft_title, stay, first_stay, stay_by, stay_from, kept_by, kept_from};
+ghost use Rattle.picture_view.specs.declared.plan.Change.TheVariants.{Left, TurnedBack};
+ghost use Rattle.picture_view.specs.Elements.{titled_end};
+ghost use Rattle.picture_view.specs.Positions.{point_x as point_x_lem};
+ghost use Rattle.picture_view.specs.Shapes.{stay_title, graft_title, stay, first_stay, stay_from, kept_by, kept_from};
 ghost use Rattle.picture_view.specs.Shapes.{bow, bow_by, bow_from, graft_number, dot, cross, mark_by, mark_from};
 
 use crate::elements::{
@@ -37,6 +39,7 @@ pub(crate) fn peering_name(input: &LabInput, peering: usize) -> &str
 }
 
 /// The end of a path that says which session is at which router.
+#[tactic(auto, unfolding(crate::specs::Elements::titled_end, crate::specs::Shapes::stay_title))]
 fn push_stay_end(
     text: &mut String,
     input: &LabInput,
@@ -54,6 +57,7 @@ fn push_stay_end(
 }
 
 /// The end of a path that says which graft it is.
+#[tactic(auto, unfolding(crate::specs::Elements::titled_end, crate::specs::Shapes::graft_title))]
 fn push_graft_end(text: &mut String, input: &LabInput, point: &GraftPoint) -> Result<(), NoMemory>
     ensures { OnOk result (string_bytes text.new ≡ string_bytes text.old ++ titled_end (graft_title input.now point.now)) }
 {
@@ -69,6 +73,7 @@ fn push_graft_end(text: &mut String, input: &LabInput, point: &GraftPoint) -> Re
 }
 
 /// A session at a router, from a place in a round until it next leaves.
+#[tactic(auto, unfolding(crate::specs::Shapes::stay))]
 fn push_stay(
     text: &mut String,
     input: &LabInput,
@@ -115,6 +120,21 @@ pub(crate) fn push_first_stays(
     Ok(())
 }
 
+/// A session at a router from a change on.
+fn push_stay_at(
+    text: &mut String,
+    input: &LabInput,
+    plan: &Plan,
+    router: usize,
+    point: &GraftPoint,
+) -> Result<(), NoMemory>
+    ensures { OnOk result (string_bytes text.new
+        ≡ string_bytes text.old ++ stay input.now plan.now router point.now.peering point.now.round (point_x_lem plan.now point.now)) }
+{
+    let x = point_x(plan, point)?;
+    push_stay(text, input, plan, router, point.peering, point.round, x)
+}
+
 /// A session from where it landed or came back, if it did.
 fn push_stay_from(
     text: &mut String,
@@ -124,22 +144,17 @@ fn push_stay_from(
 ) -> Result<(), NoMemory>
     ensures { OnOk result (string_bytes text.new ≡ string_bytes text.old ++ stay_from input.now plan.now point.now) }
 {
-    let router = match point.change {
-        Change::Landed => point.target,
-        Change::CameBack => point.source,
-        _ => return Ok(()),
-    };
-    let x = point_x(plan, point)?;
-    push_stay(text, input, plan, router, point.peering, point.round, x)
+    match point.change {
+        Change::Landed => push_stay_at(text, input, plan, point.target, point),
+        Change::CameBack => push_stay_at(text, input, plan, point.source, point),
+        _ => Ok(()),
+    }
 }
 
-/// The place that is kept for a session, if it left.
-fn push_kept(text: &mut String, plan: &Plan, point: &GraftPoint) -> Result<(), NoMemory>
-    ensures { OnOk result (string_bytes text.new ≡ string_bytes text.old ++ kept_from plan.now point.now) }
+/// The place that is kept for a session that left.
+fn push_kept_place(text: &mut String, plan: &Plan, point: &GraftPoint) -> Result<(), NoMemory>
+    ensures { OnOk result (string_bytes text.new ≡ string_bytes text.old ++ kept_by plan.now point.now Left) }
 {
-    if !matches!(point.change, Change::Left) {
-        return Ok(());
-    }
     let x = point_x(plan, point)?;
     let y = row_y(plan, point.source, point.peering)?;
     let to = freed_x(plan, point.graft)?;
@@ -148,7 +163,18 @@ fn push_kept(text: &mut String, plan: &Plan, point: &GraftPoint) -> Result<(), N
     Ok(())
 }
 
+/// The place that is kept for a session, if it left.
+fn push_kept(text: &mut String, plan: &Plan, point: &GraftPoint) -> Result<(), NoMemory>
+    ensures { OnOk result (string_bytes text.new ≡ string_bytes text.old ++ kept_from plan.now point.now) }
+{
+    match point.change {
+        Change::Left => push_kept_place(text, plan, point),
+        _ => Ok(()),
+    }
+}
+
 /// A bow from one place to another, up to its end tag.
+#[tactic(auto, unfolding(crate::specs::Shapes::bow))]
 fn push_bow_line(
     text: &mut String,
     peering: usize,
@@ -216,6 +242,7 @@ fn push_bow(
 }
 
 /// The number of a graft beside its mark.
+#[tactic(auto, unfolding(crate::specs::Shapes::graft_number))]
 fn push_graft_number(text: &mut String, x: usize, y: usize, graft: u32) -> Result<(), NoMemory>
     ensures { OnOk result (string_bytes text.new ≡ string_bytes text.old ++ graft_number x y graft) }
 {
@@ -223,6 +250,7 @@ fn push_graft_number(text: &mut String, x: usize, y: usize, graft: u32) -> Resul
 }
 
 /// A dot where a session landed.
+#[tactic(auto, unfolding(crate::specs::Shapes::dot))]
 fn push_dot(text: &mut String, point: &GraftPoint, x: usize, y: usize) -> Result<(), NoMemory>
     ensures { OnOk result (string_bytes text.new ≡ string_bytes text.old ++ dot point.now x y) }
 {
@@ -232,6 +260,7 @@ fn push_dot(text: &mut String, point: &GraftPoint, x: usize, y: usize) -> Result
 }
 
 /// A cross where a graft was refused.
+#[tactic(auto, unfolding(crate::specs::Shapes::cross))]
 fn push_cross(
     text: &mut String,
     input: &LabInput,

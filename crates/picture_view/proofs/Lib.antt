@@ -1,0 +1,4 @@
+pub mod Appended
+pub mod Escaping
+pub mod Ranges
+pub mod Refusals
