@@ -9,7 +9,6 @@ ghost use Rattle.picture_view.specs.Worked.{worked_plan, worked_point};
 
 /// Four rounds of 160 pixels stand behind 128 for names. The session leaves an eighth into round 8, is turned back five eighths into it, and is
 /// back seven eighths into round 9.
-#[tactic(auto, unfolding(crate::specs::Positions::eighth, crate::specs::Positions::column_x, crate::specs::Positions::round_x, crate::specs::Positions::point_x, crate::specs::Positions::end_x, crate::specs::Positions::graft_x, crate::specs::Positions::next_leave_x, crate::specs::Positions::width_of))]
 pub fn worked_columns()
     ensures left { point_x worked_plan (worked_point 8 Left) ≡ 468 }
     ensures arrives { graft_x worked_plan arrives 1 ≡ 548 }
@@ -21,7 +20,6 @@ pub fn worked_columns()
 {}
 
 /// The first lane has one row, and the second one two, each behind 32 pixels for the name of the router.
-#[tactic(auto, unfolding(crate::specs::Positions::lane_height, crate::specs::Positions::lane_y, crate::specs::Positions::bottom_y, crate::specs::Positions::row_y, crate::specs::Positions::height_of))]
 pub fn worked_rows()
     ensures source { row_y worked_plan 0 0 ≡ 168 }
     ensures target { row_y worked_plan 1 0 ≡ 216 }
@@ -37,7 +35,6 @@ pub fn worked_bow()
 {}
 
 /// A name in which five characters mean something else in XML.
-#[tactic(auto, unfolding(crate::specs::Elements::escaped))]
 pub fn worked_escape()
     ensures { escaped (codes "<a> & \"b\" 'c'") ≡ codes "&lt;a&gt; &amp; &quot;b&quot; &#39;c&#39;" }
 {}
