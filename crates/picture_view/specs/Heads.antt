@@ -30,14 +30,14 @@ unfoldable pub paper : (width height : ℕ) → List ℕ
 paper width height = codes "<rect class='p' width='" ++ decimal width ++ codes "' height='" ++ decimal height ++ codes "'/>\n"
 
 -- texts, the paper, lanes, and the names in front of rows
-unfoldable pub text_style : List ℕ
+abbrev pub text_style : List ℕ
 text_style = codes "text{font:11px DejaVu Sans,Verdana,sans-serif;fill:#333}path{fill:none}.p{fill:#fff}.e{fill:#f0f2f5}\n"
     ++ codes ".h{font-size:18px;font-weight:bold}.r{font-size:12px;font-weight:bold}.n{font-size:10px;text-anchor:end}\n"
     ++ codes ".l{font-size:10px;fill:#666}.a{font-size:10px;fill:#666;text-anchor:middle}.g{font-size:9px}\n"
     ++ codes ".r,.n,.g{paint-order:stroke;stroke:#f0f2f5;stroke-width:3px}\n"
 
 -- a stay, a dot, a way, a kept place, a cross, a round, a beginning; and the colours of peerings, which colour-blind readers tell apart
-unfoldable pub path_style : List ℕ
+abbrev pub path_style : List ℕ
 path_style = codes ".s{stroke-width:3px;stroke-linecap:round}.d{stroke-width:7px;stroke-linecap:round}\n"
     ++ codes ".w{stroke-width:2px;stroke-dasharray:5 3}.k{stroke-width:1px;stroke-dasharray:2 3}\n"
     ++ codes ".x{stroke:#000;stroke-width:2px}.o{stroke:#d4d9e0}.b{stroke:#999;stroke-width:2px}\n"

@@ -4,7 +4,7 @@ ghost use Rattle.std.specs.Prelude.{◌≡◌, ◌+◌, ◌++◌, ◌∷◌, [],
 ghost use Rattle.std.specs.List.{flat_map, enumerate_from};
 ghost use Rattle.lab_report.specs.Report.{graft_line as graft_line_lem, end_line as end_line_lem};
 ghost use Rattle.lab_report.specs.Summary.{was_refused};
-ghost use Rattle.picture_view.specs.Heads.{refused_line, refused_text, root_start, paper, text_style, path_style, style_text};
+ghost use Rattle.picture_view.specs.Heads.{refused_line, refused_text, root_start, paper, style_text};
 ghost use Rattle.picture_view.specs.Heads.{title_words, counts_words, titles, legend, head_text};
 
 use crate::elements::{push_escaped, push_text_at, push_text_start};
@@ -16,6 +16,29 @@ use lab_report::{Lab, push_end, push_graft};
 use lab_tables::LabInput;
 use std::alloc::Global;
 use std::fmt::Write;
+
+/// How texts, the paper, lanes and paths look, and the colours of peerings.
+const STYLE: &str =
+    "<style>text{font:11px DejaVu Sans,Verdana,sans-serif;fill:#333}path{fill:none}.p{fill:#fff}.e{fill:#f0f2f5}
+.h{font-size:18px;font-weight:bold}.r{font-size:12px;font-weight:bold}.n{font-size:10px;text-anchor:end}
+.l{font-size:10px;fill:#666}.a{font-size:10px;fill:#666;text-anchor:middle}.g{font-size:9px}
+.r,.n,.g{paint-order:stroke;stroke:#f0f2f5;stroke-width:3px}
+.s{stroke-width:3px;stroke-linecap:round}.d{stroke-width:7px;stroke-linecap:round}
+.w{stroke-width:2px;stroke-dasharray:5 3}.k{stroke-width:1px;stroke-dasharray:2 3}
+.x{stroke:#000;stroke-width:2px}.o{stroke:#d4d9e0}.b{stroke:#999;stroke-width:2px}
+.c0{stroke:#332288}.c1{stroke:#cc6677}.c2{stroke:#44aa99}.c3{stroke:#882255}
+.c4{stroke:#88ccee}.c5{stroke:#117733}.c6{stroke:#aa4499}
+</style>
+";
+
+/// What each shape says.
+const LEGEND: &str = "<path class='s c0' d='M16 78h32'/><text x='56' y='82'>at a router</text>
+<path class='w c0' d='M144 84C160 84 160 72 176 72'/><text x='184' y='82'>on its way</text>
+<path class='k c0' d='M272 78h32'/><text x='312' y='82'>its place kept at the source</text>
+<path class='d c0' d='M500 78h0'/><text class='g' x='507' y='76'>7</text><text x='520' y='82'>landed by graft 7</text>
+<path class='x' d='M639 73l10 10m0 -10l-10 10'/><text x='656' y='82'>refused</text>
+<path class='b' d='M728 70v16'/><text x='736' y='82'>a group of the script begins</text>
+";
 
 /// The line of the refused graft of a number, in memory.
 fn refused_words(alloc: Global, input: &LabInput, graft: &GraftEntry) -> Result<String, NoMemory>
@@ -120,54 +143,11 @@ fn push_paper(text: &mut String, width: usize, height: usize) -> Result<(), NoMe
     Ok(())
 }
 
-/// How texts, the paper and lanes look.
-#[tactic(auto, unfolding(crate::specs::Heads::text_style))]
-fn push_text_style(text: &mut String) -> Result<(), NoMemory>
-    ensures { OnOk result (string_bytes text.new ≡ string_bytes text.old ++ text_style) }
-{
-    text.push_str(
-        "text{font:11px DejaVu Sans,Verdana,sans-serif;fill:#333}path{fill:none}.p{fill:#fff}.e{fill:#f0f2f5}\n",
-    )?;
-    text.push_str(
-        ".h{font-size:18px;font-weight:bold}.r{font-size:12px;font-weight:bold}.n{font-size:10px;text-anchor:end}\n",
-    )?;
-    text.push_str(
-        ".l{font-size:10px;fill:#666}.a{font-size:10px;fill:#666;text-anchor:middle}.g{font-size:9px}\n",
-    )?;
-    text.push_str(".r,.n,.g{paint-order:stroke;stroke:#f0f2f5;stroke-width:3px}\n")?;
-    Ok(())
-}
-
-/// How paths look, and the colours of peerings.
-#[tactic(auto, unfolding(crate::specs::Heads::path_style))]
-fn push_path_style(text: &mut String) -> Result<(), NoMemory>
-    ensures { OnOk result (string_bytes text.new ≡ string_bytes text.old ++ path_style) }
-{
-    text.push_str(
-        ".s{stroke-width:3px;stroke-linecap:round}.d{stroke-width:7px;stroke-linecap:round}\n",
-    )?;
-    text.push_str(
-        ".w{stroke-width:2px;stroke-dasharray:5 3}.k{stroke-width:1px;stroke-dasharray:2 3}\n",
-    )?;
-    text.push_str(
-        ".x{stroke:#000;stroke-width:2px}.o{stroke:#d4d9e0}.b{stroke:#999;stroke-width:2px}\n",
-    )?;
-    text.push_str(
-        ".c0{stroke:#332288}.c1{stroke:#cc6677}.c2{stroke:#44aa99}.c3{stroke:#882255}\n",
-    )?;
-    text.push_str(".c4{stroke:#88ccee}.c5{stroke:#117733}.c6{stroke:#aa4499}\n")?;
-    Ok(())
-}
-
 /// How all looks.
-#[tactic(auto, unfolding(crate::specs::Heads::style_text))]
 fn push_style(text: &mut String) -> Result<(), NoMemory>
     ensures { OnOk result (string_bytes text.new ≡ string_bytes text.old ++ style_text) }
 {
-    text.push_str("<style>")?;
-    push_text_style(text)?;
-    push_path_style(text)?;
-    text.push_str("</style>\n")?;
+    text.push_str(STYLE)?;
     Ok(())
 }
 
@@ -199,8 +179,10 @@ fn push_counts(text: &mut String, lab: &Lab) -> Result<(), NoMemory>
     let peerings = lab.input.peerings.len();
     let grafts = lab.log.len();
     let rounds = last_round(lab.marks.len());
-    write!(text, "routers {routers}, peerings {peerings}")?;
-    write!(text, ", grafts {grafts}, rounds {rounds}")?;
+    write!(
+        text,
+        "routers {routers}, peerings {peerings}, grafts {grafts}, rounds {rounds}"
+    )?;
     Ok(())
 }
 
@@ -219,26 +201,10 @@ fn push_titles(text: &mut String, alloc: Global, lab: &Lab) -> Result<(), NoMemo
 }
 
 /// What each shape says.
-#[tactic(auto, unfolding(crate::specs::Heads::legend))]
 fn push_legend(text: &mut String) -> Result<(), NoMemory>
     ensures { OnOk result (string_bytes text.new ≡ string_bytes text.old ++ legend) }
 {
-    text.push_str("<path class='s c0' d='M16 78h32'/><text x='56' y='82'>at a router</text>\n")?;
-    text.push_str(
-        "<path class='w c0' d='M144 84C160 84 160 72 176 72'/><text x='184' y='82'>on its way</text>\n",
-    )?;
-    text.push_str(
-        "<path class='k c0' d='M272 78h32'/><text x='312' y='82'>its place kept at the source</text>\n",
-    )?;
-    text.push_str(
-        "<path class='d c0' d='M500 78h0'/><text class='g' x='507' y='76'>7</text><text x='520' y='82'>landed by graft 7</text>\n",
-    )?;
-    text.push_str(
-        "<path class='x' d='M639 73l10 10m0 -10l-10 10'/><text x='656' y='82'>refused</text>\n",
-    )?;
-    text.push_str(
-        "<path class='b' d='M728 70v16'/><text x='736' y='82'>a group of the script begins</text>\n",
-    )?;
+    text.push_str(LEGEND)?;
     Ok(())
 }
 

@@ -6,5 +6,5 @@ use Rattle.picture_view.proofs.shapes.push_first_stays.Goals as goal
 -- one more
 pub loop-index-preserved : goal.loop-index-preserved
 loop-index-preserved c =
-    numbered_more (first_stay c.args.input.now c.args.plan.now) c.args.peerings.now c.loop-index.index c.index-peerings-index.result _ _ _ (omega (arith, c.loop-index-test.true))
-    c.index-peerings-index.is c.loop-index.invariant c.in_ok-push_first_stay.ensures
+    numbered_more (first_stay c.args.input.now c.args.plan.now) c.args.peerings.now c.loop-index.index c.index-peerings-index.result _ _ _
+    (omega (arith, c.loop-index-test.true)) c.index-peerings-index.is c.loop-index.invariant c.in_ok-push_first_stay.ensures
