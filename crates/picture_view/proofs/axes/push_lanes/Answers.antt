@@ -1,6 +1,6 @@
 use Rattle.std.proofs.Common.{arith}
 use Rattle.picture_view.specs.Axes.{lane_shape}
-use Rattle.timeline_view.proofs.Numbered.{numbered_more}
+use Rattle.story_view.proofs.Steps.{numbered_more}
 use Rattle.picture_view.proofs.axes.push_lanes.Goals as goal
 
 -- one more

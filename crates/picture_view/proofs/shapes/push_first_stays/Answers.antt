@@ -1,6 +1,6 @@
 use Rattle.std.proofs.Common.{arith}
 use Rattle.picture_view.specs.Shapes.{first_stay}
-use Rattle.timeline_view.proofs.Numbered.{numbered_more}
+use Rattle.story_view.proofs.Steps.{numbered_more}
 use Rattle.picture_view.proofs.shapes.push_first_stays.Goals as goal
 
 -- one more
