@@ -1,4 +1,3 @@
-pub mod Appended
 pub mod Escaping
 pub mod Ranges
 pub mod Refusals

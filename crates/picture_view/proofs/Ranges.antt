@@ -1,8 +1,8 @@
 -- Numbers from 0 on, one more at a time.
-use Rattle.std.proofs.Common.{◌≡◌, ℕ, ◌+◌, Bool, List, [], ◌∷◌, ◌++◌, zero, suc, ap, ◌∙◌, sym, filter, map, append_assoc, append-nil, arith}
+use Rattle.std.proofs.Common.{◌≡◌, ℕ, ◌+◌, Bool, List, [], ◌∷◌, ◌++◌, zero, suc, ap, ◌∙◌, sym, filter, map, arith}
 use Rattle.std.specs.List.{flat_map, range_with_len}
 use Rattle.std.proofs.lemmas.List.FromFn.{map-range_with_len_more}
-use Rattle.std.proofs.lemmas.Grind.{flat_map-append}
+use Rattle.std.proofs.lemmas.List.{flat_map_more}
 use Rattle.std.proofs.lemmas.List.Elements.{filter-append}
 
 counted : (a n : ℕ) → range_with_len a (suc n) ≡ range_with_len a n ++ (a + n) ∷ []
@@ -27,10 +27,7 @@ filtered_more test n = ap (filter test) (one_more n) ∙ filter-append test (ran
 pub listed_more : (f : ℕ → List ℕ) (n : ℕ) (before so_far after : List ℕ) → so_far ≡ before ++ flat_map f (range_with_len 0 n)
     → after ≡ so_far ++ f n → after ≡ before ++ flat_map f (range_with_len 0 (n + 1))
 listed_more f n before so_far after so is =
-    let own : flat_map f (range_with_len 0 (n + 1)) ≡ flat_map f (range_with_len 0 n) ++ f n =
-    ap (flat_map f) (one_more n) ∙ flat_map-append f (range_with_len 0 n) (n ∷ [])
-    ∙ ap (λ (l : List ℕ). flat_map f (range_with_len 0 n) ++ l) (append-nil (f n)) in
-    is ∙ ap (λ (l : List ℕ). l ++ f n) so ∙ append_assoc before (flat_map f (range_with_len 0 n)) (f n) ∙ ap (λ (l : List ℕ). before ++ l) (sym own)
+    is ∙ ap (λ (l : List ℕ). l ++ f n) so ∙ flat_map_more f before (range_with_len 0 n) n ∙ ap (λ (ns : List ℕ). before ++ flat_map f ns) (sym (one_more n))
 
 -- what all so far give, and one more
 pub mapped_more : {X : Type 0} (f : ℕ → X) (n : ℕ) (x : X) (so_far after : List X) → so_far ≡ map f (range_with_len 0 n) → x ≡ f n
