@@ -1,7 +1,9 @@
 //! Where things stand in the picture, in pixels. A number that doesn't fit is NoMemory.
 
-ghost use Rattle.std.specs.Prelude.{◌≡◌, ◌+◌, ◌*◌, IfOk, [], sum_by, count_by, nat_lt, get_or};
+ghost use Rattle.std.specs.Prelude.{◌≡◌, ◌+◌, ◌*◌, ◌==◌, ◌&&◌, IfOk, [], sum_by, count_by, nat_lt, get_or};
+ghost use Rattle.std.specs.List.{find};
 ghost use Rattle.std.specs.Option.{option_copied};
+ghost use Rattle.picture_view.specs.Plans.{is_left as is_left_lem};
 ghost use Rattle.picture_view.specs.Positions.{eighth, column_x, round_x, eighths, point_x, end_x, name_columns, x_of, arrives, is_back, frees};
 ghost use Rattle.picture_view.specs.Positions.{graft_x, next_leave_x, lane_height, lane_y, bottom_y, row_y, width_of, height_of};
 
@@ -115,17 +117,30 @@ fn frees(change: Change) -> bool
     matches!(change, Change::CameBack | Change::Cleared)
 }
 
+/// The change by which the session of a graft arrives at its target.
+fn arrival(points: &[GraftPoint], graft: u32) -> Option<&GraftPoint>
+    ensures { option_copied result ≡ find (λ p. arrives p.change && (p.graft == graft)) points.now }
+{
+    points
+        .iter()
+        .find(|point| arrives(point.change) && point.graft == graft)
+}
+
 /// Where the session of a graft arrives at its target.
 #[tactic(auto, unfolding(crate::specs::Positions::graft_x))]
 pub(crate) fn arrival_x(plan: &Plan, graft: u32) -> Result<usize, NoMemory>
     ensures { IfOk result (λ x. x ≡ graft_x plan.now arrives graft) }
 {
-    x_of(
-        plan,
-        plan.points
-            .iter()
-            .find(|point| arrives(point.change) && point.graft == graft),
-    )
+    x_of(plan, arrival(plan.points.as_slice(), graft))
+}
+
+/// The change by which the session of a graft is back at its source.
+fn coming_back(points: &[GraftPoint], graft: u32) -> Option<&GraftPoint>
+    ensures { option_copied result ≡ find (λ p. is_back p.change && (p.graft == graft)) points.now }
+{
+    points
+        .iter()
+        .find(|point| is_back(point.change) && point.graft == graft)
 }
 
 /// Where the session of a graft is back at its source.
@@ -133,12 +148,16 @@ pub(crate) fn arrival_x(plan: &Plan, graft: u32) -> Result<usize, NoMemory>
 pub(crate) fn return_x(plan: &Plan, graft: u32) -> Result<usize, NoMemory>
     ensures { IfOk result (λ x. x ≡ graft_x plan.now is_back graft) }
 {
-    x_of(
-        plan,
-        plan.points
-            .iter()
-            .find(|point| is_back(point.change) && point.graft == graft),
-    )
+    x_of(plan, coming_back(plan.points.as_slice(), graft))
+}
+
+/// The change by which the source of a graft keeps the place of its session no longer.
+fn freeing(points: &[GraftPoint], graft: u32) -> Option<&GraftPoint>
+    ensures { option_copied result ≡ find (λ p. frees p.change && (p.graft == graft)) points.now }
+{
+    points
+        .iter()
+        .find(|point| frees(point.change) && point.graft == graft)
 }
 
 /// Where the source keeps the place of a graft's session no longer.
@@ -146,12 +165,17 @@ pub(crate) fn return_x(plan: &Plan, graft: u32) -> Result<usize, NoMemory>
 pub(crate) fn freed_x(plan: &Plan, graft: u32) -> Result<usize, NoMemory>
     ensures { IfOk result (λ x. x ≡ graft_x plan.now frees graft) }
 {
-    x_of(
-        plan,
-        plan.points
-            .iter()
-            .find(|point| frees(point.change) && point.graft == graft),
-    )
+    x_of(plan, freeing(plan.points.as_slice(), graft))
+}
+
+/// The change by which the session of a peering next leaves after a round.
+fn next_leave(points: &[GraftPoint], peering: usize, round: usize) -> Option<&GraftPoint>
+    ensures { option_copied result
+        ≡ find (λ p. is_left_lem p.change && ((p.peering == peering) && nat_lt round p.round)) points.now }
+{
+    points.iter().find(|point| is_left(point.change)
+        && point.peering == peering
+        && round < point.round)
 }
 
 /// Where the session of a peering next leaves after a round.
@@ -159,12 +183,7 @@ pub(crate) fn freed_x(plan: &Plan, graft: u32) -> Result<usize, NoMemory>
 pub(crate) fn next_leave_x(plan: &Plan, peering: usize, round: usize) -> Result<usize, NoMemory>
     ensures { IfOk result (λ x. x ≡ next_leave_x plan.now peering round) }
 {
-    x_of(
-        plan,
-        plan.points.iter().find(|point| {
-            is_left(point.change) && point.peering == peering && round < point.round
-        }),
-    )
+    x_of(plan, next_leave(plan.points.as_slice(), peering, round))
 }
 
 /// The height of a lane.
