@@ -1,0 +1,8 @@
+use Rattle.std.proofs.Common.{refl}
+use Rattle.std.specs.Str.{chars}
+use Rattle.picture_view.specs.Elements.{escaped}
+use Rattle.picture_view.proofs.laws.worked_escape.Goals as goal
+
+pub returns : goal.returns
+unfolding chars escaped
+returns c = refl
