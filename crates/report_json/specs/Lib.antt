@@ -1,0 +1,5 @@
+pub mod Values
+pub mod Check
+pub mod Run
+pub mod Traces
+pub mod Summary
