@@ -31,13 +31,24 @@ use Rattle.report_json.specs.Values.{count, list_of, fields, version}
 
 -- ---- how the run ended
 
+abbrev pub settled_json : Data
+settled_json = fields ((codes "end", string (codes "settled")) ∷ [])
+
+-- the rounds of the settle of this number, from 1, were not enough
+abbrev pub unsettled_json : (step rounds : ℕ) → Data
+unsettled_json step rounds = fields ((codes "end", string (codes "unsettled")) ∷ (codes "rounds", count rounds) ∷ (codes "step", count step) ∷ [])
+
+abbrev pub stream_full_json : (peering : List ℕ) → (length : ℕ) → Data
+stream_full_json peering length = fields ((codes "end", string (codes "stream-full")) ∷ (codes "length", count length) ∷ (codes "peering", string peering) ∷ [])
+
+abbrev pub journal_full_json : (events : ℕ) → Data
+journal_full_json events = fields ((codes "end", string (codes "journal-full")) ∷ (codes "events", count events) ∷ [])
+
 abbrev pub end_json : LabInput → RunEnd → Data
-end_json input Settled = fields ((codes "end", string (codes "settled")) ∷ [])
-end_json input (Unsettled step rounds pending) =
-    fields ((codes "end", string (codes "unsettled")) ∷ (codes "rounds", count rounds) ∷ (codes "step", count step) ∷ [])
-end_json input (StreamFull peering length) =
-    fields ((codes "end", string (codes "stream-full")) ∷ (codes "length", count length) ∷ (codes "peering", string (peering_name input peering.0)) ∷ [])
-end_json input (JournalFull events) = fields ((codes "end", string (codes "journal-full")) ∷ (codes "events", count events) ∷ [])
+end_json input Settled = settled_json
+end_json input (Unsettled step rounds pending) = unsettled_json step rounds
+end_json input (StreamFull peering length) = stream_full_json (peering_name input peering.0) length
+end_json input (JournalFull events) = journal_full_json events
 
 -- ---- routers
 

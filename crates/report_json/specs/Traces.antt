@@ -15,7 +15,7 @@ use Rattle.lab_report.specs.declared.lab.Lab.{Lab}
 use Rattle.lab_report.specs.Report.{router_name, peering_name}
 use Rattle.lab_report.specs.Traces.{forward_maps_of, numbered_routers}
 use Rattle.report_json.specs.Run.{report_json}
-use Rattle.report_json.specs.Values.{text_or_null, fields, json_line}
+use Rattle.report_json.specs.Values.{text_or_null, list_of, fields, json_line}
 
 -- ---- how a walk ends
 
@@ -70,10 +70,24 @@ Traces input maps (address ∷ addresses) traces =
     (first : List Data) × TracesFrom input maps address (numbered_routers input) first
     × (rest : List Data) × (traces ≡ first ++ rest) × Traces input maps addresses rest
 
+-- Values of which this holds stand behind those of before.
+abbrev pub Appends : (List Data → Type 0) → (before after : List Data) → Type 0
+Appends Is before after = (values : List Data) × Is values × (after ≡ before ++ values)
+
+-- an array of values of which this holds
+abbrev pub IsListOf : (List Data → Type 0) → Data → Type 0
+IsListOf Is value = (values : List Data) × Is values × (value ≡ list_of values)
+
 -- ---- the whole
 
--- The text is the report of a run as JSON, with the walks to the addresses of its input.
-pub record IsReportJson (lab : Lab) (text : List ℕ) : Type 0 where
+-- The value is the report of a run, with the walks to the addresses of its input.
+pub record IsReportValue (lab : Lab) (value : Data) : Type 0 where
   pub traces : List Data
   pub traced : Traces lab.input (forward_maps_of lab) lab.input.trace traces
-  pub is : text ≡ json_line (report_json lab traces)
+  pub is : value ≡ report_json lab traces
+
+-- The text is what is written of such a value.
+pub record IsReportJson (lab : Lab) (text : List ℕ) : Type 0 where
+  pub value : Data
+  pub reports : IsReportValue lab value
+  pub is : text ≡ json_line value
