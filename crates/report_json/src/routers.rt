@@ -52,8 +52,9 @@ fn push_part(list: &mut Vec<Value>, alloc: Global, part: &PathPart) -> Result<()
 pub fn path_value(alloc: Global, path: &AsPath) -> Result<Value, NoMemory>
     ensures { IfOk result (λ v. view v ≡ path_json path.now) }
 {
-    let mut list = Vec::new(alloc);
-    for part in path {
+    let parts = path.as_slice();
+    let mut list = Vec::with_capacity(alloc, parts.len())?;
+    for part in parts {
         push_part(&mut list, alloc, part)?;
     }
     Ok(Value::Array(list))

@@ -135,6 +135,17 @@ abbrev pub way_word : Way → List ℕ
 way_word Home = codes "home"
 way_word Remote = codes "remote"
 
+-- the side to which a segment was on its way
+abbrev pub about_link : Way → Data
+about_link way = fields ((codes "to", string (way_word way)) ∷ [])
+
+-- a segment of a remote that came astray
+abbrev pub about_stray : (remote : List ℕ) → Data
+about_stray remote = fields ((codes "peering", string remote) ∷ [])
+
+abbrev pub about_group : (group : ℕ) → Data
+about_group group = fields ((codes "group", count group) ∷ [])
+
 -- ---- all
 
 -- What an event is. Prefixes that are decided, told and heard are counted, and have none.
@@ -143,7 +154,7 @@ events_of lab round name Decide = []
 events_of lab round name Tell = []
 events_of lab round name Hear = []
 events_of lab round name (MessageEvent p nth) = messages_json round name (peering_name lab.input p) nth (slice_get lab.sessions p)
-events_of lab round name (Stray p) = event_json round name (codes "stray") (fields ((codes "peering", string (peering_name lab.input p)) ∷ [])) ∷ []
+events_of lab round name (Stray p) = event_json round name (codes "stray") (about_stray (peering_name lab.input p)) ∷ []
 events_of lab round name (Admit k) = did_graft lab.input round name (Admit k) (graft_in lab.log k)
 events_of lab round name (Refuse k) = did_graft lab.input round name (Refuse k) (graft_in lab.log k)
 events_of lab round name (Freeze k) = did_graft lab.input round name (Freeze k) (graft_in lab.log k)
@@ -155,9 +166,9 @@ events_of lab round name (Clear k) = did_graft lab.input round name (Clear k) (g
 events_of lab round name (Confirm k) = did_graft lab.input round name (Confirm k) (graft_in lab.log k)
 events_of lab round name (Order k) = did_graft lab.input round name (Order k) (graft_in lab.log k)
 events_of lab round name (Say step) = event_json round name (codes "said") (about_step lab.input step) ∷ []
-events_of lab round name (Lose way) = event_json round name (codes "lost") (fields ((codes "to", string (way_word way)) ∷ [])) ∷ []
-events_of lab round name (Repeat way) = event_json round name (codes "repeated") (fields ((codes "to", string (way_word way)) ∷ [])) ∷ []
-events_of lab round name (Begin group) = event_json round name (codes "began") (fields ((codes "group", count group) ∷ [])) ∷ []
+events_of lab round name (Lose way) = event_json round name (codes "lost") (about_link way) ∷ []
+events_of lab round name (Repeat way) = event_json round name (codes "repeated") (about_link way) ∷ []
+events_of lab round name (Begin group) = event_json round name (codes "began") (about_group group) ∷ []
 
 abbrev pub happening_json : Lab → Happening → List Data
 happening_json lab h = events_of lab h.round (actor_name lab.input h.actor) h.event

@@ -46,11 +46,17 @@ notice_json n = fields
     ((codes "code", count n.code) ∷ (codes "data", string (encode_lower n.info)) ∷ (codes "name", text_or_null (fault_name n.code n.subcode))
     ∷ (codes "subcode", count n.subcode) ∷ (codes "text", text_or_null (communication n)) ∷ [])
 
+abbrev pub notification_json : Notice → Data
+notification_json n = fields ((codes "notice", notice_json n) ∷ (codes "type", string (codes "NOTIFICATION")) ∷ [])
+
+abbrev pub keepalive_json : Data
+keepalive_json = fields ((codes "type", string (codes "KEEPALIVE")) ∷ [])
+
 abbrev pub message_json : Message → Data
 message_json (OpenMsg o) = open_json o
 message_json (UpdateMsg u) = update_json u
-message_json (NoticeMsg n) = fields ((codes "notice", notice_json n) ∷ (codes "type", string (codes "NOTIFICATION")) ∷ [])
-message_json KeepaliveMsg = fields ((codes "type", string (codes "KEEPALIVE")) ∷ [])
+message_json (NoticeMsg n) = notification_json n
+message_json KeepaliveMsg = keepalive_json
 
 -- ---- octets
 

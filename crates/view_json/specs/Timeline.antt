@@ -46,13 +46,15 @@ events_json lab all = list_of
 
 -- ---- prefixes that were decided, told and heard
 
+abbrev pub some_counts : (round : ℕ) → (name : List ℕ) → (decided told heard : ℕ) → Data
+some_counts round name decided told heard = fields
+    ((codes "decided", count decided) ∷ (codes "heard", count heard) ∷ (codes "round", count round) ∷ (codes "router", string name)
+    ∷ (codes "told", count told) ∷ [])
+
 -- nothing where there were none
 abbrev pub counts_json : (round : ℕ) → (name : List ℕ) → (decided told heard : ℕ) → List Data
 counts_json round name decided told heard =
-    if (decided == 0) && ((told == 0) && (heard == 0)) then []
-    else fields
-        ((codes "decided", count decided) ∷ (codes "heard", count heard) ∷ (codes "round", count round) ∷ (codes "router", string name)
-        ∷ (codes "told", count told) ∷ []) ∷ []
+    if (decided == 0) && ((told == 0) && (heard == 0)) then [] else some_counts round name decided told heard ∷ []
 
 abbrev pub router_counts : (round : ℕ) → List Happening → ℕ × RouterInput → List Data
 router_counts round here r = counts_json round r.1.name (count_at is_decide r.0 here) (count_at is_tell r.0 here) (count_at is_hear r.0 here)

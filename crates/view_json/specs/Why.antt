@@ -72,12 +72,16 @@ abbrev pub denied_json : LabInput → PrefixValue → SessionRoute → Attrs →
 denied_json input prefix session heard = excluded_json input (codes "policy") session heard
     (import_json input session.peering.0) (count_or_null (option_map (λ index. index + 1) (matching prefix session heard)))
 
+-- a route that was heard and not let in
+abbrev pub kept_out_json : LabInput → PrefixValue → SessionRoute → Attrs → Data
+kept_out_json input prefix session heard =
+    if holds_as heard.path input.home_as then looped_json input session heard else denied_json input prefix session heard
+
 -- a route that was heard, of which this was let in
 abbrev pub excluded_route : LabInput → PrefixValue → SessionRoute → Option Attrs → Option Route → List Data
 excluded_route input prefix session None route = []
 excluded_route input prefix session (Some heard) (Some route) = []
-excluded_route input prefix session (Some heard) None =
-    (if holds_as heard.path input.home_as then looped_json input session heard else denied_json input prefix session heard) ∷ []
+excluded_route input prefix session (Some heard) None = kept_out_json input prefix session heard ∷ []
 
 abbrev pub excluded_of : LabInput → PrefixValue → SessionRoute → List Data
 excluded_of input prefix session = excluded_route input prefix session session.heard (imported input.home_as prefix session session.heard)
