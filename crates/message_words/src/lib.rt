@@ -8,8 +8,8 @@ mod notice;
 mod reading;
 mod update;
 
-pub use message::{push_message, push_read};
+pub use message::{push_message, push_read, type_name};
 pub use names::fault_name;
-pub use notice::push_notice;
+pub use notice::{communication, push_notice};
 pub use reading::{open_got, read_got};
 pub use update::{push_attrs, push_prefixes, push_update};

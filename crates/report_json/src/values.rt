@@ -44,7 +44,7 @@ pub fn count_or_null(number: Option<u32>) -> Value
 
 /// Returns a text, or null.
 pub fn text_or_null(alloc: Global, text: Option<&str>) -> Result<Value, NoMemory>
-    ensures { IfOk result (λ v. view v ≡ text_or_null_lem (option_map (λ t. t.now) text)) }
+    ensures { IfOk result (λ v. view v ≡ text_or_null_lem (option_map (λ t. t.now) text.entry)) }
 {
     match text {
         Some(text) => Ok(Value::try_from_str(alloc, text)?),

@@ -18,7 +18,7 @@ use std::alloc::Global;
 use story_view::adds_to;
 use tcp_seq::Way;
 
-pub(crate) type Happenings = Items<Happening>;
+pub type Happenings = Items<Happening>;
 
 /// The next message or round of a session that the lab has.
 fn message_event(
@@ -302,8 +302,8 @@ fn happenings_in(
     Ok(all)
 }
 
-/// What all entries of the journal tell of, in their order, with their rounds.
-pub(crate) fn happenings(alloc: Global, lab: &Lab) -> Result<Happenings, NoMemory>
+/// Returns what all entries of the journal tell of, in their order, with their rounds.
+pub fn happenings(alloc: Global, lab: &Lab) -> Result<Happenings, NoMemory>
     ensures { IfOk result (λ all. all ≡ happenings lab.now) }
 {
     let journal = lab.journal.as_slice();

@@ -36,8 +36,8 @@ fn is_of(moment: Moment, graft: u32, happening: &Happening) -> bool
     }
 }
 
-/// The round of a graft's moment, if it came.
-fn round_of(moment: Moment, graft: u32, all: &[Happening]) -> Option<usize>
+/// Returns the round of a graft's moment, if it came.
+pub fn round_of(moment: Moment, graft: u32, all: &[Happening]) -> Option<usize>
     ensures { result ≡ round_of_graft moment graft all.now }
 {
     all.iter()
@@ -135,8 +135,8 @@ fn is_stray_of(remote: u32, event: Event) -> bool
     }
 }
 
-/// How many segments of a graft's remote came astray, from the freeze to the end of the group.
-fn strays_of(graft: &GraftEntry, all: &[Happening]) -> usize
+/// Returns how many segments of a graft's remote came astray, from the freeze to the end of the group.
+pub fn strays_of(graft: &GraftEntry, all: &[Happening]) -> usize
     ensures { result ≡ strays_of graft.now all.now }
 {
     let remote = u32::from(graft.peering.0);
@@ -148,7 +148,7 @@ fn strays_of(graft: &GraftEntry, all: &[Happening]) -> usize
 
 /// UPDATEs, and how many prefixes they announce and withdraw.
 #[derive(Clone, Copy, Debug)]
-pub(crate) struct UpdateCounts {
+pub struct UpdateCounts {
     pub updates: usize,
     pub announced: usize,
     pub withdrawn: usize,
@@ -221,7 +221,7 @@ fn updates_in(
 }
 
 /// Returns the counts of what was put to a graft's remote, from the landing to the end of the group.
-pub(crate) fn updates_after(
+pub fn updates_after(
     lab: &Lab,
     outlines: &[Outline],
     graft: &GraftEntry,

@@ -32,8 +32,8 @@ fn remote_or_operator(input: &LabInput, remote: usize) -> &str
     }
 }
 
-/// The name of an actor: routers come first, then the remotes by their peerings, then the operator.
-fn actor_name(input: &LabInput, actor: u16) -> &str
+/// Returns the name of an actor: routers come first, then the remotes by their peerings, then the operator.
+pub fn actor_name(input: &LabInput, actor: u16) -> &str
     ensures { result.now ≡ actor_name input.now actor }
 {
     let number = usize::from(actor);
@@ -43,8 +43,8 @@ fn actor_name(input: &LabInput, actor: u16) -> &str
     }
 }
 
-/// The name of a peering's remote, or a dash.
-fn remote_name(input: &LabInput, peering: u32) -> &str
+/// Returns the name of a peering's remote, or a dash.
+pub fn remote_name(input: &LabInput, peering: u32) -> &str
     ensures { result.now ≡ peering_name input.now peering }
 {
     match input.peerings.get(peering as usize) {

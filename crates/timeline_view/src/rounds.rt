@@ -108,8 +108,8 @@ fn put(rounds: &mut Vec<Happenings>, happening: &Happening) -> Result<(), NoMemo
     Ok(())
 }
 
-/// What happened, by rounds.
-fn by_rounds(alloc: Global, count: usize, all: &[Happening]) -> Result<Vec<Happenings>, NoMemory>
+/// Returns what happened, by rounds.
+pub fn by_rounds(alloc: Global, count: usize, all: &[Happening]) -> Result<Vec<Happenings>, NoMemory>
     ensures { IfOk result (λ rounds. AreRounds count all.now rounds.items) }
 {
     let mut rounds = empty_rounds(alloc, count)?;
@@ -137,8 +137,8 @@ fn is_hear(event: Event) -> bool
     matches!(event, Event::Hear)
 }
 
-/// How many prefixes a router decided.
-fn decided_at(router: usize, here: &[Happening]) -> usize
+/// Returns how many prefixes a router decided.
+pub fn decided_at(router: usize, here: &[Happening]) -> usize
     ensures { result ≡ count_at is_decide router here.now }
 {
     here.iter()
@@ -146,8 +146,8 @@ fn decided_at(router: usize, here: &[Happening]) -> usize
         .count()
 }
 
-/// How often a router told another one of a prefix.
-fn told_at(router: usize, here: &[Happening]) -> usize
+/// Returns how often a router told another one of a prefix.
+pub fn told_at(router: usize, here: &[Happening]) -> usize
     ensures { result ≡ count_at is_tell router here.now }
 {
     here.iter()
@@ -155,8 +155,8 @@ fn told_at(router: usize, here: &[Happening]) -> usize
         .count()
 }
 
-/// How often a router heard of a prefix from another one.
-fn heard_at(router: usize, here: &[Happening]) -> usize
+/// Returns how often a router heard of a prefix from another one.
+pub fn heard_at(router: usize, here: &[Happening]) -> usize
     ensures { result ≡ count_at is_hear router here.now }
 {
     here.iter()

@@ -48,28 +48,32 @@ fn is_got(kind: u8, line: &Line) -> bool
     }
 }
 
-fn opens_put(view: &SessionView) -> usize
+/// Returns how many OPENs a session put.
+pub fn opens_put(view: &SessionView) -> usize
     ensures { result ≡ opens_put view.now }
 {
     let lines = view.story.lines();
     lines.iter().filter(|line| is_open_put(*line)).count()
 }
 
-fn opens_got(view: &SessionView) -> usize
+/// Returns how many OPENs a session got.
+pub fn opens_got(view: &SessionView) -> usize
     ensures { result ≡ opens_got view.now }
 {
     let lines = view.story.lines();
     lines.iter().filter(|line| is_got(OPEN, *line)).count()
 }
 
-fn notices_put(view: &SessionView) -> usize
+/// Returns how many NOTIFICATIONs a session put.
+pub fn notices_put(view: &SessionView) -> usize
     ensures { result ≡ notices_put view.now }
 {
     let lines = view.story.lines();
     lines.iter().filter(|line| is_notice_put(*line)).count()
 }
 
-fn notices_got(view: &SessionView) -> usize
+/// Returns how many NOTIFICATIONs a session got.
+pub fn notices_got(view: &SessionView) -> usize
     ensures { result ≡ notices_got view.now }
 {
     let lines = view.story.lines();
@@ -141,8 +145,8 @@ fn further_opens(view: &SessionView) -> Result<usize, NoMemory>
     put.checked_add(got).ok_or(NoMemory)
 }
 
-/// The same of all sessions.
-fn all_further_opens(sessions: &[SessionView]) -> Result<usize, NoMemory>
+/// Returns how many OPENs of all sessions stand behind the first one each way.
+pub fn all_further_opens(sessions: &[SessionView]) -> Result<usize, NoMemory>
     ensures { IfOk result (λ count. count ≡ sum_by further_opens sessions.now) }
 {
     let mut count: usize = 0;
@@ -160,8 +164,8 @@ fn notices(view: &SessionView) -> Result<usize, NoMemory>
         .ok_or(NoMemory)
 }
 
-/// How many NOTIFICATIONs were put and got on all sessions.
-fn all_notices(sessions: &[SessionView]) -> Result<usize, NoMemory>
+/// Returns how many NOTIFICATIONs were put and got on all sessions.
+pub fn all_notices(sessions: &[SessionView]) -> Result<usize, NoMemory>
     ensures { IfOk result (λ count. count ≡ sum_by notices sessions.now) }
 {
     let mut count: usize = 0;
@@ -171,8 +175,8 @@ fn all_notices(sessions: &[SessionView]) -> Result<usize, NoMemory>
     Ok(count)
 }
 
-/// How many prefixes were withdrawn from the remotes of these grafts, from the landing to the end of the group.
-fn withdrawn_in(
+/// Returns how many prefixes were withdrawn from the remotes of these grafts, from the landing to the end of the group.
+pub fn withdrawn_in(
     lab: &Lab,
     outlines: &[Outline],
     all: &[Happening],

@@ -130,7 +130,7 @@ fn first_at(
 }
 
 /// The rule at which a rank goes among others, if the nine rules don't leave it.
-pub(crate) fn goes_at(
+pub fn goes_at(
     alloc: Global,
     ranks: &[Rank],
     rank: &Rank,
