@@ -108,8 +108,12 @@ fn put(rounds: &mut Vec<Happenings>, happening: &Happening) -> Result<(), NoMemo
     Ok(())
 }
 
-/// Returns what happened, by rounds.
-pub fn by_rounds(alloc: Global, count: usize, all: &[Happening]) -> Result<Vec<Happenings>, NoMemory>
+/// What happened, by rounds.
+pub fn by_rounds(
+    alloc: Global,
+    count: usize,
+    all: &[Happening],
+) -> Result<Vec<Happenings>, NoMemory>
     ensures { IfOk result (λ rounds. AreRounds count all.now rounds.items) }
 {
     let mut rounds = empty_rounds(alloc, count)?;
@@ -137,7 +141,7 @@ fn is_hear(event: Event) -> bool
     matches!(event, Event::Hear)
 }
 
-/// Returns how many prefixes a router decided.
+/// How many prefixes a router decided.
 pub fn decided_at(router: usize, here: &[Happening]) -> usize
     ensures { result ≡ count_at is_decide router here.now }
 {
@@ -146,7 +150,7 @@ pub fn decided_at(router: usize, here: &[Happening]) -> usize
         .count()
 }
 
-/// Returns how often a router told another one of a prefix.
+/// How often a router told another one of a prefix.
 pub fn told_at(router: usize, here: &[Happening]) -> usize
     ensures { result ≡ count_at is_tell router here.now }
 {
@@ -155,7 +159,7 @@ pub fn told_at(router: usize, here: &[Happening]) -> usize
         .count()
 }
 
-/// Returns how often a router heard of a prefix from another one.
+/// How often a router heard of a prefix from another one.
 pub fn heard_at(router: usize, here: &[Happening]) -> usize
     ensures { result ≡ count_at is_hear router here.now }
 {

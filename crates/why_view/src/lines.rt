@@ -236,7 +236,7 @@ fn push_looped(
     Ok(())
 }
 
-/// Returns the index of the first rule of a policy that matches a route which was heard.
+/// Returns the index of the first rule of a policy that matches a route as it was heard, with preference 100.
 pub fn first_match(
     policy: &Policy,
     prefix: Prefix,
@@ -331,7 +331,7 @@ fn push_denied(
     Ok(())
 }
 
-/// Returns whether a path has the home AS.
+/// Returns whether a path has the home AS, which is a loop (RFC 4271, section 9.1.2).
 pub fn is_loop(input: &LabInput, heard: &Attrs) -> bool
     ensures { result ≡ holds_as_lem heard.now.path input.now.home_as }
 {

@@ -181,7 +181,7 @@ fn offers(opened: &OpenMsg) -> bool
     as_said(&opened.caps).is_some()
 }
 
-/// Returns whether AS numbers have four octets on the session of a peering that got this OPEN.
+/// Returns whether AS numbers have four octets on the session of a peering that got this OPEN (RFC 6793, section 4.1).
 #[tactic(auto, using(crate::proofs::Got::wide_is))]
 pub fn is_wide(peering: &PeeringInput, opened: &Option<OpenMsg>) -> bool
     ensures { (input : LabInput) → result ≡ both_offer (story_peering input peering.now).first opened.now }

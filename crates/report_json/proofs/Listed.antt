@@ -1,0 +1,27 @@
+-- Lists of values, one more at a time.
+use Rattle.std.proofs.Common.{ℕ, ◌≡◌, ◌+◌, ◌<◌, List, [], ◌∷◌, ◌++◌, map, take, length, ap, sym, ◌∙◌, slice_index_or}
+use Rattle.std.proofs.lemmas.List.{map-append}
+use Rattle.std.specs.List.{flat_map, enumerate_from}
+use Rattle.serde_json.specs.Data.{Data}
+use Rattle.serde_json.specs.View.{view}
+use Rattle.serde_json.specs.declared.value.Value.{Value}
+use Rattle.lab_input.proofs.Numbered.{flat_map_numbered}
+use Rattle.lab_report.proofs.Walked.{numbered_more}
+
+-- what a list of values shows with one more
+pub shown_more : (old new : List Value) (value : Value) (data : Data) → new ≡ old ++ value ∷ [] → view value ≡ data → map view new ≡ map view old ++ data ∷ []
+shown_more old new value data pushed is =
+    ap (map view) pushed ∙ map-append view old (value ∷ []) ∙ ap (λ d. map view old ++ d ∷ []) is
+
+module _ {X : Type 0} (xs : List X) (i : ℕ) (x : X) where
+  -- one value for each element
+  pub mapped_more : (f : ℕ × X → Data) (so_far after : List Data) → i < length xs → x ≡ slice_index_or xs i x
+      → so_far ≡ map f (enumerate_from 0 (take i xs)) → after ≡ so_far ++ f (i, x) ∷ [] → after ≡ map f (enumerate_from 0 (take (i + 1) xs))
+  mapped_more f so_far after lt at so is =
+      let rest = map-append f (enumerate_from 0 (take i xs)) ((i, x) ∷ []) in
+      is ∙ ap (λ l. l ++ f (i, x) ∷ []) so ∙ sym (ap (map f) (numbered_more xs i x lt at) ∙ rest)
+
+  -- some values for each element
+  pub gathered_more : (f : ℕ × X → List Data) (so_far after : List Data) → i < length xs → x ≡ slice_index_or xs i x
+      → so_far ≡ flat_map f (enumerate_from 0 (take i xs)) → after ≡ so_far ++ f (i, x) → after ≡ flat_map f (enumerate_from 0 (take (i + 1) xs))
+  gathered_more f so_far after lt at so is = is ∙ ap (λ l. l ++ f (i, x)) so ∙ sym (flat_map_numbered f xs i x lt at)
