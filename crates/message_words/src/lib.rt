@@ -14,4 +14,4 @@ pub use message::{push_message, push_read, type_name};
 pub use names::fault_name;
 pub use notice::{communication, push_notice};
 pub use reading::{open_got, read_got};
-pub use update::{push_attrs, push_prefixes, push_update};
+pub use update::{origin_name, push_attrs, push_prefixes, push_update};

@@ -77,7 +77,7 @@ routers_whole lab = mapped_whole (router_json lab.input lab.tables) (router_whol
 
 -- ---- peerings
 
-holder_whole : (input : LabInput) (place : Option Place) → Whole (holder_json input place)
+pub holder_whole : (input : LabInput) (place : Option Place) → Whole (holder_json input place)
 holder_whole input None = refl
 holder_whole input (Some (Held router)) = refl
 holder_whole input (Some Moving) = refl
@@ -89,11 +89,13 @@ there_whole form each (Some view) = with (each view) refl
 peering_whole : (input : LabInput) (sessions : List SessionView) (placement : List Place) (p : ℕ × PeeringInput)
     → AllWhole (peering_json input sessions placement p)
 peering_whole input sessions placement p =
-    there_whole (session_json input p.1.name (slice_get placement p.0)) (λ view. with (holder_whole input (slice_get placement p.0)) refl) (slice_get sessions p.0)
+    there_whole (session_json input p.1.name (slice_get placement p.0)) (λ view. with (holder_whole input (slice_get placement p.0)) refl)
+    (slice_get sessions p.0)
 
 peerings_whole : (lab : Lab) → Whole (peerings_json lab)
 peerings_whole lab =
-    gathered_whole (peering_json lab.input lab.sessions lab.placement) (peering_whole lab.input lab.sessions lab.placement) (enumerate_from 0 lab.input.peerings)
+    gathered_whole (peering_json lab.input lab.sessions lab.placement) (peering_whole lab.input lab.sessions lab.placement)
+    (enumerate_from 0 lab.input.peerings)
 
 -- ---- grafts
 
@@ -141,7 +143,8 @@ module _ (input : LabInput) (maps : List ForwardMap) where
 -- ---- the whole
 
 pub report_whole : (lab : Lab) (traces : List Data) → AllWhole traces → Whole (report_json lab traces)
-report_whole lab traces all = with (grafts_whole lab) (with (peerings_whole lab) (with (end_whole lab.input lab.end) (with (routers_whole lab) (with all refl))))
+report_whole lab traces all =
+    with (grafts_whole lab) (with (peerings_whole lab) (with (end_whole lab.input lab.end) (with (routers_whole lab) (with all refl))))
 
 short_peering_whole : (input : LabInput) (sessions : List SessionView) (placement : List Place) (p : ℕ × PeeringInput)
     → AllWhole (short_peering_json input sessions placement p)

@@ -1,5 +1,5 @@
 -- Values without floats, of which it is settled how they are written.
-use Rattle.std.proofs.Common.{ℕ, ◌≡◌, List, [], ◌∷◌, ◌++◌, Bool, false, ◌||◌, map, Option, Some, None, refl}
+use Rattle.std.proofs.Common.{ℕ, ◌≡◌, List, [], ◌∷◌, ◌++◌, Bool, true, false, ◌||◌, if◌then◌else◌, map, Option, Some, None, refl}
 use Rattle.std.proofs.lemmas.Bool.{or_from, or_parts}
 use Rattle.std.specs.List.{flat_map}
 use Rattle.serde_json.specs.Data.{Data}
@@ -38,3 +38,12 @@ appended_whole (value ∷ first) second p q =
 pub gathered_whole : {X : Type 0} (f : X → List Data) → ((x : X) → AllWhole (f x)) → (xs : List X) → AllWhole (flat_map f xs)
 gathered_whole f each [] = refl
 gathered_whole f each (x ∷ xs) = appended_whole (f x) (flat_map f xs) (each x) (gathered_whole f each xs)
+
+-- one of two
+pub either_whole : (test : Bool) (x y : Data) → Whole x → Whole y → Whole (if test then x else y)
+either_whole true x y p q = p
+either_whole false x y p q = q
+
+pub listed_whole : (test : Bool) (xs ys : List Data) → AllWhole xs → AllWhole ys → AllWhole (if test then xs else ys)
+listed_whole true xs ys p q = p
+listed_whole false xs ys p q = q

@@ -39,7 +39,8 @@ abbrev pub unsettled_json : (step rounds : ℕ) → Data
 unsettled_json step rounds = fields ((codes "end", string (codes "unsettled")) ∷ (codes "rounds", count rounds) ∷ (codes "step", count step) ∷ [])
 
 abbrev pub stream_full_json : (peering : List ℕ) → (length : ℕ) → Data
-stream_full_json peering length = fields ((codes "end", string (codes "stream-full")) ∷ (codes "length", count length) ∷ (codes "peering", string peering) ∷ [])
+stream_full_json peering length =
+    fields ((codes "end", string (codes "stream-full")) ∷ (codes "length", count length) ∷ (codes "peering", string peering) ∷ [])
 
 abbrev pub journal_full_json : (events : ℕ) → Data
 journal_full_json events = fields ((codes "end", string (codes "journal-full")) ∷ (codes "events", count events) ∷ [])

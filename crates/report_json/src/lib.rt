@@ -12,6 +12,7 @@ mod values;
 
 pub use check::check_json;
 pub use grafts::{graft_value, refusal_value, source_value, stage_refusal};
+pub use peerings::{holder_value, is_moving};
 pub use routers::{from_value, path_value};
 pub use run::{end_value, report_json};
 pub use summary::summary_json;

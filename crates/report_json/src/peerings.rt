@@ -11,8 +11,8 @@ use lab_tables::{LabInput, PeeringInput};
 use serde_json::{Value, json};
 use std::alloc::Global;
 
-/// The router that holds a session, or null.
-pub(crate) fn holder_value(
+/// Returns the router that holds a session, or null.
+pub fn holder_value(
     alloc: Global,
     input: &LabInput,
     place: Option<Place>,
@@ -25,8 +25,8 @@ pub(crate) fn holder_value(
     }
 }
 
-/// Whether a session is on its way.
-pub(crate) fn is_moving(place: Option<Place>) -> bool
+/// Returns whether a session is on its way.
+pub fn is_moving(place: Option<Place>) -> bool
     ensures { result ≡ is_moving place }
 {
     match place {

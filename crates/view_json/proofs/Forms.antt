@@ -1,20 +1,16 @@
 -- The values of why and timeline have no floats.
-use Rattle.std.proofs.Common.{ℕ, Bool, true, false, ◌≡◌, ◌==◌, ◌&&◌, List, [], ◌∷◌, ◌++◌, map, Option, Some, None, Result, Ok, Err, option_map, option_and_then, refl, slice_get, ◌+◌}
+use Rattle.std.proofs.Common.{ℕ, Bool, true, false, ◌≡◌, ◌==◌, ◌&&◌, List, [], ◌∷◌, ◌++◌, map, Option}
+use Rattle.std.proofs.Common.{Some, None, option_map, option_and_then, refl, slice_get, ◌+◌}
 use Rattle.std.proofs.Common.{if◌then◌else◌, length, codes}
 use Rattle.std.specs.List.{flat_map, enumerate_from}
-use Rattle.serde_json.specs.Data.{Data, null, string}
+use Rattle.serde_json.specs.Data.{Data, null}
 use Rattle.bgp_types.specs.Prefixes.{PrefixValue}
 use Rattle.bgp_types.specs.FirstFault.{message_of}
-use Rattle.bgp_types.specs.OpenBody.{as_said}
-use Rattle.bgp_types.specs.Texts.{prefix_text}
 use Rattle.bgp_types.specs.declared.attrs.Attrs.{Attrs}
 use Rattle.bgp_types.specs.declared.attrs.Route.{Route}
 use Rattle.bgp_types.specs.declared.fault.Expected.{Expected}
 use Rattle.bgp_types.specs.declared.message.Message.{Message}
 use Rattle.bgp_types.specs.declared.message.Message.TheVariants.{OpenMsg, UpdateMsg, NoticeMsg, KeepaliveMsg}
-use Rattle.bgp_types.specs.declared.message.Notice.{Notice}
-use Rattle.bgp_types.specs.declared.message.OpenMsg as open_type
-use Rattle.bgp_types.specs.declared.message.Update.{Update}
 use Rattle.bgp_types.specs.declared.rank.Rank.{Rank}
 use Rattle.bgp_story.specs.declared.line.Line.{Line}
 use Rattle.bgp_story.specs.declared.line.Line.TheVariants.{Put, Got, Tick}
@@ -30,13 +26,13 @@ use Rattle.lab_report.specs.declared.lab.Lab.{Lab}
 use Rattle.lab_report.specs.declared.lab.SessionView.{SessionView}
 use Rattle.lab_report.specs.Report.{peering_name, router_name}
 use Rattle.lab_report.specs.Summary.{announced_in_step}
-use Rattle.message_words.specs.Names.{fault_name}
-use Rattle.message_words.specs.Notices.{communication}
-use Rattle.report_json.specs.Values.{count, count_or_null}
-use Rattle.report_json.proofs.NoFloats.{Whole, AllWhole, with, number_whole, text_whole, mapped_whole, appended_whole, gathered_whole}
+use Rattle.report_json.specs.Values.{count_or_null}
+use Rattle.report_json.proofs.NoFloats.{Whole, AllWhole, with, number_whole, text_whole, mapped_whole}
+use Rattle.report_json.proofs.NoFloats.{appended_whole, gathered_whole, either_whole, listed_whole}
 use Rattle.report_json.proofs.Forms.{end_whole, path_whole, from_whole, stage_whole, source_whole, graft_whole, there_whole}
 use Rattle.timeline_view.specs.declared.event.Event.{Event}
-use Rattle.timeline_view.specs.declared.event.Event.TheVariants.{Decide, Tell, Hear, Message as MessageEvent, Stray, Admit, Refuse, Freeze, Leave, Land, TurnBack}
+use Rattle.timeline_view.specs.declared.event.Event.TheVariants.{Decide, Tell, Hear, Message as MessageEvent, Stray, Admit, Refuse}
+use Rattle.timeline_view.specs.declared.event.Event.TheVariants.{Freeze, Leave, Land, TurnBack}
 use Rattle.timeline_view.specs.declared.event.Event.TheVariants.{Return, Clear, Confirm, Say, Lose, Repeat, Order, Begin}
 use Rattle.timeline_view.specs.declared.event.Happening.{Happening}
 use Rattle.timeline_view.specs.declared.event.Moment.TheVariants.{Ordered, Frozen, Left, Landed}
@@ -52,23 +48,16 @@ use Rattle.why_view.specs.Sources.{sessions_at, candidates_at}
 use Rattle.why_view.specs.Why.{matching}
 use Rattle.why_view.specs.Winners.{ranks_of, best_index, is_index, winner}
 use Rattle.why_view.specs.declared.rules.DecisionRule.{DecisionRule}
-use Rattle.view_json.specs.Messages.{prefixes_json, open_json, some_path_json, update_json, notice_json, message_json, faulty_json, answer_json, read_json}
+use Rattle.message_json.specs.Messages.{prefixes_json}
+use Rattle.message_json.proofs.Forms.{prefixes_whole, message_whole, answer_whole}
 use Rattle.view_json.specs.Events.{event_json, about_message, put_json, reading_json, got_json, head_json, answered_json, messages_at, messages_json}
 use Rattle.view_json.specs.Events.{refusal_of, about_graft, did_graft, octets_in_step, prefixes_in, withdrawn_in_step, about_step, events_of, happening_json}
-use Rattle.view_json.specs.Timeline.{opening_of, view_opening, opening_json, events_json, some_counts, counts_json, router_counts, tables_json, span_json, moved_json}
+use Rattle.view_json.specs.Timeline.{opening_of, view_opening, opening_json, events_json, some_counts, counts_json}
+use Rattle.view_json.specs.Timeline.{router_counts, tables_json, span_json, moved_json}
 use Rattle.view_json.specs.Timeline.{grafts_json, session_json, peering_json, sessions_json, timeline_of, timeline_json}
-use Rattle.view_json.specs.Why.{candidate_json, best_json, rule_json, lost_json, unless_best, others_json, import_json, excluded_json, looped_json, denied_json, kept_out_json}
+use Rattle.view_json.specs.Why.{candidate_json, best_json, rule_json, lost_json, unless_best, others_json, import_json}
+use Rattle.view_json.specs.Why.{excluded_json, looped_json, denied_json, kept_out_json}
 use Rattle.view_json.specs.Why.{excluded_route, excluded_of, why_fields, why_if_there, why_json}
-
--- ---- choices
-
-either_whole : (test : Bool) (x y : Data) → Whole x → Whole y → Whole (if test then x else y)
-either_whole true x y p q = p
-either_whole false x y p q = q
-
-listed_whole : (test : Bool) (xs ys : List Data) → AllWhole xs → AllWhole ys → AllWhole (if test then xs else ys)
-listed_whole true xs ys p q = p
-listed_whole false xs ys p q = q
 
 -- ---- why
 
@@ -130,34 +119,6 @@ there lab prefix r (Some router) = why_fields_whole lab.input prefix router.name
 pub why_whole : (lab : Lab) (r : ℕ) (prefix : PrefixValue) → Whole (why_json lab r prefix)
 why_whole lab r prefix = there lab prefix r (slice_get lab.input.routers r)
 
--- ---- messages
-
-prefixes_whole : (prefixes : List PrefixValue) → Whole (prefixes_json prefixes)
-prefixes_whole prefixes = mapped_whole (λ p. string (prefix_text p)) (λ p. refl) prefixes
-
-open_whole : (o : open_type.OpenMsg) → Whole (open_json o)
-open_whole o = with (number_whole (as_said o.caps)) (with (mapped_whole (λ c. count c.code) (λ c. refl) o.caps) refl)
-
-some_path_whole : (attrs : Option Attrs) → Whole (some_path_json attrs)
-some_path_whole None = refl
-some_path_whole (Some a) = path_whole a.path
-
-update_whole : (u : Update) → Whole (update_json u)
-update_whole u = with (prefixes_whole u.nlri) (with (some_path_whole u.attrs) (with (prefixes_whole u.withdrawn) refl))
-
-notice_whole : (n : Notice) → Whole (notice_json n)
-notice_whole n = with (text_whole (fault_name n.code n.subcode)) (with (text_whole (communication n)) refl)
-
-message_whole : (message : Message) → Whole (message_json message)
-message_whole (OpenMsg o) = open_whole o
-message_whole (UpdateMsg u) = update_whole u
-message_whole (NoticeMsg n) = with (notice_whole n) refl
-message_whole KeepaliveMsg = refl
-
-answer_whole : (bytes : List ℕ) (answer : Result Message Notice) → Whole (answer_json bytes answer)
-answer_whole bytes (Ok message) = message_whole message
-answer_whole bytes (Err n) = with (notice_whole n) refl
-
 -- ---- events
 
 put_whole : (round : ℕ) (holder remote : List ℕ) (message : Message) → Whole (put_json round holder remote message)
@@ -208,7 +169,8 @@ prefixes_in_whole form (Some step) = prefixes_whole (form step)
 step_whole : (input : LabInput) (step : ℕ) → Whole (about_step input step)
 step_whole input step =
     with (prefixes_in_whole announced_in_step (slice_get input.steps step))
-    (with (number_whole (option_and_then octets_in_step (slice_get input.steps step))) (with (prefixes_in_whole withdrawn_in_step (slice_get input.steps step)) refl))
+    (with (number_whole (option_and_then octets_in_step (slice_get input.steps step)))
+    (with (prefixes_in_whole withdrawn_in_step (slice_get input.steps step)) refl))
 
 events_whole : (lab : Lab) (round : ℕ) (name : List ℕ) (event : Event) → AllWhole (events_of lab round name event)
 events_whole lab round name Decide = refl
@@ -259,11 +221,14 @@ module _ (lab : Lab) (all : List Happening) where
   counts_whole round name decided told heard =
       listed_whole ((decided == 0) && ((told == 0) && (heard == 0))) [] (some_counts round name decided told heard ∷ []) refl refl
 
+  router_whole : (round : ℕ) (here : List Happening) (r : ℕ × RouterInput) → AllWhole (router_counts round here r)
+  router_whole round here r =
+      counts_whole round r.1.name (count_at is_decide r.0 here) (count_at is_tell r.0 here) (count_at is_hear r.0 here)
+
   all_tables_whole : Whole (tables_json lab all)
   all_tables_whole = gathered_whole (λ m. flat_map (router_counts m.0 (in_round m.0 all)) (enumerate_from 0 lab.input.routers))
       (λ m. gathered_whole (router_counts m.0 (in_round m.0 all))
-        (λ r. counts_whole m.0 r.1.name (count_at is_decide r.0 (in_round m.0 all)) (count_at is_tell r.0 (in_round m.0 all)) (count_at is_hear r.0 (in_round m.0 all)))
-        (enumerate_from 0 lab.input.routers))
+        (λ r. router_whole m.0 (in_round m.0 all) r) (enumerate_from 0 lab.input.routers))
       (enumerate_from 0 lab.marks)
 
   span_whole : (from to : Option ℕ) → Whole (span_json from to)

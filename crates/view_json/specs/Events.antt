@@ -20,14 +20,15 @@ use Rattle.lab_report.specs.Summary.{announced_in_step}
 use Rattle.report_json.specs.Run.{source_json, stage_refusal}
 use Rattle.report_json.specs.Values.{count, count_or_null, fields}
 use Rattle.timeline_view.specs.declared.event.Event.{Event}
-use Rattle.timeline_view.specs.declared.event.Event.TheVariants.{Decide, Tell, Hear, Message as MessageEvent, Stray, Admit, Refuse, Freeze, Leave, Land, TurnBack}
+use Rattle.timeline_view.specs.declared.event.Event.TheVariants.{Decide, Tell, Hear, Message as MessageEvent, Stray, Admit, Refuse}
+use Rattle.timeline_view.specs.declared.event.Event.TheVariants.{Freeze, Leave, Land, TurnBack}
 use Rattle.timeline_view.specs.declared.event.Event.TheVariants.{Return, Clear, Confirm, Say, Lose, Repeat, Order, Begin}
 use Rattle.timeline_view.specs.declared.event.Happening.{Happening}
 use Rattle.timeline_view.specs.declared.outline.Head.{Head}
 use Rattle.timeline_view.specs.Lines.{actor_name}
 use Rattle.timeline_view.specs.Messages.{outline_of}
 use Rattle.timeline_view.specs.Numbers.{graft_in}
-use Rattle.view_json.specs.Messages.{prefixes_json, message_json, read_json}
+use Rattle.message_json.specs.Messages.{prefixes_json, message_json, read_json}
 
 -- what an actor did in a round, and what that was about
 abbrev pub event_json : (round : ℕ) → (actor what : List ℕ) → (about : Data) → Data

@@ -1,4 +1,3 @@
-pub mod Messages
 pub mod Events
 pub mod Timeline
 pub mod Why

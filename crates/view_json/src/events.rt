@@ -13,7 +13,6 @@ ghost use Rattle.view_json.specs.Events.{event_json, about_message, about_stray,
 ghost use Rattle.view_json.specs.Events.{answered_json, messages_at, messages_json, graft_word, refusal_of, about_graft, did_graft, way_word};
 ghost use Rattle.view_json.specs.Events.{events_of, happening_json};
 
-use crate::messages::{message_value, read_value};
 use crate::steps::about_step;
 use bgp_story::Line;
 use bgp_types::{Expected, Message};
@@ -21,6 +20,7 @@ use graft_edge::NoMemory;
 use graft_steps::GraftEntry;
 use lab_report::{Lab, SessionView, peering_name, router_name};
 use lab_tables::LabInput;
+use message_json::{message_value, read_value};
 use report_json::{source_value, stage_refusal};
 use serde_json::{Value, json};
 use std::alloc::Global;

@@ -3,7 +3,6 @@
 
 mod events;
 mod grafts;
-mod messages;
 mod sessions;
 mod steps;
 mod tables;

@@ -6,9 +6,9 @@ ghost use Rattle.lab_report.specs.Summary.{announced_in_step};
 ghost use Rattle.report_json.specs.Values.{count_or_null};
 ghost use Rattle.view_json.specs.Events.{withdrawn_in_step, octets_in_step, prefixes_in, about_step};
 
-use crate::messages::prefixes_value;
 use graft_edge::NoMemory;
 use lab_tables::{LabInput, Step};
+use message_json::prefixes_value;
 use serde_json::{Value, json};
 use std::alloc::Global;
 

@@ -1,7 +1,7 @@
 use Rattle.std.proofs.Common.{◌≡◌, map, take}
 use Rattle.serde_json.specs.View.{view}
 use Rattle.report_json.specs.Values.{count}
-use Rattle.view_json.proofs.messages.codes_value.Given as goal
+use Rattle.message_json.proofs.messages.codes_value.Given as goal
 
 -- the values so far are those of the capabilities so far
 abbrev pub invariant-loop-cap : goal.invariant-loop-cap

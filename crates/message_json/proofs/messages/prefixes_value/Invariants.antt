@@ -2,7 +2,7 @@ use Rattle.std.proofs.Common.{◌≡◌, map, take}
 use Rattle.serde_json.specs.View.{view}
 use Rattle.serde_json.specs.Data.{string}
 use Rattle.bgp_types.specs.Texts.{prefix_text}
-use Rattle.view_json.proofs.messages.prefixes_value.Given as goal
+use Rattle.message_json.proofs.messages.prefixes_value.Given as goal
 
 -- the values so far are those of the prefixes so far
 abbrev pub invariant-loop-prefix : goal.invariant-loop-prefix

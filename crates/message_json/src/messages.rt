@@ -6,8 +6,8 @@ ghost use Rattle.serde_json.specs.Data.{string};
 ghost use Rattle.serde_json.specs.View.{view};
 ghost use Rattle.bgp_story.specs.Legal.{IsGot};
 ghost use Rattle.report_json.specs.Values.{count, list_of};
-ghost use Rattle.view_json.specs.Messages.{prefixes_json, open_json, some_path_json, update_json, notice_json, message_json, faulty_json, read_json};
-ghost use Rattle.view_json.specs.Messages.{notification_json, keepalive_json};
+ghost use Rattle.message_json.specs.Messages.{prefixes_json, open_json, some_path_json, update_json, notice_json, message_json, faulty_json, read_json};
+ghost use Rattle.message_json.specs.Messages.{notification_json, keepalive_json};
 
 use bgp_types::{Attrs, Cap, Expected, Message, NoMemory, Notice, OpenMsg, Prefix, Update};
 use bgp_wire::{CodecFault, as_said};
@@ -16,8 +16,8 @@ use report_json::{address_value, count_or_null, path_value, prefix_value, text_o
 use serde_json::{Value, json};
 use std::alloc::Global;
 
-/// Prefixes.
-pub(crate) fn prefixes_value(alloc: Global, prefixes: &[Prefix]) -> Result<Value, NoMemory>
+/// Returns prefixes.
+pub fn prefixes_value(alloc: Global, prefixes: &[Prefix]) -> Result<Value, NoMemory>
     ensures { IfOk result (λ v. view v ≡ prefixes_json prefixes.now) }
 {
     let mut list = Vec::with_capacity(alloc, prefixes.len())?;
@@ -82,15 +82,15 @@ fn update_value(alloc: Global, update: &Update) -> Result<Value, NoMemory>
     Ok(value)
 }
 
-/// Octets in hexadecimal.
-fn octets_value(alloc: Global, octets: &[u8]) -> Result<Value, NoMemory>
+/// Returns octets in hexadecimal.
+pub fn octets_value(alloc: Global, octets: &[u8]) -> Result<Value, NoMemory>
     ensures { IfOk result (λ v. view v ≡ string (encode_lower octets.now)) }
 {
     Ok(Value::from(hex::encode(alloc, octets)?))
 }
 
-/// What a NOTIFICATION tells.
-fn notice_value(alloc: Global, notice: &Notice) -> Result<Value, NoMemory>
+/// Returns what a NOTIFICATION tells.
+pub fn notice_value(alloc: Global, notice: &Notice) -> Result<Value, NoMemory>
     ensures { IfOk result (λ v. view v ≡ notice_json notice.now) }
 {
     let name = text_or_null(alloc, fault_name(notice.code, notice.subcode))?;
@@ -121,8 +121,8 @@ fn keepalive_value(alloc: Global) -> Result<Value, NoMemory>
     Ok(value)
 }
 
-/// A message.
-pub(crate) fn message_value(alloc: Global, message: &Message) -> Result<Value, NoMemory>
+/// Returns a message.
+pub fn message_value(alloc: Global, message: &Message) -> Result<Value, NoMemory>
     ensures { IfOk result (λ v. view v ≡ message_json message.now) }
 {
     match message {
@@ -143,9 +143,9 @@ fn faulty_value(alloc: Global, bytes: &[u8], notice: &Notice) -> Result<Value, N
     Ok(value)
 }
 
-/// What a session that expects this reads in octets that it got at once.
+/// Returns what a session that expects this reads in octets that it got at once.
 #[tactic(auto, using(message_words::proofs::Frames::faulty_read))]
-pub(crate) fn read_value(
+pub fn read_value(
     alloc: Global,
     expected: &Expected,
     bytes: &[u8],
