@@ -142,7 +142,7 @@ module _ (input : LabInput) (maps : List ForwardMap) where
 
 -- ---- the whole
 
-pub report_whole : (lab : Lab) (traces : List Data) → AllWhole traces → Whole (report_json lab traces)
+pub report_whole : (lab : Lab) (traces : List Data) → AllWhole traces → Whole (report_json lab (list_of traces))
 report_whole lab traces all =
     with (grafts_whole lab) (with (peerings_whole lab) (with (end_whole lab.input lab.end) (with (routers_whole lab) (with all refl))))
 

@@ -22,8 +22,7 @@ module _ (input : LabInput) (maps : List ForwardMap) where
       let trace = trace_json input address r.1.name walk in
       (t.0, t.1, t.2 ++ trace ∷ [], ap (λ l. l ++ trace ∷ []) t.3, one_walk_more address routers r walk t.2 t.4 w)
 
-  -- the walks to one address further
-  pub one_address_more : (addresses : List ℕ) (address : ℕ) (before more : List Data)
+  one_address_more : (addresses : List ℕ) (address : ℕ) (before more : List Data)
       → Traces input maps addresses before → TracesFrom input maps address (numbered_routers input) more
       → Traces input maps (addresses ++ address ∷ []) (before ++ more)
   one_address_more [] address before more none t = (more, t, [], ap (λ l. l ++ more) none ∙ sym (append-nil more), refl)
@@ -44,6 +43,18 @@ module _ (input : LabInput) (maps : List ForwardMap) where
         subst (λ (rs : List (ℕ × RouterInput)). TracesFrom input maps address rs (a.0 ++ trace ∷ [])) (sym (numbered_more routers i router lt at)) more,
         is ∙ (ap (λ t. t ++ trace ∷ []) a.2 ∙ append_assoc before a.0 (trace ∷ [])),
       )
+
+  -- the walks to one address further
+  pub traced_more : (addresses : List ℕ) (i : ℕ) → i < length addresses → (so_far after : List Data)
+      → Traces input maps (take i addresses) so_far
+      → Appends (TracesFrom input maps (slice_index addresses i) (numbered_routers input)) so_far after
+      → Traces input maps (take (i + 1) addresses) after
+  traced_more addresses i lt so_far after t b =
+      let address = slice_index addresses i in
+      let more = one_address_more (take i addresses) address so_far b.0 t b.1 in
+      let further : take (i + 1) addresses ≡ take i addresses ++ address ∷ [] = take_more addresses i 0 lt in
+      subst (λ (values : List Data). Traces input maps (take (i + 1) addresses) values) (sym b.2)
+      (subst (λ (each : List ℕ). Traces input maps each (so_far ++ b.0)) (sym further) more)
 
   -- no walks before the first router
   pub none_walked : (address : ℕ) (before : List Data) → Appends (TracesFrom input maps address []) before before

@@ -177,8 +177,8 @@ abbrev pub grafts_json : Lab → Data
 grafts_json lab = list_of (map (graft_json lab.input) lab.log)
 
 -- how the run ended, each router with its best routes, each peering, each graft, and where packets go
-abbrev pub report_json : Lab → (traces : List Data) → Data
+abbrev pub report_json : Lab → (traces : Data) → Data
 report_json lab traces = fields
     ((codes "grafts", grafts_json lab) ∷ (codes "job", string (codes "run")) ∷ (codes "peerings", peerings_json lab)
-    ∷ (codes "result", end_json lab.input lab.end) ∷ (codes "routers", routers_json lab) ∷ (codes "traces", list_of traces)
+    ∷ (codes "result", end_json lab.input lab.end) ∷ (codes "routers", routers_json lab) ∷ (codes "traces", traces)
     ∷ (codes "version", version) ∷ [])

@@ -80,14 +80,8 @@ IsListOf Is value = (values : List Data) × Is values × (value ≡ list_of valu
 
 -- ---- the whole
 
--- The value is the report of a run, with the walks to the addresses of its input.
-pub record IsReportValue (lab : Lab) (value : Data) : Type 0 where
+-- The text is the report of a run as JSON, with the walks to the addresses of its input.
+pub record IsReportJson (lab : Lab) (text : List ℕ) : Type 0 where
   pub traces : List Data
   pub traced : Traces lab.input (forward_maps_of lab) lab.input.trace traces
-  pub is : value ≡ report_json lab traces
-
--- The text is what is written of such a value.
-pub record IsReportJson (lab : Lab) (text : List ℕ) : Type 0 where
-  pub value : Data
-  pub reports : IsReportValue lab value
-  pub is : text ≡ json_line value
+  pub is : text ≡ json_line (report_json lab (list_of traces))

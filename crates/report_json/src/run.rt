@@ -1,11 +1,9 @@
 //! The report of a run, as JSON.
 
 ghost use Rattle.std.specs.Prelude.{◌≡◌, IfOk};
-ghost use Rattle.serde_json.specs.Data.{Data};
 ghost use Rattle.serde_json.specs.View.{view};
-ghost use Rattle.lab_report.specs.Traces.{forward_maps_of};
-ghost use Rattle.report_json.specs.Run.{settled_json, unsettled_json, stream_full_json, journal_full_json, end_json};
-ghost use Rattle.report_json.specs.Traces.{IsReportValue, IsReportJson};
+ghost use Rattle.report_json.specs.Run.{settled_json, unsettled_json, stream_full_json, journal_full_json, end_json, report_json as report_json_lem};
+ghost use Rattle.report_json.specs.Traces.{IsReportJson};
 
 use crate::grafts::grafts_value;
 use crate::peerings::peerings_value;
@@ -65,15 +63,14 @@ pub fn end_value(alloc: Global, input: &LabInput, end: RunEnd) -> Result<Value, 
 
 // ---- the whole
 
-/// The whole report.
-fn report_value(alloc: Global, lab: &Lab) -> Result<Value, NoMemory>
-    ensures { IfOk result (λ v. IsReportValue lab.now (view v)) }
+/// The whole report, with these walks.
+fn report_value(alloc: Global, lab: &Lab, traces: Value) -> Result<Value, NoMemory>
+    ensures { IfOk result (λ v. view v ≡ report_json_lem lab.now (view traces)) }
 {
     let end = end_value(alloc, &lab.input, lab.end)?;
     let routers = routers_value(alloc, lab)?;
     let peerings = peerings_value(alloc, lab)?;
     let grafts = grafts_value(alloc, lab)?;
-    let traces = traces_value(alloc, lab)?;
     let value = json!(in alloc; {
         "version": 1u32,
         "job": "run",
@@ -91,6 +88,7 @@ fn report_value(alloc: Global, lab: &Lab) -> Result<Value, NoMemory>
 pub fn report_json(alloc: Global, lab: &Lab) -> Result<Octets, NoMemory>
     ensures { IfOk result (IsReportJson lab.now) }
 {
-    let value = report_value(alloc, lab)?;
+    let traces = traces_value(alloc, lab)?;
+    let value = report_value(alloc, lab, traces)?;
     json_line(alloc, &value)
 }
