@@ -253,7 +253,85 @@ def timeline_lines(o):
     yield f"total  {further}  withdrawn from moved remotes {total['withdrawn_from_moved']}"
 
 
-LINES = {"check": check_lines, "run": run_lines, "drill": drill_lines, "why": why_lines, "timeline": timeline_lines}
+# ---- show
+
+def attrs_text(a):
+    med = "" if a["med"] is None else f" med {a['med']}"
+    atomic = " atomic-aggregate" if a["atomic"] else ""
+    speaker = a["aggregator"]
+    aggregator = f" aggregator {speaker['as']} {speaker['address']}{partial(speaker)}" if speaker else ""
+    unknown = "".join(f" attribute {u['type']} {u['octets'] or '-'}{partial(u)}" for u in a["unknown"])
+    return f" path {path_text(a['path'])} next-hop {a['next_hop']} origin {a['origin']}{med}{atomic}{aggregator}{unknown}"
+
+
+def partial(attribute):
+    return " partial" if attribute["partial"] else ""
+
+
+def import_lines(name, route):
+    made = route["import"]
+    if made is None:
+        return
+    start = f"{made['result']} {name} {route['prefix']}"
+    if made["result"] == "accepted":
+        yield f"{start} pref {made['pref']}{attrs_text(made['attrs'])}"
+    elif made["result"] == "denied":
+        yield f"{start} rule {dash(made['rule'])} of {dash(made['policy'])}"
+    else:
+        yield f"{start} own AS in the path"
+
+
+def untold_text(u):
+    if u["why"] == "its AS in the path":
+        return f"its AS {u['as']} in the path"
+    return f"denied by rule {dash(u['rule'])} of {dash(u['policy'])}" if u["why"] == "denied" else u["why"]
+
+
+def closed_text(closed):
+    if closed["how"] == "hold time expired":
+        return f"hold time expired in round {closed['round']}"
+    return f"{closed['how']} {notice_text(closed['notice'])}"
+
+
+def peering_lines(p):
+    name, session, routes = p["name"], p["session"], p["routes"]
+    agreed = f"hold {dash(session['hold'])} as-octets {dash(session['as_octets'])}"
+    yield f"peering {name} {place_text(p)} state {session['state']} {agreed}"
+    ways = (f"{way} {session[way]['messages']} octets {session[way]['octets']}" for way in ("sent", "received"))
+    yield f"messages {name} {' '.join(ways)}"
+    if session["closed"]:
+        yield f"closed {name} {closed_text(session['closed'])}"
+    for route in routes["heard"]:
+        yield f"heard {name} {route['prefix']}{attrs_text(route['attrs'])}"
+        yield from import_lines(name, route)
+    for route in routes["told"]:
+        yield f"told {name} {route['prefix']}{attrs_text(route['attrs'])}"
+    for u in routes["untold"]:
+        yield f"untold {name} {u['prefix']} {untold_text(u)}"
+
+
+def show_lines(o):
+    yield result_line(o["result"])
+    if o["waiting"] is not None:
+        yield f"waiting: {o['waiting']}"
+    for r in o["routers"]:
+        yield f"router {r['name']} best {len(r['best'])}"
+        for b in r["best"]:
+            yield f"best {r['name']} {b['prefix']} {from_text(b['from'])} pref {b['pref']}{attrs_text(b['attrs'])}"
+    for p in o["peerings"]:
+        yield from peering_lines(p)
+    for f in o["faults"]:
+        yield f"fault {f['peering']} {f['way']} segment {f['segment']} {f['kind']} never came"
+
+
+LINES = {
+    "check": check_lines,
+    "run": run_lines,
+    "drill": drill_lines,
+    "show": show_lines,
+    "timeline": timeline_lines,
+    "why": why_lines,
+}
 
 
 # ---- the comparison
@@ -299,6 +377,7 @@ def jobs_of(program, data):
     """The jobs to try of a laboratory: of why, each prefix of its report at each of its routers."""
     yield ["check"]
     yield ["run", "--workers", "1"]
+    yield ["show", "--workers", "1"]
     yield ["timeline", "--workers", "1"]
     report = call(program, ["run", "--workers", "1"], data)[0].splitlines()
     routers = [line.split()[1] for line in report if line.startswith("router ")]
