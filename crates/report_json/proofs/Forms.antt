@@ -1,5 +1,5 @@
 -- The values of check, run and drill have no floats.
-use Rattle.std.proofs.Common.{ℕ, ◌≡◌, List, [], ◌∷◌, ◌++◌, map, Option, Some, None, option_map, refl, sym, subst, slice_get}
+use Rattle.std.proofs.Common.{ℕ, ◌≡◌, List, [], ◌∷◌, ◌++◌, Option, Some, None, option_map, refl, sym, subst, slice_get}
 use Rattle.std.specs.List.{enumerate_from}
 use Rattle.serde_json.specs.Data.{Data}
 use Rattle.graft_edge.specs.declared.ids.RouterId.{RouterId}
@@ -29,8 +29,8 @@ use Rattle.lab_report.specs.declared.lab.RunEnd.TheVariants.{Settled, Unsettled,
 use Rattle.lab_report.specs.declared.lab.SessionView.{SessionView}
 use Rattle.lab_report.specs.Report.{peering_name}
 use Rattle.lab_report.specs.Traces.{numbered_routers}
-use Rattle.report_json.specs.Run.{end_json, ases_json, part_json, path_json, from_name, from_json, best_json, table_json, router_json, holder_json}
-use Rattle.report_json.specs.Run.{session_json, if_there, peering_json, detail_json, refusal_json, stage_refusal, source_json, graft_json}
+use Rattle.report_json.specs.Run.{end_json, part_json, path_json, from_name, from_json, best_json, table_json, router_json, holder_json}
+use Rattle.report_json.specs.Run.{session_json, if_there, peering_json, detail_json, stage_refusal, source_json, graft_json}
 use Rattle.report_json.specs.Run.{routers_json, peerings_json, grafts_json, report_json}
 use Rattle.report_json.specs.Summary.{short_session_json, short_peering_json, short_router_json, short_peerings_json, short_routers_json, summary_json}
 use Rattle.report_json.specs.Traces.{leaves_over, ends_by, trace_json, TracesFrom, Traces}

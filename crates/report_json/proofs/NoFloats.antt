@@ -5,7 +5,7 @@ use Rattle.std.specs.List.{flat_map}
 use Rattle.serde_json.specs.Data.{Data}
 use Rattle.serde_json.specs.View.{items_of}
 use Rattle.serde_json.specs.Written.{has_float, items_have_float}
-use Rattle.report_json.specs.Values.{count, count_or_null, text_or_null}
+use Rattle.report_json.specs.Values.{count_or_null, text_or_null}
 
 abbrev pub Whole : Data → Type 0
 Whole value = has_float value ≡ false

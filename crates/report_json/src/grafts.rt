@@ -1,6 +1,6 @@
 //! Grafts with their outcomes, as JSON.
 
-ghost use Rattle.std.specs.Prelude.{◌≡◌, map, IfOk};
+ghost use Rattle.std.specs.Prelude.{◌≡◌, IfOk};
 ghost use Rattle.serde_json.specs.View.{view};
 ghost use Rattle.report_json.specs.Run.{reason_text, detail_json, refusal_json, stage_word, stage_refusal, source_json, graft_json, grafts_json};
 

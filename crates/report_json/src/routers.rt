@@ -1,10 +1,10 @@
 //! Routers with their best routes, as JSON.
 
-ghost use Rattle.std.specs.Prelude.{◌≡◌, ◌++◌, map, slice_get, IfOk, OnOk};
+ghost use Rattle.std.specs.Prelude.{◌≡◌, ◌++◌, map, IfOk, OnOk};
 ghost use Rattle.std.specs.Option.{option_copied};
 ghost use Rattle.serde_json.specs.View.{view};
 ghost use Rattle.report_json.specs.Run.{ases_json, part_json, path_json, from_kind, from_name, from_json, best_json, table_json, router_json, routers_json};
-ghost use Rattle.report_json.specs.Values.{count, list_of};
+ghost use Rattle.report_json.specs.Values.{list_of};
 
 use crate::values::prefix_value;
 use bgp_types::{AsPath, From, PathPart};

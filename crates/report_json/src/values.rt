@@ -1,6 +1,6 @@
 //! JSON values by their parts, and the line of one.
 
-ghost use Rattle.std.specs.Prelude.{◌≡◌, false, IfOk, string_bytes, option_map};
+ghost use Rattle.std.specs.Prelude.{◌≡◌, false, IfOk, option_map};
 ghost use Rattle.serde_json.specs.Data.{string};
 ghost use Rattle.serde_json.specs.View.{view};
 ghost use Rattle.serde_json.specs.Written.{has_float};

@@ -1,9 +1,8 @@
 -- The values of show have no floats.
-use Rattle.std.proofs.Common.{ℕ, Bool, true, false, ◌≡◌, ◌+◌, List, [], ◌∷◌, map, Option, Some, None, Result, Ok, Err, option_map, refl, codes, nat_lt}
-use Rattle.std.proofs.Common.{if◌then◌else◌, is_some, length, slice_get}
+use Rattle.std.proofs.Common.{ℕ, ◌≡◌, ◌+◌, List, [], ◌∷◌, Option, Some, None, Result, Ok, Err, option_map, refl, nat_lt}
+use Rattle.std.proofs.Common.{is_some, length, slice_get}
 use Rattle.std.specs.FinMap as table
 use Rattle.std.specs.List.{flat_map, enumerate_from}
-use Rattle.serde_json.specs.Data.{Data, null}
 use Rattle.link_bag.specs.declared.plan.Fault.{Fault}
 use Rattle.ring_net.specs.declared.entry.JournalEntry.{JournalEntry}
 use Rattle.bgp_types.specs.Prefixes.{PrefixValue}
@@ -17,7 +16,7 @@ use Rattle.bgp_types.specs.declared.message.Notice.{Notice}
 use Rattle.bgp_types.specs.declared.message.OpenMsg as open_type
 use Rattle.bgp_types.specs.declared.message.SessionState.{SessionState}
 use Rattle.bgp_story.specs.Readings.{Routes, heard, told}
-use Rattle.bgp_story.specs.Legal.{Peering, expected_next, got_open, is_wide}
+use Rattle.bgp_story.specs.Legal.{Peering, expected_next, got_open}
 use Rattle.bgp_story.specs.States.{state_of}
 use Rattle.bgp_story.specs.declared.line.Line.{Line}
 use Rattle.bgp_story.specs.declared.line.Line.TheVariants.{Put, Got, Tick}
@@ -43,10 +42,10 @@ use Rattle.show_view.specs.declared.untold.Untold.TheVariants.{CameFromIt, Throu
 use Rattle.report_json.proofs.NoFloats.{Whole, AllWhole, with, number_whole, text_whole, mapped_whole, gathered_whole, either_whole, listed_whole}
 use Rattle.report_json.proofs.Forms.{end_whole, from_whole, holder_whole, there_whole}
 use Rattle.message_json.proofs.Forms.{attrs_whole, notice_whole}
-use Rattle.show_json.specs.Routes.{rule_number, best_json, entry_json, import_json, looped_json, denied_json, kept_out_json, accepted_json, let_in_json}
-use Rattle.show_json.specs.Routes.{imported_json, heard_with, heard_json, untold_as, untold_policy, untold_rule, untold_json, unless_told, all_untold}
-use Rattle.show_json.specs.Sessions.{hold_json, width_json, closed_json, closed_by, closed_for, closing_of, closing_json, session_json}
-use Rattle.show_json.specs.Show.{router_json, routes_json, tables_json, view_json, peering_json, never_came, fault_json, waiting_json, show_json}
+use Rattle.show_json.specs.Routes.{rule_number, best_json, entry_json, looped_json, denied_json, let_in_json}
+use Rattle.show_json.specs.Routes.{imported_json, heard_json, untold_json, unless_told, all_untold}
+use Rattle.show_json.specs.Sessions.{hold_json, width_json, closed_by, closed_for, closing_of, session_json}
+use Rattle.show_json.specs.Show.{router_json, tables_json, view_json, peering_json, never_came, fault_json, waiting_json, show_json}
 
 -- ---- routes
 

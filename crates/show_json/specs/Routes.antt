@@ -1,5 +1,5 @@
 -- Routes with all attributes, before and after policies, as JSON.
-use Rattle.std.specs.Prelude.{ℕ, ◌+◌, List, [], ◌∷◌, map, Option, Some, None, option_map, codes, is_some, slice_get, if◌then◌else◌}
+use Rattle.std.specs.Prelude.{ℕ, ◌+◌, List, [], ◌∷◌, Option, Some, None, option_map, codes, is_some, slice_get, if◌then◌else◌}
 use Rattle.std.specs.FinMap as table
 use Rattle.std.specs.List.{flat_map}
 use Rattle.serde_json.specs.Data.{Data, null, string}
@@ -23,7 +23,7 @@ use Rattle.show_view.specs.Untold.{best_of, is_established, out_side, why_untold
 use Rattle.show_view.specs.declared.untold.Untold.{Untold}
 use Rattle.show_view.specs.declared.untold.Untold.TheVariants.{CameFromIt, ThroughItsAs, Denied, TooLong, NotYet}
 use Rattle.report_json.specs.Run.{from_json}
-use Rattle.report_json.specs.Values.{count, count_or_null, text_or_null, list_of, fields}
+use Rattle.report_json.specs.Values.{count, count_or_null, text_or_null, fields}
 use Rattle.message_json.specs.Attrs.{attrs_json}
 
 -- the number of a rule, from 1

@@ -1,6 +1,6 @@
 -- What a session came to, as JSON.
 use Rattle.std.specs.Prelude.{ℕ, Bool, List, [], ◌∷◌, count_by, Option, Some, None, Result, Ok, Err, codes}
-use Rattle.serde_json.specs.Data.{Data, null, boolean, string}
+use Rattle.serde_json.specs.Data.{Data, null, string}
 use Rattle.bgp_types.specs.FirstFault.{message_of}
 use Rattle.bgp_types.specs.declared.fault.Expected.{Expected}
 use Rattle.bgp_types.specs.declared.message.Message.{Message}
@@ -11,11 +11,8 @@ use Rattle.bgp_story.specs.declared.line.Line.{Line}
 use Rattle.bgp_story.specs.declared.line.Line.TheVariants.{Put, Got, Tick}
 use Rattle.bgp_story.specs.Legal.{Peering, both_offer, expected_next, got_open, is_wide, smaller_hold}
 use Rattle.bgp_story.specs.States.{state_of}
-use Rattle.lab_tables.specs.declared.input.LabInput.{LabInput}
-use Rattle.lab_report.specs.declared.lab.Place.{Place}
 use Rattle.lab_report.specs.Report.{state_text}
 use Rattle.show_view.specs.Sessions.{as_octets, before_last, is_got, is_put, last_of, received_octets, sent_octets}
-use Rattle.report_json.specs.Run.{holder_json, is_moving}
 use Rattle.report_json.specs.Values.{count, fields}
 use Rattle.message_json.specs.Messages.{notice_json}
 

@@ -1,5 +1,5 @@
 -- All that there is at the end of a run, as JSON.
-use Rattle.std.specs.Prelude.{ℕ, List, [], ◌∷◌, length, map, Option, Some, None, codes, nat_lt, slice_get, if◌then◌else◌}
+use Rattle.std.specs.Prelude.{ℕ, List, [], ◌∷◌, length, map, Option, codes, nat_lt, slice_get, if◌then◌else◌}
 use Rattle.std.specs.FinMap as table
 use Rattle.std.specs.List.{flat_map, enumerate_from}
 use Rattle.serde_json.specs.Data.{Data, null, boolean, string}
@@ -16,7 +16,6 @@ use Rattle.lab_report.specs.declared.lab.Lab.{Lab}
 use Rattle.lab_report.specs.declared.lab.Place.{Place}
 use Rattle.lab_report.specs.declared.lab.RunEnd.{RunEnd}
 use Rattle.lab_report.specs.declared.lab.RunEnd.TheVariants.{Settled, Unsettled, StreamFull, JournalFull}
-use Rattle.lab_report.specs.declared.lab.SessionView.{SessionView}
 use Rattle.lab_report.specs.Report.{peering_name}
 use Rattle.why_view.specs.Sources.{numbered_peerings}
 use Rattle.why_view.specs.Stories.{story_peering}

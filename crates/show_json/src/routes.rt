@@ -1,12 +1,11 @@
 //! Routes with all attributes, before and after import policies, as JSON.
 
-ghost use Rattle.std.specs.Prelude.{◌≡◌, ◌+◌, ℕ, List, Some, map, option_map, IfOk};
+ghost use Rattle.std.specs.Prelude.{◌≡◌, ◌+◌, ℕ, List, Some, map, IfOk};
 ghost use Rattle.bgp_story.specs.declared.line.Line.{Line};
 ghost use Rattle.lab_tables.specs.declared.input.RouterInput.{RouterInput};
 ghost use Rattle.report_json.specs.Values.{list_of, text_or_null as text_or_null_lem};
 ghost use Rattle.serde_json.specs.View.{view};
 ghost use Rattle.why_view.specs.Sources.{import_rules};
-ghost use Rattle.show_view.specs.Routes.{denying_rule as denying_rule_lem};
 ghost use Rattle.show_json.specs.Routes.{rule_number, best_json, entry_json, import_json, looped_json, denied_json, kept_out_json, let_in_json};
 ghost use Rattle.show_json.specs.Routes.{accepted_json, imported_json, heard_with, heard_json};
 ghost use Rattle.serde_json.specs.Data.{null};

@@ -3,8 +3,7 @@
 ghost use Rattle.std.specs.Prelude.{◌≡◌, option_copied, IfOk};
 ghost use Rattle.std.specs.List.{AllByRecursion};
 ghost use Rattle.bgp_story.specs.Laws.{IsGotLine};
-ghost use Rattle.bgp_story.specs.Legal.{IsGot, expected_next, got_open};
-ghost use Rattle.bgp_story.specs.States.{state_of};
+ghost use Rattle.bgp_story.specs.Legal.{IsGot, got_open};
 ghost use Rattle.bgp_types.specs.FirstFault.{message_of};
 ghost use Rattle.lab_tables.specs.declared.input.LabInput.{LabInput};
 ghost use Rattle.serde_json.specs.View.{view};

@@ -1,7 +1,7 @@
 -- The values of why and timeline have no floats.
-use Rattle.std.proofs.Common.{ℕ, Bool, true, false, ◌≡◌, ◌==◌, ◌&&◌, List, [], ◌∷◌, ◌++◌, map, Option}
+use Rattle.std.proofs.Common.{ℕ, ◌≡◌, ◌==◌, ◌&&◌, List, [], ◌∷◌, ◌++◌, Option}
 use Rattle.std.proofs.Common.{Some, None, option_map, option_and_then, refl, slice_get, ◌+◌}
-use Rattle.std.proofs.Common.{if◌then◌else◌, length, codes}
+use Rattle.std.proofs.Common.{codes}
 use Rattle.std.specs.List.{flat_map, enumerate_from}
 use Rattle.serde_json.specs.Data.{Data, null}
 use Rattle.bgp_types.specs.Prefixes.{PrefixValue}
@@ -15,11 +15,9 @@ use Rattle.bgp_types.specs.declared.rank.Rank.{Rank}
 use Rattle.bgp_story.specs.declared.line.Line.{Line}
 use Rattle.bgp_story.specs.declared.line.Line.TheVariants.{Put, Got, Tick}
 use Rattle.graft_steps.specs.declared.log.GraftEntry.{GraftEntry}
-use Rattle.tcp_seq.specs.declared.segment.Way.{Way}
 use Rattle.route_policy.specs.Candidates.{SessionRoute, Candidate, imported}
 use Rattle.route_policy.specs.Rules.{holds_as}
 use Rattle.lab_tables.specs.declared.input.LabInput.{LabInput}
-use Rattle.lab_tables.specs.declared.input.PeeringInput.{PeeringInput}
 use Rattle.lab_tables.specs.declared.input.RouterInput.{RouterInput}
 use Rattle.lab_tables.specs.declared.input.Step.{Step}
 use Rattle.lab_report.specs.declared.lab.Lab.{Lab}
@@ -48,13 +46,12 @@ use Rattle.why_view.specs.Sources.{sessions_at, candidates_at}
 use Rattle.why_view.specs.Why.{matching}
 use Rattle.why_view.specs.Winners.{ranks_of, best_index, is_index, winner}
 use Rattle.why_view.specs.declared.rules.DecisionRule.{DecisionRule}
-use Rattle.message_json.specs.Messages.{prefixes_json}
 use Rattle.message_json.proofs.Forms.{prefixes_whole, message_whole, answer_whole}
-use Rattle.view_json.specs.Events.{event_json, about_message, put_json, reading_json, got_json, head_json, answered_json, messages_at, messages_json}
-use Rattle.view_json.specs.Events.{refusal_of, about_graft, did_graft, octets_in_step, prefixes_in, withdrawn_in_step, about_step, events_of, happening_json}
+use Rattle.view_json.specs.Events.{put_json, reading_json, head_json, answered_json, messages_at, messages_json}
+use Rattle.view_json.specs.Events.{refusal_of, did_graft, octets_in_step, prefixes_in, withdrawn_in_step, about_step, events_of, happening_json}
 use Rattle.view_json.specs.Timeline.{opening_of, view_opening, opening_json, events_json, some_counts, counts_json}
 use Rattle.view_json.specs.Timeline.{router_counts, tables_json, span_json, moved_json}
-use Rattle.view_json.specs.Timeline.{grafts_json, session_json, peering_json, sessions_json, timeline_of, timeline_json}
+use Rattle.view_json.specs.Timeline.{session_json, peering_json, timeline_of, timeline_json}
 use Rattle.view_json.specs.Why.{candidate_json, best_json, rule_json, lost_json, unless_best, others_json, import_json}
 use Rattle.view_json.specs.Why.{excluded_json, looped_json, denied_json, kept_out_json}
 use Rattle.view_json.specs.Why.{excluded_route, excluded_of, why_fields, why_if_there, why_json}

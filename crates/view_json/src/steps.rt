@@ -1,6 +1,6 @@
 //! What remotes said, as JSON.
 
-ghost use Rattle.std.specs.Prelude.{◌≡◌, option_and_then, option_copied, slice_get, IfOk};
+ghost use Rattle.std.specs.Prelude.{◌≡◌, option_and_then, option_copied, IfOk};
 ghost use Rattle.serde_json.specs.View.{view};
 ghost use Rattle.lab_report.specs.Summary.{announced_in_step};
 ghost use Rattle.report_json.specs.Values.{count_or_null};

@@ -3,7 +3,6 @@
 ghost use Rattle.std.specs.Prelude.{◌≡◌, ◌++◌, map, slice_get, IfOk, OnOk};
 ghost use Rattle.std.specs.List.{flat_map, enumerate_from};
 ghost use Rattle.serde_json.specs.View.{view};
-ghost use Rattle.report_json.specs.Values.{list_of};
 ghost use Rattle.timeline_view.specs.Messages.{outlines_of};
 ghost use Rattle.view_json.specs.Events.{happening_json};
 ghost use Rattle.view_json.specs.Timeline.{opening_of, opening_json, events_json, some_counts, counts_json, router_counts, tables_json};

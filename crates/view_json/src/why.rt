@@ -1,12 +1,10 @@
 //! Why a router has its best route to a prefix, as JSON.
 
-ghost use Rattle.std.specs.Prelude.{◌≡◌, ◌++◌, ◌+◌, Some, map, option_and_then, option_copied, option_map, slice_get, IfOk, OnOk};
+ghost use Rattle.std.specs.Prelude.{◌≡◌, ◌++◌, ◌+◌, Some, map, option_copied, option_map, IfOk, OnOk};
 ghost use Rattle.std.specs.List.{flat_map, enumerate_from};
-ghost use Rattle.serde_json.specs.Data.{Data};
 ghost use Rattle.serde_json.specs.View.{view};
 ghost use Rattle.report_json.specs.Values.{count_or_null as count_or_null_lem, list_of, json_line as json_line_lem};
-ghost use Rattle.why_view.specs.Why.{matching as matching_lem};
-ghost use Rattle.view_json.specs.Why.{candidate_json, best_json, rule_json, lost_json, unless_best, others_json, import_json, excluded_json};
+ghost use Rattle.view_json.specs.Why.{candidate_json, best_json, rule_json, lost_json, unless_best, import_json, excluded_json};
 ghost use Rattle.view_json.specs.Why.{denied_json, kept_out_json, excluded_route, excluded_of, why_fields, why_if_there, why_json as why_json_lem};
 
 use bgp_types::{Attrs, NoMemory, Octets, PeeringId, Prefix, Rank, Route, RouterId};
