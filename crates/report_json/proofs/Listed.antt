@@ -9,8 +9,9 @@ use Rattle.lab_input.proofs.Numbered.{flat_map_numbered}
 use Rattle.lab_report.proofs.Walked.{numbered_more}
 
 -- what a list of values shows with one more
-pub shown_more : (old new : List Value) (value : Value) (data : Data) → new ≡ old ++ value ∷ [] → view value ≡ data → map view new ≡ map view old ++ data ∷ []
-shown_more old new value data pushed is =
+pub shown_more : (old new : List Value) (value : Value) (shown : Data) → new ≡ old ++ value ∷ [] → view value ≡ shown
+    → map view new ≡ map view old ++ shown ∷ []
+shown_more old new value shown pushed is =
     ap (map view) pushed ∙ map-append view old (value ∷ []) ∙ ap (λ d. map view old ++ d ∷ []) is
 
 module _ {X : Type 0} (xs : List X) (i : ℕ) (x : X) where

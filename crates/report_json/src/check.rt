@@ -24,12 +24,7 @@ fn sizes_value(alloc: Global, input: &LabInput) -> Result<Value, NoMemory>
 }
 
 /// The sizes of an input, and the outcomes of the two tests.
-fn check_value(
-    alloc: Global,
-    input: &LabInput,
-    even: bool,
-    sure: bool,
-) -> Result<Value, NoMemory>
+fn check_value(alloc: Global, input: &LabInput, even: bool, sure: bool) -> Result<Value, NoMemory>
     ensures { IfOk result (λ v. view v ≡ check_json_lem input.now even sure) }
 {
     let counts = sizes_value(alloc, input)?;

@@ -77,12 +77,7 @@ fn received_value(alloc: Global, lines: &[Line]) -> Result<Value, NoMemory>
 
 // ---- why it closed
 
-fn closed_value(
-    alloc: Global,
-    how: &str,
-    notice: Value,
-    round: Value,
-) -> Result<Value, NoMemory>
+fn closed_value(alloc: Global, how: &str, notice: Value, round: Value) -> Result<Value, NoMemory>
     ensures { IfOk result (λ v. view v ≡ closed_json how.now (view notice) (view round)) }
 {
     let value = json!(in alloc; {"how": how, "notice": notice, "round": round})?;

@@ -99,12 +99,7 @@ fn all_untold(
 }
 
 /// The routes of a session: those that it heard, those that were told, and those that weren't.
-fn routes_value(
-    alloc: Global,
-    heard: Value,
-    told: Value,
-    untold: Value,
-) -> Result<Value, NoMemory>
+fn routes_value(alloc: Global, heard: Value, told: Value, untold: Value) -> Result<Value, NoMemory>
     ensures { IfOk result (λ v. view v ≡ routes_json (view heard) (view told) (view untold)) }
 {
     let value = json!(in alloc; {"heard": heard, "told": told, "untold": untold})?;
@@ -170,9 +165,7 @@ pub(crate) fn tables_value(
         return tables_alone(alloc, peering, story, opened);
     };
     match router_at(&lab.input, usize::from(holder.0)) {
-        Some(router) => tables_at(
-            alloc, lab, holder, router, number, peering, story, opened,
-        ),
+        Some(router) => tables_at(alloc, lab, holder, router, number, peering, story, opened),
         None => tables_alone(alloc, peering, story, opened),
     }
 }

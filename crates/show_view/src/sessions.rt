@@ -199,11 +199,7 @@ fn state_of(lines: &[Line]) -> SessionState
 }
 
 /// Returns what the session of a peering expected at its last line. It got this OPEN.
-pub fn expected_last(
-    peering: &PeeringInput,
-    opened: &Option<OpenMsg>,
-    lines: &[Line],
-) -> Expected
+pub fn expected_last(peering: &PeeringInput, opened: &Option<OpenMsg>, lines: &[Line]) -> Expected
     ensures { (input : LabInput) → opened.now ≡ got_open (story_peering input peering.now) lines.now
         → result ≡ expected_next (story_peering input peering.now) lines.now (state_of_lem (before_last_lem lines.now)) }
 {

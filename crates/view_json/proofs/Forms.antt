@@ -106,7 +106,7 @@ why_fields_whole : (input : LabInput) (prefix : PrefixValue) (router : List ℕ)
 why_fields_whole input prefix router found sessions =
     with (best_whole input (winner found))
     (with (gathered_whole (excluded_of input prefix)
-        (λ s. route_whole input prefix s s.heard (imported input.home_as prefix s s.heard)) sessions)
+    (λ s. route_whole input prefix s s.heard (imported input.home_as prefix s s.heard)) sessions)
     (with (others_whole input found) refl))
 
 there : (lab : Lab) (prefix : PrefixValue) (r : ℕ) (router : Option RouterInput) → Whole (why_if_there lab prefix r router)
@@ -209,10 +209,10 @@ module _ (lab : Lab) (all : List Happening) where
       let rounds = flat_map (λ m. flat_map (happening_json lab) (in_round m.0 all)) (enumerate_from 0 lab.marks) in
       appended_whole openings rounds
       (gathered_whole (opening_json lab.input lab.sessions)
-        (λ p. view_opening_whole (router_name lab.input p.1.at.0) p.1.name (slice_get lab.sessions p.0)) (enumerate_from 0 lab.input.peerings))
+      (λ p. view_opening_whole (router_name lab.input p.1.at.0) p.1.name (slice_get lab.sessions p.0)) (enumerate_from 0 lab.input.peerings))
       (gathered_whole (λ m. flat_map (happening_json lab) (in_round m.0 all))
-        (λ m. gathered_whole (happening_json lab) (λ h. events_whole lab h.round (actor_name lab.input h.actor) h.event) (in_round m.0 all))
-        (enumerate_from 0 lab.marks))
+      (λ m. gathered_whole (happening_json lab) (λ h. events_whole lab h.round (actor_name lab.input h.actor) h.event) (in_round m.0 all))
+      (enumerate_from 0 lab.marks))
 
   counts_whole : (round : ℕ) (name : List ℕ) (decided told heard : ℕ) → AllWhole (counts_json round name decided told heard)
   counts_whole round name decided told heard =
@@ -225,7 +225,7 @@ module _ (lab : Lab) (all : List Happening) where
   all_tables_whole : Whole (tables_json lab all)
   all_tables_whole = gathered_whole (λ m. flat_map (router_counts m.0 (in_round m.0 all)) (enumerate_from 0 lab.input.routers))
       (λ m. gathered_whole (router_counts m.0 (in_round m.0 all))
-        (λ r. router_whole m.0 (in_round m.0 all) r) (enumerate_from 0 lab.input.routers))
+      (λ r. router_whole m.0 (in_round m.0 all) r) (enumerate_from 0 lab.input.routers))
       (enumerate_from 0 lab.marks)
 
   span_whole : (from to : Option ℕ) → Whole (span_json from to)
@@ -246,7 +246,7 @@ module _ (lab : Lab) (all : List Happening) where
       (with (mapped_whole (moved_json lab all) moved_whole lab.log)
       (with (end_whole lab.input lab.end)
       (with (gathered_whole (peering_json lab.sessions) (λ p. there_whole (session_json p.1.name) (λ view. refl) (slice_get lab.sessions p.0))
-        (enumerate_from 0 lab.input.peerings))
+      (enumerate_from 0 lab.input.peerings))
       (with all_tables_whole refl))))
 
 pub timeline_whole : (lab : Lab) → Whole (timeline_json lab)

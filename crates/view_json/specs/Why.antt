@@ -88,12 +88,15 @@ excluded_of input prefix session = excluded_route input prefix session session.h
 
 -- ---- the whole
 
--- what a router has for a prefix, by its name
+-- what a router of this name has for a prefix
+abbrev pub why_object : PrefixValue → (router : List ℕ) → (best lost excluded : Data) → Data
+why_object prefix router best lost excluded = fields
+    ((codes "best", best) ∷ (codes "excluded", excluded) ∷ (codes "job", string (codes "why")) ∷ (codes "lost", lost)
+    ∷ (codes "prefix", string (prefix_text prefix)) ∷ (codes "router", string router) ∷ (codes "version", version) ∷ [])
+
 abbrev pub why_fields : LabInput → PrefixValue → (router : List ℕ) → List Candidate → List SessionRoute → Data
-why_fields input prefix router found sessions = fields
-    ((codes "best", best_json input (winner found)) ∷ (codes "excluded", list_of (flat_map (excluded_of input prefix) sessions))
-    ∷ (codes "job", string (codes "why")) ∷ (codes "lost", others_json input found) ∷ (codes "prefix", string (prefix_text prefix))
-    ∷ (codes "router", string router) ∷ (codes "version", version) ∷ [])
+why_fields input prefix router found sessions =
+    why_object prefix router (best_json input (winner found)) (others_json input found) (list_of (flat_map (excluded_of input prefix) sessions))
 
 abbrev pub why_if_there : Lab → PrefixValue → ℕ → Option RouterInput → Data
 why_if_there lab prefix r None = why_fields lab.input prefix (router_name lab.input r) [] []

@@ -373,7 +373,10 @@ fn push_events(
         Event::Message { peering, nth } => {
             return push_messages(list, alloc, lab, outlines, round, name, peering, nth);
         }
-        Event::Stray { peering } => ("stray", stray_about(alloc, remote_name(&lab.input, peering))?),
+        Event::Stray { peering } => (
+            "stray",
+            stray_about(alloc, remote_name(&lab.input, peering))?,
+        ),
         Event::Say { step } => ("said", about_step(alloc, &lab.input, step)?),
         Event::Lose { way } => ("lost", link_about(alloc, way)?),
         Event::Repeat { way } => ("repeated", link_about(alloc, way)?),

@@ -212,15 +212,16 @@ fn push_tables(
 }
 
 /// What each router did with prefixes in all rounds.
-pub(crate) fn tables_value(
-    alloc: Global,
-    lab: &Lab,
-    all: &[Happening],
-) -> Result<Value, NoMemory>
+pub(crate) fn tables_value(alloc: Global, lab: &Lab, all: &[Happening]) -> Result<Value, NoMemory>
     ensures { IfOk result (λ v. view v ≡ tables_json lab.now all.now) }
 {
     let rounds = by_rounds(alloc, lab.marks.len(), all)?;
     let mut list = Vec::new(alloc);
-    push_tables(&mut list, alloc, rounds.as_slice(), lab.input.routers.as_slice())?;
+    push_tables(
+        &mut list,
+        alloc,
+        rounds.as_slice(),
+        lab.input.routers.as_slice(),
+    )?;
     Ok(Value::Array(list))
 }

@@ -5,7 +5,7 @@ ghost use Rattle.std.specs.List.{flat_map, enumerate_from};
 ghost use Rattle.serde_json.specs.View.{view};
 ghost use Rattle.report_json.specs.Values.{count_or_null as count_or_null_lem, list_of, json_line as json_line_lem};
 ghost use Rattle.view_json.specs.Why.{candidate_json, best_json, rule_json, lost_json, unless_best, import_json, excluded_json};
-ghost use Rattle.view_json.specs.Why.{denied_json, kept_out_json, excluded_route, excluded_of, why_fields, why_if_there, why_json as why_json_lem};
+ghost use Rattle.view_json.specs.Why.{denied_json, kept_out_json, excluded_route, excluded_of, why_object, why_fields, why_if_there, why_json as why_json_lem};
 
 use bgp_types::{Attrs, NoMemory, Octets, PeeringId, Prefix, Rank, Route, RouterId};
 use decision_core::best;
@@ -16,7 +16,7 @@ use serde_json::{Value, json};
 use std::alloc::Global;
 use why_view::{
     Candidate, DecisionRule, SessionEntry, candidates_of, goes_at, imported, is_index, is_loop,
-    matching, origin_name, ranks_of, routers_beside, sessions_at, winner,
+    matching, origin_name, ranks_of, router_of, routers_beside, sessions_at, winner,
 };
 
 // ---- candidates
@@ -214,6 +214,28 @@ fn kept_out(
     denied_value(alloc, input, prefix, session, heard)
 }
 
+/// Adds a route that was heard, unless it was let in.
+fn push_unless_in(
+    list: &mut Vec<Value>,
+    alloc: Global,
+    input: &LabInput,
+    prefix: Prefix,
+    session: &SessionEntry,
+    heard: &Attrs,
+    route: &Option<Route>,
+) -> Result<(), NoMemory>
+    ensures { OnOk result (map view list.new.items
+        ≡ map view list.old.items ++ excluded_route input.now prefix session.now (Some heard.now) route.now) }
+{
+    match route {
+        Some(_) => Ok(()),
+        None => {
+            list.push(kept_out(alloc, input, prefix, session, heard)?)?;
+            Ok(())
+        }
+    }
+}
+
 /// Adds what a session heard, if it heard the prefix and this isn't a route that was let in.
 fn push_excluded(
     list: &mut Vec<Value>,
@@ -226,10 +248,10 @@ fn push_excluded(
     ensures { OnOk result (map view list.new.items
         ≡ map view list.old.items ++ excluded_route input.now prefix session.now session.now.heard route.now) }
 {
-    if let (Some(heard), None) = (&session.heard, route) {
-        list.push(kept_out(alloc, input, prefix, session, heard)?)?;
+    match &session.heard {
+        Some(heard) => push_unless_in(list, alloc, input, prefix, session, heard, route),
+        None => Ok(()),
     }
-    Ok(())
 }
 
 /// The routes that sessions heard and that are no candidates.
@@ -251,6 +273,30 @@ fn excluded_values(
 
 // ---- the whole
 
+/// What a router of this name has for a prefix, by its parts.
+fn why_object(
+    alloc: Global,
+    prefix: Prefix,
+    router: &str,
+    best: Value,
+    lost: Value,
+    excluded: Value,
+) -> Result<Value, NoMemory>
+    ensures { IfOk result (λ v. view v ≡ why_object prefix router.now (view best) (view lost) (view excluded)) }
+{
+    let wanted = prefix_value(alloc, prefix)?;
+    let value = json!(in alloc; {
+        "version": 1u32,
+        "job": "why",
+        "router": router,
+        "prefix": wanted,
+        "best": best,
+        "lost": lost,
+        "excluded": excluded,
+    })?;
+    Ok(value)
+}
+
 /// What a router of this name has for a prefix.
 fn why_value(
     alloc: Global,
@@ -263,21 +309,13 @@ fn why_value(
     ensures { IfOk result (λ v. view v ≡ why_fields input.now prefix router.now candidates.now sessions.now) }
 {
     let ranks = ranks_of(alloc, candidates)?;
-    let index = best(ranks.as_slice());
-    let first = best_value(alloc, input, winner(candidates, index))?;
-    let lost = lost_values(alloc, input, ranks.as_slice(), index, candidates)?;
+    let list = ranks.as_slice();
+    let index = best(list);
+    let chosen = winner(candidates, index);
+    let first = best_value(alloc, input, chosen)?;
+    let lost = lost_values(alloc, input, list, index, candidates)?;
     let excluded = excluded_values(alloc, input, prefix, sessions)?;
-    let wanted = prefix_value(alloc, prefix)?;
-    let value = json!(in alloc; {
-        "version": 1u32,
-        "job": "why",
-        "router": router,
-        "prefix": wanted,
-        "best": first,
-        "lost": lost,
-        "excluded": excluded,
-    })?;
-    Ok(value)
+    why_object(alloc, prefix, router, first, lost, excluded)
 }
 
 /// What a router of the input has for a prefix.
@@ -301,15 +339,10 @@ fn why_of(
 }
 
 /// What a router has for a prefix, if the input has it.
-fn why_at(
-    alloc: Global,
-    lab: &Lab,
-    number: RouterId,
-    prefix: Prefix,
-) -> Result<Value, NoMemory>
+fn why_at(alloc: Global, lab: &Lab, number: RouterId, prefix: Prefix) -> Result<Value, NoMemory>
     ensures { IfOk result (λ v. view v ≡ why_json_lem lab.now number.0 prefix) }
 {
-    match lab.input.routers.get(usize::from(number.0)) {
+    match router_of(lab, number) {
         Some(router) => why_of(alloc, lab, number, router, prefix),
         None => {
             let name = router_name(&lab.input, number.0);

@@ -23,4 +23,4 @@ pub use lines::{
 pub use rules::{DecisionRule, goes_at};
 pub use sources::{import_policy, routers_beside, sessions_at};
 pub use stories::{established, is_wide, opened_on, routes_on};
-pub use why::why_text;
+pub use why::{router_of, why_text};
