@@ -1,6 +1,6 @@
 //! What happened in a run, as JSON.
 
-ghost use Rattle.std.specs.Prelude.{◌≡◌, ◌++◌, ◌∷◌, [], Some, map, slice_get, IfOk, OnOk};
+ghost use Rattle.std.specs.Prelude.{◌≡◌, ◌++◌, ◌∷◌, [], Some, codes, map, slice_get, IfOk, OnOk};
 ghost use Rattle.std.specs.List.{AllByRecursion};
 ghost use Rattle.std.specs.Option.{option_copied};
 ghost use Rattle.serde_json.specs.View.{view};
@@ -10,7 +10,7 @@ ghost use Rattle.lab_report.specs.Report.{peering_name};
 ghost use Rattle.timeline_view.specs.Messages.{outline_of, outlines_of};
 ghost use Rattle.timeline_view.specs.Numbers.{graft_in as graft_in_lem};
 ghost use Rattle.view_json.specs.Events.{event_json, about_message, about_stray, about_link, about_group, put_json, reading_json, got_json, head_json};
-ghost use Rattle.view_json.specs.Events.{answered_json, messages_at, messages_json, graft_word, refusal_of, about_graft, did_graft, way_word};
+ghost use Rattle.view_json.specs.Events.{answered_json, about_step as about_step_lem, messages_at, messages_json, graft_word, refusal_of, about_graft, did_graft, way_word};
 ghost use Rattle.view_json.specs.Events.{events_of, happening_json};
 
 use crate::steps::about_step;
@@ -26,7 +26,9 @@ use serde_json::{Value, json};
 use std::alloc::Global;
 use story_view::lines_of;
 use tcp_seq::Way;
-use timeline_view::{Event, Happening, Head, Outline, actor_name, graft_in, remote_name};
+use timeline_view::{
+    Event, Happening, Head, Outline, actor_name, behind, graft_in, line_of, remote_name,
+};
 
 /// What an actor did in a round, and what that was about.
 fn event_value(
@@ -73,7 +75,7 @@ fn message_about(alloc: Global, remote: &str, message: Value) -> Result<Value, N
 }
 
 /// A message that the holder of a session put.
-pub(crate) fn put_value(
+fn put_value(
     alloc: Global,
     round: usize,
     holder: &str,
@@ -126,6 +128,41 @@ fn got_value(
     event_value(alloc, round, holder, "got", about)
 }
 
+/// Adds a message that the holder of a session put.
+pub(crate) fn push_put(
+    list: &mut Vec<Value>,
+    alloc: Global,
+    round: usize,
+    holder: &str,
+    remote: &str,
+    message: &Message,
+) -> Result<(), NoMemory>
+    ensures { OnOk result (map view list.new.items ≡ map view list.old.items ++ put_json round holder.now remote.now message.now ∷ []) }
+{
+    list.push(put_value(alloc, round, holder, remote, message)?)?;
+    Ok(())
+}
+
+/// Adds octets that the holder of a session got.
+fn push_got(
+    list: &mut Vec<Value>,
+    alloc: Global,
+    round: usize,
+    holder: &str,
+    remote: &str,
+    expected: Option<Expected>,
+    head: Head,
+    bytes: &[u8],
+) -> Result<(), NoMemory>
+    requires { IsGot bytes.now }
+    ensures { OnOk result (map view list.new.items
+        ≡ map view list.old.items ++ got_json round holder.now remote.now expected head bytes.now ∷ []) }
+{
+    let value = got_value(alloc, round, holder, remote, expected, head, bytes)?;
+    list.push(value)?;
+    Ok(())
+}
+
 /// Adds the line of a story with which an event begins.
 fn push_head(
     list: &mut Vec<Value>,
@@ -141,16 +178,16 @@ fn push_head(
     ensures { OnOk result (map view list.new.items
         ≡ map view list.old.items ++ head_json round holder.now remote.now expected head (slice_get lines.now head.index)) }
 {
-    let value = match lines.get(head.index) {
-        Some(Line::Put(message)) => put_value(alloc, round, holder, remote, message)?,
-        Some(Line::Got(bytes)) => got_value(alloc, round, holder, remote, expected, head, bytes)?,
-        Some(Line::Tick(_)) | None => return Ok(()),
-    };
-    list.push(value)?;
-    Ok(())
+    match line_of(lines, head.index) {
+        Some(Line::Put(message)) => push_put(list, alloc, round, holder, remote, message),
+        Some(Line::Got(bytes)) => {
+            push_got(list, alloc, round, holder, remote, expected, head, bytes)
+        }
+        Some(Line::Tick(_)) | None => Ok(()),
+    }
 }
 
-/// Adds the answer that stands at an index, if one does.
+/// Adds the answer to the line before this one, if it is one.
 fn push_answer(
     list: &mut Vec<Value>,
     alloc: Global,
@@ -167,8 +204,7 @@ fn push_answer(
     };
     match message {
         Message::NoticeMsg(_) | Message::KeepaliveMsg => {
-            list.push(put_value(alloc, round, holder, remote, message)?)?;
-            Ok(())
+            push_put(list, alloc, round, holder, remote, message)
         }
         Message::OpenMsg(_) | Message::UpdateMsg(_) => Ok(()),
     }
@@ -190,10 +226,7 @@ fn push_messages_at(
         ≡ map view list.old.items ++ messages_at round holder.now remote.now lines.now expected (Some head)) }
 {
     push_head(list, alloc, round, holder, remote, expected, head, lines)?;
-    let next = match head.index.checked_add(1) {
-        Some(next) => lines.get(next),
-        None => None,
-    };
+    let next = behind(lines, head.index);
     push_answer(list, alloc, round, holder, remote, next)
 }
 
@@ -210,14 +243,16 @@ fn push_session(
 ) -> Result<(), NoMemory>
     requires { outline.now ≡ outline_of session.now.story }
     ensures { OnOk result (map view list.new.items
-        ≡ map view list.old.items ++ messages_json round holder.now remote.now nth (Some session.now)) }
+        ≡ map view list.old.items ++ messages_at round holder.now remote.now session.now.story.lines outline.now.expected (slice_get outline.now.heads nth)) }
 {
-    let Some(head) = outline.heads.get(nth).copied() else {
-        return Ok(());
-    };
-    let lines = lines_of(&session.story);
-    let expected = outline.expected;
-    push_messages_at(list, alloc, round, holder, remote, expected, head, lines)
+    match outline.heads.get(nth).copied() {
+        Some(head) => {
+            let lines = lines_of(&session.story);
+            let expected = outline.expected;
+            push_messages_at(list, alloc, round, holder, remote, expected, head, lines)
+        }
+        None => Ok(()),
+    }
 }
 
 /// Adds the messages of a session's event.
@@ -328,6 +363,37 @@ fn stray_about(alloc: Global, remote: &str) -> Result<Value, NoMemory>
     Ok(value)
 }
 
+/// Adds that a segment of a remote came astray.
+fn push_stray(
+    list: &mut Vec<Value>,
+    alloc: Global,
+    round: usize,
+    name: &str,
+    remote: &str,
+) -> Result<(), NoMemory>
+    ensures { OnOk result (map view list.new.items
+        ≡ map view list.old.items ++ event_json round name.now (codes "stray") (about_stray remote.now) ∷ []) }
+{
+    let about = stray_about(alloc, remote)?;
+    push_event(list, alloc, round, name, "stray", about)
+}
+
+/// Adds what a remote said.
+fn push_say(
+    list: &mut Vec<Value>,
+    alloc: Global,
+    input: &LabInput,
+    round: usize,
+    name: &str,
+    step: u32,
+) -> Result<(), NoMemory>
+    ensures { OnOk result (map view list.new.items
+        ≡ map view list.old.items ++ event_json round name.now (codes "said") (about_step_lem input.now step) ∷ []) }
+{
+    let about = about_step(alloc, input, step)?;
+    push_event(list, alloc, round, name, "said", about)
+}
+
 fn way_word(way: Way) -> &'static str
     ensures { result.now ≡ way_word way }
 {
@@ -345,12 +411,43 @@ fn link_about(alloc: Global, way: Way) -> Result<Value, NoMemory>
     Ok(value)
 }
 
+/// Adds what a link did with a segment.
+fn push_link(
+    list: &mut Vec<Value>,
+    alloc: Global,
+    round: usize,
+    name: &str,
+    what: &str,
+    way: Way,
+) -> Result<(), NoMemory>
+    ensures { OnOk result (map view list.new.items
+        ≡ map view list.old.items ++ event_json round name.now what.now (about_link way) ∷ []) }
+{
+    let about = link_about(alloc, way)?;
+    push_event(list, alloc, round, name, what, about)
+}
+
 /// A group by its number.
 fn group_about(alloc: Global, group: usize) -> Result<Value, NoMemory>
     ensures { IfOk result (λ v. view v ≡ about_group group) }
 {
     let value = json!(in alloc; {"group": group})?;
     Ok(value)
+}
+
+/// Adds the beginning of a group.
+fn push_begin(
+    list: &mut Vec<Value>,
+    alloc: Global,
+    round: usize,
+    name: &str,
+    group: usize,
+) -> Result<(), NoMemory>
+    ensures { OnOk result (map view list.new.items
+        ≡ map view list.old.items ++ event_json round name.now (codes "began") (about_group group) ∷ []) }
+{
+    let about = group_about(alloc, group)?;
+    push_event(list, alloc, round, name, "began", about)
 }
 
 // ---- all
@@ -368,19 +465,19 @@ fn push_events(
     requires { outlines.now ≡ outlines_of lab.now }
     ensures { OnOk result (map view list.new.items ≡ map view list.old.items ++ events_of lab.now round name.now event) }
 {
-    let (word, about) = match event {
-        Event::Decide | Event::Tell | Event::Hear => return Ok(()),
+    match event {
+        Event::Decide | Event::Tell | Event::Hear => Ok(()),
         Event::Message { peering, nth } => {
-            return push_messages(list, alloc, lab, outlines, round, name, peering, nth);
+            push_messages(list, alloc, lab, outlines, round, name, peering, nth)
         }
-        Event::Stray { peering } => (
-            "stray",
-            stray_about(alloc, remote_name(&lab.input, peering))?,
-        ),
-        Event::Say { step } => ("said", about_step(alloc, &lab.input, step)?),
-        Event::Lose { way } => ("lost", link_about(alloc, way)?),
-        Event::Repeat { way } => ("repeated", link_about(alloc, way)?),
-        Event::Begin { group } => ("began", group_about(alloc, group)?),
+        Event::Stray { peering } => {
+            let remote = remote_name(&lab.input, peering);
+            push_stray(list, alloc, round, name, remote)
+        }
+        Event::Say { step } => push_say(list, alloc, &lab.input, round, name, step),
+        Event::Lose { way } => push_link(list, alloc, round, name, "lost", way),
+        Event::Repeat { way } => push_link(list, alloc, round, name, "repeated", way),
+        Event::Begin { group } => push_begin(list, alloc, round, name, group),
         Event::Order { graft }
         | Event::Admit { graft }
         | Event::Refuse { graft }
@@ -390,11 +487,8 @@ fn push_events(
         | Event::TurnBack { graft }
         | Event::Return { graft }
         | Event::Clear { graft }
-        | Event::Confirm { graft } => {
-            return push_graft(list, alloc, lab, round, name, event, graft);
-        }
-    };
-    push_event(list, alloc, round, name, word, about)
+        | Event::Confirm { graft } => push_graft(list, alloc, lab, round, name, event, graft),
+    }
 }
 
 /// Adds what happened at one entry.

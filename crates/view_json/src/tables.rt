@@ -7,7 +7,7 @@ ghost use Rattle.timeline_view.specs.Messages.{outlines_of};
 ghost use Rattle.view_json.specs.Events.{happening_json};
 ghost use Rattle.view_json.specs.Timeline.{opening_of, opening_json, events_json, some_counts, counts_json, router_counts, tables_json};
 
-use crate::events::{push_happening, put_value};
+use crate::events::{push_happening, push_put};
 use bgp_story::Line;
 use graft_edge::NoMemory;
 use lab_report::{Lab, SessionView, router_name};
@@ -29,10 +29,10 @@ fn push_opening(
     ensures { OnOk result (map view list.new.items
         ≡ map view list.old.items ++ opening_of holder.now remote.now (slice_get session.now.story.lines 0)) }
 {
-    if let Some(Line::Put(message)) = session.story.lines().get(0) {
-        list.push(put_value(alloc, 0, holder, remote, message)?)?;
+    match session.story.lines().get(0) {
+        Some(Line::Put(message)) => push_put(list, alloc, 0, holder, remote, message),
+        Some(Line::Got(_) | Line::Tick(_)) | None => Ok(()),
     }
-    Ok(())
 }
 
 /// Adds the OPEN with which the session of a peering begins, if it has one.
