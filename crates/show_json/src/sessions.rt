@@ -56,7 +56,9 @@ fn width_value(peering: &PeeringInput, opened: &Option<OpenMsg>) -> Value
 fn sizes_value(alloc: Global, messages: usize, octets: u128) -> Result<Value, NoMemory>
     ensures { IfOk result (λ v. view v ≡ sizes_json messages octets) }
 {
-    let octets = u64::try_from(octets).map_err(|_| NoMemory)?;
+    let Ok(octets) = u64::try_from(octets) else {
+        return Err(NoMemory);
+    };
     let value = json!(in alloc; {"messages": messages, "octets": octets})?;
     Ok(value)
 }
