@@ -3,3 +3,4 @@ pub mod Check
 pub mod Run
 pub mod Traces
 pub mod Summary
+pub mod Worked

@@ -3,6 +3,7 @@
 
 mod check;
 mod grafts;
+mod laws;
 mod peerings;
 mod routers;
 mod run;
@@ -12,6 +13,7 @@ mod values;
 
 pub use check::check_json;
 pub use grafts::{graft_value, refusal_value, source_value, stage_refusal};
+pub use laws::worked_values;
 pub use peerings::{holder_value, is_moving};
 pub use routers::{from_value, path_value};
 pub use run::{end_value, report_json};
