@@ -194,15 +194,15 @@ fn imported_value(
 }
 
 /// A route that a session heard, with what was made of it.
-fn with_import(alloc: Global, entry: &AttrsEntry, import: Value) -> Result<Value, NoMemory>
-    ensures { IfOk result (λ v. view v ≡ heard_with entry.now (view import)) }
+fn with_import(alloc: Global, entry: &AttrsEntry, made: Value) -> Result<Value, NoMemory>
+    ensures { IfOk result (λ v. view v ≡ heard_with entry.now (view made)) }
 {
     let prefix = prefix_value(alloc, entry.0)?;
     let attrs = attrs_value(alloc, &entry.1)?;
     let value = json!(in alloc; {
         "prefix": prefix,
         "attrs": attrs,
-        "import": import,
+        "import": made,
     })?;
     Ok(value)
 }
