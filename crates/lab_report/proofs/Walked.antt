@@ -15,12 +15,13 @@ alone : {X : Type 0} (xs : List X) → flat_map (λ x. x ∷ []) xs ≡ xs
 alone [] = refl
 alone (x ∷ xs) = ap (λ l. x ∷ l) (alone xs)
 
-numbered_more : (routers : List RouterInput) (i : ℕ) (router : RouterInput) → i < length routers → router ≡ slice_index_or routers i router
-    → enumerate_from 0 (take (i + 1) routers) ≡ enumerate_from 0 (take i routers) ++ (i, router) ∷ []
-numbered_more routers i router lt at =
-    sym (alone (enumerate_from 0 (take (i + 1) routers)))
-    ∙ (flat_map_numbered (λ r. r ∷ []) routers i router lt at
-    ∙ ap (λ l. l ++ (i, router) ∷ []) (alone (enumerate_from 0 (take i routers))))
+-- the numbered elements up to one further
+pub numbered_more : {X : Type 0} (xs : List X) (i : ℕ) (x : X) → i < length xs → x ≡ slice_index_or xs i x
+    → enumerate_from 0 (take (i + 1) xs) ≡ enumerate_from 0 (take i xs) ++ (i, x) ∷ []
+numbered_more xs i x lt at =
+    sym (alone (enumerate_from 0 (take (i + 1) xs)))
+    ∙ (flat_map_numbered (λ y. y ∷ []) xs i x lt at
+    ∙ ap (λ l. l ++ (i, x) ∷ []) (alone (enumerate_from 0 (take i xs))))
 
 module _ (input : LabInput) (maps : List ForwardMap) where
   one_walk_more : (address : ℕ) (routers : List (ℕ × RouterInput)) (r : ℕ × RouterInput) (walk : Walk) (text : List ℕ)

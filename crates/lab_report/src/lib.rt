@@ -12,9 +12,10 @@ mod whole;
 pub use accepted::{check_text, yes_or_no};
 pub use lab::{BestEntry, FarView, Lab, Place, RouterTable, RunEnd, SessionView, ToldEntry};
 pub use refused::bad_text;
-pub use short::{push_short_router, summary};
+pub use short::{accepted_in, best_count, prefix_count, push_short_router, refused_in, summary};
 pub use texts::{
     peering_name, place_at, push_end, push_from, push_graft, push_log, push_path, push_peerings,
     push_place, push_refusal, push_routers, router_name, source_name, state_name,
 };
+pub use traces::{forwarder_of, numbered};
 pub use whole::report;

@@ -39,8 +39,8 @@ fn announced_in(alloc: Global, steps: &[Step]) -> Result<PrefixList, NoMemory>
     Ok(prefixes)
 }
 
-/// How many prefixes remotes announce by the script, each counted once.
-fn prefix_count(alloc: Global, input: &LabInput) -> Result<usize, NoMemory>
+/// Returns how many prefixes remotes announce by the script, each counted once.
+pub fn prefix_count(alloc: Global, input: &LabInput) -> Result<usize, NoMemory>
     ensures { IfOk result (λ count. count ≡ length (prefixes_announced input.now)) }
 {
     let announced = announced_in(alloc, &input.steps)?;
@@ -81,15 +81,15 @@ fn was_refused(entry: &GraftEntry) -> bool
     }
 }
 
-/// How many grafts were accepted.
-fn accepted_in(log: &[GraftEntry]) -> usize
+/// Returns how many grafts were accepted.
+pub fn accepted_in(log: &[GraftEntry]) -> usize
     ensures { result ≡ count_by was_accepted log.now }
 {
     log.iter().filter(|entry| was_accepted(*entry)).count()
 }
 
-/// How many grafts were refused.
-fn refused_in(log: &[GraftEntry]) -> usize
+/// Returns how many grafts were refused.
+pub fn refused_in(log: &[GraftEntry]) -> usize
     ensures { result ≡ count_by was_refused log.now }
 {
     log.iter().filter(|entry| was_refused(*entry)).count()
@@ -165,8 +165,8 @@ fn push_short_peerings(
     Ok(())
 }
 
-/// How many best routes the router at an index has.
-fn best_count(tables: &[RouterTable], index: usize) -> usize
+/// Returns how many best routes the router at an index has.
+pub fn best_count(tables: &[RouterTable], index: usize) -> usize
     ensures { result ≡ best_count (slice_get tables.now index) }
 {
     match tables.get(index) {

@@ -38,8 +38,8 @@ fn forward_tables(alloc: Global, tables: &[RouterTable]) -> Result<ForwardTables
     Ok(made)
 }
 
-/// The tables of all routers, in which packets are followed.
-fn forwarder_of(alloc: Global, tables: &[RouterTable]) -> Result<Forwarder, NoMemory>
+/// Returns the tables of all routers, in which packets are followed.
+pub fn forwarder_of(alloc: Global, tables: &[RouterTable]) -> Result<Forwarder, NoMemory>
     ensures { IfOk result (λ forwarder. forwarder ≡ map forwards_of tables.now) }
 {
     let made = forward_tables(alloc, tables)?;
@@ -94,8 +94,8 @@ fn push_trace(
     Ok(())
 }
 
-/// The routers that have a number, which is one octet.
-fn numbered(routers: &[RouterInput]) -> &[RouterInput]
+/// Returns the routers that have a number, which is one octet.
+pub fn numbered(routers: &[RouterInput]) -> &[RouterInput]
     ensures { result.now ≡ take 256 routers.now }
 {
     &routers[..routers.len().min(256)]

@@ -10,8 +10,8 @@ mod reading;
 mod update;
 
 pub use laws::worked_words;
-pub use message::{push_message, push_read};
+pub use message::{push_message, push_read, type_name};
 pub use names::fault_name;
-pub use notice::push_notice;
+pub use notice::{communication, push_notice};
 pub use reading::{open_got, read_got};
-pub use update::{push_attrs, push_prefixes, push_update};
+pub use update::{origin_name, push_attrs, push_prefixes, push_update};

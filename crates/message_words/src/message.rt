@@ -90,7 +90,7 @@ fn kind_name(kind: u8) -> &'static str
 
 /// Returns the type of message that octets begin as.
 #[tactic(auto, using(crate::proofs::Frames::got_header))]
-fn type_name(bytes: &[u8]) -> &'static str
+pub fn type_name(bytes: &[u8]) -> &'static str
     requires { IsGot bytes.now }
     ensures { result.now ≡ type_words bytes.now }
 {

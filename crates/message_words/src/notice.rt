@@ -102,7 +102,7 @@ fn behind_length(octets: &[u8]) -> Option<&str>
 }
 
 /// Returns the text by which an operator says why a session is shut down or reset (RFC 9003).
-fn communication(notice: &Notice) -> Option<&str>
+pub fn communication(notice: &Notice) -> Option<&str>
     ensures { option_map (λ text. text.now) result ≡ communication notice.now }
 {
     let subcode = notice.subcode;

@@ -35,7 +35,8 @@ pub fn push_prefixes(text: &mut String, word: &str, prefixes: &[Prefix]) -> Resu
     push_each_prefix(text, prefixes)
 }
 
-fn origin_name(origin: Origin) -> &'static str
+/// Returns the name of an ORIGIN.
+pub fn origin_name(origin: Origin) -> &'static str
     ensures { result.now ≡ origin_text origin }
 {
     match origin {

@@ -25,9 +25,9 @@ const TAKE: u16 = 19;
 
 /// How many segments came into the links of a peering, towards home and towards the remote.
 #[derive(Clone, Copy, Debug)]
-struct Segments {
-    home: u64,
-    remote: u64,
+pub struct Segments {
+    pub home: u64,
+    pub remote: u64,
 }
 
 /// Returns the peering whose far side an actor is, where there are so many routers.
@@ -73,7 +73,7 @@ fn pass(all: &mut [Segments], routers: usize, entry: &JournalEntry)
 
 /// Returns how many segments came into the links of each peering, where there are so many routers.
 #[tactic(auto, using(crate::proofs::Counting::none_counted))]
-fn count_segments(
+pub fn count_segments(
     alloc: Global,
     routers: usize,
     journal: &[JournalEntry],
@@ -89,7 +89,7 @@ fn count_segments(
 }
 
 /// Returns how many segments came into the link of a peering, towards this side.
-fn segments_on(all: &[Segments], peering: PeeringId, way: Way) -> u64
+pub fn segments_on(all: &[Segments], peering: PeeringId, way: Way) -> u64
     requires { length all.now ≡ 256 }
     ensures { (routers : ℕ) (journal : List JournalEntry) → AreCounted routers journal all.now
         → result ≡ segments_on_lem routers journal peering.0 way }
@@ -101,7 +101,8 @@ fn segments_on(all: &[Segments], peering: PeeringId, way: Way) -> u64
     }
 }
 
-fn way_name(way: Way) -> &'static str
+/// Returns the name of a side.
+pub fn way_name(way: Way) -> &'static str
     ensures { result.now ≡ way_text way }
 {
     match way {
@@ -110,7 +111,8 @@ fn way_name(way: Way) -> &'static str
     }
 }
 
-fn kind_name(kind: FaultKind) -> &'static str
+/// Returns the name of a kind of fault.
+pub fn kind_name(kind: FaultKind) -> &'static str
     ensures { result.now ≡ kind_text kind }
 {
     match kind {

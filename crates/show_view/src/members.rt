@@ -6,7 +6,7 @@ use lab_report::{FarView, Lab, SessionView};
 use lab_tables::{LabInput, PeeringInput, RouterInput};
 
 /// Returns the router at an index.
-pub(crate) fn router_at(input: &LabInput, index: usize) -> Option<&RouterInput>
+pub fn router_at(input: &LabInput, index: usize) -> Option<&RouterInput>
     ensures { option_copied result ≡ slice_get input.now.routers index }
 {
     input.routers.get(index)

@@ -20,7 +20,7 @@ use std::fmt::Write;
 use why_view::{first_match, is_loop, name_or_dash, push_number};
 
 /// A prefix, and the attributes of its route.
-pub(crate) type AttrsEntry = (Prefix, Attrs);
+pub type AttrsEntry = (Prefix, Attrs);
 
 /// Adds what is said of a route, the name of its router or peering, and its prefix.
 pub(crate) fn push_start(
@@ -113,7 +113,7 @@ pub(crate) fn push_attrs_line(
 }
 
 /// Returns the route that a session gives of what it heard. A path with the home AS would be a loop and gives none.
-fn let_in(
+pub fn let_in(
     input: &LabInput,
     remote_as: u32,
     policy: &Option<Policy>,
@@ -137,7 +137,7 @@ fn let_in(
 }
 
 /// Returns the index of the first rule of an import policy that matches what was heard.
-fn denying_rule(policy: &Option<Policy>, entry: &AttrsEntry) -> Result<Option<usize>, NoMemory>
+pub fn denying_rule(policy: &Option<Policy>, entry: &AttrsEntry) -> Result<Option<usize>, NoMemory>
     ensures { IfOk result (λ index. index ≡ denying_rule_lem policy.now entry.now) }
 {
     match policy {

@@ -25,7 +25,7 @@ use std::fmt::Write;
 use why_view::{established, is_wide};
 
 /// Returns in how many octets AS numbers are written.
-fn as_octets(wide: bool) -> u8
+pub fn as_octets(wide: bool) -> u8
     ensures { result ≡ as_octets_lem wide }
 {
     if wide { 4 } else { 2 }
@@ -93,7 +93,7 @@ fn got_count(line: &Line) -> usize
 
 /// Returns how many messages were put.
 #[tactic(auto, using(crate::proofs::Octets::count_more))]
-fn sent_messages(lines: &[Line]) -> usize
+pub fn sent_messages(lines: &[Line]) -> usize
     ensures { result ≡ count_by is_put lines.now }
 {
     let mut sent = 0;
@@ -105,7 +105,7 @@ fn sent_messages(lines: &[Line]) -> usize
 
 /// Returns how many messages were got.
 #[tactic(auto, using(crate::proofs::Octets::count_more))]
-fn received_messages(lines: &[Line]) -> usize
+pub fn received_messages(lines: &[Line]) -> usize
     ensures { result ≡ count_by is_got lines.now }
 {
     let mut received = 0;
@@ -137,7 +137,7 @@ fn got_size(line: &Line) -> usize
 
 /// Returns how many octets were put.
 #[tactic(auto, using(crate::proofs::Octets::sent_more))]
-pub(crate) fn sent_octets(wide: bool, lines: &[Line]) -> u128
+pub fn sent_octets(wide: bool, lines: &[Line]) -> u128
     ensures { result ≡ sent_octets_lem wide lines.now }
 {
     let mut octets = 0;
@@ -149,7 +149,7 @@ pub(crate) fn sent_octets(wide: bool, lines: &[Line]) -> u128
 
 /// Returns how many octets were got.
 #[tactic(auto, using(crate::proofs::Octets::received_more))]
-pub(crate) fn received_octets(lines: &[Line]) -> u128
+pub fn received_octets(lines: &[Line]) -> u128
     ensures { result ≡ received_octets_lem lines.now }
 {
     let mut octets = 0;
@@ -180,7 +180,7 @@ pub(crate) fn push_messages(
 }
 
 /// Returns the lines before the last one.
-fn before_last(lines: &[Line]) -> &[Line]
+pub fn before_last(lines: &[Line]) -> &[Line]
     ensures { result.now ≡ before_last_lem lines.now }
 {
     &lines[..lines.len().saturating_sub(1)]
@@ -199,11 +199,7 @@ fn state_of(lines: &[Line]) -> SessionState
 }
 
 /// Returns what the session of a peering expected at its last line. It got this OPEN.
-pub(crate) fn expected_last(
-    peering: &PeeringInput,
-    opened: &Option<OpenMsg>,
-    lines: &[Line],
-) -> Expected
+pub fn expected_last(peering: &PeeringInput, opened: &Option<OpenMsg>, lines: &[Line]) -> Expected
     ensures { (input : LabInput) → opened.now ≡ got_open (story_peering input peering.now) lines.now
         → result ≡ expected_next (story_peering input peering.now) lines.now (state_of_lem (before_last_lem lines.now)) }
 {

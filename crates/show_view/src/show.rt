@@ -29,7 +29,7 @@ use story_view::lines_of;
 use why_view::{import_policy, is_wide, opened_on, routes_on};
 
 /// Returns the best routes of a table.
-fn best_in(table: Option<&RouterTable>) -> &[BestEntry]
+pub fn best_in(table: Option<&RouterTable>) -> &[BestEntry]
     ensures { result.now ≡ best_in_lem (option_copied table.entry) }
 {
     match table {
@@ -88,7 +88,7 @@ fn push_session(
 }
 
 /// Returns the number of the router that holds a session.
-fn holder_number(place: Option<Place>) -> Option<RouterId>
+pub fn holder_number(place: Option<Place>) -> Option<RouterId>
     ensures { option_map (λ router. router.0) result ≡ holder_number_lem place }
 {
     match place {
@@ -97,7 +97,8 @@ fn holder_number(place: Option<Place>) -> Option<RouterId>
     }
 }
 
-fn is_established(state: SessionState) -> bool
+/// Returns whether a session is established.
+pub fn is_established(state: SessionState) -> bool
     ensures { result ≡ is_established_lem state }
 {
     match state {
@@ -251,7 +252,7 @@ fn push_peering(
 }
 
 /// Returns those of the peerings that have a number, which is one octet.
-fn numbered(peerings: &[PeeringInput]) -> &[PeeringInput]
+pub fn numbered(peerings: &[PeeringInput]) -> &[PeeringInput]
     ensures { result.now ≡ take 256 peerings.now }
 {
     &peerings[..peerings.len().min(256)]

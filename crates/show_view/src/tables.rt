@@ -20,7 +20,7 @@ use route_policy::Policy;
 use std::alloc::Global;
 
 /// Returns the routes of a table, in ascending order of prefix.
-pub(crate) fn entries_of(alloc: Global, routes: &AdjRib) -> Result<Items<AttrsEntry>, NoMemory>
+pub fn entries_of(alloc: Global, routes: &AdjRib) -> Result<Items<AttrsEntry>, NoMemory>
     ensures { IfOk result (λ entries. entries ≡ map.entries routes.now) }
 {
     let mut entries = Items::new(alloc);
@@ -54,7 +54,7 @@ fn told_in(alloc: Global, lines: &[Line]) -> Result<AdjRib, NoMemory>
 }
 
 /// Returns the routes that a session told: none once it is closed.
-pub(crate) fn told_on(alloc: Global, story: &Story) -> Result<AdjRib, NoMemory>
+pub fn told_on(alloc: Global, story: &Story) -> Result<AdjRib, NoMemory>
     ensures { IfOk result (λ routes. routes ≡ told_lem story.now.lines) }
 {
     match story.state() {

@@ -33,7 +33,7 @@ pub enum Untold {
 }
 
 /// Returns a best route as the router has it.
-fn best_of(entry: &BestEntry) -> Result<Best, NoMemory>
+pub fn best_of(entry: &BestEntry) -> Result<Best, NoMemory>
     ensures { IfOk result (λ best. best ≡ best_of_lem entry.now) }
 {
     Ok(Best {
@@ -108,7 +108,7 @@ fn if_exported(
 }
 
 /// Returns why a best route isn't told on a session.
-fn why_untold(
+pub fn why_untold(
     home_as: u32,
     view: &OutView<'_>,
     prefix: Prefix,

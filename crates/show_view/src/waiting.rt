@@ -148,7 +148,7 @@ fn push_stream_of(
 }
 
 /// Adds what is left to do.
-fn push_pending(
+pub fn push_pending(
     text: &mut String,
     alloc: Global,
     lab: &Lab,

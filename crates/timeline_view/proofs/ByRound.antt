@@ -10,19 +10,19 @@ use Rattle.timeline_view.specs.Rounds.{in_round}
 use Rattle.timeline_view.specs.Walks.{AreRounds}
 
 -- lists by number are what a function gives of their numbers
-pub by_number : {X Y : Type 0} (f : ℕ → List Y → List ℕ) (g : ℕ → List Y) (n : ℕ) (groups : List (List Y)) (xs : List X) → length groups ≡ length xs
+pub by_number : {X Y A : Type 0} (f : ℕ → List Y → List A) (g : ℕ → List Y) (n : ℕ) (groups : List (List Y)) (xs : List X) → length groups ≡ length xs
     → ((r : ℕ) → r < length groups → slice_index_or groups r [] ≡ g (n + r))
     → flat_map (λ m. f m.0 m.1) (enumerate_from n groups) ≡ flat_map (λ m. f m.0 (g m.0)) (enumerate_from n xs)
 by_number f g n [] [] size each = refl
 by_number f g n [] (x ∷ xs) size each = absurd (omega (arith, size))
 by_number f g n (h ∷ groups) [] size each = absurd (omega (arith, size))
-by_number {X} {Y} f g n (h ∷ groups) (x ∷ xs) size each =
+by_number {X} {Y} {A} f g n (h ∷ groups) (x ∷ xs) size each =
     let here : n + 0 ≡ n = omega arith in
     let first : h ≡ g n = each 0 (omega arith) ∙ ap g here in
     let index : (r : ℕ) → n + suc r ≡ n + 1 + r = λ r. omega arith in
     let rest = by_number f g (n + 1) groups xs (omega (arith, size)) (λ r lt. each (suc r) (omega (arith, lt)) ∙ ap g (index r)) in
     ap (λ (l : List Y). f n l ++ flat_map (λ (m : ℕ × List Y). f m.0 m.1) (enumerate_from (n + 1) groups)) first
-    ∙ ap (λ (l : List ℕ). f n (g n) ++ l) rest
+    ∙ ap (λ (l : List A). f n (g n) ++ l) rest
 
 -- one thing more in its round
 in_round_more : (r : ℕ) (all : List Happening) (h : Happening) → in_round r (all ++ h ∷ []) ≡ in_round r all ++ cond (h.round == r) (h ∷ []) []
@@ -75,8 +75,8 @@ module _ (count : ℕ) (all : List Happening) (h : Happening) where
         sym (append-nil (slice_index_or old r []))
         ∙ ap (λ (b : Bool). slice_index_or old r [] ++ cond b (h ∷ []) []) (sym (ne_eqb h.round r (λ same. omega (arith, same, lt, beyond))))
 
--- the texts of rounds that hold what happened in them
-pub texts_of_rounds : {X : Type 0} (f : ℕ → List Happening → List ℕ) (marks : List X) (all : List Happening) (rounds : List (List Happening))
+-- what rounds that hold what happened in them give
+pub texts_of_rounds : {X A : Type 0} (f : ℕ → List Happening → List A) (marks : List X) (all : List Happening) (rounds : List (List Happening))
     → (count : ℕ) → count ≡ length marks → AreRounds count all rounds
     → flat_map (λ m. f m.0 m.1) (enumerate_from 0 rounds) ≡ flat_map (λ m. f m.0 (in_round m.0 all)) (enumerate_from 0 marks)
 texts_of_rounds f marks all rounds count size are =

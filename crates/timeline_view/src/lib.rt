@@ -17,6 +17,7 @@ pub use event::{Event, Happening, Moment};
 pub use events::{Happenings, happenings};
 pub use grafts::{UpdateCounts, round_of, strays_of, updates_after};
 pub use lines::{actor_name, remote_name};
+pub use messages::{behind, line_of};
 pub use numbers::graft_in;
 pub use outline::{Head, Heads, Outline, Outlines, outlines_of};
 pub use rounds::{by_rounds, decided_at, heard_at, told_at};

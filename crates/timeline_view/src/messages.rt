@@ -85,8 +85,8 @@ fn push_got(
     Ok(())
 }
 
-/// The line at an index, if there is one.
-fn line_of(lines: &[Line], index: usize) -> Option<&Line>
+/// Returns the line at an index, if there is one.
+pub fn line_of(lines: &[Line], index: usize) -> Option<&Line>
     ensures { option_copied result ≡ slice_get lines.now index }
 {
     lines.get(index)
@@ -138,8 +138,8 @@ fn push_answer(
     }
 }
 
-/// The line behind the one at an index.
-fn behind(lines: &[Line], index: usize) -> Option<&Line>
+/// Returns the line behind the one at an index.
+pub fn behind(lines: &[Line], index: usize) -> Option<&Line>
     ensures { option_copied result ≡ slice_get lines.now (index + 1) }
 {
     match index.checked_add(1) {

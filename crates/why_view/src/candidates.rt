@@ -16,7 +16,7 @@ use route_policy::{Best, PREFERENCE, own_rank, router_rank, session_rank};
 use std::alloc::Global;
 
 /// A candidate: its source and its route, together with the rank by which the choice is made.
-pub(crate) type Candidate = (Best, Rank);
+pub type Candidate = (Best, Rank);
 
 /// A network of the router's own.
 fn own_route(alloc: Global) -> Result<Route, NoMemory>
@@ -37,8 +37,8 @@ fn own_route(alloc: Global) -> Result<Route, NoMemory>
     })
 }
 
-/// The route that a session brings in. A path with the home AS would be a loop and gives none (RFC 4271, section 9.1.2).
-pub(crate) fn imported(
+/// Returns the route that a session brings in. A path with the home AS would be a loop and gives none (RFC 4271, section 9.1.2).
+pub fn imported(
     home_as: u32,
     prefix: Prefix,
     session: &SessionEntry,
@@ -153,8 +153,8 @@ fn has_network(networks: &[Prefix], prefix: Prefix) -> bool
     networks.iter().any(|network| prefix == *network)
 }
 
-/// The candidates: the own network first, then the sessions, then the other routers.
-pub(crate) fn candidates_of(
+/// Returns the candidates: the own network first, then the sessions, then the other routers.
+pub fn candidates_of(
     alloc: Global,
     home_as: u32,
     prefix: Prefix,
@@ -170,8 +170,8 @@ pub(crate) fn candidates_of(
     Ok(found)
 }
 
-/// The ranks of candidates.
-pub(crate) fn ranks_of(alloc: Global, candidates: &[Candidate]) -> Result<Items<Rank>, NoMemory>
+/// Returns the ranks of candidates.
+pub fn ranks_of(alloc: Global, candidates: &[Candidate]) -> Result<Items<Rank>, NoMemory>
     ensures { IfOk result (λ ranks. ranks ≡ ranks_of_lem candidates.now) }
 {
     let mut ranks = Items::new(alloc);

@@ -7,7 +7,7 @@ use std::marker::Model;
 /// What a session gives a router for a prefix: the BGP Identifier in the remote's OPEN, the remote's address, the import policy, and
 /// the attributes as they were heard.
 #[derive(Debug, Drop)]
-pub(crate) struct SessionEntry {
+pub struct SessionEntry {
     pub peering: PeeringId,
     pub remote_as: u32,
     pub identifier: u32,
@@ -33,7 +33,7 @@ impl Model for SessionEntry {
 
 /// What another router gives a router for a prefix: its BGP Identifier, the interior cost to it, and what it told.
 #[derive(Debug, Drop)]
-pub(crate) struct RouterEntry {
+pub struct RouterEntry {
     pub router: RouterId,
     pub identifier: u32,
     pub cost: u32,

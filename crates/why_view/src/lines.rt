@@ -22,8 +22,8 @@ use route_policy::{PREFERENCE, Policy};
 use std::alloc::Global;
 use std::fmt::Write;
 
-/// An ORIGIN, by its number.
-fn origin_name(origin: u8) -> &'static str
+/// Returns the name of an ORIGIN, by its number.
+pub fn origin_name(origin: u8) -> &'static str
     ensures { result.now ≡ origin_text origin }
 {
     match origin {
@@ -133,8 +133,8 @@ fn push_winner(
     }
 }
 
-/// Whether this is the index of the best candidate.
-fn is_index(best: Option<usize>, index: usize) -> bool
+/// Returns whether this is the index of the best candidate.
+pub fn is_index(best: Option<usize>, index: usize) -> bool
     ensures { result ≡ is_index_lem best index }
 {
     match best {
@@ -179,8 +179,8 @@ fn push_others(
     Ok(())
 }
 
-/// The best candidate, which stands at this index.
-fn winner(candidates: &[Candidate], best: Option<usize>) -> Option<&Candidate>
+/// Returns the best candidate, which stands at this index.
+pub fn winner(candidates: &[Candidate], best: Option<usize>) -> Option<&Candidate>
     ensures { option_copied result ≡ option_and_then (λ i. slice_get candidates.now i) best }
 {
     match best {
@@ -251,8 +251,8 @@ pub fn first_match(
     Ok(policy.matching(prefix, &route))
 }
 
-/// The same of a session's import policy.
-fn matching(
+/// Returns the index of the first rule of a session's import policy that matches a route which was heard.
+pub fn matching(
     prefix: Prefix,
     session: &SessionEntry,
     heard: &Attrs,

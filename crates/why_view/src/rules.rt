@@ -130,11 +130,7 @@ fn first_at(
 }
 
 /// The rule at which a rank goes among others, if the nine rules don't leave it.
-pub(crate) fn goes_at(
-    alloc: Global,
-    ranks: &[Rank],
-    rank: &Rank,
-) -> Result<Option<DecisionRule>, NoMemory>
+pub fn goes_at(alloc: Global, ranks: &[Rank], rank: &Rank) -> Result<Option<DecisionRule>, NoMemory>
     ensures { IfOk result (λ rule. rule ≡ goes_at_lem in_order ranks.now rank.now) }
 {
     first_at(alloc, &IN_ORDER, ranks, rank)

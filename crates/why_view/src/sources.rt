@@ -152,8 +152,8 @@ fn numbered<T>(list: &[T]) -> &[T]
     &list[..list.len().min(256)]
 }
 
-/// What the sessions at a router bring in, in ascending order of peering.
-pub(crate) fn sessions_at(
+/// Returns what the sessions at a router bring in, in ascending order of peering.
+pub fn sessions_at(
     alloc: Global,
     lab: &Lab,
     number: RouterId,
@@ -273,8 +273,8 @@ fn push_router(
     Ok(())
 }
 
-/// What the other routers give a router, in ascending order of number.
-pub(crate) fn routers_beside(
+/// Returns what the other routers give a router, in ascending order of number.
+pub fn routers_beside(
     alloc: Global,
     lab: &Lab,
     number: RouterId,

@@ -48,8 +48,8 @@ fn why_of(
     Ok(text)
 }
 
-/// The router of a number.
-fn router_of(lab: &Lab, number: RouterId) -> Option<&RouterInput>
+/// Returns the router of a number.
+pub fn router_of(lab: &Lab, number: RouterId) -> Option<&RouterInput>
     ensures { option_copied result ≡ slice_get lab.now.input.routers number.0 }
 {
     lab.input.routers.get(usize::from(number.0))
