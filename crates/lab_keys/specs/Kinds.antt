@@ -7,10 +7,11 @@ use Rattle.lab_keys.specs.declared.flaw.Flaw.{Flaw}
 use Rattle.lab_keys.specs.declared.flaw.Flaw.TheVariants.{Shape, Limit}
 use Rattle.lab_keys.specs.declared.key.Kind.{Kind}
 use Rattle.lab_keys.specs.declared.key.Kind.TheVariants.{Number, HoldTime, Name, Host, Address, Prefix, Flag, Hex, Misplaced}
-use Rattle.lab_keys.specs.declared.key.Kind.TheVariants.{Origin, Way, FaultKind, StepWord}
+use Rattle.lab_keys.specs.declared.key.Kind.TheVariants.{Origin, Way, FaultKind, StepWord, State, Outcome, Best}
 use Rattle.lab_keys.specs.Spots.{KeySpot}
 use Rattle.lab_keys.specs.Texts.{is_name, address_in, host_address_in, prefix_in, is_hex}
 use Rattle.lab_keys.specs.Words.{origin_in, way_in, fault_kind_in, step_word_in}
+use Rattle.lab_keys.specs.Wanted.{state_in, is_outcome, is_best}
 
 -- ---- the first of several flaws
 
@@ -69,6 +70,9 @@ is_formed Origin text = is_some (origin_in text)
 is_formed Way text = is_some (way_in text)
 is_formed FaultKind text = is_some (fault_kind_in text)
 is_formed StepWord text = is_some (step_word_in text)
+is_formed State text = is_some (state_in text)
+is_formed Outcome text = is_outcome text
+is_formed Best text = is_best text
 is_formed _ text = false
 
 -- the first flaw of a value of a kind

@@ -17,6 +17,12 @@ pub enum Kind {
     Way,
     FaultKind,
     StepWord,
+    /// The state of a session.
+    State,
+    /// How a graft ends.
+    Outcome,
+    /// Where a best route comes from, or that there is none.
+    Best,
     /// Octets in hexadecimal, from `low` to `high` of them.
     Hex { low: usize, high: usize },
     /// The key isn't allowed here.

@@ -13,6 +13,7 @@ use crate::key::Kind;
 use crate::spot::Spot;
 use crate::table_at::TableAt;
 use crate::texts::{address_in, host_in, is_hex, is_name, prefix_in};
+use crate::wanted::{is_best, is_outcome, state_in};
 use crate::words::{fault_kind_in, origin_in, step_word_in, way_in};
 use toml::Value;
 
@@ -99,6 +100,9 @@ fn is_formed(kind: Kind, text: &str) -> bool
         Kind::Way => way_in(text).is_some(),
         Kind::FaultKind => fault_kind_in(text).is_some(),
         Kind::StepWord => step_word_in(text).is_some(),
+        Kind::State => state_in(text).is_some(),
+        Kind::Outcome => is_outcome(text),
+        Kind::Best => is_best(text),
         _ => false,
     }
 }

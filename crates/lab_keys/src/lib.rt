@@ -14,9 +14,10 @@ mod table_at;
 mod tables;
 mod texts;
 mod values;
+mod wanted;
 mod words;
 
-pub use arrays::{addresses_at, items_at, numbers_at, prefixes_at};
+pub use arrays::{addresses_at, items_at, numbers_at, prefixes_at, push_some};
 pub use flaw::Flaw;
 pub use key::{Counts, Key, Kind};
 pub use keys::{keys_flaw, stray_flaw, value_at};
@@ -31,4 +32,5 @@ pub use values::{
     address_or, flag_or, has, maybe_number, maybe_prefix, maybe_text, number_or, octets_at,
     short_or, small_or, text_at,
 };
+pub use wanted::{first_word, further_words, is_best, is_outcome, state_in};
 pub use words::{StepWord, fault_kind_in, origin_in, step_word_in, way_in};
