@@ -14,6 +14,7 @@ use Rattle.lab_tables.specs.declared.input.RouterInput.{RouterInput}
 use Rattle.lab_tables.specs.Routers.{router_flaw, router_of}
 use Rattle.lab_tables.specs.Peerings.{cost_flaw, cost_of, peering_flaw, peering_input, fault_flaw, fault_of}
 use Rattle.lab_tables.specs.Scripts.{step_flaw, step_of}
+use Rattle.lab_tables.specs.Expects.{most_graft, expect_flaw, expectation_of}
 
 -- ---- shapes and limits of all tables, in the order of the input
 
@@ -24,7 +25,7 @@ abbrev pub trace_keys : List KeyRow
 trace_keys = optional_array (codes "trace") 0 64 Address ∷ []
 
 abbrev pub top_names : List (List ℕ)
-top_names = names_of (home_keys ++ trace_keys) ++ codes "router" ∷ codes "cost" ∷ codes "peering" ∷ codes "fault" ∷ codes "step" ∷ []
+top_names = names_of (home_keys ++ trace_keys) ++ codes "router" ∷ codes "cost" ∷ codes "peering" ∷ codes "fault" ∷ codes "step" ∷ codes "expect" ∷ []
 
 abbrev pub shaped : Members → Option Flaw
 shaped doc = first_of (
@@ -36,6 +37,7 @@ shaped doc = first_of (
     ∷ tables_flaw Top (codes "fault") false 0 1024 fault_flaw doc
     ∷ tables_flaw Top (codes "step") false 0 4096 (step_flaw (items_at (codes "step") doc)) doc
     ∷ keys_flaw Top trace_keys doc
+    ∷ tables_flaw Top (codes "expect") false 0 1024 (expect_flaw (most_graft doc)) doc
     ∷ [])
 
 -- ---- the value of a document, with defaults filled in, and names of routers and peerings resolved
@@ -61,4 +63,5 @@ lab_of doc = record {
   faults = map (fault_of (peering_names_of doc)) (tables_at (codes "fault") doc);
   steps = map (step_of (router_names_of doc) (peerings_of doc)) (tables_at (codes "step") doc);
   trace = addresses_at (codes "trace") doc;
+  expects = map (expectation_of (router_names_of doc) (peering_names_of doc)) (tables_at (codes "expect") doc);
 }

@@ -2,4 +2,5 @@ pub mod Meanings
 pub mod Routers
 pub mod Peerings
 pub mod Scripts
+pub mod Expects
 pub mod Documents

@@ -2,6 +2,8 @@
 #![tactic(auto)]
 
 mod costs;
+mod expectation;
+mod expects;
 mod input;
 mod labs;
 mod name_index;
@@ -15,9 +17,11 @@ mod said;
 mod scripts;
 mod shapes;
 mod steps;
+mod wants;
 mod words;
 
 pub use costs::fault_of;
+pub use expectation::{Expectation, Expectations, Wanted};
 pub use input::{
     CostInput, CostInputs, Faults, LabInput, Numbers, PeeringInput, PeeringInputs, PolicyInput,
     PolicyInputs, RouterInput, RouterInputs, Step, Steps,

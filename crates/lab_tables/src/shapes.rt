@@ -7,6 +7,7 @@ ghost use Rattle.lab_keys.specs.Keys.{keys_flaw as keys_flaw_lem, stray_flaw as 
 ghost use Rattle.lab_tables.specs.Documents.{home_keys, trace_keys, top_names, shaped as shaped_lem};
 
 use crate::costs::{CostTables, FaultTables};
+use crate::expects::{ExpectTables, most_graft};
 use crate::numbers::AS_NUMBER;
 use crate::peerings::PeeringTables;
 use crate::routers::RouterTables;
@@ -41,7 +42,7 @@ fn head_flaw<'a>(doc: &'a Table) -> Option<Flaw<'a>>
     if let Some(flaw) = keys_flaw(TableAt::Top, &keys[..1], doc) {
         return Some(flaw);
     }
-    let arrays = ["router", "cost", "peering", "fault", "step"];
+    let arrays = ["router", "cost", "peering", "fault", "step", "expect"];
     stray_flaw(TableAt::Top, &keys, &arrays, doc)
 }
 
@@ -52,11 +53,33 @@ fn trace_flaw<'a>(doc: &Table) -> Option<Flaw<'a>>
     keys_flaw(TableAt::Top, &[trace_key()], doc)
 }
 
+/// Returns the first flaw of the expectations.
+fn expects_flaw<'a>(doc: &'a Table) -> Option<Flaw<'a>>
+    ensures { result ≡ tables_flaw_lem Top (codes "expect") false 0 1024 (expect_flaw (most_graft_lem (table_view doc.now))) (table_view doc.now) }
+{
+    let kind = ExpectTables {
+        most: most_graft(doc),
+    };
+    tables_flaw(&kind, at_top(1024), "expect", doc)
+}
+
+/// Returns the first flaw of what comes after the steps.
+fn last_flaw<'a>(doc: &'a Table) -> Option<Flaw<'a>>
+    ensures { result ≡ option_or (keys_flaw_lem Top trace_keys (table_view doc.now))
+        (option_or (tables_flaw_lem Top (codes "expect") false 0 1024 (expect_flaw (most_graft_lem (table_view doc.now))) (table_view doc.now)) None) }
+{
+    if let Some(flaw) = trace_flaw(doc) {
+        return Some(flaw);
+    }
+    expects_flaw(doc)
+}
+
 /// Returns the first flaw of what comes after the peerings.
 fn script_flaw<'a>(doc: &'a Table) -> Option<Flaw<'a>>
     ensures { result ≡ option_or (tables_flaw_lem Top (codes "fault") false 0 1024 fault_flaw (table_view doc.now))
         (option_or (tables_flaw_lem Top (codes "step") false 0 4096 (step_flaw (items_at (codes "step") (table_view doc.now))) (table_view doc.now))
-        (option_or (keys_flaw_lem Top trace_keys (table_view doc.now)) None)) }
+        (option_or (keys_flaw_lem Top trace_keys (table_view doc.now))
+        (option_or (tables_flaw_lem Top (codes "expect") false 0 1024 (expect_flaw (most_graft_lem (table_view doc.now))) (table_view doc.now)) None))) }
 {
     if let Some(flaw) = tables_flaw(&FaultTables, at_top(1024), "fault", doc) {
         return Some(flaw);
@@ -64,7 +87,7 @@ fn script_flaw<'a>(doc: &'a Table) -> Option<Flaw<'a>>
     if let Some(flaw) = steps_flaw(doc) {
         return Some(flaw);
     }
-    trace_flaw(doc)
+    last_flaw(doc)
 }
 
 /// Returns the first flaw of what comes after the routers.
@@ -73,7 +96,8 @@ fn further_flaw<'a>(doc: &'a Table) -> Option<Flaw<'a>>
         (option_or (tables_flaw_lem Top (codes "peering") false 0 32 (peering_flaw (table_view doc.now)) (table_view doc.now))
         (option_or (tables_flaw_lem Top (codes "fault") false 0 1024 fault_flaw (table_view doc.now))
         (option_or (tables_flaw_lem Top (codes "step") false 0 4096 (step_flaw (items_at (codes "step") (table_view doc.now))) (table_view doc.now))
-        (option_or (keys_flaw_lem Top trace_keys (table_view doc.now)) None)))) }
+        (option_or (keys_flaw_lem Top trace_keys (table_view doc.now))
+        (option_or (tables_flaw_lem Top (codes "expect") false 0 1024 (expect_flaw (most_graft_lem (table_view doc.now))) (table_view doc.now)) None))))) }
 {
     if let Some(flaw) = tables_flaw(&CostTables, at_top(56), "cost", doc) {
         return Some(flaw);
@@ -109,3 +133,4 @@ ghost use Rattle.lab_keys.specs.Keys.{tables_flaw as tables_flaw_lem};
 ghost use Rattle.lab_keys.specs.Values.{items_at};
 ghost use Rattle.lab_tables.specs.Peerings.{cost_flaw, peering_flaw, fault_flaw};
 ghost use Rattle.lab_tables.specs.Scripts.{step_flaw};
+ghost use Rattle.lab_tables.specs.Expects.{most_graft as most_graft_lem, expect_flaw};
