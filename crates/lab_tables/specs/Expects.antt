@@ -1,5 +1,5 @@
 -- Expectations: what an input wants of the end of its run.
-use Rattle.std.specs.Prelude.{ℕ, Bool, true, false, ◌||◌, not, min, List, [], ◌∷◌, ◌++◌, map, length, sum_by, Option, Some, None}
+use Rattle.std.specs.Prelude.{ℕ, Bool, true, false, ◌||◌, not, nat_lt, min, List, [], ◌∷◌, ◌++◌, map, length, sum_by, Option, Some, None}
 use Rattle.std.specs.Prelude.{option_map, option_and_then, codes, if◌then◌else◌}
 use Rattle.std.specs.List.{cons_option}
 use Rattle.std.specs.Str.{bytes_eq}
@@ -7,7 +7,7 @@ use Rattle.toml.specs.Data.{Data, table, Members}
 use Rattle.bgp_types.specs.declared.rank.From.{From}
 use Rattle.bgp_types.specs.declared.rank.From.TheVariants as sources
 use Rattle.lab_keys.specs.declared.flaw.Flaw.{Flaw}
-use Rattle.lab_keys.specs.declared.flaw.Flaw.TheVariants.{Shape}
+use Rattle.lab_keys.specs.declared.flaw.Flaw.TheVariants.{Shape, Limit}
 use Rattle.lab_keys.specs.declared.key.Kind.TheVariants as kinds
 use Rattle.lab_keys.specs.declared.key.Kind.TheVariants.{Number, Name}
 use Rattle.lab_keys.specs.declared.table_at.TableAt.TheVariants as tables
@@ -58,8 +58,11 @@ most_graft doc = min 4294967295 (graft_numbers doc)
 
 -- ---- the keys of each form
 
-abbrev pub graft_expect_keys : (most : ℕ) → List KeyRow
-graft_expect_keys most = required (codes "graft") (Number 1 most) ∷ required (codes "outcome") kinds.Outcome ∷ []
+abbrev pub graft_expect_ends : List KeyRow
+graft_expect_ends = required (codes "graft") (Number 1 4294967295) ∷ []
+
+abbrev pub graft_expect_rest : List KeyRow
+graft_expect_rest = required (codes "outcome") kinds.Outcome ∷ []
 
 abbrev pub session_expect_keys : List KeyRow
 session_expect_keys =
@@ -73,31 +76,50 @@ session_expect_keys =
 abbrev pub route_expect_keys : List KeyRow
 route_expect_keys = required (codes "router") Name ∷ required (codes "prefix") kinds.Prefix ∷ required (codes "best") kinds.Best ∷ []
 
-abbrev pub expect_keys : (most : ℕ) → ExpectForm → List KeyRow
-expect_keys most forms.Graft = graft_expect_keys most
-expect_keys most forms.Session = session_expect_keys
-expect_keys most forms.Route = route_expect_keys
+abbrev pub expect_keys : ExpectForm → List KeyRow
+expect_keys forms.Graft = graft_expect_ends ++ graft_expect_rest
+expect_keys forms.Session = session_expect_keys
+expect_keys forms.Route = route_expect_keys
 
--- of a session, something has to be wanted
-abbrev pub wants_nothing : ExpectForm → Members → Bool
-wants_nothing forms.Session t =
-    not (has_member (codes "at") t || has_member (codes "state") t || has_member (codes "heard") t || has_member (codes "told") t)
-wants_nothing form t = false
+-- ---- flaws
+
+-- a graft's number is one that the script has
+abbrev pub graft_expect_flaw : (most i : ℕ) → Members → Option Flaw
+graft_expect_flaw most i t =
+    let graft = number_or 32 0 (codes "graft") t in
+    first_of (
+    keys_flaw (tables.Expect i) graft_expect_ends t
+    ∷ flaw_if (nat_lt most graft) (Limit (spot_of (tables.Expect i) (codes "graft")) graft)
+    ∷ keys_flaw (tables.Expect i) graft_expect_rest t
+    ∷ stray_flaw (tables.Expect i) (names_of (expect_keys forms.Graft)) t
+    ∷ [])
 
 -- the spot of a table as a whole
 abbrev pub expect_spot : ℕ → KeySpot
 expect_spot i = member_of (spot_of tables.Top (codes "expect")) i
 
-abbrev pub formed_flaw : (most i : ℕ) → ExpectForm → Members → Option Flaw
-formed_flaw most i form t = first_of (
-    keys_flaw (tables.Expect i) (expect_keys most form) t
-    ∷ stray_flaw (tables.Expect i) (names_of (expect_keys most form)) t
-    ∷ flaw_if (wants_nothing form t) (Shape (expect_spot i))
+abbrev pub wants_nothing : Members → Bool
+wants_nothing t = not (has_member (codes "at") t || has_member (codes "state") t || has_member (codes "heard") t || has_member (codes "told") t)
+
+-- something is wanted of a session
+abbrev pub session_expect_flaw : ℕ → Members → Option Flaw
+session_expect_flaw i t = first_of (
+    keys_flaw (tables.Expect i) session_expect_keys t
+    ∷ stray_flaw (tables.Expect i) (names_of session_expect_keys) t
+    ∷ flaw_if (wants_nothing t) (Shape (expect_spot i))
+    ∷ [])
+
+abbrev pub route_expect_flaw : ℕ → Members → Option Flaw
+route_expect_flaw i t = first_of (
+    keys_flaw (tables.Expect i) route_expect_keys t
+    ∷ stray_flaw (tables.Expect i) (names_of route_expect_keys) t
     ∷ [])
 
 abbrev pub flaw_by_form : (most i : ℕ) → Option ExpectForm → Members → Option Flaw
 flaw_by_form most i None t = Some (Shape (expect_spot i))
-flaw_by_form most i (Some form) t = formed_flaw most i form t
+flaw_by_form most i (Some forms.Graft) t = graft_expect_flaw most i t
+flaw_by_form most i (Some forms.Session) t = session_expect_flaw i t
+flaw_by_form most i (Some forms.Route) t = route_expect_flaw i t
 
 -- given the greatest number of a graft
 abbrev pub expect_flaw : (most i : ℕ) → Members → Option Flaw

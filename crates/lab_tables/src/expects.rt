@@ -1,19 +1,23 @@
 //! The flaws of expectations.
 
-ghost use Rattle.std.specs.Prelude.{◌≡◌, min, length, sum_by};
-ghost use Rattle.std.specs.Option.{option_or};
+ghost use Rattle.std.specs.Prelude.{◌≡◌, ◌++◌, min, length, sum_by, nat_lt, codes};
 ghost use Rattle.toml.specs.View.{view, table_view};
-ghost use Rattle.lab_keys.specs.Values.{items_at as items_at_lem};
-ghost use Rattle.lab_tables.specs.declared.expects.ExpectForm.TheVariants as forms;
+ghost use Rattle.lab_keys.specs.declared.flaw.Flaw.TheVariants.{Limit};
+ghost use Rattle.lab_keys.specs.declared.table_at.TableAt.TheVariants as tables;
+ghost use Rattle.lab_keys.specs.Spots.{spot_of};
+ghost use Rattle.lab_keys.specs.Kinds.{flaw_if as flaw_if_lem};
+ghost use Rattle.lab_keys.specs.Values.{items_at as items_at_lem, number_or as number_or_lem};
 ghost use Rattle.lab_tables.specs.Expects.{form_by as form_by_lem, form_of as form_of_lem, word_grafts as word_grafts_lem, grafts_of as grafts_of_lem};
-ghost use Rattle.lab_tables.specs.Expects.{most_graft as most_graft_lem, wants_nothing as wants_nothing_lem, expect_spot as expect_spot_lem};
-ghost use Rattle.lab_tables.specs.Expects.{formed_flaw as formed_flaw_lem, expect_flaw as expect_flaw_lem};
+ghost use Rattle.lab_tables.specs.Expects.{most_graft as most_graft_lem, graft_expect_ends, graft_expect_rest, graft_expect_flaw};
+ghost use Rattle.lab_tables.specs.Expects.{session_expect_keys as session_expect_keys_lem, session_expect_flaw, wants_nothing as wants_nothing_lem};
+ghost use Rattle.lab_tables.specs.Expects.{route_expect_keys as route_expect_keys_lem, route_expect_flaw, expect_spot as expect_spot_lem};
+ghost use Rattle.lab_tables.specs.Expects.{expect_flaw as expect_flaw_lem};
 
 use crate::numbers::ANY_NUMBER;
 use crate::words::word_at;
 use lab_keys::{
     Flaw, Key, Kind, Spot, StepWord, TableAt, TableKind, flaw_if, has, items_at, keys_flaw,
-    stray_flaw,
+    number_or, stray_flaw,
 };
 use toml::{Table, Value};
 
@@ -110,11 +114,48 @@ pub(crate) fn most_graft(doc: &Table) -> u32
 
 // ---- flaws
 
-/// Returns whether nothing is wanted of a session.
-fn wants_nothing(table: &Table) -> bool
-    ensures { result ≡ wants_nothing_lem forms.Session (table_view table.now) }
+/// Returns the keys of an expectation of a graft: its number, and how it ends.
+fn graft_expect_keys() -> [Key; 2]
+    ensures { result ≡ graft_expect_ends ++ graft_expect_rest }
 {
-    !(has("at", table) || has("state", table) || has("heard", table) || has("told", table))
+    [
+        Key::required(
+            "graft",
+            Kind::Number {
+                low: 1,
+                high: u32::MAX,
+            },
+        ),
+        Key::required("outcome", Kind::Outcome),
+    ]
+}
+
+/// Returns the flaw of a graft's number above the greatest one.
+fn graft_limit<'a>(most: u32, i: usize, table: &Table) -> Option<Flaw<'a>>
+    ensures { result ≡ flaw_if_lem (nat_lt most (number_or_lem 32 0 (codes "graft") (table_view table.now)))
+        (Limit (spot_of (tables.Expect i) (codes "graft")) (number_or_lem 32 0 (codes "graft") (table_view table.now))) }
+{
+    let graft = number_or(0, "graft", table);
+    let spot = Spot::of(TableAt::Expect(i), "graft");
+    flaw_if(most < graft, Flaw::Limit(spot, u64::from(graft)))
+}
+
+fn graft_flaw<'a>(most: u32, i: usize, table: &'a Table) -> Option<Flaw<'a>>
+    ensures { result ≡ graft_expect_flaw most i (table_view table.now) }
+{
+    let at = TableAt::Expect(i);
+    let rows = graft_expect_keys();
+    let keys = &rows[..];
+    if let Some(flaw) = keys_flaw(at, &keys[..1], table) {
+        return Some(flaw);
+    }
+    if let Some(flaw) = graft_limit(most, i, table) {
+        return Some(flaw);
+    }
+    if let Some(flaw) = keys_flaw(at, &keys[1..], table) {
+        return Some(flaw);
+    }
+    stray_flaw(at, keys, &[], table)
 }
 
 /// Returns the spot of the expectation at index `i` as a whole.
@@ -124,38 +165,31 @@ fn expect_spot<'a>(i: usize) -> Spot<'a>
     Spot::of(TableAt::Top, "expect").member(i)
 }
 
-/// Returns the first flaw of the keys of the expectation at index `i`, or its first unknown key.
-fn rows_flaw<'a>(i: usize, keys: &[Key], table: &'a Table) -> Option<Flaw<'a>>
-    ensures { result ≡ option_or (keys_flaw_lem (tables.Expect i) keys.now (table_view table.now))
-        (option_or (stray_flaw_lem (tables.Expect i) (names_of keys.now) (table_view table.now)) None) }
+/// Returns whether nothing is wanted of a session.
+fn wants_nothing(table: &Table) -> bool
+    ensures { result ≡ wants_nothing_lem (table_view table.now) }
 {
-    if let Some(flaw) = keys_flaw(TableAt::Expect(i), keys, table) {
-        return Some(flaw);
-    }
-    stray_flaw(TableAt::Expect(i), keys, &[], table)
+    !(has("at", table) || has("state", table) || has("heard", table) || has("told", table))
 }
 
-fn graft_flaw<'a>(most: u32, i: usize, table: &'a Table) -> Option<Flaw<'a>>
-    ensures { result ≡ formed_flaw_lem most i forms.Graft (table_view table.now) }
+/// Returns the keys of an expectation of a session.
+fn session_expect_keys() -> [Key; 5]
+    ensures { result ≡ session_expect_keys_lem }
 {
-    let keys = [
-        Key::required("graft", Kind::Number { low: 1, high: most }),
-        Key::required("outcome", Kind::Outcome),
-    ];
-    rows_flaw(i, &keys, table)
-}
-
-fn session_flaw<'a>(i: usize, table: &'a Table) -> Option<Flaw<'a>>
-    ensures { result ≡ formed_flaw_lem 0 i forms.Session (table_view table.now) }
-{
-    let keys = [
+    [
         Key::required("peering", Kind::Name),
         Key::optional("at", Kind::Name),
         Key::optional("state", Kind::State),
         Key::optional("heard", ANY_NUMBER),
         Key::optional("told", ANY_NUMBER),
-    ];
+    ]
+}
+
+fn session_flaw<'a>(i: usize, table: &'a Table) -> Option<Flaw<'a>>
+    ensures { result ≡ session_expect_flaw i (table_view table.now) }
+{
     let at = TableAt::Expect(i);
+    let keys = session_expect_keys();
     if let Some(flaw) = keys_flaw(at, &keys, table) {
         return Some(flaw);
     }
@@ -165,15 +199,26 @@ fn session_flaw<'a>(i: usize, table: &'a Table) -> Option<Flaw<'a>>
     flaw_if(wants_nothing(table), Flaw::Shape(expect_spot(i)))
 }
 
-fn route_flaw<'a>(i: usize, table: &'a Table) -> Option<Flaw<'a>>
-    ensures { result ≡ formed_flaw_lem 0 i forms.Route (table_view table.now) }
+/// Returns the keys of an expectation of a best route.
+fn route_expect_keys() -> [Key; 3]
+    ensures { result ≡ route_expect_keys_lem }
 {
-    let keys = [
+    [
         Key::required("router", Kind::Name),
         Key::required("prefix", Kind::Prefix),
         Key::required("best", Kind::Best),
-    ];
-    rows_flaw(i, &keys, table)
+    ]
+}
+
+fn route_flaw<'a>(i: usize, table: &'a Table) -> Option<Flaw<'a>>
+    ensures { result ≡ route_expect_flaw i (table_view table.now) }
+{
+    let at = TableAt::Expect(i);
+    let keys = route_expect_keys();
+    if let Some(flaw) = keys_flaw(at, &keys, table) {
+        return Some(flaw);
+    }
+    stray_flaw(at, &keys, &[], table)
 }
 
 /// Returns the first flaw of the expectation at index `i`, given the greatest number of a graft.
@@ -201,7 +246,3 @@ impl TableKind for ExpectTables {
         expect_flaw(self.most, i, table)
     }
 }
-
-ghost use Rattle.std.specs.Prelude.{None};
-ghost use Rattle.lab_keys.specs.declared.table_at.TableAt.TheVariants as tables;
-ghost use Rattle.lab_keys.specs.Keys.{keys_flaw as keys_flaw_lem, stray_flaw as stray_flaw_lem, names_of};
