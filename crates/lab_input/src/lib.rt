@@ -3,7 +3,9 @@
 
 mod bad;
 mod counts;
+mod expects;
 mod faults;
+mod laws;
 mod named;
 mod names;
 mod naming;
@@ -14,7 +16,8 @@ mod told;
 pub use bad::{BadInput, LabStop};
 pub use counts::update_of;
 pub use lab_tables::{
-    CostInput, CostInputs, Faults, LabInput, Numbers, PeeringInput, PeeringInputs, PolicyInput,
-    PolicyInputs, RouterInput, RouterInputs, Step, Steps,
+    CostInput, CostInputs, Expectation, Expectations, Faults, LabInput, Numbers, PeeringInput,
+    PeeringInputs, PolicyInput, PolicyInputs, RouterInput, RouterInputs, Step, Steps, Wanted,
 };
+pub use laws::an_input_may_expect_nothing;
 pub use read::{MOST_BYTES, read_lab, too_long};

@@ -15,6 +15,6 @@ pub use refused::bad_text;
 pub use short::{push_short_router, summary};
 pub use texts::{
     peering_name, place_at, push_end, push_from, push_graft, push_log, push_path, push_peerings,
-    push_place, push_refusal, push_routers, router_name, source_name, state_name,
+    push_place, push_refusal, push_routers, push_stage, router_name, source_name, state_name,
 };
 pub use whole::report;
