@@ -5,14 +5,14 @@ use Rattle.std.specs.Prelude.{Option, Some, None, is_some, count_by, if◌then�
 use Rattle.std.specs.List.{list_all}
 use Rattle.std.specs.Option.{option_or}
 use Rattle.std.proofs.lemmas.List.Sums.{sum_by-cons, count_by_more_yes, count_by_more_no}
-use Rattle.lab_tables.specs.declared.expectation.Wanted.{Wanted}
+use Rattle.lab_tables.specs.declared.expectation.ExpectedValue.{ExpectedValue}
 use Rattle.lab_report.specs.declared.lab.Lab.{Lab}
 use Rattle.expect_view.specs.Expect.{is_got, holds, difference_of, difference, wanted_value, got_value, key_text}
 
 -- ---- one expectation
 
 -- it differs somewhere exactly where it doesn't hold
-pub differs : (lab : Lab) (expectation : List Wanted) → is_some (difference lab expectation) ≡ not (holds lab expectation)
+pub differs : (lab : Lab) (expectation : List ExpectedValue) → is_some (difference lab expectation) ≡ not (holds lab expectation)
 differs lab [] = refl
 differs lab (w ∷ ws) = by_test (is_got lab w) (differs lab ws) where
   by_test : (t : Bool) → is_some (difference lab ws) ≡ not (holds lab ws)
@@ -27,7 +27,7 @@ not_twice true = refl
 not_twice false = refl
 
 -- how many fail of one, where it differs and where it doesn't
-pub one_fails : (lab : Lab) (expectation : List Wanted) (b : Bool) → is_some (difference lab expectation) ≡ b
+pub one_fails : (lab : Lab) (expectation : List ExpectedValue) (b : Bool) → is_some (difference lab expectation) ≡ b
     → (if b then 1 else 0) ≡ (if holds lab expectation then 0 else 1)
 one_fails lab expectation b is = by_test b (holds lab expectation) (sym is ∙ differs lab expectation) where
   by_test : (b h : Bool) → b ≡ not h → (if b then 1 else 0) ≡ (if h then 0 else 1)

@@ -10,8 +10,8 @@ use Rattle.bgp_story.specs.States.{state_of}
 use Rattle.graft_steps.specs.declared.log.GraftEntry.{GraftEntry}
 use Rattle.graft_steps.specs.declared.log.GraftStage.{GraftStage}
 use Rattle.lab_keys.specs.Kinds.{first_of}
-use Rattle.lab_tables.specs.declared.expectation.Wanted.{Wanted}
-use Rattle.lab_tables.specs.declared.expectation.Wanted.TheVariants.{Outcome, At, State, Heard, Told, Best}
+use Rattle.lab_tables.specs.declared.expectation.ExpectedValue.{ExpectedValue}
+use Rattle.lab_tables.specs.declared.expectation.ExpectedValue.TheVariants.{Outcome, At, State, Heard, Told, Best}
 use Rattle.lab_tables.specs.declared.input.LabInput.{LabInput}
 use Rattle.lab_report.specs.declared.lab.Lab.{Lab}
 use Rattle.lab_report.specs.declared.lab.Place.{Place}
@@ -58,7 +58,7 @@ source_value input None = nothing
 source_value input (Some from) = from_text input from
 
 -- what an expectation wants
-abbrev pub wanted_value : LabInput → Wanted → List ℕ
+abbrev pub wanted_value : LabInput → ExpectedValue → List ℕ
 wanted_value input (Outcome graft outcome) = outcome
 wanted_value input (At peering router) = router_name input router.0
 wanted_value input (State peering state) = state_text state
@@ -67,7 +67,7 @@ wanted_value input (Told peering count) = decimal count
 wanted_value input (Best router prefix from) = source_value input from
 
 -- what the run came to
-abbrev pub got_value : Lab → Wanted → List ℕ
+abbrev pub got_value : Lab → ExpectedValue → List ℕ
 got_value lab (Outcome graft outcome) = stage_value (stage_of lab.log graft)
 got_value lab (At peering router) = place_value lab.input (slice_get lab.placement peering.0)
 got_value lab (State peering state) = session_value (λ view. state_text (state_of view.story.lines)) (slice_get lab.sessions peering.0)
@@ -82,12 +82,12 @@ is_held_by router (Some (Held other)) = other.0 == router
 is_held_by router place = false
 
 -- The run has the value that is wanted: the same router holds the session, and else the report writes the same.
-abbrev pub is_got : Lab → Wanted → Bool
+abbrev pub is_got : Lab → ExpectedValue → Bool
 is_got lab (At peering router) = is_held_by router.0 (slice_get lab.placement peering.0)
 is_got lab wanted = bytes_eq (got_value lab wanted) (wanted_value lab.input wanted)
 
 -- an expectation holds where the run has each value that it wants
-abbrev pub holds : Lab → List Wanted → Bool
+abbrev pub holds : Lab → List ExpectedValue → Bool
 holds lab expectation = list_all (is_got lab) expectation
 
 abbrev pub all_hold : Lab → Bool
@@ -96,7 +96,7 @@ all_hold lab = list_all (holds lab) lab.input.expects
 -- ---- what is said of one
 
 -- the key under which a value is wanted
-abbrev pub key_text : Wanted → List ℕ
+abbrev pub key_text : ExpectedValue → List ℕ
 key_text (Outcome graft outcome) = codes "outcome"
 key_text (At peering router) = codes "at"
 key_text (State peering state) = codes "state"
@@ -104,13 +104,13 @@ key_text (Heard peering count) = codes "heard"
 key_text (Told peering count) = codes "told"
 key_text (Best router prefix from) = codes "best"
 
-abbrev pub difference_of : Lab → Wanted → Option Difference
+abbrev pub difference_of : Lab → ExpectedValue → Option Difference
 difference_of lab wanted =
     if is_got lab wanted then None
     else Some (record { key = key_text wanted; wanted = wanted_value lab.input wanted; got = got_value lab wanted })
 
 -- the first key under which the run has another value
-abbrev pub difference : Lab → List Wanted → Option Difference
+abbrev pub difference : Lab → List ExpectedValue → Option Difference
 difference lab expectation = first_of (map (difference_of lab) expectation)
 
 abbrev pub verdict_line : (number : ℕ) → Option Difference → List ℕ
@@ -119,7 +119,7 @@ verdict_line number (Some d) =
     codes "failed " ++ decimal number ++ codes " wanted " ++ d.key ++ codes " " ++ d.wanted ++ codes " got " ++ d.got ++ line_end
 
 -- expectations are numbered from 1
-abbrev pub expectation_line : Lab → ℕ × List Wanted → List ℕ
+abbrev pub expectation_line : Lab → ℕ × List ExpectedValue → List ℕ
 expectation_line lab x = verdict_line (x.0 + 1) (difference lab x.1)
 
 -- ---- the whole

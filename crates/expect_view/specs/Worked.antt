@@ -12,8 +12,8 @@ use Rattle.graft_steps.specs.declared.log.GraftEntry.{GraftEntry}
 use Rattle.graft_steps.specs.declared.log.GraftStage.{GraftStage}
 use Rattle.graft_steps.specs.declared.log.GraftStage.TheVariants.{Issued, Ended}
 use Rattle.graft_steps.specs.declared.refusal.Outcome.TheVariants.{Accepted}
-use Rattle.lab_tables.specs.declared.expectation.Wanted.{Wanted}
-use Rattle.lab_tables.specs.declared.expectation.Wanted.TheVariants.{Outcome, At, State, Heard, Told, Best}
+use Rattle.lab_tables.specs.declared.expectation.ExpectedValue.{ExpectedValue}
+use Rattle.lab_tables.specs.declared.expectation.ExpectedValue.TheVariants.{Outcome, At, State, Heard, Told, Best}
 use Rattle.lab_tables.specs.declared.input.LabInput.{LabInput}
 use Rattle.lab_tables.specs.declared.input.PeeringInput.{PeeringInput}
 use Rattle.lab_tables.specs.declared.input.RouterInput.{RouterInput}
@@ -58,7 +58,7 @@ sixteen = record { len = 16; address = 0x0A010000 }
 -- What holds: how the first graft ended; all of c1; where the first router's route comes from, and that there is none to the other prefix. What
 -- doesn't: the second graft hasn't ended, and nothing is known of a third one; a session that is on its way isn't at a router; the keys of c2, of
 -- which the first one that differs is named; and the second router's route is from c1.
-abbrev worked_expects : List (List Wanted)
+abbrev worked_expects : List (List ExpectedValue)
 worked_expects =
     (Outcome 1 (codes "accepted") ∷ [])
     ∷ (At (record { 0 = 0 }) (record { 0 = 1 }) ∷ State (record { 0 = 0 }) Established ∷ Heard (record { 0 = 0 }) 1 ∷ Told (record { 0 = 0 }) 0 ∷ [])

@@ -12,20 +12,20 @@ use lab_report::{
     BestEntry, Lab, Place, RouterTable, SessionView, place_at, push_from, push_stage, router_name,
     state_name,
 };
-use lab_tables::{LabInput, Wanted};
+use lab_tables::{LabInput, ExpectedValue};
 use std::fmt::Write;
 
 /// Returns the key under which a value is wanted.
-pub fn key_name(wanted: &Wanted) -> &'static str
+pub fn key_name(wanted: &ExpectedValue) -> &'static str
     ensures { result.now ≡ key_text wanted.now }
 {
     match wanted {
-        Wanted::Outcome { .. } => "outcome",
-        Wanted::At { .. } => "at",
-        Wanted::State { .. } => "state",
-        Wanted::Heard { .. } => "heard",
-        Wanted::Told { .. } => "told",
-        Wanted::Best { .. } => "best",
+        ExpectedValue::Outcome { .. } => "outcome",
+        ExpectedValue::At { .. } => "at",
+        ExpectedValue::State { .. } => "state",
+        ExpectedValue::Heard { .. } => "heard",
+        ExpectedValue::Told { .. } => "told",
+        ExpectedValue::Best { .. } => "best",
     }
 }
 
@@ -174,36 +174,36 @@ fn push_source_value(
 }
 
 /// Adds the value that is wanted.
-pub fn push_wanted(text: &mut String, input: &LabInput, wanted: &Wanted) -> Result<(), NoMemory>
+pub fn push_wanted(text: &mut String, input: &LabInput, wanted: &ExpectedValue) -> Result<(), NoMemory>
     ensures { OnOk result (string_bytes text.new ≡ string_bytes text.old ++ wanted_value input.now wanted.now) }
 {
     match wanted {
-        Wanted::Outcome { outcome, .. } => text.push_str(outcome.as_str())?,
-        Wanted::At { router, .. } => text.push_str(router_name(input, router.0))?,
-        Wanted::State { state, .. } => text.push_str(state_name(*state))?,
-        Wanted::Heard { count, .. } => write!(text, "{count}")?,
-        Wanted::Told { count, .. } => write!(text, "{count}")?,
-        Wanted::Best { from, .. } => push_source_value(text, input, *from)?,
+        ExpectedValue::Outcome { outcome, .. } => text.push_str(outcome.as_str())?,
+        ExpectedValue::At { router, .. } => text.push_str(router_name(input, router.0))?,
+        ExpectedValue::State { state, .. } => text.push_str(state_name(*state))?,
+        ExpectedValue::Heard { count, .. } => write!(text, "{count}")?,
+        ExpectedValue::Told { count, .. } => write!(text, "{count}")?,
+        ExpectedValue::Best { from, .. } => push_source_value(text, input, *from)?,
     }
     Ok(())
 }
 
 /// Adds the value that the run has in its place.
-pub fn push_got(text: &mut String, lab: &Lab, wanted: &Wanted) -> Result<(), NoMemory>
+pub fn push_got(text: &mut String, lab: &Lab, wanted: &ExpectedValue) -> Result<(), NoMemory>
     ensures { OnOk result (string_bytes text.new ≡ string_bytes text.old ++ got_value lab.now wanted.now) }
 {
     match wanted {
-        Wanted::Outcome { graft, .. } => {
+        ExpectedValue::Outcome { graft, .. } => {
             push_stage_value(text, stage_of(lab.log.as_slice(), *graft))
         }
-        Wanted::At { peering, .. } => {
+        ExpectedValue::At { peering, .. } => {
             let place = place_at(lab.placement.as_slice(), usize::from(peering.0));
             push_place_value(text, &lab.input, place)
         }
-        Wanted::State { peering, .. } => push_state_value(text, view_of(lab, *peering)),
-        Wanted::Heard { peering, .. } => push_heard_value(text, view_of(lab, *peering)),
-        Wanted::Told { peering, .. } => push_told_value(text, view_of(lab, *peering)),
-        Wanted::Best { router, prefix, .. } => {
+        ExpectedValue::State { peering, .. } => push_state_value(text, view_of(lab, *peering)),
+        ExpectedValue::Heard { peering, .. } => push_heard_value(text, view_of(lab, *peering)),
+        ExpectedValue::Told { peering, .. } => push_told_value(text, view_of(lab, *peering)),
+        ExpectedValue::Best { router, prefix, .. } => {
             push_source_value(text, &lab.input, source_of(lab, *router, *prefix))
         }
     }
@@ -223,13 +223,13 @@ fn is_held_by(router: RouterId, place: Option<Place>) -> bool
 
 /// Returns whether the run has the value that is wanted, given how both are written. A session that is on its way is at no
 /// router, also at none that is called so.
-pub(crate) fn is_got(lab: &Lab, wanted: &Wanted, got: &str, value: &str) -> bool
+pub(crate) fn is_got(lab: &Lab, wanted: &ExpectedValue, got: &str, value: &str) -> bool
     requires got { got.now ≡ got_value lab.now wanted.now }
     requires value { value.now ≡ wanted_value lab.now.input wanted.now }
     ensures { result ≡ is_got_lem lab.now wanted.now }
 {
     match wanted {
-        Wanted::At { peering, router } => {
+        ExpectedValue::At { peering, router } => {
             let place = place_at(lab.placement.as_slice(), usize::from(peering.0));
             is_held_by(*router, place)
         }

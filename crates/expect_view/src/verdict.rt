@@ -6,7 +6,7 @@ ghost use Rattle.expect_view.specs.Expect.{wanted_value, got_value, difference_o
 use crate::values::{is_got, key_name, push_got, push_wanted};
 use graft_edge::{Name, NoMemory};
 use lab_report::Lab;
-use lab_tables::{LabInput, Wanted};
+use lab_tables::{LabInput, ExpectedValue};
 use std::alloc::Global;
 
 /// The first key of an expectation under which the run has another value: the key, the value that is wanted, and what
@@ -19,7 +19,7 @@ pub struct Difference {
 }
 
 /// The value that is wanted, as it is written.
-fn wanted_text(alloc: Global, input: &LabInput, wanted: &Wanted) -> Result<Name, NoMemory>
+fn wanted_text(alloc: Global, input: &LabInput, wanted: &ExpectedValue) -> Result<Name, NoMemory>
     ensures { IfOk result (λ text. text ≡ wanted_value input.now wanted.now) }
 {
     let mut text = String::new(alloc);
@@ -28,7 +28,7 @@ fn wanted_text(alloc: Global, input: &LabInput, wanted: &Wanted) -> Result<Name,
 }
 
 /// What the run has in its place, as it is written.
-fn got_text(alloc: Global, lab: &Lab, wanted: &Wanted) -> Result<Name, NoMemory>
+fn got_text(alloc: Global, lab: &Lab, wanted: &ExpectedValue) -> Result<Name, NoMemory>
     ensures { IfOk result (λ text. text ≡ got_value lab.now wanted.now) }
 {
     let mut text = String::new(alloc);
@@ -40,7 +40,7 @@ fn got_text(alloc: Global, lab: &Lab, wanted: &Wanted) -> Result<Name, NoMemory>
 fn difference_of(
     alloc: Global,
     lab: &Lab,
-    wanted: &Wanted,
+    wanted: &ExpectedValue,
 ) -> Result<Option<Difference>, NoMemory>
     ensures { IfOk result (λ found. found ≡ difference_of_lem lab.now wanted.now) }
 {
@@ -60,7 +60,7 @@ fn difference_of(
 pub fn difference(
     alloc: Global,
     lab: &Lab,
-    expectation: &[Wanted],
+    expectation: &[ExpectedValue],
 ) -> Result<Option<Difference>, NoMemory>
     ensures { IfOk result (λ found. found ≡ difference_lem lab.now expectation.now) }
 {

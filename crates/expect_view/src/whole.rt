@@ -8,7 +8,7 @@ ghost use Rattle.expect_view.specs.Expect.{is_settled as is_settled_lem, test_st
 use crate::verdict::{Difference, difference};
 use graft_edge::NoMemory;
 use lab_report::{Lab, RunEnd};
-use lab_tables::{Expectation, Wanted};
+use lab_tables::{Expectation, ExpectedValue};
 use std::alloc::Global;
 use std::fmt::Write;
 
@@ -39,7 +39,7 @@ fn push_expectation(
     alloc: Global,
     lab: &Lab,
     index: usize,
-    expectation: &[Wanted],
+    expectation: &[ExpectedValue],
 ) -> Result<usize, NoMemory>
     requires { index < 2 ^ 64 - 1 }
     ensures text { OnOk result (string_bytes text.new ≡ string_bytes text.old ++ expectation_line lab.now (index, expectation.now)) }

@@ -20,7 +20,7 @@ use Rattle.lab_tables.specs.Peerings.{cost_of, fault_of}
 use Rattle.lab_keys.specs.declared.words.StepWord.{StepWord}
 use Rattle.lab_keys.specs.declared.words.StepWord.TheVariants.{Grafts, Settles, Evacuates}
 use Rattle.lab_tables.specs.Meanings.{word_at}
-use Rattle.lab_keys.specs.Wanted.{first_word, further_words}
+use Rattle.lab_keys.specs.Reported.{first_word, further_words}
 
 -- the first fault in a list, each member checked against those before it
 abbrev pub each_after : {A : Type 0} → (List A → A → Option BadInput) → List A → List A → Option BadInput

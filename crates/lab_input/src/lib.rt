@@ -16,8 +16,8 @@ mod told;
 pub use bad::{BadInput, LabStop};
 pub use counts::update_of;
 pub use lab_tables::{
-    CostInput, CostInputs, Expectation, Expectations, Faults, LabInput, Numbers, PeeringInput,
-    PeeringInputs, PolicyInput, PolicyInputs, RouterInput, RouterInputs, Step, Steps, Wanted,
+    CostInput, CostInputs, Expectation, Expectations, ExpectedValue, Faults, LabInput, Numbers,
+    PeeringInput, PeeringInputs, PolicyInput, PolicyInputs, RouterInput, RouterInputs, Step, Steps,
 };
 pub use laws::an_input_may_expect_nothing;
 pub use read::{MOST_BYTES, read_lab, too_long};

@@ -5,7 +5,7 @@ use Rattle.std.specs.Prelude.{Option, Some, None}
 use Rattle.std.specs.List.{position_or_len}
 use Rattle.std.proofs.lemmas.Bool.{false≢true}
 use Rattle.std.proofs.lemmas.List.{take_all, drop_all}
-use Rattle.lab_keys.specs.Wanted.{before, behind, bracketed}
+use Rattle.lab_keys.specs.Reported.{before, behind, bracketed}
 
 -- where the text has no such character
 pub whole_before : (mark : ℕ) (text : List ℕ) → position_or_len (λ c. eqb c mark) text ≡ length text → text ≡ before mark text

@@ -11,7 +11,7 @@ use Rattle.lab_keys.specs.declared.key.Kind.TheVariants.{Origin, Way, FaultKind,
 use Rattle.lab_keys.specs.Spots.{KeySpot}
 use Rattle.lab_keys.specs.Texts.{is_name, address_in, host_address_in, prefix_in, is_hex}
 use Rattle.lab_keys.specs.Words.{origin_in, way_in, fault_kind_in, step_word_in}
-use Rattle.lab_keys.specs.Wanted.{state_in, is_outcome, is_best}
+use Rattle.lab_keys.specs.Reported.{state_in, is_outcome, is_best}
 
 -- ---- the first of several flaws
 

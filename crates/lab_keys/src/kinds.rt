@@ -10,10 +10,10 @@ ghost use Rattle.lab_keys.specs.Kinds.{flaw_if as flaw_if_lem, text_flaw as text
 
 use crate::flaw::Flaw;
 use crate::key::Kind;
+use crate::reported::{is_best, is_outcome, state_in};
 use crate::spot::Spot;
 use crate::table_at::TableAt;
 use crate::texts::{address_in, host_in, is_hex, is_name, prefix_in};
-use crate::wanted::{is_best, is_outcome, state_in};
 use crate::words::{fault_kind_in, origin_in, step_word_in, way_in};
 use toml::Value;
 

@@ -9,12 +9,12 @@ mod keys;
 mod kinds;
 mod paths;
 mod readers;
+mod reported;
 mod spot;
 mod table_at;
 mod tables;
 mod texts;
 mod values;
-mod wanted;
 mod words;
 
 pub use arrays::{addresses_at, items_at, numbers_at, prefixes_at, push_some};
@@ -24,6 +24,7 @@ pub use keys::{keys_flaw, stray_flaw, value_at};
 pub use kinds::{beyond, flaw_if};
 pub use paths::path_of;
 pub use readers::{TableReader, tables_in, values_at};
+pub use reported::{first_word, further_words, is_best, is_outcome, state_in};
 pub use spot::Spot;
 pub use table_at::TableAt;
 pub use tables::{ArrayAt, TableKind, tables_flaw};
@@ -32,5 +33,4 @@ pub use values::{
     address_or, flag_or, has, maybe_number, maybe_prefix, maybe_text, number_or, octets_at,
     short_or, small_or, text_at,
 };
-pub use wanted::{first_word, further_words, is_best, is_outcome, state_in};
 pub use words::{StepWord, fault_kind_in, origin_in, step_word_in, way_in};

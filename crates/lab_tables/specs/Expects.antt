@@ -18,9 +18,9 @@ use Rattle.lab_keys.specs.Spots.{KeySpot, spot_of, member_of}
 use Rattle.lab_keys.specs.Kinds.{first_of, flaw_if}
 use Rattle.lab_keys.specs.Keys.{required, optional, keys_flaw, stray_flaw, names_of}
 use Rattle.lab_keys.specs.Values.{has_member, text_at, maybe_text, number_or, maybe_number, maybe_prefix, items_at}
-use Rattle.lab_keys.specs.Wanted.{state_in, first_word, further_words}
-use Rattle.lab_tables.specs.declared.expectation.Wanted.{Wanted}
-use Rattle.lab_tables.specs.declared.expectation.Wanted.TheVariants.{Outcome, At, State, Heard, Told, Best}
+use Rattle.lab_keys.specs.Reported.{state_in, first_word, further_words}
+use Rattle.lab_tables.specs.declared.expectation.ExpectedValue.{ExpectedValue}
+use Rattle.lab_tables.specs.declared.expectation.ExpectedValue.TheVariants.{Outcome, At, State, Heard, Told, Best}
 use Rattle.lab_tables.specs.declared.expects.ExpectForm.{ExpectForm}
 use Rattle.lab_tables.specs.declared.expects.ExpectForm.TheVariants as forms
 use Rattle.lab_tables.specs.Meanings.{index_of_name, word_at}
@@ -131,19 +131,19 @@ abbrev pub one_if : {A : Type 0} → Option A → List A
 one_if wanted = cons_option wanted []
 
 -- of the session of a peering, by its number
-abbrev pub at_wanted : List (List ℕ) → (peering : ℕ) → Members → Option Wanted
+abbrev pub at_wanted : List (List ℕ) → (peering : ℕ) → Members → Option ExpectedValue
 at_wanted routers peering t = option_map (λ name. At (record { 0 = peering }) (record { 0 = index_of_name routers name })) (maybe_text (codes "at") t)
 
-abbrev pub state_wanted : (peering : ℕ) → Members → Option Wanted
+abbrev pub state_wanted : (peering : ℕ) → Members → Option ExpectedValue
 state_wanted peering t = option_map (State (record { 0 = peering })) (option_and_then state_in (maybe_text (codes "state") t))
 
-abbrev pub heard_wanted : (peering : ℕ) → Members → Option Wanted
+abbrev pub heard_wanted : (peering : ℕ) → Members → Option ExpectedValue
 heard_wanted peering t = option_map (Heard (record { 0 = peering })) (maybe_number 32 (codes "heard") t)
 
-abbrev pub told_wanted : (peering : ℕ) → Members → Option Wanted
+abbrev pub told_wanted : (peering : ℕ) → Members → Option ExpectedValue
 told_wanted peering t = option_map (Told (record { 0 = peering })) (maybe_number 32 (codes "told") t)
 
-abbrev pub session_wanted : List (List ℕ) → (peering : ℕ) → Members → List Wanted
+abbrev pub session_wanted : List (List ℕ) → (peering : ℕ) → Members → List ExpectedValue
 session_wanted routers peering t =
     one_if (at_wanted routers peering t) ++ one_if (state_wanted peering t) ++ one_if (heard_wanted peering t) ++ one_if (told_wanted peering t)
 
@@ -155,17 +155,17 @@ source_in routers peerings text =
     else if bytes_eq (first_word text) (codes "router") then Some (sources.Router (record { 0 = index_of_name routers (further_words text) }))
     else None
 
-abbrev pub best_wanted : (routers peerings : List (List ℕ)) → Members → Option Wanted
+abbrev pub best_wanted : (routers peerings : List (List ℕ)) → Members → Option ExpectedValue
 best_wanted routers peerings t =
     let router = index_of_name routers (text_at (codes "router") t) in
     option_map (λ prefix. Best (record { 0 = router }) prefix (source_in routers peerings (text_at (codes "best") t))) (maybe_prefix (codes "prefix") t)
 
-abbrev pub wanted_by_form : Option ExpectForm → (routers peerings : List (List ℕ)) → Members → List Wanted
+abbrev pub wanted_by_form : Option ExpectForm → (routers peerings : List (List ℕ)) → Members → List ExpectedValue
 wanted_by_form None routers peerings t = []
 wanted_by_form (Some forms.Graft) routers peerings t = Outcome (number_or 32 0 (codes "graft") t) (text_at (codes "outcome") t) ∷ []
 wanted_by_form (Some forms.Session) routers peerings t = session_wanted routers (index_of_name peerings (text_at (codes "peering") t)) t
 wanted_by_form (Some forms.Route) routers peerings t = one_if (best_wanted routers peerings t)
 
 -- the values that a table wants of a run
-abbrev pub expectation_of : (routers peerings : List (List ℕ)) → Members → List Wanted
+abbrev pub expectation_of : (routers peerings : List (List ℕ)) → Members → List ExpectedValue
 expectation_of routers peerings t = wanted_by_form (form_of t) routers peerings t

@@ -4,7 +4,7 @@ use bgp_types::{From, Items, Name, PeeringId, Prefix, RouterId, SessionState};
 
 /// A value that is wanted of the end of a run.
 #[derive(Debug, Drop)]
-pub enum Wanted {
+pub enum ExpectedValue {
     /// How the graft of this number ends, as a report writes it.
     Outcome {
         graft: u32,
@@ -39,6 +39,6 @@ pub enum Wanted {
 }
 
 /// What one table of an input wants: at least one value, in the order of the table's keys.
-pub type Expectation = Items<Wanted>;
+pub type Expectation = Items<ExpectedValue>;
 
 pub type Expectations = Items<Expectation>;

@@ -21,7 +21,7 @@ mod wants;
 mod words;
 
 pub use costs::fault_of;
-pub use expectation::{Expectation, Expectations, Wanted};
+pub use expectation::{Expectation, Expectations, ExpectedValue};
 pub use input::{
     CostInput, CostInputs, Faults, LabInput, Numbers, PeeringInput, PeeringInputs, PolicyInput,
     PolicyInputs, RouterInput, RouterInputs, Step, Steps,

@@ -7,7 +7,7 @@ ghost use Rattle.lab_tables.specs.Expects.{at_wanted as at_wanted_lem, state_wan
 ghost use Rattle.lab_tables.specs.Expects.{told_wanted as told_wanted_lem, session_wanted as session_wanted_lem, source_in as source_in_lem};
 ghost use Rattle.lab_tables.specs.Expects.{best_wanted as best_wanted_lem, wanted_by_form, expectation_of as expectation_of_lem, one_if as one_if_lem};
 
-use crate::expectation::{Expectation, Wanted};
+use crate::expectation::{Expectation, ExpectedValue};
 use crate::expects::{ExpectForm, form_of};
 use crate::name_index::NameIndex;
 use bgp_types::{From, Items, Name, NoMemory, PeeringId, RouterId};
@@ -19,56 +19,56 @@ use std::alloc::Global;
 use toml::Table;
 
 /// Returns the outcome that is wanted of a graft.
-fn outcome_wanted(alloc: Global, table: &Table) -> Result<Wanted, NoMemory>
+fn outcome_wanted(alloc: Global, table: &Table) -> Result<ExpectedValue, NoMemory>
     ensures { IfOk result
         (λ wanted. wanted ≡ Outcome (number_or_lem 32 0 (codes "graft") (table_view table.now)) (text_at_lem (codes "outcome") (table_view table.now))) }
 {
-    Ok(Wanted::Outcome {
+    Ok(ExpectedValue::Outcome {
         graft: number_or(0, "graft", table),
         outcome: Name::from_text(alloc, text_at("outcome", table))?,
     })
 }
 
 /// Returns the router that is wanted to hold the session of the peering of a number, if one is.
-fn at_wanted(routers: &NameIndex, peering: u8, table: &Table) -> Option<Wanted>
+fn at_wanted(routers: &NameIndex, peering: u8, table: &Table) -> Option<ExpectedValue>
     ensures { result ≡ at_wanted_lem routers.now peering (table_view table.now) }
 {
     let name = maybe_text("at", table)?;
     let router = RouterId(routers.number_of(name));
-    Some(Wanted::At {
+    Some(ExpectedValue::At {
         peering: PeeringId(peering),
         router,
     })
 }
 
 /// Returns the state that is wanted of the session of the peering of a number, if one is.
-fn state_wanted(peering: u8, table: &Table) -> Option<Wanted>
+fn state_wanted(peering: u8, table: &Table) -> Option<ExpectedValue>
     ensures { result ≡ state_wanted_lem peering (table_view table.now) }
 {
     let state = state_in(maybe_text("state", table)?)?;
-    Some(Wanted::State {
+    Some(ExpectedValue::State {
         peering: PeeringId(peering),
         state,
     })
 }
 
 /// Returns how many heard prefixes are wanted of the session of the peering of this number, if a count is.
-fn heard_wanted(peering: u8, table: &Table) -> Option<Wanted>
+fn heard_wanted(peering: u8, table: &Table) -> Option<ExpectedValue>
     ensures { result ≡ heard_wanted_lem peering (table_view table.now) }
 {
     let count = maybe_number("heard", table)?;
-    Some(Wanted::Heard {
+    Some(ExpectedValue::Heard {
         peering: PeeringId(peering),
         count,
     })
 }
 
 /// Returns how many told prefixes are wanted of the session of the peering of this number, if a count is.
-fn told_wanted(peering: u8, table: &Table) -> Option<Wanted>
+fn told_wanted(peering: u8, table: &Table) -> Option<ExpectedValue>
     ensures { result ≡ told_wanted_lem peering (table_view table.now) }
 {
     let count = maybe_number("told", table)?;
-    Some(Wanted::Told {
+    Some(ExpectedValue::Told {
         peering: PeeringId(peering),
         count,
     })
@@ -107,11 +107,11 @@ fn source_in(routers: &NameIndex, peerings: &NameIndex, text: &str) -> Option<Fr
 }
 
 /// Returns the source that is wanted of a router's best route to a prefix.
-fn best_wanted(routers: &NameIndex, peerings: &NameIndex, table: &Table) -> Option<Wanted>
+fn best_wanted(routers: &NameIndex, peerings: &NameIndex, table: &Table) -> Option<ExpectedValue>
     ensures { result ≡ best_wanted_lem routers.now peerings.now (table_view table.now) }
 {
     let prefix = maybe_prefix("prefix", table)?;
-    Some(Wanted::Best {
+    Some(ExpectedValue::Best {
         router: RouterId(routers.number_of(text_at("router", table))),
         prefix,
         from: source_in(routers, peerings, text_at("best", table)),
@@ -119,7 +119,7 @@ fn best_wanted(routers: &NameIndex, peerings: &NameIndex, table: &Table) -> Opti
 }
 
 /// Returns a list of the value, if there is one.
-fn one_if(alloc: Global, wanted: Option<Wanted>) -> Result<Expectation, NoMemory>
+fn one_if(alloc: Global, wanted: Option<ExpectedValue>) -> Result<Expectation, NoMemory>
     ensures { IfOk result (λ list. list ≡ one_if_lem wanted) }
 {
     let mut list = Items::new(alloc);
@@ -165,4 +165,4 @@ impl<'p> TableReader<Expectation> for ExpectReader<'p> {
 
 ghost use Rattle.std.specs.Prelude.{codes};
 ghost use Rattle.lab_keys.specs.Values.{number_or as number_or_lem};
-ghost use Rattle.lab_tables.specs.declared.expectation.Wanted.TheVariants.{Outcome};
+ghost use Rattle.lab_tables.specs.declared.expectation.ExpectedValue.TheVariants.{Outcome};

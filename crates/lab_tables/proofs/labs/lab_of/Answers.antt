@@ -11,15 +11,15 @@ use Rattle.lab_tables.specs.declared.input.Step.{Step}
 use Rattle.lab_tables.specs.Peerings.{cost_of, peering_input, fault_of}
 use Rattle.lab_tables.specs.Scripts.{step_of}
 use Rattle.lab_tables.specs.Expects.{expectation_of}
-use Rattle.lab_tables.specs.declared.expectation.Wanted.{Wanted}
+use Rattle.lab_tables.specs.declared.expectation.ExpectedValue.{ExpectedValue}
 use Rattle.lab_tables.specs.Documents.{routers_of, router_names_of, peerings_of, peering_names_of}
 use Rattle.lab_tables.proofs.labs.lab_of.Goals as goal
 
-abbrev lab_with : ℕ → List RouterInput → List CostInput → List PeeringInput → List Fault → List Step → List ℕ → List (List Wanted) → LabInput
+abbrev lab_with : ℕ → List RouterInput → List CostInput → List PeeringInput → List Fault → List Step → List ℕ → List (List ExpectedValue) → LabInput
 lab_with h r c p f s t w = record { home_as = h; routers = r; costs = c; peerings = p; faults = f; steps = s; trace = t; expects = w }
 
 lab_same : (h h' : ℕ) (r r' : List RouterInput) (c c' : List CostInput) (p p' : List PeeringInput) (f f' : List Fault) (s s' : List Step) (t t' : List ℕ)
-    (w w' : List (List Wanted)) → h ≡ h' → r ≡ r' → c ≡ c' → p ≡ p' → f ≡ f' → s ≡ s' → t ≡ t' → w ≡ w'
+    (w w' : List (List ExpectedValue)) → h ≡ h' → r ≡ r' → c ≡ c' → p ≡ p' → f ≡ f' → s ≡ s' → t ≡ t' → w ≡ w'
     → lab_with h r c p f s t w ≡ lab_with h' r' c' p' f' s' t' w'
 lab_same h h' r r' c c' p p' f f' s s' t t' w w' eh er ec ep ef es et ew =
     ap (λ x. lab_with x r c p f s t w) eh

@@ -1,6 +1,6 @@
 use Rattle.std.proofs.Common.{◌∙◌, sym, arith}
 use Rattle.lab_keys.proofs.Splits.{closed, open_behind, never_closed}
-use Rattle.lab_keys.proofs.wanted.bracketed.Goals as goal
+use Rattle.lab_keys.proofs.reported.bracketed.Goals as goal
 
 pub returns-then-is_empty : goal.returns-then-is_empty
 returns-then-is_empty c =

@@ -2,11 +2,11 @@
 
 ghost use Rattle.std.specs.Prelude.{◌≡◌, ◌<◌, option_map};
 ghost use Rattle.std.specs.List.{list_all};
-ghost use Rattle.lab_keys.specs.Wanted.{state_in as state_in_lem, before as before_lem, behind as behind_lem};
-ghost use Rattle.lab_keys.specs.Wanted.{first_word as first_word_lem, further_words as further_words_lem, bracketed as bracketed_lem};
-ghost use Rattle.lab_keys.specs.Wanted.{is_digit, is_small_number as is_small_number_lem, is_detailed as is_detailed_lem};
-ghost use Rattle.lab_keys.specs.Wanted.{is_reason as is_reason_lem, is_outcome as is_outcome_lem, is_sender as is_sender_lem};
-ghost use Rattle.lab_keys.specs.Wanted.{is_best as is_best_lem};
+ghost use Rattle.lab_keys.specs.Reported.{state_in as state_in_lem, before as before_lem, behind as behind_lem};
+ghost use Rattle.lab_keys.specs.Reported.{first_word as first_word_lem, further_words as further_words_lem, bracketed as bracketed_lem};
+ghost use Rattle.lab_keys.specs.Reported.{is_digit, is_small_number as is_small_number_lem, is_detailed as is_detailed_lem};
+ghost use Rattle.lab_keys.specs.Reported.{is_reason as is_reason_lem, is_outcome as is_outcome_lem, is_sender as is_sender_lem};
+ghost use Rattle.lab_keys.specs.Reported.{is_best as is_best_lem};
 
 use crate::texts::is_name;
 use bgp_types::SessionState;

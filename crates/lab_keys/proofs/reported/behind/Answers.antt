@@ -1,5 +1,5 @@
 use Rattle.lab_keys.proofs.Splits.{nothing_behind}
-use Rattle.lab_keys.proofs.wanted.behind.Goals as goal
+use Rattle.lab_keys.proofs.reported.behind.Goals as goal
 
 pub returns-in-Some : goal.returns-in-Some
 returns-in-Some c = (c.in-Some.ensures.byte c.requires (λ w o found. found)).1.0
