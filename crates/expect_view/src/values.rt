@@ -12,7 +12,7 @@ use lab_report::{
     BestEntry, Lab, Place, RouterTable, SessionView, place_at, push_from, push_stage, router_name,
     state_name,
 };
-use lab_tables::{LabInput, ExpectedValue};
+use lab_tables::{ExpectedValue, LabInput};
 use std::fmt::Write;
 
 /// Returns the key under which a value is wanted.
@@ -174,7 +174,11 @@ fn push_source_value(
 }
 
 /// Adds the value that is wanted.
-pub fn push_wanted(text: &mut String, input: &LabInput, wanted: &ExpectedValue) -> Result<(), NoMemory>
+pub fn push_wanted(
+    text: &mut String,
+    input: &LabInput,
+    wanted: &ExpectedValue,
+) -> Result<(), NoMemory>
     ensures { OnOk result (string_bytes text.new ≡ string_bytes text.old ++ wanted_value input.now wanted.now) }
 {
     match wanted {

@@ -6,7 +6,7 @@ ghost use Rattle.expect_view.specs.Expect.{wanted_value, got_value, difference_o
 use crate::values::{is_got, key_name, push_got, push_wanted};
 use graft_edge::{Name, NoMemory};
 use lab_report::Lab;
-use lab_tables::{LabInput, ExpectedValue};
+use lab_tables::{ExpectedValue, LabInput};
 use std::alloc::Global;
 
 /// The first key of an expectation under which the run has another value: the key, the value that is wanted, and what

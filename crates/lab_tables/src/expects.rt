@@ -37,12 +37,24 @@ fn form_by(graft: bool, peering: bool, router: bool) -> Option<ExpectForm>
     ensures { result ≡ form_by_lem graft peering router }
 {
     if graft {
-        return if peering || router { None } else { Some(ExpectForm::Graft) };
+        return if peering || router {
+            None
+        } else {
+            Some(ExpectForm::Graft)
+        };
     }
     if peering {
-        return if router { None } else { Some(ExpectForm::Session) };
+        return if router {
+            None
+        } else {
+            Some(ExpectForm::Session)
+        };
     }
-    if router { Some(ExpectForm::Route) } else { None }
+    if router {
+        Some(ExpectForm::Route)
+    } else {
+        None
+    }
 }
 
 /// Returns the form of an expectation, if its table has one.
