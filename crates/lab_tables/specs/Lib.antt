@@ -3,3 +3,4 @@ pub mod Routers
 pub mod Peerings
 pub mod Scripts
 pub mod Documents
+pub mod Rows
