@@ -25,15 +25,23 @@ long_words = codes "an input has at most " ++ decimal most_bytes ++ codes " byte
 
 -- ---- bytes that are no TOML document
 
--- lines and columns count from 1; an octet that goes on with a character of UTF-8 is no column
-abbrev pub line_of : List ℕ → (at : ℕ) → ℕ
-line_of bytes at = 1 + count_by (λ b. b == 10) (take at bytes)
+abbrev pub lines_in : List ℕ → ℕ
+lines_in bytes = count_by (λ b. b == 10) bytes
 
+-- an octet that goes on with a character of UTF-8 doesn't begin one
 abbrev pub begins_character : ℕ → Bool
 begins_character b = not (nat_le 128 b && nat_le b 191)
 
+-- characters behind the last newline
+abbrev pub columns_in : List ℕ → ℕ
+columns_in bytes = count_by begins_character (take_while (λ b. not (b == 10)) (reverse bytes))
+
+-- lines and columns count from 1
+abbrev pub line_of : List ℕ → (at : ℕ) → ℕ
+line_of bytes at = lines_in (take at bytes) + 1
+
 abbrev pub column_of : List ℕ → (at : ℕ) → ℕ
-column_of bytes at = 1 + count_by begins_character (take_while (λ b. not (b == 10)) (reverse (take at bytes)))
+column_of bytes at = columns_in (take at bytes) + 1
 
 abbrev pub place_words : List ℕ → (at : ℕ) → List ℕ → List ℕ
 place_words bytes at message = codes "line " ++ decimal (line_of bytes at) ++ codes " column " ++ decimal (column_of bytes at) ++ codes ": " ++ message

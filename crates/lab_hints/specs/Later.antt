@@ -54,12 +54,15 @@ repeated_words =
 
 -- ---- counts
 
+-- a router with fewer places than peerings start there
+abbrev pub crowd_words : RouterInput → (peerings : ℕ) → List ℕ
+crowd_words router peerings =
+    codes "router " ++ router.name ++ codes " has room for " ++ decimal router.sessions ++ codes " sessions, and " ++ decimal peerings
+    ++ codes " peerings start there"
+
 abbrev pub crowded_words : List PeeringInput → ℕ → RouterInput → Option (List ℕ)
 crowded_words peerings number router =
-    if nat_lt router.sessions (peering_count_at peerings number)
-    then Some (codes "router " ++ router.name ++ codes " has room for " ++ decimal router.sessions ++ codes " sessions, and "
-        ++ decimal (peering_count_at peerings number) ++ codes " peerings start there")
-    else None
+    if nat_lt router.sessions (peering_count_at peerings number) then Some (crowd_words router (peering_count_at peerings number)) else None
 
 -- the first router that hasn't room for its peerings
 abbrev pub sessions_words : LabInput → List ℕ

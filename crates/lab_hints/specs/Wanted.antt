@@ -1,5 +1,5 @@
 -- What may stand at a key, in words.
-use Rattle.std.specs.Prelude.{ℕ, List, ◌∷◌, ◌++◌, Option, Some, None, codes, decimal, if◌then◌else◌}
+use Rattle.std.specs.Prelude.{ℕ, List, [], ◌++◌, Option, Some, None, codes, decimal, if◌then◌else◌}
 use Rattle.std.specs.List.{flat_map}
 use Rattle.std.specs.Str.{bytes_eq}
 use Rattle.lab_keys.specs.declared.key.Kind.{Kind}
@@ -11,9 +11,12 @@ use Rattle.lab_keys.specs.declared.table_at.TableAt.TheVariants as tables
 use Rattle.lab_keys.specs.KeyRows.{KeyRow}
 use Rattle.lab_keys.specs.Words.{words_of, origin_words, way_words, fault_kind_words, step_words}
 
+abbrev pub spaced : List ℕ → List ℕ
+spaced word = codes " " ++ word
+
 -- words, each behind a space
 abbrev pub listed : List (List ℕ) → List ℕ
-listed words = flat_map (λ word. 32 ∷ word) words
+listed words = flat_map spaced words
 
 abbrev pub range_words : (low high : ℕ) → List ℕ
 range_words low high = decimal low ++ codes " to " ++ decimal high
@@ -43,15 +46,15 @@ kind_words key (Hex low high) = codes "a string with " ++ range_words low high +
 kind_words key Table = codes "a table"
 kind_words key Misplaced = misplaced_words key
 
--- the heading of the tables of an array, with the arrays around it
-abbrev pub heading_words : TableAt → List ℕ → List ℕ
-heading_words (tables.Router i) key = codes "router." ++ key
-heading_words (tables.Policy i j) key = codes "router.policy." ++ key
-heading_words at key = key
+-- the arrays around the tables of an array, in front of its key in their heading
+abbrev pub heading_front : TableAt → List ℕ
+heading_front (tables.Router i) = codes "router."
+heading_front (tables.Policy i j) = codes "router.policy."
+heading_front at = []
 
 -- the members of an array
 abbrev pub members_words : TableAt → List ℕ → Kind → List ℕ
-members_words at key Table = codes "tables, each under [[" ++ heading_words at key ++ codes "]]"
+members_words at key Table = codes "tables, each under [[" ++ heading_front at ++ key ++ codes "]]"
 members_words at key kind = codes "values, each " ++ kind_words key kind
 
 abbrev pub value_words : TableAt → List ℕ → Kind → Option Counts → List ℕ
