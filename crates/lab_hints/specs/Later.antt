@@ -57,8 +57,7 @@ repeated_words =
 -- a router with fewer places than peerings start there
 abbrev pub crowd_words : RouterInput → (peerings : ℕ) → List ℕ
 crowd_words router peerings =
-    codes "router " ++ router.name ++ codes " has room for " ++ decimal router.sessions ++ codes " sessions, and " ++ decimal peerings
-    ++ codes " peerings start there"
+    codes "router " ++ router.name ++ codes " has sessions = " ++ decimal router.sessions ++ codes ", and the peerings that start there are " ++ decimal peerings
 
 abbrev pub crowded_words : List PeeringInput → ℕ → RouterInput → Option (List ℕ)
 crowded_words peerings number router =

@@ -1,5 +1,5 @@
 -- The hint for a value of a wrong shape, or beyond its limits.
-use Rattle.std.specs.Prelude.{ℕ, nat_le, ◌==◌, Bool, true, false, ◌&&◌, ◌||◌, List, ◌++◌, length, Option, Some, None, unwrap_or, codes, if◌then◌else◌}
+use Rattle.std.specs.Prelude.{ℕ, nat_le, ◌==◌, Bool, true, false, ◌&&◌, ◌||◌, List, [], ◌++◌, length, Option, Some, None, unwrap_or, codes, if◌then◌else◌}
 use Rattle.std.specs.List.{list_all, find}
 use Rattle.std.specs.Str.{bytes_eq}
 use Rattle.toml.specs.Data.{Members, no_members}
@@ -8,12 +8,12 @@ use Rattle.lab_keys.specs.declared.flaw.Flaw.TheVariants.{Shape, Limit}
 use Rattle.lab_keys.specs.declared.table_at.TableAt.{TableAt}
 use Rattle.lab_keys.specs.declared.table_at.TableAt.TheVariants.{Cost, Peering, Fault, Step}
 use Rattle.lab_keys.specs.KeyRows.{KeyRow}
-use Rattle.lab_keys.specs.Keys.{key_flaw, names_of}
+use Rattle.lab_keys.specs.Keys.{key_flaw, names_of, stray_in}
 use Rattle.lab_keys.specs.Spots.{KeySpot}
 use Rattle.lab_keys.specs.Texts.{is_name_char}
 use Rattle.lab_keys.specs.Values.{has_member}
 use Rattle.lab_tables.specs.Rows.{table_at, rows_at}
-use Rattle.near_names.specs.Nearness.{nearest}
+use Rattle.near_names.specs.Nearness.{is_near, nearest}
 use Rattle.lab_hints.specs.Wanted.{listed, wanted_words}
 
 -- ---- a key that no row has
@@ -51,16 +51,28 @@ relation_words (Step i) key =
     else Some (codes "beside an evacuate step, a group has neither a graft nor a second evacuate step; a settle step ends a group")
 relation_words at key = None
 
--- ---- a row's value
+-- ---- the value of a row
+
+-- a misspelt key that stands there in place of a missing one
+abbrev pub instead_words : Option (List ℕ) → List ℕ → List ℕ
+instead_words None name = []
+instead_words (Some key) name = if is_bare key && is_near key name then codes "; no key is called " ++ key else []
+
+abbrev pub related_words : TableAt → KeyRow → List ℕ
+related_words at row = unwrap_or (relation_words at row.name) (row.name ++ codes " is " ++ wanted_words at row)
+
+abbrev pub missing_words : TableAt → Members → KeyRow → List ℕ
+missing_words at t row =
+    row.name ++ codes " is missing: " ++ wanted_words at row ++ instead_words (stray_in (names_of (rows_at at t)) t) row.name
 
 -- by the flaw that the row's value has by itself, and whether there is a value
-abbrev pub flawed_words : Option Flaw → Bool → TableAt → KeyRow → List ℕ
-flawed_words None there at row = unwrap_or (relation_words at row.name) (row.name ++ codes " is " ++ wanted_words at row)
-flawed_words (Some flaw) true at row = row.name ++ codes " is " ++ wanted_words at row
-flawed_words (Some flaw) false at row = row.name ++ codes " is missing: " ++ wanted_words at row
+abbrev pub flawed_words : Option Flaw → Bool → TableAt → Members → KeyRow → List ℕ
+flawed_words None there at t row = related_words at row
+flawed_words (Some flaw) true at t row = row.name ++ codes " is " ++ wanted_words at row
+flawed_words (Some flaw) false at t row = missing_words at t row
 
 abbrev pub row_words : TableAt → Members → KeyRow → List ℕ
-row_words at t row = flawed_words (key_flaw at t row) (has_member row.name t) at row
+row_words at t row = flawed_words (key_flaw at t row) (has_member row.name t) at t row
 
 -- ---- the hint
 

@@ -53,7 +53,7 @@ fn push_crowd(text: &mut String, router: &RouterInput, peerings: u64) -> Result<
     let sessions = router.sessions;
     write!(
         text,
-        "router {name} has room for {sessions} sessions, and {peerings} peerings start there"
+        "router {name} has sessions = {sessions}, and the peerings that start there are {peerings}"
     )?;
     Ok(())
 }

@@ -6,7 +6,7 @@ ghost use Rattle.lab_hints.specs.Later.{prefixes_words, count_words, later_words
 
 use crate::crowd::push_sessions;
 use crate::names::{all_names, is_peering, is_policy, is_router};
-use crate::wanted::NAME_TEXT;
+use crate::wanted::name_form;
 use bgp_types::NoMemory;
 use lab_input::{
     BadInput, LabInput, MOST_GRAFTS, MOST_OCTETS, MOST_OCTETS_BEATING, MOST_PREFIXES,
@@ -42,7 +42,7 @@ fn push_unnamed(
 {
     if !is_name(name) {
         text.push_str("a name is ")?;
-        text.push_str(NAME_TEXT)?;
+        text.push_str(name_form())?;
         return Ok(());
     }
     let names = all_names(alloc, lab)?;

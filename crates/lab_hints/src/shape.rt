@@ -1,17 +1,17 @@
 //! A value of a wrong shape, or beyond its limits.
 
-ghost use Rattle.std.specs.Prelude.{◌≡◌, ◌++◌, OnOk, Some, string_bytes, option_map, option_copied, codes, is_some};
+ghost use Rattle.std.specs.Prelude.{◌≡◌, ◌++◌, OnOk, string_bytes, option_map, option_copied};
 ghost use Rattle.std.specs.List.{find};
 ghost use Rattle.std.specs.Str.{bytes_eq};
 ghost use Rattle.toml.specs.View.{table_view};
-ghost use Rattle.lab_keys.specs.declared.flaw.Flaw.{Flaw as FlawOf};
 ghost use Rattle.lab_hints.specs.Wanted.{wanted_words};
-ghost use Rattle.lab_hints.specs.Shapes.{relation_words, flawed_words, row_words, key_words, spot_in as spot_in_lem, shape_words};
+ghost use Rattle.lab_tables.specs.Rows.{rows_at};
+ghost use Rattle.lab_hints.specs.Shapes.{relation_words, related_words, missing_words, row_words, key_words, spot_in as spot_in_lem, shape_words};
 
-use crate::stray::push_stray;
+use crate::stray::{push_instead, push_stray};
 use crate::wanted::push_wanted;
 use bgp_types::NoMemory;
-use lab_keys::{Flaw, Key, Spot, TableAt, has, key_flaw};
+use lab_keys::{Flaw, Key, Spot, TableAt, has, key_flaw, stray_in};
 use lab_tables::{keys_at, table_at};
 use std::alloc::Global;
 use toml::Table;
@@ -53,7 +53,7 @@ fn push_key_with(
 
 /// Adds how a value that is right by itself has to be beside other ones.
 fn push_related(text: &mut String, at: TableAt, row: &Key) -> Result<(), NoMemory>
-    ensures { (there : _) → OnOk result (string_bytes text.new ≡ string_bytes text.old ++ flawed_words None there at row.now) }
+    ensures { OnOk result (string_bytes text.new ≡ string_bytes text.old ++ related_words at row.now) }
 {
     match relation(at, row.name()) {
         Some(words) => Ok(text.push_str(words)?),
@@ -61,30 +61,41 @@ fn push_related(text: &mut String, at: TableAt, row: &Key) -> Result<(), NoMemor
     }
 }
 
-/// Adds what is wanted at the key of a row, given whether there is a value.
-fn push_flawed(
+/// Adds that a key is missing, and which one may stand there in its place.
+fn push_missing(
+    alloc: Global,
     text: &mut String,
-    there: bool,
     at: TableAt,
+    table: &Table,
     row: &Key,
+    keys: &[Key],
 ) -> Result<(), NoMemory>
-    ensures { (flaw : FlawOf) → OnOk result (string_bytes text.new ≡ string_bytes text.old ++ flawed_words (Some flaw) there at row.now) }
+    requires { keys.now ≡ rows_at at (table_view table.now) }
+    ensures { OnOk result (string_bytes text.new ≡ string_bytes text.old ++ missing_words at (table_view table.now) row.now) }
 {
-    if there {
-        push_key_with(text, " is ", at, row)
-    } else {
-        push_key_with(text, " is missing: ", at, row)
-    }
+    push_key_with(text, " is missing: ", at, row)?;
+    push_instead(alloc, text, stray_in(keys, table), row.name())
 }
 
-/// Adds the hint for the value at the key of a row.
-fn push_row(text: &mut String, at: TableAt, table: &Table, row: &Key) -> Result<(), NoMemory>
+/// Adds the hint for the value at the key of a row, which is one of these keys.
+fn push_row(
+    alloc: Global,
+    text: &mut String,
+    at: TableAt,
+    table: &Table,
+    row: &Key,
+    keys: &[Key],
+) -> Result<(), NoMemory>
+    requires { keys.now ≡ rows_at at (table_view table.now) }
     ensures { OnOk result (string_bytes text.new ≡ string_bytes text.old ++ row_words at (table_view table.now) row.now) }
 {
-    match key_flaw(at, row, table) {
-        Some(_) => push_flawed(text, has(row.name(), table), at, row),
-        None => push_related(text, at, row),
+    if key_flaw(at, row, table).is_none() {
+        return push_related(text, at, row);
     }
+    if has(row.name(), table) {
+        return push_key_with(text, " is ", at, row);
+    }
+    push_missing(alloc, text, at, table, row, keys)
 }
 
 /// Returns whether a row has this key.
@@ -113,7 +124,7 @@ fn push_key(
 {
     let keys = keys_at(alloc, at, table)?;
     match row_of(&keys, key) {
-        Some(row) => push_row(text, at, table, row),
+        Some(row) => push_row(alloc, text, at, table, row, &keys),
         None => push_stray(alloc, text, key, &keys),
     }
 }

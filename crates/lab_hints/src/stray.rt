@@ -3,12 +3,12 @@
 ghost use Rattle.std.specs.Prelude.{◌≡◌, ◌++◌, OnOk, IfOk, string_bytes, map, option_map};
 ghost use Rattle.std.specs.List.{list_all};
 ghost use Rattle.lab_keys.specs.Keys.{names_of as names_of_lem};
-ghost use Rattle.lab_hints.specs.Shapes.{is_bare_char as is_bare_char_lem, is_bare as is_bare_lem, known_words, stray_words};
+ghost use Rattle.lab_hints.specs.Shapes.{is_bare_char as is_bare_char_lem, is_bare as is_bare_lem, instead_words, known_words, stray_words};
 
 use crate::wanted::push_listed;
 use bgp_types::{Items, NoMemory};
 use lab_keys::Key;
-use near_names::nearest;
+use near_names::{is_near, nearest};
 use std::alloc::Global;
 
 fn is_bare_char(c: u8) -> bool
@@ -47,6 +47,25 @@ fn names_of(alloc: Global, keys: &[Key]) -> Result<Items<&'static str>, NoMemory
         names.push(key.name())?;
     }
     Ok(names)
+}
+
+/// Adds the misspelt key that stands in place of a missing one, if there is such a key.
+pub(crate) fn push_instead(
+    alloc: Global,
+    text: &mut String,
+    stray: Option<&str>,
+    name: &str,
+) -> Result<(), NoMemory>
+    ensures { OnOk result (string_bytes text.new ≡ string_bytes text.old ++ instead_words (option_map (λ key. key.now) stray.entry) name.now) }
+{
+    let Some(key) = stray else {
+        return Ok(());
+    };
+    if is_bare(key) && is_near(alloc, key, name)? {
+        text.push_str("; no key is called ")?;
+        text.push_str(key)?;
+    }
+    Ok(())
 }
 
 /// Adds the name that may be meant, or all names.

@@ -8,14 +8,12 @@ use bgp_types::NoMemory;
 use lab_keys::{Key, Kind, TableAt};
 use std::fmt::Write;
 
-/// What a name is.
-pub(crate) const NAME_TEXT: &str =
-    "a string of 1 to 16 characters, a to z, 0 to 9 or -, the first one a letter";
-
-/// Law: the words for a name are those of the definition.
-fn name_is_as_told()
-    ensures { NAME_TEXT.now ≡ name_words }
-{}
+/// Returns what a name is.
+pub(crate) fn name_form() -> &'static str
+    ensures { result.now ≡ name_words }
+{
+    "a string of 1 to 16 characters, a to z, 0 to 9 or -, the first one a letter"
+}
 
 /// Adds a word behind a space.
 fn push_spaced(text: &mut String, word: &str) -> Result<(), NoMemory>
@@ -73,7 +71,7 @@ fn push_kind(text: &mut String, key: &str, kind: Kind) -> Result<(), NoMemory>
             push_range(text, u64::from(low), u64::from(high))?;
         }
         Kind::HoldTime => text.push_str("a number of seconds, 0 or from 3 to 65535")?,
-        Kind::Name => text.push_str(NAME_TEXT)?,
+        Kind::Name => text.push_str(name_form())?,
         Kind::Host => text.push_str("a string with the address of a host, like 192.0.2.1")?,
         Kind::Address => text.push_str("a string with an IPv4 address, like 192.0.2.1")?,
         Kind::Prefix => text.push_str("a string with an IPv4 prefix, like 192.0.2.0/24")?,

@@ -109,7 +109,7 @@ fn first_stray<'a>(keys: &[Key], table: &'a Table) -> Option<&'a String>
 }
 
 /// Returns the text of the first unknown key of a table.
-fn stray_in<'a>(keys: &[Key], table: &'a Table) -> Option<&'a str>
+pub fn stray_in<'a>(keys: &[Key], table: &'a Table) -> Option<&'a str>
     ensures { option_map (λ key. key.now) result ≡ stray_in_lem (names_of keys.now) (table_view table.now) }
 {
     let key = first_stray(keys, table)?;

@@ -19,7 +19,7 @@ mod words;
 pub use arrays::{addresses_at, items_at, numbers_at, prefixes_at};
 pub use flaw::Flaw;
 pub use key::{Counts, Key, Kind};
-pub use keys::{key_flaw, keys_flaw, stray_flaw, value_at};
+pub use keys::{key_flaw, keys_flaw, stray_flaw, stray_in, value_at};
 pub use kinds::{beyond, flaw_if};
 pub use paths::path_of;
 pub use readers::{TableReader, tables_in, values_at};

@@ -12,10 +12,13 @@ distance from to = (osa_table (chars from) (chars to)).last_row (length (chars t
 abbrev pub most_edits : List ℕ → ℕ
 most_edits text = (length text + 1) / 3
 
--- a name may be meant, and none of the names is nearer
+-- a name that may be meant
+abbrev pub is_near : List ℕ → List ℕ → Bool
+is_near text name = nat_le (distance text name) (most_edits text)
+
+-- none of the names is nearer than this one
 abbrev pub is_nearest : List (List ℕ) → List ℕ → List ℕ → Bool
-is_nearest names text name =
-    nat_le (distance text name) (most_edits text) && list_all (λ other. nat_le (distance text name) (distance text other)) names
+is_nearest names text name = is_near text name && list_all (λ other. nat_le (distance text name) (distance text other)) names
 
 -- the first of these
 abbrev pub nearest : List (List ℕ) → List ℕ → Option (List ℕ)

@@ -3,4 +3,4 @@
 
 mod nearest;
 
-pub use nearest::nearest;
+pub use nearest::{is_near, nearest};

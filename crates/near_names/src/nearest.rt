@@ -1,7 +1,7 @@
 //! The nearest of several names.
 
 ghost use Rattle.std.specs.Prelude.{◌≡◌, IfOk, map, option_map};
-ghost use Rattle.near_names.specs.Nearness.{distance as distance_lem, most_edits as most_edits_lem, nearest as nearest_lem};
+ghost use Rattle.near_names.specs.Nearness.{distance as distance_lem, most_edits as most_edits_lem, is_near as is_near_lem, nearest as nearest_lem};
 
 use graft_edge::NoMemory;
 use std::alloc::Global;
@@ -20,6 +20,14 @@ fn most_edits(text: &str) -> usize
     ensures { result ≡ most_edits_lem text.now }
 {
     (text.len() + 1) / 3
+}
+
+/// Returns whether a name is so near to a text that it may be meant.
+pub fn is_near(alloc: Global, text: &str, name: &str) -> Result<bool, NoMemory>
+    ensures { IfOk result (λ near. near ≡ is_near_lem text.now name.now) }
+{
+    let edits = distance(alloc, text, name)?;
+    Ok(edits <= most_edits(text))
 }
 
 /// Returns the first of the names that are nearest to a text, if it is so near that it may be meant.
