@@ -47,9 +47,9 @@ unknown_words lab name =
     else if is_policy lab name then name ++ codes " is a policy; a peering names policies of its own router, and nothing else does"
     else unnamed_words lab name
 
-abbrev pub repeated_words : List ℕ
-repeated_words =
-    codes "each of these stands once: the name and id of a router, its networks and the names of its policies, "
+abbrev pub repeated_words : List ℕ → List ℕ
+repeated_words text =
+    text ++ codes " stands there again; each of these stands once: the name and id of a router, its networks and the names of its policies, "
     ++ codes "the name and remote address of a peering, the ends of a cost and the segment of a fault"
 
 -- ---- counts
@@ -95,6 +95,6 @@ count_words lab what =
 -- by the fault that is reported; one of another kind is none of names or counts
 abbrev pub later_words : LabInput → BadInput → List ℕ
 later_words lab (Unknown name) = unknown_words lab name
-later_words lab (Repeated text) = repeated_words
+later_words lab (Repeated text) = repeated_words text
 later_words lab (Limit what n) = count_words lab what
 later_words lab bad = codes "an input is a TOML document with the keys of docs/INPUT.md"

@@ -24,7 +24,7 @@ range_words low high = decimal low ++ codes " to " ++ decimal high
 abbrev pub name_words : List ℕ
 name_words = codes "a string of 1 to 16 characters, a to z, 0 to 9 or -, the first one a letter"
 
--- a key that has a place beside others alone
+-- a key that stands only beside certain others
 abbrev pub misplaced_words : List ℕ → List ℕ
 misplaced_words key =
     if bytes_eq key (codes "after") then codes "only for the kinds repeat, hold and stray" else codes "only for a rule with a prefix"

@@ -86,11 +86,12 @@ pub(crate) fn push_unknown(
     push_unnamed(alloc, text, lab, name)
 }
 
-/// Adds what may stand once.
-fn push_repeated(text: &mut String) -> Result<(), NoMemory>
-    ensures { OnOk result (string_bytes text.new ≡ string_bytes text.old ++ repeated_words) }
+/// Adds what stands there again, and what may stand once.
+fn push_repeated(text: &mut String, again: &str) -> Result<(), NoMemory>
+    ensures { OnOk result (string_bytes text.new ≡ string_bytes text.old ++ repeated_words again.now) }
 {
-    text.push_str("each of these stands once: the name and id of a router, its networks and the names of its policies, ")?;
+    text.push_str(again)?;
+    text.push_str(" stands there again; each of these stands once: the name and id of a router, its networks and the names of its policies, ")?;
     text.push_str("the name and remote address of a peering, the ends of a cost and the segment of a fault")?;
     Ok(())
 }
@@ -156,7 +157,7 @@ pub(crate) fn push_later(
 {
     match bad {
         BadInput::Unknown(name) => push_unknown(alloc, text, lab, name.as_str()),
-        BadInput::Repeated(_) => push_repeated(text),
+        BadInput::Repeated(again) => push_repeated(text, again.as_str()),
         BadInput::Limit(what, _) => push_count(text, lab, what.as_str()),
         _ => Ok(text.push_str("an input is a TOML document with the keys of docs/INPUT.md")?),
     }

@@ -50,7 +50,7 @@ fn push_choice(text: &mut String, words: &[&str]) -> Result<(), NoMemory>
     push_listed(text, words)
 }
 
-/// Returns beside what a key has its place that stands without it.
+/// Returns beside what a key may stand that stands only beside certain others.
 fn place_of(key: &str) -> &'static str
     ensures { result.now ≡ misplaced_words key.now }
 {
