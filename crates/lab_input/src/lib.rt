@@ -14,7 +14,10 @@ mod shape;
 mod told;
 
 pub use bad::{BadInput, LabStop};
-pub use counts::update_of;
+pub use counts::{
+    MOST_GRAFTS, MOST_OCTETS, MOST_OCTETS_BEATING, MOST_PREFIXES, MOST_SETTLES, peerings_at,
+    update_of,
+};
 pub use lab_tables::{
     CostInput, CostInputs, Expectation, Expectations, ExpectedValue, Faults, LabInput, Numbers,
     PeeringInput, PeeringInputs, PolicyInput, PolicyInputs, RouterInput, RouterInputs, Step, Steps,

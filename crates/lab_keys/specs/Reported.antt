@@ -1,21 +1,21 @@
 -- The texts by which an input says what it expects of a run, each as a report writes it: the state of a session, how a graft ends, and where a best
 -- route comes from.
-use Rattle.std.specs.Prelude.{ℕ, ◌+◌, ◌==◌, nat_le, Bool, false, ◌&&◌, ◌||◌, not, List, length, slice_index, Option, Some, None}
+use Rattle.std.specs.Prelude.{ℕ, ◌+◌, ◌==◌, nat_le, Bool, false, ◌&&◌, ◌||◌, not, List, [], ◌∷◌, length, slice_index, Option, Some, None}
 use Rattle.std.specs.Prelude.{is_some, codes, if◌then◌else◌}
 use Rattle.std.specs.List.{list_all, position_or_len, before_first, after_first}
 use Rattle.std.specs.Str.{bytes_eq}
 use Rattle.bgp_types.specs.declared.message.SessionState.{SessionState}
 use Rattle.bgp_types.specs.declared.message.SessionState.TheVariants.{OpenSent, OpenConfirm, Established, Closed}
 use Rattle.lab_keys.specs.Texts.{is_name}
+use Rattle.lab_keys.specs.Words.{word_in}
 
 -- the state of a session (RFC 4271, section 8.2.2)
+abbrev pub state_words : List (List ℕ × SessionState)
+state_words =
+    (codes "OpenSent", OpenSent) ∷ (codes "OpenConfirm", OpenConfirm) ∷ (codes "Established", Established) ∷ (codes "Closed", Closed) ∷ []
+
 abbrev pub state_in : List ℕ → Option SessionState
-state_in text =
-    if bytes_eq text (codes "OpenSent") then Some OpenSent
-    else if bytes_eq text (codes "OpenConfirm") then Some OpenConfirm
-    else if bytes_eq text (codes "Established") then Some Established
-    else if bytes_eq text (codes "Closed") then Some Closed
-    else None
+state_in text = word_in state_words text
 
 -- ---- parts of a text
 

@@ -7,6 +7,7 @@ ghost use Rattle.lab_keys.specs.Texts.{is_hex as is_hex_lem};
 ghost use Rattle.lab_keys.specs.Kinds.{beyond as beyond_lem, number_flaw as number_flaw_lem, hold_time_flaw as hold_time_flaw_lem};
 ghost use Rattle.lab_keys.specs.Kinds.{hex_flaw as hex_flaw_lem, flag_flaw as flag_flaw_lem, kind_flaw as kind_flaw_lem};
 ghost use Rattle.lab_keys.specs.Kinds.{flaw_if as flaw_if_lem, text_flaw as text_flaw_lem, is_formed as is_formed_lem, each_from};
+ghost use Rattle.lab_keys.specs.Kinds.{any_table_flaw as any_table_flaw_lem};
 
 use crate::flaw::Flaw;
 use crate::key::Kind;
@@ -75,6 +76,15 @@ fn flag_flaw<'a>(at: Spot<'a>, value: &Value) -> Option<Flaw<'a>>
     }
 }
 
+fn any_table_flaw<'a>(at: Spot<'a>, value: &Value) -> Option<Flaw<'a>>
+    ensures { result ≡ any_table_flaw_lem at.entry (view value.now) }
+{
+    match value {
+        Value::Table(_) => None,
+        _ => Some(Flaw::Shape(at)),
+    }
+}
+
 fn hex_flaw<'a>(at: Spot<'a>, low: usize, high: usize, value: &Value) -> Option<Flaw<'a>>
     ensures { result ≡ hex_flaw_lem at.entry low high (view value.now) }
 {
@@ -125,6 +135,7 @@ pub fn kind_flaw<'a>(kind: Kind, at: Spot<'a>, value: &Value) -> Option<Flaw<'a>
         Kind::HoldTime => hold_time_flaw(at, value),
         Kind::Flag => flag_flaw(at, value),
         Kind::Hex { low, high } => hex_flaw(at, low, high, value),
+        Kind::Table => any_table_flaw(at, value),
         Kind::Misplaced => Some(Flaw::Shape(at)),
         _ => text_flaw(at, kind, value),
     }

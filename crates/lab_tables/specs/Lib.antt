@@ -4,3 +4,4 @@ pub mod Peerings
 pub mod Scripts
 pub mod Expects
 pub mod Documents
+pub mod Rows

@@ -127,7 +127,7 @@ pub(crate) fn most_graft(doc: &Table) -> u32
 // ---- flaws
 
 /// Returns the keys of an expectation of a graft: its number, and how it ends.
-fn graft_expect_keys() -> [Key; 2]
+pub(crate) fn graft_expect_keys() -> [Key; 2]
     ensures { result ≡ graft_expect_ends ++ graft_expect_rest }
 {
     [
@@ -167,7 +167,7 @@ fn graft_flaw<'a>(most: u32, i: usize, table: &'a Table) -> Option<Flaw<'a>>
     if let Some(flaw) = keys_flaw(at, &keys[1..], table) {
         return Some(flaw);
     }
-    stray_flaw(at, keys, &[], table)
+    stray_flaw(at, keys, table)
 }
 
 /// Returns the spot of the expectation at index `i` as a whole.
@@ -185,7 +185,7 @@ fn wants_nothing(table: &Table) -> bool
 }
 
 /// Returns the keys of an expectation of a session.
-fn session_expect_keys() -> [Key; 5]
+pub(crate) fn session_expect_keys() -> [Key; 5]
     ensures { result ≡ session_expect_keys_lem }
 {
     [
@@ -205,14 +205,14 @@ fn session_flaw<'a>(i: usize, table: &'a Table) -> Option<Flaw<'a>>
     if let Some(flaw) = keys_flaw(at, &keys, table) {
         return Some(flaw);
     }
-    if let Some(flaw) = stray_flaw(at, &keys, &[], table) {
+    if let Some(flaw) = stray_flaw(at, &keys, table) {
         return Some(flaw);
     }
     flaw_if(wants_nothing(table), Flaw::Shape(expect_spot(i)))
 }
 
 /// Returns the keys of an expectation of a best route.
-fn route_expect_keys() -> [Key; 3]
+pub(crate) fn route_expect_keys() -> [Key; 3]
     ensures { result ≡ route_expect_keys_lem }
 {
     [
@@ -230,7 +230,7 @@ fn route_flaw<'a>(i: usize, table: &'a Table) -> Option<Flaw<'a>>
     if let Some(flaw) = keys_flaw(at, &keys, table) {
         return Some(flaw);
     }
-    stray_flaw(at, &keys, &[], table)
+    stray_flaw(at, &keys, table)
 }
 
 /// Returns the first flaw of the expectation at index `i`, given the greatest number of a graft.
