@@ -7,7 +7,7 @@ use Rattle.std.specs.Option.{option_or}
 use Rattle.std.proofs.lemmas.List.Sums.{sum_by-cons, count_by_more_yes, count_by_more_no}
 use Rattle.lab_tables.specs.declared.expectation.ExpectedValue.{ExpectedValue}
 use Rattle.lab_report.specs.declared.lab.Lab.{Lab}
-use Rattle.expect_view.specs.Expect.{is_got, holds, difference_of, difference, wanted_value, got_value, key_text}
+use Rattle.expect_view.specs.Expect.{is_got, holds, compared, difference}
 
 -- ---- one expectation
 
@@ -16,15 +16,9 @@ pub differs : (lab : Lab) (expectation : List ExpectedValue) → is_some (differ
 differs lab [] = refl
 differs lab (w ∷ ws) = by_test (is_got lab w) (differs lab ws) where
   by_test : (t : Bool) → is_some (difference lab ws) ≡ not (holds lab ws)
-      → is_some (option_or
-      (if t then None else Some (record { key = key_text w; wanted = wanted_value lab.input w; got = got_value lab w })) (difference lab ws))
-      ≡ not (t && holds lab ws)
+      → is_some (option_or (if t then None else Some (compared lab w)) (difference lab ws)) ≡ not (t && holds lab ws)
   by_test true rest = rest
   by_test false rest = refl
-
-not_twice : (b : Bool) → not (not b) ≡ b
-not_twice true = refl
-not_twice false = refl
 
 -- how many fail of one, where it differs and where it doesn't
 pub one_fails : (lab : Lab) (expectation : List ExpectedValue) (b : Bool) → is_some (difference lab expectation) ≡ b

@@ -2,7 +2,6 @@
 use Rattle.std.specs.Prelude.{ℕ, ◌+◌, ◌==◌, Bool, true, false, ◌&&◌, not, List, [], ◌∷◌, ◌++◌, map, length, count_by, Option, Some, None}
 use Rattle.std.specs.Prelude.{option_map, slice_get, codes, decimal, if◌then◌else◌}
 use Rattle.std.specs.List.{flat_map, enumerate_from, find, list_all}
-use Rattle.std.specs.Option.{option_map_or}
 use Rattle.std.specs.Str.{bytes_eq}
 use Rattle.bgp_types.specs.declared.rank.From.{From}
 use Rattle.bgp_types.specs.Prefixes.{PrefixValue, same_prefix}
@@ -104,10 +103,12 @@ key_text (Heard peering count) = codes "heard"
 key_text (Told peering count) = codes "told"
 key_text (Best router prefix from) = codes "best"
 
+-- the key, what is wanted and what the run came to
+abbrev pub compared : Lab → ExpectedValue → Difference
+compared lab wanted = record { key = key_text wanted; wanted = wanted_value lab.input wanted; got = got_value lab wanted }
+
 abbrev pub difference_of : Lab → ExpectedValue → Option Difference
-difference_of lab wanted =
-    if is_got lab wanted then None
-    else Some (record { key = key_text wanted; wanted = wanted_value lab.input wanted; got = got_value lab wanted })
+difference_of lab wanted = if is_got lab wanted then None else Some (compared lab wanted)
 
 -- the first key under which the run has another value
 abbrev pub difference : Lab → List ExpectedValue → Option Difference
@@ -127,12 +128,13 @@ expectation_line lab x = verdict_line (x.0 + 1) (difference lab x.1)
 abbrev pub failed_count : Lab → ℕ
 failed_count lab = count_by (λ expectation. not (holds lab expectation)) lab.input.expects
 
-abbrev pub counts_line : Lab → List ℕ
-counts_line lab = codes "expectations " ++ decimal (length lab.input.expects) ++ codes " failed " ++ decimal (failed_count lab) ++ line_end
+abbrev pub counts_line : (expectations failed : ℕ) → List ℕ
+counts_line expectations failed = codes "expectations " ++ decimal expectations ++ codes " failed " ++ decimal failed ++ line_end
 
 -- a line for each expectation, and how many there are and how many don't hold
 abbrev pub test_text : Lab → List ℕ
-test_text lab = flat_map (expectation_line lab) (enumerate_from 0 lab.input.expects) ++ counts_line lab
+test_text lab =
+    flat_map (expectation_line lab) (enumerate_from 0 lab.input.expects) ++ counts_line (length lab.input.expects) (failed_count lab)
 
 abbrev pub is_settled : RunEnd → Bool
 is_settled Settled = true

@@ -2,7 +2,7 @@
 
 ghost use Rattle.std.specs.Prelude.{◌≡◌, ◌≤◌, ◌++◌, not, count_by, if◌then◌else◌, IfOk, OnOk, string_bytes};
 ghost use Rattle.std.specs.List.{flat_map, enumerate_from};
-ghost use Rattle.expect_view.specs.Expect.{verdict_line, expectation_line, holds, all_hold as all_hold_lem, test_text as test_text_lem};
+ghost use Rattle.expect_view.specs.Expect.{verdict_line, expectation_line, counts_line, holds, all_hold as all_hold_lem, test_text as test_text_lem};
 ghost use Rattle.expect_view.specs.Expect.{is_settled as is_settled_lem, test_status as test_status_lem};
 
 use crate::verdict::{Difference, difference};
@@ -33,6 +33,29 @@ fn push_failed(text: &mut String, number: usize, difference: &Difference) -> Res
     Ok(())
 }
 
+/// The line of an expectation, given where the run differs from it.
+fn push_verdict(
+    text: &mut String,
+    number: usize,
+    found: &Option<Difference>,
+) -> Result<(), NoMemory>
+    ensures { OnOk result (string_bytes text.new ≡ string_bytes text.old ++ verdict_line number found.now) }
+{
+    match found {
+        Some(difference) => push_failed(text, number, difference)?,
+        None => write!(text, "ok {number}\n")?,
+    }
+    Ok(())
+}
+
+/// How many expectations fail of one, given whether the run differs from it.
+fn count_of(differs: bool) -> usize
+    ensures count { result ≡ (if differs then 1 else 0) }
+    ensures few { result ≤ 1 }
+{
+    if differs { 1 } else { 0 }
+}
+
 /// Adds the line of the expectation at an index, and returns how many failed: one or none.
 fn push_expectation(
     text: &mut String,
@@ -46,18 +69,9 @@ fn push_expectation(
     ensures failed { IfOk result (λ failed. failed ≡ (if holds lab.now expectation.now then 0 else 1)) }
     ensures few { IfOk result (λ failed. failed ≤ 1) }
 {
-    let number = index + 1;
     let found = difference(alloc, lab, expectation)?;
-    match found {
-        None => {
-            write!(text, "ok {number}\n")?;
-            Ok(0)
-        }
-        Some(difference) => {
-            push_failed(text, number, &difference)?;
-            Ok(1)
-        }
-    }
+    push_verdict(text, index + 1, &found)?;
+    Ok(count_of(found.is_some()))
 }
 
 /// Adds the lines of expectations, and returns how many failed.
@@ -78,6 +92,14 @@ fn push_expectations(
     Ok(failed)
 }
 
+/// The line that counts expectations.
+fn push_counts(text: &mut String, expectations: usize, failed: usize) -> Result<(), NoMemory>
+    ensures { OnOk result (string_bytes text.new ≡ string_bytes text.old ++ counts_line expectations failed) }
+{
+    write!(text, "expectations {expectations} failed {failed}\n")?;
+    Ok(())
+}
+
 /// Tests a run: returns a line for each expectation of its input, in their order, and one that counts them, and whether
 /// all of them hold.
 pub fn tested(alloc: Global, lab: &Lab) -> Result<Tested, NoMemory>
@@ -87,8 +109,7 @@ pub fn tested(alloc: Global, lab: &Lab) -> Result<Tested, NoMemory>
     let mut text = String::new(alloc);
     let expects = lab.input.expects.as_slice();
     let failed = push_expectations(&mut text, alloc, lab, expects)?;
-    let count = expects.len();
-    write!(text, "expectations {count} failed {failed}\n")?;
+    push_counts(&mut text, expects.len(), failed)?;
     Ok(Tested {
         text,
         all_hold: failed == 0,

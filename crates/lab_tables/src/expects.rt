@@ -97,7 +97,7 @@ fn most_of(peerings: u64, steps: &[Value]) -> u32
 {
     let mut most = 0u32;
     for step in steps {
-        let more = grafts_of(peerings, step).min(u64::from(u32::MAX)) as u32;
+        let more = grafts_of(peerings, step).min(0xFFFF_FFFF) as u32;
         most = most.saturating_add(more);
     }
     most
