@@ -1,7 +1,7 @@
 -- How many expectations hold, and how many don't.
 use Rattle.std.proofs.Common.{◌≡◌, ℕ, ◌+◌, ◌<◌, Bool, true, false, cond, eqb, not, ◌&&◌, List, [], ◌∷◌, length, take, get_or, refl, sym, ap, ◌∙◌, arith}
 use Rattle.std.proofs.Common.{ne_eqb}
-use Rattle.std.specs.Prelude.{Option, Some, None, is_some, count_by, if◌then◌else◌}
+use Rattle.std.specs.Prelude.{Some, None, is_some, count_by, if◌then◌else◌}
 use Rattle.std.specs.List.{list_all}
 use Rattle.std.specs.Option.{option_or}
 use Rattle.std.proofs.lemmas.List.Sums.{sum_by-cons, count_by_more_yes, count_by_more_no}

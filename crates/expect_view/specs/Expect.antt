@@ -1,5 +1,5 @@
 -- What a run was expected to come to: which expectations hold of it, and what is said of each.
-use Rattle.std.specs.Prelude.{ℕ, ◌+◌, ◌==◌, Bool, true, false, ◌&&◌, not, List, [], ◌∷◌, ◌++◌, map, length, count_by, Option, Some, None}
+use Rattle.std.specs.Prelude.{ℕ, ◌+◌, ◌==◌, Bool, true, false, ◌&&◌, not, List, ◌++◌, map, length, count_by, Option, Some, None}
 use Rattle.std.specs.Prelude.{option_map, slice_get, codes, decimal, if◌then◌else◌}
 use Rattle.std.specs.List.{flat_map, enumerate_from, find, list_all}
 use Rattle.std.specs.Str.{bytes_eq}

@@ -17,10 +17,8 @@ use Rattle.lab_tables.specs.declared.expectation.ExpectedValue.TheVariants.{Outc
 use Rattle.lab_tables.specs.declared.input.LabInput.{LabInput}
 use Rattle.lab_tables.specs.declared.input.PeeringInput.{PeeringInput}
 use Rattle.lab_tables.specs.declared.input.RouterInput.{RouterInput}
-use Rattle.lab_report.specs.declared.lab.BestEntry.{BestEntry}
 use Rattle.lab_report.specs.declared.lab.Lab.{Lab}
 use Rattle.lab_report.specs.declared.lab.Place.TheVariants.{Held, Moving}
-use Rattle.lab_report.specs.declared.lab.RouterTable.{RouterTable}
 use Rattle.lab_report.specs.declared.lab.RunEnd.TheVariants.{JournalFull}
 use Rattle.lab_report.specs.declared.lab.SessionView.{SessionView}
 

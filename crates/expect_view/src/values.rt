@@ -1,6 +1,6 @@
 //! What an expectation wants, and what the run came to, each as the report writes it.
 
-ghost use Rattle.std.specs.Prelude.{◌≡◌, ◌++◌, find, option_copied, option_map, slice_get, OnOk, string_bytes};
+ghost use Rattle.std.specs.Prelude.{◌≡◌, ◌++◌, find, option_copied, slice_get, OnOk, string_bytes};
 ghost use Rattle.bgp_types.specs.Prefixes.{same_prefix};
 ghost use Rattle.expect_view.specs.Expect.{stage_of as stage_of_lem, source_of as source_of_lem, stage_value, place_value, session_value};
 ghost use Rattle.expect_view.specs.Expect.{source_value, wanted_value, got_value, is_held_by as is_held_by_lem, is_got as is_got_lem, key_text};

@@ -1,7 +1,7 @@
 -- A text that is cut at the first character of a kind.
 use Rattle.std.proofs.Common.{◌≡◌, ℕ, ◌+◌, ◌<◌, Bool, true, false, cond, eqb, List, [], length, take, drop, sym, ap, ◌∙◌, arith, length-drop, eq-eqb, ne_eqb}
 use Rattle.std.proofs.Common.{eqb-true}
-use Rattle.std.specs.Prelude.{Option, Some, None}
+use Rattle.std.specs.Prelude.{Some, None}
 use Rattle.std.specs.List.{position_or_len}
 use Rattle.std.proofs.lemmas.Bool.{false≢true}
 use Rattle.std.proofs.lemmas.List.{take_all, drop_all}

@@ -1,6 +1,6 @@
 //! The values that expectations want of a run.
 
-ghost use Rattle.std.specs.Prelude.{◌≡◌, ◌++◌, IfOk};
+ghost use Rattle.std.specs.Prelude.{◌≡◌, IfOk};
 ghost use Rattle.toml.specs.View.{table_view};
 ghost use Rattle.lab_keys.specs.Values.{text_at as text_at_lem};
 ghost use Rattle.lab_tables.specs.Expects.{at_wanted as at_wanted_lem, state_wanted as state_wanted_lem, heard_wanted as heard_wanted_lem};

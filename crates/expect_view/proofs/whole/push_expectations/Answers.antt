@@ -1,4 +1,4 @@
-use Rattle.std.proofs.Common.{◌≡◌, ◌+◌, ◌++◌, ◌<◌, ◌∙◌, ap, sym, append_assoc, string_bytes, take, length, arith}
+use Rattle.std.proofs.Common.{◌++◌, ◌<◌, ◌∙◌, ap, sym, append_assoc, string_bytes, take, length, arith}
 use Rattle.std.specs.Prelude.{if◌then◌else◌}
 use Rattle.std.specs.List.{flat_map, enumerate_from}
 use Rattle.lab_input.proofs.Numbered.{flat_map_numbered}
