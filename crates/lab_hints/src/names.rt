@@ -20,21 +20,28 @@ fn is_called(name: &str, other: &Name) -> bool
 pub(crate) fn is_router(lab: &LabInput, name: &str) -> bool
     ensures { result ≡ is_router_lem lab.now name.now }
 {
-    lab.routers.iter().any(|router| is_called(name, &router.name))
+    lab.routers
+        .iter()
+        .any(|router| is_called(name, &router.name))
 }
 
 /// Returns whether a peering has this name.
 pub(crate) fn is_peering(lab: &LabInput, name: &str) -> bool
     ensures { result ≡ is_peering_lem lab.now name.now }
 {
-    lab.peerings.iter().any(|peering| is_called(name, &peering.name))
+    lab.peerings
+        .iter()
+        .any(|peering| is_called(name, &peering.name))
 }
 
 /// Returns whether a policy of a router has this name.
 fn has_policy(name: &str, router: &RouterInput) -> bool
     ensures { result ≡ list_any (λ p. bytes_eq name.now p.name) router.now.policies }
 {
-    router.policies.iter().any(|policy| is_called(name, &policy.name))
+    router
+        .policies
+        .iter()
+        .any(|policy| is_called(name, &policy.name))
 }
 
 /// Returns whether a policy of some router has this name.
@@ -45,10 +52,7 @@ pub(crate) fn is_policy(lab: &LabInput, name: &str) -> bool
 }
 
 /// Returns the names of routers.
-fn router_names<'a>(
-    alloc: Global,
-    routers: &'a [RouterInput],
-) -> Result<Items<&'a str>, NoMemory>
+fn router_names<'a>(alloc: Global, routers: &'a [RouterInput]) -> Result<Items<&'a str>, NoMemory>
     ensures { IfOk result (λ names. map (λ name. name.now) names ≡ map (λ r. r.name) routers.now) }
 {
     let mut names = Items::new(alloc);
@@ -73,10 +77,7 @@ fn peering_names<'a>(
 }
 
 /// Returns the names of policies.
-fn policy_names<'a>(
-    alloc: Global,
-    policies: &'a [PolicyInput],
-) -> Result<Items<&'a str>, NoMemory>
+fn policy_names<'a>(alloc: Global, policies: &'a [PolicyInput]) -> Result<Items<&'a str>, NoMemory>
     ensures { IfOk result (λ names. map (λ name. name.now) names ≡ map (λ p. p.name) policies.now) }
 {
     let mut names = Items::new(alloc);
@@ -87,10 +88,7 @@ fn policy_names<'a>(
 }
 
 /// Returns the names of the policies of routers.
-fn policies_of<'a>(
-    alloc: Global,
-    routers: &'a [RouterInput],
-) -> Result<Items<&'a str>, NoMemory>
+fn policies_of<'a>(alloc: Global, routers: &'a [RouterInput]) -> Result<Items<&'a str>, NoMemory>
     ensures { IfOk result (λ names. map (λ name. name.now) names ≡ flat_map (λ r. map (λ p. p.name) r.policies) routers.now) }
 {
     let mut names = Items::new(alloc);

@@ -23,7 +23,9 @@ fn relation(at: TableAt, key: &str) -> Option<&'static str>
     match at {
         TableAt::Cost(_) => Some("a cost goes from one router to another one"),
         TableAt::Peering(_) => if key == "beats" {
-            Some("true wants home_hold and hold above 0, and neither an opening nor a raw step of the peering")
+            Some(
+                "true wants home_hold and hold above 0, and neither an opening nor a raw step of the peering",
+            )
         } else {
             Some("the AS of a remote is another one than home_as")
         },
@@ -31,19 +33,16 @@ fn relation(at: TableAt, key: &str) -> Option<&'static str>
         TableAt::Step(_) => if key == "least" {
             Some("least is at most rounds")
         } else {
-            Some("beside an evacuate step, a group has neither a graft nor a second evacuate step; a settle step ends a group")
+            Some(
+                "beside an evacuate step, a group has neither a graft nor a second evacuate step; a settle step ends a group",
+            )
         },
         _ => None,
     }
 }
 
 /// Adds the key of a row, and what is wanted there.
-fn push_key_with(
-    text: &mut String,
-    link: &str,
-    at: TableAt,
-    row: &Key,
-) -> Result<(), NoMemory>
+fn push_key_with(text: &mut String, link: &str, at: TableAt, row: &Key) -> Result<(), NoMemory>
     ensures { OnOk result (string_bytes text.new ≡ string_bytes text.old ++ (row.now.name ++ link.now ++ wanted_words at row.now)) }
 {
     text.push_str(row.name())?;
