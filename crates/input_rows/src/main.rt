@@ -19,8 +19,7 @@ use lab_hints::hint_text;
 use lab_input::{LabInput, LabStop, PeeringInput, RouterInput, Step, read_lab};
 use std::alloc::{AllocError, Global};
 use std::fmt::Write;
-use std::io;
-use std::str;
+use std::{io, str};
 
 /// Appends a line of copy `k`.
 fn put_numbered(text: &mut String, line: &str, k: u32) -> Result<(), AllocError> {

@@ -41,21 +41,22 @@ hint_broken bytes bad text short broken is = hint_short bytes bad text None shor
 pub place_in_text : (bytes text message : List ℕ) (at : ℕ) → IsUtf8 bytes → at ≤ length bytes → text ≡ hint_line (place_words bytes at message)
     → IsPlaceHint bytes text
 place_in_text bytes text message at utf8 within is = record {
-    at = at;
-    within = within;
-    broken = λ (e : is_utf8 bytes ≡ false). absurd (false≢true (sym e ∙ is_utf8-from_IsUtf8 bytes utf8));
-    message = message;
-    is = is;
-  }
+  at = at;
+  within = within;
+  broken = λ (e : is_utf8 bytes ≡ false). absurd (false≢true (sym e ∙ is_utf8-from_IsUtf8 bytes utf8));
+  message = message;
+  is = is;
+}
 
 -- ---- each has one
 
 read_has : (doc : Option Members) (bytes : List ℕ) (bad : BadInput) → (text : List ℕ) × IsReadHint doc bytes bad text
 read_has (Some doc) bytes bad = (hint_line (document_words doc bad), refl)
 read_has None bytes bad =
-    let at = utf8_valid_len bytes in
-    (hint_line (place_words bytes at []),
-    record { at = at; within = utf8_valid_len_le bytes; broken = λ e. refl; message = []; is = refl })
+    let at = utf8_valid_len bytes in (
+      hint_line (place_words bytes at []),
+      record { at = at; within = utf8_valid_len_le bytes; broken = λ e. refl; message = []; is = refl },
+    )
 
 pub has_hint : (bytes : List ℕ) (bad : BadInput) → HasHint bytes bad
 has_hint bytes bad = by_length (nat_lt most_bytes (length bytes)) where

@@ -1,5 +1,5 @@
 -- The hint for bytes that are refused as an input.
-use Rattle.std.specs.Prelude.{◌≡◌, ℕ, ◌+◌, ◌≤◌, ◌==◌, nat_le, nat_lt, Bool, true, false, not, ◌&&◌, List, [], ◌∷◌, ◌++◌, length, take, reverse}
+use Rattle.std.specs.Prelude.{◌≡◌, ℕ, ◌+◌, ◌≤◌, ◌==◌, nat_lt, Bool, true, false, not, ◌||◌, List, [], ◌∷◌, ◌++◌, length, take, reverse}
 use Rattle.std.specs.Prelude.{count_by, Option, Some, None, codes, decimal}
 use Rattle.std.specs.List.{take_while}
 use Rattle.std.specs.Str.{is_utf8}
@@ -30,7 +30,7 @@ lines_in bytes = count_by (λ b. b == 10) bytes
 
 -- an octet that goes on with a character of UTF-8 doesn't begin one
 abbrev pub begins_character : ℕ → Bool
-begins_character b = not (nat_le 128 b && nat_le b 191)
+begins_character b = nat_lt b 128 || nat_lt 191 b
 
 -- characters behind the last newline
 abbrev pub columns_in : List ℕ → ℕ

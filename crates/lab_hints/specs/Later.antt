@@ -49,7 +49,8 @@ unknown_words lab name =
 
 abbrev pub repeated_words : List ℕ → List ℕ
 repeated_words text =
-    text ++ codes " stands there again; each of these stands once: the name and id of a router, its networks and the names of its policies, "
+    text
+    ++ codes " stands there again; each of these stands once: the name and id of a router, its networks and the names of its policies, "
     ++ codes "the name and remote address of a peering, the ends of a cost and the segment of a fault"
 
 -- ---- counts
@@ -57,7 +58,8 @@ repeated_words text =
 -- a router with fewer places than peerings start there
 abbrev pub crowd_words : RouterInput → (peerings : ℕ) → List ℕ
 crowd_words router peerings =
-    codes "router " ++ router.name ++ codes " has sessions = " ++ decimal router.sessions ++ codes ", and the peerings that start there are " ++ decimal peerings
+    codes "router " ++ router.name ++ codes " has sessions = " ++ decimal router.sessions
+    ++ codes ", and the peerings that start there are " ++ decimal peerings
 
 abbrev pub crowded_words : List PeeringInput → ℕ → RouterInput → Option (List ℕ)
 crowded_words peerings number router =

@@ -9,7 +9,7 @@ use lab_input::{LabInput, PeeringInput, RouterInput, peerings_at};
 use std::fmt::Write;
 
 /// A router, and how many peerings start there.
-#[derive(Clone, Copy)]
+#[derive(Drop)]
 struct Crowd<'r> {
     router: &'r RouterInput,
     peerings: u64,

@@ -23,9 +23,10 @@ fn front(alloc: Global) -> Result<String, NoMemory>
 }
 
 /// Returns a text as a line.
-fn ended(mut text: String) -> Result<Octets, NoMemory>
+fn ended(text: String) -> Result<Octets, NoMemory>
     ensures { IfOk result (λ line. line ≡ string_bytes text ++ 10 ∷ []) }
 {
+    let mut text = text;
     text.push_str("\n")?;
     Ok(Items::from_vec(text.into_bytes()))
 }

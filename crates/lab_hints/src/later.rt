@@ -9,8 +9,7 @@ use crate::names::{all_names, is_peering, is_policy, is_router};
 use crate::wanted::name_form;
 use bgp_types::NoMemory;
 use lab_input::{
-    BadInput, LabInput, MOST_GRAFTS, MOST_OCTETS, MOST_OCTETS_BEATING, MOST_PREFIXES,
-    MOST_SETTLES,
+    BadInput, LabInput, MOST_GRAFTS, MOST_OCTETS, MOST_OCTETS_BEATING, MOST_PREFIXES, MOST_SETTLES,
 };
 use lab_keys::is_name;
 use near_names::nearest;
@@ -71,10 +70,18 @@ pub(crate) fn push_unknown(
     ensures { OnOk result (string_bytes text.new ≡ string_bytes text.old ++ unknown_words lab.now name.now) }
 {
     if is_router(lab, name) {
-        return push_of_name(text, name, " is a router; another kind of name belongs here");
+        return push_of_name(
+            text,
+            name,
+            " is a router; another kind of name belongs here",
+        );
     }
     if is_peering(lab, name) {
-        return push_of_name(text, name, " is a peering; another kind of name belongs here");
+        return push_of_name(
+            text,
+            name,
+            " is a peering; another kind of name belongs here",
+        );
     }
     if is_policy(lab, name) {
         return push_of_name(
@@ -91,8 +98,12 @@ fn push_repeated(text: &mut String, again: &str) -> Result<(), NoMemory>
     ensures { OnOk result (string_bytes text.new ≡ string_bytes text.old ++ repeated_words again.now) }
 {
     text.push_str(again)?;
-    text.push_str(" stands there again; each of these stands once: the name and id of a router, its networks and the names of its policies, ")?;
-    text.push_str("the name and remote address of a peering, the ends of a cost and the segment of a fault")?;
+    text.push_str(
+        " stands there again; each of these stands once: the name and id of a router, its networks and the names of its policies, ",
+    )?;
+    text.push_str(
+        "the name and remote address of a peering, the ends of a cost and the segment of a fault",
+    )?;
     Ok(())
 }
 
@@ -103,7 +114,10 @@ fn push_said(text: &mut String) -> Result<(), NoMemory>
     ensures { OnOk result (string_bytes text.new ≡ string_bytes text.old ++ said_words) }
 {
     write!(text, "a remote says at most {MOST_OCTETS} octets, ")?;
-    write!(text, "and at most {MOST_OCTETS_BEATING} where beats is true")?;
+    write!(
+        text,
+        "and at most {MOST_OCTETS_BEATING} where beats is true"
+    )?;
     Ok(())
 }
 
@@ -111,7 +125,10 @@ fn push_said(text: &mut String) -> Result<(), NoMemory>
 fn push_grafts(text: &mut String) -> Result<(), NoMemory>
     ensures { OnOk result (string_bytes text.new ≡ string_bytes text.old ++ grafts_words) }
 {
-    write!(text, "at most {MOST_GRAFTS} grafts; an evacuate step counts as one for each peering")?;
+    write!(
+        text,
+        "at most {MOST_GRAFTS} grafts; an evacuate step counts as one for each peering"
+    )?;
     Ok(())
 }
 
@@ -119,7 +136,10 @@ fn push_grafts(text: &mut String) -> Result<(), NoMemory>
 fn push_settles(text: &mut String) -> Result<(), NoMemory>
     ensures { OnOk result (string_bytes text.new ≡ string_bytes text.old ++ settles_words) }
 {
-    write!(text, "at most {MOST_SETTLES} settle steps; one is added where the last step isn't one")?;
+    write!(
+        text,
+        "at most {MOST_SETTLES} settle steps; one is added where the last step isn't one"
+    )?;
     Ok(())
 }
 
@@ -127,7 +147,10 @@ fn push_settles(text: &mut String) -> Result<(), NoMemory>
 fn push_prefixes(text: &mut String) -> Result<(), NoMemory>
     ensures { OnOk result (string_bytes text.new ≡ string_bytes text.old ++ prefixes_words) }
 {
-    write!(text, "at most {MOST_PREFIXES} different prefixes of networks and steps")?;
+    write!(
+        text,
+        "at most {MOST_PREFIXES} different prefixes of networks and steps"
+    )?;
     Ok(())
 }
 

@@ -20,21 +20,28 @@ fn is_called(name: &str, other: &Name) -> bool
 pub(crate) fn is_router(lab: &LabInput, name: &str) -> bool
     ensures { result ≡ is_router_lem lab.now name.now }
 {
-    lab.routers.iter().any(|router| is_called(name, &router.name))
+    lab.routers
+        .iter()
+        .any(|router| is_called(name, &router.name))
 }
 
 /// Returns whether a peering has this name.
 pub(crate) fn is_peering(lab: &LabInput, name: &str) -> bool
     ensures { result ≡ is_peering_lem lab.now name.now }
 {
-    lab.peerings.iter().any(|peering| is_called(name, &peering.name))
+    lab.peerings
+        .iter()
+        .any(|peering| is_called(name, &peering.name))
 }
 
 /// Returns whether a policy of a router has this name.
 fn has_policy(name: &str, router: &RouterInput) -> bool
     ensures { result ≡ list_any (λ p. bytes_eq name.now p.name) router.now.policies }
 {
-    router.policies.iter().any(|policy| is_called(name, &policy.name))
+    router
+        .policies
+        .iter()
+        .any(|policy| is_called(name, &policy.name))
 }
 
 /// Returns whether a policy of some router has this name.
@@ -45,7 +52,7 @@ pub(crate) fn is_policy(lab: &LabInput, name: &str) -> bool
 }
 
 /// Returns the names of routers.
-fn router_names(alloc: Global, routers: &[RouterInput]) -> Result<Items<&str>, NoMemory>
+fn router_names<'a>(alloc: Global, routers: &'a [RouterInput]) -> Result<Items<&'a str>, NoMemory>
     ensures { IfOk result (λ names. map (λ name. name.now) names ≡ map (λ r. r.name) routers.now) }
 {
     let mut names = Items::new(alloc);
@@ -56,7 +63,10 @@ fn router_names(alloc: Global, routers: &[RouterInput]) -> Result<Items<&str>, N
 }
 
 /// Returns the names of peerings.
-fn peering_names(alloc: Global, peerings: &[PeeringInput]) -> Result<Items<&str>, NoMemory>
+fn peering_names<'a>(
+    alloc: Global,
+    peerings: &'a [PeeringInput],
+) -> Result<Items<&'a str>, NoMemory>
     ensures { IfOk result (λ names. map (λ name. name.now) names ≡ map (λ p. p.name) peerings.now) }
 {
     let mut names = Items::new(alloc);
@@ -67,7 +77,7 @@ fn peering_names(alloc: Global, peerings: &[PeeringInput]) -> Result<Items<&str>
 }
 
 /// Returns the names of policies.
-fn policy_names(alloc: Global, policies: &[PolicyInput]) -> Result<Items<&str>, NoMemory>
+fn policy_names<'a>(alloc: Global, policies: &'a [PolicyInput]) -> Result<Items<&'a str>, NoMemory>
     ensures { IfOk result (λ names. map (λ name. name.now) names ≡ map (λ p. p.name) policies.now) }
 {
     let mut names = Items::new(alloc);
@@ -78,7 +88,7 @@ fn policy_names(alloc: Global, policies: &[PolicyInput]) -> Result<Items<&str>, 
 }
 
 /// Returns the names of the policies of routers.
-fn policies_of(alloc: Global, routers: &[RouterInput]) -> Result<Items<&str>, NoMemory>
+fn policies_of<'a>(alloc: Global, routers: &'a [RouterInput]) -> Result<Items<&'a str>, NoMemory>
     ensures { IfOk result (λ names. map (λ name. name.now) names ≡ flat_map (λ r. map (λ p. p.name) r.policies) routers.now) }
 {
     let mut names = Items::new(alloc);
@@ -90,7 +100,7 @@ fn policies_of(alloc: Global, routers: &[RouterInput]) -> Result<Items<&str>, No
 }
 
 /// Returns the names of routers, of peerings and of the policies of routers.
-pub(crate) fn all_names(alloc: Global, lab: &LabInput) -> Result<Items<&str>, NoMemory>
+pub(crate) fn all_names<'a>(alloc: Global, lab: &'a LabInput) -> Result<Items<&'a str>, NoMemory>
     ensures { IfOk result (λ names. map (λ name. name.now) names ≡ all_names_lem lab.now) }
 {
     let mut names = router_names(alloc, &lab.routers)?;

@@ -17,7 +17,7 @@ fn lines_in(before: &[u8]) -> usize
 fn begins_character(b: u8) -> bool
     ensures { result ≡ begins_character_lem b }
 {
-    !(128..=191).contains(&b)
+    b < 128 || b > 191
 }
 
 /// Returns the number of characters between the last newline of these bytes and their end.

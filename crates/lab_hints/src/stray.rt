@@ -14,11 +14,7 @@ use std::alloc::Global;
 fn is_bare_char(c: u8) -> bool
     ensures { result ≡ is_bare_char_lem c }
 {
-    c.is_ascii_lowercase()
-        || c.is_ascii_digit()
-        || c == b'-'
-        || c.is_ascii_uppercase()
-        || c == b'_'
+    c.is_ascii_lowercase() || c.is_ascii_digit() || c == b'-' || c.is_ascii_uppercase() || c == b'_'
 }
 
 fn are_bare_chars(bytes: &[u8]) -> bool

@@ -1,7 +1,8 @@
 //! The tables of a document by their places, and the rows of each.
 
-ghost use Rattle.std.specs.Prelude.{◌≡◌, ◌++◌, IfOk, option_map};
-ghost use Rattle.toml.specs.View.{table_view};
+ghost use Rattle.std.specs.Prelude.{◌≡◌, ◌++◌, IfOk, option_map, option_and_then, slice_get, map};
+ghost use Rattle.toml.specs.Data.{as_table};
+ghost use Rattle.toml.specs.View.{view, table_view};
 ghost use Rattle.lab_tables.specs.Scripts.{do_keys, keys_of};
 ghost use Rattle.lab_tables.specs.Rows.{table_in as table_in_lem, table_at as table_at_lem, form_rows, rows_at};
 
@@ -20,13 +21,20 @@ use crate::words::{fault_kind_at, word_at};
 use bgp_types::{Items, NoMemory};
 use lab_keys::{Key, StepWord, TableAt, has, items_at};
 use std::alloc::Global;
-use toml::Table;
+use toml::{Table, Value};
+
+/// Returns the table at an index, if there is one.
+fn table_of<'a>(values: &'a [Value], i: usize) -> Option<&'a Table>
+    ensures { option_map (λ t. table_view t.now) result ≡ option_and_then as_table (slice_get (map view values.now) i) }
+{
+    values.get(i)?.as_table()
+}
 
 /// Returns the table at an index of the array at a key.
 fn table_in<'a>(key: &str, i: usize, table: &'a Table) -> Option<&'a Table>
     ensures { option_map (λ t. table_view t.now) result ≡ table_in_lem key.now i (table_view table.now) }
 {
-    items_at(key, table)?.get(i)?.as_table()
+    table_of(items_at(key, table)?, i)
 }
 
 /// Returns the table of a policy.
@@ -62,7 +70,7 @@ pub fn table_at<'a>(at: TableAt, doc: &'a Table) -> Option<&'a Table>
 
 /// Returns an array of keys as a list.
 fn listed<const N: usize>(alloc: Global, keys: [Key; N]) -> Result<Items<Key>, NoMemory>
-    ensures { IfOk result (λ list. list ≡ keys) }
+    ensures { IfOk result (λ list. list ≡ keys.entry) }
 {
     Ok(Items::from_vec(Vec::from_array(alloc, keys)?))
 }

@@ -17,8 +17,7 @@ use crate::step_keys::{
 };
 use crate::words::word_at;
 use lab_keys::{
-    Flaw, Key, Spot, StepWord, TableAt, beyond, flaw_if, keys_flaw, number_or, stray_flaw,
-    value_at,
+    Flaw, Key, Spot, StepWord, TableAt, beyond, flaw_if, keys_flaw, number_or, stray_flaw, value_at,
 };
 use toml::{Table, Value};
 

@@ -99,8 +99,8 @@ farther d most names name near least led le =
           ∙ ap (λ o. option_or o (cond (leads d most least name) (Some name) None)) led.found
           ∙ kept near name (leads d most least name)
           (λ e. let open_yet = led.none e in
-                let beyond : most < d name = omega arith in
-                not_second (nat_le (d name) least) (nat_le (d name) most) (above (d name) most beyond));
+          let beyond : most < d name = omega arith in
+          not_second (nat_le (d name) least) (nat_le (d name) most) (above (d name) most beyond));
       closest = all_more d least names name led.closest le;
       bound = led.bound;
       none = led.none;
@@ -146,6 +146,7 @@ same_test : {N : Type 0} (d : N → ℕ) (most : ℕ) (names : List N) (near : O
 same_test {N} d most names near least led name = by_most (nat_le (d name) most) refl where
   every : Bool
   every = list_all (λ other. nat_le (d name) (d other)) names
+
   nearer : (o : Option N) → near ≡ o → every ≡ true → d name ≤ most → d name ≤ least
   nearer None e all few = let open_yet = led.none e in omega arith
   nearer (Some m) e all few =
@@ -153,6 +154,7 @@ same_test {N} d most names near least led name = by_most (nat_le (d name) most) 
       let there : d m ≤ least = is_at_most (d m) least (first_of_both (nat_le (d m) least) (nat_le (d m) most) own.0) in
       let here : d name ≤ d m = is_at_most (d name) (d m) own.1 in
       omega arith
+
   by_least : (t : Bool) → nat_le (d name) least ≡ t → d name ≤ most → t ≡ every
   by_least true e few = sym (all_at_least d (d name) least names led.closest (is_at_most (d name) least e))
   by_least false e few = by_all every refl where
@@ -162,6 +164,7 @@ same_test {N} d most names near least led name = by_most (nat_le (d name) most) 
         let far : least < d name = is_above (d name) least e in
         let close : d name ≤ least = nearer near refl is few in
         absurd (omega arith)
+
   by_most : (t : Bool) → nat_le (d name) most ≡ t → (nat_le (d name) least && nat_le (d name) most) ≡ (nat_le (d name) most && every)
   by_most true e =
       ap (λ (t : Bool). nat_le (d name) least && t) e ∙ last (nat_le (d name) least)

@@ -21,12 +21,12 @@ loop-name-preserved c =
     ap (map (λ n. n.now)) (take_more names i name (omega arith) ∙ ap (λ n. take i names ++ n ∷ []) (sym c.name-item.is))
     ∙ map-append (λ n. n.now) (take i names) (name ∷ []) in
     elim c.if-edits-least.branch [
-        then-edits-least w ↦
-            leads_closer (distance text) (most_edits text) _ _ name.now _ _ c.loop-name.least _ longer
-            (ap (option_map (λ n. n.now)) w.near-is) (w.least-is ∙ c.in_ok-distance.ensures) (omega arith) c.loop-name.invariant
+      | then-edits-least w ↦
+          leads_closer (distance text) (most_edits text) _ _ name.now _ _ c.loop-name.least _ longer
+          (ap (option_map (λ n. n.now)) w.near-is) (w.least-is ∙ c.in_ok-distance.ensures) (omega arith) c.loop-name.invariant
       | else-edits-least w ↦
-            leads_on (distance text) (most_edits text) _ _ name.now _ _ c.loop-name.least _ longer
-            (ap (option_map (λ n. n.now)) w.near-is) w.least-is (omega arith) c.loop-name.invariant
+          leads_on (distance text) (most_edits text) _ _ name.now _ _ c.loop-name.least _ longer
+          (ap (option_map (λ n. n.now)) w.near-is) w.least-is (omega arith) c.loop-name.invariant
     ]
 
 pub returns : goal.returns
