@@ -10,14 +10,16 @@
 //!   from 0, `@0` is k modulo 256, `@1` is k divided by 256, and `@n` is k + 1;
 //! - `!crlf` ends lines by CR and LF, `!bom` adds a byte order mark at the start, `!pad n` adds a comment up to n
 //!   bytes, and `!byte n` replaces everything by one byte;
-//! - `!show` prints an accepted input in full; without it a line says that the input is accepted.
+//! - `!show` prints an accepted input in full; without it a line says that the input is accepted;
+//! - `!hint` prints the hint for an input that is refused.
 #![tactic(auto)]
 
 use bgp_types::{Address, PrefixList};
-use lab_input::{LabInput, PeeringInput, RouterInput, Step, read_lab};
+use lab_hints::hint_text;
+use lab_input::{LabInput, LabStop, PeeringInput, RouterInput, Step, read_lab};
 use std::alloc::{AllocError, Global};
 use std::fmt::Write;
-use std::io;
+use std::{io, str};
 
 /// Appends a line of copy `k`.
 fn put_numbered(text: &mut String, line: &str, k: u32) -> Result<(), AllocError> {
@@ -218,15 +220,37 @@ fn print_input(rt: &HostRuntime, input: &LabInput) -> io::Result<()> {
     Ok(())
 }
 
-/// Prints what bytes are read as. An accepted input is printed in full if `is_shown`.
-fn print_read(rt: &HostRuntime, shows: &str, bytes: &[u8], is_shown: bool) -> io::Result<()> {
+/// Returns whether a case has this line.
+fn asks(changes: &str, word: &str) -> bool {
+    changes.lines().any(|change| change == word)
+}
+
+/// Prints the hint for bytes that are refused.
+fn print_hint(rt: &HostRuntime, bytes: &[u8], stop: &LabStop) -> io::Result<()> {
+    let LabStop::Bad(bad) = stop else {
+        return Ok(());
+    };
+    match hint_text(rt.alloc(), bytes, bad) {
+        Ok(hint) => print!(rt; "  {}", str::from_utf8(&hint).unwrap_or("no text\n")),
+        Err(stop) => println!(rt; "  {stop}"),
+    }
+}
+
+/// Prints what bytes are read as, as a case asks for it.
+fn print_read(rt: &HostRuntime, shows: &str, bytes: &[u8], changes: &str) -> io::Result<()> {
     match read_lab(rt.alloc(), bytes) {
-        Ok(input) if is_shown => {
+        Ok(input) if asks(changes, "!show") => {
             println!(rt; "{shows}")?;
             print_input(rt, &input)
         }
         Ok(_) => println!(rt; "{shows}: an input"),
-        Err(stop) => println!(rt; "{shows}: {stop}"),
+        Err(stop) => {
+            println!(rt; "{shows}: {stop}")?;
+            if asks(changes, "!hint") {
+                print_hint(rt, bytes, &stop)?;
+            }
+            Ok(())
+        }
     }
 }
 
@@ -234,11 +258,10 @@ fn print_read(rt: &HostRuntime, shows: &str, bytes: &[u8], is_shown: bool) -> io
 fn print_case(rt: &HostRuntime, base: &str, case: &str) -> io::Result<()> {
     let (shows, changes) = case.split_once("\n").unwrap_or((case, ""));
     if let Some(byte) = byte_of(changes) {
-        return print_read(rt, shows, &[byte], false);
+        return print_read(rt, shows, &[byte], changes);
     }
     let text = input_of(rt.alloc(), base, changes)?;
-    let is_shown = changes.lines().any(|change| change == "!show");
-    print_read(rt, shows, text.as_bytes(), is_shown)
+    print_read(rt, shows, text.as_bytes(), changes)
 }
 
 fn main(rt: HostRuntime) -> io::Result<()> {

@@ -3,6 +3,7 @@ pub mod Bytes
 pub mod Firsts
 pub mod Keys
 pub mod Numbered
+pub mod Plain
 pub mod Ready
 pub mod SaidAttrs
 pub mod SaidPrefixes

@@ -16,6 +16,28 @@ use Rattle.lab_tables.specs.declared.input.Step.{Step}
 use Rattle.lab_tables.specs.declared.input.Step.TheVariants.{Announce, Withdraw, Raw, Graft, Settle, Evacuate}
 use Rattle.lab_input.specs.Said.{step_update}
 
+-- ---- limits
+
+-- an evacuate step counts as one graft for each peering
+abbrev pub most_grafts : ℕ
+most_grafts = 256
+
+-- an added settle counts too
+abbrev pub most_settles : ℕ
+most_settles = 64
+
+-- different prefixes of networks and of announce and withdraw steps
+abbrev pub most_prefixes : ℕ
+most_prefixes = 4096
+
+-- octets that a remote says
+abbrev pub most_octets : ℕ
+most_octets = 1048576
+
+-- one that sends KEEPALIVEs of its own has half the limit, so that they have room
+abbrev pub most_octets_beating : ℕ
+most_octets_beating = 524288
+
 abbrev pub over_limit : List ℕ → (most n : ℕ) → Option BadInput
 over_limit name most n = if nat_lt most n then Some (Limit name n) else None
 
@@ -95,9 +117,8 @@ pub record IsTally (networks : List PrefixValue) (peerings : List PeeringInput) 
   pub prefixes : t.prefixes ≡ networks ++ flat_map step_prefixes steps
   pub said : AreSaid steps peerings t.said.items
 
--- a remote that sends KEEPALIVEs of its own has half the limit, so that they have room
 abbrev pub most_said : PeeringInput → ℕ
-most_said p = if p.beats then 524288 else 1048576
+most_said p = if p.beats then most_octets_beating else most_octets
 
 abbrev pub said_flaw : List Step → ℕ → PeeringInput → Option BadInput
 said_flaw steps number peering = over_limit (codes "said") (most_said peering) (said_on steps number peering)
@@ -106,9 +127,9 @@ said_flaw steps number peering = over_limit (codes "said") (most_said peering) (
 
 abbrev pub count_fault : LabInput → Option BadInput
 count_fault input = first_of (
-    over_limit (codes "grafts") 256 (sum_by (step_grafts (length input.peerings)) input.steps)
-    ∷ over_limit (codes "settles") 64 (sum_by settles_of input.steps + added_settle input.steps)
-    ∷ over_limit (codes "prefixes") 4096 (length (once_after [] (prefixes_named input)))
+    over_limit (codes "grafts") most_grafts (sum_by (step_grafts (length input.peerings)) input.steps)
+    ∷ over_limit (codes "settles") most_settles (sum_by settles_of input.steps + added_settle input.steps)
+    ∷ over_limit (codes "prefixes") most_prefixes (length (once_after [] (prefixes_named input)))
     ∷ each_from (room_flaw input.peerings) 0 input.routers
     ∷ each_from (said_flaw input.steps) 0 input.peerings
     ∷ [])

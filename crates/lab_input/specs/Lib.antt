@@ -3,3 +3,4 @@ pub mod Said
 pub mod Names
 pub mod Counts
 pub mod Labs
+pub mod Plain

@@ -20,6 +20,7 @@ use Rattle.lab_tables.specs.Peerings.{cost_of, fault_of}
 use Rattle.lab_keys.specs.declared.words.StepWord.{StepWord}
 use Rattle.lab_keys.specs.declared.words.StepWord.TheVariants.{Grafts, Settles, Evacuates}
 use Rattle.lab_tables.specs.Meanings.{word_at}
+use Rattle.lab_keys.specs.Reported.{first_word, further_words}
 
 -- the first fault in a list, each member checked against those before it
 abbrev pub each_after : {A : Type 0} → (List A → A → Option BadInput) → List A → List A → Option BadInput
@@ -116,6 +117,23 @@ worded_named _ routers peerings t = unknown peerings (text_at (codes "peering") 
 abbrev pub step_named : (routers peerings : List (List ℕ)) → Members → Option BadInput
 step_named routers peerings t = worded_named (word_at t) routers peerings t
 
+-- ---- expectations
+
+-- the peering or the router from which a best route is to come
+abbrev pub source_named : (routers peerings : List (List ℕ)) → List ℕ → Option BadInput
+source_named routers peerings text =
+    if bytes_eq (first_word text) (codes "peering") then unknown peerings (further_words text)
+    else if bytes_eq (first_word text) (codes "router") then unknown routers (further_words text)
+    else None
+
+abbrev pub expect_named : (routers peerings : List (List ℕ)) → Members → Option BadInput
+expect_named routers peerings t = first_of (
+    unknown_at peerings (maybe_text (codes "peering") t)
+    ∷ unknown_at routers (maybe_text (codes "at") t)
+    ∷ unknown_at routers (maybe_text (codes "router") t)
+    ∷ source_named routers peerings (text_at (codes "best") t)
+    ∷ [])
+
 -- ---- the whole
 
 abbrev pub named : Members → Option BadInput
@@ -129,4 +147,5 @@ named doc =
     ∷ each_after (peering_named routers) [] (tables_at (codes "peering") doc)
     ∷ each_after (fault_named peerings) [] (tables_at (codes "fault") doc)
     ∷ first_of (map (step_named names peerings) (tables_at (codes "step") doc))
+    ∷ first_of (map (expect_named names peerings) (tables_at (codes "expect") doc))
     ∷ [])

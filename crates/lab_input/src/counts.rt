@@ -18,19 +18,19 @@ use lab_tables::{LabInput, PeeringInput, RouterInput, Step, each_once};
 use std::alloc::Global;
 
 /// The limit of grafts. An evacuate step counts as one for each peering.
-const MOST_GRAFTS: u64 = 256;
+pub const MOST_GRAFTS: u64 = 256;
 
 /// The limit of settles, including an added one.
-const MOST_SETTLES: u64 = 64;
+pub const MOST_SETTLES: u64 = 64;
 
 /// The limit of distinct prefixes of networks and of announce and withdraw steps.
-const MOST_PREFIXES: u64 = 4096;
+pub const MOST_PREFIXES: u64 = 4096;
 
 /// The limit of octets that the remote of a peering says.
-const MOST_SAID: u64 = 1_048_576;
+pub const MOST_OCTETS: u64 = 1_048_576;
 
 /// The same limit for a remote that sends KEEPALIVEs of its own.
-const MOST_SAID_BEATING: u64 = 524_288;
+pub const MOST_OCTETS_BEATING: u64 = 524_288;
 
 /// What is counted in one walk over the steps of an input.
 #[derive(Drop)]
@@ -106,7 +106,7 @@ fn distinct(alloc: Global, prefixes: &[Prefix]) -> Result<u64, NoMemory>
 }
 
 /// Returns the number of peerings that start at a router.
-fn peerings_at(peerings: &[PeeringInput], router: u64) -> u64
+pub fn peerings_at(peerings: &[PeeringInput], router: u64) -> u64
     ensures { result ≡ peering_count_at peerings.now router }
 {
     peerings
@@ -297,9 +297,9 @@ fn most_said(peering: &PeeringInput) -> u64
     ensures { result ≡ most_said_lem peering.now }
 {
     if peering.beats {
-        MOST_SAID_BEATING
+        MOST_OCTETS_BEATING
     } else {
-        MOST_SAID
+        MOST_OCTETS
     }
 }
 

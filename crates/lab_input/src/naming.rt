@@ -5,9 +5,10 @@ ghost use Rattle.toml.specs.View.{table_view};
 ghost use Rattle.lab_keys.specs.Kinds.{first_of};
 ghost use Rattle.lab_keys.specs.Values.{tables_at};
 ghost use Rattle.lab_tables.specs.Documents.{lab_of as lab_of_lem};
-ghost use Rattle.lab_input.specs.Names.{each_after, router_again, cost_named, peering_named, fault_named, step_named, named as named_lem};
+ghost use Rattle.lab_input.specs.Names.{each_after, router_again, cost_named, peering_named, fault_named, step_named, expect_named, named as named_lem};
 
 use crate::bad::BadInput;
+use crate::expects::expects_named;
 use crate::faults::faults_named;
 use crate::named::{costs_named, peerings_named, steps_named};
 use crate::names::routers_again;
@@ -65,6 +66,20 @@ fn steps_in(
     Ok(bad)
 }
 
+/// Returns the first wrong name of the expectations of a document.
+fn expects_in(
+    alloc: Global,
+    doc: &Table,
+    names: &NameIndex,
+    remotes: &NameIndex,
+) -> Result<Option<BadInput>, NoMemory>
+    ensures { IfOk result (λ bad. bad ≡ first_of (map (expect_named names.now remotes.now) (tables_at (codes "expect") (table_view doc.now)))) }
+{
+    let tables = tables_in(alloc, "expect", doc)?;
+    let bad = expects_named(alloc, names, remotes, &tables)?;
+    Ok(bad)
+}
+
 /// Returns the first wrong name of routers, costs and peerings.
 fn network_named(
     alloc: Global,
@@ -83,7 +98,7 @@ fn network_named(
     Ok(first(router, first(cost, first(peering, None))))
 }
 
-/// Returns the first wrong name of planned faults and steps.
+/// Returns the first wrong name of planned faults, steps and expectations.
 fn script_named(
     alloc: Global,
     doc: &Table,
@@ -91,11 +106,13 @@ fn script_named(
     remotes: &NameIndex,
 ) -> Result<Option<BadInput>, NoMemory>
     ensures { IfOk result (λ bad. bad ≡ first_of (each_after (fault_named remotes.now) [] (tables_at (codes "fault") (table_view doc.now))
-        ∷ first_of (map (step_named names.now remotes.now) (tables_at (codes "step") (table_view doc.now))) ∷ [])) }
+        ∷ first_of (map (step_named names.now remotes.now) (tables_at (codes "step") (table_view doc.now)))
+        ∷ first_of (map (expect_named names.now remotes.now) (tables_at (codes "expect") (table_view doc.now))) ∷ [])) }
 {
     let fault = faults_in(alloc, doc, remotes)?;
     let step = steps_in(alloc, doc, names, remotes)?;
-    Ok(first(fault, first(step, None)))
+    let expect = expects_in(alloc, doc, names, remotes)?;
+    Ok(first(fault, first(step, first(expect, None))))
 }
 
 /// Returns the first name of a document that is repeated or unknown.

@@ -1,4 +1,5 @@
 pub mod NoFlaws
+pub mod Splits
 pub mod Strays
 pub mod TextFinds
 pub mod Walks

@@ -1,7 +1,6 @@
 -- The first key that isn't known, among the keys of a map.
-use Rattle.std.proofs.Common.{◌≡◌, ℕ, Bool, true, false, not, ◌||◌, cond, List, [], ◌∷◌, ◌++◌, map, refl, ap, string_bytes, String, Global}
+use Rattle.std.proofs.Common.{◌≡◌, ℕ, Bool, true, false, not, ◌||◌, cond, List, [], ◌∷◌, refl, ap, string_bytes, String, Global}
 use Rattle.std.specs.Prelude.{Option, Some, option_map}
-use Rattle.std.specs.Borrow.{Bor}
 use Rattle.std.specs.List.{list_any, find}
 use Rattle.std.specs.Map.{keys_of}
 use Rattle.std.specs.Str.{bytes_eq}
@@ -10,21 +9,10 @@ use Rattle.toml.specs.View.{members_view}
 use Rattle.lab_keys.specs.KeyRows.{KeyRow}
 use Rattle.lab_keys.specs.Keys.{names_of, is_one_of, stray_in}
 
-array_same : (key : List ℕ) (arrays : List (Bor (List ℕ))) → list_any (λ k. bytes_eq key k.now) arrays ≡ is_one_of (map (λ k. k.now) arrays) key
-array_same key [] = refl
-array_same key (k ∷ ks) = ap (λ b. bytes_eq key k.now || b) (array_same key ks)
-
--- a key is known if it has a row or names an array
-pub known_same : (key : List ℕ) (rows : List KeyRow) (arrays : List (Bor (List ℕ)))
-    → (list_any (λ k. bytes_eq key k.name) rows || list_any (λ k. bytes_eq key k.now) arrays) ≡ is_one_of (names_of rows ++ map (λ k. k.now) arrays) key
-known_same key [] arrays = array_same key arrays
-known_same key (k ∷ ks) arrays = by_first (bytes_eq key k.name) (known_same key ks arrays) where
-  by_first : (t : Bool)
-      → (list_any (λ r. bytes_eq key r.name) ks || list_any (λ r. bytes_eq key r.now) arrays) ≡ is_one_of (names_of ks ++ map (λ r. r.now) arrays) key
-      → ((t || list_any (λ r. bytes_eq key r.name) ks) || list_any (λ r. bytes_eq key r.now) arrays)
-      ≡ (t || is_one_of (names_of ks ++ map (λ r. r.now) arrays) key)
-  by_first true rest = refl
-  by_first false rest = rest
+-- a key is known if it is the name of a row
+pub known_same : (key : List ℕ) (rows : List KeyRow) → list_any (λ k. bytes_eq key k.name) rows ≡ is_one_of (names_of rows) key
+known_same key [] = refl
+known_same key (row ∷ rows) = ap (λ b. bytes_eq key row.name || b) (known_same key rows)
 
 pub stray_found : (known : List (List ℕ)) (es : List (String Global × Value))
     → option_map string_bytes (find (λ k. not (is_one_of known (string_bytes k))) (keys_of es)) ≡ stray_in known (members_view es)

@@ -1,5 +1,5 @@
 -- Keys of tables: which of them are required, which are optional, and the kinds of their values.
-use Rattle.std.specs.Prelude.{ℕ, Bool, true, false, List, map, Option, Some, None, if◌then◌else◌}
+use Rattle.std.specs.Prelude.{ℕ, Bool, true, false, List, map, Option, Some, None, unwrap_or, if◌then◌else◌}
 use Rattle.std.specs.List.{list_any}
 use Rattle.std.specs.Str.{bytes_eq}
 use Rattle.toml.specs.Data.{Data, Members, no_members, member, get_member}
@@ -27,6 +27,10 @@ required_array name low high kind = record { name = name; needed = true; kind = 
 abbrev pub optional_array : List ℕ → (low high : ℕ) → Kind → KeyRow
 optional_array name low high kind = record { name = name; needed = false; kind = kind; counts = Some (record { low = low; high = high }) }
 
+-- the limits of the number of members of an array; a row of one value has none
+abbrev pub limits_of : Option Counts → Counts
+limits_of counts = unwrap_or counts (record { low = 0; high = 0 })
+
 abbrev pub names_of : List KeyRow → List (List ℕ)
 names_of keys = map (λ key. key.name) keys
 
@@ -52,6 +56,10 @@ keys_flaw at keys t = first_of (map (key_flaw at t) keys)
 abbrev pub tables_flaw : TableAt → List ℕ → Bool → (low high : ℕ) → (ℕ → Members → Option Flaw) → Members → Option Flaw
 tables_flaw at key needed low high flaw t =
     present (spot_of at key) needed (array_flaw (spot_of at key) low high (λ i. table_flaw (member_of (spot_of at key) i) (flaw i))) (get_member key t)
+
+-- the array of tables that a row is of
+abbrev pub row_flaw : TableAt → KeyRow → (ℕ → Members → Option Flaw) → Members → Option Flaw
+row_flaw at row flaw t = tables_flaw at row.name row.needed (limits_of row.counts).low (limits_of row.counts).high flaw t
 
 -- ---- keys that aren't known
 

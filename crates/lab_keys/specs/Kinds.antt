@@ -6,11 +6,12 @@ use Rattle.toml.specs.Data.{Data, string, integer, boolean, array, table, Items,
 use Rattle.lab_keys.specs.declared.flaw.Flaw.{Flaw}
 use Rattle.lab_keys.specs.declared.flaw.Flaw.TheVariants.{Shape, Limit}
 use Rattle.lab_keys.specs.declared.key.Kind.{Kind}
-use Rattle.lab_keys.specs.declared.key.Kind.TheVariants.{Number, HoldTime, Name, Host, Address, Prefix, Flag, Hex, Misplaced}
-use Rattle.lab_keys.specs.declared.key.Kind.TheVariants.{Origin, Way, FaultKind, StepWord}
+use Rattle.lab_keys.specs.declared.key.Kind.TheVariants.{Number, HoldTime, Name, Host, Address, Prefix, Flag, Hex, Table, Misplaced}
+use Rattle.lab_keys.specs.declared.key.Kind.TheVariants.{Origin, Way, FaultKind, StepWord, State, Outcome, Best}
 use Rattle.lab_keys.specs.Spots.{KeySpot}
 use Rattle.lab_keys.specs.Texts.{is_name, address_in, host_address_in, prefix_in, is_hex}
 use Rattle.lab_keys.specs.Words.{origin_in, way_in, fault_kind_in, step_word_in}
+use Rattle.lab_keys.specs.Reported.{state_in, is_outcome, is_best}
 
 -- ---- the first of several flaws
 
@@ -54,6 +55,11 @@ abbrev pub flag_flaw : KeySpot → Data → Option Flaw
 flag_flaw at (boolean b) = None
 flag_flaw at _ = Some (Shape at)
 
+-- any table; the flaws of its own keys are those of its rows
+abbrev pub any_table_flaw : KeySpot → Data → Option Flaw
+any_table_flaw at (table t) = None
+any_table_flaw at _ = Some (Shape at)
+
 -- from low to high octets in hexadecimal
 abbrev pub hex_flaw : KeySpot → (low high : ℕ) → Data → Option Flaw
 hex_flaw at low high (string text) = if is_hex text then beyond at low high (length text / 2) else Some (Shape at)
@@ -69,6 +75,9 @@ is_formed Origin text = is_some (origin_in text)
 is_formed Way text = is_some (way_in text)
 is_formed FaultKind text = is_some (fault_kind_in text)
 is_formed StepWord text = is_some (step_word_in text)
+is_formed State text = is_some (state_in text)
+is_formed Outcome text = is_outcome text
+is_formed Best text = is_best text
 is_formed _ text = false
 
 -- the first flaw of a value of a kind
@@ -77,6 +86,7 @@ kind_flaw (Number low high) at d = number_flaw at low high d
 kind_flaw HoldTime at d = hold_time_flaw at d
 kind_flaw Flag at d = flag_flaw at d
 kind_flaw (Hex low high) at d = hex_flaw at low high d
+kind_flaw Table at d = any_table_flaw at d
 kind_flaw Misplaced at d = Some (Shape at)
 kind_flaw kind at d = text_flaw at (is_formed kind) d
 

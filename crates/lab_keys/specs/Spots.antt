@@ -1,7 +1,7 @@
 -- Where a value is in an input.
 use Rattle.std.specs.Prelude.{ℕ, List, [], ◌++◌, Option, Some, None, codes, decimal}
 use Rattle.lab_keys.specs.declared.table_at.TableAt.{TableAt}
-use Rattle.lab_keys.specs.declared.table_at.TableAt.TheVariants.{Top, Router, Policy, Rule, Cost, Peering, Fault, Step}
+use Rattle.lab_keys.specs.declared.table_at.TableAt.TheVariants.{Top, Router, Policy, Rule, Cost, Peering, Fault, Step, Expect}
 
 -- a key of a table and, for a member of the array at that key, its index
 pub record KeySpot : Type 0 where
@@ -29,6 +29,7 @@ table_text (Cost i) = codes "cost" ++ index_text i ++ codes "."
 table_text (Peering i) = codes "peering" ++ index_text i ++ codes "."
 table_text (Fault i) = codes "fault" ++ index_text i ++ codes "."
 table_text (Step i) = codes "step" ++ index_text i ++ codes "."
+table_text (Expect i) = codes "expect" ++ index_text i ++ codes "."
 
 abbrev pub member_text : Option ℕ → List ℕ
 member_text None = []

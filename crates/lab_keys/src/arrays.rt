@@ -15,7 +15,7 @@ use std::alloc::Global;
 use toml::{Table, Value};
 
 /// Adds a value at the end, if there is one.
-pub(crate) fn push_some<T: Drop>(list: &mut Items<T>, value: Option<T>) -> Result<(), NoMemory>
+pub fn push_some<T: Drop>(list: &mut Items<T>, value: Option<T>) -> Result<(), NoMemory>
     ensures { OnOk result (list.new ≡ list.old ++ cons_option value []) }
 {
     if let Some(value) = value {

@@ -17,8 +17,15 @@ pub enum Kind {
     Way,
     FaultKind,
     StepWord,
+    /// The state of a session.
+    State,
+    /// How a graft ends.
+    Outcome,
+    /// Where a best route comes from, or that there is none.
+    Best,
     /// Octets in hexadecimal, from `low` to `high` of them.
     Hex { low: usize, high: usize },
+    Table,
     /// The key isn't allowed here.
     Misplaced,
 }
@@ -52,6 +59,7 @@ impl Key {
     ghost use Rattle.std.specs.Prelude.{◌≡◌};
     ghost use Rattle.lab_keys.specs.Keys.{required as required_lem, optional as optional_lem};
     ghost use Rattle.lab_keys.specs.Keys.{required_array as required_array_lem, optional_array as optional_array_lem};
+    ghost use Rattle.lab_keys.specs.Keys.{limits_of};
 
     pub fn required(name: &'static str, kind: Kind) -> Key
         ensures { result ≡ required_lem name.now kind }
@@ -119,5 +127,12 @@ impl Key {
         ensures { result ≡ self.now.counts }
     {
         self.counts
+    }
+
+    /// Returns the limits of the number of members of the array at the key. A key of one value has none.
+    pub fn limits(&self) -> Counts
+        ensures { result ≡ limits_of self.now.counts }
+    {
+        self.counts.unwrap_or(Counts { low: 0, high: 0 })
     }
 }

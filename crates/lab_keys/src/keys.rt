@@ -65,7 +65,7 @@ fn value_flaw<'a>(
 }
 
 /// Returns the first flaw at a key of a table.
-fn key_flaw<'a>(at: TableAt, key: &Key, table: &Table) -> Option<Flaw<'a>>
+pub fn key_flaw<'a>(at: TableAt, key: &Key, table: &Table) -> Option<Flaw<'a>>
     ensures { result ≡ key_flaw_lem at (table_view table.now) key.now }
 {
     let name = key.name();
@@ -94,53 +94,37 @@ fn has_row(key: &str, keys: &[Key]) -> bool
     keys.iter().any(|k| key == k.name())
 }
 
-/// Returns whether a key is the name of one of the arrays.
-fn is_array(key: &str, arrays: &[&str]) -> bool
-    ensures { result ≡ list_any (λ k. bytes_eq key.now k.now) arrays.now }
+/// Returns whether a key is the name of a row.
+fn is_known(key: &str, keys: &[Key]) -> bool
+    ensures { result ≡ is_one_of (names_of keys.now) key.now }
 {
-    arrays.iter().any(|k| key == *k)
-}
-
-/// Returns whether a key has a row or is the name of one of the arrays.
-fn is_known(key: &str, keys: &[Key], arrays: &[&str]) -> bool
-    ensures { result ≡ is_one_of (names_of keys.now ++ map (λ k. k.now) arrays.now) key.now }
-{
-    has_row(key, keys) || is_array(key, arrays)
+    has_row(key, keys)
 }
 
 /// Returns the first unknown key of a table, in the order of bytes.
-fn first_stray<'a>(keys: &[Key], arrays: &[&str], table: &'a Table) -> Option<&'a String>
-    ensures { option_map (λ k. k.now) result
-        ≡ find (λ k. not (is_one_of (names_of keys.now ++ map (λ k. k.now) arrays.now) (string_bytes k))) (keys_of_map table.now) }
+fn first_stray<'a>(keys: &[Key], table: &'a Table) -> Option<&'a String>
+    ensures { option_map (λ k. k.now) result ≡ find (λ k. not (is_one_of (names_of keys.now) (string_bytes k))) (keys_of_map table.now) }
 {
-    table
-        .keys()
-        .find(|key| !is_known(key.as_str(), keys, arrays))
+    table.keys().find(|key| !is_known(key.as_str(), keys))
 }
 
 /// Returns the text of the first unknown key of a table.
-fn stray_in<'a>(keys: &[Key], arrays: &[&str], table: &'a Table) -> Option<&'a str>
-    ensures { option_map (λ key. key.now) result ≡ stray_in_lem (names_of keys.now ++ map (λ k. k.now) arrays.now) (table_view table.now) }
+pub fn stray_in<'a>(keys: &[Key], table: &'a Table) -> Option<&'a str>
+    ensures { option_map (λ key. key.now) result ≡ stray_in_lem (names_of keys.now) (table_view table.now) }
 {
-    let key = first_stray(keys, arrays, table)?;
+    let key = first_stray(keys, table)?;
     Some(key.as_str())
 }
 
-/// Returns the flaw of the first key of a table that has no row and isn't the name of one of its arrays of tables, if
-/// there is one.
-pub fn stray_flaw<'a>(
-    at: TableAt,
-    keys: &[Key],
-    arrays: &[&str],
-    table: &'a Table,
-) -> Option<Flaw<'a>>
-    ensures { result ≡ stray_flaw_lem at (names_of keys.now ++ map (λ k. k.now) arrays.now) (table_view table.now) }
+/// Returns the flaw of the first key of a table that has no row, if there is one.
+pub fn stray_flaw<'a>(at: TableAt, keys: &[Key], table: &'a Table) -> Option<Flaw<'a>>
+    ensures { result ≡ stray_flaw_lem at (names_of keys.now) (table_view table.now) }
 {
-    let key = stray_in(keys, arrays, table)?;
+    let key = stray_in(keys, table)?;
     Some(Flaw::Shape(Spot::of(at, key)))
 }
 
-ghost use Rattle.std.specs.Prelude.{◌++◌, not, string_bytes};
+ghost use Rattle.std.specs.Prelude.{not, string_bytes};
 ghost use Rattle.std.specs.List.{list_any, find};
 ghost use Rattle.std.specs.Str.{bytes_eq};
 ghost use Rattle.std.specs.BTreeMap.{keys as keys_of_map};

@@ -7,9 +7,11 @@ ghost use Rattle.lab_keys.specs.Texts.{is_hex as is_hex_lem};
 ghost use Rattle.lab_keys.specs.Kinds.{beyond as beyond_lem, number_flaw as number_flaw_lem, hold_time_flaw as hold_time_flaw_lem};
 ghost use Rattle.lab_keys.specs.Kinds.{hex_flaw as hex_flaw_lem, flag_flaw as flag_flaw_lem, kind_flaw as kind_flaw_lem};
 ghost use Rattle.lab_keys.specs.Kinds.{flaw_if as flaw_if_lem, text_flaw as text_flaw_lem, is_formed as is_formed_lem, each_from};
+ghost use Rattle.lab_keys.specs.Kinds.{any_table_flaw as any_table_flaw_lem};
 
 use crate::flaw::Flaw;
 use crate::key::Kind;
+use crate::reported::{is_best, is_outcome, state_in};
 use crate::spot::Spot;
 use crate::table_at::TableAt;
 use crate::texts::{address_in, host_in, is_hex, is_name, prefix_in};
@@ -74,6 +76,15 @@ fn flag_flaw<'a>(at: Spot<'a>, value: &Value) -> Option<Flaw<'a>>
     }
 }
 
+fn any_table_flaw<'a>(at: Spot<'a>, value: &Value) -> Option<Flaw<'a>>
+    ensures { result ≡ any_table_flaw_lem at.entry (view value.now) }
+{
+    match value {
+        Value::Table(_) => None,
+        _ => Some(Flaw::Shape(at)),
+    }
+}
+
 fn hex_flaw<'a>(at: Spot<'a>, low: usize, high: usize, value: &Value) -> Option<Flaw<'a>>
     ensures { result ≡ hex_flaw_lem at.entry low high (view value.now) }
 {
@@ -99,6 +110,9 @@ fn is_formed(kind: Kind, text: &str) -> bool
         Kind::Way => way_in(text).is_some(),
         Kind::FaultKind => fault_kind_in(text).is_some(),
         Kind::StepWord => step_word_in(text).is_some(),
+        Kind::State => state_in(text).is_some(),
+        Kind::Outcome => is_outcome(text),
+        Kind::Best => is_best(text),
         _ => false,
     }
 }
@@ -121,6 +135,7 @@ pub fn kind_flaw<'a>(kind: Kind, at: Spot<'a>, value: &Value) -> Option<Flaw<'a>
         Kind::HoldTime => hold_time_flaw(at, value),
         Kind::Flag => flag_flaw(at, value),
         Kind::Hex { low, high } => hex_flaw(at, low, high, value),
+        Kind::Table => any_table_flaw(at, value),
         Kind::Misplaced => Some(Flaw::Shape(at)),
         _ => text_flaw(at, kind, value),
     }

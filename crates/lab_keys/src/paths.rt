@@ -47,6 +47,7 @@ fn push_table(text: &mut String, table: TableAt) -> Result<(), NoMemory>
         TableAt::Peering(i) => push_item(text, "peering", i)?,
         TableAt::Fault(i) => push_item(text, "fault", i)?,
         TableAt::Step(i) => push_item(text, "step", i)?,
+        TableAt::Expect(i) => push_item(text, "expect", i)?,
     }
     text.push_str(".")?;
     Ok(())

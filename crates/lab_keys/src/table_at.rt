@@ -12,4 +12,5 @@ pub enum TableAt {
     Peering(usize),
     Fault(usize),
     Step(usize),
+    Expect(usize),
 }

@@ -6,9 +6,10 @@ ghost use Rattle.toml.specs.View.{view, table_view};
 ghost use Rattle.lab_keys.specs.declared.flaw.Flaw.{Flaw as FlawOf};
 ghost use Rattle.lab_keys.specs.Spots.{spot_of, member_of};
 ghost use Rattle.lab_keys.specs.Kinds.{table_flaw, each_from};
-ghost use Rattle.lab_keys.specs.Keys.{tables_flaw as tables_flaw_lem};
+ghost use Rattle.lab_keys.specs.Keys.{tables_flaw as tables_flaw_lem, row_flaw};
 
 use crate::flaw::Flaw;
+use crate::key::Key;
 use crate::keys::value_at;
 use crate::kinds::{beyond, flaw_if};
 use crate::spot::Spot;
@@ -27,11 +28,11 @@ pub trait TableKind {
 
 /// Where an array of tables is, whether it is required, and how many tables it may have.
 #[derive(Clone, Copy, Debug)]
-pub struct ArrayAt {
-    pub table: TableAt,
-    pub needed: bool,
-    pub low: usize,
-    pub high: usize,
+struct ArrayAt {
+    table: TableAt,
+    needed: bool,
+    low: usize,
+    high: usize,
 }
 
 /// Returns the first flaw of the value at index `i` of an array of tables.
@@ -68,7 +69,7 @@ fn items_flaw<'a, K: TableKind>(
 }
 
 /// Returns the first flaw of the array of tables at a key.
-pub fn tables_flaw<'a, K: TableKind>(
+fn bounded_tables_flaw<'a, K: TableKind>(
     kind: &K,
     at: ArrayAt,
     key: &'a str,
@@ -88,4 +89,23 @@ pub fn tables_flaw<'a, K: TableKind>(
         return Some(flaw);
     }
     items_flaw(kind, at.table, key, values)
+}
+
+/// Returns the first flaw of the array of tables that a row is of.
+pub fn tables_flaw<'a, K: TableKind>(
+    kind: &K,
+    at: TableAt,
+    row: &Key,
+    table: &'a Table,
+) -> Option<Flaw<'a>>
+    ensures { result ≡ row_flaw at row.now (K.flaw_of kind.now) (table_view table.now) }
+{
+    let limits = row.limits();
+    let array = ArrayAt {
+        table: at,
+        needed: row.is_needed(),
+        low: limits.low,
+        high: limits.high,
+    };
+    bounded_tables_flaw(kind, array, row.name(), table)
 }

@@ -385,8 +385,8 @@ fn push_outcome(text: &mut String, outcome: &Outcome) -> Result<(), NoMemory>
     Ok(())
 }
 
-/// How far a graft is.
-fn push_stage(text: &mut String, stage: &GraftStage) -> Result<(), NoMemory>
+/// Adds how far a graft is.
+pub fn push_stage(text: &mut String, stage: &GraftStage) -> Result<(), NoMemory>
     ensures { OnOk result (string_bytes text.new ≡ string_bytes text.old ++ stage_text stage.now) }
 {
     match stage {

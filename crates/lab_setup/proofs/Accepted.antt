@@ -34,6 +34,7 @@ use Rattle.lab_tables.specs.Meanings.{index_of_name, word_at}
 use Rattle.lab_tables.specs.Routers.{router_flaw, router_of}
 use Rattle.lab_tables.specs.Peerings.{cost_flaw, peering_flaw, peering_input, fault_flaw}
 use Rattle.lab_tables.specs.Scripts.{step_flaw, peering_number, worded_step, step_of}
+use Rattle.lab_tables.specs.Expects.{most_graft, expect_flaw}
 use Rattle.lab_tables.specs.Documents.{home_keys, top_names, trace_keys, shaped, router_names_of, peerings_of, peering_names_of, lab_of}
 use Rattle.lab_input.specs.Names.{unknown, worded_named, step_named}
 use Rattle.lab_input.specs.Said.{step_update}
@@ -114,6 +115,7 @@ tables_kept doc none =
     ∷ tables_flaw tables.Top (codes "fault") false 0 1024 fault_flaw doc
     ∷ steps
     ∷ keys_flaw tables.Top trace_keys doc
+    ∷ tables_flaw tables.Top (codes "expect") false 0 1024 (expect_flaw (most_graft doc)) doc
     ∷ [] in
     let no_router : router ≡ None = none_of flaws 2 router none refl in
     let no_peering : peering ≡ None = none_of flaws 4 peering none refl in

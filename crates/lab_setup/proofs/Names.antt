@@ -14,7 +14,7 @@ use Rattle.lab_tables.specs.Documents.{routers_of, router_names_of, peering_name
 use Rattle.lab_input.specs.declared.bad.BadInput.{BadInput}
 use Rattle.lab_input.specs.declared.bad.BadInput.TheVariants.{Unknown}
 use Rattle.lab_input.specs.Names.{each_after, repeated_if, unknown, unknown_at, router_again, cost_named, policies_at}
-use Rattle.lab_input.specs.Names.{remote_address_of, peering_named, fault_named, step_named, named}
+use Rattle.lab_input.specs.Names.{remote_address_of, peering_named, fault_named, step_named, expect_named, named}
 use Rattle.lab_setup.proofs.Lists.{none_of, none_after, none_mapped, first_below, index_of}
 
 some_bad : (bad : BadInput) → Some bad ≡ None → ⊥
@@ -77,6 +77,7 @@ names_kept doc none =
     ∷ peering
     ∷ each_after (fault_named remotes) [] (tables_at (codes "fault") doc)
     ∷ step
+    ∷ first_of (map (expect_named names remotes) (tables_at (codes "expect") doc))
     ∷ [] in
     record {
       peerings = none_after (peering_named routers) (IsNamedPeering routers) (peering_is_named routers) []

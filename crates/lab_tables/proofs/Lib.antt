@@ -1,3 +1,4 @@
+pub mod GraftNumbers
 pub mod Groups
 pub mod Onces
 pub mod Openings

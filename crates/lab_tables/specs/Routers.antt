@@ -6,11 +6,11 @@ use Rattle.route_policy.specs.declared.rule.PrefixRange.{PrefixRange}
 use Rattle.route_policy.specs.declared.rule.Rule.{Rule}
 use Rattle.lab_keys.specs.declared.flaw.Flaw.{Flaw}
 use Rattle.lab_keys.specs.declared.key.Kind.{Kind}
-use Rattle.lab_keys.specs.declared.key.Kind.TheVariants.{Number, Name, Host, Prefix, Flag, Origin, Misplaced}
+use Rattle.lab_keys.specs.declared.key.Kind.TheVariants.{Number, Name, Host, Prefix, Flag, Origin, Table, Misplaced}
 use Rattle.lab_keys.specs.declared.table_at.TableAt.TheVariants as tables
 use Rattle.lab_keys.specs.KeyRows.{KeyRow}
 use Rattle.lab_keys.specs.Kinds.{first_of}
-use Rattle.lab_keys.specs.Keys.{required, optional, optional_array, keys_flaw, tables_flaw, stray_flaw, names_of}
+use Rattle.lab_keys.specs.Keys.{required, optional, optional_array, keys_flaw, row_flaw, stray_flaw, names_of}
 use Rattle.lab_keys.specs.Values.{has_member, text_at, number_or, maybe_number, flag_or, address_or, maybe_prefix, prefixes_at, tables_at}
 use Rattle.lab_tables.specs.declared.input.RouterInput.{RouterInput}
 use Rattle.lab_tables.specs.declared.input.PolicyInput.{PolicyInput}
@@ -68,11 +68,14 @@ rule_of t = record {
 abbrev pub policy_keys : List KeyRow
 policy_keys = required (codes "name") Name ∷ []
 
+abbrev pub rule_row : KeyRow
+rule_row = optional_array (codes "rule") 0 64 Table
+
 abbrev pub policy_flaw : ℕ → ℕ → Members → Option Flaw
 policy_flaw i j t = first_of (
     keys_flaw (tables.Policy i j) policy_keys t
-    ∷ tables_flaw (tables.Policy i j) (codes "rule") false 0 64 (rule_flaw i j) t
-    ∷ stray_flaw (tables.Policy i j) (names_of policy_keys ++ codes "rule" ∷ []) t
+    ∷ row_flaw (tables.Policy i j) rule_row (rule_flaw i j) t
+    ∷ stray_flaw (tables.Policy i j) (names_of (policy_keys ++ rule_row ∷ [])) t
     ∷ [])
 
 abbrev pub policy_of : Members → PolicyInput
@@ -89,11 +92,14 @@ router_keys =
     ∷ optional_array (codes "networks") 0 256 Prefix
     ∷ []
 
+abbrev pub policy_row : KeyRow
+policy_row = optional_array (codes "policy") 0 16 Table
+
 abbrev pub router_flaw : ℕ → Members → Option Flaw
 router_flaw i t = first_of (
     keys_flaw (tables.Router i) router_keys t
-    ∷ tables_flaw (tables.Router i) (codes "policy") false 0 16 (policy_flaw i) t
-    ∷ stray_flaw (tables.Router i) (names_of router_keys ++ codes "policy" ∷ []) t
+    ∷ row_flaw (tables.Router i) policy_row (policy_flaw i) t
+    ∷ stray_flaw (tables.Router i) (names_of (router_keys ++ policy_row ∷ [])) t
     ∷ [])
 
 abbrev pub router_of : Members → RouterInput

@@ -20,7 +20,7 @@ use tcp_seq::Way;
 use toml::Table;
 
 /// Returns the keys of a cost: its two ends, and the cost.
-fn cost_keys() -> [Key; 3]
+pub(crate) fn cost_keys() -> [Key; 3]
     ensures { result ≡ cost_ends ++ cost_rest }
 {
     [
@@ -52,7 +52,7 @@ fn cost_flaw<'a>(i: usize, table: &'a Table) -> Option<Flaw<'a>>
     if let Some(flaw) = keys_flaw(at, &keys[2..], table) {
         return Some(flaw);
     }
-    stray_flaw(at, keys, &[], table)
+    stray_flaw(at, keys, table)
 }
 
 /// The array of costs of an input.
@@ -97,7 +97,7 @@ fn after_key(is_lost: bool) -> Key
 }
 
 /// Returns the keys of a planned fault, given whether it loses a segment.
-fn fault_keys(is_lost: bool) -> [Key; 5]
+pub(crate) fn fault_keys(is_lost: bool) -> [Key; 5]
     ensures { result ≡ fault_keys_lem ++ after_keys_lem is_lost }
 {
     [
@@ -116,7 +116,7 @@ fn fault_keys(is_lost: bool) -> [Key; 5]
 }
 
 /// Returns whether a fault loses its segment.
-fn is_lost(kind: FaultKind) -> bool
+pub(crate) fn is_lost(kind: FaultKind) -> bool
     ensures { result ≡ is_lost_lem kind }
 {
     matches!(kind, FaultKind::Lose)
@@ -146,7 +146,7 @@ fn fault_flaw<'a>(i: usize, table: &'a Table) -> Option<Flaw<'a>>
     if let Some(flaw) = keys_flaw(at, &keys[4..], table) {
         return Some(flaw);
     }
-    stray_flaw(at, keys, &[], table)
+    stray_flaw(at, keys, table)
 }
 
 /// The array of planned faults of an input.

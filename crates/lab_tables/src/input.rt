@@ -3,6 +3,7 @@
 ghost use Rattle.std.specs.Prelude.{◌≡◌};
 ghost use Rattle.lab_tables.specs.Scripts.{is_settle_step};
 
+use crate::expectation::Expectations;
 use bgp_types::{Attrs, Items, Name, Octets, PeeringId, PrefixList, RouterId};
 use link_bag::Fault;
 use route_policy::Rules;
@@ -21,6 +22,8 @@ pub struct LabInput {
     pub steps: Steps,
     /// The addresses to which packets are followed.
     pub trace: Numbers,
+    /// What is expected of the end of the run.
+    pub expects: Expectations,
 }
 
 /// A home router: its BGP Identifier, the number of sessions for which it has room (0 to 32), whether capsules that are

@@ -5,11 +5,13 @@ ghost use Rattle.toml.specs.View.{table_view};
 ghost use Rattle.lab_tables.specs.Documents.{lab_of as lab_of_lem};
 
 use crate::costs::{CostReader, FaultReader};
+use crate::expectation::Expectations;
 use crate::input::{CostInputs, Faults, LabInput, PeeringInput, PeeringInputs, RouterInput, Steps};
 use crate::name_index::NameIndex;
 use crate::peerings::PeeringReader;
 use crate::routers::RouterTables;
 use crate::steps::StepReader;
+use crate::wants::ExpectReader;
 use bgp_types::{Items, Name, NoMemory, TryCopy};
 use lab_keys::{addresses_at, number_or, values_at};
 use std::alloc::Global;
@@ -83,6 +85,22 @@ fn steps_of(
     values_at(&reader, alloc, "step", doc)
 }
 
+/// Returns what is expected of these routers and peerings.
+fn expects_of(
+    alloc: Global,
+    names: &NameIndex,
+    remotes: &NameIndex,
+    doc: &Table,
+) -> Result<Expectations, NoMemory>
+    ensures { IfOk result (λ expects. expects ≡ map (expectation_of names.now remotes.now) (tables_at (codes "expect") (table_view doc.now))) }
+{
+    let reader = ExpectReader {
+        routers: names,
+        peerings: remotes,
+    };
+    values_at(&reader, alloc, "expect", doc)
+}
+
 /// Returns the value of a document, with defaults filled in and names resolved.
 pub fn lab_of(alloc: Global, doc: &Table) -> Result<LabInput, NoMemory>
     ensures { IfOk result (λ lab. lab ≡ lab_of_lem (table_view doc.now)) }
@@ -95,6 +113,7 @@ pub fn lab_of(alloc: Global, doc: &Table) -> Result<LabInput, NoMemory>
     let faults = faults_of(alloc, &remotes, doc)?;
     let steps = steps_of(alloc, &names, &remotes, &peerings, doc)?;
     let trace = addresses_at(alloc, "trace", doc)?;
+    let expects = expects_of(alloc, &names, &remotes, doc)?;
     Ok(LabInput {
         home_as: number_or(0, "home_as", doc),
         routers,
@@ -103,6 +122,7 @@ pub fn lab_of(alloc: Global, doc: &Table) -> Result<LabInput, NoMemory>
         faults,
         steps,
         trace,
+        expects,
     })
 }
 
@@ -110,3 +130,4 @@ ghost use Rattle.std.specs.Prelude.{codes};
 ghost use Rattle.lab_keys.specs.Values.{tables_at};
 ghost use Rattle.lab_tables.specs.Peerings.{cost_of, peering_input, fault_of};
 ghost use Rattle.lab_tables.specs.Scripts.{step_of};
+ghost use Rattle.lab_tables.specs.Expects.{expectation_of};

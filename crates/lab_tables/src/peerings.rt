@@ -29,7 +29,7 @@ const END_KEYS: usize = 3;
 const FIRST_KEYS: usize = 16;
 
 /// Returns the keys of a peering.
-fn peering_keys() -> [Key; 17]
+pub(crate) fn peering_keys() -> [Key; 17]
     ensures { result ≡ peering_ends ++ peering_rest ++ peering_last }
 {
     [
@@ -147,7 +147,7 @@ fn peering_flaw<'a>(doc: &Table, i: usize, table: &'a Table) -> Option<Flaw<'a>>
     if let Some(flaw) = keys_flaw(at, &keys[FIRST_KEYS..], table) {
         return Some(flaw);
     }
-    stray_flaw(at, keys, &[], table)
+    stray_flaw(at, keys, table)
 }
 
 /// The array of peerings of an input.

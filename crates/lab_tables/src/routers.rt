@@ -1,22 +1,33 @@
 //! Routers.
 
-ghost use Rattle.std.specs.Prelude.{◌≡◌, IfOk};
+ghost use Rattle.std.specs.Prelude.{◌≡◌, ◌++◌, ◌∷◌, [], IfOk};
 ghost use Rattle.toml.specs.View.{table_view};
-ghost use Rattle.lab_tables.specs.Routers.{router_keys as router_keys_lem, router_flaw as router_flaw_lem, router_of as router_of_lem};
+ghost use Rattle.lab_tables.specs.Routers.{router_keys as router_keys_lem, policy_row as policy_row_lem};
+ghost use Rattle.lab_tables.specs.Routers.{router_flaw as router_flaw_lem, router_of as router_of_lem};
 
 use crate::input::RouterInput;
 use crate::rules::{PolicyReader, PolicyTables};
 use bgp_types::{Name, NoMemory};
 use lab_keys::{
-    ArrayAt, Flaw, Key, Kind, TableAt, TableKind, TableReader, address_or, flag_or, keys_flaw,
-    number_or, prefixes_at, stray_flaw, tables_flaw, text_at, values_at,
+    Flaw, Key, Kind, TableAt, TableKind, TableReader, address_or, flag_or, keys_flaw, number_or,
+    prefixes_at, stray_flaw, tables_flaw, text_at, values_at,
 };
 use std::alloc::Global;
 use toml::Table;
 
+/// The number of keys of a router in front of its policies.
+const FIRST_KEYS: usize = 5;
+
+/// Returns the row of a router's policies.
+fn policy_row() -> Key
+    ensures { result ≡ policy_row_lem }
+{
+    Key::optional_array("policy", 0, 16, Kind::Table)
+}
+
 /// Returns the keys of a router.
-fn router_keys() -> [Key; 5]
-    ensures { result ≡ router_keys_lem }
+pub(crate) fn router_keys() -> [Key; 6]
+    ensures { result ≡ router_keys_lem ++ policy_row_lem ∷ [] }
 {
     [
         Key::required("name", Kind::Name),
@@ -24,6 +35,7 @@ fn router_keys() -> [Key; 5]
         Key::required("sessions", Kind::Number { low: 0, high: 32 }),
         Key::optional("by_bytes", Kind::Flag),
         Key::optional_array("networks", 0, 256, Kind::Prefix),
+        policy_row(),
     ]
 }
 
@@ -32,20 +44,15 @@ fn router_flaw<'a>(i: usize, table: &'a Table) -> Option<Flaw<'a>>
     ensures { result ≡ router_flaw_lem i (table_view table.now) }
 {
     let at = TableAt::Router(i);
-    let keys = router_keys();
-    if let Some(flaw) = keys_flaw(at, &keys, table) {
+    let rows = router_keys();
+    let keys = &rows[..];
+    if let Some(flaw) = keys_flaw(at, &keys[..FIRST_KEYS], table) {
         return Some(flaw);
     }
-    let array = ArrayAt {
-        table: at,
-        needed: false,
-        low: 0,
-        high: 16,
-    };
-    if let Some(flaw) = tables_flaw(&PolicyTables { router: i }, array, "policy", table) {
+    if let Some(flaw) = tables_flaw(&PolicyTables { router: i }, at, &policy_row(), table) {
         return Some(flaw);
     }
-    stray_flaw(at, &keys, &["policy"], table)
+    stray_flaw(at, keys, table)
 }
 
 /// Returns the router that a table stands for.

@@ -1,8 +1,9 @@
 //! Policies and their rules.
 
-ghost use Rattle.std.specs.Prelude.{◌≡◌, IfOk, option_map};
+ghost use Rattle.std.specs.Prelude.{◌≡◌, ◌++◌, ◌∷◌, [], IfOk, option_map};
 ghost use Rattle.toml.specs.View.{table_view};
 ghost use Rattle.lab_tables.specs.Routers.{length_kind as length_kind_lem, rule_keys as rule_keys_lem, rule_flaw as rule_flaw_lem};
+ghost use Rattle.lab_tables.specs.Routers.{policy_keys as policy_keys_lem, rule_row as rule_row_lem};
 ghost use Rattle.lab_tables.specs.Routers.{range_of as range_of_lem, rule_of as rule_of_lem, policy_flaw as policy_flaw_lem, policy_of as policy_of_lem};
 
 use crate::input::PolicyInput;
@@ -10,8 +11,8 @@ use crate::numbers::{ANY_NUMBER, AS_NUMBER};
 use crate::words::origin_at;
 use bgp_types::{Name, NoMemory, Prefix};
 use lab_keys::{
-    ArrayAt, Flaw, Key, Kind, TableAt, TableKind, TableReader, flag_or, has, keys_flaw,
-    maybe_number, maybe_prefix, small_or, stray_flaw, tables_flaw, text_at, values_at,
+    Flaw, Key, Kind, TableAt, TableKind, TableReader, flag_or, has, keys_flaw, maybe_number,
+    maybe_prefix, small_or, stray_flaw, tables_flaw, text_at, values_at,
 };
 use route_policy::{PrefixRange, Rule};
 use std::alloc::Global;
@@ -29,7 +30,7 @@ fn length_kind(ranged: bool) -> Kind
 }
 
 /// Returns the keys of a rule, given whether it has a prefix.
-fn rule_keys(ranged: bool) -> [Key; 9]
+pub(crate) fn rule_keys(ranged: bool) -> [Key; 9]
     ensures { result ≡ rule_keys_lem ranged }
 {
     [
@@ -54,7 +55,7 @@ fn rule_flaw<'a>(i: usize, j: usize, k: usize, table: &'a Table) -> Option<Flaw<
     if let Some(flaw) = keys_flaw(at, &keys, table) {
         return Some(flaw);
     }
-    stray_flaw(at, &keys, &[], table)
+    stray_flaw(at, &keys, table)
 }
 
 /// Returns the range of a rule that has a prefix.
@@ -111,29 +112,38 @@ impl TableReader<Rule> for RuleReader {
     }
 }
 
+/// Returns the row of a policy's rules.
+fn rule_row() -> Key
+    ensures { result ≡ rule_row_lem }
+{
+    Key::optional_array("rule", 0, 64, Kind::Table)
+}
+
+/// Returns the keys of a policy.
+pub(crate) fn policy_keys() -> [Key; 2]
+    ensures { result ≡ policy_keys_lem ++ rule_row_lem ∷ [] }
+{
+    [Key::required("name", Kind::Name), rule_row()]
+}
+
 /// Returns the first flaw of the policy at these indices of router and policy.
 fn policy_flaw<'a>(i: usize, j: usize, table: &'a Table) -> Option<Flaw<'a>>
     ensures { result ≡ policy_flaw_lem i j (table_view table.now) }
 {
     let at = TableAt::Policy(i, j);
-    let keys = [Key::required("name", Kind::Name)];
-    if let Some(flaw) = keys_flaw(at, &keys, table) {
+    let rows = policy_keys();
+    let keys = &rows[..];
+    if let Some(flaw) = keys_flaw(at, &keys[..1], table) {
         return Some(flaw);
     }
-    let array = ArrayAt {
-        table: at,
-        needed: false,
-        low: 0,
-        high: 64,
-    };
     let rules = RuleTables {
         router: i,
         policy: j,
     };
-    if let Some(flaw) = tables_flaw(&rules, array, "rule", table) {
+    if let Some(flaw) = tables_flaw(&rules, at, &rule_row(), table) {
         return Some(flaw);
     }
-    stray_flaw(at, &keys, &["rule"], table)
+    stray_flaw(at, keys, table)
 }
 
 /// Returns the policy that a table stands for.

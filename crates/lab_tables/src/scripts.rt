@@ -12,11 +12,12 @@ ghost use Rattle.lab_tables.specs.Scripts.{is_word, is_settle_word, is_evacuate,
 ghost use Rattle.lab_tables.specs.Scripts.{group_from, is_crowded as is_crowded_lem, least_flaw as least_flaw_lem};
 ghost use Rattle.lab_tables.specs.Scripts.{worded_flaw as worded_flaw_lem, grouped_flaw as grouped_flaw_lem, step_flaw as step_flaw_lem};
 
-use crate::numbers::{ANY_NUMBER, AS_NUMBER, MOST_OCTETS, MOST_PREFIXES};
+use crate::step_keys::{
+    announce_keys, do_key, evacuate_keys, graft_keys, raw_keys, settle_keys, withdraw_keys,
+};
 use crate::words::word_at;
 use lab_keys::{
-    Flaw, Key, Kind, Spot, StepWord, TableAt, beyond, flaw_if, keys_flaw, number_or, stray_flaw,
-    value_at,
+    Flaw, Key, Spot, StepWord, TableAt, beyond, flaw_if, keys_flaw, number_or, stray_flaw, value_at,
 };
 use toml::{Table, Value};
 
@@ -62,13 +63,6 @@ fn is_crowded(before: bool, whole: bool, word: StepWord) -> bool
     }
 }
 
-/// Returns the key of a step's word.
-fn do_key() -> Key
-    ensures { result ∷ [] ≡ do_keys }
-{
-    Key::required("do", Kind::StepWord)
-}
-
 /// Returns the first flaw of the keys of a step after its word, which is the first key, or of an unknown key.
 fn rows_flaw<'a>(at: TableAt, keys: &[Key], table: &'a Table) -> Option<Flaw<'a>>
     requires { 0 < length keys.now }
@@ -78,61 +72,31 @@ fn rows_flaw<'a>(at: TableAt, keys: &[Key], table: &'a Table) -> Option<Flaw<'a>
     if let Some(flaw) = keys_flaw(at, &keys[1..], table) {
         return Some(flaw);
     }
-    stray_flaw(at, keys, &[], table)
+    stray_flaw(at, keys, table)
 }
 
 fn announce_flaw<'a>(i: usize, table: &'a Table) -> Option<Flaw<'a>>
     ensures { result ≡ worded_flaw_lem words.Announces i (table_view table.now) }
 {
-    let keys = [
-        do_key(),
-        Key::required("peering", Kind::Name),
-        Key::required_array("prefixes", 1, MOST_PREFIXES, Kind::Prefix),
-        Key::optional_array("path", 0, 64, AS_NUMBER),
-        Key::optional("origin", Kind::Origin),
-        Key::optional("med", ANY_NUMBER),
-        Key::optional("next_hop", Kind::Host),
-    ];
-    rows_flaw(TableAt::Step(i), &keys, table)
+    rows_flaw(TableAt::Step(i), &announce_keys(), table)
 }
 
 fn withdraw_flaw<'a>(i: usize, table: &'a Table) -> Option<Flaw<'a>>
     ensures { result ≡ worded_flaw_lem words.Withdraws i (table_view table.now) }
 {
-    let keys = [
-        do_key(),
-        Key::required("peering", Kind::Name),
-        Key::required_array("prefixes", 1, MOST_PREFIXES, Kind::Prefix),
-    ];
-    rows_flaw(TableAt::Step(i), &keys, table)
+    rows_flaw(TableAt::Step(i), &withdraw_keys(), table)
 }
 
 fn raw_flaw<'a>(i: usize, table: &'a Table) -> Option<Flaw<'a>>
     ensures { result ≡ worded_flaw_lem words.SaysRaw i (table_view table.now) }
 {
-    let keys = [
-        do_key(),
-        Key::required("peering", Kind::Name),
-        Key::required(
-            "hex",
-            Kind::Hex {
-                low: 1,
-                high: MOST_OCTETS,
-            },
-        ),
-    ];
-    rows_flaw(TableAt::Step(i), &keys, table)
+    rows_flaw(TableAt::Step(i), &raw_keys(), table)
 }
 
 fn graft_flaw<'a>(i: usize, table: &'a Table) -> Option<Flaw<'a>>
     ensures { result ≡ worded_flaw_lem words.Grafts i (table_view table.now) }
 {
-    let keys = [
-        do_key(),
-        Key::required("peering", Kind::Name),
-        Key::required("to", Kind::Name),
-    ];
-    rows_flaw(TableAt::Step(i), &keys, table)
+    rows_flaw(TableAt::Step(i), &graft_keys(), table)
 }
 
 /// Returns the flaw of a least number of rounds above the greatest one.
@@ -151,17 +115,7 @@ fn settle_flaw<'a>(i: usize, table: &'a Table) -> Option<Flaw<'a>>
     ensures { result ≡ worded_flaw_lem words.Settles i (table_view table.now) }
 {
     let at = TableAt::Step(i);
-    let rows = [
-        do_key(),
-        Key::optional(
-            "rounds",
-            Kind::Number {
-                low: 1,
-                high: 16384,
-            },
-        ),
-        Key::optional("least", Kind::Number { low: 0, high: 1024 }),
-    ];
+    let rows = settle_keys();
     let keys = &rows[..];
     if let Some(flaw) = keys_flaw(at, &keys[1..], table) {
         return Some(flaw);
@@ -169,14 +123,13 @@ fn settle_flaw<'a>(i: usize, table: &'a Table) -> Option<Flaw<'a>>
     if let Some(flaw) = least_flaw(i, table) {
         return Some(flaw);
     }
-    stray_flaw(at, keys, &[], table)
+    stray_flaw(at, keys, table)
 }
 
 fn evacuate_flaw<'a>(i: usize, table: &'a Table) -> Option<Flaw<'a>>
     ensures { result ≡ worded_flaw_lem words.Evacuates i (table_view table.now) }
 {
-    let keys = [do_key(), Key::required("router", Kind::Name)];
-    rows_flaw(TableAt::Step(i), &keys, table)
+    rows_flaw(TableAt::Step(i), &evacuate_keys(), table)
 }
 
 /// Returns the first flaw of a step after its word.
@@ -275,4 +228,3 @@ ghost use Rattle.std.specs.Prelude.{◌<◌, ◌∷◌, ◌||◌, [], None, drop
 ghost use Rattle.std.specs.Option.{option_or};
 ghost use Rattle.lab_keys.specs.Keys.{stray_flaw as stray_flaw_lem, names_of};
 ghost use Rattle.lab_keys.specs.declared.words.StepWord.TheVariants as words;
-ghost use Rattle.lab_tables.specs.Scripts.{do_keys};

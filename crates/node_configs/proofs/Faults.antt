@@ -19,6 +19,7 @@ use Rattle.lab_tables.specs.Meanings.{way_at, fault_kind_at}
 use Rattle.lab_tables.specs.Routers.{router_flaw}
 use Rattle.lab_tables.specs.Peerings.{cost_flaw, peering_flaw, fault_keys, is_lost, after_keys, strays_out, fault_flaw, fault_of}
 use Rattle.lab_tables.specs.Scripts.{step_flaw}
+use Rattle.lab_tables.specs.Expects.{most_graft, expect_flaw}
 use Rattle.lab_tables.specs.Documents.{home_keys, trace_keys, top_names, shaped, peering_names_of, lab_of}
 use Rattle.lab_input.specs.Labs.{InputOf}
 use Rattle.lab_input.proofs.Ready.{accepted}
@@ -70,6 +71,7 @@ document_soon doc none =
     ∷ faults
     ∷ tables_flaw tables.Top (codes "step") false 0 4096 (step_flaw (items_at (codes "step") doc)) doc
     ∷ keys_flaw tables.Top trace_keys doc
+    ∷ tables_flaw tables.Top (codes "expect") false 0 1024 (expect_flaw (most_graft doc)) doc
     ∷ [] in
     all_mapped (fault_of (peering_names_of doc)) (λ t. after_of t ≤ 6) (λ (fault : Fault). fault.after ≤ 6) (λ t soon. soon) (tables_at (codes "fault") doc)
     (tables_all tables.Top doc (codes "fault") false 0 1024 fault_flaw (λ t. after_of t ≤ 6) fault_soon (none_of flaws 5 faults none refl))

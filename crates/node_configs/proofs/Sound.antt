@@ -23,6 +23,7 @@ use Rattle.lab_tables.specs.Routers.{router_flaw}
 use Rattle.lab_tables.specs.Peerings.{cost_flaw, peering_flaw, fault_flaw}
 use Rattle.lab_tables.specs.Meanings.{word_at}
 use Rattle.lab_tables.specs.Scripts.{settle_keys, do_keys, is_crowded, least_flaw, worded_flaw, grouped_flaw, step_flaw, worded_step, step_of}
+use Rattle.lab_tables.specs.Expects.{most_graft, expect_flaw}
 use Rattle.lab_tables.specs.Documents.{home_keys, trace_keys, top_names, shaped, router_names_of, peerings_of, lab_of}
 use Rattle.lab_input.specs.Labs.{InputOf}
 use Rattle.lab_input.proofs.Ready.{accepted}
@@ -133,6 +134,7 @@ document_sound doc none =
     ∷ tables_flaw tables.Top (codes "fault") false 0 1024 fault_flaw doc
     ∷ steps
     ∷ keys_flaw tables.Top trace_keys doc
+    ∷ tables_flaw tables.Top (codes "expect") false 0 1024 (expect_flaw (most_graft doc)) doc
     ∷ [] in
     let input : LabInput = lab_of doc in
     let usual : ℕ = usual_rounds input in

@@ -45,6 +45,7 @@ worked_input = record {
   faults = [];
   steps = [];
   trace = [];
+  expects = [];
 }
 
 -- Of the three seconds the first has no answer, the second is answered by a KEEPALIVE, and in the third the hold time runs out.

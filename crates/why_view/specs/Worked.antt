@@ -71,6 +71,7 @@ worked_input = record {
   faults = [];
   steps = [];
   trace = [];
+  expects = [];
 }
 
 -- ---- the stories

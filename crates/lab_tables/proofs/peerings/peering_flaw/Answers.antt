@@ -37,5 +37,5 @@ returns c =
     let beats : flaw_if (flag_or false (codes "beats") t && not (may_beat doc t)) (Shape (spot_of at (codes "beats"))) ≡ None = search rules in
     let last : keys_flaw at peering_last t ≡ None = search rules in
     let stray : c.stray_flaw.result ≡ stray_flaw at (names_of (peering_ends ++ peering_rest ++ peering_last)) t =
-    c.stray_flaw.ensures ∙ ap (λ ks. stray_flaw at (names_of ks ++ []) t) c.peering_keys-rows.ensures in
+    c.stray_flaw.ensures ∙ ap (λ ks. stray_flaw at (names_of ks) t) c.peering_keys-rows.ensures in
     stray ∙ sym (last_of_six _ _ _ _ _ (stray_flaw at (names_of (peering_ends ++ peering_rest ++ peering_last)) t) ends own rest beats last)

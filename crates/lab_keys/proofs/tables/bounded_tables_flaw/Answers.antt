@@ -7,7 +7,7 @@ use Rattle.lab_keys.specs.Spots.{KeySpot, spot_of, member_of}
 use Rattle.lab_keys.specs.Kinds.{beyond, each_from, array_flaw, table_flaw}
 use Rattle.lab_keys.specs.Keys.{present}
 use Rattle.lab_keys.proofs.Walks.{array_seen, counted_stops, counted_goes_on}
-use Rattle.lab_keys.proofs.tables.tables_flaw.Goals as goal
+use Rattle.lab_keys.proofs.tables.bounded_tables_flaw.Goals as goal
 
 pub returns-in-Some-beyond : goal.returns-in-Some-beyond
 returns-in-Some-beyond g c =

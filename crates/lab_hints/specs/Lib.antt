@@ -1,0 +1,4 @@
+pub mod Wanted
+pub mod Shapes
+pub mod Later
+pub mod Hints
