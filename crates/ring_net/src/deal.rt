@@ -16,10 +16,8 @@ use std::alloc::Global;
 /// Pairs of indices: in their order, the two cells at each pair change places.
 pub(crate) type Swaps = Vec<(usize, usize)>;
 
-/// How much load each worker has to get at least, for the start of its thread to be worth its time. Load is
-/// the number of entries that actors made in the last round and of items that have come to them since. At 64
-/// a worker's part takes some 100 microseconds, which is about what the start of threads takes: so at 256 the
-/// start is a small part of the time.
+/// How much load each worker has to get at least, for the start of its thread to be worth its time: a
+/// thread is started in each round, and load is that of the last `ROUNDS` rounds.
 const WORTH: u64 = 256;
 
 /// The number of last rounds whose loads say in which order actors are dealt.
