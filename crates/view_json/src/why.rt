@@ -7,7 +7,7 @@ ghost use Rattle.report_json.specs.Values.{count_or_null as count_or_null_lem, l
 ghost use Rattle.view_json.specs.Why.{candidate_json, best_json, rule_json, lost_json, unless_best, import_json, excluded_json};
 ghost use Rattle.view_json.specs.Why.{denied_json, kept_out_json, excluded_route, excluded_of, why_object, why_fields, why_if_there, why_json as why_json_lem};
 
-use bgp_types::{Attrs, NoMemory, Octets, PeeringId, Prefix, Rank, Route, RouterId};
+use bgp_types::{NoMemory, Octets, PeeringId, Prefix, Rank, Route, RouterId, SharedAttrs};
 use decision_core::best;
 use lab_report::{Lab, peering_name, router_name};
 use lab_tables::{LabInput, RouterInput};
@@ -165,7 +165,7 @@ fn excluded_value(
     input: &LabInput,
     by: &str,
     session: &SessionEntry,
-    heard: &Attrs,
+    heard: &SharedAttrs,
     policy: Value,
     rule: Value,
 ) -> Result<Value, NoMemory>
@@ -188,7 +188,7 @@ fn denied_value(
     input: &LabInput,
     prefix: Prefix,
     session: &SessionEntry,
-    heard: &Attrs,
+    heard: &SharedAttrs,
 ) -> Result<Value, NoMemory>
     ensures { IfOk result (λ v. view v ≡ denied_json input.now prefix session.now heard.now) }
 {
@@ -203,7 +203,7 @@ fn kept_out(
     input: &LabInput,
     prefix: Prefix,
     session: &SessionEntry,
-    heard: &Attrs,
+    heard: &SharedAttrs,
 ) -> Result<Value, NoMemory>
     ensures { IfOk result (λ v. view v ≡ kept_out_json input.now prefix session.now heard.now) }
 {
@@ -221,7 +221,7 @@ fn push_unless_in(
     input: &LabInput,
     prefix: Prefix,
     session: &SessionEntry,
-    heard: &Attrs,
+    heard: &SharedAttrs,
     route: &Option<Route>,
 ) -> Result<(), NoMemory>
     ensures { OnOk result (map view list.new.items
