@@ -16,8 +16,9 @@ use std::alloc::Global;
 /// Pairs of indices: in their order, the two cells at each pair change places.
 pub(crate) type Swaps = Vec<(usize, usize)>;
 
-/// How much load each worker has to get at least, for the start of its thread to be worth its time.
-const WORTH: u64 = 64;
+/// How much load each worker has to get at least, for the start of its thread to be worth its time: a
+/// thread is started in each round, and load is that of the last `ROUNDS` rounds.
+const WORTH: u64 = 256;
 
 /// The number of last rounds whose loads say in which order actors are dealt.
 const ROUNDS: usize = 8;
