@@ -41,6 +41,7 @@ views_run names.Timeline workers = tt
 views_run names.Show workers = tt
 views_run (names.Story name) workers = tt
 views_run (names.Why name prefix) workers = tt
+views_run names.Picture workers = tt
 
 -- a job that runs what it reads
 pub answers_of : (job : Job) (before after : Option (List ℕ)) (answer : Result LabInput BadInput) → ReadsSource job → ReadsInput before after answer
@@ -63,6 +64,7 @@ views_read names.Timeline workers = tt
 views_read names.Show workers = tt
 views_read (names.Story name) workers = tt
 views_read (names.Why name prefix) workers = tt
+views_read names.Picture workers = tt
 
 pub view_told : (view : ViewName) (workers : ℕ) (bytes : List ℕ) (lab : Lab) (text : List ℕ) → ShowsView lab view text
     → Tells (viewing view workers) bytes lab text
@@ -70,6 +72,7 @@ view_told names.Timeline workers bytes lab text shows = shows
 view_told names.Show workers bytes lab text shows = shows
 view_told (names.Story name) workers bytes lab text shows = shows
 view_told (names.Why name prefix) workers bytes lab text shows = shows
+view_told names.Picture workers bytes lab text shows = shows
 
 pub view_shown : (view : ViewName) (workers : ℕ) (bytes : List ℕ) (lab : Lab) (text : List ℕ) → Tells (viewing view workers) bytes lab text
     → ShowsView lab view text
@@ -77,6 +80,7 @@ view_shown names.Timeline workers bytes lab text tells = tells
 view_shown names.Show workers bytes lab text tells = tells
 view_shown (names.Story name) workers bytes lab text tells = tells
 view_shown (names.Why name prefix) workers bytes lab text tells = tells
+view_shown names.Picture workers bytes lab text tells = tells
 
 -- ---- what words ask for
 
@@ -89,6 +93,7 @@ lab_asked words (jobs.Timeline workers) ask lab = inl (inr (inr (names.Timeline,
 lab_asked words (jobs.Show workers) ask lab = inl (inr (inr (names.Show, (workers, ask))))
 lab_asked words (jobs.Story name workers) ask lab = inl (inr (inr (names.Story name, (workers, ask))))
 lab_asked words (jobs.Why name prefix workers) ask lab = inl (inr (inr (names.Why name prefix, (workers, ask))))
+lab_asked words (jobs.Picture workers) ask lab = inl (inr (inr (names.Picture, (workers, ask))))
 lab_asked words _ ask lab = absurd lab
 
 -- the job that words ask for

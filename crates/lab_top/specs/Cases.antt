@@ -145,6 +145,7 @@ Tells (jobs.Timeline workers) bytes lab text = ShowsView lab names.Timeline text
 Tells (jobs.Show workers) bytes lab text = ShowsView lab names.Show text
 Tells (jobs.Story name workers) bytes lab text = ShowsView lab (names.Story name) text
 Tells (jobs.Why name prefix workers) bytes lab text = ShowsView lab (names.Why name prefix) text
+Tells (jobs.Picture workers) bytes lab text = ShowsView lab names.Picture text
 Tells _ bytes lab text = ⊥
 
 -- ---- ends

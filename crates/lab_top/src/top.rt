@@ -59,6 +59,7 @@ fn do_job<R: Threads + Sync + AllocGlobal, S: Source, K: Sink, G: Gate>(
             workers,
             gate,
         ),
+        Job::Picture { workers } => { view_job(rt, source, sink, ViewName::Picture, workers, gate) }
         Job::Help => Ok(end_with(sink, USAGE_TEXT.as_bytes(), DONE, None)),
         Job::Version => Ok(end_with(sink, VERSION_TEXT.as_bytes(), DONE, None)),
     }
@@ -103,8 +104,8 @@ fn finish_of<R: Threads + Sync + AllocGlobal, S: Source, K: Sink, G: Gate>(
 
 /// Does what the words of a command ask for. `run` reads an input from the source to its end, runs it and
 /// writes the report to the sink; each actor's turn passes the gate first. `journal` writes the input and the
-/// journal of its run in place of a report, `timeline`, `show`, `story` and `why` write a view of it. `check` reads an input and
-/// writes whether it is one. `make` writes the laboratory of a seed; `drill` runs it and writes the summary. `--help`
+/// journal of its run in place of a report, `timeline`, `show`, `story`, `why` and `picture` write a view of it. `check` reads an
+/// input and writes whether it is one. `make` writes the laboratory of a seed; `drill` runs it and writes the summary. `--help`
 /// writes the usage, and `--version` the version. Other words are refused with the usage.
 pub fn graft_main<R, S, K, G>(
     rt: &R,
@@ -170,7 +171,8 @@ where
 
     // Its text is written whole, under the status of its end, or a write failed and a front of it stands: a report,
     // which ends with where packets go to the addresses of the input, a summary, the input with the journal behind it, or
-    // a view: a timeline, all that there is at its end, the story of a peering's session, or why a router has its route to a prefix.
+    // a view: a timeline, all that there is at its end, the story of a peering's session, why a router has its route to a prefix,
+    // or a picture.
     ensures reported { IfSome result.lab
         (λ lab. AskToRun words.now → WritesReport lab (K.faults sink.old) (K.faults sink.new) (K.written sink.old) (K.written sink.new) result.status) }
     ensures summed { IfSome result.lab (λ lab. ((seed : ℕ) × AskToDrill words.now seed) → WritesText (summary_text lab)
