@@ -12,8 +12,8 @@ use Rattle.lab_report.specs.declared.lab.Lab.{Lab}
 use Rattle.lab_top.specs.declared.views.ViewName.{ViewName}
 use Rattle.lab_top.specs.declared.views.ViewName.TheVariants as names
 use Rattle.lab_top.specs.Views.{ShowsView, viewing}
-use Rattle.lab_top.specs.Ends.{AreRefused, RunsSource, AskForLab, AskToMake, AskForLine, AskUnread, ReadsInput}
-use Rattle.lab_top.specs.Cases.{TookWhole, ReadsSource, RunsLab, plain_text, Gives, Answers, Tells}
+use Rattle.lab_top.specs.Ends.{AreRefused, RunsSource, AskForLab, AskToMake, AskForLine, AskUnread, ReadsInput, end_status}
+use Rattle.lab_top.specs.Cases.{TookWhole, ReadsSource, RunsLab, plain_text, Gives, Answers, Tells, job_status}
 
 -- what holds of the job that is asked for holds of a job that the same words ask for
 pub of_asked : (P : Job → Type 0) (words : List (List ℕ)) (job asked : Job) → Asks words job → Asks words asked → P job → P asked
@@ -82,6 +82,14 @@ view_shown (names.Story name) workers bytes lab text tells = tells
 view_shown (names.Why name prefix) workers bytes lab text tells = tells
 view_shown names.Picture workers bytes lab text tells = tells
 
+-- a view is written under the status of its run
+pub view_status : (view : ViewName) (workers : ℕ) (lab : Lab) → job_status (viewing view workers) lab ≡ end_status lab.end
+view_status names.Timeline workers lab = refl
+view_status names.Show workers lab = refl
+view_status (names.Story name) workers lab = refl
+view_status (names.Why name prefix) workers lab = refl
+view_status names.Picture workers lab = refl
+
 -- ---- what words ask for
 
 -- they ask for a run where their job runs a laboratory
@@ -89,11 +97,12 @@ pub lab_asked : (words : List (List ℕ)) (job : Job) → Asks words job → Run
 lab_asked words (jobs.Run workers) ask lab = inl (inl (workers, ask))
 lab_asked words (jobs.Drill seed workers) ask lab = inr (seed, (workers, ask))
 lab_asked words (jobs.Journal workers) ask lab = inl (inr (inl (workers, ask)))
-lab_asked words (jobs.Timeline workers) ask lab = inl (inr (inr (names.Timeline, (workers, ask))))
-lab_asked words (jobs.Show workers) ask lab = inl (inr (inr (names.Show, (workers, ask))))
-lab_asked words (jobs.Story name workers) ask lab = inl (inr (inr (names.Story name, (workers, ask))))
-lab_asked words (jobs.Why name prefix workers) ask lab = inl (inr (inr (names.Why name prefix, (workers, ask))))
-lab_asked words (jobs.Picture workers) ask lab = inl (inr (inr (names.Picture, (workers, ask))))
+lab_asked words (jobs.Timeline workers) ask lab = inl (inr (inr (inr (names.Timeline, (workers, ask)))))
+lab_asked words (jobs.Show workers) ask lab = inl (inr (inr (inr (names.Show, (workers, ask)))))
+lab_asked words (jobs.Story name workers) ask lab = inl (inr (inr (inr (names.Story name, (workers, ask)))))
+lab_asked words (jobs.Why name prefix workers) ask lab = inl (inr (inr (inr (names.Why name prefix, (workers, ask)))))
+lab_asked words (jobs.Picture workers) ask lab = inl (inr (inr (inr (names.Picture, (workers, ask)))))
+lab_asked words (jobs.Test workers) ask lab = inl (inr (inr (inl (workers, ask))))
 lab_asked words _ ask lab = absurd lab
 
 -- the job that words ask for
@@ -106,7 +115,8 @@ Both job = RunsLab job × ReadsSource job
 source_job : (words : List (List ℕ)) → RunsSource words → Asked words Both
 source_job words (inl run) = (jobs.Run run.0, run.1, (tt, tt))
 source_job words (inr (inl journal)) = (jobs.Journal journal.0, journal.1, (tt, tt))
-source_job words (inr (inr view)) = (viewing view.0 view.1.0, view.1.1, (views_run view.0 view.1.0, views_read view.0 view.1.0))
+source_job words (inr (inr (inl test))) = (jobs.Test test.0, test.1, (tt, tt))
+source_job words (inr (inr (inr view))) = (viewing view.0 view.1.0, view.1.1, (views_run view.0 view.1.0, views_read view.0 view.1.0))
 
 lab_job : (words : List (List ℕ)) → AskForLab words → Asked words RunsLab
 lab_job words (inl source) = let job = source_job words source in (job.0, job.1, job.2.0)

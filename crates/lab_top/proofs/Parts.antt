@@ -17,12 +17,12 @@ use Rattle.lab_report.specs.declared.lab.Lab.{Lab}
 use Rattle.lab_top.specs.Built.{is_built}
 use Rattle.lab_top.specs.declared.views.ViewName.{ViewName}
 use Rattle.lab_top.specs.Views.{view_named, viewing}
-use Rattle.lab_top.specs.Ends.{AreRefused, ReadsInput, WritesText, end_status, not_built_text, verdict_text}
+use Rattle.lab_top.specs.Ends.{AreRefused, ReadsInput, WritesText, not_built_text, verdict_text}
 use Rattle.lab_top.specs.declared.finish.Finish.{Finish}
 use Rattle.lab_top.specs.declared.finish.InputStop.{InputStop}
 use Rattle.lab_top.specs.declared.finish.InputStop.TheVariants as stops
 use Rattle.lab_top.specs.Cases.{Outside, TookWhole, GivesNoInput, AnswersOrStops, WritesOr, FailsUnread, FindsNone, BuiltOr, EndsRun, EndsUnbuilt, StopsFor}
-use Rattle.lab_top.specs.Cases.{ReadsSource, RunsLab, plain_text, Gives, Answers, Tells, Cause, tells, checks, refuses, misses, runs}
+use Rattle.lab_top.specs.Cases.{ReadsSource, RunsLab, plain_text, Gives, Answers, Tells, job_status, Cause, tells, checks, refuses, misses, runs}
 use Rattle.lab_top.specs.Cases.{Did, wrote, unread, DidOr, Ended, refused, did, EndsOr}
 use Rattle.lab_top.proofs.Asking.{answers_of, gives_of}
 
@@ -125,20 +125,21 @@ pub unbuilt_ends : (job : Job) (o n : Outside) (input : LabInput) (finish : Fini
     → is_built input ≡ false → EndsUnbuilt o.write_faults n.write_faults o.written n.written finish → Did job o n finish.status finish.lab
 unbuilt_ends job o n input finish lab answers built end = wrote not_built_text 2 (refuses (Ok input) lab answers (built, refl) refl end.0) end.1
 
-pub run_ends : (job : Job) (o n : Outside) (bytes : List ℕ) (input : LabInput) (lab : Lab) (text : List ℕ) (finish : Finish) → RunsLab job
-    → Gives job o.left n.left bytes → InputOf bytes input → BuiltOr input (Ok (Some lab)) → Tells job bytes lab text
-    → EndsRun text lab o.write_faults n.write_faults o.written n.written finish → Did job o n finish.status finish.lab
-run_ends job o n bytes input lab text finish runs_lab gives is built told end =
+pub run_ends : (job : Job) (o n : Outside) (bytes : List ℕ) (input : LabInput) (lab : Lab) (text : List ℕ) (planned : ℕ) (finish : Finish) → RunsLab job
+    → Gives job o.left n.left bytes → InputOf bytes input → BuiltOr input (Ok (Some lab)) → Tells job bytes lab text → planned ≡ job_status job lab
+    → EndsRun text planned lab o.write_faults n.write_faults o.written n.written finish → Did job o n finish.status finish.lab
+run_ends job o n bytes input lab text planned finish runs_lab gives is built told under end =
     let its : InputOf bytes lab.input = rw built.0 is in
-    wrote text (end_status lab.end) (runs bytes lab runs_lab gives its told built.1 refl end.0) end.1
+    wrote text planned (runs bytes lab runs_lab gives its told built.1 under end.0) end.1
 
 -- a run of an input that was read
-pub read_ends : (job : Job) (o n : Outside) (input : LabInput) (lab : Lab) (text : List ℕ) (finish : Finish) → RunsLab job → ReadsSource job
-    → ReadsInput o.left n.left (Ok input) → BuiltOr input (Ok (Some lab)) → ((bytes : List ℕ) → Tells job bytes lab text)
-    → EndsRun text lab o.write_faults n.write_faults o.written n.written finish → Did job o n finish.status finish.lab
-read_ends job o n input lab text finish runs_lab reads read built told end =
-    run_ends job o n read.bytes input lab text finish runs_lab (gives_of job o.left n.left read.bytes reads (whole o.left n.left input read)) read.is built
-    (told read.bytes) end
+pub read_ends : (job : Job) (o n : Outside) (input : LabInput) (lab : Lab) (text : List ℕ) (planned : ℕ) (finish : Finish) → RunsLab job
+    → ReadsSource job → ReadsInput o.left n.left (Ok input) → BuiltOr input (Ok (Some lab)) → ((bytes : List ℕ) → Tells job bytes lab text)
+    → planned ≡ job_status job lab → EndsRun text planned lab o.write_faults n.write_faults o.written n.written finish
+    → Did job o n finish.status finish.lab
+read_ends job o n input lab text planned finish runs_lab reads read built told under end =
+    let gives = gives_of job o.left n.left read.bytes reads (whole o.left n.left input read) in
+    run_ends job o n read.bytes input lab text planned finish runs_lab gives read.is built (told read.bytes) under end
 
 -- ---- runs of the laboratory of a seed
 

@@ -13,6 +13,7 @@ use Rattle.lab_make.specs.Made.{made}
 use Rattle.lab_report.specs.BadText.{bad_line}
 use Rattle.lab_report.specs.declared.lab.Lab.{Lab}
 use Rattle.journal_form.specs.Journals.{journal_text}
+use Rattle.expect_view.specs.Expect.{test_text}
 use Rattle.lab_report.specs.Summary.{summary_text}
 use Rattle.lab_report.specs.Traces.{IsReport}
 use Rattle.lab_run.specs.Runs.{RanLab}
@@ -23,7 +24,7 @@ use Rattle.lab_top.specs.Built.{is_built}
 use Rattle.lab_top.specs.declared.views.ViewName.{ViewName}
 use Rattle.lab_top.specs.declared.views.ViewName.TheVariants as names
 use Rattle.lab_top.specs.Views.{view_named, ShowsView, viewing}
-use Rattle.lab_top.specs.Ends.{AreRefused, ReadsInput, SaysWhy, WritesText, end_status, not_built_text, verdict_text, verdict_status}
+use Rattle.lab_top.specs.Ends.{AreRefused, ReadsInput, SaysWhy, WritesText, end_status, tested_status, not_built_text, verdict_text, verdict_status}
 
 -- what the source and the sink tell
 pub record Outside : Type 0 where
@@ -85,10 +86,10 @@ BuiltOr input (Ok None) = is_built input ≡ false
 BuiltOr input (Ok (Some lab)) = (lab.input ≡ input) × RanLab lab
 BuiltOr input (Err _) = Unit {0}
 
--- A text of a run is written under the status of its end.
-abbrev pub EndsRun : (text : List ℕ) → Lab → (faults_before faults_after : ℕ) → (before after : Option (List ℕ)) → Finish → Type 0
-EndsRun text lab faults_before faults_after before after finish =
-    (finish.lab ≡ Some lab) × WritesText text (end_status lab.end) faults_before faults_after before after finish.status
+-- A text of a run is written under a status.
+abbrev pub EndsRun : (text : List ℕ) → (planned : ℕ) → Lab → (faults_before faults_after : ℕ) → (before after : Option (List ℕ)) → Finish → Type 0
+EndsRun text planned lab faults_before faults_after before after finish =
+    (finish.lab ≡ Some lab) × WritesText text planned faults_before faults_after before after finish.status
 
 -- What can't be run yet is refused.
 abbrev pub EndsUnbuilt : (faults_before faults_after : ℕ) → (before after : Option (List ℕ)) → Finish → Type 0
@@ -136,7 +137,7 @@ abbrev pub Answers : Job → (before after : Option (List ℕ)) → Result LabIn
 Answers (jobs.Drill seed workers) before after answer = input_of (made seed) ≡ answer
 Answers _ before after answer = ReadsInput before after answer
 
--- What is written of a run: its report, its summary, its input and its journal, or a view.
+-- What is written of a run: its report, its summary, its input and its journal, a view, or which of its expectations hold.
 abbrev pub Tells : Job → (bytes : List ℕ) → Lab → (text : List ℕ) → Type 0
 Tells (jobs.Run workers) bytes lab text = IsReport lab text
 Tells (jobs.Drill seed workers) bytes lab text = text ≡ summary_text lab
@@ -146,7 +147,13 @@ Tells (jobs.Show workers) bytes lab text = ShowsView lab names.Show text
 Tells (jobs.Story name workers) bytes lab text = ShowsView lab (names.Story name) text
 Tells (jobs.Why name prefix workers) bytes lab text = ShowsView lab (names.Why name prefix) text
 Tells (jobs.Picture workers) bytes lab text = ShowsView lab names.Picture text
+Tells (jobs.Test workers) bytes lab text = text ≡ test_text lab
 Tells _ bytes lab text = ⊥
+
+-- the status under which that is written
+abbrev pub job_status : Job → Lab → ℕ
+job_status (jobs.Test workers) lab = tested_status lab
+job_status _ lab = end_status lab.end
 
 -- ---- ends
 
@@ -160,7 +167,7 @@ pub data Cause (job : Job) (left_before left_after : Option (List ℕ)) (text : 
   misses : (input : LabInput) (view : ViewName) (workers : ℕ) (name : List ℕ) → job ≡ viewing view workers → ReadsInput left_before left_after (Ok input)
       → view_named input view ≡ Err name → text ≡ bad_line (Unknown name) → planned ≡ 2 → lab ≡ None → Cause job left_before left_after text planned lab
   runs : (bytes : List ℕ) (end : Lab) → RunsLab job → Gives job left_before left_after bytes → InputOf bytes end.input → Tells job bytes end text
-      → RanLab end → planned ≡ end_status end.end → lab ≡ Some end → Cause job left_before left_after text planned lab
+      → RanLab end → planned ≡ job_status job end → lab ≡ Some end → Cause job left_before left_after text planned lab
 
 -- A text of a job was written, whole or in part; or a read failed.
 pub data Did (job : Job) (before after : Outside) (status : ℕ) (lab : Option Lab) : Type 0 where

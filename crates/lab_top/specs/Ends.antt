@@ -7,7 +7,7 @@ use Rattle.lab_input.specs.declared.bad.BadInput.TheVariants.{Unknown}
 use Rattle.lab_top.specs.Built.{is_built}
 use Rattle.lab_input.specs.Labs.{input_of, InputOf, too_long}
 use Rattle.lab_words.specs.declared.job.Job.{Job}
-use Rattle.lab_words.specs.declared.job.Job.TheVariants.{Run, Make, Drill, Journal, Help, Version}
+use Rattle.lab_words.specs.declared.job.Job.TheVariants.{Run, Make, Drill, Journal, Test, Help, Version}
 use Rattle.lab_words.specs.Asked.{usage_text, version_text, Asks}
 use Rattle.lab_make.specs.Made.{made}
 use Rattle.lab_report.specs.declared.lab.Lab.{Lab}
@@ -19,6 +19,7 @@ use Rattle.lab_setup.specs.Setups.{setup_of}
 use Rattle.even_inputs.specs.Evenness.{is_even}
 use Rattle.sure_inputs.specs.Sure.{is_sure}
 use Rattle.journal_form.specs.Journals.{journal_text}
+use Rattle.expect_view.specs.Expect.{all_hold, test_status}
 use Rattle.lab_report.specs.Traces.{IsReport}
 use Rattle.lab_top.specs.declared.views.ViewName.{ViewName}
 use Rattle.lab_top.specs.Views.{view_named, ShowsView, viewing}
@@ -37,13 +38,17 @@ AskToRun words = (workers : ℕ) × Asks words (Run workers)
 abbrev pub AskForJournal : List (List ℕ) → Type 0
 AskForJournal words = (workers : ℕ) × Asks words (Journal workers)
 
+-- They ask which of its expectations hold.
+abbrev pub AskToTest : List (List ℕ) → Type 0
+AskToTest words = (workers : ℕ) × Asks words (Test workers)
+
 -- They ask for a view of it.
 abbrev pub AskToView : List (List ℕ) → ViewName → Type 0
 AskToView words name = (workers : ℕ) × Asks words (viewing name workers)
 
 -- They ask for a run of what the source has.
 abbrev pub RunsSource : List (List ℕ) → Type 0
-RunsSource words = AskToRun words ⊎ AskForJournal words ⊎ ((name : ViewName) × AskToView words name)
+RunsSource words = AskToRun words ⊎ AskForJournal words ⊎ AskToTest words ⊎ ((name : ViewName) × AskToView words name)
 
 -- They ask for a run of the laboratory of this seed.
 abbrev pub AskToDrill : List (List ℕ) → ℕ → Type 0
@@ -113,9 +118,11 @@ GaveBadInput words before after text =
 
 -- ---- the sink
 
--- 0 all was done, 1 refused words, 2 refused input, 3 a run that didn't settle, 4 a read failed, 5 a write failed, 6 no memory, 7 a run that met a limit
+-- 0 all was done, 1 refused words, 2 refused input, 3 a run that didn't settle, 4 a read failed, 5 a write failed, 6 no memory, 7 a run that met a limit,
+-- 9 a settled run of which an expectation doesn't hold
 abbrev pub IsStatus : ℕ → Type 0
-IsStatus status = (status ≡ 0) ⊎ (status ≡ 1) ⊎ (status ≡ 2) ⊎ (status ≡ 3) ⊎ (status ≡ 4) ⊎ (status ≡ 5) ⊎ (status ≡ 6) ⊎ (status ≡ 7)
+IsStatus status =
+    (status ≡ 0) ⊎ (status ≡ 1) ⊎ (status ≡ 2) ⊎ (status ≡ 3) ⊎ (status ≡ 4) ⊎ (status ≡ 5) ⊎ (status ≡ 6) ⊎ (status ≡ 7) ⊎ (status ≡ 9)
 
 -- the status under which the report of a run is written
 abbrev pub end_status : RunEnd → ℕ
@@ -123,6 +130,14 @@ end_status Settled = 0
 end_status (Unsettled step rounds pending) = 3
 end_status (StreamFull peering length) = 7
 end_status (JournalFull events) = 7
+
+-- the status under which it is written which expectations of a run hold
+abbrev pub tested_status : Lab → ℕ
+tested_status lab = test_status (end_status lab.end) lab.end (all_hold lab)
+
+-- The run is settled, and an expectation doesn't hold.
+abbrev pub HasFailed : Lab → Type 0
+HasFailed lab = (lab.end ≡ Settled) × (all_hold lab ≡ false)
 
 -- A text was appended whole under its status; or a write failed, which is status 5, and a front of the text was.
 abbrev pub WritesText : (text : List ℕ) → (planned : ℕ) → (faults_before faults_after : ℕ) → (before after : Option (List ℕ)) → (status : ℕ) → Type 0

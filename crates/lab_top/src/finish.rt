@@ -7,7 +7,7 @@ use graft_edge::{Sink, write_all};
 use lab_input::BadInput;
 use lab_report::Lab;
 
-/// The statuses of the program.
+/// The statuses of the program, but for the one of a test that failed, which is 9 (`test_status` of `expect_view`).
 pub const DONE: u8 = 0;
 
 pub const USAGE: u8 = 1;

@@ -1,9 +1,10 @@
 //! What each job does.
 
 ghost use Rattle.std.specs.Prelude.{◌≡◌, ◌⊎◌, ◌≤◌, ◌<◌, ℕ, List, Option, Ok, IfOk};
-ghost use Rattle.lab_words.specs.declared.job.Job.TheVariants.{Run, Check, Make, Drill, Journal};
+ghost use Rattle.lab_words.specs.declared.job.Job.TheVariants.{Run, Check, Make, Drill, Journal, Test};
 ghost use Rattle.lab_input.specs.Labs.{input_of, too_long as too_long_bad};
 ghost use Rattle.node_configs.specs.Accepted.{IsAccepted};
+ghost use Rattle.expect_view.specs.Expect.{test_status as test_status_lem};
 ghost use Rattle.lab_top.specs.Ends.{end_status, verdict_text};
 ghost use Rattle.lab_top.specs.Views.{viewing};
 ghost use Rattle.lab_top.specs.Cases.{outside, BytesOrStops, ReadsOrStops, AnswersOrStops, BuiltOr, EndsRun, EndsUnbuilt, StopsFor, DidOr};
@@ -13,6 +14,7 @@ use crate::finish::{
     BAD_INPUT, DONE, Finish, InputStop, LIMIT, READ_FAILED, UNSETTLED, end_with, without_run,
 };
 use crate::views::{ViewName, view_named, view_text};
+use expect_view::{test_status, tested};
 use graft_edge::{Gate, NoMemory, Octets, ReadStop, Sink, Source, read_all};
 use journal_form::journal_text;
 use lab_answers::{even, sure};
@@ -95,9 +97,18 @@ fn status_of(end: RunEnd) -> u8
 
 /// Writes a text of a run under the status of its end.
 fn end_run<K: Sink>(sink: &mut K, text: &[u8], lab: Lab) -> Finish
-    ensures { EndsRun text.now lab (K.faults sink.old) (K.faults sink.new) (K.written sink.old) (K.written sink.new) result }
+    ensures { EndsRun text.now (end_status lab.end) lab (K.faults sink.old) (K.faults sink.new) (K.written sink.old) (K.written sink.new) result }
 {
     let status = status_of(lab.end);
+    end_with(sink, text, status, Some(lab))
+}
+
+/// Writes which expectations of a run hold, under the status that it has where all of them hold or one doesn't.
+fn end_test<K: Sink>(sink: &mut K, text: &[u8], all_hold: bool, lab: Lab) -> Finish
+    ensures { EndsRun text.now (test_status_lem (end_status lab.end) lab.end all_hold) lab (K.faults sink.old) (K.faults sink.new)
+        (K.written sink.old) (K.written sink.new) result }
+{
+    let status = test_status(status_of(lab.end), lab.end, all_hold);
     end_with(sink, text, status, Some(lab))
 }
 
@@ -208,6 +219,32 @@ pub(crate) fn view_job<R: Threads + Sync + AllocGlobal, S: Source, K: Sink, G: G
         Some(lab) => {
             let text = view_text(alloc, &lab, view)?;
             Ok(end_run(sink, &text, lab))
+        }
+        None => Ok(end_unbuilt(sink)),
+    }
+}
+
+/// Reads an input from the source, runs it and writes which of its expectations hold.
+pub(crate) fn test_job<R: Threads + Sync + AllocGlobal, S: Source, K: Sink, G: Gate>(
+    rt: &R,
+    source: &mut S,
+    sink: &mut K,
+    workers: usize,
+    gate: &G,
+) -> Result<Finish, NoMemory>
+    requires workers { (1 ≤ workers) × (workers ≤ 8) }
+    ensures { DidOr (Test workers) (outside (S.left source.old) (S.faults source.old) (K.written sink.old)
+        (K.faults sink.old)) (outside (S.left source.new) (S.faults source.new) (K.written sink.new) (K.faults sink.new)) result }
+{
+    let alloc = rt.alloc();
+    let input = match read_source(alloc, source) {
+        Ok(input) => input,
+        Err(stop) => return end_stopped(alloc, sink, stop),
+    };
+    match run_built(rt, input, workers, gate)? {
+        Some(lab) => {
+            let told = tested(alloc, &lab)?;
+            Ok(end_test(sink, told.text.as_bytes(), told.all_hold, lab))
         }
         None => Ok(end_unbuilt(sink)),
     }

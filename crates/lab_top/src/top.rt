@@ -1,6 +1,6 @@
 //! The program's top call.
 
-ghost use Rattle.std.specs.Prelude.{◌≡◌, ◌⊎◌, ℕ, List, None, IsSome, IfSome, OnSome};
+ghost use Rattle.std.specs.Prelude.{◌≡◌, ◌⊎◌, ℕ, List, None, IsSome, IsSomeAnd, IfSome, OnSome};
 ghost use Rattle.graft_edge.specs.Outside.{FaultRose, Appended, AppendedFront};
 ghost use Rattle.lab_words.specs.declared.job.Job.TheVariants.{Check, Make};
 ghost use Rattle.lab_words.specs.Asked.{usage_text, Asks, HasNumbers};
@@ -8,13 +8,15 @@ ghost use Rattle.lab_make.specs.Made.{made};
 ghost use Rattle.lab_input.specs.Labs.{InputOf};
 ghost use Rattle.lab_report.specs.Summary.{summary_text};
 ghost use Rattle.lab_run.specs.Runs.{RanLab};
+ghost use Rattle.expect_view.specs.Expect.{test_text};
 ghost use Rattle.lab_top.specs.declared.views.ViewName.{ViewName};
-ghost use Rattle.lab_top.specs.Ends.{AreRefused, AskToRun, AskForJournal, AskToView, RunsSource, AskToDrill, AskForLab, AskToMake, AskForLine, AskUnread};
-ghost use Rattle.lab_top.specs.Ends.{TookInput, GaveBadInput, IsStatus, WritesText, WritesReport, WritesJournal, WritesView, Checks, end_status};
+ghost use Rattle.lab_top.specs.Ends.{AreRefused, AskToRun, AskForJournal, AskToTest, AskToView, RunsSource, AskToDrill, AskForLab, AskToMake};
+ghost use Rattle.lab_top.specs.Ends.{AskForLine, AskUnread, TookInput, GaveBadInput, IsStatus, WritesText, WritesReport, WritesJournal, WritesView};
+ghost use Rattle.lab_top.specs.Ends.{Checks, end_status, tested_status, HasFailed};
 ghost use Rattle.lab_top.specs.Cases.{outside, ReadsSource, DidOr, EndsOr, Ended};
 
 use crate::finish::{DONE, Finish, NO_MEMORY, USAGE, end_with, without_run};
-use crate::jobs::{check_job, drill_job, journal_job, make_job, run_job, view_job};
+use crate::jobs::{check_job, drill_job, journal_job, make_job, run_job, test_job, view_job};
 use crate::views::ViewName;
 use graft_edge::{Gate, NoMemory, Sink, Source, Words};
 use lab_words::{Job, USAGE_TEXT, VERSION_TEXT, WordStop, read_words};
@@ -60,6 +62,7 @@ fn do_job<R: Threads + Sync + AllocGlobal, S: Source, K: Sink, G: Gate>(
             gate,
         ),
         Job::Picture { workers } => { view_job(rt, source, sink, ViewName::Picture, workers, gate) }
+        Job::Test { workers } => test_job(rt, source, sink, workers, gate),
         Job::Help => Ok(end_with(sink, USAGE_TEXT.as_bytes(), DONE, None)),
         Job::Version => Ok(end_with(sink, VERSION_TEXT.as_bytes(), DONE, None)),
     }
@@ -104,9 +107,10 @@ fn finish_of<R: Threads + Sync + AllocGlobal, S: Source, K: Sink, G: Gate>(
 
 /// Does what the words of a command ask for. `run` reads an input from the source to its end, runs it and
 /// writes the report to the sink; each actor's turn passes the gate first. `journal` writes the input and the
-/// journal of its run in place of a report, `timeline`, `show`, `story`, `why` and `picture` write a view of it. `check` reads an
-/// input and writes whether it is one. `make` writes the laboratory of a seed; `drill` runs it and writes the summary. `--help`
-/// writes the usage, and `--version` the version. Other words are refused with the usage.
+/// journal of its run in place of a report, `show`, `timeline`, `why`, `story` and `picture` write a view of it, and
+/// `test` writes which expectations of the input hold of it. `check` reads an input and writes whether it is one.
+/// `make` writes the laboratory of a seed; `drill` runs it and writes the summary. `--help` writes the usage, and
+/// `--version` the version. Other words are refused with the usage.
 pub fn graft_main<R, S, K, G>(
     rt: &R,
     words: &Words,
@@ -151,12 +155,17 @@ where
     ensures write_failed { result.status ≡ 5 → FaultRose (K.faults sink.old) (K.faults sink.new) }
     ensures nothing_written { (result.status ≡ 4) ⊎ (result.status ≡ 6) → K.written sink.new ≡ K.written sink.old }
 
+    // Status 9 is that of a test, where the run is settled and an expectation doesn't hold.
+    ensures failed { result.status ≡ 9 → AskToTest words.now × IsSomeAnd result.lab HasFailed }
+
     // A run is there only where it was asked for, came to its end and its text was built: it is the run of the
     // bytes that were read, or of the laboratory of the seed.
-    ensures ended { AskForLab words.now → (result.status ≡ 0) ⊎ (result.status ≡ 3) ⊎ (result.status ≡ 7) → IsSome result.lab }
+    ensures ended { AskForLab words.now → (result.status ≡ 0) ⊎ (result.status ≡ 3) ⊎ (result.status ≡ 7) ⊎ (result.status ≡ 9)
+        → IsSome result.lab }
     ensures no_run { AreRefused words.now ⊎ AskToMake words.now ⊎ Asks words.now Check ⊎ ((line : List ℕ) × AskForLine words.now line)
         → result.lab ≡ None }
-    ensures ran { OnSome result.lab (AskForLab words.now × ((result.status ≡ 0) ⊎ (result.status ≡ 3) ⊎ (result.status ≡ 5) ⊎ (result.status ≡ 7))) }
+    ensures ran { OnSome result.lab (AskForLab words.now
+        × ((result.status ≡ 0) ⊎ (result.status ≡ 3) ⊎ (result.status ≡ 5) ⊎ (result.status ≡ 7) ⊎ (result.status ≡ 9))) }
     ensures input { IfSome result.lab (λ lab. RunsSource words.now → TookInput (S.left source.old) (S.left source.new) lab.input) }
     ensures drilled { IfSome result.lab (λ lab. (seed : ℕ) → AskToDrill words.now seed → InputOf (made seed) lab.input) }
 
@@ -170,15 +179,18 @@ where
     ensures headline { IfSome result.lab RanLab }
 
     // Its text is written whole, under the status of its end, or a write failed and a front of it stands: a report,
-    // which ends with where packets go to the addresses of the input, a summary, the input with the journal behind it, or
-    // a view: a timeline, all that there is at its end, the story of a peering's session, why a router has its route to a prefix,
-    // or a picture.
+    // which ends with where packets go to the addresses of the input, a summary, the input with the journal behind it,
+    // or a view: a timeline, all that there is at its end, the story of a peering's session, why a router has its route
+    // to a prefix, or a picture. Of a test it is which expectations of the input hold, and the status is 9 where the run
+    // is settled and one of them doesn't.
     ensures reported { IfSome result.lab
         (λ lab. AskToRun words.now → WritesReport lab (K.faults sink.old) (K.faults sink.new) (K.written sink.old) (K.written sink.new) result.status) }
     ensures summed { IfSome result.lab (λ lab. ((seed : ℕ) × AskToDrill words.now seed) → WritesText (summary_text lab)
         (end_status lab.end) (K.faults sink.old) (K.faults sink.new) (K.written sink.old) (K.written sink.new) result.status) }
     ensures journaled { IfSome result.lab (λ lab. AskForJournal words.now → WritesJournal (S.left source.old)
         (S.left source.new) lab (K.faults sink.old) (K.faults sink.new) (K.written sink.old) (K.written sink.new) result.status) }
+    ensures tested { IfSome result.lab (λ lab. AskToTest words.now
+        → WritesText (test_text lab) (tested_status lab) (K.faults sink.old) (K.faults sink.new) (K.written sink.old) (K.written sink.new) result.status) }
     ensures viewed { IfSome result.lab (λ lab. (name : ViewName) → AskToView words.now name
         → WritesView lab name (K.faults sink.old) (K.faults sink.new) (K.written sink.old) (K.written sink.new) result.status) }
 {

@@ -115,6 +115,9 @@ fn job_named(name: &str, arguments: Arguments) -> Option<Job>
         "picture" => Some(Job::Picture {
             workers: workers_alone(subject, prefix, workers)?,
         }),
+        "test" => Some(Job::Test {
+            workers: workers_alone(subject, prefix, workers)?,
+        }),
         _ => None,
     }
 }

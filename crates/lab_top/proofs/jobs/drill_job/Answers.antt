@@ -17,7 +17,7 @@ returns-in-Some g c left faults =
     let made = c.deref.ensures ∙ c.in_ok-bytes.ensures in
     let told = c.as_bytes.ensures.value ∙ c.in_ok-text-in-Some.ensures in
     run_ends (Drill c.args.seed c.args.workers) _ _ c.deref.result.now c.in-Ok.input c.in-Some.lab
-    c.as_bytes.result.now c.end_run.result tt made c.in-Ok.ensures built told c.end_run.ensures
+    c.as_bytes.result.now _ c.end_run.result tt made c.in-Ok.ensures built told refl c.end_run.ensures
 
 pub returns : goal.returns
 returns g c left faults =

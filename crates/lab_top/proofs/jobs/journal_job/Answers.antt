@@ -26,8 +26,8 @@ returns-in-Some g c =
     let built = subst (λ found. BuiltOr c.in-Ok-input_in.input (Ok found)) c.in-Some.is c.in_ok-lab.ensures in
     let told = c.deref-in-Some-2.ensures ∙ c.in_ok-text-in-Some.ensures ∙ ap (λ bytes. journal_text bytes c.as_slice.result.now) c.deref-in-Some.ensures
     ∙ ap (λ journal. journal_text c.in-Ok.bytes journal) c.as_slice.ensures in
-    run_ends (Journal c.args.workers) _ _ c.in-Ok.bytes c.in-Ok-input_in.input c.in-Some.lab c.deref-in-Some-2.result.now
-    c.end_run.result tt c.in-Ok.ensures is built told c.end_run.ensures
+    run_ends (Journal c.args.workers) _ _ c.in-Ok.bytes c.in-Ok-input_in.input c.in-Some.lab c.deref-in-Some-2.result.now _
+    c.end_run.result tt c.in-Ok.ensures is built told refl c.end_run.ensures
 
 pub returns : goal.returns
 returns g c =

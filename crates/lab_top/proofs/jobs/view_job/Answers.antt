@@ -2,7 +2,7 @@ use Rattle.std.proofs.Common.{subst, ap, sym, ◌∙◌}
 use Rattle.std.specs.Prelude.{Ok}
 use Rattle.lab_top.specs.Cases.{BuiltOr}
 use Rattle.lab_top.specs.Views.{view_named, viewing}
-use Rattle.lab_top.proofs.Asking.{answers_of, views_run, views_read, view_told}
+use Rattle.lab_top.proofs.Asking.{answers_of, views_run, views_read, view_told, view_status}
 use Rattle.lab_top.proofs.Parts.{bad_run, stopped_ends, unknown_ends, unbuilt_ends, read_ends}
 use Rattle.lab_top.proofs.jobs.view_job.Goals as goal
 
@@ -26,8 +26,9 @@ returns-in_ok-text-in-Some g c =
     let named = ap (λ input. view_named input c.args.view) built.0 ∙ sym c.in-Ok-view_named.ensures in
     let text = c.deref.result.now in
     let told = c.deref.ensures ∙ c.in_ok-text-in-Some.ensures in
-    read_ends (viewing c.args.view c.args.workers) _ _ c.in-Ok.input c.in-Some.lab text c.end_run.result run read c.in-Ok.ensures built
-    (λ bytes. view_told c.args.view c.args.workers bytes c.in-Some.lab text (c.in-Ok-view_named.view, named, told)) c.end_run.ensures
+    read_ends (viewing c.args.view c.args.workers) _ _ c.in-Ok.input c.in-Some.lab text _ c.end_run.result run read c.in-Ok.ensures built
+    (λ bytes. view_told c.args.view c.args.workers bytes c.in-Some.lab text (c.in-Ok-view_named.view, named, told))
+    (sym (view_status c.args.view c.args.workers c.in-Some.lab)) c.end_run.ensures
 
 pub returns-in-None : goal.returns-in-None
 returns-in-None g c =
