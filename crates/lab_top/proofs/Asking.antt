@@ -1,8 +1,6 @@
 -- Words ask for one job; and what holds of each job.
 use Rattle.std.proofs.Common.{◌≡◌, ℕ, List, inl, inr, refl, sym, ap, subst}
-use Rattle.std.specs.Prelude.{◌⊎◌, Option, Some, None, Result}
-use Rattle.lab_tables.specs.declared.input.LabInput.{LabInput}
-use Rattle.lab_input.specs.declared.bad.BadInput.{BadInput}
+use Rattle.std.specs.Prelude.{◌⊎◌, Option, Some, None}
 use Rattle.lab_words.specs.declared.job.Job.{Job}
 use Rattle.lab_words.specs.declared.job.Job.TheVariants as jobs
 use Rattle.lab_words.specs.Asked.{Asks}
@@ -12,8 +10,8 @@ use Rattle.lab_report.specs.declared.lab.Lab.{Lab}
 use Rattle.lab_top.specs.declared.views.ViewName.{ViewName}
 use Rattle.lab_top.specs.declared.views.ViewName.TheVariants as names
 use Rattle.lab_top.specs.Views.{ShowsView, viewing}
-use Rattle.lab_top.specs.Ends.{AreRefused, RunsSource, AskForLab, AskToMake, AskForLine, AskUnread, ReadsInput, end_status}
-use Rattle.lab_top.specs.Cases.{TookWhole, ReadsSource, RunsLab, plain_text, Gives, Answers, Tells, job_status}
+use Rattle.lab_top.specs.Ends.{AreRefused, RunsSource, AskForLab, AskToMake, AskForLine, AskUnread, TookBadInput, end_status}
+use Rattle.lab_top.specs.Cases.{TookWhole, ReadsSource, RunsLab, plain_text, Gives, Refuses, Tells, job_status}
 
 -- what holds of the job that is asked for holds of a job that the same words ask for
 pub of_asked : (P : Job → Type 0) (words : List (List ℕ)) (job asked : Job) → Asks words job → Asks words asked → P job → P asked
@@ -44,10 +42,10 @@ views_run (names.Why name prefix) workers = tt
 views_run names.Picture workers = tt
 
 -- a job that runs what it reads
-pub answers_of : (job : Job) (before after : Option (List ℕ)) (answer : Result LabInput BadInput) → ReadsSource job → ReadsInput before after answer
-    → Answers job before after answer
-answers_of (jobs.Drill seed workers) before after answer reads read = absurd reads
-answers_of _ before after answer reads read = read
+pub refuses_of : (job : Job) (before after : Option (List ℕ)) (text : List ℕ) → ReadsSource job → TookBadInput before after text
+    → Refuses job before after text
+refuses_of (jobs.Drill seed workers) before after text reads took = absurd reads
+refuses_of _ before after text reads took = took
 
 pub gives_of : (job : Job) (before after : Option (List ℕ)) (bytes : List ℕ) → ReadsSource job → TookWhole before after bytes
     → Gives job before after bytes

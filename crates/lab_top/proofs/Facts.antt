@@ -8,7 +8,8 @@ use Rattle.lab_input.specs.declared.bad.BadInput.{BadInput}
 use Rattle.lab_input.specs.Labs.{InputOf}
 use Rattle.lab_words.specs.declared.job.Job.{Job}
 use Rattle.lab_words.specs.declared.job.Job.TheVariants as jobs
-use Rattle.lab_words.specs.Asked.{usage_text, Asks}
+use Rattle.lab_words.specs.Asked.{Asks}
+use Rattle.lab_words.specs.Hints.{refused_text}
 use Rattle.lab_make.specs.Made.{made}
 use Rattle.lab_report.specs.declared.lab.Lab.{Lab}
 use Rattle.lab_report.specs.declared.lab.RunEnd.{RunEnd}
@@ -19,9 +20,9 @@ use Rattle.expect_view.specs.Expect.{all_hold, test_status, test_text}
 use Rattle.lab_top.specs.declared.views.ViewName.{ViewName}
 use Rattle.lab_top.specs.Views.{viewing}
 use Rattle.lab_top.specs.Ends.{AreRefused, AskToRun, AskForJournal, AskToTest, AskToView, RunsSource, AskToDrill, AskForLab, AskToMake, AskForLine}
-use Rattle.lab_top.specs.Ends.{ReadsInput, SaysWhy, TookInput, GaveBadInput, IsStatus, WritesText, WritesReport, WritesJournal, WritesView, Checks, end_status}
-use Rattle.lab_top.specs.Ends.{verdict_text, verdict_status, tested_status, HasFailed}
-use Rattle.lab_top.specs.Cases.{Outside, RunsLab, plain_text, Gives, Answers, Tells, job_status, Cause, tells, checks, refuses, misses, runs}
+use Rattle.lab_top.specs.Ends.{ReadsInput, TookInput, GaveBadInput, IsStatus, WritesText, WritesReport, WritesJournal, WritesView, Checks, end_status}
+use Rattle.lab_top.specs.Ends.{SaysVerdict, verdict_status, tested_status, HasFailed}
+use Rattle.lab_top.specs.Cases.{Outside, RunsLab, plain_text, Gives, Refuses, Tells, job_status, Cause, tells, checks, refuses, misses, runs}
 use Rattle.lab_top.specs.Cases.{Did, wrote, unread, Ended, refused, did, no_memory}
 use Rattle.lab_top.proofs.Asking.{of_asked, plain_is_no_lab, plain_reads_none, views_run, took_of, view_status, view_shown, lab_asked}
 use Rattle.lab_top.proofs.Asking.{reads_source, runs_lab, none_run, line_asked, make_asked, no_lab}
@@ -66,7 +67,7 @@ planned_by : (job : Job) (left rest : Option (List ℕ)) (text : List ℕ) (plan
 planned_by job left rest text planned lab (tells t p l) = inr (inl p)
 planned_by job left rest text planned lab (checks (Ok input) is read t p l) = inr (inl p)
 planned_by job left rest text planned lab (checks (Err bad) is read t p l) = inl p
-planned_by job left rest text planned lab (refuses answer run is why p l) = inl p
+planned_by job left rest text planned lab (refuses run why p l) = inl p
 planned_by job left rest text planned lab (misses input view workers name is read none t p l) = inl p
 planned_by job left rest text planned lab (runs bytes end run gives is told ran p l) = inr (subst OfRun (sym p) (job_of_run job end))
 
@@ -117,7 +118,7 @@ not_whole other job left rest text planned status lab fails cause is e =
 -- ---- the words are refused
 
 pub usage_told : (words : List (List ℕ)) (o n : Outside) (status : ℕ) (lab : Option Lab) → Ended words o n status lab → AreRefused words
-    → (status ≡ 6) ⊎ Wrote usage_text 1 o n status
+    → (status ≡ 6) ⊎ Wrote (refused_text words) 1 o n status
 usage_told words o n status lab (refused none w l) never = inr w
 usage_told words o n status lab (did job ask d) never = absurd (never job ask)
 usage_told words o n status lab (no_memory six same l) never = inl six
@@ -142,7 +143,7 @@ plain_cause : (job : Job) (left rest : Option (List ℕ)) (text told : List ℕ)
     → Cause job left rest text planned lab → (text ≡ told) × (planned ≡ 0)
 plain_cause job left rest text told planned lab plain (tells t p l) = (some_is text told (sym t ∙ plain), p)
 plain_cause job left rest text told planned lab plain (checks answer is read t p l) = absurd (check_is_plain job told plain is)
-plain_cause job left rest text told planned lab plain (refuses answer run is why p l) = absurd (plain_is_no_lab job told plain run)
+plain_cause job left rest text told planned lab plain (refuses run why p l) = absurd (plain_is_no_lab job told plain run)
 plain_cause job left rest text told planned lab plain (misses input view workers name is read none t p l) =
     absurd (plain_is_no_lab job told plain (subst RunsLab (sym is) (views_run view workers)))
 plain_cause job left rest text told planned lab plain (runs bytes end run gives is so ran p l) = absurd (plain_is_no_lab job told plain run)
@@ -173,7 +174,7 @@ line_told words o n status lab (no_memory six same l) line is = inl six
 
 abbrev Verdict : Option (List ℕ) → Option (List ℕ) → List ℕ → ℕ → Type 0
 Verdict left rest text planned =
-    (answer : Result LabInput BadInput) × ReadsInput left rest answer × (text ≡ verdict_text answer) × (planned ≡ verdict_status answer)
+    (answer : Result LabInput BadInput) × (read : ReadsInput left rest answer) × SaysVerdict read.bytes answer text × (planned ≡ verdict_status answer)
 
 none_told : (text : List ℕ) → None ≡ Some text → ⊥
 none_told text e = let f : ⊥ = cc in f
@@ -182,7 +183,7 @@ check_cause : (left rest : Option (List ℕ)) (text : List ℕ) (planned : ℕ) 
     → Verdict left rest text planned
 check_cause left rest text planned lab (tells t p l) = absurd (none_told text t)
 check_cause left rest text planned lab (checks answer is read t p l) = (answer, read, t, p)
-check_cause left rest text planned lab (refuses answer run is why p l) = absurd run
+check_cause left rest text planned lab (refuses run why p l) = absurd run
 check_cause left rest text planned lab (misses input view workers name is read none t p l) = absurd (subst RunsLab (sym is) (views_run view workers))
 check_cause left rest text planned lab (runs bytes end run gives is told ran p l) = absurd run
 
@@ -193,7 +194,9 @@ check_did o n status lab (wrote text planned cause w) =
     inr (inr (record {
       answer = told.0;
       read = told.1;
-      wrote = writes_as text (verdict_text told.0) planned (verdict_status told.0) o n status told.2 told.3 w;
+      text = text;
+      says = told.2;
+      wrote = subst (λ k. Wrote text k o n status) told.3 w;
     }))
 check_did o n status lab (unread reads four rose same l) = inl four
 
@@ -205,15 +208,10 @@ checked_told words o n status lab (no_memory six same l) check = inr (inl six)
 
 -- ---- an input is refused
 
-gave_bad : (words : List (List ℕ)) (left rest : Option (List ℕ)) (text : List ℕ) (job : Job) (answer : Result LabInput BadInput) → Asks words job
-    → RunsLab job → Answers job left rest answer → SaysWhy answer text → GaveBadInput words left rest text
-gave_bad words left rest text (jobs.Drill seed workers) answer ask run is why =
-    inr (inl (seed, (workers, ask), subst (λ a. SaysWhy a text) (sym is) why))
-gave_bad words left rest text jobs.Check answer ask run is why = absurd run
-gave_bad words left rest text (jobs.Make seed) answer ask run is why = absurd run
-gave_bad words left rest text jobs.Help answer ask run is why = absurd run
-gave_bad words left rest text jobs.Version answer ask run is why = absurd run
-gave_bad words left rest text _ answer ask run is why = inl (record { answer = answer; read = is; why = why })
+gave_bad : (words : List (List ℕ)) (left rest : Option (List ℕ)) (text : List ℕ) (job : Job) → Asks words job → Refuses job left rest text
+    → GaveBadInput words left rest text
+gave_bad words left rest text (jobs.Drill seed workers) ask why = inr (inl (seed, (workers, ask), why))
+gave_bad words left rest text _ ask why = inl why
 
 not_of_run : (planned : ℕ) (job : Job) (end : Lab) → planned ≡ job_status job end → planned ≡ 2 → ⊥
 not_of_run planned job end p two = false≢true (ap is_of_run (sym two ∙ p) ∙ run_status (job_status job end) (job_of_run job end))
@@ -223,7 +221,7 @@ bad_by : (words : List (List ℕ)) (job : Job) (left rest : Option (List ℕ)) (
 bad_by words job left rest text planned lab ask (tells t p l) two = absurd (omega arith)
 bad_by words job left rest text planned lab ask (checks (Ok input) is read t p l) two = absurd (omega (arith, p))
 bad_by words job left rest text planned lab ask (checks (Err bad) is read t p l) two = inl (record { answer = Err bad; read = read; why = t })
-bad_by words job left rest text planned lab ask (refuses answer run is why p l) two = gave_bad words left rest text job answer ask run is why
+bad_by words job left rest text planned lab ask (refuses run why p l) two = gave_bad words left rest text job ask why
 bad_by words job left rest text planned lab ask (misses input view workers name is read none t p l) two =
     inr (inr (record { input = input; view = view; name = name; read = read; asks = (workers, subst (Asks words) is ask); none = none; says = t }))
 bad_by words job left rest text planned lab ask (runs bytes end run gives is told ran p l) two = absurd (not_of_run planned job end p two)
@@ -246,7 +244,7 @@ two_of : (job : Job) (left rest : Option (List ℕ)) (text : List ℕ) (planned 
     → Cause job left rest text planned lab → planned ≡ 2
 two_of job left rest text planned lab run none (tells t p l) = absurd (plain_is_no_lab job text t run)
 two_of job left rest text planned lab run none (checks answer is read t p l) = absurd (subst RunsLab is run)
-two_of job left rest text planned lab run none (refuses answer lab_run is why p l) = p
+two_of job left rest text planned lab run none (refuses lab_run why p l) = p
 two_of job left rest text planned lab run none (misses input view workers name is read unknown t p l) = p
 two_of job left rest text planned lab run none (runs bytes end lab_run gives is told ran p l) = absurd (none_or_some lab end none l)
 
@@ -340,7 +338,7 @@ came_by : (words : List (List ℕ)) (job : Job) (o n : Outside) (text : List ℕ
     → lab ≡ Some end → Cause job o.left n.left text planned lab → Wrote text planned o n status → Came words o n status end
 came_by words job o n text planned status lab end ask some (tells t p l) w = absurd (none_or_some lab end l some)
 came_by words job o n text planned status lab end ask some (checks answer is read t p l) w = absurd (none_or_some lab end l some)
-came_by words job o n text planned status lab end ask some (refuses answer run is why p l) w = absurd (none_or_some lab end l some)
+came_by words job o n text planned status lab end ask some (refuses run why p l) w = absurd (none_or_some lab end l some)
 came_by words job o n text planned status lab end ask some (misses input view workers name is read none t p l) w = absurd (none_or_some lab end l some)
 came_by words job o n text planned status lab end ask some (runs bytes other run gives is told ran p l) w =
     let found : Some other ≡ Some end = sym l ∙ some in
@@ -446,7 +444,7 @@ some_by : (job : Job) (left rest : Option (List ℕ)) (text : List ℕ) (planned
     → Cause job left rest text planned lab → IsSome lab
 some_by job left rest text planned lab run is (tells t p l) = absurd (plain_is_no_lab job text t run)
 some_by job left rest text planned lab run is (checks answer check read t p l) = absurd (subst RunsLab check run)
-some_by job left rest text planned lab run is (refuses answer lab_run answers why p l) = absurd (false≢true (sym (ap is_of_run p) ∙ is))
+some_by job left rest text planned lab run is (refuses lab_run why p l) = absurd (false≢true (sym (ap is_of_run p) ∙ is))
 some_by job left rest text planned lab run is (misses input view workers name job_is read none t p l) = absurd (false≢true (sym (ap is_of_run p) ∙ is))
 some_by job left rest text planned lab run is (runs bytes end lab_run gives input told ran p l) = subst (λ found. IsSome found) (sym l) refl
 
@@ -488,7 +486,7 @@ failed_by : (words : List (List ℕ)) (job : Job) (left rest : Option (List ℕ)
 failed_by words job left rest text planned lab ask (tells t p l) nine = absurd (omega (arith, p, nine))
 failed_by words job left rest text planned lab ask (checks (Ok input) is read t p l) nine = let zero : planned ≡ 0 = p in absurd (omega (arith, zero, nine))
 failed_by words job left rest text planned lab ask (checks (Err bad) is read t p l) nine = let two : planned ≡ 2 = p in absurd (omega (arith, two, nine))
-failed_by words job left rest text planned lab ask (refuses answer run is why p l) nine = absurd (omega (arith, p, nine))
+failed_by words job left rest text planned lab ask (refuses run why p l) nine = absurd (omega (arith, p, nine))
 failed_by words job left rest text planned lab ask (misses input view workers name is read none t p l) nine = absurd (omega (arith, p, nine))
 failed_by words job left rest text planned lab ask (runs bytes end run gives is told ran p l) nine =
     let failed = failed_of words job end ask (sym p ∙ nine) in (failed.0, subst (λ found. IsSomeAnd found HasFailed) (sym l) failed.1)

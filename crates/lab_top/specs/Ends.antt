@@ -6,6 +6,8 @@ use Rattle.lab_input.specs.declared.bad.BadInput.{BadInput}
 use Rattle.lab_input.specs.declared.bad.BadInput.TheVariants.{Unknown}
 use Rattle.lab_top.specs.Built.{is_built}
 use Rattle.lab_input.specs.Labs.{input_of, InputOf, too_long}
+use Rattle.lab_hints.specs.Later.{unknown_words}
+use Rattle.lab_hints.specs.Hints.{hint_line, IsHint}
 use Rattle.lab_words.specs.declared.job.Job.{Job}
 use Rattle.lab_words.specs.declared.job.Job.TheVariants.{Run, Make, Drill, Journal, Test, Help, Version}
 use Rattle.lab_words.specs.Asked.{usage_text, version_text, Asks}
@@ -86,19 +88,27 @@ pub record TookInput (before after : Option (List ℕ)) (input : LabInput) : Typ
   pub end : IsAtEnd after
   pub is : InputOf bytes input
 
-abbrev pub not_built_text : List ℕ
-not_built_text = codes "bad input: not built" ++ 10 ∷ []
+-- The text is what is said of bytes that are refused for this fault: a line with the fault, and a hint.
+abbrev pub IsRefusal : List ℕ → BadInput → List ℕ → Type 0
+IsRefusal bytes bad text = (hint : List ℕ) × IsHint bytes bad hint × (text ≡ bad_line bad ++ hint)
 
--- The text says why what was read isn't run: its first fault, or that the program can't run such an input yet.
-abbrev pub SaysWhy : Result LabInput BadInput → List ℕ → Type 0
-SaysWhy (Ok input) text = (is_built input ≡ false) × (text ≡ not_built_text)
-SaysWhy (Err bad) text = text ≡ bad_line bad
+-- what is said of an input that hasn't the router or peering of this name
+abbrev pub unknown_text : LabInput → List ℕ → List ℕ
+unknown_text input name = bad_line (Unknown name) ++ hint_line (unknown_words input name)
+
+abbrev pub not_built_text : List ℕ
+not_built_text = codes "bad input: not built" ++ 10 ∷ hint_line (codes "a router with by_bytes can be checked, and not run yet")
+
+-- The text says why what was read from these bytes isn't run: its first fault, or that the program can't run such an input yet.
+abbrev pub SaysWhy : List ℕ → Result LabInput BadInput → List ℕ → Type 0
+SaysWhy bytes (Ok input) text = (is_built input ≡ false) × (text ≡ not_built_text)
+SaysWhy bytes (Err bad) text = IsRefusal bytes bad text
 
 -- What was taken from a source isn't run, for the reason that the text says.
 pub record TookBadInput (before after : Option (List ℕ)) (text : List ℕ) : Type 0 where
   pub answer : Result LabInput BadInput
   pub read : ReadsInput before after answer
-  pub why : SaysWhy answer text
+  pub why : SaysWhy read.bytes answer text
 
 -- What was taken from a source is an input, but it hasn't the router or peering that the words name, and the text says so.
 pub record NamesUnknown (words : List (List ℕ)) (before after : Option (List ℕ)) (text : List ℕ) : Type 0 where
@@ -108,13 +118,14 @@ pub record NamesUnknown (words : List (List ℕ)) (before after : Option (List �
   pub read : ReadsInput before after (Ok input)
   pub asks : AskToView words view
   pub none : view_named input view ≡ Err name
-  pub says : text ≡ bad_line (Unknown name)
+  pub says : text ≡ unknown_text input name
 
 -- What is to be checked or run is none, for the reason that the text says: what was taken from a source, or the laboratory of a seed; or it hasn't
 -- what the words name.
 abbrev pub GaveBadInput : (words : List (List ℕ)) → (before after : Option (List ℕ)) → (text : List ℕ) → Type 0
 GaveBadInput words before after text =
-    TookBadInput before after text ⊎ ((seed : ℕ) × AskToDrill words seed × SaysWhy (input_of (made seed)) text) ⊎ NamesUnknown words before after text
+    TookBadInput before after text ⊎ ((seed : ℕ) × AskToDrill words seed × SaysWhy (made seed) (input_of (made seed)) text)
+    ⊎ NamesUnknown words before after text
 
 -- ---- the sink
 
@@ -144,20 +155,26 @@ abbrev pub WritesText : (text : List ℕ) → (planned : ℕ) → (faults_before
 WritesText text planned faults_before faults_after before after status =
     ((status ≡ planned) × Appended before after text) ⊎ ((status ≡ 5) × FaultRose faults_before faults_after × AppendedFront before after text)
 
--- what a check says of what it read, and under which status: of an input whether it is even and sure
-abbrev pub verdict_text : Result LabInput BadInput → List ℕ
-verdict_text (Ok input) = check_text input (is_even (setup_of input)) (is_sure input)
-verdict_text (Err bad) = bad_line bad
+-- what a check says of an input: whether it is even and sure
+abbrev pub accepted_text : LabInput → List ℕ
+accepted_text input = check_text input (is_even (setup_of input)) (is_sure input)
+
+-- The text is what a check says of what these bytes are read as, and this is its status.
+abbrev pub SaysVerdict : List ℕ → Result LabInput BadInput → List ℕ → Type 0
+SaysVerdict bytes (Ok input) text = text ≡ accepted_text input
+SaysVerdict bytes (Err bad) text = IsRefusal bytes bad text
 
 abbrev pub verdict_status : Result LabInput BadInput → ℕ
 verdict_status (Ok input) = 0
 verdict_status (Err bad) = 2
 
--- What was read from the source was said in a line: that it is an input, or its first fault.
+-- What was read from the source was said: that it is an input, or its first fault with a hint.
 pub record Checks (left_before left_after : Option (List ℕ)) (faults_before faults_after : ℕ) (before after : Option (List ℕ)) (status : ℕ) : Type 0 where
   pub answer : Result LabInput BadInput
   pub read : ReadsInput left_before left_after answer
-  pub wrote : WritesText (verdict_text answer) (verdict_status answer) faults_before faults_after before after status
+  pub text : List ℕ
+  pub says : SaysVerdict read.bytes answer text
+  pub wrote : WritesText text (verdict_status answer) faults_before faults_after before after status
 
 -- The report of a run was written under the status of its end: a text that says how the run ended and where packets go then.
 pub record WritesReport (lab : Lab) (faults_before faults_after : ℕ) (before after : Option (List ℕ)) (status : ℕ) : Type 0 where

@@ -3,7 +3,8 @@
 ghost use Rattle.std.specs.Prelude.{◌≡◌, ◌⊎◌, ℕ, List, None, IsSome, IsSomeAnd, IfSome, OnSome};
 ghost use Rattle.graft_edge.specs.Outside.{FaultRose, Appended, AppendedFront};
 ghost use Rattle.lab_words.specs.declared.job.Job.TheVariants.{Check, Make};
-ghost use Rattle.lab_words.specs.Asked.{usage_text, Asks, HasNumbers};
+ghost use Rattle.lab_words.specs.Asked.{Asks, HasNumbers};
+ghost use Rattle.lab_words.specs.Hints.{refused_text as refused_text_lem};
 ghost use Rattle.lab_make.specs.Made.{made};
 ghost use Rattle.lab_input.specs.Labs.{InputOf};
 ghost use Rattle.lab_report.specs.Summary.{summary_text};
@@ -19,7 +20,7 @@ use crate::finish::{DONE, Finish, NO_MEMORY, USAGE, end_with, without_run};
 use crate::jobs::{check_job, drill_job, journal_job, make_job, run_job, test_job, view_job};
 use crate::views::ViewName;
 use graft_edge::{Gate, NoMemory, Sink, Source, Words};
-use lab_words::{Job, USAGE_TEXT, VERSION_TEXT, WordStop, read_words};
+use lab_words::{Job, USAGE_TEXT, VERSION_TEXT, WordStop, read_words, refused_text};
 use std::thread::Threads;
 
 /// Does a job. If memory runs out, nothing was written.
@@ -82,7 +83,10 @@ fn do_words<R: Threads + Sync + AllocGlobal, S: Source, K: Sink, G: Gate>(
 {
     match read_words(rt.alloc(), words) {
         Ok(job) => do_job(rt, job, source, sink, gate),
-        Err(WordStop::Usage) => Ok(end_with(sink, USAGE_TEXT.as_bytes(), USAGE, None)),
+        Err(WordStop::Usage) => {
+            let text = refused_text(rt.alloc(), words)?;
+            Ok(end_with(sink, &text, USAGE, None))
+        }
         Err(WordStop::NoMemory) => Err(NoMemory),
     }
 }
@@ -110,7 +114,7 @@ fn finish_of<R: Threads + Sync + AllocGlobal, S: Source, K: Sink, G: Gate>(
 /// journal of its run in place of a report, `show`, `timeline`, `why`, `story` and `picture` write a view of it, and
 /// `test` writes which expectations of the input hold of it. `check` reads an input and writes whether it is one.
 /// `make` writes the laboratory of a seed; `drill` runs it and writes the summary. `--help` writes the usage, and
-/// `--version` the version. Other words are refused with the usage.
+/// `--version` the version. Other words are refused with the usage and a hint.
 pub fn graft_main<R, S, K, G>(
     rt: &R,
     words: &Words,
@@ -125,9 +129,10 @@ where
     G: Gate,
     ensures statuses { IsStatus result.status }
 
-    // Words that ask for no job are refused. The source isn't read for them, nor for `make`, `drill`, `--help` and `--version`.
+    // Words that ask for no job are refused with the usage and a hint. The source isn't read for them, nor for `make`, `drill`, `--help` and `--version`.
     ensures usage { AreRefused words.now
-        → (result.status ≡ 6) ⊎ WritesText usage_text 1 (K.faults sink.old) (K.faults sink.new) (K.written sink.old) (K.written sink.new) result.status }
+        → (result.status ≡ 6) ⊎ WritesText (refused_text_lem words.now) 1
+        (K.faults sink.old) (K.faults sink.new) (K.written sink.old) (K.written sink.new) result.status }
     ensures refused { result.status ≡ 1 → AreRefused words.now }
     ensures unread { AskUnread words.now → source.new ≡ source.old }
 
@@ -139,12 +144,12 @@ where
     ensures told { (line : List ℕ) → AskForLine words.now line
         → (result.status ≡ 6) ⊎ WritesText line 0 (K.faults sink.old) (K.faults sink.new) (K.written sink.old) (K.written sink.new) result.status }
 
-    // `check` reads the source to its end, or past the most bytes of an input, and says in a line what was read.
+    // `check` reads the source to its end, or past the most bytes of an input, and says what was read.
     ensures checked { Asks words.now Check → (result.status ≡ 4) ⊎ (result.status ≡ 6)
         ⊎ Checks (S.left source.old) (S.left source.new) (K.faults sink.old) (K.faults sink.new) (K.written sink.old) (K.written sink.new) result.status }
 
     // An input is refused only where the bytes are none, or none that can be run yet, or where it hasn't the router or
-    // peering of a view, and then a line says why.
+    // peering of a view, and then a line says why, and a hint what is wanted.
     ensures bad_input { result.status ≡ 2
         → (text : _) × GaveBadInput words.now (S.left source.old) (S.left source.new) text × Appended (K.written sink.old) (K.written sink.new) text }
     ensures bad_input_unwritten { AskForLab words.now → result.status ≡ 5 → result.lab ≡ None

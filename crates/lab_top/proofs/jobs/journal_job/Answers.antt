@@ -16,7 +16,7 @@ pub returns-in-Err-input_in : goal.returns-in-Err-input_in
 returns-in-Err-input_in g c =
     let job = Journal c.args.workers in
     let stop = c.in-Err-input_in.stop in
-    let answered = subst (λ bytes. AnswersOrStops (input_of bytes) (Err stop)) c.deref.ensures c.in-Err-input_in.ensures in
+    let answered = subst (λ bytes. AnswersOrStops bytes (Err stop)) c.deref.ensures c.in-Err-input_in.ensures in
     let why = stops_of _ _ (g.S.Source.faults c.args.source.now) (g.S.Source.faults c.read_bytes.new.source) _ stop c.in-Ok.ensures answered in
     stopped_ends job _ _ stop c.end_stopped-in-Err-input_in.result tt (bad_run job _ _ tt tt) why c.end_stopped-in-Err-input_in.ensures
 
@@ -33,4 +33,5 @@ pub returns : goal.returns
 returns g c =
     let is = ap input_of (sym c.deref.ensures) ∙ c.in-Ok-input_in.ensures in
     let built = subst (λ found. BuiltOr c.in-Ok-input_in.input (Ok found)) c.in-None.is c.in_ok-lab.ensures in
-    unbuilt_ends (Journal c.args.workers) _ _ c.in-Ok-input_in.input c.end_unbuilt.result tt (reads_of _ _ _ _ c.in-Ok.ensures is) built c.end_unbuilt.ensures
+    let read = reads_of _ _ _ _ c.in-Ok.ensures is in
+    unbuilt_ends (Journal c.args.workers) _ _ c.in-Ok-input_in.input c.end_unbuilt.result tt tt read built c.end_unbuilt.ensures

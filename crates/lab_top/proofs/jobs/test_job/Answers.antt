@@ -24,4 +24,4 @@ returns-in_ok-told-in-Some g c =
 pub returns-in-None : goal.returns-in-None
 returns-in-None g c =
     let built = subst (λ found. BuiltOr c.in-Ok.input (Ok found)) c.in-None.is c.in_ok-lab.ensures in
-    unbuilt_ends (Test c.args.workers) _ _ c.in-Ok.input c.end_unbuilt.result tt c.in-Ok.ensures built c.end_unbuilt.ensures
+    unbuilt_ends (Test c.args.workers) _ _ c.in-Ok.input c.end_unbuilt.result tt tt c.in-Ok.ensures built c.end_unbuilt.ensures

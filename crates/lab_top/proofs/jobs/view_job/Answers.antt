@@ -2,7 +2,7 @@ use Rattle.std.proofs.Common.{subst, ap, sym, ◌∙◌}
 use Rattle.std.specs.Prelude.{Ok}
 use Rattle.lab_top.specs.Cases.{BuiltOr}
 use Rattle.lab_top.specs.Views.{view_named, viewing}
-use Rattle.lab_top.proofs.Asking.{answers_of, views_run, views_read, view_told, view_status}
+use Rattle.lab_top.proofs.Asking.{views_run, views_read, view_told, view_status}
 use Rattle.lab_top.proofs.Parts.{bad_run, stopped_ends, unknown_ends, unbuilt_ends, read_ends}
 use Rattle.lab_top.proofs.jobs.view_job.Goals as goal
 
@@ -15,8 +15,8 @@ returns-in-Err g c =
 
 pub returns-in-Err-view_named : goal.returns-in-Err-view_named
 returns-in-Err-view_named g c =
-    unknown_ends c.args.view c.args.workers _ _ c.in-Ok.input c.in-Err-view_named.name c.end_stopped-in-Err-view_named.result c.in-Ok.ensures
-    (sym c.in-Err-view_named.ensures) c.end_stopped-in-Err-view_named.ensures
+    unknown_ends c.args.view c.args.workers _ _ c.in-Ok.input c.in-Err-view_named.name c.deref.result.now _ _ c.in-Ok.ensures
+    (sym c.in-Err-view_named.ensures) (c.deref.ensures ∙ c.in_ok-text.ensures) c.end_with.ensures.lab c.end_with.ensures.writes
 
 pub returns-in_ok-text-in-Some : goal.returns-in_ok-text-in-Some
 returns-in_ok-text-in-Some g c =
@@ -36,4 +36,4 @@ returns-in-None g c =
     let run = views_run c.args.view c.args.workers in
     let read = views_read c.args.view c.args.workers in
     let built = subst (λ found. BuiltOr c.in-Ok.input (Ok found)) c.in-None.is c.in_ok-lab.ensures in
-    unbuilt_ends job _ _ c.in-Ok.input c.end_unbuilt.result run (answers_of job _ _ _ read c.in-Ok.ensures) built c.end_unbuilt.ensures
+    unbuilt_ends job _ _ c.in-Ok.input c.end_unbuilt.result run read c.in-Ok.ensures built c.end_unbuilt.ensures

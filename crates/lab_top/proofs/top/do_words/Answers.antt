@@ -1,4 +1,4 @@
-use Rattle.std.proofs.Common.{ap}
+use Rattle.std.proofs.Common.{ap, ◌∙◌}
 use Rattle.std.specs.Prelude.{Err}
 use Rattle.lab_top.proofs.Asking.{unread_job}
 use Rattle.lab_top.proofs.Parts.{did_ends, refused_ends}
@@ -12,5 +12,5 @@ returns-in-Ok-clause-ended g c = did_ends c.args.words.now c.in-Ok.job _ _ c.do_
 
 pub returns-in-Err-Usage-clause-ended : goal.returns-in-Err-Usage-clause-ended
 returns-in-Err-Usage-clause-ended g c =
-    refused_ends c.args.words.now _ _ c.as_bytes.result.now _ _ (c.in-Err-Usage.ensures.refused (ap Err c.in-Err-Usage.field-0-is))
-    c.as_bytes.ensures.value c.end_with.ensures.writes c.end_with.ensures.lab
+    refused_ends c.args.words.now _ _ c.deref.result.now _ _ (c.in-Err-Usage.ensures.refused (ap Err c.in-Err-Usage.field-0-is))
+    (c.deref.ensures ∙ c.in_ok-text.ensures) c.end_with.ensures.writes c.end_with.ensures.lab
