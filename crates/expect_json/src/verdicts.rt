@@ -6,7 +6,7 @@ ghost use Rattle.report_json.specs.Values.{json_line as json_line_lem};
 ghost use Rattle.expect_view.specs.Expect.{difference as difference_lem};
 ghost use Rattle.expect_json.specs.Verdicts.{held_json, differing_json, verdict_json, verdicts_list, verdicts_json, test_json as test_json_lem};
 
-use expect_view::{Difference, difference};
+use expect_view::{Difference, first_difference};
 use graft_edge::{NoMemory, Octets};
 use lab_report::Lab;
 use report_json::json_line;
@@ -20,7 +20,7 @@ fn differences(alloc: Global, lab: &Lab) -> Result<Vec<Option<Difference>>, NoMe
     let expects = lab.input.expects.as_slice();
     let mut found = Vec::with_capacity(alloc, expects.len())?;
     for expectation in expects {
-        found.push(difference(alloc, lab, expectation.as_slice())?)?;
+        found.push(first_difference(alloc, lab, expectation.as_slice())?)?;
     }
     Ok(found)
 }
