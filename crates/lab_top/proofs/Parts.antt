@@ -23,7 +23,7 @@ use Rattle.lab_top.specs.Ends.{AreRefused, ReadsInput, IsRefusal, SaysWhy, TookB
 use Rattle.lab_top.specs.declared.finish.Finish.{Finish}
 use Rattle.lab_top.specs.declared.finish.InputStop.{InputStop}
 use Rattle.lab_top.specs.declared.finish.InputStop.TheVariants as stops
-use Rattle.lab_top.specs.Cases.{Outside, TookWhole, RefusesInput, GivesNoInput, stop_with, AnswersOrStops, WritesOr, FailsUnread, FindsNone}
+use Rattle.lab_top.specs.Cases.{Outside, TookWhole, RefusesInput, GivesNoInput, stop_with, ReadsOrStops, AnswersOrStops, WritesOr, FailsUnread, FindsNone}
 use Rattle.lab_top.specs.Cases.{BuiltOr, EndsRun, EndsUnbuilt, StopsFor}
 use Rattle.lab_top.specs.Cases.{ReadsSource, RunsLab, plain_text, Gives, Tells, job_status, Cause, tells, checks, refuses, misses, runs}
 use Rattle.lab_top.specs.Cases.{Did, wrote, unread, DidOr, Ended, refused, did, EndsOr}
@@ -39,13 +39,13 @@ long_is_refused bytes long = let tested : nat_lt 4194304 (length bytes) ≡ true
 pub too_long_stops : (before after : Option (List ℕ)) (faults_before faults_after : ℕ) (text : Result (List ℕ) NoMemory) (stop : InputStop)
     → TookSome before after (λ n. 4194304 < n) → IfOk text (λ t. t ≡ bad_line too_long ++ hint_line long_words) → stop ≡ stop_with text
     → GivesNoInput before after faults_before faults_after stop
-too_long_stops before after faults_before faults_after (Err e) stop took is stops =
-    subst (λ s. GivesNoInput before after faults_before faults_after s) (sym stops) tt
-too_long_stops before after faults_before faults_after (Ok text) stop took is stops =
-    let read : ReadsInput before after (Err too_long) =
-    record { bytes = took.0; took = took.2; enough = inr (took.1, refl); is = long_is_refused took.0 took.1 } in
+too_long_stops before after faults_before faults_after (Err e) stop took is same =
+    subst (λ s. GivesNoInput before after faults_before faults_after s) (sym same) tt
+too_long_stops before after faults_before faults_after (Ok text) stop took is same =
     let hint : IsHint took.0 too_long (hint_line long_words) = hint_long took.0 too_long (hint_line long_words) took.1 refl in
-    subst (λ s. GivesNoInput before after faults_before faults_after s) (sym stops) (too_long, read, (hint_line long_words, hint, is))
+    let bad : RefusesInput before after text =
+    (too_long, record { bytes = took.0; took = took.2; enough = inr (took.1, refl); is = long_is_refused took.0 took.1 }, (hint_line long_words, hint, is)) in
+    subst (λ s. GivesNoInput before after faults_before faults_after s) (sym same) bad
 
 pub reads_of : (before after : Option (List ℕ)) (bytes : List ℕ) (answer : Result LabInput BadInput) → TookWhole before after bytes
     → input_of bytes ≡ answer → ReadsInput before after answer
@@ -54,15 +54,21 @@ reads_of before after bytes answer took is = record { bytes = bytes; took = took
 -- bytes that are refused
 pub refused_stops : (bytes : List ℕ) (bad : BadInput) (text : Result (List ℕ) NoMemory) (stop : InputStop) → input_of bytes ≡ Err bad
     → IfOk text (IsRefusal bytes bad) → stop ≡ stop_with text → AnswersOrStops bytes (Err stop)
-refused_stops bytes bad (Err e) stop is refusal stops = subst (λ s. AnswersOrStops bytes (Err s)) (sym stops) tt
-refused_stops bytes bad (Ok text) stop is refusal stops = subst (λ s. AnswersOrStops bytes (Err s)) (sym stops) (bad, is, refusal)
+refused_stops bytes bad (Err e) stop is refusal same = subst (λ s. AnswersOrStops bytes (Err s)) (sym same) tt
+refused_stops bytes bad (Ok text) stop is refusal same = subst (λ s. AnswersOrStops bytes (Err s)) (sym same) (bad, is, refusal)
 
 pub stops_of : (before after : Option (List ℕ)) (faults_before faults_after : ℕ) (bytes : List ℕ) (stop : InputStop) → TookWhole before after bytes
     → AnswersOrStops bytes (Err stop)
     → GivesNoInput before after faults_before faults_after stop
-stops_of before after faults_before faults_after bytes (stops.Bad text) took is = (is.0, reads_of before after bytes (Err is.0) took is.1.0, is.1.1)
+stops_of before after faults_before faults_after bytes (stops.Bad text) took is =
+    (is.0, record { bytes = bytes; took = took.took; enough = inl took.end; is = is.1 }, is.2)
 stops_of before after faults_before faults_after bytes stops.Failed took is = absurd is
 stops_of before after faults_before faults_after bytes stops.NoMemory took is = tt
+
+pub source_read : (before after : Option (List ℕ)) (faults_before faults_after : ℕ) (bytes : List ℕ) (result : Result LabInput InputStop)
+    → TookWhole before after bytes → AnswersOrStops bytes result → ReadsOrStops before after faults_before faults_after result
+source_read before after faults_before faults_after bytes (Ok input) took is = reads_of before after bytes (Ok input) took is
+source_read before after faults_before faults_after bytes (Err stop) took is = stops_of before after faults_before faults_after bytes stop took is
 
 no_input : (bad : BadInput) (input : LabInput) → Err bad ≡ Ok input → ⊥
 no_input bad input e = let r : Result LabInput BadInput = Err bad in let same : r ≡ Ok input = e in absurd (cc)
@@ -83,11 +89,11 @@ abbrev pub BadCause : Job → (before after : Option (List ℕ)) → Type 0
 BadCause job before after = (text : List ℕ) → RefusesInput before after text → (lab : Option Lab) → lab ≡ None → Cause job before after text 2 lab
 
 pub bad_check : (before after : Option (List ℕ)) → BadCause jobs.Check before after
-bad_check before after text bad lab none = checks (Err bad.0) refl bad.1.0 bad.1.1 refl none
+bad_check before after text bad lab none = checks (Err bad.0) refl bad.1 bad.2 refl none
 
 pub bad_run : (job : Job) (before after : Option (List ℕ)) → RunsLab job → ReadsSource job → BadCause job before after
 bad_run job before after lab reads text bad end none =
-    let took : TookBadInput before after text = record { answer = Err bad.0; read = bad.1.0; why = bad.1.1 } in
+    let took : TookBadInput before after text = record { answer = Err bad.0; read = bad.1; why = bad.2 } in
     refuses lab (refuses_of job before after text reads took) refl none
 
 written_ends : (job : Job) (o n : Outside) (text : List ℕ) (planned : ℕ) (result : Result Finish NoMemory)
@@ -172,7 +178,7 @@ pub drill_stopped : (o n : Outside) (seed workers : ℕ) (bytes : List ℕ) (sto
     → AnswersOrStops bytes (Err stop) → StopsFor stop o.write_faults n.write_faults o.written n.written result
     → DidOr (jobs.Drill seed workers) o n result
 drill_stopped o n seed workers bytes (stops.Bad text) result same is w =
-    let why = made_why seed bytes text (Err is.0) same is.1.0 is.1.1 in
+    let why = made_why seed bytes text (Err is.0) same is.1 is.2 in
     written_ends (jobs.Drill seed workers) o n text 2 result (λ lab none. refuses tt why refl none) w
 drill_stopped o n seed workers bytes stops.Failed result same is w = absurd is
 drill_stopped o n seed workers bytes stops.NoMemory result same is w = none_ends (jobs.Drill seed workers) o n result w

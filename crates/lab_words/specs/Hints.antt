@@ -1,5 +1,5 @@
 -- What is said of words that ask for no job.
-use Rattle.std.specs.Prelude.{ℕ, List, [], ◌∷◌, ◌++◌, map, Option, Some, None, codes, if◌then◌else◌}
+use Rattle.std.specs.Prelude.{ℕ, List, [], ◌∷◌, ◌++◌, map, slice_get, Option, Some, None, codes, if◌then◌else◌}
 use Rattle.std.specs.List.{flat_map}
 use Rattle.std.specs.Str.{bytes_eq}
 use Rattle.clap.specs.Words.{Text}
@@ -51,9 +51,12 @@ abbrev pub named_words : Text → Option Text → Text
 named_words word None = meant_words (nearest job_names word)
 named_words word (Some form) = form
 
+abbrev pub first_hint : Option Text → Text
+first_hint None = jobs_words
+first_hint (Some word) = named_words word (form_of word)
+
 abbrev pub words_hint : List Text → Text
-words_hint [] = jobs_words
-words_hint (word ∷ words) = named_words word (form_of word)
+words_hint words = first_hint (slice_get words 0)
 
 -- the usage line, and a hint in a line of its own
 abbrev pub refused_text : List Text → Text

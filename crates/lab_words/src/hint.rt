@@ -1,18 +1,13 @@
 //! What is said of words that ask for no job.
 
 ghost use Rattle.std.specs.Prelude.{◌≡◌, ◌++◌, IfOk, OnOk, option_map, string_bytes};
-ghost use Rattle.lab_words.specs.Hints.{form_of as form_of_lem, meant_words, named_words, words_hint, refused_text as refused_text_lem};
+ghost use Rattle.near_names.specs.Nearness.{nearest as nearest_lem};
+ghost use Rattle.lab_words.specs.Hints.{form_of as form_of_lem, job_names, meant_words, named_words, words_hint, refused_text as refused_text_lem};
 
 use crate::job::USAGE_TEXT;
 use graft_edge::{Items, NoMemory, Octets, Words};
 use near_names::nearest;
 use std::alloc::Global;
-
-/// The names of the jobs.
-const JOB_NAMES: [&str; 11] = [
-    "run", "check", "make", "drill", "journal", "show", "timeline", "why", "story", "picture",
-    "test",
-];
 
 /// What stands beside a job that takes workers alone.
 const WORKERS_ALONE: &str =
@@ -50,6 +45,17 @@ fn form_of(name: &str) -> Option<&'static str>
     }
 }
 
+/// Returns the name of the job that a word may mean, if there is one.
+fn meant_by(alloc: Global, word: &str) -> Result<Option<&'static str>, NoMemory>
+    ensures { IfOk result (λ near. option_map (λ name. name.now) near ≡ nearest_lem job_names word.now) }
+{
+    let names = [
+        "run", "check", "make", "drill", "journal", "show", "timeline", "why", "story", "picture",
+        "test",
+    ];
+    nearest(alloc, &names, word)
+}
+
 /// Adds which job a word may mean, or which jobs there are.
 fn push_meant(text: &mut String, near: Option<&str>) -> Result<(), NoMemory>
     ensures { OnOk result (string_bytes text.new ≡ string_bytes text.old ++ meant_words (option_map (λ name. name.now) near.entry)) }
@@ -72,7 +78,7 @@ fn push_named(alloc: Global, text: &mut String, word: &str) -> Result<(), NoMemo
     match form_of(word) {
         Some(form) => Ok(text.push_str(form)?),
         None => {
-            let near = nearest(alloc, &JOB_NAMES, word)?;
+            let near = meant_by(alloc, word)?;
             push_meant(text, near)
         }
     }
