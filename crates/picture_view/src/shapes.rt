@@ -1,13 +1,13 @@
 //! The shapes of sessions and grafts.
 
-ghost use Rattle.std.specs.Prelude.{◌≡◌, ◌++◌, OnOk, string_bytes, codes};
+ghost use Rattle.std.specs.Prelude.{◌≡◌, ◌++◌, OnOk, string_bytes};
 ghost use Rattle.std.specs.List.{flat_map, enumerate_from};
 ghost use Rattle.lab_report.specs.Report.{router_name as router_name_lem, peering_name as peering_name_lem};
 ghost use Rattle.picture_view.specs.declared.plan.Change.TheVariants.{Left, TurnedBack};
 ghost use Rattle.picture_view.specs.Elements.{titled_end};
 ghost use Rattle.picture_view.specs.Positions.{point_x as point_x_lem};
 ghost use Rattle.picture_view.specs.Shapes.{stay_title, graft_title, stay, first_stay, stay_from, kept_by, kept_from};
-ghost use Rattle.picture_view.specs.Shapes.{bow, bow_by, bow_from, graft_number, dot, cross, mark_by, mark_from};
+ghost use Rattle.picture_view.specs.Shapes.{bow, bow_by, bow_from, graft_number, dot, cross, mark_from};
 
 use crate::elements::{
     push_coloured_start, push_escaped, push_number_at, push_path_start, push_row_line,
