@@ -6,22 +6,22 @@ use Rattle.clap.specs.Words.{Text}
 use Rattle.near_names.specs.Nearness.{nearest}
 use Rattle.lab_words.specs.Asked.{usage_text}
 
--- what stands beside a job that takes workers alone
+-- what a job takes that takes workers alone
 abbrev pub workers_alone_form : Text
-workers_alone_form = codes "nothing but --workers W, with W from 1 to 8, stands beside this job; its input comes on standard input: graftlab run < lab.toml"
+workers_alone_form = codes "this job takes --workers W, with W from 1 to 8, and nothing else; its input comes on standard input: graftlab run < lab.toml"
 
--- the jobs in the order of the usage line, each with what stands beside it
+-- the jobs in the order of the usage line, each with what it takes
 abbrev pub job_forms : List (Text × Text)
 job_forms =
     (codes "run", workers_alone_form)
-    ∷ (codes "check", codes "nothing stands beside check; its input comes on standard input: graftlab check < lab.toml")
-    ∷ (codes "make", codes "a seed from 1 to 9999 stands beside make: graftlab make 7")
-    ∷ (codes "drill", codes "a seed from 1 to 9999 and maybe --workers W, with W from 1 to 8, stand beside drill: graftlab drill 7")
+    ∷ (codes "check", codes "check takes nothing else; its input comes on standard input: graftlab check < lab.toml")
+    ∷ (codes "make", codes "make takes a seed from 1 to 9999: graftlab make 7")
+    ∷ (codes "drill", codes "drill takes a seed from 1 to 9999, and maybe --workers W, with W from 1 to 8: graftlab drill 7")
     ∷ (codes "journal", workers_alone_form)
     ∷ (codes "show", workers_alone_form)
     ∷ (codes "timeline", workers_alone_form)
-    ∷ (codes "why", codes "a router, a prefix and maybe --workers W, with W from 1 to 8, stand beside why: graftlab why east 10.0.0.0/8 < lab.toml")
-    ∷ (codes "story", codes "a peering and maybe --workers W, with W from 1 to 8, stand beside story: graftlab story c1 < lab.toml")
+    ∷ (codes "why", codes "why takes a router and a prefix, and maybe --workers W, with W from 1 to 8: graftlab why east 10.0.0.0/8 < lab.toml")
+    ∷ (codes "story", codes "story takes a peering, and maybe --workers W, with W from 1 to 8: graftlab story c1 < lab.toml")
     ∷ (codes "picture", workers_alone_form)
     ∷ (codes "test", workers_alone_form)
     ∷ []
@@ -46,7 +46,7 @@ abbrev pub meant_words : Option Text → Text
 meant_words None = jobs_words
 meant_words (Some name) = codes "no job is called so; did you mean " ++ name ++ codes "?"
 
--- what is said of a first word: what stands beside the job of this name, or which job it may mean
+-- what is said of a first word: what the job of this name takes, or which job it may mean
 abbrev pub named_words : Text → Option Text → Text
 named_words word None = meant_words (nearest job_names word)
 named_words word (Some form) = form

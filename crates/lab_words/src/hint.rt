@@ -9,35 +9,35 @@ use graft_edge::{Items, NoMemory, Octets, Words};
 use near_names::nearest;
 use std::alloc::Global;
 
-/// What stands beside a job that takes workers alone.
+/// What a job takes that takes workers alone.
 const WORKERS_ALONE: &str =
-    "nothing but --workers W, with W from 1 to 8, stands beside this job; its input comes on standard input: graftlab run < lab.toml";
+    "this job takes --workers W, with W from 1 to 8, and nothing else; its input comes on standard input: graftlab run < lab.toml";
 
 /// Which jobs there are.
 const JOBS_TEXT: &str =
     "the first word is a job: run check make drill journal show timeline why story picture test; an input comes on standard input: graftlab run < lab.toml";
 
-/// Returns what stands beside the job of a name, if there is one.
+/// Returns what the job of a name takes, if there is one.
 fn form_of(name: &str) -> Option<&'static str>
     ensures { option_map (λ form. form.now) result ≡ form_of_lem name.now }
 {
     match name {
         "run" => Some(WORKERS_ALONE),
         "check" => Some(
-            "nothing stands beside check; its input comes on standard input: graftlab check < lab.toml",
+            "check takes nothing else; its input comes on standard input: graftlab check < lab.toml",
         ),
-        "make" => Some("a seed from 1 to 9999 stands beside make: graftlab make 7"),
+        "make" => Some("make takes a seed from 1 to 9999: graftlab make 7"),
         "drill" => Some(
-            "a seed from 1 to 9999 and maybe --workers W, with W from 1 to 8, stand beside drill: graftlab drill 7",
+            "drill takes a seed from 1 to 9999, and maybe --workers W, with W from 1 to 8: graftlab drill 7",
         ),
         "journal" => Some(WORKERS_ALONE),
         "show" => Some(WORKERS_ALONE),
         "timeline" => Some(WORKERS_ALONE),
         "why" => Some(
-            "a router, a prefix and maybe --workers W, with W from 1 to 8, stand beside why: graftlab why east 10.0.0.0/8 < lab.toml",
+            "why takes a router and a prefix, and maybe --workers W, with W from 1 to 8: graftlab why east 10.0.0.0/8 < lab.toml",
         ),
         "story" => Some(
-            "a peering and maybe --workers W, with W from 1 to 8, stand beside story: graftlab story c1 < lab.toml",
+            "story takes a peering, and maybe --workers W, with W from 1 to 8: graftlab story c1 < lab.toml",
         ),
         "picture" => Some(WORKERS_ALONE),
         "test" => Some(WORKERS_ALONE),
@@ -71,7 +71,7 @@ fn push_meant(text: &mut String, near: Option<&str>) -> Result<(), NoMemory>
     Ok(())
 }
 
-/// Adds what is said of a first word: what stands beside its job, or which job it may mean.
+/// Adds what is said of a first word: what its job takes, or which job it may mean.
 fn push_named(alloc: Global, text: &mut String, word: &str) -> Result<(), NoMemory>
     ensures { OnOk result (string_bytes text.new ≡ string_bytes text.old ++ named_words word.now (form_of_lem word.now)) }
 {
