@@ -62,7 +62,9 @@ fn push_crowd(text: &mut String, router: &RouterInput, peerings: u64) -> Result<
 pub(crate) fn push_sessions(text: &mut String, lab: &LabInput) -> Result<(), NoMemory>
     ensures { OnOk result (string_bytes text.new ≡ string_bytes text.old ++ sessions_words lab.now) }
 {
-    match crowd_in(&lab.peerings, &lab.routers) {
+    let peerings = lab.peerings.as_slice();
+    let routers = lab.routers.as_slice();
+    match crowd_in(peerings, routers) {
         Some(crowd) => push_crowd(text, crowd.router, crowd.peerings),
         None => Ok(text.push_str("a router has room for all peerings that start there")?),
     }

@@ -1,7 +1,9 @@
 //! Names and counts that don't fit together, where all shapes are right.
 
-ghost use Rattle.std.specs.Prelude.{◌≡◌, ◌++◌, OnOk, string_bytes, option_map};
-ghost use Rattle.lab_hints.specs.Later.{meant_words, unnamed_words, unknown_words, repeated_words, said_words, grafts_words, settles_words};
+ghost use Rattle.std.specs.Prelude.{◌≡◌, ◌++◌, IfOk, OnOk, string_bytes, option_map, codes};
+ghost use Rattle.near_names.specs.Nearness.{nearest as nearest_lem};
+ghost use Rattle.lab_hints.specs.Wanted.{name_words};
+ghost use Rattle.lab_hints.specs.Later.{all_names as all_names_lem, meant_words, unnamed_words, unknown_words, repeated_words, said_words, grafts_words, settles_words};
 ghost use Rattle.lab_hints.specs.Later.{prefixes_words, count_words, later_words};
 
 use crate::crowd::push_sessions;
@@ -30,6 +32,33 @@ fn push_meant(text: &mut String, near: Option<&str>) -> Result<(), NoMemory>
     Ok(())
 }
 
+/// Returns the name that may be meant by one that nothing has.
+fn meant_by<'a>(alloc: Global, lab: &'a LabInput, name: &str) -> Result<Option<&'a str>, NoMemory>
+    ensures { IfOk result (λ near. option_map (λ name. name.now) near ≡ nearest_lem (all_names_lem lab.now) name.now) }
+{
+    let names = all_names(alloc, lab)?;
+    Ok(nearest(alloc, names.as_slice(), name)?)
+}
+
+/// Adds that nothing has this name, and the name that may be meant.
+fn push_uncalled(text: &mut String, name: &str, near: Option<&str>) -> Result<(), NoMemory>
+    ensures { OnOk result (string_bytes text.new
+        ≡ string_bytes text.old ++ (codes "no router, peering or policy is called " ++ name.now ++ meant_words (option_map (λ name. name.now) near.entry))) }
+{
+    text.push_str("no router, peering or policy is called ")?;
+    text.push_str(name)?;
+    push_meant(text, near)
+}
+
+/// Adds what a name is.
+fn push_name_form(text: &mut String) -> Result<(), NoMemory>
+    ensures { OnOk result (string_bytes text.new ≡ string_bytes text.old ++ (codes "a name is " ++ name_words)) }
+{
+    text.push_str("a name is ")?;
+    text.push_str(name_form())?;
+    Ok(())
+}
+
 /// Adds that nothing has this name.
 fn push_unnamed(
     alloc: Global,
@@ -40,15 +69,10 @@ fn push_unnamed(
     ensures { OnOk result (string_bytes text.new ≡ string_bytes text.old ++ unnamed_words lab.now name.now) }
 {
     if !is_name(name) {
-        text.push_str("a name is ")?;
-        text.push_str(name_form())?;
-        return Ok(());
+        return push_name_form(text);
     }
-    let names = all_names(alloc, lab)?;
-    let near = nearest(alloc, &names, name)?;
-    text.push_str("no router, peering or policy is called ")?;
-    text.push_str(name)?;
-    push_meant(text, near)
+    let near = meant_by(alloc, lab, name)?;
+    push_uncalled(text, name, near)
 }
 
 /// Adds a name and what is said of it.

@@ -1,7 +1,8 @@
 //! A key that no row has.
 
-ghost use Rattle.std.specs.Prelude.{◌≡◌, ◌++◌, OnOk, IfOk, string_bytes, map, option_map};
+ghost use Rattle.std.specs.Prelude.{◌≡◌, ◌++◌, ◌&&◌, OnOk, IfOk, string_bytes, map, option_map};
 ghost use Rattle.std.specs.List.{list_all};
+ghost use Rattle.near_names.specs.Nearness.{is_near as is_near_lem};
 ghost use Rattle.lab_keys.specs.Keys.{names_of as names_of_lem};
 ghost use Rattle.lab_hints.specs.Shapes.{is_bare_char as is_bare_char_lem, is_bare as is_bare_lem, instead_words, known_words, stray_words};
 
@@ -45,6 +46,16 @@ fn names_of(alloc: Global, keys: &[Key]) -> Result<Items<&'static str>, NoMemory
     Ok(names)
 }
 
+/// Returns whether a key can be quoted in a line, and is so near to a name that the name may be meant.
+fn may_mean(alloc: Global, key: &str, name: &str) -> Result<bool, NoMemory>
+    ensures { IfOk result (λ may. may ≡ (is_bare_lem key.now && is_near_lem key.now name.now)) }
+{
+    if !is_bare(key) {
+        return Ok(false);
+    }
+    Ok(is_near(alloc, key, name)?)
+}
+
 /// Adds the misspelt key that stands in place of a missing one, if there is such a key.
 pub(crate) fn push_instead(
     alloc: Global,
@@ -57,7 +68,7 @@ pub(crate) fn push_instead(
     let Some(key) = stray else {
         return Ok(());
     };
-    if is_bare(key) && is_near(alloc, key, name)? {
+    if may_mean(alloc, key, name)? {
         text.push_str("; no key is called ")?;
         text.push_str(key)?;
     }
