@@ -1,6 +1,5 @@
 -- What is said of words that ask for no job.
-use Rattle.std.specs.Prelude.{ℕ, List, [], ◌∷◌, ◌++◌, map, slice_get, Option, Some, None, codes, if◌then◌else◌}
-use Rattle.std.specs.List.{flat_map}
+use Rattle.std.specs.Prelude.{List, [], ◌∷◌, ◌++◌, map, slice_get, Option, Some, None, codes, if◌then◌else◌}
 use Rattle.std.specs.Str.{bytes_eq}
 use Rattle.clap.specs.Words.{Text}
 use Rattle.near_names.specs.Nearness.{nearest}
@@ -38,7 +37,7 @@ abbrev pub job_names : List Text
 job_names = map (λ row. row.0) job_forms
 
 abbrev pub jobs_words : Text
-jobs_words = codes "the first word is a job:" ++ flat_map (λ name. 32 ∷ name) job_names
+jobs_words = codes "the first word is a job: run check make drill journal show timeline why story picture test"
     ++ codes "; an input comes on standard input: graftlab run < lab.toml"
 
 -- the job that may be meant, or all of them
