@@ -14,11 +14,18 @@ grown : {A B : Type 0} (g : A → List B) (xs more : List A) (x : A) → more �
 grown {A} {B} g xs more x is =
     ap (flat_map g) is ∙ flat_map-append g xs (x ∷ []) ∙ ap (λ (l : List B). flat_map g xs ++ l) (append-nil (g x))
 
+-- a piece behind those that were written before
+pub joined : (start now before piece : List ℕ) → now ≡ start ++ before → now ++ piece ≡ start ++ (before ++ piece)
+joined start now before piece so = ap (λ (l : List ℕ). l ++ piece) so ∙ append_assoc start before piece
+
+pub behind : (start now next before piece : List ℕ) → now ≡ start ++ before → next ≡ now ++ piece → next ≡ start ++ (before ++ piece)
+behind start now next before piece so is = is ∙ joined start now before piece so
+
 -- a text
 pub text_more : {A : Type 0} (f : A → List ℕ) (xs : List A) (i : ℕ) (d : A) (before so_far after : List ℕ) → i < length xs
     → so_far ≡ before ++ flat_map f (take i xs) → after ≡ so_far ++ f (get_or xs i d) → after ≡ before ++ flat_map f (take (i + 1) xs)
 text_more f xs i d before so_far after lt so is =
-    is ∙ ap (λ (l : List ℕ). l ++ f (get_or xs i d)) so ∙ append_assoc before (flat_map f (take i xs)) (f (get_or xs i d))
+    behind before so_far after (flat_map f (take i xs)) (f (get_or xs i d)) so is
     ∙ ap (λ (l : List ℕ). before ++ l) (sym (grown f (take i xs) (take (i + 1) xs) (get_or xs i d) (take_more xs i d lt)))
 
 -- names, as v reads them

@@ -8,7 +8,8 @@ ghost use Rattle.lab_hints.specs.Later.{prefixes_words, count_words, later_words
 
 use crate::crowd::push_sessions;
 use crate::names::{all_names, is_peering, is_policy, is_router};
-use crate::wanted::name_form;
+use crate::stray::push_question;
+use crate::wanted::{push_name_form, push_words};
 use bgp_types::NoMemory;
 use lab_input::{
     BadInput, LabInput, MOST_GRAFTS, MOST_OCTETS, MOST_OCTETS_BEATING, MOST_PREFIXES, MOST_SETTLES,
@@ -24,12 +25,10 @@ use std::fmt::Write;
 fn push_meant(text: &mut String, near: Option<&str>) -> Result<(), NoMemory>
     ensures { OnOk result (string_bytes text.new ≡ string_bytes text.old ++ meant_words (option_map (λ name. name.now) near.entry)) }
 {
-    if let Some(name) = near {
-        text.push_str("; did you mean ")?;
-        text.push_str(name)?;
-        text.push_str("?")?;
+    match near {
+        Some(name) => push_question(text, name),
+        None => Ok(()),
     }
-    Ok(())
 }
 
 /// Returns the name that may be meant by one that nothing has.
@@ -50,13 +49,12 @@ fn push_uncalled(text: &mut String, name: &str, near: Option<&str>) -> Result<()
     push_meant(text, near)
 }
 
-/// Adds what a name is.
-fn push_name_form(text: &mut String) -> Result<(), NoMemory>
+/// Adds what a name is, since this is none.
+fn push_no_name(text: &mut String) -> Result<(), NoMemory>
     ensures { OnOk result (string_bytes text.new ≡ string_bytes text.old ++ (codes "a name is " ++ name_words)) }
 {
     text.push_str("a name is ")?;
-    text.push_str(name_form())?;
-    Ok(())
+    push_name_form(text)
 }
 
 /// Adds that nothing has this name.
@@ -69,7 +67,7 @@ fn push_unnamed(
     ensures { OnOk result (string_bytes text.new ≡ string_bytes text.old ++ unnamed_words lab.now name.now) }
 {
     if !is_name(name) {
-        return push_name_form(text);
+        return push_no_name(text);
     }
     let near = meant_by(alloc, lab, name)?;
     push_uncalled(text, name, near)
@@ -137,10 +135,9 @@ fn push_repeated(text: &mut String, again: &str) -> Result<(), NoMemory>
 fn push_said(text: &mut String) -> Result<(), NoMemory>
     ensures { OnOk result (string_bytes text.new ≡ string_bytes text.old ++ said_words) }
 {
-    write!(text, "a remote says at most {MOST_OCTETS} octets, ")?;
     write!(
         text,
-        "and at most {MOST_OCTETS_BEATING} where beats is true"
+        "a remote says at most {MOST_OCTETS} octets, and at most {MOST_OCTETS_BEATING} where beats is true"
     )?;
     Ok(())
 }
@@ -206,6 +203,9 @@ pub(crate) fn push_later(
         BadInput::Unknown(name) => push_unknown(alloc, text, lab, name.as_str()),
         BadInput::Repeated(again) => push_repeated(text, again.as_str()),
         BadInput::Limit(what, _) => push_count(text, lab, what.as_str()),
-        _ => Ok(text.push_str("an input is a TOML document with the keys of docs/INPUT.md")?),
+        _ => push_words(
+            text,
+            "an input is a TOML document with the keys of docs/INPUT.md",
+        ),
     }
 }

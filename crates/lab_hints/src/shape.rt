@@ -12,7 +12,7 @@ ghost use Rattle.lab_tables.specs.Rows.{rows_at, table_at as table_at_lem};
 ghost use Rattle.lab_hints.specs.Shapes.{relation_words, related_words, missing_words, flawed_words, row_words, key_words, spot_in as spot_in_lem, shape_words};
 
 use crate::stray::{push_instead, push_stray};
-use crate::wanted::push_wanted;
+use crate::wanted::{push_wanted, push_words};
 use bgp_types::NoMemory;
 use lab_keys::{Flaw, Key, Spot, TableAt, has, key_flaw, stray_in};
 use lab_tables::{keys_at, table_at};
@@ -70,7 +70,7 @@ fn push_related(text: &mut String, at: TableAt, row: &Key) -> Result<(), NoMemor
     ensures { OnOk result (string_bytes text.new ≡ string_bytes text.old ++ related_words at row.now) }
 {
     match relation(at, row.name()) {
-        Some(words) => Ok(text.push_str(words)?),
+        Some(words) => push_words(text, words),
         None => push_key_with(text, " is ", at, row),
     }
 }

@@ -17,7 +17,7 @@ returns-in-Some c =
 pub returns-in-None : goal.returns-in-None
 returns-in-None c =
     let lab = c.args.lab.now in
-    c.in_ok-push_str.ensures.bytes
-    ∙ ap (λ o. string_bytes c.args.text.now ++ unwrap_or o (codes "a router has room for all peerings that start there"))
+    IfOk-equal c.push_words.result _ _ _ c.push_words.ensures
+    (ap (λ o. string_bytes c.args.text.now ++ unwrap_or o (codes "a router has room for all peerings that start there"))
     (c.in-None.ensures ∙ ap (λ ps. each_from (crowded_words ps) 0 c.as_slice-routers.result.now) c.as_slice-peerings.ensures
-    ∙ ap (each_from (crowded_words lab.peerings) 0) c.as_slice-routers.ensures)
+    ∙ ap (each_from (crowded_words lab.peerings) 0) c.as_slice-routers.ensures))

@@ -1,4 +1,4 @@
-use Rattle.std.proofs.Common.{◌==◌, not, length, reverse, ap, arith}
+use Rattle.std.proofs.Common.{◌==◌, not, reverse, take, arith}
 use Rattle.std.specs.List.{take_while, prefix_len}
 use Rattle.std.proofs.lemmas.List.{length-take, length-reverse}
 use Rattle.std.proofs.lemmas.List.Sums.{count_by-le-length}
@@ -7,14 +7,14 @@ use Rattle.lab_hints.proofs.place.column_of.Goals as goal
 
 pub overflow_add-result : goal.overflow_add-result
 overflow_add-result c =
-    let backwards = reverse c.index.result.now in
-    let most = prefix_len (λ b. not (b == 10)) backwards in
+    let bytes = c.args.bytes.now in
+    let before = take c.args.at bytes in
+    let line = take_while (λ b. not (b == 10)) (reverse before) in
     omega (
       arith,
       c.columns_in.ensures,
-      count_by-le-length begins_character (take_while (λ b. not (b == 10)) backwards),
-      length-take most backwards,
-      length-reverse c.index.result.now,
-      ap length c.index.ensures,
-      length-take c.args.at c.args.bytes.now,
+      count_by-le-length begins_character line,
+      length-take (prefix_len (λ b. not (b == 10)) (reverse before)) (reverse before),
+      length-reverse before,
+      length-take c.args.at bytes,
     )

@@ -9,9 +9,9 @@ use Rattle.lab_hints.proofs.shape.push_related.Goals as goal
 pub returns-in-Some : goal.returns-in-Some
 returns-in-Some c =
     let row = c.args.row.now in
-    c.in_ok-push_str.ensures.bytes
-    ∙ ap (λ o. string_bytes c.args.text.now ++ unwrap_or o (row.name ++ codes " is " ++ wanted_words c.args.at row))
-    (c.in-Some.ensures ∙ ap (relation_words c.args.at) c.name.ensures)
+    IfOk-equal c.push_words.result _ _ _ c.push_words.ensures
+    (ap (λ o. string_bytes c.args.text.now ++ unwrap_or o (row.name ++ codes " is " ++ wanted_words c.args.at row))
+    (c.in-Some.ensures ∙ ap (relation_words c.args.at) c.name.ensures))
 
 pub returns-in-None : goal.returns-in-None
 returns-in-None c =
