@@ -1,4 +1,4 @@
-use Rattle.std.proofs.Common.{subst, ◌∙◌}
+use Rattle.std.proofs.Common.{subst, ◌∙◌, refl}
 use Rattle.std.specs.Prelude.{Ok}
 use Rattle.lab_words.specs.declared.job.Job.TheVariants.{Drill}
 use Rattle.lab_top.specs.Cases.{BuiltOr}

@@ -1,4 +1,4 @@
-use Rattle.std.proofs.Common.{subst, sym}
+use Rattle.std.proofs.Common.{subst, sym, refl}
 use Rattle.std.specs.Prelude.{Ok}
 use Rattle.lab_words.specs.declared.job.Job.TheVariants.{Run}
 use Rattle.lab_report.specs.Traces.{IsReport}
