@@ -1,10 +1,9 @@
-use Rattle.std.proofs.Common.{◌≡◌, ◌∙◌, ◌++◌, ap, string_bytes}
+use Rattle.std.proofs.Common.{◌∙◌, ◌++◌, ap, string_bytes}
 use Rattle.std.specs.List.{find}
 use Rattle.std.specs.Str.{bytes_eq}
 use Rattle.std.proofs.lemmas.Result.{IfOk-equal}
 use Rattle.toml.specs.View.{table_view}
 use Rattle.lab_keys.specs.Keys.{names_of}
-use Rattle.lab_tables.specs.Rows.{rows_at}
 use Rattle.lab_hints.specs.Shapes.{found_words, stray_words}
 use Rattle.lab_hints.proofs.shape.push_key.Goals as goal
 
