@@ -1,4 +1,4 @@
-use Rattle.std.proofs.Common.{sym, arith}
+use Rattle.std.proofs.Common.{arith}
 use Rattle.lab_keys.specs.Kinds.{each_from}
 use Rattle.lab_hints.specs.Later.{crowd_words, crowded_words}
 use Rattle.lab_hints.proofs.Lists.{each_goes_on, each_stops}

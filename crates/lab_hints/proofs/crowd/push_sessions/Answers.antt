@@ -1,8 +1,8 @@
-use Rattle.std.proofs.Common.{◌≡◌, ◌∙◌, ◌++◌, ap, codes, string_bytes}
-use Rattle.std.specs.Prelude.{unwrap_or, Some, None}
+use Rattle.std.proofs.Common.{◌∙◌, ◌++◌, ap, codes, string_bytes}
+use Rattle.std.specs.Prelude.{unwrap_or}
 use Rattle.std.proofs.lemmas.Result.{IfOk-equal}
 use Rattle.lab_keys.specs.Kinds.{each_from}
-use Rattle.lab_hints.specs.Later.{crowd_words, crowded_words}
+use Rattle.lab_hints.specs.Later.{crowded_words}
 use Rattle.lab_hints.proofs.crowd.push_sessions.Goals as goal
 
 -- the words go by the first router that hasn't room

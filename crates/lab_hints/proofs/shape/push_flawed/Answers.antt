@@ -1,9 +1,8 @@
-use Rattle.std.proofs.Common.{◌≡◌, ◌∙◌, ◌++◌, true, false, ap, codes, string_bytes}
+use Rattle.std.proofs.Common.{◌≡◌, ◌∙◌, ◌++◌, true, false, ap, string_bytes}
 use Rattle.std.specs.Prelude.{Some}
 use Rattle.std.proofs.lemmas.Result.{IfOk-equal}
 use Rattle.toml.specs.View.{table_view}
 use Rattle.lab_keys.specs.Values.{has_member}
-use Rattle.lab_hints.specs.Wanted.{wanted_words}
 use Rattle.lab_hints.specs.Shapes.{flawed_words}
 use Rattle.lab_hints.proofs.shape.push_flawed.Goals as goal
 

@@ -1,4 +1,4 @@
-use Rattle.std.proofs.Common.{◌∙◌, ◌++◌, ap, codes, string_bytes, append_assoc}
+use Rattle.std.proofs.Common.{◌∙◌, ◌++◌, ap, codes, string_bytes}
 use Rattle.lab_hints.specs.Wanted.{heading_front}
 use Rattle.lab_hints.proofs.Lists.{behind}
 use Rattle.lab_hints.proofs.wanted.push_tables.Goals as goal
