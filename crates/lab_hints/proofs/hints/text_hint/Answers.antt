@@ -1,4 +1,4 @@
-use Rattle.std.proofs.Common.{◌≡◌, ◌≤◌, ◌∙◌, length, sym, ap, subst, arith}
+use Rattle.std.proofs.Common.{◌≡◌, ◌≤◌, ◌∙◌, sym, subst, arith}
 use Rattle.std.specs.Prelude.{None}
 use Rattle.std.proofs.lemmas.Bool.{false≢true}
 use Rattle.std.proofs.lemmas.Result.{IfOk-weaker}
@@ -17,7 +17,7 @@ returns-in-Ok c =
 
 -- the place lies in the text
 pub place_hint-requires : goal.place_hint-requires
-place_hint-requires c = omega (arith, c.in-Some.ensures.range.0, c.in-Err.ensures.span.0, c.in-Err.ensures.span.1, ap length c.as_bytes.ensures)
+place_hint-requires c = omega (arith, c.in-Some.ensures.range.0, c.in-Err.ensures.span.0, c.in-Err.ensures.span.1, c.as_bytes.ensures.len)
 
 -- an error that has a place isn't one of memory, so that the text is no document
 pub returns-in-Some : goal.returns-in-Some
@@ -29,5 +29,5 @@ returns-in-Some c =
     (IsReadHint (parse_document text) text bad)
     (λ hint is. subst (λ d. IsReadHint d text bad hint) (sym refused) (place_in_text text hint c.message.result.now c.in-Some.span.start c.utf8.text
     (omega (arith, c.in-Some.ensures.range.0, c.in-Err.ensures.span.0, c.in-Err.ensures.span.1))
-    (subst (λ b. hint ≡ hint_line (place_words b c.in-Some.span.start c.message.result.now)) c.as_bytes.ensures is)))
+    (subst (λ b. hint ≡ hint_line (place_words b c.in-Some.span.start c.message.result.now)) c.as_bytes.ensures.value is)))
     c.place_hint.ensures

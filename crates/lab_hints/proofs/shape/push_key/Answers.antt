@@ -17,8 +17,8 @@ returns-in-Some c =
     IfOk-equal c.push_row.result _ _ _ c.push_row.ensures
     (ap (λ o. string_bytes c.args.text.now ++ found_words o c.args.at t key) (c.in-Some.ensures ∙ ap (find (λ row. bytes_eq key row.name)) rows))
 
-pub returns-in-None : goal.returns-in-None
-returns-in-None c =
+pub returns : goal.returns
+returns c =
     let t = table_view c.args.table.now in
     let key = c.args.key.now in
     let rows = c.as_slice-rows.ensures ∙ c.in_ok-keys.ensures in

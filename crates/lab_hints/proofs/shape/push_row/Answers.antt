@@ -17,5 +17,5 @@ pub returns-in-Some : goal.returns-in-Some
 returns-in-Some c =
     let t = table_view c.args.table.now in
     let row = c.args.row.now in
-    IfOk-equal c.push_flawed.result _ _ _ (c.push_flawed.ensures _)
+    IfOk-equal c.push_flawed.result _ _ _ (c.push_flawed.ensures c.in-Some.field-0)
     (ap (λ o. string_bytes c.args.text.now ++ flawed_words o (has_member row.name t) c.args.at t row) c.in-Some.ensures)
