@@ -1,0 +1,4 @@
+pub mod NoFloats
+pub mod Forms
+pub mod Walked
+pub mod Listed

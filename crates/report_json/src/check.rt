@@ -1,0 +1,54 @@
+//! What is said of an accepted input, as JSON.
+
+ghost use Rattle.std.specs.Prelude.{◌≡◌, IfOk};
+ghost use Rattle.serde_json.specs.View.{view};
+ghost use Rattle.report_json.specs.Check.{sizes_json, check_json as check_json_lem};
+ghost use Rattle.report_json.specs.Values.{json_line as json_line_lem};
+
+use crate::values::json_line;
+use graft_edge::{NoMemory, Octets};
+use lab_tables::LabInput;
+use serde_json::{Value, json};
+use std::alloc::Global;
+
+/// The sizes of an input.
+fn sizes_value(alloc: Global, input: &LabInput) -> Result<Value, NoMemory>
+    ensures { IfOk result (λ v. view v ≡ sizes_json input.now) }
+{
+    let value = json!(in alloc; {
+        "routers": input.routers.len(),
+        "peerings": input.peerings.len(),
+        "steps": input.steps.len(),
+    })?;
+    Ok(value)
+}
+
+/// The sizes of an input, and the outcomes of the two tests.
+fn check_value(alloc: Global, input: &LabInput, even: bool, sure: bool) -> Result<Value, NoMemory>
+    ensures { IfOk result (λ v. view v ≡ check_json_lem input.now even sure) }
+{
+    let counts = sizes_value(alloc, input)?;
+    let value = json!(in alloc; {
+        "version": 1u32,
+        "job": "check",
+        "ok": true,
+        "counts": counts,
+        "even": even,
+        "sure": sure,
+    })?;
+    Ok(value)
+}
+
+/// What is said of an accepted input, as JSON: how many routers, peerings and steps it has, whether routes of one neighbour AS never differ in
+/// MED there, and whether its script alone decides what becomes of its grafts.
+pub fn check_json(
+    alloc: Global,
+    input: &LabInput,
+    even: bool,
+    sure: bool,
+) -> Result<Octets, NoMemory>
+    ensures { IfOk result (λ text. text ≡ json_line_lem (check_json_lem input.now even sure)) }
+{
+    let value = check_value(alloc, input, even, sure)?;
+    json_line(alloc, &value)
+}

@@ -1,0 +1,143 @@
+//! The summary of a run, as JSON.
+
+ghost use Rattle.std.specs.Prelude.{◌≡◌, ◌++◌, map, IfOk, OnOk};
+ghost use Rattle.serde_json.specs.View.{view};
+ghost use Rattle.report_json.specs.Summary.{counts_json, short_session_json, short_peering_json, short_peerings_json};
+ghost use Rattle.report_json.specs.Summary.{short_router_json, short_routers_json, summary_json as summary_json_lem};
+ghost use Rattle.report_json.specs.Values.{json_line as json_line_lem};
+
+use crate::peerings::{holder_value, is_moving};
+use crate::run::end_value;
+use crate::values::json_line;
+use graft_edge::{NoMemory, Octets};
+use lab_report::{
+    Lab, Place, RouterTable, SessionView, accepted_in, best_count, place_at, prefix_count,
+    refused_in,
+};
+use lab_tables::{LabInput, PeeringInput, RouterInput};
+use serde_json::{Value, json};
+use std::alloc::Global;
+
+/// The counts of a run.
+fn counts_value(alloc: Global, lab: &Lab) -> Result<Value, NoMemory>
+    ensures { IfOk result (λ v. view v ≡ counts_json lab.now) }
+{
+    let prefixes = prefix_count(alloc, &lab.input)?;
+    let value = json!(in alloc; {
+        "routers": lab.input.routers.len(),
+        "peerings": lab.input.peerings.len(),
+        "prefixes": prefixes,
+        "grafts": lab.log.len(),
+        "accepted": accepted_in(lab.log.as_slice()),
+        "refused": refused_in(lab.log.as_slice()),
+    })?;
+    Ok(value)
+}
+
+/// A peering, with the sizes of its session's tables.
+fn session_value(
+    alloc: Global,
+    input: &LabInput,
+    name: &str,
+    place: Option<Place>,
+    session: &SessionView,
+) -> Result<Value, NoMemory>
+    ensures { IfOk result (λ v. view v ≡ short_session_json input.now name.now place session.now) }
+{
+    let at = holder_value(alloc, input, place)?;
+    let value = json!(in alloc; {
+        "name": name,
+        "at": at,
+        "moving": is_moving(place),
+        "heard": session.heard,
+        "told": session.told,
+    })?;
+    Ok(value)
+}
+
+/// Adds the peering of an index, unless it has no session.
+fn push_peering(
+    list: &mut Vec<Value>,
+    alloc: Global,
+    lab: &Lab,
+    index: usize,
+    peering: &PeeringInput,
+) -> Result<(), NoMemory>
+    ensures { OnOk result (map view list.new.items
+        ≡ map view list.old.items ++ short_peering_json lab.now.input lab.now.sessions lab.now.placement (index, peering.now)) }
+{
+    let Some(session) = lab.sessions.get(index) else {
+        return Ok(());
+    };
+    let place = place_at(lab.placement.as_slice(), index);
+    let name = peering.name.as_str();
+    list.push(session_value(alloc, &lab.input, name, place, session)?)?;
+    Ok(())
+}
+
+/// The peerings, in the order of the input.
+fn peerings_value(alloc: Global, lab: &Lab) -> Result<Value, NoMemory>
+    ensures { IfOk result (λ v. view v ≡ short_peerings_json lab.now) }
+{
+    let peerings = lab.input.peerings.as_slice();
+    let mut list = Vec::with_capacity(alloc, peerings.len())?;
+    for (index, peering) in peerings.iter().enumerate() {
+        push_peering(&mut list, alloc, lab, index, peering)?;
+    }
+    Ok(Value::Array(list))
+}
+
+/// A router, with the number of its best routes.
+fn router_value(
+    alloc: Global,
+    tables: &[RouterTable],
+    index: usize,
+    router: &RouterInput,
+) -> Result<Value, NoMemory>
+    ensures { IfOk result (λ v. view v ≡ short_router_json tables.now (index, router.now)) }
+{
+    let best = best_count(tables, index);
+    let value = json!(in alloc; {"name": router.name.as_str(), "best": best})?;
+    Ok(value)
+}
+
+/// The routers, in the order of the input.
+fn routers_value(alloc: Global, lab: &Lab) -> Result<Value, NoMemory>
+    ensures { IfOk result (λ v. view v ≡ short_routers_json lab.now) }
+{
+    let tables = lab.tables.as_slice();
+    let routers = lab.input.routers.as_slice();
+    let mut list = Vec::with_capacity(alloc, routers.len())?;
+    for (index, router) in routers.iter().enumerate() {
+        list.push(router_value(alloc, tables, index, router)?)?;
+    }
+    Ok(Value::Array(list))
+}
+
+/// The whole summary.
+fn summary_value(alloc: Global, lab: &Lab) -> Result<Value, NoMemory>
+    ensures { IfOk result (λ v. view v ≡ summary_json_lem lab.now) }
+{
+    let end = end_value(alloc, &lab.input, lab.end)?;
+    let counts = counts_value(alloc, lab)?;
+    let peerings = peerings_value(alloc, lab)?;
+    let routers = routers_value(alloc, lab)?;
+    let value = json!(in alloc; {
+        "version": 1u32,
+        "job": "drill",
+        "result": end,
+        "counts": counts,
+        "peerings": peerings,
+        "routers": routers,
+    })?;
+    Ok(value)
+}
+
+/// The summary of a run, as JSON: how it ended, counts, where each session is and how large its tables are, and how many best routes each
+/// router has.
+pub fn summary_json(alloc: Global, lab: &Lab) -> Result<Octets, NoMemory>
+    ensures { IfOk result (λ text. text ≡ json_line_lem (summary_json_lem lab.now)) }
+{
+    let value = summary_value(alloc, lab)?;
+    json_line(alloc, &value)
+}

@@ -1,0 +1,148 @@
+//! All that there is at the end of a run, as JSON.
+
+ghost use Rattle.std.specs.Prelude.{◌≡◌, ◌++◌, map, slice_get, IfOk, OnOk};
+ghost use Rattle.std.specs.List.{flat_map, enumerate_from};
+ghost use Rattle.report_json.specs.Values.{list_of, json_line as json_line_lem};
+ghost use Rattle.serde_json.specs.View.{view};
+ghost use Rattle.why_view.specs.Sources.{numbered_peerings};
+ghost use Rattle.why_view.specs.Stories.{story_peering};
+ghost use Rattle.show_json.specs.Show.{router_json, view_json, peering_json, waiting_json, show_json as show_json_lem};
+
+use crate::faults::faults_value;
+use crate::routes::bests_value;
+use crate::sessions::session_value;
+use crate::tables::tables_value;
+use bgp_story::Story;
+use bgp_types::{NoMemory, Octets, PeeringId};
+use lab_report::{Lab, RunEnd, place_at};
+use lab_tables::{PeeringInput, RouterInput};
+use report_json::{end_value, holder_value, is_moving, json_line};
+use serde_json::{Value, json};
+use show_view::{best_in, numbered, push_pending};
+use std::alloc::Global;
+use why_view::opened_on;
+
+/// A router's name, and its best routes with all attributes.
+fn router_value(
+    alloc: Global,
+    lab: &Lab,
+    index: usize,
+    router: &RouterInput,
+) -> Result<Value, NoMemory>
+    ensures { IfOk result (λ v. view v ≡ router_json lab.now (index, router.now)) }
+{
+    let table = best_in(lab.tables.get(index));
+    let best = bests_value(alloc, &lab.input, table)?;
+    let value = json!(in alloc; {"name": router.name.as_str(), "best": best})?;
+    Ok(value)
+}
+
+/// The routers, in the order of the input.
+fn routers_value(alloc: Global, lab: &Lab) -> Result<Value, NoMemory>
+    ensures { IfOk result (λ v. view v ≡ list_of (map (router_json lab.now) (enumerate_from 0 lab.now.input.routers))) }
+{
+    let routers = lab.input.routers.as_slice();
+    let mut list = Vec::with_capacity(alloc, routers.len())?;
+    for (index, router) in routers.iter().enumerate() {
+        list.push(router_value(alloc, lab, index, router)?)?;
+    }
+    Ok(Value::Array(list))
+}
+
+/// A peering with its session, which has this story.
+fn view_value(
+    alloc: Global,
+    lab: &Lab,
+    number: PeeringId,
+    peering: &PeeringInput,
+    story: &Story,
+) -> Result<Value, NoMemory>
+    ensures { IfOk result (λ v. view v ≡ view_json lab.now (slice_get lab.now.placement number.0) (number.0, peering.now)
+        (story_peering lab.now.input peering.now) story.now.lines) }
+{
+    let place = place_at(&lab.placement, usize::from(number.0));
+    let opened = opened_on(alloc, peering, story)?;
+    let at = holder_value(alloc, &lab.input, place)?;
+    let session = session_value(alloc, peering, story, &opened)?;
+    let routes = tables_value(alloc, lab, place, number, peering, story, &opened)?;
+    let value = json!(in alloc; {
+        "name": peering.name.as_str(),
+        "at": at,
+        "moving": is_moving(place),
+        "session": session,
+        "routes": routes,
+    })?;
+    Ok(value)
+}
+
+/// Adds a peering, unless it has no session.
+fn push_peering(
+    list: &mut Vec<Value>,
+    alloc: Global,
+    lab: &Lab,
+    number: PeeringId,
+    peering: &PeeringInput,
+) -> Result<(), NoMemory>
+    ensures { OnOk result (map view list.new.items ≡ map view list.old.items ++ peering_json lab.now (number.0, peering.now)) }
+{
+    let Some(session) = lab.sessions.get(usize::from(number.0)) else {
+        return Ok(());
+    };
+    list.push(view_value(alloc, lab, number, peering, &session.story)?)?;
+    Ok(())
+}
+
+/// The peerings, in the order of the input.
+fn peerings_value(alloc: Global, lab: &Lab) -> Result<Value, NoMemory>
+    ensures { IfOk result (λ v. view v ≡ list_of (flat_map (peering_json lab.now) (numbered_peerings lab.now.input))) }
+{
+    let peerings = numbered(lab.input.peerings.as_slice());
+    let mut list = Vec::with_capacity(alloc, peerings.len())?;
+    for (index, peering) in peerings.iter().enumerate() {
+        push_peering(&mut list, alloc, lab, PeeringId(index as u8), peering)?;
+    }
+    Ok(Value::Array(list))
+}
+
+/// What an unsettled run was waiting for, or null.
+fn waiting_value(alloc: Global, lab: &Lab) -> Result<Value, NoMemory>
+    ensures { IfOk result (λ v. view v ≡ waiting_json lab.now lab.now.end) }
+{
+    let RunEnd::Unsettled { pending, .. } = lab.end else {
+        return Ok(Value::Null);
+    };
+    let mut text = String::new(alloc);
+    push_pending(&mut text, alloc, lab, pending)?;
+    Ok(Value::from(text))
+}
+
+/// The whole.
+fn show_value(alloc: Global, lab: &Lab) -> Result<Value, NoMemory>
+    ensures { IfOk result (λ v. view v ≡ show_json_lem lab.now) }
+{
+    let end = end_value(alloc, &lab.input, lab.end)?;
+    let waiting = waiting_value(alloc, lab)?;
+    let routers = routers_value(alloc, lab)?;
+    let peerings = peerings_value(alloc, lab)?;
+    let faults = faults_value(alloc, lab)?;
+    let value = json!(in alloc; {
+        "version": 1u32,
+        "job": "show",
+        "result": end,
+        "waiting": waiting,
+        "routers": routers,
+        "peerings": peerings,
+        "faults": faults,
+    })?;
+    Ok(value)
+}
+
+/// All that there is at the end of a run, as JSON: how it ended and what it was waiting for if it didn't settle; the best routes of each router
+/// with all attributes; of each peering what its session came to and its routes before and after the policies, with the reason of each best
+/// route that isn't told; and the planned faults whose segments never came.
+pub fn show_json(alloc: Global, lab: &Lab) -> Result<Octets, NoMemory>
+    ensures { IfOk result (λ text. text ≡ json_line_lem (show_json_lem lab.now)) }
+{
+    let value = show_value(alloc, lab)?;
+    json_line(alloc, &value)
+}
