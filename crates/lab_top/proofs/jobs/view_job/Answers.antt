@@ -13,8 +13,8 @@ returns-in-Err g c =
     let read = views_read c.args.view c.args.workers in
     stopped_ends job _ _ c.in-Err.stop c.end_stopped.result read (bad_run job _ _ run read) c.in-Err.ensures c.end_stopped.ensures
 
-pub returns-in_ok-text-in-Err-view_named : goal.returns-in_ok-text-in-Err-view_named
-returns-in_ok-text-in-Err-view_named g c =
+pub returns-in-Err-view_named : goal.returns-in-Err-view_named
+returns-in-Err-view_named g c =
     unknown_ends c.args.view c.args.workers _ _ c.in-Ok.input c.in-Err-view_named.name c.deref.result.now _ _ c.in-Ok.ensures
     (sym c.in-Err-view_named.ensures) (c.deref.ensures ∙ c.in_ok-text-in-Err-view_named.ensures) c.end_with.ensures.lab c.end_with.ensures.writes
 
