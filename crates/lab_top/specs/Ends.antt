@@ -1,5 +1,5 @@
 -- How a command ends: what its status says of the words, the source and the sink.
-use Rattle.std.specs.Prelude.{◌≡◌, ◌⊎◌, ℕ, ◌<◌, false, List, [], ◌∷◌, ◌++◌, length, Option, Result, Ok, Err, codes}
+use Rattle.std.specs.Prelude.{◌≡◌, ◌⊎◌, ℕ, ◌<◌, false, List, ◌∷◌, ◌++◌, length, Option, Result, Ok, Err, codes}
 use Rattle.graft_edge.specs.Outside.{FaultRose, Took, IsAtEnd, Appended, AppendedFront}
 use Rattle.lab_tables.specs.declared.input.LabInput.{LabInput}
 use Rattle.lab_input.specs.declared.bad.BadInput.{BadInput}
