@@ -324,11 +324,18 @@ def show_lines(o):
         yield f"fault {f['peering']} {f['way']} segment {f['segment']} {f['kind']} never came"
 
 
+def test_lines(o):
+    for number, e in enumerate(o["expectations"], 1):
+        yield f"ok {number}" if e["ok"] else f"failed {number} wanted {e['key']} {e['wanted']} got {e['got']}"
+    yield f"expectations {len(o['expectations'])} failed {o['failed']}"
+
+
 LINES = {
     "check": check_lines,
     "run": run_lines,
     "drill": drill_lines,
     "show": show_lines,
+    "test": test_lines,
     "timeline": timeline_lines,
     "why": why_lines,
 }
@@ -379,6 +386,7 @@ def jobs_of(program, data):
     yield ["run", "--workers", "1"]
     yield ["show", "--workers", "1"]
     yield ["timeline", "--workers", "1"]
+    yield ["test", "--workers", "1"]
     report = call(program, ["run", "--workers", "1"], data)[0].splitlines()
     routers = [line.split()[1] for line in report if line.startswith("router ")]
     for prefix in sorted({line.split()[1] for line in report if line.startswith("best ")}):
