@@ -8,7 +8,7 @@ ghost use Rattle.lab_top.specs.Forms.{show_in as show_in_lem, why_in as why_in_l
 
 use bgp_types::Prefix;
 use expect_json::test_json;
-use expect_view::tested;
+use expect_view::{TestResult, tested};
 use graft_edge::{Items, NoMemory, Octets, RouterId};
 use lab_answers::{even, sure};
 use lab_report::{Lab, check_text, report, summary};
@@ -74,15 +74,12 @@ pub(crate) fn tested_in(alloc: Global, lab: &Lab, form: Form) -> Result<Told, No
     ensures text { IfOk result (λ told. told.text ≡ test_in form lab.now) }
     ensures all { IfOk result (λ told. told.all_hold ≡ all_hold lab.now) }
 {
-    let result = tested(alloc, lab)?;
+    let TestResult { text, all_hold } = tested(alloc, lab)?;
     let text = match form {
-        Form::Plain => octets_of(result.text),
+        Form::Plain => octets_of(text),
         Form::Json => test_json(alloc, lab)?,
     };
-    Ok(Told {
-        text,
-        all_hold: result.all_hold,
-    })
+    Ok(Told { text, all_hold })
 }
 
 /// The timeline of a run.
