@@ -12,7 +12,8 @@ use bgp_types::NoMemory;
 use lab_report::{Lab, peering_name};
 use lab_tables::LabInput;
 use link_bag::Fault;
-use serde_json::{Value, json};
+use report_json::put_text;
+use serde_json::{Map, Value, put};
 use show_view::{Segments, count_segments, kind_name, segments_on, way_name};
 use std::alloc::Global;
 
@@ -20,13 +21,13 @@ use std::alloc::Global;
 fn never_came(alloc: Global, input: &LabInput, fault: &Fault) -> Result<Value, NoMemory>
     ensures { IfOk result (λ v. view v ≡ never_came input.now fault.now) }
 {
-    let value = json!(in alloc; {
-        "peering": peering_name(input, fault.peering.0),
-        "way": way_name(fault.way),
-        "segment": fault.segment,
-        "kind": kind_name(fault.kind),
-    })?;
-    Ok(value)
+    let remote = peering_name(input, fault.peering.0);
+    let mut map = Map::new(alloc);
+    put_text(&mut map, alloc, "kind", kind_name(fault.kind))?;
+    put_text(&mut map, alloc, "peering", remote)?;
+    put(&mut map, alloc, "segment", Value::from(fault.segment))?;
+    put_text(&mut map, alloc, "way", way_name(fault.way))?;
+    Ok(Value::Object(map))
 }
 
 /// Adds a fault, if its segment never came.

@@ -19,7 +19,8 @@ use lab_report::state_name;
 use lab_tables::PeeringInput;
 use message_json::notice_value;
 use message_words::read_got;
-use serde_json::{Value, json};
+use report_json::put_text;
+use serde_json::{Map, Value, put};
 use show_view::{
     as_octets, before_last, expected_last, received_messages, received_octets, sent_messages,
     sent_octets,
@@ -59,8 +60,10 @@ fn sizes_value(alloc: Global, messages: usize, octets: u128) -> Result<Value, No
     let Ok(octets) = u64::try_from(octets) else {
         return Err(NoMemory);
     };
-    let value = json!(in alloc; {"messages": messages, "octets": octets})?;
-    Ok(value)
+    let mut map = Map::new(alloc);
+    put(&mut map, alloc, "messages", Value::from(messages))?;
+    put(&mut map, alloc, "octets", Value::from(octets))?;
+    Ok(Value::Object(map))
 }
 
 /// What was sent.
@@ -82,8 +85,11 @@ fn received_value(alloc: Global, lines: &[Line]) -> Result<Value, NoMemory>
 fn closed_value(alloc: Global, how: &str, notice: Value, round: Value) -> Result<Value, NoMemory>
     ensures { IfOk result (λ v. view v ≡ closed_json how.now (view notice) (view round)) }
 {
-    let value = json!(in alloc; {"how": how, "notice": notice, "round": round})?;
-    Ok(value)
+    let mut map = Map::new(alloc);
+    put_text(&mut map, alloc, "how", how)?;
+    put(&mut map, alloc, "notice", notice)?;
+    put(&mut map, alloc, "round", round)?;
+    Ok(Value::Object(map))
 }
 
 /// That the hold time expired in a round.
@@ -150,13 +156,12 @@ pub(crate) fn session_value(
     let closed = closing_value(alloc, &expected, lines)?;
     let sent = sent_value(alloc, is_wide(peering, opened), lines)?;
     let received = received_value(alloc, lines)?;
-    let value = json!(in alloc; {
-        "state": state_name(story.state()),
-        "hold": hold_value(peering, opened),
-        "as_octets": width_value(peering, opened),
-        "sent": sent,
-        "received": received,
-        "closed": closed,
-    })?;
-    Ok(value)
+    let mut map = Map::new(alloc);
+    put(&mut map, alloc, "as_octets", width_value(peering, opened))?;
+    put(&mut map, alloc, "closed", closed)?;
+    put(&mut map, alloc, "hold", hold_value(peering, opened))?;
+    put(&mut map, alloc, "received", received)?;
+    put(&mut map, alloc, "sent", sent)?;
+    put_text(&mut map, alloc, "state", state_name(story.state()))?;
+    Ok(Value::Object(map))
 }

@@ -16,8 +16,8 @@ use bgp_story::Story;
 use bgp_types::{NoMemory, Octets, PeeringId};
 use lab_report::{Lab, RunEnd, place_at};
 use lab_tables::{PeeringInput, RouterInput};
-use report_json::{end_value, holder_value, is_moving, json_line};
-use serde_json::{Value, json};
+use report_json::{end_value, holder_value, is_moving, json_line, put_text};
+use serde_json::{Map, Value, put};
 use show_view::{best_in, numbered, push_pending};
 use std::alloc::Global;
 use why_view::opened_on;
@@ -33,8 +33,10 @@ fn router_value(
 {
     let table = best_in(lab.tables.get(index));
     let best = bests_value(alloc, &lab.input, table)?;
-    let value = json!(in alloc; {"name": router.name.as_str(), "best": best})?;
-    Ok(value)
+    let mut map = Map::new(alloc);
+    put(&mut map, alloc, "best", best)?;
+    put_text(&mut map, alloc, "name", router.name.as_str())?;
+    Ok(Value::Object(map))
 }
 
 /// The routers, in the order of the input.
@@ -65,14 +67,13 @@ fn view_value(
     let at = holder_value(alloc, &lab.input, place)?;
     let session = session_value(alloc, peering, story, &opened)?;
     let routes = tables_value(alloc, lab, place, number, peering, story, &opened)?;
-    let value = json!(in alloc; {
-        "name": peering.name.as_str(),
-        "at": at,
-        "moving": is_moving(place),
-        "session": session,
-        "routes": routes,
-    })?;
-    Ok(value)
+    let mut map = Map::new(alloc);
+    put(&mut map, alloc, "at", at)?;
+    put(&mut map, alloc, "moving", Value::from(is_moving(place)))?;
+    put_text(&mut map, alloc, "name", peering.name.as_str())?;
+    put(&mut map, alloc, "routes", routes)?;
+    put(&mut map, alloc, "session", session)?;
+    Ok(Value::Object(map))
 }
 
 /// Adds a peering, unless it has no session.
@@ -125,16 +126,15 @@ fn show_value(alloc: Global, lab: &Lab) -> Result<Value, NoMemory>
     let routers = routers_value(alloc, lab)?;
     let peerings = peerings_value(alloc, lab)?;
     let faults = faults_value(alloc, lab)?;
-    let value = json!(in alloc; {
-        "version": 1u32,
-        "job": "show",
-        "result": end,
-        "waiting": waiting,
-        "routers": routers,
-        "peerings": peerings,
-        "faults": faults,
-    })?;
-    Ok(value)
+    let mut map = Map::new(alloc);
+    put(&mut map, alloc, "faults", faults)?;
+    put_text(&mut map, alloc, "job", "show")?;
+    put(&mut map, alloc, "peerings", peerings)?;
+    put(&mut map, alloc, "result", end)?;
+    put(&mut map, alloc, "routers", routers)?;
+    put(&mut map, alloc, "version", Value::from(1u32))?;
+    put(&mut map, alloc, "waiting", waiting)?;
+    Ok(Value::Object(map))
 }
 
 /// All that there is at the end of a run, as JSON: how it ended and what it was waiting for if it didn't settle; the best routes of each router

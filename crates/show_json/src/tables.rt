@@ -22,7 +22,7 @@ use bgp_types::{NoMemory, OpenMsg, PeeringId, RouterId, SessionState};
 use lab_report::{Lab, Place};
 use lab_tables::{LabInput, PeeringInput, RouterInput};
 use route_policy::{OutView, Policy};
-use serde_json::{Value, json};
+use serde_json::{Map, Value, put};
 use show_view::{
     AttrsEntry, best_in, entries_of, holder_number, is_established, router_at, told_on,
 };
@@ -102,8 +102,11 @@ fn all_untold(
 fn routes_value(alloc: Global, heard: Value, told: Value, untold: Value) -> Result<Value, NoMemory>
     ensures { IfOk result (λ v. view v ≡ routes_json (view heard) (view told) (view untold)) }
 {
-    let value = json!(in alloc; {"heard": heard, "told": told, "untold": untold})?;
-    Ok(value)
+    let mut map = Map::new(alloc);
+    put(&mut map, alloc, "heard", heard)?;
+    put(&mut map, alloc, "told", told)?;
+    put(&mut map, alloc, "untold", untold)?;
+    Ok(Value::Object(map))
 }
 
 /// The routes of a session on its way, which got this OPEN.

@@ -13,9 +13,9 @@ use adj_rib::AdjRib;
 use bgp_types::{NoMemory, Prefix};
 use lab_report::BestEntry;
 use lab_tables::{LabInput, PeeringInput};
-use report_json::prefix_value;
+use report_json::{prefix_value, put_text};
 use route_policy::OutView;
-use serde_json::{Value, json};
+use serde_json::{Map, Value, put};
 use show_view::{Untold, best_of, why_untold};
 use std::alloc::Global;
 
@@ -73,14 +73,13 @@ fn untold_value(
     let of = prefix_value(alloc, prefix)?;
     let policy = policy_value(alloc, peering, why)?;
     let rule = denying_value(why)?;
-    let value = json!(in alloc; {
-        "prefix": of,
-        "why": untold_word(why),
-        "as": as_value(peering, why),
-        "policy": policy,
-        "rule": rule,
-    })?;
-    Ok(value)
+    let mut map = Map::new(alloc);
+    put(&mut map, alloc, "as", as_value(peering, why))?;
+    put(&mut map, alloc, "policy", policy)?;
+    put(&mut map, alloc, "prefix", of)?;
+    put(&mut map, alloc, "rule", rule)?;
+    put_text(&mut map, alloc, "why", untold_word(why))?;
+    Ok(Value::Object(map))
 }
 
 /// A best route that isn't told.

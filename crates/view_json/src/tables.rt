@@ -12,7 +12,8 @@ use bgp_story::Line;
 use graft_edge::NoMemory;
 use lab_report::{Lab, SessionView, router_name};
 use lab_tables::{PeeringInput, RouterInput};
-use serde_json::{Value, json};
+use report_json::put_text;
+use serde_json::{Map, Value, put};
 use std::alloc::Global;
 use timeline_view::{Happening, Happenings, Outline, by_rounds, decided_at, heard_at, told_at};
 
@@ -131,14 +132,13 @@ fn counts_value(
 ) -> Result<Value, NoMemory>
     ensures { IfOk result (λ v. view v ≡ some_counts round name.now decided told heard) }
 {
-    let value = json!(in alloc; {
-        "round": round,
-        "router": name,
-        "decided": decided,
-        "told": told,
-        "heard": heard,
-    })?;
-    Ok(value)
+    let mut map = Map::new(alloc);
+    put(&mut map, alloc, "decided", Value::from(decided))?;
+    put(&mut map, alloc, "heard", Value::from(heard))?;
+    put(&mut map, alloc, "round", Value::from(round))?;
+    put_text(&mut map, alloc, "router", name)?;
+    put(&mut map, alloc, "told", Value::from(told))?;
+    Ok(Value::Object(map))
 }
 
 /// Adds what a router decided, told and heard in a round, if there was something.
