@@ -12,8 +12,8 @@ ghost use Rattle.message_json.specs.Messages.{notification_json, keepalive_json}
 use bgp_types::{Attrs, Cap, Expected, Message, NoMemory, Notice, OpenMsg, Prefix, Update};
 use bgp_wire::{CodecFault, as_said};
 use message_words::{communication, fault_name, read_got, type_name};
-use report_json::{address_value, count_or_null, path_value, prefix_value, text_or_null};
-use serde_json::{Value, json};
+use report_json::{address_value, count_or_null, path_value, prefix_value, put_text, text_or_null};
+use serde_json::{Map, Value, put};
 use std::alloc::Global;
 
 /// Returns prefixes.
@@ -45,15 +45,14 @@ fn open_value(alloc: Global, first: &OpenMsg) -> Result<Value, NoMemory>
     let id = address_value(alloc, first.identifier)?;
     let capabilities = codes_value(alloc, &first.caps)?;
     let as4 = count_or_null(as_said(&first.caps));
-    let value = json!(in alloc; {
-        "type": "OPEN",
-        "as": first.as_number,
-        "hold": first.hold,
-        "id": id,
-        "capabilities": capabilities,
-        "as4": as4,
-    })?;
-    Ok(value)
+    let mut map = Map::new(alloc);
+    put(&mut map, alloc, "as", Value::from(first.as_number))?;
+    put(&mut map, alloc, "as4", as4)?;
+    put(&mut map, alloc, "capabilities", capabilities)?;
+    put(&mut map, alloc, "hold", Value::from(first.hold))?;
+    put(&mut map, alloc, "id", id)?;
+    put_text(&mut map, alloc, "type", "OPEN")?;
+    Ok(Value::Object(map))
 }
 
 /// The path of an UPDATE that announces, or null.
@@ -73,13 +72,12 @@ fn update_value(alloc: Global, update: &Update) -> Result<Value, NoMemory>
     let withdraw = prefixes_value(alloc, &update.withdrawn)?;
     let announce = prefixes_value(alloc, &update.nlri)?;
     let path = some_path(alloc, &update.attrs)?;
-    let value = json!(in alloc; {
-        "type": "UPDATE",
-        "withdraw": withdraw,
-        "announce": announce,
-        "path": path,
-    })?;
-    Ok(value)
+    let mut map = Map::new(alloc);
+    put(&mut map, alloc, "announce", announce)?;
+    put(&mut map, alloc, "path", path)?;
+    put_text(&mut map, alloc, "type", "UPDATE")?;
+    put(&mut map, alloc, "withdraw", withdraw)?;
+    Ok(Value::Object(map))
 }
 
 /// Returns octets in hexadecimal.
@@ -96,29 +94,31 @@ pub fn notice_value(alloc: Global, notice: &Notice) -> Result<Value, NoMemory>
     let name = text_or_null(alloc, fault_name(notice.code, notice.subcode))?;
     let data = octets_value(alloc, &notice.info)?;
     let text = text_or_null(alloc, communication(notice))?;
-    let value = json!(in alloc; {
-        "code": notice.code,
-        "subcode": notice.subcode,
-        "name": name,
-        "data": data,
-        "text": text,
-    })?;
-    Ok(value)
+    let mut map = Map::new(alloc);
+    put(&mut map, alloc, "code", Value::from(notice.code))?;
+    put(&mut map, alloc, "data", data)?;
+    put(&mut map, alloc, "name", name)?;
+    put(&mut map, alloc, "subcode", Value::from(notice.subcode))?;
+    put(&mut map, alloc, "text", text)?;
+    Ok(Value::Object(map))
 }
 
 fn notification_value(alloc: Global, notice: &Notice) -> Result<Value, NoMemory>
     ensures { IfOk result (λ v. view v ≡ notification_json notice.now) }
 {
     let notice = notice_value(alloc, notice)?;
-    let value = json!(in alloc; {"type": "NOTIFICATION", "notice": notice})?;
-    Ok(value)
+    let mut map = Map::new(alloc);
+    put(&mut map, alloc, "notice", notice)?;
+    put_text(&mut map, alloc, "type", "NOTIFICATION")?;
+    Ok(Value::Object(map))
 }
 
 fn keepalive_value(alloc: Global) -> Result<Value, NoMemory>
     ensures { IfOk result (λ v. view v ≡ keepalive_json) }
 {
-    let value = json!(in alloc; {"type": "KEEPALIVE"})?;
-    Ok(value)
+    let mut map = Map::new(alloc);
+    put_text(&mut map, alloc, "type", "KEEPALIVE")?;
+    Ok(Value::Object(map))
 }
 
 /// Returns a message.
@@ -139,8 +139,10 @@ fn faulty_value(alloc: Global, bytes: &[u8], notice: &Notice) -> Result<Value, N
     ensures { IfOk result (λ v. view v ≡ faulty_json bytes.now notice.now) }
 {
     let fault = notice_value(alloc, notice)?;
-    let value = json!(in alloc; {"type": type_name(bytes), "fault": fault})?;
-    Ok(value)
+    let mut map = Map::new(alloc);
+    put(&mut map, alloc, "fault", fault)?;
+    put_text(&mut map, alloc, "type", type_name(bytes))?;
+    Ok(Value::Object(map))
 }
 
 /// Returns what a session that expects this reads in octets that it got at once.
