@@ -14,7 +14,7 @@ use bgp_types::{Name, NoMemory, Route};
 use lab_report::BestEntry;
 use lab_tables::{LabInput, PeeringInput};
 use message_json::attrs_value;
-use report_json::{from_value, prefix_value, put_text};
+use report_json::{from_value, prefix_value, push_value, put_text};
 use route_policy::Policy;
 use serde_json::{Map, Value, put};
 use show_view::{AttrsEntry, denying_rule, let_in};
@@ -66,7 +66,7 @@ pub(crate) fn bests_value(
 {
     let mut list = Vec::with_capacity(alloc, table.len())?;
     for best in table {
-        list.push(best_value(alloc, input, best)?)?;
+        push_value(&mut list, best_value(alloc, input, best)?)?;
     }
     Ok(Value::Array(list))
 }

@@ -6,7 +6,9 @@ ghost use Rattle.bgp_story.specs.Laws.{IsGotLine};
 ghost use Rattle.bgp_story.specs.Legal.{IsGot, got_open};
 ghost use Rattle.bgp_types.specs.FirstFault.{message_of};
 ghost use Rattle.lab_tables.specs.declared.input.LabInput.{LabInput};
+ghost use Rattle.serde_json.specs.Data.{null};
 ghost use Rattle.serde_json.specs.View.{view};
+ghost use Rattle.message_json.specs.Messages.{notice_json};
 ghost use Rattle.why_view.specs.Stories.{story_peering};
 ghost use Rattle.show_view.specs.Sessions.{before_last as before_last_lem, last_of};
 ghost use Rattle.show_json.specs.Sessions.{hold_json, width_json, sizes_json, sent_json, received_json, closed_json, expired_json, closed_by, closed_for};
@@ -100,15 +102,22 @@ fn expired_value(alloc: Global, round: u32) -> Result<Value, NoMemory>
     closed_value(alloc, "hold time expired", Value::Null, round)
 }
 
+/// That a NOTIFICATION was sent or received.
+fn notice_closed(alloc: Global, how: &str, notice: &Notice) -> Result<Value, NoMemory>
+    ensures { IfOk result (λ v. view v ≡ closed_json how.now (notice_json notice.now) null) }
+{
+    let notice = notice_value(alloc, notice)?;
+    closed_value(alloc, how, notice, Value::Null)
+}
+
 /// That a NOTIFICATION was sent, or behind a second that the hold time expired in it.
 fn closed_by(alloc: Global, before: Option<&Line>, notice: &Notice) -> Result<Value, NoMemory>
     ensures { IfOk result (λ v. view v ≡ closed_by (option_copied before.entry) notice.now) }
 {
-    if let Some(Line::Tick(round)) = before {
-        return expired_value(alloc, *round);
+    match before {
+        Some(Line::Tick(round)) => expired_value(alloc, *round),
+        _ => notice_closed(alloc, "sent", notice),
     }
-    let notice = notice_value(alloc, notice)?;
-    closed_value(alloc, "sent", notice, Value::Null)
 }
 
 /// That a NOTIFICATION was received, if these octets are one.
@@ -116,13 +125,11 @@ fn closed_for(alloc: Global, expected: &Expected, bytes: &[u8]) -> Result<Value,
     requires { IsGot bytes.now }
     ensures { IfOk result (λ v. view v ≡ closed_for (message_of expected.now bytes.now)) }
 {
-    let notice = match read_got(alloc, expected, bytes) {
-        Ok(Message::NoticeMsg(notice)) => notice,
-        Ok(_) | Err(CodecFault::Wire(_)) => return Ok(Value::Null),
-        Err(CodecFault::NoMemory) => return Err(NoMemory),
-    };
-    let received = notice_value(alloc, &notice)?;
-    closed_value(alloc, "received", received, Value::Null)
+    match read_got(alloc, expected, bytes) {
+        Ok(Message::NoticeMsg(notice)) => notice_closed(alloc, "received", &notice),
+        Ok(_) | Err(CodecFault::Wire(_)) => Ok(Value::Null),
+        Err(CodecFault::NoMemory) => Err(NoMemory),
+    }
 }
 
 /// Why a session closed, or null. This was expected at its last line.

@@ -16,7 +16,7 @@ use bgp_story::Story;
 use bgp_types::{NoMemory, Octets, PeeringId};
 use lab_report::{Lab, RunEnd, place_at};
 use lab_tables::{PeeringInput, RouterInput};
-use report_json::{end_value, holder_value, is_moving, json_line, put_text};
+use report_json::{end_value, holder_value, is_moving, json_line, push_value, put_text};
 use serde_json::{Map, Value, put};
 use show_view::{best_in, numbered, push_pending};
 use std::alloc::Global;
@@ -46,7 +46,7 @@ fn routers_value(alloc: Global, lab: &Lab) -> Result<Value, NoMemory>
     let routers = lab.input.routers.as_slice();
     let mut list = Vec::with_capacity(alloc, routers.len())?;
     for (index, router) in routers.iter().enumerate() {
-        list.push(router_value(alloc, lab, index, router)?)?;
+        push_value(&mut list, router_value(alloc, lab, index, router)?)?;
     }
     Ok(Value::Array(list))
 }
@@ -89,7 +89,10 @@ fn push_peering(
     let Some(session) = lab.sessions.get(usize::from(number.0)) else {
         return Ok(());
     };
-    list.push(view_value(alloc, lab, number, peering, &session.story)?)?;
+    push_value(
+        list,
+        view_value(alloc, lab, number, peering, &session.story)?,
+    )?;
     Ok(())
 }
 

@@ -21,6 +21,7 @@ use bgp_story::Story;
 use bgp_types::{NoMemory, OpenMsg, PeeringId, RouterId, SessionState};
 use lab_report::{Lab, Place};
 use lab_tables::{LabInput, PeeringInput, RouterInput};
+use report_json::push_value;
 use route_policy::{OutView, Policy};
 use serde_json::{Map, Value, put};
 use show_view::{
@@ -42,7 +43,10 @@ fn all_heard(
 {
     let mut list = Vec::with_capacity(alloc, entries.len())?;
     for entry in entries {
-        list.push(heard_value(alloc, input, peering, policy, entry)?)?;
+        push_value(
+            &mut list,
+            heard_value(alloc, input, peering, policy, entry)?,
+        )?;
     }
     Ok(Value::Array(list))
 }
@@ -53,7 +57,7 @@ fn all_heard_alone(alloc: Global, entries: &[AttrsEntry]) -> Result<Value, NoMem
 {
     let mut list = Vec::with_capacity(alloc, entries.len())?;
     for entry in entries {
-        list.push(heard_alone(alloc, entry)?)?;
+        push_value(&mut list, heard_alone(alloc, entry)?)?;
     }
     Ok(Value::Array(list))
 }
@@ -64,7 +68,7 @@ fn all_told(alloc: Global, entries: &[AttrsEntry]) -> Result<Value, NoMemory>
 {
     let mut list = Vec::with_capacity(alloc, entries.len())?;
     for entry in entries {
-        list.push(entry_value(alloc, entry)?)?;
+        push_value(&mut list, entry_value(alloc, entry)?)?;
     }
     Ok(Value::Array(list))
 }

@@ -1,6 +1,6 @@
 //! What isn't told on a session, and why, as JSON.
 
-ghost use Rattle.std.specs.Prelude.{◌≡◌, ◌++◌, map, IfOk, OnOk};
+ghost use Rattle.std.specs.Prelude.{◌≡◌, [], ◌∷◌, ◌++◌, map, IfOk, OnOk};
 ghost use Rattle.std.specs.List.{flat_map};
 ghost use Rattle.lab_tables.specs.declared.input.RouterInput.{RouterInput};
 ghost use Rattle.route_policy.specs.Telling.{out_side_of_view};
@@ -13,7 +13,7 @@ use adj_rib::AdjRib;
 use bgp_types::{NoMemory, Prefix};
 use lab_report::BestEntry;
 use lab_tables::{LabInput, PeeringInput};
-use report_json::{prefix_value, put_text};
+use report_json::{prefix_value, push_value, put_text};
 use route_policy::OutView;
 use serde_json::{Map, Value, put};
 use show_view::{Untold, best_of, why_untold};
@@ -82,20 +82,23 @@ fn untold_value(
     Ok(Value::Object(map))
 }
 
-/// A best route that isn't told.
-fn best_untold(
+/// Adds a best route that isn't told.
+fn push_untold(
+    list: &mut Vec<Value>,
     alloc: Global,
     home_as: u32,
     out: &OutView<'_>,
     peering: &PeeringInput,
     entry: &BestEntry,
-) -> Result<Value, NoMemory>
-    ensures { IfOk result (λ v. view v ≡ untold_json peering.now entry.now.prefix
-        (why_untold_lem home_as (out_side_of_view out.now) entry.now.prefix (best_of_lem entry.now))) }
+) -> Result<(), NoMemory>
+    ensures { OnOk result (map view list.new.items ≡ map view list.old.items ++ untold_json peering.now entry.now.prefix
+        (why_untold_lem home_as (out_side_of_view out.now) entry.now.prefix (best_of_lem entry.now)) ∷ []) }
 {
     let best = best_of(entry)?;
     let why = why_untold(home_as, out, entry.prefix, &best)?;
-    untold_value(alloc, peering, entry.prefix, why)
+    let value = untold_value(alloc, peering, entry.prefix, why)?;
+    push_value(list, value)?;
+    Ok(())
 }
 
 /// Adds a best route, unless something is told of its prefix.
@@ -115,8 +118,7 @@ fn push_unless_told(
     if told.get(entry.prefix).is_some() {
         return Ok(());
     }
-    list.push(best_untold(alloc, input.home_as, out, peering, entry)?)?;
-    Ok(())
+    push_untold(list, alloc, input.home_as, out, peering, entry)
 }
 
 /// The best routes of a router that aren't told on a session.

@@ -21,7 +21,7 @@ use graft_steps::GraftEntry;
 use lab_report::{Lab, SessionView, peering_name, router_name};
 use lab_tables::LabInput;
 use message_json::{message_value, read_value};
-use report_json::{put_text, source_value, stage_refusal};
+use report_json::{push_value, put_text, source_value, stage_refusal};
 use serde_json::{Map, Value, put};
 use std::alloc::Global;
 use story_view::lines_of;
@@ -59,7 +59,7 @@ fn push_event(
 ) -> Result<(), NoMemory>
     ensures { OnOk result (map view list.new.items ≡ map view list.old.items ++ event_json round actor.now what.now (view about) ∷ []) }
 {
-    list.push(event_value(alloc, round, actor, what, about)?)?;
+    push_value(list, event_value(alloc, round, actor, what, about)?)?;
     Ok(())
 }
 
@@ -140,7 +140,7 @@ pub(crate) fn push_put(
 ) -> Result<(), NoMemory>
     ensures { OnOk result (map view list.new.items ≡ map view list.old.items ++ put_json round holder.now remote.now message.now ∷ []) }
 {
-    list.push(put_value(alloc, round, holder, remote, message)?)?;
+    push_value(list, put_value(alloc, round, holder, remote, message)?)?;
     Ok(())
 }
 
@@ -160,7 +160,7 @@ fn push_got(
         ≡ map view list.old.items ++ got_json round holder.now remote.now expected head bytes.now ∷ []) }
 {
     let value = got_value(alloc, round, holder, remote, expected, head, bytes)?;
-    list.push(value)?;
+    push_value(list, value)?;
     Ok(())
 }
 

@@ -9,7 +9,7 @@ ghost use Rattle.view_json.specs.Timeline.{span_json, moved_json, grafts_json};
 use graft_edge::NoMemory;
 use graft_steps::GraftEntry;
 use lab_report::Lab;
-use report_json::graft_value;
+use report_json::{graft_value, push_value};
 use serde_json::{Map, Value, put};
 use std::alloc::Global;
 use timeline_view::{Happening, Moment, Outline, round_of, strays_of, updates_after};
@@ -68,7 +68,7 @@ fn each_moved(
 {
     let mut list = Vec::with_capacity(alloc, log.len())?;
     for graft in log {
-        list.push(moved_value(alloc, lab, outlines, all, graft)?)?;
+        push_value(&mut list, moved_value(alloc, lab, outlines, all, graft)?)?;
     }
     Ok(Value::Array(list))
 }

@@ -8,7 +8,7 @@ ghost use Rattle.view_json.specs.Timeline.{session_json, peering_json, sessions_
 use graft_edge::NoMemory;
 use lab_report::{Lab, SessionView};
 use lab_tables::PeeringInput;
-use report_json::put_text;
+use report_json::{push_value, put_text};
 use serde_json::{Map, Value, put};
 use std::alloc::Global;
 use timeline_view::{
@@ -46,7 +46,7 @@ fn push_peering(
     let Some(session) = lab.sessions.get(index) else {
         return Ok(());
     };
-    list.push(session_value(alloc, peering.name.as_str(), session)?)?;
+    push_value(list, session_value(alloc, peering.name.as_str(), session)?)?;
     Ok(())
 }
 

@@ -12,7 +12,7 @@ use bgp_story::Line;
 use graft_edge::NoMemory;
 use lab_report::{Lab, SessionView, router_name};
 use lab_tables::{PeeringInput, RouterInput};
-use report_json::put_text;
+use report_json::{push_value, put_text};
 use serde_json::{Map, Value, put};
 use std::alloc::Global;
 use timeline_view::{Happening, Happenings, Outline, by_rounds, decided_at, heard_at, told_at};
@@ -156,7 +156,10 @@ fn push_counts(
     if decided == 0 && told == 0 && heard == 0 {
         return Ok(());
     }
-    list.push(counts_value(alloc, round, name, decided, told, heard)?)?;
+    push_value(
+        list,
+        counts_value(alloc, round, name, decided, told, heard)?,
+    )?;
     Ok(())
 }
 

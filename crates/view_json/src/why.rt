@@ -11,7 +11,9 @@ use bgp_types::{NoMemory, Octets, PeeringId, Prefix, Rank, Route, RouterId, Shar
 use decision_core::best;
 use lab_report::{Lab, peering_name, router_name};
 use lab_tables::{LabInput, RouterInput};
-use report_json::{address_value, from_value, json_line, path_value, prefix_value, put_text};
+use report_json::{
+    address_value, from_value, json_line, path_value, prefix_value, push_value, put_text,
+};
 use serde_json::{Map, Value, put};
 use std::alloc::Global;
 use why_view::{
@@ -116,7 +118,7 @@ fn push_unless_best(
     if is_index(best, index) {
         return Ok(());
     }
-    list.push(lost_value(alloc, input, ranks, candidate)?)?;
+    push_value(list, lost_value(alloc, input, ranks, candidate)?)?;
     Ok(())
 }
 
@@ -233,7 +235,7 @@ fn push_unless_in(
     match route {
         Some(_) => Ok(()),
         None => {
-            list.push(kept_out(alloc, input, prefix, session, heard)?)?;
+            push_value(list, kept_out(alloc, input, prefix, session, heard)?)?;
             Ok(())
         }
     }
