@@ -1,6 +1,6 @@
 //! JSON values by their parts, and the line of one.
 
-ghost use Rattle.std.specs.Prelude.{◌≡◌, false, IfOk, OnOk, option_map};
+ghost use Rattle.std.specs.Prelude.{◌≡◌, [], ◌∷◌, ◌++◌, false, map, option_map, IfOk, OnOk};
 ghost use Rattle.serde_json.specs.Data.{string, put as with_member};
 ghost use Rattle.serde_json.specs.View.{view, members_view};
 ghost use Rattle.serde_json.specs.Written.{has_float};
@@ -24,6 +24,14 @@ pub fn put_text(
 {
     let value = Value::try_from_str(alloc, text)?;
     Ok(put(map, alloc, name, value)?)
+}
+
+/// Adds a value to a list.
+pub fn push_value(list: &mut Vec<Value>, value: Value) -> Result<(), NoMemory>
+    ensures { OnOk result (map view list.new.items ≡ map view list.old.items ++ view value ∷ []) }
+{
+    list.push(value)?;
+    Ok(())
 }
 
 /// Returns a prefix.
