@@ -8,7 +8,7 @@ ghost use Rattle.message_json.specs.Attrs.{speaker_json, aggregator_json, raw_js
 use crate::messages::octets_value;
 use bgp_types::{Aggregator, Attrs, NoMemory, RawAttr};
 use message_words::origin_name;
-use report_json::{address_value, count_or_null, path_value, put_text};
+use report_json::{address_value, count_or_null, path_value, push_value, put_text};
 use serde_json::{Map, Value, put};
 use std::alloc::Global;
 
@@ -52,7 +52,7 @@ fn unknown_value(alloc: Global, unknown: &[RawAttr]) -> Result<Value, NoMemory>
 {
     let mut list = Vec::with_capacity(alloc, unknown.len())?;
     for raw in unknown {
-        list.push(raw_value(alloc, raw)?)?;
+        push_value(&mut list, raw_value(alloc, raw)?)?;
     }
     Ok(Value::Array(list))
 }

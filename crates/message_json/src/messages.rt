@@ -1,6 +1,6 @@
 //! Messages as JSON, and octets as a session reads them.
 
-ghost use Rattle.std.specs.Prelude.{◌≡◌, ◌++◌, map, IfOk};
+ghost use Rattle.std.specs.Prelude.{◌≡◌, map, IfOk};
 ghost use Rattle.hex.specs.Hex.{encode_lower};
 ghost use Rattle.serde_json.specs.Data.{string};
 ghost use Rattle.serde_json.specs.View.{view};
@@ -12,7 +12,9 @@ ghost use Rattle.message_json.specs.Messages.{notification_json, keepalive_json}
 use bgp_types::{Attrs, Cap, Expected, Message, NoMemory, Notice, OpenMsg, Prefix, Update};
 use bgp_wire::{CodecFault, as_said};
 use message_words::{communication, fault_name, read_got, type_name};
-use report_json::{address_value, count_or_null, path_value, prefix_value, put_text, text_or_null};
+use report_json::{
+    address_value, count_or_null, path_value, prefix_value, push_value, put_text, text_or_null,
+};
 use serde_json::{Map, Value, put};
 use std::alloc::Global;
 
@@ -22,7 +24,7 @@ pub fn prefixes_value(alloc: Global, prefixes: &[Prefix]) -> Result<Value, NoMem
 {
     let mut list = Vec::with_capacity(alloc, prefixes.len())?;
     for prefix in prefixes {
-        list.push(prefix_value(alloc, *prefix)?)?;
+        push_value(&mut list, prefix_value(alloc, *prefix)?)?;
     }
     Ok(Value::Array(list))
 }
@@ -33,7 +35,7 @@ fn codes_value(alloc: Global, caps: &[Cap]) -> Result<Value, NoMemory>
 {
     let mut list = Vec::with_capacity(alloc, caps.len())?;
     for cap in caps {
-        list.push(Value::from(cap.code))?;
+        push_value(&mut list, Value::from(cap.code))?;
     }
     Ok(Value::Array(list))
 }

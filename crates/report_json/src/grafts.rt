@@ -4,7 +4,7 @@ ghost use Rattle.std.specs.Prelude.{◌≡◌, IfOk};
 ghost use Rattle.serde_json.specs.View.{view};
 ghost use Rattle.report_json.specs.Run.{reason_text, detail_json, refusal_json, stage_word, stage_refusal, source_json, graft_json, grafts_json};
 
-use crate::values::put_text;
+use crate::values::{push_value, put_text};
 use graft_edge::{NoMemory, RouterId};
 use graft_steps::{GraftEntry, GraftStage, Outcome, Refusal};
 use lab_report::{Lab, peering_name, router_name, state_name};
@@ -110,7 +110,7 @@ pub(crate) fn grafts_value(alloc: Global, lab: &Lab) -> Result<Value, NoMemory>
     let log = lab.log.as_slice();
     let mut list = Vec::with_capacity(alloc, log.len())?;
     for graft in log {
-        list.push(graft_value(alloc, &lab.input, graft)?)?;
+        push_value(&mut list, graft_value(alloc, &lab.input, graft)?)?;
     }
     Ok(Value::Array(list))
 }

@@ -1,11 +1,10 @@
 //! Peerings with their sessions, as JSON.
 
 ghost use Rattle.std.specs.Prelude.{◌≡◌, ◌++◌, map, IfOk, OnOk};
-ghost use Rattle.std.specs.Option.{option_copied};
 ghost use Rattle.serde_json.specs.View.{view};
 ghost use Rattle.report_json.specs.Run.{holder_json, is_moving, session_json, peering_json, peerings_json};
 
-use crate::values::put_text;
+use crate::values::{push_value, put_text};
 use graft_edge::NoMemory;
 use lab_report::{Lab, Place, SessionView, place_at, router_name, state_name};
 use lab_tables::{LabInput, PeeringInput};
@@ -73,8 +72,10 @@ fn push_peering(
     };
     let place = place_at(lab.placement.as_slice(), index);
     let name = peering.name.as_str();
-    list.push(session_value(alloc, &lab.input, name, place, session)?)?;
-    Ok(())
+    push_value(
+        list,
+        session_value(alloc, &lab.input, name, place, session)?,
+    )
 }
 
 /// The peerings, in the order of the input.

@@ -6,7 +6,7 @@ ghost use Rattle.serde_json.specs.View.{view};
 ghost use Rattle.report_json.specs.Run.{ases_json, part_json, path_json, from_kind, from_name, from_json, best_json, table_json, router_json, routers_json};
 ghost use Rattle.report_json.specs.Values.{list_of};
 
-use crate::values::{prefix_value, put_text};
+use crate::values::{prefix_value, push_value, put_text};
 use bgp_types::{AsPath, From, PathPart};
 use graft_edge::NoMemory;
 use lab_report::{BestEntry, Lab, RouterTable, peering_name, router_name};
@@ -21,7 +21,7 @@ fn push_ases(list: &mut Vec<Value>, ases: &[u32]) -> Result<(), NoMemory>
     ensures { OnOk result (map view list.new.items ≡ map view list.old.items ++ ases_json ases.now) }
 {
     for as_number in ases {
-        list.push(Value::from(*as_number))?;
+        push_value(list, Value::from(*as_number))?;
     }
     Ok(())
 }
@@ -41,10 +41,7 @@ fn push_part(list: &mut Vec<Value>, alloc: Global, part: &PathPart) -> Result<()
 {
     match part {
         PathPart::Sequence(ases) => push_ases(list, ases),
-        PathPart::Set(ases) => {
-            list.push(set_value(alloc, ases)?)?;
-            Ok(())
-        }
+        PathPart::Set(ases) => push_value(list, set_value(alloc, ases)?),
     }
 }
 
@@ -118,7 +115,7 @@ fn bests_value(alloc: Global, input: &LabInput, best: &[BestEntry]) -> Result<Va
 {
     let mut list = Vec::with_capacity(alloc, best.len())?;
     for entry in best {
-        list.push(best_value(alloc, input, entry)?)?;
+        push_value(&mut list, best_value(alloc, input, entry)?)?;
     }
     Ok(Value::Array(list))
 }
@@ -162,7 +159,8 @@ pub(crate) fn routers_value(alloc: Global, lab: &Lab) -> Result<Value, NoMemory>
     let routers = lab.input.routers.as_slice();
     let mut list = Vec::with_capacity(alloc, routers.len())?;
     for (index, router) in routers.iter().enumerate() {
-        list.push(router_value(alloc, &lab.input, tables, index, router)?)?;
+        let value = router_value(alloc, &lab.input, tables, index, router)?;
+        push_value(&mut list, value)?;
     }
     Ok(Value::Array(list))
 }

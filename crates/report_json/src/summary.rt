@@ -8,7 +8,7 @@ ghost use Rattle.report_json.specs.Values.{json_line as json_line_lem};
 
 use crate::peerings::{holder_value, is_moving};
 use crate::run::end_value;
-use crate::values::{json_line, put_text};
+use crate::values::{json_line, push_value, put_text};
 use graft_edge::{NoMemory, Octets};
 use lab_report::{
     Lab, Place, RouterTable, SessionView, accepted_in, best_count, place_at, prefix_count,
@@ -76,8 +76,10 @@ fn push_peering(
     };
     let place = place_at(lab.placement.as_slice(), index);
     let name = peering.name.as_str();
-    list.push(session_value(alloc, &lab.input, name, place, session)?)?;
-    Ok(())
+    push_value(
+        list,
+        session_value(alloc, &lab.input, name, place, session)?,
+    )
 }
 
 /// The peerings, in the order of the input.
@@ -116,7 +118,8 @@ fn routers_value(alloc: Global, lab: &Lab) -> Result<Value, NoMemory>
     let routers = lab.input.routers.as_slice();
     let mut list = Vec::with_capacity(alloc, routers.len())?;
     for (index, router) in routers.iter().enumerate() {
-        list.push(router_value(alloc, tables, index, router)?)?;
+        let value = router_value(alloc, tables, index, router)?;
+        push_value(&mut list, value)?;
     }
     Ok(Value::Array(list))
 }

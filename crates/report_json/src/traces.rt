@@ -8,7 +8,7 @@ ghost use Rattle.lab_report.specs.Traces.{forward_maps_of, numbered_routers};
 ghost use Rattle.report_json.specs.Traces.{ends_word, end_router, leaves_over, ends_by, trace_json, TracesFrom, Traces, Appends, IsListOf};
 ghost use Rattle.report_json.specs.Values.{text_or_null as text_or_null_lem};
 
-use crate::values::{address_value, prefix_value, put_text, text_or_null};
+use crate::values::{address_value, prefix_value, push_value, put_text, text_or_null};
 use bgp_types::Prefix;
 use forward_walk::{Forwarder, Walk};
 use graft_edge::{NoMemory, PeeringId, RouterId};
@@ -125,7 +125,7 @@ fn push_traces_to(
     for (index, router) in routers.iter().enumerate() {
         let walk = forwarder.walk(RouterId(index as u8), address);
         let name = router.name.as_str();
-        list.push(trace_value(alloc, input, address, name, walk)?)?;
+        push_value(list, trace_value(alloc, input, address, name, walk)?)?;
     }
     Ok(())
 }
