@@ -12,7 +12,7 @@ ghost use Rattle.message_json.specs.Messages.{notice_json};
 ghost use Rattle.why_view.specs.Stories.{story_peering};
 ghost use Rattle.show_view.specs.Sessions.{before_last as before_last_lem, last_of};
 ghost use Rattle.show_json.specs.Sessions.{hold_json, width_json, sizes_json, sent_json, received_json, closed_json, expired_json, closed_by, closed_for};
-ghost use Rattle.show_json.specs.Sessions.{closing_of, session_json};
+ghost use Rattle.show_json.specs.Sessions.{closing_of, session_object, session_json};
 
 use bgp_story::{Line, Story};
 use bgp_types::{Expected, Message, NoMemory, Notice, OpenMsg};
@@ -148,6 +148,29 @@ fn closing_value(alloc: Global, expected: &Expected, lines: &[Line]) -> Result<V
 
 // ---- the whole
 
+/// What a session came to, by its parts.
+fn session_object(
+    alloc: Global,
+    width: Value,
+    closed: Value,
+    hold: Value,
+    received: Value,
+    sent: Value,
+    state: &str,
+) -> Result<Value, NoMemory>
+    ensures { IfOk result (λ v. view v
+        ≡ session_object (view width) (view closed) (view hold) (view received) (view sent) state.now) }
+{
+    let mut map = Map::new(alloc);
+    put(&mut map, alloc, "as_octets", width)?;
+    put(&mut map, alloc, "closed", closed)?;
+    put(&mut map, alloc, "hold", hold)?;
+    put(&mut map, alloc, "received", received)?;
+    put(&mut map, alloc, "sent", sent)?;
+    put_text(&mut map, alloc, "state", state)?;
+    Ok(Value::Object(map))
+}
+
 /// What the session of a peering came to. It got this OPEN.
 pub(crate) fn session_value(
     alloc: Global,
@@ -160,15 +183,11 @@ pub(crate) fn session_value(
 {
     let lines = lines_of(story);
     let expected = expected_last(peering, opened, lines);
+    let width = width_value(peering, opened);
+    let hold = hold_value(peering, opened);
+    let state = state_name(story.state());
     let closed = closing_value(alloc, &expected, lines)?;
     let sent = sent_value(alloc, is_wide(peering, opened), lines)?;
     let received = received_value(alloc, lines)?;
-    let mut map = Map::new(alloc);
-    put(&mut map, alloc, "as_octets", width_value(peering, opened))?;
-    put(&mut map, alloc, "closed", closed)?;
-    put(&mut map, alloc, "hold", hold_value(peering, opened))?;
-    put(&mut map, alloc, "received", received)?;
-    put(&mut map, alloc, "sent", sent)?;
-    put_text(&mut map, alloc, "state", state_name(story.state()))?;
-    Ok(Value::Object(map))
+    session_object(alloc, width, closed, hold, received, sent, state)
 }

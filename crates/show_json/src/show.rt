@@ -6,7 +6,7 @@ ghost use Rattle.report_json.specs.Values.{list_of, json_line as json_line_lem};
 ghost use Rattle.serde_json.specs.View.{view};
 ghost use Rattle.why_view.specs.Sources.{numbered_peerings};
 ghost use Rattle.why_view.specs.Stories.{story_peering};
-ghost use Rattle.show_json.specs.Show.{router_json, view_json, peering_json, waiting_json, show_json as show_json_lem};
+ghost use Rattle.show_json.specs.Show.{router_json, view_object, view_json, peering_json, waiting_json, show_json as show_json_lem};
 
 use crate::faults::faults_value;
 use crate::routes::bests_value;
@@ -51,6 +51,26 @@ fn routers_value(alloc: Global, lab: &Lab) -> Result<Value, NoMemory>
     Ok(Value::Array(list))
 }
 
+/// A peering with its session, by its parts.
+fn view_object(
+    alloc: Global,
+    at: Value,
+    moving: bool,
+    name: &str,
+    routes: Value,
+    session: Value,
+) -> Result<Value, NoMemory>
+    ensures { IfOk result (λ v. view v ≡ view_object (view at) moving name.now (view routes) (view session)) }
+{
+    let mut map = Map::new(alloc);
+    put(&mut map, alloc, "at", at)?;
+    put(&mut map, alloc, "moving", Value::from(moving))?;
+    put_text(&mut map, alloc, "name", name)?;
+    put(&mut map, alloc, "routes", routes)?;
+    put(&mut map, alloc, "session", session)?;
+    Ok(Value::Object(map))
+}
+
 /// A peering with its session, which has this story.
 fn view_value(
     alloc: Global,
@@ -62,18 +82,14 @@ fn view_value(
     ensures { IfOk result (λ v. view v ≡ view_json lab.now (slice_get lab.now.placement number.0) (number.0, peering.now)
         (story_peering lab.now.input peering.now) story.now.lines) }
 {
-    let place = place_at(&lab.placement, usize::from(number.0));
+    let place = place_at(lab.placement.as_slice(), usize::from(number.0));
+    let moving = is_moving(place);
+    let name = peering.name.as_str();
     let opened = opened_on(alloc, peering, story)?;
     let at = holder_value(alloc, &lab.input, place)?;
     let session = session_value(alloc, peering, story, &opened)?;
     let routes = tables_value(alloc, lab, place, number, peering, story, &opened)?;
-    let mut map = Map::new(alloc);
-    put(&mut map, alloc, "at", at)?;
-    put(&mut map, alloc, "moving", Value::from(is_moving(place)))?;
-    put_text(&mut map, alloc, "name", peering.name.as_str())?;
-    put(&mut map, alloc, "routes", routes)?;
-    put(&mut map, alloc, "session", session)?;
-    Ok(Value::Object(map))
+    view_object(alloc, at, moving, name, routes, session)
 }
 
 /// Adds a peering, unless it has no session.

@@ -1,6 +1,6 @@
 //! The routes of a session, as JSON.
 
-ghost use Rattle.std.specs.Prelude.{◌≡◌, ℕ, List, None, Some, map, IfOk};
+ghost use Rattle.std.specs.Prelude.{◌≡◌, [], ℕ, List, None, Some, map, IfOk};
 ghost use Rattle.bgp_story.specs.declared.line.Line.{Line};
 ghost use Rattle.bgp_story.specs.Legal.{got_open};
 ghost use Rattle.lab_report.specs.declared.lab.Lab.{Lab as LabValue};
@@ -73,6 +73,13 @@ fn all_told(alloc: Global, entries: &[AttrsEntry]) -> Result<Value, NoMemory>
     Ok(Value::Array(list))
 }
 
+/// An empty list.
+fn no_values(alloc: Global) -> Value
+    ensures { view result ≡ list_of [] }
+{
+    Value::Array(Vec::new(alloc))
+}
+
 /// The best routes of a session's holder that aren't told on it, if it is established.
 fn all_untold(
     alloc: Global,
@@ -88,7 +95,7 @@ fn all_untold(
         ≡ list_of (all_untold lab.now (Some (holder.0, router.now)) (number.0, peering.now) state told.now)) }
 {
     if !is_established(state) {
-        return Ok(Value::Array(Vec::new(alloc)));
+        return Ok(no_values(alloc));
     }
     let export = import_policy(router, &peering.export)?;
     let out = OutView {
@@ -98,8 +105,7 @@ fn all_untold(
         export: export.as_ref(),
     };
     let table = best_in(lab.tables.get(usize::from(holder.0)));
-    let list = untold_values(alloc, &lab.input, &out, peering, told, table)?;
-    Ok(Value::Array(list))
+    untold_values(alloc, &lab.input, &out, peering, told, table)
 }
 
 /// The routes of a session: those that it heard, those that were told, and those that weren't.
@@ -126,7 +132,8 @@ fn tables_alone(
     let entries = entries_of(alloc, &routes_on(alloc, peering, story, opened)?)?;
     let heard = all_heard_alone(alloc, &entries)?;
     let told = all_told(alloc, &entries_of(alloc, &told_on(alloc, story)?)?)?;
-    routes_value(alloc, heard, told, Value::Array(Vec::new(alloc)))
+    let none = no_values(alloc);
+    routes_value(alloc, heard, told, none)
 }
 
 /// The routes of a session that this router holds, and that got this OPEN.

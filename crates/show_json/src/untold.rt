@@ -4,6 +4,7 @@ ghost use Rattle.std.specs.Prelude.{◌≡◌, [], ◌∷◌, ◌++◌, map, IfO
 ghost use Rattle.std.specs.List.{flat_map};
 ghost use Rattle.lab_tables.specs.declared.input.RouterInput.{RouterInput};
 ghost use Rattle.route_policy.specs.Telling.{out_side_of_view};
+ghost use Rattle.report_json.specs.Values.{list_of};
 ghost use Rattle.serde_json.specs.View.{view};
 ghost use Rattle.show_view.specs.Untold.{best_of as best_of_lem, out_side, why_untold as why_untold_lem};
 ghost use Rattle.show_json.specs.Routes.{untold_word, untold_as, untold_policy, untold_rule, untold_json, unless_told};
@@ -129,14 +130,14 @@ pub(crate) fn untold_values(
     peering: &PeeringInput,
     told: &AdjRib,
     table: &[BestEntry],
-) -> Result<Vec<Value>, NoMemory>
+) -> Result<Value, NoMemory>
     ensures { (router : RouterInput) → out_side_of_view out.now ≡ out_side router (out.now.peering.0, peering.now)
-        → IfOk result (λ list. map view list.items
-        ≡ flat_map (unless_told input.now router (out.now.peering.0, peering.now) told.now) table.now) }
+        → IfOk result (λ v. view v
+        ≡ list_of (flat_map (unless_told input.now router (out.now.peering.0, peering.now) told.now) table.now)) }
 {
     let mut list = Vec::new(alloc);
     for entry in table {
         push_unless_told(&mut list, alloc, input, out, peering, told, entry)?;
     }
-    Ok(list)
+    Ok(Value::Array(list))
 }
