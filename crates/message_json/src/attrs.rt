@@ -8,8 +8,8 @@ ghost use Rattle.message_json.specs.Attrs.{speaker_json, aggregator_json, raw_js
 use crate::messages::octets_value;
 use bgp_types::{Aggregator, Attrs, NoMemory, RawAttr};
 use message_words::origin_name;
-use report_json::{address_value, count_or_null, path_value};
-use serde_json::{Value, json};
+use report_json::{address_value, count_or_null, path_value, push_value, put_text};
+use serde_json::{Map, Value, put};
 use std::alloc::Global;
 
 /// The speaker that formed an aggregate.
@@ -17,12 +17,11 @@ fn speaker_value(alloc: Global, speaker: Aggregator) -> Result<Value, NoMemory>
     ensures { IfOk result (λ v. view v ≡ speaker_json speaker) }
 {
     let address = address_value(alloc, speaker.address)?;
-    let value = json!(in alloc; {
-        "as": speaker.as_number,
-        "address": address,
-        "partial": speaker.partial,
-    })?;
-    Ok(value)
+    let mut map = Map::new(alloc);
+    put(&mut map, alloc, "address", address)?;
+    put(&mut map, alloc, "as", Value::from(speaker.as_number))?;
+    put(&mut map, alloc, "partial", Value::from(speaker.partial))?;
+    Ok(Value::Object(map))
 }
 
 /// The speaker that formed the aggregate, or null.
@@ -40,12 +39,11 @@ fn raw_value(alloc: Global, raw: &RawAttr) -> Result<Value, NoMemory>
     ensures { IfOk result (λ v. view v ≡ raw_json raw.now) }
 {
     let octets = octets_value(alloc, &raw.bytes)?;
-    let value = json!(in alloc; {
-        "type": raw.kind,
-        "octets": octets,
-        "partial": raw.partial,
-    })?;
-    Ok(value)
+    let mut map = Map::new(alloc);
+    put(&mut map, alloc, "octets", octets)?;
+    put(&mut map, alloc, "partial", Value::from(raw.partial))?;
+    put(&mut map, alloc, "type", Value::from(raw.kind))?;
+    Ok(Value::Object(map))
 }
 
 /// Attributes of unknown types.
@@ -54,7 +52,7 @@ fn unknown_value(alloc: Global, unknown: &[RawAttr]) -> Result<Value, NoMemory>
 {
     let mut list = Vec::with_capacity(alloc, unknown.len())?;
     for raw in unknown {
-        list.push(raw_value(alloc, raw)?)?;
+        push_value(&mut list, raw_value(alloc, raw)?)?;
     }
     Ok(Value::Array(list))
 }
@@ -67,14 +65,13 @@ pub fn attrs_value(alloc: Global, attrs: &Attrs) -> Result<Value, NoMemory>
     let next_hop = address_value(alloc, attrs.next_hop)?;
     let aggregator = aggregator_value(alloc, attrs.aggregator)?;
     let unknown = unknown_value(alloc, &attrs.unknown)?;
-    let value = json!(in alloc; {
-        "path": path,
-        "next_hop": next_hop,
-        "origin": origin_name(attrs.origin),
-        "med": count_or_null(attrs.med),
-        "atomic": attrs.atomic,
-        "aggregator": aggregator,
-        "unknown": unknown,
-    })?;
-    Ok(value)
+    let mut map = Map::new(alloc);
+    put(&mut map, alloc, "aggregator", aggregator)?;
+    put(&mut map, alloc, "atomic", Value::from(attrs.atomic))?;
+    put(&mut map, alloc, "med", count_or_null(attrs.med))?;
+    put(&mut map, alloc, "next_hop", next_hop)?;
+    put_text(&mut map, alloc, "origin", origin_name(attrs.origin))?;
+    put(&mut map, alloc, "path", path)?;
+    put(&mut map, alloc, "unknown", unknown)?;
+    Ok(Value::Object(map))
 }

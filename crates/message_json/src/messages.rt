@@ -1,6 +1,6 @@
 //! Messages as JSON, and octets as a session reads them.
 
-ghost use Rattle.std.specs.Prelude.{◌≡◌, ◌++◌, map, IfOk};
+ghost use Rattle.std.specs.Prelude.{◌≡◌, map, IfOk};
 ghost use Rattle.hex.specs.Hex.{encode_lower};
 ghost use Rattle.serde_json.specs.Data.{string};
 ghost use Rattle.serde_json.specs.View.{view};
@@ -12,8 +12,10 @@ ghost use Rattle.message_json.specs.Messages.{notification_json, keepalive_json}
 use bgp_types::{Attrs, Cap, Expected, Message, NoMemory, Notice, OpenMsg, Prefix, Update};
 use bgp_wire::{CodecFault, as_said};
 use message_words::{communication, fault_name, read_got, type_name};
-use report_json::{address_value, count_or_null, path_value, prefix_value, text_or_null};
-use serde_json::{Value, json};
+use report_json::{
+    address_value, count_or_null, path_value, prefix_value, push_value, put_text, text_or_null,
+};
+use serde_json::{Map, Value, put};
 use std::alloc::Global;
 
 /// Returns prefixes.
@@ -22,7 +24,7 @@ pub fn prefixes_value(alloc: Global, prefixes: &[Prefix]) -> Result<Value, NoMem
 {
     let mut list = Vec::with_capacity(alloc, prefixes.len())?;
     for prefix in prefixes {
-        list.push(prefix_value(alloc, *prefix)?)?;
+        push_value(&mut list, prefix_value(alloc, *prefix)?)?;
     }
     Ok(Value::Array(list))
 }
@@ -33,7 +35,7 @@ fn codes_value(alloc: Global, caps: &[Cap]) -> Result<Value, NoMemory>
 {
     let mut list = Vec::with_capacity(alloc, caps.len())?;
     for cap in caps {
-        list.push(Value::from(cap.code))?;
+        push_value(&mut list, Value::from(cap.code))?;
     }
     Ok(Value::Array(list))
 }
@@ -45,15 +47,14 @@ fn open_value(alloc: Global, first: &OpenMsg) -> Result<Value, NoMemory>
     let id = address_value(alloc, first.identifier)?;
     let capabilities = codes_value(alloc, &first.caps)?;
     let as4 = count_or_null(as_said(&first.caps));
-    let value = json!(in alloc; {
-        "type": "OPEN",
-        "as": first.as_number,
-        "hold": first.hold,
-        "id": id,
-        "capabilities": capabilities,
-        "as4": as4,
-    })?;
-    Ok(value)
+    let mut map = Map::new(alloc);
+    put(&mut map, alloc, "as", Value::from(first.as_number))?;
+    put(&mut map, alloc, "as4", as4)?;
+    put(&mut map, alloc, "capabilities", capabilities)?;
+    put(&mut map, alloc, "hold", Value::from(first.hold))?;
+    put(&mut map, alloc, "id", id)?;
+    put_text(&mut map, alloc, "type", "OPEN")?;
+    Ok(Value::Object(map))
 }
 
 /// The path of an UPDATE that announces, or null.
@@ -73,13 +74,12 @@ fn update_value(alloc: Global, update: &Update) -> Result<Value, NoMemory>
     let withdraw = prefixes_value(alloc, &update.withdrawn)?;
     let announce = prefixes_value(alloc, &update.nlri)?;
     let path = some_path(alloc, &update.attrs)?;
-    let value = json!(in alloc; {
-        "type": "UPDATE",
-        "withdraw": withdraw,
-        "announce": announce,
-        "path": path,
-    })?;
-    Ok(value)
+    let mut map = Map::new(alloc);
+    put(&mut map, alloc, "announce", announce)?;
+    put(&mut map, alloc, "path", path)?;
+    put_text(&mut map, alloc, "type", "UPDATE")?;
+    put(&mut map, alloc, "withdraw", withdraw)?;
+    Ok(Value::Object(map))
 }
 
 /// Returns octets in hexadecimal.
@@ -96,29 +96,31 @@ pub fn notice_value(alloc: Global, notice: &Notice) -> Result<Value, NoMemory>
     let name = text_or_null(alloc, fault_name(notice.code, notice.subcode))?;
     let data = octets_value(alloc, &notice.info)?;
     let text = text_or_null(alloc, communication(notice))?;
-    let value = json!(in alloc; {
-        "code": notice.code,
-        "subcode": notice.subcode,
-        "name": name,
-        "data": data,
-        "text": text,
-    })?;
-    Ok(value)
+    let mut map = Map::new(alloc);
+    put(&mut map, alloc, "code", Value::from(notice.code))?;
+    put(&mut map, alloc, "data", data)?;
+    put(&mut map, alloc, "name", name)?;
+    put(&mut map, alloc, "subcode", Value::from(notice.subcode))?;
+    put(&mut map, alloc, "text", text)?;
+    Ok(Value::Object(map))
 }
 
 fn notification_value(alloc: Global, notice: &Notice) -> Result<Value, NoMemory>
     ensures { IfOk result (λ v. view v ≡ notification_json notice.now) }
 {
     let notice = notice_value(alloc, notice)?;
-    let value = json!(in alloc; {"type": "NOTIFICATION", "notice": notice})?;
-    Ok(value)
+    let mut map = Map::new(alloc);
+    put(&mut map, alloc, "notice", notice)?;
+    put_text(&mut map, alloc, "type", "NOTIFICATION")?;
+    Ok(Value::Object(map))
 }
 
 fn keepalive_value(alloc: Global) -> Result<Value, NoMemory>
     ensures { IfOk result (λ v. view v ≡ keepalive_json) }
 {
-    let value = json!(in alloc; {"type": "KEEPALIVE"})?;
-    Ok(value)
+    let mut map = Map::new(alloc);
+    put_text(&mut map, alloc, "type", "KEEPALIVE")?;
+    Ok(Value::Object(map))
 }
 
 /// Returns a message.
@@ -139,8 +141,10 @@ fn faulty_value(alloc: Global, bytes: &[u8], notice: &Notice) -> Result<Value, N
     ensures { IfOk result (λ v. view v ≡ faulty_json bytes.now notice.now) }
 {
     let fault = notice_value(alloc, notice)?;
-    let value = json!(in alloc; {"type": type_name(bytes), "fault": fault})?;
-    Ok(value)
+    let mut map = Map::new(alloc);
+    put(&mut map, alloc, "fault", fault)?;
+    put_text(&mut map, alloc, "type", type_name(bytes))?;
+    Ok(Value::Object(map))
 }
 
 /// Returns what a session that expects this reads in octets that it got at once.

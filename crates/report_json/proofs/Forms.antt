@@ -1,5 +1,5 @@
 -- The values of check, run and drill have no floats.
-use Rattle.std.proofs.Common.{ℕ, ◌≡◌, List, [], ◌∷◌, ◌++◌, Option, Some, None, option_map, refl, sym, subst, slice_get}
+use Rattle.std.proofs.Common.{ℕ, List, [], ◌∷◌, Option, Some, None, option_map, refl, sym, subst, slice_get}
 use Rattle.std.specs.List.{enumerate_from}
 use Rattle.serde_json.specs.Data.{Data}
 use Rattle.graft_edge.specs.declared.ids.RouterId.{RouterId}

@@ -1,4 +1,5 @@
-pub mod NoFloats
 pub mod Forms
-pub mod Walked
 pub mod Listed
+pub mod NoFloats
+pub mod Shown
+pub mod Walked

@@ -3,31 +3,24 @@ use Rattle.std.proofs.Common.{ℕ, ◌≡◌, ◌+◌, ◌<◌, List, [], ◌∷
 use Rattle.std.proofs.lemmas.List.{map-append, take_more}
 use Rattle.std.specs.List.{flat_map, enumerate_from}
 use Rattle.serde_json.specs.Data.{Data}
-use Rattle.serde_json.specs.View.{view}
-use Rattle.serde_json.specs.declared.value.Value.{Value}
 use Rattle.lab_input.proofs.Numbered.{flat_map_numbered}
 use Rattle.lab_report.proofs.Walked.{numbered_more}
 
--- what a list of values shows with one more
-pub shown_more : (old new : List Value) (value : Value) (shown : Data) → new ≡ old ++ value ∷ [] → view value ≡ shown
-    → map view new ≡ map view old ++ shown ∷ []
-shown_more old new value shown pushed is =
-    ap (map view) pushed ∙ map-append view old (value ∷ []) ∙ ap (λ d. map view old ++ d ∷ []) is
-
 module _ {X : Type 0} (xs : List X) (i : ℕ) (x : X) where
   -- one value for each element
-  pub each_more : (f : X → Data) (so_far after : List Data) → i < length xs → x ≡ slice_index_or xs i x → so_far ≡ map f (take i xs)
-      → after ≡ so_far ++ f x ∷ [] → after ≡ map f (take (i + 1) xs)
-  each_more f so_far after lt at so is =
+  pub each_more : (f : X → Data) (so_far after : List Data) (value : Data) → i < length xs → x ≡ slice_index_or xs i x
+      → so_far ≡ map f (take i xs) → after ≡ so_far ++ value ∷ [] → value ≡ f x → after ≡ map f (take (i + 1) xs)
+  each_more f so_far after value lt at so is shown =
       let one : take (i + 1) xs ≡ take i xs ++ x ∷ [] = take_more xs i x lt ∙ ap (λ y. take i xs ++ y ∷ []) (sym at) in
-      is ∙ ap (λ l. l ++ f x ∷ []) so ∙ sym (ap (map f) one ∙ map-append f (take i xs) (x ∷ []))
+      is ∙ ap (λ v. so_far ++ v ∷ []) shown ∙ ap (λ l. l ++ f x ∷ []) so ∙ sym (ap (map f) one ∙ map-append f (take i xs) (x ∷ []))
 
   -- one value for each numbered element
-  pub mapped_more : (f : ℕ × X → Data) (so_far after : List Data) → i < length xs → x ≡ slice_index_or xs i x
-      → so_far ≡ map f (enumerate_from 0 (take i xs)) → after ≡ so_far ++ f (i, x) ∷ [] → after ≡ map f (enumerate_from 0 (take (i + 1) xs))
-  mapped_more f so_far after lt at so is =
+  pub mapped_more : (f : ℕ × X → Data) (so_far after : List Data) (value : Data) → i < length xs → x ≡ slice_index_or xs i x
+      → so_far ≡ map f (enumerate_from 0 (take i xs)) → after ≡ so_far ++ value ∷ [] → value ≡ f (i, x)
+      → after ≡ map f (enumerate_from 0 (take (i + 1) xs))
+  mapped_more f so_far after value lt at so is shown =
       let rest = map-append f (enumerate_from 0 (take i xs)) ((i, x) ∷ []) in
-      is ∙ ap (λ l. l ++ f (i, x) ∷ []) so ∙ sym (ap (map f) (numbered_more xs i x lt at) ∙ rest)
+      is ∙ ap (λ v. so_far ++ v ∷ []) shown ∙ ap (λ l. l ++ f (i, x) ∷ []) so ∙ sym (ap (map f) (numbered_more xs i x lt at) ∙ rest)
 
   -- some values for each numbered element
   pub gathered_more : (f : ℕ × X → List Data) (so_far after : List Data) → i < length xs → x ≡ slice_index_or xs i x

@@ -32,16 +32,16 @@ module _ (input : LabInput) (maps : List ForwardMap) where
   -- the walk from one router further
   pub walked_more : (address : ℕ) (routers : List RouterInput) (i : ℕ) (router : RouterInput) (walk : Walk) → i < length routers
       → router ≡ slice_index_or routers i router
-      → WalksTo maps address [] (record { 0 = i }) walk → (before so_far after : List Data)
+      → WalksTo maps address [] (record { 0 = i }) walk → (before so_far after : List Data) (value : Data)
       → Appends (TracesFrom input maps address (enumerate_from 0 (take i routers))) before so_far
-      → after ≡ so_far ++ trace_json input address router.name walk ∷ []
+      → after ≡ so_far ++ value ∷ [] → value ≡ trace_json input address router.name walk
       → Appends (TracesFrom input maps address (enumerate_from 0 (take (i + 1) routers))) before after
-  walked_more address routers i router walk lt at w before so_far after a is =
+  walked_more address routers i router walk lt at w before so_far after value a is shown =
       let trace = trace_json input address router.name walk in
       let more = one_walk_more address (enumerate_from 0 (take i routers)) (i, router) walk a.0 a.1 w in (
         a.0 ++ trace ∷ [],
         subst (λ (rs : List (ℕ × RouterInput)). TracesFrom input maps address rs (a.0 ++ trace ∷ [])) (sym (numbered_more routers i router lt at)) more,
-        is ∙ (ap (λ t. t ++ trace ∷ []) a.2 ∙ append_assoc before a.0 (trace ∷ [])),
+        is ∙ (ap (λ v. so_far ++ v ∷ []) shown ∙ ap (λ t. t ++ trace ∷ []) a.2 ∙ append_assoc before a.0 (trace ∷ [])),
       )
 
   -- the walks to one address further

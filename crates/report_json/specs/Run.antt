@@ -1,5 +1,5 @@
 -- The report of a run, as JSON.
-use Rattle.std.specs.Prelude.{ℕ, Bool, true, false, List, [], ◌∷◌, ◌++◌, map, Option, Some, None, codes, slice_get}
+use Rattle.std.specs.Prelude.{ℕ, Bool, true, false, List, [], ◌∷◌, map, Option, Some, None, codes, slice_get}
 use Rattle.std.specs.List.{flat_map, enumerate_from}
 use Rattle.serde_json.specs.Data.{Data, null, boolean, string}
 use Rattle.graft_edge.specs.declared.ids.RouterId.{RouterId}

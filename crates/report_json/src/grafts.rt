@@ -4,11 +4,12 @@ ghost use Rattle.std.specs.Prelude.{◌≡◌, IfOk};
 ghost use Rattle.serde_json.specs.View.{view};
 ghost use Rattle.report_json.specs.Run.{reason_text, detail_json, refusal_json, stage_word, stage_refusal, source_json, graft_json, grafts_json};
 
+use crate::values::{push_value, put_text};
 use graft_edge::{NoMemory, RouterId};
 use graft_steps::{GraftEntry, GraftStage, Outcome, Refusal};
 use lab_report::{Lab, peering_name, router_name, state_name};
 use lab_tables::LabInput;
-use serde_json::{Value, json};
+use serde_json::{Map, Value, put};
 use std::alloc::Global;
 
 /// The name of a refusal.
@@ -42,8 +43,10 @@ pub fn refusal_value(alloc: Global, refusal: &Refusal) -> Result<Value, NoMemory
     ensures { IfOk result (λ v. view v ≡ refusal_json refusal.now) }
 {
     let detail = detail_value(alloc, refusal)?;
-    let value = json!(in alloc; {"reason": reason_of(refusal), "detail": detail})?;
-    Ok(value)
+    let mut map = Map::new(alloc);
+    put(&mut map, alloc, "detail", detail)?;
+    put_text(&mut map, alloc, "reason", reason_of(refusal))?;
+    Ok(Value::Object(map))
 }
 
 /// The word for how far a graft is.
@@ -86,17 +89,18 @@ pub fn source_value(
 pub fn graft_value(alloc: Global, input: &LabInput, graft: &GraftEntry) -> Result<Value, NoMemory>
     ensures { IfOk result (λ v. view v ≡ graft_json input.now graft.now) }
 {
+    let peering = peering_name(input, graft.peering.0);
+    let target = router_name(input, graft.target.0);
     let source = source_value(alloc, input, graft.source)?;
     let refusal = stage_refusal(alloc, &graft.stage)?;
-    let value = json!(in alloc; {
-        "graft": graft.graft,
-        "peering": peering_name(input, graft.peering.0),
-        "source": source,
-        "target": router_name(input, graft.target.0),
-        "result": stage_word(&graft.stage),
-        "refusal": refusal,
-    })?;
-    Ok(value)
+    let mut map = Map::new(alloc);
+    put(&mut map, alloc, "graft", Value::from(graft.graft))?;
+    put_text(&mut map, alloc, "peering", peering)?;
+    put(&mut map, alloc, "refusal", refusal)?;
+    put_text(&mut map, alloc, "result", stage_word(&graft.stage))?;
+    put(&mut map, alloc, "source", source)?;
+    put_text(&mut map, alloc, "target", target)?;
+    Ok(Value::Object(map))
 }
 
 /// The grafts, in the order of the log.
@@ -106,7 +110,7 @@ pub(crate) fn grafts_value(alloc: Global, lab: &Lab) -> Result<Value, NoMemory>
     let log = lab.log.as_slice();
     let mut list = Vec::with_capacity(alloc, log.len())?;
     for graft in log {
-        list.push(graft_value(alloc, &lab.input, graft)?)?;
+        push_value(&mut list, graft_value(alloc, &lab.input, graft)?)?;
     }
     Ok(Value::Array(list))
 }

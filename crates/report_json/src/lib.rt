@@ -18,4 +18,6 @@ pub use peerings::{holder_value, is_moving};
 pub use routers::{from_value, path_value};
 pub use run::{end_value, report_json};
 pub use summary::summary_json;
-pub use values::{address_value, count_or_null, json_line, prefix_value, text_or_null};
+pub use values::{
+    address_value, count_or_null, json_line, prefix_value, push_value, put_text, text_or_null,
+};

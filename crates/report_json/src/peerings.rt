@@ -1,14 +1,14 @@
 //! Peerings with their sessions, as JSON.
 
 ghost use Rattle.std.specs.Prelude.{◌≡◌, ◌++◌, map, IfOk, OnOk};
-ghost use Rattle.std.specs.Option.{option_copied};
 ghost use Rattle.serde_json.specs.View.{view};
 ghost use Rattle.report_json.specs.Run.{holder_json, is_moving, session_json, peering_json, peerings_json};
 
+use crate::values::{push_value, put_text};
 use graft_edge::NoMemory;
 use lab_report::{Lab, Place, SessionView, place_at, router_name, state_name};
 use lab_tables::{LabInput, PeeringInput};
-use serde_json::{Value, json};
+use serde_json::{Map, Value, put};
 use std::alloc::Global;
 
 /// Returns the router that holds a session, or null.
@@ -46,15 +46,14 @@ fn session_value(
     ensures { IfOk result (λ v. view v ≡ session_json input.now name.now place session.now) }
 {
     let at = holder_value(alloc, input, place)?;
-    let value = json!(in alloc; {
-        "name": name,
-        "at": at,
-        "moving": is_moving(place),
-        "state": state_name(session.story.state()),
-        "heard": session.heard,
-        "told": session.told,
-    })?;
-    Ok(value)
+    let mut map = Map::new(alloc);
+    put(&mut map, alloc, "at", at)?;
+    put(&mut map, alloc, "heard", Value::from(session.heard))?;
+    put(&mut map, alloc, "moving", Value::from(is_moving(place)))?;
+    put_text(&mut map, alloc, "name", name)?;
+    put_text(&mut map, alloc, "state", state_name(session.story.state()))?;
+    put(&mut map, alloc, "told", Value::from(session.told))?;
+    Ok(Value::Object(map))
 }
 
 /// Adds the peering of an index, unless it has no session.
@@ -73,8 +72,10 @@ fn push_peering(
     };
     let place = place_at(lab.placement.as_slice(), index);
     let name = peering.name.as_str();
-    list.push(session_value(alloc, &lab.input, name, place, session)?)?;
-    Ok(())
+    push_value(
+        list,
+        session_value(alloc, &lab.input, name, place, session)?,
+    )
 }
 
 /// The peerings, in the order of the input.

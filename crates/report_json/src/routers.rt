@@ -6,12 +6,12 @@ ghost use Rattle.serde_json.specs.View.{view};
 ghost use Rattle.report_json.specs.Run.{ases_json, part_json, path_json, from_kind, from_name, from_json, best_json, table_json, router_json, routers_json};
 ghost use Rattle.report_json.specs.Values.{list_of};
 
-use crate::values::prefix_value;
+use crate::values::{prefix_value, push_value, put_text};
 use bgp_types::{AsPath, From, PathPart};
 use graft_edge::NoMemory;
 use lab_report::{BestEntry, Lab, RouterTable, peering_name, router_name};
 use lab_tables::{LabInput, RouterInput};
-use serde_json::{Value, json};
+use serde_json::{Map, Value, put};
 use std::alloc::Global;
 
 // ---- paths
@@ -21,7 +21,7 @@ fn push_ases(list: &mut Vec<Value>, ases: &[u32]) -> Result<(), NoMemory>
     ensures { OnOk result (map view list.new.items ≡ map view list.old.items ++ ases_json ases.now) }
 {
     for as_number in ases {
-        list.push(Value::from(*as_number))?;
+        push_value(list, Value::from(*as_number))?;
     }
     Ok(())
 }
@@ -41,10 +41,7 @@ fn push_part(list: &mut Vec<Value>, alloc: Global, part: &PathPart) -> Result<()
 {
     match part {
         PathPart::Sequence(ases) => push_ases(list, ases),
-        PathPart::Set(ases) => {
-            list.push(set_value(alloc, ases)?)?;
-            Ok(())
-        }
+        PathPart::Set(ases) => push_value(list, set_value(alloc, ases)?),
     }
 }
 
@@ -89,8 +86,10 @@ pub fn from_value(alloc: Global, input: &LabInput, from: From) -> Result<Value, 
     ensures { IfOk result (λ v. view v ≡ from_json input.now from) }
 {
     let name = name_of(alloc, input, from)?;
-    let value = json!(in alloc; {"kind": kind_of(from), "name": name})?;
-    Ok(value)
+    let mut map = Map::new(alloc);
+    put_text(&mut map, alloc, "kind", kind_of(from))?;
+    put(&mut map, alloc, "name", name)?;
+    Ok(Value::Object(map))
 }
 
 /// A best route.
@@ -100,13 +99,12 @@ fn best_value(alloc: Global, input: &LabInput, best: &BestEntry) -> Result<Value
     let prefix = prefix_value(alloc, best.prefix)?;
     let from = from_value(alloc, input, best.from)?;
     let path = path_value(alloc, &best.route.attrs.path)?;
-    let value = json!(in alloc; {
-        "prefix": prefix,
-        "from": from,
-        "pref": best.route.pref,
-        "path": path,
-    })?;
-    Ok(value)
+    let mut map = Map::new(alloc);
+    put(&mut map, alloc, "from", from)?;
+    put(&mut map, alloc, "path", path)?;
+    put(&mut map, alloc, "pref", Value::from(best.route.pref))?;
+    put(&mut map, alloc, "prefix", prefix)?;
+    Ok(Value::Object(map))
 }
 
 // ---- routers
@@ -117,7 +115,7 @@ fn bests_value(alloc: Global, input: &LabInput, best: &[BestEntry]) -> Result<Va
 {
     let mut list = Vec::with_capacity(alloc, best.len())?;
     for entry in best {
-        list.push(best_value(alloc, input, entry)?)?;
+        push_value(&mut list, best_value(alloc, input, entry)?)?;
     }
     Ok(Value::Array(list))
 }
@@ -147,8 +145,10 @@ fn router_value(
     ensures { IfOk result (λ v. view v ≡ router_json input.now tables.now (index, router.now)) }
 {
     let best = table_value(alloc, input, tables.get(index))?;
-    let value = json!(in alloc; {"name": router.name.as_str(), "best": best})?;
-    Ok(value)
+    let mut map = Map::new(alloc);
+    put(&mut map, alloc, "best", best)?;
+    put_text(&mut map, alloc, "name", router.name.as_str())?;
+    Ok(Value::Object(map))
 }
 
 /// The routers, in the order of the input.
@@ -159,7 +159,8 @@ pub(crate) fn routers_value(alloc: Global, lab: &Lab) -> Result<Value, NoMemory>
     let routers = lab.input.routers.as_slice();
     let mut list = Vec::with_capacity(alloc, routers.len())?;
     for (index, router) in routers.iter().enumerate() {
-        list.push(router_value(alloc, &lab.input, tables, index, router)?)?;
+        let value = router_value(alloc, &lab.input, tables, index, router)?;
+        push_value(&mut list, value)?;
     }
     Ok(Value::Array(list))
 }

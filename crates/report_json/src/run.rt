@@ -9,11 +9,11 @@ use crate::grafts::grafts_value;
 use crate::peerings::peerings_value;
 use crate::routers::routers_value;
 use crate::traces::traces_value;
-use crate::values::json_line;
+use crate::values::{json_line, put_text};
 use graft_edge::{NoMemory, Octets};
 use lab_report::{Lab, RunEnd, peering_name};
 use lab_tables::LabInput;
-use serde_json::{Value, json};
+use serde_json::{Map, Value, put};
 use std::alloc::Global;
 
 // ---- how the run ended
@@ -21,30 +21,39 @@ use std::alloc::Global;
 fn settled_value(alloc: Global) -> Result<Value, NoMemory>
     ensures { IfOk result (λ v. view v ≡ settled_json) }
 {
-    let value = json!(in alloc; {"end": "settled"})?;
-    Ok(value)
+    let mut map = Map::new(alloc);
+    put_text(&mut map, alloc, "end", "settled")?;
+    Ok(Value::Object(map))
 }
 
 /// The rounds of a settle were not enough.
 fn unsettled_value(alloc: Global, step: u32, rounds: u32) -> Result<Value, NoMemory>
     ensures { IfOk result (λ v. view v ≡ unsettled_json step rounds) }
 {
-    let value = json!(in alloc; {"end": "unsettled", "step": step, "rounds": rounds})?;
-    Ok(value)
+    let mut map = Map::new(alloc);
+    put_text(&mut map, alloc, "end", "unsettled")?;
+    put(&mut map, alloc, "rounds", Value::from(rounds))?;
+    put(&mut map, alloc, "step", Value::from(step))?;
+    Ok(Value::Object(map))
 }
 
 fn stream_full_value(alloc: Global, peering: &str, length: u32) -> Result<Value, NoMemory>
     ensures { IfOk result (λ v. view v ≡ stream_full_json peering.now length) }
 {
-    let value = json!(in alloc; {"end": "stream-full", "peering": peering, "length": length})?;
-    Ok(value)
+    let mut map = Map::new(alloc);
+    put_text(&mut map, alloc, "end", "stream-full")?;
+    put(&mut map, alloc, "length", Value::from(length))?;
+    put_text(&mut map, alloc, "peering", peering)?;
+    Ok(Value::Object(map))
 }
 
 fn journal_full_value(alloc: Global, events: u64) -> Result<Value, NoMemory>
     ensures { IfOk result (λ v. view v ≡ journal_full_json events) }
 {
-    let value = json!(in alloc; {"end": "journal-full", "events": events})?;
-    Ok(value)
+    let mut map = Map::new(alloc);
+    put_text(&mut map, alloc, "end", "journal-full")?;
+    put(&mut map, alloc, "events", Value::from(events))?;
+    Ok(Value::Object(map))
 }
 
 /// Returns how the run ended.
@@ -71,16 +80,15 @@ fn report_value(alloc: Global, lab: &Lab, traces: Value) -> Result<Value, NoMemo
     let routers = routers_value(alloc, lab)?;
     let peerings = peerings_value(alloc, lab)?;
     let grafts = grafts_value(alloc, lab)?;
-    let value = json!(in alloc; {
-        "version": 1u32,
-        "job": "run",
-        "result": end,
-        "routers": routers,
-        "peerings": peerings,
-        "grafts": grafts,
-        "traces": traces,
-    })?;
-    Ok(value)
+    let mut map = Map::new(alloc);
+    put(&mut map, alloc, "grafts", grafts)?;
+    put_text(&mut map, alloc, "job", "run")?;
+    put(&mut map, alloc, "peerings", peerings)?;
+    put(&mut map, alloc, "result", end)?;
+    put(&mut map, alloc, "routers", routers)?;
+    put(&mut map, alloc, "traces", traces)?;
+    put(&mut map, alloc, "version", Value::from(1u32))?;
+    Ok(Value::Object(map))
 }
 
 /// The report of a run, as JSON: how it ended, each router's best routes, the place, state and tables of each peering's session, how each graft

@@ -8,30 +8,36 @@ ghost use Rattle.report_json.specs.Values.{json_line as json_line_lem};
 
 use crate::peerings::{holder_value, is_moving};
 use crate::run::end_value;
-use crate::values::json_line;
+use crate::values::{json_line, push_value, put_text};
 use graft_edge::{NoMemory, Octets};
 use lab_report::{
     Lab, Place, RouterTable, SessionView, accepted_in, best_count, place_at, prefix_count,
     refused_in,
 };
 use lab_tables::{LabInput, PeeringInput, RouterInput};
-use serde_json::{Value, json};
+use serde_json::{Map, Value, put};
 use std::alloc::Global;
 
 /// The counts of a run.
 fn counts_value(alloc: Global, lab: &Lab) -> Result<Value, NoMemory>
     ensures { IfOk result (λ v. view v ≡ counts_json lab.now) }
 {
-    let prefixes = prefix_count(alloc, &lab.input)?;
-    let value = json!(in alloc; {
-        "routers": lab.input.routers.len(),
-        "peerings": lab.input.peerings.len(),
-        "prefixes": prefixes,
-        "grafts": lab.log.len(),
-        "accepted": accepted_in(lab.log.as_slice()),
-        "refused": refused_in(lab.log.as_slice()),
-    })?;
-    Ok(value)
+    let input = &lab.input;
+    let log = lab.log.as_slice();
+    let prefixes = prefix_count(alloc, input)?;
+    let mut map = Map::new(alloc);
+    put(&mut map, alloc, "accepted", Value::from(accepted_in(log)))?;
+    put(&mut map, alloc, "grafts", Value::from(log.len()))?;
+    put(
+        &mut map,
+        alloc,
+        "peerings",
+        Value::from(input.peerings.len()),
+    )?;
+    put(&mut map, alloc, "prefixes", Value::from(prefixes))?;
+    put(&mut map, alloc, "refused", Value::from(refused_in(log)))?;
+    put(&mut map, alloc, "routers", Value::from(input.routers.len()))?;
+    Ok(Value::Object(map))
 }
 
 /// A peering, with the sizes of its session's tables.
@@ -45,14 +51,13 @@ fn session_value(
     ensures { IfOk result (λ v. view v ≡ short_session_json input.now name.now place session.now) }
 {
     let at = holder_value(alloc, input, place)?;
-    let value = json!(in alloc; {
-        "name": name,
-        "at": at,
-        "moving": is_moving(place),
-        "heard": session.heard,
-        "told": session.told,
-    })?;
-    Ok(value)
+    let mut map = Map::new(alloc);
+    put(&mut map, alloc, "at", at)?;
+    put(&mut map, alloc, "heard", Value::from(session.heard))?;
+    put(&mut map, alloc, "moving", Value::from(is_moving(place)))?;
+    put_text(&mut map, alloc, "name", name)?;
+    put(&mut map, alloc, "told", Value::from(session.told))?;
+    Ok(Value::Object(map))
 }
 
 /// Adds the peering of an index, unless it has no session.
@@ -71,8 +76,10 @@ fn push_peering(
     };
     let place = place_at(lab.placement.as_slice(), index);
     let name = peering.name.as_str();
-    list.push(session_value(alloc, &lab.input, name, place, session)?)?;
-    Ok(())
+    push_value(
+        list,
+        session_value(alloc, &lab.input, name, place, session)?,
+    )
 }
 
 /// The peerings, in the order of the input.
@@ -97,8 +104,10 @@ fn router_value(
     ensures { IfOk result (λ v. view v ≡ short_router_json tables.now (index, router.now)) }
 {
     let best = best_count(tables, index);
-    let value = json!(in alloc; {"name": router.name.as_str(), "best": best})?;
-    Ok(value)
+    let mut map = Map::new(alloc);
+    put(&mut map, alloc, "best", Value::from(best))?;
+    put_text(&mut map, alloc, "name", router.name.as_str())?;
+    Ok(Value::Object(map))
 }
 
 /// The routers, in the order of the input.
@@ -109,7 +118,8 @@ fn routers_value(alloc: Global, lab: &Lab) -> Result<Value, NoMemory>
     let routers = lab.input.routers.as_slice();
     let mut list = Vec::with_capacity(alloc, routers.len())?;
     for (index, router) in routers.iter().enumerate() {
-        list.push(router_value(alloc, tables, index, router)?)?;
+        let value = router_value(alloc, tables, index, router)?;
+        push_value(&mut list, value)?;
     }
     Ok(Value::Array(list))
 }
@@ -122,15 +132,14 @@ fn summary_value(alloc: Global, lab: &Lab) -> Result<Value, NoMemory>
     let counts = counts_value(alloc, lab)?;
     let peerings = peerings_value(alloc, lab)?;
     let routers = routers_value(alloc, lab)?;
-    let value = json!(in alloc; {
-        "version": 1u32,
-        "job": "drill",
-        "result": end,
-        "counts": counts,
-        "peerings": peerings,
-        "routers": routers,
-    })?;
-    Ok(value)
+    let mut map = Map::new(alloc);
+    put(&mut map, alloc, "counts", counts)?;
+    put_text(&mut map, alloc, "job", "drill")?;
+    put(&mut map, alloc, "peerings", peerings)?;
+    put(&mut map, alloc, "result", end)?;
+    put(&mut map, alloc, "routers", routers)?;
+    put(&mut map, alloc, "version", Value::from(1u32))?;
+    Ok(Value::Object(map))
 }
 
 /// The summary of a run, as JSON: how it ended, counts, where each session is and how large its tables are, and how many best routes each

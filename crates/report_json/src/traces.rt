@@ -8,13 +8,13 @@ ghost use Rattle.lab_report.specs.Traces.{forward_maps_of, numbered_routers};
 ghost use Rattle.report_json.specs.Traces.{ends_word, end_router, leaves_over, ends_by, trace_json, TracesFrom, Traces, Appends, IsListOf};
 ghost use Rattle.report_json.specs.Values.{text_or_null as text_or_null_lem};
 
-use crate::values::{address_value, prefix_value, text_or_null};
+use crate::values::{address_value, prefix_value, push_value, put_text, text_or_null};
 use bgp_types::Prefix;
 use forward_walk::{Forwarder, Walk};
 use graft_edge::{NoMemory, PeeringId, RouterId};
 use lab_report::{Lab, forwarder_of, numbered, peering_name, router_name};
 use lab_tables::LabInput;
-use serde_json::{Value, json};
+use serde_json::{Map, Value, put};
 use std::alloc::Global;
 
 /// The word for how a walk ends.
@@ -97,17 +97,17 @@ fn trace_value(
     ensures { IfOk result (λ v. view v ≡ trace_json input.now address name.now walk) }
 {
     let to = address_value(alloc, address)?;
+    let router = router_name(input, end_router(walk).0);
     let peering = peering_or_null(alloc, input, leaves_over(walk))?;
     let prefix = prefix_or_null(alloc, ends_by(walk))?;
-    let value = json!(in alloc; {
-        "address": to,
-        "from": name,
-        "ends": ends_word(walk),
-        "router": router_name(input, end_router(walk).0),
-        "peering": peering,
-        "prefix": prefix,
-    })?;
-    Ok(value)
+    let mut map = Map::new(alloc);
+    put(&mut map, alloc, "address", to)?;
+    put_text(&mut map, alloc, "ends", ends_word(walk))?;
+    put_text(&mut map, alloc, "from", name)?;
+    put(&mut map, alloc, "peering", peering)?;
+    put(&mut map, alloc, "prefix", prefix)?;
+    put_text(&mut map, alloc, "router", router)?;
+    Ok(Value::Object(map))
 }
 
 /// Adds the walks to an address, one from each router, in the order of the input.
@@ -125,7 +125,7 @@ fn push_traces_to(
     for (index, router) in routers.iter().enumerate() {
         let walk = forwarder.walk(RouterId(index as u8), address);
         let name = router.name.as_str();
-        list.push(trace_value(alloc, input, address, name, walk)?)?;
+        push_value(list, trace_value(alloc, input, address, name, walk)?)?;
     }
     Ok(())
 }

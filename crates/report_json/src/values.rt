@@ -1,17 +1,38 @@
 //! JSON values by their parts, and the line of one.
 
-ghost use Rattle.std.specs.Prelude.{◌≡◌, false, IfOk, option_map};
-ghost use Rattle.serde_json.specs.Data.{string};
-ghost use Rattle.serde_json.specs.View.{view};
+ghost use Rattle.std.specs.Prelude.{◌≡◌, [], ◌∷◌, ◌++◌, false, map, option_map, IfOk, OnOk};
+ghost use Rattle.serde_json.specs.Data.{string, put as with_member};
+ghost use Rattle.serde_json.specs.View.{view, members_view};
 ghost use Rattle.serde_json.specs.Written.{has_float};
 ghost use Rattle.bgp_types.specs.Texts.{address_text, prefix_text};
 ghost use Rattle.report_json.specs.Values.{count_or_null as count_or_null_lem, text_or_null as text_or_null_lem, json_line as json_line_lem};
 
 use bgp_types::{Address, Prefix};
 use graft_edge::{Items, NoMemory, Octets};
-use serde_json::Value;
+use serde_json::{Map, Value, put};
 use std::alloc::Global;
 use std::fmt::Write;
+
+/// Sets a member of an object to a text.
+pub fn put_text(
+    map: &mut Map<String, Value>,
+    alloc: Global,
+    name: &str,
+    text: &str,
+) -> Result<(), NoMemory>
+    ensures { OnOk result (members_view map.new.entries ≡ with_member name.now (string text.now) (members_view map.old.entries)) }
+{
+    let value = Value::try_from_str(alloc, text)?;
+    Ok(put(map, alloc, name, value)?)
+}
+
+/// Adds a value to a list.
+pub fn push_value(list: &mut Vec<Value>, value: Value) -> Result<(), NoMemory>
+    ensures { OnOk result (map view list.new.items ≡ map view list.old.items ++ view value ∷ []) }
+{
+    list.push(value)?;
+    Ok(())
+}
 
 /// Returns a prefix.
 pub fn prefix_value(alloc: Global, prefix: Prefix) -> Result<Value, NoMemory>

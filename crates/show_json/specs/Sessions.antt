@@ -77,9 +77,13 @@ closing_json p lines = closing_of (expected_next p lines (state_of (before_last 
 
 -- ---- the whole
 
+abbrev pub session_object : (width closed hold received sent : Data) → (state : List ℕ) → Data
+session_object width closed hold received sent state = fields
+    ((codes "as_octets", width) ∷ (codes "closed", closed) ∷ (codes "hold", hold) ∷ (codes "received", received) ∷ (codes "sent", sent)
+    ∷ (codes "state", string state) ∷ [])
+
 -- its state, what was agreed on, what went each way, and why it closed
 abbrev pub session_json : Peering → List Line → Data
-session_json p lines = fields
-    ((codes "as_octets", width_json p.first (got_open p lines)) ∷ (codes "closed", closing_json p lines)
-    ∷ (codes "hold", hold_json p.first (got_open p lines)) ∷ (codes "received", received_json lines) ∷ (codes "sent", sent_json (is_wide p lines) lines)
-    ∷ (codes "state", string (state_text (state_of lines))) ∷ [])
+session_json p lines = session_object
+    (width_json p.first (got_open p lines)) (closing_json p lines) (hold_json p.first (got_open p lines))
+    (received_json lines) (sent_json (is_wide p lines) lines) (state_text (state_of lines))

@@ -1,5 +1,5 @@
 -- All that there is at the end of a run, as JSON.
-use Rattle.std.specs.Prelude.{ℕ, List, [], ◌∷◌, length, map, Option, codes, nat_lt, slice_get, if◌then◌else◌}
+use Rattle.std.specs.Prelude.{ℕ, Bool, List, [], ◌∷◌, length, map, Option, codes, nat_lt, slice_get, if◌then◌else◌}
 use Rattle.std.specs.FinMap as table
 use Rattle.std.specs.List.{flat_map, enumerate_from}
 use Rattle.serde_json.specs.Data.{Data, null, boolean, string}
@@ -47,11 +47,14 @@ tables_json lab holder p peering lines = routes_json
     (list_of (map entry_json (table.entries (told lines))))
     (list_of (all_untold lab holder p (state_of lines) (told lines)))
 
+abbrev pub view_object : (at : Data) → (moving : Bool) → (name : List ℕ) → (routes session : Data) → Data
+view_object at moving name routes session = fields
+    ((codes "at", at) ∷ (codes "moving", boolean moving) ∷ (codes "name", string name) ∷ (codes "routes", routes) ∷ (codes "session", session) ∷ [])
+
 -- a peering's name, the place of its session, what it came to, and its routes
 abbrev pub view_json : Lab → Option Place → ℕ × PeeringInput → Peering → List Line → Data
-view_json lab place p peering lines = fields
-    ((codes "at", holder_json lab.input place) ∷ (codes "moving", boolean (is_moving place)) ∷ (codes "name", string p.1.name)
-    ∷ (codes "routes", tables_json lab (holder_of lab.input place) p peering lines) ∷ (codes "session", session_json peering lines) ∷ [])
+view_json lab place p peering lines = view_object
+    (holder_json lab.input place) (is_moving place) p.1.name (tables_json lab (holder_of lab.input place) p peering lines) (session_json peering lines)
 
 -- a peering that has no session is left out
 abbrev pub peering_json : Lab → ℕ × PeeringInput → List Data

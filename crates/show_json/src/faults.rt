@@ -1,6 +1,6 @@
 //! The planned faults whose segments never came, as JSON.
 
-ghost use Rattle.std.specs.Prelude.{◌≡◌, ◌++◌, List, length, map, IfOk, OnOk};
+ghost use Rattle.std.specs.Prelude.{◌≡◌, [], ◌∷◌, ◌++◌, List, length, map, IfOk, OnOk};
 ghost use Rattle.std.specs.List.{flat_map};
 ghost use Rattle.ring_net.specs.declared.entry.JournalEntry.{JournalEntry};
 ghost use Rattle.report_json.specs.Values.{list_of};
@@ -12,7 +12,8 @@ use bgp_types::NoMemory;
 use lab_report::{Lab, peering_name};
 use lab_tables::LabInput;
 use link_bag::Fault;
-use serde_json::{Value, json};
+use report_json::{push_value, put_text};
+use serde_json::{Map, Value, put};
 use show_view::{Segments, count_segments, kind_name, segments_on, way_name};
 use std::alloc::Global;
 
@@ -20,13 +21,26 @@ use std::alloc::Global;
 fn never_came(alloc: Global, input: &LabInput, fault: &Fault) -> Result<Value, NoMemory>
     ensures { IfOk result (λ v. view v ≡ never_came input.now fault.now) }
 {
-    let value = json!(in alloc; {
-        "peering": peering_name(input, fault.peering.0),
-        "way": way_name(fault.way),
-        "segment": fault.segment,
-        "kind": kind_name(fault.kind),
-    })?;
-    Ok(value)
+    let remote = peering_name(input, fault.peering.0);
+    let mut map = Map::new(alloc);
+    put_text(&mut map, alloc, "kind", kind_name(fault.kind))?;
+    put_text(&mut map, alloc, "peering", remote)?;
+    put(&mut map, alloc, "segment", Value::from(fault.segment))?;
+    put_text(&mut map, alloc, "way", way_name(fault.way))?;
+    Ok(Value::Object(map))
+}
+
+/// Adds a fault whose segment never came.
+fn push_never_came(
+    list: &mut Vec<Value>,
+    alloc: Global,
+    input: &LabInput,
+    fault: &Fault,
+) -> Result<(), NoMemory>
+    ensures { OnOk result (map view list.new.items ≡ map view list.old.items ++ never_came input.now fault.now ∷ []) }
+{
+    push_value(list, never_came(alloc, input, fault)?)?;
+    Ok(())
 }
 
 /// Adds a fault, if its segment never came.
@@ -42,7 +56,7 @@ fn push_fault(
         → OnOk result (map view list.new.items ≡ map view list.old.items ++ fault_json input.now journal fault.now) }
 {
     if segments_on(all, fault.peering, fault.way) < u64::from(fault.segment) {
-        list.push(never_came(alloc, input, fault)?)?;
+        return push_never_came(list, alloc, input, fault);
     }
     Ok(())
 }

@@ -14,9 +14,9 @@ use bgp_types::{Name, NoMemory, Route};
 use lab_report::BestEntry;
 use lab_tables::{LabInput, PeeringInput};
 use message_json::attrs_value;
-use report_json::{from_value, prefix_value};
+use report_json::{from_value, prefix_value, push_value, put_text};
 use route_policy::Policy;
-use serde_json::{Value, json};
+use serde_json::{Map, Value, put};
 use show_view::{AttrsEntry, denying_rule, let_in};
 use std::alloc::Global;
 use why_view::is_loop;
@@ -48,13 +48,12 @@ fn best_value(alloc: Global, input: &LabInput, best: &BestEntry) -> Result<Value
     let prefix = prefix_value(alloc, best.prefix)?;
     let from = from_value(alloc, input, best.from)?;
     let attrs = attrs_value(alloc, &best.route.attrs)?;
-    let value = json!(in alloc; {
-        "prefix": prefix,
-        "from": from,
-        "pref": best.route.pref,
-        "attrs": attrs,
-    })?;
-    Ok(value)
+    let mut map = Map::new(alloc);
+    put(&mut map, alloc, "attrs", attrs)?;
+    put(&mut map, alloc, "from", from)?;
+    put(&mut map, alloc, "pref", Value::from(best.route.pref))?;
+    put(&mut map, alloc, "prefix", prefix)?;
+    Ok(Value::Object(map))
 }
 
 /// Best routes.
@@ -67,7 +66,7 @@ pub(crate) fn bests_value(
 {
     let mut list = Vec::with_capacity(alloc, table.len())?;
     for best in table {
-        list.push(best_value(alloc, input, best)?)?;
+        push_value(&mut list, best_value(alloc, input, best)?)?;
     }
     Ok(Value::Array(list))
 }
@@ -78,8 +77,10 @@ pub(crate) fn entry_value(alloc: Global, entry: &AttrsEntry) -> Result<Value, No
 {
     let prefix = prefix_value(alloc, entry.0)?;
     let attrs = attrs_value(alloc, &entry.1)?;
-    let value = json!(in alloc; {"prefix": prefix, "attrs": attrs})?;
-    Ok(value)
+    let mut map = Map::new(alloc);
+    put(&mut map, alloc, "attrs", attrs)?;
+    put(&mut map, alloc, "prefix", prefix)?;
+    Ok(Value::Object(map))
 }
 
 // ---- what a session heard
@@ -95,14 +96,13 @@ fn import_value(
 ) -> Result<Value, NoMemory>
     ensures { IfOk result (λ v. view v ≡ import_json word.now (view attrs) (view pref) (view policy) (view rule)) }
 {
-    let value = json!(in alloc; {
-        "result": word,
-        "attrs": attrs,
-        "pref": pref,
-        "policy": policy,
-        "rule": rule,
-    })?;
-    Ok(value)
+    let mut map = Map::new(alloc);
+    put(&mut map, alloc, "attrs", attrs)?;
+    put(&mut map, alloc, "policy", policy)?;
+    put(&mut map, alloc, "pref", pref)?;
+    put_text(&mut map, alloc, "result", word)?;
+    put(&mut map, alloc, "rule", rule)?;
+    Ok(Value::Object(map))
 }
 
 /// A route whose path has the home AS.
@@ -199,12 +199,11 @@ fn with_import(alloc: Global, entry: &AttrsEntry, made: Value) -> Result<Value, 
 {
     let prefix = prefix_value(alloc, entry.0)?;
     let attrs = attrs_value(alloc, &entry.1)?;
-    let value = json!(in alloc; {
-        "prefix": prefix,
-        "attrs": attrs,
-        "import": made,
-    })?;
-    Ok(value)
+    let mut map = Map::new(alloc);
+    put(&mut map, alloc, "attrs", attrs)?;
+    put(&mut map, alloc, "import", made)?;
+    put(&mut map, alloc, "prefix", prefix)?;
+    Ok(Value::Object(map))
 }
 
 /// A route that a session heard, before and after the import policy of the router that holds it.

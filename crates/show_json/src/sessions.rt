@@ -6,11 +6,13 @@ ghost use Rattle.bgp_story.specs.Laws.{IsGotLine};
 ghost use Rattle.bgp_story.specs.Legal.{IsGot, got_open};
 ghost use Rattle.bgp_types.specs.FirstFault.{message_of};
 ghost use Rattle.lab_tables.specs.declared.input.LabInput.{LabInput};
+ghost use Rattle.serde_json.specs.Data.{null};
 ghost use Rattle.serde_json.specs.View.{view};
+ghost use Rattle.message_json.specs.Messages.{notice_json};
 ghost use Rattle.why_view.specs.Stories.{story_peering};
 ghost use Rattle.show_view.specs.Sessions.{before_last as before_last_lem, last_of};
 ghost use Rattle.show_json.specs.Sessions.{hold_json, width_json, sizes_json, sent_json, received_json, closed_json, expired_json, closed_by, closed_for};
-ghost use Rattle.show_json.specs.Sessions.{closing_of, session_json};
+ghost use Rattle.show_json.specs.Sessions.{closing_of, session_object, session_json};
 
 use bgp_story::{Line, Story};
 use bgp_types::{Expected, Message, NoMemory, Notice, OpenMsg};
@@ -19,7 +21,8 @@ use lab_report::state_name;
 use lab_tables::PeeringInput;
 use message_json::notice_value;
 use message_words::read_got;
-use serde_json::{Value, json};
+use report_json::put_text;
+use serde_json::{Map, Value, put};
 use show_view::{
     as_octets, before_last, expected_last, received_messages, received_octets, sent_messages,
     sent_octets,
@@ -59,8 +62,10 @@ fn sizes_value(alloc: Global, messages: usize, octets: u128) -> Result<Value, No
     let Ok(octets) = u64::try_from(octets) else {
         return Err(NoMemory);
     };
-    let value = json!(in alloc; {"messages": messages, "octets": octets})?;
-    Ok(value)
+    let mut map = Map::new(alloc);
+    put(&mut map, alloc, "messages", Value::from(messages))?;
+    put(&mut map, alloc, "octets", Value::from(octets))?;
+    Ok(Value::Object(map))
 }
 
 /// What was sent.
@@ -82,8 +87,11 @@ fn received_value(alloc: Global, lines: &[Line]) -> Result<Value, NoMemory>
 fn closed_value(alloc: Global, how: &str, notice: Value, round: Value) -> Result<Value, NoMemory>
     ensures { IfOk result (λ v. view v ≡ closed_json how.now (view notice) (view round)) }
 {
-    let value = json!(in alloc; {"how": how, "notice": notice, "round": round})?;
-    Ok(value)
+    let mut map = Map::new(alloc);
+    put_text(&mut map, alloc, "how", how)?;
+    put(&mut map, alloc, "notice", notice)?;
+    put(&mut map, alloc, "round", round)?;
+    Ok(Value::Object(map))
 }
 
 /// That the hold time expired in a round.
@@ -94,15 +102,22 @@ fn expired_value(alloc: Global, round: u32) -> Result<Value, NoMemory>
     closed_value(alloc, "hold time expired", Value::Null, round)
 }
 
+/// That a NOTIFICATION was sent or received.
+fn notice_closed(alloc: Global, how: &str, notice: &Notice) -> Result<Value, NoMemory>
+    ensures { IfOk result (λ v. view v ≡ closed_json how.now (notice_json notice.now) null) }
+{
+    let notice = notice_value(alloc, notice)?;
+    closed_value(alloc, how, notice, Value::Null)
+}
+
 /// That a NOTIFICATION was sent, or behind a second that the hold time expired in it.
 fn closed_by(alloc: Global, before: Option<&Line>, notice: &Notice) -> Result<Value, NoMemory>
     ensures { IfOk result (λ v. view v ≡ closed_by (option_copied before.entry) notice.now) }
 {
-    if let Some(Line::Tick(round)) = before {
-        return expired_value(alloc, *round);
+    match before {
+        Some(Line::Tick(round)) => expired_value(alloc, *round),
+        _ => notice_closed(alloc, "sent", notice),
     }
-    let notice = notice_value(alloc, notice)?;
-    closed_value(alloc, "sent", notice, Value::Null)
 }
 
 /// That a NOTIFICATION was received, if these octets are one.
@@ -110,13 +125,11 @@ fn closed_for(alloc: Global, expected: &Expected, bytes: &[u8]) -> Result<Value,
     requires { IsGot bytes.now }
     ensures { IfOk result (λ v. view v ≡ closed_for (message_of expected.now bytes.now)) }
 {
-    let notice = match read_got(alloc, expected, bytes) {
-        Ok(Message::NoticeMsg(notice)) => notice,
-        Ok(_) | Err(CodecFault::Wire(_)) => return Ok(Value::Null),
-        Err(CodecFault::NoMemory) => return Err(NoMemory),
-    };
-    let received = notice_value(alloc, &notice)?;
-    closed_value(alloc, "received", received, Value::Null)
+    match read_got(alloc, expected, bytes) {
+        Ok(Message::NoticeMsg(notice)) => notice_closed(alloc, "received", &notice),
+        Ok(_) | Err(CodecFault::Wire(_)) => Ok(Value::Null),
+        Err(CodecFault::NoMemory) => Err(NoMemory),
+    }
 }
 
 /// Why a session closed, or null. This was expected at its last line.
@@ -135,6 +148,29 @@ fn closing_value(alloc: Global, expected: &Expected, lines: &[Line]) -> Result<V
 
 // ---- the whole
 
+/// What a session came to, by its parts.
+fn session_object(
+    alloc: Global,
+    width: Value,
+    closed: Value,
+    hold: Value,
+    received: Value,
+    sent: Value,
+    state: &str,
+) -> Result<Value, NoMemory>
+    ensures { IfOk result (λ v. view v
+        ≡ session_object (view width) (view closed) (view hold) (view received) (view sent) state.now) }
+{
+    let mut map = Map::new(alloc);
+    put(&mut map, alloc, "as_octets", width)?;
+    put(&mut map, alloc, "closed", closed)?;
+    put(&mut map, alloc, "hold", hold)?;
+    put(&mut map, alloc, "received", received)?;
+    put(&mut map, alloc, "sent", sent)?;
+    put_text(&mut map, alloc, "state", state)?;
+    Ok(Value::Object(map))
+}
+
 /// What the session of a peering came to. It got this OPEN.
 pub(crate) fn session_value(
     alloc: Global,
@@ -147,16 +183,11 @@ pub(crate) fn session_value(
 {
     let lines = lines_of(story);
     let expected = expected_last(peering, opened, lines);
+    let width = width_value(peering, opened);
+    let hold = hold_value(peering, opened);
+    let state = state_name(story.state());
     let closed = closing_value(alloc, &expected, lines)?;
     let sent = sent_value(alloc, is_wide(peering, opened), lines)?;
     let received = received_value(alloc, lines)?;
-    let value = json!(in alloc; {
-        "state": state_name(story.state()),
-        "hold": hold_value(peering, opened),
-        "as_octets": width_value(peering, opened),
-        "sent": sent,
-        "received": received,
-        "closed": closed,
-    })?;
-    Ok(value)
+    session_object(alloc, width, closed, hold, received, sent, state)
 }

@@ -6,7 +6,7 @@ ghost use Rattle.report_json.specs.Values.{list_of, json_line as json_line_lem};
 ghost use Rattle.serde_json.specs.View.{view};
 ghost use Rattle.why_view.specs.Sources.{numbered_peerings};
 ghost use Rattle.why_view.specs.Stories.{story_peering};
-ghost use Rattle.show_json.specs.Show.{router_json, view_json, peering_json, waiting_json, show_json as show_json_lem};
+ghost use Rattle.show_json.specs.Show.{router_json, view_object, view_json, peering_json, waiting_json, show_json as show_json_lem};
 
 use crate::faults::faults_value;
 use crate::routes::bests_value;
@@ -16,8 +16,8 @@ use bgp_story::Story;
 use bgp_types::{NoMemory, Octets, PeeringId};
 use lab_report::{Lab, RunEnd, place_at};
 use lab_tables::{PeeringInput, RouterInput};
-use report_json::{end_value, holder_value, is_moving, json_line};
-use serde_json::{Value, json};
+use report_json::{end_value, holder_value, is_moving, json_line, push_value, put_text};
+use serde_json::{Map, Value, put};
 use show_view::{best_in, numbered, push_pending};
 use std::alloc::Global;
 use why_view::opened_on;
@@ -33,8 +33,10 @@ fn router_value(
 {
     let table = best_in(lab.tables.get(index));
     let best = bests_value(alloc, &lab.input, table)?;
-    let value = json!(in alloc; {"name": router.name.as_str(), "best": best})?;
-    Ok(value)
+    let mut map = Map::new(alloc);
+    put(&mut map, alloc, "best", best)?;
+    put_text(&mut map, alloc, "name", router.name.as_str())?;
+    Ok(Value::Object(map))
 }
 
 /// The routers, in the order of the input.
@@ -44,9 +46,29 @@ fn routers_value(alloc: Global, lab: &Lab) -> Result<Value, NoMemory>
     let routers = lab.input.routers.as_slice();
     let mut list = Vec::with_capacity(alloc, routers.len())?;
     for (index, router) in routers.iter().enumerate() {
-        list.push(router_value(alloc, lab, index, router)?)?;
+        push_value(&mut list, router_value(alloc, lab, index, router)?)?;
     }
     Ok(Value::Array(list))
+}
+
+/// A peering with its session, by its parts.
+fn view_object(
+    alloc: Global,
+    at: Value,
+    moving: bool,
+    name: &str,
+    routes: Value,
+    session: Value,
+) -> Result<Value, NoMemory>
+    ensures { IfOk result (λ v. view v ≡ view_object (view at) moving name.now (view routes) (view session)) }
+{
+    let mut map = Map::new(alloc);
+    put(&mut map, alloc, "at", at)?;
+    put(&mut map, alloc, "moving", Value::from(moving))?;
+    put_text(&mut map, alloc, "name", name)?;
+    put(&mut map, alloc, "routes", routes)?;
+    put(&mut map, alloc, "session", session)?;
+    Ok(Value::Object(map))
 }
 
 /// A peering with its session, which has this story.
@@ -60,19 +82,14 @@ fn view_value(
     ensures { IfOk result (λ v. view v ≡ view_json lab.now (slice_get lab.now.placement number.0) (number.0, peering.now)
         (story_peering lab.now.input peering.now) story.now.lines) }
 {
-    let place = place_at(&lab.placement, usize::from(number.0));
+    let place = place_at(lab.placement.as_slice(), usize::from(number.0));
+    let moving = is_moving(place);
+    let name = peering.name.as_str();
     let opened = opened_on(alloc, peering, story)?;
     let at = holder_value(alloc, &lab.input, place)?;
     let session = session_value(alloc, peering, story, &opened)?;
     let routes = tables_value(alloc, lab, place, number, peering, story, &opened)?;
-    let value = json!(in alloc; {
-        "name": peering.name.as_str(),
-        "at": at,
-        "moving": is_moving(place),
-        "session": session,
-        "routes": routes,
-    })?;
-    Ok(value)
+    view_object(alloc, at, moving, name, routes, session)
 }
 
 /// Adds a peering, unless it has no session.
@@ -88,7 +105,10 @@ fn push_peering(
     let Some(session) = lab.sessions.get(usize::from(number.0)) else {
         return Ok(());
     };
-    list.push(view_value(alloc, lab, number, peering, &session.story)?)?;
+    push_value(
+        list,
+        view_value(alloc, lab, number, peering, &session.story)?,
+    )?;
     Ok(())
 }
 
@@ -125,16 +145,15 @@ fn show_value(alloc: Global, lab: &Lab) -> Result<Value, NoMemory>
     let routers = routers_value(alloc, lab)?;
     let peerings = peerings_value(alloc, lab)?;
     let faults = faults_value(alloc, lab)?;
-    let value = json!(in alloc; {
-        "version": 1u32,
-        "job": "show",
-        "result": end,
-        "waiting": waiting,
-        "routers": routers,
-        "peerings": peerings,
-        "faults": faults,
-    })?;
-    Ok(value)
+    let mut map = Map::new(alloc);
+    put(&mut map, alloc, "faults", faults)?;
+    put_text(&mut map, alloc, "job", "show")?;
+    put(&mut map, alloc, "peerings", peerings)?;
+    put(&mut map, alloc, "result", end)?;
+    put(&mut map, alloc, "routers", routers)?;
+    put(&mut map, alloc, "version", Value::from(1u32))?;
+    put(&mut map, alloc, "waiting", waiting)?;
+    Ok(Value::Object(map))
 }
 
 /// All that there is at the end of a run, as JSON: how it ended and what it was waiting for if it didn't settle; the best routes of each router

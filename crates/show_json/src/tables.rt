@@ -1,6 +1,6 @@
 //! The routes of a session, as JSON.
 
-ghost use Rattle.std.specs.Prelude.{◌≡◌, ℕ, List, None, Some, map, IfOk};
+ghost use Rattle.std.specs.Prelude.{◌≡◌, [], ℕ, List, None, Some, map, IfOk};
 ghost use Rattle.bgp_story.specs.declared.line.Line.{Line};
 ghost use Rattle.bgp_story.specs.Legal.{got_open};
 ghost use Rattle.lab_report.specs.declared.lab.Lab.{Lab as LabValue};
@@ -21,8 +21,9 @@ use bgp_story::Story;
 use bgp_types::{NoMemory, OpenMsg, PeeringId, RouterId, SessionState};
 use lab_report::{Lab, Place};
 use lab_tables::{LabInput, PeeringInput, RouterInput};
+use report_json::push_value;
 use route_policy::{OutView, Policy};
-use serde_json::{Value, json};
+use serde_json::{Map, Value, put};
 use show_view::{
     AttrsEntry, best_in, entries_of, holder_number, is_established, router_at, told_on,
 };
@@ -42,7 +43,10 @@ fn all_heard(
 {
     let mut list = Vec::with_capacity(alloc, entries.len())?;
     for entry in entries {
-        list.push(heard_value(alloc, input, peering, policy, entry)?)?;
+        push_value(
+            &mut list,
+            heard_value(alloc, input, peering, policy, entry)?,
+        )?;
     }
     Ok(Value::Array(list))
 }
@@ -53,7 +57,7 @@ fn all_heard_alone(alloc: Global, entries: &[AttrsEntry]) -> Result<Value, NoMem
 {
     let mut list = Vec::with_capacity(alloc, entries.len())?;
     for entry in entries {
-        list.push(heard_alone(alloc, entry)?)?;
+        push_value(&mut list, heard_alone(alloc, entry)?)?;
     }
     Ok(Value::Array(list))
 }
@@ -64,9 +68,16 @@ fn all_told(alloc: Global, entries: &[AttrsEntry]) -> Result<Value, NoMemory>
 {
     let mut list = Vec::with_capacity(alloc, entries.len())?;
     for entry in entries {
-        list.push(entry_value(alloc, entry)?)?;
+        push_value(&mut list, entry_value(alloc, entry)?)?;
     }
     Ok(Value::Array(list))
+}
+
+/// An empty list.
+fn no_values(alloc: Global) -> Value
+    ensures { view result ≡ list_of [] }
+{
+    Value::Array(Vec::new(alloc))
 }
 
 /// The best routes of a session's holder that aren't told on it, if it is established.
@@ -84,7 +95,7 @@ fn all_untold(
         ≡ list_of (all_untold lab.now (Some (holder.0, router.now)) (number.0, peering.now) state told.now)) }
 {
     if !is_established(state) {
-        return Ok(Value::Array(Vec::new(alloc)));
+        return Ok(no_values(alloc));
     }
     let export = import_policy(router, &peering.export)?;
     let out = OutView {
@@ -94,16 +105,18 @@ fn all_untold(
         export: export.as_ref(),
     };
     let table = best_in(lab.tables.get(usize::from(holder.0)));
-    let list = untold_values(alloc, &lab.input, &out, peering, told, table)?;
-    Ok(Value::Array(list))
+    untold_values(alloc, &lab.input, &out, peering, told, table)
 }
 
 /// The routes of a session: those that it heard, those that were told, and those that weren't.
 fn routes_value(alloc: Global, heard: Value, told: Value, untold: Value) -> Result<Value, NoMemory>
     ensures { IfOk result (λ v. view v ≡ routes_json (view heard) (view told) (view untold)) }
 {
-    let value = json!(in alloc; {"heard": heard, "told": told, "untold": untold})?;
-    Ok(value)
+    let mut map = Map::new(alloc);
+    put(&mut map, alloc, "heard", heard)?;
+    put(&mut map, alloc, "told", told)?;
+    put(&mut map, alloc, "untold", untold)?;
+    Ok(Value::Object(map))
 }
 
 /// The routes of a session on its way, which got this OPEN.
@@ -119,7 +132,8 @@ fn tables_alone(
     let entries = entries_of(alloc, &routes_on(alloc, peering, story, opened)?)?;
     let heard = all_heard_alone(alloc, &entries)?;
     let told = all_told(alloc, &entries_of(alloc, &told_on(alloc, story)?)?)?;
-    routes_value(alloc, heard, told, Value::Array(Vec::new(alloc)))
+    let none = no_values(alloc);
+    routes_value(alloc, heard, told, none)
 }
 
 /// The routes of a session that this router holds, and that got this OPEN.

@@ -21,8 +21,8 @@ use graft_steps::GraftEntry;
 use lab_report::{Lab, SessionView, peering_name, router_name};
 use lab_tables::LabInput;
 use message_json::{message_value, read_value};
-use report_json::{source_value, stage_refusal};
-use serde_json::{Value, json};
+use report_json::{push_value, put_text, source_value, stage_refusal};
+use serde_json::{Map, Value, put};
 use std::alloc::Global;
 use story_view::lines_of;
 use tcp_seq::Way;
@@ -40,13 +40,12 @@ fn event_value(
 ) -> Result<Value, NoMemory>
     ensures { IfOk result (λ v. view v ≡ event_json round actor.now what.now (view about)) }
 {
-    let value = json!(in alloc; {
-        "round": round,
-        "actor": actor,
-        "event": what,
-        "about": about,
-    })?;
-    Ok(value)
+    let mut map = Map::new(alloc);
+    put(&mut map, alloc, "about", about)?;
+    put_text(&mut map, alloc, "actor", actor)?;
+    put_text(&mut map, alloc, "event", what)?;
+    put(&mut map, alloc, "round", Value::from(round))?;
+    Ok(Value::Object(map))
 }
 
 /// Adds what an actor did in a round.
@@ -60,7 +59,7 @@ fn push_event(
 ) -> Result<(), NoMemory>
     ensures { OnOk result (map view list.new.items ≡ map view list.old.items ++ event_json round actor.now what.now (view about) ∷ []) }
 {
-    list.push(event_value(alloc, round, actor, what, about)?)?;
+    push_value(list, event_value(alloc, round, actor, what, about)?)?;
     Ok(())
 }
 
@@ -70,8 +69,10 @@ fn push_event(
 fn message_about(alloc: Global, remote: &str, message: Value) -> Result<Value, NoMemory>
     ensures { IfOk result (λ v. view v ≡ about_message remote.now (view message)) }
 {
-    let value = json!(in alloc; {"peering": remote, "message": message})?;
-    Ok(value)
+    let mut map = Map::new(alloc);
+    put(&mut map, alloc, "message", message)?;
+    put_text(&mut map, alloc, "peering", remote)?;
+    Ok(Value::Object(map))
 }
 
 /// A message that the holder of a session put.
@@ -139,7 +140,7 @@ pub(crate) fn push_put(
 ) -> Result<(), NoMemory>
     ensures { OnOk result (map view list.new.items ≡ map view list.old.items ++ put_json round holder.now remote.now message.now ∷ []) }
 {
-    list.push(put_value(alloc, round, holder, remote, message)?)?;
+    push_value(list, put_value(alloc, round, holder, remote, message)?)?;
     Ok(())
 }
 
@@ -159,7 +160,7 @@ fn push_got(
         ≡ map view list.old.items ++ got_json round holder.now remote.now expected head bytes.now ∷ []) }
 {
     let value = got_value(alloc, round, holder, remote, expected, head, bytes)?;
-    list.push(value)?;
+    push_value(list, value)?;
     Ok(())
 }
 
@@ -322,14 +323,15 @@ fn graft_about(
     ensures { IfOk result (λ v. view v ≡ about_graft input.now graft.now (view refusal)) }
 {
     let source = source_value(alloc, input, graft.source)?;
-    let value = json!(in alloc; {
-        "graft": graft.graft,
-        "peering": peering_name(input, graft.peering.0),
-        "source": source,
-        "target": router_name(input, graft.target.0),
-        "refusal": refusal,
-    })?;
-    Ok(value)
+    let remote = peering_name(input, graft.peering.0);
+    let target = router_name(input, graft.target.0);
+    let mut map = Map::new(alloc);
+    put(&mut map, alloc, "graft", Value::from(graft.graft))?;
+    put_text(&mut map, alloc, "peering", remote)?;
+    put(&mut map, alloc, "refusal", refusal)?;
+    put(&mut map, alloc, "source", source)?;
+    put_text(&mut map, alloc, "target", target)?;
+    Ok(Value::Object(map))
 }
 
 /// Adds the event of a graft, if the log has the graft.
@@ -359,8 +361,9 @@ fn push_graft(
 fn stray_about(alloc: Global, remote: &str) -> Result<Value, NoMemory>
     ensures { IfOk result (λ v. view v ≡ about_stray remote.now) }
 {
-    let value = json!(in alloc; {"peering": remote})?;
-    Ok(value)
+    let mut map = Map::new(alloc);
+    put_text(&mut map, alloc, "peering", remote)?;
+    Ok(Value::Object(map))
 }
 
 /// Adds that a segment of a remote came astray.
@@ -407,8 +410,9 @@ fn way_word(way: Way) -> &'static str
 fn link_about(alloc: Global, way: Way) -> Result<Value, NoMemory>
     ensures { IfOk result (λ v. view v ≡ about_link way) }
 {
-    let value = json!(in alloc; {"to": way_word(way)})?;
-    Ok(value)
+    let mut map = Map::new(alloc);
+    put_text(&mut map, alloc, "to", way_word(way))?;
+    Ok(Value::Object(map))
 }
 
 /// Adds what a link did with a segment.
@@ -431,8 +435,9 @@ fn push_link(
 fn group_about(alloc: Global, group: usize) -> Result<Value, NoMemory>
     ensures { IfOk result (λ v. view v ≡ about_group group) }
 {
-    let value = json!(in alloc; {"group": group})?;
-    Ok(value)
+    let mut map = Map::new(alloc);
+    put(&mut map, alloc, "group", Value::from(group))?;
+    Ok(Value::Object(map))
 }
 
 /// Adds the beginning of a group.

@@ -9,8 +9,8 @@ ghost use Rattle.view_json.specs.Timeline.{span_json, moved_json, grafts_json};
 use graft_edge::NoMemory;
 use graft_steps::GraftEntry;
 use lab_report::Lab;
-use report_json::graft_value;
-use serde_json::{Value, json};
+use report_json::{graft_value, push_value};
+use serde_json::{Map, Value, put};
 use std::alloc::Global;
 use timeline_view::{Happening, Moment, Outline, round_of, strays_of, updates_after};
 
@@ -42,17 +42,17 @@ fn moved_value(
     let to_landing = span_value(left, round_of(Moment::Landed, number, all));
     let counts = updates_after(lab, outlines, graft, all)?;
     let entry = graft_value(alloc, &lab.input, graft)?;
-    let value = json!(in alloc; {
-        "graft": entry,
-        "to_freeze": to_freeze,
-        "frozen": span_value(frozen, left),
-        "to_landing": to_landing,
-        "astray": strays_of(graft, all),
-        "updates": counts.updates,
-        "announced": counts.announced,
-        "withdrawn": counts.withdrawn,
-    })?;
-    Ok(value)
+    let astray = Value::from(strays_of(graft, all));
+    let mut map = Map::new(alloc);
+    put(&mut map, alloc, "announced", Value::from(counts.announced))?;
+    put(&mut map, alloc, "astray", astray)?;
+    put(&mut map, alloc, "frozen", span_value(frozen, left))?;
+    put(&mut map, alloc, "graft", entry)?;
+    put(&mut map, alloc, "to_freeze", to_freeze)?;
+    put(&mut map, alloc, "to_landing", to_landing)?;
+    put(&mut map, alloc, "updates", Value::from(counts.updates))?;
+    put(&mut map, alloc, "withdrawn", Value::from(counts.withdrawn))?;
+    Ok(Value::Object(map))
 }
 
 /// These grafts.
@@ -68,7 +68,7 @@ fn each_moved(
 {
     let mut list = Vec::with_capacity(alloc, log.len())?;
     for graft in log {
-        list.push(moved_value(alloc, lab, outlines, all, graft)?)?;
+        push_value(&mut list, moved_value(alloc, lab, outlines, all, graft)?)?;
     }
     Ok(Value::Array(list))
 }

@@ -8,7 +8,8 @@ ghost use Rattle.view_json.specs.Timeline.{session_json, peering_json, sessions_
 use graft_edge::NoMemory;
 use lab_report::{Lab, SessionView};
 use lab_tables::PeeringInput;
-use serde_json::{Value, json};
+use report_json::{push_value, put_text};
+use serde_json::{Map, Value, put};
 use std::alloc::Global;
 use timeline_view::{
     Happening, Outline, all_further_opens, all_notices, notices_got, notices_put, opens_got,
@@ -19,14 +20,17 @@ use timeline_view::{
 fn session_value(alloc: Global, name: &str, session: &SessionView) -> Result<Value, NoMemory>
     ensures { IfOk result (λ v. view v ≡ session_json name.now session.now) }
 {
-    let value = json!(in alloc; {
-        "name": name,
-        "opens_put": opens_put(session),
-        "opens_got": opens_got(session),
-        "notifications_put": notices_put(session),
-        "notifications_got": notices_got(session),
-    })?;
-    Ok(value)
+    let got_notices = Value::from(notices_got(session));
+    let put_notices = Value::from(notices_put(session));
+    let got_opens = Value::from(opens_got(session));
+    let put_opens = Value::from(opens_put(session));
+    let mut map = Map::new(alloc);
+    put_text(&mut map, alloc, "name", name)?;
+    put(&mut map, alloc, "notifications_got", got_notices)?;
+    put(&mut map, alloc, "notifications_put", put_notices)?;
+    put(&mut map, alloc, "opens_got", got_opens)?;
+    put(&mut map, alloc, "opens_put", put_opens)?;
+    Ok(Value::Object(map))
 }
 
 /// Adds the session of a peering, if it has one.
@@ -42,7 +46,7 @@ fn push_peering(
     let Some(session) = lab.sessions.get(index) else {
         return Ok(());
     };
-    list.push(session_value(alloc, peering.name.as_str(), session)?)?;
+    push_value(list, session_value(alloc, peering.name.as_str(), session)?)?;
     Ok(())
 }
 
@@ -71,10 +75,10 @@ pub(crate) fn total_value(
     let opens = all_further_opens(lab.sessions.as_slice())?;
     let notices = all_notices(lab.sessions.as_slice())?;
     let withdrawn = withdrawn_in(lab, outlines, all, lab.log.as_slice())?;
-    let value = json!(in alloc; {
-        "further_opens": opens,
-        "notifications": notices,
-        "withdrawn_from_moved": withdrawn,
-    })?;
-    Ok(value)
+    let withdrawn = Value::from(withdrawn);
+    let mut map = Map::new(alloc);
+    put(&mut map, alloc, "further_opens", Value::from(opens))?;
+    put(&mut map, alloc, "notifications", Value::from(notices))?;
+    put(&mut map, alloc, "withdrawn_from_moved", withdrawn)?;
+    Ok(Value::Object(map))
 }

@@ -9,7 +9,7 @@ ghost use Rattle.view_json.specs.Events.{withdrawn_in_step, octets_in_step, pref
 use graft_edge::NoMemory;
 use lab_tables::{LabInput, Step};
 use message_json::prefixes_value;
-use serde_json::{Value, json};
+use serde_json::{Map, Value, put};
 use std::alloc::Global;
 
 /// The prefixes that a step announces.
@@ -50,11 +50,10 @@ pub(crate) fn about_step(alloc: Global, input: &LabInput, step: u32) -> Result<V
     let announce = announced_value(alloc, said)?;
     let withdraw = withdrawn_value(alloc, said)?;
     let octets = octets_value(said);
-    let value = json!(in alloc; {
-        "step": step,
-        "announce": announce,
-        "withdraw": withdraw,
-        "octets": octets,
-    })?;
-    Ok(value)
+    let mut map = Map::new(alloc);
+    put(&mut map, alloc, "announce", announce)?;
+    put(&mut map, alloc, "octets", octets)?;
+    put(&mut map, alloc, "step", Value::from(step))?;
+    put(&mut map, alloc, "withdraw", withdraw)?;
+    Ok(Value::Object(map))
 }

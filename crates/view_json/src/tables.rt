@@ -4,6 +4,7 @@ ghost use Rattle.std.specs.Prelude.{◌≡◌, ◌++◌, map, slice_get, IfOk, O
 ghost use Rattle.std.specs.List.{flat_map, enumerate_from};
 ghost use Rattle.serde_json.specs.View.{view};
 ghost use Rattle.timeline_view.specs.Messages.{outlines_of};
+ghost use Rattle.timeline_view.specs.Rounds.{in_round};
 ghost use Rattle.view_json.specs.Events.{happening_json};
 ghost use Rattle.view_json.specs.Timeline.{opening_of, opening_json, events_json, some_counts, counts_json, router_counts, tables_json};
 
@@ -12,7 +13,8 @@ use bgp_story::Line;
 use graft_edge::NoMemory;
 use lab_report::{Lab, SessionView, router_name};
 use lab_tables::{PeeringInput, RouterInput};
-use serde_json::{Value, json};
+use report_json::{push_value, put_text};
+use serde_json::{Map, Value, put};
 use std::alloc::Global;
 use timeline_view::{Happening, Happenings, Outline, by_rounds, decided_at, heard_at, told_at};
 
@@ -84,7 +86,7 @@ fn push_round(
 }
 
 /// Adds what happened in these rounds.
-fn push_rounds(
+fn push_each_round(
     list: &mut Vec<Value>,
     alloc: Global,
     lab: &Lab,
@@ -92,13 +94,29 @@ fn push_rounds(
     rounds: &[Happenings],
 ) -> Result<(), NoMemory>
     requires { outlines.now ≡ outlines_of lab.now }
-    ensures { OnOk result (map view list.new.items ≡ map view list.old.items
-        ++ flat_map (λ m. flat_map (happening_json lab.now) m.1) (enumerate_from 0 rounds.now)) }
+    ensures { OnOk result (map view list.new.items
+        ≡ map view list.old.items ++ flat_map (flat_map (happening_json lab.now)) rounds.now) }
 {
-    for (_round, here) in rounds.iter().enumerate() {
+    for here in rounds {
         push_round(list, alloc, lab, outlines, here.as_slice())?;
     }
     Ok(())
+}
+
+/// Adds what happened in all rounds.
+fn push_rounds(
+    list: &mut Vec<Value>,
+    alloc: Global,
+    lab: &Lab,
+    outlines: &[Outline],
+    all: &[Happening],
+) -> Result<(), NoMemory>
+    requires { outlines.now ≡ outlines_of lab.now }
+    ensures { OnOk result (map view list.new.items ≡ map view list.old.items
+        ++ flat_map (λ m. flat_map (happening_json lab.now) (in_round m.0 all.now)) (enumerate_from 0 lab.now.marks)) }
+{
+    let rounds = by_rounds(alloc, lab.marks.len(), all)?;
+    push_each_round(list, alloc, lab, outlines, rounds.as_slice())
 }
 
 /// The OPENs of all sessions, and what happened in all rounds.
@@ -111,10 +129,9 @@ pub(crate) fn events_value(
     requires { outlines.now ≡ outlines_of lab.now }
     ensures { IfOk result (λ v. view v ≡ events_json lab.now all.now) }
 {
-    let rounds = by_rounds(alloc, lab.marks.len(), all)?;
     let mut list = Vec::new(alloc);
     push_openings(&mut list, alloc, lab)?;
-    push_rounds(&mut list, alloc, lab, outlines, rounds.as_slice())?;
+    push_rounds(&mut list, alloc, lab, outlines, all)?;
     Ok(Value::Array(list))
 }
 
@@ -131,14 +148,13 @@ fn counts_value(
 ) -> Result<Value, NoMemory>
     ensures { IfOk result (λ v. view v ≡ some_counts round name.now decided told heard) }
 {
-    let value = json!(in alloc; {
-        "round": round,
-        "router": name,
-        "decided": decided,
-        "told": told,
-        "heard": heard,
-    })?;
-    Ok(value)
+    let mut map = Map::new(alloc);
+    put(&mut map, alloc, "decided", Value::from(decided))?;
+    put(&mut map, alloc, "heard", Value::from(heard))?;
+    put(&mut map, alloc, "round", Value::from(round))?;
+    put_text(&mut map, alloc, "router", name)?;
+    put(&mut map, alloc, "told", Value::from(told))?;
+    Ok(Value::Object(map))
 }
 
 /// Adds what a router decided, told and heard in a round, if there was something.
@@ -156,7 +172,10 @@ fn push_counts(
     if decided == 0 && told == 0 && heard == 0 {
         return Ok(());
     }
-    list.push(counts_value(alloc, round, name, decided, told, heard)?)?;
+    push_value(
+        list,
+        counts_value(alloc, round, name, decided, told, heard)?,
+    )?;
     Ok(())
 }
 
@@ -196,7 +215,7 @@ fn push_routers(
 }
 
 /// Adds what each router did with prefixes in these rounds.
-fn push_tables(
+fn push_each_table(
     list: &mut Vec<Value>,
     alloc: Global,
     rounds: &[Happenings],
@@ -211,17 +230,26 @@ fn push_tables(
     Ok(())
 }
 
+/// Adds what each router did with prefixes in all rounds.
+fn push_tables(
+    list: &mut Vec<Value>,
+    alloc: Global,
+    lab: &Lab,
+    all: &[Happening],
+) -> Result<(), NoMemory>
+    ensures { OnOk result (map view list.new.items ≡ map view list.old.items
+        ++ flat_map (λ m. flat_map (router_counts m.0 (in_round m.0 all.now)) (enumerate_from 0 lab.now.input.routers)) (enumerate_from 0 lab.now.marks)) }
+{
+    let routers = lab.input.routers.as_slice();
+    let rounds = by_rounds(alloc, lab.marks.len(), all)?;
+    push_each_table(list, alloc, rounds.as_slice(), routers)
+}
+
 /// What each router did with prefixes in all rounds.
 pub(crate) fn tables_value(alloc: Global, lab: &Lab, all: &[Happening]) -> Result<Value, NoMemory>
     ensures { IfOk result (λ v. view v ≡ tables_json lab.now all.now) }
 {
-    let rounds = by_rounds(alloc, lab.marks.len(), all)?;
     let mut list = Vec::new(alloc);
-    push_tables(
-        &mut list,
-        alloc,
-        rounds.as_slice(),
-        lab.input.routers.as_slice(),
-    )?;
+    push_tables(&mut list, alloc, lab, all)?;
     Ok(Value::Array(list))
 }

@@ -11,8 +11,8 @@ use crate::sessions::{sessions_value, total_value};
 use crate::tables::{events_value, tables_value};
 use graft_edge::{NoMemory, Octets};
 use lab_report::Lab;
-use report_json::{end_value, json_line};
-use serde_json::{Value, json};
+use report_json::{end_value, json_line, put_text};
+use serde_json::{Map, Value, put};
 use std::alloc::Global;
 use timeline_view::{Happening, Outline, happenings, outlines_of};
 
@@ -32,17 +32,16 @@ fn timeline_value(
     let grafts = grafts_value(alloc, lab, outlines, all)?;
     let sessions = sessions_value(alloc, lab)?;
     let total = total_value(alloc, lab, outlines, all)?;
-    let value = json!(in alloc; {
-        "version": 1u32,
-        "job": "timeline",
-        "result": end,
-        "events": events,
-        "tables": tables,
-        "grafts": grafts,
-        "sessions": sessions,
-        "total": total,
-    })?;
-    Ok(value)
+    let mut map = Map::new(alloc);
+    put(&mut map, alloc, "events", events)?;
+    put(&mut map, alloc, "grafts", grafts)?;
+    put_text(&mut map, alloc, "job", "timeline")?;
+    put(&mut map, alloc, "result", end)?;
+    put(&mut map, alloc, "sessions", sessions)?;
+    put(&mut map, alloc, "tables", tables)?;
+    put(&mut map, alloc, "total", total)?;
+    put(&mut map, alloc, "version", Value::from(1u32))?;
+    Ok(Value::Object(map))
 }
 
 /// The timeline of a run, as JSON: how it ended, what happened, what each router did with prefixes in each round, what each graft took and what

@@ -11,8 +11,10 @@ use bgp_types::{NoMemory, Octets, PeeringId, Prefix, Rank, Route, RouterId, Shar
 use decision_core::best;
 use lab_report::{Lab, peering_name, router_name};
 use lab_tables::{LabInput, RouterInput};
-use report_json::{address_value, from_value, json_line, path_value, prefix_value};
-use serde_json::{Value, json};
+use report_json::{
+    address_value, from_value, json_line, path_value, prefix_value, push_value, put_text,
+};
+use serde_json::{Map, Value, put};
 use std::alloc::Global;
 use why_view::{
     Candidate, DecisionRule, SessionEntry, candidates_of, goes_at, imported, is_index, is_loop,
@@ -34,21 +36,20 @@ fn candidate_value(
     let path = path_value(alloc, &candidate.0.route.attrs.path)?;
     let identifier = address_value(alloc, rank.identifier)?;
     let address = address_value(alloc, rank.address)?;
-    let value = json!(in alloc; {
-        "from": from,
-        "path": path,
-        "own": rank.own,
-        "pref": rank.pref,
-        "path_length": rank.path_len,
-        "origin": origin_name(rank.origin),
-        "neighbour": rank.neighbour,
-        "med": rank.med,
-        "external": rank.external,
-        "cost": rank.cost,
-        "identifier": identifier,
-        "address": address,
-    })?;
-    Ok(value)
+    let mut map = Map::new(alloc);
+    put(&mut map, alloc, "address", address)?;
+    put(&mut map, alloc, "cost", Value::from(rank.cost))?;
+    put(&mut map, alloc, "external", Value::from(rank.external))?;
+    put(&mut map, alloc, "from", from)?;
+    put(&mut map, alloc, "identifier", identifier)?;
+    put(&mut map, alloc, "med", Value::from(rank.med))?;
+    put(&mut map, alloc, "neighbour", Value::from(rank.neighbour))?;
+    put_text(&mut map, alloc, "origin", origin_name(rank.origin))?;
+    put(&mut map, alloc, "own", Value::from(rank.own))?;
+    put(&mut map, alloc, "path", path)?;
+    put(&mut map, alloc, "path_length", Value::from(rank.path_len))?;
+    put(&mut map, alloc, "pref", Value::from(rank.pref))?;
+    Ok(Value::Object(map))
 }
 
 /// The best candidate, or null.
@@ -69,8 +70,10 @@ fn best_value(
 fn named_rule(alloc: Global, rule: DecisionRule) -> Result<Value, NoMemory>
     ensures { IfOk result (λ v. view v ≡ rule_json (Some rule)) }
 {
-    let value = json!(in alloc; {"number": rule.number(), "name": rule.name()})?;
-    Ok(value)
+    let mut map = Map::new(alloc);
+    put_text(&mut map, alloc, "name", rule.name())?;
+    put(&mut map, alloc, "number", Value::from(rule.number()))?;
+    Ok(Value::Object(map))
 }
 
 /// The rule at which a candidate went, or null.
@@ -94,8 +97,10 @@ fn lost_value(
 {
     let rule = rule_value(alloc, goes_at(alloc, ranks, &candidate.1)?)?;
     let went = candidate_value(alloc, input, candidate)?;
-    let value = json!(in alloc; {"candidate": went, "rule": rule})?;
-    Ok(value)
+    let mut map = Map::new(alloc);
+    put(&mut map, alloc, "candidate", went)?;
+    put(&mut map, alloc, "rule", rule)?;
+    Ok(Value::Object(map))
 }
 
 /// Adds the candidate of an index, unless it is the best.
@@ -113,7 +118,7 @@ fn push_unless_best(
     if is_index(best, index) {
         return Ok(());
     }
-    list.push(lost_value(alloc, input, ranks, candidate)?)?;
+    push_value(list, lost_value(alloc, input, ranks, candidate)?)?;
     Ok(())
 }
 
@@ -172,14 +177,14 @@ fn excluded_value(
     ensures { IfOk result (λ v. view v ≡ excluded_json input.now by.now session.now heard.now (view policy) (view rule)) }
 {
     let path = path_value(alloc, &heard.path)?;
-    let value = json!(in alloc; {
-        "by": by,
-        "peering": peering_name(input, session.peering.0),
-        "path": path,
-        "policy": policy,
-        "rule": rule,
-    })?;
-    Ok(value)
+    let remote = peering_name(input, session.peering.0);
+    let mut map = Map::new(alloc);
+    put_text(&mut map, alloc, "by", by)?;
+    put(&mut map, alloc, "path", path)?;
+    put_text(&mut map, alloc, "peering", remote)?;
+    put(&mut map, alloc, "policy", policy)?;
+    put(&mut map, alloc, "rule", rule)?;
+    Ok(Value::Object(map))
 }
 
 /// A route that the import policy denied.
@@ -230,7 +235,7 @@ fn push_unless_in(
     match route {
         Some(_) => Ok(()),
         None => {
-            list.push(kept_out(alloc, input, prefix, session, heard)?)?;
+            push_value(list, kept_out(alloc, input, prefix, session, heard)?)?;
             Ok(())
         }
     }
@@ -285,16 +290,15 @@ fn why_object(
     ensures { IfOk result (λ v. view v ≡ why_object prefix router.now (view best) (view lost) (view excluded)) }
 {
     let wanted = prefix_value(alloc, prefix)?;
-    let value = json!(in alloc; {
-        "version": 1u32,
-        "job": "why",
-        "router": router,
-        "prefix": wanted,
-        "best": best,
-        "lost": lost,
-        "excluded": excluded,
-    })?;
-    Ok(value)
+    let mut map = Map::new(alloc);
+    put(&mut map, alloc, "best", best)?;
+    put(&mut map, alloc, "excluded", excluded)?;
+    put_text(&mut map, alloc, "job", "why")?;
+    put(&mut map, alloc, "lost", lost)?;
+    put(&mut map, alloc, "prefix", wanted)?;
+    put_text(&mut map, alloc, "router", router)?;
+    put(&mut map, alloc, "version", Value::from(1u32))?;
+    Ok(Value::Object(map))
 }
 
 /// What a router of this name has for a prefix.

@@ -19,6 +19,7 @@ returns c = λ lab number got.
     let put = c.in_ok-told.ensures ∙ ap (λ es. list_of (map entry_json es)) (c.deref-2.ensures ∙ c.in_ok-entries_of.ensures
     ∙ ap (λ (routes : Routes). table.entries routes) c.in_ok-told_on.ensures) in
     IfOk-weaker c.routes_value.result _ _
-    (λ v is. is ∙ ap (λ (h : Data). routes_json h (view c.in_ok-told.told) (list_of [])) was
+    (λ v is. is ∙ ap (routes_json (view c.in_ok-heard.heard) (view c.in_ok-told.told)) c.no_values-none.ensures
+    ∙ ap (λ (h : Data). routes_json h (view c.in_ok-told.told) (list_of [])) was
     ∙ ap (λ (t : Data). routes_json (list_of (map (λ e. heard_with e null) (table.entries (heard peering lines)))) t (list_of [])) put)
     c.routes_value.ensures

@@ -2,7 +2,7 @@ use Rattle.std.proofs.Common.{◌≡◌, ◌++◌, map, take}
 use Rattle.std.specs.List.{flat_map, enumerate_from}
 use Rattle.serde_json.specs.View.{view}
 use Rattle.view_json.specs.Timeline.{router_counts}
-use Rattle.view_json.proofs.tables.push_tables.Given as goal
+use Rattle.view_json.proofs.tables.push_each_table.Given as goal
 
 -- the values so far are those of the rounds so far
 abbrev pub invariant-loop-round : goal.invariant-loop-round
