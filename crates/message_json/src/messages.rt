@@ -148,7 +148,6 @@ fn faulty_value(alloc: Global, bytes: &[u8], notice: &Notice) -> Result<Value, N
 }
 
 /// Returns what a session that expects this reads in octets that it got at once.
-#[tactic(auto, using(message_words::proofs::Frames::faulty_read))]
 pub fn read_value(alloc: Global, expected: &Expected, bytes: &[u8]) -> Result<Value, NoMemory>
     requires { IsGot bytes.now }
     ensures { IfOk result (λ v. view v ≡ read_json expected.now bytes.now) }

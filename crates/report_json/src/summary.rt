@@ -76,10 +76,8 @@ fn push_peering(
     };
     let place = place_at(lab.placement.as_slice(), index);
     let name = peering.name.as_str();
-    push_value(
-        list,
-        session_value(alloc, &lab.input, name, place, session)?,
-    )
+    let value = session_value(alloc, &lab.input, name, place, session)?;
+    push_value(list, value)
 }
 
 /// The peerings, in the order of the input.
