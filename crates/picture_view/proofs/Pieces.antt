@@ -1,7 +1,7 @@
 -- Texts that are written in many pieces at once.
 use Rattle.std.proofs.Common.{◌≡◌, ℕ, ◌+◌, ◌/◌, List, ◌++◌, ap, ◌∙◌, append_assoc}
 use Rattle.std.specs.Prelude.{codes, decimal}
-use Rattle.picture_view.specs.Elements.{colour, path_start}
+use Rattle.picture_view.specs.Elements.{colour, path_start, titled_end}
 use Rattle.picture_view.specs.Shapes.{bow}
 
 pub nine : {X : Type 0} (start a b c d e f g h i : List X)
@@ -31,3 +31,14 @@ bow_behind peering x y to_x to_y sum start now next added begun written =
     written ∙ ap (λ (n : ℕ). now ++ rest n) added ∙ ap (λ (t : List ℕ). t ++ rest (x + to_x)) begun
     ∙ thirteen start (path_start (codes "w" ++ colour peering) x y) (codes "C") middle (codes " ") (decimal y) (codes " ") middle (codes " ") (decimal to_y)
     (codes " ") (decimal to_x) (codes " ") (decimal to_y)
+
+three : {X : Type 0} (start a b c : List X) → start ++ a ++ b ++ c ≡ start ++ (a ++ b ++ c)
+three start a b c = simp append_assoc
+
+-- the end of a path, with its title
+pub titled_behind : (title start one two next : List ℕ) → one ≡ start ++ codes "'><title>" → two ≡ one ++ title
+    → next ≡ two ++ codes "</title></path>\n" → next ≡ start ++ titled_end title
+unfolding titled_end
+titled_behind title start one two next first second third =
+    third ∙ ap (λ (t : List ℕ). t ++ codes "</title></path>\n") (second ∙ ap (λ (t : List ℕ). t ++ title) first)
+    ∙ three start (codes "'><title>") title (codes "</title></path>\n")
