@@ -6,6 +6,7 @@ use Rattle.graft_edge.specs.Outside.{FaultRose, Appended, AppendedFront}
 use Rattle.lab_tables.specs.declared.input.LabInput.{LabInput}
 use Rattle.lab_input.specs.declared.bad.BadInput.{BadInput}
 use Rattle.lab_input.specs.Labs.{InputOf}
+use Rattle.lab_words.specs.declared.job.Form.{Form}
 use Rattle.lab_words.specs.declared.job.Job.{Job}
 use Rattle.lab_words.specs.declared.job.Job.TheVariants as jobs
 use Rattle.lab_words.specs.Asked.{Asks}
@@ -14,13 +15,14 @@ use Rattle.lab_make.specs.Made.{made}
 use Rattle.lab_report.specs.declared.lab.Lab.{Lab}
 use Rattle.lab_report.specs.declared.lab.RunEnd.{RunEnd}
 use Rattle.lab_report.specs.declared.lab.RunEnd.TheVariants.{Settled, Unsettled, StreamFull, JournalFull}
-use Rattle.lab_report.specs.Summary.{summary_text}
 use Rattle.lab_run.specs.Runs.{RanLab}
-use Rattle.expect_view.specs.Expect.{all_hold, test_status, test_text}
+use Rattle.expect_view.specs.Expect.{all_hold, test_status}
 use Rattle.lab_top.specs.declared.views.ViewName.{ViewName}
+use Rattle.lab_top.specs.Forms.{summary_in, test_in}
 use Rattle.lab_top.specs.Views.{viewing}
-use Rattle.lab_top.specs.Ends.{AreRefused, AskToRun, AskForJournal, AskToTest, AskToView, RunsSource, AskToDrill, AskForLab, AskToMake, AskForLine}
-use Rattle.lab_top.specs.Ends.{ReadsInput, TookInput, GaveBadInput, IsStatus, WritesText, WritesReport, WritesJournal, WritesView, Checks, end_status}
+use Rattle.lab_top.specs.Ends.{AreRefused, AskToCheck, AskToRun, AskForJournal, AskToTest, AskToView, RunsSource, AskToSum, AskToDrill, AskForLab}
+use Rattle.lab_top.specs.Ends.{AskToMake, AskForLine, ReadsInput}
+use Rattle.lab_top.specs.Ends.{TookInput, GaveBadInput, IsStatus, WritesText, WritesReport, WritesJournal, WritesView, Checks, end_status}
 use Rattle.lab_top.specs.Ends.{SaysVerdict, verdict_status, tested_status, HasFailed}
 use Rattle.lab_top.specs.Cases.{Outside, RunsLab, plain_text, Gives, Refuses, Tells, job_status, Cause, tells, checks, refuses, misses, runs}
 use Rattle.lab_top.specs.Cases.{Did, wrote, unread, Ended, refused, did, no_memory}
@@ -55,7 +57,7 @@ test_of_run (StreamFull peering length) holds = inr (inr (inl refl))
 test_of_run (JournalFull events) holds = inr (inr (inl refl))
 
 job_of_run : (job : Job) (end : Lab) → OfRun (job_status job end)
-job_of_run (jobs.Test workers) end = test_of_run end.end (all_hold end)
+job_of_run (jobs.Test workers form) end = test_of_run end.end (all_hold end)
 job_of_run _ end = end_of_run end.end
 
 -- the statuses under which a job's text is written whole
@@ -65,8 +67,8 @@ Planned planned = (planned ≡ 2) ⊎ OfRun planned
 planned_by : (job : Job) (left rest : Option (List ℕ)) (text : List ℕ) (planned : ℕ) (lab : Option Lab) → Cause job left rest text planned lab
     → Planned planned
 planned_by job left rest text planned lab (tells t p l) = inr (inl p)
-planned_by job left rest text planned lab (checks (Ok input) is read t p l) = inr (inl p)
-planned_by job left rest text planned lab (checks (Err bad) is read t p l) = inl p
+planned_by job left rest text planned lab (checks form (Ok input) is read t p l) = inr (inl p)
+planned_by job left rest text planned lab (checks form (Err bad) is read t p l) = inl p
 planned_by job left rest text planned lab (refuses run why p l) = inl p
 planned_by job left rest text planned lab (misses input view workers name is read none t p l) = inl p
 planned_by job left rest text planned lab (runs bytes end run gives is told ran p l) = inr (subst OfRun (sym p) (job_of_run job end))
@@ -136,13 +138,13 @@ refused_words words o n status lab (no_memory six same l) one = absurd (omega ar
 some_is : (a b : List ℕ) → Some a ≡ Some b → a ≡ b
 some_is a b e = cc
 
-check_is_plain : (job : Job) (told : List ℕ) → plain_text job ≡ Some told → job ≡ jobs.Check → ⊥
-check_is_plain job told plain is = let none : None ≡ Some told = subst (λ j. plain_text j ≡ Some told) is plain in let f : ⊥ = cc in f
+check_is_plain : (job : Job) (form : Form) (told : List ℕ) → plain_text job ≡ Some told → job ≡ jobs.Check form → ⊥
+check_is_plain job form told plain is = let none : None ≡ Some told = subst (λ j. plain_text j ≡ Some told) is plain in let f : ⊥ = cc in f
 
 plain_cause : (job : Job) (left rest : Option (List ℕ)) (text told : List ℕ) (planned : ℕ) (lab : Option Lab) → plain_text job ≡ Some told
     → Cause job left rest text planned lab → (text ≡ told) × (planned ≡ 0)
 plain_cause job left rest text told planned lab plain (tells t p l) = (some_is text told (sym t ∙ plain), p)
-plain_cause job left rest text told planned lab plain (checks answer is read t p l) = absurd (check_is_plain job told plain is)
+plain_cause job left rest text told planned lab plain (checks form answer is read t p l) = absurd (check_is_plain job form told plain is)
 plain_cause job left rest text told planned lab plain (refuses run why p l) = absurd (plain_is_no_lab job told plain run)
 plain_cause job left rest text told planned lab plain (misses input view workers name is read none t p l) =
     absurd (plain_is_no_lab job told plain (subst RunsLab (sym is) (views_run view workers)))
@@ -172,25 +174,30 @@ line_told words o n status lab (no_memory six same l) line is = inl six
 
 -- ---- an input is checked
 
-abbrev Verdict : Option (List ℕ) → Option (List ℕ) → List ℕ → ℕ → Type 0
-Verdict left rest text planned =
-    (answer : Result LabInput BadInput) × (read : ReadsInput left rest answer) × SaysVerdict read.bytes answer text × (planned ≡ verdict_status answer)
+abbrev Verdict : Form → Option (List ℕ) → Option (List ℕ) → List ℕ → ℕ → Type 0
+Verdict form left rest text planned =
+    (answer : Result LabInput BadInput) × (read : ReadsInput left rest answer) × SaysVerdict form read.bytes answer text × (planned ≡ verdict_status answer)
 
 none_told : (text : List ℕ) → None ≡ Some text → ⊥
 none_told text e = let f : ⊥ = cc in f
 
-check_cause : (left rest : Option (List ℕ)) (text : List ℕ) (planned : ℕ) (lab : Option Lab) → Cause jobs.Check left rest text planned lab
-    → Verdict left rest text planned
-check_cause left rest text planned lab (tells t p l) = absurd (none_told text t)
-check_cause left rest text planned lab (checks answer is read t p l) = (answer, read, t, p)
-check_cause left rest text planned lab (refuses run why p l) = absurd run
-check_cause left rest text planned lab (misses input view workers name is read none t p l) = absurd (subst RunsLab (sym is) (views_run view workers))
-check_cause left rest text planned lab (runs bytes end run gives is told ran p l) = absurd run
+-- one form is checked
+same_form : (a b : Form) → jobs.Check a ≡ jobs.Check b → b ≡ a
+same_form a b e = cc
 
-check_did : (o n : Outside) (status : ℕ) (lab : Option Lab) → Did jobs.Check o n status lab
-    → (status ≡ 4) ⊎ (status ≡ 6) ⊎ Checks o.left n.left o.write_faults n.write_faults o.written n.written status
-check_did o n status lab (wrote text planned cause w) =
-    let told = check_cause o.left n.left text planned lab cause in
+check_cause : (form : Form) (left rest : Option (List ℕ)) (text : List ℕ) (planned : ℕ) (lab : Option Lab)
+    → Cause (jobs.Check form) left rest text planned lab → Verdict form left rest text planned
+check_cause form left rest text planned lab (tells t p l) = absurd (none_told text t)
+check_cause form left rest text planned lab (checks other answer is read t p l) =
+    (answer, read, subst (λ f. SaysVerdict f read.bytes answer text) (same_form form other is) t, p)
+check_cause form left rest text planned lab (refuses run why p l) = absurd run
+check_cause form left rest text planned lab (misses input view workers name is read none t p l) = absurd (subst RunsLab (sym is) (views_run view workers))
+check_cause form left rest text planned lab (runs bytes end run gives is told ran p l) = absurd run
+
+check_did : (form : Form) (o n : Outside) (status : ℕ) (lab : Option Lab) → Did (jobs.Check form) o n status lab
+    → (status ≡ 4) ⊎ (status ≡ 6) ⊎ Checks form o.left n.left o.write_faults n.write_faults o.written n.written status
+check_did form o n status lab (wrote text planned cause w) =
+    let told = check_cause form o.left n.left text planned lab cause in
     inr (inr (record {
       answer = told.0;
       read = told.1;
@@ -198,19 +205,20 @@ check_did o n status lab (wrote text planned cause w) =
       says = told.2;
       wrote = subst (λ k. Wrote text k o n status) told.3 w;
     }))
-check_did o n status lab (unread reads four rose same l) = inl four
+check_did form o n status lab (unread reads four rose same l) = inl four
 
-pub checked_told : (words : List (List ℕ)) (o n : Outside) (status : ℕ) (lab : Option Lab) → Ended words o n status lab → Asks words jobs.Check
-    → (status ≡ 4) ⊎ (status ≡ 6) ⊎ Checks o.left n.left o.write_faults n.write_faults o.written n.written status
-checked_told words o n status lab (refused none w l) check = absurd (none jobs.Check check)
-checked_told words o n status lab (did job ask d) check = check_did o n status lab (of_asked (λ j. Did j o n status lab) words job jobs.Check ask check d)
-checked_told words o n status lab (no_memory six same l) check = inr (inl six)
+pub checked_told : (words : List (List ℕ)) (o n : Outside) (status : ℕ) (lab : Option Lab) → Ended words o n status lab → (form : Form)
+    → AskToCheck words form → (status ≡ 4) ⊎ (status ≡ 6) ⊎ Checks form o.left n.left o.write_faults n.write_faults o.written n.written status
+checked_told words o n status lab (refused none w l) form check = absurd (none (jobs.Check form) check)
+checked_told words o n status lab (did job ask d) form check =
+    check_did form o n status lab (of_asked (λ j. Did j o n status lab) words job (jobs.Check form) ask check d)
+checked_told words o n status lab (no_memory six same l) form check = inr (inl six)
 
 -- ---- an input is refused
 
 gave_bad : (words : List (List ℕ)) (left rest : Option (List ℕ)) (text : List ℕ) (job : Job) → Asks words job → Refuses job left rest text
     → GaveBadInput words left rest text
-gave_bad words left rest text (jobs.Drill seed workers) ask why = inr (inl (seed, (workers, ask), why))
+gave_bad words left rest text (jobs.Drill seed workers form) ask why = inr (inl (seed, (form, (workers, ask)), why))
 gave_bad words left rest text _ ask why = inl why
 
 not_of_run : (planned : ℕ) (job : Job) (end : Lab) → planned ≡ job_status job end → planned ≡ 2 → ⊥
@@ -219,8 +227,8 @@ not_of_run planned job end p two = false≢true (ap is_of_run (sym two ∙ p) �
 bad_by : (words : List (List ℕ)) (job : Job) (left rest : Option (List ℕ)) (text : List ℕ) (planned : ℕ) (lab : Option Lab) → Asks words job
     → Cause job left rest text planned lab → planned ≡ 2 → GaveBadInput words left rest text
 bad_by words job left rest text planned lab ask (tells t p l) two = absurd (omega arith)
-bad_by words job left rest text planned lab ask (checks (Ok input) is read t p l) two = absurd (omega (arith, p))
-bad_by words job left rest text planned lab ask (checks (Err bad) is read t p l) two = inl (record { answer = Err bad; read = read; why = t })
+bad_by words job left rest text planned lab ask (checks form (Ok input) is read t p l) two = absurd (omega (arith, p))
+bad_by words job left rest text planned lab ask (checks form (Err bad) is read t p l) two = inl (record { answer = Err bad; read = read; why = t })
 bad_by words job left rest text planned lab ask (refuses run why p l) two = gave_bad words left rest text job ask why
 bad_by words job left rest text planned lab ask (misses input view workers name is read none t p l) two =
     inr (inr (record { input = input; view = view; name = name; read = read; asks = (workers, subst (Asks words) is ask); none = none; says = t }))
@@ -243,7 +251,7 @@ none_or_some lab end none some = absurd (cc)
 two_of : (job : Job) (left rest : Option (List ℕ)) (text : List ℕ) (planned : ℕ) (lab : Option Lab) → RunsLab job → lab ≡ None
     → Cause job left rest text planned lab → planned ≡ 2
 two_of job left rest text planned lab run none (tells t p l) = absurd (plain_is_no_lab job text t run)
-two_of job left rest text planned lab run none (checks answer is read t p l) = absurd (subst RunsLab is run)
+two_of job left rest text planned lab run none (checks form answer is read t p l) = absurd (subst RunsLab is run)
 two_of job left rest text planned lab run none (refuses lab_run why p l) = p
 two_of job left rest text planned lab run none (misses input view workers name is read unknown t p l) = p
 two_of job left rest text planned lab run none (runs bytes end lab_run gives is told ran p l) = absurd (none_or_some lab end none l)
@@ -337,7 +345,7 @@ under_by text planned o n status of_run (inr front) = inr (inr (inl front.0))
 came_by : (words : List (List ℕ)) (job : Job) (o n : Outside) (text : List ℕ) (planned status : ℕ) (lab : Option Lab) (end : Lab) → Asks words job
     → lab ≡ Some end → Cause job o.left n.left text planned lab → Wrote text planned o n status → Came words o n status end
 came_by words job o n text planned status lab end ask some (tells t p l) w = absurd (none_or_some lab end l some)
-came_by words job o n text planned status lab end ask some (checks answer is read t p l) w = absurd (none_or_some lab end l some)
+came_by words job o n text planned status lab end ask some (checks form answer is read t p l) w = absurd (none_or_some lab end l some)
 came_by words job o n text planned status lab end ask some (refuses run why p l) w = absurd (none_or_some lab end l some)
 came_by words job o n text planned status lab end ask some (misses input view workers name is read none t p l) w = absurd (none_or_some lab end l some)
 came_by words job o n text planned status lab end ask some (runs bytes other run gives is told ran p l) w =
@@ -366,7 +374,7 @@ headline words o n status None ended = tt
 headline words o n status (Some end) ended = (came words o n status (Some end) end refl ended).ran
 
 pub no_run : (words : List (List ℕ)) (o n : Outside) (status : ℕ) (lab : Option Lab) → Ended words o n status lab
-    → AreRefused words ⊎ AskToMake words ⊎ Asks words jobs.Check ⊎ ((line : List ℕ) × AskForLine words line) → lab ≡ None
+    → AreRefused words ⊎ AskToMake words ⊎ ((form : Form) × AskToCheck words form) ⊎ ((line : List ℕ) × AskForLine words line) → lab ≡ None
 no_run words o n status None ended other = refl
 no_run words o n status (Some end) ended other =
     let c = came words o n status (Some end) end refl ended in absurd (no_lab words c.job c.ask other c.run)
@@ -386,7 +394,7 @@ pub drilled : (words : List (List ℕ)) (o n : Outside) (status : ℕ) (lab : Op
 drilled words o n status None ended = tt
 drilled words o n status (Some end) ended = λ seed drill.
     let c = came words o n status (Some end) end refl ended in
-    let gives : c.bytes ≡ made seed = of_asked (λ j. Gives j o.left n.left c.bytes) words c.job (jobs.Drill seed drill.0) c.ask drill.1 c.gives in
+    let gives : c.bytes ≡ made seed = of_asked (λ j. Gives j o.left n.left c.bytes) words c.job (jobs.Drill seed drill.1.0 drill.0) c.ask drill.1.1 c.gives in
     subst (λ bytes. InputOf bytes end.input) gives c.is
 
 -- ---- what was written
@@ -397,19 +405,19 @@ said_of : (words : List (List ℕ)) (o n : Outside) (status : ℕ) (end : Lab) (
 said_of words o n status end c asked ask = of_asked (λ job. Said job c.bytes end c.text o n status) words c.job asked c.ask ask c.said
 
 pub reported : (words : List (List ℕ)) (o n : Outside) (status : ℕ) (lab : Option Lab) → Ended words o n status lab
-    → IfSome lab (λ end. AskToRun words → WritesReport end o.write_faults n.write_faults o.written n.written status)
+    → IfSome lab (λ end. (form : Form) → AskToRun words form → WritesReport end form o.write_faults n.write_faults o.written n.written status)
 reported words o n status None ended = tt
-reported words o n status (Some end) ended = λ run.
+reported words o n status (Some end) ended = λ form run.
     let c = came words o n status (Some end) end refl ended in
-    let said = said_of words o n status end c (jobs.Run run.0) run.1 in
+    let said = said_of words o n status end c (jobs.Run run.0 form) run.1 in
     record { text = c.text; report = said.0; wrote = said.1 }
 
 pub summed : (words : List (List ℕ)) (o n : Outside) (status : ℕ) (lab : Option Lab) → Ended words o n status lab
-    → IfSome lab (λ end. ((seed : ℕ) × AskToDrill words seed) → Wrote (summary_text end) (end_status end.end) o n status)
+    → IfSome lab (λ end. (form : Form) → ((seed : ℕ) × AskToSum words seed form) → Wrote (summary_in form end) (end_status end.end) o n status)
 summed words o n status None ended = tt
-summed words o n status (Some end) ended = λ drill.
+summed words o n status (Some end) ended = λ form drill.
     let c = came words o n status (Some end) end refl ended in
-    let said = said_of words o n status end c (jobs.Drill drill.0 drill.1.0) drill.1.1 in
+    let said = said_of words o n status end c (jobs.Drill drill.0 drill.1.0 form) drill.1.1 in
     subst (λ t. Wrote t (end_status end.end) o n status) said.0 said.1
 
 pub journaled : (words : List (List ℕ)) (o n : Outside) (status : ℕ) (lab : Option Lab) → Ended words o n status lab
@@ -422,11 +430,11 @@ journaled words o n status (Some end) ended = λ journal.
     record { bytes = c.bytes; took = took.took; end = took.end; is = c.is; wrote = subst (λ t. Wrote t (end_status end.end) o n status) said.0 said.1 }
 
 pub tested : (words : List (List ℕ)) (o n : Outside) (status : ℕ) (lab : Option Lab) → Ended words o n status lab
-    → IfSome lab (λ end. AskToTest words → Wrote (test_text end) (tested_status end) o n status)
+    → IfSome lab (λ end. (form : Form) → AskToTest words form → Wrote (test_in form end) (tested_status end) o n status)
 tested words o n status None ended = tt
-tested words o n status (Some end) ended = λ test.
+tested words o n status (Some end) ended = λ form test.
     let c = came words o n status (Some end) end refl ended in
-    let said = said_of words o n status end c (jobs.Test test.0) test.1 in
+    let said = said_of words o n status end c (jobs.Test test.0 form) test.1 in
     subst (λ t. Wrote t (tested_status end) o n status) said.0 said.1
 
 pub viewed : (words : List (List ℕ)) (o n : Outside) (status : ℕ) (lab : Option Lab) → Ended words o n status lab
@@ -443,7 +451,7 @@ viewed words o n status (Some end) ended = λ name view.
 some_by : (job : Job) (left rest : Option (List ℕ)) (text : List ℕ) (planned : ℕ) (lab : Option Lab) → RunsLab job → is_of_run planned ≡ true
     → Cause job left rest text planned lab → IsSome lab
 some_by job left rest text planned lab run is (tells t p l) = absurd (plain_is_no_lab job text t run)
-some_by job left rest text planned lab run is (checks answer check read t p l) = absurd (subst RunsLab check run)
+some_by job left rest text planned lab run is (checks form answer check read t p l) = absurd (subst RunsLab check run)
 some_by job left rest text planned lab run is (refuses lab_run why p l) = absurd (false≢true (sym (ap is_of_run p) ∙ is))
 some_by job left rest text planned lab run is (misses input view workers name job_is read none t p l) = absurd (false≢true (sym (ap is_of_run p) ∙ is))
 some_by job left rest text planned lab run is (runs bytes end lab_run gives input told ran p l) = subst (λ found. IsSome found) (sym l) refl
@@ -477,22 +485,23 @@ nine_of_test (StreamFull peering length) holds nine = absurd (end_not_nine (Stre
 nine_of_test (JournalFull events) holds nine = absurd (end_not_nine (JournalFull events) nine)
 
 -- 9 is the status of a test
-failed_of : (words : List (List ℕ)) (job : Job) (end : Lab) → Asks words job → job_status job end ≡ 9 → AskToTest words × HasFailed end
-failed_of words (jobs.Test workers) end ask nine = ((workers, ask), nine_of_test end.end (all_hold end) nine)
+failed_of : (words : List (List ℕ)) (job : Job) (end : Lab) → Asks words job → job_status job end ≡ 9 → ((form : Form) × AskToTest words form) × HasFailed end
+failed_of words (jobs.Test workers form) end ask nine = ((form, (workers, ask)), nine_of_test end.end (all_hold end) nine)
 failed_of words _ end ask nine = absurd (end_not_nine end.end nine)
 
 failed_by : (words : List (List ℕ)) (job : Job) (left rest : Option (List ℕ)) (text : List ℕ) (planned : ℕ) (lab : Option Lab) → Asks words job
-    → Cause job left rest text planned lab → planned ≡ 9 → AskToTest words × IsSomeAnd lab HasFailed
+    → Cause job left rest text planned lab → planned ≡ 9 → ((form : Form) × AskToTest words form) × IsSomeAnd lab HasFailed
 failed_by words job left rest text planned lab ask (tells t p l) nine = absurd (omega (arith, p, nine))
-failed_by words job left rest text planned lab ask (checks (Ok input) is read t p l) nine = let zero : planned ≡ 0 = p in absurd (omega (arith, zero, nine))
-failed_by words job left rest text planned lab ask (checks (Err bad) is read t p l) nine = let two : planned ≡ 2 = p in absurd (omega (arith, two, nine))
+failed_by words job left rest text planned lab ask (checks form (Ok input) is read t p l) nine =
+    let zero : planned ≡ 0 = p in absurd (omega (arith, zero, nine))
+failed_by words job left rest text planned lab ask (checks form (Err bad) is read t p l) nine = let two : planned ≡ 2 = p in absurd (omega (arith, two, nine))
 failed_by words job left rest text planned lab ask (refuses run why p l) nine = absurd (omega (arith, p, nine))
 failed_by words job left rest text planned lab ask (misses input view workers name is read none t p l) nine = absurd (omega (arith, p, nine))
 failed_by words job left rest text planned lab ask (runs bytes end run gives is told ran p l) nine =
     let failed = failed_of words job end ask (sym p ∙ nine) in (failed.0, subst (λ found. IsSomeAnd found HasFailed) (sym l) failed.1)
 
 pub failed : (words : List (List ℕ)) (o n : Outside) (status : ℕ) (lab : Option Lab) → Ended words o n status lab → status ≡ 9
-    → AskToTest words × IsSomeAnd lab HasFailed
+    → ((form : Form) × AskToTest words form) × IsSomeAnd lab HasFailed
 failed words o n status lab (refused none (inl whole) l) nine = let one = whole.0 in absurd (omega arith)
 failed words o n status lab (refused none (inr front) l) nine = let five = front.0 in absurd (omega arith)
 failed words o n status lab (did job ask (wrote text planned cause (inl whole))) nine =

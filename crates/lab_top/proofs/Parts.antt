@@ -7,6 +7,7 @@ use Rattle.graft_edge.specs.declared.memory.NoMemory.{NoMemory}
 use Rattle.lab_tables.specs.declared.input.LabInput.{LabInput}
 use Rattle.lab_input.specs.declared.bad.BadInput.{BadInput}
 use Rattle.lab_input.specs.Labs.{input_of, InputOf, too_long}
+use Rattle.lab_words.specs.declared.job.Form.{Form}
 use Rattle.lab_words.specs.declared.job.Job.{Job}
 use Rattle.lab_words.specs.declared.job.Job.TheVariants as jobs
 use Rattle.lab_words.specs.Asked.{Asks}
@@ -18,8 +19,9 @@ use Rattle.lab_report.specs.BadText.{bad_line}
 use Rattle.lab_report.specs.declared.lab.Lab.{Lab}
 use Rattle.lab_top.specs.Built.{is_built}
 use Rattle.lab_top.specs.declared.views.ViewName.{ViewName}
+use Rattle.lab_top.specs.Forms.{accepted_in}
 use Rattle.lab_top.specs.Views.{view_named, viewing}
-use Rattle.lab_top.specs.Ends.{AreRefused, ReadsInput, IsRefusal, SaysWhy, TookBadInput, WritesText, unknown_text, not_built_text, accepted_text}
+use Rattle.lab_top.specs.Ends.{AreRefused, ReadsInput, IsRefusal, SaysWhy, TookBadInput, WritesText, unknown_text, not_built_text}
 use Rattle.lab_top.specs.declared.finish.Finish.{Finish}
 use Rattle.lab_top.specs.declared.finish.InputStop.{InputStop}
 use Rattle.lab_top.specs.declared.finish.InputStop.TheVariants as stops
@@ -88,8 +90,8 @@ whole before after input read = whole_by before after read.bytes input read.took
 abbrev pub BadCause : Job → (before after : Option (List ℕ)) → Type 0
 BadCause job before after = (text : List ℕ) → RefusesInput before after text → (lab : Option Lab) → lab ≡ None → Cause job before after text 2 lab
 
-pub bad_check : (before after : Option (List ℕ)) → BadCause jobs.Check before after
-bad_check before after text bad lab none = checks (Err bad.0) refl bad.1 bad.2 refl none
+pub bad_check : (form : Form) (before after : Option (List ℕ)) → BadCause (jobs.Check form) before after
+bad_check form before after text bad lab none = checks form (Err bad.0) refl bad.1 bad.2 refl none
 
 pub bad_run : (job : Job) (before after : Option (List ℕ)) → RunsLab job → ReadsSource job → BadCause job before after
 bad_run job before after lab reads text bad end none =
@@ -124,10 +126,10 @@ pub plain_did : (job : Job) (o n : Outside) (text told : List ℕ) (status : ℕ
     → WritesText text 0 o.write_faults n.write_faults o.written n.written status → Did job o n status lab
 plain_did job o n text told status lab plain same none w = wrote text 0 (tells (plain ∙ ap Some (sym same)) refl none) w
 
-pub checked_ends : (o n : Outside) (input : LabInput) (text : List ℕ) (status : ℕ) (lab : Option Lab) → ReadsInput o.left n.left (Ok input)
-    → text ≡ accepted_text input → lab ≡ None → WritesText text 0 o.write_faults n.write_faults o.written n.written status
-    → Did jobs.Check o n status lab
-checked_ends o n input text status lab read is none w = wrote text 0 (checks (Ok input) refl read is refl none) w
+pub checked_ends : (form : Form) (o n : Outside) (input : LabInput) (text : List ℕ) (status : ℕ) (lab : Option Lab) → ReadsInput o.left n.left (Ok input)
+    → text ≡ accepted_in form input → lab ≡ None → WritesText text 0 o.write_faults n.write_faults o.written n.written status
+    → Did (jobs.Check form) o n status lab
+checked_ends form o n input text status lab read is none w = wrote text 0 (checks form (Ok input) refl read is refl none) w
 
 -- an input that hasn't what a view names
 pub unknown_ends : (view : ViewName) (workers : ℕ) (o n : Outside) (input : LabInput) (name text : List ℕ) (status : ℕ) (lab : Option Lab)
@@ -168,20 +170,20 @@ made_why : (seed : ℕ) (bytes text : List ℕ) (answer : Result LabInput BadInp
 made_why seed bytes text answer same is why =
     subst (λ b. SaysWhy b (input_of b) text) same (subst (λ a. SaysWhy bytes a text) (sym is) why)
 
-pub drill_unbuilt : (o n : Outside) (seed workers : ℕ) (bytes : List ℕ) (input : LabInput) (finish : Finish) → bytes ≡ made seed
+pub drill_unbuilt : (o n : Outside) (seed workers : ℕ) (form : Form) (bytes : List ℕ) (input : LabInput) (finish : Finish) → bytes ≡ made seed
     → input_of bytes ≡ Ok input → is_built input ≡ false → EndsUnbuilt o.write_faults n.write_faults o.written n.written finish
-    → Did (jobs.Drill seed workers) o n finish.status finish.lab
-drill_unbuilt o n seed workers bytes input finish same is built end =
+    → Did (jobs.Drill seed workers form) o n finish.status finish.lab
+drill_unbuilt o n seed workers form bytes input finish same is built end =
     wrote not_built_text 2 (refuses tt (made_why seed bytes not_built_text (Ok input) same is (built, refl)) refl end.0) end.1
 
-pub drill_stopped : (o n : Outside) (seed workers : ℕ) (bytes : List ℕ) (stop : InputStop) (result : Result Finish NoMemory) → bytes ≡ made seed
+pub drill_stopped : (o n : Outside) (seed workers : ℕ) (form : Form) (bytes : List ℕ) (stop : InputStop) (result : Result Finish NoMemory) → bytes ≡ made seed
     → AnswersOrStops bytes (Err stop) → StopsFor stop o.write_faults n.write_faults o.written n.written result
-    → DidOr (jobs.Drill seed workers) o n result
-drill_stopped o n seed workers bytes (stops.Bad text) result same is w =
+    → DidOr (jobs.Drill seed workers form) o n result
+drill_stopped o n seed workers form bytes (stops.Bad text) result same is w =
     let why = made_why seed bytes text (Err is.0) same is.1 is.2 in
-    written_ends (jobs.Drill seed workers) o n text 2 result (λ lab none. refuses tt why refl none) w
-drill_stopped o n seed workers bytes stops.Failed result same is w = absurd is
-drill_stopped o n seed workers bytes stops.NoMemory result same is w = none_ends (jobs.Drill seed workers) o n result w
+    written_ends (jobs.Drill seed workers form) o n text 2 result (λ lab none. refuses tt why refl none) w
+drill_stopped o n seed workers form bytes stops.Failed result same is w = absurd is
+drill_stopped o n seed workers form bytes stops.NoMemory result same is w = none_ends (jobs.Drill seed workers form) o n result w
 
 -- ---- the words
 

@@ -5,6 +5,7 @@ use Rattle.graft_edge.specs.declared.memory.NoMemory.{NoMemory}
 use Rattle.lab_tables.specs.declared.input.LabInput.{LabInput}
 use Rattle.lab_input.specs.declared.bad.BadInput.{BadInput}
 use Rattle.lab_input.specs.Labs.{input_of, InputOf}
+use Rattle.lab_words.specs.declared.job.Form.{Form}
 use Rattle.lab_words.specs.declared.job.Job.{Job}
 use Rattle.lab_words.specs.declared.job.Job.TheVariants as jobs
 use Rattle.lab_words.specs.Asked.{usage_text, version_text, Asks}
@@ -12,14 +13,12 @@ use Rattle.lab_words.specs.Hints.{refused_text}
 use Rattle.lab_make.specs.Made.{made}
 use Rattle.lab_report.specs.declared.lab.Lab.{Lab}
 use Rattle.journal_form.specs.Journals.{journal_text}
-use Rattle.expect_view.specs.Expect.{test_text}
-use Rattle.lab_report.specs.Summary.{summary_text}
-use Rattle.lab_report.specs.Traces.{IsReport}
 use Rattle.lab_run.specs.Runs.{RanLab}
 use Rattle.lab_top.specs.declared.finish.Finish.{Finish}
 use Rattle.lab_top.specs.declared.finish.InputStop.{InputStop}
 use Rattle.lab_top.specs.declared.finish.InputStop.TheVariants as stops
 use Rattle.lab_top.specs.Built.{is_built}
+use Rattle.lab_top.specs.Forms.{IsReportIn, summary_in, test_in}
 use Rattle.lab_top.specs.declared.views.ViewName.{ViewName}
 use Rattle.lab_top.specs.declared.views.ViewName.TheVariants as names
 use Rattle.lab_top.specs.Views.{view_named, ShowsView, viewing}
@@ -116,14 +115,14 @@ StopsFor stops.NoMemory faults_before faults_after before after end = FindsNone 
 -- the jobs that read the source
 abbrev pub ReadsSource : Job → Type 0
 ReadsSource (jobs.Make seed) = ⊥
-ReadsSource (jobs.Drill seed workers) = ⊥
+ReadsSource (jobs.Drill seed workers form) = ⊥
 ReadsSource jobs.Help = ⊥
 ReadsSource jobs.Version = ⊥
 ReadsSource _ = Unit {0}
 
 -- the jobs that run a laboratory
 abbrev pub RunsLab : Job → Type 0
-RunsLab jobs.Check = ⊥
+RunsLab (jobs.Check form) = ⊥
 RunsLab (jobs.Make seed) = ⊥
 RunsLab jobs.Help = ⊥
 RunsLab jobs.Version = ⊥
@@ -138,30 +137,30 @@ plain_text _ = None
 
 -- What is run is the laboratory of the seed, or what all bytes of the source are.
 abbrev pub Gives : Job → (before after : Option (List ℕ)) → List ℕ → Type 0
-Gives (jobs.Drill seed workers) before after bytes = bytes ≡ made seed
+Gives (jobs.Drill seed workers form) before after bytes = bytes ≡ made seed
 Gives _ before after bytes = TookWhole before after bytes
 
 -- It isn't run, for the reason that the text says.
 abbrev pub Refuses : Job → (before after : Option (List ℕ)) → (text : List ℕ) → Type 0
-Refuses (jobs.Drill seed workers) before after text = SaysWhy (made seed) (input_of (made seed)) text
+Refuses (jobs.Drill seed workers form) before after text = SaysWhy (made seed) (input_of (made seed)) text
 Refuses _ before after text = TookBadInput before after text
 
 -- What is written of a run: its report, its summary, its input and its journal, a view, or which of its expectations hold.
 abbrev pub Tells : Job → (bytes : List ℕ) → Lab → (text : List ℕ) → Type 0
-Tells (jobs.Run workers) bytes lab text = IsReport lab text
-Tells (jobs.Drill seed workers) bytes lab text = text ≡ summary_text lab
+Tells (jobs.Run workers form) bytes lab text = IsReportIn form lab text
+Tells (jobs.Drill seed workers form) bytes lab text = text ≡ summary_in form lab
 Tells (jobs.Journal workers) bytes lab text = text ≡ journal_text bytes lab.journal
-Tells (jobs.Timeline workers) bytes lab text = ShowsView lab names.Timeline text
-Tells (jobs.Show workers) bytes lab text = ShowsView lab names.Show text
+Tells (jobs.Timeline workers form) bytes lab text = ShowsView lab (names.Timeline form) text
+Tells (jobs.Show workers form) bytes lab text = ShowsView lab (names.Show form) text
 Tells (jobs.Story name workers) bytes lab text = ShowsView lab (names.Story name) text
-Tells (jobs.Why name prefix workers) bytes lab text = ShowsView lab (names.Why name prefix) text
+Tells (jobs.Why name prefix workers form) bytes lab text = ShowsView lab (names.Why name prefix form) text
 Tells (jobs.Picture workers) bytes lab text = ShowsView lab names.Picture text
-Tells (jobs.Test workers) bytes lab text = text ≡ test_text lab
+Tells (jobs.Test workers form) bytes lab text = text ≡ test_in form lab
 Tells _ bytes lab text = ⊥
 
 -- the status under which that is written
 abbrev pub job_status : Job → Lab → ℕ
-job_status (jobs.Test workers) lab = tested_status lab
+job_status (jobs.Test workers form) lab = tested_status lab
 job_status _ lab = end_status lab.end
 
 -- ---- ends
@@ -169,7 +168,8 @@ job_status _ lab = end_status lab.end
 -- The text of a job that is written under a planned status, and its cause.
 pub data Cause (job : Job) (left_before left_after : Option (List ℕ)) (text : List ℕ) (planned : ℕ) (lab : Option Lab) : Type 0 where
   tells : plain_text job ≡ Some text → planned ≡ 0 → lab ≡ None → Cause job left_before left_after text planned lab
-  checks : (answer : Result LabInput BadInput) → job ≡ jobs.Check → (read : ReadsInput left_before left_after answer) → SaysVerdict read.bytes answer text
+  checks : (form : Form) (answer : Result LabInput BadInput) → job ≡ jobs.Check form → (read : ReadsInput left_before left_after answer)
+      → SaysVerdict form read.bytes answer text
       → planned ≡ verdict_status answer → lab ≡ None → Cause job left_before left_after text planned lab
   refuses : RunsLab job → Refuses job left_before left_after text → planned ≡ 2 → lab ≡ None → Cause job left_before left_after text planned lab
   misses : (input : LabInput) (view : ViewName) (workers : ℕ) (name : List ℕ) → job ≡ viewing view workers → ReadsInput left_before left_after (Ok input)

@@ -1,5 +1,5 @@
 -- How a command ends: what its status says of the words, the source and the sink.
-use Rattle.std.specs.Prelude.{◌≡◌, ◌⊎◌, ℕ, ◌<◌, false, List, [], ◌∷◌, ◌++◌, length, Option, Result, Ok, Err, codes}
+use Rattle.std.specs.Prelude.{◌≡◌, ◌⊎◌, ℕ, ◌<◌, false, List, ◌∷◌, ◌++◌, length, Option, Result, Ok, Err, codes}
 use Rattle.graft_edge.specs.Outside.{FaultRose, Took, IsAtEnd, Appended, AppendedFront}
 use Rattle.lab_tables.specs.declared.input.LabInput.{LabInput}
 use Rattle.lab_input.specs.declared.bad.BadInput.{BadInput}
@@ -8,22 +8,19 @@ use Rattle.lab_top.specs.Built.{is_built}
 use Rattle.lab_input.specs.Labs.{input_of, InputOf, too_long}
 use Rattle.lab_hints.specs.Later.{unknown_words}
 use Rattle.lab_hints.specs.Hints.{hint_line, IsHint}
+use Rattle.lab_words.specs.declared.job.Form.{Form}
 use Rattle.lab_words.specs.declared.job.Job.{Job}
-use Rattle.lab_words.specs.declared.job.Job.TheVariants.{Run, Make, Drill, Journal, Test, Help, Version}
+use Rattle.lab_words.specs.declared.job.Job.TheVariants.{Run, Check, Make, Drill, Journal, Test, Help, Version}
 use Rattle.lab_words.specs.Asked.{usage_text, version_text, Asks}
 use Rattle.lab_make.specs.Made.{made}
 use Rattle.lab_report.specs.declared.lab.Lab.{Lab}
 use Rattle.lab_report.specs.declared.lab.RunEnd.{RunEnd}
 use Rattle.lab_report.specs.declared.lab.RunEnd.TheVariants.{Settled, Unsettled, StreamFull, JournalFull}
 use Rattle.lab_report.specs.BadText.{bad_line}
-use Rattle.lab_report.specs.CheckText.{check_text}
-use Rattle.lab_setup.specs.Setups.{setup_of}
-use Rattle.even_inputs.specs.Evenness.{is_even}
-use Rattle.sure_inputs.specs.Sure.{is_sure}
 use Rattle.journal_form.specs.Journals.{journal_text}
 use Rattle.expect_view.specs.Expect.{all_hold, test_status}
-use Rattle.lab_report.specs.Traces.{IsReport}
 use Rattle.lab_top.specs.declared.views.ViewName.{ViewName}
+use Rattle.lab_top.specs.Forms.{accepted_in, IsReportIn}
 use Rattle.lab_top.specs.Views.{view_named, ShowsView, viewing}
 
 -- ---- words
@@ -32,17 +29,21 @@ use Rattle.lab_top.specs.Views.{view_named, ShowsView, viewing}
 abbrev pub AreRefused : List (List ℕ) → Type 0
 AreRefused words = (job : Job) → ¬ (Asks words job)
 
+-- They ask for a check, in this form.
+abbrev pub AskToCheck : List (List ℕ) → Form → Type 0
+AskToCheck words form = Asks words (Check form)
+
 -- They ask for the report of a run, by some number of workers.
-abbrev pub AskToRun : List (List ℕ) → Type 0
-AskToRun words = (workers : ℕ) × Asks words (Run workers)
+abbrev pub AskToRun : List (List ℕ) → Form → Type 0
+AskToRun words form = (workers : ℕ) × Asks words (Run workers form)
 
 -- They ask for its journal.
 abbrev pub AskForJournal : List (List ℕ) → Type 0
 AskForJournal words = (workers : ℕ) × Asks words (Journal workers)
 
 -- They ask which of its expectations hold.
-abbrev pub AskToTest : List (List ℕ) → Type 0
-AskToTest words = (workers : ℕ) × Asks words (Test workers)
+abbrev pub AskToTest : List (List ℕ) → Form → Type 0
+AskToTest words form = (workers : ℕ) × Asks words (Test workers form)
 
 -- They ask for a view of it.
 abbrev pub AskToView : List (List ℕ) → ViewName → Type 0
@@ -50,11 +51,15 @@ AskToView words name = (workers : ℕ) × Asks words (viewing name workers)
 
 -- They ask for a run of what the source has.
 abbrev pub RunsSource : List (List ℕ) → Type 0
-RunsSource words = AskToRun words ⊎ AskForJournal words ⊎ AskToTest words ⊎ ((name : ViewName) × AskToView words name)
+RunsSource words =
+    ((form : Form) × AskToRun words form) ⊎ AskForJournal words ⊎ ((form : Form) × AskToTest words form) ⊎ ((name : ViewName) × AskToView words name)
 
--- They ask for a run of the laboratory of this seed.
+-- They ask for a run of the laboratory of this seed, and for its summary.
+abbrev pub AskToSum : List (List ℕ) → ℕ → Form → Type 0
+AskToSum words seed form = (workers : ℕ) × Asks words (Drill seed workers form)
+
 abbrev pub AskToDrill : List (List ℕ) → ℕ → Type 0
-AskToDrill words seed = (workers : ℕ) × Asks words (Drill seed workers)
+AskToDrill words seed = (form : Form) × AskToSum words seed form
 
 -- They ask for a run.
 abbrev pub AskForLab : List (List ℕ) → Type 0
@@ -155,31 +160,28 @@ abbrev pub WritesText : (text : List ℕ) → (planned : ℕ) → (faults_before
 WritesText text planned faults_before faults_after before after status =
     ((status ≡ planned) × Appended before after text) ⊎ ((status ≡ 5) × FaultRose faults_before faults_after × AppendedFront before after text)
 
--- what a check says of an input: whether it is even and sure
-abbrev pub accepted_text : LabInput → List ℕ
-accepted_text input = check_text input (is_even (setup_of input)) (is_sure input)
-
 -- The text is what a check says of what these bytes are read as, and this is its status.
-abbrev pub SaysVerdict : List ℕ → Result LabInput BadInput → List ℕ → Type 0
-SaysVerdict bytes (Ok input) text = text ≡ accepted_text input
-SaysVerdict bytes (Err bad) text = IsRefusal bytes bad text
+abbrev pub SaysVerdict : Form → List ℕ → Result LabInput BadInput → List ℕ → Type 0
+SaysVerdict form bytes (Ok input) text = text ≡ accepted_in form input
+SaysVerdict form bytes (Err bad) text = IsRefusal bytes bad text
 
 abbrev pub verdict_status : Result LabInput BadInput → ℕ
 verdict_status (Ok input) = 0
 verdict_status (Err bad) = 2
 
 -- What was read from the source was said: that it is an input, or its first fault with a hint.
-pub record Checks (left_before left_after : Option (List ℕ)) (faults_before faults_after : ℕ) (before after : Option (List ℕ)) (status : ℕ) : Type 0 where
+pub record Checks (form : Form) (left_before left_after : Option (List ℕ)) (faults_before faults_after : ℕ) (before after : Option (List ℕ)) (status : ℕ)
+    : Type 0 where
   pub answer : Result LabInput BadInput
   pub read : ReadsInput left_before left_after answer
   pub text : List ℕ
-  pub says : SaysVerdict read.bytes answer text
+  pub says : SaysVerdict form read.bytes answer text
   pub wrote : WritesText text (verdict_status answer) faults_before faults_after before after status
 
 -- The report of a run was written under the status of its end: a text that says how the run ended and where packets go then.
-pub record WritesReport (lab : Lab) (faults_before faults_after : ℕ) (before after : Option (List ℕ)) (status : ℕ) : Type 0 where
+pub record WritesReport (lab : Lab) (form : Form) (faults_before faults_after : ℕ) (before after : Option (List ℕ)) (status : ℕ) : Type 0 where
   pub text : List ℕ
-  pub report : IsReport lab text
+  pub report : IsReportIn form lab text
   pub wrote : WritesText text (end_status lab.end) faults_before faults_after before after status
 
 -- All bytes of a source were taken, are the input that was run, and were written with the journal of the run behind them.

@@ -8,11 +8,9 @@ use Rattle.lab_tables.specs.declared.input.RouterInput.{RouterInput}
 use Rattle.lab_words.specs.declared.job.Job.{Job}
 use Rattle.lab_words.specs.declared.job.Job.TheVariants as jobs
 use Rattle.lab_report.specs.declared.lab.Lab.{Lab}
-use Rattle.timeline_view.specs.Timeline.{timeline_text}
-use Rattle.show_view.specs.Show.{show_text}
 use Rattle.story_view.specs.Story.{story_text}
-use Rattle.why_view.specs.Why.{why_text}
 use Rattle.picture_view.specs.Picture.{picture_text}
+use Rattle.lab_top.specs.Forms.{timeline_in, show_in, why_in}
 use Rattle.lab_top.specs.declared.views.View.{View}
 use Rattle.lab_top.specs.declared.views.View.TheVariants as views
 use Rattle.lab_top.specs.declared.views.ViewName.{ViewName}
@@ -37,18 +35,18 @@ view_or name view None = Err name
 
 -- the view that is named; or the name of a router or peering that the input hasn't
 abbrev pub view_named : LabInput → ViewName → Result View (List ℕ)
-view_named input names.Timeline = Ok views.Timeline
-view_named input names.Show = Ok views.Show
+view_named input (names.Timeline form) = Ok (views.Timeline form)
+view_named input (names.Show form) = Ok (views.Show form)
 view_named input (names.Story name) = view_or name (λ n. views.Story (record { 0 = n })) (peering_named input name)
-view_named input (names.Why name prefix) = view_or name (λ n. views.Why (record { 0 = n }) prefix) (router_named input name)
+view_named input (names.Why name prefix form) = view_or name (λ n. views.Why (record { 0 = n }) prefix form) (router_named input name)
 view_named input names.Picture = Ok views.Picture
 
 -- what a view shows of a run: its events, all that there is at its end, the session of a peering, the routes of a router to a prefix, or where sessions were
 abbrev pub view_text : Lab → View → List ℕ
-view_text lab views.Timeline = timeline_text lab
-view_text lab views.Show = show_text lab
+view_text lab (views.Timeline form) = timeline_in form lab
+view_text lab (views.Show form) = show_in form lab
 view_text lab (views.Story peering) = story_text lab peering.0
-view_text lab (views.Why router prefix) = why_text lab router.0 prefix
+view_text lab (views.Why router prefix form) = why_in form lab router.0 prefix
 view_text lab views.Picture = picture_text lab
 
 -- The text is the view of this name.
@@ -57,8 +55,8 @@ ShowsView lab name text = (view : View) × (view_named lab.input name ≡ Ok vie
 
 -- the job that shows a view
 abbrev pub viewing : ViewName → (workers : ℕ) → Job
-viewing names.Timeline workers = jobs.Timeline workers
-viewing names.Show workers = jobs.Show workers
+viewing (names.Timeline form) workers = jobs.Timeline workers form
+viewing (names.Show form) workers = jobs.Show workers form
 viewing (names.Story name) workers = jobs.Story name workers
-viewing (names.Why name prefix) workers = jobs.Why name prefix workers
+viewing (names.Why name prefix form) workers = jobs.Why name prefix workers form
 viewing names.Picture workers = jobs.Picture workers

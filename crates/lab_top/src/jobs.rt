@@ -7,7 +7,7 @@ ghost use Rattle.lab_hints.specs.Hints.{hint_line, long_words};
 ghost use Rattle.lab_report.specs.BadText.{bad_line};
 ghost use Rattle.node_configs.specs.Accepted.{IsAccepted};
 ghost use Rattle.expect_view.specs.Expect.{test_status as test_status_lem};
-ghost use Rattle.lab_top.specs.Ends.{IsRefusal, unknown_text as unknown_text_lem, end_status, accepted_text as accepted_text_lem};
+ghost use Rattle.lab_top.specs.Ends.{IsRefusal, unknown_text as unknown_text_lem, end_status};
 ghost use Rattle.lab_top.specs.Views.{viewing};
 ghost use Rattle.lab_top.specs.Cases.{outside, stop_with as stop_with_lem, BytesOrStops, ReadsOrStops, AnswersOrStops, BuiltOr, EndsRun};
 ghost use Rattle.lab_top.specs.Cases.{EndsUnbuilt, StopsFor, DidOr};
@@ -16,16 +16,17 @@ use crate::built::is_built;
 use crate::finish::{
     BAD_INPUT, DONE, Finish, InputStop, LIMIT, READ_FAILED, UNSETTLED, end_with, without_run,
 };
+use crate::forms::{accepted_in, report_in, summary_in, tested_in};
 use crate::views::{ViewName, view_named, view_text};
-use expect_view::{test_status, tested};
+use expect_view::test_status;
 use graft_edge::{Gate, Name, NoMemory, Octets, ReadStop, Sink, Source, read_all};
 use journal_form::journal_text;
-use lab_answers::{even, sure};
 use lab_hints::{hint_text, long_hint, name_hint};
 use lab_input::{BadInput, LabInput, LabStop, MOST_BYTES, read_lab, too_long};
 use lab_make::make_lab;
-use lab_report::{Lab, RunEnd, bad_text, check_text, report, summary};
+use lab_report::{Lab, RunEnd, bad_text};
 use lab_run::run_lab;
+use lab_words::Form;
 use std::alloc::Global;
 use std::thread::Threads;
 
@@ -176,10 +177,11 @@ pub(crate) fn run_job<R: Threads + Sync + AllocGlobal, S: Source, K: Sink, G: Ga
     source: &mut S,
     sink: &mut K,
     workers: usize,
+    form: Form,
     gate: &G,
 ) -> Result<Finish, NoMemory>
     requires workers { (1 ≤ workers) × (workers ≤ 8) }
-    ensures { DidOr (Run workers) (outside (S.left source.old) (S.faults source.old) (K.written sink.old)
+    ensures { DidOr (Run workers form) (outside (S.left source.old) (S.faults source.old) (K.written sink.old)
         (K.faults sink.old)) (outside (S.left source.new) (S.faults source.new) (K.written sink.new) (K.faults sink.new)) result }
 {
     let alloc = rt.alloc();
@@ -189,8 +191,8 @@ pub(crate) fn run_job<R: Threads + Sync + AllocGlobal, S: Source, K: Sink, G: Ga
     };
     match run_built(rt, input, workers, gate)? {
         Some(lab) => {
-            let text = report(alloc, &lab)?;
-            Ok(end_run(sink, text.as_bytes(), lab))
+            let text = report_in(alloc, &lab, form)?;
+            Ok(end_run(sink, &text, lab))
         }
         None => Ok(end_unbuilt(sink)),
     }
@@ -266,10 +268,11 @@ pub(crate) fn test_job<R: Threads + Sync + AllocGlobal, S: Source, K: Sink, G: G
     source: &mut S,
     sink: &mut K,
     workers: usize,
+    form: Form,
     gate: &G,
 ) -> Result<Finish, NoMemory>
     requires workers { (1 ≤ workers) × (workers ≤ 8) }
-    ensures { DidOr (Test workers) (outside (S.left source.old) (S.faults source.old) (K.written sink.old)
+    ensures { DidOr (Test workers form) (outside (S.left source.old) (S.faults source.old) (K.written sink.old)
         (K.faults sink.old)) (outside (S.left source.new) (S.faults source.new) (K.written sink.new) (K.faults sink.new)) result }
 {
     let alloc = rt.alloc();
@@ -279,8 +282,8 @@ pub(crate) fn test_job<R: Threads + Sync + AllocGlobal, S: Source, K: Sink, G: G
     };
     match run_built(rt, input, workers, gate)? {
         Some(lab) => {
-            let told = tested(alloc, &lab)?;
-            Ok(end_test(sink, told.text.as_bytes(), told.all_hold, lab))
+            let told = tested_in(alloc, &lab, form)?;
+            Ok(end_test(sink, &told.text, told.all_hold, lab))
         }
         None => Ok(end_unbuilt(sink)),
     }
@@ -292,12 +295,13 @@ pub(crate) fn drill_job<R: Threads + Sync + AllocGlobal, K: Sink, G: Gate>(
     sink: &mut K,
     seed: u32,
     workers: usize,
+    form: Form,
     gate: &G,
 ) -> Result<Finish, NoMemory>
     requires lowest { 1 ≤ seed }
     requires highest { seed ≤ 9999 }
     requires workers { (1 ≤ workers) × (workers ≤ 8) }
-    ensures { (left : Option (List ℕ)) (faults : ℕ) → DidOr (Drill seed workers) (outside left faults (K.written sink.old) (K.faults sink.old))
+    ensures { (left : Option (List ℕ)) (faults : ℕ) → DidOr (Drill seed workers form) (outside left faults (K.written sink.old) (K.faults sink.old))
         (outside left faults (K.written sink.new) (K.faults sink.new)) result }
 {
     let alloc = rt.alloc();
@@ -308,21 +312,11 @@ pub(crate) fn drill_job<R: Threads + Sync + AllocGlobal, K: Sink, G: Gate>(
     };
     match run_built(rt, input, workers, gate)? {
         Some(lab) => {
-            let text = summary(alloc, &lab)?;
-            Ok(end_run(sink, text.as_bytes(), lab))
+            let text = summary_in(alloc, &lab, form)?;
+            Ok(end_run(sink, &text, lab))
         }
         None => Ok(end_unbuilt(sink)),
     }
-}
-
-/// What a check says of an input that was accepted.
-fn accepted_text(alloc: Global, input: &LabInput) -> Result<Octets, NoMemory>
-    requires { IsAccepted input.now }
-    ensures { IfOk result (λ text. text ≡ accepted_text_lem input.now) }
-{
-    let even = even(alloc, input)?;
-    let sure = sure(alloc, input)?;
-    check_text(alloc, input, even, sure)
 }
 
 /// Reads an input from the source and writes whether it is one.
@@ -330,15 +324,16 @@ pub(crate) fn check_job<S: Source, K: Sink>(
     alloc: Global,
     source: &mut S,
     sink: &mut K,
+    form: Form,
 ) -> Result<Finish, NoMemory>
-    ensures { DidOr Check (outside (S.left source.old) (S.faults source.old) (K.written sink.old)
+    ensures { DidOr (Check form) (outside (S.left source.old) (S.faults source.old) (K.written sink.old)
         (K.faults sink.old)) (outside (S.left source.new) (S.faults source.new) (K.written sink.new) (K.faults sink.new)) result }
 {
     let input = match read_source(alloc, source) {
         Ok(input) => input,
         Err(stop) => return end_stopped(sink, stop),
     };
-    let text = accepted_text(alloc, &input)?;
+    let text = accepted_in(alloc, &input, form)?;
     Ok(end_with(sink, &text, DONE, None))
 }
 

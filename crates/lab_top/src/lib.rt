@@ -3,6 +3,7 @@
 
 mod built;
 mod finish;
+mod forms;
 mod jobs;
 mod laws;
 mod top;

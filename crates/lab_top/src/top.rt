@@ -2,17 +2,17 @@
 
 ghost use Rattle.std.specs.Prelude.{◌≡◌, ◌⊎◌, ℕ, List, None, IsSome, IsSomeAnd, IfSome, OnSome};
 ghost use Rattle.graft_edge.specs.Outside.{FaultRose, Appended, AppendedFront};
-ghost use Rattle.lab_words.specs.declared.job.Job.TheVariants.{Check, Make};
+ghost use Rattle.lab_words.specs.declared.job.Form.{Form};
+ghost use Rattle.lab_words.specs.declared.job.Job.TheVariants.{Make};
 ghost use Rattle.lab_words.specs.Asked.{Asks, HasNumbers};
 ghost use Rattle.lab_words.specs.Hints.{refused_text as refused_text_lem};
 ghost use Rattle.lab_make.specs.Made.{made};
 ghost use Rattle.lab_input.specs.Labs.{InputOf};
-ghost use Rattle.lab_report.specs.Summary.{summary_text};
 ghost use Rattle.lab_run.specs.Runs.{RanLab};
-ghost use Rattle.expect_view.specs.Expect.{test_text};
+ghost use Rattle.lab_top.specs.Forms.{summary_in, test_in};
 ghost use Rattle.lab_top.specs.declared.views.ViewName.{ViewName};
-ghost use Rattle.lab_top.specs.Ends.{AreRefused, AskToRun, AskForJournal, AskToTest, AskToView, RunsSource, AskToDrill, AskForLab, AskToMake};
-ghost use Rattle.lab_top.specs.Ends.{AskForLine, AskUnread, TookInput, GaveBadInput, IsStatus, WritesText, WritesReport, WritesJournal, WritesView};
+ghost use Rattle.lab_top.specs.Ends.{AreRefused, AskToCheck, AskToRun, AskForJournal, AskToTest, AskToView, RunsSource, AskToSum, AskToDrill, AskForLab};
+ghost use Rattle.lab_top.specs.Ends.{AskToMake, AskForLine, AskUnread, TookInput, GaveBadInput, IsStatus, WritesText, WritesReport, WritesJournal, WritesView};
 ghost use Rattle.lab_top.specs.Ends.{Checks, end_status, tested_status, HasFailed};
 ghost use Rattle.lab_top.specs.Cases.{outside, ReadsSource, DidOr, EndsOr, Ended};
 
@@ -38,15 +38,21 @@ fn do_job<R: Threads + Sync + AllocGlobal, S: Source, K: Sink, G: Gate>(
 {
     let alloc = rt.alloc();
     match job {
-        Job::Run { workers } => run_job(rt, source, sink, workers, gate),
-        Job::Check => check_job(alloc, source, sink),
+        Job::Run { workers, form } => run_job(rt, source, sink, workers, form, gate),
+        Job::Check { form } => check_job(alloc, source, sink, form),
         Job::Make { seed } => make_job(alloc, sink, seed),
-        Job::Drill { seed, workers } => drill_job(rt, sink, seed, workers, gate),
+        Job::Drill {
+            seed,
+            workers,
+            form,
+        } => drill_job(rt, sink, seed, workers, form, gate),
         Job::Journal { workers } => journal_job(rt, source, sink, workers, gate),
-        Job::Timeline { workers } => {
-            view_job(rt, source, sink, ViewName::Timeline, workers, gate)
+        Job::Timeline { workers, form } => {
+            view_job(rt, source, sink, ViewName::Timeline(form), workers, gate)
         }
-        Job::Show { workers } => { view_job(rt, source, sink, ViewName::Show, workers, gate) }
+        Job::Show { workers, form } => {
+            view_job(rt, source, sink, ViewName::Show(form), workers, gate)
+        }
         Job::Story { peering, workers } => {
             view_job(rt, source, sink, ViewName::Story(peering), workers, gate)
         }
@@ -54,16 +60,17 @@ fn do_job<R: Threads + Sync + AllocGlobal, S: Source, K: Sink, G: Gate>(
             router,
             prefix,
             workers,
+            form,
         } => view_job(
             rt,
             source,
             sink,
-            ViewName::Why(router, prefix),
+            ViewName::Why(router, prefix, form),
             workers,
             gate,
         ),
         Job::Picture { workers } => { view_job(rt, source, sink, ViewName::Picture, workers, gate) }
-        Job::Test { workers } => test_job(rt, source, sink, workers, gate),
+        Job::Test { workers, form } => test_job(rt, source, sink, workers, form, gate),
         Job::Help => Ok(end_with(sink, USAGE_TEXT.as_bytes(), DONE, None)),
         Job::Version => Ok(end_with(sink, VERSION_TEXT.as_bytes(), DONE, None)),
     }
@@ -113,6 +120,7 @@ fn finish_of<R: Threads + Sync + AllocGlobal, S: Source, K: Sink, G: Gate>(
 /// writes the report to the sink; each actor's turn passes the gate first. `journal` writes the input and the
 /// journal of its run in place of a report, `show`, `timeline`, `why`, `story` and `picture` write a view of it, and
 /// `test` writes which expectations of the input hold of it. `check` reads an input and writes whether it is one.
+/// With `--json` what `check`, `run`, `drill`, `show`, `timeline`, `why` and `test` write is one JSON object.
 /// `make` writes the laboratory of a seed; `drill` runs it and writes the summary. `--help` writes the usage, and
 /// `--version` the version. Other words are refused with the usage and a hint.
 pub fn graft_main<R, S, K, G>(
@@ -145,8 +153,8 @@ where
         → (result.status ≡ 6) ⊎ WritesText line 0 (K.faults sink.old) (K.faults sink.new) (K.written sink.old) (K.written sink.new) result.status }
 
     // `check` reads the source to its end, or past the most bytes of an input, and says what was read.
-    ensures checked { Asks words.now Check → (result.status ≡ 4) ⊎ (result.status ≡ 6)
-        ⊎ Checks (S.left source.old) (S.left source.new) (K.faults sink.old) (K.faults sink.new) (K.written sink.old) (K.written sink.new) result.status }
+    ensures checked { (form : Form) → AskToCheck words.now form → (result.status ≡ 4) ⊎ (result.status ≡ 6)
+        ⊎ Checks form (S.left source.old) (S.left source.new) (K.faults sink.old) (K.faults sink.new) (K.written sink.old) (K.written sink.new) result.status }
 
     // An input is refused only where the bytes are none, or none that can be run yet, or where it hasn't the router or
     // peering of a view, and then a line says why, and a hint what is wanted.
@@ -161,14 +169,14 @@ where
     ensures nothing_written { (result.status ≡ 4) ⊎ (result.status ≡ 6) → K.written sink.new ≡ K.written sink.old }
 
     // Status 9 is that of a test, where the run is settled and an expectation doesn't hold.
-    ensures failed { result.status ≡ 9 → AskToTest words.now × IsSomeAnd result.lab HasFailed }
+    ensures failed { result.status ≡ 9 → ((form : Form) × AskToTest words.now form) × IsSomeAnd result.lab HasFailed }
 
     // A run is there only where it was asked for, came to its end and its text was built: it is the run of the
     // bytes that were read, or of the laboratory of the seed.
     ensures ended { AskForLab words.now → (result.status ≡ 0) ⊎ (result.status ≡ 3) ⊎ (result.status ≡ 7) ⊎ (result.status ≡ 9)
         → IsSome result.lab }
-    ensures no_run { AreRefused words.now ⊎ AskToMake words.now ⊎ Asks words.now Check ⊎ ((line : List ℕ) × AskForLine words.now line)
-        → result.lab ≡ None }
+    ensures no_run { AreRefused words.now ⊎ AskToMake words.now ⊎ ((form : Form) × AskToCheck words.now form)
+        ⊎ ((line : List ℕ) × AskForLine words.now line) → result.lab ≡ None }
     ensures ran { OnSome result.lab (AskForLab words.now
         × ((result.status ≡ 0) ⊎ (result.status ≡ 3) ⊎ (result.status ≡ 5) ⊎ (result.status ≡ 7) ⊎ (result.status ≡ 9))) }
     ensures input { IfSome result.lab (λ lab. RunsSource words.now → TookInput (S.left source.old) (S.left source.new) lab.input) }
@@ -186,16 +194,16 @@ where
     // Its text is written whole, under the status of its end, or a write failed and a front of it stands: a report,
     // which ends with where packets go to the addresses of the input, a summary, the input with the journal behind it,
     // or a view: a timeline, all that there is at its end, the story of a peering's session, why a router has its route
-    // to a prefix, or a picture. Of a test it is which expectations of the input hold, and the status is 9 where the run
-    // is settled and one of them doesn't.
-    ensures reported { IfSome result.lab
-        (λ lab. AskToRun words.now → WritesReport lab (K.faults sink.old) (K.faults sink.new) (K.written sink.old) (K.written sink.new) result.status) }
-    ensures summed { IfSome result.lab (λ lab. ((seed : ℕ) × AskToDrill words.now seed) → WritesText (summary_text lab)
+    // to a prefix, or a picture; each in the form that is asked for. Of a test it is which expectations of the input
+    // hold, and the status is 9 where the run is settled and one of them doesn't.
+    ensures reported { IfSome result.lab (λ lab. (form : Form) → AskToRun words.now form
+        → WritesReport lab form (K.faults sink.old) (K.faults sink.new) (K.written sink.old) (K.written sink.new) result.status) }
+    ensures summed { IfSome result.lab (λ lab. (form : Form) → ((seed : ℕ) × AskToSum words.now seed form) → WritesText (summary_in form lab)
         (end_status lab.end) (K.faults sink.old) (K.faults sink.new) (K.written sink.old) (K.written sink.new) result.status) }
     ensures journaled { IfSome result.lab (λ lab. AskForJournal words.now → WritesJournal (S.left source.old)
         (S.left source.new) lab (K.faults sink.old) (K.faults sink.new) (K.written sink.old) (K.written sink.new) result.status) }
-    ensures tested { IfSome result.lab (λ lab. AskToTest words.now
-        → WritesText (test_text lab) (tested_status lab) (K.faults sink.old) (K.faults sink.new) (K.written sink.old) (K.written sink.new) result.status) }
+    ensures tested { IfSome result.lab (λ lab. (form : Form) → AskToTest words.now form
+        → WritesText (test_in form lab) (tested_status lab) (K.faults sink.old) (K.faults sink.new) (K.written sink.old) (K.written sink.new) result.status) }
     ensures viewed { IfSome result.lab (λ lab. (name : ViewName) → AskToView words.now name
         → WritesView lab name (K.faults sink.old) (K.faults sink.new) (K.written sink.old) (K.written sink.new) result.status) }
 {

@@ -7,28 +7,27 @@ ghost use Rattle.lab_top.specs.Views.{is_router as is_router_lem, is_peering as 
 ghost use Rattle.lab_top.specs.Views.{router_named as router_named_lem, peering_named as peering_named_lem};
 ghost use Rattle.lab_top.specs.Views.{view_named as view_named_lem, view_text as view_text_lem};
 
+use crate::forms::{octets_of, show_in, timeline_in, why_in};
 use bgp_types::Prefix;
-use graft_edge::{Items, Name, NoMemory, Octets, PeeringId, RouterId};
+use graft_edge::{Name, NoMemory, Octets, PeeringId, RouterId};
 use lab_report::Lab;
 use lab_tables::{LabInput, PeeringInput, RouterInput};
+use lab_words::Form;
 use picture_view::picture_text;
-use show_view::show_text;
 use std::alloc::Global;
 use story_view::story_text;
-use timeline_view::timeline_text;
-use why_view::why_text;
 
 /// A view of a run, as a command names it.
 #[derive(Debug, Drop)]
 pub enum ViewName {
     /// The timeline of the run.
-    Timeline,
+    Timeline(Form),
     /// All that there is at the end of the run.
-    Show,
+    Show(Form),
     /// The story of the session of the peering of this name.
     Story(Name),
     /// Why the router of this name has the route that it has to a prefix.
-    Why(Name, Prefix),
+    Why(Name, Prefix, Form),
     /// The picture of the run.
     Picture,
 }
@@ -36,10 +35,10 @@ pub enum ViewName {
 /// A view of a run of an input, by the numbers of its routers and peerings.
 #[derive(Clone, Copy, Debug)]
 pub enum View {
-    Timeline,
-    Show,
+    Timeline(Form),
+    Show(Form),
     Story(PeeringId),
-    Why(RouterId, Prefix),
+    Why(RouterId, Prefix, Form),
     Picture,
 }
 
@@ -101,14 +100,14 @@ pub(crate) fn view_named(input: &LabInput, view: ViewName) -> Result<View, Name>
     ensures { result ≡ view_named_lem input.now view }
 {
     match view {
-        ViewName::Timeline => Ok(View::Timeline),
-        ViewName::Show => Ok(View::Show),
+        ViewName::Timeline(form) => Ok(View::Timeline(form)),
+        ViewName::Show(form) => Ok(View::Show(form)),
         ViewName::Story(name) => match peering_named(input, &name) {
             Some(peering) => Ok(View::Story(peering)),
             None => Err(name),
         },
-        ViewName::Why(name, prefix) => match router_named(input, &name) {
-            Some(router) => Ok(View::Why(router, prefix)),
+        ViewName::Why(name, prefix, form) => match router_named(input, &name) {
+            Some(router) => Ok(View::Why(router, prefix, form)),
             None => Err(name),
         },
         ViewName::Picture => Ok(View::Picture),
@@ -119,12 +118,11 @@ pub(crate) fn view_named(input: &LabInput, view: ViewName) -> Result<View, Name>
 pub(crate) fn view_text(alloc: Global, lab: &Lab, view: View) -> Result<Octets, NoMemory>
     ensures { IfOk result (λ text. text ≡ view_text_lem lab.now view) }
 {
-    let text = match view {
-        View::Timeline => return timeline_text(alloc, lab),
-        View::Picture => return picture_text(alloc, lab),
-        View::Show => show_text(alloc, lab)?,
-        View::Story(peering) => story_text(alloc, lab, peering)?,
-        View::Why(router, prefix) => why_text(alloc, lab, router, prefix)?,
-    };
-    Ok(Items::from_vec(text.into_bytes()))
+    match view {
+        View::Timeline(form) => timeline_in(alloc, lab, form),
+        View::Show(form) => show_in(alloc, lab, form),
+        View::Story(peering) => Ok(octets_of(story_text(alloc, lab, peering)?)),
+        View::Why(router, prefix, form) => why_in(alloc, lab, router, prefix, form),
+        View::Picture => picture_text(alloc, lab),
+    }
 }

@@ -71,17 +71,17 @@ small : (text : Option Text) (seed : Option ℕ) (n : ℕ) → Finds (IsSeed tex
 small text seed n is same = small_by text n (subst (Finds (IsSeed text)) same is)
 
 numbers_in_line : (line : List Text) (job : Job) → AskInLine line job → HasNumbers job
-numbers_in_line line (Run workers) is = few _ _ workers is.1.1.1.as_workers is.1.1.2.2
-numbers_in_line line Check is = tt
+numbers_in_line line (Run workers form) is = few _ _ workers is.1.1.1.as_workers is.1.1.2.0.2
+numbers_in_line line (Check form) is = tt
 numbers_in_line line (Make seed) is = small _ _ seed is.1.1.1.as_seed is.1.1.2.0
-numbers_in_line line (Drill seed workers) is = (small _ _ seed is.1.1.1.as_seed is.1.1.2.0, few _ _ workers is.1.1.1.as_workers is.1.1.2.2)
-numbers_in_line line (Journal workers) is = few _ _ workers is.1.1.1.as_workers is.1.1.2.2
-numbers_in_line line (Timeline workers) is = few _ _ workers is.1.1.1.as_workers is.1.1.2.2
-numbers_in_line line (Show workers) is = few _ _ workers is.1.1.1.as_workers is.1.1.2.2
+numbers_in_line line (Drill seed workers form) is = (small _ _ seed is.1.1.1.as_seed is.1.1.2.0, few _ _ workers is.1.1.1.as_workers is.1.1.2.2)
+numbers_in_line line (Journal workers) is = few _ _ workers is.1.1.1.as_workers is.1.1.2.0.2
+numbers_in_line line (Timeline workers form) is = few _ _ workers is.1.1.1.as_workers is.1.1.2.0.2
+numbers_in_line line (Show workers form) is = few _ _ workers is.1.1.1.as_workers is.1.1.2.0.2
 numbers_in_line line (Story peering workers) is = few _ _ workers is.1.1.1.as_workers is.1.1.2.2
-numbers_in_line line (Why router prefix workers) is = few _ _ workers is.1.1.1.as_workers is.1.1.2.2
-numbers_in_line line (Picture workers) is = few _ _ workers is.1.1.1.as_workers is.1.1.2.2
-numbers_in_line line (Test workers) is = few _ _ workers is.1.1.1.as_workers is.1.1.2.2
+numbers_in_line line (Why router prefix workers form) is = few _ _ workers is.1.1.1.as_workers is.1.1.2.2
+numbers_in_line line (Picture workers) is = few _ _ workers is.1.1.1.as_workers is.1.1.2.0.2
+numbers_in_line line (Test workers form) is = few _ _ workers is.1.1.1.as_workers is.1.1.2.0.2
 numbers_in_line line Help is = tt
 numbers_in_line line Version is = tt
 
@@ -102,7 +102,7 @@ same_job a b e = cc
 one_given : (line : List Text) (a b : Job) → AskInLine line a → AskInLine line b → a ≡ b
 one_given line a b is also =
     let named = read_by_name is.1.1.0 a is.1.1.2 in
-    same_job a b (sym named ∙ job_by_name (name_of a) _ _ _ is.1.1.0 b is.1.1.1 (sym is.1.0 ∙ also.1.0, also.1.1))
+    same_job a b (sym named ∙ job_by_name (name_of a) _ _ _ _ is.1.1.0 b is.1.1.1 (sym is.1.0 ∙ also.1.0, also.1.1))
 
 no_faults : (k : ErrorKind) (ks : Kinds) → k ∷ ks ≡ [] → ⊥
 no_faults k ks e = let f : ⊥ = cc in f

@@ -9,20 +9,25 @@ use Rattle.lab_words.specs.Asked.{usage_text}
 abbrev pub workers_alone_form : Text
 workers_alone_form = codes "this job takes --workers W, with W from 1 to 8, and nothing else; its input comes on standard input: graftlab run < lab.toml"
 
+-- what a job takes that takes workers and a form alone
+abbrev pub formed_form : Text
+formed_form = codes "this job takes --workers W, with W from 1 to 8, and --json, and nothing else"
+    ++ codes "; its input comes on standard input: graftlab run < lab.toml"
+
 -- the jobs in the order of the usage line, each with what it takes
 abbrev pub job_forms : List (Text × Text)
 job_forms =
-    (codes "run", workers_alone_form)
-    ∷ (codes "check", codes "check takes nothing else; its input comes on standard input: graftlab check < lab.toml")
+    (codes "run", formed_form)
+    ∷ (codes "check", codes "check takes --json and nothing else; its input comes on standard input: graftlab check < lab.toml")
     ∷ (codes "make", codes "make takes a seed from 1 to 9999: graftlab make 7")
-    ∷ (codes "drill", codes "drill takes a seed from 1 to 9999, and maybe --workers W, with W from 1 to 8: graftlab drill 7")
+    ∷ (codes "drill", codes "drill takes a seed from 1 to 9999, and maybe --workers W, with W from 1 to 8, and --json: graftlab drill 7")
     ∷ (codes "journal", workers_alone_form)
-    ∷ (codes "show", workers_alone_form)
-    ∷ (codes "timeline", workers_alone_form)
-    ∷ (codes "why", codes "why takes a router and a prefix, and maybe --workers W, with W from 1 to 8: graftlab why east 10.0.0.0/8 < lab.toml")
+    ∷ (codes "show", formed_form)
+    ∷ (codes "timeline", formed_form)
+    ∷ (codes "why", codes "why takes a router and a prefix, and maybe --workers W, with W from 1 to 8, and --json: graftlab why east 10.0.0.0/8 < lab.toml")
     ∷ (codes "story", codes "story takes a peering, and maybe --workers W, with W from 1 to 8: graftlab story c1 < lab.toml")
     ∷ (codes "picture", workers_alone_form)
-    ∷ (codes "test", workers_alone_form)
+    ∷ (codes "test", formed_form)
     ∷ []
 
 -- what stands behind the first of these names that is this one

@@ -3,10 +3,10 @@
 ghost use Rattle.std.specs.Prelude.{◌≡◌, ◌↔◌, IsTrue, IfOk, option_map, slice_index};
 ghost use Rattle.bgp_types.specs.Finds.{Finds};
 ghost use Rattle.bgp_types.specs.Texts.{IsPrefixText};
-ghost use Rattle.lab_words.specs.Asked.{AreArguments, IsReadAs, IsSeed, IsSeedText, IsWorkersText};
+ghost use Rattle.lab_words.specs.Asked.{form_of, AreArguments, IsReadAs, IsSeed, IsSeedText, IsWorkersText};
 ghost use Rattle.lab_words.specs.Reading.{Answers, workers_of};
 
-use crate::job::WordStop;
+use crate::job::{Form, WordStop};
 use bgp_types::{Prefix, read_prefix};
 use graft_edge::{Name, NoMemory};
 use std::alloc::Global;
@@ -20,6 +20,7 @@ pub(crate) struct Arguments {
     pub seed: Option<u32>,
     pub prefix: Option<Prefix>,
     pub workers: Option<usize>,
+    pub form: Form,
 }
 
 /// Whether a text begins with a plus sign.
@@ -105,15 +106,26 @@ fn subject_in(alloc: Global, text: Option<&str>) -> Result<Option<Name>, NoMemor
     }
 }
 
+/// Returns the form that is asked for: `clap` gives the flag the text `true` where it stands in the line.
+fn form_of(json: Option<&str>) -> Form
+    ensures { result ≡ form_of (option_map (λ s. s.now) json.entry) }
+{
+    match json {
+        Some("true") => Form::Json,
+        _ => Form::Plain,
+    }
+}
+
 /// Reads what stands beside the name of a job.
 pub(crate) fn arguments_in(
     alloc: Global,
     subject: Option<&str>,
     prefix: Option<&str>,
     workers: Option<&str>,
+    json: Option<&str>,
 ) -> Result<Arguments, WordStop>
     ensures { Answers (AreArguments (option_map (λ s. s.now) subject.entry) (option_map (λ s. s.now) prefix.entry)
-        (option_map (λ s. s.now) workers.entry)) result }
+        (option_map (λ s. s.now) workers.entry) (option_map (λ s. s.now) json.entry)) result }
 {
     let seed = seed_in(subject);
     let Some(prefix) = prefix_in(prefix) else {
@@ -128,6 +140,7 @@ pub(crate) fn arguments_in(
             seed,
             prefix,
             workers,
+            form: form_of(json),
         }),
         Err(_) => Err(WordStop::NoMemory),
     }

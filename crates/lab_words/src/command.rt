@@ -9,7 +9,7 @@ ghost use Rattle.lab_words.specs.Reading.{Answers};
 use crate::job::{Job, WordStop};
 use crate::table::job_of;
 use clap::error::ErrorKind;
-use clap::{Arg, ArgMatches, Command};
+use clap::{Arg, ArgAction, ArgMatches, Command};
 use graft_edge::{NoMemory, Words};
 use std::alloc::{AllocError, Global};
 
@@ -31,7 +31,10 @@ fn make_command<'a>(alloc: Global) -> Result<Command<'a>, AllocError>
     ensures { IfOk result (λ c. app_of c ≡ graft_command) }
 {
     let workers = Arg::new(alloc, "workers").long("workers");
-    make_places(alloc)?.arg(workers)
+    let json = Arg::new(alloc, "json")
+        .long("json")
+        .action(ArgAction::SetTrue);
+    make_places(alloc)?.arg(workers)?.arg(json)
 }
 
 /// Returns the words after the program's name, in the form that `clap` takes.
@@ -56,6 +59,7 @@ fn job_of_matches(alloc: Global, matches: &ArgMatches) -> Result<Job, WordStop>
         matches.get_str("subject"),
         matches.get_str("prefix"),
         matches.get_str("workers"),
+        matches.get_str("json"),
     )
 }
 

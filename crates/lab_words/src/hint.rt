@@ -13,6 +13,10 @@ use std::alloc::Global;
 const WORKERS_ALONE: &str =
     "this job takes --workers W, with W from 1 to 8, and nothing else; its input comes on standard input: graftlab run < lab.toml";
 
+/// What a job takes that takes workers and a form alone.
+const WORKERS_AND_JSON: &str =
+    "this job takes --workers W, with W from 1 to 8, and --json, and nothing else; its input comes on standard input: graftlab run < lab.toml";
+
 /// Which jobs there are.
 const JOBS_TEXT: &str =
     "the first word is a job: run check make drill journal show timeline why story picture test; an input comes on standard input: graftlab run < lab.toml";
@@ -22,25 +26,25 @@ fn form_of(name: &str) -> Option<&'static str>
     ensures { option_map (λ form. form.now) result ≡ form_of_lem name.now }
 {
     match name {
-        "run" => Some(WORKERS_ALONE),
+        "run" => Some(WORKERS_AND_JSON),
         "check" => Some(
-            "check takes nothing else; its input comes on standard input: graftlab check < lab.toml",
+            "check takes --json and nothing else; its input comes on standard input: graftlab check < lab.toml",
         ),
         "make" => Some("make takes a seed from 1 to 9999: graftlab make 7"),
         "drill" => Some(
-            "drill takes a seed from 1 to 9999, and maybe --workers W, with W from 1 to 8: graftlab drill 7",
+            "drill takes a seed from 1 to 9999, and maybe --workers W, with W from 1 to 8, and --json: graftlab drill 7",
         ),
         "journal" => Some(WORKERS_ALONE),
-        "show" => Some(WORKERS_ALONE),
-        "timeline" => Some(WORKERS_ALONE),
+        "show" => Some(WORKERS_AND_JSON),
+        "timeline" => Some(WORKERS_AND_JSON),
         "why" => Some(
-            "why takes a router and a prefix, and maybe --workers W, with W from 1 to 8: graftlab why east 10.0.0.0/8 < lab.toml",
+            "why takes a router and a prefix, and maybe --workers W, with W from 1 to 8, and --json: graftlab why east 10.0.0.0/8 < lab.toml",
         ),
         "story" => Some(
             "story takes a peering, and maybe --workers W, with W from 1 to 8: graftlab story c1 < lab.toml",
         ),
         "picture" => Some(WORKERS_ALONE),
-        "test" => Some(WORKERS_ALONE),
+        "test" => Some(WORKERS_AND_JSON),
         _ => None,
     }
 }

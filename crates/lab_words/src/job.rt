@@ -7,15 +7,27 @@ use bgp_types::Prefix;
 use graft_edge::Name;
 use thiserror::Error;
 
+/// The form in which a job writes what it has to say.
+#[derive(Clone, Copy, Debug, PartialEq, Eq)]
+pub enum Form {
+    /// As lines of text.
+    Plain,
+    /// As one JSON object.
+    Json,
+}
+
 /// What is to be done. A seed is 1 to 9,999, and a run has 1 to 8 workers.
 #[derive(Debug, Drop)]
 pub enum Job {
     /// Run the laboratory of the source, and write its report.
     Run {
         workers: usize,
+        form: Form,
     },
     /// Say whether the source is the input of a laboratory.
-    Check,
+    Check {
+        form: Form,
+    },
     /// Write the laboratory of a seed.
     Make {
         seed: u32,
@@ -24,6 +36,7 @@ pub enum Job {
     Drill {
         seed: u32,
         workers: usize,
+        form: Form,
     },
     /// Run the laboratory of the source, and write the input followed by its journal.
     Journal {
@@ -32,10 +45,12 @@ pub enum Job {
     /// Run the laboratory of the source, and write its events round by round.
     Timeline {
         workers: usize,
+        form: Form,
     },
     /// Run the laboratory of the source, and write all that there is at its end.
     Show {
         workers: usize,
+        form: Form,
     },
     /// Run the laboratory of the source, and write the session of this peering message by message.
     Story {
@@ -47,6 +62,7 @@ pub enum Job {
         router: Name,
         prefix: Prefix,
         workers: usize,
+        form: Form,
     },
     /// Run the laboratory of the source, and write a picture of it.
     Picture {
@@ -55,6 +71,7 @@ pub enum Job {
     /// Run the laboratory of the source, and write which of its expectations hold.
     Test {
         workers: usize,
+        form: Form,
     },
     /// Write the usage line.
     Help,
@@ -74,7 +91,7 @@ pub enum WordStop {
 
 /// The usage line of the program.
 pub const USAGE_TEXT: &str =
-    "usage: graftlab run|check|make N|drill N|journal|show|timeline|why ROUTER PREFIX|story PEERING|picture|test [--workers W]\n";
+    "usage: graftlab run|check|make N|drill N|journal|show|timeline|why ROUTER PREFIX|story PEERING|picture|test [--workers W] [--json]\n";
 
 /// The version line of the program.
 pub const VERSION_TEXT: &str = "graftlab 0.1.0\n";

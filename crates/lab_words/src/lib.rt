@@ -9,4 +9,6 @@ mod table;
 
 pub use command::read_words;
 pub use hint::refused_text;
-pub use job::{Job, USAGE_TEXT, VERSION_TEXT, WordStop, usage_is_as_told, version_is_as_told};
+pub use job::{
+    Form, Job, USAGE_TEXT, VERSION_TEXT, WordStop, usage_is_as_told, version_is_as_told,
+};

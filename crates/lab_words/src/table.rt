@@ -2,10 +2,10 @@
 
 ghost use Rattle.std.specs.Prelude.{◌≡◌, option_map};
 ghost use Rattle.lab_words.specs.Asked.{IsJob, given_by};
-ghost use Rattle.lab_words.specs.Reading.{Answers, workers_alone, check_with, make_with, drill_with, story_with, why_with, job_named};
+ghost use Rattle.lab_words.specs.Reading.{Answers, plain, workers_alone, check_with, make_with, drill_with, story_with, why_with, job_named};
 
 use crate::arguments::{Arguments, arguments_in};
-use crate::job::{Job, WordStop};
+use crate::job::{Form, Job, WordStop};
 use bgp_types::Prefix;
 use graft_edge::Name;
 use std::alloc::Global;
@@ -24,12 +24,27 @@ fn workers_alone(
     }
 }
 
-/// Returns the job `check`, beside which nothing stands.
-fn check_with(subject: Option<Name>, prefix: Option<Prefix>, workers: Option<usize>) -> Option<Job>
-    ensures { result ≡ check_with subject prefix workers }
+/// Returns a job that writes text alone, if text is asked for.
+fn plain(form: Form, job: Option<Job>) -> Option<Job>
+    ensures { result ≡ plain form job }
+{
+    match form {
+        Form::Plain => job,
+        Form::Json => None,
+    }
+}
+
+/// Returns the job `check`, beside which nothing stands but a form.
+fn check_with(
+    subject: Option<Name>,
+    prefix: Option<Prefix>,
+    workers: Option<usize>,
+    form: Form,
+) -> Option<Job>
+    ensures { result ≡ check_with subject prefix workers form }
 {
     match (subject, prefix, workers) {
-        (None, None, None) => Some(Job::Check),
+        (None, None, None) => Some(Job::Check { form }),
         _ => None,
     }
 }
@@ -45,13 +60,19 @@ fn make_with(seed: Option<u32>, prefix: Option<Prefix>, workers: Option<usize>) 
 }
 
 /// Returns the job `drill`, beside which a seed stands.
-fn drill_with(seed: Option<u32>, prefix: Option<Prefix>, workers: Option<usize>) -> Option<Job>
-    ensures { result ≡ drill_with seed prefix workers }
+fn drill_with(
+    seed: Option<u32>,
+    prefix: Option<Prefix>,
+    workers: Option<usize>,
+    form: Form,
+) -> Option<Job>
+    ensures { result ≡ drill_with seed prefix workers form }
 {
     match (seed, prefix) {
         (Some(seed), None) => Some(Job::Drill {
             seed,
             workers: workers.unwrap_or(2),
+            form,
         }),
         _ => None,
     }
@@ -71,14 +92,20 @@ fn story_with(subject: Option<Name>, prefix: Option<Prefix>, workers: Option<usi
 }
 
 /// Returns the job `why`, beside which the name of a router and a prefix stand.
-fn why_with(subject: Option<Name>, prefix: Option<Prefix>, workers: Option<usize>) -> Option<Job>
-    ensures { result ≡ why_with subject prefix workers }
+fn why_with(
+    subject: Option<Name>,
+    prefix: Option<Prefix>,
+    workers: Option<usize>,
+    form: Form,
+) -> Option<Job>
+    ensures { result ≡ why_with subject prefix workers form }
 {
     match (subject, prefix) {
         (Some(router), Some(prefix)) => Some(Job::Why {
             router,
             prefix,
             workers: workers.unwrap_or(2),
+            form,
         }),
         _ => None,
     }
@@ -93,30 +120,37 @@ fn job_named(name: &str, arguments: Arguments) -> Option<Job>
         seed,
         prefix,
         workers,
+        form,
     } = arguments;
     match name {
         "run" => Some(Job::Run {
             workers: workers_alone(subject, prefix, workers)?,
+            form,
         }),
-        "check" => check_with(subject, prefix, workers),
-        "make" => make_with(seed, prefix, workers),
-        "drill" => drill_with(seed, prefix, workers),
-        "journal" => Some(Job::Journal {
-            workers: workers_alone(subject, prefix, workers)?,
-        }),
+        "check" => check_with(subject, prefix, workers, form),
+        "make" => plain(form, make_with(seed, prefix, workers)),
+        "drill" => drill_with(seed, prefix, workers, form),
+        "journal" => plain(
+            form,
+            workers_alone(subject, prefix, workers).map(|workers| Job::Journal { workers }),
+        ),
         "timeline" => Some(Job::Timeline {
             workers: workers_alone(subject, prefix, workers)?,
+            form,
         }),
         "show" => Some(Job::Show {
             workers: workers_alone(subject, prefix, workers)?,
+            form,
         }),
-        "story" => story_with(subject, prefix, workers),
-        "why" => why_with(subject, prefix, workers),
-        "picture" => Some(Job::Picture {
-            workers: workers_alone(subject, prefix, workers)?,
-        }),
+        "story" => plain(form, story_with(subject, prefix, workers)),
+        "why" => why_with(subject, prefix, workers, form),
+        "picture" => plain(
+            form,
+            workers_alone(subject, prefix, workers).map(|workers| Job::Picture { workers }),
+        ),
         "test" => Some(Job::Test {
             workers: workers_alone(subject, prefix, workers)?,
+            form,
         }),
         _ => None,
     }
@@ -129,14 +163,15 @@ pub(crate) fn job_of(
     subject: Option<&str>,
     prefix: Option<&str>,
     workers: Option<&str>,
+    json: Option<&str>,
 ) -> Result<Job, WordStop>
     ensures { Answers (IsJob (given_by (option_map (λ s. s.now) name.entry) (option_map (λ s. s.now) subject.entry)
-        (option_map (λ s. s.now) prefix.entry) (option_map (λ s. s.now) workers.entry))) result }
+        (option_map (λ s. s.now) prefix.entry) (option_map (λ s. s.now) workers.entry) (option_map (λ s. s.now) json.entry))) result }
 {
     let Some(name) = name else {
         return Err(WordStop::Usage);
     };
-    match arguments_in(alloc, subject, prefix, workers) {
+    match arguments_in(alloc, subject, prefix, workers, json) {
         Ok(arguments) => match job_named(name, arguments) {
             Some(job) => Ok(job),
             None => Err(WordStop::Usage),

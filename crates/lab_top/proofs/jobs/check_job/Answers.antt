@@ -4,8 +4,10 @@ use Rattle.lab_top.proofs.Parts.{bad_check, stopped_ends, checked_ends}
 use Rattle.lab_top.proofs.jobs.check_job.Goals as goal
 
 pub returns-in-Err : goal.returns-in-Err
-returns-in-Err g c = stopped_ends Check _ _ c.in-Err.stop c.end_stopped.result tt (bad_check _ _) c.in-Err.ensures c.end_stopped.ensures
+returns-in-Err g c =
+    let bad = bad_check c.args.form _ _ in
+    stopped_ends (Check c.args.form) _ _ c.in-Err.stop c.end_stopped.result tt bad c.in-Err.ensures c.end_stopped.ensures
 
 pub returns : goal.returns
-returns g c = checked_ends _ _ c.in-Ok.input c.deref.result.now _ _ c.in-Ok.ensures
+returns g c = checked_ends c.args.form _ _ c.in-Ok.input c.deref.result.now _ _ c.in-Ok.ensures
     (c.deref.ensures ∙ c.in_ok-text.ensures) c.end_with.ensures.lab c.end_with.ensures.writes

@@ -1,24 +1,24 @@
 use Rattle.std.proofs.Common.{subst, sym, refl}
 use Rattle.std.specs.Prelude.{Ok}
 use Rattle.lab_words.specs.declared.job.Job.TheVariants.{Run}
-use Rattle.lab_report.specs.Traces.{IsReport}
+use Rattle.lab_top.specs.Forms.{IsReportIn}
 use Rattle.lab_top.specs.Cases.{BuiltOr}
 use Rattle.lab_top.proofs.Parts.{bad_run, stopped_ends, unbuilt_ends, read_ends}
 use Rattle.lab_top.proofs.jobs.run_job.Goals as goal
 
 pub returns-in-Err : goal.returns-in-Err
 returns-in-Err g c =
-    let job = Run c.args.workers in
+    let job = Run c.args.workers c.args.form in
     stopped_ends job _ _ c.in-Err.stop c.end_stopped.result tt (bad_run job _ _ tt tt) c.in-Err.ensures c.end_stopped.ensures
 
 pub returns-in_ok-text-in-Some : goal.returns-in_ok-text-in-Some
 returns-in_ok-text-in-Some g c =
     let built = subst (λ found. BuiltOr c.in-Ok.input (Ok found)) c.in-Some.is c.in_ok-lab.ensures in
-    let told = subst (IsReport c.in-Some.lab) (sym c.as_bytes.ensures.value) c.in_ok-text-in-Some.ensures in
-    read_ends (Run c.args.workers) _ _ c.in-Ok.input c.in-Some.lab c.as_bytes.result.now _ c.end_run.result tt tt c.in-Ok.ensures built (λ bytes. told)
+    let told = subst (IsReportIn c.args.form c.in-Some.lab) (sym c.deref.ensures) c.in_ok-text-in-Some.ensures in
+    read_ends (Run c.args.workers c.args.form) _ _ c.in-Ok.input c.in-Some.lab c.deref.result.now _ c.end_run.result tt tt c.in-Ok.ensures built (λ bytes. told)
     refl c.end_run.ensures
 
 pub returns-in-None : goal.returns-in-None
 returns-in-None g c =
     let built = subst (λ found. BuiltOr c.in-Ok.input (Ok found)) c.in-None.is c.in_ok-lab.ensures in
-    unbuilt_ends (Run c.args.workers) _ _ c.in-Ok.input c.end_unbuilt.result tt tt c.in-Ok.ensures built c.end_unbuilt.ensures
+    unbuilt_ends (Run c.args.workers c.args.form) _ _ c.in-Ok.input c.end_unbuilt.result tt tt c.in-Ok.ensures built c.end_unbuilt.ensures

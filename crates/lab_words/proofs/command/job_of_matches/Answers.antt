@@ -10,4 +10,5 @@ returns c =
     let subject = c.get_str-2.ensures ∙ first_value-rows found (codes "subject") in
     let prefix = c.get_str-3.ensures ∙ first_value-rows found (codes "prefix") in
     let workers = c.get_str-4.ensures ∙ first_value-rows found (codes "workers") in
-    rw (← job, ← subject, ← prefix, ← workers) c.job_of.ensures
+    let json = c.get_str-5.ensures ∙ first_value-rows found (codes "json") in
+    rw (← job, ← subject, ← prefix, ← workers, ← json) c.job_of.ensures

@@ -1,0 +1,5 @@
+pub mod Forms
+pub mod Listed
+pub mod NoFloats
+pub mod Shown
+pub mod Walked

@@ -1,0 +1,3 @@
+pub mod Forms
+pub mod Rounds
+pub mod Whys
