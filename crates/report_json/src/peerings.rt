@@ -67,13 +67,16 @@ fn push_peering(
     ensures { OnOk result (map view list.new.items
         ≡ map view list.old.items ++ peering_json lab.now.input lab.now.sessions lab.now.placement (index, peering.now)) }
 {
-    let Some(session) = lab.sessions.get(index) else {
-        return Ok(());
-    };
-    let place = place_at(lab.placement.as_slice(), index);
     let name = peering.name.as_str();
-    let value = session_value(alloc, &lab.input, name, place, session)?;
-    push_value(list, value)
+    let place = place_at(lab.placement.as_slice(), index);
+    let sessions = lab.sessions.as_slice();
+    match sessions.get(index) {
+        Some(session) => push_value(
+            list,
+            session_value(alloc, &lab.input, name, place, session)?,
+        ),
+        None => Ok(()),
+    }
 }
 
 /// The peerings, in the order of the input.
