@@ -1,6 +1,6 @@
 //! What a test says of a run, as JSON.
 
-ghost use Rattle.std.specs.Prelude.{◌≡◌, ◌×◌, map, count_by, is_some, Some, IfOk};
+ghost use Rattle.std.specs.Prelude.{◌≡◌, map, count_by, is_some, IfOk};
 ghost use Rattle.serde_json.specs.View.{view};
 ghost use Rattle.report_json.specs.Values.{json_line as json_line_lem};
 ghost use Rattle.expect_view.specs.Expect.{difference as difference_lem};
@@ -9,8 +9,8 @@ ghost use Rattle.expect_json.specs.Verdicts.{held_json, differing_json, verdict_
 use expect_view::{Difference, first_difference};
 use graft_edge::{NoMemory, Octets};
 use lab_report::Lab;
-use report_json::json_line;
-use serde_json::{Value, json};
+use report_json::{json_line, push_value, put_text};
+use serde_json::{Map, Value, put};
 use std::alloc::Global;
 
 /// Where the run differs from each expectation, in the order of the input.
@@ -29,21 +29,24 @@ fn differences(alloc: Global, lab: &Lab) -> Result<Vec<Option<Difference>>, NoMe
 fn held_value(alloc: Global) -> Result<Value, NoMemory>
     ensures { IfOk result (λ v. view v ≡ held_json) }
 {
-    let value = json!(in alloc; {"got": null, "key": null, "ok": true, "wanted": null})?;
-    Ok(value)
+    let mut map = Map::new(alloc);
+    put(&mut map, alloc, "got", Value::Null)?;
+    put(&mut map, alloc, "key", Value::Null)?;
+    put(&mut map, alloc, "ok", Value::from(true))?;
+    put(&mut map, alloc, "wanted", Value::Null)?;
+    Ok(Value::Object(map))
 }
 
 /// An expectation that doesn't.
 fn differing_value(alloc: Global, difference: &Difference) -> Result<Value, NoMemory>
     ensures { IfOk result (λ v. view v ≡ differing_json difference.now) }
 {
-    let value = json!(in alloc; {
-        "got": difference.got.as_str(),
-        "key": difference.key.as_str(),
-        "ok": false,
-        "wanted": difference.wanted.as_str(),
-    })?;
-    Ok(value)
+    let mut map = Map::new(alloc);
+    put_text(&mut map, alloc, "got", difference.got.as_str())?;
+    put_text(&mut map, alloc, "key", difference.key.as_str())?;
+    put(&mut map, alloc, "ok", Value::from(false))?;
+    put_text(&mut map, alloc, "wanted", difference.wanted.as_str())?;
+    Ok(Value::Object(map))
 }
 
 /// An expectation, given where the run differs from it.
@@ -62,7 +65,7 @@ fn list_value(alloc: Global, all: &[Option<Difference>]) -> Result<Value, NoMemo
 {
     let mut list = Vec::with_capacity(alloc, all.len())?;
     for found in all {
-        list.push(verdict_value(alloc, found)?)?;
+        push_value(&mut list, verdict_value(alloc, found)?)?;
     }
     Ok(Value::Array(list))
 }
@@ -74,20 +77,17 @@ fn failed_in(all: &[Option<Difference>]) -> usize
     all.iter().filter(|found| found.is_some()).count()
 }
 
-/// The whole.
-fn test_value(alloc: Global, lab: &Lab) -> Result<Value, NoMemory>
-    ensures { IfOk result (λ v. view v ≡ test_json_lem lab.now) }
+/// All expectations, and how many the run differs from.
+fn verdicts_value(alloc: Global, all: &[Option<Difference>]) -> Result<Value, NoMemory>
+    ensures { IfOk result (λ v. view v ≡ verdicts_json all.now (count_by is_some all.now)) }
 {
-    let all = differences(alloc, lab)?;
-    let list = list_value(alloc, all.as_slice())?;
-    let failed = failed_in(all.as_slice());
-    let value = json!(in alloc; {
-        "expectations": list,
-        "failed": failed,
-        "job": "test",
-        "version": 1u32,
-    })?;
-    Ok(value)
+    let list = list_value(alloc, all)?;
+    let mut map = Map::new(alloc);
+    put(&mut map, alloc, "expectations", list)?;
+    put(&mut map, alloc, "failed", Value::from(failed_in(all)))?;
+    put_text(&mut map, alloc, "job", "test")?;
+    put(&mut map, alloc, "version", Value::from(1u32))?;
+    Ok(Value::Object(map))
 }
 
 /// What a test says of a run, as JSON: for each expectation of the input, in its order, whether it holds, and of one that doesn't the first key
@@ -95,6 +95,7 @@ fn test_value(alloc: Global, lab: &Lab) -> Result<Value, NoMemory>
 pub fn test_json(alloc: Global, lab: &Lab) -> Result<Octets, NoMemory>
     ensures { IfOk result (λ text. text ≡ json_line_lem (test_json_lem lab.now)) }
 {
-    let value = test_value(alloc, lab)?;
+    let all = differences(alloc, lab)?;
+    let value = verdicts_value(alloc, all.as_slice())?;
     json_line(alloc, &value)
 }

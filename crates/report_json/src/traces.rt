@@ -18,8 +18,8 @@ use serde_json::{Map, Value, put};
 use std::alloc::Global;
 
 /// The word for how a walk ends.
-fn ends_word(walk: Walk) -> &'static str
-    ensures { result.now ≡ ends_word walk }
+fn ends_word(walk: &Walk) -> &'static str
+    ensures { result.now ≡ ends_word walk.now }
 {
     match walk {
         Walk::Leaves(_, _, _) => "leaves",
@@ -30,34 +30,34 @@ fn ends_word(walk: Walk) -> &'static str
 }
 
 /// The router at which a walk ends.
-fn end_router(walk: Walk) -> RouterId
-    ensures { result ≡ end_router walk }
+fn end_router(walk: &Walk) -> RouterId
+    ensures { result ≡ end_router walk.now }
 {
     match walk {
-        Walk::Leaves(router, _, _) => router,
-        Walk::Local(router, _) => router,
-        Walk::NoRoute(router) => router,
-        Walk::Loop(router) => router,
+        Walk::Leaves(router, _, _) => *router,
+        Walk::Local(router, _) => *router,
+        Walk::NoRoute(router) => *router,
+        Walk::Loop(router) => *router,
     }
 }
 
 /// The peering over which a walk leaves.
-fn leaves_over(walk: Walk) -> Option<PeeringId>
-    ensures { result ≡ leaves_over walk }
+fn leaves_over(walk: &Walk) -> Option<PeeringId>
+    ensures { result ≡ leaves_over walk.now }
 {
     match walk {
-        Walk::Leaves(_, peering, _) => Some(peering),
+        Walk::Leaves(_, peering, _) => Some(*peering),
         Walk::Local(_, _) | Walk::NoRoute(_) | Walk::Loop(_) => None,
     }
 }
 
 /// The prefix by which a walk leaves or is at home.
-fn ends_by(walk: Walk) -> Option<Prefix>
-    ensures { result ≡ ends_by walk }
+fn ends_by(walk: &Walk) -> Option<Prefix>
+    ensures { result ≡ ends_by walk.now }
 {
     match walk {
-        Walk::Leaves(_, _, prefix) => Some(prefix),
-        Walk::Local(_, prefix) => Some(prefix),
+        Walk::Leaves(_, _, prefix) => Some(*prefix),
+        Walk::Local(_, prefix) => Some(*prefix),
         Walk::NoRoute(_) | Walk::Loop(_) => None,
     }
 }
@@ -92,9 +92,9 @@ fn trace_value(
     input: &LabInput,
     address: u32,
     name: &str,
-    walk: Walk,
+    walk: &Walk,
 ) -> Result<Value, NoMemory>
-    ensures { IfOk result (λ v. view v ≡ trace_json input.now address name.now walk) }
+    ensures { IfOk result (λ v. view v ≡ trace_json input.now address name.now walk.now) }
 {
     let to = address_value(alloc, address)?;
     let router = router_name(input, end_router(walk).0);
@@ -125,7 +125,7 @@ fn push_traces_to(
     for (index, router) in routers.iter().enumerate() {
         let walk = forwarder.walk(RouterId(index as u8), address);
         let name = router.name.as_str();
-        push_value(list, trace_value(alloc, input, address, name, walk)?)?;
+        push_value(list, trace_value(alloc, input, address, name, &walk)?)?;
     }
     Ok(())
 }

@@ -2,12 +2,17 @@ use Rattle.std.proofs.Common.{ap, ◌∙◌}
 use Rattle.std.proofs.lemmas.Result.{IfOk-weaker}
 use Rattle.serde_json.specs.Written.{has_float}
 use Rattle.report_json.specs.Values.{json_line}
-use Rattle.expect_json.proofs.Forms.{test_whole}
+use Rattle.expect_json.proofs.Forms.{test_whole, on_lab}
 use Rattle.expect_json.proofs.verdicts.test_json.Goals as goal
 
 -- the value has no floats
 pub json_line-requires : goal.json_line-requires
-json_line-requires c = ap has_float c.in_ok-value.ensures ∙ test_whole c.args.lab.now
+json_line-requires c =
+    let lab = c.args.lab.now in
+    let same = c.in_ok-value.ensures ∙ on_lab lab c.in_ok-all.value.items c.in_ok-all.ensures in
+    ap has_float same ∙ test_whole lab
 
 pub returns : goal.returns
-returns c = IfOk-weaker c.json_line.result _ _ (λ text is. is ∙ ap json_line c.in_ok-value.ensures) c.json_line.ensures
+returns c =
+    let same = c.in_ok-value.ensures ∙ on_lab c.args.lab.now c.in_ok-all.value.items c.in_ok-all.ensures in
+    IfOk-weaker c.json_line.result _ _ (λ text is. is ∙ ap json_line same) c.json_line.ensures
