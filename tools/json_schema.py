@@ -3,10 +3,11 @@
 
     json_schema.py PROGRAM [LAB..]
 
-PROGRAM is graftlab; without LAB all of examples/ are taken. Each LAB is checked, run and shown, and asked for its timeline and for the
-reasons of the routes of each of its routers, once as text and once as JSON, by one worker; and drills 1 to 3 are run. From each object the text is written
-anew, line by line, and must be the one that the program prints; and the object must be compact, with its members in rising order, and have
-one newline behind it. Prints a line for each LAB, and for each difference another; ends with status 1 where there is one.
+PROGRAM is graftlab; without LAB all of examples/ are taken. Each LAB is checked, run, tested and shown, and asked for its timeline and for
+the reasons of the routes of each of its routers, once as text and once as JSON, by one worker; and drills 1 to 3 are run. From each object
+the text is written anew, line by line, and must be the one that the program prints; and the object must be compact, with its members in
+rising order, and have one newline behind it. Prints a line for each LAB, and for each difference another; ends with status 1 where there
+is one.
 """
 import json
 import pathlib

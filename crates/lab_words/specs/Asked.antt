@@ -14,7 +14,8 @@ use Rattle.lab_words.specs.declared.job.Job.TheVariants.{Run, Check, Make, Drill
 
 -- the usage line of the program
 abbrev pub usage_text : List ℕ
-usage_text = codes "usage: graftlab run|check|make N|drill N|journal|show|timeline|why ROUTER PREFIX|story PEERING|picture|test [--workers W] [--json]" ++ 10 ∷ []
+usage_text =
+    codes "usage: graftlab run|check|make N|drill N|journal|show|timeline|why ROUTER PREFIX|story PEERING|picture|test [--workers W] [--json]" ++ 10 ∷ []
 
 -- the version line of the program
 abbrev pub version_text : List ℕ
