@@ -9,10 +9,10 @@ use Rattle.expect_json.proofs.verdicts.test_json.Goals as goal
 pub json_line-requires : goal.json_line-requires
 json_line-requires c =
     let lab = c.args.lab.now in
-    let same = c.in_ok-value.ensures ∙ on_lab lab _ c.in_ok-all.ensures in
+    let same = c.in_ok-value.ensures ∙ on_lab lab _ (c.as_slice.ensures.value ∙ c.in_ok-all.ensures) in
     ap has_float same ∙ test_whole lab
 
 pub returns : goal.returns
 returns c =
-    let same = c.in_ok-value.ensures ∙ on_lab c.args.lab.now _ c.in_ok-all.ensures in
+    let same = c.in_ok-value.ensures ∙ on_lab c.args.lab.now _ (c.as_slice.ensures.value ∙ c.in_ok-all.ensures) in
     IfOk-weaker c.json_line.result _ _ (λ text is. is ∙ ap json_line same) c.json_line.ensures
