@@ -1,7 +1,6 @@
 //! Routers with their best routes, as JSON.
 
-ghost use Rattle.std.specs.Prelude.{◌≡◌, ◌++◌, map, IfOk, OnOk};
-ghost use Rattle.std.specs.Option.{option_copied};
+ghost use Rattle.std.specs.Prelude.{◌≡◌, ◌++◌, map, slice_get, IfOk, OnOk};
 ghost use Rattle.serde_json.specs.View.{view};
 ghost use Rattle.report_json.specs.Run.{ases_json, part_json, path_json, from_kind, from_name, from_json, best_json, table_json, router_json, routers_json};
 ghost use Rattle.report_json.specs.Values.{list_of};
@@ -120,15 +119,16 @@ fn bests_value(alloc: Global, input: &LabInput, best: &[BestEntry]) -> Result<Va
     Ok(Value::Array(list))
 }
 
-/// The best routes of a router, if it has a table.
+/// The best routes of the router of an index, if it has a table.
 fn table_value(
     alloc: Global,
     input: &LabInput,
-    table: Option<&RouterTable>,
+    tables: &[RouterTable],
+    index: usize,
 ) -> Result<Value, NoMemory>
-    ensures { IfOk result (λ v. view v ≡ table_json input.now (option_copied table.entry)) }
+    ensures { IfOk result (λ v. view v ≡ table_json input.now (slice_get tables.now index)) }
 {
-    match table {
+    match tables.get(index) {
         Some(table) => bests_value(alloc, input, table.best.as_slice()),
         None => Ok(Value::Array(Vec::new(alloc))),
     }
@@ -144,7 +144,7 @@ fn router_value(
 ) -> Result<Value, NoMemory>
     ensures { IfOk result (λ v. view v ≡ router_json input.now tables.now (index, router.now)) }
 {
-    let best = table_value(alloc, input, tables.get(index))?;
+    let best = table_value(alloc, input, tables, index)?;
     let mut map = Map::new(alloc);
     put(&mut map, alloc, "best", best)?;
     put_text(&mut map, alloc, "name", router.name.as_str())?;

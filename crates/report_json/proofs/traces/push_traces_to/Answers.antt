@@ -1,5 +1,6 @@
-use Rattle.std.proofs.Common.{◌≡◌, ◌<◌, ◌∙◌, length, length-take, min, ap, map, arith}
+use Rattle.std.proofs.Common.{ℕ, ◌≡◌, List, ◌<◌, ◌∙◌, length, length-take, min, ap, map, arith}
 use Rattle.serde_json.specs.View.{view}
+use Rattle.report_json.specs.Traces.{trace_json}
 use Rattle.report_json.proofs.Walked.{none_walked, walked_more}
 use Rattle.report_json.proofs.traces.push_traces_to.Goals as goal
 
@@ -17,6 +18,8 @@ loop-index-init c = none_walked c.args.input.now c.args.forwarder.now c.args.add
 pub loop-index-preserved : goal.loop-index-preserved
 loop-index-preserved c =
     let below : c.loop-index.index < length c.numbered-routers.result.now = omega (arith, c.loop-index-test.true) in
+    let named = ap (λ (name : List ℕ). trace_json c.args.input.now c.args.address name c.walk-walk.result) c.as_str-name.ensures in
     walked_more c.args.input.now c.args.forwarder.now c.args.address c.numbered-routers.result.now
     c.loop-index.index c.index-routers-index.result c.walk-walk.result
-    below c.index-routers-index.is c.walk-walk.ensures.ends _ _ _ _ c.loop-index.invariant c.in_ok-push_value.ensures c.in_ok-trace_value.ensures
+    below c.index-routers-index.is c.walk-walk.ensures.ends _ _ _ _ c.loop-index.invariant c.in_ok-push_value.ensures
+    (c.in_ok-trace_value.ensures ∙ named)
