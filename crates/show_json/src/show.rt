@@ -6,6 +6,8 @@ ghost use Rattle.report_json.specs.Values.{list_of, json_line as json_line_lem};
 ghost use Rattle.serde_json.specs.View.{view};
 ghost use Rattle.why_view.specs.Sources.{numbered_peerings};
 ghost use Rattle.why_view.specs.Stories.{story_peering};
+ghost use Rattle.show_view.specs.Routes.{best_in};
+ghost use Rattle.show_json.specs.Routes.{best_json};
 ghost use Rattle.show_json.specs.Show.{router_json, view_object, view_json, peering_json, waiting_json, show_json as show_json_lem};
 
 use crate::faults::faults_value;
@@ -22,6 +24,13 @@ use show_view::{best_in, numbered, push_pending};
 use std::alloc::Global;
 use why_view::opened_on;
 
+/// The best routes of the router of this number.
+fn bests_at(alloc: Global, lab: &Lab, index: usize) -> Result<Value, NoMemory>
+    ensures { IfOk result (λ v. view v ≡ list_of (map (best_json lab.now.input) (best_in (slice_get lab.now.tables index)))) }
+{
+    bests_value(alloc, &lab.input, best_in(lab.tables.get(index)))
+}
+
 /// A router's name, and its best routes with all attributes.
 fn router_value(
     alloc: Global,
@@ -31,8 +40,7 @@ fn router_value(
 ) -> Result<Value, NoMemory>
     ensures { IfOk result (λ v. view v ≡ router_json lab.now (index, router.now)) }
 {
-    let table = best_in(lab.tables.get(index));
-    let best = bests_value(alloc, &lab.input, table)?;
+    let best = bests_at(alloc, lab, index)?;
     let mut map = Map::new(alloc);
     put(&mut map, alloc, "best", best)?;
     put_text(&mut map, alloc, "name", router.name.as_str())?;
