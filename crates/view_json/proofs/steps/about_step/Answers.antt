@@ -1,5 +1,5 @@
 use Rattle.std.proofs.Common.{ap, ◌∙◌}
-use Rattle.std.specs.Prelude.{Option, option_and_then}
+use Rattle.std.specs.Prelude.{Option, option_and_then, slice_get}
 use Rattle.std.proofs.lemmas.Result.{IfOk-weaker}
 use Rattle.serde_json.specs.Data.{Data}
 use Rattle.serde_json.specs.View.{view}
@@ -14,10 +14,12 @@ returns c =
     let step = c.args.step in
     let said = c.step_at-said.ensures in
     let counted : Option Step → Data = λ s. count_or_null (option_and_then octets_in_step s) in
-    let announce = c.in_ok-announce.ensures ∙ ap (prefixes_in announced_in_step) said in
-    let withdraw = c.in_ok-withdraw.ensures ∙ ap (prefixes_in withdrawn_in_step) said in
-    let octets = c.octets_value-octets.ensures ∙ ap counted said in
+    let there = slice_get c.args.input.now.steps step in
+    let announced : Data = prefixes_in announced_in_step there in
+    let octets : Data = counted there in
     IfOk-weaker c.step_object.result _ _
-    (λ v is. is ∙ ap (λ (d : Data). step_object d (view c.octets_value-octets.result) step (view c.in_ok-withdraw.withdraw)) announce
-    ∙ ap (λ (d : Data). step_object _ d step (view c.in_ok-withdraw.withdraw)) octets ∙ ap (λ (d : Data). step_object _ _ step d) withdraw)
-    c.step_object.ensures
+    (λ v is. is
+    ∙ ap (λ (d : Data). step_object d (view c.octets_value-octets.result) step (view c.in_ok-withdraw.withdraw))
+    (c.in_ok-announce.ensures ∙ ap (prefixes_in announced_in_step) said)
+    ∙ ap (λ (d : Data). step_object announced d step (view c.in_ok-withdraw.withdraw)) (c.octets_value-octets.ensures ∙ ap counted said)
+    ∙ ap (step_object announced octets step) (c.in_ok-withdraw.ensures ∙ ap (prefixes_in withdrawn_in_step) said)) c.step_object.ensures
