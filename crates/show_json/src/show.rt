@@ -1,11 +1,13 @@
 //! All that there is at the end of a run, as JSON.
 
-ghost use Rattle.std.specs.Prelude.{◌≡◌, ◌++◌, map, slice_get, IfOk, OnOk};
+ghost use Rattle.std.specs.Prelude.{◌≡◌, [], ◌∷◌, ◌++◌, map, option_copied, slice_get, IfOk, OnOk};
 ghost use Rattle.std.specs.List.{flat_map, enumerate_from};
 ghost use Rattle.report_json.specs.Values.{list_of, json_line as json_line_lem};
 ghost use Rattle.serde_json.specs.View.{view};
 ghost use Rattle.why_view.specs.Sources.{numbered_peerings};
 ghost use Rattle.why_view.specs.Stories.{story_peering};
+ghost use Rattle.show_view.specs.Routes.{best_in};
+ghost use Rattle.show_json.specs.Routes.{best_json};
 ghost use Rattle.show_json.specs.Show.{router_json, view_object, view_json, peering_json, waiting_json, show_json as show_json_lem};
 
 use crate::faults::faults_value;
@@ -14,13 +16,20 @@ use crate::sessions::session_value;
 use crate::tables::tables_value;
 use bgp_story::Story;
 use bgp_types::{NoMemory, Octets, PeeringId};
-use lab_report::{Lab, RunEnd, place_at};
+use lab_report::{Lab, RunEnd, SessionView, place_at};
 use lab_tables::{PeeringInput, RouterInput};
 use report_json::{end_value, holder_value, is_moving, json_line, push_value, put_text};
 use serde_json::{Map, Value, put};
 use show_view::{best_in, numbered, push_pending};
 use std::alloc::Global;
 use why_view::opened_on;
+
+/// The best routes of the router of this number.
+fn bests_at(alloc: Global, lab: &Lab, index: usize) -> Result<Value, NoMemory>
+    ensures { IfOk result (λ v. view v ≡ list_of (map (best_json lab.now.input) (best_in (slice_get lab.now.tables index)))) }
+{
+    bests_value(alloc, &lab.input, best_in(lab.tables.get(index)))
+}
 
 /// A router's name, and its best routes with all attributes.
 fn router_value(
@@ -31,8 +40,7 @@ fn router_value(
 ) -> Result<Value, NoMemory>
     ensures { IfOk result (λ v. view v ≡ router_json lab.now (index, router.now)) }
 {
-    let table = best_in(lab.tables.get(index));
-    let best = bests_value(alloc, &lab.input, table)?;
+    let best = bests_at(alloc, lab, index)?;
     let mut map = Map::new(alloc);
     put(&mut map, alloc, "best", best)?;
     put_text(&mut map, alloc, "name", router.name.as_str())?;
@@ -92,6 +100,29 @@ fn view_value(
     view_object(alloc, at, moving, name, routes, session)
 }
 
+/// The session of a peering.
+fn session_on(lab: &Lab, number: PeeringId) -> Option<&SessionView>
+    ensures { option_copied result ≡ slice_get lab.now.sessions number.0 }
+{
+    lab.sessions.get(usize::from(number.0))
+}
+
+/// Adds a peering with its session, which has this story.
+fn push_view(
+    list: &mut Vec<Value>,
+    alloc: Global,
+    lab: &Lab,
+    number: PeeringId,
+    peering: &PeeringInput,
+    story: &Story,
+) -> Result<(), NoMemory>
+    ensures { OnOk result (map view list.new.items ≡ map view list.old.items ++ view_json lab.now (slice_get lab.now.placement number.0)
+        (number.0, peering.now) (story_peering lab.now.input peering.now) story.now.lines ∷ []) }
+{
+    push_value(list, view_value(alloc, lab, number, peering, story)?)?;
+    Ok(())
+}
+
 /// Adds a peering, unless it has no session.
 fn push_peering(
     list: &mut Vec<Value>,
@@ -102,14 +133,10 @@ fn push_peering(
 ) -> Result<(), NoMemory>
     ensures { OnOk result (map view list.new.items ≡ map view list.old.items ++ peering_json lab.now (number.0, peering.now)) }
 {
-    let Some(session) = lab.sessions.get(usize::from(number.0)) else {
-        return Ok(());
-    };
-    push_value(
-        list,
-        view_value(alloc, lab, number, peering, &session.story)?,
-    )?;
-    Ok(())
+    match session_on(lab, number) {
+        Some(session) => push_view(list, alloc, lab, number, peering, &session.story),
+        None => Ok(()),
+    }
 }
 
 /// The peerings, in the order of the input.

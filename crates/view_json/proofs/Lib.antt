@@ -1,3 +1,4 @@
 pub mod Forms
+pub mod Outlined
 pub mod Rounds
 pub mod Whys

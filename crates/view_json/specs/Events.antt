@@ -125,12 +125,15 @@ abbrev pub prefixes_in : (Step → List PrefixValue) → Option Step → Data
 prefixes_in form None = prefixes_json []
 prefixes_in form (Some step) = prefixes_json (form step)
 
+abbrev pub step_object : (announce octets : Data) → (step : ℕ) → (withdraw : Data) → Data
+step_object announce octets step withdraw =
+    fields ((codes "announce", announce) ∷ (codes "octets", octets) ∷ (codes "step", count step) ∷ (codes "withdraw", withdraw) ∷ [])
+
 -- a step that a remote says
 abbrev pub about_step : LabInput → (step : ℕ) → Data
-about_step input step = fields
-    ((codes "announce", prefixes_in announced_in_step (slice_get input.steps step))
-    ∷ (codes "octets", count_or_null (option_and_then octets_in_step (slice_get input.steps step))) ∷ (codes "step", count step)
-    ∷ (codes "withdraw", prefixes_in withdrawn_in_step (slice_get input.steps step)) ∷ [])
+about_step input step = step_object
+    (prefixes_in announced_in_step (slice_get input.steps step)) (count_or_null (option_and_then octets_in_step (slice_get input.steps step))) step
+    (prefixes_in withdrawn_in_step (slice_get input.steps step))
 
 abbrev pub way_word : Way → List ℕ
 way_word Home = codes "home"

@@ -13,6 +13,7 @@ ghost use Rattle.view_json.specs.Events.{event_json, about_message, about_stray,
 ghost use Rattle.view_json.specs.Events.{answered_json, about_step as about_step_lem, messages_at, messages_json, graft_word, refusal_of, about_graft, did_graft, way_word};
 ghost use Rattle.view_json.specs.Events.{events_of, happening_json};
 
+use crate::sessions::session_at;
 use crate::steps::about_step;
 use bgp_story::Line;
 use bgp_types::{Expected, Message};
@@ -231,6 +232,13 @@ fn push_messages_at(
     push_answer(list, alloc, round, holder, remote, next)
 }
 
+/// The line with which the event of this number begins, from 0.
+fn head_at(outline: &Outline, nth: usize) -> Option<Head>
+    ensures { result ≡ slice_get outline.now.heads nth }
+{
+    outline.heads.get(nth).copied()
+}
+
 /// Adds the messages of the session's event of this number, from 0.
 fn push_session(
     list: &mut Vec<Value>,
@@ -246,7 +254,7 @@ fn push_session(
     ensures { OnOk result (map view list.new.items
         ≡ map view list.old.items ++ messages_at round holder.now remote.now session.now.story.lines outline.now.expected (slice_get outline.now.heads nth)) }
 {
-    match outline.heads.get(nth).copied() {
+    match head_at(outline, nth) {
         Some(head) => {
             let lines = lines_of(&session.story);
             let expected = outline.expected;
@@ -254,6 +262,13 @@ fn push_session(
         }
         None => Ok(()),
     }
+}
+
+/// The outline of this number.
+fn outline_at(outlines: &[Outline], index: usize) -> Option<&Outline>
+    ensures { option_copied result ≡ slice_get outlines.now index }
+{
+    outlines.get(index)
 }
 
 /// Adds the messages of a session's event.
@@ -273,10 +288,10 @@ fn push_messages(
 {
     let place = peering as usize;
     let remote = remote_name(&lab.input, peering);
-    let Some(session) = lab.sessions.get(place) else {
+    let Some(session) = session_at(lab, place) else {
         return Ok(());
     };
-    let Some(outline) = outlines.get(place) else {
+    let Some(outline) = outline_at(outlines, place) else {
         return Ok(());
     };
     push_session(list, alloc, round, name, remote, session, outline, nth)

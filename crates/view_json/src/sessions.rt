@@ -1,6 +1,6 @@
 //! OPENs and NOTIFICATIONs of sessions, as JSON.
 
-ghost use Rattle.std.specs.Prelude.{◌≡◌, ◌++◌, map, IfOk, OnOk};
+ghost use Rattle.std.specs.Prelude.{◌≡◌, [], ◌∷◌, ◌++◌, map, option_copied, slice_get, IfOk, OnOk};
 ghost use Rattle.serde_json.specs.View.{view};
 ghost use Rattle.timeline_view.specs.Messages.{outlines_of};
 ghost use Rattle.view_json.specs.Timeline.{session_json, peering_json, sessions_json, total_json};
@@ -33,6 +33,26 @@ fn session_value(alloc: Global, name: &str, session: &SessionView) -> Result<Val
     Ok(Value::Object(map))
 }
 
+/// The session of this number.
+pub(crate) fn session_at(lab: &Lab, index: usize) -> Option<&SessionView>
+    ensures { option_copied result ≡ slice_get lab.now.sessions index }
+{
+    lab.sessions.get(index)
+}
+
+/// Adds a session.
+fn push_session(
+    list: &mut Vec<Value>,
+    alloc: Global,
+    name: &str,
+    session: &SessionView,
+) -> Result<(), NoMemory>
+    ensures { OnOk result (map view list.new.items ≡ map view list.old.items ++ session_json name.now session.now ∷ []) }
+{
+    push_value(list, session_value(alloc, name, session)?)?;
+    Ok(())
+}
+
 /// Adds the session of a peering, if it has one.
 fn push_peering(
     list: &mut Vec<Value>,
@@ -43,11 +63,10 @@ fn push_peering(
 ) -> Result<(), NoMemory>
     ensures { OnOk result (map view list.new.items ≡ map view list.old.items ++ peering_json lab.now.sessions (index, peering.now)) }
 {
-    let Some(session) = lab.sessions.get(index) else {
-        return Ok(());
-    };
-    push_value(list, session_value(alloc, peering.name.as_str(), session)?)?;
-    Ok(())
+    match session_at(lab, index) {
+        Some(session) => push_session(list, alloc, peering.name.as_str(), session),
+        None => Ok(()),
+    }
 }
 
 /// All sessions, in the order of the peerings.

@@ -9,6 +9,7 @@ ghost use Rattle.view_json.specs.Events.{happening_json};
 ghost use Rattle.view_json.specs.Timeline.{opening_of, opening_json, events_json, some_counts, counts_json, router_counts, tables_json};
 
 use crate::events::{push_happening, push_put};
+use crate::sessions::session_at;
 use bgp_story::Line;
 use graft_edge::NoMemory;
 use lab_report::{Lab, SessionView, router_name};
@@ -50,7 +51,7 @@ fn push_peering_opening(
 {
     let holder = router_name(&lab.input, peering.at.0);
     let remote = peering.name.as_str();
-    match lab.sessions.get(index) {
+    match session_at(lab, index) {
         Some(session) => push_opening(list, alloc, holder, remote, session),
         None => Ok(()),
     }

@@ -1,16 +1,16 @@
 //! Why a router has its best route to a prefix, as JSON.
 
-ghost use Rattle.std.specs.Prelude.{◌≡◌, ◌++◌, ◌+◌, Some, map, option_copied, option_map, IfOk, OnOk};
+ghost use Rattle.std.specs.Prelude.{◌≡◌, ◌++◌, ◌+◌, Some, map, option_copied, option_map, slice_get, IfOk, OnOk};
 ghost use Rattle.std.specs.List.{flat_map, enumerate_from};
 ghost use Rattle.serde_json.specs.View.{view};
-ghost use Rattle.report_json.specs.Values.{count_or_null as count_or_null_lem, list_of, json_line as json_line_lem};
+ghost use Rattle.report_json.specs.Values.{count_or_null as count_or_null_lem, text_or_null, list_of, json_line as json_line_lem};
 ghost use Rattle.view_json.specs.Why.{candidate_json, best_json, rule_json, lost_json, unless_best, import_json, excluded_json};
 ghost use Rattle.view_json.specs.Why.{denied_json, kept_out_json, excluded_route, excluded_of, why_object, why_fields, why_if_there, why_json as why_json_lem};
 
-use bgp_types::{NoMemory, Octets, PeeringId, Prefix, Rank, Route, RouterId, SharedAttrs};
+use bgp_types::{Name, NoMemory, Octets, PeeringId, Prefix, Rank, Route, RouterId, SharedAttrs};
 use decision_core::best;
 use lab_report::{Lab, peering_name, router_name};
-use lab_tables::{LabInput, RouterInput};
+use lab_tables::{LabInput, PeeringInput, RouterInput};
 use report_json::{
     address_value, from_value, json_line, path_value, prefix_value, push_value, put_text,
 };
@@ -141,15 +141,29 @@ fn lost_values(
 
 // ---- routes that were heard and are no candidates
 
+/// The peering of this number.
+fn peering_at(input: &LabInput, peering: PeeringId) -> Option<&PeeringInput>
+    ensures { option_copied result ≡ slice_get input.now.peerings peering.0 }
+{
+    input.peerings.get(usize::from(peering.0))
+}
+
+/// A name, or null.
+fn name_value(alloc: Global, name: &Option<Name>) -> Result<Value, NoMemory>
+    ensures { IfOk result (λ v. view v ≡ text_or_null name.now) }
+{
+    match name {
+        Some(name) => Ok(Value::try_from_str(alloc, name.as_str())?),
+        None => Ok(Value::Null),
+    }
+}
+
 /// The name of a peering's import policy, or null.
 fn import_value(alloc: Global, input: &LabInput, peering: PeeringId) -> Result<Value, NoMemory>
     ensures { IfOk result (λ v. view v ≡ import_json input.now peering.0) }
 {
-    let Some(peering) = input.peerings.get(usize::from(peering.0)) else {
-        return Ok(Value::Null);
-    };
-    match &peering.import {
-        Some(name) => Ok(Value::try_from_str(alloc, name.as_str())?),
+    match peering_at(input, peering) {
+        Some(peering) => name_value(alloc, &peering.import),
         None => Ok(Value::Null),
     }
 }

@@ -16,7 +16,7 @@ returns c =
     let form : ℕ → List Happening → List Data = λ round here. flat_map (happening_json lab) here in
     let values =
     ap (λ (rounds : List (List Happening)). flat_map (flat_map (happening_json lab)) rounds) c.as_slice.ensures.value
-    ∙ sym (without_numbers (flat_map (happening_json lab)) 0 _)
+    ∙ sym (without_numbers (flat_map (happening_json lab)) 0 c.in_ok-rounds.rounds.items)
     ∙ texts_of_rounds form lab.marks c.args.all.now _ c.len.result c.len.ensures c.in_ok-rounds.ensures in
     subst (λ (ds : List Data). OnOk c.push_each_round.result (map view c.push_each_round.new.list.items ≡ map view c.args.list.now.items ++ ds)) values
     c.push_each_round.ensures

@@ -12,8 +12,8 @@ returns-in-Some c =
     ∙ ap (λ (route : Option Route).
     map view c.args.list.now.items ++ excluded_route c.args.input.now c.args.prefix c.args.session.now (Some c.args.heard.now) route) (sym c.in-Some.is)
 
-pub returns-in-None : goal.returns-in-None
-returns-in-None c =
-    c.in_ok-push_value.ensures ∙ ap (λ (d : Data). map view c.args.list.now.items ++ d ∷ []) c.in_ok-kept_out.ensures
+pub returns-in_ok-push_value-in-None : goal.returns-in_ok-push_value-in-None
+returns-in_ok-push_value-in-None c =
+    c.in_ok-push_value-in-None.ensures ∙ ap (λ (d : Data). map view c.args.list.now.items ++ d ∷ []) c.in_ok-kept_out-in-None.ensures
     ∙ ap (λ (route : Option Route).
     map view c.args.list.now.items ++ excluded_route c.args.input.now c.args.prefix c.args.session.now (Some c.args.heard.now) route) (sym c.in-None.is)
