@@ -1,5 +1,5 @@
 -- The values of show have no floats.
-use Rattle.std.proofs.Common.{ℕ, ◌≡◌, ◌+◌, List, [], ◌∷◌, Option, Some, None, Result, Ok, Err, option_map, refl, nat_lt}
+use Rattle.std.proofs.Common.{ℕ, ◌+◌, List, [], ◌∷◌, Option, Some, None, Result, Ok, Err, option_map, refl, nat_lt}
 use Rattle.std.proofs.Common.{is_some, length, slice_get}
 use Rattle.std.specs.FinMap as table
 use Rattle.std.specs.List.{flat_map, enumerate_from}

@@ -1,8 +1,7 @@
-use Rattle.std.proofs.Common.{ℕ, List, Bool, sym, ap, ◌∙◌}
+use Rattle.std.proofs.Common.{Bool, sym, ap, ◌∙◌}
 use Rattle.std.proofs.lemmas.Result.{IfOk-weaker}
 use Rattle.bgp_types.specs.declared.fault.Expected.{Expected}
 use Rattle.bgp_story.specs.Legal.{both_offer, got_open, is_wide}
-use Rattle.bgp_story.specs.States.{state_of}
 use Rattle.lab_report.specs.Report.{state_text}
 use Rattle.why_view.specs.Stories.{story_peering}
 use Rattle.show_view.specs.Sessions.{before_last, last_of}

@@ -8,7 +8,6 @@ use Rattle.lab_report.specs.declared.lab.Place.{Place}
 use Rattle.why_view.specs.Stories.{story_peering}
 use Rattle.show_view.specs.Show.{holder_of}
 use Rattle.report_json.specs.Run.{holder_json, is_moving}
-use Rattle.show_json.specs.Sessions.{session_json}
 use Rattle.show_json.specs.Show.{tables_json, view_object, view_json}
 use Rattle.show_json.proofs.show.view_value.Goals as goal
 

@@ -16,7 +16,7 @@ returns c = λ lab number got.
     let peering = story_peering lab.input c.args.peering.now in
     let was = c.in_ok-heard.ensures ∙ ap (λ es. list_of (map (λ e. heard_with e null) es)) (c.deref.ensures ∙ c.in_ok-entries.ensures
     ∙ ap (λ (routes : Routes). table.entries routes) (c.in_ok-routes_on.ensures lab.input got)) in
-    let put = c.in_ok-told.ensures ∙ ap (λ es. list_of (map entry_json es)) (c.deref-2.ensures ∙ c.in_ok-entries_of.ensures
+    let put = c.in_ok-told.ensures ∙ ap (λ es. list_of (map entry_json es)) (c.deref-3.ensures ∙ c.in_ok-entries_of.ensures
     ∙ ap (λ (routes : Routes). table.entries routes) c.in_ok-told_on.ensures) in
     IfOk-weaker c.routes_value.result _ _
     (λ v is. is ∙ ap (routes_json (view c.in_ok-heard.heard) (view c.in_ok-told.told)) c.no_values-none.ensures

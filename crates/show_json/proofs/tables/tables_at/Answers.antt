@@ -24,7 +24,7 @@ returns c =
     let got = c.in_ok-heard.ensures holder p.0 lines c.in_ok-import.ensures
     ∙ ap (λ es. list_of (map (heard_json lab.input (Some holder) p lines) es)) (c.deref.ensures ∙ c.in_ok-entries.ensures
     ∙ ap (λ (routes : Routes). table.entries routes) (c.in_ok-routes_on.ensures lab.input c.requires)) in
-    let put = c.in_ok-told.ensures ∙ ap (λ es. list_of (map entry_json es)) (c.deref-2.ensures ∙ c.in_ok-entries_of.ensures
+    let put = c.in_ok-told.ensures ∙ ap (λ es. list_of (map entry_json es)) (c.deref-3.ensures ∙ c.in_ok-entries_of.ensures
     ∙ ap (λ (routes : Routes). table.entries routes) c.in_ok-out.ensures) in
     let left = c.in_ok-untold.ensures ∙ ap (λ (s : SessionState). list_of (all_untold lab (Some holder) p s c.in_ok-out.out)) c.state-state.ensures
     ∙ ap (λ (routes : Routes). list_of (all_untold lab (Some holder) p (state_of lines) routes)) c.in_ok-out.ensures in
