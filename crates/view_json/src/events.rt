@@ -10,8 +10,8 @@ ghost use Rattle.lab_report.specs.Report.{peering_name};
 ghost use Rattle.timeline_view.specs.Messages.{outline_of, outlines_of};
 ghost use Rattle.timeline_view.specs.Numbers.{graft_in as graft_in_lem};
 ghost use Rattle.view_json.specs.Events.{event_json, about_message, about_stray, about_link, about_group, put_json, reading_json, got_json, head_json};
-ghost use Rattle.view_json.specs.Events.{answered_json, about_step as about_step_lem, messages_at, messages_json, graft_word, refusal_of, about_graft, did_graft, way_word};
-ghost use Rattle.view_json.specs.Events.{events_of, happening_json};
+ghost use Rattle.view_json.specs.Events.{answered_json, about_step as about_step_lem, messages_at, messages_json, graft_word, refusal_of};
+ghost use Rattle.view_json.specs.Events.{about_graft, did_graft, way_word, events_of, happening_json};
 
 use crate::sessions::session_at;
 use crate::steps::about_step;
