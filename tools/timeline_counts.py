@@ -40,8 +40,10 @@ def run(program, job, lab):
 
 
 def entries(program, lab):
-    """The entries of the journal, as clock, actor, kind and arguments."""
+    """The entries of the journal, as clock, actor, kind and arguments; None of an input that isn't run."""
     out = run(program, "journal", lab)
+    if BEGINNING not in out:
+        return None
     first = out.rindex(BEGINNING) + len(BEGINNING)
     return [tuple(map(int, line.split())) for line in out[first : out.rindex(END)].splitlines()]
 
@@ -101,6 +103,9 @@ def main():
     wrong = 0
     for lab in labs:
         journal = entries(program, lab)
+        if journal is None:
+            print(f"{lab}: isn't run")
+            continue
         lines = run(program, "timeline", lab).decode().splitlines()
         wanted, names = expected(journal, lab)
         has = found(lines, names)
