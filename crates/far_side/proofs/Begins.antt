@@ -7,7 +7,7 @@ use Rattle.tcp_seq.specs.declared.segment.Way.TheVariants.{Home, Remote}
 use Rattle.graft_model.specs.Setups.{PeeringSetup, keepalive_interval_of}
 use Rattle.graft_actors.specs.Items.{home_first, remote_first}
 use Rattle.graft_actors.specs.declared.known.Known.{Known}
-use Rattle.far_side.specs.Remotes.{RemoteValue}
+use Rattle.remote_end.specs.Remotes.{RemoteValue}
 use Rattle.far_side.specs.Links.{LinkValue}
 use Rattle.far_side.specs.Says.{bytes_to_say, bytes_at}
 use Rattle.far_side.specs.Parts.{FarSideInvariant}

@@ -30,7 +30,7 @@ use Rattle.graft_actors.proofs.Numbers.{there, of_number, at_operator}
 use Rattle.graft_actors.specs.Items.{home_first, remote_first, placed_for, segment_of, segment_thing, IsSegmentOf, thing_of}
 use Rattle.graft_actors.specs.Acts.{MayComeFrom, IsWelcome, acts}
 use Rattle.graft_actors.proofs.Welcome.{far_segment, far_point, far_say}
-use Rattle.far_side.specs.Remotes.{RemoteValue, IsFor}
+use Rattle.remote_end.specs.Remotes.{RemoteValue, IsFor}
 use Rattle.far_side.specs.Says.{bytes_at}
 use Rattle.far_side.specs.Links.{LinkValue, IsOn}
 use Rattle.graft_actors.specs.Notes.{deed_of, WroteOne, dropped}

@@ -1,5 +1,3 @@
-pub mod Remotes
-pub mod RemoteInner
 pub mod Links
 pub mod LinkInner
 pub mod Says

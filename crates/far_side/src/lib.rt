@@ -9,7 +9,6 @@ mod fields;
 mod laws;
 mod link;
 mod pass;
-mod remote;
 mod says;
 mod take;
 mod turn;

@@ -5,7 +5,7 @@ ghost use Rattle.tcp_seq.specs.Endpoint.{EmitsNext, EmitsAgain, EmitsAnswer, Tak
 ghost use Rattle.tcp_seq.specs.Placed.{placed};
 ghost use Rattle.session_value.specs.Cases.{sending};
 ghost use Rattle.graft_actors.specs.Emissions.{reach_of};
-ghost use Rattle.far_side.specs.Remotes.{IsFor, SendingInvariant, EmitsOf};
+ghost use Rattle.remote_end.specs.Remotes.{IsFor, SendingInvariant, EmitsOf};
 
 use graft_edge::{ByteQueue, NoMemory, Octets, PeeringId};
 use std::alloc::Global;
@@ -27,13 +27,13 @@ pub struct Remote {
 }
 
 impl Model for Remote {
-    ghost use Rattle.far_side.specs.Remotes.{RemoteValue, remote_code};
+    ghost use Rattle.remote_end.specs.Remotes.{RemoteValue, remote_code};
 
     ghost Value = { RemoteValue };
 
     ghost coded = { remote_code };
 
-    ghost use Rattle.far_side.specs.RemoteInner.{remote_of, RemoteInvariant};
+    ghost use Rattle.remote_end.specs.RemoteInner.{remote_of, RemoteInvariant};
 
     ghost view = { remote_of };
 

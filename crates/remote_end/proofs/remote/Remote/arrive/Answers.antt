@@ -2,9 +2,9 @@ use Rattle.std.proofs.Common.{rules, sym, subst, []}
 use Rattle.tcp_seq.specs.Endpoint.{IsInStreams, TakesSegment}
 use Rattle.tcp_seq.specs.Placed.{placed}
 use Rattle.tcp_end.specs.Whole.{endpoint_of}
-use Rattle.far_side.specs.Remotes.{RemoteValue}
-use Rattle.far_side.proofs.RemoteSteps.{keeps_arrived, takes_arrived}
-use Rattle.far_side.proofs.remote.Remote.arrive.Goals as goal
+use Rattle.remote_end.specs.Remotes.{RemoteValue}
+use Rattle.remote_end.proofs.RemoteSteps.{keeps_arrived, takes_arrived}
+use Rattle.remote_end.proofs.remote.Remote.arrive.Goals as goal
 
 pub invariant_of-self-2 : goal.invariant_of-self-2
 invariant_of-self-2 c =

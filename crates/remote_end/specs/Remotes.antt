@@ -1,4 +1,4 @@
--- The remote of a far side: its endpoint over whole numbers, and the segments that it emits.
+-- A scripted remote: its endpoint over whole numbers, and the segments that it emits.
 use Rattle.std.specs.Prelude.{ℕ, ◌≡◌, ◌<◌, ◌≤◌, ◌+◌, ◌^◌, List, length, Option, Some, None, Bool, refl}
 use Rattle.std.specs.Coded.{Coded, code_by, coded×, coded_ℕ, coded_bool, coded_list}
 use Rattle.std.specs.FinMap as map

@@ -3,8 +3,8 @@ use Rattle.std.specs.Prelude.{◌≡◌, ◌<◌, ◌^◌, []}
 use Rattle.tcp_seq.specs.declared.segment.Way.TheVariants.{Home}
 use Rattle.tcp_end.specs.Standing.{EndStands}
 use Rattle.tcp_end.specs.Whole.{endpoint_of}
-use Rattle.far_side.specs.Remotes.{RemoteValue}
-use Rattle.far_side.specs.declared.remote.Remote.TheInside.{Inside}
+use Rattle.remote_end.specs.Remotes.{RemoteValue}
+use Rattle.remote_end.specs.declared.remote.Remote.TheInside.{Inside}
 
 -- it reads none of the bytes that it received
 abbrev pub remote_of : Inside → RemoteValue

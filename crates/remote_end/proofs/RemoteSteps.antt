@@ -13,8 +13,8 @@ use Rattle.tcp_end.specs.declared.arrival.Arrival.{Arrival}
 use Rattle.tcp_end.specs.declared.arrival.Arrival.TheVariants.{Outside, Ahead, Duplicate, Accepted}
 use Rattle.tcp_end.proofs.Steps.{stream_is}
 use Rattle.tcp_end.proofs.Wholes.{endpoint_is}
-use Rattle.far_side.specs.RemoteInner.{RemoteInvariant}
-use Rattle.far_side.specs.declared.remote.Remote.TheInside.{Inside}
+use Rattle.remote_end.specs.RemoteInner.{RemoteInvariant}
+use Rattle.remote_end.specs.declared.remote.Remote.TheInside.{Inside}
 
 -- an endpoint that a state stands for, of this stream and with nothing read
 unread_is : (s : EndState) (e : Endpoint) (said : List ℕ) → EndStands s e → e.stream ≡ said → e.read ≡ 0 → e ≡ endpoint_of said [] s
