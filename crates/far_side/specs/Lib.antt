@@ -1,6 +1,5 @@
 pub mod Links
 pub mod LinkInner
-pub mod Says
 pub mod Parts
 pub mod Turns
 pub mod Passes

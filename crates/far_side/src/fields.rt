@@ -1,7 +1,7 @@
 //! A far side's fields.
 
 use crate::link::Link;
-use crate::says::SayTable;
+use actor_configs::SayTable;
 use graft_actors::Known;
 use graft_edge::{NoMemory, PeeringId, RouterId};
 use link_bag::Plan;

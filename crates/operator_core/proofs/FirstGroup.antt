@@ -23,7 +23,7 @@ use Rattle.operator_core.specs.declared.grafts.Slot.TheVariants.{Unmade, Stays, 
 use Rattle.operator_core.specs.Grafts.{is_waiting, is_open, outcome_at, seat_at}
 use Rattle.operator_core.specs.Slots.{slot_source, outcome_of, given_of, scripted_step, source_in}
 use Rattle.operator_core.specs.Slots.{outcome_in, given_in, waiting_entry, unmade_slots, first_slots}
-use Rattle.operator_core.specs.Scripts.{step_for}
+use Rattle.actor_configs.specs.Scripts.{step_for}
 use Rattle.operator_core.specs.Tasks.{has_task}
 use Rattle.operator_core.specs.States.{State, is_say, issued_in, part_of_state}
 use Rattle.operator_core.specs.Keeps.{StepsAreSound, emptied_by, IsMade, slot_waits, is_first, IsSeat, SeatsStand, with_slots}

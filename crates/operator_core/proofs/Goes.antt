@@ -20,10 +20,10 @@ use Rattle.operator_core.specs.declared.grafts.Seat.{Seat}
 use Rattle.operator_core.specs.declared.grafts.Slot.{Slot}
 use Rattle.operator_core.specs.declared.groups.Group.{Group}
 use Rattle.operator_core.specs.declared.progress.Progress.{Progress}
-use Rattle.operator_core.specs.declared.script.Script.{Script}
-use Rattle.operator_core.specs.declared.script.ScriptStep.{ScriptStep}
-use Rattle.operator_core.specs.declared.script.ScriptStep.TheVariants.{Say, Graft, Evacuate, Settle}
-use Rattle.operator_core.specs.Scripts.{step_for, IsScriptOf, IsWorkable, IsWorkableStep}
+use Rattle.actor_configs.specs.declared.script.Script.{Script}
+use Rattle.actor_configs.specs.declared.script.ScriptStep.{ScriptStep}
+use Rattle.actor_configs.specs.declared.script.ScriptStep.TheVariants.{Say, Graft, Evacuate, Settle}
+use Rattle.actor_configs.specs.Scripts.{step_for, IsScriptOf, IsWorkable, IsWorkableStep}
 use Rattle.operator_core.specs.Grafts.{seat_at}
 use Rattle.operator_core.specs.Slots.{first_slots}
 use Rattle.operator_core.specs.Evacuate.{give}

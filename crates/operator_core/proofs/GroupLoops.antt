@@ -6,8 +6,8 @@ use Rattle.std.proofs.lemmas.List.{append-nil}
 use Rattle.std.proofs.lemmas.List.FromFn.{length-map-range_with_len}
 use Rattle.operator_core.specs.declared.evacuate.Gift.{Gift}
 use Rattle.operator_core.specs.declared.grafts.Seat.{Seat}
-use Rattle.operator_core.specs.declared.script.Script.{Script}
-use Rattle.operator_core.specs.declared.script.ScriptStep.{ScriptStep}
+use Rattle.actor_configs.specs.declared.script.Script.{Script}
+use Rattle.actor_configs.specs.declared.script.ScriptStep.{ScriptStep}
 use Rattle.operator_core.specs.Evacuate.{load_of, seat_loads, gifts_by}
 use Rattle.operator_core.specs.Tasks.{tasks_by}
 use Rattle.operator_core.specs.Groups.{gifts_of_step, tasks_of_step, gifts_at, tasks_at}

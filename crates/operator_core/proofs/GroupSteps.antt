@@ -7,8 +7,8 @@ use Rattle.graft_model.specs.Setups.{Setup, ScriptStep as StepOf, SayStep, MoveS
 use Rattle.graft_model.specs.Evacuations.{rooms_of}
 use Rattle.operator_core.specs.declared.grafts.Seat.{Seat}
 use Rattle.operator_core.specs.declared.groups.Task.{Task}
-use Rattle.operator_core.specs.declared.script.Script.{Script}
-use Rattle.operator_core.specs.Scripts.{step_for, IsScriptOf}
+use Rattle.actor_configs.specs.declared.script.Script.{Script}
+use Rattle.actor_configs.specs.Scripts.{step_for, IsScriptOf}
 use Rattle.operator_core.specs.Evacuate.{seat_loads, gifts_to}
 use Rattle.operator_core.specs.Tasks.{given_tasks}
 use Rattle.operator_core.specs.Groups as groups

@@ -5,7 +5,7 @@ use Rattle.std.proofs.Math.Seq.{take-length}
 use Rattle.std.proofs.lemmas.Option.{slice_get_within}
 use Rattle.graft_model.specs.Setups.{Setup, ScriptStep, SettleStep, is_settle, group_of, groups_in}
 use Rattle.operator_core.specs.declared.progress.Progress.{Progress}
-use Rattle.operator_core.specs.declared.script.ScriptStep.TheVariants.{Settle}
+use Rattle.actor_configs.specs.declared.script.ScriptStep.TheVariants.{Settle}
 use Rattle.operator_core.specs.Slots.{first_open}
 use Rattle.operator_core.specs.States.{State, part_of_state}
 use Rattle.operator_core.specs.Keeps.{OperatorInvariant}

@@ -12,10 +12,10 @@ use Rattle.graft_model.specs.Setups.{Setup, ScriptStep as StepOf, SayStep, MoveS
 use Rattle.graft_model.specs.Setups.{grafts_numbered, grafts_after, grafts_before, routers_in, peerings_in}
 use Rattle.graft_model.specs.OperatorRows.{number_by}
 use Rattle.operator_core.specs.declared.groups.Task.{Task}
-use Rattle.operator_core.specs.declared.script.Script.{Script}
-use Rattle.operator_core.specs.declared.script.ScriptStep.{ScriptStep}
-use Rattle.operator_core.specs.declared.script.ScriptStep.TheVariants.{Say, Settle}
-use Rattle.operator_core.specs.Scripts.{step_for, IsScriptOf}
+use Rattle.actor_configs.specs.declared.script.Script.{Script}
+use Rattle.actor_configs.specs.declared.script.ScriptStep.{ScriptStep}
+use Rattle.actor_configs.specs.declared.script.ScriptStep.TheVariants.{Say, Settle}
+use Rattle.actor_configs.specs.Scripts.{step_for, IsScriptOf}
 use Rattle.operator_core.specs.Groups.{grafts_by, AreNumbers}
 use Rattle.operator_core.specs.Keeps.{IsGraftTask, IsWaitingTask}
 use Rattle.operator_core.specs.Progresses.{IsNumberOf}

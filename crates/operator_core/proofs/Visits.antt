@@ -19,7 +19,7 @@ use Rattle.operator_core.specs.declared.grafts.Slot.{Slot}
 use Rattle.operator_core.specs.declared.grafts.Slot.TheVariants.{Unmade, Stays, Made}
 use Rattle.operator_core.specs.declared.groups.Task.{Task}
 use Rattle.operator_core.specs.declared.progress.Progress.{Progress}
-use Rattle.operator_core.specs.declared.script.ScriptStep.TheVariants.{Say, Settle}
+use Rattle.actor_configs.specs.declared.script.ScriptStep.TheVariants.{Say, Settle}
 use Rattle.operator_core.specs.Slots.{slot_at, move_of}
 use Rattle.operator_core.specs.Tasks.{task_issued, unissued}
 use Rattle.operator_core.specs.States.{State, part_of_state}

@@ -8,8 +8,8 @@ use Rattle.operator_core.specs.declared.grafts.Seat.{Seat}
 use Rattle.operator_core.specs.declared.grafts.Slot.{Slot}
 use Rattle.operator_core.specs.declared.grafts.Slot.TheVariants.{Stays, Made}
 use Rattle.operator_core.specs.declared.evacuate.Gift.{Gift}
-use Rattle.operator_core.specs.declared.script.ScriptStep.{ScriptStep}
-use Rattle.operator_core.specs.declared.script.ScriptStep.TheVariants.{Evacuate}
+use Rattle.actor_configs.specs.declared.script.ScriptStep.{ScriptStep}
+use Rattle.actor_configs.specs.declared.script.ScriptStep.TheVariants.{Evacuate}
 use Rattle.operator_core.specs.Slots.{waiting_entry}
 
 -- the number of sessions that belong at a router

@@ -5,9 +5,9 @@ use Rattle.operator_core.specs.declared.evacuate.Gift.{Gift}
 use Rattle.operator_core.specs.declared.grafts.Seat.{Seat}
 use Rattle.operator_core.specs.declared.groups.Group.{Group}
 use Rattle.operator_core.specs.declared.groups.Task.{Task}
-use Rattle.operator_core.specs.declared.script.Script.{Script}
-use Rattle.operator_core.specs.declared.script.ScriptStep.{ScriptStep}
-use Rattle.operator_core.specs.declared.script.ScriptStep.TheVariants.{Say, Graft, Evacuate, Settle}
+use Rattle.actor_configs.specs.declared.script.Script.{Script}
+use Rattle.actor_configs.specs.declared.script.ScriptStep.{ScriptStep}
+use Rattle.actor_configs.specs.declared.script.ScriptStep.TheVariants.{Say, Graft, Evacuate, Settle}
 use Rattle.operator_core.specs.Evacuate.{seat_loads, gifts_by}
 use Rattle.operator_core.specs.Tasks.{tasks_by}
 

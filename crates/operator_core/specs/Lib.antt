@@ -1,4 +1,3 @@
-pub mod Scripts
 pub mod Grafts
 pub mod Slots
 pub mod Evacuate

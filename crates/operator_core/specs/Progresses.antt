@@ -26,10 +26,10 @@ use Rattle.operator_core.specs.declared.grafts.Slot.{Slot}
 use Rattle.operator_core.specs.declared.grafts.Slot.TheVariants.{Made}
 use Rattle.operator_core.specs.declared.groups.Task.{Task}
 use Rattle.operator_core.specs.declared.progress.Progress.{Progress}
-use Rattle.operator_core.specs.declared.script.ScriptStep.{ScriptStep}
-use Rattle.operator_core.specs.declared.script.ScriptStep.TheVariants.{Graft, Evacuate, Settle}
+use Rattle.actor_configs.specs.declared.script.ScriptStep.{ScriptStep}
+use Rattle.actor_configs.specs.declared.script.ScriptStep.TheVariants.{Graft, Evacuate, Settle}
 use Rattle.operator_core.specs.Grafts.{is_open}
-use Rattle.operator_core.specs.Scripts.{IsScriptOf}
+use Rattle.actor_configs.specs.Scripts.{IsScriptOf}
 use Rattle.operator_core.specs.Tasks.{unissued}
 use Rattle.operator_core.specs.Groups.{AreNumbers}
 use Rattle.operator_core.specs.States.{State, part_of_state}

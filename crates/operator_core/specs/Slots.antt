@@ -12,8 +12,8 @@ use Rattle.graft_model.specs.Parts.{Gift, Unmade, To, Stays}
 use Rattle.operator_core.specs.declared.grafts.Move.{Move}
 use Rattle.operator_core.specs.declared.grafts.Slot.{Slot}
 use Rattle.operator_core.specs.declared.grafts.Slot.TheVariants as slots
-use Rattle.operator_core.specs.declared.script.ScriptStep.{ScriptStep}
-use Rattle.operator_core.specs.declared.script.ScriptStep.TheVariants.{Say, Graft, Evacuate, Settle}
+use Rattle.actor_configs.specs.declared.script.ScriptStep.{ScriptStep}
+use Rattle.actor_configs.specs.declared.script.ScriptStep.TheVariants.{Say, Graft, Evacuate, Settle}
 use Rattle.operator_core.specs.Grafts.{is_open, outcome_at}
 
 -- the slot of a graft number; numbers start at 1

@@ -3,8 +3,8 @@ use Rattle.std.specs.Prelude.{ℕ, ◌==◌, ◌&&◌, Bool, true, false, List, 
 use Rattle.std.specs.List.{list_any}
 use Rattle.operator_core.specs.declared.evacuate.Gift.{Gift}
 use Rattle.operator_core.specs.declared.groups.Task.{Task}
-use Rattle.operator_core.specs.declared.script.ScriptStep.{ScriptStep}
-use Rattle.operator_core.specs.declared.script.ScriptStep.TheVariants.{Say, Graft, Evacuate, Settle}
+use Rattle.actor_configs.specs.declared.script.ScriptStep.{ScriptStep}
+use Rattle.actor_configs.specs.declared.script.ScriptStep.TheVariants.{Say, Graft, Evacuate, Settle}
 
 abbrev pub task_of : ℕ → ℕ → Task
 task_of step graft = record { step = step; graft = graft; issued = false }

@@ -6,7 +6,7 @@ ghost use Rattle.operator_core.specs.Grafts.{is_open, seat_at};
 ghost use Rattle.operator_core.specs.Slots.{move_of, open_graft as open_graft_lem, first_open as first_open_lem, entries_in_slot, issued_slot};
 ghost use Rattle.operator_core.specs.Slots.{ended_slot, waiting_entry as waiting_entry_lem, unmade_slots, first_slots as first_slots_lem};
 
-use crate::script::ScriptStep;
+use actor_configs::ScriptStep;
 use graft_edge::{Items, NoMemory, PeeringId, RouterId, TryCopy};
 use graft_steps::{GraftEntry, GraftLog, GraftStage, Outcome, Refusal};
 use std::alloc::Global;

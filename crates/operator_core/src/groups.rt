@@ -8,7 +8,7 @@ ghost use Rattle.operator_core.specs.Groups.{grafts_by as grafts_by_lem, AreNumb
 
 use crate::evacuate::{Gift, Gifts, gifts_from, loads_of};
 use crate::grafts::Seat;
-use crate::script::{Script, ScriptStep};
+use actor_configs::{Script, ScriptStep};
 use graft_edge::{Items, NoMemory};
 use std::alloc::Global;
 

@@ -7,7 +7,5 @@ mod grafts;
 mod groups;
 mod operator;
 mod progress;
-mod script;
 
 pub use operator::Operator;
-pub use script::{Rooms, RouterIds, Script, ScriptStep, ScriptSteps};

@@ -10,7 +10,7 @@ ghost use Rattle.operator_core.specs.Keeps.{Rises-prop};
 ghost use Rattle.operator_core.specs.Progresses.{ProgressInvariant};
 
 use crate::progress::Progress;
-use crate::script::Script;
+use actor_configs::Script;
 use graft_actors::Known;
 use graft_edge::NoMemory;
 use graft_model::emptied_routers_give_by_plan;
@@ -31,7 +31,7 @@ impl Operator {
     ghost use Rattle.graft_model.specs.Evacuations.{GivesByPlan};
     ghost use Rattle.graft_actors.specs.Actors.{OperatorIs, Operator as TheOperator};
     ghost use Rattle.settled_check.specs.Rests.{IsOperatorRest};
-    ghost use Rattle.operator_core.specs.Scripts.{IsScriptOf, IsWorkable};
+    ghost use Rattle.actor_configs.specs.Scripts.{IsScriptOf, IsWorkable};
     ghost use Rattle.operator_core.specs.Grafts.{log_of};
     ghost use Rattle.operator_core.specs.Turns.{IsHeldUp};
     ghost use Rattle.operator_core.specs.Operators.{operator_setup, operator_part, own_part, took_by_operator, OperatorTurned, Paused};

@@ -15,7 +15,7 @@ use crate::grafts::{
     Move, Seat, Slot, end, first_open, first_seats, first_slots, issue, logged, moved, open_graft,
 };
 use crate::groups::{Task, drop_issued, graft_numbers, group_from, has_unissued};
-use crate::script::{Script, ScriptStep};
+use actor_configs::{Script, ScriptStep};
 use graft_actors::{
     Known, actors_have_their_numbers, note_dropped, note_operator, note_operator_sent,
     the_operator_takes_what_comes,
@@ -69,7 +69,7 @@ impl Progress {
     ghost use Rattle.operator_core.specs.Grafts.{log_of};
     ghost use Rattle.operator_core.specs.States.{part_of_state};
     ghost use Rattle.operator_core.specs.Turns.{IsHeldUp};
-    ghost use Rattle.operator_core.specs.Scripts.{IsScriptOf, IsWorkable};
+    ghost use Rattle.actor_configs.specs.Scripts.{IsScriptOf, IsWorkable};
 
     /// Returns the progress before anything is issued.
     pub(crate) fn new(alloc: Global, known: Known, script: Script) -> Result<Progress, NoMemory>

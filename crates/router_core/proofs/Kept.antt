@@ -12,7 +12,7 @@ use Rattle.graft_model.specs.Parts.{RouterPart}
 use Rattle.bgp_session.specs.Running.{RunningSession}
 use Rattle.router_core.specs.declared.place.Errand.{Errand}
 use Rattle.graft_model.specs.Setups.{routers_in}
-use Rattle.router_core.specs.Configs.{IsRibOf}
+use Rattle.actor_configs.specs.Configs.{IsRibOf}
 use Rattle.router_core.specs.Parts.{RouterInvariant, KeepsAt, KeepsPlace, KeepsWith}
 use Rattle.router_core.specs.Places.{place_of, place_at, RunsAt}
 use Rattle.router_core.specs.Reading.{KeepsRest}

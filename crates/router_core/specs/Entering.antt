@@ -15,8 +15,8 @@ use Rattle.rib_stages.specs.Values.{RibValue}
 use Rattle.rib_stages.specs.declared.config.InEntry.{InEntry}
 use Rattle.graft_model.specs.Decisions.{remote_identifier}
 use Rattle.graft_model.specs.Setups.{first_name}
-use Rattle.router_core.specs.Configs.{rules_at}
-use Rattle.router_core.specs.declared.config.NamedPolicy.{NamedPolicy}
+use Rattle.actor_configs.specs.Configs.{rules_at}
+use Rattle.actor_configs.specs.declared.router.NamedPolicy.{NamedPolicy}
 
 -- the rules that policies have for a session's name; none where the session names no policy
 abbrev pub rules_by : List NamedPolicy → Option (List ℕ) → Option (List Rule)

@@ -1,4 +1,3 @@
-pub mod Configs
 pub mod Places
 pub mod Lends
 pub mod Parts

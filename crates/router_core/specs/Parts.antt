@@ -14,7 +14,7 @@ use Rattle.graft_model.specs.Parts.{RouterPart}
 use Rattle.graft_actors.specs.Actors.{Router, RouterIs}
 use Rattle.graft_actors.specs.Items.{home_first, remote_first}
 use Rattle.graft_actors.specs.Acts.{OwnPart}
-use Rattle.router_core.specs.Configs.{ArePoliciesOf, AreFirstsOf, IsRibOf}
+use Rattle.actor_configs.specs.Configs.{ArePoliciesOf, AreFirstsOf, IsRibOf}
 use Rattle.router_core.specs.Places.{place_of, place_at}
 use Rattle.router_core.specs.declared.fields.Fields.{Fields}
 use Rattle.router_core.specs.declared.place.Errand.{Errand}

@@ -2,7 +2,6 @@
 //! of these is a named event.
 #![tactic(auto)]
 
-mod config;
 mod due;
 mod fields;
 mod outstanding;
@@ -11,5 +10,4 @@ mod router;
 mod stages;
 mod takes;
 
-pub use config::{Firsts, NamedPolicy, Policies, RouterConfig};
 pub use router::Router;

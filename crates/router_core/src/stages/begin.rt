@@ -5,12 +5,12 @@ ghost use Rattle.std.specs.List.{AllByRecursion};
 ghost use Rattle.graft_model.specs.Setups.{IsSetup};
 ghost use Rattle.router_core.specs.Beginning.{AreBegun, CanBegin};
 ghost use Rattle.router_core.specs.Begins.{BeginsAs};
-ghost use Rattle.router_core.specs.Configs.{IsRouterConfigOf};
+ghost use Rattle.actor_configs.specs.Configs.{IsRouterConfigOf};
 
-use crate::config::RouterConfig;
 use crate::due::DueSets;
 use crate::fields::Fields;
 use crate::place::Place;
+use actor_configs::RouterConfig;
 use bgp_session::Session;
 use bgp_types::Items;
 use graft_actors::Known;

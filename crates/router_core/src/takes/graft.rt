@@ -15,13 +15,13 @@ ghost use Rattle.router_core.specs.Reading.{MakesLive, SettlesIn};
 ghost use Rattle.router_core.specs.Rounds.{WritesEvent};
 ghost use Rattle.router_core.specs.Takes.{RouterTakesIt};
 
-use crate::config::Policies;
 use crate::fields::Fields;
 use crate::place::{Errand, Place, hear_answer, is_away, is_vacant};
 use crate::takes::heard::enter;
 use crate::takes::named::find_named;
 use crate::takes::prefixes::due_again;
 use crate::takes::reads::read_all;
+use actor_configs::Policies;
 use bgp_session::{Capsule, Session};
 use bgp_types::{From, SessionState, TryCopy};
 use graft_actors::{note_dropped, note_router, note_router_sent};

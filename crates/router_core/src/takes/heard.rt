@@ -6,8 +6,8 @@ ghost use Rattle.rib_stages.specs.Values.{rib_of};
 ghost use Rattle.rib_stages.specs.Steps.{SetsEntry};
 ghost use Rattle.router_core.specs.Entering.{entry_here, IsBrought, EntersAll};
 
-use crate::config::Policies;
 use crate::takes::named::policy_of;
+use actor_configs::Policies;
 use bgp_session::Session;
 use bgp_types::{Attrs, From, NoMemory, Prefix, Route, TryCopy, holds_as};
 use rib_stages::{InEntry, Rib};

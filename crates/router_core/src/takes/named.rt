@@ -1,10 +1,10 @@
 //! A router's policies, by the names that sessions give them.
 
 ghost use Rattle.std.specs.Prelude.{◌≡◌, option_copied, IfOk};
-ghost use Rattle.router_core.specs.Configs.{rules_at};
+ghost use Rattle.actor_configs.specs.Configs.{rules_at};
 ghost use Rattle.router_core.specs.Entering.{rules_by};
 
-use crate::config::{NamedPolicy, Policies};
+use actor_configs::{NamedPolicy, Policies};
 use graft_edge::Name;
 use route_policy::Policy;
 

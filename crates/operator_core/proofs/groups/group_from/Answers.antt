@@ -1,6 +1,6 @@
 use Rattle.std.proofs.Common.{◌≡◌, ◌<◌, length, refl, sym, ap, ◌∙◌, arith}
 use Rattle.std.proofs.lemmas.Option.{slice_get_within}
-use Rattle.operator_core.specs.declared.script.ScriptStep.TheVariants.{Settle}
+use Rattle.actor_configs.specs.declared.script.ScriptStep.TheVariants.{Settle}
 use Rattle.operator_core.specs.Groups.{gifts_at, tasks_at}
 use Rattle.operator_core.proofs.Lists.{stands_in}
 use Rattle.operator_core.proofs.GroupLoops.{length-loads_of, more_of, gifts_here, tasks_here}

@@ -5,7 +5,7 @@ use Rattle.std.proofs.lemmas.List.{with_items_is}
 use Rattle.operator_core.specs.declared.evacuate.Gift.{Gift}
 use Rattle.operator_core.specs.declared.grafts.Seat.{Seat}
 use Rattle.operator_core.specs.declared.grafts.Slot.{Slot}
-use Rattle.operator_core.specs.declared.script.ScriptStep.{ScriptStep}
+use Rattle.actor_configs.specs.declared.script.ScriptStep.{ScriptStep}
 use Rattle.operator_core.specs.Grafts.{seat_at}
 use Rattle.operator_core.specs.Slots.{first_slots}
 use Rattle.operator_core.specs.Evacuate.{give}

@@ -9,9 +9,9 @@ use Rattle.route_policy.specs.declared.rule.Rule.{Rule}
 use Rattle.session_value.specs.declared.config.SessionConfig.{SessionConfig}
 use Rattle.graft_model.specs.Setups.{Setup, cost_between, has_network, identifier_of, peerings_in, room_of, routers_in, rules_named}
 use Rattle.graft_actors.specs.Items.{home_first, remote_first}
-use Rattle.router_core.specs.declared.config.Firsts.{Firsts}
-use Rattle.router_core.specs.declared.config.NamedPolicy.{NamedPolicy}
-use Rattle.router_core.specs.declared.config.RouterConfig.{RouterConfig}
+use Rattle.actor_configs.specs.declared.router.Firsts.{Firsts}
+use Rattle.actor_configs.specs.declared.router.NamedPolicy.{NamedPolicy}
+use Rattle.actor_configs.specs.declared.router.RouterConfig.{RouterConfig}
 
 -- the rules of the first policy of this name
 abbrev pub rules_at : List NamedPolicy → List ℕ → Option (List Rule)

@@ -23,7 +23,7 @@ pub struct SayTable {
 impl SayTable {
     ghost use Rattle.std.specs.Prelude.{ℕ, ◌≡◌, IfOk};
     ghost use Rattle.std.specs.Option.{option_copied};
-    ghost use Rattle.far_side.specs.Says.{bytes_to_say, bytes_at};
+    ghost use Rattle.actor_configs.specs.Says.{bytes_to_say, bytes_at};
 
     /// Returns the table of a list. If a step occurs twice, the first occurrence counts.
     pub fn new(alloc: Global, says: Says) -> Result<SayTable, NoMemory>

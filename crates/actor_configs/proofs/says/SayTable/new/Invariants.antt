@@ -1,9 +1,9 @@
 use Rattle.std.proofs.Common.{◌≡◌, ℕ, ◌++◌, List, vec_len}
 use Rattle.std.specs.Prelude.{nat_eq}
 use Rattle.std.specs.HashMap.{get}
-use Rattle.far_side.specs.declared.says.Say.{Say}
-use Rattle.far_side.specs.Says.{bytes_to_say}
-use Rattle.far_side.proofs.says.SayTable.new.Given as goal
+use Rattle.actor_configs.specs.declared.says.Say.{Say}
+use Rattle.actor_configs.specs.Says.{bytes_to_say}
+use Rattle.actor_configs.proofs.says.SayTable.new.Given as goal
 
 -- the table has the bytes of what was taken off the list's end
 abbrev pub invariant-loop-say : goal.invariant-loop-say
