@@ -33,7 +33,8 @@ use Rattle.router_core.specs.declared.place.Errand.TheVariants.{Leaving, Owing, 
 use Rattle.router_core.specs.declared.place.Place.{Place}
 use Rattle.router_core.specs.declared.place.Place.TheVariants.{Live, Shadow}
 use Rattle.router_core.proofs.Dids.{did_same, same_router}
-use Rattle.router_core.proofs.Kept.{one_or_other, live_is, stays_itself}
+use Rattle.router_tables.proofs.Points.{one_or_other}
+use Rattle.router_core.proofs.Kept.{live_is, stays_itself}
 use Rattle.router_core.proofs.PlaceLists.{same_there}
 use Rattle.router_core.proofs.PlaceSteps.{elsewhere, here, keeps_at, part_at}
 use Rattle.router_core.proofs.Takings.{drops, is_router, all_stay, takes_then}

@@ -17,7 +17,8 @@ use Rattle.graft_actors.specs.Actors.{Router, MeshItem}
 use Rattle.graft_actors.specs.Emissions.{Tally}
 use Rattle.session_places.specs.Places.{with_place}
 use Rattle.router_core.specs.Confirming.{TakesWord}
-use Rattle.router_core.specs.Parts.{RouterInvariant, KeepsPlace, IsLandingOf}
+use Rattle.router_core.specs.Parts.{RouterInvariant, KeepsPlace}
+use Rattle.router_tables.specs.Owned.{IsLandingOf}
 use Rattle.router_core.specs.Places.{place_of, place_at}
 use Rattle.router_core.specs.Rounds.{DidAsRouter, WritesEvent}
 use Rattle.router_core.specs.Stages.{WordGoes}

@@ -36,7 +36,8 @@ use Rattle.router_core.specs.declared.fields.Fields.{Fields}
 use Rattle.router_core.specs.declared.place.Place.{Place}
 use Rattle.router_core.specs.declared.place.Place.TheVariants.{Live, Shadow}
 use Rattle.router_core.proofs.Dids.{did_same, same_router}
-use Rattle.router_core.proofs.Kept.{one_or_other, at_else, places_at, placed_here, placed_else, keeps_on, with_routes, live_is, stays_itself}
+use Rattle.router_tables.proofs.Points.{one_or_other, at_else}
+use Rattle.router_core.proofs.Kept.{places_at, placed_here, placed_else, keeps_on, with_routes, live_is, stays_itself}
 use Rattle.router_core.proofs.PlaceLists.{listed, rooms}
 use Rattle.router_core.proofs.Takings.{drops, is_router, takes_then}
 

@@ -24,7 +24,8 @@ use Rattle.router_core.specs.Places.{place_at}
 use Rattle.router_core.specs.Takes.{RouterTakesIt}
 use Rattle.router_core.specs.declared.fields.Fields.{Fields}
 use Rattle.router_core.proofs.Dids.{did_same, same_router}
-use Rattle.router_core.proofs.Kept.{at_else, keeps_on, with_routes}
+use Rattle.router_tables.proofs.Points.{at_else}
+use Rattle.router_core.proofs.Kept.{keeps_on, with_routes}
 use Rattle.router_core.proofs.Takings.{drops, is_router, all_stay, takes_then}
 
 module _ (f : Fields) (p q : Post (Item RunningSession)) (from : ℕ) (prefix : PrefixValue) (route : Option Route) (keeps : RouterInvariant f) where

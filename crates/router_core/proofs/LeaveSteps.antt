@@ -33,7 +33,8 @@ use Rattle.graft_actors.specs.Items.{home_first, remote_first}
 use Rattle.graft_actors.specs.Notes.{deed_of}
 use Rattle.session_places.specs.Places.{with_place}
 use Rattle.router_core.specs.Leaving.{BegunAs}
-use Rattle.router_core.specs.Parts.{router_part, own_part, RouterInvariant, KeepsPlace, IsGraftOf}
+use Rattle.router_core.specs.Parts.{router_part, own_part, RouterInvariant, KeepsPlace}
+use Rattle.router_tables.specs.Owned.{IsGraftOf}
 use Rattle.router_core.specs.Places.{place_of, place_at, order_of}
 use Rattle.router_core.specs.Rounds.{DidAsRouter, SameRouter, WritesEvent}
 use Rattle.router_core.specs.Stages.{GraftGoes}

@@ -21,7 +21,7 @@ use Rattle.graft_model.specs.Setups.{Setup, rules_for}
 use Rattle.actor_configs.specs.Configs.{ArePoliciesOf}
 use Rattle.router_core.specs.Parts.{router_part, RouterInvariant}
 use Rattle.router_core.specs.Places.{place_at}
-use Rattle.router_core.specs.Entering.{rules_by}
+use Rattle.router_tables.specs.Entering.{rules_by}
 use Rattle.router_core.specs.Putting.{PlannedAt}
 use Rattle.actor_configs.specs.declared.router.NamedPolicy.{NamedPolicy}
 use Rattle.router_core.specs.declared.fields.Fields.{Fields}

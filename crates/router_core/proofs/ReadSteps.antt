@@ -1,6 +1,6 @@
 -- A session reads a message: what it brings in, what it heard, and what is left to read.
 use Rattle.std.proofs.Common.{◌≡◌, ◌≢◌, ℕ, ◌+◌, ◌-◌, ◌<◌, ◌≤◌, List, length, Bool, true, false, Option, Some, None, is_some}
-use Rattle.std.proofs.Common.{option_map, Result, Ok, Err, refl, sym, ap, subst, ◌∙◌, arith, inl, inr, ◌⊎◌}
+use Rattle.std.proofs.Common.{Result, Ok, Err, refl, sym, ap, subst, ◌∙◌, arith, inl, inr, ◌⊎◌}
 use Rattle.std.specs.FinMap as map
 use Rattle.std.specs.List.{list_any}
 use Rattle.std.proofs.lemmas.Bool.Decides.{nat_tests}
@@ -21,49 +21,29 @@ use Rattle.bgp_story.specs.Legal.{expected_next}
 use Rattle.bgp_story.specs.Readings.{Routes, apply_if, unless_closed, update_in}
 use Rattle.bgp_story.proofs.HeaderKinds.{read_of, got_long}
 use Rattle.bgp_story.proofs.StoryLaws.{state_got}
-use Rattle.route_policy.specs.Candidates.{imported}
 use Rattle.route_policy.specs.declared.entry.Entry.{Entry}
-use Rattle.route_policy.specs.declared.rule.Rule.{Rule}
 use Rattle.session_value.specs.Cases.{GetsFrame}
 use Rattle.session_value.specs.Sessions.{SessionValue, peering_of, state, unread}
 use Rattle.session_value.specs.Sets.{BestRoutes, Entries, Prefixes, has}
 use Rattle.session_value.proofs.Replies.{while_unclosed}
 use Rattle.tcp_seq.specs.Endpoint.{received_bytes}
-use Rattle.graft_model.specs.Decisions.{entry_of, remote_identifier}
+use Rattle.graft_model.specs.Decisions.{entry_of}
 use Rattle.graft_model.specs.RouterRows.{DueThen}
-use Rattle.graft_model.specs.Setups.{rules_for}
 use Rattle.bgp_session.specs.Steps.{TellsRead}
 use Rattle.bgp_session.specs.declared.answers.ReadStep.{ReadStep}
 use Rattle.bgp_session.specs.declared.answers.ReadStep.TheVariants as steps
 use Rattle.update_plan.proofs.Keys.{keys_any}
-use Rattle.router_core.specs.Entering.{entry_here, rules_by}
+use Rattle.router_tables.specs.Entering.{entry_here}
 use Rattle.router_core.specs.Parts.{IsDueWhileUp, KeepsWith}
 use Rattle.router_core.specs.Reading.{prefixes_in, DueBy}
 use Rattle.router_core.specs.declared.fields.Fields.{Fields}
+use Rattle.router_tables.proofs.EnterSteps.{entry_at}
 
 -- ---- what a session brings in here
 
-entry_by : ℕ → Option (List Rule) → SessionValue → PrefixValue → Option Entry
-entry_by home_as rules s x = option_map
-    (λ route. record { route = route; identifier = remote_identifier s; address = s.config.remote_address })
-    (imported home_as x (record {
-      peering = s.config.peering;
-      remote_as = s.config.remote_as;
-      identifier = remote_identifier s;
-      address = s.config.remote_address;
-      import_rules = rules;
-      heard = map.get s.adj_rib_in x;
-    }) (map.get s.adj_rib_in x))
-
-rules_is : {Each : ℕ → Type 0} (f : Fields) (name : Option (List ℕ)) → KeepsWith Each f → rules_by f.policies name ≡ rules_for f.known.setup f.number.0 name
-rules_is f None k = refl
-rules_is f (Some name) k = k.policies.each name
-
 pub entry_is : {Each : ℕ → Type 0} (f : Fields) (s : SessionValue) (x : PrefixValue) → KeepsWith Each f
     → entry_here f.home_as f.policies s x ≡ entry_of f.known.setup f.number.0 s x
-unfolding entry_by
-entry_is f s x k = ap (λ (n : ℕ). entry_by n (rules_by f.policies s.config.import) s x) k.home_as
-    ∙ ap (λ (rules : Option (List Rule)). entry_by f.known.setup.home_as rules s x) (rules_is f s.config.import k)
+entry_is f s x k = entry_at f.known.setup f.number.0 f.home_as f.policies s x k.home_as k.policies
 
 -- ---- small facts
 

@@ -24,12 +24,14 @@ use Rattle.graft_actors.specs.Notes.{WroteOne, dropped}
 use Rattle.graft_actors.proofs.Welcome.{router_back}
 use Rattle.router_core.specs.Parts.{router_part, carried, RouterInvariant, KeepsPlace}
 use Rattle.router_core.specs.Places.{place_of, place_at, IsShadowOf}
-use Rattle.router_core.specs.Reading.{IsDueAgain, KeepsBut, OneSet, ReadsAll}
+use Rattle.router_tables.specs.Dues.{IsDueAgain}
+use Rattle.router_core.specs.Reading.{KeepsBut, OneSet, ReadsAll}
 use Rattle.router_core.specs.Takes.{RouterTakesIt}
 use Rattle.router_core.specs.declared.fields.Fields.{Fields}
 use Rattle.router_core.specs.declared.place.Place.{Place}
 use Rattle.router_core.specs.declared.place.Place.TheVariants.{Live, Shadow}
-use Rattle.router_core.proofs.Kept.{one_or_other, at_is, places_at, placed_here, placed_else, rest_on, live_is, stays_itself}
+use Rattle.router_tables.proofs.Points.{one_or_other, at_is}
+use Rattle.router_core.proofs.Kept.{places_at, placed_here, placed_else, rest_on, live_is, stays_itself}
 use Rattle.router_core.proofs.GraftSteps.{away_of, away_within}
 use Rattle.router_core.proofs.PlaceLists.{listed, rooms}
 use Rattle.router_core.proofs.Takings.{drops, is_router, takes_then}

@@ -53,7 +53,8 @@ use Rattle.router_core.specs.declared.fields.Fields.{Fields}
 use Rattle.router_core.specs.declared.place.Place.{Place}
 use Rattle.router_core.specs.declared.place.Place.TheVariants.{Live, Shadow}
 use Rattle.router_core.proofs.Dids.{did_one}
-use Rattle.router_core.proofs.Kept.{keeps_on, at_is, places_at, with_routes}
+use Rattle.router_core.proofs.Kept.{keeps_on, places_at, with_routes}
+use Rattle.router_tables.proofs.Points.{at_is}
 use Rattle.router_core.proofs.PlaceSteps.{at_own}
 use Rattle.router_core.proofs.ReadSteps.{entry_is}
 use Rattle.router_core.proofs.SendSteps.{some_none, visits_idle}

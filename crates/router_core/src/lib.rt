@@ -2,7 +2,6 @@
 //! of these is a named event.
 #![tactic(auto)]
 
-mod due;
 mod fields;
 mod outstanding;
 mod place;

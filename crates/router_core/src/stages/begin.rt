@@ -7,7 +7,6 @@ ghost use Rattle.router_core.specs.Beginning.{AreBegun, CanBegin};
 ghost use Rattle.router_core.specs.Begins.{BeginsAs};
 ghost use Rattle.actor_configs.specs.Configs.{IsRouterConfigOf};
 
-use crate::due::DueSets;
 use crate::fields::Fields;
 use crate::place::Place;
 use actor_configs::RouterConfig;
@@ -16,6 +15,7 @@ use bgp_types::Items;
 use graft_actors::Known;
 use graft_edge::NoMemory;
 use rib_stages::Rib;
+use router_tables::DueSets;
 use session_places::Places;
 use session_value::SessionConfig;
 use std::alloc::Global;
