@@ -16,7 +16,7 @@ use Rattle.router_core.specs.Routers as routers
 use Rattle.far_side.specs.declared.far.Far.{Far as TheFar}
 use Rattle.far_side.specs.Fars as fars
 use Rattle.operator_core.specs.declared.operator.Operator.{Operator as TheOperator}
-use Rattle.operator_core.specs.Grafts.{log_of}
+use Rattle.operator_state.specs.Grafts.{log_of}
 use Rattle.operator_core.specs.Operators.{operator_setup, operator_part}
 use Rattle.lab_setup.proofs.Lists.{below_get}
 use Rattle.world_runs.specs.Labs.{actors_in}

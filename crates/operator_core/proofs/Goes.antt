@@ -15,33 +15,33 @@ use Rattle.graft_model.specs.Codes.{operator_code}
 use Rattle.graft_model.specs.Setups.{Setup, PeeringSetup, SettleStep, routers_in, peerings_in}
 use Rattle.graft_actors.specs.declared.known.Known.{Known}
 use Rattle.graft_actors.specs.Notes.{deed_of, WroteOne}
-use Rattle.operator_core.specs.declared.evacuate.Gift.{Gift}
-use Rattle.operator_core.specs.declared.grafts.Seat.{Seat}
-use Rattle.operator_core.specs.declared.grafts.Slot.{Slot}
-use Rattle.operator_core.specs.declared.groups.Group.{Group}
+use Rattle.operator_state.specs.declared.evacuate.Gift.{Gift}
+use Rattle.operator_state.specs.declared.grafts.Seat.{Seat}
+use Rattle.operator_state.specs.declared.grafts.Slot.{Slot}
+use Rattle.operator_state.specs.declared.groups.Group.{Group}
 use Rattle.operator_core.specs.declared.progress.Progress.{Progress}
 use Rattle.actor_configs.specs.declared.script.Script.{Script}
 use Rattle.actor_configs.specs.declared.script.ScriptStep.{ScriptStep}
 use Rattle.actor_configs.specs.declared.script.ScriptStep.TheVariants.{Say, Graft, Evacuate, Settle}
 use Rattle.actor_configs.specs.Scripts.{step_for, IsScriptOf, IsWorkable, IsWorkableStep}
-use Rattle.operator_core.specs.Grafts.{seat_at}
-use Rattle.operator_core.specs.Slots.{first_slots}
-use Rattle.operator_core.specs.Evacuate.{give}
-use Rattle.operator_core.specs.Tasks.{unissued}
-use Rattle.operator_core.specs.Groups.{grafts_by, AreNumbers, NumbersFit, IsGroupFrom}
-use Rattle.operator_core.specs.States.{State, part_of_state}
-use Rattle.operator_core.specs.Keeps.{StepsAreSound, OperatorInvariant}
-use Rattle.operator_core.specs.Turns.{IsHeldUp}
-use Rattle.operator_core.specs.Progresses.{progress_state, own_part_of, IsKnown, ProgressInvariant, GivesEmptiedSessions, BeginsNextGroup, IsNewProgress}
-use Rattle.operator_core.proofs.Steps.{step_at, settle_there, settle_back, as_many_routers, as_many_peerings}
-use Rattle.operator_core.proofs.Tasks.{all_unissued}
+use Rattle.operator_state.specs.Grafts.{seat_at}
+use Rattle.operator_state.specs.Slots.{first_slots}
+use Rattle.operator_state.specs.Evacuate.{give}
+use Rattle.operator_state.specs.Tasks.{unissued}
+use Rattle.operator_state.specs.Groups.{grafts_by, AreNumbers, NumbersFit, IsGroupFrom}
+use Rattle.operator_state.specs.States.{State, part_of_state}
+use Rattle.operator_state.specs.Keeps.{StepsAreSound, OperatorInvariant}
+use Rattle.operator_state.specs.Holds.{IsHeldUp, GivesEmptiedSessions}
+use Rattle.operator_core.specs.Progresses.{progress_state, own_part_of, IsKnown, ProgressInvariant, BeginsNextGroup, IsNewProgress}
+use Rattle.operator_state.proofs.Steps.{step_at, settle_there, settle_back, as_many_routers, as_many_peerings}
+use Rattle.operator_state.proofs.Tasks.{all_unissued}
 use Rattle.operator_core.proofs.Acts.{goes}
-use Rattle.operator_core.proofs.Ready.{group_gifts, group_tasks}
-use Rattle.operator_core.proofs.GiftTasks.{group_tasks_unissued}
-use Rattle.operator_core.proofs.GroupSteps.{same_gifts, same_tasks}
-use Rattle.operator_core.proofs.Begins.{begun, gifts_have_slots, begun_keeps}
-use Rattle.operator_core.proofs.NextGroup.{ready, next_state, next_keeps, next_row, next_emptied}
-use Rattle.operator_core.proofs.FirstGroup.{first_ready, first_part}
+use Rattle.operator_state.proofs.Ready.{group_gifts, group_tasks}
+use Rattle.operator_state.proofs.GiftTasks.{group_tasks_unissued}
+use Rattle.operator_state.proofs.GroupSteps.{same_gifts, same_tasks}
+use Rattle.operator_state.proofs.Begins.{begun, gifts_have_slots, begun_keeps}
+use Rattle.operator_state.proofs.NextGroup.{ready, next_state, next_keeps, next_row, next_emptied}
+use Rattle.operator_state.proofs.FirstGroup.{first_ready, first_part}
 
 -- ---- numbers
 

@@ -20,18 +20,18 @@ use Rattle.graft_actors.specs.Actors.{OperatorIs, Router, FarSide, Operator, Act
 use Rattle.graft_actors.specs.Laws.{ActorsHaveNumbers, NumbersAreOfActors}
 use Rattle.graft_actors.specs.Acts.{IsWelcome, MayComeFrom}
 use Rattle.graft_actors.specs.Notes.{deed_of, WroteOne, dropped}
-use Rattle.operator_core.specs.declared.grafts.Slot.{Slot}
-use Rattle.operator_core.specs.declared.grafts.Slot.TheVariants.{Unmade, Stays, Made}
+use Rattle.operator_state.specs.declared.grafts.Slot.{Slot}
+use Rattle.operator_state.specs.declared.grafts.Slot.TheVariants.{Unmade, Stays, Made}
 use Rattle.operator_core.specs.declared.progress.Progress.{Progress}
-use Rattle.operator_core.specs.Grafts.{is_waiting, is_open, outcome_at}
-use Rattle.operator_core.specs.Slots.{source_at, slot_source, outcome_of, source_in, outcome_in}
-use Rattle.operator_core.specs.States.{part_of_state}
-use Rattle.operator_core.specs.Keeps.{OperatorInvariant}
-use Rattle.operator_core.specs.Notes.{graft_noted}
-use Rattle.operator_core.specs.Progresses.{progress_state, own_part_of, IsKnown, ProgressInvariant, IsOpenIndex, Ends, TakesItem}
-use Rattle.operator_core.proofs.SlotLaws.{owner, same_entry}
-use Rattle.operator_core.proofs.Steps.{as_many_routers}
-use Rattle.operator_core.proofs.Notes.{note_keeps, note_row, note_ordered, was_none}
+use Rattle.operator_state.specs.Grafts.{is_waiting, is_open, outcome_at}
+use Rattle.operator_state.specs.Slots.{source_at, slot_source, outcome_of, source_in, outcome_in}
+use Rattle.operator_state.specs.States.{part_of_state}
+use Rattle.operator_state.specs.Keeps.{OperatorInvariant}
+use Rattle.operator_state.specs.Notes.{graft_noted, IsOpenIndex}
+use Rattle.operator_core.specs.Progresses.{progress_state, own_part_of, IsKnown, ProgressInvariant, Ends, TakesItem}
+use Rattle.operator_state.proofs.SlotLaws.{owner, same_entry}
+use Rattle.operator_state.proofs.Steps.{as_many_routers}
+use Rattle.operator_state.proofs.Notes.{note_keeps, note_row, note_ordered, was_none}
 use Rattle.operator_core.proofs.Acts.{notes, drops}
 use Rattle.operator_core.proofs.Calls.{known_still}
 

@@ -13,24 +13,24 @@ use Rattle.graft_model.specs.declared.event.OperatorEvent.TheVariants.{Go, Order
 use Rattle.graft_model.specs.Codes.{operator_code}
 use Rattle.graft_actors.specs.Laws.{ActorsHaveNumbers}
 use Rattle.graft_actors.specs.Notes.{deed_of}
-use Rattle.operator_core.specs.declared.grafts.Move.{Move}
-use Rattle.operator_core.specs.declared.grafts.Seat.{Seat}
-use Rattle.operator_core.specs.declared.grafts.Slot.{Slot}
-use Rattle.operator_core.specs.declared.grafts.Slot.TheVariants.{Unmade, Stays, Made}
-use Rattle.operator_core.specs.declared.groups.Task.{Task}
+use Rattle.operator_state.specs.declared.grafts.Move.{Move}
+use Rattle.operator_state.specs.declared.grafts.Seat.{Seat}
+use Rattle.operator_state.specs.declared.grafts.Slot.{Slot}
+use Rattle.operator_state.specs.declared.grafts.Slot.TheVariants.{Unmade, Stays, Made}
+use Rattle.operator_state.specs.declared.groups.Task.{Task}
 use Rattle.operator_core.specs.declared.progress.Progress.{Progress}
 use Rattle.actor_configs.specs.declared.script.ScriptStep.TheVariants.{Say, Settle}
-use Rattle.operator_core.specs.Slots.{slot_at, move_of}
-use Rattle.operator_core.specs.Tasks.{task_issued, unissued}
-use Rattle.operator_core.specs.States.{State, part_of_state}
-use Rattle.operator_core.specs.Keeps.{IsGraftTask, IsWaitingTask, OperatorInvariant}
-use Rattle.operator_core.specs.Issues.{IsGraftHeldUp, waiting_are, graft_issued}
+use Rattle.operator_state.specs.Slots.{slot_at, move_of}
+use Rattle.operator_state.specs.Tasks.{task_issued, unissued}
+use Rattle.operator_state.specs.States.{State, part_of_state}
+use Rattle.operator_state.specs.Keeps.{IsGraftTask, IsWaitingTask, OperatorInvariant}
+use Rattle.operator_state.specs.Issues.{IsGraftHeldUp, waiting_are, graft_issued}
 use Rattle.operator_core.specs.Progresses.{progress_state, own_part_of, IsKnown, SameScript, HeldUpTo, IsOrderOf, IssuesGraft, VisitsTask}
-use Rattle.operator_core.proofs.Lists.{all_append, all_map, length_set, one_member}
-use Rattle.operator_core.proofs.SlotLaws.{slot_next}
-use Rattle.operator_core.proofs.Tasks.{split_at, split_done, before_done, before_more, before_same}
-use Rattle.operator_core.proofs.Steps.{say_there, settle_there, number_there, graft_task, as_many_routers}
-use Rattle.operator_core.proofs.Issues.{waits, say_keeps, say_row, made_there, graft_keeps, graft_row, held_others}
+use Rattle.operator_state.proofs.Lists.{all_append, all_map, length_set, one_member}
+use Rattle.operator_state.proofs.SlotLaws.{slot_next}
+use Rattle.operator_state.proofs.Tasks.{split_at, split_done, before_done, before_more, before_same}
+use Rattle.operator_state.proofs.Steps.{say_there, settle_there, number_there, graft_task, as_many_routers}
+use Rattle.operator_state.proofs.Issues.{waits, say_keeps, say_row, made_there, graft_keeps, graft_row, held_others}
 use Rattle.operator_core.proofs.Acts.{says, orders}
 
 pub same_script : (p : Progress) → SameScript p p

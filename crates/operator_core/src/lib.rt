@@ -2,9 +2,6 @@
 //! sessions are to move, and keeps the log of grafts.
 #![tactic(auto)]
 
-mod evacuate;
-mod grafts;
-mod groups;
 mod operator;
 mod progress;
 

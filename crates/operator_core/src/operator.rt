@@ -6,7 +6,7 @@ ghost use Rattle.std.proofs.Props.{props};
 ghost use Rattle.ring_net.specs.Posts.{TookItem, Moved, Pauses, SameEdges};
 ghost use Rattle.session_value.specs.Sessions.{SessionValue};
 ghost use Rattle.graft_actors.specs.Acts.{acts};
-ghost use Rattle.operator_core.specs.Keeps.{Rises-prop};
+ghost use Rattle.operator_state.specs.Keeps.{Rises-prop};
 ghost use Rattle.operator_core.specs.Progresses.{ProgressInvariant};
 
 use crate::progress::Progress;
@@ -32,8 +32,8 @@ impl Operator {
     ghost use Rattle.graft_actors.specs.Actors.{OperatorIs, Operator as TheOperator};
     ghost use Rattle.settled_check.specs.Rests.{IsOperatorRest};
     ghost use Rattle.actor_configs.specs.Scripts.{IsScriptOf, IsWorkable};
-    ghost use Rattle.operator_core.specs.Grafts.{log_of};
-    ghost use Rattle.operator_core.specs.Turns.{IsHeldUp};
+    ghost use Rattle.operator_state.specs.Grafts.{log_of};
+    ghost use Rattle.operator_state.specs.Holds.{IsHeldUp};
     ghost use Rattle.operator_core.specs.Operators.{operator_setup, operator_part, own_part, took_by_operator, OperatorTurned, Paused};
 
     /// Returns an operator that has issued nothing yet. The first group of its script is the current one.

@@ -33,7 +33,7 @@ use Rattle.bgp_story.specs.Legal.{IsEarlier}
 use Rattle.far_side.specs.Parts.{far_part}
 use Rattle.far_side.specs.declared.far as far_type
 use Rattle.operator_core.specs.Operators as operators
-use Rattle.operator_core.specs.Turns.{NothingToOrder}
+use Rattle.operator_state.specs.Holds.{NothingToOrder}
 use Rattle.operator_core.specs.declared.operator as operator_type
 use Rattle.world_runs.specs.Marks.{MarksStandForWorlds, operator_number}
 use Rattle.world_runs.specs.Runs.{Ran}

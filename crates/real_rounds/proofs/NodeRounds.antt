@@ -25,7 +25,7 @@ use Rattle.far_side.specs.Turned as far_turns
 use Rattle.far_side.specs.declared.fields as far_fields
 use Rattle.far_side.specs.declared.far as far_type
 use Rattle.operator_core.specs.Operators as operators
-use Rattle.operator_core.specs.Turns.{NothingToOrder}
+use Rattle.operator_state.specs.Holds.{NothingToOrder}
 use Rattle.operator_core.specs.declared.operator as operator_type
 use Rattle.world_nodes.specs.Nodes.{Mail, own, took, turned}
 use Rattle.world_nodes.specs.declared.node.Node.{Node}

@@ -2,15 +2,15 @@ use Rattle.std.proofs.Common.{◌≡◌, ◌≤◌, List, ℕ, length, map, ap, 
 use Rattle.std.specs.Prelude.{All}
 use Rattle.std.specs.Vec.{with_items}
 use Rattle.std.proofs.lemmas.List.{with_items_is}
-use Rattle.operator_core.specs.declared.evacuate.Gift.{Gift}
-use Rattle.operator_core.specs.declared.grafts.Seat.{Seat}
-use Rattle.operator_core.specs.declared.grafts.Slot.{Slot}
+use Rattle.operator_state.specs.declared.evacuate.Gift.{Gift}
+use Rattle.operator_state.specs.declared.grafts.Seat.{Seat}
+use Rattle.operator_state.specs.declared.grafts.Slot.{Slot}
 use Rattle.actor_configs.specs.declared.script.ScriptStep.{ScriptStep}
-use Rattle.operator_core.specs.Grafts.{seat_at}
-use Rattle.operator_core.specs.Slots.{first_slots}
-use Rattle.operator_core.specs.Evacuate.{give}
-use Rattle.operator_core.specs.Groups.{AreNumbers, NumbersFit, IsGroupFrom}
-use Rattle.operator_core.proofs.Gifts.{length_give}
+use Rattle.operator_state.specs.Grafts.{seat_at}
+use Rattle.operator_state.specs.Slots.{first_slots}
+use Rattle.operator_state.specs.Evacuate.{give}
+use Rattle.operator_state.specs.Groups.{AreNumbers, NumbersFit, IsGroupFrom}
+use Rattle.operator_state.proofs.Gifts.{length_give}
 use Rattle.operator_core.proofs.Goes.{numbers_fit, first_gifts_fit, begins_with}
 use Rattle.operator_core.proofs.progress.Progress.new.Goals as goal
 
