@@ -16,7 +16,7 @@ use Rattle.graft_actors.specs.Actors as names
 use Rattle.graft_actors.specs.Actors.{ActorPart, RouterIs, FarIs, OperatorIs, Thing}
 use Rattle.graft_actors.specs.Makes.{HasCode, makes_as, AreDeeds}
 use Rattle.graft_actors.specs.Acts.{OwnPart, ActsAs, acts}
-use Rattle.router_core.specs.Parts.{carried}
+use Rattle.bgp_session.specs.Running.{carried}
 use Rattle.router_core.specs.Routers as routers
 use Rattle.router_core.specs.Turned as router_turns
 use Rattle.router_core.specs.declared.fields as router_fields

@@ -7,7 +7,7 @@ use Rattle.graft_edge.specs.declared.ids.PeeringId.{PeeringId}
 use Rattle.graft_steps.specs.Landings.{Landing}
 use Rattle.graft_steps.specs.declared.item.Item.{Item}
 use Rattle.graft_steps.specs.declared.item.Item.TheVariants as items
-use Rattle.bgp_session.specs.Running.{RunningSession}
+use Rattle.bgp_session.specs.Running.{RunningSession, carried}
 use Rattle.session_value.specs.Sessions.{SessionValue}
 use Rattle.session_places.specs.Places.{PlaceList, with_place}
 use Rattle.rib_stages.specs.Values.{rib_of, table_at}
@@ -22,7 +22,7 @@ use Rattle.graft_actors.proofs.Numbers.{there as is_there}
 use Rattle.graft_actors.specs.Notes.{WroteOne, dropped}
 use Rattle.graft_actors.proofs.Welcome.{router_asked, router_answered}
 use Rattle.router_core.specs.Confirming.{IsAwaited, HearsAnswer}
-use Rattle.router_core.specs.Parts.{router_part, carried, RouterInvariant, KeepsPlace}
+use Rattle.router_core.specs.Parts.{router_part, RouterInvariant, KeepsPlace}
 use Rattle.router_core.specs.Places.{place_of, place_at}
 use Rattle.router_core.specs.Rounds.{WritesEvent}
 use Rattle.router_core.specs.Takes.{RouterTakesIt}

@@ -14,7 +14,7 @@ use Rattle.router_core.specs.Rounds.{WritesEvent}
 use Rattle.router_core.specs.declared.place.Errand.{Errand}
 use Rattle.router_core.specs.declared.place.Errand.TheVariants.{Leaving}
 use Rattle.graft_steps.specs.declared.refusal.Outcome.TheVariants.{Accepted}
-use Rattle.bgp_session.specs.Running.{RunningSession}
+use Rattle.bgp_session.specs.Running.{RunningSession, carried}
 use Rattle.session_value.specs.Sessions.{SessionValue}
 use Rattle.session_value.specs.Sets.{Entries, Marks}
 use Rattle.rib_stages.specs.Steps.{DropsEntries}
@@ -29,7 +29,7 @@ use Rattle.graft_actors.specs.Actors.{Router, Operator, ReportItem, actor_at}
 use Rattle.graft_actors.proofs.Numbers.{there as is_there, of_number, at_operator}
 use Rattle.graft_actors.specs.Notes.{WroteOne, dropped}
 use Rattle.graft_actors.proofs.Welcome.{router_order, router_done}
-use Rattle.router_core.specs.Parts.{router_part, carried, RouterInvariant, KeepsPlace}
+use Rattle.router_core.specs.Parts.{router_part, RouterInvariant, KeepsPlace}
 use Rattle.router_core.specs.Places.{errand_of, order_of, place_of, place_at, IsLiveWithoutErrand, IsShadowOf}
 use Rattle.router_core.specs.Takes.{RouterTakesIt}
 use Rattle.router_core.specs.declared.fields.Fields.{Fields}

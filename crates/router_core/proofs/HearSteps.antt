@@ -3,7 +3,7 @@ use Rattle.std.proofs.Common.{◌≡◌, ℕ, ◌<◌, ◌≤◌, [], length, Op
 use Rattle.ring_net.specs.declared.post.Post.{Post}
 use Rattle.graft_steps.specs.declared.item.Item.{Item}
 use Rattle.graft_steps.specs.declared.item.Item.TheVariants as items
-use Rattle.bgp_session.specs.Running.{RunningSession}
+use Rattle.bgp_session.specs.Running.{RunningSession, carried}
 use Rattle.bgp_types.specs.Prefixes.{PrefixValue}
 use Rattle.bgp_types.specs.declared.attrs.Route.{Route}
 use Rattle.loc_rib.specs.Values.{with_value}
@@ -19,7 +19,7 @@ use Rattle.graft_actors.proofs.Numbers.{there}
 use Rattle.graft_actors.specs.Notes.{WroteOne, dropped}
 use Rattle.graft_actors.proofs.Welcome.{router_told}
 use Rattle.router_core.specs.Rounds.{WritesEvent}
-use Rattle.router_core.specs.Parts.{router_part, carried, RouterInvariant, KeepsPlace}
+use Rattle.router_core.specs.Parts.{router_part, RouterInvariant, KeepsPlace}
 use Rattle.router_core.specs.Places.{place_at}
 use Rattle.router_core.specs.Takes.{RouterTakesIt}
 use Rattle.router_core.specs.declared.fields.Fields.{Fields}

@@ -9,7 +9,7 @@ use Rattle.router_core.specs.Rounds.{WritesEvent}
 use Rattle.router_core.specs.declared.place.Errand.{Errand}
 use Rattle.router_core.specs.declared.place.Errand.TheVariants.{Owing}
 use Rattle.graft_steps.specs.declared.refusal.Refusal.{Refusal}
-use Rattle.bgp_session.specs.Running.{RunningSession}
+use Rattle.bgp_session.specs.Running.{RunningSession, carried}
 use Rattle.rib_stages.specs.Values.{RibValue, rib_of, table_at}
 use Rattle.session_value.specs.Sets.{Entries, Prefixes}
 use Rattle.graft_model.specs.Points.{at}
@@ -24,7 +24,7 @@ use Rattle.graft_actors.proofs.Numbers.{there as is_there}
 use Rattle.graft_actors.specs.Items.{IsOnItsWay}
 use Rattle.graft_actors.specs.Notes.{WroteOne, dropped}
 use Rattle.graft_actors.proofs.Welcome.{router_moved}
-use Rattle.router_core.specs.Parts.{router_part, carried, RouterInvariant, KeepsPlace}
+use Rattle.router_core.specs.Parts.{router_part, RouterInvariant, KeepsPlace}
 use Rattle.router_tables.specs.Owned.{HasNoEntry}
 use Rattle.router_core.specs.Places.{place_of, place_at, word_of}
 use Rattle.router_core.specs.Reading.{KeepsBut, ReadsAll, SettlesIn}

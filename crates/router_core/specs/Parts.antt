@@ -35,10 +35,6 @@ router_part f = record {
 abbrev pub own_part : Fields → OwnPart
 own_part f = record { setup = f.known.setup; name = Router f.number.0; part = RouterIs (router_part f) }
 
--- the session that a capsule carries
-abbrev pub carried : RunningSession → SessionValue
-carried capsule = capsule.session
-
 -- ---- what a place keeps
 
 -- A session has read all that it can.
