@@ -1,0 +1,11 @@
+-- An auditor whose actor has sent items.
+use Rattle.std.specs.Prelude.{ℕ, ◌≡◌, ◌==◌, ◌++◌, List, [], if◌then◌else◌}
+use Rattle.ring_net.specs.Deeds.{items_for}
+use Rattle.audit_channels.specs.Channels.{parcels}
+use Rattle.audit_ruling.specs.Rulings.{Parcel}
+use Rattle.run_auditor.specs.declared.fields.Fields.{Fields}
+
+-- the same actors, with these items at the ends of the channels from this one
+pub record HasSent (from : ℕ) (before : Fields) (sent : List (ℕ × Parcel)) (after : Fields) : Type 0 where
+  pub same : after ≡ record before { inboxes = after.inboxes }
+  pub channels : (a b : ℕ) → parcels after.inboxes.items a b ≡ parcels before.inboxes.items a b ++ (if a == from then items_for b sent else [])

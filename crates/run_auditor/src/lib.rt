@@ -1,0 +1,13 @@
+//! A journal audited: replayed entry by entry against the world of routers, remotes and the operator, up to the first
+//! entry that no run has.
+#![tactic(auto)]
+
+mod audit;
+mod auditor;
+mod entries;
+mod fields;
+mod step;
+
+pub use audit::{Audit, Why, audit};
+pub use auditor::Auditor;
+pub use step::Step;
