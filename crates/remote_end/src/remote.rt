@@ -1,8 +1,9 @@
 //! The remote: what it says, and its end of the connection.
 
 ghost use Rattle.std.specs.Prelude.{◌≡◌, ◌<◌, ◌≤◌, ◌+◌, ◌^◌, ◌↔◌, ◌⊎◌, ◌++◌, length, false, IsTrue, IsNone, IfNone, IfOk, OnOk, MatchBool};
-ghost use Rattle.tcp_seq.specs.Endpoint.{EmitsNext, EmitsAgain, EmitsAnswer, TakesSegment, fresh_endpoint, next_length, again_length, received_bytes};
+ghost use Rattle.tcp_seq.specs.Endpoint.{Endpoint, PlacedSegment, EmitsNext, EmitsAgain, EmitsAnswer, TakesSegment, fresh_endpoint, next_length, again_length, received_bytes};
 ghost use Rattle.tcp_seq.specs.Placed.{placed};
+ghost use Rattle.tcp_end.specs.Emitting.{EmitsPart};
 ghost use Rattle.session_value.specs.Cases.{sending};
 ghost use Rattle.graft_actors.specs.Emissions.{reach_of};
 ghost use Rattle.remote_end.specs.Remotes.{IsFor, SendingInvariant, EmitsOf};
@@ -135,6 +136,16 @@ impl Remote {
         ensures same { OnOk result (self.new ≡ record self.old { end = self.new.end }) }
     {
         self.end.next_segment()
+    }
+
+    /// Emits the slice of `len` bytes from an offset on, which may have been emitted before, or a segment without bytes at
+    /// the offset that is emitted next. Returns `None` where the stream and the flight allow no such segment.
+    pub fn emit_at(&mut self, from: u32, len: u32) -> Result<Option<Segment>, NoMemory>
+        ensures emits { IfOk result (λ answer. EmitsOf (EmitsPart from len) self.old answer self.new.end) }
+        ensures refused { IfOk result (λ answer. IfNone answer ((segment : PlacedSegment) (after : Endpoint) → ¬ EmitsPart from len self.old.end segment after)) }
+        ensures same { OnOk result (self.new ≡ record self.old { end = self.new.end }) }
+    {
+        self.end.emit_at(from, len)
     }
 
     /// Emits the acknowledgement that is owed.
