@@ -1,13 +1,11 @@
 -- Prefixes that are to be told on a session, in groups of those that are told the same.
-use Rattle.std.specs.Prelude.{ℕ, ◌≡◌, ◌≢◌, ◌+◌, ◌≤◌, List, [], ◌∷◌, ◌++◌, length, reverse, Option, Some, None, Contains, slice_get}
+use Rattle.std.specs.Prelude.{ℕ, ◌≡◌, ◌+◌, List, ◌∷◌, ◌++◌, length, reverse, Option, Some}
 use Rattle.std.specs.FinMap as map
-use Rattle.std.specs.List.{AllByRecursion}
 use Rattle.bgp_types.specs.declared.attrs.Attrs.{Attrs}
 use Rattle.bgp_types.specs.Prefixes.{PrefixValue}
 use Rattle.bgp_types.specs.Tables.{prefix_cmp}
 use Rattle.session_value.specs.Sets.{Lists}
 use Rattle.update_plan.specs.Plans.{IsLeastPrefix}
-use Rattle.update_plan.specs.declared.batch.Batch.{Batch}
 use Rattle.audit_tables.specs.declared.pending.Group.{Group}
 
 -- groups by their least prefixes
@@ -38,9 +36,3 @@ pub record AreFirstAlike (Is : PrefixValue → Type 0) (to_tell : PrefixValue �
   pub later : List PrefixValue
   pub alike : Lists (λ x. Is x × (to_tell x ≡ attrs)) (prefixes ++ later)
   pub size : length prefixes ≡ count
-
--- The batches have all prefixes of a kind, one batch for each value that is to be told.
-pub record AreWholeBatches (Is : PrefixValue → Type 0) (to_tell : PrefixValue → Option Attrs) (batches : List Batch) : Type 0 where
-  pub each : AllByRecursion (λ batch. Lists (λ x. Is x × (to_tell x ≡ batch.attrs)) batch.prefixes × (batch.prefixes ≢ [])) batches
-  pub all : (x : PrefixValue) → Is x → (batch : Batch) × Contains batches batch × (batch.attrs ≡ to_tell x)
-  pub once : (i j : ℕ) (one other : Batch) → slice_get batches i ≡ Some one → slice_get batches j ≡ Some other → one.attrs ≡ other.attrs → i ≡ j

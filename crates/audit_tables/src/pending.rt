@@ -5,8 +5,8 @@ ghost use Rattle.std.specs.FinMap as map;
 ghost use Rattle.bgp_types.specs.declared.attrs.Attrs.{Attrs};
 ghost use Rattle.bgp_types.specs.Prefixes.{PrefixValue};
 ghost use Rattle.bgp_types.specs.Tables.{first_above};
-ghost use Rattle.update_plan.specs.Plans.{Without};
-ghost use Rattle.audit_tables.specs.Groups.{AreFirstAlike, AreGroups, AreWholeBatches, prefixes_of};
+ghost use Rattle.update_plan.specs.Plans.{Without, AreWholeBatches};
+ghost use Rattle.audit_tables.specs.Groups.{AreFirstAlike, AreGroups, prefixes_of};
 
 use bgp_types::{Attrs, Items, NoMemory, Prefix, Table, TryCopy};
 use prefix_trie::TrieTable;
