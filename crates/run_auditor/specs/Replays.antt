@@ -8,7 +8,7 @@ use Rattle.run_auditor.specs.States.{StandsFor}
 use Rattle.run_auditor.specs.Steps.{IsOfNoEvent, LeadsNowhere, LeadsOn}
 use Rattle.run_auditor.specs.declared.audit.Why.{Why}
 use Rattle.run_auditor.specs.declared.audit.Why.TheVariants as whys
-use Rattle.run_auditor.specs.declared.fields.Fields.{Fields}
+use Rattle.run_auditor.specs.declared.auditor.Auditor.{Auditor}
 use Rattle.run_auditor.specs.declared.step.Step.{Step}
 use Rattle.run_auditor.specs.declared.step.Step.TheVariants.{Made, Kind, Condition}
 
@@ -23,7 +23,7 @@ IsAbove None entry = Unit {0}
 IsAbove (Some last) entry = IsBefore last entry
 
 -- The entry's first fault in a world; without one, the auditor stands for the world to which it leads.
-abbrev pub ReplaysEntry : Setup → Option JournalEntry → JournalEntry → World → Option Why → Fields → Type 0
+abbrev pub ReplaysEntry : Setup → Option JournalEntry → JournalEntry → World → Option Why → Auditor → Type 0
 ReplaysEntry setup before entry w None new = IsAbove before entry × ((after : World) × LeadsOn setup entry w after × StandsFor new after)
 ReplaysEntry setup before entry w (Some whys.Order) new = ¬ IsAbove before entry
 ReplaysEntry setup before entry w (Some whys.Kind) new = IsAbove before entry × IsOfNoEvent setup entry

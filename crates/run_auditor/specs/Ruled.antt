@@ -13,7 +13,7 @@ use Rattle.audit_ruling.specs.declared.ruling.Ruling.TheVariants.{Refused, Silen
 use Rattle.run_auditor.specs.Sound.{AuditorInvariant}
 use Rattle.run_auditor.specs.States.{StandsFor}
 use Rattle.run_auditor.specs.Sent.{HasSent}
-use Rattle.run_auditor.specs.declared.fields.Fields.{Fields}
+use Rattle.run_auditor.specs.declared.auditor.Auditor.{Auditor}
 
 -- an event of the actor of this number
 abbrev pub IsEventOf : Setup → ℕ → ActorEvent → Event → Type 0
@@ -21,14 +21,15 @@ IsEventOf setup actor (OfRouter event) own = (r : ℕ) × (own ≡ ByRouter r ev
 IsEventOf setup actor (OfFar event) own = (p : ℕ) × (own ≡ ByFar p event) × (p < peerings_in setup) × (actor ≡ routers_in setup + p)
 IsEventOf setup actor (OfOperator event) own = (own ≡ ByOperator event) × (actor ≡ routers_in setup + peerings_in setup)
 
--- The event happened: with these items sent, the auditor stands for a world to which the event leads.
-pub record Happened (event : Event) (old : Fields) (sent : List (ℕ × Parcel)) (new : Fields) : Type 0 where
+-- The event happened: with these items sent, the auditor is sound and stands for a world to which the event leads.
+pub record Happened (event : Event) (old : Auditor) (sent : List (ℕ × Parcel)) (new : Auditor) : Type 0 where
   pub after : World
   pub step : (w : World) → StandsFor old w → Step old.known.setup event w after
-  pub stands : (sent_to : Fields) → HasSent (number_in old.known.setup (maker_of event)) new sent sent_to → StandsFor sent_to after
+  pub stands : (sent_to : Auditor) → HasSent (number_in old.known.setup (maker_of event)) new sent sent_to → StandsFor sent_to after
+  pub sound : (sent_to : Auditor) → HasSent (number_in old.known.setup (maker_of event)) new sent sent_to → AuditorInvariant sent_to
 
 -- The ruling on an event: it happened, or no world follows and the auditor stands for the same one.
-abbrev pub RulesOn : Event → Ruling → Fields → Fields → Type 0
+abbrev pub RulesOn : Event → Ruling → Auditor → Auditor → Type 0
 RulesOn event Refused old new = ((w after : World) → StandsFor old w → ¬ Step old.known.setup event w after)
     × ((w : World) → StandsFor old w → StandsFor new w) × AuditorInvariant new
 RulesOn event Silent old new = Happened event old [] new

@@ -10,21 +10,21 @@ use Rattle.audit_operator.specs.Parts.{OperatorStands}
 use Rattle.audit_router.specs.Parts.{RouterInvariant, setup_of_router}
 use Rattle.audit_router.specs.declared.router.AuditedRouter.{AuditedRouter}
 use Rattle.run_auditor.specs.States.{StandsFor}
-use Rattle.run_auditor.specs.declared.fields.Fields.{Fields}
+use Rattle.run_auditor.specs.declared.auditor.Auditor.{Auditor}
 
 -- the router of this number is sound, and the laboratory's
-pub record KeepsRouterAt (f : Fields) (r : ℕ) (router : AuditedRouter) : Type 0 where
+pub record KeepsRouterAt (f : Auditor) (r : ℕ) (router : AuditedRouter) : Type 0 where
   pub setup : setup_of_router router ≡ f.known.setup
   pub number : router.tables.number.0 ≡ r
   pub sound : RouterInvariant router
 
-pub record KeepsFarAt (f : Fields) (p : ℕ) (far : AuditedFar) : Type 0 where
+pub record KeepsFarAt (f : Auditor) (p : ℕ) (far : AuditedFar) : Type 0 where
   pub setup : far.known.setup ≡ f.known.setup
   pub number : far.peering.0 ≡ p
   pub sound : FarInvariant far
 
 -- The auditor stands for a world, each of its actors is sound, and there is a channel from each to each.
-pub record AuditorInvariant (f : Fields) : Type 0 where
+pub record AuditorInvariant (f : Auditor) : Type 0 where
   pub world : World
   pub stands : StandsFor f world
   pub few_routers : routers_in f.known.setup ≤ 256

@@ -6,7 +6,7 @@ use Rattle.graft_model.specs.Codes.{HasPrefix}
 use Rattle.graft_model.specs.Steps.{Event, ByRouter, ByFar, ByOperator, Step}
 use Rattle.graft_actors.specs.Laws.{IsEntryOf}
 use Rattle.run_auditor.specs.States.{StandsFor}
-use Rattle.run_auditor.specs.declared.fields.Fields.{Fields}
+use Rattle.run_auditor.specs.declared.auditor.Auditor.{Auditor}
 use Rattle.run_auditor.specs.declared.step.Step.{Step as Answer}
 use Rattle.run_auditor.specs.declared.step.Step.TheVariants.{Made, Kind, Condition}
 
@@ -35,7 +35,7 @@ pub record LeadsNowhere (setup : Setup) (entry : JournalEntry) (before : World) 
   pub none : (after : World) → ¬ Step setup event before after
 
 -- The answer to an entry in a world: the auditor stands for the world to which the entry leads, or still for the same one.
-abbrev pub AnswersEntry : Answer → Setup → JournalEntry → World → Fields → Type 0
+abbrev pub AnswersEntry : Answer → Setup → JournalEntry → World → Auditor → Type 0
 AnswersEntry Made setup entry w new = (after : World) × LeadsOn setup entry w after × StandsFor new after
 AnswersEntry Kind setup entry w new = IsOfNoEvent setup entry × StandsFor new w
 AnswersEntry Condition setup entry w new = LeadsNowhere setup entry w × StandsFor new w

@@ -1,11 +1,12 @@
 //! The audit of a journal.
 
-ghost use Rattle.std.specs.Prelude.{◌≡◌, MatchBool, IfOk};
+ghost use Rattle.std.specs.Prelude.{◌≡◌, MatchBool, IfOk, OnOk};
 ghost use Rattle.graft_model.specs.Parts.{World};
 ghost use Rattle.lab_setup.specs.Setups.{setup_of};
 ghost use Rattle.node_configs.specs.Accepted.{IsAccepted};
 ghost use Rattle.run_auditor.specs.Audits.{IsAudit};
 ghost use Rattle.run_auditor.specs.Replays.{IsAbove, ReplaysEntry, fault_in};
+ghost use Rattle.run_auditor.specs.Sound.{AuditorInvariant};
 ghost use Rattle.run_auditor.specs.States.{StandsFor};
 
 use crate::auditor::Auditor;
@@ -62,9 +63,11 @@ fn next_fault(
     before: &Option<JournalEntry>,
     entry: &JournalEntry,
 ) -> Result<Option<Why>, NoMemory>
-    ensures { (w : World) → StandsFor auditor.old.fields w
-        → IfOk result (λ fault. ReplaysEntry auditor.old.fields.known.setup before.now entry.now w fault auditor.new.fields) }
-    ensures setup { auditor.new.fields.known.setup ≡ auditor.old.fields.known.setup }
+    requires { AuditorInvariant auditor.old }
+    ensures replays { (w : World) → StandsFor auditor.old w
+        → IfOk result (λ fault. ReplaysEntry auditor.old.known.setup before.now entry.now w fault auditor.new) }
+    ensures sound { OnOk result (AuditorInvariant auditor.new) }
+    ensures setup { OnOk result (auditor.new.known.setup ≡ auditor.old.known.setup) }
 {
     if !is_above(entry, before) {
         return Ok(Some(Why::Order));
@@ -90,6 +93,6 @@ pub fn audit(alloc: Global, input: &LabInput, journal: &Journal) -> Result<Audit
     }
     Ok(Audit::Yes {
         events: journal.len() as u64,
-        quiet: auditor.is_quiet()?,
+        quiet: auditor.is_quiet(),
     })
 }

@@ -1,70 +1,88 @@
-//! The auditor.
+//! The auditor, and how it begins.
 
-ghost use Rattle.std.specs.Prelude.{◌≡◌, false};
+ghost use Rattle.std.specs.Prelude.{◌≡◌, IfOk};
+ghost use Rattle.graft_model.specs.First.{first_world};
+ghost use Rattle.graft_model.specs.Setups.{Setup};
+ghost use Rattle.lab_setup.specs.Setups.{setup_of};
+ghost use Rattle.node_configs.specs.Accepted.{IsAccepted};
+ghost use Rattle.run_auditor.specs.Begins.{AreFirstFarSides, AreFirstRouters};
 ghost use Rattle.run_auditor.specs.Sound.{AuditorInvariant};
-ghost use Rattle.run_auditor.specs.FieldProps.{AuditorInvariant-prop-if};
+ghost use Rattle.run_auditor.specs.States.{StandsFor};
 
-use crate::fields::Fields;
-use crate::step::Step;
-use graft_edge::NoMemory;
+use audit_channels::{Inbox, empty_inboxes};
+use audit_far::AuditedFar;
+use audit_operator::AuditedOperator;
+use audit_router::AuditedRouter;
+use graft_actors::Known;
+use graft_edge::{NoMemory, PeeringId, RouterId};
 use lab_tables::LabInput;
-use ring_net::JournalEntry;
+use node_configs::{far_config, operator_script, router_config};
 use std::alloc::Global;
 
-/// Replays the journal of a laboratory entry by entry. It keeps the world that the entries so far lead to.
+/// Replays the journal of a laboratory entry by entry: the actors of the laboratory as the entries so far have left
+/// them, and what is on its way between them.
 #[derive(Drop)]
-pub struct Auditor {
-    fields: Fields,
-    // Whether memory ran out. From then on no call does anything.
-    has_failed: bool,
-    ghost sound: { has_failed ≡ false → AuditorInvariant fields } by { AuditorInvariant-prop-if has_failed fields },
+pub(crate) struct Auditor {
+    /// The laboratory, which is only for proofs.
+    pub(crate) known: Known,
+    /// The routers and the far sides, by their numbers.
+    pub(crate) routers: Vec<AuditedRouter>,
+    pub(crate) far_sides: Vec<AuditedFar>,
+    pub(crate) operator: AuditedOperator,
+    /// The inboxes of all actors: of the routers, then of the far sides, then of the operator.
+    pub(crate) inboxes: Vec<Inbox>,
+}
+
+/// Returns the laboratory that the caller's proof names, which must be the one that the input describes.
+fn known_for(_input: &LabInput) -> Known
+    ghost setup: { Setup }
+    ensures { result.setup ≡ setup }
+{
+    Known::new()
+}
+
+/// Returns the routers, as they begin.
+fn first_routers(alloc: Global, input: &LabInput) -> Result<Vec<AuditedRouter>, NoMemory>
+    requires { IsAccepted input.now }
+    ensures { IfOk result (λ routers. AreFirstRouters (setup_of input.now) routers.items) }
+{
+    let mut routers = Vec::new(alloc);
+    for n in 0..input.routers.len() {
+        let config = router_config(alloc, input, RouterId(n as u8))?;
+        routers.push(AuditedRouter::new(alloc, known_for(input), config)?)?;
+    }
+    Ok(routers)
+}
+
+/// Returns the far sides, as they begin.
+fn first_far_sides(alloc: Global, input: &LabInput) -> Result<Vec<AuditedFar>, NoMemory>
+    requires { IsAccepted input.now }
+    ensures { IfOk result (λ far_sides. AreFirstFarSides (setup_of input.now) far_sides.items) }
+{
+    let mut far_sides = Vec::new(alloc);
+    for n in 0..input.peerings.len() {
+        let config = far_config(alloc, input, PeeringId(n as u8))?;
+        far_sides.push(AuditedFar::new(alloc, known_for(input), config)?)?;
+    }
+    Ok(far_sides)
 }
 
 impl Auditor {
-    ghost use Rattle.std.specs.Prelude.{◌≡◌, ◌↔◌, true, IfOk, OnOk};
-    ghost use Rattle.lab_setup.specs.Setups.{setup_of};
-    ghost use Rattle.node_configs.specs.Accepted.{IsAccepted};
-    ghost use Rattle.graft_model.specs.First.{first_world};
-    ghost use Rattle.graft_model.specs.Parts.{World};
-    ghost use Rattle.graft_model.specs.Quiet.{Quiet};
-    ghost use Rattle.run_auditor.specs.States.{StandsFor};
-    ghost use Rattle.run_auditor.specs.Steps.{AnswersEntry};
-
     /// Returns an auditor of an accepted input, before the first entry.
-    pub fn new(alloc: Global, input: &LabInput) -> Result<Auditor, NoMemory>
+    pub(crate) fn new(alloc: Global, input: &LabInput) -> Result<Auditor, NoMemory>
         requires { IsAccepted input.now }
-        ensures setup { IfOk result (λ auditor. auditor.fields.known.setup ≡ setup_of input.now) }
-        ensures first { IfOk result (λ auditor. StandsFor auditor.fields (first_world (setup_of input.now))) }
+        ensures setup { IfOk result (λ auditor. auditor.known.setup ≡ setup_of input.now) }
+        ensures first { IfOk result (λ auditor. StandsFor auditor (first_world (setup_of input.now))) }
+        ensures sound { IfOk result AuditorInvariant }
     {
-        let fields = crate::fields::begin(alloc, input)?;
+        let script = operator_script(alloc, input)?;
+        let actors = input.routers.len() + input.peerings.len() + 1;
         Ok(Auditor {
-            fields,
-            has_failed: false,
+            known: known_for(input),
+            routers: first_routers(alloc, input)?,
+            far_sides: first_far_sides(alloc, input)?,
+            operator: AuditedOperator::new(alloc, known_for(input), script)?,
+            inboxes: empty_inboxes(alloc, actors)?,
         })
-    }
-
-    /// Takes the next entry, whatever its clock is. If it is that of an event that can happen, the event has happened
-    /// then; otherwise nothing changes. Once memory ran out, every call returns `NoMemory`.
-    pub fn step(&mut self, entry: &JournalEntry) -> Result<Step, NoMemory>
-        ensures stands { OnOk result ((w : World) × StandsFor self.old.fields w) }
-        ensures answers { IfOk result (λ step. (w : World) → StandsFor self.old.fields w → AnswersEntry step self.old.fields.known.setup entry.now w self.new.fields) }
-        ensures setup { self.new.fields.known.setup ≡ self.old.fields.known.setup }
-    {
-        if self.has_failed {
-            return Err(NoMemory);
-        }
-        let stepped = self.fields.step(entry);
-        self.has_failed = stepped.is_err();
-        stepped
-    }
-
-    /// Returns whether nothing is left to do in the world so far.
-    pub fn is_quiet(&self) -> Result<bool, NoMemory>
-        ensures { IfOk result (λ quiet. (w : World) → StandsFor self.now.fields w → (quiet ≡ true) ↔ Quiet self.now.fields.known.setup w) }
-    {
-        if self.has_failed {
-            return Err(NoMemory);
-        }
-        Ok(self.fields.is_quiet())
     }
 }

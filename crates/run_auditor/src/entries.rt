@@ -13,7 +13,7 @@ ghost use Rattle.run_auditor.specs.Sound.{AuditorInvariant};
 ghost use Rattle.run_auditor.specs.States.{StandsFor};
 ghost use Rattle.run_auditor.specs.Steps.{AnswersEntry};
 
-use crate::fields::Fields;
+use crate::auditor::Auditor;
 use crate::step::Step;
 use audit_channels::{are_empty, send};
 use audit_ruling::{Ruling, Sender, far_sender, operator_sender, router_sender};
@@ -33,7 +33,7 @@ fn code_of(entry: &JournalEntry) -> Code
     }
 }
 
-impl Fields {
+impl Auditor {
     /// Returns the number of the operator, among all actors.
     fn operator_number(&self) -> usize
         requires { AuditorInvariant self.now }

@@ -5,9 +5,6 @@
 mod audit;
 mod auditor;
 mod entries;
-mod fields;
 mod step;
 
 pub use audit::{Audit, Why, audit};
-pub use auditor::Auditor;
-pub use step::Step;

@@ -2,7 +2,7 @@
 
 /// What an entry is in the world so far.
 #[derive(Clone, Copy, Debug, PartialEq, Eq, Hash)]
-pub enum Step {
+pub(crate) enum Step {
     /// It is that of an event that could happen, and has happened now.
     Made,
     /// Its kind and arguments are those of no event of its actor.
