@@ -4,8 +4,8 @@
     tools/doc_names.py
 
 In lines of prose and tables each word between backquotes is looked for: a path among the files, each other name among the words of crates/,
-tools/ and examples/. Words in capitals and the ends of patterns (`*_rows`) are left out. Links are followed too. What isn't found is printed,
-and then the status is 1.
+tools/ and examples/. Words in capitals, texts between quotes, the ends of patterns (`*_rows`), and what begins with a digit (`10.0.0.0/8`) are
+left out. Links are followed too. What isn't found is printed, and then the status is 1.
 """
 import pathlib
 import re
@@ -27,9 +27,10 @@ def unknown(line, doc, paths, words):
     for code in re.findall(r"`([^`]+)`", line):
         if code.startswith("rattle-kit"):
             continue
+        code = re.sub(r'"[^"]*"', " ", code)
         for path in PATH.findall(code):
             bare = path.removeprefix("./").strip("/")
-            if bare not in ("", "out") and "NAME" not in bare and not any(f"/{known}".endswith(f"/{bare}") for known in paths):
+            if bare not in ("", "out") and "NAME" not in bare and not bare[0].isdigit() and not any(f"/{known}".endswith(f"/{bare}") for known in paths):
                 yield path
         for name in NAME.findall(PATH.sub(" ", code)):
             if name not in words and not name.isupper():

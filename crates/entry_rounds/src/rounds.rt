@@ -83,7 +83,8 @@ fn rounds_along(
 }
 
 /// Returns the round of each entry of the merged journal of a run, by the marks of the run: round 1 is the one in front of the second
-/// mark. Where no mark counts an entry, it is the number of all marks.
+/// mark. Where no mark counts an entry, it is the number of all marks. It takes one pass over the journal, and for each actor one over
+/// the marks; and a mebibyte beside the result.
 pub fn entry_rounds(
     alloc: Global,
     marks: &[Mark],

@@ -93,7 +93,11 @@ none_from text from nowhere = λ before behind e past.
 
 -- the last place of the divider
 Divides-last : (text : List ℕ) (at : ℕ) → OccursAt text divider at → HasNoDivider text (at + 1) → Divides text (take at text) (drop (at + 14) text)
-Divides-last text at here none = record { divided = inl (parts ∙ sym (parted (take at text) (drop (at + 14) text))); last = λ more. by more.input more.rest more.divided }
+Divides-last text at here none =
+    record {
+      divided = inl (parts ∙ sym (parted (take at text) (drop (at + 14) text)));
+      last = λ more. by more.input more.rest more.divided;
+    }
   where
     parts : text ≡ take at text ++ (divider ++ drop (at + 14) text)
     parts = sym (take-append-drop at text) ∙ ap (λ (xs : List ℕ). take at text ++ xs) (OccursAt-split text divider at here)

@@ -201,7 +201,8 @@ pub same_entry : (e f : JournalEntry) (us vs : List ℕ) → FitsWidths e → Fi
 same_entry e f us vs fits fits' is =
     let clock = same_number 32 (omega arith) e.clock f.clock (from_actor e us) (from_actor f vs) fits.clock fits'.clock
     (sym (by_fields e us) ∙ is ∙ by_fields f vs) in
-    let actor = same_number 32 (omega arith) e.actor f.actor (from_kind e us) (from_kind f vs) (omega (arith, fits.actor)) (omega (arith, fits'.actor)) clock.1 in
+    let actor = same_number 32 (omega arith) e.actor f.actor (from_kind e us) (from_kind f vs) (omega (arith, fits.actor)) (omega (arith, fits'.actor))
+    clock.1 in
     let kind = same_number 32 (omega arith) e.kind f.kind (from_a e us) (from_a f vs) (omega (arith, fits.kind)) (omega (arith, fits'.kind)) actor.1 in
     let a = same_number 32 (omega arith) e.a f.a (from_b e us) (from_b f vs) (omega (arith, fits.a)) (omega (arith, fits'.a)) kind.1 in
     let b = same_number 32 (omega arith) e.b f.b (from_c e us) (from_c f vs) (omega (arith, fits.b)) (omega (arith, fits'.b)) a.1 in
@@ -229,7 +230,12 @@ pub same_entries : (ones others : List JournalEntry) (us vs : List ℕ) → AreE
     → flat_map entry_line ones ++ us ≡ flat_map entry_line others ++ vs → ¬ BeginsWithEntry us → ¬ BeginsWithEntry vs → (ones ≡ others) × (us ≡ vs)
 same_entries [] [] us vs fit fit' e end end' = (refl, e)
 same_entries [] (f ∷ fs) us vs fit fit' e end end' =
-    absurd (end (record { entry = f; fits = fit'.0; behind = flat_map entry_line fs ++ vs; line = e ∙ append_assoc (entry_line f) (flat_map entry_line fs) vs }))
+    absurd (end (record {
+      entry = f;
+      fits = fit'.0;
+      behind = flat_map entry_line fs ++ vs;
+      line = e ∙ append_assoc (entry_line f) (flat_map entry_line fs) vs;
+    }))
 same_entries (f ∷ fs) [] us vs fit fit' e end end' =
     absurd (end' (record {
       entry = f;

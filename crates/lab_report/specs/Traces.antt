@@ -56,4 +56,5 @@ Appends Is before after = (lines : List ℕ) × Is lines × (after ≡ before ++
 -- The report of a run: how it ended, its routers, peerings and grafts, and where packets go to the addresses of its input.
 pub record IsReport (lab : Lab) (text : List ℕ) : Type 0 where
   pub traces : List ℕ
+  pub traced : Traces lab.input (forward_maps_of lab) lab.input.trace traces
   pub is : text ≡ report_text lab ++ traces

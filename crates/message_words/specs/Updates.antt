@@ -1,5 +1,5 @@
 -- An UPDATE in words: the prefixes that it withdraws and announces, and its attributes.
-use Rattle.std.specs.Prelude.{ℕ, List, [], ◌∷◌, ◌++◌, Option, Some, None, Bool, true, false, codes, decimal, if◌then◌else◌}
+use Rattle.std.specs.Prelude.{ℕ, List, [], ◌∷◌, ◌++◌, Option, Some, None, Bool, codes, decimal, if◌then◌else◌}
 use Rattle.std.specs.List.{flat_map}
 use Rattle.bgp_types.specs.declared.attrs.Aggregator.{Aggregator}
 use Rattle.bgp_types.specs.declared.attrs.Attrs.{Attrs}

@@ -2,12 +2,14 @@
 //! attributes, the name of what a NOTIFICATION tells, and what a session finds in octets that it reads.
 #![tactic(auto)]
 
+mod laws;
 mod message;
 mod names;
 mod notice;
 mod reading;
 mod update;
 
+pub use laws::worked_words;
 pub use message::{push_message, push_read};
 pub use names::fault_name;
 pub use notice::push_notice;

@@ -140,8 +140,9 @@ fn push_data(text: &mut String, alloc: Global, notice: &Notice) -> Result<(), No
     }
 }
 
-/// Adds what a NOTIFICATION tells: its code and subcode, their name, and its data. The text of a shutdown or a reset stands in quotes if it is UTF-8
-/// without control characters; other data stands in hexadecimal.
+/// Adds what a NOTIFICATION tells (RFC 4271, section 4.5): its code and subcode, their name, and its data. The text of a shutdown or a reset
+/// (RFC 9003) stands in quotes if its length is the one that is given and it is UTF-8 without control characters; other data stands in
+/// hexadecimal.
 pub fn push_notice(text: &mut String, alloc: Global, notice: &Notice) -> Result<(), NoMemory>
     ensures { OnOk result (string_bytes text.new ≡ string_bytes text.old ++ notice_words notice.now) }
 {

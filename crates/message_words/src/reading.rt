@@ -12,7 +12,8 @@ use bgp_types::{Expected, Message, NoMemory, OpenMsg, SessionState, header_fault
 use bgp_wire::{CodecFault, as_said, header_notice, read_message};
 use std::alloc::Global;
 
-/// Reads octets that a session got at once, a whole message with a sound header or a header with a fault, as a session that expects this does.
+/// Returns the message that a session which expects this reads in octets that it got at once, or the first fault that it finds (RFC 4271,
+/// section 6). The octets are a whole message with a sound header, or a header with a fault.
 #[tactic(auto, using(crate::proofs::Frames::got_header, crate::proofs::Frames::got_frame, crate::proofs::Frames::fault_read))]
 pub fn read_got(alloc: Global, expected: &Expected, bytes: &[u8]) -> Result<Message, CodecFault>
     requires { IsGot bytes.now }

@@ -23,7 +23,7 @@ fn push_each_prefix(text: &mut String, prefixes: &[Prefix]) -> Result<(), NoMemo
     Ok(())
 }
 
-/// Adds a word and prefixes, if there are some.
+/// Adds a word and prefixes, each behind a space; nothing where there are no prefixes.
 pub fn push_prefixes(text: &mut String, word: &str, prefixes: &[Prefix]) -> Result<(), NoMemory>
     ensures { OnOk result (string_bytes text.new ≡ string_bytes text.old ++ prefixes_words word.now prefixes.now) }
 {

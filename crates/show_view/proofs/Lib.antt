@@ -3,3 +3,6 @@ pub mod Telling
 pub mod Counting
 pub mod Lasts
 pub mod Pieces
+pub mod Agreeing
+pub mod Waited
+pub mod Shown

@@ -10,7 +10,6 @@ use Rattle.route_policy.specs.Telling.{OutSide, comes_from, exported, is_too_lon
 use Rattle.route_policy.specs.declared.best.Best.{Best}
 use Rattle.show_view.specs.Laws.{StillToBeTold}
 use Rattle.show_view.specs.Untold.{if_exported}
-use Rattle.show_view.specs.declared.untold.Untold.{Untold}
 use Rattle.show_view.specs.declared.untold.Untold.TheVariants.{CameFromIt, ThroughItsAs, NotYet, TooLong}
 
 by_size : (attrs : Attrs) (long : Bool) → (cond long TooLong NotYet ≡ NotYet) ↔ IsSome (cond long None (Some attrs))

@@ -1,5 +1,5 @@
 -- What holds of the reasons that are given.
-use Rattle.std.specs.Prelude.{ℕ, ◌≡◌, ◌↔◌, Some, None, IsSome}
+use Rattle.std.specs.Prelude.{ℕ, ◌≡◌, ◌↔◌, Some, IsSome}
 use Rattle.bgp_types.specs.Prefixes.{PrefixValue}
 use Rattle.route_policy.specs.Telling.{OutSide, tell_out}
 use Rattle.route_policy.specs.declared.best.Best.{Best}

@@ -9,7 +9,7 @@ use Rattle.bgp_types.specs.declared.message.OpenMsg as open_type
 use Rattle.bgp_types.specs.FirstFault.{message_of}
 use Rattle.bgp_story.specs.declared.line.Line.{Line}
 use Rattle.bgp_story.specs.declared.line.Line.TheVariants.{Put, Got, Tick}
-use Rattle.bgp_story.specs.Legal.{Peering, both_offer, expected_next, got_open, is_wide, smaller_hold}
+use Rattle.bgp_story.specs.Legal.{Peering, both_offer, expected_next, got_open, smaller_hold}
 use Rattle.bgp_story.specs.Readings.{got_bytes, put_in}
 use Rattle.bgp_story.specs.States.{state_of}
 use Rattle.lab_tables.specs.declared.input.LabInput.{LabInput}

@@ -4,6 +4,7 @@
 
 mod laws;
 mod links;
+mod members;
 mod routes;
 mod sessions;
 mod show;

@@ -12,6 +12,7 @@ ghost use Rattle.show_view.specs.Show.{show_text as show_text_lem, table_lines, 
 ghost use Rattle.show_view.specs.Untold.{is_established as is_established_lem, untold_lines};
 
 use crate::links::push_faults;
+use crate::members::router_at;
 use crate::routes::push_bests;
 use crate::sessions::{expected_last, push_closing, push_messages, push_state};
 use crate::tables::{entries_of, push_all_heard, push_all_heard_alone, push_all_told, told_on};
@@ -207,7 +208,7 @@ fn push_tables(
     let Some(holder) = holder_number(place) else {
         return push_tables_alone(text, alloc, peering, story, opened);
     };
-    match lab.input.routers.get(usize::from(holder.0)) {
+    match router_at(&lab.input, usize::from(holder.0)) {
         Some(router) => push_tables_at(
             text, alloc, lab, holder, router, number, peering, story, opened,
         ),

@@ -1,20 +1,20 @@
 //! What isn't told on a session, and why.
 
-ghost use Rattle.std.specs.Prelude.{◌≡◌, ◌++◌, option_copied, codes, IfOk, OnOk, string_bytes};
+ghost use Rattle.std.specs.Prelude.{◌≡◌, ◌++◌, false, is_none, option_copied, codes, IfOk, OnOk, string_bytes};
 ghost use Rattle.std.specs.List.{flat_map};
 ghost use Rattle.lab_tables.specs.declared.input.RouterInput.{RouterInput};
 ghost use Rattle.route_policy.specs.Rules.{holds_as as holds_as_lem};
-ghost use Rattle.route_policy.specs.Telling.{out_side_of_view};
+ghost use Rattle.route_policy.specs.Telling.{comes_from as comes_from_lem, exported, is_kept_back, out_side_of_view};
 ghost use Rattle.show_view.specs.Routes.{route_line};
 ghost use Rattle.show_view.specs.Untold.{best_of as best_of_lem, if_exported as if_exported_lem, matching_rule as matching_rule_lem, out_side};
 ghost use Rattle.show_view.specs.Untold.{untold_line, untold_words, why_untold as why_untold_lem};
 
 use crate::routes::{push_rule, push_start};
 use adj_rib::AdjRib;
-use bgp_types::{AsPath, NoMemory, Prefix, Route, TryCopy, holds_as};
+use bgp_types::{AsPath, From, NoMemory, PeeringId, Prefix, Route, TryCopy, holds_as};
 use lab_report::BestEntry;
 use lab_tables::{LabInput, PeeringInput};
-use route_policy::{Best, OutView, Policy, comes_from, export, is_too_long, told_attrs};
+use route_policy::{Best, OutView, Policy, tell_out};
 use std::fmt::Write;
 
 /// Why a router's best route isn't told on an established session that it holds.
@@ -49,6 +49,16 @@ fn goes_through(path: &AsPath, as_number: u32) -> bool
     holds_as(path, as_number)
 }
 
+/// Whether a route comes from this peering.
+fn comes_from(from: From, peering: PeeringId) -> bool
+    ensures { result ≡ comes_from_lem from peering }
+{
+    match from {
+        From::Peering(other) => other.0 == peering.0,
+        From::Own | From::Router(_) => false,
+    }
+}
+
 /// Returns the index of the first rule of an export policy that matches a route.
 fn matching_rule(policy: Option<&Policy>, prefix: Prefix, route: &Route) -> Option<usize>
     ensures { result ≡ matching_rule_lem (option_copied policy.entry) prefix route.now }
@@ -59,24 +69,42 @@ fn matching_rule(policy: Option<&Policy>, prefix: Prefix, route: &Route) -> Opti
     }
 }
 
-/// Returns why a route isn't told by what the export policy makes of it.
-fn if_exported(
+/// Whether the export policy denies a route. It gets the route without its MED, which isn't passed on from another AS (RFC 4271, section 5.1.4).
+fn is_denied(
     home_as: u32,
     view: &OutView<'_>,
     prefix: Prefix,
     route: &Route,
-    exported: Option<Route>,
-) -> Result<Untold, NoMemory>
-    ensures { IfOk result (λ why. why ≡ if_exported_lem home_as (out_side_of_view view.now) prefix route.now exported) }
+) -> Result<bool, NoMemory>
+    ensures { IfOk result (λ denied. denied ≡ is_none (exported home_as (out_side_of_view view.now) prefix route.now)) }
 {
-    let Some(exported) = exported else {
-        return Ok(Untold::Denied(matching_rule(view.export, prefix, route)));
+    let Some(policy) = view.export else {
+        return Ok(false);
     };
-    let attrs = told_attrs(home_as, view, exported)?;
-    if is_too_long(prefix, &attrs) {
-        return Ok(Untold::TooLong);
+    let mut route = route.copy()?;
+    route.attrs.med = None;
+    Ok(policy.apply(prefix, route, home_as)?.is_none())
+}
+
+/// Returns why a best route isn't told that neither came from the remote nor went through its AS.
+fn if_exported(
+    home_as: u32,
+    view: &OutView<'_>,
+    prefix: Prefix,
+    best: &Best,
+) -> Result<Untold, NoMemory>
+    requires { is_kept_back (out_side_of_view view.now) best.now ≡ false }
+    ensures { IfOk result (λ why. why ≡ if_exported_lem home_as (out_side_of_view view.now) prefix best.now.route
+        (exported home_as (out_side_of_view view.now) prefix best.now.route)) }
+{
+    if is_denied(home_as, view, prefix, &best.route)? {
+        let rule = matching_rule(view.export, prefix, &best.route);
+        return Ok(Untold::Denied(rule));
     }
-    Ok(Untold::NotYet)
+    match tell_out(home_as, view, prefix, Some(best))? {
+        Some(_) => Ok(Untold::NotYet),
+        None => Ok(Untold::TooLong),
+    }
 }
 
 /// Returns why a best route isn't told on a session.
@@ -94,8 +122,7 @@ fn why_untold(
     if goes_through(&best.route.attrs.path, view.remote_as) {
         return Ok(Untold::ThroughItsAs);
     }
-    let exported = export(home_as, view, prefix, best.route.copy()?)?;
-    if_exported(home_as, view, prefix, &best.route, exported)
+    if_exported(home_as, view, prefix, best)
 }
 
 /// Adds why a route isn't told.

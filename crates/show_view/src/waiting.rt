@@ -4,18 +4,41 @@ ghost use Rattle.std.specs.Prelude.{◌≡◌, ◌++◌, codes, option_copied, I
 ghost use Rattle.graft_steps.specs.declared.rest.Pending.TheVariants.{Stream};
 ghost use Rattle.lab_tables.specs.declared.input.LabInput.{LabInput};
 ghost use Rattle.why_view.specs.Stories.{story_peering};
-ghost use Rattle.show_view.specs.Waiting.{actor_words, is_open as is_open_lem, is_unread as is_unread_lem, is_unreceived as is_unreceived_lem};
+ghost use Rattle.show_view.specs.Waiting.{actor_name, actor_words, is_open as is_open_lem, is_unread as is_unread_lem, is_unreceived as is_unreceived_lem};
 ghost use Rattle.show_view.specs.Waiting.{pending_words, stream_words, waiting_line, ways_words};
 
+use crate::members::{far_at, peering_at, router_at, session_at};
 use crate::sessions::{received_octets, sent_octets};
 use bgp_story::Story;
 use bgp_types::{NoMemory, PeeringId, SessionState};
 use graft_steps::Pending;
 use lab_report::{FarView, Lab, RunEnd, SessionView, peering_name, router_name};
-use lab_tables::{LabInput, PeeringInput};
+use lab_tables::{LabInput, PeeringInput, RouterInput};
 use std::alloc::Global;
 use std::fmt::Write;
 use why_view::{is_wide, opened_on};
+
+/// Adds the name of an actor: of the router that it is, or else of the peering whose remote it is, or that it is the operator.
+fn push_name(
+    text: &mut String,
+    router: Option<&RouterInput>,
+    peering: Option<&PeeringInput>,
+) -> Result<(), NoMemory>
+    ensures { OnOk result (string_bytes text.new ≡ string_bytes text.old ++ actor_name (option_copied router.entry) (option_copied peering.entry)) }
+{
+    match (router, peering) {
+        (Some(router), _) => {
+            text.push_str("router ")?;
+            text.push_str(router.name.as_str())?;
+        }
+        (None, Some(peering)) => {
+            text.push_str("far side ")?;
+            text.push_str(peering.name.as_str())?;
+        }
+        (None, None) => text.push_str("operator")?,
+    }
+    Ok(())
+}
 
 /// Adds the name of an actor: routers come first, then the far sides of the peerings, then the operator.
 fn push_actor(text: &mut String, input: &LabInput, actor: u16) -> Result<(), NoMemory>
@@ -23,19 +46,8 @@ fn push_actor(text: &mut String, input: &LabInput, actor: u16) -> Result<(), NoM
 {
     let actor = usize::from(actor);
     let far = actor.saturating_sub(input.routers.len());
-    if let Some(router) = input.routers.get(actor) {
-        text.push_str("router ")?;
-        text.push_str(router.name.as_str())?;
-        return Ok(());
-    }
-    match input.peerings.get(far) {
-        Some(peering) => {
-            text.push_str("far side ")?;
-            text.push_str(peering.name.as_str())?;
-        }
-        None => text.push_str("operator")?,
-    }
-    Ok(())
+    let router = router_at(input, actor);
+    push_name(text, router, peering_at(input, far))
 }
 
 /// Whether a session reads on.
@@ -129,9 +141,9 @@ fn push_stream_of(
 {
     let index = usize::from(peering.0);
     let name = peering_name(&lab.input, peering.0);
-    let there = lab.input.peerings.get(index);
-    let view = lab.sessions.get(index);
-    let far = lab.far.get(index);
+    let there = peering_at(&lab.input, index);
+    let view = session_at(lab, index);
+    let far = far_at(lab, index);
     push_stream(text, alloc, name, there, view, far)
 }
 

@@ -47,7 +47,7 @@ fn both_offer(first: &OpenMsg, theirs: &Option<OpenMsg>) -> bool
     }
 }
 
-/// Returns what a session with these lines expects at first, with the width of AS numbers that it comes to have.
+/// Returns what a session with these lines expects at first, with the width of AS numbers that it comes to have (RFC 6793, section 4.1).
 pub fn expected_first(
     alloc: Global,
     first: &OpenMsg,
@@ -109,7 +109,8 @@ fn opening_of(peering: &PeeringInput) -> Moment
 }
 
 /// Returns the story of the session of a peering in a run: a line for each message that was put or got, and for the end of the hold time, with the
-/// round and the router that held the session then. It is empty where there is no such peering.
+/// round and the router that held the session then. It is empty where there is no such peering. It takes one pass over the journal and one
+/// over the story.
 pub fn story_text(alloc: Global, lab: &Lab, peering: PeeringId) -> Result<String, NoMemory>
     ensures { IfOk result (λ text. string_bytes text ≡ story_text_lem lab.now peering.0) }
 {

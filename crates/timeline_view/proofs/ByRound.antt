@@ -1,14 +1,13 @@
 -- What happened, by rounds.
 use Rattle.std.proofs.Common.{ℕ, zero, suc, take, subst, length-append, ◌≡◌, ◌+◌, ◌<◌, ◌≤◌, inl, inr, Bool, true, false}
 use Rattle.std.proofs.Common.{cond, ◌==◌, List, [], ◌∷◌, ◌++◌, length, refl, sym, ap, ◌∙◌}
-use Rattle.std.proofs.Common.{slice_index_or, set, append-nil, get_or-set_same, get_or-set_other, arith}
+use Rattle.std.proofs.Common.{slice_index_or, get_or, set, append-nil, get_or-set_same, get_or-set_other, arith}
 use Rattle.std.proofs.lemmas.Bool.{eq-eqb, ne_eqb, cases_eq}
-use Rattle.std.proofs.lemmas.List.{length-set}
+use Rattle.std.proofs.lemmas.List.{length-set, take_more}
 use Rattle.std.specs.List.{flat_map, enumerate_from}
 use Rattle.timeline_view.specs.declared.event.Happening.{Happening}
 use Rattle.timeline_view.specs.Rounds.{in_round}
 use Rattle.timeline_view.specs.Walks.{AreRounds}
-use Rattle.timeline_view.proofs.Numbered.{taken_more}
 
 -- lists by number are what a function gives of their numbers
 pub by_number : {X Y : Type 0} (f : ℕ → List Y → List ℕ) (g : ℕ → List Y) (n : ℕ) (groups : List (List Y)) (xs : List X) → length groups ≡ length xs
@@ -93,18 +92,22 @@ nothing_at [] each (suc r) = refl
 nothing_at (x ∷ rounds) each zero = each 0 (omega arith)
 nothing_at (x ∷ rounds) each (suc r) = nothing_at rounds (λ k lt. each (suc k) (omega (arith, lt))) r
 
-pub one_empty_more : (count : ℕ) (rounds : List (List Happening)) → AreRounds count [] rounds → AreRounds (count + 1) [] (rounds ++ [] ∷ [])
-one_empty_more count rounds are = record {
-  size = length-append rounds ([] ∷ []) ∙ ap (λ n. n + 1) are.size;
-  each = λ r lt. nothing_at rounds are.each r;
-}
+pub one_empty_more : (count : ℕ) (rounds after : List (List Happening)) → AreRounds count [] rounds → after ≡ rounds ++ [] ∷ []
+    → AreRounds (count + 1) [] after
+one_empty_more count rounds after are is = subst (AreRounds (count + 1) []) (sym is) more where
+  more : AreRounds (count + 1) [] (rounds ++ [] ∷ [])
+  more = record {
+    size = length-append rounds ([] ∷ []) ∙ ap (λ n. n + 1) are.size;
+    each = λ r lt. nothing_at rounds are.each r;
+  }
 
-pub no_rounds : AreRounds 0 [] []
-no_rounds = record { size = refl; each = λ r lt. absurd (omega (arith, lt)) }
+pub no_rounds : (rounds : List (List Happening)) → rounds ≡ [] → AreRounds 0 [] rounds
+no_rounds rounds is = subst (AreRounds 0 []) (sym is) none where
+  none : AreRounds 0 [] []
+  none = record { size = refl; each = λ r lt. absurd (omega (arith, lt)) }
 
 -- ---- one thing more
 
-pub rounds_further : (count : ℕ) (all : List Happening) (i : ℕ) (h : Happening) (rounds : List (List Happening)) → i < length all
-    → h ≡ slice_index_or all i h → AreRounds count (take i all ++ h ∷ []) rounds → AreRounds count (take (i + 1) all) rounds
-rounds_further count all i h rounds lt at are =
-    subst (λ (these : List Happening). AreRounds count these rounds) (taken_more all i h lt at) are
+pub rounds_further : (count : ℕ) (all : List Happening) (i : ℕ) (d : Happening) (rounds : List (List Happening)) → i < length all
+    → AreRounds count (take i all ++ get_or all i d ∷ []) rounds → AreRounds count (take (i + 1) all) rounds
+rounds_further count all i d rounds lt = subst (λ (these : List Happening). AreRounds count these rounds) (sym (take_more all i d lt))

@@ -1,10 +1,10 @@
 -- Counts, one more at a time.
-use Rattle.std.proofs.Common.{ℕ, ◌≡◌, ◌+◌, ◌<◌, inl, inr, Bool, true, false, cond, ◌==◌, List, [], ◌∷◌, ◌++◌, length, count_by, sum_by, take, Option}
+use Rattle.std.proofs.Common.{ℕ, ◌≡◌, ◌+◌, ◌<◌, inl, inr, Bool, true, false, cond, ◌==◌, List, [], ◌∷◌, ◌++◌, length, count_by, take, Option}
 use Rattle.std.proofs.Common.{refl, sym, ap, ◌∙◌, subst, slice_index, slice_index_or, set, length-append, append-nil, get_or-set_same, get_or-set_other, arith}
 use Rattle.std.proofs.lemmas.Bool.{ne_eqb, and_left, cases_eq}
 use Rattle.std.proofs.lemmas.List.{take_more, length-set}
 use Rattle.std.proofs.lemmas.List.Elements.{filter_map-append}
-use Rattle.std.proofs.lemmas.List.Sums.{sum_by-append}
+use Rattle.std.proofs.lemmas.List.Sums.{sum_by-append, sum_by-cons}
 use Rattle.std.specs.List.{cons_option, filter_map}
 use Rattle.bgp_types.specs.declared.message.Update.{Update}
 use Rattle.ring_net.specs.declared.entry.JournalEntry.{JournalEntry}
@@ -21,7 +21,7 @@ one_if b = cond b 1 0
 counted_behind : {X : Type 0} (p : X → Bool) (xs : List X) (x : X) → count_by p (xs ++ x ∷ []) ≡ count_by p xs + one_if (p x)
 counted_behind {X} p xs x =
     let alone : one_if (p x) + 0 ≡ one_if (p x) = omega arith in
-    sum_by-append (λ (y : X). cond (p y) 1 0) xs (x ∷ []) ∙ ap (λ n. count_by p xs + n) alone
+    sum_by-append (λ (y : X). cond (p y) 1 0) xs (x ∷ []) ∙ ap (λ n. count_by p xs + n) (sum_by-cons (λ (y : X). cond (p y) 1 0) x [] ∙ alone)
 
 module _ (lab : Lab) (before : List JournalEntry) (e : JournalEntry) where
   -- counts to which an entry is added where it belongs

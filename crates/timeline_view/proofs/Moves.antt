@@ -1,7 +1,8 @@
 -- The next graft between two routers is found among the moves alone.
-use Rattle.std.proofs.Common.{ℕ, ◌≡◌, ◌+◌, ◌==◌, ◌||◌, inl, inr, Bool, true, false, cond, List, [], ◌∷◌, map, filter, count_by, get_or}
-use Rattle.std.proofs.Common.{refl, sym, ap, ◌∙◌, arith}
-use Rattle.std.proofs.lemmas.Bool.{true≢false, eqb-true, and_parts, or_cases, cases_Bool}
+use Rattle.std.proofs.Common.{ℕ, ◌≡◌, ◌==◌, ◌||◌, inl, inr, Bool, true, false, cond, List, [], ◌∷◌, map, length, filter, count_by, get_or}
+use Rattle.std.proofs.Common.{refl, sym, ap, ◌∙◌}
+use Rattle.std.proofs.lemmas.Bool.{true≢false, eqb-true, ne_eqb, and_parts, or_cases, cases_Bool}
+use Rattle.std.proofs.lemmas.List.Sums.{length-filter}
 use Rattle.std.specs.List.{flat_map, enumerate_from}
 use Rattle.ring_net.specs.declared.entry.JournalEntry.{JournalEntry}
 use Rattle.graft_steps.specs.declared.log.GraftEntry.{GraftEntry}
@@ -34,14 +35,7 @@ module _ {X : Type 0} (p q : X → Bool) (within : (x : X) → p x ≡ true → 
     by_test false failed rest = rest ∙ ap (λ (t : Bool). cond t (x ∷ filter p xs) (filter p xs)) (sym (neither x failed))
 
   count_within : (xs : List X) → count_by p (filter q xs) ≡ count_by p xs
-  count_within [] = refl
-  count_within (x ∷ xs) = by_test (q x) refl (count_within xs) where
-    by_test : (c : Bool) → q x ≡ c → count_by p (filter q xs) ≡ count_by p xs
-        → count_by p (cond c (x ∷ filter q xs) (filter q xs)) ≡ cond (p x) 1 0 + count_by p xs
-    by_test true passed rest = ap (λ n. cond (p x) 1 0 + n) rest
-    by_test false failed rest =
-        let none : count_by p xs ≡ 0 + count_by p xs = omega arith in
-        rest ∙ none ∙ ap (λ (t : Bool). cond t 1 0 + count_by p xs) (sym (neither x failed))
+  count_within xs = sym (length-filter p (filter q xs)) ∙ ap (λ (l : List X). length l) (filter_within xs) ∙ length-filter p xs
 
 -- ---- moves
 
@@ -97,14 +91,45 @@ module _ (log : List GraftEntry) (source target : ℕ) where
 
 -- ---- events
 
-abbrev chosen : JournalEntry → (arrived returned cleared : ℕ) → Event
-chosen e arrived returned cleared =
-    cond (e.kind == 13) (Land arrived) (cond (e.kind == 14) (TurnBack arrived) (cond (e.kind == 15) (Return returned) (Clear cleared)))
+-- what the event tells of, by the next graft of each kind
+abbrev chosen : (kind arrived returned cleared : ℕ) → Event
+chosen kind arrived returned cleared =
+    cond (kind == 13) (Land arrived) (cond (kind == 14) (TurnBack arrived) (cond (kind == 15) (Return returned) (Clear cleared)))
+
+module _ (lab : Lab) (es : List JournalEntry) (e : JournalEntry) (log : List GraftEntry) (here : ℕ) (is_log : log ≡ lab.log) (is_here : here ≡ e.actor) where
+  of_kinds : (kind : ℕ) → e.kind ≡ kind
+      → chosen kind (next_to_arrive log e.a here es) (next_to_return log here e.a es) (next_to_clear log here e.a es) ≡ taken_event lab es e
+  of_kinds kind is =
+      ap (λ (l : List GraftEntry). chosen kind (next_to_arrive l e.a here es) (next_to_return l here e.a es) (next_to_clear l here e.a es)) is_log
+      ∙ ap (λ h. chosen kind (next_to_arrive lab.log e.a h es) (next_to_return lab.log h e.a es) (next_to_clear lab.log h e.a es)) is_here
+      ∙ ap (λ k. chosen k (next_to_arrive lab.log e.a e.actor es) (next_to_return lab.log e.actor e.a es) (next_to_clear lab.log e.actor e.a es)) (sym is)
+
+  pub lands : (graft : ℕ) → e.kind ≡ 13 → graft ≡ next_to_arrive log e.a here es → Land graft ≡ taken_event lab es e
+  lands graft kind is = ap (λ n. Land n) is ∙ of_kinds 13 kind
+
+  pub turns_back : (graft : ℕ) → e.kind ≡ 14 → graft ≡ next_to_arrive log e.a here es → TurnBack graft ≡ taken_event lab es e
+  turns_back graft kind is = ap (λ n. TurnBack n) is ∙ of_kinds 14 kind
+
+  pub goes_back : (graft : ℕ) → e.kind ≡ 15 → graft ≡ next_to_return log here e.a es → Return graft ≡ taken_event lab es e
+  goes_back graft kind is = ap (λ n. Return n) is ∙ of_kinds 15 kind
+
+  pub clears_else : (graft : ℕ) → (e.kind ≡ 13 → ⊥) → (e.kind ≡ 14 → ⊥) → (e.kind ≡ 15 → ⊥) → graft ≡ next_to_clear log here e.a es
+      → Clear graft ≡ taken_event lab es e
+  clears_else graft land turn back is =
+      let arrived = next_to_arrive log e.a here es in
+      let returned = next_to_return log here e.a es in
+      let cleared = next_to_clear log here e.a es in
+      ap (λ n. Clear n) is
+      ∙ ap (λ (b : Bool). cond b (Return returned) (Clear cleared)) (sym (ne_eqb e.kind 15 back))
+      ∙ ap (λ (b : Bool). cond b (TurnBack arrived) (cond (e.kind == 15) (Return returned) (Clear cleared))) (sym (ne_eqb e.kind 14 turn))
+      ∙ ap (λ (b : Bool). cond b (Land arrived) (cond (e.kind == 14) (TurnBack arrived) (cond (e.kind == 15) (Return returned) (Clear cleared))))
+      (sym (ne_eqb e.kind 13 land))
+      ∙ of_kinds e.kind refl
 
 pub same_taken : (lab : Lab) (es : List JournalEntry) (e : JournalEntry) → taken_event lab (filter is_move es) e ≡ taken_event lab es e
 same_taken lab es e =
-    ap (λ n. chosen e n (next_to_return lab.log e.actor e.a (filter is_move es)) (next_to_clear lab.log e.actor e.a (filter is_move es)))
+    ap (λ n. chosen e.kind n (next_to_return lab.log e.actor e.a (filter is_move es)) (next_to_clear lab.log e.actor e.a (filter is_move es)))
     (same_arrival lab.log e.a e.actor es)
-    ∙ ap (λ n. chosen e (next_to_arrive lab.log e.a e.actor es) n (next_to_clear lab.log e.actor e.a (filter is_move es)))
+    ∙ ap (λ n. chosen e.kind (next_to_arrive lab.log e.a e.actor es) n (next_to_clear lab.log e.actor e.a (filter is_move es)))
     (same_return lab.log e.actor e.a es)
-    ∙ ap (chosen e (next_to_arrive lab.log e.a e.actor es) (next_to_return lab.log e.actor e.a es)) (same_clear lab.log e.actor e.a es)
+    ∙ ap (chosen e.kind (next_to_arrive lab.log e.a e.actor es) (next_to_return lab.log e.actor e.a es)) (same_clear lab.log e.actor e.a es)

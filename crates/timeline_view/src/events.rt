@@ -1,6 +1,6 @@
 //! What the entries of a journal tell of.
 
-ghost use Rattle.std.specs.Prelude.{◌≡◌, ◌++◌, ◌≤◌, ◌∷◌, [], IfOk, OnOk, filter, length, sum_by, slice_get};
+ghost use Rattle.std.specs.Prelude.{◌≡◌, ◌+◌, ◌++◌, ◌<◌, ◌≤◌, ◌∷◌, [], IfOk, OnOk, filter, length, sum_by, slice_get, slice_index, get_or};
 ghost use Rattle.std.specs.List.{flat_map, enumerate_from};
 ghost use Rattle.lab_input.specs.Counts.{step_grafts};
 ghost use Rattle.timeline_view.specs.Events.{message_event, session_event, table_event, named_event, taken_event, way_of, far_event};
@@ -18,7 +18,14 @@ use std::alloc::Global;
 use story_view::adds_to;
 use tcp_seq::Way;
 
-pub(crate) type Happenings = Items<Happening>;
+pub type Happenings = Items<Happening>;
+
+/// The count of a session, if the lab has it.
+fn count_at(counts: &[usize], peering: u32) -> Option<usize>
+    ensures { result ≡ slice_get counts.now peering }
+{
+    counts.get(peering as usize).copied()
+}
 
 /// The next message or round of a session that the lab has.
 fn message_event(
@@ -30,7 +37,7 @@ fn message_event(
     requires { AreCounts lab.now before.now counts.now }
     ensures { result ≡ message_event lab.now before.now peering }
 {
-    match counts.get(peering as usize).copied() {
+    match count_at(counts, peering) {
         Some(nth) => Some(Event::Message { peering, nth }),
         None => None,
     }
@@ -261,6 +268,14 @@ fn push_event(
     Ok(())
 }
 
+/// A count and one more. A count that doesn't fit is NoMemory.
+fn one_more(counts: &Vec<usize>, place: usize) -> Result<usize, NoMemory>
+    requires { place < length counts.now.items }
+    ensures { IfOk result (λ next. next ≡ slice_index counts.now.items place + 1) }
+{
+    counts[place].checked_add(1).ok_or(NoMemory)
+}
+
 /// Counts an entry, if it adds to the story of a session.
 fn count(
     lab: &Lab,
@@ -273,9 +288,17 @@ fn count(
 {
     let place = entry.a as usize;
     if place < counts.len() && adds_to(entry.a, entry) {
-        counts[place] = counts[place].checked_add(1).ok_or(NoMemory)?;
+        let next = one_more(counts, place)?;
+        counts[place] = next;
     }
     Ok(())
+}
+
+/// The round at an index, or 0.
+fn round_at(rounds: &[usize], index: usize) -> usize
+    ensures { result ≡ get_or rounds.now index 0 }
+{
+    rounds.get(index).copied().unwrap_or(0)
 }
 
 /// What the entries of the journal tell of, which have these rounds.
@@ -293,7 +316,7 @@ fn happenings_in(
     let mut all = Items::new(alloc);
     for (index, entry) in journal.iter().enumerate() {
         let before = &journal[..index];
-        let round = rounds.get(index).copied().unwrap_or(0);
+        let round = round_at(rounds, index);
         let event = event_of(alloc, lab, &counts, before, moves.as_slice(), entry)?;
         push_event(&mut all, entry, round, event)?;
         push_move(&mut moves, entry)?;
@@ -303,7 +326,7 @@ fn happenings_in(
 }
 
 /// What all entries of the journal tell of, in their order, with their rounds.
-pub(crate) fn happenings(alloc: Global, lab: &Lab) -> Result<Happenings, NoMemory>
+pub fn happenings(alloc: Global, lab: &Lab) -> Result<Happenings, NoMemory>
     ensures { IfOk result (λ all. all ≡ happenings lab.now) }
 {
     let journal = lab.journal.as_slice();

@@ -5,11 +5,12 @@ ghost use Rattle.std.specs.List.{flat_map, filter_map, cons_option, position, be
 ghost use Rattle.std.specs.Option.{option_copied};
 ghost use Rattle.bgp_types.specs.declared.message.Update.{Update as UpdateValue};
 ghost use Rattle.timeline_view.specs.Grafts.{is_begin, is_of, round_of_graft, from_then, span_text, spans_words, is_stray_of, strays_of};
-ghost use Rattle.timeline_view.specs.Grafts.{update_of, updates_after, graft_lines};
+ghost use Rattle.timeline_view.specs.Grafts.{update_of, updates_after, updates_words, graft_lines};
 ghost use Rattle.timeline_view.specs.Messages.{outlines_of};
 ghost use Rattle.timeline_view.specs.Walks.{CountsUpdates};
 
 use crate::event::{Event, Happening, Moment};
+use crate::lines::push_number;
 use crate::messages::update_at;
 use crate::moments::graft_at;
 use crate::outline::Outline;
@@ -37,7 +38,7 @@ fn is_of(moment: Moment, graft: u32, happening: &Happening) -> bool
 }
 
 /// The round of a graft's moment, if it came.
-fn round_of(moment: Moment, graft: u32, all: &[Happening]) -> Option<usize>
+pub fn round_of(moment: Moment, graft: u32, all: &[Happening]) -> Option<usize>
     ensures { result ≡ round_of_graft moment graft all.now }
 {
     all.iter()
@@ -100,30 +101,43 @@ fn push_span(text: &mut String, from: Option<usize>, to: Option<usize>) -> Resul
     Ok(())
 }
 
-/// Words, and how many rounds one event was after another.
+/// Words, and how many rounds one moment of a graft was after another.
 fn push_named_span(
     text: &mut String,
     words: &str,
-    from: Option<usize>,
-    to: Option<usize>,
+    from: Moment,
+    to: Moment,
+    graft: u32,
+    all: &[Happening],
 ) -> Result<(), NoMemory>
-    ensures { OnOk result (string_bytes text.new ≡ string_bytes text.old ++ (words.now ++ span_text from to)) }
+    ensures { OnOk result (string_bytes text.new ≡ string_bytes text.old
+        ++ (words.now ++ span_text (round_of_graft from graft all.now) (round_of_graft to graft all.now))) }
 {
     text.push_str(words)?;
-    push_span(text, from, to)
+    push_span(text, round_of(from, graft, all), round_of(to, graft, all))
 }
 
 /// The rounds from the order to the freeze, frozen, and on the way until the session landed.
 fn push_spans(text: &mut String, graft: u32, all: &[Happening]) -> Result<(), NoMemory>
     ensures { OnOk result (string_bytes text.new ≡ string_bytes text.old ++ spans_words graft all.now) }
 {
-    let ordered = round_of(Moment::Ordered, graft, all);
-    let frozen = round_of(Moment::Frozen, graft, all);
-    let left = round_of(Moment::Left, graft, all);
-    let landed = round_of(Moment::Landed, graft, all);
-    push_named_span(text, " rounds to freeze ", ordered, frozen)?;
-    push_named_span(text, " frozen ", frozen, left)?;
-    push_named_span(text, " to landing ", left, landed)
+    push_named_span(
+        text,
+        " rounds to freeze ",
+        Moment::Ordered,
+        Moment::Frozen,
+        graft,
+        all,
+    )?;
+    push_named_span(text, " frozen ", Moment::Frozen, Moment::Left, graft, all)?;
+    push_named_span(
+        text,
+        " to landing ",
+        Moment::Left,
+        Moment::Landed,
+        graft,
+        all,
+    )
 }
 
 fn is_stray_of(remote: u32, event: Event) -> bool
@@ -136,7 +150,7 @@ fn is_stray_of(remote: u32, event: Event) -> bool
 }
 
 /// How many segments of a graft's remote came astray, from the freeze to the end of the group.
-fn strays_of(graft: &GraftEntry, all: &[Happening]) -> usize
+pub fn strays_of(graft: &GraftEntry, all: &[Happening]) -> usize
     ensures { result ≡ strays_of graft.now all.now }
 {
     let remote = u32::from(graft.peering.0);
@@ -148,14 +162,19 @@ fn strays_of(graft: &GraftEntry, all: &[Happening]) -> usize
 
 /// UPDATEs, and how many prefixes they announce and withdraw.
 #[derive(Clone, Copy, Debug)]
-pub(crate) struct UpdateCounts {
+pub struct UpdateCounts {
     pub updates: usize,
     pub announced: usize,
     pub withdrawn: usize,
 }
 
 /// The UPDATE that an event of a peering put, if it put one.
-fn update_of(lab: &Lab, outlines: &[Outline], remote: u32, event: Event) -> Option<&Update>
+fn update_of<'a>(
+    lab: &'a Lab,
+    outlines: &[Outline],
+    remote: u32,
+    event: Event,
+) -> Option<&'a Update>
     requires { outlines.now ≡ outlines_of lab.now }
     ensures { option_copied result ≡ update_of lab.now remote event }
 {
@@ -216,7 +235,7 @@ fn updates_in(
 }
 
 /// Returns the counts of what was put to a graft's remote, from the landing to the end of the group.
-pub(crate) fn updates_after(
+pub fn updates_after(
     lab: &Lab,
     outlines: &[Outline],
     graft: &GraftEntry,
@@ -227,6 +246,16 @@ pub(crate) fn updates_after(
 {
     let here = from_then(Moment::Landed, graft.graft, all);
     updates_in(lab, outlines, u32::from(graft.peering.0), here)
+}
+
+/// How many UPDATEs there were, and how many prefixes they announce and withdraw.
+fn push_updates(text: &mut String, counts: UpdateCounts) -> Result<(), NoMemory>
+    ensures { OnOk result ((these : List UpdateValue) → CountsUpdates these counts
+        → string_bytes text.new ≡ string_bytes text.old ++ updates_words these) }
+{
+    push_number(text, " UPDATEs ", counts.updates)?;
+    push_number(text, " announced ", counts.announced)?;
+    push_number(text, " withdrawn ", counts.withdrawn)
 }
 
 /// The lines of a graft.
@@ -240,18 +269,14 @@ fn push_graft_lines(
     requires { outlines.now ≡ outlines_of lab.now }
     ensures { OnOk result (string_bytes text.new ≡ string_bytes text.old ++ graft_lines lab.now all.now graft.now) }
 {
-    let number = graft.graft;
     let astray = strays_of(graft, all);
     let counts = updates_after(lab, outlines, graft, all)?;
-    let updates = counts.updates;
-    let announced = counts.announced;
-    let withdrawn = counts.withdrawn;
     push_graft(text, &lab.input, graft)?;
-    write!(text, "graft {number}")?;
-    push_spans(text, number, all)?;
-    write!(text, " astray {astray}")?;
-    write!(text, " UPDATEs {updates} announced {announced}")?;
-    write!(text, " withdrawn {withdrawn}\n")?;
+    push_number(text, "graft ", graft.graft as usize)?;
+    push_spans(text, graft.graft, all)?;
+    push_number(text, " astray ", astray)?;
+    push_updates(text, counts)?;
+    text.push_str("\n")?;
     Ok(())
 }
 

@@ -1,13 +1,12 @@
 //! The lines of what happened.
 
 ghost use Rattle.std.specs.Prelude.{◌≡◌, ◌++◌, OnOk, string_bytes, slice_get, codes, decimal};
-ghost use Rattle.std.specs.Option.{option_copied};
 ghost use Rattle.lab_report.specs.Report.{peering_name};
 ghost use Rattle.timeline_view.specs.Lines.{actor_name, remote_or_operator, remote_of, source_of, target_of, reason_words, graft_words, step_words};
 ghost use Rattle.timeline_view.specs.Lines.{say_words, way_words, did, did_graft, lines_of, happening_lines};
 ghost use Rattle.timeline_view.specs.Messages.{outlines_of, session_lines};
 ghost use Rattle.timeline_view.specs.Numbers.{graft_in as graft_in_lem};
-ghost use Rattle.timeline_view.specs.declared.event.Event.TheVariants.{Order};
+ghost use Rattle.timeline_view.specs.declared.event.Event.TheVariants.{Order, TurnBack};
 
 use crate::event::{Event, Happening};
 use crate::messages::push_session;
@@ -22,6 +21,15 @@ use std::alloc::Global;
 use std::fmt::Write;
 use tcp_seq::Way;
 
+/// Words and a number.
+pub(crate) fn push_number(text: &mut String, words: &str, number: usize) -> Result<(), NoMemory>
+    ensures { OnOk result (string_bytes text.new ≡ string_bytes text.old ++ (words.now ++ decimal number)) }
+{
+    text.push_str(words)?;
+    write!(text, "{number}")?;
+    Ok(())
+}
+
 /// The name of the remote of this number, or that of the operator behind the last one.
 fn remote_or_operator(input: &LabInput, remote: usize) -> &str
     ensures { result.now ≡ remote_or_operator (slice_get input.now.peerings remote) }
@@ -33,7 +41,7 @@ fn remote_or_operator(input: &LabInput, remote: usize) -> &str
 }
 
 /// The name of an actor: routers come first, then the remotes by their peerings, then the operator.
-fn actor_name(input: &LabInput, actor: u16) -> &str
+pub fn actor_name(input: &LabInput, actor: u16) -> &str
     ensures { result.now ≡ actor_name input.now actor }
 {
     let number = usize::from(actor);
@@ -44,7 +52,7 @@ fn actor_name(input: &LabInput, actor: u16) -> &str
 }
 
 /// The name of a peering's remote, or a dash.
-fn remote_name(input: &LabInput, peering: u32) -> &str
+pub fn remote_name(input: &LabInput, peering: u32) -> &str
     ensures { result.now ≡ peering_name input.now peering }
 {
     match input.peerings.get(peering as usize) {
@@ -124,11 +132,18 @@ fn push_with_source(
 fn push_order(text: &mut String, input: &LabInput, graft: &GraftEntry) -> Result<(), NoMemory>
     ensures { OnOk result (string_bytes text.new ≡ string_bytes text.old ++ graft_words input.now graft.now (Order 0)) }
 {
-    let number = graft.graft;
-    write!(text, "ordered graft {number}")?;
+    push_number(text, "ordered graft ", graft.graft as usize)?;
     push_with_source(text, input, " ", " from ", graft)?;
     text.push_str(" to ")?;
     push_target(text, input, graft)
+}
+
+/// That the target turned a session back.
+fn push_turn_back(text: &mut String, input: &LabInput, graft: &GraftEntry) -> Result<(), NoMemory>
+    ensures { OnOk result (string_bytes text.new ≡ string_bytes text.old ++ graft_words input.now graft.now (TurnBack 0)) }
+{
+    push_with_source(text, input, "turned back ", " to ", graft)?;
+    push_reason(text, &graft.stage)
 }
 
 /// What a router or the operator did with the session of a graft.
@@ -153,10 +168,7 @@ fn push_graft_words(
         }
         Event::Leave { .. } => push_to_target(text, input, "sent ", graft),
         Event::Land { .. } => push_with_source(text, input, "landed ", " from ", graft),
-        Event::TurnBack { .. } => {
-            push_with_source(text, input, "turned back ", " to ", graft)?;
-            push_reason(text, &graft.stage)
-        }
+        Event::TurnBack { .. } => push_turn_back(text, input, graft),
         Event::Return { .. } => {
             text.push_str("took back ")?;
             push_remote(text, input, graft)?;
@@ -173,10 +185,10 @@ fn push_graft_words(
 }
 
 /// What a remote said in a step.
-fn push_step(text: &mut String, step: Option<&Step>) -> Result<(), NoMemory>
-    ensures { OnOk result (string_bytes text.new ≡ string_bytes text.old ++ step_words (option_copied step.entry)) }
+fn push_step(text: &mut String, input: &LabInput, step: u32) -> Result<(), NoMemory>
+    ensures { OnOk result (string_bytes text.new ≡ string_bytes text.old ++ step_words (slice_get input.now.steps step)) }
 {
-    match step {
+    match input.steps.get(step as usize) {
         Some(Step::Announce { prefixes, .. }) => push_prefixes(text, "announce", prefixes),
         Some(Step::Withdraw { prefixes, .. }) => push_prefixes(text, "withdraw", prefixes),
         Some(Step::Raw { bytes, .. }) => {
@@ -244,6 +256,15 @@ fn push_did(
     Ok(())
 }
 
+/// A remote said a step.
+fn push_said(text: &mut String, input: &LabInput, step: u32) -> Result<(), NoMemory>
+    ensures { OnOk result (string_bytes text.new ≡ string_bytes text.old ++ say_words input.now step) }
+{
+    push_number(text, "said step[", step as usize)?;
+    text.push_str("]")?;
+    push_step(text, input, step)
+}
+
 /// The line of what a remote said.
 fn push_say(
     text: &mut String,
@@ -255,8 +276,7 @@ fn push_say(
     ensures { OnOk result (string_bytes text.new ≡ string_bytes text.old ++ did round name.now (say_words input.now step)) }
 {
     push_actor(text, round, name)?;
-    write!(text, "said step[{step}]")?;
-    push_step(text, input.steps.get(step as usize))?;
+    push_said(text, input, step)?;
     text.push_str("\n")?;
     Ok(())
 }

@@ -1,6 +1,6 @@
 //! The messages of a session's events.
 
-ghost use Rattle.std.specs.Prelude.{◌≡◌, ◌++◌, Some, OnOk, string_bytes, slice_get};
+ghost use Rattle.std.specs.Prelude.{◌≡◌, ◌+◌, ◌++◌, Some, OnOk, string_bytes, slice_get};
 ghost use Rattle.std.specs.List.{AllByRecursion};
 ghost use Rattle.std.specs.Option.{option_copied};
 ghost use Rattle.bgp_story.specs.Laws.{IsGotLine};
@@ -85,6 +85,13 @@ fn push_got(
     Ok(())
 }
 
+/// The line at an index, if there is one.
+fn line_of(lines: &[Line], index: usize) -> Option<&Line>
+    ensures { option_copied result ≡ slice_get lines.now index }
+{
+    lines.get(index)
+}
+
 /// The line with which an event begins.
 fn push_head_line(
     text: &mut String,
@@ -100,7 +107,7 @@ fn push_head_line(
     ensures { OnOk result (string_bytes text.new ≡ string_bytes text.old
         ++ head_line round holder.now remote.now expected head (slice_get lines.now head.index)) }
 {
-    match lines.get(head.index) {
+    match line_of(lines, head.index) {
         Some(Line::Put(message)) => push_put(text, alloc, round, holder, remote, message),
         Some(Line::Got(bytes)) => {
             push_got(text, alloc, round, holder, remote, expected, head, bytes)
@@ -131,6 +138,16 @@ fn push_answer(
     }
 }
 
+/// The line behind the one at an index.
+fn behind(lines: &[Line], index: usize) -> Option<&Line>
+    ensures { option_copied result ≡ slice_get lines.now (index + 1) }
+{
+    match index.checked_add(1) {
+        Some(next) => lines.get(next),
+        None => None,
+    }
+}
+
 /// The lines of an event that begins with this one.
 fn push_event(
     text: &mut String,
@@ -146,11 +163,14 @@ fn push_event(
     ensures { OnOk result (string_bytes text.new ≡ string_bytes text.old ++ event_lines round holder.now remote.now lines.now expected (Some head)) }
 {
     push_head_line(text, alloc, round, holder, remote, expected, head, lines)?;
-    let next = match head.index.checked_add(1) {
-        Some(next) => lines.get(next),
-        None => None,
-    };
-    push_answer(text, alloc, round, holder, remote, next)
+    push_answer(
+        text,
+        alloc,
+        round,
+        holder,
+        remote,
+        behind(lines, head.index),
+    )
 }
 
 /// The lines of the session's event of this number, from 0.
@@ -187,7 +207,11 @@ pub(crate) fn push_session(
 }
 
 /// Returns the UPDATE that the session's event of this number put, if it put one.
-pub(crate) fn update_at(view: &SessionView, outline: &Outline, nth: usize) -> Option<&Update>
+pub(crate) fn update_at<'a>(
+    view: &'a SessionView,
+    outline: &Outline,
+    nth: usize,
+) -> Option<&'a Update>
     requires { outline.now ≡ outline_of view.now.story }
     ensures { option_copied result ≡ update_at nth (Some view.now) }
 {

@@ -13,7 +13,7 @@ use ring_net::JournalEntry;
 use std::alloc::{AllocError, Global};
 
 /// Returns the entry of a graft in the log.
-pub(crate) fn graft_in(log: &[GraftEntry], graft: u32) -> Option<&GraftEntry>
+pub fn graft_in(log: &[GraftEntry], graft: u32) -> Option<&GraftEntry>
     ensures { option_copied result ≡ graft_in log.now graft }
 {
     log.iter().find(|entry| entry.graft == graft)

@@ -96,7 +96,7 @@ fn outlines_in(alloc: Global, sessions: &[SessionView]) -> Result<Outlines, NoMe
 }
 
 /// Returns the outlines of the stories of all sessions.
-pub(crate) fn outlines_of(alloc: Global, lab: &Lab) -> Result<Outlines, NoMemory>
+pub fn outlines_of(alloc: Global, lab: &Lab) -> Result<Outlines, NoMemory>
     ensures { IfOk result (λ all. all ≡ outlines_of lab.now) }
 {
     outlines_in(alloc, lab.sessions.as_slice())

@@ -109,7 +109,11 @@ fn put(rounds: &mut Vec<Happenings>, happening: &Happening) -> Result<(), NoMemo
 }
 
 /// What happened, by rounds.
-fn by_rounds(alloc: Global, count: usize, all: &[Happening]) -> Result<Vec<Happenings>, NoMemory>
+pub fn by_rounds(
+    alloc: Global,
+    count: usize,
+    all: &[Happening],
+) -> Result<Vec<Happenings>, NoMemory>
     ensures { IfOk result (λ rounds. AreRounds count all.now rounds.items) }
 {
     let mut rounds = empty_rounds(alloc, count)?;
@@ -138,7 +142,7 @@ fn is_hear(event: Event) -> bool
 }
 
 /// How many prefixes a router decided.
-fn decided_at(router: usize, here: &[Happening]) -> usize
+pub fn decided_at(router: usize, here: &[Happening]) -> usize
     ensures { result ≡ count_at is_decide router here.now }
 {
     here.iter()
@@ -147,7 +151,7 @@ fn decided_at(router: usize, here: &[Happening]) -> usize
 }
 
 /// How often a router told another one of a prefix.
-fn told_at(router: usize, here: &[Happening]) -> usize
+pub fn told_at(router: usize, here: &[Happening]) -> usize
     ensures { result ≡ count_at is_tell router here.now }
 {
     here.iter()
@@ -156,7 +160,7 @@ fn told_at(router: usize, here: &[Happening]) -> usize
 }
 
 /// How often a router heard of a prefix from another one.
-fn heard_at(router: usize, here: &[Happening]) -> usize
+pub fn heard_at(router: usize, here: &[Happening]) -> usize
     ensures { result ≡ count_at is_hear router here.now }
 {
     here.iter()

@@ -1,6 +1,6 @@
 //! OPENs and NOTIFICATIONs of sessions.
 
-ghost use Rattle.std.specs.Prelude.{◌≡◌, ◌++◌, Some, OnOk, IfOk, sum_by, string_bytes, slice_get};
+ghost use Rattle.std.specs.Prelude.{◌≡◌, ◌++◌, Some, OnOk, IfOk, sum_by, count_by, string_bytes};
 ghost use Rattle.std.specs.List.{flat_map, enumerate_from};
 ghost use Rattle.bgp_story.specs.States.{is_type as is_type_lem};
 ghost use Rattle.timeline_view.specs.Messages.{outlines_of};
@@ -9,6 +9,7 @@ ghost use Rattle.timeline_view.specs.Sessions.{session_line, peering_session_lin
 
 use crate::event::Happening;
 use crate::grafts::updates_after;
+use crate::lines::push_number;
 use crate::outline::Outline;
 use bgp_story::Line;
 use bgp_types::types::{NOTIFICATION, OPEN};
@@ -17,7 +18,7 @@ use graft_edge::NoMemory;
 use graft_steps::GraftEntry;
 use lab_report::{Lab, SessionView};
 use lab_tables::PeeringInput;
-use std::fmt::Write;
+use story_view::lines_of;
 
 /// Whether octets begin with a sound header of this type.
 fn is_type(kind: u8, octets: &[u8]) -> bool
@@ -48,35 +49,59 @@ fn is_got(kind: u8, line: &Line) -> bool
     }
 }
 
-fn opens_put(view: &SessionView) -> usize
-    ensures { result ≡ opens_put view.now }
+fn opens_put_in(lines: &[Line]) -> usize
+    ensures { result ≡ count_by is_open_put lines.now }
 {
-    let lines = view.story.lines();
     lines.iter().filter(|line| is_open_put(*line)).count()
 }
 
-fn opens_got(view: &SessionView) -> usize
-    ensures { result ≡ opens_got view.now }
+/// Returns how many OPENs a session put.
+pub fn opens_put(view: &SessionView) -> usize
+    ensures { result ≡ opens_put view.now }
 {
-    let lines = view.story.lines();
+    opens_put_in(lines_of(&view.story))
+}
+
+fn opens_got_in(lines: &[Line]) -> usize
+    ensures { result ≡ count_by (is_got 1) lines.now }
+{
     lines.iter().filter(|line| is_got(OPEN, *line)).count()
 }
 
-fn notices_put(view: &SessionView) -> usize
-    ensures { result ≡ notices_put view.now }
+/// Returns how many OPENs a session got.
+pub fn opens_got(view: &SessionView) -> usize
+    ensures { result ≡ opens_got view.now }
 {
-    let lines = view.story.lines();
+    opens_got_in(lines_of(&view.story))
+}
+
+fn notices_put_in(lines: &[Line]) -> usize
+    ensures { result ≡ count_by is_notice_put lines.now }
+{
     lines.iter().filter(|line| is_notice_put(*line)).count()
 }
 
-fn notices_got(view: &SessionView) -> usize
-    ensures { result ≡ notices_got view.now }
+/// Returns how many NOTIFICATIONs a session put.
+pub fn notices_put(view: &SessionView) -> usize
+    ensures { result ≡ notices_put view.now }
 {
-    let lines = view.story.lines();
+    notices_put_in(lines_of(&view.story))
+}
+
+fn notices_got_in(lines: &[Line]) -> usize
+    ensures { result ≡ count_by (is_got 3) lines.now }
+{
     lines
         .iter()
         .filter(|line| is_got(NOTIFICATION, *line))
         .count()
+}
+
+/// Returns how many NOTIFICATIONs a session got.
+pub fn notices_got(view: &SessionView) -> usize
+    ensures { result ≡ notices_got view.now }
+{
+    notices_got_in(lines_of(&view.story))
 }
 
 /// The line of a session.
@@ -89,9 +114,11 @@ fn push_session(text: &mut String, name: &str, view: &SessionView) -> Result<(),
     let notice_got = notices_got(view);
     text.push_str("session ")?;
     text.push_str(name)?;
-    write!(text, "  OPEN put {open_put} got {open_got}")?;
-    write!(text, "  NOTIFICATION put {notice_put}")?;
-    write!(text, " got {notice_got}\n")?;
+    push_number(text, "  OPEN put ", open_put)?;
+    push_number(text, " got ", open_got)?;
+    push_number(text, "  NOTIFICATION put ", notice_put)?;
+    push_number(text, " got ", notice_got)?;
+    text.push_str("\n")?;
     Ok(())
 }
 
@@ -100,12 +127,12 @@ fn push_peering(
     text: &mut String,
     sessions: &[SessionView],
     index: usize,
-    name: &str,
+    peering: &PeeringInput,
 ) -> Result<(), NoMemory>
-    ensures { OnOk result (string_bytes text.new ≡ string_bytes text.old ++ session_line name.now (slice_get sessions.now index)) }
+    ensures { OnOk result (string_bytes text.new ≡ string_bytes text.old ++ peering_session_line sessions.now (index, peering.now)) }
 {
     match sessions.get(index) {
-        Some(view) => push_session(text, name, view),
+        Some(view) => push_session(text, peering.name.as_str(), view),
         None => Ok(()),
     }
 }
@@ -119,7 +146,7 @@ fn push_peerings(
     ensures { OnOk result (string_bytes text.new ≡ string_bytes text.old ++ flat_map (peering_session_line sessions.now) (enumerate_from 0 peerings.now)) }
 {
     for (index, peering) in peerings.iter().enumerate() {
-        push_peering(text, sessions, index, peering.name.as_str())?;
+        push_peering(text, sessions, index, peering)?;
     }
     Ok(())
 }
@@ -141,8 +168,8 @@ fn further_opens(view: &SessionView) -> Result<usize, NoMemory>
     put.checked_add(got).ok_or(NoMemory)
 }
 
-/// The same of all sessions.
-fn all_further_opens(sessions: &[SessionView]) -> Result<usize, NoMemory>
+/// Returns how many OPENs of all sessions stand behind the first one each way. A count that doesn't fit is NoMemory.
+pub fn all_further_opens(sessions: &[SessionView]) -> Result<usize, NoMemory>
     ensures { IfOk result (λ count. count ≡ sum_by further_opens sessions.now) }
 {
     let mut count: usize = 0;
@@ -160,8 +187,8 @@ fn notices(view: &SessionView) -> Result<usize, NoMemory>
         .ok_or(NoMemory)
 }
 
-/// How many NOTIFICATIONs were put and got on all sessions.
-fn all_notices(sessions: &[SessionView]) -> Result<usize, NoMemory>
+/// Returns how many NOTIFICATIONs were put and got on all sessions. A count that doesn't fit is NoMemory.
+pub fn all_notices(sessions: &[SessionView]) -> Result<usize, NoMemory>
     ensures { IfOk result (λ count. count ≡ sum_by notices sessions.now) }
 {
     let mut count: usize = 0;
@@ -171,8 +198,9 @@ fn all_notices(sessions: &[SessionView]) -> Result<usize, NoMemory>
     Ok(count)
 }
 
-/// How many prefixes were withdrawn from the remotes of these grafts, from the landing to the end of the group.
-fn withdrawn_in(
+/// Returns how many prefixes were withdrawn from the remotes of these grafts, each from its landing to the end of its group. A count that
+/// doesn't fit is NoMemory.
+pub fn withdrawn_in(
     lab: &Lab,
     outlines: &[Outline],
     all: &[Happening],
@@ -202,8 +230,9 @@ pub(crate) fn push_total(
     let opens = all_further_opens(lab.sessions.as_slice())?;
     let notices = all_notices(lab.sessions.as_slice())?;
     let withdrawn = withdrawn_in(lab, outlines, all, lab.log.as_slice())?;
-    write!(text, "total  further OPENs {opens}")?;
-    write!(text, "  NOTIFICATIONs {notices}")?;
-    write!(text, "  withdrawn from moved remotes {withdrawn}\n")?;
+    push_number(text, "total  further OPENs ", opens)?;
+    push_number(text, "  NOTIFICATIONs ", notices)?;
+    push_number(text, "  withdrawn from moved remotes ", withdrawn)?;
+    text.push_str("\n")?;
     Ok(())
 }

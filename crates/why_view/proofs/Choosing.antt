@@ -1,5 +1,5 @@
 -- What the rules leave of candidates, whatever their names.
-use Rattle.std.proofs.Common.{◌≡◌, ℕ, zero, suc, ◌+◌, ◌<◌, Bool, true, false, not, ◌||◌, cond, List, [], ◌∷◌, map, length, Option, Some, None}
+use Rattle.std.proofs.Common.{◌≡◌, ℕ, zero, suc, ◌+◌, ◌<◌, Bool, true, false, not, ◌||◌, cond, List, [], ◌∷◌, ◌++◌, map, length, Option, Some, None}
 use Rattle.std.proofs.Common.{refl, sym, ap, subst, ◌∙◌, slice_index_or, arith}
 use Rattle.std.specs.Prelude.{◌↔◌, Contains, fold, filter, slice_get, option_map, option_and_then}
 use Rattle.std.specs.List.{list_any, enumerate_from}
@@ -11,7 +11,7 @@ use Rattle.decision_core.specs.Choice.{Rule, nine_rules, keep, left_of, first, c
 use Rattle.decision_core.proofs.AnyOrder.{Contains-keep}
 use Rattle.route_policy.specs.Candidates.{Candidate}
 use Rattle.route_policy.specs.declared.best.Best.{Best}
-use Rattle.why_view.specs.Laws.{TheWinnerIsTheBest, WhatGoesNowhereIsLeft}
+use Rattle.why_view.specs.Laws.{TheWinnerIsTheBest, WhatGoesNowhereIsLeft, WhatARuleLeavesOutGoesThere, left_after}
 use Rattle.why_view.specs.Rules.{better_by, in_order, goes_at}
 use Rattle.why_view.specs.Winners.{best_index, ranks_of}
 use Rattle.why_view.specs.declared.rules.DecisionRule.{DecisionRule}
@@ -107,7 +107,8 @@ still_there {X} p (y ∷ xs) x (suc k) lt at passes = by_test (p y) (still_there
   by_test false there = there
 
 -- a rule keeps what nothing is better than
-kept_if : (rule : Rule) (left : List Rank) (rank : Rank) → Contains left rank → list_any (λ other. rule other rank) left ≡ false → Contains (keep rule left) rank
+kept_if : (rule : Rule) (left : List Rank) (rank : Rank) → Contains left rank → list_any (λ other. rule other rank) left ≡ false
+    → Contains (keep rule left) rank
 unfolding keep
 kept_if rule left rank there unbeaten =
     still_there (λ x. not (list_any (λ y. rule y x) left)) left rank there.0 there.1 there.2 (ap not unbeaten)
@@ -151,3 +152,30 @@ left_is ranks =
 pub nowhere_is_left : WhatGoesNowhereIsLeft
 nowhere_is_left ranks rank there =
     subst (λ left. (goes_at in_order ranks rank ≡ None) ↔ Contains left rank) (sym (left_is ranks)) (goes_nowhere in_order ranks rank there)
+
+-- ---- what goes at a rule
+
+still_left : (rules : List DecisionRule) (ranks : List Rank) (rank : Rank) → Contains (left_after rules ranks) rank → Contains ranks rank
+still_left [] ranks rank there = there
+still_left (rule ∷ rules) ranks rank there = Contains-keep (better_by rule) ranks rank (still_left rules (keep (better_by rule) ranks) rank there)
+
+goes_there : (before behind : List DecisionRule) (rule : DecisionRule) (ranks : List Rank) (rank : Rank)
+    → Contains (left_after before ranks) rank → ¬ Contains (keep (better_by rule) (left_after before ranks)) rank
+    → goes_at (before ++ rule ∷ behind) ranks rank ≡ Some rule
+goes_there [] behind rule ranks rank there out = by_test (list_any (λ other. better_by rule other rank) ranks) refl where
+  by_test : (b : Bool) → list_any (λ other. better_by rule other rank) ranks ≡ b
+      → cond b (Some rule) (goes_at behind (keep (better_by rule) ranks) rank) ≡ Some rule
+  by_test true beaten = refl
+  by_test false unbeaten = absurd (out (kept_if (better_by rule) ranks rank there unbeaten))
+goes_there (first ∷ before) behind rule ranks rank there out =
+    by_test (list_any (λ other. better_by first other rank) ranks)
+    (unbeaten_if (better_by first) ranks rank (still_left before (keep (better_by first) ranks) rank there))
+    (goes_there before behind rule (keep (better_by first) ranks) rank there out) where
+      by_test : (b : Bool) → not b ≡ true → goes_at (before ++ rule ∷ behind) (keep (better_by first) ranks) rank ≡ Some rule
+          → cond b (Some first) (goes_at (before ++ rule ∷ behind) (keep (better_by first) ranks) rank) ≡ Some rule
+      by_test true beaten further = absurd (false≢true beaten)
+      by_test false unbeaten further = further
+
+pub left_out_goes_there : WhatARuleLeavesOutGoesThere
+left_out_goes_there before behind rule ranks rank order there out =
+    ap (λ rules. goes_at rules ranks rank) order ∙ goes_there before behind rule ranks rank there out

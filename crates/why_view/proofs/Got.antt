@@ -117,7 +117,8 @@ opened_later p lines i line lt at none = ap (got_open p) (from_here lines i line
 -- ---- the routes
 
 -- AS numbers have four octets where both OPENs offer them
-pub wide_is : (input : LabInput) (p : PeeringInput) (opened : open_type.OpenMsg) → both_offer (story_peering input p).first (Some opened) ≡ (p.as4 && offers opened)
+pub wide_is : (input : LabInput) (p : PeeringInput) (opened : open_type.OpenMsg)
+    → both_offer (story_peering input p).first (Some opened) ≡ (p.as4 && offers opened)
 wide_is input p opened = ap (λ b. b && offers opened) (offers_home input.home_as p.home_hold (identifier_at input p.at.0) p.as4 p.unicast)
 
 -- how messages are read once the session is established

@@ -6,3 +6,4 @@ pub mod GivenParts
 pub mod Importing
 pub mod AllLines
 pub mod Choosing
+pub mod Worked

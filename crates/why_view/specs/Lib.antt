@@ -4,3 +4,4 @@ pub mod Stories
 pub mod Sources
 pub mod Why
 pub mod Laws
+pub mod Worked

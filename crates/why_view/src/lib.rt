@@ -11,6 +11,12 @@ mod sources;
 mod stories;
 mod why;
 
-pub use laws::{rules_are_the_nine, the_winner_is_the_best, what_goes_nowhere_is_left};
+pub use laws::{
+    rules_are_the_nine, the_winner_is_the_best, what_a_rule_leaves_out_goes_there,
+    what_goes_nowhere_is_left, worked_candidates,
+};
+pub use lines::{first_match, is_loop, name_or_dash, push_number};
 pub use rules::DecisionRule;
+pub use sources::import_policy;
+pub use stories::{established, is_wide, opened_on, routes_on};
 pub use why::why_text;

@@ -236,8 +236,12 @@ fn push_looped(
     Ok(())
 }
 
-/// The index of the first rule of a policy that matches a route which was heard.
-fn first_match(policy: &Policy, prefix: Prefix, heard: &Attrs) -> Result<Option<usize>, NoMemory>
+/// Returns the index of the first rule of a policy that matches a route as it was heard, with preference 100.
+pub fn first_match(
+    policy: &Policy,
+    prefix: Prefix,
+    heard: &Attrs,
+) -> Result<Option<usize>, NoMemory>
     ensures { IfOk result (λ index. index ≡ first_match_lem policy.now prefix heard.now) }
 {
     let route = Route {
@@ -261,8 +265,8 @@ fn matching(
     }
 }
 
-/// The number of a rule, from 1; a dash where there is none.
-fn push_number(text: &mut String, index: Option<usize>) -> Result<(), NoMemory>
+/// Adds the number of a rule, from 1; a dash where there is none.
+pub fn push_number(text: &mut String, index: Option<usize>) -> Result<(), NoMemory>
     ensures { OnOk result (string_bytes text.new ≡ string_bytes text.old ++ number_text index) }
 {
     match index {
@@ -272,8 +276,8 @@ fn push_number(text: &mut String, index: Option<usize>) -> Result<(), NoMemory>
     Ok(())
 }
 
-/// A name, or a dash where there is none.
-fn name_or_dash(name: &Option<Name>) -> &str
+/// Returns a name, or a dash where there is none.
+pub fn name_or_dash(name: &Option<Name>) -> &str
     ensures { result.now ≡ unwrap_or name.now (codes "-") }
 {
     match name {
@@ -327,8 +331,8 @@ fn push_denied(
     Ok(())
 }
 
-/// Whether a path has the home AS.
-fn is_loop(input: &LabInput, heard: &Attrs) -> bool
+/// Returns whether a path has the home AS, which is a loop (RFC 4271, section 9.1.2).
+pub fn is_loop(input: &LabInput, heard: &Attrs) -> bool
     ensures { result ≡ holds_as_lem heard.now.path input.now.home_as }
 {
     holds_as(&heard.path, input.home_as)

@@ -41,8 +41,8 @@ fn policy_at(router: &RouterInput, name: &str) -> Result<Option<Policy>, NoMemor
     }
 }
 
-/// A router's policy of the name that a session gives, if it gives one.
-fn import_policy(router: &RouterInput, name: &Option<Name>) -> Result<Option<Policy>, NoMemory>
+/// Returns a router's policy of the name that a session gives; none where it gives none, or the router has no policy of this name.
+pub fn import_policy(router: &RouterInput, name: &Option<Name>) -> Result<Option<Policy>, NoMemory>
     ensures { IfOk result (λ policy. policy ≡ import_rules router.now name.now) }
 {
     match name {

@@ -93,8 +93,8 @@ fn first_open(
     Ok(None)
 }
 
-/// The OPEN that the session of a peering got.
-pub(crate) fn opened_on(
+/// Returns the OPEN that the session of a peering got.
+pub fn opened_on(
     alloc: Global,
     peering: &PeeringInput,
     story: &Story,
@@ -181,9 +181,9 @@ fn offers(opened: &OpenMsg) -> bool
     as_said(&opened.caps).is_some()
 }
 
-/// Whether AS numbers have four octets on the session of a peering that got this OPEN.
+/// Returns whether AS numbers have four octets on the session of a peering that got this OPEN (RFC 6793, section 4.1).
 #[tactic(auto, using(crate::proofs::Got::wide_is))]
-fn is_wide(peering: &PeeringInput, opened: &Option<OpenMsg>) -> bool
+pub fn is_wide(peering: &PeeringInput, opened: &Option<OpenMsg>) -> bool
     ensures { (input : LabInput) → result ≡ both_offer (story_peering input peering.now).first opened.now }
 {
     match opened {
@@ -195,8 +195,8 @@ fn is_wide(peering: &PeeringInput, opened: &Option<OpenMsg>) -> bool
     }
 }
 
-/// How messages are read once the session of a peering is established, which got this OPEN.
-fn established(peering: &PeeringInput, opened: &Option<OpenMsg>) -> Expected
+/// Returns how messages are read once the session of a peering is established, which got this OPEN.
+pub fn established(peering: &PeeringInput, opened: &Option<OpenMsg>) -> Expected
     ensures { (input : LabInput) (lines : List Line) → opened.now ≡ got_open_lem (story_peering input peering.now) lines
         → result ≡ expected_next (story_peering input peering.now) lines Established }
 {
@@ -208,8 +208,8 @@ fn established(peering: &PeeringInput, opened: &Option<OpenMsg>) -> Expected
     }
 }
 
-/// The routes that the session of a peering heard, which got this OPEN: none once it is closed.
-fn routes_on(
+/// Returns the routes that the session of a peering heard, which got this OPEN: none once it is closed.
+pub fn routes_on(
     alloc: Global,
     peering: &PeeringInput,
     story: &Story,

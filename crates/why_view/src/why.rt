@@ -55,9 +55,10 @@ fn router_of(lab: &Lab, number: RouterId) -> Option<&RouterInput>
     lab.input.routers.get(usize::from(number.0))
 }
 
-/// Why a router has its best route to a prefix at the end of a run: its candidates, the best one first and each other one with the rule
-/// of the decision process at which it went, and behind them what its sessions heard of the prefix and was excluded. Nothing where it
-/// has neither, or the input has no such router. The story of each session that it holds is read once.
+/// Returns why a router has its best route to a prefix at the end of a run: its candidates, the best one first and each other one with the
+/// rule of the decision process at which it went (RFC 4271, section 9.1.2), and behind them what its sessions heard of the prefix and was
+/// excluded. Nothing where it has neither, or the input has no such router. The story of each session that it holds is read once for its
+/// OPEN and once for its routes.
 pub fn why_text(
     alloc: Global,
     lab: &Lab,

@@ -17,12 +17,14 @@ loop-entry-preserved c =
     let below : i < length journal = omega (arith, c.loop-entry-test.true) in
     let at = element journal i (record { clock = 0; actor = 0; kind = 0; a = 0; b = 0; c = 0 }) below in
     let was = c.loop-entry.invariant in
-    let found = round_found marks journal i entry c.loop-entry.passed c.loop-entry.known c.pass-round.result c.pass-round.ensures.round (was.each entry.actor) in
+    let round = c.pass-round.result in
+    let passes = c.pass-round.ensures in
+    let found = round_found marks journal i entry c.loop-entry.passed c.loop-entry.known round passes.round (was.each entry.actor) in
     record {
-      found = c.in_ok-push.ensures.ok ∙ ap (λ (rs : List ℕ). rs ++ c.pass-round.result ∷ []) was.found
+      found = c.in_ok-push.ensures.ok ∙ ap (λ (rs : List ℕ). rs ++ round ∷ []) was.found
           ∙ ap (λ (r : ℕ). map f (enumerate_from 0 (take i journal)) ++ r ∷ []) found ∙ sym (map_numbered f journal i entry below at);
-      all_passed = ap length c.pass-round.ensures.passed ∙ length-set _ _ _ ∙ was.all_passed;
-      all_known = ap length c.pass-round.ensures.known ∙ length-set _ _ _ ∙ was.all_known;
-      each = λ actor. passed_more marks journal i entry c.loop-entry.passed c.loop-entry.known _ _ c.pass-round.result below at c.pass-round.ensures.place.0 c.pass-round.ensures.place.1
-          c.pass-round.ensures.round c.pass-round.ensures.passed c.pass-round.ensures.known actor (was.each actor);
+      all_passed = ap length passes.passed ∙ length-set _ _ _ ∙ was.all_passed;
+      all_known = ap length passes.known ∙ length-set _ _ _ ∙ was.all_known;
+      each = λ actor. passed_more marks journal i entry c.loop-entry.passed c.loop-entry.known _ _ round below at passes.place.0 passes.place.1
+          passes.round passes.passed passes.known actor (was.each actor);
     }

@@ -1,4 +1,4 @@
-use Rattle.std.proofs.Common.{◌≡◌, List, [], ◌∷◌, ◌++◌, set, sym, subst, ◌∙◌}
+use Rattle.std.proofs.Common.{[], ◌∷◌, ◌++◌, set, sym, subst, ◌∙◌}
 use Rattle.show_view.specs.declared.links.Segments.{Segments}
 use Rattle.show_view.specs.Links.{AreCounted}
 use Rattle.show_view.proofs.Counting.{counted_there, counted_elsewhere, there_at, elsewhere_at}
