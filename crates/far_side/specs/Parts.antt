@@ -10,7 +10,7 @@ use Rattle.graft_actors.specs.Actors.{FarSide, FarIs}
 use Rattle.graft_actors.specs.Items.{home_first, remote_first}
 use Rattle.graft_actors.specs.Acts.{OwnPart}
 use Rattle.far_side.specs.Links.{LinkValue}
-use Rattle.actor_configs.specs.Says.{bytes_at}
+use Rattle.actor_configs.specs.Says.{bytes_at, say_by}
 use Rattle.far_side.specs.declared.fields.Fields.{Fields}
 
 abbrev pub far_part : Fields → FarPart

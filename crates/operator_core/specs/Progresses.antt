@@ -31,7 +31,7 @@ use Rattle.operator_state.specs.Issues.{IsGraftHeldUp, graft_issued}
 use Rattle.operator_state.specs.Notes.{graft_noted}
 use Rattle.operator_state.specs.Tasks.{IsNumberOf}
 use Rattle.operator_core.specs.Turns.{BeginNoGroup}
-use Rattle.operator_state.specs.Holds.{NothingToOrder, IsHeldUp}
+use Rattle.operator_state.specs.Holds.{NothingToOrder, IsHeldUp, GivesEmptiedSessions}
 
 abbrev pub progress_state : Progress → State
 progress_state p =
