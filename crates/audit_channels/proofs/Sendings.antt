@@ -1,9 +1,9 @@
 -- One item more in one channel.
 use Rattle.std.proofs.Common.{◌≡◌, ℕ, zero, suc, ◌<◌, ◌==◌, Bool, true, false, List, [], ◌∷◌, ◌++◌, length, refl, sym, ap, ◌∙◌, arith}
-use Rattle.std.proofs.Common.{Option, option_map, slice_get, get_or, set}
+use Rattle.std.proofs.Common.{option_map, slice_get, get_or, set}
 use Rattle.std.proofs.lemmas.Bool.{eqb-true}
 use Rattle.std.proofs.lemmas.Bool.Decides.{nat_tests}
-use Rattle.std.specs.Prelude.{Result, Ok, Err, OnOk, if◌then◌else◌, unwrap_or}
+use Rattle.std.specs.Prelude.{if◌then◌else◌, unwrap_or}
 use Rattle.graft_model.specs.Points.{at, at2}
 use Rattle.audit_channels.specs.declared.channel.Channel.{Channel}
 use Rattle.audit_channels.specs.declared.inboxes.Inbox.{Inbox}

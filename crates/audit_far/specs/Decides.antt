@@ -1,5 +1,5 @@
 -- How a far side decides an event.
-use Rattle.std.specs.Prelude.{ℕ, ◌≡◌, List}
+use Rattle.std.specs.Prelude.{◌≡◌, List}
 use Rattle.std.specs.List.{AllByRecursion}
 use Rattle.graft_model.specs.declared.event.FarEvent.{FarEvent}
 use Rattle.graft_actors.specs.Actors.{ActorName, FarSide}

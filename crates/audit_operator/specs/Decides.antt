@@ -1,5 +1,5 @@
 -- How the operator decides an event.
-use Rattle.std.specs.Prelude.{ℕ, ◌≡◌, List}
+use Rattle.std.specs.Prelude.{◌≡◌, List}
 use Rattle.std.specs.List.{AllByRecursion}
 use Rattle.graft_steps.specs.declared.rest.Pending.{Pending}
 use Rattle.settled_check.specs.Left.{LeftToOperator}

@@ -1,5 +1,5 @@
 -- The operator as the model has it, and the invariant of its fields.
-use Rattle.std.specs.Prelude.{ℕ, ◌≡◌, ◌≤◌, ◌-◌, length, false, Some, slice_get}
+use Rattle.std.specs.Prelude.{◌≡◌, ◌≤◌, ◌-◌, length, false, Some, slice_get}
 use Rattle.std.specs.List.{AllByRecursion}
 use Rattle.graft_model.specs.Parts.{OperatorPart}
 use Rattle.actor_configs.specs.Scripts.{IsScriptOf}

@@ -1,10 +1,10 @@
 -- The tasks of the current group that an order may name.
-use Rattle.std.specs.Prelude.{ℕ, ◌≡◌, ◌≢◌, ◌<◌, ◌+◌, Option, Some, None, slice_get}
+use Rattle.std.specs.Prelude.{ℕ, ◌≡◌, ◌<◌, Option, Some, None, slice_get}
 use Rattle.std.specs.Option.{option_map}
 use Rattle.graft_edge.specs.declared.ids.PeeringId.{PeeringId}
 use Rattle.graft_steps.specs.declared.item.Item.TheVariants as items
 use Rattle.actor_configs.specs.declared.script.ScriptStep.{ScriptStep}
-use Rattle.actor_configs.specs.declared.script.ScriptStep.TheVariants.{Say, Graft, Evacuate, Settle}
+use Rattle.actor_configs.specs.declared.script.ScriptStep.TheVariants.{Say, Evacuate}
 use Rattle.operator_state.specs.Slots.{move_of, slot_at}
 use Rattle.operator_state.specs.declared.groups.Task.{Task}
 use Rattle.audit_ruling.specs.Rulings.{Parcel}

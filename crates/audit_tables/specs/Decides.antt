@@ -1,13 +1,10 @@
 -- How tables decide an event, whatever the places of the router are.
 use Rattle.std.specs.Prelude.{ℕ, ◌≡◌, ◌<◌, List, Bool, length, slice_get, Some}
-use Rattle.std.specs.List.{AllByRecursion}
 use Rattle.graft_model.specs.Parts.{Place}
 use Rattle.graft_model.specs.TableRows.{holds_established}
 use Rattle.graft_model.specs.declared.event.RouterEvent.{RouterEvent}
-use Rattle.graft_actors.specs.Actors.{ActorName, Router}
-use Rattle.graft_actors.specs.Items.{MayGo}
+use Rattle.graft_actors.specs.Actors.{ActorName}
 use Rattle.audit_ruling.specs.Rulings.{Parcel, RouterRules, RouterRulesTaking}
-use Rattle.bgp_session.specs.Running.{carried}
 use Rattle.audit_ruling.specs.declared.ruling.Ruling.{Ruling}
 use Rattle.audit_ruling.specs.declared.ruling.Ruling.TheVariants.{Refused, Silent, Sends}
 use Rattle.audit_tables.specs.Changes.{KeepsTables}

@@ -1,12 +1,11 @@
 -- A router's tables as the model has them, and the invariant of their fields.
-use Rattle.std.specs.Prelude.{ℕ, ◌≡◌, ◌<◌, ◌≤◌, length, Option, Some, None, false, is_some, slice_get}
-use Rattle.std.specs.FinMap as map
+use Rattle.std.specs.Prelude.{ℕ, ◌≡◌, ◌<◌, ◌≤◌, length, Option, Some, false, slice_get}
 use Rattle.bgp_types.specs.Prefixes.{PrefixValue}
 use Rattle.rib_stages.specs.Values.{rib_of, table_at}
 use Rattle.rib_stages.specs.Choosing.{NoneBehind}
 use Rattle.session_value.specs.Sessions.{SessionValue}
 use Rattle.session_value.specs.Sets.{Entries, Prefixes, has}
-use Rattle.graft_model.specs.Setups.{Setup, routers_in, peerings_in}
+use Rattle.graft_model.specs.Setups.{routers_in, peerings_in}
 use Rattle.graft_model.specs.Parts.{Place, RouterPart}
 use Rattle.graft_model.specs.RouterRows.{IsToTell}
 use Rattle.graft_model.specs.Decisions.{to_tell}

@@ -7,7 +7,6 @@ use Rattle.session_value.specs.Fronts.{BeginsNothing}
 use Rattle.session_value.specs.Sessions.{SessionValue, state, unread}
 use Rattle.session_value.specs.Sets.{Entries, Prefixes, has}
 use Rattle.rib_stages.specs.Values.{rib_of, table_at}
-use Rattle.bgp_session.specs.Running.{RunningSession}
 use Rattle.graft_model.specs.Setups.{Setup, peerings_in, room_of, routers_in}
 use Rattle.graft_model.specs.Parts.{RouterPart}
 use Rattle.graft_actors.specs.Actors.{Router, RouterIs}

@@ -1,5 +1,5 @@
 -- What an actor of the auditor does by the row of an event is what an actor of a laboratory does.
-use Rattle.std.proofs.Common.{◌≡◌, ℕ, List, ◌∷◌, ◌++◌, Option, Some, None, option_map, refl, sym, ap, ◌∙◌, subst, inl}
+use Rattle.std.proofs.Common.{◌≡◌, ℕ, List, ◌++◌, Option, Some, option_map, refl, sym, ap, ◌∙◌, subst, inl}
 use Rattle.ring_net.specs.declared.entry.JournalEntry.{JournalEntry}
 use Rattle.ring_net.specs.Deeds.{Deed}
 use Rattle.journal_merge.specs.Worlds as worlds

@@ -1,5 +1,5 @@
 -- Which answers are those of an audit: the journal is that of a run, or its first entry at fault and that entry's first fault are named.
-use Rattle.std.specs.Prelude.{ℕ, ◌≡◌, ◌↔◌, ◌⊎◌, List, [], ◌∷◌, ◌++◌, length, Bool, true}
+use Rattle.std.specs.Prelude.{ℕ, ◌≡◌, ◌↔◌, List, [], ◌∷◌, ◌++◌, length, Bool, true}
 use Rattle.ring_net.specs.declared.entry.JournalEntry.{JournalEntry}
 use Rattle.journal_merge.specs.Merges.{IsBefore, AreSorted}
 use Rattle.graft_model.specs.Setups.{Setup}

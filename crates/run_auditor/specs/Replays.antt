@@ -1,5 +1,5 @@
 -- One entry behind others, replayed.
-use Rattle.std.specs.Prelude.{◌≡◌, Option, Some, None}
+use Rattle.std.specs.Prelude.{Option, Some, None}
 use Rattle.ring_net.specs.declared.entry.JournalEntry.{JournalEntry}
 use Rattle.journal_merge.specs.Merges.{IsBefore}
 use Rattle.graft_model.specs.Setups.{Setup}

@@ -5,7 +5,7 @@ use Rattle.graft_model.specs.Setups.{Setup, routers_in, peerings_in}
 use Rattle.graft_model.specs.declared.event.ActorEvent.{ActorEvent}
 use Rattle.graft_model.specs.declared.event.ActorEvent.TheVariants.{OfRouter, OfFar, OfOperator}
 use Rattle.graft_model.specs.Steps.{Event, ByRouter, ByFar, ByOperator, Step}
-use Rattle.graft_actors.specs.Actors.{IsActor, number_in}
+use Rattle.graft_actors.specs.Actors.{number_in}
 use Rattle.graft_actors.specs.Laws.{maker_of}
 use Rattle.audit_ruling.specs.Rulings.{Parcel}
 use Rattle.audit_ruling.specs.declared.ruling.Ruling.{Ruling}

@@ -1,5 +1,5 @@
 -- What an auditor keeps.
-use Rattle.std.specs.Prelude.{ℕ, ◌≡◌, ◌<◌, ◌≤◌, length, Some, slice_get}
+use Rattle.std.specs.Prelude.{ℕ, ◌≡◌, ◌≤◌, length, Some, slice_get}
 use Rattle.graft_model.specs.Parts.{World}
 use Rattle.graft_model.specs.Setups.{routers_in, peerings_in}
 use Rattle.world_runs.specs.Labs.{actors_in}

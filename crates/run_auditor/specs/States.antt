@@ -1,9 +1,8 @@
 -- The world for which an auditor stands.
-use Rattle.std.specs.Prelude.{ℕ, Option, Some, None, map, slice_get}
+use Rattle.std.specs.Prelude.{Option, Some, None, slice_get}
 use Rattle.std.specs.Option.{option_map, unwrap_or}
 use Rattle.journal_merge.specs.Worlds as worlds
-use Rattle.graft_steps.specs.declared.item.Item.{Item}
-use Rattle.graft_model.specs.Setups.{Setup, IsSetup}
+use Rattle.graft_model.specs.Setups.{IsSetup}
 use Rattle.graft_model.specs.Parts.{World}
 use Rattle.graft_model.specs.First.{first_router, first_far}
 use Rattle.graft_laws.specs.Keeps.{Reached}

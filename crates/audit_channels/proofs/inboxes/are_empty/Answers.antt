@@ -1,4 +1,4 @@
-use Rattle.std.proofs.Common.{◌≡◌, ◌≤◌, ℕ, ◌∙◌, refl, sym, arith, length}
+use Rattle.std.proofs.Common.{◌≤◌, ◌∙◌, refl, sym, arith, length}
 use Rattle.audit_channels.proofs.Empties.{at_index, everywhere, up_to}
 use Rattle.audit_channels.proofs.inboxes.are_empty.Goals as goal
 

@@ -1,4 +1,4 @@
-use Rattle.std.proofs.Common.{◌≡◌, ◌++◌, ◌∷◌, [], List, length, arith, ap, ◌∙◌, sym, subst, ℕ, ◌+◌}
+use Rattle.std.proofs.Common.{◌++◌, ◌∷◌, [], List, length, arith, ap, ◌∙◌, sym, subst, ℕ, ◌+◌}
 use Rattle.std.specs.List.{AllByRecursion}
 use Rattle.audit_channels.specs.declared.channel.Channel.{Channel}
 use Rattle.audit_channels.proofs.Empties.{IsEmpty, none_at, one_more, longer}

@@ -1,4 +1,4 @@
-use Rattle.std.proofs.Common.{◌≡◌, ◌++◌, ◌∷◌, [], List, length, arith, ap, ◌∙◌, sym, subst, ℕ, ◌+◌}
+use Rattle.std.proofs.Common.{List, length, arith, ap, ◌∙◌, sym, subst, ℕ, ◌+◌}
 use Rattle.std.specs.List.{AllByRecursion}
 use Rattle.audit_channels.specs.declared.inboxes.Inbox.{Inbox}
 use Rattle.audit_channels.proofs.Empties.{IsEmptyInbox, none_between, as_many, one_more, longer}

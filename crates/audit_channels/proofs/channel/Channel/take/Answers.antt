@@ -1,4 +1,4 @@
-use Rattle.std.proofs.Common.{rules, ◌≡◌, ◌∷◌, ap, map}
+use Rattle.std.proofs.Common.{rules}
 use Rattle.audit_channels.proofs.channel.Channel.take.Goals as goal
 
 pub returns-clause-stamps : goal.returns-clause-stamps
