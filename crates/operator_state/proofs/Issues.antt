@@ -23,8 +23,8 @@ use Rattle.operator_state.specs.Tasks.{is_task, has_task}
 use Rattle.operator_state.specs.States.{State, is_say, issued_in, part_of_state}
 use Rattle.operator_state.specs.Keeps.{Precedes, Rises, IsGraftTask, IsWaitingTask, IsMade, IsSlot, slot_waits, InTurn}
 use Rattle.operator_state.specs.Keeps.{SlotsStand, IsSeat, SeatsStand, OperatorInvariant, with_slots}
-use Rattle.operator_state.specs.Issues.{IsGraftHeldUp, waiting_are, issued_entry, moving_seat, graft_issued}
-use Rattle.operator_state.proofs.Lists.{by_test, compare, get_set_same, get_set_other, length_set, there_is, one_member, all_append}
+use Rattle.operator_state.specs.Issues.{IsGraftHeldUp, waiting_are, issued_entry, moving_seat, graft_issued, LetsGraft, LetsSay}
+use Rattle.operator_state.proofs.Lists.{by_test, compare, get_set_same, get_set_other, length_set, there_is, one_member, all_append, all_map}
 use Rattle.operator_state.proofs.Lists.{all_append_left, all_append_right, one_passes, any_about, any_here, any_without}
 use Rattle.operator_state.proofs.TaskOrder.{task_names, is_that_task, is_other_step, is_other_graft, follow, precede, once_in, rises_without}
 use Rattle.operator_state.proofs.SlotLaws.{slot_next, source_set, outcome_stays, given_stays, graft_there, number, own_source, own_outcome}
@@ -66,8 +66,19 @@ waits_for_graft s keeps task w some = by_step found.0 found.1
     by_step (EvacuateStep router) e = w.evacuates router e
     by_step SettleStep e = absurd (w.issuable e)
 
-module _ (s : State) (keeps : OperatorInvariant s) (kept rest : List Task) (task : Task)
-    (waiting : s.waiting ≡ kept ++ task ∷ rest) (held : AllByRecursion (IsGraftHeldUp s) kept) where
+-- a task that is held up has no remote say anything, and its graft is of another peering than one that isn't held up
+pub held_lets_say : (s : State) (p : ℕ) (tasks : List Task) → AllByRecursion (IsGraftHeldUp s) tasks → AllByRecursion (LetsSay s p) tasks
+held_lets_say s p tasks held = all_map (IsGraftHeldUp s) (LetsSay s p) tasks (λ task h bytes is. held_has_graft s task h) held
+
+pub held_lets_graft : (s : State) (p : ℕ) (seat : Seat) (tasks : List Task) → slice_get s.seats p ≡ Some seat → seat.moving ≡ false
+    → AllByRecursion (IsGraftHeldUp s) tasks → AllByRecursion (LetsGraft s p) tasks
+held_lets_graft s p seat tasks seated still held = all_map (IsGraftHeldUp s) (LetsGraft s p) tasks (λ task h entry at of_p.
+    let same : h.entry ≡ entry = same_entry h.entry entry (sym h.is ∙ at) in
+    let seats_are : h.seat ≡ seat = one_member (slice_get s.seats p) _ _
+    (sym (ap (slice_get s.seats) (ap (λ (y : GraftEntry). y.peering.0) same ∙ of_p)) ∙ h.seated) seated in
+    let f : true ≡ false = sym h.moving ∙ ap (λ (y : Seat). y.moving) seats_are ∙ still in cc) held
+
+module _ (s : State) (keeps : OperatorInvariant s) (kept rest : List Task) (task : Task) (waiting : s.waiting ≡ kept ++ task ∷ rest) where
   rising : Rises (kept ++ task ∷ rest)
   rising = subst Rises waiting keeps.rising
 
@@ -96,12 +107,12 @@ module _ (s : State) (keeps : OperatorInvariant s) (kept rest : List Task) (task
   other_stays : (n k : ℕ) → is_task n k task ≡ false → has_task (kept ++ rest) n k ≡ has_task s.waiting n k
   other_stays n k e = sym (any_without (is_task n k) kept task rest e) ∙ ap (λ tasks. has_task tasks n k) (sym waiting)
 
-  -- a task that waits is held up, is this one, or stands behind it
-  about : (n k : ℕ) → has_task s.waiting n k ≡ true
-      → ((other : Task) × (is_task n k other ≡ true) × IsGraftHeldUp s other)
+  -- a task that waits stands before this one, is it, or stands behind it
+  about : (P : Task → Type 0) → AllByRecursion P kept → (n k : ℕ) → has_task s.waiting n k ≡ true
+      → ((other : Task) × (is_task n k other ≡ true) × P other)
       ⊎ ((is_task n k task ≡ true) ⊎ ((other : Task) × (is_task n k other ≡ true) × Precedes task other))
-  about n k e = elim (any_about (is_task n k) kept task rest (ap (λ tasks. has_task tasks n k) (sym waiting) ∙ e)) [
-    | inl before ↦ inl (one_passes (is_task n k) (IsGraftHeldUp s) kept held before)
+  about P all n k e = elim (any_about (is_task n k) kept task rest (ap (λ tasks. has_task tasks n k) (sym waiting) ∙ e)) [
+    | inl before ↦ inl (one_passes (is_task n k) P kept all before)
     | inr (inl here) ↦ inr (inl here)
     | inr (inr behind) ↦ inr (inr (one_passes (is_task n k) (Precedes task) rest (follow kept task rest rising) behind))
   ]
@@ -157,8 +168,9 @@ module _ (s : State) (keeps : OperatorInvariant s) (kept rest : List Task) (task
       seats = keeps.seats;
     }
 
-    pub say_row : OrdersSay s.setup task.step 0 (part_of_state s) None (SayTo p task.step ∷ []) (part_of_state (waiting_are s (kept ++ rest)))
-    say_row = record {
+    pub say_row : AllByRecursion (LetsSay s p) kept
+        → OrdersSay s.setup task.step 0 (part_of_state s) None (SayTo p task.step ∷ []) (part_of_state (waiting_are s (kept ++ rest)))
+    say_row clear = record {
       alone = refl;
       group = waits.group_is;
       unissued = waits_unissued s task.step say_waits;
@@ -169,8 +181,8 @@ module _ (s : State) (keeps : OperatorInvariant s) (kept rest : List Task) (task
         | inl f ↦ f
         | inr f ↦
             let w : has_task s.waiting m 0 ≡ true = unissued_waits s m (ap is_say e) (let h : task.step < s.next = waits.before in omega arith) f in
-            elim (about m 0 w) [
-              | inl (x, names, h) ↦ absurd (held_has_graft s x h (task_names m 0 x names).1)
+            elim (about (LetsSay s p) clear m 0 w) [
+              | inl (x, names, lets) ↦ let named = task_names m 0 x names in absurd (lets other (ap (slice_get s.setup.steps) named.0 ∙ e) named.1)
               | inr (inl names) ↦ absurd (let same : task.step ≡ m = (task_names m 0 task names).0 in omega arith)
               | inr (inr (x, names, behind)) ↦
                   absurd (let same : x.step ≡ m = (task_names m 0 x names).0 in let le : task.step ≤ x.step = behind.step in omega arith)
@@ -209,7 +221,8 @@ module _ (s : State) (keeps : OperatorInvariant s) (kept rest : List Task) (task
 
   module _ (of_step : IsGraftTask s.setup task) (index : ℕ) (is_index : index + 1 ≡ task.graft)
       (entry : GraftEntry) (there : slice_get s.slots index ≡ Some (Made entry))
-      (seat : Seat) (seated : slice_get s.seats entry.peering.0 ≡ Some seat) (still : seat.moving ≡ false) where
+      (seat : Seat) (seated : slice_get s.seats entry.peering.0 ≡ Some seat) (still : seat.moving ≡ false)
+      (clear : AllByRecursion (LetsGraft s entry.peering.0) kept) where
     abbrev after : State
     after = waiting_are (graft_issued s index entry seat) (kept ++ rest)
 
@@ -264,14 +277,11 @@ module _ (s : State) (keeps : OperatorInvariant s) (kept rest : List Task) (task
         steps = steps_rise s.setup h.graft g (graft_there s.setup i h.graft h.index) known (omega (arith, its_number, number_is, l))
 
         no_task : has_task s.waiting h.graft.step h.graft.graft ≡ true → ⊥
-        no_task w = elim (about h.graft.step h.graft.graft w) [
-          | inl (x, is, up) ↦
+        no_task w = elim (about (LetsGraft s entry.peering.0) clear h.graft.step h.graft.graft w) [
+          | inl (x, is, lets) ↦
               let at_i : slot_at s.slots x.graft ≡ Some (Made one) =
               ap (slot_at s.slots) ((task_names h.graft.step h.graft.graft x is).1 ∙ its_number) ∙ slot_next s.slots i ∙ e in
-              let same : up.entry ≡ one = same_entry up.entry one (sym up.is ∙ at_i) in
-              let seats_are : up.seat ≡ seat = one_member (slice_get s.seats entry.peering.0) _ _
-              (sym (ap (slice_get s.seats) (ap (λ (y : GraftEntry). y.peering.0) same ∙ of_p)) ∙ up.seated) seated in
-              (let f : true ≡ false = sym up.moving ∙ ap (λ (y : Seat). y.moving) seats_are ∙ still in absurd cc)
+              absurd (lets one at_i of_p)
           | inr (inl is) ↦ let same : task.graft ≡ h.graft.graft = (task_names h.graft.step h.graft.graft task is).1 in
               let n : h.graft.graft ≡ i + 1 = its_number in absurd (omega arith)
           | inr (inr (x, is, behind)) ↦
@@ -486,8 +496,8 @@ module _ (s : State) (keeps : OperatorInvariant s) (kept rest : List Task) (task
         by_number (suc k) e = ap (slot_at after.slots) e ∙ at_other k (λ same. differs (omega (arith, e, same, is_index))) ∙ sym (ap (slot_at s.slots) e) ∙ h.is
 
     -- the tasks before this one are of other grafts
-    pub held_others : AllByRecursion (IsGraftHeldUp after) kept
-    held_others = each kept held (all_append_left (IsWaitingTask s.setup s.group s.next) kept (task ∷ rest) all_wait) (precede kept task rest rising)
+    pub held_others : AllByRecursion (IsGraftHeldUp s) kept → AllByRecursion (IsGraftHeldUp after) kept
+    held_others held = each kept held (all_append_left (IsWaitingTask s.setup s.group s.next) kept (task ∷ rest) all_wait) (precede kept task rest rising)
       where
         differs : (other : Task) → IsGraftHeldUp s other → IsWaitingTask s.setup s.group s.next other → Precedes other task → other.graft ≢ task.graft
         differs other h w before same =

@@ -1,8 +1,9 @@
 -- What issuing a task changes.
-use Rattle.std.specs.Prelude.{ℕ, ◌≡◌, List, true, Some, slice_get, slice_set}
+use Rattle.std.specs.Prelude.{ℕ, ◌≡◌, ◌≢◌, List, true, Some, slice_get, slice_set}
 use Rattle.graft_edge.specs.declared.ids.RouterId.{RouterId}
 use Rattle.graft_steps.specs.declared.log.GraftEntry.{GraftEntry}
 use Rattle.graft_steps.specs.declared.log.GraftStage.TheVariants.{Issued}
+use Rattle.graft_model.specs.Setups.{SayStep}
 use Rattle.operator_state.specs.declared.grafts.Seat.{Seat}
 use Rattle.operator_state.specs.declared.grafts.Slot.TheVariants.{Made}
 use Rattle.operator_state.specs.declared.groups.Task.{Task}
@@ -16,6 +17,14 @@ pub record IsGraftHeldUp (s : State) (task : Task) : Type 0 where
   pub seat : Seat
   pub seated : slice_get s.seats entry.peering.0 ≡ Some seat
   pub moving : seat.moving ≡ true
+
+-- the task has no remote of this peering say anything
+abbrev pub LetsSay : State → ℕ → Task → Type 0
+LetsSay s p task = (bytes : List ℕ) → slice_get s.setup.steps task.step ≡ Some (SayStep p bytes) → task.graft ≢ 0
+
+-- its graft, if it has one, isn't of this peering
+abbrev pub LetsGraft : State → ℕ → Task → Type 0
+LetsGraft s p task = (entry : GraftEntry) → slot_at s.slots task.graft ≡ Some (Made entry) → entry.peering.0 ≢ p
 
 -- the state with these pending tasks
 abbrev pub waiting_are : State → List Task → State
