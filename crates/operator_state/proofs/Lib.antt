@@ -21,4 +21,5 @@ mod GiftLoops
 pub mod GroupSteps
 pub mod NextGroup
 pub mod FirstGroup
+pub mod Starts
 mod GroupLoops

@@ -15,7 +15,8 @@ use Rattle.operator_state.proofs.Steps.{as_many_steps}
 use Rattle.operator_core.proofs.Results.{differ}
 use Rattle.operator_state.proofs.Gifts.{length_give}
 use Rattle.operator_state.proofs.NextGroup.{group_is_small}
-use Rattle.operator_core.proofs.Goes.{numbers_fit, go_held, go_begins, next_gifts_fit}
+use Rattle.operator_state.proofs.Starts.{numbers_fit}
+use Rattle.operator_core.proofs.Goes.{go_held, go_begins, next_gifts_fit}
 use Rattle.operator_core.proofs.progress.Progress.go.Goals as goal
 
 pub returns-then-is_held_up-clause-ok : goal.returns-then-is_held_up-clause-ok
