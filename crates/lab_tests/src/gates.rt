@@ -1,7 +1,8 @@
-//! Gates that hold one worker until the other one has gone on. Each run is one of two routers, `a` and `b`, and a remote that
-//! announces many prefixes to `a`. In the first round in which they are decided and told, one worker lets all actors act, since there was
-//! little to do before. In the round behind it two workers do: the routers have the most to do, and so are dealt to different ones, and the
-//! remote or the operator acts after each. Where workers didn't run side by side, a gate would never open.
+//! Gates that hold one worker until the other one has gone on. Each run is one of two routers, `a` and `b`, each with a remote that
+//! announces prefixes, one of them a round later than the other. In the first round in which prefixes are decided and told, one worker lets
+//! all actors act, since there was little to do before. In the round behind it, when the late remote's prefixes come, two workers do: the
+//! routers have the most to do, and so are dealt to different ones, and at least one of the remotes and the operator acts after each. Where
+//! workers didn't run side by side, a gate would never open.
 
 use crate::labs::run;
 use graft_edge::{FreeGate, Gate, NoMemory};
@@ -14,7 +15,7 @@ use std::sync::atomic::{AtomicU64, Ordering};
 use std::test::Fail;
 use std::thread::Threads;
 
-/// Two routers and a remote at the first one.
+/// Two routers, each with a remote.
 const TWO_ROUTERS: &str = r#"
 home_as = 65000
 
@@ -34,6 +35,13 @@ at = "a"
 remote_as = 65001
 remote_address = "192.0.2.1"
 local_address = "192.0.2.2"
+
+[[peering]]
+name = "c2"
+at = "b"
+remote_as = 65002
+remote_address = "192.0.2.5"
+local_address = "192.0.2.6"
 "#;
 
 // The actors of this input.
@@ -41,9 +49,11 @@ const ROUTER_A: usize = 0;
 
 const ROUTER_B: usize = 1;
 
-const REMOTE: usize = 2;
+/// The two remotes and the operator.
+const OTHERS: [usize; 3] = [2, 3, 4];
 
-const OPERATOR: usize = 3;
+/// The kind of an event by which a router tells another one a route.
+const TELL: u16 = 7;
 
 /// The kind of an event by which a router hears what another one told.
 const HEAR: u16 = 8;
@@ -58,7 +68,7 @@ const MOST_LOOKS: u32 = 100_000_000;
 #[derive(Drop)]
 struct Hold {
     held: usize,
-    others: [usize; 2],
+    others: [usize; 3],
     /// Which of its passes is held, counted from 1: the number of the round.
     round: u64,
     /// How many passes of the others it waits for.
@@ -69,30 +79,27 @@ struct Hold {
 }
 
 impl Hold {
-    /// Holds an actor in a round until another one has passed in it.
-    fn until(held: usize, other: usize, round: u64) -> Hold {
+    fn new(held: usize, others: [usize; 3], round: u64, wanted: u64) -> Hold {
         Hold {
             held,
-            others: [other, other],
+            others,
             round,
-            wanted: round,
+            wanted,
             held_passes: AtomicU64::new(0),
             other_passes: AtomicU64::new(0),
             missed: AtomicU64::new(0),
         }
     }
 
-    /// Holds an actor in a round until one of two others has passed in it.
-    fn until_either(held: usize, others: [usize; 2], round: u64) -> Hold {
-        Hold {
-            held,
-            others,
-            round,
-            wanted: round.saturating_mul(2).saturating_sub(1),
-            held_passes: AtomicU64::new(0),
-            other_passes: AtomicU64::new(0),
-            missed: AtomicU64::new(0),
-        }
+    /// Holds an actor in a round until another one has passed in it.
+    fn until(held: usize, other: usize, round: u64) -> Hold {
+        Hold::new(held, [other, other, other], round, round)
+    }
+
+    /// Holds a router in a round until one of the remotes and the operator has passed in it.
+    fn until_any(held: usize, round: u64) -> Hold {
+        let wanted = round.saturating_mul(3).saturating_sub(2);
+        Hold::new(held, OTHERS, round, wanted)
     }
 
     /// Waits until the others have passed often enough.
@@ -126,18 +133,29 @@ impl Gate for Hold {
     }
 }
 
-/// Returns the input in which the remote announces 400 prefixes.
-fn many_prefixes(alloc: Global) -> Result<String, NoMemory> {
+/// Adds the step in which a peering's remote announces 120 prefixes.
+fn push_announcement(text: &mut String, peering: &str, second: u8) -> Result<(), NoMemory> {
+    write!(
+        text,
+        "\n[[step]]\ndo = \"announce\"\npeering = \"{peering}\"\n"
+    )?;
+    write!(text, "prefixes = [\"11.{second}.0.0/16\"")?;
+    for prefix in 0..119u8 {
+        write!(text, ", \"10.{second}.{prefix}.0/24\"")?;
+    }
+    text.push_str("]\n")?;
+    Ok(())
+}
+
+/// Returns the input in which both remotes announce prefixes, and the link of one peering delivers them a round late.
+fn with_late_prefixes(alloc: Global, late: &str) -> Result<String, NoMemory> {
     let mut text = String::new(alloc);
     text.push_str(TWO_ROUTERS)?;
-    for step in 0..2u32 {
-        text.push_str("\n[[step]]\ndo = \"announce\"\npeering = \"c1\"\nprefixes = [")?;
-        write!(text, "\"11.{step}.0.0/16\"")?;
-        for prefix in 0..199u32 {
-            write!(text, ", \"10.{step}.{prefix}.0/24\"")?;
-        }
-        text.push_str("]\n")?;
-    }
+    write!(text, "\n[[fault]]\npeering = \"{late}\"\nway = \"home\"\n")?;
+    // The fourth segment is the first one that has prefixes.
+    text.push_str("segment = 4\nkind = \"hold\"\nafter = 1\n")?;
+    push_announcement(&mut text, "c1", 1)?;
+    push_announcement(&mut text, "c2", 2)?;
     Ok(text)
 }
 
@@ -170,20 +188,27 @@ fn length_at(lab: &Lab, mark: usize, actor: usize) -> Option<usize> {
     Some(*length as usize)
 }
 
-/// Whether an actor made an event of this kind between two marks, which are numbered from 0.
-fn makes_between(lab: &Lab, before: usize, behind: usize, actor: usize, kind: u16) -> Option<bool> {
-    let first = length_at(lab, before, actor)?;
-    let end = length_at(lab, behind, actor)?;
+/// How many events of this kind an actor had made at the mark of this number, from 0.
+fn made_at(lab: &Lab, mark: usize, actor: usize, kind: u16) -> Option<usize> {
+    let length = length_at(lab, mark, actor)?;
     let mut its_own = lab
         .journal
         .iter()
         .filter(|entry| usize::from(entry.actor) == actor);
     Some(
         its_own
-            .take(end)
-            .skip(first)
-            .any(|entry| entry.kind == kind),
+            .take(length)
+            .filter(|entry| entry.kind == kind)
+            .count(),
     )
+}
+
+/// Whether a router heard something in the round of this number, from 1, that the other one told in it: so it is where it had heard more at
+/// the end of the round than had been told at its beginning.
+fn hears_what_is_told(lab: &Lab, round: usize, hears: usize, tells: usize) -> Option<bool> {
+    let told = made_at(lab, round.saturating_sub(1), tells, TELL)?;
+    let heard = made_at(lab, round, hears, HEAR)?;
+    Some(heard > told)
 }
 
 /// Runs the input by one worker, and returns the number of the round that two workers would make.
@@ -200,7 +225,7 @@ fn dealt_round<R: Threads + Sync + Abort + AllocGlobal>(
 /// Each router waits until the other one, which another worker turns, has passed: neither worker waits for the other's turns to end.
 #[test]
 fn workers_run_side_by_side(rt: HostRuntime) -> Result<(), Fail> {
-    let input = many_prefixes(rt.alloc())?;
+    let input = with_late_prefixes(rt.alloc(), "c1")?;
     let round = dealt_round(&rt, input.as_str())?;
     for (held, other) in [(ROUTER_A, ROUTER_B), (ROUTER_B, ROUTER_A)] {
         let gate = Hold::until(held, other, round as u64);
@@ -211,19 +236,32 @@ fn workers_run_side_by_side(rt: HostRuntime) -> Result<(), Fail> {
     Ok(())
 }
 
-/// Router `b` waits until the one of the remote and the operator passes that acts after router `a`. It hears what `a` told in the same
-/// round: in the round before it acted after `a` too, and so the ring from `a` was empty at the mark.
-#[test]
-fn an_item_is_taken_in_its_round(rt: HostRuntime) -> Result<(), Fail> {
-    let input = many_prefixes(rt.alloc())?;
-    let round = dealt_round(&rt, input.as_str())?;
-    let gate = Hold::until_either(ROUTER_B, [REMOTE, OPERATOR], round as u64);
-    let lab = run(&rt, input.as_str(), 2, &gate)?;
+/// Holds a router until one of the remotes and the operator passes, which can only be one that acts after the other router; and checks that
+/// it hears what that one told in the same round. The other router has something to tell, since its remote, whose peering this is, is late.
+fn hear_in_the_round<R: Threads + Sync + Abort + AllocGlobal>(
+    rt: &R,
+    late: &str,
+    tells: usize,
+    hears: usize,
+) -> Result<(), Fail> {
+    let input = with_late_prefixes(rt.alloc(), late)?;
+    let round = dealt_round(rt, input.as_str())?;
+    let gate = Hold::until_any(hears, round as u64);
+    let lab = run(rt, input.as_str(), 2, &gate)?;
     assert!(rt; gate.has_opened());
     assert_eq!(rt; lab.end, RunEnd::Settled);
-    assert_eq!(rt;
-        makes_between(&lab, round.saturating_sub(1), round, ROUTER_B, HEAR),
-        Some(true)
-    );
+    assert_eq!(rt; hears_what_is_told(&lab, round, hears, tells), Some(true));
     Ok(())
+}
+
+/// From router `a` to router `b`, which takes the item in the round in which it was pushed.
+#[test]
+fn an_item_from_a_is_taken_in_its_round(rt: HostRuntime) -> Result<(), Fail> {
+    hear_in_the_round(&rt, "c1", ROUTER_A, ROUTER_B)
+}
+
+/// From router `b` to router `a`. No fixed order, in which all actors act one after another, passes both this test and the one above.
+#[test]
+fn an_item_from_b_is_taken_in_its_round(rt: HostRuntime) -> Result<(), Fail> {
+    hear_in_the_round(&rt, "c2", ROUTER_B, ROUTER_A)
 }

@@ -38,6 +38,7 @@ plain_reads_none _ text is reads = none_some text is
 
 pub views_run : (view : ViewName) (workers : ℕ) → RunsLab (viewing view workers)
 views_run names.Timeline workers = tt
+views_run names.Show workers = tt
 views_run (names.Story name) workers = tt
 views_run (names.Why name prefix) workers = tt
 
@@ -59,18 +60,21 @@ took_of _ before after bytes reads gives = gives
 
 pub views_read : (view : ViewName) (workers : ℕ) → ReadsSource (viewing view workers)
 views_read names.Timeline workers = tt
+views_read names.Show workers = tt
 views_read (names.Story name) workers = tt
 views_read (names.Why name prefix) workers = tt
 
 pub view_told : (view : ViewName) (workers : ℕ) (bytes : List ℕ) (lab : Lab) (text : List ℕ) → ShowsView lab view text
     → Tells (viewing view workers) bytes lab text
 view_told names.Timeline workers bytes lab text shows = shows
+view_told names.Show workers bytes lab text shows = shows
 view_told (names.Story name) workers bytes lab text shows = shows
 view_told (names.Why name prefix) workers bytes lab text shows = shows
 
 pub view_shown : (view : ViewName) (workers : ℕ) (bytes : List ℕ) (lab : Lab) (text : List ℕ) → Tells (viewing view workers) bytes lab text
     → ShowsView lab view text
 view_shown names.Timeline workers bytes lab text tells = tells
+view_shown names.Show workers bytes lab text tells = tells
 view_shown (names.Story name) workers bytes lab text tells = tells
 view_shown (names.Why name prefix) workers bytes lab text tells = tells
 
@@ -82,6 +86,7 @@ lab_asked words (jobs.Run workers) ask lab = inl (inl (workers, ask))
 lab_asked words (jobs.Drill seed workers) ask lab = inr (seed, (workers, ask))
 lab_asked words (jobs.Journal workers) ask lab = inl (inr (inl (workers, ask)))
 lab_asked words (jobs.Timeline workers) ask lab = inl (inr (inr (names.Timeline, (workers, ask))))
+lab_asked words (jobs.Show workers) ask lab = inl (inr (inr (names.Show, (workers, ask))))
 lab_asked words (jobs.Story name workers) ask lab = inl (inr (inr (names.Story name, (workers, ask))))
 lab_asked words (jobs.Why name prefix workers) ask lab = inl (inr (inr (names.Why name prefix, (workers, ask))))
 lab_asked words _ ask lab = absurd lab

@@ -2,3 +2,4 @@ pub mod Asking
 pub mod Facts
 pub mod Numbers
 pub mod Parts
+mod Traced

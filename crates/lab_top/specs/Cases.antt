@@ -142,6 +142,7 @@ Tells (jobs.Run workers) bytes lab text = IsReport lab text
 Tells (jobs.Drill seed workers) bytes lab text = text ≡ summary_text lab
 Tells (jobs.Journal workers) bytes lab text = text ≡ journal_text bytes lab.journal
 Tells (jobs.Timeline workers) bytes lab text = ShowsView lab names.Timeline text
+Tells (jobs.Show workers) bytes lab text = ShowsView lab names.Show text
 Tells (jobs.Story name workers) bytes lab text = ShowsView lab (names.Story name) text
 Tells (jobs.Why name prefix workers) bytes lab text = ShowsView lab (names.Why name prefix) text
 Tells _ bytes lab text = ⊥

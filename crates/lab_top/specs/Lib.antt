@@ -1,4 +1,5 @@
 pub mod Built
 pub mod Cases
 pub mod Ends
+pub mod Laws
 pub mod Views

@@ -9,6 +9,7 @@ use Rattle.lab_words.specs.declared.job.Job.{Job}
 use Rattle.lab_words.specs.declared.job.Job.TheVariants as jobs
 use Rattle.lab_report.specs.declared.lab.Lab.{Lab}
 use Rattle.timeline_view.specs.Timeline.{timeline_text}
+use Rattle.show_view.specs.Show.{show_text}
 use Rattle.story_view.specs.Story.{story_text}
 use Rattle.why_view.specs.Why.{why_text}
 use Rattle.lab_top.specs.declared.views.View.{View}
@@ -36,12 +37,14 @@ view_or name view None = Err name
 -- the view that is named; or the name of a router or peering that the input hasn't
 abbrev pub view_named : LabInput → ViewName → Result View (List ℕ)
 view_named input names.Timeline = Ok views.Timeline
+view_named input names.Show = Ok views.Show
 view_named input (names.Story name) = view_or name (λ n. views.Story (record { 0 = n })) (peering_named input name)
 view_named input (names.Why name prefix) = view_or name (λ n. views.Why (record { 0 = n }) prefix) (router_named input name)
 
--- what a view shows of a run: its events, the session of a peering, or the routes of a router to a prefix
+-- what a view shows of a run: its events, all that there is at its end, the session of a peering, or the routes of a router to a prefix
 abbrev pub view_text : Lab → View → List ℕ
 view_text lab views.Timeline = timeline_text lab
+view_text lab views.Show = show_text lab
 view_text lab (views.Story peering) = story_text lab peering.0
 view_text lab (views.Why router prefix) = why_text lab router.0 prefix
 
@@ -52,5 +55,6 @@ ShowsView lab name text = (view : View) × (view_named lab.input name ≡ Ok vie
 -- the job that shows a view
 abbrev pub viewing : ViewName → (workers : ℕ) → Job
 viewing names.Timeline workers = jobs.Timeline workers
+viewing names.Show workers = jobs.Show workers
 viewing (names.Story name) workers = jobs.Story name workers
 viewing (names.Why name prefix) workers = jobs.Why name prefix workers

@@ -4,11 +4,13 @@
 mod built;
 mod finish;
 mod jobs;
+mod laws;
 mod top;
 mod views;
 
 pub use finish::{
     BAD_INPUT, DONE, Finish, LIMIT, NO_MEMORY, READ_FAILED, UNSETTLED, USAGE, WRITE_FAILED,
 };
+pub use laws::{reports_have_their_traces, the_headline_says};
 pub use top::graft_main;
 pub use views::{View, ViewName};

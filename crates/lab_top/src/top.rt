@@ -43,6 +43,7 @@ fn do_job<R: Threads + Sync + AllocGlobal, S: Source, K: Sink, G: Gate>(
         Job::Timeline { workers } => {
             view_job(rt, source, sink, ViewName::Timeline, workers, gate)
         }
+        Job::Show { workers } => { view_job(rt, source, sink, ViewName::Show, workers, gate) }
         Job::Story { peering, workers } => {
             view_job(rt, source, sink, ViewName::Story(peering), workers, gate)
         }
@@ -102,7 +103,7 @@ fn finish_of<R: Threads + Sync + AllocGlobal, S: Source, K: Sink, G: Gate>(
 
 /// Does what the words of a command ask for. `run` reads an input from the source to its end, runs it and
 /// writes the report to the sink; each actor's turn passes the gate first. `journal` writes the input and the
-/// journal of its run in place of a report, `timeline`, `story` and `why` write a view of it. `check` reads an input and
+/// journal of its run in place of a report, `timeline`, `show`, `story` and `why` write a view of it. `check` reads an input and
 /// writes whether it is one. `make` writes the laboratory of a seed; `drill` runs it and writes the summary. `--help`
 /// writes the usage, and `--version` the version. Other words are refused with the usage.
 pub fn graft_main<R, S, K, G>(
@@ -169,7 +170,7 @@ where
 
     // Its text is written whole, under the status of its end, or a write failed and a front of it stands: a report,
     // which ends with where packets go to the addresses of the input, a summary, the input with the journal behind it, or
-    // a view: a timeline, the story of a peering's session, or why a router has its route to a prefix.
+    // a view: a timeline, all that there is at its end, the story of a peering's session, or why a router has its route to a prefix.
     ensures reported { IfSome result.lab
         (λ lab. AskToRun words.now → WritesReport lab (K.faults sink.old) (K.faults sink.new) (K.written sink.old) (K.written sink.new) result.status) }
     ensures summed { IfSome result.lab (λ lab. ((seed : ℕ) × AskToDrill words.now seed) → WritesText (summary_text lab)

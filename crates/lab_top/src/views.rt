@@ -11,6 +11,7 @@ use bgp_types::Prefix;
 use graft_edge::{Items, Name, NoMemory, Octets, PeeringId, RouterId};
 use lab_report::Lab;
 use lab_tables::{LabInput, PeeringInput, RouterInput};
+use show_view::show_text;
 use std::alloc::Global;
 use story_view::story_text;
 use timeline_view::timeline_text;
@@ -21,6 +22,8 @@ use why_view::why_text;
 pub enum ViewName {
     /// The timeline of the run.
     Timeline,
+    /// All that there is at the end of the run.
+    Show,
     /// The story of the session of the peering of this name.
     Story(Name),
     /// Why the router of this name has the route that it has to a prefix.
@@ -31,6 +34,7 @@ pub enum ViewName {
 #[derive(Clone, Copy, Debug)]
 pub enum View {
     Timeline,
+    Show,
     Story(PeeringId),
     Why(RouterId, Prefix),
 }
@@ -94,6 +98,7 @@ pub(crate) fn view_named(input: &LabInput, view: ViewName) -> Result<View, Name>
 {
     match view {
         ViewName::Timeline => Ok(View::Timeline),
+        ViewName::Show => Ok(View::Show),
         ViewName::Story(name) => match peering_named(input, &name) {
             Some(peering) => Ok(View::Story(peering)),
             None => Err(name),
@@ -111,6 +116,7 @@ pub(crate) fn view_text(alloc: Global, lab: &Lab, view: View) -> Result<Octets, 
 {
     let text = match view {
         View::Timeline => return timeline_text(alloc, lab),
+        View::Show => show_text(alloc, lab)?,
         View::Story(peering) => story_text(alloc, lab, peering)?,
         View::Why(router, prefix) => why_text(alloc, lab, router, prefix)?,
     };

@@ -6,11 +6,11 @@ use Rattle.bgp_types.specs.Finds.{Finds}
 use Rattle.bgp_types.specs.Texts.{IsPrefixText}
 use Rattle.lab_words.specs.declared.arguments.Arguments.{Arguments}
 use Rattle.lab_words.specs.declared.job.Job.{Job}
-use Rattle.lab_words.specs.declared.job.Job.TheVariants.{Run, Check, Make, Drill, Journal, Timeline, Story, Why, Help, Version}
+use Rattle.lab_words.specs.declared.job.Job.TheVariants.{Run, Check, Make, Drill, Journal, Timeline, Show, Story, Why, Help, Version}
 
 -- the usage line of the program
 abbrev pub usage_text : List ℕ
-usage_text = codes "usage: graftlab run|check|make N|drill N|journal|timeline|why ROUTER PREFIX|story PEERING [--workers W]" ++ 10 ∷ []
+usage_text = codes "usage: graftlab run|check|make N|drill N|journal|timeline|show|why ROUTER PREFIX|story PEERING [--workers W]" ++ 10 ∷ []
 
 -- the version line of the program
 abbrev pub version_text : List ℕ
@@ -103,6 +103,7 @@ name_of (Make seed) = codes "make"
 name_of (Drill seed workers) = codes "drill"
 name_of (Journal workers) = codes "journal"
 name_of (Timeline workers) = codes "timeline"
+name_of (Show workers) = codes "show"
 name_of (Story peering workers) = codes "story"
 name_of (Why router prefix workers) = codes "why"
 name_of Help = codes "--help"
@@ -125,6 +126,7 @@ HasArguments given (Make seed) = (given.seed ≡ Some seed) × (given.prefix ≡
 HasArguments given (Drill seed workers) = (given.seed ≡ Some seed) × (given.prefix ≡ None) × (workers ≡ several given.workers)
 HasArguments given (Journal workers) = AreWorkersAlone given workers
 HasArguments given (Timeline workers) = AreWorkersAlone given workers
+HasArguments given (Show workers) = AreWorkersAlone given workers
 HasArguments given (Story peering workers) = (given.subject ≡ Some peering) × (given.prefix ≡ None) × (workers ≡ several given.workers)
 HasArguments given (Why router prefix workers) = (given.subject ≡ Some router) × (given.prefix ≡ Some prefix) × (workers ≡ several given.workers)
 HasArguments given Help = ⊥
@@ -163,6 +165,7 @@ HasNumbers (Make seed) = IsSmall seed
 HasNumbers (Drill seed workers) = IsSmall seed × AreFew workers
 HasNumbers (Journal workers) = AreFew workers
 HasNumbers (Timeline workers) = AreFew workers
+HasNumbers (Show workers) = AreFew workers
 HasNumbers (Story peering workers) = AreFew workers
 HasNumbers (Why router prefix workers) = AreFew workers
 HasNumbers _ = Unit {0}

@@ -33,6 +33,10 @@ pub enum Job {
     Timeline {
         workers: usize,
     },
+    /// Run the laboratory of the source, and write all that there is at its end.
+    Show {
+        workers: usize,
+    },
     /// Run the laboratory of the source, and write the session of this peering message by message.
     Story {
         peering: Name,
@@ -62,7 +66,7 @@ pub enum WordStop {
 
 /// The usage line of the program.
 pub const USAGE_TEXT: &str =
-    "usage: graftlab run|check|make N|drill N|journal|timeline|why ROUTER PREFIX|story PEERING [--workers W]\n";
+    "usage: graftlab run|check|make N|drill N|journal|timeline|show|why ROUTER PREFIX|story PEERING [--workers W]\n";
 
 /// The version line of the program.
 pub const VERSION_TEXT: &str = "graftlab 0.1.0\n";

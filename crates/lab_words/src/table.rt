@@ -107,6 +107,9 @@ fn job_named(name: &str, arguments: Arguments) -> Option<Job>
         "timeline" => Some(Job::Timeline {
             workers: workers_alone(subject, prefix, workers)?,
         }),
+        "show" => Some(Job::Show {
+            workers: workers_alone(subject, prefix, workers)?,
+        }),
         "story" => story_with(subject, prefix, workers),
         "why" => why_with(subject, prefix, workers),
         _ => None,
