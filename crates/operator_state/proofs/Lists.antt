@@ -1,6 +1,6 @@
 -- Lists at indices, and members that pass a test.
 use Rattle.std.proofs.Common.{◌≡◌, ℕ, zero, suc, ◌<◌, ◌==◌, nat_lt, Bool, true, false, ◌||◌, List, [], ◌∷◌, ◌++◌}
-use Rattle.std.proofs.Common.{length, get_or, Option, Some, refl, sym, ap, ◌∙◌, inl, inr, arith}
+use Rattle.std.proofs.Common.{length, take, drop, get_or, Option, Some, refl, sym, ap, ◌∙◌, subst, inl, inr, arith}
 use Rattle.std.specs.Prelude.{◌≢◌, ◌⊎◌, slice_get, slice_set}
 use Rattle.std.specs.List.{list_any, AllByRecursion}
 use Rattle.std.proofs.lemmas.Bool.Decides.{nat_tests}
@@ -48,6 +48,19 @@ one_member o x y e f = cc
 pub stands_in : {A : Type 0} (read xs : List A) (k : ℕ) (d x : A) → read ≡ xs → k < length xs → get_or read k d ≡ x → slice_get xs k ≡ Some x
 stands_in read xs k d x same l e = slice_get-get_or xs k d l ∙ ap Some (ap (λ ys. get_or ys k d) (sym same) ∙ e)
 
+-- what is at an index stands between what is before it and what is behind it
+module _ {A : Type 0} where
+  pub split_there : (xs : List A) (i : ℕ) (x : A) → slice_get xs i ≡ Some x → xs ≡ take i xs ++ x ∷ drop (suc i) xs
+  split_there [] i x e = absurd cc
+  split_there (y ∷ xs) zero x e = let same : y ≡ x = cc in ap (λ (z : A). z ∷ xs) same
+  split_there (y ∷ xs) (suc i) x e = ap (λ (zs : List A). y ∷ zs) (split_there xs i x e)
+
+  pub before_there : (xs : List A) (i j : ℕ) (x : A) → j < i → slice_get xs j ≡ Some x → slice_get (take i xs) j ≡ Some x
+  before_there [] i j x l e = absurd cc
+  before_there (y ∷ xs) zero j x l e = absurd (omega (arith, l))
+  before_there (y ∷ xs) (suc i) zero x l e = e
+  before_there (y ∷ xs) (suc i) (suc j) x l e = before_there xs i j x (omega (arith, l)) e
+
 -- ---- all, and some
 
 module _ {A : Type 0} where
@@ -67,7 +80,27 @@ module _ {A : Type 0} where
   all_map P Q [] more all = tt
   all_map P Q (x ∷ xs) more all = (more x all.0, all_map P Q xs more all.1)
 
+  pub all_at : (P : A → Type 0) (xs : List A) (i : ℕ) (x : A) → AllByRecursion P xs → slice_get xs i ≡ Some x → P x
+  all_at P [] i x all e = absurd cc
+  all_at P (y ∷ xs) zero x all e = let same : y ≡ x = cc in subst P same all.0
+  all_at P (y ∷ xs) (suc i) x all e = all_at P xs i x all.1 e
+
+  -- what holds of the member at each index before one holds of all those before it
+  pub all_before : (P : A → Type 0) (xs : List A) (i : ℕ) → ((j : ℕ) (x : A) → j < i → slice_get xs j ≡ Some x → P x) → AllByRecursion P (take i xs)
+  all_before P [] zero each = tt
+  all_before P [] (suc i) each = tt
+  all_before P (y ∷ xs) zero each = tt
+  all_before P (y ∷ xs) (suc i) each = (each 0 y (omega arith) refl, all_before P xs i (λ j x l e. each (suc j) x (omega (arith, l)) e))
+
   module _ (test : A → Bool) where
+    -- one that passes has an index
+    pub passes_at : (xs : List A) → list_any test xs ≡ true → (i : ℕ) × (x : A) × (slice_get xs i ≡ Some x) × (test x ≡ true)
+    passes_at [] e = absurd cc
+    passes_at (x ∷ xs) e = elim (by_test (test x)) [
+      | inl f ↦ (0, x, refl, f)
+      | inr f ↦ let r = passes_at xs (sym (ap (λ b. b || list_any test xs) f) ∙ e) in (suc r.0, r.1, r.2, r.3)
+    ]
+
     -- what holds of all holds of one that passes
     pub one_passes : (P : A → Type 0) (xs : List A) → AllByRecursion P xs → list_any test xs ≡ true → (x : A) × (test x ≡ true) × P x
     one_passes P [] all e = absurd cc

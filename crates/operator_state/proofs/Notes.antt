@@ -1,11 +1,14 @@
 -- A graft whose end is reported: what it makes, and what stays true.
-use Rattle.std.proofs.Common.{◌≡◌, ℕ, ◌+◌, ◌<◌, ◌==◌, true, false, [], length, Option, Some, None, refl, sym, ap, ◌∙◌, subst, inl, inr, arith}
-use Rattle.std.specs.Prelude.{◌≢◌, ◌⊎◌, slice_get, if◌then◌else◌}
+use Rattle.std.proofs.Common.{◌≡◌, ℕ, zero, suc, ◌+◌, ◌<◌, ◌==◌, true, false, List, [], length, Option, Some, None}
+use Rattle.std.proofs.Common.{refl, sym, ap, ◌∙◌, subst, inl, inr, arith}
+use Rattle.std.specs.Prelude.{◌≢◌, ◌⊎◌, ◌↔◌, slice_get, if◌then◌else◌}
 use Rattle.std.specs.Option.{option_map}
 use Rattle.std.proofs.lemmas.Bool.Decides.{nat_tests}
 use Rattle.std.proofs.lemmas.Option.{slice_get_within}
 use Rattle.graft_edge.specs.declared.ids.RouterId.{RouterId}
 use Rattle.graft_steps.specs.declared.log.GraftEntry.{GraftEntry}
+use Rattle.graft_steps.specs.declared.log.GraftStage.{GraftStage}
+use Rattle.graft_steps.specs.declared.log.GraftStage.TheVariants.{Waiting, Issued, Ended}
 use Rattle.graft_steps.specs.declared.refusal.Outcome.{Outcome}
 use Rattle.graft_steps.specs.declared.refusal.Outcome.TheVariants.{Accepted, Refused}
 use Rattle.graft_model.specs.Points.{at}
@@ -16,10 +19,10 @@ use Rattle.operator_state.specs.declared.grafts.Seat.{Seat}
 use Rattle.operator_state.specs.declared.grafts.Slot.{Slot}
 use Rattle.operator_state.specs.declared.grafts.Slot.TheVariants.{Unmade, Stays, Made}
 use Rattle.operator_state.specs.Grafts.{is_waiting, is_open, outcome_at}
-use Rattle.operator_state.specs.Slots.{outcome_of, source_in, outcome_in, given_in}
+use Rattle.operator_state.specs.Slots.{source_at, slot_source, outcome_of, source_in, outcome_in, given_in}
 use Rattle.operator_state.specs.States.{State, issued_in, part_of_state}
 use Rattle.operator_state.specs.Keeps.{IsMade, IsSlot, is_first, InTurn, SlotsStand, NoneIsOpen, IsSeat, SeatsStand, OperatorInvariant, with_slots}
-use Rattle.operator_state.specs.Notes.{ended_entry, place_after, still_seat, graft_noted}
+use Rattle.operator_state.specs.Notes.{IsOpenIndex, ended_entry, place_after, still_seat, graft_noted}
 use Rattle.operator_state.proofs.Lists.{by_test, compare, get_set_same, get_set_other, length_set, one_member}
 use Rattle.operator_state.proofs.SlotLaws.{source_is, outcome_is, outcome_set, source_stays, given_stays, number}
 use Rattle.operator_state.proofs.SlotLaws.{own_slot, own_outcome, own_target, IsOwned, owner, slot_there, same_entry}
@@ -270,3 +273,59 @@ module _ (s : State) (keeps : OperatorInvariant s) (k : ℕ) (old : GraftEntry)
     where
       same_sources : source_in after.slots ≡ source_in s.slots
       same_sources = source_stays s.slots k old new_entry old_is refl
+
+-- ---- reports
+
+-- a graft with a source and without an outcome is open
+open_at : (slots : List Slot) (k : ℕ)
+    → ((i : ℕ) (entry : GraftEntry) → slice_get slots i ≡ Some (Made entry) → (entry.source ≡ None) ↔ (is_waiting entry.stage ≡ true))
+    → source_in slots k ≢ None → outcome_in slots k ≡ None
+    → (index : ℕ) × (entry : GraftEntry) × (slice_get slots index ≡ Some (Made entry)) × (index + 1 ≡ k) × (is_open entry.stage ≡ true)
+open_at slots zero sources ordered unended = absurd (ordered refl)
+open_at slots (suc j) sources ordered unended = by_slot (slice_get slots j) refl
+  where
+    opened : (entry : GraftEntry) → ((entry.source ≡ None) ↔ (is_waiting entry.stage ≡ true)) → source_at entry ≢ None
+        → outcome_at entry.stage ≡ None → is_open entry.stage ≡ true
+    opened entry source has none = by_stage entry.stage refl
+      where
+        by_stage : (stage : GraftStage) → entry.stage ≡ stage → is_open entry.stage ≡ true
+        by_stage Waiting e = absurd (has (ap (λ o. option_map (λ r. r.0) o) (source.1 (ap is_waiting e))))
+        by_stage Issued e = ap is_open e
+        by_stage (Ended outcome) e = absurd (let f : Some outcome ≡ None = sym (ap outcome_at e) ∙ none in cc)
+
+    by_slot : (o : Option Slot) → slice_get slots j ≡ o
+        → (index : ℕ) × (entry : GraftEntry) × (slice_get slots index ≡ Some (Made entry)) × (index + 1 ≡ suc j) × (is_open entry.stage ≡ true)
+    by_slot None e = absurd (ordered (ap slot_source e))
+    by_slot (Some Unmade) e = absurd (ordered (ap slot_source e))
+    by_slot (Some (Stays k p router)) e = absurd (ordered (ap slot_source e))
+    by_slot (Some (Made entry)) e = (
+      j,
+      entry,
+      e,
+      omega arith,
+      opened entry (sources j entry e) (λ none. ordered (ap slot_source e ∙ none)) (sym (ap outcome_of e) ∙ unended),
+    )
+
+module _ (s : State) (keeps : OperatorInvariant s) (k : ℕ) where
+  -- no graft that was ordered and hasn't ended has a number of which none is open
+  pub none_to_note : IsOpenIndex s.slots k None → source_in s.slots k ≢ None → outcome_in s.slots k ≡ None → ⊥
+  none_to_note none ordered unended =
+      let found = open_at s.slots k
+      (λ i entry e. ((owner s.setup s.group s.waiting s.slots keeps.slots i (Made entry) e).is.fits.made entry refl).source) ordered unended in
+      let closed : is_open found.1.stage ≡ false = none found.0 found.1 found.2 found.3 in
+      let opened : is_open found.1.stage ≡ true = found.4 in
+      let e : true ≡ false = sym opened ∙ closed in
+      cc
+
+  -- the report of one that is open may be noted
+  module _ (index : ℕ) (is_index : IsOpenIndex s.slots k (Some index)) (entry : GraftEntry) (there : slice_get s.slots index ≡ Some (Made entry)) where
+    pub noted_is_open : is_open entry.stage ≡ true
+    noted_is_open = ap (λ (e : GraftEntry). is_open e.stage) (same_entry entry is_index.0 (sym there ∙ is_index.1)) ∙ is_index.3
+
+    pub noted_row : (outcome : Outcome) (seat : Seat) → slice_get s.seats entry.peering.0 ≡ Some seat → (router : ℕ)
+        → Notes router (part_of_state s) (Some (ReportIn router (record { graft = k; outcome = outcome }))) []
+        (part_of_state (graft_noted s index entry outcome seat))
+    noted_row outcome seat seated router =
+        subst (λ (j : ℕ). Notes router (part_of_state s) (Some (ReportIn router (record { graft = j; outcome = outcome }))) []
+        (part_of_state (graft_noted s index entry outcome seat))) is_index.2
+        (note_row s keeps index entry there noted_is_open outcome seat seated router)

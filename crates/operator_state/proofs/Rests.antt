@@ -157,7 +157,7 @@ module _ (s : State) (keeps : OperatorInvariant s) where
     by_slot (Made entry) at is = record { index = index.0; at_index = index.2; entry = entry; there = at; is = is }
 
   -- the graft of an entry is made
-  entry_made : (i : ℕ) (g : ScriptGraft) (entry : GraftEntry) → slice_get (grafts_in s.setup) i ≡ Some g → slice_get s.slots i ≡ Some (Made entry)
+  pub entry_made : (i : ℕ) (g : ScriptGraft) (entry : GraftEntry) → slice_get (grafts_in s.setup) i ≡ Some g → slice_get s.slots i ≡ Some (Made entry)
       → IsSlot s.setup s.group s.waiting g (Made entry) → target_in s.setup (part_of_state s) g ≢ None
   entry_made i g entry at there is none = let e : Some entry.target.0 ≡ None = sym (own_target s.setup s.slots i g at (Made entry) there is.fits) ∙ none in cc
 
@@ -336,66 +336,81 @@ module _ (s : State) (keeps : OperatorInvariant s) where
                 ]),
           )
 
+  -- ---- what may be ordered
+
+  -- a say that may be ordered waits
+  pub say_task : (step named : ℕ) (sent : List OperatorSent) (after : OperatorPart) → OrdersSay s.setup step named (part_of_state s) None sent after
+      → has_task s.waiting step 0 ≡ true
+  say_task step named sent after row = unissued_waits s step (ap is_say row.is) (in_group_before step row.group) row.unissued
+
+  module _ (step named : ℕ) (sent : List OperatorSent) (after : OperatorPart) (row : OrdersGraft s.setup step named (part_of_state s) None sent after) where
+    abbrev g : ScriptGraft
+    g = row.graft
+
+    has_own : HasEntry g
+    has_own = has_entry g row.known (λ none. let e : Some row.target ≡ None = sym row.is ∙ none in cc)
+
+    abbrev entry : GraftEntry
+    entry = has_own.entry
+
+    waits : is_waiting entry.stage ≡ true
+    waits = unordered_waits g has_own row.unordered
+
+    of_peering : entry.peering.0 ≡ g.peering
+    of_peering = (has_own.is.fits.made entry refl).peering
+
+    -- a graft that may be ordered waits too
+    pub graft_task : has_task s.waiting step g.graft ≡ true
+    graft_task =
+        let group : group_of s.setup g.step ≡ s.group = ap (group_of s.setup) row.by_step ∙ row.group in
+        ap (λ n. has_task s.waiting n g.graft) (sym row.by_step) ∙ has_its_task g group has_own row.unordered
+
+    pub graft_slot : (one : GraftEntry) × (slot_at s.slots g.graft ≡ Some (Made one)) × (one.peering.0 ≡ g.peering)
+    graft_slot = (entry, own_slot s.setup s.slots has_own.index g has_own.at_index ∙ has_own.there, of_peering)
+
+    -- no graft of its peering is open: those before it have ended, and those behind it wait
+    pub none_is_open : NoneIsOpen s.slots g.peering
+    none_is_open i one there same = by_index (compare i has_own.index) where
+      own : IsOwned s.setup s.group s.waiting i (Made one)
+      own = owner s.setup s.group s.waiting s.slots keeps.slots i (Made one) there
+
+      by_index : (i < has_own.index) ⊎ ((i ≡ has_own.index) ⊎ (has_own.index < i)) → is_open one.stage ≡ false
+      by_index (inl l) =
+          let before : own.graft.graft < g.graft =
+          omega (arith, l, number s.setup s.slots i own.graft own.index, number s.setup s.slots has_own.index g has_own.at_index) in
+          let peering : own.graft.peering ≡ g.peering = sym (own.is.fits.made one refl).peering ∙ same in
+          ended_is_not_open one.stage (λ none.
+          row.earlier own.graft (graft_there s.setup i own.graft own.index) peering before
+          (entry_made i own.graft one own.index there own.is) (own_outcome s.setup s.slots i own.graft own.index one there ∙ none))
+      by_index (inr (inl here)) =
+          let same_one : one ≡ entry = same_entry one entry (sym there ∙ (ap (slice_get s.slots) here ∙ has_own.there)) in
+          waiting_is_not_open one.stage (ap (λ (x : GraftEntry). is_waiting x.stage) same_one ∙ waits)
+      by_index (inr (inr l)) = elim (by_test (is_open one.stage)) [
+        | inr f ↦ f
+        | inl f ↦ absurd (keeps.slots.in_turn has_own.index i entry one l has_own.there there
+            (of_peering ∙ sym same) (open_is_not_waiting one.stage f) (waiting_has_no_outcome entry.stage waits))
+      ]
+
   -- ---- nothing may be ordered
 
   module _ (held : AllByRecursion (IsGraftHeldUp s) s.waiting) where
     no_say : (step named : ℕ) (sent : List OperatorSent) (after : OperatorPart) → OrdersSay s.setup step named (part_of_state s) None sent after → ⊥
     no_say step named sent after row =
-        let found = one_passes (is_task step 0) (IsGraftHeldUp s) s.waiting held
-        (unissued_waits s step (ap is_say row.is) (in_group_before step row.group) row.unissued) in
+        let found = one_passes (is_task step 0) (IsGraftHeldUp s) s.waiting held (say_task step named sent after row) in
         held_has_graft s found.0 found.2 (task_names step 0 found.0 found.1).1
 
-    module _ (step named : ℕ) (sent : List OperatorSent) (after : OperatorPart) (row : OrdersGraft s.setup step named (part_of_state s) None sent after) where
-      abbrev g : ScriptGraft
-      g = row.graft
-
-      has_own : HasEntry g
-      has_own = has_entry g row.known (λ none. let e : Some row.target ≡ None = sym row.is ∙ none in cc)
-
-      abbrev entry : GraftEntry
-      entry = has_own.entry
-
-      waits : is_waiting entry.stage ≡ true
-      waits = unordered_waits g has_own row.unordered
-
-      of_peering : entry.peering.0 ≡ g.peering
-      of_peering = (has_own.is.fits.made entry refl).peering
-
-      -- no graft of its peering is open: those before it have ended, and those behind it wait
-      none_is_open : NoneIsOpen s.slots entry.peering.0
-      none_is_open i one there same = by_index (compare i has_own.index) where
-        own : IsOwned s.setup s.group s.waiting i (Made one)
-        own = owner s.setup s.group s.waiting s.slots keeps.slots i (Made one) there
-
-        by_index : (i < has_own.index) ⊎ ((i ≡ has_own.index) ⊎ (has_own.index < i)) → is_open one.stage ≡ false
-        by_index (inl l) =
-            let before : own.graft.graft < g.graft =
-            omega (arith, l, number s.setup s.slots i own.graft own.index, number s.setup s.slots has_own.index g has_own.at_index) in
-            let peering : own.graft.peering ≡ g.peering = sym (own.is.fits.made one refl).peering ∙ same ∙ of_peering in
-            ended_is_not_open one.stage (λ none.
-            row.earlier own.graft (graft_there s.setup i own.graft own.index) peering before
-            (entry_made i own.graft one own.index there own.is) (own_outcome s.setup s.slots i own.graft own.index one there ∙ none))
-        by_index (inr (inl here)) =
-            let same_one : one ≡ entry = same_entry one entry (sym there ∙ (ap (slice_get s.slots) here ∙ has_own.there)) in
-            waiting_is_not_open one.stage (ap (λ (x : GraftEntry). is_waiting x.stage) same_one ∙ waits)
-        by_index (inr (inr l)) = elim (by_test (is_open one.stage)) [
-          | inr f ↦ f
-          | inl f ↦ absurd (keeps.slots.in_turn has_own.index i entry one l has_own.there there
-              (sym same) (open_is_not_waiting one.stage f) (waiting_has_no_outcome entry.stage waits))
-        ]
-
-      no_graft : ⊥
-      no_graft =
-          let group : group_of s.setup g.step ≡ s.group = ap (group_of s.setup) row.by_step ∙ row.group in
-          let found = one_passes (is_task g.step g.graft) (IsGraftHeldUp s) s.waiting held (has_its_task g group has_own row.unordered) in
-          let h : IsGraftHeldUp s found.0 = found.2 in
-          let graft : found.0.graft ≡ g.graft = (task_names g.step g.graft found.0 found.1).1 in
-          let same : h.entry ≡ entry = same_entry h.entry entry
-          (sym h.is ∙ (ap (slot_at s.slots) graft ∙ (own_slot s.setup s.slots has_own.index g has_own.at_index ∙ has_own.there))) in
-          let still : h.seat.moving ≡ false = (keeps.seats.each h.entry.peering.0 h.seat h.seated).still.1
-          (subst (λ (x : GraftEntry). NoneIsOpen s.slots x.peering.0) (sym same) none_is_open) in
-          let e : true ≡ false = sym h.moving ∙ still in
-          cc
+    no_graft : (step named : ℕ) (sent : List OperatorSent) (after : OperatorPart) → OrdersGraft s.setup step named (part_of_state s) None sent after → ⊥
+    no_graft step named sent after row =
+        let found = one_passes (is_task step row.graft.graft) (IsGraftHeldUp s) s.waiting held (graft_task step named sent after row) in
+        let h : IsGraftHeldUp s found.0 = found.2 in
+        let graft : found.0.graft ≡ row.graft.graft = (task_names step row.graft.graft found.0 found.1).1 in
+        let slot = graft_slot step named sent after row in
+        let same : h.entry ≡ slot.0 = same_entry h.entry slot.0 (sym h.is ∙ (ap (slot_at s.slots) graft ∙ slot.1)) in
+        let of_peering : row.graft.peering ≡ h.entry.peering.0 = sym (ap (λ (x : GraftEntry). x.peering.0) same ∙ slot.2) in
+        let still : h.seat.moving ≡ false = (keeps.seats.each h.entry.peering.0 h.seat h.seated).still.1
+        (subst (NoneIsOpen s.slots) of_peering (none_is_open step named sent after row)) in
+        let e : true ≡ false = sym h.moving ∙ still in
+        cc
 
     pub nothing_to_order : NothingToOrder s.setup (part_of_state s)
     nothing_to_order step named sent after (inl say) = no_say step named sent after say

@@ -1,6 +1,7 @@
 -- How a group begins by the steps of its script: the first one, and the next one.
-use Rattle.std.proofs.Common.{◌≡◌, ℕ, ◌+◌, ◌*◌, ◌<◌, ◌≤◌, List, [], length, take, map, Some, None, sym, ap, ◌∙◌, subst, arith}
+use Rattle.std.proofs.Common.{◌≡◌, ℕ, ◌+◌, ◌*◌, ◌<◌, ◌≤◌, false, List, [], length, take, map, Some, None, sym, ap, ◌∙◌, subst, arith}
 use Rattle.std.specs.Prelude.{◌≢◌, slice_get, sum_by, All}
+use Rattle.std.specs.List.{AllByRecursion}
 use Rattle.std.specs.Option.{option_map}
 use Rattle.std.proofs.lemmas.List.{length-take}
 use Rattle.std.proofs.lemmas.List.Sums.{sum_by-le}
@@ -17,6 +18,7 @@ use Rattle.operator_state.specs.declared.evacuate.Gift.{Gift}
 use Rattle.operator_state.specs.declared.grafts.Seat.{Seat}
 use Rattle.operator_state.specs.declared.grafts.Slot.{Slot}
 use Rattle.operator_state.specs.declared.groups.Group.{Group}
+use Rattle.operator_state.specs.declared.groups.Task.{Task}
 use Rattle.operator_state.specs.Grafts.{seat_at}
 use Rattle.operator_state.specs.Slots.{first_slots}
 use Rattle.operator_state.specs.Evacuate.{give}
@@ -71,9 +73,14 @@ module _ (setup : Setup) (script : Script) (is : IsScriptOf setup script) (numbe
   pub gifts_are : group.gifts ≡ group_gifts setup seats from begins.len
   gifts_are = begins.gifts ∙ same_gifts setup script is numbers are seats from begins.len within
 
+  tasks_there : group.tasks.items ≡ group_tasks setup seats from begins.len
+  tasks_there = begins.tasks ∙ same_tasks setup script is numbers are seats from begins.len within
+
+  pub none_issued : AllByRecursion (λ (task : Task). task.issued ≡ false) group.tasks.items
+  none_issued = subst (AllByRecursion (λ (task : Task). task.issued ≡ false)) (sym tasks_there) (group_tasks_unissued setup seats from begins.len)
+
   pub tasks_are : unissued group.tasks.items ≡ group_tasks setup seats from begins.len
-  tasks_are = ap unissued (begins.tasks ∙ same_tasks setup script is numbers are seats from begins.len within)
-      ∙ all_unissued _ (group_tasks_unissued setup seats from begins.len)
+  tasks_are = all_unissued group.tasks.items none_issued ∙ tasks_there
 
 -- ---- the next group
 
