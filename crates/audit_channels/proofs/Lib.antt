@@ -1,1 +1,2 @@
 mod Empties
+mod Sendings
