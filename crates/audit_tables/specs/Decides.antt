@@ -1,5 +1,5 @@
 -- How tables decide an event, whatever the places of the router are.
-use Rattle.std.specs.Prelude.{ℕ, ◌≡◌, ◌<◌, List, Bool, length, slice_get, Some}
+use Rattle.std.specs.Prelude.{ℕ, ◌≡◌, List, Bool, false, slice_index_or}
 use Rattle.graft_model.specs.Parts.{Place}
 use Rattle.graft_model.specs.TableRows.{holds_established}
 use Rattle.graft_model.specs.declared.event.RouterEvent.{RouterEvent}
@@ -26,6 +26,6 @@ pub record DecidesTablesTaking (event : RouterEvent) (from : ActorName) (places 
   pub rules : RouterRulesTaking old.known.setup old.number.0 event from (part_with places old) channel ruling (part_with places new) rest
   pub keeps : KeepsTables old new
 
--- these are the places with an established session, live or frozen
+-- these are the places with an established session, live or frozen; there is none behind them
 pub record AreUp (up : List Bool) (places : ℕ → Place) : Type 0 where
-  pub each : (p : ℕ) → p < length up → slice_get up p ≡ Some (holds_established (places p))
+  pub each : (p : ℕ) → slice_index_or up p false ≡ holds_established (places p)

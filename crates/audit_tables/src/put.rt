@@ -1,6 +1,6 @@
 //! What is to be told on a session (RFC 4271, section 9.2).
 
-ghost use Rattle.std.specs.Prelude.{ℕ, ◌≡◌, ◌≢◌, ◌<◌, ◌↔◌, List, Some, IsTrue, IfOk, IfSome, IfNone, OnOk, not, false, true};
+ghost use Rattle.std.specs.Prelude.{ℕ, ◌≡◌, ◌≢◌, ◌<◌, ◌↔◌, List, Some, IsTrue, IfOk, IfSome, IfNone, OnOk, length, not, false, true};
 ghost use Rattle.std.specs.List.{list_any};
 ghost use Rattle.bgp_types.specs.declared.attrs.Attrs.{Attrs};
 ghost use Rattle.bgp_types.specs.Prefixes.{PrefixValue, same_prefix};
@@ -107,6 +107,7 @@ impl Tables {
     pub fn was_told(&mut self, p: usize, prefixes: &[Prefix]) -> Result<(), NoMemory>
         requires sound { TablesInvariant self.old }
         requires there { p < peerings_in self.old.known.setup }
+        requires some { 0 < length prefixes.now }
         ensures due { OnOk result (Drops (due_at self.old p) (λ x. list_any (same_prefix x) prefixes.now) (due_at self.new p)) }
         ensures changes { OnOk result (ChangesDue p self.old self.new) }
         ensures still { (places : ℕ → Place) (before after : _) → KnowsWhatToTell self.old places p before

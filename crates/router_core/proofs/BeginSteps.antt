@@ -39,7 +39,7 @@ use Rattle.actor_configs.specs.declared.router.RouterConfig.{RouterConfig}
 use Rattle.router_core.specs.declared.fields.Fields.{Fields}
 use Rattle.router_core.specs.declared.place.Place.{Place}
 use Rattle.router_core.specs.declared.place.Place.TheVariants.{Live, Shadow}
-use Rattle.router_core.proofs.Standing.{none_in}
+use Rattle.router_tables.proofs.DueSteps.{none_in}
 use Rattle.router_core.proofs.VisitSteps.{same_or_not, set_here, set_other}
 
 -- ---- places one after another

@@ -47,7 +47,7 @@ use Rattle.router_core.specs.declared.stages.grafts.Begun.TheVariants.{Nothing, 
 use Rattle.router_core.proofs.Dids.{Sends, did_sent, has_code, sends_at, sends_is, sends_name}
 use Rattle.router_core.proofs.PlaceSteps.{at_own, elsewhere, here, keeps_at, part_at, visits_same}
 use Rattle.router_core.proofs.Kept.{keeps_on}
-use Rattle.router_core.proofs.Standing.{none_in}
+use Rattle.router_tables.proofs.DueSteps.{none_in}
 use Rattle.router_core.proofs.PlaceLists.{listed, rooms}
 use Rattle.router_core.proofs.VisitSteps.{same_or_not, at_here, at_other, set_here, set_other}
 

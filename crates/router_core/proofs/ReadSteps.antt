@@ -37,6 +37,7 @@ use Rattle.router_tables.specs.Entering.{entry_here}
 use Rattle.router_core.specs.Parts.{IsDueWhileUp, KeepsWith}
 use Rattle.router_core.specs.Reading.{prefixes_in, DueBy}
 use Rattle.router_core.specs.declared.fields.Fields.{Fields}
+use Rattle.router_tables.proofs.DueSteps.{none_in}
 use Rattle.router_tables.proofs.EnterSteps.{entry_at}
 
 -- ---- what a session brings in here
@@ -64,9 +65,6 @@ nothing_has e = cc
 
 none_some : {A : Type 0} (o : Option A) → o ≡ None → is_some o ≡ true → ⊥
 none_some o e f = let x : false ≡ true = sym (ap (λ p. is_some p) e) ∙ f in nothing_has x
-
-none_in : (x : PrefixValue) → has map.empty x ≡ false
-none_in x = ap (λ (o : Option (Unit {0})). is_some o) (map.get-empty prefix_cmp x)
 
 is_none : {A : Type 0} (o : Option A) → is_some o ≡ false → o ≡ None
 is_none None e = refl

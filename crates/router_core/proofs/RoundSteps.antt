@@ -58,7 +58,7 @@ use Rattle.router_tables.proofs.Points.{at_is}
 use Rattle.router_core.proofs.PlaceSteps.{at_own}
 use Rattle.router_core.proofs.ReadSteps.{entry_is}
 use Rattle.router_core.proofs.SendSteps.{some_none, visits_idle}
-use Rattle.router_core.proofs.Standing.{none_in}
+use Rattle.router_tables.proofs.DueSteps.{none_in}
 use Rattle.router_core.proofs.PlaceLists.{listed, rooms}
 use Rattle.router_core.proofs.VisitSteps.{place_at_end, same_or_not, set_here, set_other, at_other}
 

@@ -1,11 +1,24 @@
 -- Sets by number, where one of them changes.
-use Rattle.std.proofs.Common.{◌≡◌, ℕ, ◌<◌, List, length, get_or, set, sym, ap, ◌∙◌, arith}
+use Rattle.std.proofs.Common.{◌≡◌, ℕ, zero, suc, ◌<◌, ◌≤◌, false, List, [], ◌∷◌, length, get_or, set, is_some, refl, sym, ap, ◌∙◌, arith}
 use Rattle.std.proofs.lemmas.List.{length-set}
+use Rattle.std.specs.FinMap as map
 use Rattle.std.specs.Prelude.{Result, Ok, Err, OnOk, OnErr}
+use Rattle.bgp_types.specs.Prefixes.{PrefixValue}
+use Rattle.bgp_types.specs.Tables.{prefix_cmp}
 use Rattle.session_value.specs.Points.{at}
-use Rattle.session_value.specs.Sets.{Prefixes}
+use Rattle.session_value.specs.Sets.{Prefixes, has}
 use Rattle.rib_stages.specs.Values.{table_at}
 use Rattle.rib_stages.proofs.Tables.{at-itself, read_is, table-set}
+
+-- no prefix is in the empty set
+pub none_in : (x : PrefixValue) → has map.empty x ≡ false
+none_in x = ap is_some (map.get-empty prefix_cmp x)
+
+-- what stands behind the last is empty
+pub table_at_end : {A : Type 0} (xs : List (map.FinMap prefix_cmp A)) (n : ℕ) → length xs ≤ n → table_at xs n ≡ map.empty
+table_at_end [] n from = refl
+table_at_end (x ∷ xs) zero from = absurd (omega (arith, from))
+table_at_end (x ∷ xs) (suc n) from = table_at_end xs n (omega (arith, from))
 
 -- x stands at number n of these sets, and t takes its place
 module _ (xs now : List Prefixes) (n : ℕ) (x t : Prefixes) (same : xs ≡ now) (there : n < length now) (read : x ≡ get_or xs n x) where

@@ -1,5 +1,5 @@
 -- Sets of prefixes that are listed.
-use Rattle.std.proofs.Common.{◌≡◌, List, [], ◌∷◌, ◌++◌, Bool, true, false, cond, ◌||◌, is_some, Option, refl, sym, ap, ◌∙◌, inl, inr}
+use Rattle.std.proofs.Common.{◌≡◌, List, [], ◌∷◌, ◌++◌, Bool, true, false, cond, ◌||◌, is_some, refl, sym, ap, ◌∙◌, inl, inr}
 use Rattle.std.specs.FinMap as map
 use Rattle.std.specs.List.{list_any}
 use Rattle.std.specs.Ordering.{eq_by_cmp}
@@ -10,6 +10,7 @@ use Rattle.session_value.specs.Sets.{BestRoutes, Prefixes, has}
 use Rattle.rib_stages.proofs.Marks.{itself, has_inserted}
 use Rattle.update_plan.proofs.Keys.{same_is, keys_any}
 use Rattle.router_tables.specs.Dues.{AddsAll, IsDueAgain, IsDueBest}
+use Rattle.router_tables.proofs.DueSteps.{none_in}
 use Rattle.router_tables.proofs.EnterSteps.{same_or_not, any_last, any_other}
 
 pub adds_none : (a : Prefixes) → AddsAll a [] a
@@ -40,9 +41,6 @@ adds_more a b c xs x so_far set = record { members = λ y. ap (λ (s : Prefixes)
 pub due_best : (best : BestRoutes) (set : Prefixes) → AddsAll map.empty (map.keys best) set → IsDueBest best set
 due_best best set adds =
     record { members = λ x. adds.members x ∙ ap (λ (b : Bool). b || list_any (same_prefix x) (map.keys best)) (none_in x) ∙ keys_any best x }
-  where
-    none_in : (x : PrefixValue) → has map.empty x ≡ false
-    none_in x = ap (λ (o : Option (Unit {0})). is_some o) (map.get-empty prefix_cmp x)
 
 pub due_again_is : (adj_rib_out : Routes) (best : BestRoutes) (a set : Prefixes) → IsDueBest best a → AddsAll a (map.keys adj_rib_out) set
     → IsDueAgain adj_rib_out best set
