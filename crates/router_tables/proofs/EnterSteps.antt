@@ -167,7 +167,7 @@ none_brought setup r s x e = ap (λ (h : Option Attrs).
     option_map (λ route. let v : Entry = record { route = route; identifier = remote_identifier s; address = s.config.remote_address } in v)
     (imported setup.home_as x (session_route setup r s x) h)) e
 
-no_value : {A : Type 0} (o : Option A) → is_some o ≡ false → o ≡ None
+pub no_value : {A : Type 0} (o : Option A) → is_some o ≡ false → o ≡ None
 no_value None e = refl
 no_value (Some a) e = absurd (let z : ⊥ = cc in z)
 

@@ -4,3 +4,5 @@ pub mod AddSteps
 pub mod EnterSteps
 pub mod PrefixSets
 pub mod Choices
+pub mod Reads
+pub mod Rounds

@@ -1,3 +1,4 @@
 pub mod Entering
 pub mod Dues
 pub mod Owned
+pub mod Reads
