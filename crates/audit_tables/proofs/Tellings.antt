@@ -130,11 +130,15 @@ telling_is (Some (items.SayOrder step)) e = absurd (let b : ⊥ = cc in b)
 module _ (t : Tables) (k : TablesInvariant t) (places : ℕ → Place) (q : ℕ) (channel : List Parcel) where
   pub hear_nothing : is_telling (slice_get channel 0) ≡ false → DecidesTablesTaking (Hear q) (Router q) places t channel Refused t channel
   hear_nothing none = record {
-    rules = (refl, refl, λ item more is gave after row. (
-        let e : false ≡ true = sym none ∙ ap (λ (xs : List Parcel). is_telling (slice_get xs 0)) is
-        ∙ taken_telling t.known.setup q item row.prefix row.route row.takes in
-        let b : ⊥ = cc in
-        b));
+    rules = (
+      refl,
+      refl,
+      λ item more is gave after row. (
+          let e : false ≡ true = sym none ∙ ap (λ (xs : List Parcel). is_telling (slice_get xs 0)) is
+          ∙ taken_telling t.known.setup q item row.prefix row.route row.takes in
+          let b : ⊥ = cc in
+          b),
+    );
     keeps = keeps_itself t k;
   }
 
