@@ -31,15 +31,15 @@ use Rattle.session_places.specs.Places.{PlaceList, with_place}
 use Rattle.router_core.proofs.PlaceLists.{count_first, count_with, count_without, listed, rooms, set_again}
 use Rattle.router_core.specs.Beginning.{AreBegun, CanBegin, begun_session, begun_at}
 use Rattle.router_core.specs.Begins.{BeginsAs}
-use Rattle.router_core.specs.Configs.{AreFirstsOf, IsRouterConfigOf, IsRibOf, starting_here}
+use Rattle.actor_configs.specs.Configs.{AreFirstsOf, IsRouterConfigOf, IsRibOf, starting_here}
 use Rattle.router_core.specs.Parts.{router_part, RouterInvariant, KeepsPlace, HasReadAll}
 use Rattle.router_core.specs.Places.{place_of, place_at}
-use Rattle.router_core.specs.declared.config.Firsts.{Firsts}
-use Rattle.router_core.specs.declared.config.RouterConfig.{RouterConfig}
+use Rattle.actor_configs.specs.declared.router.Firsts.{Firsts}
+use Rattle.actor_configs.specs.declared.router.RouterConfig.{RouterConfig}
 use Rattle.router_core.specs.declared.fields.Fields.{Fields}
 use Rattle.router_core.specs.declared.place.Place.{Place}
 use Rattle.router_core.specs.declared.place.Place.TheVariants.{Live, Shadow}
-use Rattle.router_core.proofs.Standing.{none_in}
+use Rattle.router_tables.proofs.DueSteps.{none_in}
 use Rattle.router_core.proofs.VisitSteps.{same_or_not, set_here, set_other}
 
 -- ---- places one after another

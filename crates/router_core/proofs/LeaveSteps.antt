@@ -33,7 +33,8 @@ use Rattle.graft_actors.specs.Items.{home_first, remote_first}
 use Rattle.graft_actors.specs.Notes.{deed_of}
 use Rattle.session_places.specs.Places.{with_place}
 use Rattle.router_core.specs.Leaving.{BegunAs}
-use Rattle.router_core.specs.Parts.{router_part, own_part, RouterInvariant, KeepsPlace, IsGraftOf}
+use Rattle.router_core.specs.Parts.{router_part, own_part, RouterInvariant, KeepsPlace}
+use Rattle.router_tables.specs.Owned.{IsGraftOf}
 use Rattle.router_core.specs.Places.{place_of, place_at, order_of}
 use Rattle.router_core.specs.Rounds.{DidAsRouter, SameRouter, WritesEvent}
 use Rattle.router_core.specs.Stages.{GraftGoes}
@@ -46,7 +47,7 @@ use Rattle.router_core.specs.declared.stages.grafts.Begun.TheVariants.{Nothing, 
 use Rattle.router_core.proofs.Dids.{Sends, did_sent, has_code, sends_at, sends_is, sends_name}
 use Rattle.router_core.proofs.PlaceSteps.{at_own, elsewhere, here, keeps_at, part_at, visits_same}
 use Rattle.router_core.proofs.Kept.{keeps_on}
-use Rattle.router_core.proofs.Standing.{none_in}
+use Rattle.router_tables.proofs.DueSteps.{none_in}
 use Rattle.router_core.proofs.PlaceLists.{listed, rooms}
 use Rattle.router_core.proofs.VisitSteps.{same_or_not, at_here, at_other, set_here, set_other}
 

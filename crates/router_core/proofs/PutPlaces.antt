@@ -49,7 +49,7 @@ use Rattle.router_core.proofs.Dids.{did_one, did_same, did_then}
 use Rattle.router_core.proofs.PlaceSteps.{elsewhere, here, keeps_at, part_same}
 use Rattle.router_core.proofs.PutRows.{can_offer, puts_some, rest_then}
 use Rattle.router_core.proofs.RoundLists.{at-append}
-use Rattle.router_core.proofs.TellSteps.{table_at_end}
+use Rattle.router_tables.proofs.DueSteps.{table_at_end}
 use Rattle.router_core.proofs.PlaceLists.{listed}
 use Rattle.router_core.proofs.VisitSteps.{same_or_not, at_here, at_other, place_at_end, set_here}
 

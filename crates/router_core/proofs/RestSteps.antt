@@ -13,8 +13,7 @@ use Rattle.settled_check.specs.Left.{HoldsGraft, HasSome, graft_in_place}
 use Rattle.graft_model.specs.Parts.{RouterPart}
 use Rattle.router_core.specs.Places.{lower_of, place_of, place_at}
 use Rattle.router_core.specs.declared.place.Place.{Place}
-use Rattle.router_core.proofs.Standing.{none_in}
-use Rattle.router_core.proofs.TellSteps.{table_at_end}
+use Rattle.router_tables.proofs.DueSteps.{none_in, table_at_end}
 use Rattle.router_core.proofs.VisitSteps.{place_at_end, same_or_not}
 
 -- none of the first so many is so

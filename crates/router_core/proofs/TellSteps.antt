@@ -1,9 +1,8 @@
 -- Routers are told, one prefix after another.
-use Rattle.std.proofs.Common.{◌≡◌, ◌≢◌, ℕ, zero, suc, ◌+◌, ◌<◌, ◌≤◌, List, [], ◌∷◌, ◌++◌, length, Option}
+use Rattle.std.proofs.Common.{◌≡◌, ◌≢◌, ℕ, zero, ◌+◌, ◌<◌, ◌≤◌, [], ◌∷◌, ◌++◌, length, Option}
 use Rattle.std.proofs.Common.{true, false, inl, inr, refl, sym, ap, subst, ◌∙◌, arith}
 use Rattle.std.specs.FinMap as map
 use Rattle.bgp_types.specs.Prefixes.{PrefixValue}
-use Rattle.bgp_types.specs.Tables.{prefix_cmp}
 use Rattle.bgp_types.specs.declared.attrs.Route.{Route}
 use Rattle.route_policy.specs.Telling.{tell_in}
 use Rattle.ring_net.specs.declared.post.Post.{Post}
@@ -27,7 +26,8 @@ use Rattle.router_core.specs.Tellings.{TellsOne, TellsSome, TellsRouter, TellsFi
 use Rattle.router_core.specs.declared.fields.Fields.{Fields}
 use Rattle.router_core.proofs.Dids.{Sends, did_same, did_then, did_sent}
 use Rattle.router_core.proofs.RoundLists.{at-append}
-use Rattle.router_core.proofs.Standing.{keeps_due_in, none_in}
+use Rattle.router_core.proofs.Standing.{keeps_due_in}
+use Rattle.router_tables.proofs.DueSteps.{none_in, table_at_end}
 use Rattle.router_core.proofs.VisitSteps.{same_or_not, at_here, at_other}
 
 -- nothing is dirty
@@ -130,12 +130,6 @@ told_next n f g h p r s before one = record {
   where
     lower : (q : ℕ) → q < n + 1 → q ≢ n → q < n
     lower q below not = elim (cases_lt q n) [ inl under ↦ under | inr from ↦ absurd (not (omega (arith, from, below))) ]
-
--- behind the last table nothing is due
-pub table_at_end : {A : Type 0} (xs : List (map.FinMap prefix_cmp A)) (n : ℕ) → length xs ≤ n → table_at xs n ≡ map.empty
-table_at_end [] n from = refl
-table_at_end (x ∷ xs) zero from = absurd (omega (arith, from))
-table_at_end (x ∷ xs) (suc n) from = table_at_end xs n (omega (arith, from))
 
 pub told_all : (n : ℕ) (f g : Fields) (p r : Post (Item RunningSession)) → TellsFirst n f p g r → length g.due_in ≤ n → TellsAll f p g r
 told_all n f g p r told last = record {

@@ -1,0 +1,169 @@
+-- How a router's tables follow a session that read a message, or on which a round has passed.
+use Rattle.std.proofs.Common.{◌≡◌, ◌≢◌, ℕ, List, [], true, false, Option, refl, sym, ap, ◌∙◌, subst, ◌⊎◌}
+use Rattle.std.specs.FinMap as map
+use Rattle.std.specs.List.{list_any}
+use Rattle.bgp_types.specs.Prefixes.{PrefixValue, same_prefix}
+use Rattle.bgp_session.specs.declared.answers.ReadStep.{ReadStep}
+use Rattle.bgp_session.specs.declared.answers.ReadStep.TheVariants.{Opened, Established, Changed, Closed}
+use Rattle.route_policy.specs.declared.entry.Entry.{Entry}
+use Rattle.rib_stages.specs.Values.{rib_of}
+use Rattle.session_value.specs.Sessions.{SessionValue, state}
+use Rattle.session_value.specs.Sets.{BestRoutes, Entries, Marks, Prefixes}
+use Rattle.graft_model.specs.Decisions.{entry_of}
+use Rattle.graft_model.specs.Parts.{Place, RouterPart, Vacant}
+use Rattle.graft_model.specs.Points.{at}
+use Rattle.graft_model.specs.RouterRows.{DueThen}
+use Rattle.router_tables.specs.Dues.{IsDueBest}
+use Rattle.router_tables.specs.Entering.{entry_here}
+use Rattle.router_tables.specs.Reads.{DueBy, prefixes_in}
+use Rattle.router_tables.proofs.EnterSteps.{enters_none, entry_at}
+use Rattle.router_tables.proofs.Points.{at_is}
+use Rattle.audit_tables.specs.Changes.{ChangesDue, EntersHere, KeepsTables}
+use Rattle.audit_tables.specs.Parts.{TablesInvariant, due_at, entries_at, part_with}
+use Rattle.audit_tables.specs.declared.tables.Tables.{Tables}
+use Rattle.audit_router.specs.Followed.{FollowsIn}
+
+-- ---- what is kept
+
+pub keeps_itself : (t : Tables) → TablesInvariant t → KeepsTables t t
+keeps_itself t k = record { setup = refl; number = refl; sound = k }
+
+pub keeps_more : (t u v : Tables) → KeepsTables t u → KeepsTables u v → KeepsTables t v
+keeps_more t u v one other = record { setup = other.setup ∙ one.setup; number = other.number ∙ one.number; sound = other.sound }
+
+-- ---- the part of a router
+
+nowhere : ℕ → Place
+nowhere p = Vacant
+
+-- a function is itself with its own value at a place
+itself_at : {A : Type 0} (f : ℕ → A) (p : ℕ) (x : A) → f p ≡ x → f ≡ at f p x
+itself_at f p x own = at_is f f p x own (λ q not. refl)
+
+-- The tables follow what changed, by the entries that the session brings in.
+pub record IsFollowed (step : ReadStep) (p : ℕ) (session : SessionValue) (old new : Tables) : Type 0 where
+  pub each : (x : PrefixValue) → list_any (same_prefix x) (prefixes_in step) ≡ true
+      → map.get (entries_at new p) x ≡ entry_of old.known.setup old.number.0 session x
+  pub others : (x : PrefixValue) → list_any (same_prefix x) (prefixes_in step) ≡ false → map.get (entries_at new p) x ≡ map.get (entries_at old p) x
+  pub dirty : Marks old.rib.dirty (entries_at old p) (entries_at new p) new.rib.dirty
+  pub due : DueBy step old.rib.best (due_at old p) (due_at new p)
+  pub effect : (places : ℕ → Place) → part_with places new ≡ record (part_with places old) {
+    entries = at (part_with places old).entries p (entries_at new p);
+    dirty = new.rib.dirty;
+    due_out = at (part_with places old).due_out p (due_at new p);
+  }
+  pub keeps : KeepsTables old new
+
+module _ (old : Tables) (k : TablesInvariant old) (p : ℕ) (session : SessionValue) where
+  -- what the session brings in, as the laboratory has it
+  brings : (x : PrefixValue) → entry_here old.home_as old.policies session x ≡ entry_of old.known.setup old.number.0 session x
+  brings x = entry_at old.known.setup old.number.0 old.home_as old.policies session x k.home_as k.policies
+
+  pub opened : IsFollowed Opened p session old old
+  opened = record {
+    each = λ x e. absurd (let b : ⊥ = cc in b);
+    others = λ x e. refl;
+    dirty = (enters_none (rib_of old.rib) p (entry_here old.home_as old.policies session)).dirty;
+    due = refl;
+    effect = λ places i. record (part_with places old) {
+      entries = itself_at (part_with places old).entries p (entries_at old p) refl i;
+      dirty = old.rib.dirty;
+      due_out = itself_at (part_with places old).due_out p (due_at old p) refl i;
+    };
+    keeps = keeps_itself old k;
+  }
+
+  module _ (new : Tables) where
+    pub established : IsDueBest old.rib.best (due_at new p) → ChangesDue p old new → IsFollowed Established p session old new
+    established due changes = record {
+      each = λ x e. absurd (let b : ⊥ = cc in b);
+      others = λ x e. ap (λ (es : Entries). map.get es x) entries;
+      dirty = subst (λ (d : Prefixes). Marks old.rib.dirty (entries_at old p) (entries_at new p) d) (sym dirty)
+          (subst (λ (es : Entries). Marks old.rib.dirty (entries_at old p) es old.rib.dirty) (sym entries)
+          (enters_none (rib_of old.rib) p (entry_here old.home_as old.policies session)).dirty);
+      due = due;
+      effect = λ places. changes.effect places ∙ (λ i. record (part_with places old) {
+        entries = itself_at (part_with places old).entries p (entries_at new p) (sym entries) i;
+        dirty = sym dirty i;
+        due_out = at (part_with places old).due_out p (due_at new p);
+      });
+      keeps = changes.keeps;
+    }
+      where
+        entries : entries_at new p ≡ entries_at old p
+        entries = ap (λ (part : RouterPart). part.entries p) (changes.effect nowhere)
+
+        dirty : new.rib.dirty ≡ old.rib.dirty
+        dirty = ap (λ (part : RouterPart). part.dirty) (changes.effect nowhere)
+
+    pub changed : (prefixes : List PrefixValue) → EntersHere p (entry_here old.home_as old.policies session) prefixes old new
+        → IsFollowed (Changed prefixes) p session old new
+    changed prefixes enters = record {
+      each = λ x e. enters.entered.each x e ∙ brings x;
+      others = enters.entered.others;
+      dirty = enters.entered.dirty;
+      due = due;
+      effect = λ places. enters.changes.effect places ∙ (λ i. record (part_with places old) {
+        entries = at (part_with places old).entries p (entries_at new p);
+        dirty = new.rib.dirty;
+        due_out = itself_at (part_with places old).due_out p (due_at new p) (sym due) i;
+      });
+      keeps = enters.changes.keeps;
+    }
+      where
+        due : due_at new p ≡ due_at old p
+        due = ap (λ (part : RouterPart). part.due_out p) (enters.changes.effect nowhere)
+
+    pub closed : (mid : Tables) (prefixes : List PrefixValue) → due_at mid p ≡ map.empty → ChangesDue p old mid
+        → EntersHere p (entry_here mid.home_as mid.policies session) prefixes mid new → IsFollowed (Closed prefixes) p session old new
+    closed mid prefixes none clears enters = record {
+      each = λ x e. enters.entered.each x e
+          ∙ entry_at mid.known.setup mid.number.0 mid.home_as mid.policies session x clears.keeps.sound.home_as clears.keeps.sound.policies
+          ∙ (λ i. entry_of (clears.keeps.setup i) (clears.keeps.number i).0 session x);
+      others = λ x e. enters.entered.others x e ∙ ap (λ (es : Entries). map.get es x) entries;
+      dirty = subst (λ (es : Entries). Marks old.rib.dirty es (entries_at new p) new.rib.dirty) entries
+          (subst (λ (d : Prefixes). Marks d (entries_at mid p) (entries_at new p) new.rib.dirty) dirty enters.entered.dirty);
+      due = due ∙ none;
+      effect = λ places. enters.changes.effect places ∙ (λ i. record (clears.effect places i) {
+        entries = at (clears.effect places i).entries p (entries_at new p);
+        dirty = new.rib.dirty;
+      }) ∙ (λ i. record (part_with places old) {
+        entries = at (part_with places old).entries p (entries_at new p);
+        dirty = new.rib.dirty;
+        due_out = at (part_with places old).due_out p (sym due i);
+      });
+      keeps = keeps_more old mid new clears.keeps enters.changes.keeps;
+    }
+      where
+        entries : entries_at mid p ≡ entries_at old p
+        entries = ap (λ (part : RouterPart). part.entries p) (clears.effect nowhere)
+
+        dirty : mid.rib.dirty ≡ old.rib.dirty
+        dirty = ap (λ (part : RouterPart). part.dirty) (clears.effect nowhere)
+
+        due : due_at new p ≡ due_at mid p
+        due = ap (λ (part : RouterPart). part.due_out p) (enters.changes.effect nowhere)
+
+-- ---- the session
+
+-- where another route is heard than before, the entry is what the step brings in
+abbrev pub HearsBy : ReadStep → SessionValue → SessionValue → Type 0
+HearsBy step s u = (entry : PrefixValue → Option Entry) (before after : Entries)
+    → ((x : PrefixValue) → list_any (same_prefix x) (prefixes_in step) ≡ true → map.get after x ≡ entry x)
+    → ((x : PrefixValue) → list_any (same_prefix x) (prefixes_in step) ≡ false → map.get after x ≡ map.get before x) → (x : PrefixValue)
+    → ((map.get u.adj_rib_in x ≡ map.get s.adj_rib_in x) × (map.get after x ≡ map.get before x))
+    ⊎ ((map.get u.adj_rib_in x ≢ map.get s.adj_rib_in x) × (map.get after x ≡ entry x))
+
+-- what is due then
+abbrev pub LetsDue : ReadStep → SessionValue → SessionValue → Type 0
+LetsDue step s u = (best : BestRoutes) (before after : Prefixes) → DueBy step best before after → DueThen (state s) (state u) best before after
+
+pub follows : (step : ReadStep) (p : ℕ) (s u : SessionValue) (old new : Tables) → HearsBy step s u → LetsDue step s u → IsFollowed step p u old new
+    → FollowsIn p s u old new
+follows step p s u old new hears lets followed = record {
+  entries = hears (entry_of old.known.setup old.number.0 u) (entries_at old p) (entries_at new p) followed.each followed.others;
+  dirty = followed.dirty;
+  due = lets old.rib.best (due_at old p) (due_at new p) followed.due;
+  effect = followed.effect;
+  keeps = followed.keeps;
+}

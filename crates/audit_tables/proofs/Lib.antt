@@ -1,0 +1,4 @@
+mod Keeping
+mod Deciding
+mod Tellings
+mod Changes

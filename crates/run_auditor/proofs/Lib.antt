@@ -1,0 +1,2 @@
+mod Nowhere
+mod Made
