@@ -22,11 +22,11 @@ differs lab (w ∷ ws) = by_test (is_got lab w) (differs lab ws) where
 
 -- how many fail of one, where it differs and where it doesn't
 pub one_fails : (lab : Lab) (expectation : List ExpectedValue) (b : Bool) → is_some (difference lab expectation) ≡ b
-    → (if b then 1 else 0) ≡ (if holds lab expectation then 0 else 1)
+    → ◌≡◌ {A = ℕ} (if b then 1 else 0) (if holds lab expectation then 0 else 1)
 one_fails lab expectation b is = by_test b (holds lab expectation) (sym is ∙ differs lab expectation) where
-  by_test : (b h : Bool) → b ≡ not h → (if b then 1 else 0) ≡ (if h then 0 else 1)
-  by_test b true is = ap (λ (t : Bool). if t then 1 else 0) is
-  by_test b false is = ap (λ (t : Bool). if t then 1 else 0) is
+  by_test : (b h : Bool) → b ≡ not h → ◌≡◌ {A = ℕ} (if b then 1 else 0) (if h then 0 else 1)
+  by_test b true is = ap (λ (t : Bool). let n : ℕ = if t then 1 else 0 in n) is
+  by_test b false is = ap (λ (t : Bool). let n : ℕ = if t then 1 else 0 in n) is
 
 -- ---- several
 

@@ -8,5 +8,5 @@ mod whole;
 
 pub use laws::{all_hold_where_none_fails, worked_expectations};
 pub use values::{key_name, push_got, push_wanted};
-pub use verdict::{Difference, difference};
-pub use whole::{Tested, test_status, tested};
+pub use verdict::{Difference, first_difference};
+pub use whole::{TestResult, test_status, tested};

@@ -57,7 +57,7 @@ fn difference_of(
 }
 
 /// Returns where a run differs from an expectation: the first of its keys under which the run has another value.
-pub fn difference(
+pub fn first_difference(
     alloc: Global,
     lab: &Lab,
     expectation: &[ExpectedValue],

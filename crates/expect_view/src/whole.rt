@@ -5,7 +5,7 @@ ghost use Rattle.std.specs.List.{flat_map, enumerate_from};
 ghost use Rattle.expect_view.specs.Expect.{verdict_line, expectation_line, counts_line, holds, all_hold as all_hold_lem, test_text as test_text_lem};
 ghost use Rattle.expect_view.specs.Expect.{is_settled as is_settled_lem, test_status as test_status_lem};
 
-use crate::verdict::{Difference, difference};
+use crate::verdict::{Difference, first_difference};
 use graft_edge::NoMemory;
 use lab_report::{Lab, RunEnd};
 use lab_tables::{Expectation, ExpectedValue};
@@ -14,7 +14,7 @@ use std::fmt::Write;
 
 /// What a test says of a run: a line for each expectation and one that counts them, and whether all of them hold.
 #[derive(Debug, Drop)]
-pub struct Tested {
+pub struct TestResult {
     pub text: String,
     pub all_hold: bool,
 }
@@ -69,7 +69,7 @@ fn push_expectation(
     ensures failed { IfOk result (λ failed. failed ≡ (if holds lab.now expectation.now then 0 else 1)) }
     ensures few { IfOk result (λ failed. failed ≤ 1) }
 {
-    let found = difference(alloc, lab, expectation)?;
+    let found = first_difference(alloc, lab, expectation)?;
     push_verdict(text, index + 1, &found)?;
     Ok(count_of(found.is_some()))
 }
@@ -102,7 +102,7 @@ fn push_counts(text: &mut String, expectations: usize, failed: usize) -> Result<
 
 /// Tests a run: returns a line for each expectation of its input, in their order, and one that counts them, and whether
 /// all of them hold.
-pub fn tested(alloc: Global, lab: &Lab) -> Result<Tested, NoMemory>
+pub fn tested(alloc: Global, lab: &Lab) -> Result<TestResult, NoMemory>
     ensures text { IfOk result (λ tested. string_bytes tested.text ≡ test_text_lem lab.now) }
     ensures all { IfOk result (λ tested. tested.all_hold ≡ all_hold_lem lab.now) }
 {
@@ -110,7 +110,7 @@ pub fn tested(alloc: Global, lab: &Lab) -> Result<Tested, NoMemory>
     let expects = lab.input.expects.as_slice();
     let failed = push_expectations(&mut text, alloc, lab, expects)?;
     push_counts(&mut text, expects.len(), failed)?;
-    Ok(Tested {
+    Ok(TestResult {
         text,
         all_hold: failed == 0,
     })

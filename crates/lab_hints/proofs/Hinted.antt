@@ -1,5 +1,5 @@
 -- Which hint bytes have: by their number, and by the document that they are.
-use Rattle.std.proofs.Common.{◌≡◌, ℕ, ◌<◌, ◌≤◌, Bool, true, false, List, [], length, refl, sym, ap, ◌∙◌, subst, arith}
+use Rattle.std.proofs.Common.{◌≡◌, ℕ, ◌<◌, ◌≤◌, Bool, true, false, List, [], ◌∷◌, ◌++◌, length, refl, sym, ap, ◌∙◌, subst, codes, arith}
 use Rattle.std.specs.Prelude.{nat_lt, Option, Some, None, IsUtf8}
 use Rattle.std.specs.Str.{is_utf8}
 use Rattle.std.specs.Str.Lossy.{utf8_valid_len}
@@ -13,6 +13,11 @@ use Rattle.lab_input.specs.Bytes.{document_of}
 use Rattle.lab_input.specs.Labs.{most_bytes}
 use Rattle.lab_input.proofs.Bytes.{document_of-text, document_of-no_text}
 use Rattle.lab_hints.specs.Hints.{hint_line, long_words, place_words, document_words, IsPlaceHint, IsReadHint, IsHintBy, IsHint, HasHint}
+
+-- a text behind the front of a hint, as a line
+pub hinted : (front text words : List ℕ) → front ≡ codes "hint: " → text ≡ front ++ words → text ++ 10 ∷ [] ≡ hint_line words
+hinted front text words begins is =
+    ap (λ (t : List ℕ). t ++ 10 ∷ []) (is ∙ ap (λ (f : List ℕ). f ++ words) begins)
 
 more : (a b : ℕ) → a < b → nat_lt a b ≡ true
 more a b lt = grind (arith, nat_tests)

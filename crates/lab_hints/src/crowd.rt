@@ -4,6 +4,7 @@ ghost use Rattle.std.specs.Prelude.{◌≡◌, ◌++◌, OnOk, string_bytes, opt
 ghost use Rattle.lab_keys.specs.Kinds.{each_from};
 ghost use Rattle.lab_hints.specs.Later.{crowd_words, crowded_words, sessions_words};
 
+use crate::wanted::push_words;
 use bgp_types::NoMemory;
 use lab_input::{LabInput, PeeringInput, RouterInput, peerings_at};
 use std::fmt::Write;
@@ -38,8 +39,9 @@ fn crowd_in<'r>(peerings: &[PeeringInput], routers: &'r [RouterInput]) -> Option
     ensures { option_map (λ crowd. crowd_words crowd.router.now crowd.peerings) result ≡ each_from (crowded_words peerings.now) 0 routers.now }
 {
     for (i, router) in routers.iter().enumerate() {
-        if let Some(crowd) = crowd_at(peerings, i as u64, router) {
-            return Some(crowd);
+        match crowd_at(peerings, i as u64, router) {
+            Some(crowd) => return Some(crowd),
+            None => {}
         }
     }
     None
@@ -62,8 +64,10 @@ fn push_crowd(text: &mut String, router: &RouterInput, peerings: u64) -> Result<
 pub(crate) fn push_sessions(text: &mut String, lab: &LabInput) -> Result<(), NoMemory>
     ensures { OnOk result (string_bytes text.new ≡ string_bytes text.old ++ sessions_words lab.now) }
 {
-    match crowd_in(&lab.peerings, &lab.routers) {
+    let peerings = lab.peerings.as_slice();
+    let routers = lab.routers.as_slice();
+    match crowd_in(peerings, routers) {
         Some(crowd) => push_crowd(text, crowd.router, crowd.peerings),
-        None => Ok(text.push_str("a router has room for all peerings that start there")?),
+        None => push_words(text, "a router has room for all peerings that start there"),
     }
 }

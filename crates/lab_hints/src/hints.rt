@@ -1,6 +1,6 @@
 //! The hint for an input that is refused.
 
-ghost use Rattle.std.specs.Prelude.{◌≡◌, ◌≤◌, ◌++◌, ◌∷◌, [], IfOk, Some, string_bytes, length, codes};
+ghost use Rattle.std.specs.Prelude.{◌≡◌, ◌≤◌, ◌++◌, ◌∷◌, [], IfOk, OnOk, string_bytes, length, codes};
 ghost use Rattle.toml.specs.View.{table_view};
 ghost use Rattle.toml.specs.Parse.{parse_document};
 ghost use Rattle.lab_hints.specs.Hints.{hint_line, long_words, place_words, document_words, flaw_words, IsReadHint, IsHint, IsNameHint};
@@ -79,7 +79,6 @@ fn document_hint(alloc: Global, doc: &Table, bad: &BadInput) -> Result<Octets, N
 
 /// Returns the hint for a text that is refused.
 fn text_hint(alloc: Global, text: &str, bad: &BadInput) -> Result<Octets, NoMemory>
-    requires { IsUtf8 text.now }
     ensures { IfOk result (λ hint. IsReadHint (parse_document text.now) text.now bad.now hint) }
 {
     match toml::table_from_str(alloc, text) {
@@ -112,5 +111,3 @@ pub fn name_hint(alloc: Global, lab: &LabInput, name: &str) -> Result<Octets, No
     push_unknown(alloc, &mut text, lab, name)?;
     ended(text)
 }
-
-ghost use Rattle.std.specs.Prelude.{OnOk, IsUtf8};

@@ -1,12 +1,15 @@
 //! Names and counts that don't fit together, where all shapes are right.
 
-ghost use Rattle.std.specs.Prelude.{◌≡◌, ◌++◌, OnOk, string_bytes, option_map};
-ghost use Rattle.lab_hints.specs.Later.{meant_words, unnamed_words, unknown_words, repeated_words, said_words, grafts_words, settles_words};
+ghost use Rattle.std.specs.Prelude.{◌≡◌, ◌++◌, IfOk, OnOk, string_bytes, option_map, codes};
+ghost use Rattle.near_names.specs.Nearness.{nearest as nearest_lem};
+ghost use Rattle.lab_hints.specs.Wanted.{name_words};
+ghost use Rattle.lab_hints.specs.Later.{all_names as all_names_lem, meant_words, unnamed_words, unknown_words, repeated_words, said_words, grafts_words, settles_words};
 ghost use Rattle.lab_hints.specs.Later.{prefixes_words, count_words, later_words};
 
 use crate::crowd::push_sessions;
 use crate::names::{all_names, is_peering, is_policy, is_router};
-use crate::wanted::name_form;
+use crate::stray::push_question;
+use crate::wanted::{push_name_form, push_words};
 use bgp_types::NoMemory;
 use lab_input::{
     BadInput, LabInput, MOST_GRAFTS, MOST_OCTETS, MOST_OCTETS_BEATING, MOST_PREFIXES, MOST_SETTLES,
@@ -22,12 +25,36 @@ use std::fmt::Write;
 fn push_meant(text: &mut String, near: Option<&str>) -> Result<(), NoMemory>
     ensures { OnOk result (string_bytes text.new ≡ string_bytes text.old ++ meant_words (option_map (λ name. name.now) near.entry)) }
 {
-    if let Some(name) = near {
-        text.push_str("; did you mean ")?;
-        text.push_str(name)?;
-        text.push_str("?")?;
+    match near {
+        Some(name) => push_question(text, name),
+        None => Ok(()),
     }
-    Ok(())
+}
+
+/// Returns the name that may be meant by one that nothing has.
+fn meant_by<'a>(alloc: Global, lab: &'a LabInput, name: &str) -> Result<Option<&'a str>, NoMemory>
+    ensures { IfOk result (λ near. option_map (λ name. name.now) near ≡ nearest_lem (all_names_lem lab.now) name.now) }
+{
+    let names = all_names(alloc, lab)?;
+    Ok(nearest(alloc, names.as_slice(), name)?)
+}
+
+/// Adds that nothing has this name, and the name that may be meant.
+fn push_uncalled(text: &mut String, name: &str, near: Option<&str>) -> Result<(), NoMemory>
+    ensures { OnOk result (string_bytes text.new
+        ≡ string_bytes text.old ++ (codes "no router, peering or policy is called " ++ name.now ++ meant_words (option_map (λ name. name.now) near.entry))) }
+{
+    text.push_str("no router, peering or policy is called ")?;
+    text.push_str(name)?;
+    push_meant(text, near)
+}
+
+/// Adds what a name is, since this is none.
+fn push_no_name(text: &mut String) -> Result<(), NoMemory>
+    ensures { OnOk result (string_bytes text.new ≡ string_bytes text.old ++ (codes "a name is " ++ name_words)) }
+{
+    text.push_str("a name is ")?;
+    push_name_form(text)
 }
 
 /// Adds that nothing has this name.
@@ -40,15 +67,10 @@ fn push_unnamed(
     ensures { OnOk result (string_bytes text.new ≡ string_bytes text.old ++ unnamed_words lab.now name.now) }
 {
     if !is_name(name) {
-        text.push_str("a name is ")?;
-        text.push_str(name_form())?;
-        return Ok(());
+        return push_no_name(text);
     }
-    let names = all_names(alloc, lab)?;
-    let near = nearest(alloc, &names, name)?;
-    text.push_str("no router, peering or policy is called ")?;
-    text.push_str(name)?;
-    push_meant(text, near)
+    let near = meant_by(alloc, lab, name)?;
+    push_uncalled(text, name, near)
 }
 
 /// Adds a name and what is said of it.
@@ -113,10 +135,9 @@ fn push_repeated(text: &mut String, again: &str) -> Result<(), NoMemory>
 fn push_said(text: &mut String) -> Result<(), NoMemory>
     ensures { OnOk result (string_bytes text.new ≡ string_bytes text.old ++ said_words) }
 {
-    write!(text, "a remote says at most {MOST_OCTETS} octets, ")?;
     write!(
         text,
-        "and at most {MOST_OCTETS_BEATING} where beats is true"
+        "a remote says at most {MOST_OCTETS} octets, and at most {MOST_OCTETS_BEATING} where beats is true"
     )?;
     Ok(())
 }
@@ -182,6 +203,9 @@ pub(crate) fn push_later(
         BadInput::Unknown(name) => push_unknown(alloc, text, lab, name.as_str()),
         BadInput::Repeated(again) => push_repeated(text, again.as_str()),
         BadInput::Limit(what, _) => push_count(text, lab, what.as_str()),
-        _ => Ok(text.push_str("an input is a TOML document with the keys of docs/INPUT.md")?),
+        _ => push_words(
+            text,
+            "an input is a TOML document with the keys of docs/INPUT.md",
+        ),
     }
 }

@@ -93,8 +93,9 @@ fn policies_of<'a>(alloc: Global, routers: &'a [RouterInput]) -> Result<Items<&'
 {
     let mut names = Items::new(alloc);
     for router in routers {
-        let policies = policy_names(alloc, &router.policies)?;
-        names.extend(&policies)?;
+        let policies = router.policies.as_slice();
+        let called = policy_names(alloc, policies)?;
+        names.extend(called.as_slice())?;
     }
     Ok(names)
 }

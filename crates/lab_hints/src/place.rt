@@ -1,7 +1,8 @@
 //! A place in the bytes of an input, by line and column.
 
-ghost use Rattle.std.specs.Prelude.{◌≡◌, ◌≤◌, ◌++◌, OnOk, string_bytes, take, length};
+ghost use Rattle.std.specs.Prelude.{◌≡◌, ◌≤◌, ◌++◌, OnOk, string_bytes, length};
 ghost use Rattle.lab_hints.specs.Hints.{begins_character as begins_character_lem, lines_in as lines_in_lem, columns_in as columns_in_lem, place_words};
+ghost use Rattle.lab_hints.specs.Hints.{line_of as line_of_lem, column_of as column_of_lem};
 
 use bgp_types::NoMemory;
 use std::fmt::Write;
@@ -32,6 +33,22 @@ fn columns_in(before: &[u8]) -> usize
         .count()
 }
 
+/// Returns the line of a place in bytes, counted from 1.
+fn line_of(bytes: &[u8], at: usize) -> usize
+    requires { at ≤ length bytes.now }
+    ensures { result ≡ line_of_lem bytes.now at }
+{
+    lines_in(&bytes[..at]) + 1
+}
+
+/// Returns the column of a place in bytes, counted from 1.
+fn column_of(bytes: &[u8], at: usize) -> usize
+    requires { at ≤ length bytes.now }
+    ensures { result ≡ column_of_lem bytes.now at }
+{
+    columns_in(&bytes[..at]) + 1
+}
+
 /// Adds the line and the column of a place in bytes, and what is wrong there.
 pub(crate) fn push_place(
     text: &mut String,
@@ -42,9 +59,8 @@ pub(crate) fn push_place(
     requires { at ≤ length bytes.now }
     ensures { OnOk result (string_bytes text.new ≡ string_bytes text.old ++ place_words bytes.now at message.now) }
 {
-    let before = &bytes[..at];
-    let line = lines_in(before) + 1;
-    let column = columns_in(before) + 1;
+    let line = line_of(bytes, at);
+    let column = column_of(bytes, at);
     write!(text, "line {line} column {column}: {message}")?;
     Ok(())
 }

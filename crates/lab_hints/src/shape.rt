@@ -1,15 +1,18 @@
 //! A value of a wrong shape, or beyond its limits.
 
-ghost use Rattle.std.specs.Prelude.{◌≡◌, ◌++◌, OnOk, string_bytes, option_map, option_copied};
+ghost use Rattle.std.specs.Prelude.{◌≡◌, ◌++◌, Some, OnOk, string_bytes, option_map, option_copied, unwrap_or};
 ghost use Rattle.std.specs.List.{find};
 ghost use Rattle.std.specs.Str.{bytes_eq};
+ghost use Rattle.toml.specs.Data.{no_members};
 ghost use Rattle.toml.specs.View.{table_view};
+ghost use Rattle.lab_keys.specs.declared.flaw.Flaw.{Flaw as FlawOf};
+ghost use Rattle.lab_keys.specs.Values.{has_member};
 ghost use Rattle.lab_hints.specs.Wanted.{wanted_words};
-ghost use Rattle.lab_tables.specs.Rows.{rows_at};
-ghost use Rattle.lab_hints.specs.Shapes.{relation_words, related_words, missing_words, row_words, key_words, spot_in as spot_in_lem, shape_words};
+ghost use Rattle.lab_tables.specs.Rows.{rows_at, table_at as table_at_lem};
+ghost use Rattle.lab_hints.specs.Shapes.{relation_words, related_words, missing_words, flawed_words, row_words, key_words, spot_in as spot_in_lem, shape_words};
 
 use crate::stray::{push_instead, push_stray};
-use crate::wanted::push_wanted;
+use crate::wanted::{push_wanted, push_words};
 use bgp_types::NoMemory;
 use lab_keys::{Flaw, Key, Spot, TableAt, has, key_flaw, stray_in};
 use lab_tables::{keys_at, table_at};
@@ -67,7 +70,7 @@ fn push_related(text: &mut String, at: TableAt, row: &Key) -> Result<(), NoMemor
     ensures { OnOk result (string_bytes text.new ≡ string_bytes text.old ++ related_words at row.now) }
 {
     match relation(at, row.name()) {
-        Some(words) => Ok(text.push_str(words)?),
+        Some(words) => push_words(text, words),
         None => push_key_with(text, " is ", at, row),
     }
 }
@@ -88,6 +91,25 @@ fn push_missing(
     push_instead(alloc, text, stray_in(keys, table), row.name())
 }
 
+/// Adds the hint for a value that has a flaw by itself, or is missing, at the key of a row, which is one of these keys.
+fn push_flawed(
+    alloc: Global,
+    text: &mut String,
+    at: TableAt,
+    table: &Table,
+    row: &Key,
+    keys: &[Key],
+) -> Result<(), NoMemory>
+    requires { keys.now ≡ rows_at at (table_view table.now) }
+    ensures { (flaw : FlawOf) → OnOk result (string_bytes text.new
+        ≡ string_bytes text.old ++ flawed_words (Some flaw) (has_member row.now.name (table_view table.now)) at (table_view table.now) row.now) }
+{
+    if has(row.name(), table) {
+        return push_key_with(text, " is ", at, row);
+    }
+    push_missing(alloc, text, at, table, row, keys)
+}
+
 /// Adds the hint for the value at the key of a row, which is one of these keys.
 fn push_row(
     alloc: Global,
@@ -100,13 +122,10 @@ fn push_row(
     requires { keys.now ≡ rows_at at (table_view table.now) }
     ensures { OnOk result (string_bytes text.new ≡ string_bytes text.old ++ row_words at (table_view table.now) row.now) }
 {
-    if key_flaw(at, row, table).is_none() {
-        return push_related(text, at, row);
+    match key_flaw(at, row, table) {
+        None => push_related(text, at, row),
+        Some(_) => push_flawed(alloc, text, at, table, row, keys),
     }
-    if has(row.name(), table) {
-        return push_key_with(text, " is ", at, row);
-    }
-    push_missing(alloc, text, at, table, row, keys)
 }
 
 /// Returns whether a row has this key.
@@ -123,7 +142,7 @@ fn row_of<'k>(keys: &'k [Key], key: &str) -> Option<&'k Key>
     keys.iter().find(|row| is_called(key, row))
 }
 
-/// Adds the hint for a key of the table that stands at a place.
+/// Adds the hint for a key of a table that stands at a place.
 fn push_key(
     alloc: Global,
     text: &mut String,
@@ -134,9 +153,40 @@ fn push_key(
     ensures { OnOk result (string_bytes text.new ≡ string_bytes text.old ++ key_words at (table_view table.now) key.now) }
 {
     let keys = keys_at(alloc, at, table)?;
-    match row_of(&keys, key) {
-        Some(row) => push_row(alloc, text, at, table, row, &keys),
-        None => push_stray(alloc, text, key, &keys),
+    let rows = keys.as_slice();
+    match row_of(rows, key) {
+        Some(row) => push_row(alloc, text, at, table, row, rows),
+        None => push_stray(alloc, text, key, rows),
+    }
+}
+
+/// Adds the hint for a key of a table without keys.
+fn push_key_of_none(
+    alloc: Global,
+    text: &mut String,
+    at: TableAt,
+    key: &str,
+) -> Result<(), NoMemory>
+    ensures { OnOk result (string_bytes text.new ≡ string_bytes text.old ++ key_words at no_members key.now) }
+{
+    let none = Table::new(alloc);
+    push_key(alloc, text, at, &none, key)
+}
+
+/// Adds the hint for a key of the table of a document that stands at a place.
+fn push_key_at(
+    alloc: Global,
+    text: &mut String,
+    doc: &Table,
+    at: TableAt,
+    key: &str,
+) -> Result<(), NoMemory>
+    ensures { OnOk result (string_bytes text.new
+        ≡ string_bytes text.old ++ key_words at (unwrap_or (table_at_lem at (table_view doc.now)) no_members) key.now) }
+{
+    match table_at(at, doc) {
+        Some(table) => push_key(alloc, text, at, table, key),
+        None => push_key_of_none(alloc, text, at, key),
     }
 }
 
@@ -160,8 +210,5 @@ pub(crate) fn push_shape<'a>(
     ensures { OnOk result (string_bytes text.new ≡ string_bytes text.old ++ shape_words (table_view doc.now) (spot_in_lem flaw.entry)) }
 {
     let (at, key, _) = spot_in(flaw).into_parts();
-    match table_at(at, doc) {
-        Some(table) => push_key(alloc, text, at, table, key),
-        None => push_key(alloc, text, at, &Table::new(alloc), key),
-    }
+    push_key_at(alloc, text, doc, at, key)
 }

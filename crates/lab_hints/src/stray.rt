@@ -1,11 +1,13 @@
 //! A key that no row has.
 
-ghost use Rattle.std.specs.Prelude.{◌≡◌, ◌++◌, OnOk, IfOk, string_bytes, map, option_map};
+ghost use Rattle.std.specs.Prelude.{◌≡◌, ◌++◌, ◌&&◌, Some, OnOk, IfOk, string_bytes, map, option_map, codes};
 ghost use Rattle.std.specs.List.{list_all};
+ghost use Rattle.near_names.specs.Nearness.{is_near as is_near_lem};
 ghost use Rattle.lab_keys.specs.Keys.{names_of as names_of_lem};
+ghost use Rattle.lab_hints.specs.Wanted.{listed};
 ghost use Rattle.lab_hints.specs.Shapes.{is_bare_char as is_bare_char_lem, is_bare as is_bare_lem, instead_words, known_words, stray_words};
 
-use crate::wanted::push_listed;
+use crate::wanted::{push_listed, push_words};
 use bgp_types::{Items, NoMemory};
 use lab_keys::Key;
 use near_names::{is_near, nearest};
@@ -45,6 +47,34 @@ fn names_of(alloc: Global, keys: &[Key]) -> Result<Items<&'static str>, NoMemory
     Ok(names)
 }
 
+/// Returns whether a key can be quoted in a line, and is so near to a name that the name may be meant.
+fn may_mean(alloc: Global, key: &str, name: &str) -> Result<bool, NoMemory>
+    ensures { IfOk result (λ may. may ≡ (is_bare_lem key.now && is_near_lem key.now name.now)) }
+{
+    if !is_bare(key) {
+        return Ok(false);
+    }
+    Ok(is_near(alloc, key, name)?)
+}
+
+/// Adds that no key is called so.
+fn push_no_key(text: &mut String, key: &str) -> Result<(), NoMemory>
+    ensures { OnOk result (string_bytes text.new ≡ string_bytes text.old ++ (codes "; no key is called " ++ key.now)) }
+{
+    text.push_str("; no key is called ")?;
+    push_words(text, key)
+}
+
+/// Adds a key that nothing has, if a missing one may be meant by it.
+fn push_misspelt(alloc: Global, text: &mut String, key: &str, name: &str) -> Result<(), NoMemory>
+    ensures { OnOk result (string_bytes text.new ≡ string_bytes text.old ++ instead_words (Some key.now) name.now) }
+{
+    if may_mean(alloc, key, name)? {
+        return push_no_key(text, key);
+    }
+    Ok(())
+}
+
 /// Adds the misspelt key that stands in place of a missing one, if there is such a key.
 pub(crate) fn push_instead(
     alloc: Global,
@@ -54,14 +84,27 @@ pub(crate) fn push_instead(
 ) -> Result<(), NoMemory>
     ensures { OnOk result (string_bytes text.new ≡ string_bytes text.old ++ instead_words (option_map (λ key. key.now) stray.entry) name.now) }
 {
-    let Some(key) = stray else {
-        return Ok(());
-    };
-    if is_bare(key) && is_near(alloc, key, name)? {
-        text.push_str("; no key is called ")?;
-        text.push_str(key)?;
+    match stray {
+        Some(key) => push_misspelt(alloc, text, key, name),
+        None => Ok(()),
     }
-    Ok(())
+}
+
+/// Adds the name that may be meant.
+pub(crate) fn push_question(text: &mut String, name: &str) -> Result<(), NoMemory>
+    ensures { OnOk result (string_bytes text.new ≡ string_bytes text.old ++ (codes "; did you mean " ++ name.now ++ codes "?")) }
+{
+    text.push_str("; did you mean ")?;
+    text.push_str(name)?;
+    push_words(text, "?")
+}
+
+/// Adds all names of keys.
+fn push_names(text: &mut String, names: &[&str]) -> Result<(), NoMemory>
+    ensures { OnOk result (string_bytes text.new ≡ string_bytes text.old ++ (codes "; the keys are" ++ listed (map (λ name. name.now) names.now))) }
+{
+    text.push_str("; the keys are")?;
+    push_listed(text, names)
 }
 
 /// Adds the name that may be meant, or all names.
@@ -70,16 +113,8 @@ fn push_known(text: &mut String, near: Option<&str>, names: &[&str]) -> Result<(
         ≡ string_bytes text.old ++ known_words (option_map (λ name. name.now) near.entry) (map (λ name. name.now) names.now)) }
 {
     match near {
-        Some(name) => {
-            text.push_str("; did you mean ")?;
-            text.push_str(name)?;
-            text.push_str("?")?;
-            Ok(())
-        }
-        None => {
-            text.push_str("; the keys are")?;
-            push_listed(text, names)
-        }
+        Some(name) => push_question(text, name),
+        None => push_names(text, names),
     }
 }
 

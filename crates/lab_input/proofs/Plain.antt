@@ -14,11 +14,16 @@ use Rattle.lab_keys.specs.declared.flaw.Flaw.{Flaw}
 use Rattle.lab_keys.specs.declared.table_at.TableAt.TheVariants.{Top}
 use Rattle.lab_keys.specs.Spots.{spot_of, member_of}
 use Rattle.lab_keys.specs.Kinds.{first_of, array_flaw, table_flaw}
-use Rattle.lab_keys.specs.Keys.{present, is_one_of, stray_in, stray_at, tables_flaw}
-use Rattle.lab_keys.specs.Values.{has_member, items_in, tables_at}
-use Rattle.lab_tables.specs.Documents.{top_names, router_names_of, peering_names_of}
+use Rattle.lab_keys.specs.Keys.{present, is_one_of, stray_in, stray_at, keys_flaw, tables_flaw, row_flaw, stray_flaw}
+use Rattle.lab_keys.specs.Values.{has_member, items_in, items_at, tables_at}
+use Rattle.lab_tables.specs.Routers.{router_flaw}
+use Rattle.lab_tables.specs.Peerings.{cost_flaw, peering_flaw, fault_flaw}
+use Rattle.lab_tables.specs.Scripts.{step_flaw}
+use Rattle.lab_tables.specs.Documents.{home_keys, trace_keys, router_row, cost_row, peering_row, fault_row, step_row}
+use Rattle.lab_tables.specs.Documents.{top_names, routers_of, router_names_of, peering_names_of}
 use Rattle.lab_tables.specs.Expects.{most_graft, expect_flaw, expectation_of}
-use Rattle.lab_input.specs.Names.{expect_named}
+use Rattle.lab_input.specs.declared.bad.BadInput.{BadInput}
+use Rattle.lab_input.specs.Names.{each_after, router_again, cost_named, peering_named, fault_named, step_named, expect_named}
 use Rattle.lab_input.specs.Plain.{plain_names, IsPlain}
 
 abbrev Key : List ℕ
@@ -84,22 +89,39 @@ no_flaw doc none =
 no_tables : (doc : Members) → get_member Key doc ≡ None → tables_at Key doc ≡ []
 no_tables doc none = ap (λ o. filter_map as_table (items_in o)) none
 
--- seven flaws, and none behind them
-seven : {E : Type 0} (a b b' c d e f g h i : Option E) → b ≡ b' → i ≡ None
-    → first_of (a ∷ b ∷ c ∷ d ∷ e ∷ f ∷ g ∷ h ∷ i ∷ []) ≡ first_of (a ∷ b' ∷ c ∷ d ∷ e ∷ f ∷ g ∷ h ∷ [])
-seven a b b' c d e f g h i same none =
-    ap (λ x. first_of (a ∷ x ∷ c ∷ d ∷ e ∷ f ∷ g ∷ h ∷ i ∷ [])) same
-    ∙ ap (λ x. first_of (a ∷ b' ∷ c ∷ d ∷ e ∷ f ∷ g ∷ h ∷ x ∷ [])) none
+-- the rules, given the flaws of unknown keys and of expectations
+abbrev shaped_by : Members → (strays expects : Option Flaw) → Option Flaw
+shaped_by doc strays expects = first_of (
+    keys_flaw Top home_keys doc
+    ∷ strays
+    ∷ row_flaw Top router_row router_flaw doc
+    ∷ row_flaw Top cost_row cost_flaw doc
+    ∷ row_flaw Top peering_row (peering_flaw doc) doc
+    ∷ row_flaw Top fault_row fault_flaw doc
+    ∷ row_flaw Top step_row (step_flaw (items_at (codes "step") doc)) doc
+    ∷ keys_flaw Top trace_keys doc
+    ∷ expects
+    ∷ [])
 
-five : {E : Type 0} (a b c d e f : Option E) → f ≡ None → first_of (a ∷ b ∷ c ∷ d ∷ e ∷ f ∷ []) ≡ first_of (a ∷ b ∷ c ∷ d ∷ e ∷ [])
-five a b c d e f none = ap (λ x. first_of (a ∷ b ∷ c ∷ d ∷ e ∷ x ∷ [])) none
+-- the wrong names, given that of the expectations
+abbrev named_by : Members → (expects : Option BadInput) → Option BadInput
+named_by doc expects = first_of (
+    each_after router_again [] (routers_of doc)
+    ∷ each_after (cost_named (router_names_of doc)) [] (tables_at (codes "cost") doc)
+    ∷ each_after (peering_named (routers_of doc)) [] (tables_at (codes "peering") doc)
+    ∷ each_after (fault_named (peering_names_of doc)) [] (tables_at (codes "fault") doc)
+    ∷ first_of (map (step_named (router_names_of doc) (peering_names_of doc)) (tables_at (codes "step") doc))
+    ∷ expects
+    ∷ [])
 
 pub plain : (doc : Members) → has_member Key doc ≡ false → IsPlain doc
 plain doc absent =
     let none = none_there (get_member Key doc) absent in
     let tables = no_tables doc none in
     record {
-      shapes = seven _ _ _ _ _ _ _ _ _ (expects_flaw doc) (ap (stray_at Top) (strays_same doc none)) (no_flaw doc none);
-      names = five _ _ _ _ _ _ (ap (λ ts. first_of (map (expect_named (router_names_of doc) (peering_names_of doc)) ts)) tables);
+      shapes =
+          ap (λ ks. shaped_by doc (stray_at Top ks) (expects_flaw doc)) (strays_same doc none)
+          ∙ ap (shaped_by doc (stray_flaw Top plain_names doc)) (no_flaw doc none);
+      names = ap (λ ts. named_by doc (first_of (map (expect_named (router_names_of doc) (peering_names_of doc)) ts))) tables;
       nothing = ap (map (expectation_of (router_names_of doc) (peering_names_of doc))) tables;
     }

@@ -68,36 +68,46 @@ pub fn table_at<'a>(at: TableAt, doc: &'a Table) -> Option<&'a Table>
     }
 }
 
-/// Returns an array of keys as a list.
-fn listed<const N: usize>(alloc: Global, keys: [Key; N]) -> Result<Items<Key>, NoMemory>
-    ensures { IfOk result (λ list. list ≡ keys.entry) }
-{
-    Ok(Items::from_vec(Vec::from_array(alloc, keys)?))
-}
-
 /// Returns the keys of a step of this word.
-fn step_keys(alloc: Global, word: StepWord) -> Result<Items<Key>, NoMemory>
-    ensures { IfOk result (λ keys. keys ≡ do_keys ++ keys_of word) }
+fn step_keys(alloc: Global, word: StepWord) -> Result<Vec<Key>, NoMemory>
+    ensures { IfOk result (λ keys. keys.items ≡ do_keys ++ keys_of word) }
 {
     match word {
-        StepWord::Announces => listed(alloc, announce_keys()),
-        StepWord::Withdraws => listed(alloc, withdraw_keys()),
-        StepWord::SaysRaw => listed(alloc, raw_keys()),
-        StepWord::Grafts => listed(alloc, graft_keys()),
-        StepWord::Settles => listed(alloc, settle_keys()),
-        StepWord::Evacuates => listed(alloc, evacuate_keys()),
+        StepWord::Announces => Ok(Vec::from_array(alloc, announce_keys())?),
+        StepWord::Withdraws => Ok(Vec::from_array(alloc, withdraw_keys())?),
+        StepWord::SaysRaw => Ok(Vec::from_array(alloc, raw_keys())?),
+        StepWord::Grafts => Ok(Vec::from_array(alloc, graft_keys())?),
+        StepWord::Settles => Ok(Vec::from_array(alloc, settle_keys())?),
+        StepWord::Evacuates => Ok(Vec::from_array(alloc, evacuate_keys())?),
     }
 }
 
 /// Returns the keys of an expectation of a form, none if it has no form.
-fn form_keys(alloc: Global, form: Option<ExpectForm>) -> Result<Items<Key>, NoMemory>
-    ensures { IfOk result (λ keys. keys ≡ form_rows form) }
+fn form_keys(alloc: Global, form: Option<ExpectForm>) -> Result<Vec<Key>, NoMemory>
+    ensures { IfOk result (λ keys. keys.items ≡ form_rows form) }
 {
     match form {
-        Some(ExpectForm::Graft) => listed(alloc, graft_expect_keys()),
-        Some(ExpectForm::Session) => listed(alloc, session_expect_keys()),
-        Some(ExpectForm::Route) => listed(alloc, route_expect_keys()),
-        None => Ok(Items::new(alloc)),
+        Some(ExpectForm::Graft) => Ok(Vec::from_array(alloc, graft_expect_keys())?),
+        Some(ExpectForm::Session) => Ok(Vec::from_array(alloc, session_expect_keys())?),
+        Some(ExpectForm::Route) => Ok(Vec::from_array(alloc, route_expect_keys())?),
+        None => Ok(Vec::new(alloc)),
+    }
+}
+
+/// Returns the keys of a table that stands at a place.
+fn rows_of(alloc: Global, at: TableAt, table: &Table) -> Result<Vec<Key>, NoMemory>
+    ensures { IfOk result (λ keys. keys.items ≡ rows_at at (table_view table.now)) }
+{
+    match at {
+        TableAt::Top => Ok(Vec::from_array(alloc, document_keys())?),
+        TableAt::Router(_) => Ok(Vec::from_array(alloc, router_keys())?),
+        TableAt::Policy(_, _) => Ok(Vec::from_array(alloc, policy_keys())?),
+        TableAt::Rule(_, _, _) => Ok(Vec::from_array(alloc, rule_keys(has("prefix", table)))?),
+        TableAt::Cost(_) => Ok(Vec::from_array(alloc, cost_keys())?),
+        TableAt::Peering(_) => Ok(Vec::from_array(alloc, peering_keys())?),
+        TableAt::Fault(_) => Ok(Vec::from_array(alloc, fault_keys(is_lost(fault_kind_at(table))))?),
+        TableAt::Step(_) => step_keys(alloc, word_at(table)),
+        TableAt::Expect(_) => form_keys(alloc, form_of(table)),
     }
 }
 
@@ -105,17 +115,7 @@ fn form_keys(alloc: Global, form: Option<ExpectForm>) -> Result<Items<Key>, NoMe
 pub fn keys_at(alloc: Global, at: TableAt, table: &Table) -> Result<Items<Key>, NoMemory>
     ensures { IfOk result (λ keys. keys ≡ rows_at at (table_view table.now)) }
 {
-    match at {
-        TableAt::Top => listed(alloc, document_keys()),
-        TableAt::Router(_) => listed(alloc, router_keys()),
-        TableAt::Policy(_, _) => listed(alloc, policy_keys()),
-        TableAt::Rule(_, _, _) => listed(alloc, rule_keys(has("prefix", table))),
-        TableAt::Cost(_) => listed(alloc, cost_keys()),
-        TableAt::Peering(_) => listed(alloc, peering_keys()),
-        TableAt::Fault(_) => listed(alloc, fault_keys(is_lost(fault_kind_at(table)))),
-        TableAt::Step(_) => step_keys(alloc, word_at(table)),
-        TableAt::Expect(_) => form_keys(alloc, form_of(table)),
-    }
+    Ok(Items::from_vec(rows_of(alloc, at, table)?))
 }
 
 ghost use Rattle.lab_keys.specs.declared.table_at.TableAt.TheVariants as tables;

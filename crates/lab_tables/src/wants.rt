@@ -91,6 +91,20 @@ fn session_wanted(
     Ok(wanted)
 }
 
+/// Returns what is wanted of the session of the peering that a table names.
+fn named_session_wanted(
+    alloc: Global,
+    routers: &NameIndex,
+    peerings: &NameIndex,
+    table: &Table,
+) -> Result<Expectation, NoMemory>
+    ensures { IfOk result (λ wanted. wanted
+        ≡ session_wanted_lem routers.now (index_of_name peerings.now (text_at_lem (codes "peering") (table_view table.now))) (table_view table.now)) }
+{
+    let peering = peerings.number_of(text_at("peering", table));
+    session_wanted(alloc, routers, peering, table)
+}
+
 /// Returns where a best route is to come from, as a text says it.
 fn source_in(routers: &NameIndex, peerings: &NameIndex, text: &str) -> Option<From>
     ensures { result ≡ source_in_lem routers.now peerings.now text.now }
@@ -140,10 +154,7 @@ fn formed_wanted(
     match form {
         None => Ok(Items::new(alloc)),
         Some(ExpectForm::Graft) => Items::one(alloc, outcome_wanted(alloc, table)?),
-        Some(ExpectForm::Session) => {
-            let peering = peerings.number_of(text_at("peering", table));
-            session_wanted(alloc, routers, peering, table)
-        }
+        Some(ExpectForm::Session) => named_session_wanted(alloc, routers, peerings, table),
         Some(ExpectForm::Route) => one_if(alloc, best_wanted(routers, peerings, table)),
     }
 }
@@ -166,3 +177,4 @@ impl<'p> TableReader<Expectation> for ExpectReader<'p> {
 ghost use Rattle.std.specs.Prelude.{codes};
 ghost use Rattle.lab_keys.specs.Values.{number_or as number_or_lem};
 ghost use Rattle.lab_tables.specs.declared.expectation.ExpectedValue.TheVariants.{Outcome};
+ghost use Rattle.lab_tables.specs.Meanings.{index_of_name};

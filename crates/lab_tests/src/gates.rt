@@ -58,8 +58,9 @@ const TELL: u16 = 7;
 /// The kind of an event by which a router hears what another one told.
 const HEAR: u16 = 8;
 
-/// The number of entries that make a round one with much to do.
-const MUCH: u64 = 128;
+/// How many entries a round with much to do has at least: a router decides 200 prefixes and tells them the other one. Together with the
+/// 200 items on their way behind it they are enough load for two workers.
+const MUCH: u64 = 400;
 
 /// How often a gate looks whether it may open: for some seconds, so that a thread that waits for a processor is waited for.
 const MOST_LOOKS: u32 = 100_000_000;
@@ -133,14 +134,14 @@ impl Gate for Hold {
     }
 }
 
-/// Adds the step in which a peering's remote announces 120 prefixes.
+/// Adds the step in which a peering's remote announces 200 prefixes.
 fn push_announcement(text: &mut String, peering: &str, second: u8) -> Result<(), NoMemory> {
     write!(
         text,
         "\n[[step]]\ndo = \"announce\"\npeering = \"{peering}\"\n"
     )?;
     write!(text, "prefixes = [\"11.{second}.0.0/16\"")?;
-    for prefix in 0..119u8 {
+    for prefix in 0..199u8 {
         write!(text, ", \"10.{second}.{prefix}.0/24\"")?;
     }
     text.push_str("]\n")?;

@@ -1,8 +1,6 @@
 -- Words ask for one job; and what holds of each job.
 use Rattle.std.proofs.Common.{◌≡◌, ℕ, List, inl, inr, refl, sym, ap, subst}
-use Rattle.std.specs.Prelude.{◌⊎◌, Option, Some, None, Result}
-use Rattle.lab_tables.specs.declared.input.LabInput.{LabInput}
-use Rattle.lab_input.specs.declared.bad.BadInput.{BadInput}
+use Rattle.std.specs.Prelude.{◌⊎◌, Option, Some, None}
 use Rattle.lab_words.specs.declared.job.Job.{Job}
 use Rattle.lab_words.specs.declared.job.Job.TheVariants as jobs
 use Rattle.lab_words.specs.Asked.{Asks}
@@ -12,8 +10,8 @@ use Rattle.lab_report.specs.declared.lab.Lab.{Lab}
 use Rattle.lab_top.specs.declared.views.ViewName.{ViewName}
 use Rattle.lab_top.specs.declared.views.ViewName.TheVariants as names
 use Rattle.lab_top.specs.Views.{ShowsView, viewing}
-use Rattle.lab_top.specs.Ends.{AreRefused, RunsSource, AskForLab, AskToMake, AskForLine, AskUnread, ReadsInput}
-use Rattle.lab_top.specs.Cases.{TookWhole, ReadsSource, RunsLab, plain_text, Gives, Answers, Tells}
+use Rattle.lab_top.specs.Ends.{AreRefused, RunsSource, AskForLab, AskToMake, AskForLine, AskUnread, TookBadInput, end_status}
+use Rattle.lab_top.specs.Cases.{TookWhole, ReadsSource, RunsLab, plain_text, Gives, Refuses, Tells, job_status}
 
 -- what holds of the job that is asked for holds of a job that the same words ask for
 pub of_asked : (P : Job → Type 0) (words : List (List ℕ)) (job asked : Job) → Asks words job → Asks words asked → P job → P asked
@@ -41,12 +39,13 @@ views_run names.Timeline workers = tt
 views_run names.Show workers = tt
 views_run (names.Story name) workers = tt
 views_run (names.Why name prefix) workers = tt
+views_run names.Picture workers = tt
 
 -- a job that runs what it reads
-pub answers_of : (job : Job) (before after : Option (List ℕ)) (answer : Result LabInput BadInput) → ReadsSource job → ReadsInput before after answer
-    → Answers job before after answer
-answers_of (jobs.Drill seed workers) before after answer reads read = absurd reads
-answers_of _ before after answer reads read = read
+pub refuses_of : (job : Job) (before after : Option (List ℕ)) (text : List ℕ) → ReadsSource job → TookBadInput before after text
+    → Refuses job before after text
+refuses_of (jobs.Drill seed workers) before after text reads took = absurd reads
+refuses_of _ before after text reads took = took
 
 pub gives_of : (job : Job) (before after : Option (List ℕ)) (bytes : List ℕ) → ReadsSource job → TookWhole before after bytes
     → Gives job before after bytes
@@ -63,6 +62,7 @@ views_read names.Timeline workers = tt
 views_read names.Show workers = tt
 views_read (names.Story name) workers = tt
 views_read (names.Why name prefix) workers = tt
+views_read names.Picture workers = tt
 
 pub view_told : (view : ViewName) (workers : ℕ) (bytes : List ℕ) (lab : Lab) (text : List ℕ) → ShowsView lab view text
     → Tells (viewing view workers) bytes lab text
@@ -70,6 +70,7 @@ view_told names.Timeline workers bytes lab text shows = shows
 view_told names.Show workers bytes lab text shows = shows
 view_told (names.Story name) workers bytes lab text shows = shows
 view_told (names.Why name prefix) workers bytes lab text shows = shows
+view_told names.Picture workers bytes lab text shows = shows
 
 pub view_shown : (view : ViewName) (workers : ℕ) (bytes : List ℕ) (lab : Lab) (text : List ℕ) → Tells (viewing view workers) bytes lab text
     → ShowsView lab view text
@@ -77,6 +78,15 @@ view_shown names.Timeline workers bytes lab text tells = tells
 view_shown names.Show workers bytes lab text tells = tells
 view_shown (names.Story name) workers bytes lab text tells = tells
 view_shown (names.Why name prefix) workers bytes lab text tells = tells
+view_shown names.Picture workers bytes lab text tells = tells
+
+-- a view is written under the status of its run
+pub view_status : (view : ViewName) (workers : ℕ) (lab : Lab) → job_status (viewing view workers) lab ≡ end_status lab.end
+view_status names.Timeline workers lab = refl
+view_status names.Show workers lab = refl
+view_status (names.Story name) workers lab = refl
+view_status (names.Why name prefix) workers lab = refl
+view_status names.Picture workers lab = refl
 
 -- ---- what words ask for
 
@@ -85,10 +95,12 @@ pub lab_asked : (words : List (List ℕ)) (job : Job) → Asks words job → Run
 lab_asked words (jobs.Run workers) ask lab = inl (inl (workers, ask))
 lab_asked words (jobs.Drill seed workers) ask lab = inr (seed, (workers, ask))
 lab_asked words (jobs.Journal workers) ask lab = inl (inr (inl (workers, ask)))
-lab_asked words (jobs.Timeline workers) ask lab = inl (inr (inr (names.Timeline, (workers, ask))))
-lab_asked words (jobs.Show workers) ask lab = inl (inr (inr (names.Show, (workers, ask))))
-lab_asked words (jobs.Story name workers) ask lab = inl (inr (inr (names.Story name, (workers, ask))))
-lab_asked words (jobs.Why name prefix workers) ask lab = inl (inr (inr (names.Why name prefix, (workers, ask))))
+lab_asked words (jobs.Timeline workers) ask lab = inl (inr (inr (inr (names.Timeline, (workers, ask)))))
+lab_asked words (jobs.Show workers) ask lab = inl (inr (inr (inr (names.Show, (workers, ask)))))
+lab_asked words (jobs.Story name workers) ask lab = inl (inr (inr (inr (names.Story name, (workers, ask)))))
+lab_asked words (jobs.Why name prefix workers) ask lab = inl (inr (inr (inr (names.Why name prefix, (workers, ask)))))
+lab_asked words (jobs.Picture workers) ask lab = inl (inr (inr (inr (names.Picture, (workers, ask)))))
+lab_asked words (jobs.Test workers) ask lab = inl (inr (inr (inl (workers, ask))))
 lab_asked words _ ask lab = absurd lab
 
 -- the job that words ask for
@@ -101,7 +113,8 @@ Both job = RunsLab job × ReadsSource job
 source_job : (words : List (List ℕ)) → RunsSource words → Asked words Both
 source_job words (inl run) = (jobs.Run run.0, run.1, (tt, tt))
 source_job words (inr (inl journal)) = (jobs.Journal journal.0, journal.1, (tt, tt))
-source_job words (inr (inr view)) = (viewing view.0 view.1.0, view.1.1, (views_run view.0 view.1.0, views_read view.0 view.1.0))
+source_job words (inr (inr (inl test))) = (jobs.Test test.0, test.1, (tt, tt))
+source_job words (inr (inr (inr view))) = (viewing view.0 view.1.0, view.1.1, (views_run view.0 view.1.0, views_read view.0 view.1.0))
 
 lab_job : (words : List (List ℕ)) → AskForLab words → Asked words RunsLab
 lab_job words (inl source) = let job = source_job words source in (job.0, job.1, job.2.0)

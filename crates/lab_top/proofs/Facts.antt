@@ -1,6 +1,6 @@
 -- What holds of every end.
 use Rattle.std.proofs.Common.{◌≡◌, ℕ, Bool, true, false, ◌==◌, ◌||◌, List, inl, inr, refl, subst, sym, ◌∙◌, ap, arith}
-use Rattle.std.specs.Prelude.{◌⊎◌, Option, Some, None, Result, Ok, Err, IsSome, IfSome, OnSome}
+use Rattle.std.specs.Prelude.{◌⊎◌, Option, Some, None, Result, Ok, Err, IsSome, IsSomeAnd, IfSome, OnSome}
 use Rattle.std.proofs.lemmas.Bool.{false≢true}
 use Rattle.graft_edge.specs.Outside.{FaultRose, Appended, AppendedFront}
 use Rattle.lab_tables.specs.declared.input.LabInput.{LabInput}
@@ -8,21 +8,23 @@ use Rattle.lab_input.specs.declared.bad.BadInput.{BadInput}
 use Rattle.lab_input.specs.Labs.{InputOf}
 use Rattle.lab_words.specs.declared.job.Job.{Job}
 use Rattle.lab_words.specs.declared.job.Job.TheVariants as jobs
-use Rattle.lab_words.specs.Asked.{usage_text, Asks}
+use Rattle.lab_words.specs.Asked.{Asks}
+use Rattle.lab_words.specs.Hints.{refused_text}
 use Rattle.lab_make.specs.Made.{made}
 use Rattle.lab_report.specs.declared.lab.Lab.{Lab}
 use Rattle.lab_report.specs.declared.lab.RunEnd.{RunEnd}
 use Rattle.lab_report.specs.declared.lab.RunEnd.TheVariants.{Settled, Unsettled, StreamFull, JournalFull}
 use Rattle.lab_report.specs.Summary.{summary_text}
 use Rattle.lab_run.specs.Runs.{RanLab}
+use Rattle.expect_view.specs.Expect.{all_hold, test_status, test_text}
 use Rattle.lab_top.specs.declared.views.ViewName.{ViewName}
 use Rattle.lab_top.specs.Views.{viewing}
-use Rattle.lab_top.specs.Ends.{AreRefused, AskToRun, AskForJournal, AskToView, RunsSource, AskToDrill, AskForLab, AskToMake, AskForLine, ReadsInput}
-use Rattle.lab_top.specs.Ends.{SaysWhy, TookInput, GaveBadInput, IsStatus, WritesText, WritesReport, WritesJournal, WritesView, Checks, end_status}
-use Rattle.lab_top.specs.Ends.{verdict_text, verdict_status}
-use Rattle.lab_top.specs.Cases.{Outside, RunsLab, plain_text, Gives, Answers, Tells, Cause, tells, checks, refuses, misses, runs}
+use Rattle.lab_top.specs.Ends.{AreRefused, AskToRun, AskForJournal, AskToTest, AskToView, RunsSource, AskToDrill, AskForLab, AskToMake, AskForLine}
+use Rattle.lab_top.specs.Ends.{ReadsInput, TookInput, GaveBadInput, IsStatus, WritesText, WritesReport, WritesJournal, WritesView, Checks, end_status}
+use Rattle.lab_top.specs.Ends.{SaysVerdict, verdict_status, tested_status, HasFailed}
+use Rattle.lab_top.specs.Cases.{Outside, RunsLab, plain_text, Gives, Refuses, Tells, job_status, Cause, tells, checks, refuses, misses, runs}
 use Rattle.lab_top.specs.Cases.{Did, wrote, unread, Ended, refused, did, no_memory}
-use Rattle.lab_top.proofs.Asking.{of_asked, plain_is_no_lab, plain_reads_none, views_run, took_of, view_shown, lab_asked}
+use Rattle.lab_top.proofs.Asking.{of_asked, plain_is_no_lab, plain_reads_none, views_run, took_of, view_status, view_shown, lab_asked}
 use Rattle.lab_top.proofs.Asking.{reads_source, runs_lab, none_run, line_asked, make_asked, no_lab}
 
 -- ---- texts and statuses
@@ -35,30 +37,46 @@ writes_as : (text told : List ℕ) (planned meant : ℕ) (o n : Outside) (status
 writes_as text told planned meant o n status same also w =
     subst (λ t. Wrote t meant o n status) same (subst (λ k. Wrote text k o n status) also w)
 
+-- the statuses under which a text of a run is written whole
+abbrev OfRun : ℕ → Type 0
+OfRun planned = (planned ≡ 0) ⊎ (planned ≡ 3) ⊎ (planned ≡ 7) ⊎ (planned ≡ 9)
+
+end_of_run : (end : RunEnd) → OfRun (end_status end)
+end_of_run Settled = inl refl
+end_of_run (Unsettled step rounds pending) = inr (inl refl)
+end_of_run (StreamFull peering length) = inr (inr (inl refl))
+end_of_run (JournalFull events) = inr (inr (inl refl))
+
+test_of_run : (end : RunEnd) (holds : Bool) → OfRun (test_status (end_status end) end holds)
+test_of_run Settled true = inl refl
+test_of_run Settled false = inr (inr (inr refl))
+test_of_run (Unsettled step rounds pending) holds = inr (inl refl)
+test_of_run (StreamFull peering length) holds = inr (inr (inl refl))
+test_of_run (JournalFull events) holds = inr (inr (inl refl))
+
+job_of_run : (job : Job) (end : Lab) → OfRun (job_status job end)
+job_of_run (jobs.Test workers) end = test_of_run end.end (all_hold end)
+job_of_run _ end = end_of_run end.end
+
 -- the statuses under which a job's text is written whole
 abbrev Planned : ℕ → Type 0
-Planned planned = (planned ≡ 0) ⊎ (planned ≡ 2) ⊎ (planned ≡ 3) ⊎ (planned ≡ 7)
-
-end_planned : (end : RunEnd) → Planned (end_status end)
-end_planned Settled = inl refl
-end_planned (Unsettled step rounds pending) = inr (inr (inl refl))
-end_planned (StreamFull peering length) = inr (inr (inr refl))
-end_planned (JournalFull events) = inr (inr (inr refl))
+Planned planned = (planned ≡ 2) ⊎ OfRun planned
 
 planned_by : (job : Job) (left rest : Option (List ℕ)) (text : List ℕ) (planned : ℕ) (lab : Option Lab) → Cause job left rest text planned lab
     → Planned planned
-planned_by job left rest text planned lab (tells t p l) = inl p
-planned_by job left rest text planned lab (checks (Ok input) is read t p l) = inl p
-planned_by job left rest text planned lab (checks (Err bad) is read t p l) = inr (inl p)
-planned_by job left rest text planned lab (refuses answer run is why p l) = inr (inl p)
-planned_by job left rest text planned lab (misses input view workers name is read none t p l) = inr (inl p)
-planned_by job left rest text planned lab (runs bytes end run gives is told ran p l) = subst Planned (sym p) (end_planned end.end)
+planned_by job left rest text planned lab (tells t p l) = inr (inl p)
+planned_by job left rest text planned lab (checks (Ok input) is read t p l) = inr (inl p)
+planned_by job left rest text planned lab (checks (Err bad) is read t p l) = inl p
+planned_by job left rest text planned lab (refuses run why p l) = inl p
+planned_by job left rest text planned lab (misses input view workers name is read none t p l) = inl p
+planned_by job left rest text planned lab (runs bytes end run gives is told ran p l) = inr (subst OfRun (sym p) (job_of_run job end))
 
 status_by : (planned status : ℕ) → Planned planned → status ≡ planned → IsStatus status
-status_by planned status (inl p) e = inl (e ∙ p)
-status_by planned status (inr (inl p)) e = inr (inr (inl (e ∙ p)))
+status_by planned status (inl p) e = inr (inr (inl (e ∙ p)))
+status_by planned status (inr (inl p)) e = inl (e ∙ p)
 status_by planned status (inr (inr (inl p))) e = inr (inr (inr (inl (e ∙ p))))
-status_by planned status (inr (inr (inr p))) e = inr (inr (inr (inr (inr (inr (inr (e ∙ p)))))))
+status_by planned status (inr (inr (inr (inl p)))) e = inr (inr (inr (inr (inr (inr (inr (inl (e ∙ p))))))))
+status_by planned status (inr (inr (inr (inr p)))) e = inr (inr (inr (inr (inr (inr (inr (inr (e ∙ p))))))))
 
 pub statuses : (words : List (List ℕ)) (o n : Outside) (status : ℕ) (lab : Option Lab) → Ended words o n status lab → IsStatus status
 statuses words o n status lab (refused none (inl whole) l) = inr (inl whole.0)
@@ -71,14 +89,25 @@ statuses words o n status lab (no_memory six same l) = inr (inr (inr (inr (inr (
 
 -- ---- a status by itself
 
+-- whether a text of a run is written whole under this status, and whether one of a job is
+abbrev is_of_run : ℕ → Bool
+is_of_run n = n == 0 || n == 3 || n == 7 || n == 9
+
 abbrev is_planned : ℕ → Bool
-is_planned n = n == 0 || n == 2 || n == 3 || n == 7
+is_planned n = n == 2 || is_of_run n
+
+of_run_is : (f : ℕ → Bool) → f 0 ≡ true → f 3 ≡ true → f 7 ≡ true → f 9 ≡ true → (status : ℕ) → OfRun status → f status ≡ true
+of_run_is f zero three seven nine status (inl e) = ap f e ∙ zero
+of_run_is f zero three seven nine status (inr (inl e)) = ap f e ∙ three
+of_run_is f zero three seven nine status (inr (inr (inl e))) = ap f e ∙ seven
+of_run_is f zero three seven nine status (inr (inr (inr e))) = ap f e ∙ nine
+
+run_status : (status : ℕ) → OfRun status → is_of_run status ≡ true
+run_status status is = of_run_is is_of_run refl refl refl refl status is
 
 planned_is : (planned : ℕ) → Planned planned → is_planned planned ≡ true
 planned_is planned (inl p) = ap is_planned p
-planned_is planned (inr (inl p)) = ap is_planned p
-planned_is planned (inr (inr (inl p))) = ap is_planned p
-planned_is planned (inr (inr (inr p))) = ap is_planned p
+planned_is planned (inr is) = of_run_is is_planned refl refl refl refl planned is
 
 -- no text of a job is written whole under this status
 not_whole : (other : ℕ) (job : Job) (left rest : Option (List ℕ)) (text : List ℕ) (planned status : ℕ) (lab : Option Lab) → is_planned other ≡ false
@@ -86,20 +115,10 @@ not_whole : (other : ℕ) (job : Job) (left rest : Option (List ℕ)) (text : Li
 not_whole other job left rest text planned status lab fails cause is e =
     false≢true (sym fails ∙ ap is_planned (sym e ∙ is) ∙ planned_is planned (planned_by job left rest text planned lab cause))
 
--- the statuses under which a text of a run is written whole
-abbrev is_of_run : ℕ → Bool
-is_of_run n = n == 0 || n == 3 || n == 7
-
-end_is : (end : RunEnd) → is_of_run (end_status end) ≡ true
-end_is Settled = refl
-end_is (Unsettled step rounds pending) = refl
-end_is (StreamFull peering length) = refl
-end_is (JournalFull events) = refl
-
 -- ---- the words are refused
 
 pub usage_told : (words : List (List ℕ)) (o n : Outside) (status : ℕ) (lab : Option Lab) → Ended words o n status lab → AreRefused words
-    → (status ≡ 6) ⊎ Wrote usage_text 1 o n status
+    → (status ≡ 6) ⊎ Wrote (refused_text words) 1 o n status
 usage_told words o n status lab (refused none w l) never = inr w
 usage_told words o n status lab (did job ask d) never = absurd (never job ask)
 usage_told words o n status lab (no_memory six same l) never = inl six
@@ -124,7 +143,7 @@ plain_cause : (job : Job) (left rest : Option (List ℕ)) (text told : List ℕ)
     → Cause job left rest text planned lab → (text ≡ told) × (planned ≡ 0)
 plain_cause job left rest text told planned lab plain (tells t p l) = (some_is text told (sym t ∙ plain), p)
 plain_cause job left rest text told planned lab plain (checks answer is read t p l) = absurd (check_is_plain job told plain is)
-plain_cause job left rest text told planned lab plain (refuses answer run is why p l) = absurd (plain_is_no_lab job told plain run)
+plain_cause job left rest text told planned lab plain (refuses run why p l) = absurd (plain_is_no_lab job told plain run)
 plain_cause job left rest text told planned lab plain (misses input view workers name is read none t p l) =
     absurd (plain_is_no_lab job told plain (subst RunsLab (sym is) (views_run view workers)))
 plain_cause job left rest text told planned lab plain (runs bytes end run gives is so ran p l) = absurd (plain_is_no_lab job told plain run)
@@ -155,7 +174,7 @@ line_told words o n status lab (no_memory six same l) line is = inl six
 
 abbrev Verdict : Option (List ℕ) → Option (List ℕ) → List ℕ → ℕ → Type 0
 Verdict left rest text planned =
-    (answer : Result LabInput BadInput) × ReadsInput left rest answer × (text ≡ verdict_text answer) × (planned ≡ verdict_status answer)
+    (answer : Result LabInput BadInput) × (read : ReadsInput left rest answer) × SaysVerdict read.bytes answer text × (planned ≡ verdict_status answer)
 
 none_told : (text : List ℕ) → None ≡ Some text → ⊥
 none_told text e = let f : ⊥ = cc in f
@@ -164,7 +183,7 @@ check_cause : (left rest : Option (List ℕ)) (text : List ℕ) (planned : ℕ) 
     → Verdict left rest text planned
 check_cause left rest text planned lab (tells t p l) = absurd (none_told text t)
 check_cause left rest text planned lab (checks answer is read t p l) = (answer, read, t, p)
-check_cause left rest text planned lab (refuses answer run is why p l) = absurd run
+check_cause left rest text planned lab (refuses run why p l) = absurd run
 check_cause left rest text planned lab (misses input view workers name is read none t p l) = absurd (subst RunsLab (sym is) (views_run view workers))
 check_cause left rest text planned lab (runs bytes end run gives is told ran p l) = absurd run
 
@@ -175,7 +194,9 @@ check_did o n status lab (wrote text planned cause w) =
     inr (inr (record {
       answer = told.0;
       read = told.1;
-      wrote = writes_as text (verdict_text told.0) planned (verdict_status told.0) o n status told.2 told.3 w;
+      text = text;
+      says = told.2;
+      wrote = subst (λ k. Wrote text k o n status) told.3 w;
     }))
 check_did o n status lab (unread reads four rose same l) = inl four
 
@@ -187,28 +208,23 @@ checked_told words o n status lab (no_memory six same l) check = inr (inl six)
 
 -- ---- an input is refused
 
-gave_bad : (words : List (List ℕ)) (left rest : Option (List ℕ)) (text : List ℕ) (job : Job) (answer : Result LabInput BadInput) → Asks words job
-    → RunsLab job → Answers job left rest answer → SaysWhy answer text → GaveBadInput words left rest text
-gave_bad words left rest text (jobs.Drill seed workers) answer ask run is why =
-    inr (inl (seed, (workers, ask), subst (λ a. SaysWhy a text) (sym is) why))
-gave_bad words left rest text jobs.Check answer ask run is why = absurd run
-gave_bad words left rest text (jobs.Make seed) answer ask run is why = absurd run
-gave_bad words left rest text jobs.Help answer ask run is why = absurd run
-gave_bad words left rest text jobs.Version answer ask run is why = absurd run
-gave_bad words left rest text _ answer ask run is why = inl (record { answer = answer; read = is; why = why })
+gave_bad : (words : List (List ℕ)) (left rest : Option (List ℕ)) (text : List ℕ) (job : Job) → Asks words job → Refuses job left rest text
+    → GaveBadInput words left rest text
+gave_bad words left rest text (jobs.Drill seed workers) ask why = inr (inl (seed, (workers, ask), why))
+gave_bad words left rest text _ ask why = inl why
 
-not_of_run : (planned : ℕ) (end : RunEnd) → planned ≡ end_status end → planned ≡ 2 → ⊥
-not_of_run planned end p two = false≢true (ap is_of_run (sym two ∙ p) ∙ end_is end)
+not_of_run : (planned : ℕ) (job : Job) (end : Lab) → planned ≡ job_status job end → planned ≡ 2 → ⊥
+not_of_run planned job end p two = false≢true (ap is_of_run (sym two ∙ p) ∙ run_status (job_status job end) (job_of_run job end))
 
 bad_by : (words : List (List ℕ)) (job : Job) (left rest : Option (List ℕ)) (text : List ℕ) (planned : ℕ) (lab : Option Lab) → Asks words job
     → Cause job left rest text planned lab → planned ≡ 2 → GaveBadInput words left rest text
 bad_by words job left rest text planned lab ask (tells t p l) two = absurd (omega arith)
 bad_by words job left rest text planned lab ask (checks (Ok input) is read t p l) two = absurd (omega (arith, p))
 bad_by words job left rest text planned lab ask (checks (Err bad) is read t p l) two = inl (record { answer = Err bad; read = read; why = t })
-bad_by words job left rest text planned lab ask (refuses answer run is why p l) two = gave_bad words left rest text job answer ask run is why
+bad_by words job left rest text planned lab ask (refuses run why p l) two = gave_bad words left rest text job ask why
 bad_by words job left rest text planned lab ask (misses input view workers name is read none t p l) two =
     inr (inr (record { input = input; view = view; name = name; read = read; asks = (workers, subst (Asks words) is ask); none = none; says = t }))
-bad_by words job left rest text planned lab ask (runs bytes end run gives is told ran p l) two = absurd (not_of_run planned end.end p two)
+bad_by words job left rest text planned lab ask (runs bytes end run gives is told ran p l) two = absurd (not_of_run planned job end p two)
 
 pub bad_input : (words : List (List ℕ)) (o n : Outside) (status : ℕ) (lab : Option Lab) → Ended words o n status lab → status ≡ 2
     → (text : List ℕ) × GaveBadInput words o.left n.left text × Appended o.written n.written text
@@ -228,7 +244,7 @@ two_of : (job : Job) (left rest : Option (List ℕ)) (text : List ℕ) (planned 
     → Cause job left rest text planned lab → planned ≡ 2
 two_of job left rest text planned lab run none (tells t p l) = absurd (plain_is_no_lab job text t run)
 two_of job left rest text planned lab run none (checks answer is read t p l) = absurd (subst RunsLab is run)
-two_of job left rest text planned lab run none (refuses answer lab_run is why p l) = p
+two_of job left rest text planned lab run none (refuses lab_run why p l) = p
 two_of job left rest text planned lab run none (misses input view workers name is read unknown t p l) = p
 two_of job left rest text planned lab run none (runs bytes end lab_run gives is told ran p l) = absurd (none_or_some lab end none l)
 
@@ -291,7 +307,11 @@ nothing_written words o n status lab (no_memory six same l) is = same
 
 -- the statuses under which there is a run: those of its end, and that of a failed write
 abbrev Under : ℕ → Type 0
-Under status = (status ≡ 0) ⊎ (status ≡ 3) ⊎ (status ≡ 5) ⊎ (status ≡ 7)
+Under status = (status ≡ 0) ⊎ (status ≡ 3) ⊎ (status ≡ 5) ⊎ (status ≡ 7) ⊎ (status ≡ 9)
+
+-- a text that a job writes of a run, under its status
+abbrev Said : Job → List ℕ → Lab → List ℕ → Outside → Outside → ℕ → Type 0
+Said job bytes end text o n status = Tells job bytes end text × Wrote text (job_status job end) o n status
 
 -- what is known of a run that came to its end
 pub record Came (words : List (List ℕ)) (o n : Outside) (status : ℕ) (end : Lab) : Type 0 where
@@ -302,29 +322,30 @@ pub record Came (words : List (List ℕ)) (o n : Outside) (status : ℕ) (end : 
   pub gives : Gives job o.left n.left bytes
   pub is : InputOf bytes end.input
   pub text : List ℕ
-  pub told : Tells job bytes end text
+  pub said : Said job bytes end text o n status
   pub ran : RanLab end
-  pub wrote : Wrote text (end_status end.end) o n status
 
-under_by : (text : List ℕ) (end : RunEnd) (o n : Outside) (status : ℕ) → Wrote text (end_status end) o n status → Under status
-under_by text Settled o n status (inl whole) = inl whole.0
-under_by text (Unsettled step rounds pending) o n status (inl whole) = inr (inl whole.0)
-under_by text (StreamFull peering length) o n status (inl whole) = inr (inr (inr whole.0))
-under_by text (JournalFull events) o n status (inl whole) = inr (inr (inr whole.0))
-under_by text end o n status (inr front) = inr (inr (inl front.0))
+whole_under : (status : ℕ) → OfRun status → Under status
+whole_under status (inl e) = inl e
+whole_under status (inr (inl e)) = inr (inl e)
+whole_under status (inr (inr e)) = inr (inr (inr e))
+
+under_by : (text : List ℕ) (planned : ℕ) (o n : Outside) (status : ℕ) → OfRun planned → Wrote text planned o n status → Under status
+under_by text planned o n status of_run (inl whole) = whole_under status (subst OfRun (sym whole.0) of_run)
+under_by text planned o n status of_run (inr front) = inr (inr (inl front.0))
 
 came_by : (words : List (List ℕ)) (job : Job) (o n : Outside) (text : List ℕ) (planned status : ℕ) (lab : Option Lab) (end : Lab) → Asks words job
     → lab ≡ Some end → Cause job o.left n.left text planned lab → Wrote text planned o n status → Came words o n status end
 came_by words job o n text planned status lab end ask some (tells t p l) w = absurd (none_or_some lab end l some)
 came_by words job o n text planned status lab end ask some (checks answer is read t p l) w = absurd (none_or_some lab end l some)
-came_by words job o n text planned status lab end ask some (refuses answer run is why p l) w = absurd (none_or_some lab end l some)
+came_by words job o n text planned status lab end ask some (refuses run why p l) w = absurd (none_or_some lab end l some)
 came_by words job o n text planned status lab end ask some (misses input view workers name is read none t p l) w = absurd (none_or_some lab end l some)
 came_by words job o n text planned status lab end ask some (runs bytes other run gives is told ran p l) w =
     let found : Some other ≡ Some end = sym l ∙ some in
     let same : other ≡ end = cc in
-    let under : Wrote text (end_status other.end) o n status = subst (λ k. Wrote text k o n status) p w in
+    let under : Wrote text (job_status job other) o n status = subst (λ k. Wrote text k o n status) p w in
     let came : Came words o n status other =
-    record { job = job; ask = ask; run = run; bytes = bytes; gives = gives; is = is; text = text; told = told; ran = ran; wrote = under } in
+    record { job = job; ask = ask; run = run; bytes = bytes; gives = gives; is = is; text = text; said = (told, under); ran = ran } in
     subst (λ e. Came words o n status e) same came
 
 came : (words : List (List ℕ)) (o n : Outside) (status : ℕ) (lab : Option Lab) (end : Lab) → lab ≡ Some end → Ended words o n status lab
@@ -337,7 +358,8 @@ came words o n status lab end some (no_memory six same l) = absurd (none_or_some
 pub ran : (words : List (List ℕ)) (o n : Outside) (status : ℕ) (lab : Option Lab) → Ended words o n status lab → OnSome lab (AskForLab words × Under status)
 ran words o n status None ended = tt
 ran words o n status (Some end) ended =
-    let c = came words o n status (Some end) end refl ended in (lab_asked words c.job c.ask c.run, under_by c.text end.end o n status c.wrote)
+    let c = came words o n status (Some end) end refl ended in
+    (lab_asked words c.job c.ask c.run, under_by c.text (job_status c.job end) o n status (job_of_run c.job end) c.said.1)
 
 pub headline : (words : List (List ℕ)) (o n : Outside) (status : ℕ) (lab : Option Lab) → Ended words o n status lab → IfSome lab RanLab
 headline words o n status None ended = tt
@@ -369,21 +391,26 @@ drilled words o n status (Some end) ended = λ seed drill.
 
 -- ---- what was written
 
+-- what was written by the job that words ask for
+said_of : (words : List (List ℕ)) (o n : Outside) (status : ℕ) (end : Lab) (c : Came words o n status end) (asked : Job) → Asks words asked
+    → Said asked c.bytes end c.text o n status
+said_of words o n status end c asked ask = of_asked (λ job. Said job c.bytes end c.text o n status) words c.job asked c.ask ask c.said
+
 pub reported : (words : List (List ℕ)) (o n : Outside) (status : ℕ) (lab : Option Lab) → Ended words o n status lab
     → IfSome lab (λ end. AskToRun words → WritesReport end o.write_faults n.write_faults o.written n.written status)
 reported words o n status None ended = tt
 reported words o n status (Some end) ended = λ run.
     let c = came words o n status (Some end) end refl ended in
-    let told = of_asked (λ j. Tells j c.bytes end c.text) words c.job (jobs.Run run.0) c.ask run.1 c.told in
-    record { text = c.text; report = told; wrote = c.wrote }
+    let said = said_of words o n status end c (jobs.Run run.0) run.1 in
+    record { text = c.text; report = said.0; wrote = said.1 }
 
 pub summed : (words : List (List ℕ)) (o n : Outside) (status : ℕ) (lab : Option Lab) → Ended words o n status lab
     → IfSome lab (λ end. ((seed : ℕ) × AskToDrill words seed) → Wrote (summary_text end) (end_status end.end) o n status)
 summed words o n status None ended = tt
 summed words o n status (Some end) ended = λ drill.
     let c = came words o n status (Some end) end refl ended in
-    let told = of_asked (λ j. Tells j c.bytes end c.text) words c.job (jobs.Drill drill.0 drill.1.0) c.ask drill.1.1 c.told in
-    subst (λ t. Wrote t (end_status end.end) o n status) told c.wrote
+    let said = said_of words o n status end c (jobs.Drill drill.0 drill.1.0) drill.1.1 in
+    subst (λ t. Wrote t (end_status end.end) o n status) said.0 said.1
 
 pub journaled : (words : List (List ℕ)) (o n : Outside) (status : ℕ) (lab : Option Lab) → Ended words o n status lab
     → IfSome lab (λ end. AskForJournal words → WritesJournal o.left n.left end o.write_faults n.write_faults o.written n.written status)
@@ -391,16 +418,25 @@ journaled words o n status None ended = tt
 journaled words o n status (Some end) ended = λ journal.
     let c = came words o n status (Some end) end refl ended in
     let took = of_asked (λ j. Gives j o.left n.left c.bytes) words c.job (jobs.Journal journal.0) c.ask journal.1 c.gives in
-    let told = of_asked (λ j. Tells j c.bytes end c.text) words c.job (jobs.Journal journal.0) c.ask journal.1 c.told in
-    record { bytes = c.bytes; took = took.took; end = took.end; is = c.is; wrote = subst (λ t. Wrote t (end_status end.end) o n status) told c.wrote }
+    let said = said_of words o n status end c (jobs.Journal journal.0) journal.1 in
+    record { bytes = c.bytes; took = took.took; end = took.end; is = c.is; wrote = subst (λ t. Wrote t (end_status end.end) o n status) said.0 said.1 }
+
+pub tested : (words : List (List ℕ)) (o n : Outside) (status : ℕ) (lab : Option Lab) → Ended words o n status lab
+    → IfSome lab (λ end. AskToTest words → Wrote (test_text end) (tested_status end) o n status)
+tested words o n status None ended = tt
+tested words o n status (Some end) ended = λ test.
+    let c = came words o n status (Some end) end refl ended in
+    let said = said_of words o n status end c (jobs.Test test.0) test.1 in
+    subst (λ t. Wrote t (tested_status end) o n status) said.0 said.1
 
 pub viewed : (words : List (List ℕ)) (o n : Outside) (status : ℕ) (lab : Option Lab) → Ended words o n status lab
     → IfSome lab (λ end. (name : ViewName) → AskToView words name → WritesView end name o.write_faults n.write_faults o.written n.written status)
 viewed words o n status None ended = tt
 viewed words o n status (Some end) ended = λ name view.
     let c = came words o n status (Some end) end refl ended in
-    let told = of_asked (λ j. Tells j c.bytes end c.text) words c.job (viewing name view.0) c.ask view.1 c.told in
-    record { text = c.text; shows = view_shown name view.0 c.bytes end c.text told; wrote = c.wrote }
+    let said = said_of words o n status end c (viewing name view.0) view.1 in
+    let under = subst (λ k. Wrote c.text k o n status) (view_status name view.0 end) said.1 in
+    record { text = c.text; shows = view_shown name view.0 c.bytes end c.text said.0; wrote = under }
 
 -- ---- a run that was asked for
 
@@ -408,7 +444,7 @@ some_by : (job : Job) (left rest : Option (List ℕ)) (text : List ℕ) (planned
     → Cause job left rest text planned lab → IsSome lab
 some_by job left rest text planned lab run is (tells t p l) = absurd (plain_is_no_lab job text t run)
 some_by job left rest text planned lab run is (checks answer check read t p l) = absurd (subst RunsLab check run)
-some_by job left rest text planned lab run is (refuses answer lab_run answers why p l) = absurd (false≢true (sym (ap is_of_run p) ∙ is))
+some_by job left rest text planned lab run is (refuses lab_run why p l) = absurd (false≢true (sym (ap is_of_run p) ∙ is))
 some_by job left rest text planned lab run is (misses input view workers name job_is read none t p l) = absurd (false≢true (sym (ap is_of_run p) ∙ is))
 some_by job left rest text planned lab run is (runs bytes end lab_run gives input told ran p l) = subst (λ found. IsSome found) (sym l) refl
 
@@ -421,11 +457,46 @@ ended_under words o n status lab (did job ask (wrote text planned cause (inr fro
 ended_under words o n status lab (did job ask (unread reads four rose same l)) run is = absurd (false≢true (sym (ap is_of_run four) ∙ is))
 ended_under words o n status lab (no_memory six same l) run is = absurd (false≢true (sym (ap is_of_run six) ∙ is))
 
-run_status : (status : ℕ) → (status ≡ 0) ⊎ (status ≡ 3) ⊎ (status ≡ 7) → is_of_run status ≡ true
-run_status status (inl e) = ap is_of_run e
-run_status status (inr (inl e)) = ap is_of_run e
-run_status status (inr (inr e)) = ap is_of_run e
-
 pub run_ended : (words : List (List ℕ)) (o n : Outside) (status : ℕ) (lab : Option Lab) → Ended words o n status lab → AskForLab words
-    → (status ≡ 0) ⊎ (status ≡ 3) ⊎ (status ≡ 7) → IsSome lab
+    → OfRun status → IsSome lab
 run_ended words o n status lab ended run is = ended_under words o n status lab ended run (run_status status is)
+
+-- ---- an expectation that doesn't hold
+
+end_not_nine : (end : RunEnd) → end_status end ≡ 9 → ⊥
+end_not_nine Settled nine = let bad : 0 ≡ 9 = nine in absurd (omega (arith, bad))
+end_not_nine (Unsettled step rounds pending) nine = let bad : 3 ≡ 9 = nine in absurd (omega (arith, bad))
+end_not_nine (StreamFull peering length) nine = let bad : 7 ≡ 9 = nine in absurd (omega (arith, bad))
+end_not_nine (JournalFull events) nine = let bad : 7 ≡ 9 = nine in absurd (omega (arith, bad))
+
+nine_of_test : (end : RunEnd) (holds : Bool) → test_status (end_status end) end holds ≡ 9 → (end ≡ Settled) × (holds ≡ false)
+nine_of_test Settled true nine = absurd (end_not_nine Settled nine)
+nine_of_test Settled false nine = (refl, refl)
+nine_of_test (Unsettled step rounds pending) holds nine = absurd (end_not_nine (Unsettled step rounds pending) nine)
+nine_of_test (StreamFull peering length) holds nine = absurd (end_not_nine (StreamFull peering length) nine)
+nine_of_test (JournalFull events) holds nine = absurd (end_not_nine (JournalFull events) nine)
+
+-- 9 is the status of a test
+failed_of : (words : List (List ℕ)) (job : Job) (end : Lab) → Asks words job → job_status job end ≡ 9 → AskToTest words × HasFailed end
+failed_of words (jobs.Test workers) end ask nine = ((workers, ask), nine_of_test end.end (all_hold end) nine)
+failed_of words _ end ask nine = absurd (end_not_nine end.end nine)
+
+failed_by : (words : List (List ℕ)) (job : Job) (left rest : Option (List ℕ)) (text : List ℕ) (planned : ℕ) (lab : Option Lab) → Asks words job
+    → Cause job left rest text planned lab → planned ≡ 9 → AskToTest words × IsSomeAnd lab HasFailed
+failed_by words job left rest text planned lab ask (tells t p l) nine = absurd (omega (arith, p, nine))
+failed_by words job left rest text planned lab ask (checks (Ok input) is read t p l) nine = let zero : planned ≡ 0 = p in absurd (omega (arith, zero, nine))
+failed_by words job left rest text planned lab ask (checks (Err bad) is read t p l) nine = let two : planned ≡ 2 = p in absurd (omega (arith, two, nine))
+failed_by words job left rest text planned lab ask (refuses run why p l) nine = absurd (omega (arith, p, nine))
+failed_by words job left rest text planned lab ask (misses input view workers name is read none t p l) nine = absurd (omega (arith, p, nine))
+failed_by words job left rest text planned lab ask (runs bytes end run gives is told ran p l) nine =
+    let failed = failed_of words job end ask (sym p ∙ nine) in (failed.0, subst (λ found. IsSomeAnd found HasFailed) (sym l) failed.1)
+
+pub failed : (words : List (List ℕ)) (o n : Outside) (status : ℕ) (lab : Option Lab) → Ended words o n status lab → status ≡ 9
+    → AskToTest words × IsSomeAnd lab HasFailed
+failed words o n status lab (refused none (inl whole) l) nine = let one = whole.0 in absurd (omega arith)
+failed words o n status lab (refused none (inr front) l) nine = let five = front.0 in absurd (omega arith)
+failed words o n status lab (did job ask (wrote text planned cause (inl whole))) nine =
+    failed_by words job o.left n.left text planned lab ask cause (sym whole.0 ∙ nine)
+failed words o n status lab (did job ask (wrote text planned cause (inr front))) nine = let five = front.0 in absurd (omega arith)
+failed words o n status lab (did job ask (unread reads four rose same l)) nine = absurd (omega arith)
+failed words o n status lab (no_memory six same l) nine = absurd (omega arith)

@@ -1,30 +1,33 @@
 -- How a job ends, of what its parts give.
-use Rattle.std.proofs.Common.{◌≡◌, ℕ, ◌<◌, true, false, List, length, inl, inr, refl, sym, ap, ◌∙◌, subst, arith}
-use Rattle.std.specs.Prelude.{◌⊎◌, nat_lt, Option, Some, None, Result, Ok, Err}
+use Rattle.std.proofs.Common.{◌≡◌, ℕ, ◌<◌, true, false, List, ◌++◌, length, inl, inr, refl, sym, ap, ◌∙◌, subst, arith}
+use Rattle.std.specs.Prelude.{◌⊎◌, nat_lt, Option, Some, None, Result, Ok, Err, IfOk}
 use Rattle.std.proofs.lemmas.Bool.Decides.{nat_tests}
 use Rattle.graft_edge.specs.Outside.{FaultRose, Took, TookSome, IsAtEnd}
 use Rattle.graft_edge.specs.declared.memory.NoMemory.{NoMemory}
 use Rattle.lab_tables.specs.declared.input.LabInput.{LabInput}
 use Rattle.lab_input.specs.declared.bad.BadInput.{BadInput}
-use Rattle.lab_input.specs.declared.bad.BadInput.TheVariants.{Unknown}
 use Rattle.lab_input.specs.Labs.{input_of, InputOf, too_long}
 use Rattle.lab_words.specs.declared.job.Job.{Job}
 use Rattle.lab_words.specs.declared.job.Job.TheVariants as jobs
-use Rattle.lab_words.specs.Asked.{usage_text, Asks}
+use Rattle.lab_words.specs.Asked.{Asks}
+use Rattle.lab_words.specs.Hints.{refused_text}
 use Rattle.lab_make.specs.Made.{made}
+use Rattle.lab_hints.specs.Hints.{hint_line, long_words, IsHint}
+use Rattle.lab_hints.proofs.Hinted.{hint_long}
 use Rattle.lab_report.specs.BadText.{bad_line}
 use Rattle.lab_report.specs.declared.lab.Lab.{Lab}
 use Rattle.lab_top.specs.Built.{is_built}
 use Rattle.lab_top.specs.declared.views.ViewName.{ViewName}
 use Rattle.lab_top.specs.Views.{view_named, viewing}
-use Rattle.lab_top.specs.Ends.{AreRefused, ReadsInput, WritesText, end_status, not_built_text, verdict_text}
+use Rattle.lab_top.specs.Ends.{AreRefused, ReadsInput, IsRefusal, SaysWhy, TookBadInput, WritesText, unknown_text, not_built_text, accepted_text}
 use Rattle.lab_top.specs.declared.finish.Finish.{Finish}
 use Rattle.lab_top.specs.declared.finish.InputStop.{InputStop}
 use Rattle.lab_top.specs.declared.finish.InputStop.TheVariants as stops
-use Rattle.lab_top.specs.Cases.{Outside, TookWhole, GivesNoInput, AnswersOrStops, WritesOr, FailsUnread, FindsNone, BuiltOr, EndsRun, EndsUnbuilt, StopsFor}
-use Rattle.lab_top.specs.Cases.{ReadsSource, RunsLab, plain_text, Gives, Answers, Tells, Cause, tells, checks, refuses, misses, runs}
+use Rattle.lab_top.specs.Cases.{Outside, TookWhole, RefusesInput, GivesNoInput, stop_with, ReadsOrStops, AnswersOrStops, WritesOr, FailsUnread, FindsNone}
+use Rattle.lab_top.specs.Cases.{BuiltOr, EndsRun, EndsUnbuilt, StopsFor}
+use Rattle.lab_top.specs.Cases.{ReadsSource, RunsLab, plain_text, Gives, Tells, job_status, Cause, tells, checks, refuses, misses, runs}
 use Rattle.lab_top.specs.Cases.{Did, wrote, unread, DidOr, Ended, refused, did, EndsOr}
-use Rattle.lab_top.proofs.Asking.{answers_of, gives_of}
+use Rattle.lab_top.proofs.Asking.{refuses_of, gives_of}
 
 -- ---- bytes
 
@@ -33,26 +36,39 @@ unfolding input_of
 long_is_refused bytes long = let tested : nat_lt 4194304 (length bytes) ≡ true = grind (arith, nat_tests) in rw tested refl
 
 -- more bytes than an input has
-pub too_long_stops : (before after : Option (List ℕ)) (faults_before faults_after : ℕ) (stop : InputStop) → TookSome before after (λ n. 4194304 < n)
-    → (stop ≡ stops.NoMemory) ⊎ (stop ≡ stops.Bad too_long)
+pub too_long_stops : (before after : Option (List ℕ)) (faults_before faults_after : ℕ) (text : Result (List ℕ) NoMemory) (stop : InputStop)
+    → TookSome before after (λ n. 4194304 < n) → IfOk text (λ t. t ≡ bad_line too_long ++ hint_line long_words) → stop ≡ stop_with text
     → GivesNoInput before after faults_before faults_after stop
-too_long_stops before after faults_before faults_after stop took (inl none) =
-    subst (λ s. GivesNoInput before after faults_before faults_after s) (sym none) tt
-too_long_stops before after faults_before faults_after stop took (inr bad) =
-    let read : ReadsInput before after (Err too_long) =
-    record { bytes = took.0; took = took.2; enough = inr (took.1, refl); is = long_is_refused took.0 took.1 } in
-    subst (λ s. GivesNoInput before after faults_before faults_after s) (sym bad) read
+too_long_stops before after faults_before faults_after (Err e) stop took is same =
+    subst (λ s. GivesNoInput before after faults_before faults_after s) (sym same) tt
+too_long_stops before after faults_before faults_after (Ok text) stop took is same =
+    let hint : IsHint took.0 too_long (hint_line long_words) = hint_long took.0 too_long (hint_line long_words) took.1 refl in
+    let bad : RefusesInput before after text =
+    (too_long, record { bytes = took.0; took = took.2; enough = inr (took.1, refl); is = long_is_refused took.0 took.1 }, (hint_line long_words, hint, is)) in
+    subst (λ s. GivesNoInput before after faults_before faults_after s) (sym same) bad
 
 pub reads_of : (before after : Option (List ℕ)) (bytes : List ℕ) (answer : Result LabInput BadInput) → TookWhole before after bytes
     → input_of bytes ≡ answer → ReadsInput before after answer
 reads_of before after bytes answer took is = record { bytes = bytes; took = took.took; enough = inl took.end; is = is }
 
+-- bytes that are refused
+pub refused_stops : (bytes : List ℕ) (bad : BadInput) (text : Result (List ℕ) NoMemory) (stop : InputStop) → input_of bytes ≡ Err bad
+    → IfOk text (IsRefusal bytes bad) → stop ≡ stop_with text → AnswersOrStops bytes (Err stop)
+refused_stops bytes bad (Err e) stop is refusal same = subst (λ s. AnswersOrStops bytes (Err s)) (sym same) tt
+refused_stops bytes bad (Ok text) stop is refusal same = subst (λ s. AnswersOrStops bytes (Err s)) (sym same) (bad, is, refusal)
+
 pub stops_of : (before after : Option (List ℕ)) (faults_before faults_after : ℕ) (bytes : List ℕ) (stop : InputStop) → TookWhole before after bytes
-    → AnswersOrStops (input_of bytes) (Err stop)
+    → AnswersOrStops bytes (Err stop)
     → GivesNoInput before after faults_before faults_after stop
-stops_of before after faults_before faults_after bytes (stops.Bad bad) took is = reads_of before after bytes (Err bad) took is
+stops_of before after faults_before faults_after bytes (stops.Bad text) took is =
+    (is.0, record { bytes = bytes; took = took.took; enough = inl took.end; is = is.1 }, is.2)
 stops_of before after faults_before faults_after bytes stops.Failed took is = absurd is
 stops_of before after faults_before faults_after bytes stops.NoMemory took is = tt
+
+pub source_read : (before after : Option (List ℕ)) (faults_before faults_after : ℕ) (bytes : List ℕ) (result : Result LabInput InputStop)
+    → TookWhole before after bytes → AnswersOrStops bytes result → ReadsOrStops before after faults_before faults_after result
+source_read before after faults_before faults_after bytes (Ok input) took is = reads_of before after bytes (Ok input) took is
+source_read before after faults_before faults_after bytes (Err stop) took is = stops_of before after faults_before faults_after bytes stop took is
 
 no_input : (bad : BadInput) (input : LabInput) → Err bad ≡ Ok input → ⊥
 no_input bad input e = let r : Result LabInput BadInput = Err bad in let same : r ≡ Ok input = e in absurd (cc)
@@ -68,16 +84,17 @@ whole before after input read = whole_by before after read.bytes input read.took
 
 -- ---- a source without an input
 
--- the cause of a line that says what is bad of a source
+-- the cause of a text that says what is bad of a source
 abbrev pub BadCause : Job → (before after : Option (List ℕ)) → Type 0
-BadCause job before after = (bad : BadInput) → ReadsInput before after (Err bad) → (lab : Option Lab) → lab ≡ None
-    → Cause job before after (bad_line bad) 2 lab
+BadCause job before after = (text : List ℕ) → RefusesInput before after text → (lab : Option Lab) → lab ≡ None → Cause job before after text 2 lab
 
 pub bad_check : (before after : Option (List ℕ)) → BadCause jobs.Check before after
-bad_check before after bad read lab none = checks (Err bad) refl read refl refl none
+bad_check before after text bad lab none = checks (Err bad.0) refl bad.1 bad.2 refl none
 
 pub bad_run : (job : Job) (before after : Option (List ℕ)) → RunsLab job → ReadsSource job → BadCause job before after
-bad_run job before after lab reads bad read end none = refuses (Err bad) lab (answers_of job before after (Err bad) reads read) refl refl none
+bad_run job before after lab reads text bad end none =
+    let took : TookBadInput before after text = record { answer = Err bad.0; read = bad.1; why = bad.2 } in
+    refuses lab (refuses_of job before after text reads took) refl none
 
 written_ends : (job : Job) (o n : Outside) (text : List ℕ) (planned : ℕ) (result : Result Finish NoMemory)
     → ((lab : Option Lab) → lab ≡ None → Cause job o.left n.left text planned lab)
@@ -97,7 +114,7 @@ none_ends job o n (Err e) is = is
 pub stopped_ends : (job : Job) (o n : Outside) (stop : InputStop) (result : Result Finish NoMemory) → ReadsSource job → BadCause job o.left n.left
     → GivesNoInput o.left n.left o.read_faults n.read_faults stop
     → StopsFor stop o.write_faults n.write_faults o.written n.written result → DidOr job o n result
-stopped_ends job o n (stops.Bad bad) result reads cause read is = written_ends job o n (bad_line bad) 2 result (cause bad read) is
+stopped_ends job o n (stops.Bad text) result reads cause bad is = written_ends job o n text 2 result (cause text bad) is
 stopped_ends job o n stops.Failed result reads cause rose is = failed_ends job o n result reads rose is
 stopped_ends job o n stops.NoMemory result reads cause read is = none_ends job o n result is
 
@@ -108,46 +125,61 @@ pub plain_did : (job : Job) (o n : Outside) (text told : List ℕ) (status : ℕ
 plain_did job o n text told status lab plain same none w = wrote text 0 (tells (plain ∙ ap Some (sym same)) refl none) w
 
 pub checked_ends : (o n : Outside) (input : LabInput) (text : List ℕ) (status : ℕ) (lab : Option Lab) → ReadsInput o.left n.left (Ok input)
-    → text ≡ verdict_text (Ok input) → lab ≡ None → WritesText text 0 o.write_faults n.write_faults o.written n.written status
+    → text ≡ accepted_text input → lab ≡ None → WritesText text 0 o.write_faults n.write_faults o.written n.written status
     → Did jobs.Check o n status lab
 checked_ends o n input text status lab read is none w = wrote text 0 (checks (Ok input) refl read is refl none) w
 
 -- an input that hasn't what a view names
-pub unknown_ends : (view : ViewName) (workers : ℕ) (o n : Outside) (input : LabInput) (name : List ℕ) (result : Result Finish NoMemory)
-    → ReadsInput o.left n.left (Ok input) → view_named input view ≡ Err name
-    → WritesOr (bad_line (Unknown name)) 2 o.write_faults n.write_faults o.written n.written result → DidOr (viewing view workers) o n result
-unknown_ends view workers o n input name result read none w =
-    written_ends (viewing view workers) o n (bad_line (Unknown name)) 2 result (λ lab no_lab. misses input view workers name refl read none refl refl no_lab) w
+pub unknown_ends : (view : ViewName) (workers : ℕ) (o n : Outside) (input : LabInput) (name text : List ℕ) (status : ℕ) (lab : Option Lab)
+    → ReadsInput o.left n.left (Ok input) → view_named input view ≡ Err name → text ≡ unknown_text input name → lab ≡ None
+    → WritesText text 2 o.write_faults n.write_faults o.written n.written status → Did (viewing view workers) o n status lab
+unknown_ends view workers o n input name text status lab read none told no_lab w =
+    wrote text 2 (misses input view workers name refl read none told refl no_lab) w
 
 -- ---- runs
 
-pub unbuilt_ends : (job : Job) (o n : Outside) (input : LabInput) (finish : Finish) → RunsLab job → Answers job o.left n.left (Ok input)
+pub unbuilt_ends : (job : Job) (o n : Outside) (input : LabInput) (finish : Finish) → RunsLab job → ReadsSource job → ReadsInput o.left n.left (Ok input)
     → is_built input ≡ false → EndsUnbuilt o.write_faults n.write_faults o.written n.written finish → Did job o n finish.status finish.lab
-unbuilt_ends job o n input finish lab answers built end = wrote not_built_text 2 (refuses (Ok input) lab answers (built, refl) refl end.0) end.1
+unbuilt_ends job o n input finish lab reads read built end =
+    let took : TookBadInput o.left n.left not_built_text = record { answer = Ok input; read = read; why = (built, refl) } in
+    wrote not_built_text 2 (refuses lab (refuses_of job o.left n.left not_built_text reads took) refl end.0) end.1
 
-pub run_ends : (job : Job) (o n : Outside) (bytes : List ℕ) (input : LabInput) (lab : Lab) (text : List ℕ) (finish : Finish) → RunsLab job
-    → Gives job o.left n.left bytes → InputOf bytes input → BuiltOr input (Ok (Some lab)) → Tells job bytes lab text
-    → EndsRun text lab o.write_faults n.write_faults o.written n.written finish → Did job o n finish.status finish.lab
-run_ends job o n bytes input lab text finish runs_lab gives is built told end =
+pub run_ends : (job : Job) (o n : Outside) (bytes : List ℕ) (input : LabInput) (lab : Lab) (text : List ℕ) (planned : ℕ) (finish : Finish) → RunsLab job
+    → Gives job o.left n.left bytes → InputOf bytes input → BuiltOr input (Ok (Some lab)) → Tells job bytes lab text → planned ≡ job_status job lab
+    → EndsRun text planned lab o.write_faults n.write_faults o.written n.written finish → Did job o n finish.status finish.lab
+run_ends job o n bytes input lab text planned finish runs_lab gives is built told under end =
     let its : InputOf bytes lab.input = rw built.0 is in
-    wrote text (end_status lab.end) (runs bytes lab runs_lab gives its told built.1 refl end.0) end.1
+    wrote text planned (runs bytes lab runs_lab gives its told built.1 under end.0) end.1
 
 -- a run of an input that was read
-pub read_ends : (job : Job) (o n : Outside) (input : LabInput) (lab : Lab) (text : List ℕ) (finish : Finish) → RunsLab job → ReadsSource job
-    → ReadsInput o.left n.left (Ok input) → BuiltOr input (Ok (Some lab)) → ((bytes : List ℕ) → Tells job bytes lab text)
-    → EndsRun text lab o.write_faults n.write_faults o.written n.written finish → Did job o n finish.status finish.lab
-read_ends job o n input lab text finish runs_lab reads read built told end =
-    run_ends job o n read.bytes input lab text finish runs_lab (gives_of job o.left n.left read.bytes reads (whole o.left n.left input read)) read.is built
-    (told read.bytes) end
+pub read_ends : (job : Job) (o n : Outside) (input : LabInput) (lab : Lab) (text : List ℕ) (planned : ℕ) (finish : Finish) → RunsLab job
+    → ReadsSource job → ReadsInput o.left n.left (Ok input) → BuiltOr input (Ok (Some lab)) → ((bytes : List ℕ) → Tells job bytes lab text)
+    → planned ≡ job_status job lab → EndsRun text planned lab o.write_faults n.write_faults o.written n.written finish
+    → Did job o n finish.status finish.lab
+read_ends job o n input lab text planned finish runs_lab reads read built told under end =
+    let gives = gives_of job o.left n.left read.bytes reads (whole o.left n.left input read) in
+    run_ends job o n read.bytes input lab text planned finish runs_lab gives read.is built (told read.bytes) under end
 
 -- ---- runs of the laboratory of a seed
 
+-- why it isn't run
+made_why : (seed : ℕ) (bytes text : List ℕ) (answer : Result LabInput BadInput) → bytes ≡ made seed → input_of bytes ≡ answer → SaysWhy bytes answer text
+    → SaysWhy (made seed) (input_of (made seed)) text
+made_why seed bytes text answer same is why =
+    subst (λ b. SaysWhy b (input_of b) text) same (subst (λ a. SaysWhy bytes a text) (sym is) why)
+
+pub drill_unbuilt : (o n : Outside) (seed workers : ℕ) (bytes : List ℕ) (input : LabInput) (finish : Finish) → bytes ≡ made seed
+    → input_of bytes ≡ Ok input → is_built input ≡ false → EndsUnbuilt o.write_faults n.write_faults o.written n.written finish
+    → Did (jobs.Drill seed workers) o n finish.status finish.lab
+drill_unbuilt o n seed workers bytes input finish same is built end =
+    wrote not_built_text 2 (refuses tt (made_why seed bytes not_built_text (Ok input) same is (built, refl)) refl end.0) end.1
+
 pub drill_stopped : (o n : Outside) (seed workers : ℕ) (bytes : List ℕ) (stop : InputStop) (result : Result Finish NoMemory) → bytes ≡ made seed
-    → AnswersOrStops (input_of bytes) (Err stop) → StopsFor stop o.write_faults n.write_faults o.written n.written result
+    → AnswersOrStops bytes (Err stop) → StopsFor stop o.write_faults n.write_faults o.written n.written result
     → DidOr (jobs.Drill seed workers) o n result
-drill_stopped o n seed workers bytes (stops.Bad bad) result same is w =
-    let answer : input_of (made seed) ≡ Err bad = ap input_of (sym same) ∙ is in
-    written_ends (jobs.Drill seed workers) o n (bad_line bad) 2 result (λ lab none. refuses (Err bad) tt answer refl refl none) w
+drill_stopped o n seed workers bytes (stops.Bad text) result same is w =
+    let why = made_why seed bytes text (Err is.0) same is.1 is.2 in
+    written_ends (jobs.Drill seed workers) o n text 2 result (λ lab none. refuses tt why refl none) w
 drill_stopped o n seed workers bytes stops.Failed result same is w = absurd is
 drill_stopped o n seed workers bytes stops.NoMemory result same is w = none_ends (jobs.Drill seed workers) o n result w
 
@@ -158,7 +190,7 @@ pub did_ends : (words : List (List ℕ)) (job : Job) (o n : Outside) (result : R
 did_ends words job o n (Ok finish) ask is = did job ask is
 did_ends words job o n (Err e) ask is = is
 
-pub refused_ends : (words : List (List ℕ)) (o n : Outside) (text : List ℕ) (status : ℕ) (lab : Option Lab) → AreRefused words → text ≡ usage_text
+pub refused_ends : (words : List (List ℕ)) (o n : Outside) (text : List ℕ) (status : ℕ) (lab : Option Lab) → AreRefused words → text ≡ refused_text words
     → WritesText text 1 o.write_faults n.write_faults o.written n.written status → lab ≡ None → Ended words o n status lab
 refused_ends words o n text status lab none same w no_lab =
     refused none (subst (λ t. WritesText t 1 o.write_faults n.write_faults o.written n.written status) same w) no_lab

@@ -4,15 +4,15 @@ use Rattle.graft_edge.specs.Outside.{FaultRose, Took, IsAtEnd}
 use Rattle.graft_edge.specs.declared.memory.NoMemory.{NoMemory}
 use Rattle.lab_tables.specs.declared.input.LabInput.{LabInput}
 use Rattle.lab_input.specs.declared.bad.BadInput.{BadInput}
-use Rattle.lab_input.specs.declared.bad.BadInput.TheVariants.{Unknown}
 use Rattle.lab_input.specs.Labs.{input_of, InputOf}
 use Rattle.lab_words.specs.declared.job.Job.{Job}
 use Rattle.lab_words.specs.declared.job.Job.TheVariants as jobs
 use Rattle.lab_words.specs.Asked.{usage_text, version_text, Asks}
+use Rattle.lab_words.specs.Hints.{refused_text}
 use Rattle.lab_make.specs.Made.{made}
-use Rattle.lab_report.specs.BadText.{bad_line}
 use Rattle.lab_report.specs.declared.lab.Lab.{Lab}
 use Rattle.journal_form.specs.Journals.{journal_text}
+use Rattle.expect_view.specs.Expect.{test_text}
 use Rattle.lab_report.specs.Summary.{summary_text}
 use Rattle.lab_report.specs.Traces.{IsReport}
 use Rattle.lab_run.specs.Runs.{RanLab}
@@ -23,7 +23,8 @@ use Rattle.lab_top.specs.Built.{is_built}
 use Rattle.lab_top.specs.declared.views.ViewName.{ViewName}
 use Rattle.lab_top.specs.declared.views.ViewName.TheVariants as names
 use Rattle.lab_top.specs.Views.{view_named, ShowsView, viewing}
-use Rattle.lab_top.specs.Ends.{AreRefused, ReadsInput, SaysWhy, WritesText, end_status, not_built_text, verdict_text, verdict_status}
+use Rattle.lab_top.specs.Ends.{AreRefused, ReadsInput, IsRefusal, SaysWhy, TookBadInput, unknown_text, not_built_text, WritesText, SaysVerdict}
+use Rattle.lab_top.specs.Ends.{end_status, tested_status, verdict_status}
 
 -- what the source and the sink tell
 pub record Outside : Type 0 where
@@ -42,11 +43,20 @@ pub record TookWhole (before after : Option (List ℕ)) (bytes : List ℕ) : Typ
   pub took : Took before after bytes
   pub end : IsAtEnd after
 
+-- What was taken from a source is no input, and this is said of it.
+abbrev pub RefusesInput : (before after : Option (List ℕ)) → (text : List ℕ) → Type 0
+RefusesInput before after text = (bad : BadInput) × (read : ReadsInput before after (Err bad)) × IsRefusal read.bytes bad text
+
 -- Why a source gives no input: it has other bytes; or a read failed, or memory ran out.
 abbrev pub GivesNoInput : (before after : Option (List ℕ)) → (faults_before faults_after : ℕ) → InputStop → Type 0
-GivesNoInput before after faults_before faults_after (stops.Bad bad) = ReadsInput before after (Err bad)
+GivesNoInput before after faults_before faults_after (stops.Bad text) = RefusesInput before after text
 GivesNoInput before after faults_before faults_after stops.Failed = FaultRose faults_before faults_after
 GivesNoInput before after faults_before faults_after stops.NoMemory = Unit {0}
+
+-- the stop of a source whose bytes are refused with a text, or for which memory ran out
+abbrev pub stop_with : Result (List ℕ) NoMemory → InputStop
+stop_with (Ok text) = stops.Bad text
+stop_with (Err _) = stops.NoMemory
 
 -- All bytes of the source, which may be an input.
 abbrev pub BytesOrStops : (before after : Option (List ℕ)) → (faults_before faults_after : ℕ) → Result (List ℕ) InputStop → Type 0
@@ -59,11 +69,11 @@ ReadsOrStops before after faults_before faults_after (Ok input) = ReadsInput bef
 ReadsOrStops before after faults_before faults_after (Err stop) = GivesNoInput before after faults_before faults_after stop
 
 -- Bytes are read as what they are; or memory ran out.
-abbrev pub AnswersOrStops : Result LabInput BadInput → Result LabInput InputStop → Type 0
-AnswersOrStops answer (Ok input) = answer ≡ Ok input
-AnswersOrStops answer (Err (stops.Bad bad)) = answer ≡ Err bad
-AnswersOrStops answer (Err stops.Failed) = ⊥
-AnswersOrStops answer (Err stops.NoMemory) = Unit {0}
+abbrev pub AnswersOrStops : List ℕ → Result LabInput InputStop → Type 0
+AnswersOrStops bytes (Ok input) = input_of bytes ≡ Ok input
+AnswersOrStops bytes (Err (stops.Bad text)) = (bad : BadInput) × (input_of bytes ≡ Err bad) × IsRefusal bytes bad text
+AnswersOrStops bytes (Err stops.Failed) = ⊥
+AnswersOrStops bytes (Err stops.NoMemory) = Unit {0}
 
 -- A text is written under its status, without a run; or memory ran out before.
 abbrev pub WritesOr : (text : List ℕ) → (planned : ℕ) → (faults_before faults_after : ℕ) → (before after : Option (List ℕ)) → Result Finish NoMemory → Type 0
@@ -85,10 +95,10 @@ BuiltOr input (Ok None) = is_built input ≡ false
 BuiltOr input (Ok (Some lab)) = (lab.input ≡ input) × RanLab lab
 BuiltOr input (Err _) = Unit {0}
 
--- A text of a run is written under the status of its end.
-abbrev pub EndsRun : (text : List ℕ) → Lab → (faults_before faults_after : ℕ) → (before after : Option (List ℕ)) → Finish → Type 0
-EndsRun text lab faults_before faults_after before after finish =
-    (finish.lab ≡ Some lab) × WritesText text (end_status lab.end) faults_before faults_after before after finish.status
+-- A text of a run is written under a status.
+abbrev pub EndsRun : (text : List ℕ) → (planned : ℕ) → Lab → (faults_before faults_after : ℕ) → (before after : Option (List ℕ)) → Finish → Type 0
+EndsRun text planned lab faults_before faults_after before after finish =
+    (finish.lab ≡ Some lab) × WritesText text planned faults_before faults_after before after finish.status
 
 -- What can't be run yet is refused.
 abbrev pub EndsUnbuilt : (faults_before faults_after : ℕ) → (before after : Option (List ℕ)) → Finish → Type 0
@@ -97,7 +107,7 @@ EndsUnbuilt faults_before faults_after before after finish =
 
 -- A job ends whose source gave no input.
 abbrev pub StopsFor : InputStop → (faults_before faults_after : ℕ) → (before after : Option (List ℕ)) → Result Finish NoMemory → Type 0
-StopsFor (stops.Bad bad) faults_before faults_after before after end = WritesOr (bad_line bad) 2 faults_before faults_after before after end
+StopsFor (stops.Bad text) faults_before faults_after before after end = WritesOr text 2 faults_before faults_after before after end
 StopsFor stops.Failed faults_before faults_after before after end = FailsUnread before after end
 StopsFor stops.NoMemory faults_before faults_after before after end = FindsNone before after end
 
@@ -131,12 +141,12 @@ abbrev pub Gives : Job → (before after : Option (List ℕ)) → List ℕ → T
 Gives (jobs.Drill seed workers) before after bytes = bytes ≡ made seed
 Gives _ before after bytes = TookWhole before after bytes
 
--- What it is read as.
-abbrev pub Answers : Job → (before after : Option (List ℕ)) → Result LabInput BadInput → Type 0
-Answers (jobs.Drill seed workers) before after answer = input_of (made seed) ≡ answer
-Answers _ before after answer = ReadsInput before after answer
+-- It isn't run, for the reason that the text says.
+abbrev pub Refuses : Job → (before after : Option (List ℕ)) → (text : List ℕ) → Type 0
+Refuses (jobs.Drill seed workers) before after text = SaysWhy (made seed) (input_of (made seed)) text
+Refuses _ before after text = TookBadInput before after text
 
--- What is written of a run: its report, its summary, its input and its journal, or a view.
+-- What is written of a run: its report, its summary, its input and its journal, a view, or which of its expectations hold.
 abbrev pub Tells : Job → (bytes : List ℕ) → Lab → (text : List ℕ) → Type 0
 Tells (jobs.Run workers) bytes lab text = IsReport lab text
 Tells (jobs.Drill seed workers) bytes lab text = text ≡ summary_text lab
@@ -145,21 +155,27 @@ Tells (jobs.Timeline workers) bytes lab text = ShowsView lab names.Timeline text
 Tells (jobs.Show workers) bytes lab text = ShowsView lab names.Show text
 Tells (jobs.Story name workers) bytes lab text = ShowsView lab (names.Story name) text
 Tells (jobs.Why name prefix workers) bytes lab text = ShowsView lab (names.Why name prefix) text
+Tells (jobs.Picture workers) bytes lab text = ShowsView lab names.Picture text
+Tells (jobs.Test workers) bytes lab text = text ≡ test_text lab
 Tells _ bytes lab text = ⊥
+
+-- the status under which that is written
+abbrev pub job_status : Job → Lab → ℕ
+job_status (jobs.Test workers) lab = tested_status lab
+job_status _ lab = end_status lab.end
 
 -- ---- ends
 
 -- The text of a job that is written under a planned status, and its cause.
 pub data Cause (job : Job) (left_before left_after : Option (List ℕ)) (text : List ℕ) (planned : ℕ) (lab : Option Lab) : Type 0 where
   tells : plain_text job ≡ Some text → planned ≡ 0 → lab ≡ None → Cause job left_before left_after text planned lab
-  checks : (answer : Result LabInput BadInput) → job ≡ jobs.Check → ReadsInput left_before left_after answer → text ≡ verdict_text answer
+  checks : (answer : Result LabInput BadInput) → job ≡ jobs.Check → (read : ReadsInput left_before left_after answer) → SaysVerdict read.bytes answer text
       → planned ≡ verdict_status answer → lab ≡ None → Cause job left_before left_after text planned lab
-  refuses : (answer : Result LabInput BadInput) → RunsLab job → Answers job left_before left_after answer → SaysWhy answer text → planned ≡ 2
-      → lab ≡ None → Cause job left_before left_after text planned lab
+  refuses : RunsLab job → Refuses job left_before left_after text → planned ≡ 2 → lab ≡ None → Cause job left_before left_after text planned lab
   misses : (input : LabInput) (view : ViewName) (workers : ℕ) (name : List ℕ) → job ≡ viewing view workers → ReadsInput left_before left_after (Ok input)
-      → view_named input view ≡ Err name → text ≡ bad_line (Unknown name) → planned ≡ 2 → lab ≡ None → Cause job left_before left_after text planned lab
+      → view_named input view ≡ Err name → text ≡ unknown_text input name → planned ≡ 2 → lab ≡ None → Cause job left_before left_after text planned lab
   runs : (bytes : List ℕ) (end : Lab) → RunsLab job → Gives job left_before left_after bytes → InputOf bytes end.input → Tells job bytes end text
-      → RanLab end → planned ≡ end_status end.end → lab ≡ Some end → Cause job left_before left_after text planned lab
+      → RanLab end → planned ≡ job_status job end → lab ≡ Some end → Cause job left_before left_after text planned lab
 
 -- A text of a job was written, whole or in part; or a read failed.
 pub data Did (job : Job) (before after : Outside) (status : ℕ) (lab : Option Lab) : Type 0 where
@@ -170,7 +186,7 @@ pub data Did (job : Job) (before after : Outside) (status : ℕ) (lab : Option L
 
 -- The words are refused, or a job is done that they ask for; or memory ran out.
 pub data Ended (words : List (List ℕ)) (before after : Outside) (status : ℕ) (lab : Option Lab) : Type 0 where
-  refused : AreRefused words → WritesText usage_text 1 before.write_faults after.write_faults before.written after.written status → lab ≡ None
+  refused : AreRefused words → WritesText (refused_text words) 1 before.write_faults after.write_faults before.written after.written status → lab ≡ None
       → Ended words before after status lab
   did : (job : Job) → Asks words job → Did job before after status lab → Ended words before after status lab
   no_memory : status ≡ 6 → after.written ≡ before.written → lab ≡ None → Ended words before after status lab

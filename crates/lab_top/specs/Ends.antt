@@ -6,8 +6,10 @@ use Rattle.lab_input.specs.declared.bad.BadInput.{BadInput}
 use Rattle.lab_input.specs.declared.bad.BadInput.TheVariants.{Unknown}
 use Rattle.lab_top.specs.Built.{is_built}
 use Rattle.lab_input.specs.Labs.{input_of, InputOf, too_long}
+use Rattle.lab_hints.specs.Later.{unknown_words}
+use Rattle.lab_hints.specs.Hints.{hint_line, IsHint}
 use Rattle.lab_words.specs.declared.job.Job.{Job}
-use Rattle.lab_words.specs.declared.job.Job.TheVariants.{Run, Make, Drill, Journal, Help, Version}
+use Rattle.lab_words.specs.declared.job.Job.TheVariants.{Run, Make, Drill, Journal, Test, Help, Version}
 use Rattle.lab_words.specs.Asked.{usage_text, version_text, Asks}
 use Rattle.lab_make.specs.Made.{made}
 use Rattle.lab_report.specs.declared.lab.Lab.{Lab}
@@ -19,6 +21,7 @@ use Rattle.lab_setup.specs.Setups.{setup_of}
 use Rattle.even_inputs.specs.Evenness.{is_even}
 use Rattle.sure_inputs.specs.Sure.{is_sure}
 use Rattle.journal_form.specs.Journals.{journal_text}
+use Rattle.expect_view.specs.Expect.{all_hold, test_status}
 use Rattle.lab_report.specs.Traces.{IsReport}
 use Rattle.lab_top.specs.declared.views.ViewName.{ViewName}
 use Rattle.lab_top.specs.Views.{view_named, ShowsView, viewing}
@@ -37,13 +40,17 @@ AskToRun words = (workers : ℕ) × Asks words (Run workers)
 abbrev pub AskForJournal : List (List ℕ) → Type 0
 AskForJournal words = (workers : ℕ) × Asks words (Journal workers)
 
+-- They ask which of its expectations hold.
+abbrev pub AskToTest : List (List ℕ) → Type 0
+AskToTest words = (workers : ℕ) × Asks words (Test workers)
+
 -- They ask for a view of it.
 abbrev pub AskToView : List (List ℕ) → ViewName → Type 0
 AskToView words name = (workers : ℕ) × Asks words (viewing name workers)
 
 -- They ask for a run of what the source has.
 abbrev pub RunsSource : List (List ℕ) → Type 0
-RunsSource words = AskToRun words ⊎ AskForJournal words ⊎ ((name : ViewName) × AskToView words name)
+RunsSource words = AskToRun words ⊎ AskForJournal words ⊎ AskToTest words ⊎ ((name : ViewName) × AskToView words name)
 
 -- They ask for a run of the laboratory of this seed.
 abbrev pub AskToDrill : List (List ℕ) → ℕ → Type 0
@@ -81,19 +88,27 @@ pub record TookInput (before after : Option (List ℕ)) (input : LabInput) : Typ
   pub end : IsAtEnd after
   pub is : InputOf bytes input
 
-abbrev pub not_built_text : List ℕ
-not_built_text = codes "bad input: not built" ++ 10 ∷ []
+-- The text is what is said of bytes that are refused for this fault: a line with the fault, and a hint.
+abbrev pub IsRefusal : List ℕ → BadInput → List ℕ → Type 0
+IsRefusal bytes bad text = (hint : List ℕ) × IsHint bytes bad hint × (text ≡ bad_line bad ++ hint)
 
--- The text says why what was read isn't run: its first fault, or that the program can't run such an input yet.
-abbrev pub SaysWhy : Result LabInput BadInput → List ℕ → Type 0
-SaysWhy (Ok input) text = (is_built input ≡ false) × (text ≡ not_built_text)
-SaysWhy (Err bad) text = text ≡ bad_line bad
+-- what is said of an input that hasn't the router or peering of this name
+abbrev pub unknown_text : LabInput → List ℕ → List ℕ
+unknown_text input name = bad_line (Unknown name) ++ hint_line (unknown_words input name)
+
+abbrev pub not_built_text : List ℕ
+not_built_text = codes "bad input: not built" ++ 10 ∷ hint_line (codes "a router with by_bytes can be checked, and not run yet")
+
+-- The text says why what was read from these bytes isn't run: its first fault, or that the program can't run such an input yet.
+abbrev pub SaysWhy : List ℕ → Result LabInput BadInput → List ℕ → Type 0
+SaysWhy bytes (Ok input) text = (is_built input ≡ false) × (text ≡ not_built_text)
+SaysWhy bytes (Err bad) text = IsRefusal bytes bad text
 
 -- What was taken from a source isn't run, for the reason that the text says.
 pub record TookBadInput (before after : Option (List ℕ)) (text : List ℕ) : Type 0 where
   pub answer : Result LabInput BadInput
   pub read : ReadsInput before after answer
-  pub why : SaysWhy answer text
+  pub why : SaysWhy read.bytes answer text
 
 -- What was taken from a source is an input, but it hasn't the router or peering that the words name, and the text says so.
 pub record NamesUnknown (words : List (List ℕ)) (before after : Option (List ℕ)) (text : List ℕ) : Type 0 where
@@ -103,19 +118,22 @@ pub record NamesUnknown (words : List (List ℕ)) (before after : Option (List �
   pub read : ReadsInput before after (Ok input)
   pub asks : AskToView words view
   pub none : view_named input view ≡ Err name
-  pub says : text ≡ bad_line (Unknown name)
+  pub says : text ≡ unknown_text input name
 
 -- What is to be checked or run is none, for the reason that the text says: what was taken from a source, or the laboratory of a seed; or it hasn't
 -- what the words name.
 abbrev pub GaveBadInput : (words : List (List ℕ)) → (before after : Option (List ℕ)) → (text : List ℕ) → Type 0
 GaveBadInput words before after text =
-    TookBadInput before after text ⊎ ((seed : ℕ) × AskToDrill words seed × SaysWhy (input_of (made seed)) text) ⊎ NamesUnknown words before after text
+    TookBadInput before after text ⊎ ((seed : ℕ) × AskToDrill words seed × SaysWhy (made seed) (input_of (made seed)) text)
+    ⊎ NamesUnknown words before after text
 
 -- ---- the sink
 
--- 0 all was done, 1 refused words, 2 refused input, 3 a run that didn't settle, 4 a read failed, 5 a write failed, 6 no memory, 7 a run that met a limit
+-- 0 all was done, 1 refused words, 2 refused input, 3 a run that didn't settle, 4 a read failed, 5 a write failed, 6 no memory, 7 a run that met a limit,
+-- 9 a settled run of which an expectation doesn't hold
 abbrev pub IsStatus : ℕ → Type 0
-IsStatus status = (status ≡ 0) ⊎ (status ≡ 1) ⊎ (status ≡ 2) ⊎ (status ≡ 3) ⊎ (status ≡ 4) ⊎ (status ≡ 5) ⊎ (status ≡ 6) ⊎ (status ≡ 7)
+IsStatus status =
+    (status ≡ 0) ⊎ (status ≡ 1) ⊎ (status ≡ 2) ⊎ (status ≡ 3) ⊎ (status ≡ 4) ⊎ (status ≡ 5) ⊎ (status ≡ 6) ⊎ (status ≡ 7) ⊎ (status ≡ 9)
 
 -- the status under which the report of a run is written
 abbrev pub end_status : RunEnd → ℕ
@@ -124,25 +142,39 @@ end_status (Unsettled step rounds pending) = 3
 end_status (StreamFull peering length) = 7
 end_status (JournalFull events) = 7
 
+-- the status under which it is written which expectations of a run hold
+abbrev pub tested_status : Lab → ℕ
+tested_status lab = test_status (end_status lab.end) lab.end (all_hold lab)
+
+-- The run is settled, and an expectation doesn't hold.
+abbrev pub HasFailed : Lab → Type 0
+HasFailed lab = (lab.end ≡ Settled) × (all_hold lab ≡ false)
+
 -- A text was appended whole under its status; or a write failed, which is status 5, and a front of the text was.
 abbrev pub WritesText : (text : List ℕ) → (planned : ℕ) → (faults_before faults_after : ℕ) → (before after : Option (List ℕ)) → (status : ℕ) → Type 0
 WritesText text planned faults_before faults_after before after status =
     ((status ≡ planned) × Appended before after text) ⊎ ((status ≡ 5) × FaultRose faults_before faults_after × AppendedFront before after text)
 
--- what a check says of what it read, and under which status: of an input whether it is even and sure
-abbrev pub verdict_text : Result LabInput BadInput → List ℕ
-verdict_text (Ok input) = check_text input (is_even (setup_of input)) (is_sure input)
-verdict_text (Err bad) = bad_line bad
+-- what a check says of an input: whether it is even and sure
+abbrev pub accepted_text : LabInput → List ℕ
+accepted_text input = check_text input (is_even (setup_of input)) (is_sure input)
+
+-- The text is what a check says of what these bytes are read as, and this is its status.
+abbrev pub SaysVerdict : List ℕ → Result LabInput BadInput → List ℕ → Type 0
+SaysVerdict bytes (Ok input) text = text ≡ accepted_text input
+SaysVerdict bytes (Err bad) text = IsRefusal bytes bad text
 
 abbrev pub verdict_status : Result LabInput BadInput → ℕ
 verdict_status (Ok input) = 0
 verdict_status (Err bad) = 2
 
--- What was read from the source was said in a line: that it is an input, or its first fault.
+-- What was read from the source was said: that it is an input, or its first fault with a hint.
 pub record Checks (left_before left_after : Option (List ℕ)) (faults_before faults_after : ℕ) (before after : Option (List ℕ)) (status : ℕ) : Type 0 where
   pub answer : Result LabInput BadInput
   pub read : ReadsInput left_before left_after answer
-  pub wrote : WritesText (verdict_text answer) (verdict_status answer) faults_before faults_after before after status
+  pub text : List ℕ
+  pub says : SaysVerdict read.bytes answer text
+  pub wrote : WritesText text (verdict_status answer) faults_before faults_after before after status
 
 -- The report of a run was written under the status of its end: a text that says how the run ended and where packets go then.
 pub record WritesReport (lab : Lab) (faults_before faults_after : ℕ) (before after : Option (List ℕ)) (status : ℕ) : Type 0 where

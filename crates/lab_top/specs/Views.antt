@@ -12,6 +12,7 @@ use Rattle.timeline_view.specs.Timeline.{timeline_text}
 use Rattle.show_view.specs.Show.{show_text}
 use Rattle.story_view.specs.Story.{story_text}
 use Rattle.why_view.specs.Why.{why_text}
+use Rattle.picture_view.specs.Picture.{picture_text}
 use Rattle.lab_top.specs.declared.views.View.{View}
 use Rattle.lab_top.specs.declared.views.View.TheVariants as views
 use Rattle.lab_top.specs.declared.views.ViewName.{ViewName}
@@ -40,13 +41,15 @@ view_named input names.Timeline = Ok views.Timeline
 view_named input names.Show = Ok views.Show
 view_named input (names.Story name) = view_or name (λ n. views.Story (record { 0 = n })) (peering_named input name)
 view_named input (names.Why name prefix) = view_or name (λ n. views.Why (record { 0 = n }) prefix) (router_named input name)
+view_named input names.Picture = Ok views.Picture
 
--- what a view shows of a run: its events, all that there is at its end, the session of a peering, or the routes of a router to a prefix
+-- what a view shows of a run: its events, all that there is at its end, the session of a peering, the routes of a router to a prefix, or where sessions were
 abbrev pub view_text : Lab → View → List ℕ
 view_text lab views.Timeline = timeline_text lab
 view_text lab views.Show = show_text lab
 view_text lab (views.Story peering) = story_text lab peering.0
 view_text lab (views.Why router prefix) = why_text lab router.0 prefix
+view_text lab views.Picture = picture_text lab
 
 -- The text is the view of this name.
 abbrev pub ShowsView : Lab → ViewName → List ℕ → Type 0
@@ -58,3 +61,4 @@ viewing names.Timeline workers = jobs.Timeline workers
 viewing names.Show workers = jobs.Show workers
 viewing (names.Story name) workers = jobs.Story name workers
 viewing (names.Why name prefix) workers = jobs.Why name prefix workers
+viewing names.Picture workers = jobs.Picture workers

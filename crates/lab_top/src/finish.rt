@@ -3,11 +3,10 @@
 ghost use Rattle.std.specs.Prelude.{◌≡◌, ◌≤◌, None};
 ghost use Rattle.lab_top.specs.Ends.{WritesText};
 
-use graft_edge::{Sink, write_all};
-use lab_input::BadInput;
+use graft_edge::{Octets, Sink, write_all};
 use lab_report::Lab;
 
-/// The statuses of the program.
+/// The statuses of the program, but for the one of a test that failed, which is 9 (`test_status` of `expect_view`).
 pub const DONE: u8 = 0;
 
 pub const USAGE: u8 = 1;
@@ -34,7 +33,8 @@ pub struct Finish {
 /// Why the source gives no input.
 #[derive(Debug, Drop)]
 pub(crate) enum InputStop {
-    Bad(BadInput),
+    /// It has other bytes, and this is what is said of them.
+    Bad(Octets),
     Failed,
     NoMemory,
 }

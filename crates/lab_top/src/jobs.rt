@@ -1,21 +1,27 @@
 //! What each job does.
 
-ghost use Rattle.std.specs.Prelude.{◌≡◌, ◌⊎◌, ◌≤◌, ◌<◌, ℕ, List, Option, Ok, IfOk};
-ghost use Rattle.lab_words.specs.declared.job.Job.TheVariants.{Run, Check, Make, Drill, Journal};
-ghost use Rattle.lab_input.specs.Labs.{input_of, too_long as too_long_bad};
+ghost use Rattle.std.specs.Prelude.{◌≡◌, ◌≤◌, ◌<◌, ◌++◌, ℕ, List, Option, IfOk};
+ghost use Rattle.lab_words.specs.declared.job.Job.TheVariants.{Run, Check, Make, Drill, Journal, Test};
+ghost use Rattle.lab_input.specs.Labs.{too_long as too_long_bad};
+ghost use Rattle.lab_hints.specs.Hints.{hint_line, long_words};
+ghost use Rattle.lab_report.specs.BadText.{bad_line};
 ghost use Rattle.node_configs.specs.Accepted.{IsAccepted};
-ghost use Rattle.lab_top.specs.Ends.{end_status, verdict_text};
+ghost use Rattle.expect_view.specs.Expect.{test_status as test_status_lem};
+ghost use Rattle.lab_top.specs.Ends.{IsRefusal, unknown_text as unknown_text_lem, end_status, accepted_text as accepted_text_lem};
 ghost use Rattle.lab_top.specs.Views.{viewing};
-ghost use Rattle.lab_top.specs.Cases.{outside, BytesOrStops, ReadsOrStops, AnswersOrStops, BuiltOr, EndsRun, EndsUnbuilt, StopsFor, DidOr};
+ghost use Rattle.lab_top.specs.Cases.{outside, stop_with as stop_with_lem, BytesOrStops, ReadsOrStops, AnswersOrStops, BuiltOr, EndsRun};
+ghost use Rattle.lab_top.specs.Cases.{EndsUnbuilt, StopsFor, DidOr};
 
 use crate::built::is_built;
 use crate::finish::{
     BAD_INPUT, DONE, Finish, InputStop, LIMIT, READ_FAILED, UNSETTLED, end_with, without_run,
 };
 use crate::views::{ViewName, view_named, view_text};
-use graft_edge::{Gate, NoMemory, Octets, ReadStop, Sink, Source, read_all};
+use expect_view::{test_status, tested};
+use graft_edge::{Gate, Name, NoMemory, Octets, ReadStop, Sink, Source, read_all};
 use journal_form::journal_text;
 use lab_answers::{even, sure};
+use lab_hints::{hint_text, long_hint, name_hint};
 use lab_input::{BadInput, LabInput, LabStop, MOST_BYTES, read_lab, too_long};
 use lab_make::make_lab;
 use lab_report::{Lab, RunEnd, bad_text, check_text, report, summary};
@@ -23,14 +29,46 @@ use lab_run::run_lab;
 use std::alloc::Global;
 use std::thread::Threads;
 
-const NOT_BUILT_TEXT: &str = "bad input: not built\n";
+const NOT_BUILT_TEXT: &str =
+    "bad input: not built\nhint: a router with by_bytes can be checked, and not run yet\n";
 
-/// The fault of a source that has more bytes than an input.
-fn too_long_stop(alloc: Global) -> InputStop
-    ensures { (result ≡ InputStop.NoMemory) ⊎ (result ≡ InputStop.Bad too_long_bad) }
+/// What is said of a source that has more bytes than an input: its fault, and a hint.
+fn too_long_text(alloc: Global) -> Result<Octets, NoMemory>
+    ensures { IfOk result (λ text. text ≡ bad_line too_long_bad ++ hint_line long_words) }
 {
-    match too_long(alloc) {
-        Ok(bad) => InputStop::Bad(bad),
+    let bad = too_long(alloc)?;
+    let mut text = bad_text(alloc, &bad)?;
+    let hint = long_hint(alloc)?;
+    text.extend(&hint)?;
+    Ok(text)
+}
+
+/// What is said of bytes that are refused for a fault: the fault, and a hint.
+fn refusal(alloc: Global, bytes: &[u8], bad: &BadInput) -> Result<Octets, NoMemory>
+    ensures { IfOk result (IsRefusal bytes.now bad.now) }
+{
+    let mut text = bad_text(alloc, bad)?;
+    let hint = hint_text(alloc, bytes, bad)?;
+    text.extend(&hint)?;
+    Ok(text)
+}
+
+/// What is said of an input that hasn't the router or peering of a name: the name, and a hint.
+fn unknown_text(alloc: Global, input: &LabInput, name: Name) -> Result<Octets, NoMemory>
+    ensures { IfOk result (λ text. text ≡ unknown_text_lem input.now name) }
+{
+    let hint = name_hint(alloc, input, name.as_str())?;
+    let mut text = bad_text(alloc, &BadInput::Unknown(name))?;
+    text.extend(&hint)?;
+    Ok(text)
+}
+
+/// The stop of a source whose bytes are refused with a text.
+fn stop_with(text: Result<Octets, NoMemory>) -> InputStop
+    ensures { result ≡ stop_with_lem text }
+{
+    match text {
+        Ok(text) => InputStop::Bad(text),
         Err(_) => InputStop::NoMemory,
     }
 }
@@ -42,18 +80,18 @@ fn read_bytes<S: Source>(alloc: Global, source: &mut S) -> Result<Octets, InputS
     match read_all(alloc, source, MOST_BYTES) {
         Ok(bytes) => Ok(bytes),
         Err(ReadStop::Failed) => Err(InputStop::Failed),
-        Err(ReadStop::TooLong) => Err(too_long_stop(alloc)),
+        Err(ReadStop::TooLong) => Err(stop_with(too_long_text(alloc))),
         Err(ReadStop::NoMemory) => Err(InputStop::NoMemory),
     }
 }
 
 /// The input that the bytes are.
 fn input_in(alloc: Global, bytes: &[u8]) -> Result<LabInput, InputStop>
-    ensures { AnswersOrStops (input_of bytes.now) result }
+    ensures { AnswersOrStops bytes.now result }
 {
     match read_lab(alloc, bytes) {
         Ok(input) => Ok(input),
-        Err(LabStop::Bad(bad)) => Err(InputStop::Bad(bad)),
+        Err(LabStop::Bad(bad)) => Err(stop_with(refusal(alloc, bytes, &bad))),
         Err(LabStop::NoMemory) => Err(InputStop::NoMemory),
     }
 }
@@ -69,14 +107,11 @@ fn read_source<S: Source>(alloc: Global, source: &mut S) -> Result<LabInput, Inp
 }
 
 /// Ends a job whose source gave no input.
-fn end_stopped<K: Sink>(alloc: Global, sink: &mut K, stop: InputStop) -> Result<Finish, NoMemory>
+fn end_stopped<K: Sink>(sink: &mut K, stop: InputStop) -> Result<Finish, NoMemory>
     ensures { StopsFor stop (K.faults sink.old) (K.faults sink.new) (K.written sink.old) (K.written sink.new) result }
 {
     match stop {
-        InputStop::Bad(bad) => {
-            let text = bad_text(alloc, &bad)?;
-            Ok(end_with(sink, &text, BAD_INPUT, None))
-        }
+        InputStop::Bad(text) => Ok(end_with(sink, &text, BAD_INPUT, None)),
         InputStop::Failed => Ok(without_run(READ_FAILED)),
         InputStop::NoMemory => Err(NoMemory),
     }
@@ -95,9 +130,18 @@ fn status_of(end: RunEnd) -> u8
 
 /// Writes a text of a run under the status of its end.
 fn end_run<K: Sink>(sink: &mut K, text: &[u8], lab: Lab) -> Finish
-    ensures { EndsRun text.now lab (K.faults sink.old) (K.faults sink.new) (K.written sink.old) (K.written sink.new) result }
+    ensures { EndsRun text.now (end_status lab.end) lab (K.faults sink.old) (K.faults sink.new) (K.written sink.old) (K.written sink.new) result }
 {
     let status = status_of(lab.end);
+    end_with(sink, text, status, Some(lab))
+}
+
+/// Writes which expectations of a run hold, under the status that it has where all of them hold or one doesn't.
+fn end_test<K: Sink>(sink: &mut K, text: &[u8], all_hold: bool, lab: Lab) -> Finish
+    ensures { EndsRun text.now (test_status_lem (end_status lab.end) lab.end all_hold) lab (K.faults sink.old) (K.faults sink.new)
+        (K.written sink.old) (K.written sink.new) result }
+{
+    let status = test_status(status_of(lab.end), lab.end, all_hold);
     end_with(sink, text, status, Some(lab))
 }
 
@@ -141,7 +185,7 @@ pub(crate) fn run_job<R: Threads + Sync + AllocGlobal, S: Source, K: Sink, G: Ga
     let alloc = rt.alloc();
     let input = match read_source(alloc, source) {
         Ok(input) => input,
-        Err(stop) => return end_stopped(alloc, sink, stop),
+        Err(stop) => return end_stopped(sink, stop),
     };
     match run_built(rt, input, workers, gate)? {
         Some(lab) => {
@@ -167,11 +211,11 @@ pub(crate) fn journal_job<R: Threads + Sync + AllocGlobal, S: Source, K: Sink, G
     let alloc = rt.alloc();
     let bytes = match read_bytes(alloc, source) {
         Ok(bytes) => bytes,
-        Err(stop) => return end_stopped(alloc, sink, stop),
+        Err(stop) => return end_stopped(sink, stop),
     };
     let input = match input_in(alloc, &bytes) {
         Ok(input) => input,
-        Err(stop) => return end_stopped(alloc, sink, stop),
+        Err(stop) => return end_stopped(sink, stop),
     };
     match run_built(rt, input, workers, gate)? {
         Some(lab) => {
@@ -198,16 +242,45 @@ pub(crate) fn view_job<R: Threads + Sync + AllocGlobal, S: Source, K: Sink, G: G
     let alloc = rt.alloc();
     let input = match read_source(alloc, source) {
         Ok(input) => input,
-        Err(stop) => return end_stopped(alloc, sink, stop),
+        Err(stop) => return end_stopped(sink, stop),
     };
     let view = match view_named(&input, view) {
         Ok(view) => view,
-        Err(name) => return end_stopped(alloc, sink, InputStop::Bad(BadInput::Unknown(name))),
+        Err(name) => {
+            let text = unknown_text(alloc, &input, name)?;
+            return Ok(end_with(sink, &text, BAD_INPUT, None));
+        }
     };
     match run_built(rt, input, workers, gate)? {
         Some(lab) => {
             let text = view_text(alloc, &lab, view)?;
             Ok(end_run(sink, &text, lab))
+        }
+        None => Ok(end_unbuilt(sink)),
+    }
+}
+
+/// Reads an input from the source, runs it and writes which of its expectations hold.
+pub(crate) fn test_job<R: Threads + Sync + AllocGlobal, S: Source, K: Sink, G: Gate>(
+    rt: &R,
+    source: &mut S,
+    sink: &mut K,
+    workers: usize,
+    gate: &G,
+) -> Result<Finish, NoMemory>
+    requires workers { (1 ≤ workers) × (workers ≤ 8) }
+    ensures { DidOr (Test workers) (outside (S.left source.old) (S.faults source.old) (K.written sink.old)
+        (K.faults sink.old)) (outside (S.left source.new) (S.faults source.new) (K.written sink.new) (K.faults sink.new)) result }
+{
+    let alloc = rt.alloc();
+    let input = match read_source(alloc, source) {
+        Ok(input) => input,
+        Err(stop) => return end_stopped(sink, stop),
+    };
+    match run_built(rt, input, workers, gate)? {
+        Some(lab) => {
+            let told = tested(alloc, &lab)?;
+            Ok(end_test(sink, told.text.as_bytes(), told.all_hold, lab))
         }
         None => Ok(end_unbuilt(sink)),
     }
@@ -231,7 +304,7 @@ pub(crate) fn drill_job<R: Threads + Sync + AllocGlobal, K: Sink, G: Gate>(
     let bytes = make_lab(alloc, seed)?;
     let input = match input_in(alloc, &bytes) {
         Ok(input) => input,
-        Err(stop) => return end_stopped(alloc, sink, stop),
+        Err(stop) => return end_stopped(sink, stop),
     };
     match run_built(rt, input, workers, gate)? {
         Some(lab) => {
@@ -245,7 +318,7 @@ pub(crate) fn drill_job<R: Threads + Sync + AllocGlobal, K: Sink, G: Gate>(
 /// What a check says of an input that was accepted.
 fn accepted_text(alloc: Global, input: &LabInput) -> Result<Octets, NoMemory>
     requires { IsAccepted input.now }
-    ensures { IfOk result (λ text. text ≡ verdict_text (Ok input.now)) }
+    ensures { IfOk result (λ text. text ≡ accepted_text_lem input.now) }
 {
     let even = even(alloc, input)?;
     let sure = sure(alloc, input)?;
@@ -263,7 +336,7 @@ pub(crate) fn check_job<S: Source, K: Sink>(
 {
     let input = match read_source(alloc, source) {
         Ok(input) => input,
-        Err(stop) => return end_stopped(alloc, sink, stop),
+        Err(stop) => return end_stopped(sink, stop),
     };
     let text = accepted_text(alloc, &input)?;
     Ok(end_with(sink, &text, DONE, None))

@@ -1,23 +1,26 @@
 //! The program's top call.
 
-ghost use Rattle.std.specs.Prelude.{◌≡◌, ◌⊎◌, ℕ, List, None, IsSome, IfSome, OnSome};
+ghost use Rattle.std.specs.Prelude.{◌≡◌, ◌⊎◌, ℕ, List, None, IsSome, IsSomeAnd, IfSome, OnSome};
 ghost use Rattle.graft_edge.specs.Outside.{FaultRose, Appended, AppendedFront};
 ghost use Rattle.lab_words.specs.declared.job.Job.TheVariants.{Check, Make};
-ghost use Rattle.lab_words.specs.Asked.{usage_text, Asks, HasNumbers};
+ghost use Rattle.lab_words.specs.Asked.{Asks, HasNumbers};
+ghost use Rattle.lab_words.specs.Hints.{refused_text as refused_text_lem};
 ghost use Rattle.lab_make.specs.Made.{made};
 ghost use Rattle.lab_input.specs.Labs.{InputOf};
 ghost use Rattle.lab_report.specs.Summary.{summary_text};
 ghost use Rattle.lab_run.specs.Runs.{RanLab};
+ghost use Rattle.expect_view.specs.Expect.{test_text};
 ghost use Rattle.lab_top.specs.declared.views.ViewName.{ViewName};
-ghost use Rattle.lab_top.specs.Ends.{AreRefused, AskToRun, AskForJournal, AskToView, RunsSource, AskToDrill, AskForLab, AskToMake, AskForLine, AskUnread};
-ghost use Rattle.lab_top.specs.Ends.{TookInput, GaveBadInput, IsStatus, WritesText, WritesReport, WritesJournal, WritesView, Checks, end_status};
+ghost use Rattle.lab_top.specs.Ends.{AreRefused, AskToRun, AskForJournal, AskToTest, AskToView, RunsSource, AskToDrill, AskForLab, AskToMake};
+ghost use Rattle.lab_top.specs.Ends.{AskForLine, AskUnread, TookInput, GaveBadInput, IsStatus, WritesText, WritesReport, WritesJournal, WritesView};
+ghost use Rattle.lab_top.specs.Ends.{Checks, end_status, tested_status, HasFailed};
 ghost use Rattle.lab_top.specs.Cases.{outside, ReadsSource, DidOr, EndsOr, Ended};
 
 use crate::finish::{DONE, Finish, NO_MEMORY, USAGE, end_with, without_run};
-use crate::jobs::{check_job, drill_job, journal_job, make_job, run_job, view_job};
+use crate::jobs::{check_job, drill_job, journal_job, make_job, run_job, test_job, view_job};
 use crate::views::ViewName;
 use graft_edge::{Gate, NoMemory, Sink, Source, Words};
-use lab_words::{Job, USAGE_TEXT, VERSION_TEXT, WordStop, read_words};
+use lab_words::{Job, USAGE_TEXT, VERSION_TEXT, WordStop, read_words, refused_text};
 use std::thread::Threads;
 
 /// Does a job. If memory runs out, nothing was written.
@@ -59,6 +62,8 @@ fn do_job<R: Threads + Sync + AllocGlobal, S: Source, K: Sink, G: Gate>(
             workers,
             gate,
         ),
+        Job::Picture { workers } => { view_job(rt, source, sink, ViewName::Picture, workers, gate) }
+        Job::Test { workers } => test_job(rt, source, sink, workers, gate),
         Job::Help => Ok(end_with(sink, USAGE_TEXT.as_bytes(), DONE, None)),
         Job::Version => Ok(end_with(sink, VERSION_TEXT.as_bytes(), DONE, None)),
     }
@@ -78,7 +83,10 @@ fn do_words<R: Threads + Sync + AllocGlobal, S: Source, K: Sink, G: Gate>(
 {
     match read_words(rt.alloc(), words) {
         Ok(job) => do_job(rt, job, source, sink, gate),
-        Err(WordStop::Usage) => Ok(end_with(sink, USAGE_TEXT.as_bytes(), USAGE, None)),
+        Err(WordStop::Usage) => {
+            let text = refused_text(rt.alloc(), words)?;
+            Ok(end_with(sink, &text, USAGE, None))
+        }
         Err(WordStop::NoMemory) => Err(NoMemory),
     }
 }
@@ -103,9 +111,10 @@ fn finish_of<R: Threads + Sync + AllocGlobal, S: Source, K: Sink, G: Gate>(
 
 /// Does what the words of a command ask for. `run` reads an input from the source to its end, runs it and
 /// writes the report to the sink; each actor's turn passes the gate first. `journal` writes the input and the
-/// journal of its run in place of a report, `timeline`, `show`, `story` and `why` write a view of it. `check` reads an input and
-/// writes whether it is one. `make` writes the laboratory of a seed; `drill` runs it and writes the summary. `--help`
-/// writes the usage, and `--version` the version. Other words are refused with the usage.
+/// journal of its run in place of a report, `show`, `timeline`, `why`, `story` and `picture` write a view of it, and
+/// `test` writes which expectations of the input hold of it. `check` reads an input and writes whether it is one.
+/// `make` writes the laboratory of a seed; `drill` runs it and writes the summary. `--help` writes the usage, and
+/// `--version` the version. Other words are refused with the usage and a hint.
 pub fn graft_main<R, S, K, G>(
     rt: &R,
     words: &Words,
@@ -120,9 +129,10 @@ where
     G: Gate,
     ensures statuses { IsStatus result.status }
 
-    // Words that ask for no job are refused. The source isn't read for them, nor for `make`, `drill`, `--help` and `--version`.
+    // Words that ask for no job are refused with the usage and a hint. The source isn't read for them, nor for `make`, `drill`, `--help` and `--version`.
     ensures usage { AreRefused words.now
-        → (result.status ≡ 6) ⊎ WritesText usage_text 1 (K.faults sink.old) (K.faults sink.new) (K.written sink.old) (K.written sink.new) result.status }
+        → (result.status ≡ 6) ⊎ WritesText (refused_text_lem words.now) 1
+        (K.faults sink.old) (K.faults sink.new) (K.written sink.old) (K.written sink.new) result.status }
     ensures refused { result.status ≡ 1 → AreRefused words.now }
     ensures unread { AskUnread words.now → source.new ≡ source.old }
 
@@ -134,12 +144,12 @@ where
     ensures told { (line : List ℕ) → AskForLine words.now line
         → (result.status ≡ 6) ⊎ WritesText line 0 (K.faults sink.old) (K.faults sink.new) (K.written sink.old) (K.written sink.new) result.status }
 
-    // `check` reads the source to its end, or past the most bytes of an input, and says in a line what was read.
+    // `check` reads the source to its end, or past the most bytes of an input, and says what was read.
     ensures checked { Asks words.now Check → (result.status ≡ 4) ⊎ (result.status ≡ 6)
         ⊎ Checks (S.left source.old) (S.left source.new) (K.faults sink.old) (K.faults sink.new) (K.written sink.old) (K.written sink.new) result.status }
 
     // An input is refused only where the bytes are none, or none that can be run yet, or where it hasn't the router or
-    // peering of a view, and then a line says why.
+    // peering of a view, and then a line says why, and a hint what is wanted.
     ensures bad_input { result.status ≡ 2
         → (text : _) × GaveBadInput words.now (S.left source.old) (S.left source.new) text × Appended (K.written sink.old) (K.written sink.new) text }
     ensures bad_input_unwritten { AskForLab words.now → result.status ≡ 5 → result.lab ≡ None
@@ -150,12 +160,17 @@ where
     ensures write_failed { result.status ≡ 5 → FaultRose (K.faults sink.old) (K.faults sink.new) }
     ensures nothing_written { (result.status ≡ 4) ⊎ (result.status ≡ 6) → K.written sink.new ≡ K.written sink.old }
 
+    // Status 9 is that of a test, where the run is settled and an expectation doesn't hold.
+    ensures failed { result.status ≡ 9 → AskToTest words.now × IsSomeAnd result.lab HasFailed }
+
     // A run is there only where it was asked for, came to its end and its text was built: it is the run of the
     // bytes that were read, or of the laboratory of the seed.
-    ensures ended { AskForLab words.now → (result.status ≡ 0) ⊎ (result.status ≡ 3) ⊎ (result.status ≡ 7) → IsSome result.lab }
+    ensures ended { AskForLab words.now → (result.status ≡ 0) ⊎ (result.status ≡ 3) ⊎ (result.status ≡ 7) ⊎ (result.status ≡ 9)
+        → IsSome result.lab }
     ensures no_run { AreRefused words.now ⊎ AskToMake words.now ⊎ Asks words.now Check ⊎ ((line : List ℕ) × AskForLine words.now line)
         → result.lab ≡ None }
-    ensures ran { OnSome result.lab (AskForLab words.now × ((result.status ≡ 0) ⊎ (result.status ≡ 3) ⊎ (result.status ≡ 5) ⊎ (result.status ≡ 7))) }
+    ensures ran { OnSome result.lab (AskForLab words.now
+        × ((result.status ≡ 0) ⊎ (result.status ≡ 3) ⊎ (result.status ≡ 5) ⊎ (result.status ≡ 7) ⊎ (result.status ≡ 9))) }
     ensures input { IfSome result.lab (λ lab. RunsSource words.now → TookInput (S.left source.old) (S.left source.new) lab.input) }
     ensures drilled { IfSome result.lab (λ lab. (seed : ℕ) → AskToDrill words.now seed → InputOf (made seed) lab.input) }
 
@@ -169,14 +184,18 @@ where
     ensures headline { IfSome result.lab RanLab }
 
     // Its text is written whole, under the status of its end, or a write failed and a front of it stands: a report,
-    // which ends with where packets go to the addresses of the input, a summary, the input with the journal behind it, or
-    // a view: a timeline, all that there is at its end, the story of a peering's session, or why a router has its route to a prefix.
+    // which ends with where packets go to the addresses of the input, a summary, the input with the journal behind it,
+    // or a view: a timeline, all that there is at its end, the story of a peering's session, why a router has its route
+    // to a prefix, or a picture. Of a test it is which expectations of the input hold, and the status is 9 where the run
+    // is settled and one of them doesn't.
     ensures reported { IfSome result.lab
         (λ lab. AskToRun words.now → WritesReport lab (K.faults sink.old) (K.faults sink.new) (K.written sink.old) (K.written sink.new) result.status) }
     ensures summed { IfSome result.lab (λ lab. ((seed : ℕ) × AskToDrill words.now seed) → WritesText (summary_text lab)
         (end_status lab.end) (K.faults sink.old) (K.faults sink.new) (K.written sink.old) (K.written sink.new) result.status) }
     ensures journaled { IfSome result.lab (λ lab. AskForJournal words.now → WritesJournal (S.left source.old)
         (S.left source.new) lab (K.faults sink.old) (K.faults sink.new) (K.written sink.old) (K.written sink.new) result.status) }
+    ensures tested { IfSome result.lab (λ lab. AskToTest words.now
+        → WritesText (test_text lab) (tested_status lab) (K.faults sink.old) (K.faults sink.new) (K.written sink.old) (K.written sink.new) result.status) }
     ensures viewed { IfSome result.lab (λ lab. (name : ViewName) → AskToView words.now name
         → WritesView lab name (K.faults sink.old) (K.faults sink.new) (K.written sink.old) (K.written sink.new) result.status) }
 {

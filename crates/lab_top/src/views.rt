@@ -11,6 +11,7 @@ use bgp_types::Prefix;
 use graft_edge::{Items, Name, NoMemory, Octets, PeeringId, RouterId};
 use lab_report::Lab;
 use lab_tables::{LabInput, PeeringInput, RouterInput};
+use picture_view::picture_text;
 use show_view::show_text;
 use std::alloc::Global;
 use story_view::story_text;
@@ -28,6 +29,8 @@ pub enum ViewName {
     Story(Name),
     /// Why the router of this name has the route that it has to a prefix.
     Why(Name, Prefix),
+    /// The picture of the run.
+    Picture,
 }
 
 /// A view of a run of an input, by the numbers of its routers and peerings.
@@ -37,6 +40,7 @@ pub enum View {
     Show,
     Story(PeeringId),
     Why(RouterId, Prefix),
+    Picture,
 }
 
 /// Whether a router has this name.
@@ -107,6 +111,7 @@ pub(crate) fn view_named(input: &LabInput, view: ViewName) -> Result<View, Name>
             Some(router) => Ok(View::Why(router, prefix)),
             None => Err(name),
         },
+        ViewName::Picture => Ok(View::Picture),
     }
 }
 
@@ -116,6 +121,7 @@ pub(crate) fn view_text(alloc: Global, lab: &Lab, view: View) -> Result<Octets, 
 {
     let text = match view {
         View::Timeline => return timeline_text(alloc, lab),
+        View::Picture => return picture_text(alloc, lab),
         View::Show => show_text(alloc, lab)?,
         View::Story(peering) => story_text(alloc, lab, peering)?,
         View::Why(router, prefix) => why_text(alloc, lab, router, prefix)?,

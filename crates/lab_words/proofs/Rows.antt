@@ -11,7 +11,7 @@ use Rattle.bgp_types.specs.Texts.{IsPrefixText}
 use Rattle.bgp_types.proofs.PrintedTexts.{IsPrefixText_unique}
 use Rattle.lab_words.specs.declared.arguments.Arguments.{Arguments}
 use Rattle.lab_words.specs.declared.job.Job.{Job}
-use Rattle.lab_words.specs.declared.job.Job.TheVariants.{Run, Check, Make, Drill, Journal, Timeline, Show, Story, Why, Help, Version}
+use Rattle.lab_words.specs.declared.job.Job.TheVariants.{Run, Check, Make, Drill, Journal, Timeline, Show, Story, Why, Picture, Test, Help, Version}
 use Rattle.lab_words.specs.declared.job.WordStop.{WordStop}
 use Rattle.lab_words.specs.declared.job.WordStop.TheVariants.{Usage, NoMemory}
 use Rattle.lab_words.specs.Asked.{given_by, IsSeed, IsWorkersText, IsReadAs, AreArguments, name_of, several, HasArguments, IsJob}
@@ -93,7 +93,9 @@ named_fits name given =
     (row name (codes "timeline") given _ _ (alone_fits (codes "timeline") given Timeline (λ none. (refl, (none.0, none.1, refl))))
     (row name (codes "show") given _ _ (alone_fits (codes "show") given Show (λ none. (refl, (none.0, none.1, refl))))
     (row name (codes "story") given _ _ (story_fits given)
-    (row name (codes "why") given _ None (why_fits given) tt))))))))
+    (row name (codes "why") given _ _ (why_fits given)
+    (row name (codes "picture") given _ _ (alone_fits (codes "picture") given Picture (λ none. (refl, (none.0, none.1, refl))))
+    (row name (codes "test") given _ None (alone_fits (codes "test") given Test (λ none. (refl, (none.0, none.1, refl)))) tt))))))))))
 
 -- ---- each job is read by its name: no row before its own has that name
 
@@ -107,6 +109,8 @@ read_by_name given (Timeline workers) has = rw (has.0, has.1, has.2) refl
 read_by_name given (Show workers) has = rw (has.0, has.1, has.2) refl
 read_by_name given (Story peering workers) has = rw (has.0, has.1, has.2) refl
 read_by_name given (Why router prefix workers) has = rw (has.0, has.1, has.2) refl
+read_by_name given (Picture workers) has = rw (has.0, has.1, has.2) refl
+read_by_name given (Test workers) has = rw (has.0, has.1, has.2) refl
 read_by_name given Help has = absurd has
 read_by_name given Version has = absurd has
 

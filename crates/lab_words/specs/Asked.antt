@@ -6,11 +6,11 @@ use Rattle.bgp_types.specs.Finds.{Finds}
 use Rattle.bgp_types.specs.Texts.{IsPrefixText}
 use Rattle.lab_words.specs.declared.arguments.Arguments.{Arguments}
 use Rattle.lab_words.specs.declared.job.Job.{Job}
-use Rattle.lab_words.specs.declared.job.Job.TheVariants.{Run, Check, Make, Drill, Journal, Timeline, Show, Story, Why, Help, Version}
+use Rattle.lab_words.specs.declared.job.Job.TheVariants.{Run, Check, Make, Drill, Journal, Timeline, Show, Story, Why, Picture, Test, Help, Version}
 
 -- the usage line of the program
 abbrev pub usage_text : List ℕ
-usage_text = codes "usage: graftlab run|check|make N|drill N|journal|timeline|show|why ROUTER PREFIX|story PEERING [--workers W]" ++ 10 ∷ []
+usage_text = codes "usage: graftlab run|check|make N|drill N|journal|show|timeline|why ROUTER PREFIX|story PEERING|picture|test [--workers W]" ++ 10 ∷ []
 
 -- the version line of the program
 abbrev pub version_text : List ℕ
@@ -106,6 +106,8 @@ name_of (Timeline workers) = codes "timeline"
 name_of (Show workers) = codes "show"
 name_of (Story peering workers) = codes "story"
 name_of (Why router prefix workers) = codes "why"
+name_of (Picture workers) = codes "picture"
+name_of (Test workers) = codes "test"
 name_of Help = codes "--help"
 name_of Version = codes "--version"
 
@@ -129,6 +131,8 @@ HasArguments given (Timeline workers) = AreWorkersAlone given workers
 HasArguments given (Show workers) = AreWorkersAlone given workers
 HasArguments given (Story peering workers) = (given.subject ≡ Some peering) × (given.prefix ≡ None) × (workers ≡ several given.workers)
 HasArguments given (Why router prefix workers) = (given.subject ≡ Some router) × (given.prefix ≡ Some prefix) × (workers ≡ several given.workers)
+HasArguments given (Picture workers) = AreWorkersAlone given workers
+HasArguments given (Test workers) = AreWorkersAlone given workers
 HasArguments given Help = ⊥
 HasArguments given Version = ⊥
 
@@ -168,4 +172,6 @@ HasNumbers (Timeline workers) = AreFew workers
 HasNumbers (Show workers) = AreFew workers
 HasNumbers (Story peering workers) = AreFew workers
 HasNumbers (Why router prefix workers) = AreFew workers
+HasNumbers (Picture workers) = AreFew workers
+HasNumbers (Test workers) = AreFew workers
 HasNumbers _ = Unit {0}

@@ -5,7 +5,7 @@ use Rattle.clap.specs.Words.{Text}
 use Rattle.bgp_types.specs.Prefixes.{PrefixValue}
 use Rattle.lab_words.specs.declared.arguments.Arguments.{Arguments}
 use Rattle.lab_words.specs.declared.job.Job.{Job}
-use Rattle.lab_words.specs.declared.job.Job.TheVariants.{Run, Check, Make, Drill, Journal, Timeline, Show, Story, Why}
+use Rattle.lab_words.specs.declared.job.Job.TheVariants.{Run, Check, Make, Drill, Journal, Timeline, Show, Story, Why, Picture, Test}
 use Rattle.lab_words.specs.declared.job.WordStop.{WordStop}
 use Rattle.lab_words.specs.declared.job.WordStop.TheVariants.{Usage, NoMemory}
 use Rattle.lab_words.specs.Asked.{several}
@@ -55,4 +55,6 @@ job_named name given =
     else (if bytes_eq name (codes "timeline") then option_map Timeline (workers_alone given.subject given.prefix given.workers)
     else (if bytes_eq name (codes "show") then option_map Show (workers_alone given.subject given.prefix given.workers)
     else (if bytes_eq name (codes "story") then story_with given.subject given.prefix given.workers
-    else (if bytes_eq name (codes "why") then why_with given.subject given.prefix given.workers else None))))))))
+    else (if bytes_eq name (codes "why") then why_with given.subject given.prefix given.workers
+    else (if bytes_eq name (codes "picture") then option_map Picture (workers_alone given.subject given.prefix given.workers)
+    else (if bytes_eq name (codes "test") then option_map Test (workers_alone given.subject given.prefix given.workers) else None))))))))))

@@ -48,6 +48,14 @@ pub enum Job {
         prefix: Prefix,
         workers: usize,
     },
+    /// Run the laboratory of the source, and write a picture of it.
+    Picture {
+        workers: usize,
+    },
+    /// Run the laboratory of the source, and write which of its expectations hold.
+    Test {
+        workers: usize,
+    },
     /// Write the usage line.
     Help,
     /// Write the version of the program.
@@ -66,7 +74,7 @@ pub enum WordStop {
 
 /// The usage line of the program.
 pub const USAGE_TEXT: &str =
-    "usage: graftlab run|check|make N|drill N|journal|timeline|show|why ROUTER PREFIX|story PEERING [--workers W]\n";
+    "usage: graftlab run|check|make N|drill N|journal|show|timeline|why ROUTER PREFIX|story PEERING|picture|test [--workers W]\n";
 
 /// The version line of the program.
 pub const VERSION_TEXT: &str = "graftlab 0.1.0\n";

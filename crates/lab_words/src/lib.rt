@@ -3,8 +3,10 @@
 
 mod arguments;
 mod command;
+mod hint;
 mod job;
 mod table;
 
 pub use command::read_words;
+pub use hint::refused_text;
 pub use job::{Job, USAGE_TEXT, VERSION_TEXT, WordStop, usage_is_as_told, version_is_as_told};

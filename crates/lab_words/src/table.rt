@@ -112,6 +112,12 @@ fn job_named(name: &str, arguments: Arguments) -> Option<Job>
         }),
         "story" => story_with(subject, prefix, workers),
         "why" => why_with(subject, prefix, workers),
+        "picture" => Some(Job::Picture {
+            workers: workers_alone(subject, prefix, workers)?,
+        }),
+        "test" => Some(Job::Test {
+            workers: workers_alone(subject, prefix, workers)?,
+        }),
         _ => None,
     }
 }

@@ -107,30 +107,33 @@ farther d most names name near least led le =
     }
 
 -- the same, as a loop says it
-pub leads_closer : {N : Type 0} (d : N → ℕ) (most : ℕ) (names longer : List N) (name : N) (near next : Option N) (least less : ℕ)
-    → longer ≡ names ++ name ∷ [] → next ≡ Some name → less ≡ d name → d name < least → Leads d most names near least → Leads d most longer next less
-leads_closer d most names longer name near next least less long here there lt led =
+pub leads_closer : {N : Type 0} (d : N → ℕ) (most : ℕ) (names longer : List N) (name : N) (near next : Option N) (least less edits : ℕ)
+    → edits ≡ d name → longer ≡ names ++ name ∷ [] → next ≡ Some name → less ≡ edits → edits < least → Leads d most names near least
+    → Leads d most longer next less
+leads_closer d most names longer name near next least less edits is long here there lt led =
     subst (λ l. Leads d most l next less) (sym long)
     (subst (λ o. Leads d most (names ++ name ∷ []) o less) (sym here)
-    (subst (λ n. Leads d most (names ++ name ∷ []) (Some name) n) (sym there) (closer d most names name near least led lt)))
+    (subst (λ n. Leads d most (names ++ name ∷ []) (Some name) n) (sym (there ∙ is)) (closer d most names name near least led (omega (arith, is)))))
 
-pub leads_on : {N : Type 0} (d : N → ℕ) (most : ℕ) (names longer : List N) (name : N) (near next : Option N) (least less : ℕ)
-    → longer ≡ names ++ name ∷ [] → next ≡ near → less ≡ least → least ≤ d name → Leads d most names near least → Leads d most longer next less
-leads_on d most names longer name near next least less long here there le led =
+pub leads_on : {N : Type 0} (d : N → ℕ) (most : ℕ) (names longer : List N) (name : N) (near next : Option N) (least less edits : ℕ)
+    → edits ≡ d name → longer ≡ names ++ name ∷ [] → next ≡ near → less ≡ least → least ≤ edits → Leads d most names near least
+    → Leads d most longer next less
+leads_on d most names longer name near next least less edits is long here there le led =
     subst (λ l. Leads d most l next less) (sym long)
     (subst (λ o. Leads d most (names ++ name ∷ []) o less) (sym here)
-    (subst (λ n. Leads d most (names ++ name ∷ []) near n) (sym there) (farther d most names name near least led le)))
+    (subst (λ n. Leads d most (names ++ name ∷ []) near n) (sym there) (farther d most names name near least led (omega (arith, is)))))
 
 -- ---- the end
 
 -- a name that was found passes the test, and whatever holds of all
 found_all : {N : Type 0} (q r : N → Bool) (names : List N) (m : N) → find q names ≡ Some m → list_all r names ≡ true → (q m ≡ true) × (r m ≡ true)
 found_all q r [] m is all = let none : Option _ = None in let same : none ≡ Some m = is in absurd (cc)
-found_all q r (n ∷ ns) m is all = by_test (q n) refl is (r n) refl all where
-  by_test : (t : Bool) → q n ≡ t → cond t (Some n) (find q ns) ≡ Some m → (u : Bool) → r n ≡ u → (u && list_all r ns) ≡ true → (q m ≡ true) × (r m ≡ true)
-  by_test true yes is true holds all = let same : n ≡ m = cc in (ap q (sym same) ∙ yes, ap r (sym same) ∙ holds)
-  by_test false no is true holds all = found_all q r ns m is all
-  by_test t e is false fails all = absurd (false≢true all)
+found_all q r (n ∷ ns) m is all = by_test (q n) refl is (r n) refl all (found_all q r ns m) where
+  by_test : (t : Bool) → q n ≡ t → cond t (Some n) (find q ns) ≡ Some m → (u : Bool) → r n ≡ u → (u && list_all r ns) ≡ true
+      → (find q ns ≡ Some m → list_all r ns ≡ true → (q m ≡ true) × (r m ≡ true)) → (q m ≡ true) × (r m ≡ true)
+  by_test true passes is true holds all rest = let same : n ≡ m = cc in (ap q (sym same) ∙ passes, ap r (sym same) ∙ holds)
+  by_test false fails is true holds all rest = rest is all
+  by_test t e is false fails all rest = absurd (false≢true all)
 
 all_at_least : {N : Type 0} (d : N → ℕ) (a least : ℕ) (names : List N) → AllByRecursion (λ n. least ≤ d n) names → a ≤ least
     → list_all (λ other. nat_le a (d other)) names ≡ true

@@ -1,6 +1,6 @@
 //! The name that a misspelt one is nearest to.
 #![tactic(auto)]
 
-mod nearest;
+mod nearness;
 
-pub use nearest::{is_near, nearest};
+pub use nearness::{is_near, nearest};

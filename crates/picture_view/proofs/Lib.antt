@@ -1,3 +1,3 @@
-pub mod Escaping
+pub mod Pieces
 pub mod Ranges
 pub mod Refusals

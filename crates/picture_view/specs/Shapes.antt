@@ -4,7 +4,7 @@ use Rattle.lab_tables.specs.declared.input.LabInput.{LabInput}
 use Rattle.lab_tables.specs.declared.input.PeeringInput.{PeeringInput}
 use Rattle.lab_report.specs.Report.{router_name, peering_name}
 use Rattle.picture_view.specs.declared.plan.Change.{Change}
-use Rattle.picture_view.specs.declared.plan.Change.TheVariants.{Left, Landed, TurnedBack, CameBack, Cleared, Refused}
+use Rattle.picture_view.specs.declared.plan.Change.TheVariants.{Left, Landed, TurnedBack, CameBack, Refused}
 use Rattle.picture_view.specs.declared.plan.GraftPoint.{GraftPoint}
 use Rattle.picture_view.specs.declared.plan.Plan.{Plan}
 use Rattle.picture_view.specs.Elements.{escaped, colour, number_at, path_start, titled_end, plain_end, row_line}

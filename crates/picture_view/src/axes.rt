@@ -1,7 +1,7 @@
 //! The lanes of routers, the rounds and groups along, and the names.
 
-ghost use Rattle.std.specs.Prelude.{◌≡◌, ◌++◌, OnOk, string_bytes, codes};
-ghost use Rattle.std.specs.List.{flat_map, enumerate_from, range_with_len};
+ghost use Rattle.std.specs.Prelude.{◌≡◌, ◌++◌, OnOk, string_bytes};
+ghost use Rattle.std.specs.List.{flat_map, enumerate_from};
 ghost use Rattle.picture_view.specs.Axes.{rectangle, lane_shape, axis_words, round_shape, start_shape, row_name, lane_names, names_before};
 ghost use Rattle.picture_view.specs.Axes.{axes_text, names_text};
 

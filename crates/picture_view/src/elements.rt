@@ -1,7 +1,6 @@
 //! Elements of an SVG.
 
-ghost use Rattle.std.specs.Prelude.{◌≡◌, ◌++◌, OnOk, string_bytes, chars, codes, decimal};
-ghost use Rattle.std.specs.List.{flat_map};
+ghost use Rattle.std.specs.Prelude.{◌≡◌, ◌++◌, OnOk, string_bytes};
 ghost use Rattle.picture_view.specs.Elements.{escaped_char, escaped, text_start, text_at, number_at, colour, path_start, row_line, down_line};
 
 use graft_edge::NoMemory;

@@ -1,6 +1,6 @@
 //! What stands above the lanes, and below them.
 
-ghost use Rattle.std.specs.Prelude.{◌≡◌, ◌+◌, ◌++◌, ◌∷◌, [], IfOk, OnOk, length, filter, count_by, string_bytes};
+ghost use Rattle.std.specs.Prelude.{◌≡◌, ◌+◌, ◌++◌, ◌∷◌, [], IfOk, OnOk, length, filter, string_bytes};
 ghost use Rattle.std.specs.List.{flat_map, enumerate_from};
 ghost use Rattle.lab_report.specs.Report.{graft_line as graft_line_lem, end_line as end_line_lem};
 ghost use Rattle.lab_report.specs.Summary.{was_refused};
@@ -72,13 +72,6 @@ fn was_refused(graft: &GraftEntry) -> bool
     ensures { result ≡ was_refused graft.now }
 {
     matches!(&graft.stage, GraftStage::Ended(Outcome::Refused(_)))
-}
-
-/// How many grafts were refused.
-pub(crate) fn refused_in(log: &[GraftEntry]) -> usize
-    ensures { result ≡ count_by was_refused log.now }
-{
-    log.iter().filter(|graft| was_refused(*graft)).count()
 }
 
 /// Adds a graft, if it was refused, behind so many others, and returns how many there are then.

@@ -1,7 +1,7 @@
 //! A worked picture.
 
 ghost use Rattle.std.specs.Prelude.{◌≡◌, codes};
-ghost use Rattle.picture_view.specs.declared.plan.Change.TheVariants.{Left, TurnedBack, CameBack};
+ghost use Rattle.picture_view.specs.declared.plan.Change.TheVariants.{Left};
 ghost use Rattle.picture_view.specs.Elements.{escaped};
 ghost use Rattle.picture_view.specs.Positions.{point_x, end_x, graft_x, next_leave_x, row_y, bottom_y, width_of, height_of, arrives, is_back};
 ghost use Rattle.picture_view.specs.Shapes.{bow};
@@ -29,7 +29,6 @@ pub fn worked_rows()
 {}
 
 /// The way of the session to its target.
-#[tactic(auto, unfolding(crate::specs::Shapes::bow, crate::specs::Elements::path_start))]
 pub fn worked_bow()
     ensures { bow 0 468 168 548 216 ≡ codes "<path class='w c0' d='M468 168C508 168 508 216 548 216" }
 {}

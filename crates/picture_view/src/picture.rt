@@ -4,12 +4,12 @@ ghost use Rattle.std.specs.Prelude.{◌≡◌, ◌++◌, IfOk, OnOk, string_byte
 ghost use Rattle.picture_view.specs.Picture.{shapes_text, text_of, picture_text as picture_text_lem};
 
 use crate::axes::{push_axes, push_names};
-use crate::heads::{push_head, push_refused, refused_in};
+use crate::heads::{push_head, push_refused};
 use crate::plan::{Plan, plan_of};
 use crate::positions::{height_of, width_of};
 use crate::shapes::{push_all_kept, push_bows, push_first_stays, push_marks, push_stays};
 use graft_edge::{Items, NoMemory, Octets};
-use lab_report::Lab;
+use lab_report::{Lab, refused_in};
 use std::alloc::Global;
 
 /// Where sessions were.

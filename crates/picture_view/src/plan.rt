@@ -231,19 +231,27 @@ pub(crate) fn is_left(change: Change) -> bool
     matches!(change, Change::Left)
 }
 
-/// Whether a session of the peering left for the router.
+/// Whether a change is that a session of the peering left for the router.
 fn leaves_for(router: usize, peering: usize, point: &GraftPoint) -> bool
     ensures { result ≡ leaves_for router peering point.now }
 {
     is_left(point.change) && point.peering == peering && point.target == router
 }
 
+/// Whether a session of the peering left for the router.
+fn has_leave_for(points: &[GraftPoint], router: usize, peering: usize) -> bool
+    ensures { result ≡ list_any (leaves_for router peering) points.now }
+{
+    points
+        .iter()
+        .any(|point| leaves_for(router, peering, point))
+}
+
 /// Whether the session of a peering starts at the router or was sent there.
 fn comes_to(points: &[GraftPoint], router: usize, index: usize, peering: &PeeringInput) -> bool
     ensures { result ≡ comes_to points.now router (index, peering.now) }
 {
-    usize::from(peering.at.0) == router
-        || points.iter().any(|point| leaves_for(router, index, point))
+    usize::from(peering.at.0) == router || has_leave_for(points, router, index)
 }
 
 /// Adds the row of a peering, if it has one in the lane of the router.

@@ -1,13 +1,13 @@
 //! The shapes of sessions and grafts.
 
-ghost use Rattle.std.specs.Prelude.{◌≡◌, ◌++◌, OnOk, string_bytes, codes};
+ghost use Rattle.std.specs.Prelude.{◌≡◌, ◌++◌, OnOk, string_bytes};
 ghost use Rattle.std.specs.List.{flat_map, enumerate_from};
 ghost use Rattle.lab_report.specs.Report.{router_name as router_name_lem, peering_name as peering_name_lem};
 ghost use Rattle.picture_view.specs.declared.plan.Change.TheVariants.{Left, TurnedBack};
 ghost use Rattle.picture_view.specs.Elements.{titled_end};
 ghost use Rattle.picture_view.specs.Positions.{point_x as point_x_lem};
 ghost use Rattle.picture_view.specs.Shapes.{stay_title, graft_title, stay, first_stay, stay_from, kept_by, kept_from};
-ghost use Rattle.picture_view.specs.Shapes.{bow, bow_by, bow_from, graft_number, dot, cross, mark_by, mark_from};
+ghost use Rattle.picture_view.specs.Shapes.{bow, bow_by, bow_from, graft_number, dot, cross, mark_from};
 
 use crate::elements::{
     push_coloured_start, push_escaped, push_number_at, push_path_start, push_row_line,
@@ -38,8 +38,22 @@ pub(crate) fn peering_name(input: &LabInput, peering: usize) -> &str
     }
 }
 
+/// Which session is at which router.
+#[tactic(auto, unfolding(crate::specs::Shapes::stay_title))]
+fn push_stay_title(
+    text: &mut String,
+    input: &LabInput,
+    router: usize,
+    peering: usize,
+) -> Result<(), NoMemory>
+    ensures { OnOk result (string_bytes text.new ≡ string_bytes text.old ++ stay_title input.now router peering) }
+{
+    push_escaped(text, peering_name(input, peering))?;
+    text.push_str(" at ")?;
+    push_escaped(text, router_name(input, router))
+}
+
 /// The end of a path that says which session is at which router.
-#[tactic(auto, unfolding(crate::specs::Elements::titled_end, crate::specs::Shapes::stay_title))]
 fn push_stay_end(
     text: &mut String,
     input: &LabInput,
@@ -49,25 +63,31 @@ fn push_stay_end(
     ensures { OnOk result (string_bytes text.new ≡ string_bytes text.old ++ titled_end (stay_title input.now router peering)) }
 {
     text.push_str("'><title>")?;
-    push_escaped(text, peering_name(input, peering))?;
-    text.push_str(" at ")?;
-    push_escaped(text, router_name(input, router))?;
+    push_stay_title(text, input, router, peering)?;
     text.push_str("</title></path>\n")?;
     Ok(())
 }
 
-/// The end of a path that says which graft it is.
-#[tactic(auto, unfolding(crate::specs::Elements::titled_end, crate::specs::Shapes::graft_title))]
-fn push_graft_end(text: &mut String, input: &LabInput, point: &GraftPoint) -> Result<(), NoMemory>
-    ensures { OnOk result (string_bytes text.new ≡ string_bytes text.old ++ titled_end (graft_title input.now point.now)) }
+/// Which graft it is.
+#[tactic(auto, unfolding(crate::specs::Shapes::graft_title))]
+fn push_graft_title(text: &mut String, input: &LabInput, point: &GraftPoint) -> Result<(), NoMemory>
+    ensures { OnOk result (string_bytes text.new ≡ string_bytes text.old ++ graft_title input.now point.now) }
 {
     let graft = point.graft;
-    write!(text, "'><title>graft {graft} of ")?;
+    write!(text, "graft {graft} of ")?;
     push_escaped(text, peering_name(input, point.peering))?;
     text.push_str(" from ")?;
     push_escaped(text, router_name(input, point.source))?;
     text.push_str(" to ")?;
-    push_escaped(text, router_name(input, point.target))?;
+    push_escaped(text, router_name(input, point.target))
+}
+
+/// The end of a path that says which graft it is.
+fn push_graft_end(text: &mut String, input: &LabInput, point: &GraftPoint) -> Result<(), NoMemory>
+    ensures { OnOk result (string_bytes text.new ≡ string_bytes text.old ++ titled_end (graft_title input.now point.now)) }
+{
+    text.push_str("'><title>")?;
+    push_graft_title(text, input, point)?;
     text.push_str("</title></path>\n")?;
     Ok(())
 }

@@ -16,8 +16,8 @@ use std::alloc::Global;
 /// Pairs of indices: in their order, the two cells at each pair change places.
 pub(crate) type Swaps = Vec<(usize, usize)>;
 
-/// How much load each worker has to get at least, for the start of its thread to be worth its time: a
-/// thread is started in each round, and load is that of the last `ROUNDS` rounds.
+/// How many entries of the last round and waiting items each worker has to get at least, for the start of
+/// its thread to be worth its time: it takes about as long as the work of 64.
 const WORTH: u64 = 256;
 
 /// The number of last rounds whose loads say in which order actors are dealt.

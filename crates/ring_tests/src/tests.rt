@@ -148,9 +148,9 @@ impl Gate for Hold {
     }
 }
 
-/// Returns a toy that sends 100 items in its first turn, and one in the second.
+/// Returns a toy that sends 120 items in its first turn, and one in the second.
 fn busy_toy(next: usize) -> Toy {
-    let mut toy = make_toy(next, 100);
+    let mut toy = make_toy(next, 120);
     toy.then = 1;
     toy
 }
@@ -170,10 +170,10 @@ fn four(alloc: Global) -> Result<Net<Toy>, NoMemory> {
 /// the same phase. This holds in both directions.
 #[test]
 fn two_workers_hand_over(rt: HostRuntime) -> Result<(), Fail> {
-    for (held, other, until, events) in [(0usize, 1usize, 3usize, 503u64), (1, 0, 2, 703)] {
+    for (held, other, until, events) in [(0usize, 1usize, 3usize, 603u64), (1, 0, 2, 843)] {
         let mut net = four(rt.alloc())?;
         net.phase(&rt, 2, &FreeGate)?;
-        assert_eq!(rt; net.in_flight(1, 0), 200);
+        assert_eq!(rt; net.in_flight(1, 0), 240);
         let gate = make_hold(held, until);
         net.phase(&rt, 2, &gate)?;
         assert_eq!(rt; gate.missed.load(Ordering::SeqCst), 0);

@@ -10,7 +10,7 @@ ghost use Rattle.why_view.specs.Sources.{import_rules};
 ghost use Rattle.show_view.specs.Routes.{best_line, denying_rule as denying_rule_lem, import_line, kept_out_line};
 ghost use Rattle.show_view.specs.Routes.{let_in_line, route_line, route_start, route_words, rule_words};
 
-use bgp_types::{Attrs, Name, NoMemory, Prefix, Route, TryCopy};
+use bgp_types::{Name, NoMemory, Prefix, Route, SharedAttrs, TryCopy};
 use lab_report::{BestEntry, push_from};
 use lab_tables::{LabInput, PeeringInput};
 use message_words::push_attrs;
@@ -20,7 +20,7 @@ use std::fmt::Write;
 use why_view::{first_match, is_loop, name_or_dash, push_number};
 
 /// A prefix, and the attributes of its route.
-pub type AttrsEntry = (Prefix, Attrs);
+pub type AttrsEntry = (Prefix, SharedAttrs);
 
 /// Adds what is said of a route, the name of its router or peering, and its prefix.
 pub(crate) fn push_start(
@@ -118,7 +118,7 @@ pub fn let_in(
     remote_as: u32,
     policy: &Option<Policy>,
     prefix: Prefix,
-    heard: &Attrs,
+    heard: &SharedAttrs,
 ) -> Result<Option<Route>, NoMemory>
     ensures { (session : SessionRoute) → session.remote_as ≡ remote_as → session.import_rules ≡ policy.now
         → IfOk result (λ route. route ≡ imported input.now.home_as prefix session (Some heard.now)) }

@@ -5,13 +5,16 @@ ghost use Rattle.std.specs.List.{flat_map};
 ghost use Rattle.lab_tables.specs.declared.input.RouterInput.{RouterInput};
 ghost use Rattle.route_policy.specs.Rules.{holds_as as holds_as_lem};
 ghost use Rattle.route_policy.specs.Telling.{comes_from as comes_from_lem, exported, is_kept_back, out_side_of_view};
+ghost use Rattle.route_policy.specs.Telling.{without_med as without_med_lem};
 ghost use Rattle.show_view.specs.Routes.{route_line};
 ghost use Rattle.show_view.specs.Untold.{best_of as best_of_lem, if_exported as if_exported_lem, matching_rule as matching_rule_lem, out_side};
 ghost use Rattle.show_view.specs.Untold.{untold_line, untold_words, why_untold as why_untold_lem};
 
 use crate::routes::{push_rule, push_start};
 use adj_rib::AdjRib;
-use bgp_types::{AsPath, From, NoMemory, PeeringId, Prefix, Route, TryCopy, holds_as};
+use bgp_types::{
+    AsPath, Attrs, From, NoMemory, PeeringId, Prefix, Route, SharedAttrs, TryCopy, holds_as,
+};
 use lab_report::BestEntry;
 use lab_tables::{LabInput, PeeringInput};
 use route_policy::{Best, OutView, Policy, tell_out};
@@ -69,7 +72,20 @@ fn matching_rule(policy: Option<&Policy>, prefix: Prefix, route: &Route) -> Opti
     }
 }
 
-/// Whether the export policy denies a route. It gets the route without its MED, which isn't passed on from another AS (RFC 4271, section 5.1.4).
+/// Returns a route without its MED, which isn't passed on from another AS (RFC 4271, section 5.1.4).
+fn without_med(route: &Route) -> Result<Route, NoMemory>
+    ensures { IfOk result (λ plain. plain ≡ without_med_lem route.now) }
+{
+    let attrs: &Attrs = &route.attrs;
+    let mut attrs = attrs.copy()?;
+    attrs.med = None;
+    Ok(Route {
+        attrs: SharedAttrs::new(attrs)?,
+        pref: route.pref,
+    })
+}
+
+/// Whether the export policy denies a route. It gets the route without its MED.
 fn is_denied(
     home_as: u32,
     view: &OutView<'_>,
@@ -81,9 +97,11 @@ fn is_denied(
     let Some(policy) = view.export else {
         return Ok(false);
     };
-    let mut route = route.copy()?;
-    route.attrs.med = None;
-    Ok(policy.apply(prefix, route, home_as)?.is_none())
+    Ok(
+        policy
+            .apply(prefix, without_med(route)?, home_as)?
+            .is_none(),
+    )
 }
 
 /// Returns why a best route isn't told that neither came from the remote nor went through its AS.

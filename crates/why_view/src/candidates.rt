@@ -9,8 +9,8 @@ ghost use Rattle.why_view.specs.Winners.{ranks_of as ranks_of_lem};
 
 use crate::entries::{RouterEntry, SessionEntry};
 use bgp_types::{
-    AsPath, Attrs, From, Items, NoMemory, Origin, Prefix, Rank, RawAttrs, Route, SharedAttrs, TryCopy,
-    holds_as,
+    AsPath, Attrs, From, Items, NoMemory, Origin, Prefix, Rank, RawAttrs, Route, SharedAttrs,
+    TryCopy, holds_as,
 };
 use route_policy::{Best, PREFERENCE, own_rank, router_rank, session_rank};
 use std::alloc::Global;

@@ -13,7 +13,7 @@ use crate::candidates::{Candidate, imported, ranks_of};
 use crate::entries::SessionEntry;
 use crate::rules::{DecisionRule, goes_at};
 use bgp_types::{
-    Address, Attrs, From, Name, NoMemory, PeeringId, Prefix, Rank, Route, TryCopy, holds_as,
+    Address, From, Name, NoMemory, PeeringId, Prefix, Rank, Route, SharedAttrs, TryCopy, holds_as,
 };
 use decision_core::best;
 use lab_report::{push_from, push_path, yes_or_no};
@@ -212,7 +212,7 @@ fn push_heard(
     text: &mut String,
     input: &LabInput,
     session: &SessionEntry,
-    heard: &Attrs,
+    heard: &SharedAttrs,
 ) -> Result<(), NoMemory>
     ensures { OnOk result (string_bytes text.new ≡ string_bytes text.old ++ heard_words input.now session.now heard.now) }
 {
@@ -226,7 +226,7 @@ fn push_looped(
     text: &mut String,
     input: &LabInput,
     session: &SessionEntry,
-    heard: &Attrs,
+    heard: &SharedAttrs,
 ) -> Result<(), NoMemory>
     ensures { OnOk result (string_bytes text.new ≡ string_bytes text.old ++ looped_line input.now session.now heard.now) }
 {
@@ -240,7 +240,7 @@ fn push_looped(
 pub fn first_match(
     policy: &Policy,
     prefix: Prefix,
-    heard: &Attrs,
+    heard: &SharedAttrs,
 ) -> Result<Option<usize>, NoMemory>
     ensures { IfOk result (λ index. index ≡ first_match_lem policy.now prefix heard.now) }
 {
@@ -255,7 +255,7 @@ pub fn first_match(
 pub fn matching(
     prefix: Prefix,
     session: &SessionEntry,
-    heard: &Attrs,
+    heard: &SharedAttrs,
 ) -> Result<Option<usize>, NoMemory>
     ensures { IfOk result (λ index. index ≡ matching_lem prefix session.now heard.now) }
 {
@@ -302,7 +302,7 @@ fn push_denial(
     input: &LabInput,
     prefix: Prefix,
     session: &SessionEntry,
-    heard: &Attrs,
+    heard: &SharedAttrs,
 ) -> Result<(), NoMemory>
     ensures { OnOk result (string_bytes text.new ≡ string_bytes text.old ++ denial_words input.now prefix session.now heard.now) }
 {
@@ -320,7 +320,7 @@ fn push_denied(
     input: &LabInput,
     prefix: Prefix,
     session: &SessionEntry,
-    heard: &Attrs,
+    heard: &SharedAttrs,
 ) -> Result<(), NoMemory>
     ensures { OnOk result (string_bytes text.new ≡ string_bytes text.old ++ denied_line input.now prefix session.now heard.now) }
 {
@@ -332,7 +332,7 @@ fn push_denied(
 }
 
 /// Returns whether a path has the home AS, which is a loop (RFC 4271, section 9.1.2).
-pub fn is_loop(input: &LabInput, heard: &Attrs) -> bool
+pub fn is_loop(input: &LabInput, heard: &SharedAttrs) -> bool
     ensures { result ≡ holds_as_lem heard.now.path input.now.home_as }
 {
     holds_as(&heard.path, input.home_as)
@@ -344,7 +344,7 @@ fn push_kept_out(
     input: &LabInput,
     prefix: Prefix,
     session: &SessionEntry,
-    heard: &Attrs,
+    heard: &SharedAttrs,
 ) -> Result<(), NoMemory>
     ensures { OnOk result (string_bytes text.new ≡ string_bytes text.old ++ excluded_line input.now prefix session.now (Some heard.now) None) }
 {
@@ -360,7 +360,7 @@ fn push_unless_in(
     input: &LabInput,
     prefix: Prefix,
     session: &SessionEntry,
-    heard: &Attrs,
+    heard: &SharedAttrs,
     route: &Option<Route>,
 ) -> Result<(), NoMemory>
     ensures { OnOk result (string_bytes text.new ≡ string_bytes text.old ++ excluded_line input.now prefix session.now (Some heard.now) route.now) }

@@ -11,8 +11,7 @@ returns-clause-text c =
     let failed = c.in_ok-failed.failed in
     let lines = flat_map (expectation_line lab) (enumerate_from 0 c.as_slice-expects.result.now) in
     c.in_ok-push_counts.ensures
-    ∙ ap (λ t. t ++ counts_line c.len.result failed) (c.in_ok-failed.ensures.text ∙ ap (λ t. t ++ lines) c.new-text.ensures)
-    ∙ ap (λ n. lines ++ counts_line n failed) c.len.ensures
+    ∙ ap (λ t. t ++ counts_line (length c.as_slice-expects.result.now) failed) (c.in_ok-failed.ensures.text ∙ ap (λ t. t ++ lines) c.new-text.ensures.bytes)
     ∙ ap (λ n. lines ++ counts_line (length c.as_slice-expects.result.now) n) c.in_ok-failed.ensures.failed
     ∙ ap (λ es. flat_map (expectation_line lab) (enumerate_from 0 es) ++ counts_line (length es) (count_by (λ e. not (holds lab e)) es))
     c.as_slice-expects.ensures

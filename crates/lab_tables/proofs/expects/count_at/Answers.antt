@@ -4,4 +4,4 @@ use Rattle.toml.specs.View.{view}
 use Rattle.lab_tables.proofs.expects.count_at.Goals as goal
 
 pub returns-in-Some : goal.returns-in-Some
-returns-in-Some c = c.len.ensures ∙ sym (length-map c.in-Some.values.now view) ∙ ap length c.in-Some.ensures
+returns-in-Some c = sym (length-map c.in-Some.values.now view) ∙ ap length c.in-Some.ensures

@@ -16,6 +16,6 @@ loop-step-preserved c =
     let step = c.step-item.result in
     let so_far = sum_by f (take i steps) in
     let more : sum_by f (take (i + 1) steps) ≡ so_far + f step = sum_by_more f steps i step (omega arith) ∙ ap (λ x. so_far + f x) (sym c.step-item.is) in
-    let here : c.min.result ≡ min (f step) 4294967295 = omega (arith, c.min.ensures, c.grafts_of.ensures) in
+    let here : c.min-more.result ≡ min (f step) 4294967295 = omega (arith, c.min-more.ensures, c.grafts_of.ensures) in
     capped so_far (f step) _ _ _ c.loop-step.invariant here c.saturating_add-most.ensures
     ∙ ap (min 4294967295) (sym more)

@@ -1,9 +1,8 @@
-use Rattle.std.proofs.Common.{ap, subst, sym, ◌∙◌}
+use Rattle.std.proofs.Common.{subst, ◌∙◌, refl}
 use Rattle.std.specs.Prelude.{Ok}
-use Rattle.lab_input.specs.Labs.{input_of}
 use Rattle.lab_words.specs.declared.job.Job.TheVariants.{Drill}
 use Rattle.lab_top.specs.Cases.{BuiltOr}
-use Rattle.lab_top.proofs.Parts.{drill_stopped, unbuilt_ends, run_ends}
+use Rattle.lab_top.proofs.Parts.{drill_stopped, drill_unbuilt, run_ends}
 use Rattle.lab_top.proofs.jobs.drill_job.Goals as goal
 
 pub returns-in-Err : goal.returns-in-Err
@@ -17,10 +16,10 @@ returns-in-Some g c left faults =
     let made = c.deref.ensures ∙ c.in_ok-bytes.ensures in
     let told = c.as_bytes.ensures.value ∙ c.in_ok-text-in-Some.ensures in
     run_ends (Drill c.args.seed c.args.workers) _ _ c.deref.result.now c.in-Ok.input c.in-Some.lab
-    c.as_bytes.result.now c.end_run.result tt made c.in-Ok.ensures built told c.end_run.ensures
+    c.as_bytes.result.now _ c.end_run.result tt made c.in-Ok.ensures built told refl c.end_run.ensures
 
 pub returns : goal.returns
 returns g c left faults =
     let built = subst (λ found. BuiltOr c.in-Ok.input (Ok found)) c.in-None.is c.in_ok-lab.ensures in
-    let made = ap input_of (sym (c.deref.ensures ∙ c.in_ok-bytes.ensures)) ∙ c.in-Ok.ensures in
-    unbuilt_ends (Drill c.args.seed c.args.workers) _ _ c.in-Ok.input c.end_unbuilt.result tt made built c.end_unbuilt.ensures
+    drill_unbuilt _ _ c.args.seed c.args.workers c.deref.result.now c.in-Ok.input c.end_unbuilt.result
+    (c.deref.ensures ∙ c.in_ok-bytes.ensures) c.in-Ok.ensures built c.end_unbuilt.ensures

@@ -1,4 +1,4 @@
-use Rattle.std.proofs.Common.{subst, sym}
+use Rattle.std.proofs.Common.{subst, sym, refl}
 use Rattle.std.specs.Prelude.{Ok}
 use Rattle.lab_words.specs.declared.job.Job.TheVariants.{Run}
 use Rattle.lab_report.specs.Traces.{IsReport}
@@ -15,10 +15,10 @@ pub returns-in_ok-text-in-Some : goal.returns-in_ok-text-in-Some
 returns-in_ok-text-in-Some g c =
     let built = subst (λ found. BuiltOr c.in-Ok.input (Ok found)) c.in-Some.is c.in_ok-lab.ensures in
     let told = subst (IsReport c.in-Some.lab) (sym c.as_bytes.ensures.value) c.in_ok-text-in-Some.ensures in
-    read_ends (Run c.args.workers) _ _ c.in-Ok.input c.in-Some.lab c.as_bytes.result.now c.end_run.result tt tt c.in-Ok.ensures built (λ bytes. told)
-    c.end_run.ensures
+    read_ends (Run c.args.workers) _ _ c.in-Ok.input c.in-Some.lab c.as_bytes.result.now _ c.end_run.result tt tt c.in-Ok.ensures built (λ bytes. told)
+    refl c.end_run.ensures
 
 pub returns-in-None : goal.returns-in-None
 returns-in-None g c =
     let built = subst (λ found. BuiltOr c.in-Ok.input (Ok found)) c.in-None.is c.in_ok-lab.ensures in
-    unbuilt_ends (Run c.args.workers) _ _ c.in-Ok.input c.end_unbuilt.result tt c.in-Ok.ensures built c.end_unbuilt.ensures
+    unbuilt_ends (Run c.args.workers) _ _ c.in-Ok.input c.end_unbuilt.result tt tt c.in-Ok.ensures built c.end_unbuilt.ensures

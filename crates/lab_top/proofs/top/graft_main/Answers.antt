@@ -1,5 +1,6 @@
 use Rattle.lab_top.proofs.Facts.{statuses, usage_told, refused_words, made_told, line_told, checked_told, bad_input, bad_unwritten, read_failed}
-use Rattle.lab_top.proofs.Facts.{write_failed, nothing_written, run_ended, no_run, ran, input_taken, drilled, headline, reported, summed, journaled, viewed}
+use Rattle.lab_top.proofs.Facts.{write_failed, nothing_written, failed, run_ended, no_run, ran, input_taken, drilled, headline}
+use Rattle.lab_top.proofs.Facts.{reported, summed, journaled, tested, viewed}
 use Rattle.lab_top.proofs.top.graft_main.Goals as goal
 
 pub returns-clause-statuses : goal.returns-clause-statuses
@@ -35,6 +36,9 @@ returns-clause-write_failed g c = write_failed _ _ _ _ _ c.finish_of.ensures.end
 pub returns-clause-nothing_written : goal.returns-clause-nothing_written
 returns-clause-nothing_written g c = nothing_written _ _ _ _ _ c.finish_of.ensures.ended
 
+pub returns-clause-failed : goal.returns-clause-failed
+returns-clause-failed g c = failed _ _ _ _ _ c.finish_of.ensures.ended
+
 pub returns-clause-ended : goal.returns-clause-ended
 returns-clause-ended g c = run_ended _ _ _ _ _ c.finish_of.ensures.ended
 
@@ -61,6 +65,9 @@ returns-clause-summed g c = summed _ _ _ _ _ c.finish_of.ensures.ended
 
 pub returns-clause-journaled : goal.returns-clause-journaled
 returns-clause-journaled g c = journaled _ _ _ _ _ c.finish_of.ensures.ended
+
+pub returns-clause-tested : goal.returns-clause-tested
+returns-clause-tested g c = tested _ _ _ _ _ c.finish_of.ensures.ended
 
 pub returns-clause-viewed : goal.returns-clause-viewed
 returns-clause-viewed g c = viewed _ _ _ _ _ c.finish_of.ensures.ended

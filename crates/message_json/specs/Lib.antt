@@ -1,2 +1,0 @@
-pub mod Attrs
-pub mod Messages

@@ -1,9 +1,0 @@
-//! Messages of BGP as JSON: what an OPEN offers, which prefixes an UPDATE withdraws and announces and with which attributes, what a NOTIFICATION
-//! tells, and what a session finds in octets that it reads.
-#![tactic(auto)]
-
-mod attrs;
-mod messages;
-
-pub use attrs::attrs_value;
-pub use messages::{message_value, notice_value, octets_value, prefixes_value, read_value};

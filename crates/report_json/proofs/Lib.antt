@@ -1,4 +1,0 @@
-pub mod NoFloats
-pub mod Forms
-pub mod Walked
-pub mod Listed
