@@ -3,8 +3,8 @@
 ghost use Rattle.std.specs.Prelude.{◌≡◌, ◌++◌, IfOk, OnOk, string_bytes, option_map, codes};
 ghost use Rattle.near_names.specs.Nearness.{nearest as nearest_lem};
 ghost use Rattle.lab_hints.specs.Wanted.{name_words};
-ghost use Rattle.lab_hints.specs.Later.{all_names as all_names_lem, meant_words, unnamed_words, unknown_words, repeated_words, said_words, grafts_words, settles_words};
-ghost use Rattle.lab_hints.specs.Later.{prefixes_words, count_words, later_words};
+ghost use Rattle.lab_hints.specs.Later.{all_names as all_names_lem, meant_words, unnamed_words, unknown_words, repeated_words, said_words};
+ghost use Rattle.lab_hints.specs.Later.{grafts_words, settles_words, prefixes_words, count_words, later_words};
 
 use crate::crowd::push_sessions;
 use crate::names::{all_names, is_peering, is_policy, is_router};

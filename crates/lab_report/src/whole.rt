@@ -9,7 +9,7 @@ use crate::traces::push_traces;
 use graft_edge::NoMemory;
 use std::alloc::Global;
 
-/// The report of a run: how it ended, each router's best routes, the index and tables of each peering's session, how each graft ended,
+/// The report of a run: how it ended, each router's best routes, the place and tables of each peering's session, how each graft ended,
 /// and where packets go to the addresses of the input.
 pub fn report(alloc: Global, lab: &Lab) -> Result<String, NoMemory>
     ensures { IfOk result (λ text. IsReport lab.now (string_bytes text)) }

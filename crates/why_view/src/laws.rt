@@ -30,6 +30,6 @@ pub fn what_a_rule_leaves_out_goes_there()
 /// A router that holds three sessions has a candidate from one of them and one from another router. The route of the second session is
 /// denied by its import policy, and that of the third has the home AS in its path. Two further sessions, one that another router holds and
 /// one on its way, have no line.
-pub fn worked_candidates()
+pub fn worked_why()
     ensures { why_text worked_lab 0 ten ≡ worked_text }
 {}

@@ -15,7 +15,7 @@ pub use candidates::{Candidate, candidates_of, imported, ranks_of};
 pub use entries::{RouterEntry, SessionEntry};
 pub use laws::{
     rules_are_the_nine, the_winner_is_the_best, what_a_rule_leaves_out_goes_there,
-    what_goes_nowhere_is_left, worked_candidates,
+    what_goes_nowhere_is_left, worked_why,
 };
 pub use lines::{
     first_match, is_index, is_loop, matching, name_or_dash, origin_name, push_number, winner,

@@ -5,4 +5,5 @@ use Rattle.lab_hints.proofs.stray.push_names.Goals as goal
 
 pub returns : goal.returns
 returns c =
-    IfOk-equal c.push_listed.result _ _ _ c.push_listed.ensures (joined (string_bytes c.args.text.now) _ (codes "; the keys are") _ c.in_ok-push_str.ensures.bytes)
+    IfOk-equal c.push_listed.result _ _ _ c.push_listed.ensures
+    (joined (string_bytes c.args.text.now) _ (codes "; the keys are") _ c.in_ok-push_str.ensures.bytes)

@@ -10,5 +10,6 @@ returns c =
     let array = heading_front c.args.at in
     behind start _ _ (front ++ array ++ c.args.key.now) (codes "]]")
     (behind start _ _ (front ++ array) c.args.key.now
-    (behind start _ _ front array c.in_ok-push_str.ensures.bytes (c.in_ok-push_str-2.ensures.bytes ∙ ap (λ t. string_bytes c.push_str.new.self ++ t) c.heading_front.ensures))
+    (behind start _ _ front array c.in_ok-push_str.ensures.bytes
+    (c.in_ok-push_str-2.ensures.bytes ∙ ap (λ t. string_bytes c.push_str.new.self ++ t) c.heading_front.ensures))
     c.in_ok-push_str-3.ensures.bytes) c.in_ok-push_str-4.ensures.bytes

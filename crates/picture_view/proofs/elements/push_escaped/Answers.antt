@@ -16,5 +16,6 @@ loop-character-preserved c =
 pub returns : goal.returns
 unfolding escaped
 returns c =
-    let all = YieldsList-end (YieldsList-from_chars c.args.words.now c.utf8.words cc) c.loop-character.yielded _ c.loop-character.yielded_by _ _ c.in-None.is c.next.ensures.steps in
+    let from = YieldsList-from_chars c.args.words.now c.utf8.words cc in
+    let all = YieldsList-end from c.loop-character.yielded _ c.loop-character.yielded_by _ _ c.in-None.is c.next.ensures.steps in
     c.loop-character.invariant ∙ ap (λ (l : List ℕ). string_bytes c.args.text.now ++ flat_map escaped_char l) (sym (map-id c.loop-character.yielded) ∙ all.0)

@@ -16,8 +16,8 @@ returns-clause-routes c =
     c.in_ok-withdraw_all.ensures.routes ∙ ap (λ (r : Routes). apply r u) c.self.view_is in
     elim c.match-update.branch [
       | in-Some+in_ok-announce w ↦
-          let end : w.announce.new.routes.contents ≡ fold (announce (Some w.in-Some.attrs)) c.withdraw_all.new.routes.contents u.nlri = w.in_ok-announce.ensures.routes
-          ∙ ap (fold (announce (Some w.in-Some.attrs)) c.withdraw_all.new.routes.contents) w.as_slice.ensures in
+          let end : w.announce.new.routes.contents ≡ fold (announce (Some w.in-Some.attrs)) c.withdraw_all.new.routes.contents u.nlri =
+          w.in_ok-announce.ensures.routes ∙ ap (fold (announce (Some w.in-Some.attrs)) c.withdraw_all.new.routes.contents) w.as_slice.ensures in
           w.self-is ∙ applied_some old c.withdraw_all.new.routes.contents u left w.in-Some.attrs w.in-Some.is w.announce.new.routes.contents end
       | in_default w ↦ w.self-is ∙ applied_none old c.withdraw_all.new.routes.contents u left w.in_default.is
     ]

@@ -1,5 +1,5 @@
 use Rattle.why_view.proofs.Worked.{why_is}
-use Rattle.why_view.proofs.laws.worked_candidates.Goals as goal
+use Rattle.why_view.proofs.laws.worked_why.Goals as goal
 
 pub returns : goal.returns
 returns c = why_is
