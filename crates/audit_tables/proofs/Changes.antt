@@ -37,7 +37,7 @@ module _ (t u : Tables) (k : TablesInvariant t) (p : ℕ) where
   -- ---- what is due
 
   module _ (same : u ≡ record t { due_out = u.due_out; pending = u.pending }) (sizes : length u.due_out ≡ length t.due_out) (due : Prefixes)
-      (put : table_at u.due_out ≡ at (table_at t.due_out) p due) (forgets : u.pending.items ≡ slice_set t.pending.items p None) where
+      (put : table_at u.due_out ≡ at (table_at t.due_out) p due) (o : Option Pending) (holds : u.pending.items ≡ slice_set t.pending.items p o) where
     pub due_is : due_at u p ≡ due
     due_is = ap (λ (d : ℕ → Prefixes). d p) put ∙ at_own (table_at t.due_out) p due
 
@@ -47,13 +47,13 @@ module _ (t u : Tables) (k : TablesInvariant t) (p : ℕ) where
           ∙ ap (λ (d : ℕ → Prefixes). let part : RouterPart = record (part_with places t) { due_out = d } in part)
           (at_is (table_at t.due_out) (table_at u.due_out) p (due_at u p) refl
           (λ q not. ap (λ (d : ℕ → Prefixes). d q) put ∙ at_else (table_at t.due_out) p due q not));
-      others = λ q not. ap (λ (xs : List (Option Pending)). slice_get xs q) forgets ∙ get_set_other t.pending.items p q None not;
+      others = λ q not. ap (λ (xs : List (Option Pending)). slice_get xs q) holds ∙ get_set_other t.pending.items p q o not;
       keeps = keeps_then t u k
           (subst (λ (x : Tables). x ≡ record t { rib = x.rib; due_in = x.due_in; due_out = x.due_out; pending = x.pending }) (sym same) refl)
           (record {
             due_in = ap (λ (x : Tables). length x.due_in) same;
             due_out = sizes;
-            pending = ap length forgets ∙ length_set t.pending.items p None;
+            pending = ap length holds ∙ length_set t.pending.items p o;
             config = ap (λ (x : Tables). x.rib.config) same;
             behind = λ x. subst (λ (y : Tables). NoneBehind (peerings_in t.known.setup) (routers_in t.known.setup) (rib_of y.rib) x) (sym same) (k.none_behind x);
           });

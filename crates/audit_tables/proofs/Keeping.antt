@@ -1,5 +1,5 @@
 -- What is kept where a router's tables change.
-use Rattle.std.proofs.Common.{◌≡◌, ℕ, List, length, None, refl, sym, ap, ◌∙◌, subst}
+use Rattle.std.proofs.Common.{◌≡◌, ℕ, List, length, Option, Some, None, refl, sym, ap, ◌∙◌, subst}
 use Rattle.bgp_types.specs.Prefixes.{PrefixValue}
 use Rattle.graft_model.specs.Setups.{peerings_in, routers_in}
 use Rattle.graft_model.specs.Parts.{Place, RouterPart}
@@ -15,6 +15,12 @@ use Rattle.audit_tables.specs.Changes.{KeepsTables}
 use Rattle.audit_tables.specs.Decides.{DecidesTables}
 use Rattle.audit_tables.specs.Parts.{TablesInvariant, part_with}
 use Rattle.audit_tables.specs.declared.tables.Tables.{Tables}
+
+pub no_some : {A : Type 0} (o : Option A) (x : A) → o ≡ None → o ≡ Some x → ⊥
+no_some o x none some = let e : ◌≡◌ {A = Option A} None (Some x) = sym none ∙ some in cc
+
+pub one_some : {A : Type 0} (x y : A) → ◌≡◌ {A = Option A} (Some x) (Some y) → x ≡ y
+one_some x y e = cc
 
 -- all but the routes, what is due and what is known to be to tell is as it was
 abbrev pub IsSteady : Tables → Tables → Type 0

@@ -2,3 +2,9 @@ mod Keeping
 mod Deciding
 mod Tellings
 mod Changes
+mod Listings
+mod Grouping
+mod Alike
+mod Finding
+mod Emptied
+mod Dropping

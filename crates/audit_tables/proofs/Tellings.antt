@@ -31,10 +31,7 @@ use Rattle.audit_tables.specs.Decides.{DecidesTables, DecidesTablesTaking}
 use Rattle.audit_tables.specs.Dues.{is_telling}
 use Rattle.audit_tables.specs.Parts.{TablesInvariant, part_with}
 use Rattle.audit_tables.specs.declared.tables.Tables.{Tables}
-use Rattle.audit_tables.proofs.Keeping.{keeps_itself, keeps_then, refused}
-
-no_some : {A : Type 0} (o : Option A) (x : A) → o ≡ None → o ≡ Some x → ⊥
-no_some o x none some = let e : None ≡ Some x = sym none ∙ some in cc
+use Rattle.audit_tables.proofs.Keeping.{keeps_itself, keeps_then, no_some, refused}
 
 -- ---- another router is told
 

@@ -115,23 +115,23 @@ both_true false b e f = e
 
 module _ (due then_due dirty : Prefixes) (adj_rib_out : Routes) (to_tell : PrefixValue → Option Attrs) (wide : Bool) (batch : Batch)
     (less_due : (x : PrefixValue) → has then_due x ≡ (has due x && not (list_any (same_prefix x) batch.prefixes))) where
-  abbrev Left : PrefixValue → Type 0
+  abbrev pub Left : PrefixValue → Type 0
   Left x = Without (λ y. IsPrefixToTell due dirty adj_rib_out to_tell y) batch.prefixes x
 
-  abbrev Then : PrefixValue → Type 0
+  abbrev pub Then : PrefixValue → Type 0
   Then x = IsPrefixToTell then_due dirty (apply adj_rib_out (update_for batch.attrs batch.prefixes)) to_tell x
 
-  forth : (x : PrefixValue) → Left x → Then x
-  forth x h = (
+  pub left_then : (x : PrefixValue) → Left x → Then x
+  left_then x h = (
     (less_due x ∙ both_true (has due x) (list_any (same_prefix x) batch.prefixes) h.0.0.0 h.1, h.0.0.1),
     λ e. h.0.1 (sym (value_of_other batch.attrs batch.prefixes adj_rib_out x h.1) ∙ e),
   )
 
-  back : (x : PrefixValue) → Then x → Left x
-  back x h =
+  pub then_left : (x : PrefixValue) → Then x → Left x
+  then_left x h =
       let b = both (has due x) (list_any (same_prefix x) batch.prefixes) (sym (less_due x) ∙ h.0.0) in
       (((b.0, h.0.1), λ e. h.1 (value_of_other batch.attrs batch.prefixes adj_rib_out x b.1 ∙ e)), b.1)
 
   pub rest : (batches : List Batch) → IsPlan (λ y. IsPrefixToTell due dirty adj_rib_out to_tell y) to_tell wide (batch ∷ batches)
       → IsPlan Then to_tell wide batches
-  rest batches plan = plan_of_same to_tell wide Left Then forth back batches plan.1
+  rest batches plan = plan_of_same to_tell wide Left Then left_then then_left batches plan.1
