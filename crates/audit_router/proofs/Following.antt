@@ -1,11 +1,14 @@
 -- How a router's tables follow a session that read a message, or on which a round has passed.
-use Rattle.std.proofs.Common.{◌≡◌, ◌≢◌, ℕ, List, [], true, false, Option, refl, sym, ap, ◌∙◌, subst, ◌⊎◌}
+use Rattle.std.proofs.Common.{◌≡◌, ◌≢◌, ℕ, ◌<◌, List, [], length, true, false, Option, Some, None, refl, sym, ap, ◌∙◌, subst, ◌⊎◌, inl, inr}
+use Rattle.std.specs.Prelude.{slice_set}
+use Rattle.std.proofs.lemmas.List.{length-set}
 use Rattle.std.specs.FinMap as map
 use Rattle.std.specs.List.{list_any}
 use Rattle.bgp_types.specs.Prefixes.{PrefixValue, same_prefix}
 use Rattle.bgp_session.specs.declared.answers.ReadStep.{ReadStep}
 use Rattle.bgp_session.specs.declared.answers.ReadStep.TheVariants.{Opened, Established, Changed, Closed}
 use Rattle.route_policy.specs.declared.entry.Entry.{Entry}
+use Rattle.rib_stages.specs.Choosing.{NoneBehind}
 use Rattle.rib_stages.specs.Values.{rib_of}
 use Rattle.session_value.specs.Sessions.{SessionValue, state}
 use Rattle.session_value.specs.Sets.{BestRoutes, Entries, Marks, Prefixes}
@@ -13,20 +16,21 @@ use Rattle.graft_model.specs.Decisions.{entry_of}
 use Rattle.graft_model.specs.Parts.{Place, RouterPart, Vacant}
 use Rattle.graft_model.specs.Points.{at}
 use Rattle.graft_model.specs.RouterRows.{DueThen}
+use Rattle.graft_model.specs.Setups.{peerings_in, routers_in}
 use Rattle.router_tables.specs.Dues.{IsDueBest}
 use Rattle.router_tables.specs.Entering.{entry_here}
 use Rattle.router_tables.specs.Reads.{DueBy, prefixes_in}
 use Rattle.router_tables.proofs.EnterSteps.{enters_none, entry_at}
 use Rattle.router_tables.proofs.Points.{at_is}
 use Rattle.audit_tables.specs.Changes.{ChangesDue, EntersHere, KeepsTables}
-use Rattle.audit_tables.specs.Parts.{TablesInvariant, due_at, entries_at, part_with}
+use Rattle.audit_tables.specs.Parts.{IsForgotten, NothingIsKnown, TablesInvariant, due_at, entries_at, part_with, pending_at}
+use Rattle.audit_tables.specs.declared.pending.Pending.{Pending}
 use Rattle.audit_tables.specs.declared.tables.Tables.{Tables}
+use Rattle.audit_tables.proofs.Changes.{forgotten, get_set_other}
+use Rattle.audit_tables.proofs.Keeping.{keeps_then}
 use Rattle.audit_router.specs.Followed.{FollowsIn}
 
 -- ---- what is kept
-
-pub keeps_itself : (t : Tables) → TablesInvariant t → KeepsTables t t
-keeps_itself t k = record { setup = refl; number = refl; sound = k }
 
 pub keeps_more : (t u v : Tables) → KeepsTables t u → KeepsTables u v → KeepsTables t v
 keeps_more t u v one other = record { setup = other.setup ∙ one.setup; number = other.number ∙ one.number; sound = other.sound }
@@ -53,29 +57,44 @@ pub record IsFollowed (step : ReadStep) (p : ℕ) (session : SessionValue) (old 
     due_out = at (part_with places old).due_out p (due_at new p);
   }
   pub keeps : KeepsTables old new
+  pub forgets : IsForgotten p new
+  pub peerings : NothingIsKnown new ⊎ ((q : ℕ) → q ≢ p → pending_at new q ≡ pending_at old q)
 
 module _ (old : Tables) (k : TablesInvariant old) (p : ℕ) (session : SessionValue) where
   -- what the session brings in, as the laboratory has it
   brings : (x : PrefixValue) → entry_here old.home_as old.policies session x ≡ entry_of old.known.setup old.number.0 session x
   brings x = entry_at old.known.setup old.number.0 old.home_as old.policies session x k.home_as k.policies
 
-  pub opened : IsFollowed Opened p session old old
-  opened = record {
+  pub opened : (new : Tables) → p < length old.pending.items
+      → new ≡ record old { pending = record old.pending { items = slice_set old.pending.items p None } } → IsFollowed Opened p session old new
+  opened new there same = record {
     each = λ x e. absurd (let b : ⊥ = cc in b);
-    others = λ x e. refl;
-    dirty = (enters_none (rib_of old.rib) p (entry_here old.home_as old.policies session)).dirty;
-    due = refl;
-    effect = λ places i. record (part_with places old) {
-      entries = itself_at (part_with places old).entries p (entries_at old p) refl i;
-      dirty = old.rib.dirty;
-      due_out = itself_at (part_with places old).due_out p (due_at old p) refl i;
-    };
-    keeps = keeps_itself old k;
+    others = λ x e. ap (λ (t : Tables). map.get (entries_at t p) x) same;
+    dirty = subst (λ (t : Tables). Marks old.rib.dirty (entries_at old p) (entries_at t p) t.rib.dirty) (sym same)
+        (enters_none (rib_of old.rib) p (entry_here old.home_as old.policies session)).dirty;
+    due = ap (λ (t : Tables). due_at t p) same;
+    effect = λ places. ap (part_with places) same ∙ (λ i. record (part_with places old) {
+      entries = itself_at (part_with places old).entries p (entries_at new p) (sym (ap (λ (t : Tables). entries_at t p) same)) i;
+      dirty = ap (λ (t : Tables). t.rib.dirty) (sym same) i;
+      due_out = itself_at (part_with places old).due_out p (due_at new p) (sym (ap (λ (t : Tables). due_at t p) same)) i;
+    });
+    keeps = keeps_then old new k
+        (subst (λ (x : Tables). x ≡ record old { rib = x.rib; due_in = x.due_in; due_out = x.due_out; pending = x.pending }) (sym same) refl)
+        (record {
+          due_in = ap (λ (x : Tables). length x.due_in) same;
+          due_out = ap (λ (x : Tables). length x.due_out) same;
+          pending = ap (λ (x : Tables). length x.pending.items) same ∙ length-set old.pending.items p None;
+          config = ap (λ (x : Tables). x.rib.config) same;
+          behind = λ x. subst (λ (t : Tables). NoneBehind (peerings_in old.known.setup) (routers_in old.known.setup) (rib_of t.rib) x) (sym same)
+              (k.none_behind x);
+        });
+    forgets = forgotten old new p there (ap (λ (x : Tables). x.pending.items) same);
+    peerings = inr (λ q not. ap (λ (x : Tables). pending_at x q) same ∙ get_set_other old.pending.items p q None not);
   }
 
   module _ (new : Tables) where
-    pub established : IsDueBest old.rib.best (due_at new p) → ChangesDue p old new → IsFollowed Established p session old new
-    established due changes = record {
+    pub established : IsDueBest old.rib.best (due_at new p) → ChangesDue p old new → IsForgotten p new → IsFollowed Established p session old new
+    established due changes forgets = record {
       each = λ x e. absurd (let b : ⊥ = cc in b);
       others = λ x e. ap (λ (es : Entries). map.get es x) entries;
       dirty = subst (λ (d : Prefixes). Marks old.rib.dirty (entries_at old p) (entries_at new p) d) (sym dirty)
@@ -88,6 +107,8 @@ module _ (old : Tables) (k : TablesInvariant old) (p : ℕ) (session : SessionVa
         due_out = at (part_with places old).due_out p (due_at new p);
       });
       keeps = changes.keeps;
+      forgets = forgets;
+      peerings = inr changes.others;
     }
       where
         entries : entries_at new p ≡ entries_at old p
@@ -109,6 +130,8 @@ module _ (old : Tables) (k : TablesInvariant old) (p : ℕ) (session : SessionVa
         due_out = itself_at (part_with places old).due_out p (due_at new p) (sym due) i;
       });
       keeps = enters.changes.keeps;
+      forgets = enters.changes.unknown.none p;
+      peerings = inl enters.changes.unknown;
     }
       where
         due : due_at new p ≡ due_at old p
@@ -133,6 +156,8 @@ module _ (old : Tables) (k : TablesInvariant old) (p : ℕ) (session : SessionVa
         due_out = at (part_with places old).due_out p (sym due i);
       });
       keeps = keeps_more old mid new clears.keeps enters.changes.keeps;
+      forgets = enters.changes.unknown.none p;
+      peerings = inl enters.changes.unknown;
     }
       where
         entries : entries_at mid p ≡ entries_at old p
@@ -166,4 +191,6 @@ follows step p s u old new hears lets followed = record {
   due = lets old.rib.best (due_at old p) (due_at new p) followed.due;
   effect = followed.effect;
   keeps = followed.keeps;
+  forgets = followed.forgets;
+  others = followed.peerings;
 }

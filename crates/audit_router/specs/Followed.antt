@@ -1,5 +1,5 @@
 -- How a router follows its sessions.
-use Rattle.std.specs.Prelude.{ℕ, ◌≡◌, ◌≤◌, ◌<◌, Bool, MatchBool}
+use Rattle.std.specs.Prelude.{ℕ, ◌≡◌, ◌≢◌, ◌⊎◌, ◌≤◌, ◌<◌, Bool, MatchBool}
 use Rattle.bgp_types.specs.Prefixes.{PrefixValue}
 use Rattle.bgp_types.specs.declared.message.SessionState.TheVariants.{Established}
 use Rattle.bgp_types.specs.declared.message.Update.{Update}
@@ -15,7 +15,7 @@ use Rattle.graft_model.specs.Points.{at}
 use Rattle.graft_model.specs.Parts.{Place}
 use Rattle.graft_model.specs.RouterRows.{DueThen, FollowsHeard}
 use Rattle.audit_tables.specs.Changes.{KeepsTables}
-use Rattle.audit_tables.specs.Parts.{part_with, entries_at, due_at}
+use Rattle.audit_tables.specs.Parts.{IsForgotten, NothingIsKnown, part_with, entries_at, due_at, pending_at}
 use Rattle.audit_tables.specs.declared.tables.Tables.{Tables}
 
 -- The tables follow a session of this peering that changed by itself.
@@ -29,6 +29,9 @@ pub record FollowsIn (p : ℕ) (before next : SessionValue) (old new : Tables) :
     due_out = at (part_with places old).due_out p (due_at new p);
   }
   pub keeps : KeepsTables old new
+  -- what was known to be to tell on the peering isn't any more, and of the others all stays known, or nothing
+  pub forgets : IsForgotten p new
+  pub others : NothingIsKnown new ⊎ ((q : ℕ) → q ≢ p → pending_at new q ≡ pending_at old q)
 
 -- an UPDATE may be offered to a session
 pub record CanOffer (session : SessionValue) (update : Update) : Type 0 where

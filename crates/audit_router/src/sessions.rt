@@ -58,7 +58,10 @@ fn follow(tables: &mut Tables, p: usize, session: &Session, step: ReadStep) -> R
         → OnOk result (FollowsIn p before session.now.session tables.old tables.new) }
 {
     match step {
-        ReadStep::Opened => Ok(()),
+        ReadStep::Opened => {
+            tables.forget(p);
+            Ok(())
+        }
         ReadStep::Established => tables.set_due_best(p),
         ReadStep::Changed(prefixes) => tables.enter(session, prefixes.as_slice()),
         ReadStep::Closed(prefixes) => {

@@ -1,5 +1,5 @@
 -- What is due on a peering changes, or what it gives.
-use Rattle.std.proofs.Common.{◌≡◌, ◌≢◌, ℕ, zero, suc, ◌<◌, ◌≤◌, List, [], ◌∷◌, length, Option, None, refl, sym, ap, ◌∙◌, subst, ◌⊎◌, inl, inr, arith}
+use Rattle.std.proofs.Common.{◌≡◌, ◌≢◌, ℕ, zero, suc, ◌<◌, ◌≤◌, List, [], ◌∷◌, length, Option, Some, None, refl, sym, ap, ◌∙◌, subst, ◌⊎◌, inl, inr, arith}
 use Rattle.std.specs.Prelude.{slice_get, slice_set}
 use Rattle.std.specs.FinMap as map
 use Rattle.bgp_types.specs.Prefixes.{PrefixValue}
@@ -16,22 +16,34 @@ use Rattle.graft_model.specs.Setups.{peerings_in, routers_in}
 use Rattle.router_tables.specs.Entering.{EntersAll}
 use Rattle.router_tables.proofs.Points.{at_else, at_is, at_own, one_or_other}
 use Rattle.audit_tables.specs.Changes.{ChangesDue, ChangesEntries, EntersHere}
-use Rattle.audit_tables.specs.Parts.{NothingIsKnown, TablesInvariant, due_at, entries_at, part_with}
+use Rattle.audit_tables.specs.Parts.{IsForgotten, NothingIsKnown, TablesInvariant, due_at, entries_at, part_with}
 use Rattle.audit_tables.specs.declared.pending.Pending.{Pending}
 use Rattle.audit_tables.specs.declared.tables.Tables.{Tables}
 use Rattle.audit_tables.proofs.Keeping.{keeps_then}
 
-get_set_other : {A : Type 0} (xs : List A) (i j : ℕ) (x : A) → j ≢ i → slice_get (slice_set xs i x) j ≡ slice_get xs j
+pub get_set_other : {A : Type 0} (xs : List A) (i j : ℕ) (x : A) → j ≢ i → slice_get (slice_set xs i x) j ≡ slice_get xs j
 get_set_other [] i j x not = refl
 get_set_other (y ∷ xs) zero zero x not = absurd (not refl)
 get_set_other (y ∷ xs) zero (suc j) x not = refl
 get_set_other (y ∷ xs) (suc i) zero x not = refl
 get_set_other (y ∷ xs) (suc i) (suc j) x not = get_set_other xs i j x (λ e. not (ap suc e))
 
+pub get_set_here : {A : Type 0} (xs : List A) (i : ℕ) (x : A) → i < length xs → slice_get (slice_set xs i x) i ≡ Some x
+get_set_here [] i x below = absurd (omega (arith, below))
+get_set_here (y ∷ xs) zero x below = refl
+get_set_here (y ∷ xs) (suc i) x below = get_set_here xs i x (omega (arith, below))
+
 length_set : {A : Type 0} (xs : List A) (i : ℕ) (x : A) → length (slice_set xs i x) ≡ length xs
 length_set [] i x = refl
 length_set (y ∷ xs) zero x = refl
 length_set (y ∷ xs) (suc i) x = ap suc (length_set xs i x)
+
+-- what was known of a peering is forgotten
+pub forgotten : (t u : Tables) (p : ℕ) → p < length t.pending.items → u.pending.items ≡ slice_set t.pending.items p None → IsForgotten p u
+forgotten t u p there holds pending e =
+    let none : ◌≡◌ {A = Option (Option Pending)} (Some None) (Some (Some pending)) =
+    sym (ap (λ (xs : List (Option Pending)). slice_get xs p) holds ∙ get_set_here t.pending.items p None there) ∙ e in
+    let f : ⊥ = cc in f
 
 module _ (t u : Tables) (k : TablesInvariant t) (p : ℕ) where
   -- ---- what is due

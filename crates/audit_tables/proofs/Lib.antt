@@ -1,7 +1,7 @@
-mod Keeping
+pub mod Keeping
 mod Deciding
 mod Tellings
-mod Changes
+pub mod Changes
 mod Listings
 mod Grouping
 mod Alike

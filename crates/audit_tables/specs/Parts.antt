@@ -53,9 +53,13 @@ pub record TablesInvariant (t : Tables) : Type 0 where
 abbrev pub pending_at : Tables → ℕ → Option (Option Pending)
 pending_at t p = slice_get t.pending.items p
 
+-- nothing is known of a peering
+abbrev pub IsForgotten : ℕ → Tables → Type 0
+IsForgotten p t = (pending : Pending) → ¬ (pending_at t p ≡ Some (Some pending))
+
 -- nothing is known of any peering
 pub record NothingIsKnown (t : Tables) : Type 0 where
-  pub none : (p : ℕ) (pending : Pending) → ¬ (pending_at t p ≡ Some (Some pending))
+  pub none : (p : ℕ) → IsForgotten p t
 
 -- What is known to be to tell on a peering, whose live session this is, are all the prefixes that are.
 abbrev pub KnowsWhatToTell : Tables → (ℕ → Place) → ℕ → SessionValue → Type 0

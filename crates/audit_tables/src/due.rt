@@ -8,7 +8,7 @@ ghost use Rattle.graft_model.specs.Setups.{peerings_in};
 ghost use Rattle.router_tables.specs.Dues.{IsDueAgain, IsDueBest};
 ghost use Rattle.rib_stages.specs.Values.{table_at};
 ghost use Rattle.audit_tables.specs.Changes.{ChangesDue};
-ghost use Rattle.audit_tables.specs.Parts.{NothingIsLeft, TablesInvariant, due_at};
+ghost use Rattle.audit_tables.specs.Parts.{IsForgotten, NothingIsLeft, TablesInvariant, due_at};
 
 use crate::tables::Tables;
 use bgp_session::Session;
@@ -22,6 +22,7 @@ impl Tables {
         requires there { p < peerings_in self.old.known.setup }
         ensures due { OnOk result (IsDueBest self.old.rib.best (due_at self.new p)) }
         ensures changes { OnOk result (ChangesDue p self.old self.new) }
+        ensures forgets { OnOk result (IsForgotten p self.new) }
     {
         let due = all_best(self.alloc, &self.rib)?;
         self.due_out.put(p, due);
@@ -35,6 +36,7 @@ impl Tables {
         requires there { p < peerings_in self.old.known.setup }
         ensures due { OnOk result (IsDueAgain session.now.session.adj_rib_out self.old.rib.best (due_at self.new p)) }
         ensures changes { OnOk result (ChangesDue p self.old self.new) }
+        ensures forgets { OnOk result (IsForgotten p self.new) }
     {
         let due = due_again(self.alloc, &self.rib, session)?;
         self.due_out.put(p, due);
@@ -48,6 +50,7 @@ impl Tables {
         requires there { p < peerings_in self.old.known.setup }
         ensures due { due_at self.new p ≡ map.empty }
         ensures changes { ChangesDue p self.old self.new }
+        ensures forgets { IsForgotten p self.new }
     {
         self.due_out.clear(p);
         self.forget(p);

@@ -12,7 +12,7 @@ ghost use Rattle.graft_model.specs.Decisions.{to_tell};
 ghost use Rattle.graft_model.specs.RouterRows.{IsToTell, WaitsOnPeering};
 ghost use Rattle.audit_tables.specs.Changes.{ChangesDue, KeepsTables, PutsFirstAlike};
 ghost use Rattle.audit_tables.specs.Groups.{AreFirstAlike, AreGroups};
-ghost use Rattle.audit_tables.specs.Parts.{TablesInvariant, KnowsWhatToTell, due_at, part_with, pending_at};
+ghost use Rattle.audit_tables.specs.Parts.{TablesInvariant, IsForgotten, KnowsWhatToTell, due_at, part_with, pending_at};
 
 use crate::pending::Pending;
 use crate::tables::Tables;
@@ -128,6 +128,7 @@ impl Tables {
         requires there { p < peerings_in self.old.known.setup }
         ensures due { OnOk result (Drops (due_at self.old p) (λ x. not (has self.old.rib.dirty x)) (due_at self.new p)) }
         ensures changes { OnOk result (ChangesDue p self.old self.new) }
+        ensures forgets { OnOk result (IsForgotten p self.new) }
     {
         for prefix in self.due_out.set(p).prefixes()?.iter() {
             if !self.rib.is_dirty(*prefix) {

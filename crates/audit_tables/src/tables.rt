@@ -92,7 +92,7 @@ impl Tables {
     }
 
     /// Forgets what is to be told on a peering.
-    pub(crate) fn forget(&mut self, p: usize)
+    pub fn forget(&mut self, p: usize)
         requires { p < length self.old.pending.items }
         ensures { self.new ≡ record self.old { pending = record self.old.pending { items = slice_set self.old.pending.items p None } } }
     {
