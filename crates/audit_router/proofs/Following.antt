@@ -24,7 +24,6 @@ use Rattle.router_tables.proofs.EnterSteps.{enters_none, entry_at}
 use Rattle.router_tables.proofs.Points.{at_is}
 use Rattle.audit_tables.specs.Changes.{ChangesDue, EntersHere, KeepsTables}
 use Rattle.audit_tables.specs.Parts.{IsForgotten, NothingIsKnown, TablesInvariant, due_at, entries_at, part_with, pending_at}
-use Rattle.audit_tables.specs.declared.pending.Pending.{Pending}
 use Rattle.audit_tables.specs.declared.tables.Tables.{Tables}
 use Rattle.audit_tables.proofs.Changes.{forgotten, get_set_other}
 use Rattle.audit_tables.proofs.Keeping.{keeps_then}
@@ -58,7 +57,7 @@ pub record IsFollowed (step : ReadStep) (p : ℕ) (session : SessionValue) (old 
   }
   pub keeps : KeepsTables old new
   pub forgets : IsForgotten p new
-  pub peerings : NothingIsKnown new ⊎ ((q : ℕ) → q ≢ p → pending_at new q ≡ pending_at old q)
+  pub peerings : NothingIsKnown new ⊎ ((new.rib.dirty ≡ old.rib.dirty) × ((q : ℕ) → q ≢ p → pending_at new q ≡ pending_at old q))
 
 module _ (old : Tables) (k : TablesInvariant old) (p : ℕ) (session : SessionValue) where
   -- what the session brings in, as the laboratory has it
@@ -89,7 +88,10 @@ module _ (old : Tables) (k : TablesInvariant old) (p : ℕ) (session : SessionVa
               (k.none_behind x);
         });
     forgets = forgotten old new p there (ap (λ (x : Tables). x.pending.items) same);
-    peerings = inr (λ q not. ap (λ (x : Tables). pending_at x q) same ∙ get_set_other old.pending.items p q None not);
+    peerings = inr (
+      ap (λ (x : Tables). x.rib.dirty) same,
+      λ q not. ap (λ (x : Tables). pending_at x q) same ∙ get_set_other old.pending.items p q None not,
+    );
   }
 
   module _ (new : Tables) where
@@ -108,7 +110,7 @@ module _ (old : Tables) (k : TablesInvariant old) (p : ℕ) (session : SessionVa
       });
       keeps = changes.keeps;
       forgets = forgets;
-      peerings = inr changes.others;
+      peerings = inr (dirty, changes.others);
     }
       where
         entries : entries_at new p ≡ entries_at old p

@@ -1,22 +1,25 @@
 -- What is kept when a router decides an event.
-use Rattle.std.proofs.Common.{◌≡◌, ◌≢◌, ℕ, ◌<◌, ◌≤◌, List, [], ◌∷◌, length, Option, Some, None, true, false, is_some, ◌⊎◌, inl, inr, refl, sym, ap, ◌∙◌, subst, arith}
-use Rattle.std.specs.Prelude.{slice_get, slice_set}
+use Rattle.std.proofs.Common.{◌≡◌, ◌≢◌, ℕ, ◌<◌, ◌≤◌, List, [], ◌∷◌, length, Option, Some, None, ◌⊎◌, inl, inr, refl, sym, ap, ◌∙◌, subst, arith}
+use Rattle.std.specs.Prelude.{slice_set}
 use Rattle.std.specs.FinMap as map
 use Rattle.std.proofs.lemmas.List.{get_or-set_same, get_or-set_other, length-set}
 use Rattle.bgp_types.specs.Prefixes.{PrefixValue}
 use Rattle.bgp_types.specs.declared.attrs.Attrs.{Attrs}
 use Rattle.bgp_types.specs.declared.message.SessionState.TheVariants.{Established}
+use Rattle.bgp_story.specs.Readings.{Routes}
 use Rattle.bgp_session.specs.Running.{RunningSession, carried}
+use Rattle.session_value.specs.declared.config.SessionConfig.{SessionConfig}
 use Rattle.session_value.specs.Sessions.{SessionValue, state}
-use Rattle.session_value.specs.Sets.{BestRoutes, Prefixes, has}
+use Rattle.session_value.specs.Sets.{BestRoutes, Prefixes}
 use Rattle.route_policy.specs.Telling.{tell_out}
-use Rattle.rib_stages.specs.Values.{rib_of, table_at}
+use Rattle.rib_stages.specs.Values.{table_at}
+use Rattle.update_plan.specs.ToTell.{IsPrefixToTell}
 use Rattle.graft_steps.specs.declared.order.GraftIds.{GraftIds}
-use Rattle.graft_model.specs.Decisions.{out_side, to_tell}
+use Rattle.graft_model.specs.Decisions.{out_side}
 use Rattle.graft_model.specs.Points.{at}
 use Rattle.graft_model.specs.Setups.{Setup, peerings_in, room_of}
 use Rattle.graft_model.specs.Parts as model
-use Rattle.graft_model.specs.RouterRows.{IsToTell, RouterSent, RouterTaken}
+use Rattle.graft_model.specs.RouterRows.{RouterSent, RouterTaken}
 use Rattle.graft_model.specs.Steps.{router_row}
 use Rattle.graft_model.specs.declared.event.RouterEvent.{RouterEvent}
 use Rattle.graft_actors.specs.Actors.{ActorName, Router, Thing, IsActor, actor_at}
@@ -30,10 +33,10 @@ use Rattle.audit_ruling.specs.declared.ruling.Ruling.{Ruling}
 use Rattle.audit_ruling.specs.declared.ruling.Ruling.TheVariants.{Refused, Silent, Sends}
 use Rattle.audit_tables.specs.Changes.{ChangesDue, ChangesEntries, KeepsTables}
 use Rattle.audit_tables.specs.Groups.{AreGroups, GroupTable}
-use Rattle.audit_tables.specs.Parts.{KnowsWhatToTell, NothingIsKnown, TablesInvariant, entries_at, part_with, pending_at}
-use Rattle.audit_tables.specs.declared.pending.Pending.{Pending}
+use Rattle.audit_tables.specs.Parts.{IsForgotten, KnowsWhatToTell, NothingIsKnown, TablesInvariant, entries_at, part_with, pending_at}
 use Rattle.audit_tables.specs.declared.tables.Tables.{Tables}
 use Rattle.audit_router.specs.Decides.{Decides, DecidesTaking, KeepsRouter}
+use Rattle.audit_router.specs.Followed.{FollowsIn}
 use Rattle.audit_router.specs.Parts.{IsErrandOf, KeepsPlace, RouterInvariant, places_of, router_part, setup_of_router}
 use Rattle.audit_router.specs.Places.{place_at, place_of}
 use Rattle.audit_router.specs.declared.place.Errand.{Errand}
@@ -41,7 +44,7 @@ use Rattle.audit_router.specs.declared.place.Place.{Place}
 use Rattle.audit_router.specs.declared.place.Place.TheVariants.{Vacant, Live, Frozen, Shadow}
 use Rattle.audit_router.specs.declared.router.AuditedRouter.{AuditedRouter}
 
-nowhere : ℕ → model.Place
+pub nowhere : ℕ → model.Place
 nowhere p = model.Vacant
 
 -- ---- what a place requires of the tables
@@ -75,11 +78,11 @@ keeps_here r k p x is = subst (KeepsPlaceIn r.tables p) is (keeps_at r k p)
 
 module _ (t u : Tables) (keeps : KeepsTables t u) (q : ℕ) (entries : HasNoEntry (entries_at t q) → HasNoEntry (entries_at u q))
     (knows : (s : SessionValue) → KnowsWhatToTell t nowhere q s → KnowsWhatToTell u nowhere q s) where
-  errand_on : (errand : Option Errand) → IsErrandOf t.known.setup t.number.0 q errand → IsErrandOf u.known.setup u.number.0 q errand
+  pub errand_on : (errand : Option Errand) → IsErrandOf t.known.setup t.number.0 q errand → IsErrandOf u.known.setup u.number.0 q errand
   errand_on errand h = subst (λ (setup : Setup). IsErrandOf setup u.number.0 q errand) (sym keeps.setup)
       (subst (λ n. IsErrandOf t.known.setup n q errand) (sym (ap (λ x. x.0) keeps.number)) h)
 
-  peering_on : (s : SessionValue) → IsOfPeering t.known.setup q s → IsOfPeering u.known.setup q s
+  pub peering_on : (s : SessionValue) → IsOfPeering t.known.setup q s → IsOfPeering u.known.setup q s
   peering_on s h = subst (λ (setup : Setup). IsOfPeering setup q s) (sym keeps.setup) h
 
   pub stays_in : (x : Place) → KeepsPlaceIn t q x → KeepsPlaceIn u q x
@@ -94,24 +97,21 @@ module _ (t u : Tables) (keeps : KeepsTables t u) (q : ℕ) (entries : HasNoEntr
   stays_in (Shadow graft) h = h
 
 -- what is to be told, of the parts that it goes by
-abbrev tells_by : Setup → ℕ → BestRoutes → SessionValue → PrefixValue → Option Attrs
-tells_by setup r best s x = tell_out setup.home_as (out_side setup r s.config) x (map.get best x)
+abbrev tells_with : Setup → ℕ → BestRoutes → SessionConfig → PrefixValue → Option Attrs
+tells_with setup r best config x = tell_out setup.home_as (out_side setup r config) x (map.get best x)
+
+abbrev Known : Prefixes → Prefixes → Routes → (PrefixValue → Option Attrs) → GroupTable → Type 0
+Known due dirty told tells groups = AreGroups (IsPrefixToTell due dirty told tells) tells groups
 
 -- where nothing changed by which it goes
 pub knows_on : (t u : Tables) → KeepsTables t u → (q : ℕ) → pending_at u q ≡ pending_at t q → table_at u.due_out q ≡ table_at t.due_out q
     → u.rib.dirty ≡ t.rib.dirty → u.rib.best ≡ t.rib.best → (s : SessionValue) → KnowsWhatToTell t nowhere q s → KnowsWhatToTell u nowhere q s
-knows_on t u keeps q pending due dirty best s knows found is = subst (λ (f : PrefixValue → Option Attrs). AreGroups
-    (λ x. ((has (table_at u.due_out q) x ≡ true) × (has u.rib.dirty x ≡ false))
-    × (map.get s.adj_rib_out x ≢ f x)) f found.groups.contents)
-    (λ i. tells_by (sym keeps.setup i) (sym keeps.number i).0 (sym best i) s)
-    (subst (λ (d : Prefixes). AreGroups
-    (λ x. ((has d x ≡ true) × (has u.rib.dirty x ≡ false))
-    × (map.get s.adj_rib_out x ≢ to_tell t.known.setup t.number.0 (part_with nowhere t) s x)) (to_tell t.known.setup t.number.0 (part_with nowhere t) s)
-    found.groups.contents) (sym due)
-    (subst (λ (d : Prefixes). AreGroups
-    (λ x. ((has (table_at t.due_out q) x ≡ true) × (has d x ≡ false))
-    × (map.get s.adj_rib_out x ≢ to_tell t.known.setup t.number.0 (part_with nowhere t) s x)) (to_tell t.known.setup t.number.0 (part_with nowhere t) s)
-    found.groups.contents) (sym dirty) (knows found (sym pending ∙ is))))
+knows_on t u keeps q pending due dirty best s knows found is =
+    let tells : PrefixValue → Option Attrs = tells_with t.known.setup t.number.0 t.rib.best s.config in
+    subst (λ (f : PrefixValue → Option Attrs). Known (table_at u.due_out q) u.rib.dirty s.adj_rib_out f found.groups.contents)
+    (λ i. tells_with (sym keeps.setup i) (sym keeps.number i).0 (sym best i) s.config)
+    (subst (λ (d : Prefixes). Known d u.rib.dirty s.adj_rib_out tells found.groups.contents) (sym due)
+    (subst (λ (d : Prefixes). Known (table_at t.due_out q) d s.adj_rib_out tells found.groups.contents) (sym dirty) (knows found (sym pending ∙ is))))
 
 -- where nothing is known any more
 pub knows_nothing : (u : Tables) → NothingIsKnown u → (q : ℕ) (s : SessionValue) → KnowsWhatToTell u nowhere q s
@@ -135,6 +135,48 @@ module _ (p : ℕ) (t u : Tables) (changes : ChangesEntries p t u) where
   stays_by_entries q not = stays_in t u changes.keeps q
       (subst HasNoEntry (sym (ap (λ (part : model.RouterPart). part.entries q) (changes.effect nowhere)
       ∙ at_else (part_with nowhere t).entries p (entries_at u p) q not))) (λ s h. knows_nothing u changes.unknown q s)
+
+-- ---- the session at a place changes
+
+pub of_config : (setup : Setup) (p : ℕ) (s u : SessionValue) → u.config ≡ s.config → IsOfPeering setup p s → IsOfPeering setup p u
+of_config setup p s u config of = record {
+  peering = ap (λ (c : SessionConfig). c.peering.0) config ∙ of.peering;
+  sends = ap (λ (c : SessionConfig). c.send_first.0) config ∙ of.sends;
+  receives = ap (λ (c : SessionConfig). c.receive_first.0) config ∙ of.receives;
+}
+
+-- by its endpoint alone
+pub same_told : (t : Tables) (p : ℕ) (s u : RunningSession) (errand : Option Errand) → u.session.config ≡ s.session.config
+    → u.session.adj_rib_out ≡ s.session.adj_rib_out → KeepsPlaceIn t p (Live s errand) → KeepsPlaceIn t p (Live u errand)
+same_told t p s u errand config told h = (
+  of_config t.known.setup p s.session u.session config h.0,
+  h.1,
+  λ found is. subst (λ (routes : Routes). Known (table_at t.due_out p) t.rib.dirty routes
+      (tells_with t.known.setup t.number.0 t.rib.best u.session.config) found.groups.contents) (sym told)
+      (subst (λ (c : SessionConfig). Known (table_at t.due_out p) t.rib.dirty s.session.adj_rib_out
+      (tells_with t.known.setup t.number.0 t.rib.best c) found.groups.contents) (sym config) (h.2 found is)),
+)
+
+-- and the tables follow it
+pub live_then : (t u : Tables) (p : ℕ) (s next : RunningSession) (errand : Option Errand) → KeepsTables t u → next.session.config ≡ s.session.config
+    → IsForgotten p u → KeepsPlaceIn t p (Live s errand) → KeepsPlaceIn u p (Live next errand)
+live_then t u p s next errand keeps config forgets h = (
+  subst (λ (setup : Setup). IsOfPeering setup p next.session) (sym keeps.setup) (of_config t.known.setup p s.session next.session config h.0),
+  errand_on t u keeps p errand h.1,
+  λ found is. absurd (forgets found is),
+)
+
+module _ (p : ℕ) (s next : SessionValue) (t u : Tables) (follows : FollowsIn p s next t u) where
+  pub stays_by_follow : (q : ℕ) → q ≢ p → (x : Place) → KeepsPlaceIn t q x → KeepsPlaceIn u q x
+  stays_by_follow q not = stays_in t u follows.keeps q
+      (subst HasNoEntry (sym (ap (λ (part : model.RouterPart). part.entries q) (follows.effect nowhere)
+      ∙ at_else (part_with nowhere t).entries p (entries_at u p) q not)))
+      (λ v h. elim follows.others [
+        | inl unknown ↦ knows_nothing u unknown q v
+        | inr others ↦ knows_on t u follows.keeps q (others.1 q not)
+            (ap (λ (part : model.RouterPart). part.due_out q) (follows.effect nowhere) ∙ at_else (table_at t.due_out) p (table_at u.due_out p) q not)
+            others.0 (ap (λ (part : model.RouterPart). part.best) (follows.effect nowhere)) v h
+      ])
 
 -- ---- a router
 
@@ -161,6 +203,9 @@ tables_still t u k same = subst (KeepsTables t) (sym same) (record { setup = ref
 
 pub keeps_itself : (r : AuditedRouter) → RouterInvariant r → KeepsRouter r r
 keeps_itself r k = record { setup = refl; number = refl; sound = k }
+
+pub place_itself : (r : AuditedRouter) (p : ℕ) (x : Place) → place_at r.places.items p ≡ x → places_of r ≡ at (places_of r) p (place_of x)
+place_itself r p x is = at_is (places_of r) (places_of r) p (place_of x) (ap place_of is) (λ q not. refl)
 
 -- ---- another content of one place
 

@@ -29,9 +29,9 @@ pub record FollowsIn (p : ℕ) (before next : SessionValue) (old new : Tables) :
     due_out = at (part_with places old).due_out p (due_at new p);
   }
   pub keeps : KeepsTables old new
-  -- what was known to be to tell on the peering isn't any more, and of the others all stays known, or nothing
+  -- What was known to be to tell on the peering is forgotten; that of the others too, unless no prefix became dirty.
   pub forgets : IsForgotten p new
-  pub others : NothingIsKnown new ⊎ ((q : ℕ) → q ≢ p → pending_at new q ≡ pending_at old q)
+  pub others : NothingIsKnown new ⊎ ((new.rib.dirty ≡ old.rib.dirty) × ((q : ℕ) → q ≢ p → pending_at new q ≡ pending_at old q))
 
 -- an UPDATE may be offered to a session
 pub record CanOffer (session : SessionValue) (update : Update) : Type 0 where

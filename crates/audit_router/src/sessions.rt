@@ -1,6 +1,7 @@
 //! Events on sessions: messages, segments and rounds (RFC 4271, sections 6, 8.2.2 and 9.2; RFC 9293, section 3.4).
 
-ghost use Rattle.std.specs.Prelude.{ℕ, ◌≡◌, ◌<◌, ◌↔◌, IsTrue, IfOk, OnOk, List};
+ghost use Rattle.std.specs.Prelude.{ℕ, ◌≡◌, ◌<◌, ◌↔◌, All, IsTrue, IfOk, OnOk, List};
+ghost use Rattle.bgp_types.specs.Prefixes.{IsPrefix};
 ghost use Rattle.bgp_session.specs.Steps.{TellsRead};
 ghost use Rattle.session_value.specs.Sessions.{SessionValue};
 ghost use Rattle.session_value.specs.Cases.{GetsFrame};
@@ -43,8 +44,12 @@ fn offer(session: &mut Session, update: Update) -> Result<bool, NoMemory>
 
 /// Returns whether a batch can be written as one message, in the session's width of AS numbers.
 fn is_message(batch: &Batch, wide: bool) -> bool
-    ensures { IsTrue result ↔ IsMessage wide batch.now }
+    ensures is { IsTrue result ↔ IsMessage wide batch.now }
+    ensures sound { All IsPrefix batch.now.prefixes }
 {
+    for prefix in batch.prefixes.iter() {
+        prove!(prefix.len() <= 32);
+    }
     batch.octets(wide) <= MOST_OCTETS && batch.is_writable()
 }
 

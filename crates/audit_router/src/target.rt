@@ -6,6 +6,7 @@ ghost use Rattle.session_value.specs.declared.config.SessionConfig.{SessionConfi
 ghost use Rattle.graft_steps.specs.Refusals.{admit_refusal};
 ghost use Rattle.graft_model.specs.Setups.{routers_in, peerings_in, missing_policy, room_of};
 ghost use Rattle.graft_model.specs.GraftRows.{taken_in};
+ghost use Rattle.graft_model.specs.Parts.{Vacant};
 ghost use Rattle.graft_model.specs.declared.event.RouterEvent.TheVariants.{Land, TurnBack, Ask, Answer, Collect, Confirm};
 ghost use Rattle.graft_actors.specs.Actors.{Router};
 ghost use Rattle.router_tables.specs.Owned.{IsOfPeering};
@@ -66,6 +67,7 @@ impl AuditedRouter {
         requires there { q.0 < routers_in (setup_of_router self.old) }
         requires place { session.session.config.peering.0 < peerings_in (setup_of_router self.old) }
         requires own { IsOfPeering (setup_of_router self.old) session.session.config.peering.0 session.session }
+        requires vacant { (router_part self.old).places session.session.config.peering.0 ≡ Vacant }
         ensures place { IfOk result (λ p. p ≡ session.session.config.peering.0) }
         ensures settled { OnOk result (SettlesIn q.0 graft session self.old self.new) }
     {

@@ -1,6 +1,6 @@
 //! A router's tables.
 
-ghost use Rattle.std.specs.Prelude.{ℕ, ◌≡◌, ◌<◌, ◌≤◌, None, IfOk, length, slice_set};
+ghost use Rattle.std.specs.Prelude.{ℕ, ◌≡◌, ◌<◌, ◌≤◌, None, IfOk, length, replicate, slice_set};
 ghost use Rattle.session_value.specs.Sets.{has};
 ghost use Rattle.graft_model.specs.First.{first_router};
 ghost use Rattle.graft_model.specs.Parts.{Place};
@@ -34,6 +34,17 @@ pub struct Tables {
     pub(crate) due_out: DueSets,
     /// What is to be told on each peering, where it was found and nothing has changed it since.
     pub(crate) pending: Vec<Option<Pending>>,
+}
+
+/// Returns for each of `count` peerings that it isn't known what is to be told there.
+fn nothing_known(alloc: Global, count: usize) -> Result<Vec<Option<Pending>>, NoMemory>
+    ensures { IfOk result (λ pending. pending.items ≡ replicate count None) }
+{
+    let mut pending = Vec::new(alloc);
+    for _p in 0..count {
+        pending.push(None)?;
+    }
+    Ok(pending)
 }
 
 impl Tables {
@@ -76,7 +87,7 @@ impl Tables {
             rib: Rib::new(alloc, config)?,
             due_in: DueSets::new(alloc, routers as usize)?,
             due_out: DueSets::new(alloc, peerings)?,
-            pending: vec![in alloc; None; peerings]?,
+            pending: nothing_known(alloc, peerings)?,
         })
     }
 
