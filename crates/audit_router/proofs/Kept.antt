@@ -76,8 +76,7 @@ keeps_here r k p x is = subst (KeepsPlaceIn r.tables p) is (keeps_at r k p)
 
 -- ---- tables that change, where a place keeps what it requires of them
 
-module _ (t u : Tables) (keeps : KeepsTables t u) (q : ℕ) (entries : HasNoEntry (entries_at t q) → HasNoEntry (entries_at u q))
-    (knows : (s : SessionValue) → KnowsWhatToTell t nowhere q s → KnowsWhatToTell u nowhere q s) where
+module _ (t u : Tables) (keeps : KeepsTables t u) (q : ℕ) where
   pub errand_on : (errand : Option Errand) → IsErrandOf t.known.setup t.number.0 q errand → IsErrandOf u.known.setup u.number.0 q errand
   errand_on errand h = subst (λ (setup : Setup). IsErrandOf setup u.number.0 q errand) (sym keeps.setup)
       (subst (λ n. IsErrandOf t.known.setup n q errand) (sym (ap (λ x. x.0) keeps.number)) h)
@@ -85,16 +84,17 @@ module _ (t u : Tables) (keeps : KeepsTables t u) (q : ℕ) (entries : HasNoEntr
   pub peering_on : (s : SessionValue) → IsOfPeering t.known.setup q s → IsOfPeering u.known.setup q s
   peering_on s h = subst (λ (setup : Setup). IsOfPeering setup q s) (sym keeps.setup) h
 
-  pub stays_in : (x : Place) → KeepsPlaceIn t q x → KeepsPlaceIn u q x
-  stays_in Vacant h = entries h
-  stays_in (Live s errand) h = (peering_on s.session h.0, errand_on errand h.1, knows s.session h.2)
-  stays_in (Frozen s ids) h = (
+  pub stays_in : (HasNoEntry (entries_at t q) → HasNoEntry (entries_at u q))
+      → ((s : SessionValue) → KnowsWhatToTell t nowhere q s → KnowsWhatToTell u nowhere q s) → (x : Place) → KeepsPlaceIn t q x → KeepsPlaceIn u q x
+  stays_in entries knows Vacant h = entries h
+  stays_in entries knows (Live s errand) h = (peering_on s.session h.0, errand_on errand h.1, knows s.session h.2)
+  stays_in entries knows (Frozen s ids) h = (
     peering_on s.session h.0,
     subst (λ (setup : Setup). IsGraftOf setup u.number.0 q ids) (sym keeps.setup)
         (subst (λ n. IsGraftOf t.known.setup n q ids) (sym (ap (λ x. x.0) keeps.number)) h.1),
     h.2,
   )
-  stays_in (Shadow graft) h = h
+  stays_in entries knows (Shadow graft) h = h
 
 -- what is to be told, of the parts that it goes by
 abbrev tells_with : Setup → ℕ → BestRoutes → SessionConfig → PrefixValue → Option Attrs

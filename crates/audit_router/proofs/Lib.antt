@@ -6,3 +6,6 @@ mod Sessions
 mod Putting
 mod Source
 mod Target
+mod TableEvents
+mod Searching
+mod Beginning

@@ -8,3 +8,4 @@ mod Alike
 mod Finding
 mod Emptied
 mod Dropping
+pub mod Beginning
