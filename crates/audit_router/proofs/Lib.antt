@@ -9,3 +9,4 @@ mod Target
 mod TableEvents
 mod Searching
 mod Beginning
+mod Resting
