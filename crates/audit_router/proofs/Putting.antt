@@ -223,9 +223,11 @@ module _ (r : AuditedRouter) (k : RouterInvariant r) (p : ℕ) where
           by_count zero e row = absurd (omega (arith, some, e))
           by_count (suc m) e row =
               let same = one_first row.attrs row.prefixes
-              (subst (λ j. FirstAlike j row.attrs row.prefixes) (sym e) (alike_in (suc m) gave after row)) in
-              (row.next, subst (λ (v : Option Attrs). PutsUpdate s.session (update_for v batch.prefixes) row.next) same.0
-              (subst (λ (l : List PrefixValue). PutsUpdate s.session (update_for row.attrs l) row.next) same.1 (puts_in (suc m) gave after row)))
+              (subst (λ j. FirstAlike j row.attrs row.prefixes) (sym e) (alike_in (suc m) gave after row)) in (
+                row.next,
+                subst (λ (v : Option Attrs). PutsUpdate s.session (update_for v batch.prefixes) row.next) same.0
+                    (subst (λ (l : List PrefixValue). PutsUpdate s.session (update_for row.attrs l) row.next) same.1 (puts_in (suc m) gave after row)),
+              )
 
       pub put_unwritable : 0 < n → ¬ IsMessage wide batch → Decides (Put p n) r Refused r
       put_unwritable some not_one = Kept.refused r k (Put p n)
@@ -269,8 +271,7 @@ module _ (r : AuditedRouter) (k : RouterInvariant r) (p : ℕ) where
             → KnowsWhatToTell u.tables Kept.nowhere p v.session → Decides (Put p n) r Silent u
         put_made puts due changes knows = Kept.silent r k (Put p n) u
             (Kept.keeps_then r u k (record { room = room; all = Kept.as_many r u p known (Live v errand) places }) changes.keeps
-            (Kept.each_place r u p known (Live v errand) places
-            (
+            (Kept.each_place r u p known (Live v errand) places (
               subst (λ (setup : Setup). IsOfPeering setup p v.session) (sym changes.keeps.setup)
                   (Kept.of_config (setup_of_router r) p s.session v.session (ap (λ (w : SessionValue). w.config) puts.effect) old.0),
               Kept.errand_on r.tables u.tables changes.keeps p errand old.1,

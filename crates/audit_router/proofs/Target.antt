@@ -169,8 +169,10 @@ module _ (r : AuditedRouter) (k : RouterInvariant r) (q graft : ℕ) (s : Runnin
         k.tables.home_as k.tables.policies no_entry enters.entered);
     dirty = subst (λ (es : Entries). Marks r.tables.rib.dirty (entries_at r.tables p) es u.tables.rib.dirty) (sym (entries_same p))
         (subst (λ (d : Prefixes). Marks r.tables.rib.dirty (entries_at r.tables p) (entries_at mid p) d) (sym dirty_same) enters.entered.dirty);
-    due = record { members = λ x. due.members x
-        ∙ ap (λ (best : BestRoutes). is_some (map.get s.session.adj_rib_out x) || is_some (map.get best x)) best_same };
+    due = record {
+      members = λ x. due.members x
+          ∙ ap (λ (best : BestRoutes). is_some (map.get s.session.adj_rib_out x) || is_some (map.get best x)) best_same;
+    };
     effect = changes.effect (places_of u)
         ∙ (λ i. record (enters.changes.effect (places_of u) i) { due_out = at (enters.changes.effect (places_of u) i).due_out p (due_at u.tables p) })
         ∙ (λ i. record (part_with (places_then i) r.tables) {
@@ -179,8 +181,7 @@ module _ (r : AuditedRouter) (k : RouterInvariant r) (q graft : ℕ) (s : Runnin
           due_out = at (router_part r).due_out p (due_at u.tables p);
         });
     keeps = Kept.keeps_then r u k (record { room = room; all = Kept.as_many r u p known (Live s (Some (Owing landing))) places }) tables_keep
-        (Kept.each_place r u p known (Live s (Some (Owing landing))) places
-        (
+        (Kept.each_place r u p known (Live s (Some (Owing landing))) places (
           subst (λ (setup : Setup). IsOfPeering setup p s.session) (sym tables_keep.setup) of,
           subst (λ (setup : Setup). IsLandingOf setup u.tables.number.0 p landing.ids) (sym tables_keep.setup)
               (subst (λ n. IsLandingOf (setup_of_router r) n p landing.ids) (sym (ap (λ x. x.0) tables_keep.number))
@@ -271,16 +272,20 @@ module _ (r : AuditedRouter) (k : RouterInvariant r) (graft : ℕ) where
           source = asks.landing.ids.source.0;
           next = asks.landing.next;
           session = asks.owed.session.session;
-          live = record { is = ap place_of asks.owed.is ∙ (λ i. model.Live asks.owed.session.session
-              (Some (model.Owing (record { graft = asks.owed.graft i; source = asks.landing.ids.source.0; next = asks.landing.next })))) };
+          live = record {
+            is = ap place_of asks.owed.is ∙ (λ i. model.Live asks.owed.session.session
+                (Some (model.Owing (record { graft = asks.owed.graft i; source = asks.landing.ids.source.0; next = asks.landing.next }))));
+          };
           asked = asks.next;
           clean = clean;
           told = told;
           takes = refl;
           sends = refl;
           effect = Kept.part_is r u p known (Live asks.owed.session (Some (Asking (record asks.landing { next = q })))) places k tables room
-              ∙ (λ i. record (router_part r) { places = at (router_part r).places p (model.Live asks.owed.session.session
-              (Some (model.Asking (record { graft = asks.owed.graft i; source = asks.landing.ids.source.0; next = q })))) });
+              ∙ (λ i. record (router_part r) {
+                places = at (router_part r).places p (model.Live asks.owed.session.session
+                    (Some (model.Asking (record { graft = asks.owed.graft i; source = asks.landing.ids.source.0; next = q }))));
+              });
         })
         (λ i. (q, MeshItem (model.Asked graft (peering_is i)))) asks.next.known tt
 
@@ -297,8 +302,10 @@ module _ (r : AuditedRouter) (k : RouterInvariant r) (graft : ℕ) where
           source = source;
           next = may.landing.next;
           session = may.owed.session.session;
-          live = record { is = ap place_of may.owed.is ∙ (λ i. model.Live may.owed.session.session
-              (Some (model.Owing (record { graft = may.owed.graft i; source = may.from i; next = may.landing.next })))) };
+          live = record {
+            is = ap place_of may.owed.is ∙ (λ i. model.Live may.owed.session.session
+                (Some (model.Owing (record { graft = may.owed.graft i; source = may.from i; next = may.landing.next }))));
+          };
           answered = subst (λ n. AreAllAsked n r.tables.number.0 (routers_in (setup_of_router r)) may.landing.next) may.from may.all;
           clean = clean;
           told = told;
@@ -384,11 +391,15 @@ module _ (r : AuditedRouter) (k : RouterInvariant r) (q : ℕ) (channel : List P
           sends = refl;
           source = landing.ids.source.0;
           session = s.session;
-          live = record { is = ap place_of is ∙ (λ i. model.Live s.session
-              (Some (model.Asking (record { graft = graft_is i; source = landing.ids.source.0; next = next_is i })))) };
+          live = record {
+            is = ap place_of is ∙ (λ i. model.Live s.session
+                (Some (model.Asking (record { graft = graft_is i; source = landing.ids.source.0; next = next_is i }))));
+          };
           effect = Kept.part_is r u peering.0 known then places k tables room
-              ∙ (λ i. record (router_part r) { places = at (router_part r).places peering.0 (model.Live s.session
-              (Some (model.Owing (record { graft = graft_is i; source = landing.ids.source.0; next = plus_one i })))) });
+              ∙ (λ i. record (router_part r) {
+                places = at (router_part r).places peering.0 (model.Live s.session
+                    (Some (model.Owing (record { graft = graft_is i; source = landing.ids.source.0; next = plus_one i }))));
+              });
         }))
       where
         plus_one : landing.next + 1 ≡ suc q

@@ -71,6 +71,30 @@ module _ (t u : Tables) (k : TablesInvariant t) (p : ℕ) where
           });
     }
 
+  -- what is due is another set, and what was known is forgotten
+  module _ (dues : List Prefixes) (set : u ≡ record t { due_out = dues; pending = record t.pending { items = slice_set t.pending.items p None } })
+      (sizes : length dues ≡ length t.due_out) (due : Prefixes) (put : table_at dues ≡ at (table_at t.due_out) p due) where
+    steady : u ≡ record t { due_out = u.due_out; pending = u.pending }
+    steady = subst (λ (x : Tables). x ≡ record t { due_out = x.due_out; pending = x.pending }) (sym set) refl
+
+    sizes_then : length u.due_out ≡ length t.due_out
+    sizes_then = ap (λ (x : Tables). length x.due_out) set ∙ sizes
+
+    put_then : table_at u.due_out ≡ at (table_at t.due_out) p due
+    put_then = ap (λ (x : Tables). table_at x.due_out) set ∙ put
+
+    holds_then : u.pending.items ≡ slice_set t.pending.items p None
+    holds_then = ap (λ (x : Tables). x.pending.items) set
+
+    pub due_then : due_at u p ≡ due
+    due_then = due_is steady sizes_then due put_then None holds_then
+
+    pub changes_then : ChangesDue p t u
+    changes_then = changes_due steady sizes_then due put_then None holds_then
+
+    pub forgotten_then : p < peerings_in t.known.setup → IsForgotten p u
+    forgotten_then there = forgotten t u p (omega (arith, there, k.pending)) holds_then
+
   -- ---- its entries
 
   module _ (same : u ≡ record t { rib = u.rib; pending = u.pending }) (pending : length u.pending.items ≡ length t.pending.items)

@@ -139,7 +139,11 @@ module _ (Is : Kind) (to_tell : PrefixValue → Option Attrs) (batches : List Ba
         let told = whole.all x is in
         let head = head_of told.0.prefixes (each_is told.0 told.1).1 in
         let group = of.all told.0 told.1 head.0 head.1 head.2 in
-        let o = of.each head.0 group.0 group.1 in
-        (head.0, group.0, group.1, o.attrs ∙ (sym (first_told o.batch o.among head.0 o.later o.begins)
-            ∙ (first_told told.0 told.1 head.0 head.1 head.2 ∙ told.2)));
+        let o = of.each head.0 group.0 group.1 in (
+          head.0,
+          group.0,
+          group.1,
+          o.attrs ∙ (sym (first_told o.batch o.among head.0 o.later o.begins)
+              ∙ (first_told told.0 told.1 head.0 head.1 head.2 ∙ told.2)),
+        );
   }

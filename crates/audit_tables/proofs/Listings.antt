@@ -88,8 +88,11 @@ back_apart P xs [] rising h = All-nil (λ x. P x × (list_any (same_prefix x) xs
 back_apart P xs (y ∷ ys) rising h = All-cons (λ x. P x × (list_any (same_prefix x) xs ≡ false)) y ys
     (All-head P y ys (back_has P xs (y ∷ ys) h), rising_apart xs ys y rising)
     (All-weaker (λ x. P x × (list_any (same_prefix x) (xs ++ y ∷ []) ≡ false)) (λ x. P x × (list_any (same_prefix x) xs ≡ false))
-    (λ x g. (g.0, (neither (list_any (same_prefix x) xs) (list_any (same_prefix x) (y ∷ []))
-    (sym (list_any-append (same_prefix x) xs (y ∷ [])) ∙ g.1)).0)) ys
+    (λ x g. (
+      g.0,
+      (neither (list_any (same_prefix x) xs) (list_any (same_prefix x) (y ∷ []))
+          (sym (list_any-append (same_prefix x) xs (y ∷ [])) ∙ g.1)).0,
+    )) ys
     (back_apart P (xs ++ y ∷ []) ys (subst (IsStrictlySortedBy prefix_cmp) (sym (append_assoc xs (y ∷ []) ys)) rising)
     (subst (All P) (sym (append_assoc xs (y ∷ []) ys)) h)))
 
