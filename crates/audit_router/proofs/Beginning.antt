@@ -1,26 +1,25 @@
 -- The places of a router as it begins.
-use Rattle.std.proofs.Common.{◌≡◌, ◌≢◌, ℕ, zero, suc, ◌+◌, ◌<◌, ◌≤◌, ◌==◌, List, [], ◌∷◌, ◌++◌, length, replicate, map, Bool, true, false, cond}
-use Rattle.std.proofs.Common.{Option, Some, None, is_some, option_map, ◌⊎◌, inl, inr, append_assoc, append-nil, refl, sym, ap, ◌∙◌, subst, arith}
-use Rattle.std.specs.Prelude.{if◌then◌else◌, slice_get, slice_set, unwrap_or}
+use Rattle.std.proofs.Common.{◌≡◌, ℕ, zero, suc, ◌+◌, ◌<◌, ◌==◌, List, [], ◌∷◌, ◌++◌, length, replicate, map, Bool, true, false, cond}
+use Rattle.std.proofs.Common.{Option, Some, None, ◌⊎◌, inl, inr, append_assoc, append-nil, refl, sym, ap, ◌∙◌, subst, arith}
+use Rattle.std.specs.Prelude.{if◌then◌else◌, slice_get, slice_set}
 use Rattle.std.specs.List.{AllByRecursion, filter, find}
-use Rattle.std.proofs.lemmas.Bool.{cases_lt, eq-eqb, ne_eqb}
+use Rattle.std.proofs.lemmas.Bool.{eq-eqb, ne_eqb}
 use Rattle.std.proofs.lemmas.List.{get_or-set_other, get_or-set_same, length-set}
 use Rattle.bgp_session.specs.Running.{RunningSession}
 use Rattle.session_value.specs.declared.config.SessionConfig.{SessionConfig}
 use Rattle.session_value.specs.Sessions.{begun}
 use Rattle.graft_model.specs.First.{place_in}
 use Rattle.graft_model.specs.Parts as model
-use Rattle.graft_model.specs.Setups.{IsSetup, PeeringSetup, Setup, peerings_in}
-use Rattle.actor_configs.specs.Configs.{AreFirstsOf, IsRouterConfigOf, starting_here}
-use Rattle.actor_configs.specs.declared.router.Firsts.{Firsts}
-use Rattle.actor_configs.specs.declared.router.RouterConfig.{RouterConfig}
+use Rattle.graft_model.specs.Setups.{IsSetup, PeeringSetup, Setup}
+use Rattle.actor_configs.specs.Configs.{starting_here}
+
+
 use Rattle.router_tables.proofs.Points.{one_or_other}
 use Rattle.audit_tables.proofs.Beginning.{replicate_length}
 use Rattle.audit_router.specs.Begins.{AreBegun, CanBegin, begun_place}
 use Rattle.audit_router.specs.Places.{place_at, place_of}
 use Rattle.audit_router.specs.declared.place.Place.{Place}
 use Rattle.audit_router.specs.declared.place.Place.TheVariants.{Live, Vacant}
-
 -- ---- places one after another
 
 abbrev begun_session : SessionConfig → RunningSession

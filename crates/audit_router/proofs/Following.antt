@@ -1,5 +1,5 @@
 -- How a router's tables follow a session that read a message, or on which a round has passed.
-use Rattle.std.proofs.Common.{◌≡◌, ◌≢◌, ℕ, ◌<◌, List, [], length, true, false, Option, Some, None, refl, sym, ap, ◌∙◌, subst, ◌⊎◌, inl, inr}
+use Rattle.std.proofs.Common.{◌≡◌, ◌≢◌, ℕ, ◌<◌, List, length, true, false, Option, None, refl, sym, ap, ◌∙◌, subst, ◌⊎◌, inl, inr}
 use Rattle.std.specs.Prelude.{slice_set}
 use Rattle.std.proofs.lemmas.List.{length-set}
 use Rattle.std.specs.FinMap as map
@@ -28,7 +28,6 @@ use Rattle.audit_tables.specs.declared.tables.Tables.{Tables}
 use Rattle.audit_tables.proofs.Changes.{forgotten, get_set_other}
 use Rattle.audit_tables.proofs.Keeping.{keeps_then}
 use Rattle.audit_router.specs.Followed.{FollowsIn}
-
 -- ---- what is kept
 
 pub keeps_more : (t u v : Tables) → KeepsTables t u → KeepsTables u v → KeepsTables t v

@@ -1,5 +1,5 @@
 -- Which item it is that a row takes.
-use Rattle.std.proofs.Common.{◌≡◌, ℕ, List, ◌∷◌, Option, Some, None, Bool, true, refl, sym, ap, ◌∙◌, subst}
+use Rattle.std.proofs.Common.{◌≡◌, ℕ, List, ◌∷◌, Option, Some, None, true, refl, ap, subst}
 use Rattle.std.specs.Prelude.{slice_get}
 use Rattle.bgp_session.specs.Running.{RunningSession, carried}
 use Rattle.graft_edge.specs.declared.ids.PeeringId.{PeeringId}
@@ -16,7 +16,6 @@ use Rattle.graft_actors.specs.Items.{segment_of, segment_thing, thing_of}
 use Rattle.audit_ruling.specs.Rulings.{Parcel, router_takes}
 use Rattle.audit_router.specs.Nexts.{is_segment}
 use Rattle.audit_router.proofs.Inversions.{none_some, some_is}
-
 -- ---- between routers
 
 abbrev mesh_at : Thing → Option Mesh

@@ -1,5 +1,5 @@
 -- The rows of what is put on a session.
-use Rattle.std.proofs.Common.{◌≡◌, ◌≢◌, ℕ, zero, suc, ◌+◌, ◌<◌, ◌≤◌, List, [], ◌∷◌, ◌++◌, length, Option, option_map, Some, None, Bool, true, false, not}
+use Rattle.std.proofs.Common.{◌≡◌, ◌≢◌, ℕ, zero, suc, ◌+◌, ◌<◌, List, [], ◌∷◌, ◌++◌, length, Option, option_map, Some, None, Bool, not}
 use Rattle.std.proofs.Common.{inl, inr, refl, sym, ap, ◌∙◌, subst, arith}
 use Rattle.std.specs.Prelude.{All, IfSome, slice_set}
 use Rattle.std.specs.FinMap as map
@@ -11,17 +11,17 @@ use Rattle.bgp_types.specs.Writable.{IsWritableAttrs, IsWritableUpdate}
 use Rattle.bgp_story.specs.Legal.{IsOneWay, is_wide}
 use Rattle.bgp_session.specs.Running.{RunningSession}
 use Rattle.bgp_session.specs.Steps.{offered_length}
-use Rattle.session_value.specs.Cases.{Changes, PutsUpdate, update_for}
+use Rattle.session_value.specs.Cases.{PutsUpdate, update_for}
 use Rattle.session_value.specs.Sessions.{SessionValue, peering_of, state}
-use Rattle.session_value.specs.Sets.{Lists, Prefixes, has}
-use Rattle.update_plan.specs.Plans.{IsWritableFor, octets}
+use Rattle.session_value.specs.Sets.{Lists, has}
+
 use Rattle.update_plan.specs.declared.batch.Batch.{Batch}
 use Rattle.update_plan.proofs.PlanLaws.{changes_told, one_way_told}
 use Rattle.graft_model.proofs.Rising.{one_least, one_list}
 use Rattle.graft_model.specs.Decisions.{to_tell}
 use Rattle.graft_model.specs.Parts as model
 use Rattle.graft_model.specs.Points.{at}
-use Rattle.graft_model.specs.RouterRows.{IsLive, IsToTell, PutsSome, RouterSent, RouterTaken, WaitsOnPeering}
+use Rattle.graft_model.specs.RouterRows.{IsLive, IsToTell, PutsSome, RouterSent, WaitsOnPeering}
 use Rattle.graft_model.specs.Sets.{Drops}
 use Rattle.graft_model.specs.Setups.{Setup}
 use Rattle.graft_model.specs.Steps.{put_row}
@@ -37,20 +37,19 @@ use Rattle.audit_tables.specs.Groups.{AreFirstAlike}
 use Rattle.audit_tables.specs.Parts.{IsForgotten, KnowsWhatToTell, due_at, entries_at, part_with, pending_at}
 use Rattle.audit_tables.specs.declared.tables.Tables.{Tables}
 use Rattle.audit_router.specs.Decides.{Decides, KeepsRouter}
-use Rattle.audit_router.specs.Followed.{CanOffer, IsMessage, OffersAs}
+use Rattle.audit_router.specs.Followed.{CanOffer, IsMessage}
 use Rattle.audit_router.specs.Parts.{RouterInvariant, places_of, router_part, setup_of_router}
-use Rattle.audit_router.specs.Places.{errand_of, place_at, place_of}
+use Rattle.audit_router.specs.Places.{errand_of, place_at}
 use Rattle.audit_router.specs.declared.place.Errand.{Errand}
 use Rattle.audit_router.specs.declared.place.Place.{Place}
 use Rattle.audit_router.specs.declared.place.Place.TheVariants.{Live}
 use Rattle.audit_router.specs.declared.router.AuditedRouter.{AuditedRouter}
-use Rattle.audit_router.proofs.Kept as Kept
+use Rattle.audit_router.proofs.Kept as kept
 use Rattle.audit_router.proofs.Sessions.{NoneLive, live_here, live_session}
-
 -- ---- what is to be told becomes known
 
 module _ (r : AuditedRouter) (k : RouterInvariant r) (p : ℕ) (s : RunningSession) (errand : Option Errand) (is : place_at r.places.items p ≡ Live s errand)
-    (t : Tables) (same : t ≡ record r.tables { pending = t.pending }) (keeps : KeepsTables r.tables t) (knows : KnowsWhatToTell t Kept.nowhere p s.session)
+    (t : Tables) (same : t ≡ record r.tables { pending = t.pending }) (keeps : KeepsTables r.tables t) (knows : KnowsWhatToTell t kept.nowhere p s.session)
     (others : (q : ℕ) → q ≢ p → pending_at t q ≡ pending_at r.tables q) where
   abbrev knowing : AuditedRouter
   knowing = record r { tables = t }
@@ -59,18 +58,18 @@ module _ (r : AuditedRouter) (k : RouterInvariant r) (p : ℕ) (s : RunningSessi
   entries_same q = ap (λ (x : Tables). entries_at x q) same
 
   pub keeps_knowing : KeepsRouter r knowing
-  keeps_knowing = Kept.keeps_then r knowing k (record { room = refl; all = refl }) keeps each
+  keeps_knowing = kept.keeps_then r knowing k (record { room = refl; all = refl }) keeps each
     where
-      own : Kept.KeepsPlaceIn t p (Live s errand)
-      own = let old = Kept.keeps_here r k p (Live s errand) is in
-          (Kept.peering_on r.tables t keeps p s.session old.0, Kept.errand_on r.tables t keeps p errand old.1, knows)
+      own : kept.KeepsPlaceIn t p (Live s errand)
+      own = let old = kept.keeps_here r k p (Live s errand) is in
+          (kept.peering_on r.tables t keeps p s.session old.0, kept.errand_on r.tables t keeps p errand old.1, knows)
 
-      each : (q : ℕ) → Kept.KeepsPlaceIn t q (place_at r.places.items q)
+      each : (q : ℕ) → kept.KeepsPlaceIn t q (place_at r.places.items q)
       each q = elim (one_or_other p q) [
-        | inl e ↦ subst (λ (j : ℕ). Kept.KeepsPlaceIn t j (place_at r.places.items j)) (sym e) (subst (Kept.KeepsPlaceIn t p) (sym is) own)
-        | inr apart ↦ Kept.stays_in r.tables t keeps q (subst HasNoEntry (sym (entries_same q)))
-            (Kept.knows_on r.tables t keeps q (others q apart) (ap (λ (x : Tables). due_at x q) same) (ap (λ (x : Tables). x.rib.dirty) same)
-            (ap (λ (x : Tables). x.rib.best) same)) (place_at r.places.items q) (Kept.keeps_at r k q)
+        | inl e ↦ subst (λ (j : ℕ). kept.KeepsPlaceIn t j (place_at r.places.items j)) (sym e) (subst (kept.KeepsPlaceIn t p) (sym is) own)
+        | inr apart ↦ kept.stays_in r.tables t keeps q (subst HasNoEntry (sym (entries_same q)))
+            (kept.knows_on r.tables t keeps q (others q apart) (ap (λ (x : Tables). due_at x q) same) (ap (λ (x : Tables). x.rib.dirty) same)
+            (ap (λ (x : Tables). x.rib.best) same)) (place_at r.places.items q) (kept.keeps_at r k q)
       ]
 
 -- what is decided then is decided
@@ -97,15 +96,15 @@ module _ (r : AuditedRouter) (k : RouterInvariant r) (p : ℕ) where
   no_row none (suc n) gave after row = none row.session row.errand row.live row.puts.established
 
   pub put_none : NoneLive r p → (n : ℕ) → Decides (Put p n) r Refused r
-  put_none none n = Kept.refused r k (Put p n) (λ gave after row. no_row (λ session errand live up. none session errand live) n gave after row)
+  put_none none n = kept.refused r k (Put p n) (λ gave after row. no_row (λ session errand live up. none session errand live) n gave after row)
 
   module _ (s : RunningSession) (errand : Option Errand) (is : place_at r.places.items p ≡ Live s errand) where
     pub put_down : state s.session ≢ Established → (n : ℕ) → Decides (Put p n) r Refused r
-    put_down down n = Kept.refused r k (Put p n) (λ gave after row.
+    put_down down n = kept.refused r k (Put p n) (λ gave after row.
         no_row (λ session e live up. down (ap state (live_session r p s errand is session e live) ∙ up)) n gave after row)
 
     pub put_idle : ¬ ((x : PrefixValue) × WaitsOnPeering (router_part r) p x) → Decides (Put p 0) r Refused r
-    put_idle idle = Kept.refused r k (Put p 0) (λ gave after row. idle (row.prefix, row.waits))
+    put_idle idle = kept.refused r k (Put p 0) (λ gave after row. idle (row.prefix, row.waits))
 
     abbrev Telling : PrefixValue → Type 0
     Telling x = IsToTell (setup_of_router r) r.tables.number.0 (router_part r) p s.session x
@@ -114,7 +113,7 @@ module _ (r : AuditedRouter) (k : RouterInvariant r) (p : ℕ) where
     tells x = to_tell (setup_of_router r) r.tables.number.0 (router_part r) s.session x
 
     pub put_untold : ¬ ((x : PrefixValue) → ¬ Telling x) → Decides (Put p 0) r Refused r
-    put_untold more = Kept.refused r k (Put p 0) (λ gave after row. more (subst
+    put_untold more = kept.refused r k (Put p 0) (λ gave after row. more (subst
         (λ (v : SessionValue). (x : PrefixValue) → ¬ IsToTell (setup_of_router r) r.tables.number.0 (router_part r) p v x)
         (sym (live_session r p s errand is row.session row.errand row.live)) row.nothing))
 
@@ -123,8 +122,8 @@ module _ (r : AuditedRouter) (k : RouterInvariant r) (p : ℕ) where
         → (u : AuditedRouter) → u ≡ record r { tables = t } → Decides (Put p 0) r Silent u
     put_told up x waits nothing t due changes forgets u same =
         subst (λ (y : AuditedRouter). Decides (Put p 0) r Silent y) (sym same)
-        (Kept.silent r k (Put p 0) (record r { tables = t })
-        (Kept.keeps_then r (record r { tables = t }) k (record { room = refl; all = refl }) changes.keeps each)
+        (kept.silent r k (Put p 0) (record r { tables = t })
+        (kept.keeps_then r (record r { tables = t }) k (record { room = refl; all = refl }) changes.keeps each)
         (record {
           alone = (refl, refl);
           session = s.session;
@@ -138,13 +137,13 @@ module _ (r : AuditedRouter) (k : RouterInvariant r) (p : ℕ) where
           effect = changes.effect (places_of r);
         }))
       where
-        own : Kept.KeepsPlaceIn t p (Live s errand)
-        own = Kept.live_then r.tables t p s s errand changes.keeps refl forgets (Kept.keeps_here r k p (Live s errand) is)
+        own : kept.KeepsPlaceIn t p (Live s errand)
+        own = kept.live_then r.tables t p s s errand changes.keeps refl forgets (kept.keeps_here r k p (Live s errand) is)
 
-        each : (q : ℕ) → Kept.KeepsPlaceIn t q (place_at r.places.items q)
+        each : (q : ℕ) → kept.KeepsPlaceIn t q (place_at r.places.items q)
         each q = elim (one_or_other p q) [
-          | inl e ↦ subst (λ (j : ℕ). Kept.KeepsPlaceIn t j (place_at r.places.items j)) (sym e) (subst (Kept.KeepsPlaceIn t p) (sym is) own)
-          | inr apart ↦ Kept.stays_by_due p r.tables t changes q apart (place_at r.places.items q) (Kept.keeps_at r k q)
+          | inl e ↦ subst (λ (j : ℕ). kept.KeepsPlaceIn t j (place_at r.places.items j)) (sym e) (subst (kept.KeepsPlaceIn t p) (sym is) own)
+          | inr apart ↦ kept.stays_by_due p r.tables t changes q apart (place_at r.places.items q) (kept.keeps_at r k q)
         ]
 
     -- ---- one UPDATE is put
@@ -177,7 +176,7 @@ module _ (r : AuditedRouter) (k : RouterInvariant r) (p : ℕ) where
 
     pub put_short : (n : ℕ) → 0 < n → ((attrs : Option Attrs) (prefixes : List PrefixValue) → ¬ FirstAlike n attrs prefixes) → Decides (Put p n) r Refused r
     put_short zero some none = absurd (omega (arith, some))
-    put_short (suc n) some none = Kept.refused r k (Put p (suc n)) (λ gave after row. none row.attrs row.prefixes (alike_in (suc n) gave after row))
+    put_short (suc n) some none = kept.refused r k (Put p (suc n)) (λ gave after row. none row.attrs row.prefixes (alike_in (suc n) gave after row))
 
     module _ (n : ℕ) (batch : Batch) (alike : FirstAlike n batch.attrs batch.prefixes) where
       -- no other is the first
@@ -230,7 +229,7 @@ module _ (r : AuditedRouter) (k : RouterInvariant r) (p : ℕ) where
               )
 
       pub put_unwritable : 0 < n → ¬ IsMessage wide batch → Decides (Put p n) r Refused r
-      put_unwritable some not_one = Kept.refused r k (Put p n)
+      put_unwritable some not_one = kept.refused r k (Put p n)
           (λ gave after row. not_one (message_of (row_puts some gave after row).1.one_way))
 
       some_prefixes : 0 < n → batch.prefixes ≢ []
@@ -248,18 +247,18 @@ module _ (r : AuditedRouter) (k : RouterInvariant r) (p : ℕ) where
           (places : u.places.items ≡ slice_set r.places.items p (Live v errand)) (room : u.room ≡ r.room) where
         pub put_full : u.tables ≡ r.tables → 1044480 < offered_length s.session (update_for batch.attrs batch.prefixes) → v ≡ s
             → Decides (Put p n) r Refused u
-        put_full tables full same = Kept.refused_as r k (Put p n) u
-            (Kept.part_is r u p known (Live v errand) places k tables room
+        put_full tables full same = kept.refused_as r k (Put p n) u
+            (kept.part_is r u p known (Live v errand) places k tables room
             ∙ (ap (λ (w : RunningSession). let x : model.RouterPart =
             record (router_part r) { places = at (router_part r).places p (model.Live w.session (option_map errand_of errand)) } in x) same
-            ∙ ap (λ (ps : ℕ → model.Place). part_with ps r.tables) (sym (Kept.place_itself r p (Live s errand) is))))
-            (Kept.keeps_placed r u p known (Live v errand) places k tables room
-            (subst (λ (w : RunningSession). Kept.KeepsPlaceIn r.tables p (Live w errand)) (sym same) (Kept.keeps_here r k p (Live s errand) is)))
+            ∙ ap (λ (ps : ℕ → model.Place). part_with ps r.tables) (sym (kept.place_itself r p (Live s errand) is))))
+            (kept.keeps_placed r u p known (Live v errand) places k tables room
+            (subst (λ (w : RunningSession). kept.KeepsPlaceIn r.tables p (Live w errand)) (sym same) (kept.keeps_here r k p (Live s errand) is)))
             (λ gave after row. let fits = (row_puts some gave after row).1.room in let b : ⊥ = omega (arith, full, fits) in b)
 
         -- what was told first
         pub first_put : PutsUpdate s.session (update_for batch.attrs batch.prefixes) v.session
-            → PutsFirstAlike r.tables Kept.nowhere p s.session batch.prefixes v.session
+            → PutsFirstAlike r.tables kept.nowhere p s.session batch.prefixes v.session
         first_put puts = record {
           attrs = batch.attrs;
           first = subst (λ j. FirstAlike j batch.attrs batch.prefixes) (sym alike.size) alike;
@@ -268,20 +267,20 @@ module _ (r : AuditedRouter) (k : RouterInvariant r) (p : ℕ) where
 
         pub put_made : PutsUpdate s.session (update_for batch.attrs batch.prefixes) v.session
             → Drops (due_at r.tables p) (λ x. list_any (same_prefix x) batch.prefixes) (due_at u.tables p) → ChangesDue p r.tables u.tables
-            → KnowsWhatToTell u.tables Kept.nowhere p v.session → Decides (Put p n) r Silent u
-        put_made puts due changes knows = Kept.silent r k (Put p n) u
-            (Kept.keeps_then r u k (record { room = room; all = Kept.as_many r u p known (Live v errand) places }) changes.keeps
-            (Kept.each_place r u p known (Live v errand) places (
+            → KnowsWhatToTell u.tables kept.nowhere p v.session → Decides (Put p n) r Silent u
+        put_made puts due changes knows = kept.silent r k (Put p n) u
+            (kept.keeps_then r u k (record { room = room; all = kept.as_many r u p known (Live v errand) places }) changes.keeps
+            (kept.each_place r u p known (Live v errand) places (
               subst (λ (setup : Setup). IsOfPeering setup p v.session) (sym changes.keeps.setup)
-                  (Kept.of_config (setup_of_router r) p s.session v.session (ap (λ (w : SessionValue). w.config) puts.effect) old.0),
-              Kept.errand_on r.tables u.tables changes.keeps p errand old.1,
+                  (kept.of_config (setup_of_router r) p s.session v.session (ap (λ (w : SessionValue). w.config) puts.effect) old.0),
+              kept.errand_on r.tables u.tables changes.keeps p errand old.1,
               knows,
             )
-            (λ q apart. Kept.stays_by_due p r.tables u.tables changes q apart (place_at r.places.items q) (Kept.keeps_at r k q))))
+            (λ q apart. kept.stays_by_due p r.tables u.tables changes q apart (place_at r.places.items q) (kept.keeps_at r k q))))
             (by_count n refl)
           where
-            old : Kept.KeepsPlaceIn r.tables p (Live s errand)
-            old = Kept.keeps_here r k p (Live s errand) is
+            old : kept.KeepsPlaceIn r.tables p (Live s errand)
+            old = kept.keeps_here r k p (Live s errand) is
 
             by_count : (m : ℕ) → n ≡ m → row_of m [] (router_part u)
             by_count zero e = absurd (omega (arith, some, e))
@@ -302,7 +301,7 @@ module _ (r : AuditedRouter) (k : RouterInvariant r) (p : ℕ) where
               next = v.session;
               puts = puts;
               due = due;
-              effect = changes.effect (places_of u) ∙ (λ i. record (part_with (Kept.places_are r u p known (Live v errand) places i) r.tables) {
+              effect = changes.effect (places_of u) ∙ (λ i. record (part_with (kept.places_are r u p known (Live v errand) places i) r.tables) {
                 due_out = at (router_part r).due_out p (due_at u.tables p);
               });
             }

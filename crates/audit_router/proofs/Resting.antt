@@ -1,30 +1,29 @@
 -- When a router has nothing left to do, and how many of its places are taken.
-use Rattle.std.proofs.Common.{◌≡◌, ◌≢◌, ℕ, zero, suc, ◌+◌, ◌<◌, ◌↔◌, ◌&&◌, List, [], ◌∷◌, length, get_or, Bool, true, false, not, Option, Some, None}
-use Rattle.std.proofs.Common.{inl, inr, ◌⊎◌, refl, sym, ap, ◌∙◌, subst, arith}
+use Rattle.std.proofs.Common.{◌≡◌, ◌≢◌, ℕ, suc, ◌+◌, ◌<◌, ◌↔◌, ◌&&◌, List, [], ◌∷◌, length, get_or, Bool, true, false, not, Option, Some, None}
+use Rattle.std.proofs.Common.{inl, inr, refl, sym, ap, ◌∙◌, arith}
 use Rattle.std.specs.Prelude.{IsTrue, MatchBool, count_by, filter, fold, if◌then◌else◌}
 use Rattle.std.specs.List.{range_with_len}
 use Rattle.std.proofs.lemmas.Bool.{false≢true}
-use Rattle.bgp_types.specs.Prefixes.{PrefixValue}
+
 use Rattle.bgp_session.specs.Fronts.{CanRead, CantRead}
 use Rattle.bgp_session.specs.Running.{RunningSession}
 use Rattle.session_value.specs.Sessions.{SessionValue}
-use Rattle.session_value.specs.Sets.{Prefixes, has}
+use Rattle.session_value.specs.Sets.{has}
 use Rattle.rib_stages.specs.Values.{table_at}
-use Rattle.graft_edge.specs.declared.ids.PeeringId.{PeeringId}
-use Rattle.graft_edge.specs.declared.ids.RouterId.{RouterId}
+
+
 use Rattle.graft_steps.specs.declared.rest.Pending.{Pending}
 use Rattle.graft_steps.specs.declared.rest.Pending.TheVariants.{Bag, Channel, Dirty, DueIn, DueOut, Graft, Script, Stream}
 use Rattle.graft_model.specs.GraftRows.{is_taken, taken_in}
 use Rattle.graft_model.specs.Parts as model
-use Rattle.settled_check.specs.Left.{HasSome, HasStream, HasUnread, LeftAtRouter, graft_in_place}
+use Rattle.settled_check.specs.Left.{HasStream, HasUnread, LeftAtRouter, graft_in_place}
 use Rattle.audit_tables.specs.Parts.{NothingIsLeft}
 use Rattle.audit_router.specs.Parts.{RouterInvariant, places_of, router_part, setup_of_router}
-use Rattle.audit_router.specs.Places.{place_at, place_of}
+use Rattle.audit_router.specs.Places.{place_of}
 use Rattle.audit_router.specs.declared.place.Place.{Place}
 use Rattle.audit_router.specs.declared.place.Place.TheVariants.{Live, Vacant}
 use Rattle.audit_router.specs.declared.router.AuditedRouter.{AuditedRouter}
 use Rattle.audit_router.proofs.Inversions.{none_some}
-
 -- ---- one place
 
 abbrev pub RestsAt : model.Place → Type 0

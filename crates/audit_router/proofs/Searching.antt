@@ -1,11 +1,10 @@
 -- The first place at which something holds.
-use Rattle.std.proofs.Common.{◌≡◌, ◌≢◌, ℕ, ◌+◌, ◌<◌, ◌≤◌, List, [], ◌∷◌, length, zero, suc, Option, Some, None, inl, inr, refl, sym, ap, ◌∙◌, subst, arith}
+use Rattle.std.proofs.Common.{◌≡◌, ℕ, ◌+◌, ◌<◌, ◌≤◌, List, [], ◌∷◌, length, zero, suc, inl, inr, refl, subst, arith}
 use Rattle.std.proofs.lemmas.Bool.{cases_lt}
 use Rattle.router_tables.proofs.Points.{one_or_other}
 use Rattle.audit_router.specs.Places.{place_at}
 use Rattle.audit_router.specs.declared.place.Place.{Place}
 use Rattle.audit_router.specs.declared.place.Place.TheVariants.{Vacant}
-
 -- none of the first so many is so
 abbrev pub NoneBelow : (ℕ → Type 0) → ℕ → Type 0
 NoneBelow Is n = (p : ℕ) → p < n → ¬ Is p

@@ -1,12 +1,12 @@
 -- The rows of events on sessions: no session is live there, segments that are emitted and that arrive, messages and rounds.
-use Rattle.std.proofs.Common.{◌≡◌, ◌≢◌, ℕ, suc, ◌+◌, ◌<◌, ◌≤◌, List, [], ◌∷◌, length, Option, option_map, Some, None, Bool, true, false, ◌⊎◌, inl, inr}
+use Rattle.std.proofs.Common.{◌≡◌, ◌≢◌, ℕ, suc, ◌+◌, ◌<◌, List, [], ◌∷◌, length, Option, option_map, Some, None, inl, inr}
 use Rattle.std.proofs.Common.{refl, sym, ap, ◌∙◌, subst, arith}
 use Rattle.std.specs.Prelude.{slice_get, slice_set}
 use Rattle.tcp_seq.specs.Endpoint.{Endpoint, IsInStreams, PlacedSegment, TakesSegment}
 use Rattle.tcp_seq.specs.Placed.{placed}
 use Rattle.tcp_seq.specs.declared.segment.Segment.{Segment}
 use Rattle.tcp_seq.specs.declared.segment.Way.{Way}
-use Rattle.tcp_seq.specs.declared.segment.Way.TheVariants.{Home, Remote}
+use Rattle.tcp_seq.specs.declared.segment.Way.TheVariants.{Home}
 use Rattle.tcp_end.specs.Emitting.{EmitsPart}
 use Rattle.tcp_end.specs.declared.arrival.Arrival.{Arrival}
 use Rattle.graft_steps.specs.declared.item.Item.TheVariants as items
@@ -19,27 +19,27 @@ use Rattle.session_value.specs.Cases.{GetsFrame}
 use Rattle.session_value.specs.Sessions.{SessionValue}
 use Rattle.graft_model.specs.Parts as model
 use Rattle.graft_model.specs.Points.{at}
-use Rattle.graft_model.specs.RouterRows.{Arrives, Emits, IsLive, OutwardTo, RouterSent, RouterTaken, SegmentIn}
-use Rattle.graft_model.specs.Setups.{Setup, peerings_in, routers_in}
+use Rattle.graft_model.specs.RouterRows.{IsLive, OutwardTo, RouterTaken, SegmentIn}
+use Rattle.graft_model.specs.Setups.{peerings_in, routers_in}
 use Rattle.graft_model.specs.Slices.{EmitsAt}
 use Rattle.graft_model.specs.declared.event.RouterEvent.TheVariants.{Arrive, Emit, Got, Stray, Tick}
-use Rattle.graft_actors.specs.Actors.{FarSide, OutwardItem, Router, SegmentItem, Thing}
+use Rattle.graft_actors.specs.Actors.{FarSide, OutwardItem}
 use Rattle.graft_actors.specs.Items.{IsSegmentOf, home_first, placed_for, remote_first, segment_of, segment_thing, thing_of}
 use Rattle.router_tables.specs.Owned.{IsOfPeering}
 use Rattle.audit_ruling.specs.Rulings.{Parcel, router_takes}
 use Rattle.audit_ruling.specs.declared.ruling.Ruling.TheVariants.{Refused, Silent, Sends}
 use Rattle.audit_tables.specs.Parts.{part_with}
-use Rattle.audit_tables.specs.declared.tables.Tables.{Tables}
+
 use Rattle.audit_router.specs.Decides.{Decides, DecidesTaking, KeepsRouter}
 use Rattle.audit_router.specs.Followed.{FollowsIn}
 use Rattle.audit_router.specs.Parts.{RouterInvariant, places_of, router_part, setup_of_router}
 use Rattle.audit_router.specs.Places.{errand_of, place_at, place_of}
 use Rattle.audit_router.specs.declared.place.Errand.{Errand}
 use Rattle.audit_router.specs.declared.place.Place.{Place}
-use Rattle.audit_router.specs.declared.place.Place.TheVariants.{Vacant, Live, Frozen, Shadow}
+use Rattle.audit_router.specs.declared.place.Place.TheVariants.{Vacant, Live}
 use Rattle.audit_router.specs.declared.router.AuditedRouter.{AuditedRouter}
 use Rattle.audit_router.proofs.Inversions.{live_as}
-use Rattle.audit_router.proofs.Kept as Kept
+use Rattle.audit_router.proofs.Kept as kept
 
 -- ---- which session is live
 
@@ -96,29 +96,29 @@ at_part from len e f segment h = (h.offset, h.size, h.emits)
 
 module _ (r : AuditedRouter) (k : RouterInvariant r) (p from len : ℕ) where
   pub emit_nothing : NoneLive r p → Decides (Emit p from len) r Refused r
-  emit_nothing none = Kept.refused r k (Emit p from len) (λ gave after row. none row.session row.errand row.live)
+  emit_nothing none = kept.refused r k (Emit p from len) (λ gave after row. none row.session row.errand row.live)
 
   module _ (s : RunningSession) (errand : Option Errand) (is : place_at r.places.items p ≡ Live s errand) (known : p < length r.places.items)
       (u : AuditedRouter) (t : RunningSession) (items : u.places.items ≡ slice_set r.places.items p (Live t errand))
       (tables : u.tables ≡ r.tables) (room : u.room ≡ r.room) where
     own : IsOfPeering (setup_of_router r) p s.session
-    own = (Kept.keeps_here r k p (Live s errand) is).0
+    own = (kept.keeps_here r k p (Live s errand) is).0
 
     -- a session that emits keeps what its place requires
     module _ (config : t.session.config ≡ s.session.config) (told : t.session.adj_rib_out ≡ s.session.adj_rib_out) where
       keeps_live : KeepsRouter r u
-      keeps_live = Kept.keeps_placed r u p known (Live t errand) items k tables room
-          (Kept.same_told r.tables p s t errand config told (Kept.keeps_here r k p (Live s errand) is))
+      keeps_live = kept.keeps_placed r u p known (Live t errand) items k tables room
+          (kept.same_told r.tables p s t errand config told (kept.keeps_here r k p (Live s errand) is))
 
     part_then : router_part u ≡ record (router_part r) { places = at (router_part r).places p (model.Live t.session (option_map errand_of errand)) }
-    part_then = Kept.part_is r u p known (Live t errand) items k tables room
+    part_then = kept.part_is r u p known (Live t errand) items k tables room
 
     pub emit_none : t.session ≡ s.session
         → ((segment : PlacedSegment) (after : Endpoint) → ¬ EmitsPart from len s.session.end segment after) → Decides (Emit p from len) r Refused u
-    emit_none same never = Kept.refused_as r k (Emit p from len) u
+    emit_none same never = kept.refused_as r k (Emit p from len) u
         (part_then ∙ (ap (λ (v : SessionValue). let x : model.RouterPart =
         record (router_part r) { places = at (router_part r).places p (model.Live v (option_map errand_of errand)) } in x) same
-        ∙ ap (λ (places : ℕ → model.Place). part_with places r.tables) (sym (Kept.place_itself r p (Live s errand) is))))
+        ∙ ap (λ (places : ℕ → model.Place). part_with places r.tables) (sym (kept.place_itself r p (Live s errand) is))))
         (keeps_live (ap (λ (v : SessionValue). v.config) same) (ap (λ (v : SessionValue). v.adj_rib_out) same))
         (λ gave after row. never row.segment row.end (subst (λ (v : SessionValue). EmitsPart from len v.end row.segment row.end)
         (sym (live_session r p s errand is row.session row.errand row.live)) (at_part from len row.session.end row.end row.segment row.emits)))
@@ -137,7 +137,7 @@ module _ (r : AuditedRouter) (k : RouterInvariant r) (p from len : ℕ) where
           ∙ ap (λ (w : PlacedSegment). OutwardItem (model.Seg w)) placed_is
 
       pub emit_made : (to : ℕ) → to ≡ routers_in (setup_of_router r) + p → Decides (Emit p from len) r (Sends to (items.Seg segment)) u
-      emit_made to number = Kept.sends r k (Emit p from len) u
+      emit_made to number = kept.sends r k (Emit p from len) u
           (keeps_live (ap (λ (v : SessionValue). v.config) emits.effect) (ap (λ (v : SessionValue). v.adj_rib_out) emits.effect))
           to (items.Seg segment) (OutwardTo p (model.Seg (sent_as s.session.config segment)))
           (record {
@@ -169,11 +169,11 @@ segment_in taken = None
 
 module _ (r : AuditedRouter) (k : RouterInvariant r) (p : ℕ) (channel : List Parcel) where
   pub arrive_none : NoneLive r p → DecidesTaking (Arrive p) (FarSide p) r channel Refused r channel
-  arrive_none none = Kept.refused_taking r k (Arrive p) (FarSide p) channel (λ item more is gave after row. none row.session row.errand row.live)
+  arrive_none none = kept.refused_taking r k (Arrive p) (FarSide p) channel (λ item more is gave after row. none row.session row.errand row.live)
 
   pub stray_live : (s : RunningSession) (errand : Option Errand) → place_at r.places.items p ≡ Live s errand
       → DecidesTaking (Stray p) (FarSide p) r channel Refused r channel
-  stray_live s errand is = Kept.refused_taking r k (Stray p) (FarSide p) channel
+  stray_live s errand is = kept.refused_taking r k (Stray p) (FarSide p) channel
       (λ item more first gave after row. row.absent s.session (option_map errand_of errand) (live_here r p s errand is))
 
   module _ (g : Segment) (rest : List Parcel) (first : channel ≡ items.Seg g ∷ rest) (of : IsSegmentOf (setup_of_router r) p Home g) where
@@ -182,14 +182,14 @@ module _ (r : AuditedRouter) (k : RouterInvariant r) (p : ℕ) (channel : List P
 
     pub strays : NoneLive r p → (u : AuditedRouter) → u ≡ r → DecidesTaking (Stray p) (FarSide p) r channel Silent u rest
     strays none u same = subst (λ (x : AuditedRouter). DecidesTaking (Stray p) (FarSide p) r channel Silent x rest) (sym same)
-        (Kept.silent_taking r k (Stray p) (FarSide p) channel r (Kept.keeps_itself r k) (items.Seg g) rest first
+        (kept.silent_taking r k (Stray p) (FarSide p) channel r (kept.keeps_itself r k) (items.Seg g) rest first
         (record { absent = none; segment = segment_of (setup_of_router r) g; takes = taken_is; sends = refl; stays = refl }))
 
     module _ (s : RunningSession) (errand : Option Errand) (is : place_at r.places.items p ≡ Live s errand) (known : p < length r.places.items)
         (u : AuditedRouter) (t : RunningSession) (places : u.places.items ≡ slice_set r.places.items p (Live t errand))
         (tables : u.tables ≡ r.tables) (room : u.room ≡ r.room) where
       own_of : IsOfPeering (setup_of_router r) p s.session
-      own_of = (Kept.keeps_here r k p (Live s errand) is).0
+      own_of = (kept.keeps_here r k p (Live s errand) is).0
 
       seg_is : segment_of (setup_of_router r) g ≡ received_as s.session.config g
       seg_is =
@@ -205,10 +205,10 @@ module _ (r : AuditedRouter) (k : RouterInvariant r) (p : ℕ) (channel : List P
       in_streams = subst IsInStreams seg_is of.placed
 
       pub arrives : (arrival : Arrival) → SegmentArrives arrival s g t → DecidesTaking (Arrive p) (FarSide p) r channel Silent u rest
-      arrives arrival arr = Kept.silent_taking r k (Arrive p) (FarSide p) channel u
-          (Kept.keeps_placed r u p known (Live t errand) places k tables room
-          (Kept.same_told r.tables p s t errand (ap (λ (v : RunningSession). v.session.config) arr.effect)
-          (ap (λ (v : RunningSession). v.session.adj_rib_out) arr.effect) (Kept.keeps_here r k p (Live s errand) is)))
+      arrives arrival arr = kept.silent_taking r k (Arrive p) (FarSide p) channel u
+          (kept.keeps_placed r u p known (Live t errand) places k tables room
+          (kept.same_told r.tables p s t errand (ap (λ (v : RunningSession). v.session.config) arr.effect)
+          (ap (λ (v : RunningSession). v.session.adj_rib_out) arr.effect) (kept.keeps_here r k p (Live s errand) is)))
           (items.Seg g) rest first
           (record {
             session = s.session;
@@ -219,7 +219,7 @@ module _ (r : AuditedRouter) (k : RouterInvariant r) (p : ℕ) (channel : List P
             sends = refl;
             end = arr.end;
             arrives = subst (λ (w : PlacedSegment). TakesSegment s.session.end w arr.end) (sym seg_is) arr.takes;
-            effect = Kept.part_is r u p known (Live t errand) places k tables room
+            effect = kept.part_is r u p known (Live t errand) places k tables room
                 ∙ ap (λ (v : RunningSession). let x : model.RouterPart =
                 record (router_part r) { places = at (router_part r).places p (model.Live v.session (option_map errand_of errand)) } in x) arr.effect;
           })
@@ -228,20 +228,20 @@ module _ (r : AuditedRouter) (k : RouterInvariant r) (p : ℕ) (channel : List P
 
 module _ (r : AuditedRouter) (k : RouterInvariant r) (p : ℕ) where
   pub got_none : NoneLive r p → Decides (Got p) r Refused r
-  got_none none = Kept.refused r k (Got p) (λ gave after row. none row.session row.errand row.live)
+  got_none none = kept.refused r k (Got p) (λ gave after row. none row.session row.errand row.live)
 
   pub tick_none : (round : ℕ) → NoneLive r p → Decides (Tick p round) r Refused r
-  tick_none round none = Kept.refused r k (Tick p round) (λ gave after row. none row.session row.errand row.live)
+  tick_none round none = kept.refused r k (Tick p round) (λ gave after row. none row.session row.errand row.live)
 
   module _ (s : RunningSession) (errand : Option Errand) (is : place_at r.places.items p ≡ Live s errand) where
     pub tick_early : (round : ℕ) → ¬ MayPass s.session round → Decides (Tick p round) r Refused r
-    tick_early round not = Kept.refused r k (Tick p round) (λ gave after row. not (subst (λ (v : SessionValue). MayPass v round)
+    tick_early round not = kept.refused r k (Tick p round) (λ gave after row. not (subst (λ (v : SessionValue). MayPass v round)
         (sym (live_session r p s errand is row.session row.errand row.live))
         (record { up = row.passes.up; runs = row.passes.runs; later = row.passes.later; room = row.passes.room })))
 
     pub got_nothing : (u : AuditedRouter) → u ≡ r → CantRead s.session → Decides (Got p) r Refused u
     got_nothing u same cant = subst (λ (x : AuditedRouter). Decides (Got p) r Refused x) (sym same)
-        (Kept.refused r k (Got p) (λ gave after row. by_cause (subst CantRead (live_session r p s errand is row.session row.errand row.live) cant)
+        (kept.refused r k (Got p) (λ gave after row. by_cause (subst CantRead (live_session r p s errand is row.session row.errand row.live) cant)
         row.bytes row.next row.gets))
       where
         by_cause : {session : SessionValue} → CantRead session → (bytes : List ℕ) (next : SessionValue) → GetsFrame session bytes next → ⊥
@@ -252,10 +252,10 @@ module _ (r : AuditedRouter) (k : RouterInvariant r) (p : ℕ) where
         (places : u.places.items ≡ slice_set r.places.items p (Live t errand)) (room : u.room ≡ r.room)
         (config : t.session.config ≡ s.session.config) (follows : FollowsIn p s.session t.session r.tables u.tables) where
       pub keeps_followed : KeepsRouter r u
-      keeps_followed = Kept.keeps_then r u k (record { room = room; all = Kept.as_many r u p known (Live t errand) places }) follows.keeps
-          (Kept.each_place r u p known (Live t errand) places
-          (Kept.live_then r.tables u.tables p s t errand follows.keeps config follows.forgets (Kept.keeps_here r k p (Live s errand) is))
-          (λ q not. Kept.stays_by_follow p s.session t.session r.tables u.tables follows q not (place_at r.places.items q) (Kept.keeps_at r k q)))
+      keeps_followed = kept.keeps_then r u k (record { room = room; all = kept.as_many r u p known (Live t errand) places }) follows.keeps
+          (kept.each_place r u p known (Live t errand) places
+          (kept.live_then r.tables u.tables p s t errand follows.keeps config follows.forgets (kept.keeps_here r k p (Live s errand) is))
+          (λ q not. kept.stays_by_follow p s.session t.session r.tables u.tables follows q not (place_at r.places.items q) (kept.keeps_at r k q)))
 
       part_then : router_part u ≡ record (router_part r) {
         places = at (router_part r).places p (model.Live t.session (option_map errand_of errand));
@@ -268,10 +268,10 @@ module _ (r : AuditedRouter) (k : RouterInvariant r) (p : ℕ) where
             entries = at (router_part r).entries p ((router_part u).entries p);
             dirty = (router_part u).dirty;
             due_out = at (router_part r).due_out p ((router_part u).due_out p);
-          } in x) (Kept.places_are r u p known (Live t errand) places)
+          } in x) (kept.places_are r u p known (Live t errand) places)
 
       pub gets : (step : ReadStep) → ReadsFrame step s t → Decides (Got p) r Silent u
-      gets step reads = Kept.silent r k (Got p) u keeps_followed (record {
+      gets step reads = kept.silent r k (Got p) u keeps_followed (record {
         alone = (refl, refl);
         session = s.session;
         errand = option_map errand_of errand;
@@ -284,7 +284,7 @@ module _ (r : AuditedRouter) (k : RouterInvariant r) (p : ℕ) where
 
       pub ticks : (step : TickStep) (round : ℕ) → SessionTicks step s round t
           → Decides (Tick p round) r Silent u
-      ticks step round passes = Kept.silent r k (Tick p round) u keeps_followed (record {
+      ticks step round passes = kept.silent r k (Tick p round) u keeps_followed (record {
         alone = (refl, refl);
         session = s.session;
         errand = option_map errand_of errand;

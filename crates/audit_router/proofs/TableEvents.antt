@@ -21,7 +21,7 @@ use Rattle.audit_router.specs.Parts.{RouterInvariant, places_of}
 use Rattle.audit_router.specs.Places.{place_at, place_of}
 use Rattle.audit_router.specs.declared.place.Place.{Place}
 use Rattle.audit_router.specs.declared.router.AuditedRouter.{AuditedRouter}
-use Rattle.audit_router.proofs.Kept as Kept
+use Rattle.audit_router.proofs.Kept as kept
 
 -- ---- which sessions are up
 
@@ -41,29 +41,29 @@ module _ (r : AuditedRouter) (k : RouterInvariant r) (t : Tables) (keeps : Keeps
   next = record r { tables = t }
 
   module _ (entries : (q : ℕ) → entries_at t q ≡ entries_at r.tables q) where
-    keeps_by : ((q : ℕ) (s : SessionValue) → KnowsWhatToTell r.tables Kept.nowhere q s → KnowsWhatToTell t Kept.nowhere q s) → KeepsRouter r next
-    keeps_by knows = Kept.keeps_then r next k (record { room = refl; all = refl }) keeps
-        (λ q. Kept.stays_in r.tables t keeps q (subst HasNoEntry (sym (entries q))) (knows q) (place_at r.places.items q) (Kept.keeps_at r k q))
+    keeps_by : ((q : ℕ) (s : SessionValue) → KnowsWhatToTell r.tables kept.nowhere q s → KnowsWhatToTell t kept.nowhere q s) → KeepsRouter r next
+    keeps_by knows = kept.keeps_then r next k (record { room = refl; all = refl }) keeps
+        (λ q. kept.stays_in r.tables t keeps q (subst HasNoEntry (sym (entries q))) (knows q) (place_at r.places.items q) (kept.keeps_at r k q))
 
     keeps_unknown : NothingIsKnown t → KeepsRouter r next
-    keeps_unknown unknown = keeps_by (λ q s h. Kept.knows_nothing t unknown q s)
+    keeps_unknown unknown = keeps_by (λ q s h. kept.knows_nothing t unknown q s)
 
-    keeps_known : t.pending.items ≡ r.tables.pending.items → part_with Kept.nowhere t ≡ record (part_with Kept.nowhere r.tables) {
-      tellings = (part_with Kept.nowhere t).tellings;
-      due_in = (part_with Kept.nowhere t).due_in;
+    keeps_known : t.pending.items ≡ r.tables.pending.items → part_with kept.nowhere t ≡ record (part_with kept.nowhere r.tables) {
+      tellings = (part_with kept.nowhere t).tellings;
+      due_in = (part_with kept.nowhere t).due_in;
     } → KeepsRouter r next
-    keeps_known pending part = keeps_by (λ q s. Kept.knows_on r.tables t keeps q (ap (λ (xs : List (Option Pending)). slice_get xs q) pending)
+    keeps_known pending part = keeps_by (λ q s. kept.knows_on r.tables t keeps q (ap (λ (xs : List (Option Pending)). slice_get xs q) pending)
         (ap (λ (x : model.RouterPart). x.due_out q) part) (ap (λ (x : model.RouterPart). x.dirty) part) (ap (λ (x : model.RouterPart). x.best) part) s)
 
   -- where the part stays as it is
   keeps_part : part_with (places_of r) t ≡ part_with (places_of r) r.tables → t.pending.items ≡ r.tables.pending.items → KeepsRouter r next
   keeps_part same pending = keeps_known (λ q. ap (λ (x : model.RouterPart). x.entries q) same) pending
-      (λ i. record (part_with Kept.nowhere r.tables) {
+      (λ i. record (part_with kept.nowhere r.tables) {
         entries = (same i).entries;
-        tellings = (part_with Kept.nowhere t).tellings;
+        tellings = (part_with kept.nowhere t).tellings;
         best = (same i).best;
         dirty = (same i).dirty;
-        due_in = (part_with Kept.nowhere t).due_in;
+        due_in = (part_with kept.nowhere t).due_in;
         due_out = (same i).due_out;
       })
 
@@ -91,18 +91,18 @@ tells_router r k t q prefix Silent d pending = record {
   rules = d.rules;
   keeps = keeps_known r k t d.keeps (λ n. ap (λ (x : model.RouterPart). x.entries n) d.rules.row.effect) pending
       (λ i. record (d.rules.row.effect i) {
-        places = Kept.nowhere;
-        tellings = (part_with Kept.nowhere t).tellings;
-        due_in = (part_with Kept.nowhere t).due_in;
+        places = kept.nowhere;
+        tellings = (part_with kept.nowhere t).tellings;
+        due_in = (part_with kept.nowhere t).due_in;
       });
 }
 tells_router r k t q prefix (Sends to item) d pending = record {
   rules = d.rules;
   keeps = keeps_known r k t d.keeps (λ n. ap (λ (x : model.RouterPart). x.entries n) d.rules.row.effect) pending
       (λ i. record (d.rules.row.effect i) {
-        places = Kept.nowhere;
-        tellings = (part_with Kept.nowhere t).tellings;
-        due_in = (part_with Kept.nowhere t).due_in;
+        places = kept.nowhere;
+        tellings = (part_with kept.nowhere t).tellings;
+        due_in = (part_with kept.nowhere t).due_in;
       });
 }
 

@@ -1,5 +1,5 @@
 -- The rows of a graft at its target, and of the routers that it asks.
-use Rattle.std.proofs.Common.{◌≡◌, ◌≢◌, ℕ, suc, ◌+◌, ◌<◌, ◌≤◌, List, [], ◌∷◌, length, Option, option_map, Some, None, false, ◌||◌, is_some}
+use Rattle.std.proofs.Common.{◌≡◌, ℕ, suc, ◌+◌, ◌<◌, List, ◌∷◌, length, Option, Some, None, false, ◌||◌, is_some}
 use Rattle.std.proofs.Common.{◌⊎◌, inl, inr, refl, sym, ap, ◌∙◌, subst, arith}
 use Rattle.std.specs.Prelude.{slice_get, slice_set}
 use Rattle.std.specs.FinMap as map
@@ -9,7 +9,7 @@ use Rattle.graft_steps.specs.Landings.{AreAllAsked, IsNextToAsk, Landing}
 use Rattle.graft_steps.specs.declared.item.Item.TheVariants as items
 use Rattle.graft_steps.specs.declared.refusal.Refusal.{Refusal}
 use Rattle.bgp_session.specs.Running.{RunningSession, carried}
-use Rattle.session_value.specs.declared.config.SessionConfig.{SessionConfig}
+
 use Rattle.session_value.specs.Sessions.{SessionValue}
 use Rattle.session_value.specs.Sets.{BestRoutes, Entries, Marks, Prefixes, has}
 use Rattle.rib_stages.specs.Values.{rib_of, table_at}
@@ -19,13 +19,13 @@ use Rattle.graft_model.specs.Points.{at}
 use Rattle.graft_model.specs.RouterRows.{BringsIn, IsLive, MeshIn, MeshTo, OutwardTo, RouterSent}
 use Rattle.graft_model.specs.Setups.{Setup, peerings_in, routers_in}
 use Rattle.graft_model.specs.declared.event.RouterEvent.TheVariants.{Answer, Ask, Collect, Confirm, Land, TurnBack}
-use Rattle.graft_actors.specs.Actors.{MeshItem, OutwardItem, Router, Thing}
-use Rattle.graft_actors.specs.Items.{IsOnItsWay, MayGo, thing_of}
+use Rattle.graft_actors.specs.Actors.{MeshItem, OutwardItem, Router}
+use Rattle.graft_actors.specs.Items.{IsOnItsWay, thing_of}
 use Rattle.router_tables.specs.Dues.{IsDueAgain}
 use Rattle.router_tables.specs.Entering.{entry_here}
 use Rattle.router_tables.specs.Owned.{HasNoEntry, IsLandingOf, IsOfPeering}
 use Rattle.router_tables.proofs.EnterSteps.{brings_all}
-use Rattle.router_tables.proofs.Points.{at_else, at_own}
+
 use Rattle.audit_ruling.specs.Rulings.{Parcel, router_takes}
 use Rattle.audit_ruling.specs.declared.ruling.Ruling.TheVariants.{Refused, Silent, Sends}
 use Rattle.audit_tables.specs.Changes.{ChangesDue, EntersHere, KeepsTables}
@@ -36,16 +36,15 @@ use Rattle.audit_router.specs.Grafts.{AsksNextAt, MayConfirmAt}
 use Rattle.audit_router.specs.Landed.{ComesTo, SettlesIn}
 use Rattle.audit_router.specs.Nexts.{answered_in, asked_in}
 use Rattle.audit_router.specs.Parts.{RouterInvariant, places_of, router_part, setup_of_router}
-use Rattle.audit_router.specs.Places.{HearsAnswer, errand_of, place_at, place_of, word_of}
-use Rattle.audit_router.specs.declared.place.Errand.{Errand}
+use Rattle.audit_router.specs.Places.{place_at, place_of}
+
 use Rattle.audit_router.specs.declared.place.Errand.TheVariants.{Asking, Owing}
 use Rattle.audit_router.specs.declared.place.Place.{Place}
-use Rattle.audit_router.specs.declared.place.Place.TheVariants.{Vacant, Live, Frozen, Shadow}
+use Rattle.audit_router.specs.declared.place.Place.TheVariants.{Vacant, Live}
 use Rattle.audit_router.specs.declared.router.AuditedRouter.{AuditedRouter}
 use Rattle.audit_router.proofs.Inversions.{asking_as, live_as, none_some, owing_as, vacant_as}
-use Rattle.audit_router.proofs.Kept as Kept
-use Rattle.audit_router.proofs.Parcels.{IsParcelOf, first_is, taken_is}
-use Rattle.audit_router.proofs.Sessions.{live_here}
+use Rattle.audit_router.proofs.Kept as kept
+use Rattle.audit_router.proofs.Parcels.{first_is, taken_is}
 
 -- ---- a session comes
 
@@ -67,11 +66,11 @@ comes_as r q item more channel first c refusal refused =
 
 module _ (r : AuditedRouter) (k : RouterInvariant r) (q : ℕ) (channel : List Parcel) where
   pub land_nothing : ¬ ComesTo r channel None → DecidesTaking (Land q) (Router q) r channel Refused r channel
-  land_nothing none = Kept.refused_taking r k (Land q) (Router q) channel (λ item more first gave after row.
+  land_nothing none = kept.refused_taking r k (Land q) (Router q) channel (λ item more first gave after row.
       none (comes_as r q item more channel first row.comes None row.admitted))
 
   pub turn_nothing : ((refusal : Refusal) → ¬ ComesTo r channel (Some refusal)) → DecidesTaking (TurnBack q) (Router q) r channel Refused r channel
-  turn_nothing none = Kept.refused_taking r k (TurnBack q) (Router q) channel (λ item more first gave after row.
+  turn_nothing none = kept.refused_taking r k (TurnBack q) (Router q) channel (λ item more first gave after row.
       none row.refusal (comes_as r q item more channel first row.comes (Some row.refusal) row.cause))
 
   -- a session that comes refused or not, but not both
@@ -100,7 +99,7 @@ module _ (r : AuditedRouter) (k : RouterInvariant r) (q : ℕ) (channel : List P
         → to ≡ routers_in (setup_of_router r) + s.session.config.peering.0
         → DecidesTaking (Land q) (Router q) r channel (Sends to (items.PointAt graft)) u rest
     lands admitted u settles to number =
-        Kept.sends_taking r k (Land q) (Router q) channel u settles.keeps (items.Moved graft s) rest first to (items.PointAt graft)
+        kept.sends_taking r k (Land q) (Router q) channel u settles.keeps (items.Moved graft s) rest first to (items.PointAt graft)
         (OutwardTo s.session.config.peering.0 (model.PointAt graft))
         (record {
           comes = comes_row graft s rest first known vacant;
@@ -124,7 +123,7 @@ module _ (r : AuditedRouter) (k : RouterInvariant r) (q : ℕ) (channel : List P
         → DecidesTaking (TurnBack q) (Router q) r channel (Sends q (items.Back graft s refusal)) u rest
     turns refusal cause way there u same =
         subst (λ (x : AuditedRouter). DecidesTaking (TurnBack q) (Router q) r channel (Sends q (items.Back graft s refusal)) x rest) (sym same)
-        (Kept.sends_taking r k (TurnBack q) (Router q) channel r (Kept.keeps_itself r k) (items.Moved graft s) rest first q (items.Back graft s refusal)
+        (kept.sends_taking r k (TurnBack q) (Router q) channel r (kept.keeps_itself r k) (items.Moved graft s) rest first q (items.Back graft s refusal)
         (MeshTo q (model.Back graft s.session.config.peering.0 s.session refusal))
         (record { comes = comes_row graft s rest first known vacant; refusal = refusal; cause = cause; sends = refl; stays = refl })
         refl there way)
@@ -151,16 +150,16 @@ module _ (r : AuditedRouter) (k : RouterInvariant r) (q graft : ℕ) (s : Runnin
   }
 
   entries_same : (n : ℕ) → entries_at u.tables n ≡ entries_at mid n
-  entries_same n = ap (λ (part : model.RouterPart). part.entries n) (changes.effect Kept.nowhere)
+  entries_same n = ap (λ (part : model.RouterPart). part.entries n) (changes.effect kept.nowhere)
 
   dirty_same : u.tables.rib.dirty ≡ mid.rib.dirty
-  dirty_same = ap (λ (part : model.RouterPart). part.dirty) (changes.effect Kept.nowhere)
+  dirty_same = ap (λ (part : model.RouterPart). part.dirty) (changes.effect kept.nowhere)
 
   no_entry : HasNoEntry (entries_at r.tables p)
-  no_entry = Kept.keeps_here r k p Vacant (vacant_as (place_at r.places.items p) vacant)
+  no_entry = kept.keeps_here r k p Vacant (vacant_as (place_at r.places.items p) vacant)
 
   best_same : mid.rib.best ≡ r.tables.rib.best
-  best_same = ap (λ (part : model.RouterPart). part.best) (enters.changes.effect Kept.nowhere)
+  best_same = ap (λ (part : model.RouterPart). part.best) (enters.changes.effect kept.nowhere)
 
   pub settles_in : SettlesIn q graft s r u
   settles_in = record {
@@ -180,8 +179,8 @@ module _ (r : AuditedRouter) (k : RouterInvariant r) (q graft : ℕ) (s : Runnin
           dirty = sym dirty_same i;
           due_out = at (router_part r).due_out p (due_at u.tables p);
         });
-    keeps = Kept.keeps_then r u k (record { room = room; all = Kept.as_many r u p known (Live s (Some (Owing landing))) places }) tables_keep
-        (Kept.each_place r u p known (Live s (Some (Owing landing))) places (
+    keeps = kept.keeps_then r u k (record { room = room; all = kept.as_many r u p known (Live s (Some (Owing landing))) places }) tables_keep
+        (kept.each_place r u p known (Live s (Some (Owing landing))) places (
           subst (λ (setup : Setup). IsOfPeering setup p s.session) (sym tables_keep.setup) of,
           subst (λ (setup : Setup). IsLandingOf setup u.tables.number.0 p landing.ids) (sym tables_keep.setup)
               (subst (λ n. IsLandingOf (setup_of_router r) n p landing.ids) (sym (ap (λ x. x.0) tables_keep.number))
@@ -192,12 +191,12 @@ module _ (r : AuditedRouter) (k : RouterInvariant r) (q graft : ℕ) (s : Runnin
               })),
           λ found is. absurd (forgets found is),
         )
-        (λ n not. Kept.stays_by_due p mid u.tables changes n not (place_at r.places.items n)
-        (Kept.stays_by_entries p r.tables mid enters.changes n not (place_at r.places.items n) (Kept.keeps_at r k n))));
+        (λ n not. kept.stays_by_due p mid u.tables changes n not (place_at r.places.items n)
+        (kept.stays_by_entries p r.tables mid enters.changes n not (place_at r.places.items n) (kept.keeps_at r k n))));
   }
     where
       places_then : places_of u ≡ at (router_part r).places p (model.Live s.session (Some (model.Owing (record { graft = graft; source = q; next = 0 }))))
-      places_then = Kept.places_are r u p known (Live s (Some (Owing landing))) places
+      places_then = kept.places_are r u p known (Live s (Some (Owing landing))) places
           ∙ (λ i. at (places_of r) p (model.Live s.session (Some (model.Owing (record { graft = ids_graft i; source = ids_source i; next = next i })))))
 
 -- ---- word of the landing
@@ -229,11 +228,11 @@ owing_in r graft p source next session live =
 module _ (r : AuditedRouter) (k : RouterInvariant r) (graft : ℕ) where
   pub ask_early : (q : ℕ) → ¬ ((x : PrefixValue) → has r.tables.rib.dirty x ≡ false) ⊎ ¬ ((x : PrefixValue) → has (table_at r.tables.due_in q) x ≡ false)
       → Decides (Ask graft q) r Refused r
-  ask_early q (inl dirty) = Kept.refused r k (Ask graft q) (λ gave after row. dirty row.clean)
-  ask_early q (inr due) = Kept.refused r k (Ask graft q) (λ gave after row. due row.told)
+  ask_early q (inl dirty) = kept.refused r k (Ask graft q) (λ gave after row. dirty row.clean)
+  ask_early q (inr due) = kept.refused r k (Ask graft q) (λ gave after row. due row.told)
 
   pub ask_nobody : (q : ℕ) → ((p : ℕ) → ¬ AsksNextAt r graft p q) → Decides (Ask graft q) r Refused r
-  ask_nobody q none = Kept.refused r k (Ask graft q) (λ gave after row.
+  ask_nobody q none = kept.refused r k (Ask graft q) (λ gave after row.
       let owing = owing_in r graft row.peering row.source row.next row.session row.live in none row.peering (record {
         landing = owing.landing;
         owed = record { session = owing.running; is = owing.is; graft = owing.graft_is };
@@ -243,11 +242,11 @@ module _ (r : AuditedRouter) (k : RouterInvariant r) (graft : ℕ) where
 
   pub confirm_early : ¬ ((x : PrefixValue) → has r.tables.rib.dirty x ≡ false)
       ⊎ ¬ ((q : ℕ) (x : PrefixValue) → has (table_at r.tables.due_in q) x ≡ false) → Decides (Confirm graft) r Refused r
-  confirm_early (inl dirty) = Kept.refused r k (Confirm graft) (λ gave after row. dirty row.clean)
-  confirm_early (inr due) = Kept.refused r k (Confirm graft) (λ gave after row. due row.told)
+  confirm_early (inl dirty) = kept.refused r k (Confirm graft) (λ gave after row. dirty row.clean)
+  confirm_early (inr due) = kept.refused r k (Confirm graft) (λ gave after row. due row.told)
 
   pub confirm_nobody : ((p source : ℕ) → ¬ MayConfirmAt r graft p source) → Decides (Confirm graft) r Refused r
-  confirm_nobody none = Kept.refused r k (Confirm graft) (λ gave after row.
+  confirm_nobody none = kept.refused r k (Confirm graft) (λ gave after row.
       let owing = owing_in r graft row.peering row.source row.next row.session row.live in none row.peering row.source (record {
         landing = owing.landing;
         owed = record { session = owing.running; is = owing.is; graft = owing.graft_is };
@@ -262,9 +261,9 @@ module _ (r : AuditedRouter) (k : RouterInvariant r) (graft : ℕ) where
         → u.places.items ≡ slice_set r.places.items p (Live asks.owed.session (Some (Asking (record asks.landing { next = q }))))
         → (peering : PeeringId) → peering.0 ≡ p → Decides (Ask graft q) r (Sends q (items.Asked graft peering)) u
     asks q told asks places peering peering_is =
-        let own = Kept.keeps_here r k p (Live asks.owed.session (Some (Owing asks.landing))) asks.owed.is in
-        Kept.sends r k (Ask graft q) u
-        (Kept.keeps_placed r u p known (Live asks.owed.session (Some (Asking (record asks.landing { next = q })))) places k tables room
+        let own = kept.keeps_here r k p (Live asks.owed.session (Some (Owing asks.landing))) asks.owed.is in
+        kept.sends r k (Ask graft q) u
+        (kept.keeps_placed r u p known (Live asks.owed.session (Some (Asking (record asks.landing { next = q })))) places k tables room
         (own.0, (own.1, asks.next.known), own.2))
         q (items.Asked graft peering) (MeshTo q (model.Asked graft p))
         (record {
@@ -281,7 +280,7 @@ module _ (r : AuditedRouter) (k : RouterInvariant r) (graft : ℕ) where
           told = told;
           takes = refl;
           sends = refl;
-          effect = Kept.part_is r u p known (Live asks.owed.session (Some (Asking (record asks.landing { next = q })))) places k tables room
+          effect = kept.part_is r u p known (Live asks.owed.session (Some (Asking (record asks.landing { next = q })))) places k tables room
               ∙ (λ i. record (router_part r) {
                 places = at (router_part r).places p (model.Live asks.owed.session.session
                     (Some (model.Asking (record { graft = asks.owed.graft i; source = asks.landing.ids.source.0; next = q }))));
@@ -293,9 +292,9 @@ module _ (r : AuditedRouter) (k : RouterInvariant r) (graft : ℕ) where
         → u.places.items ≡ slice_set r.places.items p (Live may.owed.session None)
         → (peering : PeeringId) → peering.0 ≡ p → Decides (Confirm graft) r (Sends source (items.Done graft peering)) u
     confirms told source may places peering peering_is =
-        let own = Kept.keeps_here r k p (Live may.owed.session (Some (Owing may.landing))) may.owed.is in
-        Kept.sends r k (Confirm graft) u
-        (Kept.keeps_placed r u p known (Live may.owed.session None) places k tables room (own.0, tt, own.2))
+        let own = kept.keeps_here r k p (Live may.owed.session (Some (Owing may.landing))) may.owed.is in
+        kept.sends r k (Confirm graft) u
+        (kept.keeps_placed r u p known (Live may.owed.session None) places k tables room (own.0, tt, own.2))
         source (items.Done graft peering) (MeshTo source (model.Done graft p))
         (record {
           peering = p;
@@ -311,7 +310,7 @@ module _ (r : AuditedRouter) (k : RouterInvariant r) (graft : ℕ) where
           told = told;
           takes = refl;
           sends = refl;
-          effect = Kept.part_is r u p known (Live may.owed.session None) places k tables room;
+          effect = kept.part_is r u p known (Live may.owed.session None) places k tables room;
         })
         (λ i. (source, MeshItem (model.Done graft (peering_is i))))
         (subst (λ n. n < routers_in (setup_of_router r)) may.from own.1.source) tt
@@ -320,7 +319,7 @@ module _ (r : AuditedRouter) (k : RouterInvariant r) (graft : ℕ) where
 
 module _ (r : AuditedRouter) (k : RouterInvariant r) (q : ℕ) (channel : List Parcel) where
   pub answer_nothing : asked_in (slice_get channel 0) ≡ None → DecidesTaking (Answer q) (Router q) r channel Refused r channel
-  answer_nothing none = Kept.refused_taking r k (Answer q) (Router q) channel (λ item more first gave after row.
+  answer_nothing none = kept.refused_taking r k (Answer q) (Router q) channel (λ item more first gave after row.
       let parcel = taken_is (setup_of_router r) q item q (model.Asked row.graft row.peering) row.takes in
       none_some (row.graft, parcel.0.0)
       (sym none ∙ (ap asked_in (first_is channel item more first) ∙ ap (λ (x : Parcel). asked_in (Some x)) parcel.1)))
@@ -329,7 +328,7 @@ module _ (r : AuditedRouter) (k : RouterInvariant r) (q : ℕ) (channel : List P
       → (u : AuditedRouter) → u ≡ r → DecidesTaking (Answer q) (Router q) r channel (Sends q (items.Answered graft peering)) u rest
   answers graft peering rest first there u same =
       subst (λ (x : AuditedRouter). DecidesTaking (Answer q) (Router q) r channel (Sends q (items.Answered graft peering)) x rest) (sym same)
-      (Kept.sends_taking r k (Answer q) (Router q) channel r (Kept.keeps_itself r k) (items.Asked graft peering) rest first q
+      (kept.sends_taking r k (Answer q) (Router q) channel r (kept.keeps_itself r k) (items.Asked graft peering) rest first q
       (items.Answered graft peering) (MeshTo q (model.Answered graft peering.0))
       (record { graft = graft; peering = peering.0; takes = refl; sends = refl; stays = refl }) refl there tt)
 
@@ -337,7 +336,7 @@ module _ (r : AuditedRouter) (k : RouterInvariant r) (q : ℕ) (channel : List P
   either_none none graft peering e = none_some (graft, peering) (sym none ∙ e)
 
   pub collect_nothing : answered_in (slice_get channel 0) ≡ None → DecidesTaking (Collect q) (Router q) r channel Refused r channel
-  collect_nothing none = Kept.refused_taking r k (Collect q) (Router q) channel (λ item more first gave after row. by item more first row)
+  collect_nothing none = kept.refused_taking r k (Collect q) (Router q) channel (λ item more first gave after row. by item more first row)
     where
       no : (item : Parcel) (more : List Parcel) → channel ≡ item ∷ more → (graft peering : ℕ)
           → router_takes (Router q) (thing_of carried (setup_of_router r) item) ≡ Some (MeshIn q (model.Answered graft peering)) → ⊥
@@ -360,7 +359,7 @@ module _ (r : AuditedRouter) (k : RouterInvariant r) (q : ℕ) (channel : List P
     pub ignores : ((s : RunningSession) (landing : Landing) → place_at r.places.items peering.0 ≡ Live s (Some (Asking landing)) → landing.ids.graft ≡ graft
         → landing.next ≡ q → ⊥) → (u : AuditedRouter) → router_part u ≡ router_part r → KeepsRouter r u
         → DecidesTaking (Collect q) (Router q) r channel Silent u rest
-    ignores unawaited u same keeps = Kept.silent_taking r k (Collect q) (Router q) channel u keeps (items.Answered graft peering) rest first
+    ignores unawaited u same keeps = kept.silent_taking r k (Collect q) (Router q) channel u keeps (items.Answered graft peering) rest first
         (inr (record {
           graft = graft;
           peering = peering.0;
@@ -380,10 +379,10 @@ module _ (r : AuditedRouter) (k : RouterInvariant r) (q : ℕ) (channel : List P
         → u.places.items ≡ slice_set r.places.items peering.0 (Live s (Some (Owing (record landing { next = landing.next + 1 }))))
         → u.tables ≡ r.tables → u.room ≡ r.room → DecidesTaking (Collect q) (Router q) r channel Silent u rest
     counts s landing is graft_is next_is known u places tables room =
-        let own = Kept.keeps_here r k peering.0 (Live s (Some (Asking landing))) is in
+        let own = kept.keeps_here r k peering.0 (Live s (Some (Asking landing))) is in
         let then : Place = Live s (Some (Owing (record landing { next = landing.next + 1 }))) in
-        Kept.silent_taking r k (Collect q) (Router q) channel u
-        (Kept.keeps_placed r u peering.0 known then places k tables room (own.0, own.1.0, own.2)) (items.Answered graft peering) rest first
+        kept.silent_taking r k (Collect q) (Router q) channel u
+        (kept.keeps_placed r u peering.0 known then places k tables room (own.0, own.1.0, own.2)) (items.Answered graft peering) rest first
         (inl (record {
           graft = graft;
           peering = peering.0;
@@ -395,7 +394,7 @@ module _ (r : AuditedRouter) (k : RouterInvariant r) (q : ℕ) (channel : List P
             is = ap place_of is ∙ (λ i. model.Live s.session
                 (Some (model.Asking (record { graft = graft_is i; source = landing.ids.source.0; next = next_is i }))));
           };
-          effect = Kept.part_is r u peering.0 known then places k tables room
+          effect = kept.part_is r u peering.0 known then places k tables room
               ∙ (λ i. record (router_part r) {
                 places = at (router_part r).places peering.0 (model.Live s.session
                     (Some (model.Owing (record { graft = graft_is i; source = landing.ids.source.0; next = plus_one i }))));

@@ -1,6 +1,6 @@
 -- The group of the least prefix of all: what is told of it first, and what stays of it.
-use Rattle.std.proofs.Common.{◌≡◌, ◌≢◌, ℕ, ◌+◌, ◌<◌, ◌≤◌, Bool, true, false, ◌||◌, List, [], ◌∷◌, ◌++◌, length, take, drop, Option, Some, None}
-use Rattle.std.proofs.Common.{is_some, ◌⊎◌, inl, inr, refl, sym, ap, ◌∙◌, subst, arith}
+use Rattle.std.proofs.Common.{◌≡◌, ◌≢◌, ℕ, ◌+◌, ◌≤◌, Bool, true, false, ◌||◌, List, [], ◌∷◌, ◌++◌, length, take, drop, Option, Some, None}
+use Rattle.std.proofs.Common.{is_some, inl, inr, refl, sym, ap, ◌∙◌, subst, arith}
 use Rattle.std.specs.Prelude.{All}
 use Rattle.std.specs.FinMap as map
 use Rattle.std.specs.List.{list_any}
@@ -25,7 +25,6 @@ use Rattle.audit_tables.specs.declared.pending.Group.{Group}
 use Rattle.audit_tables.proofs.Grouping.{put_here, put_there}
 use Rattle.audit_tables.proofs.Keeping.{no_some, one_some}
 use Rattle.audit_tables.proofs.Listings.{none_below_head, not_below_through, one_or_another, rest_lists}
-
 -- ---- groups of a kind, however that is said
 
 pub groups_of_same : (Is Js : Kind) (to_tell : PrefixValue → Option Attrs) → ((x : PrefixValue) → Is x → Js x) → ((x : PrefixValue) → Js x → Is x)

@@ -1,21 +1,20 @@
 -- Prefixes leave what is due on a peering, one after another.
-use Rattle.std.proofs.Common.{◌≡◌, ◌≢◌, ℕ, Bool, true, false, cond, not, ◌&&◌, ◌||◌, List, [], ◌∷◌, ◌++◌, length, is_some, None}
-use Rattle.std.proofs.Common.{inl, inr, refl, sym, ap, ◌∙◌, subst}
+use Rattle.std.proofs.Common.{◌≡◌, ℕ, Bool, true, false, cond, not, ◌&&◌, ◌||◌, length, is_some, None}
+use Rattle.std.proofs.Common.{refl, sym, ap, ◌∙◌}
 use Rattle.std.specs.FinMap as map
-use Rattle.std.specs.List.{list_any}
+
 use Rattle.std.specs.Ordering.{eq_by_cmp}
 use Rattle.bgp_types.specs.Prefixes.{PrefixValue, same_prefix}
 use Rattle.bgp_types.specs.Tables.{prefix_cmp}
 use Rattle.bgp_types.proofs.TableLaws.{prefix_total}
 use Rattle.session_value.specs.Sets.{Prefixes, has}
 use Rattle.rib_stages.specs.Values.{table_at}
-use Rattle.update_plan.proofs.Keys.{keys_any, same_is}
+use Rattle.update_plan.proofs.Keys.{same_is}
 use Rattle.graft_model.specs.Points.{at}
 use Rattle.graft_model.specs.Sets.{Drops}
 use Rattle.router_tables.proofs.Points.{at_else, at_is, at_own}
 use Rattle.audit_tables.specs.Parts.{due_at}
 use Rattle.audit_tables.specs.declared.tables.Tables.{Tables}
-
 -- What passes the test has left what is due on the peering.
 pub record HasDropped (t : Tables) (p : ℕ) (test : PrefixValue → Bool) (u : Tables) : Type 0 where
   pub same : u ≡ record t { due_out = u.due_out }

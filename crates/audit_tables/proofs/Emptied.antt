@@ -1,5 +1,5 @@
 -- Sets in which nothing is.
-use Rattle.std.proofs.Common.{◌≡◌, ℕ, ◌<◌, ◌≤◌, ◌+◌, ◌↔◌, Bool, true, false, List, length, Option, Some, None, ◌⊎◌, inl, inr, refl, sym, ap, ◌∙◌, subst, arith}
+use Rattle.std.proofs.Common.{◌≡◌, ℕ, ◌<◌, ◌≤◌, ◌+◌, ◌↔◌, Bool, true, false, List, length, Option, Some, None, inl, inr, sym, ap, ◌∙◌, subst, arith}
 use Rattle.std.specs.Prelude.{IsTrue, is_none}
 use Rattle.std.specs.FinMap as map
 use Rattle.std.proofs.lemmas.Bool.{cases_lt, false≢true}
@@ -10,7 +10,6 @@ use Rattle.rib_stages.specs.Values.{table_at}
 use Rattle.rib_stages.proofs.Drops.{least_is, no_least_is}
 use Rattle.router_tables.proofs.DueSteps.{none_in, table_at_end}
 use Rattle.router_tables.proofs.Points.{one_or_other}
-
 abbrev pub IsEmptied : Prefixes → Type 0
 IsEmptied set = (x : PrefixValue) → has set x ≡ false
 

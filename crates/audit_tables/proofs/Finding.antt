@@ -1,18 +1,18 @@
 -- What is to be told on a session: by the tables and by the model, and once an UPDATE has told some of it.
-use Rattle.std.proofs.Common.{◌≡◌, ◌≢◌, ℕ, Bool, true, false, not, ◌&&◌, List, length, Option, Some, refl, sym, ap, ◌∙◌, subst}
+use Rattle.std.proofs.Common.{◌≡◌, ℕ, true, List, Option, sym, ap, ◌∙◌, subst}
 use Rattle.std.specs.FinMap as map
 use Rattle.std.specs.List.{list_any}
 use Rattle.bgp_types.specs.declared.attrs.Attrs.{Attrs}
 use Rattle.bgp_types.specs.Prefixes.{PrefixValue, same_prefix}
 use Rattle.bgp_story.specs.Readings.{Routes, apply}
 use Rattle.route_policy.specs.Telling.{OutSide, tell_out}
-use Rattle.route_policy.specs.declared.best.Best.{Best}
+
 use Rattle.route_policy.specs.declared.rule.Rule.{Rule}
 use Rattle.session_value.specs.declared.config.SessionConfig.{SessionConfig}
 use Rattle.session_value.specs.Cases.{update_for}
 use Rattle.session_value.specs.Sessions.{SessionValue}
 use Rattle.session_value.specs.Sets.{BestRoutes, Prefixes, has}
-use Rattle.rib_stages.specs.Values.{rib_of, table_at}
+use Rattle.rib_stages.specs.Values.{rib_of}
 use Rattle.update_plan.specs.Plans.{AreWholeBatches, Without}
 use Rattle.update_plan.specs.ToTell.{IsPrefixToTell, rib_to_tell}
 use Rattle.update_plan.specs.declared.batch.Batch.{Batch}
@@ -25,13 +25,12 @@ use Rattle.graft_model.specs.Sets.{Drops}
 use Rattle.graft_model.specs.Setups.{Setup}
 use Rattle.router_tables.specs.Entering.{rules_by}
 use Rattle.router_tables.proofs.EnterSteps.{rules_is}
-use Rattle.router_tables.proofs.Points.{at_own}
+
 use Rattle.audit_tables.specs.Changes.{ChangesDue, PutsFirstAlike}
-use Rattle.audit_tables.specs.Groups.{AreFirstAlike, AreGroups, GroupTable}
+use Rattle.audit_tables.specs.Groups.{AreGroups, GroupTable}
 use Rattle.audit_tables.specs.Parts.{TablesInvariant, due_at, part_with}
 use Rattle.audit_tables.specs.declared.tables.Tables.{Tables}
 use Rattle.audit_tables.proofs.Alike.{groups_of_same}
-
 -- ---- what the tables find
 
 module _ (t : Tables) (k : TablesInvariant t) (places : ℕ → Place) (p : ℕ) (s : SessionValue) where

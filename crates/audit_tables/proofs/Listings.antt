@@ -1,8 +1,8 @@
 -- Prefixes of a kind that are listed in ascending order: the first, and the rest of them.
-use Rattle.std.proofs.Common.{◌≡◌, ◌≢◌, ℕ, Bool, true, false, ◌||◌, List, [], ◌∷◌, ◌++◌, append_assoc, length, take, Option, Some, None}
+use Rattle.std.proofs.Common.{◌≡◌, ◌≢◌, Bool, true, false, ◌||◌, List, [], ◌∷◌, ◌++◌, append_assoc, length, Option, Some, None}
 use Rattle.std.proofs.Common.{is_some, ◌⊎◌, inl, inr, refl, sym, ap, ◌∙◌, subst, arith}
 use Rattle.std.specs.Prelude.{All}
-use Rattle.std.specs.Cmp.{tied_itself}
+
 use Rattle.std.specs.FinMap as map
 use Rattle.std.specs.List.{list_any}
 use Rattle.std.specs.List.Sorted.{IsStrictlySortedBy}
@@ -24,7 +24,6 @@ use Rattle.update_plan.proofs.Keys.{first_keys_rise, keys_any}
 use Rattle.update_plan.proofs.Listed.{back_has, below_not_above, is_same, member_has, neither, not_below_itself, rising_apart, same_itself}
 use Rattle.update_plan.proofs.Plans.{Kind}
 use Rattle.router_tables.proofs.EnterSteps.{same_or_not}
-
 pub one_or_another : (x y : PrefixValue) → (y ≡ x) ⊎ (y ≢ x)
 one_or_another x y = elim (same_or_not x y) [
   | inl e ↦ inl e

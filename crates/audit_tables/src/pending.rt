@@ -4,7 +4,6 @@ ghost use Rattle.std.specs.Prelude.{ℕ, ◌≡◌, ◌≢◌, ◌≤◌, ◌-�
 ghost use Rattle.std.specs.FinMap as map;
 ghost use Rattle.bgp_types.specs.declared.attrs.Attrs.{Attrs};
 ghost use Rattle.bgp_types.specs.Prefixes.{PrefixValue};
-ghost use Rattle.bgp_types.specs.Tables.{first_above};
 ghost use Rattle.update_plan.specs.Plans.{Without, AreWholeBatches};
 ghost use Rattle.audit_tables.specs.Groups.{AreFirstAlike, AreGroups, prefixes_of};
 
