@@ -12,14 +12,13 @@ use Rattle.graft_model.specs.First.{place_in}
 use Rattle.graft_model.specs.Parts as model
 use Rattle.graft_model.specs.Setups.{IsSetup, PeeringSetup, Setup}
 use Rattle.actor_configs.specs.Configs.{starting_here}
-
-
 use Rattle.router_tables.proofs.Points.{one_or_other}
 use Rattle.audit_tables.proofs.Beginning.{replicate_length}
 use Rattle.audit_router.specs.Begins.{AreBegun, CanBegin, begun_place}
 use Rattle.audit_router.specs.Places.{place_at, place_of}
 use Rattle.audit_router.specs.declared.place.Place.{Place}
 use Rattle.audit_router.specs.declared.place.Place.TheVariants.{Live, Vacant}
+
 -- ---- places one after another
 
 abbrev begun_session : SessionConfig → RunningSession

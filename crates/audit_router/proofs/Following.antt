@@ -28,6 +28,7 @@ use Rattle.audit_tables.specs.declared.tables.Tables.{Tables}
 use Rattle.audit_tables.proofs.Changes.{forgotten, get_set_other}
 use Rattle.audit_tables.proofs.Keeping.{keeps_then}
 use Rattle.audit_router.specs.Followed.{FollowsIn}
+
 -- ---- what is kept
 
 pub keeps_more : (t u v : Tables) → KeepsTables t u → KeepsTables u v → KeepsTables t v

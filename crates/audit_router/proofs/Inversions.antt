@@ -11,6 +11,7 @@ use Rattle.audit_router.specs.declared.place.Errand.{Errand}
 use Rattle.audit_router.specs.declared.place.Errand.TheVariants.{Leaving, Owing, Asking}
 use Rattle.audit_router.specs.declared.place.Place.{Place}
 use Rattle.audit_router.specs.declared.place.Place.TheVariants.{Vacant, Live, Frozen, Shadow}
+
 -- ---- what a place of the model has
 
 abbrev live_in : model.Place → Option (SessionValue × Option model.Errand)

@@ -14,7 +14,6 @@ use Rattle.session_value.specs.Sets.{BestRoutes, Prefixes}
 use Rattle.route_policy.specs.Telling.{tell_out}
 use Rattle.rib_stages.specs.Values.{table_at}
 use Rattle.update_plan.specs.ToTell.{IsPrefixToTell}
-
 use Rattle.graft_model.specs.Decisions.{out_side}
 use Rattle.graft_model.specs.Points.{at}
 use Rattle.graft_model.specs.Setups.{Setup, peerings_in, room_of}
@@ -29,7 +28,6 @@ use Rattle.graft_actors.proofs.Numbers.{there}
 use Rattle.router_tables.specs.Owned.{HasNoEntry, IsGraftOf, IsOfPeering}
 use Rattle.router_tables.proofs.Points.{at_else, at_is, one_or_other}
 use Rattle.audit_ruling.specs.Rulings.{Parcel, router_takes}
-
 use Rattle.audit_ruling.specs.declared.ruling.Ruling.TheVariants.{Refused, Silent, Sends}
 use Rattle.audit_tables.specs.Changes.{ChangesDue, ChangesEntries, KeepsTables}
 use Rattle.audit_tables.specs.Groups.{AreGroups, GroupTable}
@@ -43,6 +41,7 @@ use Rattle.audit_router.specs.declared.place.Errand.{Errand}
 use Rattle.audit_router.specs.declared.place.Place.{Place}
 use Rattle.audit_router.specs.declared.place.Place.TheVariants.{Vacant, Live, Frozen, Shadow}
 use Rattle.audit_router.specs.declared.router.AuditedRouter.{AuditedRouter}
+
 pub nowhere : ℕ → model.Place
 nowhere p = model.Vacant
 

@@ -10,3 +10,4 @@ mod TableEvents
 mod Searching
 mod Beginning
 mod Resting
+mod Firsts

@@ -16,6 +16,7 @@ use Rattle.graft_actors.specs.Items.{segment_of, segment_thing, thing_of}
 use Rattle.audit_ruling.specs.Rulings.{Parcel, router_takes}
 use Rattle.audit_router.specs.Nexts.{is_segment}
 use Rattle.audit_router.proofs.Inversions.{none_some, some_is}
+
 -- ---- between routers
 
 abbrev mesh_at : Thing → Option Mesh

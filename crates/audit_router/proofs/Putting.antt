@@ -14,7 +14,6 @@ use Rattle.bgp_session.specs.Steps.{offered_length}
 use Rattle.session_value.specs.Cases.{PutsUpdate, update_for}
 use Rattle.session_value.specs.Sessions.{SessionValue, peering_of, state}
 use Rattle.session_value.specs.Sets.{Lists, has}
-
 use Rattle.update_plan.specs.declared.batch.Batch.{Batch}
 use Rattle.update_plan.proofs.PlanLaws.{changes_told, one_way_told}
 use Rattle.graft_model.proofs.Rising.{one_least, one_list}
@@ -46,6 +45,7 @@ use Rattle.audit_router.specs.declared.place.Place.TheVariants.{Live}
 use Rattle.audit_router.specs.declared.router.AuditedRouter.{AuditedRouter}
 use Rattle.audit_router.proofs.Kept as kept
 use Rattle.audit_router.proofs.Sessions.{NoneLive, live_here, live_session}
+
 -- ---- what is to be told becomes known
 
 module _ (r : AuditedRouter) (k : RouterInvariant r) (p : ℕ) (s : RunningSession) (errand : Option Errand) (is : place_at r.places.items p ≡ Live s errand)

@@ -4,14 +4,11 @@ use Rattle.std.proofs.Common.{inl, inr, refl, sym, ap, ◌∙◌, arith}
 use Rattle.std.specs.Prelude.{IsTrue, MatchBool, count_by, filter, fold, if◌then◌else◌}
 use Rattle.std.specs.List.{range_with_len}
 use Rattle.std.proofs.lemmas.Bool.{false≢true}
-
 use Rattle.bgp_session.specs.Fronts.{CanRead, CantRead}
 use Rattle.bgp_session.specs.Running.{RunningSession}
 use Rattle.session_value.specs.Sessions.{SessionValue}
 use Rattle.session_value.specs.Sets.{has}
 use Rattle.rib_stages.specs.Values.{table_at}
-
-
 use Rattle.graft_steps.specs.declared.rest.Pending.{Pending}
 use Rattle.graft_steps.specs.declared.rest.Pending.TheVariants.{Bag, Channel, Dirty, DueIn, DueOut, Graft, Script, Stream}
 use Rattle.graft_model.specs.GraftRows.{is_taken, taken_in}
@@ -24,6 +21,7 @@ use Rattle.audit_router.specs.declared.place.Place.{Place}
 use Rattle.audit_router.specs.declared.place.Place.TheVariants.{Live, Vacant}
 use Rattle.audit_router.specs.declared.router.AuditedRouter.{AuditedRouter}
 use Rattle.audit_router.proofs.Inversions.{none_some}
+
 -- ---- one place
 
 abbrev pub RestsAt : model.Place → Type 0

@@ -5,6 +5,7 @@ use Rattle.router_tables.proofs.Points.{one_or_other}
 use Rattle.audit_router.specs.Places.{place_at}
 use Rattle.audit_router.specs.declared.place.Place.{Place}
 use Rattle.audit_router.specs.declared.place.Place.TheVariants.{Vacant}
+
 -- none of the first so many is so
 abbrev pub NoneBelow : (ℕ → Type 0) → ℕ → Type 0
 NoneBelow Is n = (p : ℕ) → p < n → ¬ Is p

@@ -29,7 +29,6 @@ use Rattle.router_tables.specs.Owned.{IsOfPeering}
 use Rattle.audit_ruling.specs.Rulings.{Parcel, router_takes}
 use Rattle.audit_ruling.specs.declared.ruling.Ruling.TheVariants.{Refused, Silent, Sends}
 use Rattle.audit_tables.specs.Parts.{part_with}
-
 use Rattle.audit_router.specs.Decides.{Decides, DecidesTaking, KeepsRouter}
 use Rattle.audit_router.specs.Followed.{FollowsIn}
 use Rattle.audit_router.specs.Parts.{RouterInvariant, places_of, router_part, setup_of_router}
@@ -91,6 +90,13 @@ module _ (r : AuditedRouter) (p : ℕ) where
 part_at : (from len : ℕ) (e f : Endpoint) (segment : PlacedSegment) → EmitsPart from len e segment f → EmitsAt from len e segment f
 part_at from len e f segment h = record { offset = h.0; size = h.1; emits = h.2 }
 
+-- a segment is short, a slice or without bytes
+short_part : (from len : ℕ) (e f : Endpoint) (segment : PlacedSegment) → EmitsPart from len e segment f → length segment.bytes < 65536
+short_part from len e f segment h = elim h.2 [
+  | inl slice ↦ let short = slice.short in omega (arith, short)
+  | inr empty ↦ let none : length segment.bytes ≡ 0 = ap (λ (w : PlacedSegment). length w.bytes) empty.empty in omega (arith, none)
+]
+
 at_part : (from len : ℕ) (e f : Endpoint) (segment : PlacedSegment) → EmitsAt from len e segment f → EmitsPart from len e segment f
 at_part from len e f segment h = (h.offset, h.size, h.emits)
 
@@ -123,7 +129,7 @@ module _ (r : AuditedRouter) (k : RouterInvariant r) (p from len : ℕ) where
         (λ gave after row. never row.segment row.end (subst (λ (v : SessionValue). EmitsPart from len v.end row.segment row.end)
         (sym (live_session r p s errand is row.session row.errand row.live)) (at_part from len row.session.end row.end row.segment row.emits)))
 
-    module _ (segment : Segment) (emits : SessionEmits (EmitsPart from len) s.session segment t.session) (short : length segment.bytes < 65536)
+    module _ (segment : Segment) (emits : SessionEmits (EmitsPart from len) s.session segment t.session)
         (there : p < peerings_in (setup_of_router r)) where
       placed_is : segment_of (setup_of_router r) segment ≡ sent_as s.session.config segment
       placed_is =
@@ -156,7 +162,7 @@ module _ (r : AuditedRouter) (k : RouterInvariant r) (p from len : ℕ) where
           (record {
             peering = ap (λ q. q.0) emits.peering ∙ own.peering;
             way = emits.way;
-            len = omega (arith, short);
+            len = let short = short_part from len s.session.end emits.end (sent_as s.session.config segment) emits.step in omega (arith, short);
             placed = subst IsInStreams (sym placed_is) emits.in_streams;
           })
 

@@ -12,7 +12,6 @@ use Rattle.graft_steps.specs.Refusals.{freeze_refusal}
 use Rattle.bgp_session.specs.Running.{RunningSession, carried}
 use Rattle.session_value.specs.Sessions.{SessionValue, hold_time, state}
 use Rattle.session_value.specs.Sets.{Entries, Marks}
-
 use Rattle.graft_model.specs.Parts as model
 use Rattle.graft_model.specs.Points.{at}
 use Rattle.graft_model.specs.RouterRows.{IsLive, MeshIn, MeshTo, OrderIn, ReportOut}
@@ -26,21 +25,19 @@ use Rattle.audit_ruling.specs.Rulings.{Parcel, router_takes}
 use Rattle.audit_ruling.specs.declared.ruling.Ruling.TheVariants.{Refused, Silent, Sends}
 use Rattle.audit_tables.specs.Changes.{ChangesDue, ChangesEntries}
 use Rattle.audit_tables.specs.Parts.{IsForgotten, due_at, entries_at, part_with}
-
 use Rattle.audit_router.specs.Decides.{Decides, DecidesTaking}
 use Rattle.audit_router.specs.Grafts.{BeginsAt, IsFrozenAt, IsLiveAgain, IsRefusedAt, MayFreezeAt}
 use Rattle.audit_router.specs.Nexts.{back_in, done_in, order_in}
 use Rattle.audit_router.specs.Parts.{IsErrandOf, RouterInvariant, places_of, router_part, setup_of_router}
 use Rattle.audit_router.specs.Places.{place_at, place_of}
-
 use Rattle.audit_router.specs.declared.place.Errand.TheVariants.{Leaving}
-
 use Rattle.audit_router.specs.declared.place.Place.TheVariants.{Vacant, Live, Frozen, Shadow}
 use Rattle.audit_router.specs.declared.router.AuditedRouter.{AuditedRouter}
 use Rattle.audit_router.proofs.Inversions.{frozen_as, leaving_as, live_as}
 use Rattle.audit_router.proofs.Kept as kept
 use Rattle.audit_router.proofs.Parcels.{IsOrderOf, first_is, ordered_is, taken_is}
 use Rattle.audit_router.proofs.Sessions.{live_here}
+
 -- ---- the order
 
 module _ (r : AuditedRouter) (k : RouterInvariant r) (graft : ℕ) (channel : List Parcel) where

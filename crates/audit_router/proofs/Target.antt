@@ -9,7 +9,6 @@ use Rattle.graft_steps.specs.Landings.{AreAllAsked, IsNextToAsk, Landing}
 use Rattle.graft_steps.specs.declared.item.Item.TheVariants as items
 use Rattle.graft_steps.specs.declared.refusal.Refusal.{Refusal}
 use Rattle.bgp_session.specs.Running.{RunningSession, carried}
-
 use Rattle.session_value.specs.Sessions.{SessionValue}
 use Rattle.session_value.specs.Sets.{BestRoutes, Entries, Marks, Prefixes, has}
 use Rattle.rib_stages.specs.Values.{rib_of, table_at}
@@ -25,7 +24,6 @@ use Rattle.router_tables.specs.Dues.{IsDueAgain}
 use Rattle.router_tables.specs.Entering.{entry_here}
 use Rattle.router_tables.specs.Owned.{HasNoEntry, IsLandingOf, IsOfPeering}
 use Rattle.router_tables.proofs.EnterSteps.{brings_all}
-
 use Rattle.audit_ruling.specs.Rulings.{Parcel, router_takes}
 use Rattle.audit_ruling.specs.declared.ruling.Ruling.TheVariants.{Refused, Silent, Sends}
 use Rattle.audit_tables.specs.Changes.{ChangesDue, EntersHere, KeepsTables}
@@ -37,7 +35,6 @@ use Rattle.audit_router.specs.Landed.{ComesTo, SettlesIn}
 use Rattle.audit_router.specs.Nexts.{answered_in, asked_in}
 use Rattle.audit_router.specs.Parts.{RouterInvariant, places_of, router_part, setup_of_router}
 use Rattle.audit_router.specs.Places.{place_at, place_of}
-
 use Rattle.audit_router.specs.declared.place.Errand.TheVariants.{Asking, Owing}
 use Rattle.audit_router.specs.declared.place.Place.{Place}
 use Rattle.audit_router.specs.declared.place.Place.TheVariants.{Vacant, Live}
