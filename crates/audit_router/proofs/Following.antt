@@ -5,11 +5,14 @@ use Rattle.std.proofs.lemmas.List.{length-set}
 use Rattle.std.specs.FinMap as map
 use Rattle.std.specs.List.{list_any}
 use Rattle.bgp_types.specs.Prefixes.{PrefixValue, same_prefix}
+use Rattle.bgp_session.specs.Steps.{TellsRead, TellsRound}
 use Rattle.bgp_session.specs.declared.answers.ReadStep.{ReadStep}
+use Rattle.bgp_session.specs.declared.answers.TickStep.{TickStep}
 use Rattle.bgp_session.specs.declared.answers.ReadStep.TheVariants.{Opened, Established, Changed, Closed}
 use Rattle.route_policy.specs.declared.entry.Entry.{Entry}
 use Rattle.rib_stages.specs.Choosing.{NoneBehind}
 use Rattle.rib_stages.specs.Values.{rib_of}
+use Rattle.session_value.specs.Cases.{GetsFrame, PassesRound}
 use Rattle.session_value.specs.Sessions.{SessionValue, state}
 use Rattle.session_value.specs.Sets.{BestRoutes, Entries, Marks, Prefixes}
 use Rattle.graft_model.specs.Decisions.{entry_of}
@@ -19,9 +22,11 @@ use Rattle.graft_model.specs.RouterRows.{DueThen}
 use Rattle.graft_model.specs.Setups.{peerings_in, routers_in}
 use Rattle.router_tables.specs.Dues.{IsDueBest}
 use Rattle.router_tables.specs.Entering.{entry_here}
-use Rattle.router_tables.specs.Reads.{DueBy, prefixes_in}
+use Rattle.router_tables.specs.Reads.{DueBy, followed, prefixes_in}
 use Rattle.router_tables.proofs.EnterSteps.{enters_none, entry_at}
 use Rattle.router_tables.proofs.Points.{at_is}
+use Rattle.router_tables.proofs.Reads.{due_then, follows_heard}
+use Rattle.router_tables.proofs.Rounds.{due_round, follows_round}
 use Rattle.audit_tables.specs.Changes.{ChangesDue, EntersHere, KeepsTables}
 use Rattle.audit_tables.specs.Parts.{IsForgotten, NothingIsKnown, TablesInvariant, due_at, entries_at, part_with, pending_at}
 use Rattle.audit_tables.specs.declared.tables.Tables.{Tables}
@@ -187,12 +192,26 @@ LetsDue step s u = (best : BestRoutes) (before after : Prefixes) → DueBy step 
 
 pub follows : (step : ReadStep) (p : ℕ) (s u : SessionValue) (old new : Tables) → HearsBy step s u → LetsDue step s u → IsFollowed step p u old new
     → FollowsIn p s u old new
-follows step p s u old new hears lets followed = record {
-  entries = hears (entry_of old.known.setup old.number.0 u) (entries_at old p) (entries_at new p) followed.each followed.others;
-  dirty = followed.dirty;
-  due = lets old.rib.best (due_at old p) (due_at new p) followed.due;
-  effect = followed.effect;
-  keeps = followed.keeps;
-  forgets = followed.forgets;
-  others = followed.peerings;
+follows step p s u old new hears lets is = record {
+  entries = hears (entry_of old.known.setup old.number.0 u) (entries_at old p) (entries_at new p) is.each is.others;
+  dirty = is.dirty;
+  due = lets old.rib.best (due_at old p) (due_at new p) is.due;
+  effect = is.effect;
+  keeps = is.keeps;
+  forgets = is.forgets;
+  others = is.peerings;
 }
+
+-- a session that read a message
+pub follows_read : (step : ReadStep) (p : ℕ) (s u : SessionValue) (bytes : List ℕ) → GetsFrame s bytes u → TellsRead step s u → (old new : Tables)
+    → IsFollowed step p u old new → FollowsIn p s u old new
+follows_read step p s u bytes gets tells old new is = follows step p s u old new
+    (λ entry before after. follows_heard s u bytes gets entry before after step tells)
+    (λ best before after. due_then s u bytes gets best before after step tells) is
+
+-- one on which a round has passed
+pub follows_tick : (step : TickStep) (p : ℕ) (s u : SessionValue) (round : ℕ) → PassesRound s round u → TellsRound step s round u → (old new : Tables)
+    → IsFollowed (followed step) p u old new → FollowsIn p s u old new
+follows_tick step p s u round passes tells old new is = follows (followed step) p s u old new
+    (λ entry before after. follows_round s u round passes entry before after step tells)
+    (λ best before after. due_round s u round passes best before after step tells) is

@@ -28,3 +28,10 @@ none_anywhere places Is n all none vacant p so = elim (cases_lt p n) [
   | inl below ↦ none p below so
   | inr from ↦ vacant p (nothing_behind places p (omega (arith, all, from))) so
 ]
+
+-- a place with something is there
+pub there_is : (places : List Place) (p : ℕ) → ¬ (place_at places p ≡ Vacant) → p < length places
+there_is places p some = elim (cases_lt p (length places)) [
+  | inl below ↦ below
+  | inr from ↦ absurd (some (nothing_behind places p from))
+]

@@ -220,9 +220,12 @@ impl AuditedRouter {
         if !session.may_pass(round) {
             return Ok(Ruling::Refused);
         }
-        if let TickStep::Expired(prefixes) = session.tick(round)? {
-            self.tables.clear_due(p);
-            self.tables.enter(session, prefixes.as_slice())?;
+        match session.tick(round)? {
+            TickStep::Expired(prefixes) => {
+                self.tables.clear_due(p);
+                self.tables.enter(session, prefixes.as_slice())?;
+            }
+            TickStep::Plain | TickStep::Beat => self.tables.forget(p),
         }
         Ok(Ruling::Silent)
     }
