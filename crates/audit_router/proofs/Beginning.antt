@@ -53,10 +53,10 @@ begun_more count config configs places there begun = record {
   each = λ p below. elim (one_or_other config.peering.0 p) [
     | inl e ↦
         ap (place_at (slice_set places config.peering.0 (Live (begun_session config) None))) e
-        ∙ (get_or-set_same places config.peering.0 (Live (begun_session config) None) (omega (arith, there, begun.all))
+        ∙ (get_or-set_same places config.peering.0 (Live (begun_session config) None) Vacant (omega (arith, there, begun.all))
         ∙ sym (find_first config configs p true (eq-eqb config.peering.0 p (sym e))))
     | inr not ↦
-        get_or-set_other places config.peering.0 p (Live (begun_session config) None) not
+        get_or-set_other places config.peering.0 p (Live (begun_session config) None) Vacant not
         ∙ (begun.each p below ∙ sym (find_first config configs p false (ne_eqb config.peering.0 p (λ e. not (sym e)))))
   ];
 }

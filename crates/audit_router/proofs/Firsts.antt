@@ -13,6 +13,7 @@ use Rattle.graft_model.specs.Parts.{GraftOrder}
 use Rattle.audit_ruling.specs.Rulings.{Parcel}
 use Rattle.audit_router.specs.Nexts.{answered_in, asked_in, back_in, coming_in, done_in, is_segment, order_in}
 use Rattle.audit_router.proofs.Inversions.{none_some, some_is}
+
 -- a session that moves here
 pub record IsMovedFirst (channel : List Parcel) (config : SessionConfig) : Type 0 where
   pub graft : ℕ

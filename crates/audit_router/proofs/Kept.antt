@@ -209,10 +209,10 @@ place_itself r p x is = at_is (places_of r) (places_of r) p (place_of x) (ap pla
 
 module _ (r u : AuditedRouter) (p : ℕ) (known : p < length r.places.items) (x : Place) (items : u.places.items ≡ slice_set r.places.items p x) where
   pub placed_here : place_at u.places.items p ≡ x
-  placed_here = ap (λ (xs : List Place). place_at xs p) items ∙ get_or-set_same r.places.items p x known
+  placed_here = ap (λ (xs : List Place). place_at xs p) items ∙ get_or-set_same r.places.items p x Vacant known
 
   pub placed_there : (q : ℕ) → q ≢ p → place_at u.places.items q ≡ place_at r.places.items q
-  placed_there q not = ap (λ (xs : List Place). place_at xs q) items ∙ get_or-set_other r.places.items p q x not
+  placed_there q not = ap (λ (xs : List Place). place_at xs q) items ∙ get_or-set_other r.places.items p q x Vacant not
 
   pub as_many : length u.places.items ≡ length r.places.items
   as_many = ap (λ (xs : List Place). length xs) items ∙ length-set r.places.items p x

@@ -1,5 +1,5 @@
 -- The rows of events on sessions: no session is live there, segments that are emitted and that arrive, messages and rounds.
-use Rattle.std.proofs.Common.{◌≡◌, ◌≢◌, ℕ, suc, ◌+◌, ◌<◌, List, [], ◌∷◌, length, Option, option_map, Some, None, inl, inr}
+use Rattle.std.proofs.Common.{◌≡◌, ◌≢◌, ℕ, zero, suc, ◌+◌, ◌<◌, List, [], ◌∷◌, length, Option, option_map, Some, None, inl, inr}
 use Rattle.std.proofs.Common.{refl, sym, ap, ◌∙◌, subst, arith}
 use Rattle.std.specs.Prelude.{slice_get, slice_set}
 use Rattle.tcp_seq.specs.Endpoint.{Endpoint, IsInStreams, PlacedSegment, TakesSegment}
@@ -48,17 +48,17 @@ NoneLive r p = (session : SessionValue) (errand : Option model.Errand) → ¬ Is
 
 pub read_at : (places : List Place) (p : ℕ) (x : Place) → slice_get places p ≡ Some x → place_at places p ≡ x
 read_at [] p x e = absurd (let f : ⊥ = cc in f)
-read_at (y ∷ places) 0 x e = cc
+read_at (y ∷ places) zero x e = cc
 read_at (y ∷ places) (suc p) x e = read_at places p x e
 
 pub none_at : (places : List Place) (p : ℕ) → slice_get places p ≡ None → place_at places p ≡ Vacant
 none_at [] p e = refl
-none_at (y ∷ places) 0 e = absurd (let f : ⊥ = cc in f)
+none_at (y ∷ places) zero e = absurd (let f : ⊥ = cc in f)
 none_at (y ∷ places) (suc p) e = none_at places p e
 
 pub within : (places : List Place) (p : ℕ) (x : Place) → slice_get places p ≡ Some x → p < length places
 within [] p x e = absurd (let f : ⊥ = cc in f)
-within (y ∷ places) 0 x e = omega arith
+within (y ∷ places) zero x e = omega arith
 within (y ∷ places) (suc p) x e = let lt = within places p x e in omega (arith, lt)
 
 module _ (r : AuditedRouter) (p : ℕ) where

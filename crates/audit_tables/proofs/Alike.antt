@@ -25,6 +25,7 @@ use Rattle.audit_tables.specs.declared.pending.Group.{Group}
 use Rattle.audit_tables.proofs.Grouping.{put_here, put_there}
 use Rattle.audit_tables.proofs.Keeping.{no_some, one_some}
 use Rattle.audit_tables.proofs.Listings.{none_below_head, not_below_through, one_or_another, rest_lists}
+
 -- ---- groups of a kind, however that is said
 
 pub groups_of_same : (Is Js : Kind) (to_tell : PrefixValue → Option Attrs) → ((x : PrefixValue) → Is x → Js x) → ((x : PrefixValue) → Js x → Is x)

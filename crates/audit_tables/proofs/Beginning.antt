@@ -7,7 +7,6 @@ use Rattle.bgp_types.specs.Prefixes.{PrefixValue}
 use Rattle.bgp_types.specs.Tables.{prefix_cmp}
 use Rattle.bgp_types.proofs.TableLaws.{exact_prefixes, prefix_total}
 use Rattle.session_value.specs.Sets.{Prefixes, has}
-
 use Rattle.rib_stages.specs.Values.{RibValue, rib_of, set_of, table_at}
 use Rattle.rib_stages.specs.declared.config.RibConfig.{RibConfig}
 use Rattle.rib_stages.proofs.Kept.{set_has}
@@ -18,6 +17,7 @@ use Rattle.graft_model.specs.Setups.{of_router, peerings_in, routers_in}
 use Rattle.audit_tables.specs.Parts.{NothingIsKnown, TablesInvariant, part_with}
 use Rattle.audit_tables.specs.declared.pending.Pending.{Pending}
 use Rattle.audit_tables.specs.declared.tables.Tables.{Tables}
+
 -- ---- lists of one value
 
 pub replicate_more : {A : Type 0} (n : ℕ) (x : A) → replicate n x ++ x ∷ [] ≡ replicate (n + 1) x

@@ -20,6 +20,7 @@ use Rattle.audit_tables.specs.Parts.{IsForgotten, NothingIsKnown, TablesInvarian
 use Rattle.audit_tables.specs.declared.pending.Pending.{Pending}
 use Rattle.audit_tables.specs.declared.tables.Tables.{Tables}
 use Rattle.audit_tables.proofs.Keeping.{keeps_then}
+
 pub get_set_other : {A : Type 0} (xs : List A) (i j : ℕ) (x : A) → j ≢ i → slice_get (slice_set xs i x) j ≡ slice_get xs j
 get_set_other [] i j x not = refl
 get_set_other (y ∷ xs) zero zero x not = absurd (not refl)

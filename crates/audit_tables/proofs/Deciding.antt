@@ -24,6 +24,7 @@ use Rattle.audit_tables.specs.Dues.{is_other, is_up_in}
 use Rattle.audit_tables.specs.Parts.{TablesInvariant, part_with}
 use Rattle.audit_tables.specs.declared.tables.Tables.{Tables}
 use Rattle.audit_tables.proofs.Keeping.{IsSteady, keeps_then, part_of, refused}
+
 -- behind the last there is none
 none_up : (up : List Bool) (p : ℕ) → length up ≤ p → slice_index_or up p false ≡ false
 none_up [] p past = refl

@@ -2,7 +2,6 @@
 use Rattle.std.proofs.Common.{◌≡◌, ℕ, Bool, true, false, cond, not, ◌&&◌, ◌||◌, length, is_some, None}
 use Rattle.std.proofs.Common.{refl, sym, ap, ◌∙◌}
 use Rattle.std.specs.FinMap as map
-
 use Rattle.std.specs.Ordering.{eq_by_cmp}
 use Rattle.bgp_types.specs.Prefixes.{PrefixValue, same_prefix}
 use Rattle.bgp_types.specs.Tables.{prefix_cmp}
@@ -15,6 +14,7 @@ use Rattle.graft_model.specs.Sets.{Drops}
 use Rattle.router_tables.proofs.Points.{at_else, at_is, at_own}
 use Rattle.audit_tables.specs.Parts.{due_at}
 use Rattle.audit_tables.specs.declared.tables.Tables.{Tables}
+
 -- What passes the test has left what is due on the peering.
 pub record HasDropped (t : Tables) (p : ℕ) (test : PrefixValue → Bool) (u : Tables) : Type 0 where
   pub same : u ≡ record t { due_out = u.due_out }

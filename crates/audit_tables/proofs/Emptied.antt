@@ -10,6 +10,7 @@ use Rattle.rib_stages.specs.Values.{table_at}
 use Rattle.rib_stages.proofs.Drops.{least_is, no_least_is}
 use Rattle.router_tables.proofs.DueSteps.{none_in, table_at_end}
 use Rattle.router_tables.proofs.Points.{one_or_other}
+
 abbrev pub IsEmptied : Prefixes → Type 0
 IsEmptied set = (x : PrefixValue) → has set x ≡ false
 

@@ -6,7 +6,6 @@ use Rattle.bgp_types.specs.declared.attrs.Attrs.{Attrs}
 use Rattle.bgp_types.specs.Prefixes.{PrefixValue, same_prefix}
 use Rattle.bgp_story.specs.Readings.{Routes, apply}
 use Rattle.route_policy.specs.Telling.{OutSide, tell_out}
-
 use Rattle.route_policy.specs.declared.rule.Rule.{Rule}
 use Rattle.session_value.specs.declared.config.SessionConfig.{SessionConfig}
 use Rattle.session_value.specs.Cases.{update_for}
@@ -25,12 +24,12 @@ use Rattle.graft_model.specs.Sets.{Drops}
 use Rattle.graft_model.specs.Setups.{Setup}
 use Rattle.router_tables.specs.Entering.{rules_by}
 use Rattle.router_tables.proofs.EnterSteps.{rules_is}
-
 use Rattle.audit_tables.specs.Changes.{ChangesDue, PutsFirstAlike}
 use Rattle.audit_tables.specs.Groups.{AreGroups, GroupTable}
 use Rattle.audit_tables.specs.Parts.{TablesInvariant, due_at, part_with}
 use Rattle.audit_tables.specs.declared.tables.Tables.{Tables}
 use Rattle.audit_tables.proofs.Alike.{groups_of_same}
+
 -- ---- what the tables find
 
 module _ (t : Tables) (k : TablesInvariant t) (places : ℕ → Place) (p : ℕ) (s : SessionValue) where

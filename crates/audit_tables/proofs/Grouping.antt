@@ -2,7 +2,6 @@
 use Rattle.std.proofs.Common.{◌≡◌, ◌≢◌, ◌<◌, List, [], ◌∷◌, ◌++◌, Option, Some, inl, inr, refl, sym, ap, ◌∙◌, subst, arith}
 use Rattle.std.specs.Prelude.{All, Contains}
 use Rattle.std.specs.FinMap as map
-
 use Rattle.std.proofs.lemmas.List.Elements.{All-contains, All-head, Contains-append_left, Contains-push, Contains-push_cases}
 use Rattle.bgp_types.specs.declared.attrs.Attrs.{Attrs}
 use Rattle.bgp_types.specs.Prefixes.{PrefixValue}
@@ -16,6 +15,7 @@ use Rattle.audit_tables.specs.Groups.{AreGroups, GroupTable, prefixes_of}
 use Rattle.audit_tables.specs.declared.pending.Group.{Group}
 use Rattle.audit_tables.proofs.Keeping.{no_some, one_some}
 use Rattle.audit_tables.proofs.Listings.{one_or_another}
+
 -- ---- a table with one value more
 
 pub put_here : (t : GroupTable) (x : PrefixValue) (g : Group) → map.get (map.insert t x g) x ≡ Some g

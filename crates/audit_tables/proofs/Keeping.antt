@@ -15,6 +15,7 @@ use Rattle.audit_tables.specs.Changes.{KeepsTables}
 use Rattle.audit_tables.specs.Decides.{DecidesTables}
 use Rattle.audit_tables.specs.Parts.{TablesInvariant, part_with}
 use Rattle.audit_tables.specs.declared.tables.Tables.{Tables}
+
 pub no_some : {A : Type 0} (o : Option A) (x : A) → o ≡ None → o ≡ Some x → ⊥
 no_some o x none some = let e : ◌≡◌ {A = Option A} None (Some x) = sym none ∙ some in cc
 

@@ -1,8 +1,7 @@
 -- Prefixes of a kind that are listed in ascending order: the first, and the rest of them.
-use Rattle.std.proofs.Common.{◌≡◌, ◌≢◌, Bool, true, false, ◌||◌, List, [], ◌∷◌, ◌++◌, append_assoc, length, Option, Some, None}
-use Rattle.std.proofs.Common.{is_some, ◌⊎◌, inl, inr, refl, sym, ap, ◌∙◌, subst, arith}
-use Rattle.std.specs.Prelude.{All}
-
+use Rattle.std.proofs.Common.{◌≡◌, ◌≢◌, ℕ, zero, suc, ◌+◌, Bool, true, false, ◌||◌, List, [], ◌∷◌, ◌++◌, append_assoc, length, take, drop}
+use Rattle.std.proofs.Common.{Option, Some, None, is_some, ◌⊎◌, inl, inr, refl, sym, ap, ◌∙◌, subst, arith}
+use Rattle.std.specs.Prelude.{All, reverse}
 use Rattle.std.specs.FinMap as map
 use Rattle.std.specs.List.{list_any}
 use Rattle.std.specs.List.Sorted.{IsStrictlySortedBy}
@@ -11,7 +10,7 @@ use Rattle.std.specs.Ordering.{is_lt, ordering_reverse}
 use Rattle.std.specs.declared.cmp.Ordering.{Ordering}
 use Rattle.std.specs.declared.cmp.Ordering.TheVariants.{Less, Equal, Greater}
 use Rattle.std.proofs.lemmas.Bool.{false≢true}
-use Rattle.std.proofs.lemmas.List.{take_all}
+use Rattle.std.proofs.lemmas.List.{length-drop, length-reverse, reverse-append, take-append-drop, take_all}
 use Rattle.std.proofs.lemmas.List.Elements.{All-nil, All-cons, All-head, All-weaker, All-from_recursion}
 use Rattle.std.proofs.lemmas.List.Folds.{list_any-append}
 use Rattle.std.proofs.lemmas.Map.Keys.{sorted_head, sorted_tail}
@@ -24,6 +23,7 @@ use Rattle.update_plan.proofs.Keys.{first_keys_rise, keys_any}
 use Rattle.update_plan.proofs.Listed.{back_has, below_not_above, is_same, member_has, neither, not_below_itself, rising_apart, same_itself}
 use Rattle.update_plan.proofs.Plans.{Kind}
 use Rattle.router_tables.proofs.EnterSteps.{same_or_not}
+
 pub one_or_another : (x y : PrefixValue) → (y ≡ x) ⊎ (y ≢ x)
 one_or_another x y = elim (same_or_not x y) [
   | inl e ↦ inl e
@@ -107,3 +107,33 @@ rest_lists P xs ys l = record {
     behind : (x : PrefixValue) (a b : Bool) → a ≡ false → (a || b) ≡ true → b ≡ true
     behind x true b none e = absurd (false≢true (sym none))
     behind x false b none e = e
+
+-- ---- the first and the rest of a list that is kept from its end on
+
+take_front : (xs ys : List PrefixValue) (n : ℕ) → length xs ≡ n → take n (xs ++ ys) ≡ xs
+take_front [] ys zero e = refl
+take_front [] ys (suc n) e = absurd (omega (arith, e))
+take_front (x ∷ xs) ys zero e = absurd (omega (arith, e))
+take_front (x ∷ xs) ys (suc n) e = ap (λ (l : List PrefixValue). x ∷ l) (take_front xs ys n (omega (arith, e)))
+
+drop_front : (xs ys : List PrefixValue) (n : ℕ) → length xs ≡ n → drop n (xs ++ ys) ≡ ys
+drop_front [] ys zero e = refl
+drop_front [] ys (suc n) e = absurd (omega (arith, e))
+drop_front (x ∷ xs) ys zero e = absurd (omega (arith, e))
+drop_front (x ∷ xs) ys (suc n) e = drop_front xs ys n (omega (arith, e))
+
+module _ (xs : List PrefixValue) (count later : ℕ) (long : later + count ≡ length xs) where
+  parts_are : reverse xs ≡ reverse (drop later xs) ++ reverse (take later xs)
+  parts_are = ap reverse (sym (take-append-drop later xs)) ∙ reverse-append (take later xs) (drop later xs)
+
+  size_is : length (reverse (drop later xs)) ≡ count
+  size_is =
+      let one = length-reverse (drop later xs) in
+      let other = length-drop later xs in
+      omega (arith, one, other, long)
+
+  pub last_are : reverse (drop later xs) ≡ take count (reverse xs)
+  last_are = sym (ap (take count) parts_are ∙ take_front (reverse (drop later xs)) (reverse (take later xs)) count size_is)
+
+  pub rest_are : reverse (take later xs) ≡ drop count (reverse xs)
+  rest_are = sym (ap (drop count) parts_are ∙ drop_front (reverse (drop later xs)) (reverse (take later xs)) count size_is)

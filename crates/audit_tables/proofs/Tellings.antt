@@ -32,6 +32,7 @@ use Rattle.audit_tables.specs.Dues.{is_telling}
 use Rattle.audit_tables.specs.Parts.{TablesInvariant, part_with}
 use Rattle.audit_tables.specs.declared.tables.Tables.{Tables}
 use Rattle.audit_tables.proofs.Keeping.{keeps_itself, keeps_then, no_some, refused}
+
 -- ---- another router is told
 
 module _ (t : Tables) (k : TablesInvariant t) (places : ℕ → Place) (q : ℕ) (prefix : PrefixValue) where
