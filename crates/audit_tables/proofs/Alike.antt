@@ -1,18 +1,19 @@
 -- The group of the least prefix of all: what is told of it first, and what stays of it.
-use Rattle.std.proofs.Common.{◌≡◌, ◌≢◌, ℕ, ◌+◌, ◌≤◌, Bool, true, false, ◌||◌, List, [], ◌∷◌, ◌++◌, length, take, drop, Option, Some, None}
+use Rattle.std.proofs.Common.{◌≡◌, ◌≢◌, ℕ, ◌+◌, ◌<◌, ◌≤◌, ◌==◌, ◌↔◌, Bool, true, false, ◌||◌, List, [], ◌∷◌, ◌++◌, length, take, drop, Option, Some, None}
 use Rattle.std.proofs.Common.{is_some, inl, inr, refl, sym, ap, ◌∙◌, subst, arith}
-use Rattle.std.specs.Prelude.{All}
+use Rattle.std.specs.Prelude.{All, IsTrue, reverse}
 use Rattle.std.specs.FinMap as map
 use Rattle.std.specs.List.{list_any}
 use Rattle.std.specs.List.Sorted.{IsStrictlySortedBy}
 use Rattle.std.specs.Ordering.{is_lt}
-use Rattle.std.proofs.lemmas.Bool.{false≢true}
-use Rattle.std.proofs.lemmas.List.{length-append, take-append-drop, length-take-le}
+use Rattle.std.proofs.lemmas.Bool.{eq-eqb, eqb-true, false≢true}
+use Rattle.std.proofs.lemmas.List.{length-append, length-reverse, length-take-le, take-append-drop}
 use Rattle.std.proofs.lemmas.List.Elements.{All-head}
 use Rattle.std.proofs.lemmas.List.Folds.{list_any-append}
 use Rattle.bgp_types.specs.declared.attrs.Attrs.{Attrs}
 use Rattle.bgp_types.specs.Prefixes.{PrefixValue, same_prefix}
-use Rattle.bgp_types.specs.Tables.{prefix_cmp}
+use Rattle.bgp_types.specs.Tables.{first_above, prefix_cmp}
+use Rattle.bgp_types.proofs.TableLaws.{exact_prefixes, prefix_total}
 use Rattle.graft_model.proofs.Rising.{one_least, one_list}
 use Rattle.rib_stages.proofs.Marks.{with_here, with_there}
 use Rattle.session_value.specs.Sets.{Lists}
@@ -24,7 +25,7 @@ use Rattle.audit_tables.specs.Groups.{AreFirstAlike, AreGroups, GroupTable, IsGr
 use Rattle.audit_tables.specs.declared.pending.Group.{Group}
 use Rattle.audit_tables.proofs.Grouping.{put_here, put_there}
 use Rattle.audit_tables.proofs.Keeping.{no_some, one_some}
-use Rattle.audit_tables.proofs.Listings.{none_below_head, not_below_through, one_or_another, rest_lists}
+use Rattle.audit_tables.proofs.Listings.{drop_front, last_are, none_below_head, none_below_least, not_below_through, one_or_another, rest_are, rest_lists}
 
 -- ---- groups of a kind, however that is said
 
@@ -86,6 +87,20 @@ module _ (Is : Kind) (to_tell : PrefixValue → Option Attrs) (groups : GroupTab
       → ¬ AreFirstAlike Is to_tell count attrs prefixes
   none_alike none count attrs prefixes alike = none_is none alike.first alike.least.is
 
+  -- the number of groups tells whether there is one
+  none_of_length : map.len groups ≡ 0 → (first : PrefixValue) → map.get groups first ≡ None
+  none_of_length none first = ap (λ (t : GroupTable). map.get t first) (map.empty_of_len groups none) ∙ map.get-empty prefix_cmp first
+
+  length_of_none : ((first : PrefixValue) → map.get groups first ≡ None) → map.len groups ≡ 0
+  length_of_none none = ap map.len (map.same_map prefix_total exact_prefixes groups map.empty (λ q. none q ∙ sym (map.get-empty prefix_cmp q)))
+      ∙ map.len-empty prefix_cmp Group
+
+  pub empty_is : (len : ℕ) → len ≡ map.len groups → IsTrue (len == 0) ↔ ((x : PrefixValue) → ¬ Is x)
+  empty_is len is = (
+    λ e x. none_is (none_of_length (sym is ∙ eqb-true len 0 e)) x,
+    λ none. eq-eqb len 0 (is ∙ length_of_none (no_group none)),
+  )
+
   -- ---- the least group
 
   module _ (first : PrefixValue) (group : Group) (at_first : map.get groups first ≡ Some group)
@@ -115,7 +130,7 @@ module _ (Is : Kind) (to_tell : PrefixValue → Option Attrs) (groups : GroupTab
           (one_least alike.first first (is_least.least alike.first alike.least.is) (alike.least.least first is_least.is))
           ∙ (first_is first group at_first).1)
 
-      listed : prefixes ++ alike.later ≡ prefixes_of group
+      pub listed : prefixes ++ alike.later ≡ prefixes_of group
       listed = one_list (Tells group.attrs) (prefixes ++ alike.later) (prefixes_of group)
           (subst (λ (v : Option Attrs). Lists (Tells v) (prefixes ++ alike.later)) attrs_are alike.alike) (are.each first group at_first).all
 
@@ -228,3 +243,47 @@ module _ (Is : Kind) (to_tell : PrefixValue → Option Attrs) (groups : GroupTab
               ]
             ];
           }
+
+-- ---- as groups keep them, from their ends on
+
+module _ (Is : Kind) (to_tell : PrefixValue → Option Attrs) (groups : GroupTable) (are : AreGroups Is to_tell groups) (first : PrefixValue) (group : Group)
+    (least : first_above None (map.keys groups) ≡ Some first) (at_first : map.get groups first ≡ Some group) (count : ℕ) where
+  below : (q : PrefixValue) → is_some (map.get groups q) ≡ true → is_lt (prefix_cmp q first) ≡ false
+  below q there = none_below_least groups first least q there
+
+  size_is : length (prefixes_of group) ≡ length group.prefixes.items
+  size_is = length-reverse group.prefixes.items
+
+  -- so many of them
+  pub batch_is : (later : ℕ) → later + count ≡ length group.prefixes.items → (attrs : Option Attrs) → attrs ≡ group.attrs → (prefixes : List PrefixValue)
+      → prefixes ≡ reverse (drop later group.prefixes.items) → AreFirstAlike Is to_tell count attrs prefixes
+  batch_is later long attrs attrs_are prefixes are_last =
+      subst (λ (v : Option Attrs). AreFirstAlike Is to_tell count v prefixes) (sym attrs_are)
+      (subst (AreFirstAlike Is to_tell count group.attrs) (sym (are_last ∙ last_are group.prefixes.items count later long))
+      (first_alike Is to_tell groups are first group at_first below count (omega (arith, size_is, long))))
+
+  -- there are too few
+  pub no_batch : length group.prefixes.items < count → (attrs : Option Attrs) (prefixes : List PrefixValue) → ¬ AreFirstAlike Is to_tell count attrs prefixes
+  no_batch few attrs prefixes alike =
+      let enough = are_enough Is to_tell groups are first group at_first below count attrs prefixes alike in
+      let b : ⊥ = omega (arith, few, size_is, enough) in b
+
+  -- ---- what stays once they were told
+
+  module _ (attrs : Option Attrs) (prefixes : List PrefixValue) (alike : AreFirstAlike Is to_tell count attrs prefixes) (mid : GroupTable)
+      (removed : mid ≡ map.remove groups first) (later : ℕ) (long : later + count ≡ length group.prefixes.items) where
+    later_are : alike.later ≡ reverse (take later group.prefixes.items)
+    later_are = sym (drop_front prefixes alike.later count alike.size)
+        ∙ (ap (drop count) (listed Is to_tell groups are first group at_first below count attrs prefixes alike)
+        ∙ sym (rest_are group.prefixes.items count later long))
+
+    pub none_stays : take later group.prefixes.items ≡ [] → AreGroups (Without Is prefixes) to_tell mid
+    none_stays none = told_whole Is to_tell groups are first group at_first below count attrs prefixes alike mid removed (later_are ∙ ap reverse none)
+
+    pub part_stays : (part : Group) → part.attrs ≡ group.attrs → part.prefixes.items ≡ take later group.prefixes.items → (next : PrefixValue)
+        (more : List PrefixValue) → prefixes_of part ≡ next ∷ more → (new : GroupTable) → new ≡ map.insert mid next part
+        → AreGroups (Without Is prefixes) to_tell new
+    part_stays part attrs_same cut next more begins new set =
+        let left : prefixes_of part ≡ alike.later = ap reverse cut ∙ sym later_are in
+        told_part Is to_tell groups are first group at_first below count attrs prefixes alike mid removed next more (sym left ∙ begins) part attrs_same
+        left new set

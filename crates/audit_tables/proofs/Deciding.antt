@@ -1,8 +1,8 @@
 -- A prefix is decided.
-use Rattle.std.proofs.Common.{◌≡◌, ℕ, zero, suc, ◌==◌, ◌&&◌, ◌≤◌, Bool, true, false, not, List, [], ◌∷◌, length, Option, None, refl, sym, ap, ◌∙◌, subst, inl, inr, arith}
+use Rattle.std.proofs.Common.{◌≡◌, ℕ, zero, suc, ◌==◌, ◌&&◌, ◌<◌, ◌≤◌, Bool, true, false, not, List, [], ◌∷◌, length, Option, None, refl, sym, ap, ◌∙◌, subst, inl, inr, arith}
 use Rattle.std.specs.Prelude.{slice_index_or}
 use Rattle.std.specs.FinMap as map
-use Rattle.std.proofs.lemmas.Bool.{le-ltb}
+use Rattle.std.proofs.lemmas.Bool.{le-ltb, lt-ltb}
 use Rattle.bgp_types.specs.Prefixes.{PrefixValue}
 use Rattle.loc_rib.specs.Values.{DifferIf, with_best}
 use Rattle.rib_stages.specs.Choosing.{NoneBehind, rib_choice}
@@ -30,6 +30,10 @@ none_up : (up : List Bool) (p : ℕ) → length up ≤ p → slice_index_or up p
 none_up [] p past = refl
 none_up (b ∷ up) zero past = absurd (omega (arith, past))
 none_up (b ∷ up) (suc p) past = none_up up p (omega (arith, past))
+
+-- another router, by its number
+pub other_is : (t : Tables) (q : ℕ) (b : Bool) → q < routers_in t.known.setup → b ≡ not (q == t.number.0) → b ≡ is_other t q
+other_is t q b below is = is ∙ ap (λ (c : Bool). c && not (q == t.number.0)) (sym (lt-ltb q (routers_in t.known.setup) below))
 
 module _ (t : Tables) (k : TablesInvariant t) (places : ℕ → Place) (prefix : PrefixValue) where
   -- the router's choice is the laboratory's

@@ -1,8 +1,9 @@
 -- Prefixes leave what is due on a peering, one after another.
-use Rattle.std.proofs.Common.{◌≡◌, ℕ, Bool, true, false, cond, not, ◌&&◌, ◌||◌, length, is_some, None}
+use Rattle.std.proofs.Common.{◌≡◌, ℕ, Bool, true, false, cond, not, ◌&&◌, ◌||◌, List, [], ◌∷◌, ◌++◌, length, is_some, None}
 use Rattle.std.proofs.Common.{refl, sym, ap, ◌∙◌}
 use Rattle.std.specs.FinMap as map
 use Rattle.std.specs.Ordering.{eq_by_cmp}
+use Rattle.std.proofs.lemmas.List.Folds.{list_any-append}
 use Rattle.bgp_types.specs.Prefixes.{PrefixValue, same_prefix}
 use Rattle.bgp_types.specs.Tables.{prefix_cmp}
 use Rattle.bgp_types.proofs.TableLaws.{prefix_total}
@@ -14,6 +15,14 @@ use Rattle.graft_model.specs.Sets.{Drops}
 use Rattle.router_tables.proofs.Points.{at_else, at_is, at_own}
 use Rattle.audit_tables.specs.Parts.{due_at}
 use Rattle.audit_tables.specs.declared.tables.Tables.{Tables}
+
+-- one more in a list
+pub any_one_more : (xs : List PrefixValue) (y x : PrefixValue) → list_any (same_prefix x) (xs ++ y ∷ []) ≡ (list_any (same_prefix x) xs || same_prefix x y)
+any_one_more xs y x = list_any-append (same_prefix x) xs (y ∷ []) ∙ ap (λ (b : Bool). list_any (same_prefix x) xs || b) (alone (same_prefix x y))
+  where
+    alone : (b : Bool) → (b || false) ≡ b
+    alone true = refl
+    alone false = refl
 
 -- What passes the test has left what is due on the peering.
 pub record HasDropped (t : Tables) (p : ℕ) (test : PrefixValue → Bool) (u : Tables) : Type 0 where

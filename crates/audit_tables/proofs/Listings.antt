@@ -116,7 +116,7 @@ take_front [] ys (suc n) e = absurd (omega (arith, e))
 take_front (x ∷ xs) ys zero e = absurd (omega (arith, e))
 take_front (x ∷ xs) ys (suc n) e = ap (λ (l : List PrefixValue). x ∷ l) (take_front xs ys n (omega (arith, e)))
 
-drop_front : (xs ys : List PrefixValue) (n : ℕ) → length xs ≡ n → drop n (xs ++ ys) ≡ ys
+pub drop_front : (xs ys : List PrefixValue) (n : ℕ) → length xs ≡ n → drop n (xs ++ ys) ≡ ys
 drop_front [] ys zero e = refl
 drop_front [] ys (suc n) e = absurd (omega (arith, e))
 drop_front (x ∷ xs) ys zero e = absurd (omega (arith, e))
