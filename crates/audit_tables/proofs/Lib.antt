@@ -9,3 +9,4 @@ mod Finding
 mod Emptied
 mod Dropping
 pub mod Beginning
+mod Dropped
