@@ -1,2 +1,3 @@
 mod Nowhere
 mod Made
+mod Happening
