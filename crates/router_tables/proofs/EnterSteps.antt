@@ -129,7 +129,7 @@ imported_is home_as prefix session rules remote_as heard attrs copy same_rules s
 
 -- ---- by the policies of the laboratory's router
 
-rules_is : (setup : Setup) (r : ℕ) (policies : List NamedPolicy) (name : Option (List ℕ)) → ArePoliciesOf setup r policies
+pub rules_is : (setup : Setup) (r : ℕ) (policies : List NamedPolicy) (name : Option (List ℕ)) → ArePoliciesOf setup r policies
     → rules_by policies name ≡ rules_for setup r name
 rules_is setup r policies None named = refl
 rules_is setup r policies (Some name) named = named.each name

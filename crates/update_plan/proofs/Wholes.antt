@@ -11,7 +11,7 @@ use Rattle.update_plan.specs.Gathering.{AddsToBatches, NoneTells, with_prefix}
 use Rattle.update_plan.specs.Plans.{AreWholeBatches}
 use Rattle.update_plan.proofs.Plans.{Above, Begun, Kind, Plus, alike_then, alone, push_some, same_or_apart}
 
-lists_of_same : (P Q : Kind) → ((x : PrefixValue) → P x → Q x) → ((x : PrefixValue) → Q x → P x) → (xs : List PrefixValue) → Lists P xs → Lists Q xs
+pub lists_of_same : (P Q : Kind) → ((x : PrefixValue) → P x → Q x) → ((x : PrefixValue) → Q x → P x) → (xs : List PrefixValue) → Lists P xs → Lists Q xs
 lists_of_same P Q to from xs l = record { rising = l.rising; each = All-weaker P Q to xs l.each; all = λ x q. l.all x (from x q) }
 
 module _ (to_tell : PrefixValue → Option Attrs) where
