@@ -142,7 +142,8 @@ impl Remote {
     /// the offset that is emitted next. Returns `None` where the stream and the flight allow no such segment.
     pub fn emit_at(&mut self, from: u32, len: u32) -> Result<Option<Segment>, NoMemory>
         ensures emits { IfOk result (λ answer. EmitsOf (EmitsPart from len) self.old answer self.new.end) }
-        ensures refused { IfOk result (λ answer. IfNone answer ((segment : PlacedSegment) (after : Endpoint) → ¬ EmitsPart from len self.old.end segment after)) }
+        ensures refused { IfOk result (λ answer.
+            IfNone answer ((segment : PlacedSegment) (after : Endpoint) → ¬ EmitsPart from len self.old.end segment after)) }
         ensures same { OnOk result (self.new ≡ record self.old { end = self.new.end }) }
     {
         self.end.emit_at(from, len)

@@ -39,12 +39,12 @@ use Rattle.router_core.specs.declared.place.Place.{Place}
 use Rattle.router_core.specs.declared.place.Place.TheVariants.{Live, Shadow}
 use Rattle.router_core.proofs.Dids.{did_one}
 use Rattle.router_core.proofs.Kept.{keeps_on, places_at, with_routes}
-use Rattle.router_tables.proofs.Points.{at_is}
+use Rattle.router_tables.proofs.Points.{at_is, one_or_other, at_else}
 use Rattle.router_core.proofs.PlaceSteps.{at_own}
 use Rattle.router_core.proofs.ReadSteps.{entry_is}
 use Rattle.router_core.proofs.SendSteps.{some_none, visits_idle}
 use Rattle.router_core.proofs.PlaceLists.{listed, rooms}
-use Rattle.router_core.proofs.VisitSteps.{place_at_end, same_or_not, set_here, set_other, at_other}
+use Rattle.router_core.proofs.VisitSteps.{place_at_end, set_here, set_other}
 
 -- ---- the event
 
@@ -63,7 +63,7 @@ module _ (f g : Fields) (p : ℕ) (a b : Post (Item RunningSession)) (round : �
   elsewhere n not = ap (λ (xs : List (Option Place)). place_at xs n) (listed items) ∙ set_other f.places.places p (Some (Live u o)) there n not
 
   entries_else : (n : ℕ) → n ≢ p → (rib_of g.rib).entries n ≡ (rib_of f.rib).entries n
-  entries_else n not = ap (λ (v : RibValue). v.entries n) follows.entered.effect ∙ at_other (rib_of f.rib).entries p ((rib_of g.rib).entries p) n not
+  entries_else n not = ap (λ (v : RibValue). v.entries n) follows.entered.effect ∙ at_else (rib_of f.rib).entries p ((rib_of g.rib).entries p) n not
 
   row : rows.Ticks f.known.setup f.number.0 p round (router_part f) None [] (router_part g)
   row = record {
@@ -117,7 +117,7 @@ module _ (f g : Fields) (p : ℕ) (a b : Post (Item RunningSession)) (round : �
         config = ap (λ (v : RibValue). v.config) follows.entered.effect;
         tellings = λ q out. ap (λ (v : RibValue). v.tellings q) follows.entered.effect;
       })
-      (λ n. elim (same_or_not p n) [
+      (λ n. elim (one_or_other p n) [
         | inl e ↦
             subst (λ (m : ℕ). KeepsPlace f.known.setup f.number.0 m ((rib_of g.rib).entries m) (table_at g.due_out m) (place_at g.places.places m)) (sym e)
             (subst (λ (x : Option Place). KeepsPlace f.known.setup f.number.0 p ((rib_of g.rib).entries p) (table_at g.due_out p) x) (sym here) place_then)

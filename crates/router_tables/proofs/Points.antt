@@ -11,8 +11,11 @@ one_or_other p q = elim (cases_lt q p) [
   | inr from ↦ elim (cases_lt p q) [ inl above ↦ inr (λ e. let x : ⊥ = omega (arith, above, e) in x) | inr to ↦ inl (omega (arith, from, to)) ]
 ]
 
+pub at_here : {A : Type 0} (f : ℕ → A) (p : ℕ) (x : A) (q : ℕ) → q ≡ p → at f p x q ≡ x
+at_here f p x q e = ap (λ (b : Bool). let y = if b then x else f q in y) (eq-eqb q p e)
+
 pub at_own : {A : Type 0} (f : ℕ → A) (p : ℕ) (x : A) → at f p x p ≡ x
-at_own f p x = ap (λ (b : Bool). let y = if b then x else f p in y) (eq-eqb p p refl)
+at_own f p x = at_here f p x p refl
 
 pub at_else : {A : Type 0} (f : ℕ → A) (p : ℕ) (x : A) (q : ℕ) → q ≢ p → at f p x q ≡ f q
 at_else f p x q not = ap (λ (b : Bool). let y = if b then x else f q in y) (ne_eqb q p not)

@@ -60,7 +60,7 @@ module _ (old : Grouped) (attrs : Option Attrs) (code : List ℕ) (keeps : Group
     pub keeps_begins : {A E : Type 0} (r : Result A E) → OnOk r Begins
         → OnOk r (Updates (slice_cmp nat_cmp) old.indices new.indices code (Some (length old.batches.items))) → OnOk r (GroupedInvariant new)
     keeps_begins (Ok a) effect updates = record {
-      found = found_begun false attrs prefix old.batches.items (map (batch_octets false) old.batches.items) refl new.batches.items old.indices effect new.indices
-          (subst (λ c. Updates (slice_cmp nat_cmp) old.indices new.indices c (Some (length old.batches.items))) code_is updates) keeps.found;
+      found = found_begun false attrs prefix old.batches.items (map (batch_octets false) old.batches.items) refl new.batches.items old.indices effect
+          new.indices (subst (λ c. Updates (slice_cmp nat_cmp) old.indices new.indices c (Some (length old.batches.items))) code_is updates) keeps.found;
     }
     keeps_begins (Err e) effect updates = tt
