@@ -25,7 +25,7 @@ use Rattle.router_tables.specs.Entering.{entry_here}
 use Rattle.router_tables.specs.Reads.{DueBy, followed, prefixes_in}
 use Rattle.router_tables.proofs.EnterSteps.{enters_none, entry_at}
 use Rattle.router_tables.proofs.Points.{at_is}
-use Rattle.router_tables.proofs.Reads.{due_then, follows_heard}
+use Rattle.router_tables.proofs.ReadSteps.{due_then, follows_heard}
 use Rattle.router_tables.proofs.Rounds.{due_round, follows_round}
 use Rattle.audit_tables.specs.Changes.{ChangesDue, EntersHere, KeepsTables}
 use Rattle.audit_tables.specs.Parts.{IsForgotten, NothingIsKnown, TablesInvariant, due_at, entries_at, part_with, pending_at}

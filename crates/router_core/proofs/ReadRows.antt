@@ -36,7 +36,7 @@ use Rattle.router_tables.proofs.Points.{one_or_other, at_is, at_else}
 use Rattle.router_core.proofs.Kept.{places_at, placed_here, placed_else, keeps_with, rest_on, with_routes, live_is, stays_itself}
 use Rattle.router_core.proofs.PlaceLists.{listed, rooms, same_there}
 use Rattle.router_core.proofs.ReadSteps.{entry_is}
-use Rattle.router_tables.proofs.Reads.{due_then, due_up, follows_heard, less_unread}
+use Rattle.router_tables.proofs.ReadSteps.{due_then, due_up, follows_heard, less_unread}
 
 module _ (f g : Fields) (p : ℕ) (a b : Post (Item RunningSession)) (s u : RunningSession) (o : Option Errand) (step : ReadStep)
     (keeps : KeepsBut p f) (live : RunsAt f.places.places p s o) (reads : ReadsFrame step s u)

@@ -4,5 +4,5 @@ pub mod AddSteps
 pub mod EnterSteps
 pub mod PrefixSets
 pub mod Choices
-pub mod Reads
+pub mod ReadSteps
 pub mod Rounds

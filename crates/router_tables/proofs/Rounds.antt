@@ -27,7 +27,7 @@ use Rattle.update_plan.proofs.Keys.{keys_any}
 use Rattle.router_tables.specs.Reads.{DueBy, followed, prefixes_in}
 use Rattle.router_tables.proofs.DueSteps.{none_in}
 use Rattle.router_tables.proofs.EnterSteps.{no_value}
-use Rattle.router_tables.proofs.Reads.{closed_due, nothing_has}
+use Rattle.router_tables.proofs.ReadSteps.{closed_due, nothing_has}
 
 same_tail : (xs : List Line) (x : Line) (ys zs : List Line) → xs ++ x ∷ ys ≡ xs ++ x ∷ zs → ys ≡ zs
 same_tail [] x ys zs e = let f : ys ≡ zs = cc in f
