@@ -3,10 +3,9 @@ use Rattle.std.proofs.Common.{◌≡◌, ◌≤◌, ℕ, zero, suc, List, [], �
 use Rattle.std.proofs.lemmas.Bool.Decides.{nat_tests}
 use Rattle.std.specs.Prelude.{◌==◌, option_map, if◌then◌else◌, slice_get}
 use Rattle.link_bag.specs.declared.plan.Plan.{Plan}
-use Rattle.far_side.specs.Says.{bytes_to_say}
-use Rattle.far_side.specs.Parts.{say_by}
-use Rattle.far_side.specs.Fars.{IsFarConfigOf}
-use Rattle.far_side.specs.declared.says.Say.{Say}
+use Rattle.actor_configs.specs.Says.{bytes_to_say, say_by}
+use Rattle.actor_configs.specs.Fars.{IsFarConfigOf}
+use Rattle.actor_configs.specs.declared.says.Say.{Say}
 use Rattle.actor_rows.specs.Laboratory.{laboratory}
 
 abbrev pub says_of : (first second third : List ℕ) → List Say

@@ -20,11 +20,12 @@
 ghost use Rattle.std.specs.Prelude.{◌≡◌, ◌∷◌, [], IfOk};
 ghost use Rattle.graft_model.specs.Setups.{Setup};
 
-use far_side::{Far, FarConfig, Say, Says};
+use actor_configs::{FarConfig, Say, Says, Script, ScriptStep};
+use far_side::Far;
 use graft_actors::Known;
 use graft_edge::{Items, NoMemory, Octets, PeeringId, RouterId};
 use link_bag::{Fault, Plan};
-use operator_core::{Operator, Script, ScriptStep};
+use operator_core::Operator;
 use std::alloc::Global;
 use tcp_seq::Seq;
 

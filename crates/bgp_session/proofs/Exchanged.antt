@@ -62,7 +62,7 @@ module _ (parts : Parts) (end : EndState) (e : Endpoint) (k : SessionInvariant p
 -- ---- emission
 
 -- a slice of a stream of 1 MiB, with what was received
-in_streams : (s : EndState) (e : Endpoint) (offset len : ℕ) → EndStands s e → offset + len ≤ length e.stream → IsInStreams (slice_at e offset len)
+pub in_streams : (s : EndState) (e : Endpoint) (offset len : ℕ) → EndStands s e → offset + len ≤ length e.stream → IsInStreams (slice_at e offset len)
 in_streams s e offset len stands within =
     let n = length-take len (drop offset e.stream) in
     let stream = stream_is s e stands in
@@ -173,7 +173,7 @@ again_within parts end p k step =
     let within : e.acked + again_length_of e ≤ length e.stream = omega (arith, n, emitted, k.stands.sound.sending.acked) in
     subst IsInStreams (sym step.slice) (in_streams parts.end e e.acked (again_length_of e) k.stands within)
 
-answer_within : (parts : Parts) (end : Endpoint) (p : PlacedSegment) → SessionInvariant parts → EmitsEmpty (value_of parts).end p end → IsInStreams p
+pub answer_within : (parts : Parts) (end : Endpoint) (p : PlacedSegment) → SessionInvariant parts → EmitsEmpty (value_of parts).end p end → IsInStreams p
 answer_within parts end p k step =
     let e = (value_of parts).end in
     let n = stream_is parts.end e k.stands in
@@ -282,7 +282,7 @@ pub on_ok : {A : Type 0} (r : Result A NoMemory) {P Q : Type 0} → (P → Q) �
 on_ok (Ok x) f p = f p
 on_ok (Err e) f p = p
 
-same_keeps : (parts : Parts) (after : EndState) → SessionInvariant parts → after ≡ parts.end → SessionInvariant (with_end parts after)
+pub same_keeps : (parts : Parts) (after : EndState) → SessionInvariant parts → after ≡ parts.end → SessionInvariant (with_end parts after)
 same_keeps parts after k is = subst (λ (s : EndState). SessionInvariant (with_end parts s)) (sym is) k
 
 -- ---- when there is no segment

@@ -6,6 +6,7 @@ pub mod Reading
 pub mod Rounds
 pub mod Offered
 pub mod Exchanged
+pub mod Named
 pub mod Arrivals
 pub mod Fronts
 pub mod Begun

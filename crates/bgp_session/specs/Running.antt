@@ -6,3 +6,7 @@ use Rattle.session_value.specs.Sessions.{SessionValue}
 pub record RunningSession : Type 0 where
   pub session : SessionValue
   pub acked_at_turn : ℕ
+
+-- the session that a capsule carries
+abbrev pub carried : RunningSession → SessionValue
+carried capsule = capsule.session

@@ -2,7 +2,8 @@
 
 ghost use Rattle.std.specs.Prelude.{◌≡◌, ◌<◌, ◌≤◌, ◌+◌, ◌^◌, ◌↔◌, ◌⊎◌, length, min, true, IsNone, IsSome, IfNone, IfOk, OnOk};
 ghost use Rattle.tcp_seq.specs.declared.segment.Way.TheVariants as ways;
-ghost use Rattle.tcp_seq.specs.Endpoint.{EmitsNext, EmitsAgain, EmitsAnswer, EmitsSlice, IsInStreams, next_length, again_length};
+ghost use Rattle.tcp_seq.specs.Endpoint.{Endpoint, PlacedSegment, EmitsNext, EmitsAgain, EmitsAnswer, EmitsSlice, IsInStreams, next_length, again_length};
+ghost use Rattle.tcp_end.specs.Emitting.{EmitsPart};
 ghost use Rattle.bgp_session.specs.Steps.{SegmentArrives, SessionEmitsIfAny, received_as};
 ghost use Rattle.bgp_session.specs.Inner.{SessionInvariant, running, value_of};
 
@@ -39,6 +40,18 @@ impl Parts {
         ensures keeps { SessionInvariant self.new }
     {
         self.end.next_segment()
+    }
+
+    /// Emits the slice that a caller names, if there may be one.
+    pub(crate) fn emit_at(&mut self, from: u32, len: u32) -> Result<Option<Segment>, NoMemory>
+        requires { SessionInvariant self.old }
+        ensures emits { IfOk result (λ answer. SessionEmitsIfAny (EmitsPart from len) (value_of self.old) answer (value_of self.new)) }
+        ensures refused { IfOk result (λ answer.
+            IfNone answer ((segment : PlacedSegment) (after : Endpoint) → ¬ EmitsPart from len (value_of self.old).end segment after)) }
+        ensures same_turn { OnOk result (self.new.end.acked_at_turn ≡ self.old.end.acked_at_turn) }
+        ensures keeps { SessionInvariant self.new }
+    {
+        self.end.emit_at(from, len)
     }
 
     /// Makes a retransmission turn.

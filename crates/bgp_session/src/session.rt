@@ -4,7 +4,8 @@ ghost use Rattle.std.specs.Prelude.{ℕ, ◌≡◌, ◌<◌, ◌≤◌, ◌^◌,
 ghost use Rattle.std.specs.Option.{option_map};
 ghost use Rattle.bgp_types.specs.declared.message.SessionState.TheVariants as states;
 ghost use Rattle.tcp_seq.specs.declared.segment.Way.TheVariants as ways;
-ghost use Rattle.tcp_seq.specs.Endpoint.{EmitsNext, EmitsAgain, EmitsAnswer, EmitsSlice, IsInStreams, again_length, next_length};
+ghost use Rattle.tcp_seq.specs.Endpoint.{Endpoint, PlacedSegment, EmitsNext, EmitsAgain, EmitsAnswer, EmitsSlice, IsInStreams, again_length, next_length};
+ghost use Rattle.tcp_end.specs.Emitting.{EmitsPart};
 ghost use Rattle.bgp_story.specs.Legal.{IsPeering, IsOneWay, is_wide};
 ghost use Rattle.session_value.specs.Sessions.{state, hold_time, peering_of, begun};
 ghost use Rattle.session_value.specs.Cases.{Changes, PutsUpdate};
@@ -128,6 +129,18 @@ impl Session {
         ensures same_turn { OnOk result (self.new.acked_at_turn ≡ self.old.acked_at_turn) }
     {
         self.parts.next_segment()
+    }
+
+    /// Emits the slice of `len` bytes from an offset of the stream on, which may have been emitted before, or a segment
+    /// without bytes at the offset that is emitted next. Returns `None` where the stream and the flight allow no such
+    /// segment; then nothing changes.
+    pub fn emit_at(&mut self, from: u32, len: u32) -> Result<Option<Segment>, NoMemory>
+        ensures emits { IfOk result (λ answer. SessionEmitsIfAny (EmitsPart from len) self.old.session answer self.new.session) }
+        ensures refused { IfOk result (λ answer.
+            IfNone answer ((segment : PlacedSegment) (after : Endpoint) → ¬ EmitsPart from len self.old.session.end segment after)) }
+        ensures same_turn { OnOk result (self.new.acked_at_turn ≡ self.old.acked_at_turn) }
+    {
+        self.parts.emit_at(from, len)
     }
 
     /// Makes a retransmission turn: emits the first 1,024 outstanding bytes again, or all if there are fewer, unless

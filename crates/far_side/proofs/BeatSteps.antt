@@ -7,7 +7,7 @@ use Rattle.bgp_types.specs.Spelling.{spell}
 use Rattle.session_value.specs.Sessions.{SessionValue}
 use Rattle.session_value.specs.Cases.{sending}
 use Rattle.graft_model.specs.declared.event.FarEvent.TheVariants.{Beat}
-use Rattle.far_side.specs.Remotes.{RemoteValue}
+use Rattle.remote_end.specs.Remotes.{RemoteValue}
 use Rattle.graft_actors.specs.Notes.{WroteOne}
 use Rattle.far_side.specs.Parts.{far_part, FarSideInvariant, ForEach}
 use Rattle.far_side.specs.Passes.{IsDue, Beaten}

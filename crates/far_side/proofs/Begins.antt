@@ -7,14 +7,14 @@ use Rattle.tcp_seq.specs.declared.segment.Way.TheVariants.{Home, Remote}
 use Rattle.graft_model.specs.Setups.{PeeringSetup, keepalive_interval_of}
 use Rattle.graft_actors.specs.Items.{home_first, remote_first}
 use Rattle.graft_actors.specs.declared.known.Known.{Known}
-use Rattle.far_side.specs.Remotes.{RemoteValue}
+use Rattle.remote_end.specs.Remotes.{RemoteValue}
 use Rattle.far_side.specs.Links.{LinkValue}
-use Rattle.far_side.specs.Says.{bytes_to_say, bytes_at}
+use Rattle.actor_configs.specs.Says.{bytes_to_say, bytes_at}
 use Rattle.far_side.specs.Parts.{FarSideInvariant}
-use Rattle.far_side.specs.Fars.{IsFarConfigOf}
-use Rattle.far_side.specs.declared.config.FarConfig.{FarConfig}
+use Rattle.actor_configs.specs.Fars.{IsFarConfigOf}
+use Rattle.actor_configs.specs.declared.far.FarConfig.{FarConfig}
 use Rattle.far_side.specs.declared.fields.Fields.{Fields}
-use Rattle.far_side.specs.declared.says.SayTable.{SayTable}
+use Rattle.actor_configs.specs.declared.says.SayTable.{SayTable}
 
 -- the fields that it begins with
 abbrev pub begun : Known → FarConfig → SayTable → RemoteValue → LinkValue → LinkValue → Fields

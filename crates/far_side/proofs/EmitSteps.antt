@@ -18,7 +18,7 @@ use Rattle.graft_model.specs.declared.event.FarEvent.{FarEvent}
 use Rattle.graft_model.specs.declared.event.FarEvent.TheVariants.{Send}
 use Rattle.graft_actors.specs.Emissions.{reach_of, IsCareful, Tally, tallied}
 use Rattle.graft_actors.proofs.Careful.{at_again, at_answer, at_next, careful_again, careful_next, counted_again, counted_next}
-use Rattle.far_side.specs.Remotes.{RemoteValue, IsFrom, SendingInvariant, EmitsOf}
+use Rattle.remote_end.specs.Remotes.{RemoteValue, IsFrom, SendingInvariant, EmitsOf}
 use Rattle.far_side.specs.Links.{LinkValue, IsOn, put_now}
 use Rattle.graft_actors.specs.Notes.{WroteOne}
 use Rattle.far_side.specs.Parts.{far_part, FarSideInvariant, ForEach}

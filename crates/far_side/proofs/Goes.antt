@@ -13,7 +13,7 @@ use Rattle.graft_model.specs.Parts.{FarPart}
 use Rattle.graft_model.specs.declared.event.FarEvent.{FarEvent}
 use Rattle.graft_model.specs.declared.event.FarEvent.TheVariants.{Send}
 use Rattle.graft_actors.specs.Emissions.{zero_tally, IsOld, IsCareful, Tally, tallied}
-use Rattle.far_side.specs.Remotes.{RemoteValue}
+use Rattle.remote_end.specs.Remotes.{RemoteValue}
 use Rattle.far_side.specs.Links.{home_act, home_event, home_events, remote_act, remote_event, remote_events, pass_events, act_in, next_index}
 use Rattle.far_side.specs.Parts.{far_part}
 use Rattle.far_side.specs.Turns.{CarefulFar, far_tally, FarRound, FarRetransmits, SendsNew, SendsAnswer, SendsNone, FarGoes, DidAsFar}

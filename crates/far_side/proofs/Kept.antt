@@ -5,7 +5,7 @@ use Rattle.std.specs.List.{AllByRecursion}
 use Rattle.tcp_seq.specs.declared.segment.Way.{Way}
 use Rattle.graft_model.specs.FarRows.{without}
 use Rattle.graft_model.specs.Setups.{routers_in}
-use Rattle.far_side.specs.Remotes.{RemoteValue}
+use Rattle.remote_end.specs.Remotes.{RemoteValue}
 use Rattle.far_side.specs.Links.{LinkValue, act_in, is_gone, older}
 use Rattle.far_side.specs.Parts.{LinkLeads, FarSideInvariant}
 use Rattle.far_side.specs.Passes.{SameLink, plans_after}

@@ -1,4 +1,3 @@
-pub mod RemoteSteps
 pub mod LinkSteps
 pub mod Leaving
 pub mod PassLists

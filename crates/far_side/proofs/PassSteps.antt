@@ -21,7 +21,7 @@ use Rattle.graft_actors.proofs.Numbers as numbers
 use Rattle.graft_actors.specs.Items.{home_first, remote_first, segment_of, segment_thing, placed_for}
 use Rattle.graft_actors.specs.Emissions.{Tally}
 use Rattle.graft_actors.specs.Notes.{deed_of, WroteOne}
-use Rattle.far_side.specs.Remotes.{RemoteValue}
+use Rattle.remote_end.specs.Remotes.{RemoteValue}
 use Rattle.far_side.specs.Links.{LinkValue, IsOn, act_in, is_gone, older, link_act, link_event, aged, removed}
 use Rattle.far_side.specs.Parts.{far_part, own_part, FarSideInvariant, ForEach, link_to, with_link}
 use Rattle.far_side.specs.Turns.{DidAsFar}

@@ -30,11 +30,11 @@ use Rattle.graft_actors.proofs.Numbers.{there, of_number, at_operator}
 use Rattle.graft_actors.specs.Items.{home_first, remote_first, placed_for, segment_of, segment_thing, IsSegmentOf, thing_of}
 use Rattle.graft_actors.specs.Acts.{MayComeFrom, IsWelcome, acts}
 use Rattle.graft_actors.proofs.Welcome.{far_segment, far_point, far_say}
-use Rattle.far_side.specs.Remotes.{RemoteValue, IsFor}
-use Rattle.far_side.specs.Says.{bytes_at}
+use Rattle.remote_end.specs.Remotes.{RemoteValue, IsFor}
+use Rattle.actor_configs.specs.Says.{bytes_at, say_by}
 use Rattle.far_side.specs.Links.{LinkValue, IsOn}
 use Rattle.graft_actors.specs.Notes.{deed_of, WroteOne, dropped}
-use Rattle.far_side.specs.Parts.{far_part, own_part, say_by, FarSideInvariant, ForEach}
+use Rattle.far_side.specs.Parts.{far_part, own_part, FarSideInvariant, ForEach}
 use Rattle.far_side.specs.Passes.{fates_in, put_in, plans_put}
 use Rattle.far_side.specs.Takes.{segments_taken_in, TookAsFar, FarTakesIt}
 use Rattle.far_side.specs.declared.fields.Fields.{Fields}

@@ -1,17 +1,16 @@
--- A far side: its configuration, how it begins, and the contracts of its calls.
-use Rattle.std.specs.Prelude.{ℕ, ◌≡◌, ◌<◌, ◌≤◌, List, [], length, Some, slice_get}
+-- A far side: how it begins, and the contracts of its calls.
+use Rattle.std.specs.Prelude.{ℕ, ◌≡◌, List, [], slice_get}
 use Rattle.ring_net.specs.Deeds.{Deed}
 use Rattle.graft_steps.specs.declared.item.Item.{Item}
-use Rattle.graft_model.specs.Setups.{Setup, PeeringSetup, keepalive_interval_of, routers_in, peerings_in}
+use Rattle.graft_model.specs.Setups.{Setup}
 use Rattle.graft_model.specs.Parts.{FarPart}
 use Rattle.graft_model.specs.First.{first_far}
 use Rattle.graft_actors.specs.Actors.{FarSide, FarIs}
 use Rattle.graft_actors.specs.Acts.{OwnPart}
-use Rattle.far_side.specs.Says.{bytes_to_say}
-use Rattle.far_side.specs.Parts.{far_part, own_part, say_by, HasLinks}
+use Rattle.far_side.specs.Parts.{far_part, own_part, HasLinks}
 use Rattle.far_side.specs.Takes.{TookAsFar}
 use Rattle.far_side.specs.Turned.{FarTurned}
-use Rattle.far_side.specs.declared.config.FarConfig.{FarConfig}
+use Rattle.actor_configs.specs.declared.far.FarConfig.{FarConfig}
 use Rattle.far_side.specs.declared.far.Far.{Far}
 
 -- the peering whose far side it is
@@ -24,22 +23,6 @@ part_of_far f = far_part f.fields
 
 abbrev pub far_own_part : Far → OwnPart
 far_own_part f = own_part f.fields
-
--- A configuration is that of a peering of a laboratory.
-pub record IsFarConfigOf (setup : Setup) (config : FarConfig) : Type 0 where
-  pub peering : PeeringSetup
-  pub is : slice_get setup.peerings config.peering.0 ≡ Some peering
-  pub routers : config.routers ≡ routers_in setup
-  pub few : config.routers ≤ 256
-  pub peerings : config.peerings ≡ peerings_in setup
-  pub pointer : config.pointer.0 ≡ peering.start
-  pub known : peering.start < routers_in setup
-  pub sends : config.send_first ≡ peering.config.receive_first
-  pub receives : config.receive_first ≡ peering.config.send_first
-  pub opening : config.opening ≡ peering.opening
-  pub short : length config.opening ≤ 4096
-  pub says : (step : ℕ) → bytes_to_say config.says step ≡ say_by config.peering.0 (slice_get setup.steps step)
-  pub beat : config.beat ≡ keepalive_interval_of peering
 
 -- The far side is that of its peering in the first world, with empty links and before its first turn.
 pub record IsNewFar (setup : Setup) (config : FarConfig) (far : Far) : Type 0 where

@@ -1,8 +1,5 @@
-pub mod Remotes
-pub mod RemoteInner
 pub mod Links
 pub mod LinkInner
-pub mod Says
 pub mod Parts
 pub mod Turns
 pub mod Passes

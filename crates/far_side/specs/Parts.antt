@@ -1,16 +1,16 @@
 -- A far side as the model has it, and the invariant of its fields.
-use Rattle.std.specs.Prelude.{ℕ, ◌≡◌, ◌<◌, ◌≤◌, ◌==◌, List, Option, Some, None, option_map, if◌then◌else◌, slice_get}
+use Rattle.std.specs.Prelude.{ℕ, ◌≡◌, ◌<◌, ◌≤◌, Some, option_map, slice_get}
 use Rattle.std.specs.List.{AllByRecursion}
 use Rattle.tcp_seq.specs.declared.segment.Way.{Way}
 use Rattle.tcp_seq.specs.declared.segment.Way.TheVariants.{Home, Remote}
 use Rattle.session_value.specs.Sessions.{SessionValue}
-use Rattle.graft_model.specs.Setups.{ScriptStep, SayStep, MoveStep, EvacuateStep, SettleStep, keepalive_interval_of, routers_in, peerings_in}
+use Rattle.graft_model.specs.Setups.{keepalive_interval_of, routers_in, peerings_in}
 use Rattle.graft_model.specs.Parts.{FarPart}
 use Rattle.graft_actors.specs.Actors.{FarSide, FarIs}
 use Rattle.graft_actors.specs.Items.{home_first, remote_first}
 use Rattle.graft_actors.specs.Acts.{OwnPart}
 use Rattle.far_side.specs.Links.{LinkValue}
-use Rattle.far_side.specs.Says.{bytes_at}
+use Rattle.actor_configs.specs.Says.{bytes_at, say_by}
 use Rattle.far_side.specs.declared.fields.Fields.{Fields}
 
 abbrev pub far_part : Fields → FarPart
@@ -38,14 +38,6 @@ link_to f way = by_way way f.homeward f.remoteward
 
 abbrev pub with_link : Fields → Way → LinkValue → Fields
 with_link f way link = record f { homeward = by_way way link f.homeward; remoteward = by_way way f.remoteward link }
-
--- the bytes that a step has the remote of this peering say
-abbrev pub say_by : ℕ → Option ScriptStep → Option (List ℕ)
-say_by p None = None
-say_by p (Some (SayStep q bytes)) = if q == p then Some bytes else None
-say_by p (Some (MoveStep q target)) = None
-say_by p (Some (EvacuateStep router)) = None
-say_by p (Some SettleStep) = None
 
 -- a link leads this way, and has these initial sequence numbers
 pub record LinkLeads (link : LinkValue) (to : Way) (p first other : ℕ) : Type 0 where

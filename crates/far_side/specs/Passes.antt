@@ -20,7 +20,7 @@ use Rattle.session_value.specs.Cases.{sending}
 use Rattle.bgp_types.specs.declared.message.Message.TheVariants.{KeepaliveMsg}
 use Rattle.bgp_types.specs.Spelling.{spell}
 use Rattle.graft_actors.specs.Emissions.{reach_of, Tally}
-use Rattle.far_side.specs.Remotes.{RemoteValue, SendingInvariant}
+use Rattle.remote_end.specs.Remotes.{RemoteValue, SendingInvariant}
 use Rattle.far_side.specs.Links.{LinkValue, IsOn, act_in, is_gone, older, next_index, link_event, pass_events, left_in_link, put_now}
 use Rattle.graft_actors.specs.Notes.{WroteOne}
 use Rattle.far_side.specs.Parts.{FarSideInvariant, link_to, with_link}

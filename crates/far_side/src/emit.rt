@@ -7,7 +7,7 @@ ghost use Rattle.session_value.specs.Cases.{sending};
 ghost use Rattle.tcp_seq.specs.Placed.{placed};
 ghost use Rattle.bgp_types.specs.declared.message.Message.TheVariants.{KeepaliveMsg};
 ghost use Rattle.bgp_types.specs.Spelling.{spell};
-ghost use Rattle.far_side.specs.Remotes.{IsFrom};
+ghost use Rattle.remote_end.specs.Remotes.{IsFrom};
 ghost use Rattle.graft_actors.specs.Notes.{WroteOne};
 ghost use Rattle.graft_model.specs.Codes.{far_code};
 ghost use Rattle.graft_model.specs.declared.event.FarEvent.TheVariants.{Send};

@@ -4,15 +4,14 @@ ghost use Rattle.std.specs.Prelude.{◌≡◌, false};
 ghost use Rattle.far_side.specs.Parts.{FarSideInvariant};
 ghost use Rattle.far_side.specs.FieldProps.{FarSideInvariant-prop-if};
 
-use crate::config::FarConfig;
 use crate::fields::Fields;
 use crate::link::Link;
-use crate::remote::Remote;
-use crate::says::SayTable;
 use crate::{take, turn};
+use actor_configs::{FarConfig, SayTable};
 use graft_actors::Known;
 use graft_edge::{NoMemory, RouterId};
 use graft_steps::{FarRest, Item};
+use remote_end::Remote;
 use ring_net::Post;
 use std::alloc::Global;
 use tcp_seq::Way;
@@ -34,7 +33,8 @@ impl Far {
     ghost use Rattle.session_value.specs.Sessions.{SessionValue};
     ghost use Rattle.settled_check.specs.Rests.{IsFarRest};
     ghost use Rattle.graft_actors.specs.Acts.{acts};
-    ghost use Rattle.far_side.specs.Fars.{far_own_part, part_of_far, peering_in, IsFarConfigOf, IsNewFar, took_by_far, turned_by_far};
+    ghost use Rattle.far_side.specs.Fars.{far_own_part, part_of_far, peering_in, IsNewFar, took_by_far, turned_by_far};
+    ghost use Rattle.actor_configs.specs.Fars.{IsFarConfigOf};
 
     /// Returns a far side that begins with this configuration, in its laboratory. The remote has said its opening, and
     /// both links are empty.

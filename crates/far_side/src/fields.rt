@@ -1,11 +1,11 @@
 //! A far side's fields.
 
 use crate::link::Link;
-use crate::remote::Remote;
-use crate::says::SayTable;
+use actor_configs::SayTable;
 use graft_actors::Known;
 use graft_edge::{NoMemory, PeeringId, RouterId};
 use link_bag::Plan;
+use remote_end::Remote;
 use tcp_seq::{Segment, Way};
 
 /// The fields of a far side.

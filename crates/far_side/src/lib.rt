@@ -2,19 +2,14 @@
 //! plan.
 #![tactic(auto)]
 
-mod config;
 mod emit;
 mod far;
 mod fields;
 mod laws;
 mod link;
 mod pass;
-mod remote;
-mod says;
 mod take;
 mod turn;
 
-pub use config::FarConfig;
 pub use far::Far;
 pub use laws::segments_leave_by_their_fates;
-pub use says::{Say, Says};

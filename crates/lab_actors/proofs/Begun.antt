@@ -11,10 +11,11 @@ use Rattle.graft_model.specs.Setups.{Setup, keepalive_interval_of}
 use Rattle.graft_actors.specs.Actors.{ActorName, Router, FarSide, Operator}
 use Rattle.graft_actors.specs.Acts.{OwnPart}
 use Rattle.router_core.specs.Routers as routers
-use Rattle.router_core.specs.declared.config.RouterConfig.{RouterConfig}
+use Rattle.actor_configs.specs.declared.router.RouterConfig.{RouterConfig}
 use Rattle.router_core.specs.declared.router as made_routers
-use Rattle.far_side.specs.Fars.{far_own_part, IsFarConfigOf, IsNewFar}
-use Rattle.far_side.specs.declared.config.FarConfig.{FarConfig}
+use Rattle.far_side.specs.Fars.{far_own_part, IsNewFar}
+use Rattle.actor_configs.specs.Fars.{IsFarConfigOf}
+use Rattle.actor_configs.specs.declared.far.FarConfig.{FarConfig}
 use Rattle.far_side.specs.declared.far as made_fars
 use Rattle.world_nodes.specs.declared.node.Node.TheVariants as nodes
 use Rattle.lab_actors.specs.Firsts.{first_own, IsFirstNode}

@@ -12,7 +12,7 @@ use Rattle.graft_model.specs.Setups.{Setup}
 use Rattle.graft_model.specs.Parts.{World}
 use Rattle.settled_check.specs.Left.{HasUnissued}
 use Rattle.graft_actors.specs.Laws.{IsGo}
-use Rattle.router_core.specs.Parts.{carried}
+use Rattle.bgp_session.specs.Running.{carried}
 use Rattle.world_runs.specs.Runs.{IsSeenAs, Ran}
 use Rattle.world_runs.specs.Marks.{before, IsWorldAtMark, IsMarkOf, operator_number, is_go, BeginsNone, BeginsWithGo}
 use Rattle.world_runs.proofs.Marks.{up_to_mark, world_at_mark}

@@ -15,7 +15,7 @@ use Rattle.graft_model.specs.Claims.{Unchanged, MadeBeforeBroken, Solves, Transp
 use Rattle.graft_model.specs.Quiet.{Quiet}
 use Rattle.graft_laws.specs.Emptied.{GiveByPlan, EmptyAlone, AreEmptied}
 use Rattle.graft_laws.specs.Keeps.{Reached}
-use Rattle.router_core.specs.Parts.{carried}
+use Rattle.bgp_session.specs.Running.{carried}
 use Rattle.world_runs.specs.Laws.{RunsAreTransparent}
 use Rattle.world_runs.specs.Runs.{RanAs}
 use Rattle.world_nodes.specs.Nodes.{own}

@@ -5,7 +5,7 @@ use Rattle.std.specs.Prelude.{◌↔◌}
 use Rattle.std.proofs.lemmas.List.{take_more, drop_more, get_or_default}
 use Rattle.graft_model.specs.Setups.{Setup}
 use Rattle.graft_model.specs.Parts.{World}
-use Rattle.operator_core.specs.Turns.{IsHeldUp}
+use Rattle.operator_state.specs.Holds.{IsHeldUp}
 use Rattle.world_runs.specs.Marks.{operator_number}
 use Rattle.world_nodes.specs.Edges.{HasCounts}
 use Rattle.world_nodes.specs.Looks.{IsWorldAt}

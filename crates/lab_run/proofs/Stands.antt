@@ -19,7 +19,7 @@ use Rattle.graft_actors.specs.Actors.{ActorPart, OperatorIs, ActorName, Operator
 use Rattle.graft_actors.specs.Laws.{IsGo}
 use Rattle.graft_actors.proofs.Numbers.{at_operator}
 use Rattle.graft_actors.specs.Acts.{OwnPart, ActsAs, acts}
-use Rattle.router_core.specs.Parts.{carried}
+use Rattle.bgp_session.specs.Running.{carried}
 use Rattle.world_runs.specs.Labs.{actors_in}
 use Rattle.world_runs.specs.Runs.{IsSeenAs}
 use Rattle.world_runs.specs.Laws.{IsNoGo}

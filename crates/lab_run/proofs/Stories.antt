@@ -11,7 +11,7 @@ use Rattle.graft_model.specs.Setups.{Setup, IsSetup, groups_in}
 use Rattle.graft_model.specs.Parts.{World}
 use Rattle.graft_model.specs.Quiet.{Quiet}
 use Rattle.graft_laws.specs.Keeps.{Reached}
-use Rattle.router_core.specs.Parts.{carried}
+use Rattle.bgp_session.specs.Running.{carried}
 use Rattle.world_runs.specs.Runs.{IsSeenAs, RanAs, Ran}
 use Rattle.world_runs.specs.Marks.{operator_number, is_go}
 use Rattle.world_runs.proofs.Groups.{groups_counted}

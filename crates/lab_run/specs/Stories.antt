@@ -2,7 +2,7 @@
 use Rattle.std.specs.Prelude.{ℕ, ◌≡◌, ◌≢◌, ◌+◌, ◌⊎◌, ◌↔◌, List, [], ◌∷◌, ◌++◌, sum, Bool, true, false, Option, Some, None, length}
 use Rattle.graft_model.specs.Setups.{Setup}
 use Rattle.graft_model.specs.Parts.{World}
-use Rattle.operator_core.specs.Turns.{IsHeldUp}
+use Rattle.operator_state.specs.Holds.{IsHeldUp}
 use Rattle.world_runs.specs.Marks.{operator_number}
 use Rattle.world_nodes.specs.Looks.{IsWorldAt}
 use Rattle.world_nodes.specs.Ways.{Stand, Round, Pause}

@@ -13,7 +13,7 @@ use Rattle.graft_model.specs.Parts.{World}
 use Rattle.graft_actors.specs.Actors.{Thing, MeshItem, OutwardItem, SegmentItem, OrderItem, ReportItem, StepItem, ActorName, Router, FarSide, Operator}
 use Rattle.graft_actors.specs.Seen.{channel_of}
 use Rattle.graft_actors.specs.Items.{thing_of, segment_of, segment_thing}
-use Rattle.router_core.specs.Parts.{carried}
+use Rattle.bgp_session.specs.Running.{carried}
 use Rattle.world_nodes.specs.Nodes.{Mail}
 use Rattle.lab_seen.specs.Found.{carried_by}
 use Rattle.lab_seen.specs.declared.found.Found.{Found}

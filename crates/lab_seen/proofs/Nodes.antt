@@ -11,12 +11,12 @@ use Rattle.graft_actors.specs.Actors as names
 use Rattle.graft_actors.specs.Seen.{part_of}
 use Rattle.graft_actors.proofs.Numbers.{there}
 use Rattle.router_core.specs.declared.router as router_types
-use Rattle.router_core.specs.Parts.{carried}
+use Rattle.bgp_session.specs.Running.{carried}
 use Rattle.router_core.specs.Routers as routers
 use Rattle.far_side.specs.declared.far.Far.{Far as TheFar}
 use Rattle.far_side.specs.Fars as fars
 use Rattle.operator_core.specs.declared.operator.Operator.{Operator as TheOperator}
-use Rattle.operator_core.specs.Grafts.{log_of}
+use Rattle.operator_state.specs.Grafts.{log_of}
 use Rattle.operator_core.specs.Operators.{operator_setup, operator_part}
 use Rattle.lab_setup.proofs.Lists.{below_get}
 use Rattle.world_runs.specs.Labs.{actors_in}

@@ -8,7 +8,7 @@ use Rattle.std.proofs.lemmas.Option.{same_Some}
 use Rattle.ring_net.specs.declared.entry.Stamped.{Stamped}
 use Rattle.ring_net.specs.declared.parts.Left.{Left}
 use Rattle.ring_net.specs.Phases.{is_edge}
-use Rattle.bgp_session.specs.Running.{RunningSession}
+use Rattle.bgp_session.specs.Running.{RunningSession, carried}
 use Rattle.router_core.specs.declared.place.Errand.{Errand}
 use Rattle.session_value.specs.Sessions.{SessionValue}
 use Rattle.session_value.specs.declared.config.SessionConfig.{SessionConfig}
@@ -28,7 +28,6 @@ use Rattle.graft_actors.proofs.Numbers.{there}
 use Rattle.graft_actors.specs.Items.{thing_of}
 use Rattle.router_core.specs.declared.place.Place.{Place}
 use Rattle.router_core.specs.declared.place.Place.TheVariants.{Live, Shadow}
-use Rattle.router_core.specs.Parts.{carried}
 use Rattle.router_core.specs.Places.{place_of, place_at, errand_of, sessions_in}
 use Rattle.world_nodes.specs.declared.node.Node.{Node}
 use Rattle.world_nodes.specs.Edges.{talks}

@@ -11,7 +11,7 @@ use Rattle.router_core.specs.Routers as routers
 use Rattle.router_core.specs.declared.router as router_types
 use Rattle.far_side.specs.Fars as fars
 use Rattle.far_side.specs.declared.far.Far.{Far as TheFar}
-use Rattle.operator_core.specs.Grafts.{log_of}
+use Rattle.operator_state.specs.Grafts.{log_of}
 use Rattle.operator_core.specs.Operators.{operator_setup, operator_part}
 use Rattle.operator_core.specs.declared.operator.Operator.{Operator as TheOperator}
 use Rattle.lab_report.specs.declared.lab.FarView.{FarView}

@@ -10,7 +10,7 @@ use Rattle.session_value.specs.Sessions.{SessionValue}
 use Rattle.graft_model.specs.Setups.{Setup, router_numbers, peering_numbers, peerings_in}
 use Rattle.graft_model.specs.Parts.{RouterPart, FarPart, World}
 use Rattle.graft_model.specs.Claims.{sessions_at, sessions_of}
-use Rattle.operator_core.specs.Grafts.{log_of}
+use Rattle.operator_state.specs.Grafts.{log_of}
 use Rattle.lab_report.specs.declared.lab.BestEntry.{BestEntry}
 use Rattle.lab_report.specs.declared.lab.FarView.{FarView}
 use Rattle.lab_report.specs.declared.lab.Lab.{Lab}

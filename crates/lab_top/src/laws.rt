@@ -10,7 +10,7 @@ ghost use Rattle.graft_model.specs.Claims.{Unchanged, MadeBeforeBroken, Solves};
 ghost use Rattle.graft_model.specs.Quiet.{Quiet};
 ghost use Rattle.graft_laws.specs.Emptied.{GiveByPlan, AreEmptied};
 ghost use Rattle.graft_actors.specs.Laws.{AreEntriesOf};
-ghost use Rattle.operator_core.specs.Grafts.{log_of};
+ghost use Rattle.operator_state.specs.Grafts.{log_of};
 ghost use Rattle.world_runs.specs.Marks.{IsWorldAtMark};
 ghost use Rattle.world_runs.specs.Runs.{TransparentThroughout};
 ghost use Rattle.run_clocks.specs.Clocks.{AreClocked, clocked_in};

@@ -7,10 +7,9 @@ use Rattle.lab_tables.specs.declared.input.LabInput.{LabInput}
 use Rattle.lab_tables.specs.declared.input.PeeringInput.{PeeringInput}
 use Rattle.lab_input.specs.Counts.{is_wide}
 use Rattle.lab_setup.specs.Setups.{setup_of, peering_setup, is_wide_at}
-use Rattle.far_side.specs.Says.{bytes_to_say}
-use Rattle.far_side.specs.Parts.{say_by}
-use Rattle.far_side.specs.Fars.{IsFarConfigOf}
-use Rattle.far_side.specs.declared.config.FarConfig.{FarConfig}
+use Rattle.actor_configs.specs.Says.{bytes_to_say, say_by}
+use Rattle.actor_configs.specs.Fars.{IsFarConfigOf}
+use Rattle.actor_configs.specs.declared.far.FarConfig.{FarConfig}
 use Rattle.node_configs.specs.Accepted.{IsAccepted}
 use Rattle.node_configs.specs.Says.{says_of}
 use Rattle.node_configs.proofs.Accepted.{HasFew, few, is_setup}

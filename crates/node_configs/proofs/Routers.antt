@@ -14,10 +14,10 @@ use Rattle.lab_tables.specs.declared.input.PeeringInput.{PeeringInput}
 use Rattle.lab_tables.specs.declared.input.PolicyInput.{PolicyInput}
 use Rattle.lab_tables.specs.declared.input.RouterInput.{RouterInput}
 use Rattle.lab_setup.specs.Setups.{costs_from, named_rules, router_setup, peering_config, peering_setup, setup_of}
-use Rattle.router_core.specs.declared.config.Firsts.{Firsts}
-use Rattle.router_core.specs.declared.config.NamedPolicy.{NamedPolicy}
-use Rattle.router_core.specs.declared.config.RouterConfig.{RouterConfig}
-use Rattle.router_core.specs.Configs.{rules_at, ArePoliciesOf, firsts_at, AreFirstsOf, IsRibOf, starting_here, IsRouterConfigOf}
+use Rattle.actor_configs.specs.declared.router.Firsts.{Firsts}
+use Rattle.actor_configs.specs.declared.router.NamedPolicy.{NamedPolicy}
+use Rattle.actor_configs.specs.declared.router.RouterConfig.{RouterConfig}
+use Rattle.actor_configs.specs.Configs.{rules_at, ArePoliciesOf, firsts_at, AreFirstsOf, IsRibOf, starting_here, IsRouterConfigOf}
 use Rattle.node_configs.specs.Accepted.{IsAccepted}
 use Rattle.node_configs.specs.Tables.{named_policy, firsts_of, session_configs_at}
 use Rattle.node_configs.proofs.Accepted.{HasFew, few}

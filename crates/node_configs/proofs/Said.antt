@@ -12,9 +12,8 @@ use Rattle.lab_tables.specs.declared.input.Step.{Step}
 use Rattle.lab_tables.specs.declared.input.Step.TheVariants.{Announce, Withdraw, Raw, Graft, Settle, Evacuate}
 use Rattle.lab_input.specs.Said.{step_update}
 use Rattle.lab_setup.specs.Setups.{is_wide_at, script_step, ended_by, ended}
-use Rattle.far_side.specs.Says.{bytes_to_say}
-use Rattle.far_side.specs.Parts.{say_by}
-use Rattle.far_side.specs.declared.says.Say.{Say}
+use Rattle.actor_configs.specs.Says.{bytes_to_say, say_by}
+use Rattle.actor_configs.specs.declared.says.Say.{Say}
 use Rattle.lab_setup.specs.Said.{bytes_of_step}
 use Rattle.node_configs.specs.Says.{say_if, says_of}
 

@@ -13,9 +13,9 @@ use Rattle.lab_tables.specs.declared.input.RouterInput.{RouterInput}
 use Rattle.lab_tables.specs.declared.input.Step.{Step}
 use Rattle.lab_tables.specs.declared.input.Step.TheVariants as steps
 use Rattle.lab_setup.specs.Setups.{router_setup, peering_setup, script_step, ended_by, ended, setup_of}
-use Rattle.operator_core.specs.declared.script.Script.{Script}
-use Rattle.operator_core.specs.declared.script.ScriptStep.TheVariants.{Settle}
-use Rattle.operator_core.specs.Scripts.{step_for, IsScriptOf, IsWorkableStep, IsWorkable}
+use Rattle.actor_configs.specs.declared.script.Script.{Script}
+use Rattle.actor_configs.specs.declared.script.ScriptStep.TheVariants.{Settle}
+use Rattle.actor_configs.specs.Scripts.{step_for, IsScriptOf, IsWorkableStep, IsWorkable}
 use Rattle.node_configs.specs.Accepted.{IsAccepted}
 use Rattle.node_configs.specs.Orders.{script_order, is_end, end_after, script_orders}
 use Rattle.node_configs.proofs.Accepted.{HasFew, few, is_setup}

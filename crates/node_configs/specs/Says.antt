@@ -3,7 +3,7 @@ use Rattle.std.specs.Prelude.{ℕ, Bool, List, [], Option, option_map}
 use Rattle.std.specs.List.{enumerate_from, flat_map, cons_option}
 use Rattle.lab_tables.specs.declared.input.Step.{Step}
 use Rattle.lab_setup.specs.Said.{bytes_of_step}
-use Rattle.far_side.specs.declared.says.Say.{Say}
+use Rattle.actor_configs.specs.declared.says.Say.{Say}
 
 -- the say of the step of this number, where it has the remote say these bytes
 abbrev pub say_if : ℕ → Option (List ℕ) → List Say

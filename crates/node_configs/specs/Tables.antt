@@ -6,8 +6,8 @@ use Rattle.lab_tables.specs.declared.input.PeeringInput.{PeeringInput}
 use Rattle.lab_tables.specs.declared.input.PolicyInput.{PolicyInput}
 use Rattle.session_value.specs.declared.config.SessionConfig.{SessionConfig}
 use Rattle.lab_setup.specs.Setups.{peering_config}
-use Rattle.router_core.specs.declared.config.Firsts.{Firsts}
-use Rattle.router_core.specs.declared.config.NamedPolicy.{NamedPolicy}
+use Rattle.actor_configs.specs.declared.router.Firsts.{Firsts}
+use Rattle.actor_configs.specs.declared.router.NamedPolicy.{NamedPolicy}
 
 abbrev pub named_policy : PolicyInput → NamedPolicy
 named_policy p = record { name = p.name; policy = p.rules }

@@ -4,12 +4,12 @@ ghost use Rattle.std.specs.Prelude.{ℕ, ◌≡◌, ◌<◌, length, IfOk};
 ghost use Rattle.tcp_seq.specs.declared.segment.Way.{Way};
 ghost use Rattle.link_bag.specs.Planned.{fate_of, fate_in};
 ghost use Rattle.lab_setup.specs.Setups.{setup_of};
-ghost use Rattle.far_side.specs.Fars.{IsFarConfigOf};
+ghost use Rattle.actor_configs.specs.Fars.{IsFarConfigOf};
 ghost use Rattle.node_configs.specs.Accepted.{IsAccepted};
 
 use crate::counted::counts;
 use crate::says::says_of;
-use far_side::FarConfig;
+use actor_configs::FarConfig;
 use graft_edge::{NoMemory, PeeringId, TryCopy};
 use lab_setup::{is_wide, keepalive_interval_of};
 use lab_tables::LabInput;

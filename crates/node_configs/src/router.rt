@@ -2,17 +2,17 @@
 
 ghost use Rattle.std.specs.Prelude.{◌≡◌, ◌<◌, ◌≤◌, map, length, IfOk};
 ghost use Rattle.lab_setup.specs.Setups.{setup_of, cost_from as cost_from_lem, costs_from};
-ghost use Rattle.router_core.specs.Configs.{IsRouterConfigOf};
+ghost use Rattle.actor_configs.specs.Configs.{IsRouterConfigOf};
 ghost use Rattle.node_configs.specs.Accepted.{IsAccepted};
 ghost use Rattle.node_configs.specs.Tables.{named_policy};
 
 use crate::counted::counts;
 use crate::sessions::{firsts_of, sessions_at};
+use actor_configs::{NamedPolicy, Policies, RouterConfig};
 use graft_edge::{Items, NoMemory, RouterId, TryCopy};
 use lab_tables::{CostInput, LabInput, PolicyInput, RouterInput};
 use rib_stages::{Numbers, RibConfig};
 use route_policy::Policy;
-use router_core::{NamedPolicy, Policies, RouterConfig};
 use std::alloc::Global;
 
 /// The interior cost from one router to another: 1 where none is given.

@@ -6,7 +6,7 @@ ghost use Rattle.bgp_types.specs.Writable.{IsWritable};
 ghost use Rattle.lab_input.specs.Said.{step_update};
 ghost use Rattle.node_configs.specs.Says.{say_if, says_of as says_of_lem};
 
-use far_side::{Say, Says};
+use actor_configs::{Say, Says};
 use graft_edge::{NoMemory, Octets, PeeringId};
 use lab_setup::said_by;
 use lab_tables::Step;

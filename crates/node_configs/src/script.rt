@@ -2,13 +2,13 @@
 
 ghost use Rattle.std.specs.Prelude.{◌≡◌, ◌++◌, map, IfOk, OnOk};
 ghost use Rattle.lab_setup.specs.Setups.{setup_of};
-ghost use Rattle.operator_core.specs.Scripts.{IsScriptOf, IsWorkable};
+ghost use Rattle.actor_configs.specs.Scripts.{IsScriptOf, IsWorkable};
 ghost use Rattle.node_configs.specs.Accepted.{IsAccepted};
 ghost use Rattle.node_configs.specs.Orders.{script_order, script_orders, is_end as is_end_lem, end_after};
 
+use actor_configs::{Rooms, RouterIds, Script, ScriptStep, ScriptSteps};
 use graft_edge::NoMemory;
 use lab_tables::{LabInput, PeeringInput, RouterInput, Step};
-use operator_core::{Rooms, RouterIds, Script, ScriptStep, ScriptSteps};
 use std::alloc::Global;
 
 /// For how many sessions each router has room.

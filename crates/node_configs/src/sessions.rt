@@ -4,9 +4,9 @@ ghost use Rattle.std.specs.Prelude.{◌≡◌, ◌≤◌, ◌++◌, map, length,
 ghost use Rattle.lab_setup.specs.Setups.{peering_config, identifier_at as identifier_at_lem};
 ghost use Rattle.node_configs.specs.Tables.{firsts_of as firsts_of_lem, session_if, session_configs_at};
 
+use actor_configs::Firsts;
 use graft_edge::{Items, Name, NoMemory, PeeringId, RouterId, TryCopy};
 use lab_tables::{LabInput, PeeringInput, RouterInput};
-use router_core::Firsts;
 use session_value::SessionConfig;
 use std::alloc::Global;
 use tcp_seq::Seq;

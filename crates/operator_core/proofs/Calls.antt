@@ -15,24 +15,24 @@ use Rattle.graft_model.specs.declared.event.OperatorEvent.TheVariants.{Order}
 use Rattle.graft_model.specs.Steps.{operator_row}
 use Rattle.graft_actors.specs.Laws.{IsGo}
 use Rattle.graft_actors.specs.Acts.{acts}
-use Rattle.operator_core.specs.declared.grafts.Slot.TheVariants.{Made}
-use Rattle.operator_core.specs.declared.groups.Task.{Task}
+use Rattle.operator_state.specs.declared.grafts.Slot.TheVariants.{Made}
+use Rattle.operator_state.specs.declared.groups.Task.{Task}
 use Rattle.operator_core.specs.declared.progress.Progress.{Progress}
-use Rattle.operator_core.specs.declared.script.ScriptStep.TheVariants.{Settle}
-use Rattle.operator_core.specs.Scripts.{IsScriptOf}
-use Rattle.operator_core.specs.Groups.{AreNumbers}
-use Rattle.operator_core.specs.Tasks.{unissued}
-use Rattle.operator_core.specs.States.{State, part_of_state}
-use Rattle.operator_core.specs.Keeps.{IsWaitingTask, OperatorInvariant}
-use Rattle.operator_core.specs.Issues.{IsGraftHeldUp, waiting_are}
+use Rattle.actor_configs.specs.declared.script.ScriptStep.TheVariants.{Settle}
+use Rattle.actor_configs.specs.Scripts.{IsScriptOf}
+use Rattle.operator_state.specs.Groups.{AreNumbers}
+use Rattle.operator_state.specs.Tasks.{unissued}
+use Rattle.operator_state.specs.States.{State, part_of_state}
+use Rattle.operator_state.specs.Keeps.{IsWaitingTask, OperatorInvariant}
+use Rattle.operator_state.specs.Issues.{IsGraftHeldUp, waiting_are}
 use Rattle.operator_core.specs.Turns.{BeginNoGroup}
 use Rattle.operator_core.specs.Progresses.{progress_state, own_part_of, IsKnown, HaveSeats, SameScript, HeldUpTo, VisitsTask, Turns}
-use Rattle.operator_core.proofs.Lists.{all_append_right}
-use Rattle.operator_core.proofs.SlotLaws.{graft_there, owner, peering_there}
-use Rattle.operator_core.proofs.Tasks.{split_at, all_taken, kept_alike}
-use Rattle.operator_core.proofs.Steps.{as_many_steps}
+use Rattle.operator_state.proofs.Lists.{all_append_right}
+use Rattle.operator_state.proofs.SlotLaws.{graft_there, owner, peering_there}
+use Rattle.operator_state.proofs.Tasks.{split_at, all_taken, kept_alike}
+use Rattle.operator_state.proofs.Steps.{as_many_steps}
 use Rattle.operator_core.proofs.Visits.{same_then}
-use Rattle.operator_core.proofs.Rests.{nothing_to_order}
+use Rattle.operator_state.proofs.Rests.{nothing_to_order}
 
 -- what is known of one progress is known of another with the same script
 pub known_still : (old new : Progress) → SameScript old new → IsKnown old → IsKnown new

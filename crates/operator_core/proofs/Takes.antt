@@ -1,16 +1,12 @@
 -- What a take does.
-use Rattle.std.proofs.Common.{◌≡◌, ℕ, zero, suc, ◌+◌, ◌<◌, ◌≤◌, true, false, List, [], length, Option, Some, None, refl, sym, ap, ◌∙◌, subst, arith}
-use Rattle.std.specs.Prelude.{◌≢◌, ◌↔◌, slice_get}
-use Rattle.std.specs.Option.{option_map}
+use Rattle.std.proofs.Common.{◌≡◌, ℕ, ◌+◌, ◌<◌, ◌≤◌, true, List, [], length, Option, Some, None, refl, sym, ap, subst, arith}
+use Rattle.std.specs.Prelude.{◌≢◌, ◌↔◌}
 use Rattle.session_value.specs.Sessions.{SessionValue}
 use Rattle.ring_net.specs.declared.post.Post.{Post}
 use Rattle.ring_net.specs.Posts.{actor_of, clock_of}
 use Rattle.graft_steps.specs.declared.item.Item.{Item}
 use Rattle.graft_steps.specs.declared.item.Item.TheVariants as items
 use Rattle.graft_steps.specs.declared.refusal.Outcome.{Outcome}
-use Rattle.graft_steps.specs.declared.log.GraftEntry.{GraftEntry}
-use Rattle.graft_steps.specs.declared.log.GraftStage.{GraftStage}
-use Rattle.graft_steps.specs.declared.log.GraftStage.TheVariants.{Waiting, Issued, Ended}
 use Rattle.graft_model.specs.Codes.{operator_code}
 use Rattle.graft_model.specs.Setups.{Setup, routers_in}
 use Rattle.graft_model.specs.Parts.{OperatorPart}
@@ -20,18 +16,16 @@ use Rattle.graft_actors.specs.Actors.{OperatorIs, Router, FarSide, Operator, Act
 use Rattle.graft_actors.specs.Laws.{ActorsHaveNumbers, NumbersAreOfActors}
 use Rattle.graft_actors.specs.Acts.{IsWelcome, MayComeFrom}
 use Rattle.graft_actors.specs.Notes.{deed_of, WroteOne, dropped}
-use Rattle.operator_core.specs.declared.grafts.Slot.{Slot}
-use Rattle.operator_core.specs.declared.grafts.Slot.TheVariants.{Unmade, Stays, Made}
+use Rattle.operator_state.specs.declared.grafts.Slot.{Slot}
 use Rattle.operator_core.specs.declared.progress.Progress.{Progress}
-use Rattle.operator_core.specs.Grafts.{is_waiting, is_open, outcome_at}
-use Rattle.operator_core.specs.Slots.{source_at, slot_source, outcome_of, source_in, outcome_in}
-use Rattle.operator_core.specs.States.{part_of_state}
-use Rattle.operator_core.specs.Keeps.{OperatorInvariant}
-use Rattle.operator_core.specs.Notes.{graft_noted}
-use Rattle.operator_core.specs.Progresses.{progress_state, own_part_of, IsKnown, ProgressInvariant, IsOpenIndex, Ends, TakesItem}
-use Rattle.operator_core.proofs.SlotLaws.{owner, same_entry}
-use Rattle.operator_core.proofs.Steps.{as_many_routers}
-use Rattle.operator_core.proofs.Notes.{note_keeps, note_row, note_ordered, was_none}
+use Rattle.operator_state.specs.Grafts.{is_open}
+use Rattle.operator_state.specs.Slots.{source_in, outcome_in}
+use Rattle.operator_state.specs.States.{part_of_state}
+use Rattle.operator_state.specs.Keeps.{OperatorInvariant}
+use Rattle.operator_state.specs.Notes.{graft_noted, IsOpenIndex}
+use Rattle.operator_core.specs.Progresses.{progress_state, own_part_of, IsKnown, ProgressInvariant, Ends, TakesItem}
+use Rattle.operator_state.proofs.Steps.{as_many_routers}
+use Rattle.operator_state.proofs.Notes.{note_keeps, note_ordered, was_none, none_to_note, noted_is_open, noted_row}
 use Rattle.operator_core.proofs.Acts.{notes, drops}
 use Rattle.operator_core.proofs.Calls.{known_still}
 
@@ -40,36 +34,6 @@ abbrev TakesReports : (C : Type 0) → Type 0
 TakesReports C = (session : C → SessionValue) (setup : Setup) (n k : ℕ) (part : OperatorPart) (outcome : Outcome)
     → IsWelcome session (record { setup = setup; name = Operator; part = OperatorIs part }) n (items.Report k outcome)
     ↔ (((r : ℕ) × (actor_at setup n ≡ Some (Router r))) × (part.source k ≢ None) × (part.outcome k ≡ None))
-
--- a graft with a source and without an outcome is open
-open_at : (slots : List Slot) (k : ℕ)
-    → ((i : ℕ) (entry : GraftEntry) → slice_get slots i ≡ Some (Made entry) → (entry.source ≡ None) ↔ (is_waiting entry.stage ≡ true))
-    → source_in slots k ≢ None → outcome_in slots k ≡ None
-    → (index : ℕ) × (entry : GraftEntry) × (slice_get slots index ≡ Some (Made entry)) × (index + 1 ≡ k) × (is_open entry.stage ≡ true)
-open_at slots zero sources ordered unended = absurd (ordered refl)
-open_at slots (suc j) sources ordered unended = by_slot (slice_get slots j) refl
-  where
-    opened : (entry : GraftEntry) → ((entry.source ≡ None) ↔ (is_waiting entry.stage ≡ true)) → source_at entry ≢ None
-        → outcome_at entry.stage ≡ None → is_open entry.stage ≡ true
-    opened entry source has none = by_stage entry.stage refl
-      where
-        by_stage : (stage : GraftStage) → entry.stage ≡ stage → is_open entry.stage ≡ true
-        by_stage Waiting e = absurd (has (ap (λ o. option_map (λ r. r.0) o) (source.1 (ap is_waiting e))))
-        by_stage Issued e = ap is_open e
-        by_stage (Ended outcome) e = absurd (let f : Some outcome ≡ None = sym (ap outcome_at e) ∙ none in cc)
-
-    by_slot : (o : Option Slot) → slice_get slots j ≡ o
-        → (index : ℕ) × (entry : GraftEntry) × (slice_get slots index ≡ Some (Made entry)) × (index + 1 ≡ suc j) × (is_open entry.stage ≡ true)
-    by_slot None e = absurd (ordered (ap slot_source e))
-    by_slot (Some Unmade) e = absurd (ordered (ap slot_source e))
-    by_slot (Some (Stays k p router)) e = absurd (ordered (ap slot_source e))
-    by_slot (Some (Made entry)) e = (
-      j,
-      entry,
-      e,
-      omega arith,
-      opened entry (sources j entry e) (λ none. ordered (ap slot_source e ∙ none)) (sym (ap outcome_of e) ∙ unended),
-    )
 
 module _ {C : Type 0} where
   -- nothing but a report may come to the operator
@@ -158,11 +122,7 @@ module _ {C : Type 0} where
       → IsOpenIndex p.slots.items k None → ¬ IsWelcome session (own_part_of (progress_state p)) from (items.Report k x)
   closed_unwelcome p from k x session law sound none welcome =
       let h = (law session p.known.setup from k (part_of_state (progress_state p)) x).0 welcome in
-      let found = open_at p.slots.items k (λ i entry e.
-      ((owner p.known.setup p.group (progress_state p).waiting p.slots.items sound.keeps.slots i (Made entry) e).is.fits.made entry refl).source) h.1 h.2 in
-      let closed : is_open found.1.stage ≡ false = none found.0 found.1 found.2 found.3 in
-      let opened : is_open found.1.stage ≡ true = found.4 in
-      absurd cc
+      absurd (none_to_note (progress_state p) sound.keeps k none h.1 h.2)
 
   pub take_notes : (old new : Progress) (from k index : ℕ) (x : Outcome) (before after : Post (Item C)) → ActorsHaveNumbers → TakesReports C
       → ProgressInvariant old → from < length old.script.rooms → IsOpenIndex old.slots.items k (Some index)
@@ -190,17 +150,12 @@ module _ {C : Type 0} where
       there : from < routers_in old.known.setup
       there = let e : length old.script.rooms ≡ routers_in old.known.setup = as_many_routers old.known.setup old.script sound.known.script in omega arith
 
-      entry_is : is_index.0 ≡ ends.entry
-      entry_is = same_entry is_index.0 ends.entry (sym is_index.1 ∙ ends.there)
-
       open_is : is_open ends.entry.stage ≡ true
-      open_is = sym (ap (λ (e : GraftEntry). is_open e.stage) entry_is) ∙ is_index.3
+      open_is = noted_is_open (progress_state old) sound.keeps k index is_index ends.entry ends.there
 
       row : Notes from (part_of_state (progress_state old)) (Some (ReportIn from (record { graft = k; outcome = x }))) []
           (part_of_state (graft_noted (progress_state old) index ends.entry x ends.seat))
-      row = subst (λ (j : ℕ). Notes from (part_of_state (progress_state old)) (Some (ReportIn from (record { graft = j; outcome = x }))) []
-          (part_of_state (graft_noted (progress_state old) index ends.entry x ends.seat))) is_index.2
-          (note_row (progress_state old) sound.keeps index ends.entry ends.there open_is x ends.seat ends.seated from)
+      row = noted_row (progress_state old) sound.keeps k index is_index ends.entry ends.there x ends.seat ends.seated from
 
       welcome : (session : C → SessionValue) → IsWelcome session (own_part_of (progress_state old)) from (items.Report k x)
       welcome session = (law session old.known.setup from k (part_of_state (progress_state old)) x).1 (

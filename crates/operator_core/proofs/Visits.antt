@@ -13,24 +13,24 @@ use Rattle.graft_model.specs.declared.event.OperatorEvent.TheVariants.{Go, Order
 use Rattle.graft_model.specs.Codes.{operator_code}
 use Rattle.graft_actors.specs.Laws.{ActorsHaveNumbers}
 use Rattle.graft_actors.specs.Notes.{deed_of}
-use Rattle.operator_core.specs.declared.grafts.Move.{Move}
-use Rattle.operator_core.specs.declared.grafts.Seat.{Seat}
-use Rattle.operator_core.specs.declared.grafts.Slot.{Slot}
-use Rattle.operator_core.specs.declared.grafts.Slot.TheVariants.{Unmade, Stays, Made}
-use Rattle.operator_core.specs.declared.groups.Task.{Task}
+use Rattle.operator_state.specs.declared.grafts.Move.{Move}
+use Rattle.operator_state.specs.declared.grafts.Seat.{Seat}
+use Rattle.operator_state.specs.declared.grafts.Slot.{Slot}
+use Rattle.operator_state.specs.declared.grafts.Slot.TheVariants.{Unmade, Stays, Made}
+use Rattle.operator_state.specs.declared.groups.Task.{Task}
 use Rattle.operator_core.specs.declared.progress.Progress.{Progress}
-use Rattle.operator_core.specs.declared.script.ScriptStep.TheVariants.{Say, Settle}
-use Rattle.operator_core.specs.Slots.{slot_at, move_of}
-use Rattle.operator_core.specs.Tasks.{task_issued, unissued}
-use Rattle.operator_core.specs.States.{State, part_of_state}
-use Rattle.operator_core.specs.Keeps.{IsGraftTask, IsWaitingTask, OperatorInvariant}
-use Rattle.operator_core.specs.Issues.{IsGraftHeldUp, waiting_are, graft_issued}
+use Rattle.actor_configs.specs.declared.script.ScriptStep.TheVariants.{Say, Settle}
+use Rattle.operator_state.specs.Slots.{slot_at, move_of}
+use Rattle.operator_state.specs.Tasks.{task_issued, unissued}
+use Rattle.operator_state.specs.States.{State, part_of_state}
+use Rattle.operator_state.specs.Keeps.{IsGraftTask, IsWaitingTask, OperatorInvariant}
+use Rattle.operator_state.specs.Issues.{IsGraftHeldUp, LetsGraft, waiting_are, graft_issued}
 use Rattle.operator_core.specs.Progresses.{progress_state, own_part_of, IsKnown, SameScript, HeldUpTo, IsOrderOf, IssuesGraft, VisitsTask}
-use Rattle.operator_core.proofs.Lists.{all_append, all_map, length_set, one_member}
-use Rattle.operator_core.proofs.SlotLaws.{slot_next}
-use Rattle.operator_core.proofs.Tasks.{split_at, split_done, before_done, before_more, before_same}
-use Rattle.operator_core.proofs.Steps.{say_there, settle_there, number_there, graft_task, as_many_routers}
-use Rattle.operator_core.proofs.Issues.{waits, say_keeps, say_row, made_there, graft_keeps, graft_row, held_others}
+use Rattle.operator_state.proofs.Lists.{all_append, all_map, length_set, one_member}
+use Rattle.operator_state.proofs.SlotLaws.{slot_next}
+use Rattle.operator_state.proofs.Tasks.{split_at, split_done, before_done, before_more, before_same}
+use Rattle.operator_state.proofs.Steps.{say_there, settle_there, number_there, graft_task, as_many_routers}
+use Rattle.operator_state.proofs.Issues.{waits, say_keeps, say_row, made_there, graft_keeps, graft_row, held_others, held_lets_say, held_lets_graft}
 use Rattle.operator_core.proofs.Acts.{says, orders}
 
 pub same_script : (p : Progress) → SameScript p p
@@ -68,7 +68,7 @@ module _ (old : Progress) (index : ℕ) where
     split = split_at old.tasks.items index task there unissued_is
 
     it_waits : OperatorInvariant (progress_state old) → HeldUpTo old index → IsWaitingTask old.known.setup old.group old.next task
-    it_waits keeps helds = waits (progress_state old) keeps kept rest task split helds
+    it_waits keeps helds = waits (progress_state old) keeps kept rest task split
 
     it_is_of_step : IsKnown old → OperatorInvariant (progress_state old) → HeldUpTo old index → (number : ℕ) → IsOrderOf old task number
         → IsGraftTask old.known.setup task
@@ -123,7 +123,7 @@ module _ {C : Type 0} (old : Progress) (index : ℕ) (task : Task) (there : slic
         → VisitsTask old index post old post
     visit_unmade post number is unmade = stays post (λ known keeps helds. absurd (
         let made = made_there (progress_state old) keeps (kept old index) (rest old index) task
-        (split old index task there unissued_is) helds (it_is_of_step old index task there unissued_is known keeps helds number is) in
+        (split old index task there unissued_is) (it_is_of_step old index task there unissued_is known keeps helds number is) in
         let e : Some made.0 ≡ None = sym made.1 ∙ unmade in cc))
 
     -- ---- it is issued
@@ -156,7 +156,7 @@ module _ {C : Type 0} (old : Progress) (index : ℕ) (task : Task) (there : slic
         as_many = as_many_tasks tasks;
         keeps = λ known keeps helds. subst OperatorInvariant (sym whole) (
             let found = say_there old.known.setup old.script known.script task.step p is in
-            say_keeps (progress_state old) keeps (kept old index) (rest old index) task (split old index task there unissued_is) helds p.0 found.0 found.1);
+            say_keeps (progress_state old) keeps (kept old index) (rest old index) task (split old index task there unissued_is) p.0 found.0 found.1);
         held = λ known keeps helds. subst (λ (ts : List Task). AllByRecursion (IsGraftHeldUp (progress_state new)) ts) (sym (before_is tasks))
             (subst (λ (s : State). AllByRecursion (IsGraftHeldUp s) (kept old index)) (sym whole)
             (all_map (IsGraftHeldUp (progress_state old)) (IsGraftHeldUp (said old index)) (kept old index)
@@ -168,7 +168,7 @@ module _ {C : Type 0} (old : Progress) (index : ℕ) (task : Task) (there : slic
                   numbers task.step p.0 (length old.script.rooms + p.0) (keeps.sound.says task.step p.0 found.0 found.1)
                   (ap (λ k. k + p.0) (as_many_routers old.known.setup old.script known.script))
                   (say_row (progress_state old) keeps (kept old index) (rest old index) task
-                  (split old index task there unissued_is) helds p.0 found.0 found.1),
+                  (split old index task there unissued_is) p.0 found.0 found.1 (held_lets_say (progress_state old) p.0 (kept old index) helds)),
               ap own_part_of whole,
             ));
       }
@@ -189,21 +189,21 @@ module _ {C : Type 0} (old : Progress) (index : ℕ) (task : Task) (there : slic
         as_many = as_many_tasks issued.tasks;
         keeps = λ known keeps helds. subst OperatorInvariant (sym whole)
             (graft_keeps (progress_state old) keeps (kept old index) (rest old index) task
-            (split old index task there unissued_is) helds (it_is_of_step old index task there unissued_is known keeps helds number is)
-            issued.index issued.is_index issued.entry issued.there issued.seat issued.seated still_too);
+            (split old index task there unissued_is) (it_is_of_step old index task there unissued_is known keeps helds number is)
+            issued.index issued.is_index issued.entry issued.there issued.seat issued.seated still_too (clear helds));
         held = λ known keeps helds. subst (λ (ts : List Task). AllByRecursion (IsGraftHeldUp (progress_state new)) ts) (sym (before_is issued.tasks))
             (subst (λ (s : State). AllByRecursion (IsGraftHeldUp s) (kept old index)) (sym whole)
-            (held_others (progress_state old) keeps (kept old index) (rest old index) task (split old index task there unissued_is) helds
+            (held_others (progress_state old) keeps (kept old index) (rest old index) task (split old index task there unissued_is)
             (it_is_of_step old index task there unissued_is known keeps helds number is) issued.index
-            issued.is_index issued.entry issued.there issued.seat issued.seated still_too));
+            issued.is_index issued.entry issued.there issued.seat issued.seated still_too (clear helds) helds));
         replay = λ known keeps helds session. (
           own_part_of (ordered old index issued.index issued.entry issued.seat),
           orders session old.known.setup (part_of_state (progress_state old)) (part_of_state (ordered old index issued.index issued.entry issued.seat))
               (clock_of before + 1) (actor_of before) numbers task.step number task.graft issued.entry.peering issued.entry.target
               issued.seat.place (keeps.seats.each issued.entry.peering.0 issued.seat issued.seated).there
-              (graft_row (progress_state old) keeps (kept old index) (rest old index) task (split old index task there unissued_is) helds
+              (graft_row (progress_state old) keeps (kept old index) (rest old index) task (split old index task there unissued_is)
               (it_is_of_step old index task there unissued_is known keeps helds number is) issued.index
-              issued.is_index issued.entry issued.there issued.seat issued.seated still_too number
+              issued.is_index issued.entry issued.there issued.seat issued.seated still_too (clear helds) number
               (number_there old.known.setup old.script known.script task number is)),
           ap own_part_of whole,
         );
@@ -222,6 +222,10 @@ module _ {C : Type 0} (old : Progress) (index : ℕ) (task : Task) (there : slic
           still_too = ap (λ (x : Seat). x.moving) (one_member (slice_get old.seats.items moves.peering.0) issued.seat seat
               (sym (ap (λ (m : Move). slice_get old.seats.items m.peering.0) names) ∙ issued.seated) seated)
               ∙ still
+
+          -- the tasks before it are of other peerings
+          clear : HeldUpTo old index → AllByRecursion (LetsGraft (progress_state old) issued.entry.peering.0) (kept old index)
+          clear helds = held_lets_graft (progress_state old) issued.entry.peering.0 issued.seat (kept old index) issued.seated still_too helds
 
           whole : progress_state new ≡ ordered old index issued.index issued.entry issued.seat
           whole = mid_state ∙ ap (λ (s : State). waiting_are s (unissued new.tasks.items)) issued.changes

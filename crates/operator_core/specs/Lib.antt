@@ -1,13 +1,3 @@
-pub mod Scripts
-pub mod Grafts
-pub mod Slots
-pub mod Evacuate
-pub mod Tasks
-pub mod Groups
-pub mod States
-pub mod Keeps
-pub mod Issues
-pub mod Notes
 pub mod Progresses
 pub mod Turns
 pub mod Operators

@@ -6,9 +6,10 @@ use Rattle.graft_model.specs.Setups.{Setup}
 use Rattle.graft_model.specs.Parts.{OperatorPart}
 use Rattle.graft_actors.specs.Acts.{OwnPart}
 use Rattle.operator_core.specs.declared.operator.Operator.{Operator}
-use Rattle.operator_core.specs.States.{part_of_state}
+use Rattle.operator_state.specs.States.{part_of_state}
 use Rattle.operator_core.specs.Progresses.{progress_state, own_part_of}
-use Rattle.operator_core.specs.Turns.{BeginNoGroup, NothingToOrder, IsHeldUp}
+use Rattle.operator_core.specs.Turns.{BeginNoGroup}
+use Rattle.operator_state.specs.Holds.{NothingToOrder, IsHeldUp}
 
 -- the operator's laboratory, which is only for proofs
 abbrev pub operator_setup : Operator → Setup

@@ -1,5 +1,5 @@
 -- The operator's progress, as the program keeps it.
-use Rattle.std.specs.Prelude.{ℕ, ◌≡◌, ◌≤◌, ◌<◌, ◌+◌, ◌-◌, ◌↔◌, Bool, true, false, List, [], ◌∷◌, length, take, Option, Some, None, slice_get}
+use Rattle.std.specs.Prelude.{ℕ, ◌≡◌, ◌≤◌, ◌<◌, ◌+◌, ◌-◌, ◌↔◌, Bool, true, false, List, [], ◌∷◌, length, take, Some, None, slice_get}
 use Rattle.std.specs.List.{AllByRecursion}
 use Rattle.session_value.specs.Sessions.{SessionValue}
 use Rattle.ring_net.specs.declared.post.Post.{Post}
@@ -12,31 +12,26 @@ use Rattle.graft_steps.specs.declared.item.Item.TheVariants.{GraftOrder}
 use Rattle.graft_model.specs.declared.event.OperatorEvent.TheVariants.{Order}
 use Rattle.graft_model.specs.Codes.{operator_code}
 use Rattle.graft_model.specs.First.{first_world}
-use Rattle.graft_model.specs.Setups.{Setup, EvacuateStep, ScriptGraft, group_of, graft_at}
-use Rattle.graft_model.specs.Parts.{OperatorPart}
-use Rattle.graft_model.specs.Placements.{placement}
-use Rattle.graft_model.specs.Evacuations.{gift_to}
 use Rattle.graft_actors.specs.Actors.{OperatorIs, Operator as TheOperator}
 use Rattle.graft_actors.specs.declared.known.Known.{Known}
 use Rattle.graft_actors.specs.Acts.{OwnPart, acts}
 use Rattle.graft_actors.specs.Notes.{deed_of}
-use Rattle.operator_core.specs.declared.grafts.Move.{Move}
-use Rattle.operator_core.specs.declared.grafts.Seat.{Seat}
-use Rattle.operator_core.specs.declared.grafts.Slot.{Slot}
-use Rattle.operator_core.specs.declared.grafts.Slot.TheVariants.{Made}
-use Rattle.operator_core.specs.declared.groups.Task.{Task}
+use Rattle.operator_state.specs.declared.grafts.Move.{Move}
+use Rattle.operator_state.specs.declared.grafts.Seat.{Seat}
+use Rattle.operator_state.specs.declared.grafts.Slot.TheVariants.{Made}
+use Rattle.operator_state.specs.declared.groups.Task.{Task}
 use Rattle.operator_core.specs.declared.progress.Progress.{Progress}
-use Rattle.operator_core.specs.declared.script.ScriptStep.{ScriptStep}
-use Rattle.operator_core.specs.declared.script.ScriptStep.TheVariants.{Graft, Evacuate, Settle}
-use Rattle.operator_core.specs.Grafts.{is_open}
-use Rattle.operator_core.specs.Scripts.{IsScriptOf}
-use Rattle.operator_core.specs.Tasks.{unissued}
-use Rattle.operator_core.specs.Groups.{AreNumbers}
-use Rattle.operator_core.specs.States.{State, part_of_state}
-use Rattle.operator_core.specs.Keeps.{OperatorInvariant}
-use Rattle.operator_core.specs.Issues.{IsGraftHeldUp, graft_issued}
-use Rattle.operator_core.specs.Notes.{graft_noted}
-use Rattle.operator_core.specs.Turns.{BeginNoGroup, NothingToOrder, IsHeldUp}
+use Rattle.actor_configs.specs.declared.script.ScriptStep.TheVariants.{Settle}
+use Rattle.actor_configs.specs.Scripts.{IsScriptOf}
+use Rattle.operator_state.specs.Tasks.{unissued}
+use Rattle.operator_state.specs.Groups.{AreNumbers}
+use Rattle.operator_state.specs.States.{State, part_of_state}
+use Rattle.operator_state.specs.Keeps.{OperatorInvariant}
+use Rattle.operator_state.specs.Issues.{IsGraftHeldUp, graft_issued}
+use Rattle.operator_state.specs.Notes.{graft_noted}
+use Rattle.operator_state.specs.Tasks.{IsNumberOf}
+use Rattle.operator_core.specs.Turns.{BeginNoGroup}
+use Rattle.operator_state.specs.Holds.{NothingToOrder, IsHeldUp, GivesEmptiedSessions}
 
 abbrev pub progress_state : Progress → State
 progress_state p =
@@ -72,17 +67,6 @@ HaveSeats p = (index : ℕ) (entry : GraftEntry) → slice_get p.slots.items ind
 abbrev pub IsMadeAt : Progress → ℕ → Type 0
 IsMadeAt p index = (entry : GraftEntry) × (slice_get p.slots.items index ≡ Some (Made entry))
 
--- the index of the outstanding graft of this number, if there is one
-abbrev pub IsOpenIndex : List Slot → ℕ → Option ℕ → Type 0
-IsOpenIndex slots graft None = (index : ℕ) (entry : GraftEntry) → slice_get slots index ≡ Some (Made entry) → index + 1 ≡ graft → is_open entry.stage ≡ false
-IsOpenIndex slots graft (Some index) = (entry : GraftEntry) × (slice_get slots index ≡ Some (Made entry)) × (index + 1 ≡ graft) × (is_open entry.stage ≡ true)
-
--- the graft number with which the order of a task is journaled
-abbrev pub IsNumberOf : Option ScriptStep → Task → ℕ → Type 0
-IsNumberOf (Some (Graft peering target)) task number = number ≡ 0
-IsNumberOf (Some (Evacuate router)) task number = number ≡ task.graft
-IsNumberOf _ task number = ⊥
-
 abbrev pub IsOrderOf : Progress → Task → ℕ → Type 0
 IsOrderOf p task number = IsNumberOf (slice_get p.script.steps task.step) task number
 
@@ -111,12 +95,6 @@ HeldUpTo p index = AllByRecursion (IsGraftHeldUp (progress_state p)) (unissued (
 pub record IsUnchanged (old new : Progress) : Type 0 where
   pub same : SameScript old new
   pub state_is : progress_state new ≡ progress_state old
-
--- the group that begins has given the sessions of the routers that it empties to others, by the seats before it
-abbrev pub GivesEmptiedSessions : Setup → OperatorPart → OperatorPart → Type 0
-GivesEmptiedSessions setup before after = (g : ScriptGraft) (router : ℕ) → graft_at setup g.graft ≡ Some g
-    → slice_get setup.steps g.step ≡ Some (EvacuateStep router) → group_of setup g.step ≡ after.group
-    → after.given g.graft ≡ gift_to setup (placement setup before) router g.peering
 
 module _ {C : Type 0} where
   -- The order of a task's graft goes to the router of its peering's seat, and is recorded in the graft's slot.

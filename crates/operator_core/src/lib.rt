@@ -2,12 +2,7 @@
 //! sessions are to move, and keeps the log of grafts.
 #![tactic(auto)]
 
-mod evacuate;
-mod grafts;
-mod groups;
 mod operator;
 mod progress;
-mod script;
 
 pub use operator::Operator;
-pub use script::{Rooms, RouterIds, Script, ScriptStep, ScriptSteps};

@@ -6,11 +6,11 @@ ghost use Rattle.std.proofs.Props.{props};
 ghost use Rattle.ring_net.specs.Posts.{TookItem, Moved, Pauses, SameEdges};
 ghost use Rattle.session_value.specs.Sessions.{SessionValue};
 ghost use Rattle.graft_actors.specs.Acts.{acts};
-ghost use Rattle.operator_core.specs.Keeps.{Rises-prop};
+ghost use Rattle.operator_state.specs.Keeps.{Rises-prop};
 ghost use Rattle.operator_core.specs.Progresses.{ProgressInvariant};
 
 use crate::progress::Progress;
-use crate::script::Script;
+use actor_configs::Script;
 use graft_actors::Known;
 use graft_edge::NoMemory;
 use graft_model::emptied_routers_give_by_plan;
@@ -31,9 +31,9 @@ impl Operator {
     ghost use Rattle.graft_model.specs.Evacuations.{GivesByPlan};
     ghost use Rattle.graft_actors.specs.Actors.{OperatorIs, Operator as TheOperator};
     ghost use Rattle.settled_check.specs.Rests.{IsOperatorRest};
-    ghost use Rattle.operator_core.specs.Scripts.{IsScriptOf, IsWorkable};
-    ghost use Rattle.operator_core.specs.Grafts.{log_of};
-    ghost use Rattle.operator_core.specs.Turns.{IsHeldUp};
+    ghost use Rattle.actor_configs.specs.Scripts.{IsScriptOf, IsWorkable};
+    ghost use Rattle.operator_state.specs.Grafts.{log_of};
+    ghost use Rattle.operator_state.specs.Holds.{IsHeldUp};
     ghost use Rattle.operator_core.specs.Operators.{operator_setup, operator_part, own_part, took_by_operator, OperatorTurned, Paused};
 
     /// Returns an operator that has issued nothing yet. The first group of its script is the current one.

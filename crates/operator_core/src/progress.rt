@@ -7,15 +7,10 @@ ghost use Rattle.graft_steps.specs.declared.item.Item.{Item};
 ghost use Rattle.graft_model.specs.declared.event.OperatorEvent.TheVariants as events;
 ghost use Rattle.graft_model.specs.Codes.{operator_code};
 ghost use Rattle.graft_actors.specs.Notes.{deed_of};
-ghost use Rattle.operator_core.specs.Tasks.{task_issued};
-ghost use Rattle.operator_core.specs.Slots.{slot_at, move_of};
+ghost use Rattle.operator_state.specs.Tasks.{task_issued};
+ghost use Rattle.operator_state.specs.Slots.{slot_at, move_of};
 
-use crate::evacuate::give;
-use crate::grafts::{
-    Move, Seat, Slot, end, first_open, first_seats, first_slots, issue, logged, moved, open_graft,
-};
-use crate::groups::{Task, drop_issued, graft_numbers, group_from, has_unissued};
-use crate::script::{Script, ScriptStep};
+use actor_configs::{Script, ScriptStep};
 use graft_actors::{
     Known, actors_have_their_numbers, note_dropped, note_operator, note_operator_sent,
     the_operator_takes_what_comes,
@@ -23,6 +18,10 @@ use graft_actors::{
 use graft_edge::{Items, NoMemory, PeeringId};
 use graft_model::OperatorEvent;
 use graft_steps::{GraftLog, Item, OperatorRest, Outcome};
+use operator_state::{
+    Move, Seat, Slot, Task, drop_issued, end, first_open, first_seats, first_slots, give,
+    graft_numbers, group_from, has_unissued, issue, logged, moved, open_graft,
+};
 use ring_net::Post;
 use std::alloc::Global;
 
@@ -60,16 +59,17 @@ fn note_order<C: Drop>(
 }
 
 impl Progress {
-    ghost use Rattle.operator_core.specs.declared.groups.Task.{Task};
-    ghost use Rattle.operator_core.specs.declared.grafts.Move.{Move};
+    ghost use Rattle.operator_state.specs.declared.groups.Task.{Task};
+    ghost use Rattle.operator_state.specs.declared.grafts.Move.{Move};
     ghost use Rattle.operator_core.specs.Progresses.{progress_state, IsKnown, ProgressInvariant, HaveSeats, IsMadeAt};
-    ghost use Rattle.operator_core.specs.Progresses.{IsOpenIndex, Ends, SameScript, IssuesGraft, IsUnchanged, VisitsTask};
+    ghost use Rattle.operator_state.specs.Notes.{IsOpenIndex};
+    ghost use Rattle.operator_core.specs.Progresses.{Ends, SameScript, IssuesGraft, IsUnchanged, VisitsTask};
     ghost use Rattle.operator_core.specs.Progresses.{Turns, TakesItem, BeginsNextGroup, IsNewProgress, IsOrderOf};
     ghost use Rattle.settled_check.specs.Rests.{IsOperatorRest};
-    ghost use Rattle.operator_core.specs.Grafts.{log_of};
-    ghost use Rattle.operator_core.specs.States.{part_of_state};
-    ghost use Rattle.operator_core.specs.Turns.{IsHeldUp};
-    ghost use Rattle.operator_core.specs.Scripts.{IsScriptOf, IsWorkable};
+    ghost use Rattle.operator_state.specs.Grafts.{log_of};
+    ghost use Rattle.operator_state.specs.States.{part_of_state};
+    ghost use Rattle.operator_state.specs.Holds.{IsHeldUp};
+    ghost use Rattle.actor_configs.specs.Scripts.{IsScriptOf, IsWorkable};
 
     /// Returns the progress before anything is issued.
     pub(crate) fn new(alloc: Global, known: Known, script: Script) -> Result<Progress, NoMemory>

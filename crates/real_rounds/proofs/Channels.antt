@@ -17,7 +17,7 @@ use Rattle.graft_actors.specs.Seen.{channel_of}
 use Rattle.graft_actors.proofs.Numbers.{there, once, same_itself, same_tells, some_same}
 use Rattle.graft_actors.specs.Items.{thing_of}
 use Rattle.graft_actors.specs.Acts.{OwnPart, acts}
-use Rattle.router_core.specs.Parts.{carried}
+use Rattle.bgp_session.specs.Running.{carried}
 use Rattle.world_runs.specs.Runs.{IsSeenAs}
 use Rattle.world_nodes.specs.Edges.{has_channel, talks}
 use Rattle.world_nodes.specs.Nodes.{Mail, own}

@@ -17,7 +17,7 @@ use Rattle.graft_model.specs.declared.event.RouterEvent.{RouterEvent}
 use Rattle.graft_model.specs.declared.event.RouterEvent.TheVariants.{Tick}
 use Rattle.graft_model.specs.Steps.{Event, ByRouter, ByFar, ByOperator}
 use Rattle.graft_actors.specs.Laws.{IsEntryOf, AreEntriesOf}
-use Rattle.router_core.specs.Parts.{carried}
+use Rattle.bgp_session.specs.Running.{carried}
 use Rattle.router_core.specs.Turned.{round_on, rounds_on}
 use Rattle.world_runs.specs.Marks.{before, MarksStandForWorlds}
 use Rattle.world_runs.proofs.Marks.{up_to_mark}

@@ -18,7 +18,7 @@ use Rattle.far_side.specs.Links.{home_events, remote_events, left_in_link, LinkV
 use Rattle.far_side.specs.Parts.{far_part, HasLinks}
 use Rattle.far_side.specs.Passes as passes
 use Rattle.far_side.specs.Passes.{fates_in, plans_put, again_events, FreshEvents, answer_events}
-use Rattle.far_side.specs.Remotes.{RemoteValue}
+use Rattle.remote_end.specs.Remotes.{RemoteValue}
 use Rattle.far_side.specs.Turned.{FarTurned}
 use Rattle.far_side.specs.Turns.{FarRetransmits, SendsNew, SendsAnswer, SendsNone, FarGoes}
 use Rattle.far_side.specs.declared.fields.Fields.{Fields}

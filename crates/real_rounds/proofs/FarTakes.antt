@@ -18,7 +18,7 @@ use Rattle.graft_model.specs.declared.event.FarEvent.TheVariants.{Say, Send, Tak
 use Rattle.graft_model.specs.Steps.{far_row}
 use Rattle.graft_actors.specs.Makes.{HasCode, AreDeeds}
 use Rattle.graft_actors.specs.Acts.{OwnPart, ActsAs, acts}
-use Rattle.router_core.specs.Parts.{carried}
+use Rattle.bgp_session.specs.Running.{carried}
 use Rattle.far_side.specs.Parts.{far_part, own_part}
 use Rattle.far_side.specs.Passes.{SameLink, fates_in, plans_put}
 use Rattle.far_side.specs.Takes.{TookAsFar, segments_taken_in}

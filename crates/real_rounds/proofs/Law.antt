@@ -5,7 +5,7 @@ use Rattle.link_bag.specs.declared.plan.Fault.{Fault}
 use Rattle.ring_net.specs.Phases.{InOrder}
 use Rattle.graft_model.specs.Setups.{Setup, IsSetup}
 use Rattle.graft_actors.specs.Laws.{OneWorldIsSeen}
-use Rattle.router_core.specs.Parts.{carried}
+use Rattle.bgp_session.specs.Running.{carried}
 use Rattle.world_runs.specs.Marks.{MarksStandForWorlds}
 use Rattle.world_runs.specs.Runs.{Ran}
 use Rattle.world_runs.specs.Laws.{AnActIsAStep, ActsAreARun, NothingWasDropped, NobodyWritesToItself}

@@ -12,7 +12,7 @@ use Rattle.graft_model.specs.Parts.{World}
 use Rattle.graft_actors.specs.Actors as names
 use Rattle.graft_actors.specs.Seen.{part_of}
 use Rattle.graft_actors.proofs.Numbers.{there}
-use Rattle.router_core.specs.Parts.{carried}
+use Rattle.bgp_session.specs.Running.{carried}
 use Rattle.world_runs.specs.Marks.{MarksStandForWorlds, IsWorldAtMark, operator_number}
 use Rattle.world_runs.specs.Labs.{actors_in}
 use Rattle.world_runs.specs.Runs.{IsSeenAs, Ran}

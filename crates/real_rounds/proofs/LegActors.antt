@@ -14,7 +14,7 @@ use Rattle.ring_net.proofs.Replays.{replay-append, all-append}
 use Rattle.journal_merge.specs.Merges.{Interleaves}
 use Rattle.session_value.specs.Sessions.{SessionValue}
 use Rattle.router_core.specs.declared.place.Errand.{Errand}
-use Rattle.bgp_session.specs.Running.{RunningSession}
+use Rattle.bgp_session.specs.Running.{RunningSession, carried}
 use Rattle.graft_model.specs.Codes.{router_code, far_code, operator_code}
 use Rattle.graft_model.specs.First.{place_in, first_router, first_far}
 use Rattle.graft_model.specs.Parts as model
@@ -25,7 +25,7 @@ use Rattle.graft_actors.specs.Actors as names
 use Rattle.graft_actors.specs.Actors.{RouterIs, FarIs, OperatorIs}
 use Rattle.graft_actors.specs.Seen.{part_of}
 use Rattle.graft_actors.specs.Acts.{OwnPart, acts}
-use Rattle.router_core.specs.Parts.{router_part, carried}
+use Rattle.router_core.specs.Parts.{router_part}
 use Rattle.router_core.specs.Places.{place_of, RunsAt}
 use Rattle.router_core.specs.declared.fields as router_fields
 use Rattle.router_core.specs.declared.router as router_type
@@ -33,7 +33,7 @@ use Rattle.bgp_story.specs.Legal.{IsEarlier}
 use Rattle.far_side.specs.Parts.{far_part}
 use Rattle.far_side.specs.declared.far as far_type
 use Rattle.operator_core.specs.Operators as operators
-use Rattle.operator_core.specs.Turns.{NothingToOrder}
+use Rattle.operator_state.specs.Holds.{NothingToOrder}
 use Rattle.operator_core.specs.declared.operator as operator_type
 use Rattle.world_runs.specs.Marks.{MarksStandForWorlds, operator_number}
 use Rattle.world_runs.specs.Runs.{Ran}

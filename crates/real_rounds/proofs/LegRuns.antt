@@ -19,7 +19,7 @@ use Rattle.graft_actors.specs.Seen.{part_of, channel_of}
 use Rattle.graft_actors.proofs.Numbers.{of_number}
 use Rattle.graft_actors.specs.Items.{thing_of}
 use Rattle.graft_actors.specs.Acts.{OwnPart, acts}
-use Rattle.router_core.specs.Parts.{carried}
+use Rattle.bgp_session.specs.Running.{carried}
 use Rattle.world_runs.specs.Marks.{before, MarksStandForWorlds, IsWorldAtMark}
 use Rattle.world_runs.specs.Labs.{actors_in, net_of}
 use Rattle.world_runs.specs.Runs.{IsSeenAs, Ran}

@@ -16,7 +16,7 @@ use Rattle.ring_net.proofs.EdgeReads.{slice_get-append_left, slice_get-append_he
 use Rattle.ring_net.proofs.Replays.{replay-append}
 use Rattle.graft_model.specs.Setups.{Setup}
 use Rattle.graft_actors.specs.Acts.{acts}
-use Rattle.router_core.specs.Parts.{carried}
+use Rattle.bgp_session.specs.Running.{carried}
 use Rattle.operator_core.specs.declared.operator as operator_type
 use Rattle.world_runs.specs.Marks.{before, operator_number, IsMarkOf}
 use Rattle.world_runs.specs.Labs.{actors_in}

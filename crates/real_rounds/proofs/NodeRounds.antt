@@ -16,7 +16,7 @@ use Rattle.graft_actors.specs.Actors as names
 use Rattle.graft_actors.specs.Actors.{ActorPart, RouterIs, FarIs, OperatorIs, Thing}
 use Rattle.graft_actors.specs.Makes.{HasCode, makes_as, AreDeeds}
 use Rattle.graft_actors.specs.Acts.{OwnPart, ActsAs, acts}
-use Rattle.router_core.specs.Parts.{carried}
+use Rattle.bgp_session.specs.Running.{carried}
 use Rattle.router_core.specs.Routers as routers
 use Rattle.router_core.specs.Turned as router_turns
 use Rattle.router_core.specs.declared.fields as router_fields
@@ -25,7 +25,7 @@ use Rattle.far_side.specs.Turned as far_turns
 use Rattle.far_side.specs.declared.fields as far_fields
 use Rattle.far_side.specs.declared.far as far_type
 use Rattle.operator_core.specs.Operators as operators
-use Rattle.operator_core.specs.Turns.{NothingToOrder}
+use Rattle.operator_state.specs.Holds.{NothingToOrder}
 use Rattle.operator_core.specs.declared.operator as operator_type
 use Rattle.world_nodes.specs.Nodes.{Mail, own, took, turned}
 use Rattle.world_nodes.specs.declared.node.Node.{Node}

@@ -16,7 +16,7 @@ use Rattle.graft_actors.specs.Actors.{ActorName, number_in, IsActor}
 use Rattle.graft_actors.specs.Laws.{OneWorldIsSeen}
 use Rattle.graft_actors.specs.Seen.{channel_of}
 use Rattle.graft_actors.specs.Acts.{OwnPart, acts}
-use Rattle.router_core.specs.Parts.{carried}
+use Rattle.bgp_session.specs.Running.{carried}
 use Rattle.world_runs.specs.Marks.{MarksStandForWorlds, IsWorldAtMark}
 use Rattle.world_runs.specs.Runs.{Ran}
 use Rattle.world_runs.specs.Laws.{ActsAreARun, NothingWasDropped, NobodyWritesToItself}

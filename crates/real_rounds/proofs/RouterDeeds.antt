@@ -14,7 +14,7 @@ use Rattle.graft_model.specs.Steps.{router_row}
 use Rattle.graft_actors.specs.Actors.{ActorPart, RouterIs, FarIs, OperatorIs, Thing, ActorName, Router, FarSide, Operator}
 use Rattle.graft_actors.specs.Makes.{makes_as, AreDeeds}
 use Rattle.graft_actors.specs.Acts.{OwnPart, ActsAs, IsWelcome, acts, things}
-use Rattle.router_core.specs.Parts.{carried}
+use Rattle.bgp_session.specs.Running.{carried}
 use Rattle.world_nodes.specs.Nodes.{Mail}
 use Rattle.real_rounds.proofs.RouterRows.{IsNoLanding, LandsNobody}
 use Rattle.graft_model.specs.Codes.{router_code}

@@ -5,7 +5,7 @@ use Rattle.std.specs.List.{AllByRecursion}
 use Rattle.std.proofs.Math.Path.{subst⁻¹}
 use Rattle.ring_net.specs.Deeds.{Deed, Replay, TakesFirst}
 use Rattle.router_core.specs.declared.place.Errand.{Errand}
-use Rattle.bgp_session.specs.Running.{RunningSession}
+use Rattle.bgp_session.specs.Running.{RunningSession, carried}
 use Rattle.bgp_session.specs.Steps.{MayPass}
 use Rattle.session_value.specs.Sessions.{SessionValue}
 use Rattle.graft_model.specs.Parts as model
@@ -14,7 +14,7 @@ use Rattle.graft_model.specs.RouterRows.{IsLive}
 use Rattle.graft_model.specs.Setups.{Setup}
 use Rattle.graft_model.specs.declared.event.RouterEvent.{RouterEvent}
 use Rattle.graft_actors.specs.Acts.{acts}
-use Rattle.router_core.specs.Parts.{router_part, own_part, carried}
+use Rattle.router_core.specs.Parts.{router_part, own_part}
 use Rattle.router_core.specs.Places.{place_at, place_of, RunsAt}
 use Rattle.router_core.specs.Rested.{RestedRouter}
 use Rattle.router_core.specs.Rounds.{RouterRetransmits, IsNewWork, RouterGoes, SameRouter}

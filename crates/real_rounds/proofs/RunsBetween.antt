@@ -26,7 +26,7 @@ use Rattle.graft_actors.specs.Actors as names
 use Rattle.graft_actors.specs.Laws.{IsGo, AreEntriesOf}
 use Rattle.graft_actors.proofs.Numbers.{at_operator}
 use Rattle.graft_actors.specs.Acts.{OwnPart, acts}
-use Rattle.router_core.specs.Parts.{carried}
+use Rattle.bgp_session.specs.Running.{carried}
 use Rattle.world_runs.specs.Marks.{operator_number}
 use Rattle.world_runs.specs.Labs.{actors_in, IsLab}
 use Rattle.world_runs.specs.Runs.{IsStepOfLab, IsRunOfLab, IsSeenAs, QuietAt}

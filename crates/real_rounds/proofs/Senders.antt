@@ -23,7 +23,7 @@ use Rattle.graft_actors.specs.Makes.{HasCode, makes_as, numbered, taken_by_route
 use Rattle.graft_actors.proofs.Numbers.{of_number}
 use Rattle.graft_actors.specs.Items.{thing_of}
 use Rattle.graft_actors.specs.Acts.{OwnPart, ActsAs, IsWelcome, MayTakeFrom, TakesWelcome, things}
-use Rattle.router_core.specs.Parts.{carried}
+use Rattle.bgp_session.specs.Running.{carried}
 use Rattle.world_nodes.specs.Nodes.{Mail}
 use Rattle.real_rounds.specs.Entries.{sender_of}
 

@@ -11,7 +11,7 @@ use Rattle.graft_model.specs.RouterRows.{IsLive}
 use Rattle.graft_model.specs.declared.event.RouterEvent.{RouterEvent}
 use Rattle.graft_model.specs.declared.event.OperatorEvent.{OperatorEvent}
 use Rattle.graft_model.specs.Steps.{operator_row}
-use Rattle.operator_core.specs.Turns.{NothingToOrder}
+use Rattle.operator_state.specs.Holds.{NothingToOrder}
 use Rattle.router_core.specs.Rested.{RestedRouter}
 use Rattle.router_core.specs.Rounds.{RouterRetransmits, IsNewWork, RouterGoes}
 use Rattle.router_core.specs.Turned.{IsRouterTake, stage_of, rounds_on, emits_on}

@@ -8,7 +8,7 @@ use Rattle.graft_model.specs.First.{first_operator}
 use Rattle.graft_model.specs.OperatorRows.{SayTo, OrdersSay}
 use Rattle.graft_model.specs.declared.event.OperatorEvent.{OperatorEvent}
 use Rattle.graft_model.specs.declared.event.OperatorEvent.TheVariants.{Go}
-use Rattle.operator_core.specs.Turns.{NothingToOrder}
+use Rattle.operator_state.specs.Holds.{NothingToOrder}
 use Rattle.real_rounds.specs.Routers.{RealOperator}
 use Rattle.graft_worked.specs.Base.{base}
 use Rattle.graft_worked.specs.First.{operator_first}

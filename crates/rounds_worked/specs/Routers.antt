@@ -8,7 +8,7 @@ use Rattle.graft_model.specs.Parts.{RouterPart, OperatorPart}
 use Rattle.graft_model.specs.declared.event.RouterEvent.{RouterEvent}
 use Rattle.graft_model.specs.declared.event.RouterEvent.TheVariants.{Emit, Stray}
 use Rattle.graft_model.specs.declared.event.OperatorEvent.{OperatorEvent}
-use Rattle.operator_core.specs.Turns.{NothingToOrder}
+use Rattle.operator_state.specs.Holds.{NothingToOrder}
 use Rattle.router_core.specs.Rested.{RestedRouter}
 use Rattle.router_core.specs.Rounds as rounds
 use Rattle.router_core.specs.Turned as turned

@@ -7,7 +7,7 @@ use Rattle.graft_edge.specs.declared.ids.PeeringId.{PeeringId}
 use Rattle.graft_steps.specs.Landings.{Landing}
 use Rattle.graft_steps.specs.declared.item.Item.{Item}
 use Rattle.graft_steps.specs.declared.item.Item.TheVariants as items
-use Rattle.bgp_session.specs.Running.{RunningSession}
+use Rattle.bgp_session.specs.Running.{RunningSession, carried}
 use Rattle.session_value.specs.Sessions.{SessionValue}
 use Rattle.session_places.specs.Places.{PlaceList, with_place}
 use Rattle.rib_stages.specs.Values.{rib_of, table_at}
@@ -22,7 +22,7 @@ use Rattle.graft_actors.proofs.Numbers.{there as is_there}
 use Rattle.graft_actors.specs.Notes.{WroteOne, dropped}
 use Rattle.graft_actors.proofs.Welcome.{router_asked, router_answered}
 use Rattle.router_core.specs.Confirming.{IsAwaited, HearsAnswer}
-use Rattle.router_core.specs.Parts.{router_part, carried, RouterInvariant, KeepsPlace}
+use Rattle.router_core.specs.Parts.{router_part, RouterInvariant, KeepsPlace}
 use Rattle.router_core.specs.Places.{place_of, place_at}
 use Rattle.router_core.specs.Rounds.{WritesEvent}
 use Rattle.router_core.specs.Takes.{RouterTakesIt}
@@ -33,7 +33,8 @@ use Rattle.router_core.specs.declared.place.Errand.TheVariants.{Leaving, Owing, 
 use Rattle.router_core.specs.declared.place.Place.{Place}
 use Rattle.router_core.specs.declared.place.Place.TheVariants.{Live, Shadow}
 use Rattle.router_core.proofs.Dids.{did_same, same_router}
-use Rattle.router_core.proofs.Kept.{one_or_other, live_is, stays_itself}
+use Rattle.router_tables.proofs.Points.{one_or_other}
+use Rattle.router_core.proofs.Kept.{live_is, stays_itself}
 use Rattle.router_core.proofs.PlaceLists.{same_there}
 use Rattle.router_core.proofs.PlaceSteps.{elsewhere, here, keeps_at, part_at}
 use Rattle.router_core.proofs.Takings.{drops, is_router, all_stay, takes_then}

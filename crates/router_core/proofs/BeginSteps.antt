@@ -20,6 +20,7 @@ use Rattle.session_value.specs.declared.config.SessionConfig.{SessionConfig}
 use Rattle.session_value.specs.Sessions.{begun, unread}
 use Rattle.session_value.specs.Sets.{Prefixes, has}
 use Rattle.bgp_session.specs.Running.{RunningSession}
+use Rattle.router_tables.proofs.Points.{one_or_other}
 use Rattle.router_core.specs.declared.place.Errand.{Errand}
 use Rattle.rib_stages.specs.Values.{RibValue, rib_of, set_of, table_at}
 use Rattle.rib_stages.proofs.Kept.{set_has}
@@ -31,16 +32,16 @@ use Rattle.session_places.specs.Places.{PlaceList, with_place}
 use Rattle.router_core.proofs.PlaceLists.{count_first, count_with, count_without, listed, rooms, set_again}
 use Rattle.router_core.specs.Beginning.{AreBegun, CanBegin, begun_session, begun_at}
 use Rattle.router_core.specs.Begins.{BeginsAs}
-use Rattle.router_core.specs.Configs.{AreFirstsOf, IsRouterConfigOf, IsRibOf, starting_here}
+use Rattle.actor_configs.specs.Configs.{AreFirstsOf, IsRouterConfigOf, IsRibOf, starting_here}
 use Rattle.router_core.specs.Parts.{router_part, RouterInvariant, KeepsPlace, HasReadAll}
 use Rattle.router_core.specs.Places.{place_of, place_at}
-use Rattle.router_core.specs.declared.config.Firsts.{Firsts}
-use Rattle.router_core.specs.declared.config.RouterConfig.{RouterConfig}
+use Rattle.actor_configs.specs.declared.router.Firsts.{Firsts}
+use Rattle.actor_configs.specs.declared.router.RouterConfig.{RouterConfig}
 use Rattle.router_core.specs.declared.fields.Fields.{Fields}
 use Rattle.router_core.specs.declared.place.Place.{Place}
 use Rattle.router_core.specs.declared.place.Place.TheVariants.{Live, Shadow}
-use Rattle.router_core.proofs.Standing.{none_in}
-use Rattle.router_core.proofs.VisitSteps.{same_or_not, set_here, set_other}
+use Rattle.router_tables.proofs.DueSteps.{none_in}
+use Rattle.router_core.proofs.VisitSteps.{set_here, set_other}
 
 -- ---- places one after another
 
@@ -64,7 +65,7 @@ pub begun_more : (count : ℕ) (config : SessionConfig) (configs : List SessionC
     → AreBegun count (config ∷ configs) (set places config.peering.0 (Some (Live (begun_session config) None)))
 begun_more count config configs places there begun = record {
   length = length-set places config.peering.0 (Some (Live (begun_session config) None)) ∙ begun.length;
-  each = λ p. elim (same_or_not config.peering.0 p) [
+  each = λ p. elim (one_or_other config.peering.0 p) [
     | inl e ↦
         ap (λ (k : ℕ). place_at (set places config.peering.0 (Some (Live (begun_session config) None))) k) e
         ∙ set_here places config.peering.0 (Some (Live (begun_session config) None)) (omega (arith, there, begun.length))

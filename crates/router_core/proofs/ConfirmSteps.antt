@@ -17,7 +17,8 @@ use Rattle.graft_actors.specs.Actors.{Router, MeshItem}
 use Rattle.graft_actors.specs.Emissions.{Tally}
 use Rattle.session_places.specs.Places.{with_place}
 use Rattle.router_core.specs.Confirming.{TakesWord}
-use Rattle.router_core.specs.Parts.{RouterInvariant, KeepsPlace, IsLandingOf}
+use Rattle.router_core.specs.Parts.{RouterInvariant, KeepsPlace}
+use Rattle.router_tables.specs.Owned.{IsLandingOf}
 use Rattle.router_core.specs.Places.{place_of, place_at}
 use Rattle.router_core.specs.Rounds.{DidAsRouter, WritesEvent}
 use Rattle.router_core.specs.Stages.{WordGoes}
@@ -30,7 +31,7 @@ use Rattle.router_core.specs.declared.stages.confirm.Word.{Word}
 use Rattle.router_core.specs.declared.stages.confirm.Word.TheVariants.{Ask, Confirm}
 use Rattle.router_core.proofs.Dids.{Sends, did_sent}
 use Rattle.router_core.proofs.PlaceSteps.{at_own, elsewhere, here, keeps_at, part_at, visits_same}
-use Rattle.router_core.proofs.Standing.{none_in}
+use Rattle.router_tables.proofs.DueSteps.{none_in}
 
 module _ (f g : Fields) (p q : Post (Item RunningSession)) (n : ℕ) (s : RunningSession) (landing : Landing) (keeps : RouterInvariant f)
     (there : n < length f.places.places) (clean : f.rib.dirty ≡ map.empty) (told : (r : ℕ) → table_at f.due_in r ≡ map.empty)

@@ -1,20 +1,12 @@
 -- Prefixes are decided, one after another.
-use Rattle.std.proofs.Common.{◌≡◌, ◌≢◌, ℕ, ◌+◌, ◌<◌, ◌≤◌, List, [], ◌∷◌, ◌++◌, length, Option, option_map, Some, None, Bool, true, false}
-use Rattle.std.proofs.Common.{cond, is_some, ◌&&◌, ◌||◌, ◌==◌, not, ◌⊎◌, inl, inr, refl, sym, ap, subst, ◌∙◌, arith, filter_map}
-use Rattle.std.specs.Prelude.{if◌then◌else◌}
+use Rattle.std.proofs.Common.{◌≡◌, ℕ, ◌+◌, ◌<◌, [], ◌∷◌, ◌++◌, length, Option, Some, None, Bool, true, false}
+use Rattle.std.proofs.Common.{is_some, ◌&&◌, ◌||◌, ◌==◌, not, ◌⊎◌, inl, inr, refl, sym, ap, subst, ◌∙◌, arith}
 use Rattle.std.specs.FinMap as map
-use Rattle.std.specs.List.{range_with_len}
-use Rattle.std.specs.Ordering.{eq_by_cmp}
-use Rattle.std.proofs.lemmas.Bool.{cases_lt, lt-ltb, le-ltb}
-use Rattle.bgp_types.proofs.TableLaws.{tied}
+use Rattle.std.proofs.lemmas.Bool.{lt-ltb, le-ltb}
 use Rattle.bgp_types.specs.Prefixes.{PrefixValue, same_prefix}
-use Rattle.bgp_types.specs.Tables.{prefix_cmp}
 use Rattle.bgp_types.specs.declared.message.SessionState.{SessionState}
 use Rattle.bgp_types.specs.declared.message.SessionState.TheVariants.{OpenSent, OpenConfirm, Established, Closed}
-use Rattle.bgp_types.specs.declared.rank.From.TheVariants.{Router}
-use Rattle.decision_core.specs.Choice.{choice}
 use Rattle.loc_rib.specs.Values.{with_best, DifferIf}
-use Rattle.route_policy.specs.Candidates.{own_candidates, entry_candidate, rank_of}
 use Rattle.ring_net.specs.declared.post.Post.{Post}
 use Rattle.graft_steps.specs.declared.item.Item.{Item}
 use Rattle.bgp_session.specs.Running.{RunningSession}
@@ -23,10 +15,7 @@ use Rattle.session_value.specs.Sets.{Entries, Prefixes, has}
 use Rattle.rib_stages.specs.Choosing as rib_choosing
 use Rattle.rib_stages.specs.Choosing.{NoneBehind}
 use Rattle.rib_stages.specs.Values.{RibStore, rib_of, table_at}
-use Rattle.rib_stages.proofs.Candidates.{chosen_among}
 use Rattle.rib_stages.proofs.Drops.{fewer_left}
-use Rattle.rib_stages.proofs.Kept.{tests_same}
-use Rattle.rib_stages.proofs.Marks.{has_inserted}
 use Rattle.graft_model.specs.Decisions as model_choosing
 use Rattle.graft_model.specs.Points.{at}
 use Rattle.graft_model.specs.Parts.{RouterPart}
@@ -35,7 +24,7 @@ use Rattle.graft_model.specs.Setups.{Setup, peerings_in, routers_in}
 use Rattle.graft_model.specs.declared.event.RouterEvent.TheVariants.{Decide}
 use Rattle.graft_model.specs.TableRows.{Decides, DueEverywhere, holds_established, is_established, only_prefix}
 use Rattle.graft_actors.specs.Emissions.{Tally}
-use Rattle.router_core.specs.Deciding.{AddsBelow, DecidesOne, DecidesSome, DueToAll, is_other_router, is_up_at}
+use Rattle.router_core.specs.Deciding.{DecidesOne, DecidesSome, DueToAll, is_other_router, is_up_at}
 use Rattle.router_core.specs.Parts.{router_part, RouterInvariant, KeepsPlace}
 use Rattle.router_core.specs.Places.{place_of, place_at}
 use Rattle.router_core.specs.Rounds.{DidAsRouter, SameRouter, WritesEvent}
@@ -43,84 +32,12 @@ use Rattle.router_core.specs.Stages.{DecidesAll}
 use Rattle.router_core.specs.declared.fields.Fields.{Fields}
 use Rattle.router_core.specs.declared.place.Place.{Place}
 use Rattle.router_core.specs.declared.place.Place.TheVariants.{Live, Shadow}
+use Rattle.router_tables.proofs.AddSteps.{adds_all}
+use Rattle.router_tables.proofs.Choices.{chosen_here}
 use Rattle.router_core.proofs.Dids.{did_same, did_then, did_one}
 use Rattle.router_core.proofs.RoundLists.{at-append}
 use Rattle.router_core.proofs.Kept.{keeps_on}
-use Rattle.router_core.proofs.VisitSteps.{same_or_not, at_here, at_other, place_at_end}
-
--- ---- sets with one prefix more
-
-by_test : (b : Bool) → (b ≡ true) ⊎ (b ≡ false)
-by_test true = inl refl
-by_test false = inr refl
-
-either_way : (p q : PrefixValue) → eq_by_cmp prefix_cmp p q ≡ eq_by_cmp prefix_cmp q p
-either_way p q = elim (by_test (eq_by_cmp prefix_cmp p q)) [
-  | inl e ↦ let same : p ≡ q = tied p q e in (λ i. eq_by_cmp prefix_cmp (same i) (sym same i))
-  | inr e ↦ elim (by_test (eq_by_cmp prefix_cmp q p)) [
-    | inl f ↦ let same : q ≡ p = tied q p f in (λ i. eq_by_cmp prefix_cmp (sym same i) (same i))
-    | inr f ↦ e ∙ sym f
-  ]
-]
-
-no_add : (s : Prefixes) (prefix : PrefixValue) → Adds s (only_prefix prefix false) s
-no_add s prefix = record { members = λ x. by_both (has s x) (same_prefix prefix x) }
-  where
-    by_both : (h b : Bool) → h ≡ (h || (b && false))
-    by_both true true = refl
-    by_both true false = refl
-    by_both false true = refl
-    by_both false false = refl
-
-one_add : (s : Prefixes) (prefix : PrefixValue) → Adds s (only_prefix prefix true) (map.insert s prefix tt)
-one_add s prefix = record {
-  members = λ x. has_inserted s prefix x ∙ ap (λ (b : Bool). cond b true (has s x)) (either_way x prefix ∙ tests_same prefix x)
-      ∙ by_both (has s x) (same_prefix prefix x);
-}
-  where
-    by_both : (h b : Bool) → cond b true h ≡ (h || (b && true))
-    by_both true true = refl
-    by_both true false = refl
-    by_both false true = refl
-    by_both false false = refl
-
-add_where : (s : Prefixes) (prefix : PrefixValue) (b : Bool) → Adds s (only_prefix prefix b) (if b then map.insert s prefix tt else s)
-add_where s prefix true = one_add s prefix
-add_where s prefix false = no_add s prefix
-
-pub adds_next : (n : ℕ) (test : ℕ → Bool) (prefix : PrefixValue) (xs ys zs : List Prefixes) (b : Bool) → AddsBelow n test prefix xs ys → b ≡ test n
-    → length zs ≡ length ys
-    → table_at zs ≡ at (table_at ys) n (if b then map.insert (table_at ys n) prefix tt else table_at ys n) → AddsBelow (n + 1) test prefix xs zs
-adds_next n test prefix xs ys zs b before is size added = record {
-  size = size ∙ before.size;
-  below = λ k below. elim (same_or_not n k) [
-    | inl e ↦ subst (λ (j : ℕ). Adds (table_at xs j) (only_prefix prefix (test j)) (table_at zs j)) (sym e) here
-    | inr not ↦ subst (Adds (table_at xs k) (only_prefix prefix (test k))) (sym (other k not)) (before.below k (lower k below not))
-  ];
-  from = λ k from. other k (λ e. let x : ⊥ = omega (arith, from, e) in x) ∙ before.from k (omega (arith, from));
-}
-  where
-    other : (k : ℕ) → k ≢ n → table_at zs k ≡ table_at ys k
-    other k not = ap (λ (d : ℕ → Prefixes). d k) added ∙ at_other (table_at ys) n (if b then map.insert (table_at ys n) prefix tt else table_at ys n) k not
-
-    here : Adds (table_at xs n) (only_prefix prefix (test n)) (table_at zs n)
-    here = subst (Adds (table_at xs n) (only_prefix prefix (test n)))
-        (sym (ap (λ (d : ℕ → Prefixes). d n) added ∙ at_here (table_at ys) n (if b then map.insert (table_at ys n) prefix tt else table_at ys n) n refl))
-        (subst (λ (s : Prefixes). Adds s (only_prefix prefix (test n)) (if b then map.insert (table_at ys n) prefix tt else table_at ys n))
-        (before.from n (omega arith))
-        (subst (λ (c : Bool). Adds (table_at ys n) (only_prefix prefix c) (if b then map.insert (table_at ys n) prefix tt else table_at ys n)) is
-        (add_where (table_at ys n) prefix b)))
-
-    lower : (k : ℕ) → k < n + 1 → k ≢ n → k < n
-    lower k below not = elim (cases_lt k n) [ inl under ↦ under | inr from ↦ absurd (not (omega (arith, from, below))) ]
-
-adds_all : (test : ℕ → Bool) (prefix : PrefixValue) (xs ys : List Prefixes) → AddsBelow (length xs) test prefix xs ys
-    → ((k : ℕ) → length xs ≤ k → test k ≡ false) → (k : ℕ) → Adds (table_at xs k) (only_prefix prefix (test k)) (table_at ys k)
-adds_all test prefix xs ys adds none k = elim (cases_lt k (length xs)) [
-  | inl below ↦ adds.below k below
-  | inr from ↦ subst (λ (s : Prefixes). Adds (table_at xs k) (only_prefix prefix (test k)) s) (sym (adds.from k from))
-      (subst (λ (b : Bool). Adds (table_at xs k) (only_prefix prefix b) (table_at xs k)) (sym (none k from)) (no_add (table_at xs k) prefix))
-]
+use Rattle.router_core.proofs.VisitSteps.{place_at_end}
 
 -- ---- what a place keeps
 
@@ -166,16 +83,8 @@ none_of (Some x) e = absurd (let y : ⊥ = cc in y)
 -- The choice is the laboratory's: nothing stands behind its peerings and routers.
 pub chosen_is : (f : Fields) (prefix : PrefixValue) → RouterInvariant f
     → rib_choosing.rib_choice (rib_of f.rib) prefix ≡ model_choosing.chosen f.known.setup f.number.0 (router_part f) prefix
-chosen_is f prefix keeps =
-    chosen_among (rib_of f.rib) prefix (peerings_in f.known.setup)
-    (routers_in f.known.setup) keeps.few_peerings (omega (arith, keeps.routers, keeps.few_routers)) behind
-    ∙ (λ i. choice (
-    own_candidates (keeps.rib.home_as i) (keeps.rib.networks prefix i)
-    ++ filter_map (λ p. entry_candidate (keeps.rib.home_as i) p (map.get ((rib_of f.rib).entries p) prefix)) (range_with_len 0 (peerings_in f.known.setup))
-    ++ filter_map (λ q. option_map (λ route. (
-      record { from = Router (record { 0 = q }); route = route },
-      rank_of (keeps.rib.home_as i) false (keeps.rib.costs q i) (keeps.rib.identifiers q i) (keeps.rib.identifiers q i) route,
-    )) (map.get ((rib_of f.rib).tellings q) prefix)) (range_with_len 0 (routers_in f.known.setup))))
+chosen_is f prefix keeps = chosen_here f.known.setup f.number.0 f.rib (router_part f) prefix keeps.rib keeps.few_peerings
+    (omega (arith, keeps.routers, keeps.few_routers)) behind refl refl
   where
     behind : NoneBehind (peerings_in f.known.setup) (routers_in f.known.setup) (rib_of f.rib) prefix
     behind = record {

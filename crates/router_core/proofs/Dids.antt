@@ -6,7 +6,7 @@ use Rattle.ring_net.specs.declared.post.Post.{Post}
 use Rattle.ring_net.proofs.PostLaws.{wrote_none, wrote_then}
 use Rattle.ring_net.proofs.Replays.{all-append, replay-append}
 use Rattle.graft_steps.specs.declared.item.Item.{Item}
-use Rattle.bgp_session.specs.Running.{RunningSession}
+use Rattle.bgp_session.specs.Running.{RunningSession, carried}
 use Rattle.graft_model.specs.Setups.{Setup}
 use Rattle.graft_model.specs.Parts.{RouterPart}
 use Rattle.graft_model.specs.RouterRows.{RouterSent}
@@ -20,7 +20,7 @@ use Rattle.graft_actors.specs.Acts.{acts}
 use Rattle.graft_actors.specs.Emissions.{Tally}
 use Rattle.graft_actors.specs.Items.{thing_of, MayGo}
 use Rattle.graft_actors.specs.Notes.{deed_of}
-use Rattle.router_core.specs.Parts.{router_part, own_part, carried}
+use Rattle.router_core.specs.Parts.{router_part, own_part}
 use Rattle.router_core.specs.Rounds.{CarefulRouter, router_tally, RouterRound, SameRouter, DidAsRouter, WritesEvent}
 use Rattle.router_core.specs.declared.fields.Fields.{Fields}
 use Rattle.graft_actors.proofs.Deeds.{are_deeds-append}

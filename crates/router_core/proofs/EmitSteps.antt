@@ -24,7 +24,8 @@ use Rattle.graft_model.specs.declared.event.RouterEvent.TheVariants.{Emit}
 use Rattle.graft_actors.specs.Actors.{FarSide, OutwardItem}
 use Rattle.graft_actors.specs.Emissions.{IsCareful, Tally, tallied}
 use Rattle.graft_actors.specs.Items.{home_first, remote_first, placed_for, segment_of, segment_thing}
-use Rattle.router_core.specs.Parts.{router_part, RouterInvariant, KeepsPlace, IsOfPeering}
+use Rattle.router_core.specs.Parts.{router_part, RouterInvariant, KeepsPlace}
+use Rattle.router_tables.specs.Owned.{IsOfPeering}
 use Rattle.router_core.specs.Places.{place_of, place_at, errand_of}
 use Rattle.router_core.specs.Rounds.{DidAsRouter, tally_at, WritesEvent}
 use Rattle.router_core.specs.Visits.{events_on, Stage, Visits, SameButPlaces}

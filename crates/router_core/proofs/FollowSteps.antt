@@ -8,10 +8,11 @@ use Rattle.bgp_session.specs.declared.answers.ReadStep.TheVariants as steps
 use Rattle.session_value.specs.Sets.{Prefixes}
 use Rattle.rib_stages.specs.Values.{rib_of, table_at}
 use Rattle.graft_model.specs.Points.{at}
-use Rattle.router_core.specs.Entering.{EntersAll, entry_here}
-use Rattle.router_core.specs.Reading.{DueBy, FollowsStep, OneSet, prefixes_in}
+use Rattle.router_tables.specs.Entering.{EntersAll, entry_here}
+use Rattle.router_tables.specs.Reads.{DueBy, prefixes_in}
+use Rattle.router_core.specs.Reading.{FollowsStep, OneSet}
 use Rattle.router_core.specs.declared.fields.Fields.{Fields}
-use Rattle.router_core.proofs.Kept.{at_own, at_else}
+use Rattle.router_tables.proofs.Points.{at_own, at_else}
 
 pub one_set : (before : List Prefixes) (p : ℕ) (after : List Prefixes) (d : Prefixes) → length after ≡ length before
     → table_at after ≡ at (table_at before) p d → OneSet before p after

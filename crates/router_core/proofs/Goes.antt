@@ -12,10 +12,10 @@ use Rattle.graft_model.specs.declared.event.RouterEvent.{RouterEvent}
 use Rattle.graft_model.specs.declared.event.RouterEvent.TheVariants.{Put, Emit}
 use Rattle.graft_actors.specs.Emissions.{IsOld, IsCareful, Tally, tallied}
 use Rattle.graft_actors.proofs.Careful.{counted_again, counted_next}
+use Rattle.router_tables.proofs.Points.{one_or_other, at_here, at_else}
 use Rattle.router_core.specs.Rounds.{CarefulRouter, IsNewOrOwed, RouterRetransmits, IsNewWork, RouterGoes, tally_at, router_tally, RouterRound}
 use Rattle.router_core.specs.Turned.{AreAt, IsRouterTake, stage_of, is_emit_on, emits_on}
 use Rattle.router_core.proofs.RoundLists.{emits_on-cons}
-use Rattle.router_core.proofs.VisitSteps.{same_or_not, at_here, at_other}
 
 -- the events lead there through some parts
 abbrev pub GoesThrough : Setup → ℕ → (RouterPart → RouterEvent → Type 0) → RouterPart → List RouterEvent → RouterPart → Type 0
@@ -48,12 +48,12 @@ tally_rises (Shadow graft) from len t = (omega arith, omega arith)
 event_rises : (a : RouterPart) (e : RouterEvent) (t : ℕ → Tally) (p : ℕ) → Rises (one_on p e) (t p) (router_tally a e t p)
 event_rises a (Emit q from len) t p =
     let now : Tally = tally_at (a.places q) from len (t q) in
-    elim (same_or_not q p) [
+    elim (one_or_other q p) [
       | inl e ↦
           subst (λ (u : Tally). Rises (if q == p then 1 else 0) (t p) u) (sym (at_here t q now p e))
           (subst (λ (b : Bool). Rises (if b then 1 else 0) (t p) now) (sym (eq-eqb q p (sym e)))
           (subst (λ (n : ℕ). Rises 1 (t n) now) (sym e) (tally_rises (a.places q) from len (t q))))
-      | inr not ↦ subst (λ (u : Tally). Rises (if q == p then 1 else 0) (t p) u) (sym (at_other t q now p not)) (omega arith, omega arith)
+      | inr not ↦ subst (λ (u : Tally). Rises (if q == p then 1 else 0) (t p) u) (sym (at_else t q now p not)) (omega arith, omega arith)
     ]
 event_rises a _ t p = (omega arith, omega arith)
 

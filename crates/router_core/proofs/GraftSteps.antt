@@ -14,7 +14,7 @@ use Rattle.router_core.specs.Rounds.{WritesEvent}
 use Rattle.router_core.specs.declared.place.Errand.{Errand}
 use Rattle.router_core.specs.declared.place.Errand.TheVariants.{Leaving}
 use Rattle.graft_steps.specs.declared.refusal.Outcome.TheVariants.{Accepted}
-use Rattle.bgp_session.specs.Running.{RunningSession}
+use Rattle.bgp_session.specs.Running.{RunningSession, carried}
 use Rattle.session_value.specs.Sessions.{SessionValue}
 use Rattle.session_value.specs.Sets.{Entries, Marks}
 use Rattle.rib_stages.specs.Steps.{DropsEntries}
@@ -29,14 +29,15 @@ use Rattle.graft_actors.specs.Actors.{Router, Operator, ReportItem, actor_at}
 use Rattle.graft_actors.proofs.Numbers.{there as is_there, of_number, at_operator}
 use Rattle.graft_actors.specs.Notes.{WroteOne, dropped}
 use Rattle.graft_actors.proofs.Welcome.{router_order, router_done}
-use Rattle.router_core.specs.Parts.{router_part, carried, RouterInvariant, KeepsPlace}
+use Rattle.router_core.specs.Parts.{router_part, RouterInvariant, KeepsPlace}
 use Rattle.router_core.specs.Places.{errand_of, order_of, place_of, place_at, IsLiveWithoutErrand, IsShadowOf}
 use Rattle.router_core.specs.Takes.{RouterTakesIt}
 use Rattle.router_core.specs.declared.fields.Fields.{Fields}
 use Rattle.router_core.specs.declared.place.Place.{Place}
 use Rattle.router_core.specs.declared.place.Place.TheVariants.{Live, Shadow}
 use Rattle.router_core.proofs.Dids.{did_same, same_router}
-use Rattle.router_core.proofs.Kept.{one_or_other, at_else, places_at, placed_here, placed_else, keeps_on, with_routes, live_is, stays_itself}
+use Rattle.router_tables.proofs.Points.{one_or_other, at_else}
+use Rattle.router_core.proofs.Kept.{places_at, placed_here, placed_else, keeps_on, with_routes, live_is, stays_itself}
 use Rattle.router_core.proofs.PlaceLists.{listed, rooms}
 use Rattle.router_core.proofs.Takings.{drops, is_router, takes_then}
 

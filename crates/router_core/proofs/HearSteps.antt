@@ -3,7 +3,7 @@ use Rattle.std.proofs.Common.{◌≡◌, ℕ, ◌<◌, ◌≤◌, [], length, Op
 use Rattle.ring_net.specs.declared.post.Post.{Post}
 use Rattle.graft_steps.specs.declared.item.Item.{Item}
 use Rattle.graft_steps.specs.declared.item.Item.TheVariants as items
-use Rattle.bgp_session.specs.Running.{RunningSession}
+use Rattle.bgp_session.specs.Running.{RunningSession, carried}
 use Rattle.bgp_types.specs.Prefixes.{PrefixValue}
 use Rattle.bgp_types.specs.declared.attrs.Route.{Route}
 use Rattle.loc_rib.specs.Values.{with_value}
@@ -19,12 +19,13 @@ use Rattle.graft_actors.proofs.Numbers.{there}
 use Rattle.graft_actors.specs.Notes.{WroteOne, dropped}
 use Rattle.graft_actors.proofs.Welcome.{router_told}
 use Rattle.router_core.specs.Rounds.{WritesEvent}
-use Rattle.router_core.specs.Parts.{router_part, carried, RouterInvariant, KeepsPlace}
+use Rattle.router_core.specs.Parts.{router_part, RouterInvariant, KeepsPlace}
 use Rattle.router_core.specs.Places.{place_at}
 use Rattle.router_core.specs.Takes.{RouterTakesIt}
 use Rattle.router_core.specs.declared.fields.Fields.{Fields}
 use Rattle.router_core.proofs.Dids.{did_same, same_router}
-use Rattle.router_core.proofs.Kept.{at_else, keeps_on, with_routes}
+use Rattle.router_tables.proofs.Points.{at_else}
+use Rattle.router_core.proofs.Kept.{keeps_on, with_routes}
 use Rattle.router_core.proofs.Takings.{drops, is_router, all_stay, takes_then}
 
 module _ (f : Fields) (p q : Post (Item RunningSession)) (from : ℕ) (prefix : PrefixValue) (route : Option Route) (keeps : RouterInvariant f) where

@@ -1,8 +1,6 @@
 -- What a router keeps while its places, its routes and what is due change.
-use Rattle.std.proofs.Common.{◌≡◌, ◌≢◌, ℕ, ◌<◌, ◌≤◌, List, length, Option, is_some, Bool, refl, sym, ap, subst, ◌∙◌, arith, inl, inr, ◌⊎◌, set, None, Some}
-use Rattle.std.specs.Prelude.{if◌then◌else◌}
+use Rattle.std.proofs.Common.{◌≡◌, ◌≢◌, ℕ, ◌<◌, ◌≤◌, List, length, Option, is_some, refl, sym, ap, subst, ◌∙◌, arith, set, None, Some}
 use Rattle.std.specs.FinMap as map
-use Rattle.std.proofs.lemmas.Bool.{cases_lt, eq-eqb, ne_eqb}
 use Rattle.std.proofs.lemmas.List.{get_or-set_same, get_or-set_other}
 use Rattle.session_value.specs.Sets.{Tellings}
 use Rattle.rib_stages.specs.declared.config.RibConfig.{RibConfig}
@@ -12,7 +10,8 @@ use Rattle.graft_model.specs.Parts.{RouterPart}
 use Rattle.bgp_session.specs.Running.{RunningSession}
 use Rattle.router_core.specs.declared.place.Errand.{Errand}
 use Rattle.graft_model.specs.Setups.{routers_in}
-use Rattle.router_core.specs.Configs.{IsRibOf}
+use Rattle.actor_configs.specs.Configs.{IsRibOf}
+use Rattle.router_tables.proofs.Points.{at_is}
 use Rattle.router_core.specs.Parts.{RouterInvariant, KeepsAt, KeepsPlace, KeepsWith}
 use Rattle.router_core.specs.Places.{place_of, place_at, RunsAt}
 use Rattle.router_core.specs.Reading.{KeepsRest}
@@ -20,28 +19,6 @@ use Rattle.router_core.specs.Takes.{Stays}
 use Rattle.router_core.specs.declared.fields.Fields.{Fields}
 use Rattle.router_core.specs.declared.place.Place.{Place}
 use Rattle.router_core.specs.declared.place.Place.TheVariants.{Live}
-
--- ---- numbers
-
--- a number is the other one, or isn't
-pub one_or_other : (p q : ℕ) → (q ≡ p) ⊎ (q ≢ p)
-one_or_other p q = elim (cases_lt q p) [
-  | inl below ↦ inr (λ e. let x : ⊥ = omega (arith, below, e) in x)
-  | inr from ↦ elim (cases_lt p q) [ inl above ↦ inr (λ e. let x : ⊥ = omega (arith, above, e) in x) | inr to ↦ inl (omega (arith, from, to)) ]
-]
-
-pub at_own : {A : Type 0} (f : ℕ → A) (p : ℕ) (x : A) → at f p x p ≡ x
-at_own f p x = ap (λ (b : Bool). let y = if b then x else f p in y) (eq-eqb p p refl)
-
-pub at_else : {A : Type 0} (f : ℕ → A) (p : ℕ) (x : A) (q : ℕ) → q ≢ p → at f p x q ≡ f q
-at_else f p x q not = ap (λ (b : Bool). let y = if b then x else f q in y) (ne_eqb q p not)
-
--- a function is another one with a value at a place, where it is that everywhere
-pub at_is : {A : Type 0} (f g : ℕ → A) (p : ℕ) (x : A) → g p ≡ x → ((q : ℕ) → q ≢ p → g q ≡ f q) → g ≡ at f p x
-at_is f g p x here others = λ i q. each q i
-  where
-    each : (q : ℕ) → g q ≡ at f p x q
-    each q = elim (one_or_other p q) [ inl e ↦ ap g e ∙ here ∙ sym (ap (at f p x) e ∙ at_own f p x) | inr not ↦ others q not ∙ sym (at_else f p x q not) ]
 
 -- ---- places
 

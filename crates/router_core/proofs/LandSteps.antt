@@ -1,32 +1,25 @@
 -- A session that moves here: whether it is taken in, and how it lands.
 use Rattle.std.proofs.Common.{◌≡◌, ℕ, suc, ◌+◌, ◌<◌, List, [], ◌∷◌, length, get_or, Bool, true, false}
 use Rattle.std.proofs.Common.{Option, Some, None, is_some, inl, inr, refl, sym, ap, ◌∙◌, arith}
-use Rattle.std.specs.Prelude.{count_by, filter, is_none, nat_le, option_map, if◌then◌else◌}
+use Rattle.std.specs.Prelude.{count_by, filter, nat_le, option_map, if◌then◌else◌}
 use Rattle.std.proofs.lemmas.Bool.{cases_lt, le-leb}
 use Rattle.std.specs.FinMap as map
 use Rattle.std.specs.List.{range_with_len}
-use Rattle.bgp_types.specs.Prefixes.{PrefixValue}
-use Rattle.bgp_types.specs.declared.attrs.Attrs.{Attrs}
 use Rattle.graft_steps.specs.Refusals.{admit_refusal}
 use Rattle.graft_steps.specs.declared.refusal.Refusal.TheVariants.{PolicyMissing, RouterFull}
 use Rattle.session_value.specs.Sessions.{SessionValue}
-use Rattle.route_policy.specs.Candidates.{imported}
-use Rattle.route_policy.specs.declared.entry.Entry.{Entry}
-use Rattle.route_policy.specs.declared.rule.Rule.{Rule}
 use Rattle.rib_stages.specs.Values.{RibValue, rib_of}
-use Rattle.graft_model.specs.Decisions.{entry_of, remote_identifier, session_route}
 use Rattle.graft_model.specs.GraftRows.{is_taken, taken_in, refusal_of}
 use Rattle.graft_model.specs.RouterRows.{BringsIn}
-use Rattle.graft_model.specs.Setups.{first_name, unknown_policy}
-use Rattle.update_plan.proofs.Keys.{keys_any}
-use Rattle.router_core.specs.Entering.{EntersAll, entry_here, missing_by, unknown_by}
-use Rattle.router_core.specs.Parts.{router_part, RouterInvariant, HasNoEntry}
+use Rattle.router_tables.specs.Entering.{EntersAll, entry_here, missing_by}
+use Rattle.router_core.specs.Parts.{router_part, RouterInvariant}
+use Rattle.router_tables.specs.Owned.{HasNoEntry}
 use Rattle.router_core.specs.Places.{place_of, place_at}
 use Rattle.router_core.specs.declared.fields.Fields.{Fields}
 use Rattle.router_core.specs.declared.place.Place.{Place}
 use Rattle.router_core.specs.declared.place.Place.TheVariants.{Live, Shadow}
 use Rattle.router_core.proofs.PlaceLists.{count_first}
-use Rattle.router_core.proofs.ReadSteps.{entry_is}
+use Rattle.router_tables.proofs.EnterSteps.{brings_all, missing_is}
 
 -- ---- how many places are taken
 
@@ -60,35 +53,18 @@ taken_is f keeps =
 
 -- ---- why a session isn't taken in
 
-unknown_is : (f : Fields) (name : Option (List ℕ)) → RouterInvariant f → unknown_by f.policies name ≡ unknown_policy f.known.setup f.number.0 name
-unknown_is f None keeps = refl
-unknown_is f (Some name) keeps = ap (λ (o : Option (List Rule)). if is_none o then Some name else None) (keeps.policies.each name)
-
 pub refusal_is : (f : Fields) (s : SessionValue) → RouterInvariant f
     → admit_refusal (count_by is_some f.places.places) f.room (missing_by f.policies s.config) ≡ refusal_of f.known.setup f.number.0 (router_part f) s
 refusal_is f s keeps =
-    λ i. admit_refusal (taken_is f keeps i) (keeps.room i) (first_name (unknown_is f s.config.import keeps i) (unknown_is f s.config.export keeps i))
+    λ i. admit_refusal (taken_is f keeps i) (keeps.room i) (missing_is f.known.setup f.number.0 f.policies s.config keeps.policies i)
 
 -- ---- what lands brings in
-
-none_brought : (f : Fields) (s : SessionValue) (x : PrefixValue) → map.get s.adj_rib_in x ≡ None → entry_of f.known.setup f.number.0 s x ≡ None
-none_brought f s x e = ap (λ (h : Option Attrs).
-    option_map (λ route. let v : Entry = record { route = route; identifier = remote_identifier s; address = s.config.remote_address } in v)
-    (imported f.known.setup.home_as x (session_route f.known.setup f.number.0 s x) h)) e
-
-no_value : {A : Type 0} (o : Option A) → is_some o ≡ false → o ≡ None
-no_value None e = refl
-no_value (Some a) e = absurd (let z : ⊥ = cc in z)
 
 pub brings_in : (f : Fields) (s : SessionValue) (after : RibValue) → RouterInvariant f → HasNoEntry ((rib_of f.rib).entries s.config.peering.0)
     → EntersAll (rib_of f.rib) s.config.peering.0 (entry_here f.home_as f.policies s) (map.keys s.adj_rib_in) after
     → BringsIn f.known.setup f.number.0 s (after.entries s.config.peering.0)
-brings_in f s after keeps none entered x = by_test (is_some (map.get s.adj_rib_in x)) refl
-  where
-    by_test : (b : Bool) → is_some (map.get s.adj_rib_in x) ≡ b → map.get (after.entries s.config.peering.0) x ≡ entry_of f.known.setup f.number.0 s x
-    by_test true e = entered.each x (keys_any s.adj_rib_in x ∙ e) ∙ entry_is f s x keeps
-    by_test false e = entered.others x (keys_any s.adj_rib_in x ∙ e) ∙ no_value (map.get ((rib_of f.rib).entries s.config.peering.0) x) (none x)
-        ∙ sym (none_brought f s x (no_value (map.get s.adj_rib_in x) e))
+brings_in f s after keeps none entered =
+    brings_all f.known.setup f.number.0 f.home_as f.policies s (rib_of f.rib) after keeps.home_as keeps.policies none entered
 
 -- a session that isn't refused finds room
 pub has_room : (held room : ℕ) (missing : Option (List ℕ)) → admit_refusal held room missing ≡ None → held < room

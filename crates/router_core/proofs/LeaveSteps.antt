@@ -32,8 +32,10 @@ use Rattle.graft_actors.specs.Emissions.{Tally}
 use Rattle.graft_actors.specs.Items.{home_first, remote_first}
 use Rattle.graft_actors.specs.Notes.{deed_of}
 use Rattle.session_places.specs.Places.{with_place}
+use Rattle.router_tables.proofs.Points.{one_or_other, at_here, at_else}
 use Rattle.router_core.specs.Leaving.{BegunAs}
-use Rattle.router_core.specs.Parts.{router_part, own_part, RouterInvariant, KeepsPlace, IsGraftOf}
+use Rattle.router_core.specs.Parts.{router_part, own_part, RouterInvariant, KeepsPlace}
+use Rattle.router_tables.specs.Owned.{IsGraftOf}
 use Rattle.router_core.specs.Places.{place_of, place_at, order_of}
 use Rattle.router_core.specs.Rounds.{DidAsRouter, SameRouter, WritesEvent}
 use Rattle.router_core.specs.Stages.{GraftGoes}
@@ -46,9 +48,9 @@ use Rattle.router_core.specs.declared.stages.grafts.Begun.TheVariants.{Nothing, 
 use Rattle.router_core.proofs.Dids.{Sends, did_sent, has_code, sends_at, sends_is, sends_name}
 use Rattle.router_core.proofs.PlaceSteps.{at_own, elsewhere, here, keeps_at, part_at, visits_same}
 use Rattle.router_core.proofs.Kept.{keeps_on}
-use Rattle.router_core.proofs.Standing.{none_in}
+use Rattle.router_tables.proofs.DueSteps.{none_in}
 use Rattle.router_core.proofs.PlaceLists.{listed, rooms}
-use Rattle.router_core.proofs.VisitSteps.{same_or_not, at_here, at_other, set_here, set_other}
+use Rattle.router_core.proofs.VisitSteps.{set_here, set_other}
 
 -- a graft of this router has it for its source
 source_is : (f : Fields) (n : ℕ) (ids : GraftIds) → IsGraftOf f.known.setup f.number.0 n ids → (let r : RouterId = record { 0 = f.number.0 } in r) ≡ ids.source
@@ -146,15 +148,15 @@ module _ (f g : Fields) (p q : Post (Item RunningSession)) (n : ℕ) (s : Runnin
     effect = ap router_part same ∙ (λ i. record (router_part f) { places = λ k. places_are k i; due_out = due i })
       where
         places_are : (k : ℕ) → place_of (place_at g.places.places k) ≡ at mid.places n (model.Shadow ids.graft) k
-        places_are k = ap (λ (xs : List (Option Place)). place_of (place_at xs k)) (listed items_are) ∙ elim (same_or_not n k) [
+        places_are k = ap (λ (xs : List (Option Place)). place_of (place_at xs k)) (listed items_are) ∙ elim (one_or_other n k) [
           | inl e ↦
               ap (λ (j : ℕ). place_of (place_at (set f.places.places n (Some (Shadow ids))) j)) e
               ∙ ap place_of (set_here f.places.places n (Some (Shadow ids)) there)
               ∙ sym (at_here mid.places n (model.Shadow ids.graft) k e)
           | inr not ↦
               ap place_of (set_other f.places.places n (Some (Shadow ids)) there k not)
-              ∙ sym (at_other (router_part f).places n (model.Frozen s.session (order_of ids)) k not)
-              ∙ sym (at_other mid.places n (model.Shadow ids.graft) k not)
+              ∙ sym (at_else (router_part f).places n (model.Frozen s.session (order_of ids)) k not)
+              ∙ sym (at_else mid.places n (model.Shadow ids.graft) k not)
         ]
 
     leaves : Leaves ids.graft mid None (MeshTo ids.target.0 (Moved ids.graft n s.session) ∷ []) (router_part g)
@@ -267,7 +269,7 @@ module _ (f g : Fields) (p q : Post (Item RunningSession)) (n : ℕ) (s : Runnin
         each : (k : ℕ)
             → KeepsPlace f.known.setup f.number.0 k ((rib_of f.rib).entries k)
             (at (table_at f.due_out) n map.empty k) (place_at (set f.places.places n (Some (Shadow ids))) k)
-        each k = elim (same_or_not n k) [
+        each k = elim (one_or_other n k) [
           | inl e ↦
               subst (λ (j : ℕ). KeepsPlace f.known.setup f.number.0 j ((rib_of f.rib).entries j)
               (at (table_at f.due_out) n map.empty j) (place_at (set f.places.places n (Some (Shadow ids))) j)) (sym e)
@@ -278,7 +280,7 @@ module _ (f g : Fields) (p q : Post (Item RunningSession)) (n : ℕ) (s : Runnin
               subst (λ (x : Option Place). KeepsPlace f.known.setup f.number.0 k ((rib_of f.rib).entries k) (at (table_at f.due_out) n map.empty k) x)
               (sym (set_other f.places.places n (Some (Shadow ids)) there k not))
               (subst (λ (d : Prefixes). KeepsPlace f.known.setup f.number.0 k ((rib_of f.rib).entries k) d (place_at f.places.places k))
-              (sym (at_other (table_at f.due_out) n map.empty k not)) (keeps.each k))
+              (sym (at_else (table_at f.due_out) n map.empty k not)) (keeps.each k))
         ]
 
     left : Visits beginning_grafts n f p g q

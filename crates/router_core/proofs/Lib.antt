@@ -1,5 +1,4 @@
 pub mod Dids
-pub mod DueSteps
 pub mod RoundLists
 pub mod Goes
 pub mod Standing
@@ -21,8 +20,6 @@ pub mod Kept
 pub mod Takings
 pub mod HearSteps
 pub mod GraftSteps
-pub mod EnterSteps
-pub mod PrefixSets
 pub mod PlaceLists
 pub mod PlaceTests
 pub mod ReadSteps

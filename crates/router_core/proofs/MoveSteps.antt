@@ -9,7 +9,7 @@ use Rattle.router_core.specs.Rounds.{WritesEvent}
 use Rattle.router_core.specs.declared.place.Errand.{Errand}
 use Rattle.router_core.specs.declared.place.Errand.TheVariants.{Owing}
 use Rattle.graft_steps.specs.declared.refusal.Refusal.{Refusal}
-use Rattle.bgp_session.specs.Running.{RunningSession}
+use Rattle.bgp_session.specs.Running.{RunningSession, carried}
 use Rattle.rib_stages.specs.Values.{RibValue, rib_of, table_at}
 use Rattle.session_value.specs.Sets.{Entries, Prefixes}
 use Rattle.graft_model.specs.Points.{at}
@@ -24,7 +24,8 @@ use Rattle.graft_actors.proofs.Numbers.{there as is_there}
 use Rattle.graft_actors.specs.Items.{IsOnItsWay}
 use Rattle.graft_actors.specs.Notes.{WroteOne, dropped}
 use Rattle.graft_actors.proofs.Welcome.{router_moved}
-use Rattle.router_core.specs.Parts.{router_part, carried, RouterInvariant, KeepsPlace, HasNoEntry}
+use Rattle.router_core.specs.Parts.{router_part, RouterInvariant, KeepsPlace}
+use Rattle.router_tables.specs.Owned.{HasNoEntry}
 use Rattle.router_core.specs.Places.{place_of, place_at, word_of}
 use Rattle.router_core.specs.Reading.{KeepsBut, ReadsAll, SettlesIn}
 use Rattle.router_core.specs.Takes.{RouterTakesIt}
@@ -32,7 +33,8 @@ use Rattle.router_core.specs.declared.fields.Fields.{Fields}
 use Rattle.router_core.specs.declared.place.Place.{Place}
 use Rattle.router_core.specs.declared.place.Place.TheVariants.{Live, Shadow}
 use Rattle.router_core.proofs.Dids.{did_same, same_router}
-use Rattle.router_core.proofs.Kept.{one_or_other, at_is, at_else, places_at, placed_here, placed_else, rest_on, with_routes, live_is, stays_itself}
+use Rattle.router_tables.proofs.Points.{one_or_other, at_is, at_else}
+use Rattle.router_core.proofs.Kept.{places_at, placed_here, placed_else, rest_on, with_routes, live_is, stays_itself}
 use Rattle.router_core.proofs.LandSteps.{brings_in}
 use Rattle.router_core.proofs.PlaceLists.{listed, rooms}
 use Rattle.router_core.proofs.Takings.{drops, is_router, all_stay, takes_then}

@@ -4,6 +4,7 @@ use Rattle.std.proofs.lemmas.List.{length-set}
 use Rattle.ring_net.specs.declared.post.Post.{Post}
 use Rattle.graft_steps.specs.declared.item.Item.{Item}
 use Rattle.session_places.specs.Places.{with_place}
+use Rattle.router_tables.proofs.Points.{one_or_other, at_here, at_else}
 use Rattle.router_core.specs.declared.place.Errand.{Errand}
 use Rattle.session_value.specs.declared.config.SessionConfig.{SessionConfig}
 use Rattle.session_value.specs.Sessions.{unread}
@@ -25,11 +26,11 @@ use Rattle.router_core.specs.declared.place.Place.TheVariants.{Live}
 use Rattle.router_core.proofs.Dids.{did_same}
 use Rattle.router_core.proofs.Kept.{keeps_on}
 use Rattle.router_core.proofs.PlaceLists.{listed, rooms}
-use Rattle.router_core.proofs.VisitSteps.{same_or_not, at_here, at_other, set_here, set_other, set_at}
+use Rattle.router_core.proofs.VisitSteps.{set_here, set_other, set_at}
 
 -- a function with its own value at a place
 pub at_own : {A : Type 0} (f : ℕ → A) (p : ℕ) (x : A) → x ≡ f p → (q : ℕ) → at f p x q ≡ f q
-at_own f p x is q = elim (same_or_not p q) [ inl e ↦ at_here f p x q e ∙ is ∙ ap f (sym e) | inr not ↦ at_other f p x q not ]
+at_own f p x is q = elim (one_or_other p q) [ inl e ↦ at_here f p x q e ∙ is ∙ ap f (sym e) | inr not ↦ at_else f p x q not ]
 
 -- a session with the same configuration and story, and as many unread bytes, keeps its place
 pub keeps_live : (setup : Setup) (r p : ℕ) (entries : Entries) (due : Prefixes) (s u : RunningSession) (o : Option Errand)
@@ -80,7 +81,7 @@ module _ (f g : Fields) (n : ℕ) (x : Option Place) (there : n < length f.place
       (sym same) (each p))
     where
       each : (p : ℕ) → KeepsPlace f.known.setup f.number.0 p ((rib_of f.rib).entries p) (table_at f.due_out p) (place_at g.places.places p)
-      each p = elim (same_or_not n p) [
+      each p = elim (one_or_other n p) [
         | inl e ↦
             subst (λ (q : ℕ). KeepsPlace f.known.setup f.number.0 q ((rib_of f.rib).entries q) (table_at f.due_out q) (place_at g.places.places q)) (sym e)
             (subst (λ (y : Option Place). KeepsPlace f.known.setup f.number.0 n ((rib_of f.rib).entries n) (table_at f.due_out n) y) (sym here) place)

@@ -9,6 +9,7 @@ use Rattle.std.proofs.lemmas.Bool.{false≢true, cases_lt}
 use Rattle.ring_net.specs.declared.post.Post.{Post}
 use Rattle.graft_steps.specs.declared.item.Item.{Item}
 use Rattle.session_places.specs.Places.{with_place}
+use Rattle.router_tables.proofs.Points.{one_or_other, at_here, at_else}
 use Rattle.router_core.specs.declared.place.Errand.{Errand}
 use Rattle.bgp_types.specs.Prefixes.{PrefixValue, IsPrefix}
 use Rattle.bgp_types.specs.declared.message.SessionState.TheVariants.{Established}
@@ -49,9 +50,9 @@ use Rattle.router_core.proofs.Dids.{did_one, did_same, did_then}
 use Rattle.router_core.proofs.PlaceSteps.{elsewhere, here, keeps_at, part_same}
 use Rattle.router_core.proofs.PutRows.{can_offer, puts_some, rest_then}
 use Rattle.router_core.proofs.RoundLists.{at-append}
-use Rattle.router_core.proofs.TellSteps.{table_at_end}
+use Rattle.router_tables.proofs.DueSteps.{table_at_end}
 use Rattle.router_core.proofs.PlaceLists.{listed}
-use Rattle.router_core.proofs.VisitSteps.{same_or_not, at_here, at_other, place_at_end, set_here}
+use Rattle.router_core.proofs.VisitSteps.{place_at_end, set_here}
 
 -- ---- what is done at a place depends on what is due there, on what is dirty, and on the best routes
 
@@ -173,12 +174,12 @@ module _ (n : ℕ) (f g h : Fields) (p r s : Post (Item RunningSession)) (before
     events = before.events ++ one.some.events;
     did = λ t. did_then f g h p r s t t t before.events one.some.events (before.did t) (one.some.did t);
     at = at-append 6 before.events one.some.events before.at one.some.at;
-    goes = λ k below. elim (same_or_not n k) [
+    goes = λ k below. elim (one_or_other n k) [
       | inl e ↦ subst (λ (m : ℕ). PlaceGoes PutsMore (place_at f.places.places m) (place_at h.places.places m)) (sym e)
           (subst (λ (x : Option Place). PlaceGoes PutsMore x (place_at h.places.places n)) (before.left n (omega arith)) one.some.goes)
       | inr not ↦ subst (PlaceGoes PutsMore (place_at f.places.places k)) (sym (one.some.others k not).0) (before.goes k (lower k below not))
     ];
-    done = λ k below. elim (same_or_not n k) [
+    done = λ k below. elim (one_or_other n k) [
       | inl e ↦ subst (λ (m : ℕ). IsDone f.known.setup f.number.0 (router_part h) m ((router_part h).places m)) (sym e) done_here
       | inr not ↦ done_before k (lower k below not) not
     ];
@@ -288,7 +289,7 @@ module _ (f g : Fields) (p q : Post (Item RunningSession)) (n : ℕ) (keeps : Ro
   cleared_here = ap (λ (d : ℕ → Prefixes). d n) cleared ∙ at_here (table_at f.due_out) n map.empty n refl
 
   cleared_other : (k : ℕ) → k ≢ n → table_at g.due_out k ≡ table_at f.due_out k
-  cleared_other k not = ap (λ (d : ℕ → Prefixes). d k) cleared ∙ at_other (table_at f.due_out) n map.empty k not
+  cleared_other k not = ap (λ (d : ℕ → Prefixes). d k) cleared ∙ at_else (table_at f.due_out) n map.empty k not
 
   same_places : g.places ≡ f.places
   same_places = ap (λ (h : Fields). h.places) same
@@ -326,7 +327,7 @@ module _ (f g : Fields) (p q : Post (Item RunningSession)) (n : ℕ) (keeps : Ro
 
   each_then : (k : ℕ) → KeepsPlace f.known.setup f.number.0 k ((rib_of f.rib).entries k) (table_at g.due_out k) (place_at g.places.places k)
   each_then k = subst (λ y. KeepsPlace f.known.setup f.number.0 k ((rib_of f.rib).entries k) (table_at g.due_out k) (place_at y.places k)) (sym same_places)
-      (elim (same_or_not n k) [
+      (elim (one_or_other n k) [
         | inl e ↦
             subst (λ (m : ℕ). KeepsPlace f.known.setup f.number.0 m ((rib_of f.rib).entries m) (table_at g.due_out m) (place_at f.places.places m)) (sym e)
             (subst (λ (d : Prefixes). KeepsPlace f.known.setup f.number.0 n ((rib_of f.rib).entries n) d (place_at f.places.places n))
@@ -454,9 +455,9 @@ settled_more F G H n S Y p g h y = h ∙ (λ i. at (g i) n (map.remove ((g i) n)
     here_is = ap (λ (d : Prefixes). map.remove d p) (at_here F n S n refl) ∙ y
 
     each : (k : ℕ) → at (at F n S) n (map.remove ((at F n S) n) p) k ≡ at F n Y k
-    each k = elim (same_or_not n k) [
+    each k = elim (one_or_other n k) [
       | inl e ↦ at_here (at F n S) n (map.remove ((at F n S) n) p) k e ∙ (here_is ∙ sym (at_here F n Y k e))
-      | inr not ↦ at_other (at F n S) n (map.remove ((at F n S) n) p) k not ∙ (at_other F n S k not ∙ sym (at_other F n Y k not))
+      | inr not ↦ at_else (at F n S) n (map.remove ((at F n S) n) p) k not ∙ (at_else F n S k not ∙ sym (at_else F n Y k not))
     ]
 
     twice : at (at F n S) n (map.remove ((at F n S) n) p) ≡ at F n Y

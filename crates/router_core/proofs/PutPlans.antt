@@ -18,12 +18,12 @@ use Rattle.update_plan.specs.ToTell as plans
 use Rattle.update_plan.specs.declared.batch.Batch.{Batch}
 use Rattle.graft_model.specs.Decisions.{out_side, to_tell}
 use Rattle.graft_model.specs.Setups.{Setup, rules_for}
-use Rattle.router_core.specs.Configs.{ArePoliciesOf}
+use Rattle.actor_configs.specs.Configs.{ArePoliciesOf}
 use Rattle.router_core.specs.Parts.{router_part, RouterInvariant}
 use Rattle.router_core.specs.Places.{place_at}
-use Rattle.router_core.specs.Entering.{rules_by}
+use Rattle.router_tables.specs.Entering.{rules_by}
 use Rattle.router_core.specs.Putting.{PlannedAt}
-use Rattle.router_core.specs.declared.config.NamedPolicy.{NamedPolicy}
+use Rattle.actor_configs.specs.declared.router.NamedPolicy.{NamedPolicy}
 use Rattle.router_core.specs.declared.fields.Fields.{Fields}
 use Rattle.router_core.specs.declared.place.Place.TheVariants.{Live}
 use Rattle.router_core.proofs.PutPlaces.{established}

@@ -11,6 +11,7 @@ use Rattle.std.proofs.lemmas.List.Sums.{fold-append}
 use Rattle.ring_net.specs.declared.post.Post.{Post}
 use Rattle.graft_steps.specs.declared.item.Item.{Item}
 use Rattle.session_places.specs.Places.{with_place}
+use Rattle.router_tables.proofs.Points.{one_or_other, at_here, at_else}
 use Rattle.router_core.specs.declared.place.Errand.{Errand}
 use Rattle.bgp_types.specs.declared.message.Message.TheVariants.{UpdateMsg}
 use Rattle.bgp_types.specs.declared.message.SessionState.TheVariants.{OpenSent, Established}
@@ -56,7 +57,7 @@ use Rattle.router_core.proofs.Dids.{did_one}
 use Rattle.router_core.proofs.Kept.{keeps_on}
 use Rattle.std.proofs.lemmas.List.{length-set}
 use Rattle.router_core.proofs.PlaceLists.{listed, rooms}
-use Rattle.router_core.proofs.VisitSteps.{same_or_not, at_here, at_other, set_here, set_other, set_at}
+use Rattle.router_core.proofs.VisitSteps.{set_here, set_other, set_at}
 
 -- ---- a session that has put an UPDATE
 
@@ -224,7 +225,7 @@ module _ (f g : Fields) (p q : Post (Item RunningSession)) (n : ℕ) (s u : Runn
   -- ---- what stands then
 
   other_due : (k : ℕ) → k ≢ n → table_at g.due_out k ≡ table_at f.due_out k
-  other_due k not = ap (λ (d : ℕ → Prefixes). d k) due ∙ at_other (table_at f.due_out) n (fold map.remove (table_at f.due_out n) batch.prefixes) k not
+  other_due k not = ap (λ (d : ℕ → Prefixes). d k) due ∙ at_else (table_at f.due_out) n (fold map.remove (table_at f.due_out n) batch.prefixes) k not
 
   puts_more : PutsMore s u
   puts_more = record {
@@ -259,7 +260,7 @@ module _ (f g : Fields) (p q : Post (Item RunningSession)) (n : ℕ) (s u : Runn
   place_other k not = ap (λ (xs : List (Option Place)). place_at xs k) (listed items) ∙ set_other f.places.places n (Some (Live u o)) there k not
 
   each_then : (k : ℕ) → KeepsPlace f.known.setup f.number.0 k ((rib_of f.rib).entries k) (table_at g.due_out k) (place_at g.places.places k)
-  each_then k = elim (same_or_not n k) [
+  each_then k = elim (one_or_other n k) [
     | inl e ↦ subst (λ (m : ℕ). KeepsPlace f.known.setup f.number.0 m ((rib_of f.rib).entries m) (table_at g.due_out m) (place_at g.places.places m)) (sym e)
         (subst (KeepsPlace f.known.setup f.number.0 n ((rib_of f.rib).entries n) (table_at g.due_out n)) (sym place_here)
         (keeps_here (subst (KeepsPlace f.known.setup f.number.0 n ((rib_of f.rib).entries n) (table_at f.due_out n)) is (keeps.each n))))

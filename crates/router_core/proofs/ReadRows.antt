@@ -20,7 +20,8 @@ use Rattle.graft_model.specs.RouterRows.{GetsNext}
 use Rattle.graft_model.specs.declared.event.RouterEvent.{RouterEvent}
 use Rattle.graft_model.specs.declared.event.RouterEvent.TheVariants.{Got}
 use Rattle.graft_actors.specs.Emissions.{Tally}
-use Rattle.router_core.specs.Parts.{router_part, RouterInvariant, KeepsPlace, IsOfPeering, HasReadAll, KeepsAt}
+use Rattle.router_core.specs.Parts.{router_part, RouterInvariant, KeepsPlace, HasReadAll, KeepsAt}
+use Rattle.router_tables.specs.Owned.{IsOfPeering}
 use Rattle.router_core.specs.Places.{errand_of, place_of, place_at, RunsAt}
 use Rattle.router_core.specs.Reading.{FollowsStep, KeepsBut, KeepsLive, KeepsRest, ReadsAll, ReadsNone, ReadsOne, ReadsAt, StaysBut, unread_at}
 use Rattle.router_core.specs.Rounds.{DidAsRouter, WritesEvent}
@@ -31,9 +32,11 @@ use Rattle.router_core.specs.declared.place.Place.TheVariants.{Live, Shadow}
 use Rattle.router_core.proofs.Dids.{did_one, did_same, did_then, same_router}
 use Rattle.router_core.proofs.RoundLists.{at-append}
 use Rattle.router_core.specs.Turned.{AreAt}
-use Rattle.router_core.proofs.Kept.{one_or_other, at_is, at_else, places_at, placed_here, placed_else, keeps_with, rest_on, with_routes, live_is, stays_itself}
+use Rattle.router_tables.proofs.Points.{one_or_other, at_is, at_else}
+use Rattle.router_core.proofs.Kept.{places_at, placed_here, placed_else, keeps_with, rest_on, with_routes, live_is, stays_itself}
 use Rattle.router_core.proofs.PlaceLists.{listed, rooms, same_there}
-use Rattle.router_core.proofs.ReadSteps.{entry_is, follows_heard, due_then, due_up, less_unread}
+use Rattle.router_core.proofs.ReadSteps.{entry_is}
+use Rattle.router_tables.proofs.ReadSteps.{due_then, due_up, follows_heard, less_unread}
 
 module _ (f g : Fields) (p : ℕ) (a b : Post (Item RunningSession)) (s u : RunningSession) (o : Option Errand) (step : ReadStep)
     (keeps : KeepsBut p f) (live : RunsAt f.places.places p s o) (reads : ReadsFrame step s u)

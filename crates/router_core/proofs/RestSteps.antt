@@ -11,18 +11,18 @@ use Rattle.rib_stages.proofs.Drops.{least_is, no_least_is}
 use Rattle.settled_check.specs.Firsts.{IsLowestOf}
 use Rattle.settled_check.specs.Left.{HoldsGraft, HasSome, graft_in_place}
 use Rattle.graft_model.specs.Parts.{RouterPart}
+use Rattle.router_tables.proofs.Points.{one_or_other}
 use Rattle.router_core.specs.Places.{lower_of, place_of, place_at}
 use Rattle.router_core.specs.declared.place.Place.{Place}
-use Rattle.router_core.proofs.Standing.{none_in}
-use Rattle.router_core.proofs.TellSteps.{table_at_end}
-use Rattle.router_core.proofs.VisitSteps.{place_at_end, same_or_not}
+use Rattle.router_tables.proofs.DueSteps.{none_in, table_at_end}
+use Rattle.router_core.proofs.VisitSteps.{place_at_end}
 
 -- none of the first so many is so
 abbrev pub NoneBelow : (ℕ → Type 0) → ℕ → Type 0
 NoneBelow Is n = (k : ℕ) → k < n → Is k → ⊥
 
 pub none_next : (Is : ℕ → Type 0) (n : ℕ) → NoneBelow Is n → (Is n → ⊥) → NoneBelow Is (n + 1)
-none_next Is n none not k below so = elim (same_or_not n k) [
+none_next Is n none not k below so = elim (one_or_other n k) [
   | inl e ↦ not (subst Is e so)
   | inr apart ↦ none k (elim (cases_lt k n) [ inl under ↦ under | inr from ↦ absurd (apart (omega (arith, from, below))) ]) so
 ]
@@ -64,7 +64,7 @@ lowest_first places k has = let (p, below, is) = has in let x : ⊥ = omega (ari
 module _ (places : List (Option Place)) (n : ℕ) where
   -- what is at one of n + 1 places is at one of n, or at the last of them
   cut : (p k : ℕ) → p < n + 1 → graft_in_place (place_of (place_at places p)) ≡ Some k → (p < n) ⊎ (graft_in_place (place_of (place_at places n)) ≡ Some k)
-  cut p k below is = elim (same_or_not n p) [
+  cut p k below is = elim (one_or_other n p) [
     | inl e ↦ inr (subst (λ (m : ℕ). graft_in_place (place_of (place_at places m)) ≡ Some k) e is)
     | inr not ↦ inl (elim (cases_lt p n) [ inl under ↦ under | inr from ↦ absurd (not (omega (arith, from, below))) ])
   ]

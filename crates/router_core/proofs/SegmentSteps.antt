@@ -14,7 +14,7 @@ use Rattle.tcp_seq.specs.Placed.{placed}
 use Rattle.tcp_seq.specs.declared.segment.Segment.{Segment}
 use Rattle.tcp_seq.specs.declared.segment.Way.{Way}
 use Rattle.tcp_seq.specs.declared.segment.Way.TheVariants.{Home}
-use Rattle.bgp_session.specs.Running.{RunningSession}
+use Rattle.bgp_session.specs.Running.{RunningSession, carried}
 use Rattle.bgp_session.specs.Steps.{SegmentArrives, received_as}
 use Rattle.session_value.specs.Sessions.{SessionValue}
 use Rattle.rib_stages.specs.Values.{rib_of, table_at}
@@ -29,7 +29,8 @@ use Rattle.graft_actors.proofs.Numbers.{there as is_there, of_number}
 use Rattle.graft_actors.specs.Items.{home_first, remote_first, placed_for, segment_of, segment_thing, IsSegmentOf}
 use Rattle.graft_actors.specs.Notes.{WroteOne, dropped}
 use Rattle.graft_actors.proofs.Welcome.{router_segment}
-use Rattle.router_core.specs.Parts.{router_part, carried, RouterInvariant, KeepsPlace, IsOfPeering}
+use Rattle.router_core.specs.Parts.{router_part, RouterInvariant, KeepsPlace}
+use Rattle.router_tables.specs.Owned.{IsOfPeering}
 use Rattle.router_core.specs.Places.{errand_of, place_of, place_at, RunsAt}
 use Rattle.router_core.specs.Reading.{ArrivesAt, KeepsBut, ReadsAll}
 use Rattle.router_core.specs.Takes.{Stays, RouterTakesIt}
@@ -37,7 +38,8 @@ use Rattle.router_core.specs.declared.fields.Fields.{Fields}
 use Rattle.router_core.specs.declared.place.Place.{Place}
 use Rattle.router_core.specs.declared.place.Place.TheVariants.{Live, Shadow}
 use Rattle.router_core.proofs.Dids.{did_same, same_router}
-use Rattle.router_core.proofs.Kept.{one_or_other, places_at, placed_here, placed_else, rest_on, live_is, stays_itself}
+use Rattle.router_tables.proofs.Points.{one_or_other}
+use Rattle.router_core.proofs.Kept.{places_at, placed_here, placed_else, rest_on, live_is, stays_itself}
 use Rattle.router_core.proofs.PlaceLists.{listed, rooms, same_there}
 use Rattle.router_core.proofs.Takings.{drops, takes_then}
 

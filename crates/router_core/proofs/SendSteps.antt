@@ -22,7 +22,8 @@ use Rattle.graft_model.specs.Slices.{EmitsAt}
 use Rattle.graft_model.specs.Parts as model
 use Rattle.graft_actors.specs.Emissions.{Tally, reach_of}
 use Rattle.rib_stages.specs.Values.{rib_of, table_at}
-use Rattle.router_core.specs.Parts.{RouterInvariant, KeepsPlace, IsOfPeering}
+use Rattle.router_core.specs.Parts.{RouterInvariant, KeepsPlace}
+use Rattle.router_tables.specs.Owned.{IsOfPeering}
 use Rattle.router_core.specs.Lends.{live_in, with_live}
 use Rattle.router_core.specs.Places.{AtOne, place_of, place_at, errand_of}
 use Rattle.router_core.specs.Sending.{AtPlace, SessionSentAgain, SentNext, SessionSentAnswer, IsOutletOf}

@@ -1,19 +1,11 @@
 -- What a router keeps while its stages change it.
-use Rattle.std.proofs.Common.{◌≡◌, ℕ, length, is_some, false, refl, sym, ap, subst, ◌∙◌}
-use Rattle.std.specs.FinMap as map
-use Rattle.bgp_types.specs.Prefixes.{PrefixValue}
-use Rattle.bgp_types.specs.Tables.{prefix_cmp}
-use Rattle.session_value.specs.Sets.{has}
+use Rattle.std.proofs.Common.{◌≡◌, ℕ, length, refl, sym, ap, subst, ◌∙◌}
 use Rattle.rib_stages.specs.Values.{rib_of, table_at}
 use Rattle.graft_model.specs.Setups.{peerings_in}
 use Rattle.router_core.specs.Parts.{RouterInvariant, KeepsPlace}
 use Rattle.router_core.specs.Places.{place_at}
 use Rattle.router_core.specs.declared.fields.Fields.{Fields}
 use Rattle.router_core.proofs.Kept.{keeps_on}
-
--- no prefix is in the empty set
-pub none_in : (x : PrefixValue) → has map.empty x ≡ false
-none_in x = ap is_some (map.get-empty prefix_cmp x)
 
 pub keeps_turns : (f : Fields) (n : ℕ) → RouterInvariant f → RouterInvariant (record f { turns = n })
 keeps_turns f n k = keeps_on f (record f { turns = n }) k refl

@@ -3,6 +3,7 @@ use Rattle.std.proofs.Common.{◌≡◌, ℕ, ◌+◌, ◌<◌, ◌≤◌, lengt
 use Rattle.std.proofs.lemmas.Bool.{cases_lt}
 use Rattle.bgp_story.specs.Legal.{is_wide}
 use Rattle.graft_steps.specs.declared.order.GraftIds.{GraftIds}
+use Rattle.router_tables.proofs.Points.{one_or_other}
 use Rattle.router_core.specs.declared.place.Errand.{Errand}
 use Rattle.session_value.specs.Sessions.{SessionValue, peering_of}
 use Rattle.bgp_session.specs.Running.{RunningSession}
@@ -19,7 +20,7 @@ use Rattle.router_core.specs.declared.fields.Fields.{Fields}
 use Rattle.router_core.specs.declared.place.Place.{Place}
 use Rattle.router_core.specs.declared.place.Place.TheVariants.{Live, Shadow}
 use Rattle.router_core.proofs.OneNext.{next_one}
-use Rattle.router_core.proofs.VisitSteps.{place_at_end, same_or_not}
+use Rattle.router_core.proofs.VisitSteps.{place_at_end}
 
 -- the session that is live at a place is the one that is there
 live_is : (s t : SessionValue) (o p : Option model.Errand) → model.Live s o ≡ model.Live t p → s ≡ t
@@ -131,7 +132,7 @@ module _ (f : Fields) (n : ℕ) where
 -- one place more
 pub none_more : (f : Fields) (n : ℕ) → ((p m : ℕ) → p < n → ¬ IsStuckAt f.known.setup f.number.0 (router_part f) p m)
     → StuckAnswer f.known.setup f.number.0 (router_part f) n None → (p m : ℕ) → p < n + 1 → ¬ IsStuckAt f.known.setup f.number.0 (router_part f) p m
-none_more f n none here p m below x = elim (same_or_not n p) [
+none_more f n none here p m below x = elim (one_or_other n p) [
   | inl e ↦ here m (subst (λ (k : ℕ). IsStuckAt f.known.setup f.number.0 (router_part f) k m) e x)
   | inr not ↦ none p m (lower p below not) x
 ]

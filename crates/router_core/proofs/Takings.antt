@@ -8,7 +8,7 @@ use Rattle.ring_net.proofs.PostLaws.{wrote_then}
 use Rattle.graft_steps.specs.declared.item.Item.{Item}
 use Rattle.graft_steps.specs.declared.item.Item.TheVariants as items
 use Rattle.router_core.specs.declared.place.Errand.{Errand}
-use Rattle.bgp_session.specs.Running.{RunningSession}
+use Rattle.bgp_session.specs.Running.{RunningSession, carried}
 use Rattle.graft_model.specs.Setups.{Setup, routers_in}
 use Rattle.graft_model.specs.RouterRows.{RouterTaken, RouterSent}
 use Rattle.graft_model.specs.Codes.{router_code}
@@ -21,7 +21,7 @@ use Rattle.graft_actors.specs.Acts.{acts, IsWelcome, MayComeFrom, SendsFit, thin
 use Rattle.graft_actors.specs.Emissions.{Tally, zero_tally}
 use Rattle.graft_actors.specs.Items.{thing_of}
 use Rattle.graft_actors.specs.Notes.{deed_of, WroteOne, dropped}
-use Rattle.router_core.specs.Parts.{router_part, own_part, carried, RouterInvariant}
+use Rattle.router_core.specs.Parts.{router_part, own_part, RouterInvariant}
 use Rattle.router_core.specs.Places.{RunsAt}
 use Rattle.router_core.specs.Rounds.{CarefulRouter, router_tally, RouterRound, SameRouter, DidAsRouter, WritesEvent}
 use Rattle.router_core.specs.Takes.{Stays, RouterTakesIt, IsNoRouterItem}

@@ -1,9 +1,8 @@
 -- Routers are told, one prefix after another.
-use Rattle.std.proofs.Common.{◌≡◌, ◌≢◌, ℕ, zero, suc, ◌+◌, ◌<◌, ◌≤◌, List, [], ◌∷◌, ◌++◌, length, Option}
+use Rattle.std.proofs.Common.{◌≡◌, ◌≢◌, ℕ, zero, ◌+◌, ◌<◌, ◌≤◌, [], ◌∷◌, ◌++◌, length, Option}
 use Rattle.std.proofs.Common.{true, false, inl, inr, refl, sym, ap, subst, ◌∙◌, arith}
 use Rattle.std.specs.FinMap as map
 use Rattle.bgp_types.specs.Prefixes.{PrefixValue}
-use Rattle.bgp_types.specs.Tables.{prefix_cmp}
 use Rattle.bgp_types.specs.declared.attrs.Route.{Route}
 use Rattle.route_policy.specs.Telling.{tell_in}
 use Rattle.ring_net.specs.declared.post.Post.{Post}
@@ -20,6 +19,7 @@ use Rattle.graft_model.specs.Setups.{routers_in}
 use Rattle.graft_model.specs.declared.event.RouterEvent.TheVariants.{Tell}
 use Rattle.graft_actors.specs.Actors.{Router, MeshItem}
 use Rattle.std.proofs.lemmas.Bool.{cases_lt}
+use Rattle.router_tables.proofs.Points.{one_or_other, at_here, at_else}
 use Rattle.router_core.specs.Rounds.{WritesEvent}
 use Rattle.router_core.specs.Parts.{router_part, RouterInvariant}
 use Rattle.router_core.specs.Stages.{TellsAll}
@@ -27,8 +27,8 @@ use Rattle.router_core.specs.Tellings.{TellsOne, TellsSome, TellsRouter, TellsFi
 use Rattle.router_core.specs.declared.fields.Fields.{Fields}
 use Rattle.router_core.proofs.Dids.{Sends, did_same, did_then, did_sent}
 use Rattle.router_core.proofs.RoundLists.{at-append}
-use Rattle.router_core.proofs.Standing.{keeps_due_in, none_in}
-use Rattle.router_core.proofs.VisitSteps.{same_or_not, at_here, at_other}
+use Rattle.router_core.proofs.Standing.{keeps_due_in}
+use Rattle.router_tables.proofs.DueSteps.{none_in, table_at_end}
 
 -- nothing is dirty
 not_dirty : (dirty : Prefixes) (x : PrefixValue) → dirty ≡ map.empty → has dirty x ≡ false
@@ -92,7 +92,7 @@ module _ (q : ℕ) (f g h : Fields) (p r s : Post (Item RunningSession)) (prefix
     events = before.events ++ Tell q prefix ∷ [];
     did = λ t. did_then f g h p r s t t t before.events (Tell q prefix ∷ []) (before.did t) (one.did t);
     at = at-append 4 before.events (Tell q prefix ∷ []) before.at (refl, tt);
-    others = λ k not. ap (λ (d : ℕ → Prefixes). d k) one.due ∙ at_other (table_at g.due_in) q (map.remove (table_at g.due_in q) prefix) k not
+    others = λ k not. ap (λ (d : ℕ → Prefixes). d k) one.due ∙ at_else (table_at g.due_in) q (map.remove (table_at g.due_in q) prefix) k not
         ∙ before.others k not;
     same = one.same ∙ ap (λ (x : Fields). let y : Fields = record x { due_in = h.due_in } in y) before.same;
     keeps = one.keeps;
@@ -120,7 +120,7 @@ told_next n f g h p r s before one = record {
   events = before.events ++ one.told.events;
   did = λ t. did_then f g h p r s t t t before.events one.told.events (before.did t) (one.told.did t);
   at = at-append 4 before.events one.told.events before.at one.told.at;
-  told = λ q below. elim (same_or_not n q) [
+  told = λ q below. elim (one_or_other n q) [
     | inl e ↦ subst (λ (k : ℕ). table_at h.due_in k ≡ map.empty) (sym e) one.none
     | inr not ↦ one.told.others q not ∙ before.told q (lower q below not)
   ];
@@ -130,12 +130,6 @@ told_next n f g h p r s before one = record {
   where
     lower : (q : ℕ) → q < n + 1 → q ≢ n → q < n
     lower q below not = elim (cases_lt q n) [ inl under ↦ under | inr from ↦ absurd (not (omega (arith, from, below))) ]
-
--- behind the last table nothing is due
-pub table_at_end : {A : Type 0} (xs : List (map.FinMap prefix_cmp A)) (n : ℕ) → length xs ≤ n → table_at xs n ≡ map.empty
-table_at_end [] n from = refl
-table_at_end (x ∷ xs) zero from = absurd (omega (arith, from))
-table_at_end (x ∷ xs) (suc n) from = table_at_end xs n (omega (arith, from))
 
 pub told_all : (n : ℕ) (f g : Fields) (p r : Post (Item RunningSession)) → TellsFirst n f p g r → length g.due_in ≤ n → TellsAll f p g r
 told_all n f g p r told last = record {

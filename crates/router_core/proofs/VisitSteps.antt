@@ -1,32 +1,43 @@
 -- A stage goes from place to place.
-use Rattle.std.proofs.Common.{◌≡◌, ◌≢◌, ℕ, zero, suc, ◌+◌, ◌<◌, ◌≤◌, List, [], ◌∷◌, ◌++◌, length, Bool, ◌⊎◌}
+use Rattle.std.proofs.Common.{◌≡◌, ◌≢◌, ℕ, zero, suc, ◌+◌, ◌<◌, ◌≤◌, List, [], ◌∷◌, ◌++◌, length, Bool}
+
 use Rattle.std.proofs.Common.{inl, inr, refl, sym, ap, subst, ◌∙◌, arith, set, None, Option}
+
 use Rattle.std.specs.Prelude.{nat_lt, if◌then◌else◌}
+
 use Rattle.std.proofs.lemmas.List.{get_or-set_same, get_or-set_other}
-use Rattle.std.proofs.lemmas.Bool.{cases_lt, lt-ltb, le-ltb, eq-eqb, ne_eqb}
+
+use Rattle.std.proofs.lemmas.Bool.{cases_lt, lt-ltb, le-ltb}
+
 use Rattle.ring_net.specs.declared.post.Post.{Post}
+
 use Rattle.graft_steps.specs.declared.item.Item.{Item}
+
 use Rattle.bgp_session.specs.Running.{RunningSession}
+
 use Rattle.graft_model.specs.Points.{at}
+
 use Rattle.graft_actors.specs.Emissions.{Tally}
+
+use Rattle.router_tables.proofs.Points.{one_or_other, at_here, at_else}
+
 use Rattle.router_core.specs.Parts.{RouterInvariant}
+
 use Rattle.router_core.specs.Places.{place_of, place_at}
+
 use Rattle.router_core.specs.Rounds.{DidAsRouter}
+
 use Rattle.router_core.specs.Turned.{AreAt}
+
 use Rattle.router_core.specs.Visits.{OnPeering, events_on, none_on, Stage, Visits, Visited}
+
 use Rattle.router_core.specs.declared.fields.Fields.{Fields}
+
 use Rattle.router_core.specs.declared.place.Place.{Place}
+
 use Rattle.router_core.proofs.Dids.{did_same, did_then}
+
 use Rattle.router_core.proofs.RoundLists.{at-append, events_on-append, none_then, on_then, then_none}
-
--- ---- numbers
-
--- a number is the other one, or isn't
-pub same_or_not : (p q : ℕ) → (q ≡ p) ⊎ (q ≢ p)
-same_or_not p q = elim (cases_lt q p) [
-  | inl below ↦ inr (λ e. let x : ⊥ = omega (arith, below, e) in x)
-  | inr from ↦ elim (cases_lt p q) [ inl above ↦ inr (λ e. let x : ⊥ = omega (arith, above, e) in x) | inr to ↦ inl (omega (arith, from, to)) ]
-]
 
 -- ---- counts
 
@@ -40,12 +51,6 @@ counted_below stage places t n p below = ap (λ (b : Bool). let x : Tally = if b
 counted_from : (stage : Stage) (places : List (Option Place)) (t : ℕ → Tally) (n p : ℕ) → n ≤ p → counted_by stage places t n p ≡ t p
 counted_from stage places t n p from = ap (λ (b : Bool). let x : Tally = if b then stage.count (place_at places p) (t p) else t p in x) (le-ltb p n from)
 
-pub at_here : {A : Type 0} (f : ℕ → A) (p : ℕ) (x : A) (q : ℕ) → q ≡ p → at f p x q ≡ x
-at_here f p x q e = ap (λ (b : Bool). let y = if b then x else f q in y) (eq-eqb q p e)
-
-pub at_other : {A : Type 0} (f : ℕ → A) (p : ℕ) (x : A) (q : ℕ) → q ≢ p → at f p x q ≡ f q
-at_other f p x q not = ap (λ (b : Bool). let y = if b then x else f q in y) (ne_eqb q p not)
-
 -- ---- visits
 
 module _ (stage : Stage) (a b c : Fields) (p q r : Post (Item RunningSession)) (n : ℕ) (before : Visited stage n a p b q) (now : Visits stage n b q c r) where
@@ -56,7 +61,7 @@ module _ (stage : Stage) (a b c : Fields) (p q r : Post (Item RunningSession)) (
   counted_then : (t : ℕ → Tally) (k : ℕ)
       → at (counted_by stage a.places.places t n) n (stage.count (place_at b.places.places n) (counted_by stage a.places.places t n n)) k
       ≡ counted_by stage a.places.places t (n + 1) k
-  counted_then t k = elim (same_or_not n k) [
+  counted_then t k = elim (one_or_other n k) [
     | inl e ↦
         at_here (counted_by stage a.places.places t n) n (stage.count (place_at b.places.places n) (counted_by stage a.places.places t n n)) k e
         ∙ ap (λ (x : Option Place). stage.count x (counted_by stage a.places.places t n n)) fresh
@@ -64,7 +69,7 @@ module _ (stage : Stage) (a b c : Fields) (p q r : Post (Item RunningSession)) (
         ∙ sym (counted_below stage a.places.places t (n + 1) n (omega arith))
         ∙ ap (counted_by stage a.places.places t (n + 1)) (sym e)
     | inr not ↦
-        at_other (counted_by stage a.places.places t n) n (stage.count (place_at b.places.places n) (counted_by stage a.places.places t n n)) k not
+        at_else (counted_by stage a.places.places t n) n (stage.count (place_at b.places.places n) (counted_by stage a.places.places t n n)) k not
         ∙ elim (cases_lt k n) [
           | inl below ↦ counted_below stage a.places.places t n k below ∙ sym (counted_below stage a.places.places t (n + 1) k (omega (arith, below)))
           | inr from ↦ counted_from stage a.places.places t n k from ∙ sym (counted_from stage a.places.places t (n + 1) k (above k from not))
@@ -75,7 +80,7 @@ module _ (stage : Stage) (a b c : Fields) (p q r : Post (Item RunningSession)) (
       above k from not = elim (cases_lt n k) [ inl below ↦ omega (arith, below) | inr to ↦ absurd (not (omega (arith, from, to))) ]
 
   done_then : (k : ℕ) → k < n + 1 → stage.Goes (events_on k (before.events ++ now.events)) (place_at a.places.places k) (place_at c.places.places k)
-  done_then k below = elim (same_or_not n k) [
+  done_then k below = elim (one_or_other n k) [
     | inl e ↦
         subst (λ (m : ℕ). stage.Goes (events_on m (before.events ++ now.events)) (place_at a.places.places m) (place_at c.places.places m)) (sym e)
         (subst (λ (on : OnPeering). stage.Goes on (place_at a.places.places n) (place_at c.places.places n))
@@ -144,9 +149,9 @@ module _ (xs : List (Option Place)) (p : ℕ) (x : Option Place) (there : p < le
   set_other q not = get_or-set_other xs p q x None not
 
   pub set_at : (q : ℕ) → place_of (place_at (set xs p x) q) ≡ at (λ k. place_of (place_at xs k)) p (place_of x) q
-  set_at q = elim (same_or_not p q) [
+  set_at q = elim (one_or_other p q) [
     | inl e ↦ ap (λ (k : ℕ). place_of (place_at (set xs p x) k)) e ∙ ap place_of set_here ∙ sym (at_here (λ k. place_of (place_at xs k)) p (place_of x) q e)
-    | inr not ↦ ap place_of (set_other q not) ∙ sym (at_other (λ k. place_of (place_at xs k)) p (place_of x) q not)
+    | inr not ↦ ap place_of (set_other q not) ∙ sym (at_else (λ k. place_of (place_at xs k)) p (place_of x) q not)
   ]
 
 -- ---- twice at one place, and all places
@@ -157,15 +162,15 @@ module _ (x y z : Stage) (a b c : Fields) (p q r : Post (Item RunningSession)) (
       (at t n (x.count (place_at a.places.places n) (t n)) n)) k ≡ at t n (z.count (place_at a.places.places n) (t n)) k
   counted_twice counts t k =
       let first : Tally = x.count (place_at a.places.places n) (t n) in
-      elim (same_or_not n k) [
+      elim (one_or_other n k) [
         | inl e ↦
             at_here (at t n first) n (y.count (place_at b.places.places n) (at t n first n)) k e
             ∙ ap (y.count (place_at b.places.places n)) (at_here t n first n refl)
             ∙ counts (events_on n before.events) (place_at a.places.places n) (place_at b.places.places n) (t n) before.goes
             ∙ sym (at_here t n (z.count (place_at a.places.places n) (t n)) k e)
         | inr not ↦
-            at_other (at t n first) n (y.count (place_at b.places.places n) (at t n first n)) k not ∙ at_other t n first k not
-            ∙ sym (at_other t n (z.count (place_at a.places.places n) (t n)) k not)
+            at_else (at t n first) n (y.count (place_at b.places.places n) (at t n first n)) k not ∙ at_else t n first k not
+            ∙ sym (at_else t n (z.count (place_at a.places.places n) (t n)) k not)
       ]
 
   pub visits_then : x.number ≡ z.number → y.number ≡ z.number

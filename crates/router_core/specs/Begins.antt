@@ -7,7 +7,7 @@ use Rattle.graft_model.specs.Setups.{Setup}
 use Rattle.graft_actors.specs.Actors.{Router, RouterIs}
 use Rattle.router_core.specs.Parts.{own_part, RouterInvariant}
 use Rattle.router_core.specs.Places.{RunsAt}
-use Rattle.router_core.specs.declared.config.RouterConfig.{RouterConfig}
+use Rattle.actor_configs.specs.declared.router.RouterConfig.{RouterConfig}
 use Rattle.router_core.specs.declared.fields.Fields.{Fields}
 
 -- The fields are the router of its number in the first world, before its first turn, and none of its sessions has had a retransmission turn.

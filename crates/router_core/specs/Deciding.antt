@@ -1,29 +1,21 @@
 -- Decisions: prefixes are decided, and where the best route changes it is due to be told.
-use Rattle.std.specs.Prelude.{ℕ, ◌≡◌, ◌<◌, ◌≤◌, ◌==◌, ◌&&◌, not, nat_lt, Bool, List, [], ◌∷◌, length}
+use Rattle.std.specs.Prelude.{ℕ, ◌≡◌, ◌==◌, ◌&&◌, not, nat_lt, Bool, List, [], ◌∷◌, length}
 use Rattle.std.specs.FinMap as map
 use Rattle.bgp_types.specs.Prefixes.{PrefixValue}
 use Rattle.ring_net.specs.declared.post.Post.{Post}
 use Rattle.graft_steps.specs.declared.item.Item.{Item}
 use Rattle.bgp_session.specs.Running.{RunningSession}
-use Rattle.session_value.specs.Sets.{Prefixes}
-use Rattle.rib_stages.specs.Values.{table_at}
-use Rattle.graft_model.specs.Sets.{Adds}
 use Rattle.graft_model.specs.Setups.{routers_in}
 use Rattle.graft_model.specs.declared.event.RouterEvent.{RouterEvent}
 use Rattle.graft_model.specs.declared.event.RouterEvent.TheVariants.{Decide}
-use Rattle.graft_model.specs.TableRows.{only_prefix, holds_established}
+use Rattle.graft_model.specs.TableRows.{holds_established}
 use Rattle.graft_actors.specs.Emissions.{Tally}
+use Rattle.router_tables.specs.Dues.{AddsBelow}
 use Rattle.router_core.specs.Parts.{RouterInvariant}
 use Rattle.router_core.specs.Places.{place_of, place_at}
 use Rattle.router_core.specs.Rounds.{DidAsRouter}
 use Rattle.router_core.specs.Turned.{AreAt}
 use Rattle.router_core.specs.declared.fields.Fields.{Fields}
-
--- A prefix is added to those of the first n sets whose number passes the test.
-pub record AddsBelow (n : ℕ) (test : ℕ → Bool) (prefix : PrefixValue) (before after : List Prefixes) : Type 0 where
-  pub size : length after ≡ length before
-  pub below : (k : ℕ) → k < n → Adds (table_at before k) (only_prefix prefix (test k)) (table_at after k)
-  pub from : (k : ℕ) → n ≤ k → table_at after k ≡ table_at before k
 
 -- the routers to which another best route is due: each other one
 abbrev pub is_other_router : Fields → ℕ → Bool

@@ -1,4 +1,3 @@
-pub mod Configs
 pub mod Places
 pub mod Lends
 pub mod Parts
@@ -15,7 +14,6 @@ pub mod Deciding
 pub mod Beginning
 pub mod Begins
 pub mod Takes
-pub mod Entering
 pub mod Reading
 pub mod Ticking
 pub mod Turned

@@ -7,14 +7,12 @@ use Rattle.session_value.specs.Fronts.{BeginsNothing}
 use Rattle.session_value.specs.Sessions.{SessionValue, state, unread}
 use Rattle.session_value.specs.Sets.{Entries, Prefixes, has}
 use Rattle.rib_stages.specs.Values.{rib_of, table_at}
-use Rattle.bgp_session.specs.Running.{RunningSession}
-use Rattle.graft_steps.specs.declared.order.GraftIds.{GraftIds}
 use Rattle.graft_model.specs.Setups.{Setup, peerings_in, room_of, routers_in}
 use Rattle.graft_model.specs.Parts.{RouterPart}
 use Rattle.graft_actors.specs.Actors.{Router, RouterIs}
-use Rattle.graft_actors.specs.Items.{home_first, remote_first}
 use Rattle.graft_actors.specs.Acts.{OwnPart}
-use Rattle.router_core.specs.Configs.{ArePoliciesOf, AreFirstsOf, IsRibOf}
+use Rattle.actor_configs.specs.Configs.{ArePoliciesOf, AreFirstsOf, IsRibOf}
+use Rattle.router_tables.specs.Owned.{IsOfPeering, IsGraftOf, IsLandingOf, HasNoEntry}
 use Rattle.router_core.specs.Places.{place_of, place_at}
 use Rattle.router_core.specs.declared.fields.Fields.{Fields}
 use Rattle.router_core.specs.declared.place.Errand.{Errand}
@@ -36,42 +34,17 @@ router_part f = record {
 abbrev pub own_part : Fields → OwnPart
 own_part f = record { setup = f.known.setup; name = Router f.number.0; part = RouterIs (router_part f) }
 
--- the session that a capsule carries
-abbrev pub carried : RunningSession → SessionValue
-carried capsule = capsule.session
-
 -- ---- what a place keeps
-
--- A session belongs to its peering: it has the number of the peering, and its initial sequence numbers.
-pub record IsOfPeering (setup : Setup) (p : ℕ) (session : SessionValue) : Type 0 where
-  pub peering : session.config.peering.0 ≡ p
-  pub sends : session.config.send_first.0 ≡ home_first setup p
-  pub receives : session.config.receive_first.0 ≡ remote_first setup p
 
 -- A session has read all that it can.
 abbrev pub HasReadAll : SessionValue → Type 0
 HasReadAll session = state session ≢ Closed → BeginsNothing (unread session)
-
--- the graft is one of this router's, for this peering and an existing target
-pub record IsGraftOf (setup : Setup) (r p : ℕ) (ids : GraftIds) : Type 0 where
-  pub peering : ids.peering.0 ≡ p
-  pub source : ids.source.0 ≡ r
-  pub target : ids.target.0 < routers_in setup
-
--- a session of this peering has landed at this router in the graft, from an existing router
-pub record IsLandingOf (setup : Setup) (r p : ℕ) (ids : GraftIds) : Type 0 where
-  pub peering : ids.peering.0 ≡ p
-  pub source : ids.source.0 < routers_in setup
-  pub target : ids.target.0 ≡ r
 
 abbrev pub IsErrandOf : Setup → ℕ → ℕ → Option Errand → Type 0
 IsErrandOf setup r p None = Unit {0}
 IsErrandOf setup r p (Some (Leaving ids)) = IsGraftOf setup r p ids
 IsErrandOf setup r p (Some (Owing landing)) = IsLandingOf setup r p landing.ids
 IsErrandOf setup r p (Some (Asking landing)) = IsLandingOf setup r p landing.ids × (landing.next < routers_in setup)
-
-abbrev pub HasNoEntry : Entries → Type 0
-HasNoEntry entries = (x : PrefixValue) → is_some (map.get entries x) ≡ false
 
 abbrev pub IsNothingDue : Prefixes → Type 0
 IsNothingDue due = (x : PrefixValue) → has due x ≡ false

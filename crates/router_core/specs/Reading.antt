@@ -1,9 +1,6 @@
 -- What sessions take in and read at their places, what is due then, and the invariant that a router keeps meanwhile.
-use Rattle.std.specs.Prelude.{ℕ, ◌≡◌, ◌≢◌, ◌<◌, ◌^◌, ◌||◌, Bool, true, false, List, [], ◌∷◌, length, Option, Some, None, is_some}
+use Rattle.std.specs.Prelude.{ℕ, ◌≡◌, ◌≢◌, ◌<◌, ◌^◌, Bool, true, false, List, [], ◌∷◌, length, Option, Some, None}
 use Rattle.std.specs.FinMap as map
-use Rattle.std.specs.List.{list_any}
-use Rattle.bgp_types.specs.Prefixes.{PrefixValue, same_prefix}
-use Rattle.bgp_story.specs.Readings.{Routes}
 use Rattle.ring_net.specs.declared.post.Post.{Post}
 use Rattle.tcp_end.specs.declared.arrival.Arrival.{Arrival}
 use Rattle.tcp_seq.specs.Endpoint.{IsInStreams}
@@ -11,13 +8,12 @@ use Rattle.tcp_seq.specs.declared.segment.Segment.{Segment}
 use Rattle.tcp_seq.specs.declared.segment.Way.TheVariants.{Home}
 use Rattle.session_value.specs.declared.config.SessionConfig.{SessionConfig}
 use Rattle.session_value.specs.Sessions.{unread}
-use Rattle.session_value.specs.Sets.{BestRoutes, Prefixes, has}
+use Rattle.session_value.specs.Sets.{Prefixes}
 use Rattle.rib_stages.specs.Values.{rib_of, table_at}
 use Rattle.bgp_session.specs.Fronts.{CantRead}
 use Rattle.bgp_session.specs.Running.{RunningSession}
 use Rattle.bgp_session.specs.Steps.{SegmentArrives, ReadsFrameIfAny, received_as}
 use Rattle.bgp_session.specs.declared.answers.ReadStep.{ReadStep}
-use Rattle.bgp_session.specs.declared.answers.ReadStep.TheVariants as steps
 use Rattle.graft_steps.specs.declared.item.Item.{Item}
 use Rattle.graft_steps.specs.Landings.{Landing}
 use Rattle.session_places.specs.Places.{with_place}
@@ -26,8 +22,11 @@ use Rattle.router_core.specs.declared.place.Errand.TheVariants.{Owing}
 use Rattle.graft_model.specs.declared.event.RouterEvent.{RouterEvent}
 use Rattle.graft_model.specs.declared.event.RouterEvent.TheVariants.{Got}
 use Rattle.graft_actors.specs.Emissions.{Tally}
-use Rattle.router_core.specs.Entering.{EntersAll, entry_here}
-use Rattle.router_core.specs.Parts.{IsDueWhileUp, IsOfPeering, IsErrandOf, RouterInvariant, KeepsAt, KeepsWith}
+use Rattle.router_tables.specs.Dues.{IsDueAgain}
+use Rattle.router_tables.specs.Entering.{EntersAll, entry_here}
+use Rattle.router_tables.specs.Reads.{DueBy, prefixes_in}
+use Rattle.router_core.specs.Parts.{IsDueWhileUp, IsErrandOf, RouterInvariant, KeepsAt, KeepsWith}
+use Rattle.router_tables.specs.Owned.{IsOfPeering}
 use Rattle.router_core.specs.Places.{RunsAt, place_at}
 use Rattle.router_core.specs.Rounds.{DidAsRouter}
 use Rattle.router_core.specs.Sending.{AtPlace}
@@ -36,19 +35,6 @@ use Rattle.router_core.specs.Takes.{Stays}
 use Rattle.router_core.specs.declared.fields.Fields.{Fields}
 use Rattle.router_core.specs.declared.place.Place.{Place}
 use Rattle.router_core.specs.declared.place.Place.TheVariants.{Live, Shadow}
-
--- ---- sets of prefixes
-
-pub record AddsAll (before : Prefixes) (prefixes : List PrefixValue) (after : Prefixes) : Type 0 where
-  pub members : (x : PrefixValue) → has after x ≡ (has before x || list_any (same_prefix x) prefixes)
-
--- what has a best route is due
-pub record IsDueBest (best : BestRoutes) (due : Prefixes) : Type 0 where
-  pub members : (x : PrefixValue) → has due x ≡ is_some (map.get best x)
-
--- what was told or has a best route is due
-pub record IsDueAgain (adj_rib_out : Routes) (best : BestRoutes) (due : Prefixes) : Type 0 where
-  pub members : (x : PrefixValue) → has due x ≡ (is_some (map.get adj_rib_out x) || is_some (map.get best x))
 
 -- ---- at a place
 
@@ -79,20 +65,6 @@ abbrev pub ReadsAt : Option ReadStep → Option Place → Option Place → Type 
 ReadsAt step old new = AtPlace SessionReads old step new
 
 -- ---- after a message
-
--- the prefixes whose routes the message changed
-abbrev pub prefixes_in : ReadStep → List PrefixValue
-prefixes_in steps.Opened = []
-prefixes_in steps.Established = []
-prefixes_in (steps.Changed prefixes) = prefixes
-prefixes_in (steps.Closed prefixes) = prefixes
-
--- All best routes are due on a session that is established now, and nothing on one that is closed.
-abbrev pub DueBy : ReadStep → BestRoutes → Prefixes → Prefixes → Type 0
-DueBy steps.Opened best before after = after ≡ before
-DueBy steps.Established best before after = IsDueBest best after
-DueBy (steps.Changed prefixes) best before after = after ≡ before
-DueBy (steps.Closed prefixes) best before after = after ≡ map.empty
 
 -- the sets of other numbers stay
 pub record OneSet (before : List Prefixes) (p : ℕ) (after : List Prefixes) : Type 0 where

@@ -5,7 +5,7 @@ use Rattle.ring_net.specs.Deeds.{Deed, Replay, TakesNone}
 use Rattle.ring_net.specs.Posts.{actor_of, Wrote}
 use Rattle.ring_net.specs.declared.post.Post.{Post}
 use Rattle.graft_steps.specs.declared.item.Item.{Item}
-use Rattle.bgp_session.specs.Running.{RunningSession}
+use Rattle.bgp_session.specs.Running.{RunningSession, carried}
 use Rattle.tcp_seq.specs.Endpoint.{Endpoint}
 use Rattle.session_value.specs.Sessions.{SessionValue}
 use Rattle.update_plan.specs.declared.batch.Batch.{Batch}
@@ -21,7 +21,7 @@ use Rattle.graft_actors.specs.Makes.{AreDeeds}
 use Rattle.graft_actors.specs.Acts.{acts}
 use Rattle.graft_actors.specs.Notes.{WroteOne}
 use Rattle.graft_actors.specs.Emissions.{IsOld, IsNewSlice, IsCareful, Tally, tallied}
-use Rattle.router_core.specs.Parts.{router_part, own_part, carried}
+use Rattle.router_core.specs.Parts.{router_part, own_part}
 use Rattle.router_core.specs.Updates.{IsNextUpdate}
 use Rattle.router_core.specs.declared.fields.Fields.{Fields}
 

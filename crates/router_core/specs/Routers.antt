@@ -12,7 +12,7 @@ use Rattle.router_core.specs.Parts.{router_part, own_part}
 use Rattle.router_core.specs.Places.{RunsAt}
 use Rattle.router_core.specs.Takes.{TookAsRouter}
 use Rattle.router_core.specs.Turned.{RouterTurned}
-use Rattle.router_core.specs.declared.config.RouterConfig.{RouterConfig}
+use Rattle.actor_configs.specs.declared.router.RouterConfig.{RouterConfig}
 use Rattle.router_core.specs.declared.router as routers
 
 -- a router's part of the world, by itself and as an actor

@@ -6,13 +6,13 @@ use Rattle.ring_net.specs.Posts.{Moved}
 use Rattle.ring_net.specs.declared.post.Post.{Post}
 use Rattle.graft_steps.specs.declared.item.Item.{Item}
 use Rattle.router_core.specs.declared.place.Errand.{Errand}
-use Rattle.bgp_session.specs.Running.{RunningSession}
+use Rattle.bgp_session.specs.Running.{RunningSession, carried}
 use Rattle.bgp_session.specs.Steps.{MayPass}
 use Rattle.graft_model.specs.Parts.{RouterPart}
 use Rattle.graft_model.specs.declared.event.RouterEvent.{RouterEvent}
 use Rattle.graft_model.specs.declared.event.RouterEvent.TheVariants.{Put, Emit, Decide, Tell, Refuse, Freeze, Leave, Ask, Confirm, Tick}
 use Rattle.graft_actors.specs.Acts.{acts}
-use Rattle.router_core.specs.Parts.{router_part, own_part, carried, RouterInvariant}
+use Rattle.router_core.specs.Parts.{router_part, own_part, RouterInvariant}
 use Rattle.router_core.specs.Places.{RunsAt}
 use Rattle.router_core.specs.Rested.{RestedRouter}
 use Rattle.router_core.specs.Rounds.{RouterRetransmits, IsNewWork, RouterGoes, SameRouter}

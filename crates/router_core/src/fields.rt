@@ -1,12 +1,12 @@
 //! A router's fields.
 
-use crate::config::{Firsts, Policies};
-use crate::due::DueSets;
 use crate::place::Place;
+use actor_configs::{Firsts, Policies};
 use bgp_types::Items;
 use graft_actors::Known;
 use graft_edge::RouterId;
 use rib_stages::Rib;
+use router_tables::DueSets;
 use session_places::Places;
 use std::alloc::Global;
 

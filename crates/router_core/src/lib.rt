@@ -2,8 +2,6 @@
 //! of these is a named event.
 #![tactic(auto)]
 
-mod config;
-mod due;
 mod fields;
 mod outstanding;
 mod place;
@@ -11,5 +9,4 @@ mod router;
 mod stages;
 mod takes;
 
-pub use config::{Firsts, NamedPolicy, Policies, RouterConfig};
 pub use router::Router;

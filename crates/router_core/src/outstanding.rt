@@ -9,11 +9,11 @@ ghost use Rattle.settled_check.specs.Rests.{IsRouterRest};
 ghost use Rattle.router_core.specs.Parts.{RouterInvariant, router_part};
 ghost use Rattle.router_core.specs.Places.{errand_of, lower_of, place_at, place_of};
 
-use crate::due::DueSets;
 use crate::fields::Fields;
 use crate::place::{Errand, Place};
 use graft_edge::{PeeringId, RouterId};
 use graft_steps::RouterRest;
+use router_tables::DueSets;
 use session_places::Places;
 
 /// Returns the lowest number whose set isn't empty.

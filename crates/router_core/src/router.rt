@@ -4,12 +4,12 @@ ghost use Rattle.std.specs.Prelude.{◌≡◌, false};
 ghost use Rattle.router_core.specs.Parts.{RouterInvariant};
 ghost use Rattle.router_core.specs.FieldProps.{RouterInvariant-prop-if};
 
-use crate::config::RouterConfig;
 use crate::fields::Fields;
 use crate::outstanding::{nothing_left, outstanding};
 use crate::place::{Place, sessions_of};
 use crate::stages::{stuck, turn};
 use crate::takes;
+use actor_configs::RouterConfig;
 use bgp_session::{Capsule, Session};
 use graft_actors::Known;
 use graft_edge::{Items, NoMemory, PeeringId};
@@ -30,14 +30,13 @@ pub struct Router {
 impl Router {
     ghost use Rattle.std.specs.Prelude.{ℕ, ◌≡◌, ◌↔◌, Bool, false, Option, Some, option_map, OnOk, IfOk, IfSome, IfNone, IsTrue};
     ghost use Rattle.ring_net.specs.Posts.{TookItem, Moved, SameEdges};
-    ghost use Rattle.bgp_session.specs.Running.{RunningSession};
+    ghost use Rattle.bgp_session.specs.Running.{RunningSession, carried};
     ghost use Rattle.session_value.specs.Sessions.{SessionValue};
     ghost use Rattle.rib_stages.specs.Values.{rib_of};
     ghost use Rattle.settled_check.specs.Rests.{IsRouterRest};
     ghost use Rattle.graft_model.specs.Setups.{IsSetup};
     ghost use Rattle.graft_actors.specs.Acts.{acts};
-    ghost use Rattle.router_core.specs.Configs.{IsRouterConfigOf};
-    ghost use Rattle.router_core.specs.Parts.{carried};
+    ghost use Rattle.actor_configs.specs.Configs.{IsRouterConfigOf};
     ghost use Rattle.router_core.specs.Places.{RunsAt, sessions_in};
     ghost use Rattle.router_core.specs.Routers.{router_own_part, part_of_router, IsNewRouter, IsHeldAt, RouterWorks, took_by_router, turned_by_router};
     ghost use Rattle.router_core.specs.Updates.{IsFirstStuck};

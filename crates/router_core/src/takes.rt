@@ -1,11 +1,8 @@
 //! The items that a router takes.
 
 mod graft;
-mod heard;
 mod mesh;
-pub(crate) mod named;
 mod order;
-mod prefixes;
 mod reads;
 mod segment;
 

@@ -3,11 +3,11 @@ use Rattle.std.proofs.Common.{◌≡◌, ℕ, zero, suc, ◌<◌, ◌≤◌, Lis
 use Rattle.std.specs.Prelude.{option_map, if◌then◌else◌}
 use Rattle.std.specs.Str.{bytes_eq}
 use Rattle.bgp_types.specs.Prefixes.{PrefixValue}
-use Rattle.router_core.specs.declared.config.NamedPolicy.{NamedPolicy}
+use Rattle.actor_configs.specs.declared.router.NamedPolicy.{NamedPolicy}
 use Rattle.rib_stages.specs.Choosing as of_rib
 use Rattle.graft_model.specs.Setups.{NamedRules, identifier_of, room_of}
 use Rattle.graft_actors.specs.Items.{home_first, remote_first}
-use Rattle.router_core.specs.Configs.{AreFirstsOf, ArePoliciesOf, IsRouterConfigOf, IsRibOf, firsts_at, starting_here}
+use Rattle.actor_configs.specs.Configs.{AreFirstsOf, ArePoliciesOf, IsRouterConfigOf, IsRibOf, firsts_at, starting_here}
 use Rattle.router_rows.specs.Laboratory.{laboratory, all_firsts, config_with, in_name, out_name, prefers}
 
 each_first : (p : ℕ) → p < 5 → firsts_at all_firsts p ≡ Some (home_first laboratory p, remote_first laboratory p)

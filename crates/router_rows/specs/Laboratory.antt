@@ -4,9 +4,9 @@ use Rattle.std.specs.Prelude.{ℕ, ◌+◌, ◌*◌, List, [], ◌∷◌, Option
 use Rattle.route_policy.specs.declared.rule.Rule.{Rule}
 use Rattle.session_value.specs.declared.config.SessionConfig.{SessionConfig}
 use Rattle.bgp_types.specs.Prefixes.{PrefixValue}
-use Rattle.router_core.specs.declared.config.Firsts.{Firsts}
-use Rattle.router_core.specs.declared.config.NamedPolicy.{NamedPolicy}
-use Rattle.router_core.specs.declared.config.RouterConfig.{RouterConfig}
+use Rattle.actor_configs.specs.declared.router.Firsts.{Firsts}
+use Rattle.actor_configs.specs.declared.router.NamedPolicy.{NamedPolicy}
+use Rattle.actor_configs.specs.declared.router.RouterConfig.{RouterConfig}
 use Rattle.graft_model.specs.Setups.{Setup, PeeringSetup, SettleStep}
 
 -- the names of the policies: `in` and `out`

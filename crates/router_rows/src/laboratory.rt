@@ -11,16 +11,17 @@
 //! remote's initial sequence number is 5000, and the home side's 1000. All hold times but that of peering 4 are 0.
 
 ghost use Rattle.std.specs.Prelude.{◌≡◌, ◌∷◌, [], false, None, Some, IfOk};
-ghost use Rattle.router_core.specs.Configs.{starting_here};
+ghost use Rattle.actor_configs.specs.Configs.{starting_here};
 ghost use Rattle.router_rows.specs.Laboratory.{config_with, in_name, out_name, laboratory, prefers};
 
 use crate::sessions::{firsts, session};
+use actor_configs::{NamedPolicy, Policies, RouterConfig};
 use bgp_types::Prefix;
 use graft_actors::Known;
 use graft_edge::{Items, Name, NoMemory, RouterId};
 use rib_stages::RibConfig;
 use route_policy::{Policy, Rule};
-use router_core::{NamedPolicy, Policies, Router, RouterConfig};
+use router_core::Router;
 use session_value::SessionConfig;
 use std::alloc::Global;
 

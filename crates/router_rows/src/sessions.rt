@@ -3,8 +3,8 @@
 ghost use Rattle.std.specs.Prelude.{◌≡◌, IfOk};
 ghost use Rattle.router_rows.specs.Laboratory.{all_firsts, first_numbers as first_numbers_lem, session_of};
 
+use actor_configs::Firsts;
 use graft_edge::{Items, Name, NoMemory, PeeringId};
-use router_core::Firsts;
 use session_value::SessionConfig;
 use std::alloc::Global;
 use tcp_end::End;

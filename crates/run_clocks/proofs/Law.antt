@@ -18,7 +18,7 @@ use Rattle.graft_actors.specs.Laws.{AreEntriesOf, OneEventHasTheEntry}
 use Rattle.graft_actors.specs.Seen.{channel_of}
 use Rattle.graft_actors.specs.Items.{thing_of}
 use Rattle.graft_actors.specs.Acts.{acts}
-use Rattle.router_core.specs.Parts.{carried}
+use Rattle.bgp_session.specs.Running.{carried}
 use Rattle.world_runs.specs.Marks.{is_go}
 use Rattle.world_runs.specs.Labs.{IsLab}
 use Rattle.world_runs.specs.Runs.{RanAs, Ran}

@@ -16,7 +16,7 @@ use Rattle.graft_actors.specs.Actors.{OperatorIs, Operator}
 use Rattle.graft_actors.specs.Laws.{IsGo}
 use Rattle.graft_actors.proofs.Numbers.{at_operator}
 use Rattle.graft_actors.specs.Acts.{OwnPart, ActsAs, acts}
-use Rattle.router_core.specs.Parts.{carried}
+use Rattle.bgp_session.specs.Running.{carried}
 use Rattle.world_runs.specs.Marks.{is_go}
 use Rattle.world_runs.proofs.Seen.{nothing_open, act_goes}
 use Rattle.world_runs.specs.Labs.{actors_in}

@@ -24,7 +24,7 @@ use Rattle.graft_actors.specs.Actors.{RouterIs, ActorName, Router, FarSide, Oper
 use Rattle.graft_actors.specs.Seen.{channel_of, IsWithin}
 use Rattle.graft_actors.specs.Laws.{NumbersAreOfActors}
 use Rattle.graft_actors.specs.Emissions.{IsRested}
-use Rattle.operator_core.specs.Turns.{NothingToOrder}
+use Rattle.operator_state.specs.Holds.{NothingToOrder}
 use Rattle.settled_check.specs.Left.{HasSome, HasStream, IsUnacked, LeftAtRouter, LeftAtFar, LeftToOperator}
 use Rattle.settled_check.specs.Worlds.{LeftOnItsWay, IsLeft, OnItsWay, AtRouter, AtFarSide, ToOperator, StreamsFit}
 use Rattle.still_grafts.specs.Still.{HasNoneStored, HasNoGraftLeft, StillWorldsHaveNoGraftLeft}

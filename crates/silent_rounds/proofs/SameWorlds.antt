@@ -19,7 +19,7 @@ use Rattle.graft_model.specs.Steps.{Event, Run}
 use Rattle.graft_actors.specs.Actors.{Router, FarSide, number_in}
 use Rattle.graft_actors.specs.Laws.{AreEntriesOf}
 use Rattle.graft_actors.specs.Emissions.{IsRested}
-use Rattle.operator_core.specs.Turns.{NothingToOrder}
+use Rattle.operator_state.specs.Holds.{NothingToOrder}
 use Rattle.router_core.specs.Rested.{RestedRouter}
 use Rattle.router_core.specs.Rounds.{RouterGoes}
 use Rattle.router_core.specs.Turned.{emits_on}

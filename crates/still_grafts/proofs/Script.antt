@@ -8,7 +8,7 @@ use Rattle.graft_model.specs.Parts.{OperatorPart, GraftOrder}
 use Rattle.graft_model.specs.Placements.{target_in, placement}
 use Rattle.graft_model.specs.OperatorRows.{OrderTo, SayTo, number_by}
 use Rattle.graft_model.proofs.Numbers.{steps_rise, groups_rise}
-use Rattle.operator_core.specs.Turns.{NothingToOrder}
+use Rattle.operator_state.specs.Holds.{NothingToOrder}
 use Rattle.settled_check.specs.Left.{IsUnsaid, IsUnended, IsUnordered, HasUnissued, IsOpen}
 
 module _ (setup : Setup) (part : OperatorPart) (nothing : NothingToOrder setup part) where

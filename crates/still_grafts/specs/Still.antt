@@ -3,7 +3,7 @@ use Rattle.std.specs.Prelude.{ℕ, ◌≡◌, []}
 use Rattle.graft_model.specs.Setups.{Setup, IsSetup}
 use Rattle.graft_model.specs.Parts.{Place, Vacant, Live, Frozen, Shadow, World}
 use Rattle.graft_laws.specs.Keeps.{Reached}
-use Rattle.operator_core.specs.Turns.{NothingToOrder}
+use Rattle.operator_state.specs.Holds.{NothingToOrder}
 use Rattle.settled_check.specs.Left.{AwaitsAtMost, HoldsGraft, HasUnissued, IsOpen}
 
 -- no graft is stored at a place, no word is owed there, and no session is frozen

@@ -1,9 +1,12 @@
 -- The last UPDATE that tells something, in a list that changes at one index.
-use Rattle.std.proofs.Common.{◌≡◌, ◌≢◌, List, [], ◌∷◌, ◌++◌, length, Option, refl, sym, ap, ◌∙◌, subst, arith}
+use Rattle.std.proofs.Common.{◌≡◌, ◌≢◌, ℕ, List, [], ◌∷◌, ◌++◌, length, get_or, Option, refl, sym, ap, ◌∙◌, subst, arith}
+use Rattle.std.specs.Prelude.{slice_set}
+use Rattle.std.proofs.lemmas.List.{get_or_at, set_at}
 use Rattle.std.proofs.lemmas.List.Elements.{All-nil, All-cons, All-head, All-tail, All-append}
 use Rattle.bgp_types.specs.declared.attrs.Attrs.{Attrs}
+use Rattle.bgp_types.specs.Prefixes.{PrefixValue}
 use Rattle.update_plan.specs.declared.batch.Batch.{Batch}
-use Rattle.update_plan.specs.Gathering.{NoneTells, LastThatTells}
+use Rattle.update_plan.specs.Gathering.{NoneTells, LastThatTells, with_prefix}
 
 abbrev Apart : Option Attrs → Batch → Type 0
 Apart attrs batch = batch.attrs ≢ attrs
@@ -82,3 +85,15 @@ still_last attrs (x ∷ xs) [] after after' old new batch apart apart' e told no
 still_last attrs (x ∷ xs) (y ∷ ys) after after' old new batch apart apart' e told none =
     let tail : xs ++ old ∷ after ≡ ys ++ batch ∷ after' = cc in
     still_further attrs x y (xs ++ new ∷ after) ys batch (still_last attrs xs ys after after' old new batch apart apart' tail told none)
+
+-- one more prefix in the batch at an index
+pub joined : (items before after : List Batch) (batch lent : Batch) (n : ℕ) (prefixes : List PrefixValue) (prefix : PrefixValue)
+    → items ≡ before ++ batch ∷ after → length before ≡ n → lent ≡ get_or items n lent
+    → prefixes ≡ lent.prefixes ++ prefix ∷ []
+    → slice_set items n (record { attrs = lent.attrs; prefixes = prefixes }) ≡ before ++ with_prefix batch prefix ∷ after
+joined items before after batch lent n prefixes prefix is at lends pushed =
+    let same : lent ≡ batch = lends ∙ (ap (λ (l : List Batch). get_or l n lent) is ∙ get_or_at before batch after lent n at) in
+    let value : record { attrs = lent.attrs; prefixes = prefixes } ≡ with_prefix batch prefix =
+    ap (λ (l : List PrefixValue). record { attrs = lent.attrs; prefixes = l }) pushed ∙ ap (λ (b : Batch). with_prefix b prefix) same in
+    ap (λ (l : List Batch). slice_set l n (record { attrs = lent.attrs; prefixes = prefixes })) is
+    ∙ (ap (slice_set (before ++ batch ∷ after) n) value ∙ set_at before batch after (with_prefix batch prefix) n at)

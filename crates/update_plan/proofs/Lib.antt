@@ -9,6 +9,8 @@ pub mod Fits
 pub mod Sound
 pub mod Keys
 pub mod SoFar
+pub mod Wholes
+pub mod Joining
 pub mod Told
 pub mod PlanLaws
 pub mod Others

@@ -1,5 +1,5 @@
 -- What holds of the next UPDATE of a plan, and of those behind it.
-use Rattle.std.proofs.Common.{◌≡◌, ◌≢◌, ◌⊎◌, List, [], ◌∷◌, ◌++◌, append-nil, Bool, true, false, not, ◌&&◌}
+use Rattle.std.proofs.Common.{◌≡◌, ◌≢◌, ◌≤◌, ◌⊎◌, List, [], ◌∷◌, ◌++◌, append-nil, Bool, true, false, not, ◌&&◌}
 use Rattle.std.proofs.Common.{◌||◌, Option, Some, None, refl, sym, ap, ◌∙◌, subst, inl, inr}
 use Rattle.std.specs.Prelude.{IfSome}
 use Rattle.std.specs.declared.cmp.Ordering.TheVariants.{Less}
@@ -17,7 +17,7 @@ use Rattle.bgp_story.specs.Readings.{Routes, apply}
 use Rattle.session_value.specs.Cases.{Changes, update_for}
 use Rattle.session_value.specs.Sets.{Prefixes, has}
 use Rattle.update_plan.specs.declared.batch.Batch.{Batch}
-use Rattle.update_plan.specs.Plans.{IsNext, IsPlan, IsWritableFor, Without}
+use Rattle.update_plan.specs.Plans.{IsNext, IsPlan, IsWritableFor, Without, octets}
 use Rattle.update_plan.specs.ToTell.{IsPrefixToTell}
 use Rattle.update_plan.proofs.Listed.{same_itself, below_apart, is_same}
 use Rattle.update_plan.proofs.Plans.{plan_of_same}
@@ -58,13 +58,17 @@ module _ (due dirty : Prefixes) (adj_rib_out : Routes) (to_tell : PrefixValue �
       → map.get (apply adj_rib_out (update_for batch.attrs batch.prefixes)) p ≢ map.get adj_rib_out p
   changed p h e = h.0.0.1 (sym e ∙ (value_of_listed batch.attrs batch.prefixes adj_rib_out p h.1 ∙ sym h.0.1))
 
-  pub changes : IsNext ToTell to_tell wide batch → Changes adj_rib_out (update_for batch.attrs batch.prefixes)
-  changes next =
-      let first = front_all (λ x. ToTell x × (to_tell x ≡ batch.attrs)) batch.prefixes next.later next.alike.each in
+  pub changes_told : (later : List PrefixValue) → All (λ x. ToTell x × (to_tell x ≡ batch.attrs)) (batch.prefixes ++ later)
+      → Changes adj_rib_out (update_for batch.attrs batch.prefixes)
+  changes_told later each =
+      let first = front_all (λ x. ToTell x × (to_tell x ≡ batch.attrs)) batch.prefixes later each in
       let listed = all_listed (λ x. ToTell x × (to_tell x ≡ batch.attrs)) batch.prefixes batch.prefixes first (λ p e. e) in
       all_of_update (λ p. map.get (apply adj_rib_out (update_for batch.attrs batch.prefixes)) p ≢ map.get adj_rib_out p) batch.attrs batch.prefixes
       (All-weaker (λ p. (ToTell p × (to_tell p ≡ batch.attrs)) × (list_any (same_prefix p) batch.prefixes ≡ true))
       (λ p. map.get (apply adj_rib_out (update_for batch.attrs batch.prefixes)) p ≢ map.get adj_rib_out p) changed batch.prefixes listed)
+
+  pub changes : IsNext ToTell to_tell wide batch → Changes adj_rib_out (update_for batch.attrs batch.prefixes)
+  changes next = changes_told next.later next.alike.each
 
 -- ---- it is one way
 
@@ -94,12 +98,16 @@ way : (attrs : Option Attrs) (prefixes : List PrefixValue) → prefixes ≢ []
 way None prefixes some = inl (some, refl)
 way (Some a) prefixes some = inr (refl, some)
 
+pub one_way_told : (wide : Bool) (batch : Batch) (later : List PrefixValue) → batch.prefixes ≢ [] → IsStrictlySortedBy prefix_cmp (batch.prefixes ++ later)
+    → octets wide batch.attrs batch.prefixes ≤ 4096 → All IsPrefix batch.prefixes → IsWritableFor batch → IsOneWay (update_for batch.attrs batch.prefixes) wide
+one_way_told wide batch later some rising fits sound w = record {
+  writable = record { body = writable batch.attrs batch.prefixes some (distinct batch.prefixes later rising) sound w; size = fits };
+  one_way = way batch.attrs batch.prefixes some;
+}
+
 pub one_way : (Is : PrefixValue → Type 0) (to_tell : PrefixValue → Option Attrs) (wide : Bool) (batch : Batch) → IsNext Is to_tell wide batch
     → All IsPrefix batch.prefixes → IsWritableFor batch → IsOneWay (update_for batch.attrs batch.prefixes) wide
-one_way Is to_tell wide batch next sound w = record {
-  writable = record { body = writable batch.attrs batch.prefixes next.some (distinct batch.prefixes next.later next.alike.rising) sound w; size = next.fits };
-  one_way = way batch.attrs batch.prefixes next.some;
-}
+one_way Is to_tell wide batch next sound w = one_way_told wide batch next.later next.some next.alike.rising next.fits sound w
 
 -- ---- what is left behind it
 
@@ -115,23 +123,23 @@ both_true false b e f = e
 
 module _ (due then_due dirty : Prefixes) (adj_rib_out : Routes) (to_tell : PrefixValue → Option Attrs) (wide : Bool) (batch : Batch)
     (less_due : (x : PrefixValue) → has then_due x ≡ (has due x && not (list_any (same_prefix x) batch.prefixes))) where
-  abbrev Left : PrefixValue → Type 0
+  abbrev pub Left : PrefixValue → Type 0
   Left x = Without (λ y. IsPrefixToTell due dirty adj_rib_out to_tell y) batch.prefixes x
 
-  abbrev Then : PrefixValue → Type 0
+  abbrev pub Then : PrefixValue → Type 0
   Then x = IsPrefixToTell then_due dirty (apply adj_rib_out (update_for batch.attrs batch.prefixes)) to_tell x
 
-  forth : (x : PrefixValue) → Left x → Then x
-  forth x h = (
+  pub left_then : (x : PrefixValue) → Left x → Then x
+  left_then x h = (
     (less_due x ∙ both_true (has due x) (list_any (same_prefix x) batch.prefixes) h.0.0.0 h.1, h.0.0.1),
     λ e. h.0.1 (sym (value_of_other batch.attrs batch.prefixes adj_rib_out x h.1) ∙ e),
   )
 
-  back : (x : PrefixValue) → Then x → Left x
-  back x h =
+  pub then_left : (x : PrefixValue) → Then x → Left x
+  then_left x h =
       let b = both (has due x) (list_any (same_prefix x) batch.prefixes) (sym (less_due x) ∙ h.0.0) in
       (((b.0, h.0.1), λ e. h.1 (value_of_other batch.attrs batch.prefixes adj_rib_out x b.1 ∙ e)), b.1)
 
   pub rest : (batches : List Batch) → IsPlan (λ y. IsPrefixToTell due dirty adj_rib_out to_tell y) to_tell wide (batch ∷ batches)
       → IsPlan Then to_tell wide batches
-  rest batches plan = plan_of_same to_tell wide Left Then forth back batches plan.1
+  rest batches plan = plan_of_same to_tell wide Left Then left_then then_left batches plan.1

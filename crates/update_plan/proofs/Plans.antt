@@ -159,7 +159,7 @@ module _ (to_tell : PrefixValue → Option Attrs) (wide : Bool) where
         either true b h = refl
         either false b h = absurd (false≢true h)
 
-    listed_itself : (xs : List PrefixValue) → list_any (same_prefix p) (xs ++ p ∷ []) ≡ true
+    pub listed_itself : (xs : List PrefixValue) → list_any (same_prefix p) (xs ++ p ∷ []) ≡ true
     listed_itself xs = list_any-append (same_prefix p) xs (p ∷ [])
         ∙ (ap (λ t. list_any (same_prefix p) xs || (t || false)) (same_itself p) ∙ or_true (list_any (same_prefix p) xs))
       where
@@ -167,7 +167,7 @@ module _ (to_tell : PrefixValue → Option Attrs) (wide : Bool) where
         or_true true = refl
         or_true false = refl
 
-    alike_then : (Is : Kind) → Above Is p → (v : Option Attrs) (xs : List PrefixValue) → to_tell p ≡ v → Lists (λ x. Is x × (to_tell x ≡ v)) xs
+    pub alike_then : (Is : Kind) → Above Is p → (v : Option Attrs) (xs : List PrefixValue) → to_tell p ≡ v → Lists (λ x. Is x × (to_tell x ≡ v)) xs
         → Lists (λ x. Plus Is p x × (to_tell x ≡ v)) (xs ++ p ∷ [])
     alike_then Is above v xs told l = record {
       rising = rising_push p xs l.rising (below_all Is above (λ x. to_tell x ≡ v) xs l.each);
@@ -240,7 +240,7 @@ module _ (to_tell : PrefixValue → Option Attrs) (wide : Bool) where
         absurd (some_tells (Without Is b.prefixes) bs y plan (is.0, rising_apart b.prefixes ys y alike.rising)
         (subst (λ (v : Option Attrs). NoneTells v bs) (sym is.1) none))
 
-    push_some : (xs : List PrefixValue) → xs ++ p ∷ [] ≢ []
+    pub push_some : (xs : List PrefixValue) → xs ++ p ∷ [] ≢ []
     push_some [] e = absurd cc
     push_some (x ∷ xs) e = absurd cc
 
@@ -296,8 +296,18 @@ module _ (to_tell : PrefixValue → Option Attrs) (wide : Bool) where
 
     -- ---- it begins another
 
-    abbrev Begun : Batch
+    abbrev pub Begun : Batch
     Begun = record { attrs = to_tell p; prefixes = p ∷ [] }
+
+    pub alone : (Is : Kind) → ((x : PrefixValue) → Is x → ⊥) → Lists (λ x. Plus Is p x × (to_tell x ≡ to_tell p)) (p ∷ [])
+    alone Is none = record {
+      rising = one_rises p;
+      each = All-cons (λ x. Plus Is p x × (to_tell x ≡ to_tell p)) p [] (inr refl, refl) (All-nil (λ x. Plus Is p x × (to_tell x ≡ to_tell p)));
+      all = λ x h. elim h.0 [
+        | inl is ↦ absurd (none x is)
+        | inr e ↦ subst (λ (y : PrefixValue). IsTrue (list_any (same_prefix y) (p ∷ []))) (sym e) (listed_itself [])
+      ];
+    }
 
     module _ (fits : octets wide (to_tell p) (p ∷ []) ≤ 4096) where
       next_begun : (Is : Kind) → ((x : PrefixValue) → Is x → ⊥) → Next (Plus Is p) Begun
@@ -312,14 +322,7 @@ module _ (to_tell : PrefixValue → Option Attrs) (wide : Bool) where
         };
         told_first = refl;
         later = [];
-        alike = record {
-          rising = one_rises p;
-          each = All-cons (λ x. Plus Is p x × (to_tell x ≡ to_tell p)) p [] (inr refl, refl) (All-nil (λ x. Plus Is p x × (to_tell x ≡ to_tell p)));
-          all = λ x h. elim h.0 [
-            | inl is ↦ absurd (none x is)
-            | inr e ↦ subst (λ (y : PrefixValue). IsTrue (list_any (same_prefix y) (p ∷ []))) (sym e) (listed_itself [])
-          ];
-        };
+        alike = alone Is none;
         some = push_some [];
         fits = fits;
         whole = λ next rest e. absurd cc;

@@ -1,4 +1,4 @@
--- The plan of those that the walk over what is due has passed.
+-- What is made of those that the walk over what is due has passed: UPDATEs, or whole batches.
 use Rattle.std.proofs.Common.{◌≡◌, ◌≢◌, ℕ, ◌+◌, ◌<◌, ◌≤◌, ◌⊎◌, Bool, true, false, ◌||◌, List, [], ◌∷◌, ◌++◌}
 use Rattle.std.proofs.Common.{length, take, slice_index_or, Option, refl, sym, ap, ◌∙◌, subst, inl, inr}
 use Rattle.std.specs.FinMap as map
@@ -12,12 +12,11 @@ use Rattle.bgp_types.specs.Prefixes.{PrefixValue, same_prefix}
 use Rattle.bgp_types.specs.Tables.{prefix_cmp}
 use Rattle.session_value.specs.Sets.{Prefixes, has}
 use Rattle.update_plan.specs.declared.batch.Batch.{Batch}
-use Rattle.update_plan.specs.Gathering.{Gathers}
-use Rattle.update_plan.specs.Plans.{IsPlan, octets}
+use Rattle.update_plan.specs.Gathering.{GathersBy}
 use Rattle.update_plan.specs.ToTell.{IsPrefixToTell}
 use Rattle.update_plan.proofs.Keys.{keys_any, first_keys_rise}
 use Rattle.update_plan.proofs.Listed.{same_itself, is_same, before_below}
-use Rattle.update_plan.proofs.Plans.{Plus, plan_of_same, plan_adds}
+use Rattle.update_plan.proofs.Plans.{Above, Kind, Plus}
 
 -- those that stand in a list, aren't to be decided again, and were told otherwise
 pub record Among (dirty : Prefixes) (adj_rib_out : map.FinMap prefix_cmp Attrs)
@@ -26,12 +25,13 @@ pub record Among (dirty : Prefixes) (adj_rib_out : map.FinMap prefix_cmp Attrs)
   pub other : map.get adj_rib_out x ≢ to_tell x
   pub listed : list_any (same_prefix x) ps ≡ true
 
-module _ (dirty : Prefixes) (adj_rib_out : map.FinMap prefix_cmp Attrs) (to_tell : PrefixValue → Option Attrs) (wide : Bool) where
+module _ (dirty : Prefixes) (adj_rib_out : map.FinMap prefix_cmp Attrs) (to_tell : PrefixValue → Option Attrs) (Of : Kind → List Batch → Type 0)
+    (same : (Is Js : Kind) → ((x : PrefixValue) → Is x → Js x) → ((x : PrefixValue) → Js x → Is x) → (bs : List Batch) → Of Is bs → Of Js bs) where
   abbrev Is : List PrefixValue → PrefixValue → Type 0
   Is ps x = Among dirty adj_rib_out to_tell ps x
 
-  abbrev pub PlanAmong : List PrefixValue → List Batch → Type 0
-  PlanAmong ps batches = IsPlan (Is ps) to_tell wide batches
+  abbrev pub OfAmong : List PrefixValue → List Batch → Type 0
+  OfAmong ps batches = Of (Is ps) batches
 
   module _ (ps : List PrefixValue) (p : PrefixValue) where
     either : (a b : Bool) → (a || (b || false)) ≡ true → (a ≡ true) ⊎ (b ≡ true)
@@ -54,7 +54,7 @@ module _ (dirty : Prefixes) (adj_rib_out : map.FinMap prefix_cmp Attrs) (to_tell
     among_more : (x : PrefixValue) → Is (ps ++ p ∷ []) x → Is ps x ⊎ (x ≡ p)
     among_more x is = elim (either (list_any (same_prefix x) ps) (same_prefix x p) (sym (listed_more x) ∙ is.listed)) [
       | inl before ↦ inl (record { clean = is.clean; other = is.other; listed = before })
-      | inr same ↦ inr (is_same x p same)
+      | inr e ↦ inr (is_same x p e)
     ]
 
     among_too : (x : PrefixValue) → Is ps x → Is (ps ++ p ∷ []) x
@@ -62,30 +62,32 @@ module _ (dirty : Prefixes) (adj_rib_out : map.FinMap prefix_cmp Attrs) (to_tell
         record { clean = is.clean; other = is.other; listed = listed_more x ∙ too (list_any (same_prefix x) ps) (same_prefix x p || false) is.listed }
 
     -- one that isn't to be told is passed over
-    passes : (batches : List Batch) → (Is (ps ++ p ∷ []) p → ⊥) → PlanAmong ps batches → PlanAmong (ps ++ p ∷ []) batches
-    passes batches none plan = plan_of_same to_tell wide (Is ps) (Is (ps ++ p ∷ [])) among_too
+    passes : (batches : List Batch) → (Is (ps ++ p ∷ []) p → ⊥) → OfAmong ps batches → OfAmong (ps ++ p ∷ []) batches
+    passes batches none plan = same (Is ps) (Is (ps ++ p ∷ [])) among_too
         (λ x is. elim (among_more x is) [
           | inl before ↦ before
-          | inr same ↦ absurd (none (subst (Is (ps ++ p ∷ [])) same is))
+          | inr e ↦ absurd (none (subst (Is (ps ++ p ∷ [])) e is))
         ])
         batches plan
 
-    passes_dirty : (batches : List Batch) → has dirty p ≡ true → PlanAmong ps batches → PlanAmong (ps ++ p ∷ []) batches
+    passes_dirty : (batches : List Batch) → has dirty p ≡ true → OfAmong ps batches → OfAmong (ps ++ p ∷ []) batches
     passes_dirty batches dirties plan = passes batches (λ is. false≢true (sym is.clean ∙ dirties)) plan
 
-    gathers : (old new : List Batch) → IsStrictlySortedBy prefix_cmp (ps ++ p ∷ []) → has dirty p ≡ false → octets wide (to_tell p) (p ∷ []) ≤ 4096
-        → Gathers wide (map.get adj_rib_out p) to_tell p old new → PlanAmong ps old → PlanAmong (ps ++ p ∷ []) new
-    gathers old new rises clean fits (inl h) plan = subst (PlanAmong (ps ++ p ∷ [])) (sym h.1) (passes old (λ is. is.other h.0) plan)
-    gathers old new rises clean fits (inr h) plan =
+    gathers : (Adds : Option Attrs → PrefixValue → List Batch → List Batch → Type 0) (old new : List Batch)
+        → IsStrictlySortedBy prefix_cmp (ps ++ p ∷ []) → has dirty p ≡ false
+        → (Above (Is ps) p → Adds (to_tell p) p old new → OfAmong ps old → Of (Plus (Is ps) p) new)
+        → GathersBy Adds (map.get adj_rib_out p) to_tell p old new → OfAmong ps old → OfAmong (ps ++ p ∷ []) new
+    gathers Adds old new rises clean adds (inl h) plan = subst (OfAmong (ps ++ p ∷ [])) (sym h.1) (passes old (λ is. is.other h.0) plan)
+    gathers Adds old new rises clean adds (inr h) plan =
         let here : Is (ps ++ p ∷ []) p =
         record { clean = clean; other = h.0; listed = listed_more p ∙ last (list_any (same_prefix p) ps) (same_prefix p p) (same_itself p) } in
-        plan_of_same to_tell wide (Plus (Is ps) p) (Is (ps ++ p ∷ []))
+        same (Plus (Is ps) p) (Is (ps ++ p ∷ []))
         (λ x is. elim is [
           | inl before ↦ among_too x before
-          | inr same ↦ subst (Is (ps ++ p ∷ [])) (sym same) here
+          | inr e ↦ subst (Is (ps ++ p ∷ [])) (sym e) here
         ])
         among_more
-        new (plan_adds to_tell wide p (Is ps) old new (λ x is. before_below ps [] p rises x is.listed) fits h.1 plan)
+        new (adds (λ x is. before_below ps [] p rises x is.listed) h.1 plan)
 
   -- ---- the steps of the walk over a list
 
@@ -93,22 +95,23 @@ module _ (dirty : Prefixes) (adj_rib_out : map.FinMap prefix_cmp Attrs) (to_tell
     more : take (i + 1) ks ≡ take i ks ++ p ∷ []
     more = take_more ks i p within ∙ ap (λ (q : PrefixValue). take i ks ++ q ∷ []) (sym is)
 
-    pub plan_passes : (batches : List Batch) → has dirty p ≡ true → PlanAmong (take i ks) batches → PlanAmong (take (i + 1) ks) batches
-    plan_passes batches dirties plan = subst (λ (ps : List PrefixValue). PlanAmong ps batches) (sym more) (passes_dirty (take i ks) p batches dirties plan)
+    pub walk_passes : (batches : List Batch) → has dirty p ≡ true → OfAmong (take i ks) batches → OfAmong (take (i + 1) ks) batches
+    walk_passes batches dirties plan = subst (λ (ps : List PrefixValue). OfAmong ps batches) (sym more) (passes_dirty (take i ks) p batches dirties plan)
 
-    pub plan_then : (due : Prefixes) → ks ≡ map.keys due → (old new : List Batch) → has dirty p ≡ false → octets wide (to_tell p) (p ∷ []) ≤ 4096
-        → Gathers wide (map.get adj_rib_out p) to_tell p old new → PlanAmong (take i ks) old → PlanAmong (take (i + 1) ks) new
-    plan_then due keys old new clean fits gathered plan =
+    pub walk_gathers : (due : Prefixes) → ks ≡ map.keys due → (Adds : Option Attrs → PrefixValue → List Batch → List Batch → Type 0) (old new : List Batch)
+        → has dirty p ≡ false → ((Is : Kind) → Above Is p → Adds (to_tell p) p old new → Of Is old → Of (Plus Is p) new)
+        → GathersBy Adds (map.get adj_rib_out p) to_tell p old new → OfAmong (take i ks) old → OfAmong (take (i + 1) ks) new
+    walk_gathers due keys Adds old new clean adds gathered plan =
         let rises : IsStrictlySortedBy prefix_cmp (take (i + 1) ks) =
         subst (λ (l : List PrefixValue). IsStrictlySortedBy prefix_cmp (take (i + 1) l)) (sym keys) (first_keys_rise due (i + 1)) in
-        subst (λ (ps : List PrefixValue). PlanAmong ps new) (sym more)
-        (gathers (take i ks) p old new (subst (IsStrictlySortedBy prefix_cmp) more rises) clean fits gathered plan)
+        subst (λ (ps : List PrefixValue). OfAmong ps new) (sym more)
+        (gathers (take i ks) p Adds old new (subst (IsStrictlySortedBy prefix_cmp) more rises) clean (adds (Is (take i ks))) gathered plan)
 
-  pub plan_ends : (due : Prefixes) (ks : List PrefixValue) → ks ≡ map.keys due → (i : ℕ) → length ks ≤ i → (batches : List Batch)
-      → PlanAmong (take i ks) batches → IsPlan (IsPrefixToTell due dirty adj_rib_out to_tell) to_tell wide batches
-  plan_ends due ks keys i past batches plan =
-      let all : PlanAmong (map.keys due) batches = subst (λ (ps : List PrefixValue). PlanAmong ps batches) (take_all i ks past ∙ keys) plan in
-      plan_of_same to_tell wide (Is (map.keys due)) (IsPrefixToTell due dirty adj_rib_out to_tell)
+  pub walk_ends : (due : Prefixes) (ks : List PrefixValue) → ks ≡ map.keys due → (i : ℕ) → length ks ≤ i → (batches : List Batch)
+      → OfAmong (take i ks) batches → Of (IsPrefixToTell due dirty adj_rib_out to_tell) batches
+  walk_ends due ks keys i past batches plan =
+      let all : OfAmong (map.keys due) batches = subst (λ (ps : List PrefixValue). OfAmong ps batches) (take_all i ks past ∙ keys) plan in
+      same (Is (map.keys due)) (IsPrefixToTell due dirty adj_rib_out to_tell)
       (λ x among. ((sym (keys_any due x) ∙ among.listed, among.clean), among.other))
       (λ x untold. record { clean = untold.0.1; other = untold.1; listed = keys_any due x ∙ untold.0.0 })
       batches all

@@ -7,6 +7,7 @@ use Rattle.bgp_types.specs.declared.attrs.Attrs.{Attrs}
 use Rattle.bgp_types.specs.Prefixes.{PrefixValue, IsPrefix}
 use Rattle.update_plan.specs.declared.batch.Batch.{Batch}
 use Rattle.update_plan.specs.declared.gather.Gathered.{Gathered}
+use Rattle.update_plan.specs.declared.grouping.Grouped.{Grouped}
 use Rattle.update_plan.specs.Codes.{value_code}
 use Rattle.update_plan.specs.Plans.{octets}
 
@@ -43,9 +44,29 @@ abbrev pub AddsToUpdates : Bool → Option Attrs → PrefixValue → List Batch 
 AddsToUpdates wide attrs prefix old new = Joins wide attrs prefix old new ⊎ BeginsUpdate wide attrs prefix old new
 
 -- If what was told of a prefix is what is to be told, nothing changes. Else the prefix is added.
+abbrev pub GathersBy : (Option Attrs → PrefixValue → List Batch → List Batch → Type 0) → Option Attrs → (PrefixValue → Option Attrs)
+    → PrefixValue → List Batch → List Batch → Type 0
+GathersBy Adds told to_tell prefix old new = ((told ≡ to_tell prefix) × (new ≡ old)) ⊎ ((told ≢ to_tell prefix) × Adds (to_tell prefix) prefix old new)
+
 abbrev pub Gathers : Bool → Option Attrs → (PrefixValue → Option Attrs) → PrefixValue → List Batch → List Batch → Type 0
-Gathers wide told to_tell prefix old new =
-    ((told ≡ to_tell prefix) × (new ≡ old)) ⊎ ((told ≢ to_tell prefix) × AddsToUpdates wide (to_tell prefix) prefix old new)
+Gathers wide told to_tell prefix old new = GathersBy (AddsToUpdates wide) told to_tell prefix old new
+
+-- ---- into one batch for each value, however many octets that has
+
+pub record JoinsBatch (attrs : Option Attrs) (prefix : PrefixValue) (old new : List Batch) : Type 0 where
+  pub before : List Batch
+  pub batch : Batch
+  pub after : List Batch
+  pub there : LastThatTells attrs old before batch after
+  pub effect : new ≡ before ++ with_prefix batch prefix ∷ after
+
+pub record BeginsBatch (attrs : Option Attrs) (prefix : PrefixValue) (old new : List Batch) : Type 0 where
+  pub none : NoneTells attrs old
+  pub effect : new ≡ old ++ record { attrs = attrs; prefixes = prefix ∷ [] } ∷ []
+
+-- A prefix joins the batch that tells what is to be told of it. If none does, it begins one.
+abbrev pub AddsToBatches : Option Attrs → PrefixValue → List Batch → List Batch → Type 0
+AddsToBatches attrs prefix old new = JoinsBatch attrs prefix old new ⊎ BeginsBatch attrs prefix old new
 
 -- ---- how the UPDATEs that may be joined are found
 
@@ -69,6 +90,10 @@ batch_octets wide batch = octets wide batch.attrs batch.prefixes
 pub record GatheredInvariant (gathered : Gathered) : Type 0 where
   pub found : (attrs : Option Attrs) → IndexFor attrs gathered.batches.items (get (slice_cmp nat_cmp) gathered.indices (value_code attrs))
   pub counted : gathered.octets.items ≡ map (batch_octets gathered.wide) gathered.batches.items
+
+-- For each value that can be told, the batch that tells it is found by its code.
+pub record GroupedInvariant (grouped : Grouped) : Type 0 where
+  pub found : (attrs : Option Attrs) → IndexFor attrs grouped.batches.items (get (slice_cmp nat_cmp) grouped.indices (value_code attrs))
 
 -- All prefixes in UPDATEs are valid prefixes.
 abbrev pub AreSound : List Batch → Type 0

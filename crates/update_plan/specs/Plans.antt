@@ -1,5 +1,5 @@
 -- The UPDATEs that tell prefixes, each with as many as fit (RFC 4271, sections 4.1, 4.3 and 9.2).
-use Rattle.std.specs.Prelude.{ℕ, ◌≡◌, ◌≢◌, ◌≤◌, ◌<◌, List, [], ◌∷◌, ◌++◌, length, Option, IfSome, Bool, false}
+use Rattle.std.specs.Prelude.{ℕ, ◌≡◌, ◌≢◌, ◌≤◌, ◌<◌, List, [], ◌∷◌, ◌++◌, length, Option, IfSome, Bool, false, All, AllPairs, Contains}
 use Rattle.std.specs.List.{list_any}
 use Rattle.std.specs.Ordering.{is_lt}
 use Rattle.bgp_types.specs.declared.attrs.Attrs.{Attrs}
@@ -45,6 +45,12 @@ Without Is prefixes x = Is x × (list_any (same_prefix x) prefixes ≡ false)
 abbrev pub IsPlan : (PrefixValue → Type 0) → (PrefixValue → Option Attrs) → Bool → List Batch → Type 0
 IsPlan Is to_tell wide [] = (x : PrefixValue) → Is x → ⊥
 IsPlan Is to_tell wide (batch ∷ batches) = IsNext Is to_tell wide batch × IsPlan (Without Is batch.prefixes) to_tell wide batches
+
+-- The batches have all prefixes of a kind, one batch for each value that is to be told.
+pub record AreWholeBatches (Is : PrefixValue → Type 0) (to_tell : PrefixValue → Option Attrs) (batches : List Batch) : Type 0 where
+  pub each : All (λ batch. Lists (λ x. Is x × (to_tell x ≡ batch.attrs)) batch.prefixes × (batch.prefixes ≢ [])) batches
+  pub all : (x : PrefixValue) → Is x → (batch : Batch) × Contains batches batch × (batch.attrs ≡ to_tell x)
+  pub once : AllPairs (λ one other. one.attrs ≢ other.attrs) batches
 
 -- the attributes that a batch announces, if it announces any, have a written form (RFC 4271, section 4.3)
 abbrev pub IsWritableFor : Batch → Type 0

@@ -5,6 +5,7 @@
 mod batch;
 mod code;
 mod gather;
+mod grouping;
 mod laws;
 mod passing;
 mod path;
@@ -12,5 +13,6 @@ mod updates;
 mod writable;
 
 pub use batch::Batch;
+pub use grouping::groups;
 pub use laws::{next_update_changes, next_update_is_one_way, rest_is_planned};
 pub use updates::plan;

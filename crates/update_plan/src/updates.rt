@@ -20,7 +20,7 @@ use std::alloc::Global;
 
 /// Whether what was told of a prefix is this.
 #[tactic(auto, using(bgp_types::proofs::Equality::attrs_equal))]
-fn is_told(told: Option<&SharedAttrs>, attrs: &Option<Attrs>) -> bool
+pub(crate) fn is_told(told: Option<&SharedAttrs>, attrs: &Option<Attrs>) -> bool
     ensures { MatchBool result (option_copied told.entry ≡ attrs.now) (option_copied told.entry ≢ attrs.now) }
 {
     match (told, attrs) {

@@ -16,8 +16,8 @@ use Rattle.graft_actors.specs.Actors as names
 use Rattle.graft_actors.specs.Seen.{part_of}
 use Rattle.graft_actors.proofs.Numbers.{at_operator}
 use Rattle.graft_actors.specs.Acts.{OwnPart, acts}
-use Rattle.operator_core.specs.Turns.{IsHeldUp}
-use Rattle.router_core.specs.Parts.{carried}
+use Rattle.operator_state.specs.Holds.{IsHeldUp}
+use Rattle.bgp_session.specs.Running.{carried}
 use Rattle.settled_check.specs.Firsts.{IsFirstOf, IsEither}
 use Rattle.settled_check.specs.Worlds.{IsLeft}
 use Rattle.settled_check.proofs.Firsts.{first_of_both}

@@ -5,7 +5,7 @@ use Rattle.ring_net.specs.Deeds.{Deed, Replay}
 use Rattle.ring_net.specs.Posts.{TookItem, Moved, Pauses, actor_of, entries_in, waits}
 use Rattle.ring_net.specs.declared.post.Post.{Post}
 use Rattle.graft_actors.specs.Acts.{OwnPart, acts}
-use Rattle.router_core.specs.Parts.{carried}
+use Rattle.bgp_session.specs.Running.{carried}
 use Rattle.router_core.specs.Routers as routers
 use Rattle.far_side.specs.Fars as fars
 use Rattle.operator_core.specs.Operators as operators

@@ -3,8 +3,8 @@ use denote.Param.Send.{IsSend, sendable}
 use Rattle.std.proofs.Crossing.{crosses}
 use Rattle.std.proofs.MapsCrossing as maps
 use Rattle.link_bag.specs.contracts.plan.Plan as Plan
-use Rattle.far_side.specs.contracts.says.SayTable as SayTable
-use Rattle.far_side.specs.contracts.remote.Remote as Remote
+use Rattle.actor_configs.specs.contracts.says.SayTable as SayTable
+use Rattle.remote_end.specs.contracts.remote.Remote as Remote
 use Rattle.far_side.specs.contracts.link.Link as Link
 use Rattle.far_side.specs.contracts.fields.Fields as Fields
 use Rattle.far_side.specs.contracts.far.Far as Far

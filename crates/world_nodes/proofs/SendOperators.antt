@@ -2,8 +2,8 @@
 use denote.Param.Send.{IsSend, sendable}
 use Rattle.std.proofs.Crossing.{crosses}
 use Rattle.graft_steps.specs.contracts.log.GraftEntry as GraftEntry
-use Rattle.operator_core.specs.contracts.script.Script as Script
-use Rattle.operator_core.specs.contracts.grafts.Slot as Slot
+use Rattle.actor_configs.specs.contracts.script.Script as Script
+use Rattle.operator_state.specs.contracts.grafts.Slot as Slot
 use Rattle.operator_core.specs.contracts.progress.Progress as Progress
 use Rattle.operator_core.specs.contracts.operator.Operator as Operator
 use Rattle.world_nodes.proofs.SendValues.{known, items, refusal}

@@ -15,9 +15,9 @@ use Rattle.rib_stages.specs.contracts.config.RibConfig as RibConfig
 use Rattle.rib_stages.specs.contracts.sources.Sources as Sources
 use Rattle.rib_stages.specs.contracts.rib.Rib as Rib
 use Rattle.session_places.specs.contracts.Places as Places
-use Rattle.router_core.specs.contracts.config.NamedPolicy as NamedPolicy
+use Rattle.actor_configs.specs.contracts.router.NamedPolicy as NamedPolicy
 use Rattle.router_core.specs.contracts.place.Place as Place
-use Rattle.router_core.specs.contracts.due.DueSets as DueSets
+use Rattle.router_tables.specs.contracts.due.DueSets as DueSets
 use Rattle.router_core.specs.contracts.fields.Fields as Fields
 use Rattle.router_core.specs.contracts.router.Router as Router
 use Rattle.world_nodes.proofs.SendValues.{items, name, table, route, known}

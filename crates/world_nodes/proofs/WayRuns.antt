@@ -10,7 +10,7 @@ use Rattle.journal_merge.specs.Laws.{GrowsOn, LevelGrows, PhaseGrows, BetweenGro
 use Rattle.graft_model.specs.Setups.{Setup, IsSetup, routers_in, peerings_in}
 use Rattle.graft_actors.specs.Actors as names
 use Rattle.graft_actors.specs.Acts.{acts}
-use Rattle.router_core.specs.Parts.{carried}
+use Rattle.bgp_session.specs.Running.{carried}
 use Rattle.world_runs.specs.Runs.{Ran}
 use Rattle.world_runs.specs.Laws.{IsNoGo, NewNetsRan, RunsGoOn, ExtendsAtMark}
 use Rattle.world_nodes.specs.Nodes.{Mail, own, took, turned, paused}

@@ -10,7 +10,7 @@ use Rattle.graft_model.specs.Parts.{World}
 use Rattle.graft_laws.specs.Keeps.{Reached}
 use Rattle.graft_actors.specs.Actors.{ActorPart, RouterIs, FarIs, OperatorIs, ActorName, Router, FarSide, Operator}
 use Rattle.graft_actors.specs.Acts.{OwnPart}
-use Rattle.router_core.specs.Parts.{carried}
+use Rattle.bgp_session.specs.Running.{carried}
 use Rattle.router_core.specs.Updates.{IsStuckAt}
 use Rattle.settled_check.specs.Firsts.{IsFirstOf}
 use Rattle.settled_check.specs.Left.{LeftAtRouter, LeftAtFar, LeftToOperator}

@@ -2,9 +2,8 @@
 use Rattle.std.specs.Prelude.{ℕ, ◌≡◌, List, []}
 use Rattle.ring_net.specs.Deeds.{Deed, Replay, TakesFirst}
 use Rattle.graft_steps.specs.declared.item.Item.{Item}
-use Rattle.bgp_session.specs.Running.{RunningSession}
+use Rattle.bgp_session.specs.Running.{RunningSession, carried}
 use Rattle.graft_actors.specs.Acts.{OwnPart, acts}
-use Rattle.router_core.specs.Parts.{carried}
 use Rattle.router_core.specs.Routers as routers
 use Rattle.far_side.specs.Fars as fars
 use Rattle.operator_core.specs.Operators as operators

@@ -3,7 +3,7 @@ use Rattle.std.specs.Prelude.{ℕ, ◌≡◌, ◌+◌, List, [], ◌∷◌, ◌+
 use Rattle.ring_net.specs.Phases.{View, IsNewNet, Marked, Levelled, NetPhase, Between}
 use Rattle.graft_actors.specs.Acts.{acts}
 use Rattle.graft_model.specs.Setups.{Setup, routers_in, peerings_in}
-use Rattle.router_core.specs.Parts.{carried}
+use Rattle.bgp_session.specs.Running.{carried}
 use Rattle.world_runs.specs.Labs.{AreFirstActors}
 use Rattle.world_runs.specs.Runs.{QuietAt}
 use Rattle.world_nodes.specs.Edges.{AreEdgesOf}

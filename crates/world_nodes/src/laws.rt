@@ -3,7 +3,7 @@
 ghost use Rattle.std.specs.Prelude.{ℕ, List};
 ghost use Rattle.ring_net.specs.Phases.{InOrder};
 ghost use Rattle.graft_model.specs.Setups.{Setup, IsSetup};
-ghost use Rattle.router_core.specs.Parts.{carried};
+ghost use Rattle.bgp_session.specs.Running.{carried};
 ghost use Rattle.world_runs.specs.Runs.{Ran};
 ghost use Rattle.world_nodes.specs.Nodes.{own};
 ghost use Rattle.world_nodes.specs.Ways.{Stand, IsFirstStand, Way};

@@ -1,7 +1,7 @@
 //! The actors of a laboratory as one type.
 
 ghost use Rattle.graft_actors.specs.Acts.{OwnPart, acts};
-ghost use Rattle.router_core.specs.Parts.{carried};
+ghost use Rattle.bgp_session.specs.Running.{carried};
 ghost use Rattle.world_nodes.specs.Nodes.{own, took, turned, paused};
 
 use bgp_session::Capsule;

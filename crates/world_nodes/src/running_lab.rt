@@ -36,7 +36,7 @@ impl RunningLab {
     ghost use Rattle.graft_model.specs.Setups.{Setup, IsSetup};
     ghost use Rattle.graft_model.specs.Parts.{World};
     ghost use Rattle.graft_model.specs.Quiet.{Quiet};
-    ghost use Rattle.operator_core.specs.Turns.{IsHeldUp};
+    ghost use Rattle.operator_state.specs.Holds.{IsHeldUp};
     ghost use Rattle.world_runs.specs.Labs.{AreFirstActors};
     ghost use Rattle.world_nodes.specs.Nodes.{Works, own};
     ghost use Rattle.world_nodes.specs.Edges.{AreEdgesOf, HasCounts};

@@ -21,7 +21,7 @@ use Rattle.graft_actors.specs.Items.{thing_of}
 use Rattle.graft_actors.specs.Acts.{OwnPart, MayComeFrom, MayTake, MayTakeFrom, IsWelcome, TakesWelcome}
 use Rattle.world_runs.specs.Labs.{AllMayGo, IsLab}
 
-map_first : {A B : Type 0} (f : A → B) (xs : List A) (y : B) (ys : List B) → map f xs ≡ y ∷ ys → (x : A) × (f x ≡ y) × Heads xs x
+pub map_first : {A B : Type 0} (f : A → B) (xs : List A) (y : B) (ys : List B) → map f xs ≡ y ∷ ys → (x : A) × (f x ≡ y) × Heads xs x
 map_first f [] y ys e = absurd cc
 map_first f (x ∷ xs) y ys e = (x, cc, record { rest = xs; is = refl })
 

@@ -1,4 +1,4 @@
-mod Comes
+pub mod Comes
 mod Goes
 mod Acts
 mod Runs

@@ -1,18 +1,16 @@
 //! Decisions (RFC 4271, section 9.1.2).
 
-ghost use Rattle.std.specs.Prelude.{ℕ, ◌≡◌, ◌<◌, length, true, Bool, if◌then◌else◌, OnOk};
+ghost use Rattle.std.specs.Prelude.{◌≡◌, ◌<◌, length, true, OnOk};
 ghost use Rattle.std.specs.FinMap as map;
 ghost use Rattle.ring_net.specs.Posts.{SameEdges};
-ghost use Rattle.session_value.specs.Points.{at};
 ghost use Rattle.session_value.specs.Sets.{has};
-ghost use Rattle.rib_stages.specs.Values.{table_at};
 ghost use Rattle.graft_model.specs.TableRows.{holds_established};
-ghost use Rattle.router_core.specs.Deciding.{AddsBelow, DecidesOne, DueToAll, is_other_router, is_up_at};
+ghost use Rattle.router_tables.specs.Dues.{AddsBelow};
+ghost use Rattle.router_core.specs.Deciding.{DecidesOne, DueToAll, is_other_router, is_up_at};
 ghost use Rattle.router_core.specs.Parts.{RouterInvariant};
 ghost use Rattle.router_core.specs.Places.{place_at, place_of};
 ghost use Rattle.router_core.specs.Stages.{DecidesAll};
 
-use crate::due::DueSets;
 use crate::fields::Fields;
 use crate::place::Place;
 use bgp_session::Capsule;
@@ -22,17 +20,8 @@ use graft_edge::NoMemory;
 use graft_model::RouterEvent;
 use graft_steps::Item;
 use ring_net::Post;
+use router_tables::add_where;
 use session_places::Places;
-
-/// Adds a prefix to set `n` if `is_due`.
-fn add_where(sets: &mut DueSets, n: usize, prefix: Prefix, is_due: bool) -> Result<(), NoMemory>
-    requires { n < length sets.old }
-    ensures length { OnOk result (length sets.new ≡ length sets.old) }
-    ensures added { OnOk result (table_at sets.new ≡ at (table_at sets.old) n
-        (if is_due then map.insert (table_at sets.old n) prefix tt else table_at sets.old n)) }
-{
-    if is_due { sets.add(n, prefix) } else { Ok(()) }
-}
 
 /// Returns whether an established session is held at a place.
 fn is_up(places: &Places<Place>, n: usize) -> bool

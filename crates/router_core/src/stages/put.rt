@@ -15,10 +15,8 @@ ghost use Rattle.router_core.specs.Putting.{NextAt, OfferedAt, OffersAt, Planned
 ghost use Rattle.router_core.specs.Updates.{IsFirstStuck, IsStuckInTime, RoomAnswer, StuckAnswer, length_with};
 ghost use Rattle.router_core.specs.Stages.{PutsAll};
 
-use crate::due::DueSets;
 use crate::fields::Fields;
 use crate::place::Place;
-use crate::takes::named::policy_of;
 use bgp_session::{Capsule, MOST_PUT, OfferStop, Session};
 use bgp_types::{Prefix, SessionState, TryCopy, Update};
 use graft_actors::note_router;
@@ -27,6 +25,7 @@ use graft_model::RouterEvent;
 use graft_steps::Item;
 use rib_stages::OutView;
 use ring_net::Post;
+use router_tables::{DueSets, policy_of};
 use session_places::Places;
 use update_plan::{Batch, plan};
 /// The length of a KEEPALIVE in bytes (RFC 4271, section 4.4).

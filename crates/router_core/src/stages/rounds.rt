@@ -3,7 +3,8 @@
 ghost use Rattle.std.specs.Prelude.{◌≡◌, IfOk};
 ghost use Rattle.router_core.specs.Places.{AtOne};
 ghost use Rattle.router_core.specs.Sending.{AtPlace};
-ghost use Rattle.router_core.specs.Ticking.{followed as followed_lem, Ticked};
+ghost use Rattle.router_core.specs.Ticking.{Ticked};
+ghost use Rattle.router_tables.specs.Reads.{followed as followed_lem};
 ghost use Rattle.router_core.specs.Visits.{passing_rounds};
 
 use super::visit::Visit;

@@ -1,13 +1,13 @@
 //! Items of grafts: sessions that move here or come back, the question of their target and its answer, and word that
 //! one landed.
 
-ghost use Rattle.std.specs.Prelude.{◌≡◌, ◌<◌, ◌≤◌, ◌^◌, ◌∷◌, [], None, Some, true, is_some, length, count_by, IfOk, OnOk, MatchBool};
+ghost use Rattle.std.specs.Prelude.{◌≡◌, ◌<◌, ◌^◌, ◌∷◌, [], None, Some, true, is_some, length, count_by, IfOk, OnOk, MatchBool};
 ghost use Rattle.ring_net.specs.Posts.{SameEdges};
 ghost use Rattle.graft_steps.specs.declared.item.Item.TheVariants as items;
 ghost use Rattle.graft_steps.specs.Refusals.{admit_refusal};
 ghost use Rattle.graft_model.specs.declared.event.RouterEvent.TheVariants.{TurnBack};
 ghost use Rattle.graft_actors.specs.Items.{IsOnItsWay};
-ghost use Rattle.router_core.specs.Entering.{missing_by, unknown_by};
+ghost use Rattle.router_tables.specs.Entering.{missing_by};
 ghost use Rattle.router_core.specs.Places.{place_at};
 ghost use Rattle.router_core.specs.declared.place.Errand.TheVariants.{Owing};
 ghost use Rattle.router_core.specs.Parts.{RouterInvariant};
@@ -15,20 +15,17 @@ ghost use Rattle.router_core.specs.Reading.{MakesLive, SettlesIn};
 ghost use Rattle.router_core.specs.Rounds.{WritesEvent};
 ghost use Rattle.router_core.specs.Takes.{RouterTakesIt};
 
-use crate::config::Policies;
 use crate::fields::Fields;
 use crate::place::{Errand, Place, hear_answer, is_away, is_vacant};
-use crate::takes::heard::enter;
-use crate::takes::named::find_named;
-use crate::takes::prefixes::due_again;
 use crate::takes::reads::read_all;
 use bgp_session::{Capsule, Session};
-use bgp_types::{From, SessionState, TryCopy};
+use bgp_types::{From, SessionState};
 use graft_actors::{note_dropped, note_router, note_router_sent};
-use graft_edge::{Name, NoMemory, PeeringId, RouterId};
+use graft_edge::{NoMemory, PeeringId, RouterId};
 use graft_model::RouterEvent;
 use graft_steps::{Item, Landed, Outcome, Refusal, admit};
 use ring_net::Post;
+use router_tables::{due_again, enter, missing_policy};
 use session_value::SessionConfig;
 
 /// Returns whether the session in a capsule is of a known peering, is established, and has the initial sequence numbers
@@ -49,30 +46,6 @@ fn is_on_its_way(router: &Fields, capsule: &Capsule) -> bool
         return false;
     }
     config.receive_first.0 == firsts.remote.0
-}
-
-/// Returns a copy of the policy name that a session gives, if the router has no policy of that name.
-fn unknown(policies: &Policies, name: &Option<Name>) -> Result<Option<Name>, NoMemory>
-    ensures { IfOk result (λ unknown. unknown ≡ unknown_by policies.now name.now) }
-{
-    let Some(name) = name else {
-        return Ok(None);
-    };
-    match find_named(policies.as_slice(), name) {
-        Some(_) => Ok(None),
-        None => Ok(Some(name.copy()?)),
-    }
-}
-
-/// Returns the first policy name of a session for which the router has no policy. The import policy comes before the
-/// export policy.
-fn missing_policy(policies: &Policies, config: &SessionConfig) -> Result<Option<Name>, NoMemory>
-    ensures { IfOk result (λ missing. missing ≡ missing_by policies.now config.now) }
-{
-    match unknown(policies, &config.import)? {
-        Some(name) => Ok(Some(name)),
-        None => unknown(policies, &config.export),
-    }
 }
 
 /// Returns why the router refuses a session, if it does.

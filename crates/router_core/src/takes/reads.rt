@@ -5,14 +5,12 @@ ghost use Rattle.ring_net.specs.Posts.{SameEdges};
 ghost use Rattle.router_core.specs.declared.place.Errand.{Errand};
 ghost use Rattle.bgp_session.specs.Running.{RunningSession};
 ghost use Rattle.rib_stages.specs.Values.{rib_of};
-ghost use Rattle.router_core.specs.Entering.{entry_here, EntersAll};
+ghost use Rattle.router_tables.specs.Entering.{entry_here, EntersAll};
 ghost use Rattle.router_core.specs.Places.{RunsAt};
 ghost use Rattle.router_core.specs.Reading.{FollowsStep, KeepsBut, ReadsAll, ReadsNone, ReadsOne};
 
 use crate::fields::Fields;
 use crate::place::{Place, read};
-use crate::takes::heard::enter;
-use crate::takes::prefixes::all_best;
 use bgp_session::{Capsule, ReadStep};
 use bgp_types::{Prefix, Table};
 use graft_actors::note_router;
@@ -20,6 +18,7 @@ use graft_edge::{NoMemory, PeeringId};
 use graft_model::RouterEvent;
 use graft_steps::Item;
 use ring_net::Post;
+use router_tables::{all_best, enter};
 
 /// Sets the entry of each of the prefixes to what the live session at a place brings in.
 fn enter_at(router: &mut Fields, place: usize, prefixes: &[Prefix]) -> Result<(), NoMemory>

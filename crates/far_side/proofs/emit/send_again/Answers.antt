@@ -3,7 +3,7 @@ use Rattle.std.specs.Prelude.{IsNone}
 use Rattle.std.proofs.lemmas.Result.{on_ok_weaker}
 use Rattle.tcp_seq.specs.Endpoint.{EmitsAgain}
 use Rattle.tcp_seq.specs.declared.segment.Segment.{Segment}
-use Rattle.far_side.specs.Remotes.{EmitsOf}
+use Rattle.remote_end.specs.Remotes.{EmitsOf}
 use Rattle.graft_actors.specs.Notes.{WroteOne}
 use Rattle.far_side.proofs.EmitSteps.{late_from, sent_again_each, sent_again_none_each}
 use Rattle.far_side.proofs.emit.send_again.Goals as goal

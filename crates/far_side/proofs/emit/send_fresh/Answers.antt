@@ -4,7 +4,7 @@ use Rattle.ring_net.proofs.TakesEach.{same_edges_self, same_edges_then}
 use Rattle.tcp_seq.specs.Endpoint.{EmitsNext}
 use Rattle.tcp_seq.specs.declared.segment.Segment.{Segment}
 use Rattle.graft_actors.specs.Emissions.{reach_of}
-use Rattle.far_side.specs.Remotes.{EmitsOf}
+use Rattle.remote_end.specs.Remotes.{EmitsOf}
 use Rattle.graft_actors.specs.Notes.{WroteOne}
 use Rattle.far_side.proofs.EmitSteps.{freshly_first, freshly_next, freshly_last, less_left}
 use Rattle.far_side.proofs.emit.send_fresh.Goals as goal

@@ -2,7 +2,7 @@ use Rattle.std.proofs.Common.{◌≡◌, ℕ, List, true, false, arith, ap, refl
 use Rattle.std.specs.Option.{option_copied}
 use Rattle.std.proofs.lemmas.Result.{on_ok_weaker}
 use Rattle.session_value.specs.Cases.{sending}
-use Rattle.far_side.specs.Remotes.{RemoteValue}
+use Rattle.remote_end.specs.Remotes.{RemoteValue}
 use Rattle.far_side.proofs.Takings.{drop_order_each, drop_silent_each, drop_long_each, order_each}
 use Rattle.far_side.proofs.take.take_order.Goals as goal
 

@@ -1,6 +1,7 @@
 use Rattle.std.proofs.Common.{sym, subst}
 use Rattle.graft_model.specs.Setups.{Setup}
-use Rattle.far_side.specs.Fars.{IsFarConfigOf, IsNewFar}
+use Rattle.actor_configs.specs.Fars.{IsFarConfigOf}
+use Rattle.far_side.specs.Fars.{IsNewFar}
 use Rattle.lab_setup.specs.Setups.{setup_of}
 use Rattle.lab_actors.proofs.Begun.{far_first}
 use Rattle.lab_actors.proofs.actors.far_of.Goals as goal

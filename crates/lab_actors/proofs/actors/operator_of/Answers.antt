@@ -1,7 +1,7 @@
 use Rattle.std.proofs.Common.{sym, ap, subst, ◌∙◌}
 use Rattle.graft_model.specs.Setups.{Setup}
 use Rattle.graft_actors.specs.Actors.{Operator}
-use Rattle.operator_core.specs.Scripts.{IsScriptOf}
+use Rattle.actor_configs.specs.Scripts.{IsScriptOf}
 use Rattle.lab_actors.specs.Firsts.{first_own}
 use Rattle.lab_actors.proofs.actors.operator_of.Goals as goal
 

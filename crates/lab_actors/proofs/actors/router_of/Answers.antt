@@ -1,6 +1,6 @@
 use Rattle.std.proofs.Common.{sym, subst}
 use Rattle.graft_model.specs.Setups.{Setup, IsSetup}
-use Rattle.router_core.specs.Configs.{IsRouterConfigOf}
+use Rattle.actor_configs.specs.Configs.{IsRouterConfigOf}
 use Rattle.router_core.specs.Routers.{IsNewRouter}
 use Rattle.lab_setup.specs.Setups.{setup_of}
 use Rattle.node_configs.proofs.Accepted.{is_setup}

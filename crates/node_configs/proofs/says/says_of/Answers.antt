@@ -2,7 +2,7 @@ use Rattle.std.proofs.Common.{◌<◌, ◌++◌, length, take, ap, sym, ◌∙�
 use Rattle.std.specs.Prelude.{Option}
 use Rattle.lab_tables.specs.declared.input.Step.{Step}
 use Rattle.lab_input.proofs.Numbered.{flat_map_numbered}
-use Rattle.far_side.specs.declared.says.Say.{Say}
+use Rattle.actor_configs.specs.declared.says.Say.{Say}
 use Rattle.lab_setup.specs.Said.{bytes_of_step}
 use Rattle.node_configs.specs.Says.{say_if, says_of}
 use Rattle.node_configs.proofs.says.says_of.Goals as goal

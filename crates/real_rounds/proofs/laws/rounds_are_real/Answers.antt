@@ -1,4 +1,4 @@
-use Rattle.router_core.specs.Parts.{carried}
+use Rattle.bgp_session.specs.Running.{carried}
 use Rattle.world_nodes.specs.Nodes.{own}
 use Rattle.real_rounds.proofs.Law.{all_real}
 use Rattle.real_rounds.proofs.laws.rounds_are_real.Goals as goal

@@ -1,4 +1,4 @@
-use Rattle.router_core.specs.Parts.{carried}
+use Rattle.bgp_session.specs.Running.{carried}
 use Rattle.run_clocks.proofs.Law.{all_clocked}
 use Rattle.run_clocks.proofs.laws.journals_are_clocked.Goals as goal
 

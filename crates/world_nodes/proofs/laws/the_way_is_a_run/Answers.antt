@@ -1,4 +1,4 @@
-use Rattle.router_core.specs.Parts.{carried}
+use Rattle.bgp_session.specs.Running.{carried}
 use Rattle.world_nodes.specs.Nodes.{own}
 use Rattle.world_nodes.proofs.WayRuns.{way_ran, way_ordered}
 use Rattle.world_nodes.proofs.laws.the_way_is_a_run.Goals as goal

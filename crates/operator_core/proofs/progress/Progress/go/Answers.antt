@@ -2,20 +2,21 @@ use Rattle.std.proofs.Common.{◌≡◌, ◌+◌, ◌<◌, ◌≤◌, List, ℕ,
 use Rattle.std.specs.Prelude.{All}
 use Rattle.std.specs.Vec.{with_items}
 use Rattle.std.proofs.lemmas.List.{with_items_is}
-use Rattle.operator_core.specs.declared.evacuate.Gift.{Gift}
-use Rattle.operator_core.specs.declared.grafts.Seat.{Seat}
-use Rattle.operator_core.specs.declared.grafts.Slot.{Slot}
-use Rattle.operator_core.specs.Evacuate.{give}
-use Rattle.operator_core.specs.Tasks.{unissued}
-use Rattle.operator_core.specs.Groups.{NumbersFit, IsGroupFrom}
-use Rattle.operator_core.specs.States.{part_of_state}
-use Rattle.operator_core.specs.Turns.{IsHeldUp}
+use Rattle.operator_state.specs.declared.evacuate.Gift.{Gift}
+use Rattle.operator_state.specs.declared.grafts.Seat.{Seat}
+use Rattle.operator_state.specs.declared.grafts.Slot.{Slot}
+use Rattle.operator_state.specs.Evacuate.{give}
+use Rattle.operator_state.specs.Tasks.{unissued}
+use Rattle.operator_state.specs.Groups.{NumbersFit, IsGroupFrom}
+use Rattle.operator_state.specs.States.{part_of_state}
+use Rattle.operator_state.specs.Holds.{IsHeldUp}
 use Rattle.operator_core.specs.Progresses.{progress_state}
-use Rattle.operator_core.proofs.Steps.{as_many_steps}
+use Rattle.operator_state.proofs.Steps.{as_many_steps}
 use Rattle.operator_core.proofs.Results.{differ}
-use Rattle.operator_core.proofs.Gifts.{length_give}
-use Rattle.operator_core.proofs.NextGroup.{group_is_small}
-use Rattle.operator_core.proofs.Goes.{numbers_fit, go_held, go_begins, next_gifts_fit}
+use Rattle.operator_state.proofs.Gifts.{length_give}
+use Rattle.operator_state.proofs.NextGroup.{group_is_small}
+use Rattle.operator_state.proofs.Starts.{numbers_fit}
+use Rattle.operator_core.proofs.Goes.{go_held, go_begins, next_gifts_fit}
 use Rattle.operator_core.proofs.progress.Progress.go.Goals as goal
 
 pub returns-then-is_held_up-clause-ok : goal.returns-then-is_held_up-clause-ok

@@ -1,10 +1,10 @@
 use Rattle.std.proofs.Common.{not, refl, ap, sym, ◌∙◌}
 use Rattle.std.specs.List.{list_any}
-use Rattle.operator_core.specs.Slots.{first_open}
+use Rattle.operator_state.specs.Slots.{first_open}
 use Rattle.operator_core.specs.Progresses.{progress_state}
-use Rattle.operator_core.proofs.Tasks.{any_unissued, none_unissued}
-use Rattle.operator_core.proofs.Steps.{as_many_steps}
-use Rattle.operator_core.proofs.Holds.{held_by_tasks, held_by_graft, held_at_end, only_the_end, last_settle}
+use Rattle.operator_state.proofs.Tasks.{any_unissued, none_unissued}
+use Rattle.operator_state.proofs.Steps.{as_many_steps}
+use Rattle.operator_state.proofs.Holds.{held_by_tasks, held_by_graft, held_at_end, only_the_end, last_settle}
 use Rattle.std.proofs.lemmas.Bool.{eq-eqb, eqb-true}
 use Rattle.operator_core.proofs.progress.Progress.is_held_up.Goals as goal
 
@@ -31,6 +31,7 @@ returns c = (
       (none_unissued c.args.self.now.tasks.items
       (sym (ap (λ tasks. list_any (λ task. not task.issued) tasks) c.as_slice.ensures.value) ∙ sym c.has_unissued.ensures ∙ c.if-has_unissued.false))
       c.first_open.result (c.first_open.ensures ∙ ap first_open c.as_slice-2.ensures.value) (sym c.is_some.ensures ∙ c.if-is_some.false)
-      (last_settle c.args.self.now c.requires.known).0 (last_settle c.args.self.now c.requires.known).1 held
+      (last_settle c.args.self.now.known.setup c.args.self.now.script c.requires.known.script c.requires.known.ended).0
+      (last_settle c.args.self.now.known.setup c.args.self.now.script c.requires.known.script c.requires.known.ended).1 held
       ∙ sym (c.len.ensures ∙ as_many_steps c.args.self.now.known.setup c.args.self.now.script c.requires.known.script)),
 )

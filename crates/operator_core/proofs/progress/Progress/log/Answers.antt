@@ -2,9 +2,9 @@ use Rattle.std.proofs.Common.{◌≡◌, List, ap, subst, ◌∙◌}
 use Rattle.std.specs.Prelude.{IfOk}
 use Rattle.std.specs.List.{flat_map}
 use Rattle.graft_steps.specs.declared.log.GraftEntry.{GraftEntry}
-use Rattle.operator_core.specs.Slots.{entries_in_slot}
+use Rattle.operator_state.specs.Slots.{entries_in_slot}
 use Rattle.operator_core.specs.Progresses.{progress_state}
-use Rattle.operator_core.proofs.GraftLog.{log_is}
+use Rattle.operator_state.proofs.GraftLog.{log_is}
 use Rattle.operator_core.proofs.progress.Progress.log.Goals as goal
 
 pub returns : goal.returns

@@ -2,16 +2,17 @@ use Rattle.std.proofs.Common.{◌≡◌, ◌≤◌, List, ℕ, length, map, ap, 
 use Rattle.std.specs.Prelude.{All}
 use Rattle.std.specs.Vec.{with_items}
 use Rattle.std.proofs.lemmas.List.{with_items_is}
-use Rattle.operator_core.specs.declared.evacuate.Gift.{Gift}
-use Rattle.operator_core.specs.declared.grafts.Seat.{Seat}
-use Rattle.operator_core.specs.declared.grafts.Slot.{Slot}
-use Rattle.operator_core.specs.declared.script.ScriptStep.{ScriptStep}
-use Rattle.operator_core.specs.Grafts.{seat_at}
-use Rattle.operator_core.specs.Slots.{first_slots}
-use Rattle.operator_core.specs.Evacuate.{give}
-use Rattle.operator_core.specs.Groups.{AreNumbers, NumbersFit, IsGroupFrom}
-use Rattle.operator_core.proofs.Gifts.{length_give}
-use Rattle.operator_core.proofs.Goes.{numbers_fit, first_gifts_fit, begins_with}
+use Rattle.operator_state.specs.declared.evacuate.Gift.{Gift}
+use Rattle.operator_state.specs.declared.grafts.Seat.{Seat}
+use Rattle.operator_state.specs.declared.grafts.Slot.{Slot}
+use Rattle.actor_configs.specs.declared.script.ScriptStep.{ScriptStep}
+use Rattle.operator_state.specs.Grafts.{seat_at}
+use Rattle.operator_state.specs.Slots.{first_slots}
+use Rattle.operator_state.specs.Evacuate.{give}
+use Rattle.operator_state.specs.Groups.{AreNumbers, NumbersFit, IsGroupFrom}
+use Rattle.operator_state.proofs.Gifts.{length_give}
+use Rattle.operator_state.proofs.Starts.{numbers_fit, first_fits}
+use Rattle.operator_core.proofs.Goes.{begins_with}
 use Rattle.operator_core.proofs.progress.Progress.new.Goals as goal
 
 pub group_from-requires-clause-numbered : goal.group_from-requires-clause-numbered
@@ -36,7 +37,7 @@ give-requires c =
     (subst (λ (xs : List Seat). IsGroupFrom c.args.script c.as_slice-2.result.now xs 0 c.in_ok-first.first) c.deref.ensures.value c.in_ok-first.ensures) in
     subst (λ (xs : List Slot). All (λ (gift : Gift). (1 ≤ gift.graft) × (gift.graft ≤ length xs)) c.as_slice-3.result.now) (sym c.deref_mut.ensures.value)
     (subst (All (λ (gift : Gift). (1 ≤ gift.graft) × (gift.graft ≤ length c.in_ok-slots.slots.items))) (sym c.as_slice-3.ensures)
-    (first_gifts_fit c.args.known.setup c.args.script c.requires.script c.requires.sound c.in_ok-numbers.numbers
+    (first_fits c.args.known.setup c.args.script c.requires.script c.requires.sound c.in_ok-numbers.numbers
     numbers c.in_ok-seats.seats.items seats c.in_ok-slots.slots.items slots c.in_ok-first.first begins))
 
 pub returns : goal.returns

@@ -2,10 +2,10 @@ use Rattle.std.proofs.Common.{not, ap, sym, subst, ◌∙◌}
 use Rattle.std.specs.List.{list_any}
 use Rattle.settled_check.specs.Firsts.{IsLowestOf}
 use Rattle.settled_check.specs.Left.{IsOpen}
-use Rattle.operator_core.specs.Slots.{first_open}
-use Rattle.operator_core.specs.States.{part_of_state}
+use Rattle.operator_state.specs.Slots.{first_open}
+use Rattle.operator_state.specs.States.{part_of_state}
 use Rattle.operator_core.specs.Progresses.{progress_state}
-use Rattle.operator_core.proofs.Rests.{some_unissued, unissued_there, lowest_open, some_or_none}
+use Rattle.operator_state.proofs.Rests.{some_unissued, unissued_there, lowest_open, some_or_none}
 use Rattle.operator_core.proofs.progress.Progress.outstanding.Goals as goal
 
 pub returns : goal.returns

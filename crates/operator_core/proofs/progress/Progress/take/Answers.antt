@@ -1,5 +1,6 @@
 use Rattle.std.proofs.Common.{◌≡◌, ◌≤◌, sym, subst, length, Some, arith}
-use Rattle.operator_core.specs.Progresses.{progress_state, own_part_of, IsOpenIndex, TakesItem}
+use Rattle.operator_core.specs.Progresses.{progress_state, own_part_of, TakesItem}
+use Rattle.operator_state.specs.Notes.{IsOpenIndex}
 use Rattle.graft_actors.specs.Acts.{IsWelcome}
 use Rattle.operator_core.proofs.Results.{on_ok}
 use Rattle.operator_core.proofs.Calls.{have_seats}

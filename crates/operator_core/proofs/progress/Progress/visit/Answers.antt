@@ -1,5 +1,5 @@
-use Rattle.operator_core.specs.declared.script.ScriptStep.TheVariants.{Settle}
-use Rattle.operator_core.proofs.Lists.{stands_in}
+use Rattle.actor_configs.specs.declared.script.ScriptStep.TheVariants.{Settle}
+use Rattle.operator_state.proofs.Lists.{stands_in}
 use Rattle.operator_core.proofs.Visits.{visit_settle}
 use Rattle.operator_core.proofs.progress.Progress.visit.Goals as goal
 

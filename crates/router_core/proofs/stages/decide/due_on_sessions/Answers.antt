@@ -1,7 +1,7 @@
 use Rattle.std.proofs.Common.{ap, ◌∙◌}
 use Rattle.router_core.specs.Deciding.{is_up_at}
 use Rattle.router_core.specs.declared.fields.Fields.{Fields}
-use Rattle.router_core.proofs.DecideSteps.{adds_next}
+use Rattle.router_tables.proofs.AddSteps.{adds_next}
 use Rattle.router_core.proofs.stages.decide.due_on_sessions.Goals as goal
 
 pub loop-n-preserved : goal.loop-n-preserved

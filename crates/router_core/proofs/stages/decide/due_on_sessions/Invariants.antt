@@ -1,5 +1,6 @@
 use Rattle.std.proofs.Common.{◌≡◌}
-use Rattle.router_core.specs.Deciding.{AddsBelow, is_up_at}
+use Rattle.router_tables.specs.Dues.{AddsBelow}
+use Rattle.router_core.specs.Deciding.{is_up_at}
 use Rattle.router_core.proofs.stages.decide.due_on_sessions.Given as goal
 
 -- it is due on the first so many

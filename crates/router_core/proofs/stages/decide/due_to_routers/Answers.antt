@@ -1,7 +1,8 @@
 use Rattle.std.proofs.Common.{ℕ, ap, arith, not, ◌==◌}
 use Rattle.router_core.specs.Deciding.{is_other_router}
 use Rattle.router_core.specs.declared.fields.Fields.{Fields}
-use Rattle.router_core.proofs.DecideSteps.{adds_next, other_is}
+use Rattle.router_tables.proofs.AddSteps.{adds_next}
+use Rattle.router_core.proofs.DecideSteps.{other_is}
 use Rattle.router_core.proofs.stages.decide.due_to_routers.Goals as goal
 
 pub loop-q-preserved : goal.loop-q-preserved

@@ -1,5 +1,6 @@
 use Rattle.std.proofs.Common.{◌≡◌}
-use Rattle.router_core.specs.Deciding.{AddsBelow, is_other_router}
+use Rattle.router_tables.specs.Dues.{AddsBelow}
+use Rattle.router_core.specs.Deciding.{is_other_router}
 use Rattle.router_core.proofs.stages.decide.due_to_routers.Given as goal
 
 -- it is due to the first so many

@@ -6,7 +6,7 @@ use Rattle.session_value.specs.declared.config.SessionConfig.{SessionConfig}
 use Rattle.update_plan.specs.declared.batch.Batch.{Batch}
 use Rattle.router_core.specs.Parts.{router_part}
 use Rattle.router_core.specs.Places.{place_at}
-use Rattle.router_core.specs.Entering.{rules_by}
+use Rattle.router_tables.specs.Entering.{rules_by}
 use Rattle.router_core.specs.Putting.{PlannedAt}
 use Rattle.router_core.specs.declared.place.Place.{Place}
 use Rattle.router_core.specs.declared.place.Place.TheVariants.{Live}

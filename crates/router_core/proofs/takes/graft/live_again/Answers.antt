@@ -1,7 +1,7 @@
 use Rattle.std.proofs.Common.{Some, refl, sym, ap, subst}
 use Rattle.session_value.specs.Sets.{Prefixes}
 use Rattle.session_places.specs.Places.{with_place}
-use Rattle.router_core.specs.Reading.{IsDueAgain}
+use Rattle.router_tables.specs.Dues.{IsDueAgain}
 use Rattle.router_core.specs.declared.place.Place.{Place}
 use Rattle.router_core.proofs.FollowSteps.{one_set, set_is}
 use Rattle.router_core.proofs.takes.graft.live_again.Goals as goal

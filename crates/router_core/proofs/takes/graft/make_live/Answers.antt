@@ -1,6 +1,6 @@
 use Rattle.std.proofs.Common.{refl, sym, subst}
 use Rattle.session_value.specs.Sets.{Prefixes}
-use Rattle.router_core.specs.Reading.{IsDueAgain}
+use Rattle.router_tables.specs.Dues.{IsDueAgain}
 use Rattle.router_core.proofs.FollowSteps.{one_set, set_is}
 use Rattle.router_core.proofs.takes.graft.make_live.Goals as goal
 

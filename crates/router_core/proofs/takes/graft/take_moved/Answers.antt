@@ -6,7 +6,7 @@ use Rattle.session_value.specs.declared.config.SessionConfig.{SessionConfig}
 use Rattle.graft_steps.specs.Refusals.{admit_refusal}
 use Rattle.graft_steps.specs.Landings.{Landing}
 use Rattle.graft_model.specs.GraftRows.{refusal_of}
-use Rattle.router_core.specs.Entering.{missing_by}
+use Rattle.router_tables.specs.Entering.{missing_by}
 use Rattle.router_core.specs.Parts.{router_part}
 use Rattle.router_core.specs.Places.{place_at}
 use Rattle.router_core.specs.Reading.{KeepsBut, ReadsAll, SettlesIn}

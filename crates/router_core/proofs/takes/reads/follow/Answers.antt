@@ -5,11 +5,11 @@ use Rattle.bgp_session.specs.declared.answers.ReadStep.{ReadStep}
 use Rattle.bgp_session.specs.declared.answers.ReadStep.TheVariants as steps
 use Rattle.rib_stages.specs.Values.{rib_of, table_at}
 use Rattle.graft_model.specs.Points.{at}
-use Rattle.router_core.specs.Entering.{entry_here, EntersAll}
+use Rattle.router_tables.specs.Entering.{entry_here, EntersAll}
 use Rattle.router_core.specs.Places.{RunsAt}
 use Rattle.router_core.specs.Reading.{FollowsStep}
 use Rattle.router_core.specs.declared.fields.Fields.{Fields}
-use Rattle.router_core.proofs.EnterSteps.{enters_none}
+use Rattle.router_tables.proofs.EnterSteps.{enters_none}
 use Rattle.router_core.proofs.FollowSteps.{both_ok, follows_due, follows_same}
 use Rattle.router_core.proofs.takes.reads.follow.Goals as goal
 

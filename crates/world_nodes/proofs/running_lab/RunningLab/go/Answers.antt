@@ -3,7 +3,7 @@ use Rattle.std.proofs.lemmas.Result.{IfOk-weaker}
 use Rattle.ring_net.specs.Shown.{view}
 use Rattle.ring_net.specs.Phases.{Between}
 use Rattle.graft_actors.specs.Acts.{acts}
-use Rattle.router_core.specs.Parts.{carried}
+use Rattle.bgp_session.specs.Running.{carried}
 use Rattle.world_nodes.specs.Nodes.{own, paused}
 use Rattle.world_nodes.proofs.CourseSteps.{if_on, pause_held, pause_size, pause_works, size_in}
 use Rattle.world_nodes.proofs.running_lab.RunningLab.go.Goals as goal

@@ -1,0 +1,4 @@
+pub mod Configs
+pub mod Says
+pub mod Fars
+pub mod Scripts

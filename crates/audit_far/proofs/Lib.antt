@@ -1,0 +1,3 @@
+mod Segments
+mod Rows
+mod Heads

@@ -1,0 +1,6 @@
+mod Keeping
+mod Waiting
+mod Refusals
+mod Orders
+mod Reports
+mod Groups

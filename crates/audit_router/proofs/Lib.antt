@@ -1,0 +1,13 @@
+mod Following
+mod Inversions
+mod Kept
+mod Parcels
+mod Sessions
+mod Putting
+mod Source
+mod Target
+mod TableEvents
+mod Searching
+mod Beginning
+mod Resting
+mod Firsts

@@ -1,6 +1,0 @@
-use Rattle.std.proofs.Common.{◌≡◌, ◌++◌, ◌-◌}
-use Rattle.operator_core.specs.Slots.{unmade_slots}
-use Rattle.operator_core.proofs.grafts.add_unmade.Given as goal
-
-abbrev pub invariant-loop : goal.invariant-loop
-invariant-loop l = l.slots.items ++ unmade_slots (l.count - l.counter) ≡ l.fn.slots.items ++ unmade_slots l.count

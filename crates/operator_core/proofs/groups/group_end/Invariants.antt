@@ -1,7 +1,0 @@
-use Rattle.std.proofs.Common.{ℕ, ◌<◌, ◌≤◌, Some}
-use Rattle.std.specs.Prelude.{◌≢◌, slice_get}
-use Rattle.operator_core.specs.declared.script.ScriptStep.TheVariants.{Settle}
-use Rattle.operator_core.proofs.groups.group_end.Given as goal
-
-abbrev pub invariant-loop-index : goal.invariant-loop-index
-invariant-loop-index l = (n : ℕ) → l.from ≤ n → n < l.index → slice_get l.steps n ≢ Some Settle

@@ -1,0 +1,10 @@
+pub mod Grafts
+pub mod Slots
+pub mod Evacuate
+pub mod Tasks
+pub mod Groups
+pub mod States
+pub mod Keeps
+pub mod Issues
+pub mod Notes
+pub mod Holds

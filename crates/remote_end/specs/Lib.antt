@@ -1,0 +1,2 @@
+pub mod Remotes
+pub mod RemoteInner

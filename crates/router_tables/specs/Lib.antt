@@ -1,0 +1,4 @@
+pub mod Entering
+pub mod Dues
+pub mod Owned
+pub mod Reads
