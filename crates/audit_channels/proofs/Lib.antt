@@ -1,2 +1,0 @@
-mod Empties
-mod Sendings

@@ -1,3 +1,0 @@
-mod Segments
-mod Rows
-mod Heads

@@ -1,6 +1,0 @@
-mod Keeping
-mod Waiting
-mod Refusals
-mod Orders
-mod Reports
-mod Groups

@@ -1,4 +1,0 @@
-pub mod Parts
-pub mod Decides
-pub mod Tasks
-pub mod Opens

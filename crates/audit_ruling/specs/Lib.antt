@@ -1,3 +1,0 @@
-pub mod Rulings
-pub mod Senders
-pub mod Named

@@ -1,3 +1,0 @@
-mod Nowhere
-mod Made
-mod Happening

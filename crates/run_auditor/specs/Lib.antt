@@ -1,9 +1,0 @@
-pub mod States
-pub mod Sound
-pub mod Begins
-pub mod Sent
-pub mod Ruled
-pub mod Steps
-pub mod Replays
-pub mod Audits
-pub mod Clocks
