@@ -87,10 +87,10 @@ module _ (setup : Setup) (script : Script) (is : IsScriptOf setup script) (numbe
 module _ (s : State) (keeps : OperatorInvariant s) (free : IsHeldUp s.setup (part_of_state s) → ⊥) (script : Script) (is : IsScriptOf s.setup script)
     (numbers : List ℕ) (are : AreNumbers (length script.starts) script.steps numbers) (group : Group)
     (begins : IsGroupFrom script numbers s.seats s.next group) where
-  next_others : (n : ℕ) → s.next ≤ n → n < s.next + begins.len → slice_get s.setup.steps n ≢ Some SettleStep
+  pub next_others : (n : ℕ) → s.next ≤ n → n < s.next + begins.len → slice_get s.setup.steps n ≢ Some SettleStep
   next_others = others s.setup script is numbers are s.seats s.next group begins
 
-  next_settle : slice_get s.setup.steps (s.next + begins.len) ≡ Some SettleStep
+  pub next_settle : slice_get s.setup.steps (s.next + begins.len) ≡ Some SettleStep
   next_settle = settle s.setup script is numbers are s.seats s.next group begins
 
   next_gifts : group.gifts ≡ group_gifts s.setup s.seats s.next begins.len
@@ -128,7 +128,7 @@ all_at : {A : Type 0} (P : A → Type 0) (xs : List A) (n : ℕ) (x : A) → All
 all_at P xs n x all e = subst P (get_or_from_slice_get xs n x x e) (all n x (slice_get_within xs n x e))
 
 module _ (setup : Setup) (script : Script) (is : IsScriptOf setup script) (workable : IsWorkable script) where
-  steps_are_sound : StepsAreSound setup
+  pub steps_are_sound : StepsAreSound setup
   steps_are_sound = record {
     says = λ n p bytes e. (
         let w : p < length script.starts = all_at (IsWorkableStep script) script.steps n
@@ -150,7 +150,7 @@ module _ (setup : Setup) (script : Script) (is : IsScriptOf setup script) (worka
         omega arith);
   }
 
-  starts_are_there : (p : ℕ) (peering : PeeringSetup) → slice_get setup.peerings p ≡ Some peering → peering.start < routers_in setup
+  pub starts_are_there : (p : ℕ) (peering : PeeringSetup) → slice_get setup.peerings p ≡ Some peering → peering.start < routers_in setup
   starts_are_there p peering e =
       let f : slice_get script.starts p ≡ Some (record { 0 = peering.start }) =
       ap (λ xs. slice_get xs p) is.starts ∙ slice_get-map (λ (x : PeeringSetup). let id : RouterId = record { 0 = x.start } in id) setup.peerings p
@@ -163,10 +163,10 @@ module _ (setup : Setup) (script : Script) (is : IsScriptOf setup script) (worka
   module _ (numbers : List ℕ) (are : AreNumbers (length script.starts) script.steps numbers)
       (seats : List Seat) (seats_are : seats ≡ map seat_at script.starts) (slots : List Slot)
       (slots_are : slots ≡ first_slots (length script.starts) 0 script.steps) (group : Group) (begins : IsGroupFrom script numbers seats 0 group) where
-    first_others : (n : ℕ) → 0 ≤ n → n < 0 + begins.len → slice_get setup.steps n ≢ Some SettleStep
+    pub first_others : (n : ℕ) → 0 ≤ n → n < 0 + begins.len → slice_get setup.steps n ≢ Some SettleStep
     first_others = others setup script is numbers are seats 0 group begins
 
-    first_settle : slice_get setup.steps (0 + begins.len) ≡ Some SettleStep
+    pub first_settle : slice_get setup.steps (0 + begins.len) ≡ Some SettleStep
     first_settle = settle setup script is numbers are seats 0 group begins
 
     abbrev seats_then : List Seat

@@ -1,42 +1,23 @@
 -- A stage goes from place to place.
 use Rattle.std.proofs.Common.{◌≡◌, ◌≢◌, ℕ, zero, suc, ◌+◌, ◌<◌, ◌≤◌, List, [], ◌∷◌, ◌++◌, length, Bool}
-
 use Rattle.std.proofs.Common.{inl, inr, refl, sym, ap, subst, ◌∙◌, arith, set, None, Option}
-
 use Rattle.std.specs.Prelude.{nat_lt, if◌then◌else◌}
-
 use Rattle.std.proofs.lemmas.List.{get_or-set_same, get_or-set_other}
-
 use Rattle.std.proofs.lemmas.Bool.{cases_lt, lt-ltb, le-ltb}
-
 use Rattle.ring_net.specs.declared.post.Post.{Post}
-
 use Rattle.graft_steps.specs.declared.item.Item.{Item}
-
 use Rattle.bgp_session.specs.Running.{RunningSession}
-
 use Rattle.graft_model.specs.Points.{at}
-
 use Rattle.graft_actors.specs.Emissions.{Tally}
-
 use Rattle.router_tables.proofs.Points.{one_or_other, at_here, at_else}
-
 use Rattle.router_core.specs.Parts.{RouterInvariant}
-
 use Rattle.router_core.specs.Places.{place_of, place_at}
-
 use Rattle.router_core.specs.Rounds.{DidAsRouter}
-
 use Rattle.router_core.specs.Turned.{AreAt}
-
 use Rattle.router_core.specs.Visits.{OnPeering, events_on, none_on, Stage, Visits, Visited}
-
 use Rattle.router_core.specs.declared.fields.Fields.{Fields}
-
 use Rattle.router_core.specs.declared.place.Place.{Place}
-
 use Rattle.router_core.proofs.Dids.{did_same, did_then}
-
 use Rattle.router_core.proofs.RoundLists.{at-append, events_on-append, none_then, on_then, then_none}
 
 -- ---- counts
