@@ -9,4 +9,4 @@ mod whole;
 pub use laws::{all_hold_where_none_fails, worked_expectations};
 pub use values::{key_name, push_got, push_wanted};
 pub use verdict::{Difference, first_difference};
-pub use whole::{TestResult, test_status, tested};
+pub use whole::{TestResult, all_hold, test_status, tested};

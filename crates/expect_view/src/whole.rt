@@ -116,6 +116,28 @@ pub fn tested(alloc: Global, lab: &Lab) -> Result<TestResult, NoMemory>
     })
 }
 
+/// Whether an expectation holds.
+#[tactic(auto, using(crate::proofs::Counts::differs))]
+fn does_hold(alloc: Global, lab: &Lab, expectation: &[ExpectedValue]) -> Result<bool, NoMemory>
+    ensures { IfOk result (λ held. held ≡ holds lab.now expectation.now) }
+{
+    let found = first_difference(alloc, lab, expectation)?;
+    Ok(found.is_none())
+}
+
+/// Returns whether all expectations of a run hold. It says nothing of them.
+pub fn all_hold(alloc: Global, lab: &Lab) -> Result<bool, NoMemory>
+    ensures { IfOk result (λ all. all ≡ all_hold_lem lab.now) }
+{
+    let expects = lab.input.expects.as_slice();
+    for expectation in expects {
+        if !does_hold(alloc, lab, expectation.as_slice())? {
+            return Ok(false);
+        }
+    }
+    Ok(true)
+}
+
 fn is_settled(end: RunEnd) -> bool
     ensures { result ≡ is_settled_lem end }
 {

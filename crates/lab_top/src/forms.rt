@@ -2,13 +2,15 @@
 
 ghost use Rattle.std.specs.Prelude.{◌≡◌, IfOk, string_bytes};
 ghost use Rattle.node_configs.specs.Accepted.{IsAccepted};
-ghost use Rattle.expect_view.specs.Expect.{all_hold};
+ghost use Rattle.report_json.specs.Values.{json_line};
+ghost use Rattle.expect_view.specs.Expect.{all_hold as all_hold_lem, test_text};
+ghost use Rattle.expect_json.specs.Verdicts.{test_json as test_json_lem};
 ghost use Rattle.lab_top.specs.Forms.{accepted_in as accepted_in_lem, IsReportIn, summary_in as summary_in_lem, test_in, timeline_in as timeline_in_lem};
 ghost use Rattle.lab_top.specs.Forms.{show_in as show_in_lem, why_in as why_in_lem};
 
 use bgp_types::Prefix;
 use expect_json::test_json;
-use expect_view::{TestResult, tested};
+use expect_view::{TestResult, all_hold, tested};
 use graft_edge::{Items, NoMemory, Octets, RouterId};
 use lab_answers::{even, sure};
 use lab_report::{Lab, check_text, report, summary};
@@ -69,17 +71,35 @@ pub(crate) struct Told {
     pub all_hold: bool,
 }
 
+/// Says which expectations of a run hold, in lines.
+fn tested_as_text(alloc: Global, lab: &Lab) -> Result<Told, NoMemory>
+    ensures text { IfOk result (λ told. told.text ≡ test_text lab.now) }
+    ensures all { IfOk result (λ told. told.all_hold ≡ all_hold_lem lab.now) }
+{
+    let TestResult { text, all_hold } = tested(alloc, lab)?;
+    let text = octets_of(text);
+    Ok(Told { text, all_hold })
+}
+
+/// Says which expectations of a run hold, as one JSON object.
+fn tested_as_json(alloc: Global, lab: &Lab) -> Result<Told, NoMemory>
+    ensures text { IfOk result (λ told. told.text ≡ json_line (test_json_lem lab.now)) }
+    ensures all { IfOk result (λ told. told.all_hold ≡ all_hold_lem lab.now) }
+{
+    let text = test_json(alloc, lab)?;
+    let all_hold = all_hold(alloc, lab)?;
+    Ok(Told { text, all_hold })
+}
+
 /// Says which expectations of a run hold.
 pub(crate) fn tested_in(alloc: Global, lab: &Lab, form: Form) -> Result<Told, NoMemory>
     ensures text { IfOk result (λ told. told.text ≡ test_in form lab.now) }
-    ensures all { IfOk result (λ told. told.all_hold ≡ all_hold lab.now) }
+    ensures all { IfOk result (λ told. told.all_hold ≡ all_hold_lem lab.now) }
 {
-    let TestResult { text, all_hold } = tested(alloc, lab)?;
-    let text = match form {
-        Form::Plain => octets_of(text),
-        Form::Json => test_json(alloc, lab)?,
-    };
-    Ok(Told { text, all_hold })
+    match form {
+        Form::Plain => tested_as_text(alloc, lab),
+        Form::Json => tested_as_json(alloc, lab),
+    }
 }
 
 /// The timeline of a run.

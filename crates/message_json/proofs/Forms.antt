@@ -1,10 +1,9 @@
--- The values of messages and attributes have no floats.
+-- The values of messages have no floats.
 use Rattle.std.proofs.Common.{ℕ, List, Option, Some, None, Result, Ok, Err, refl}
 use Rattle.serde_json.specs.Data.{string}
 use Rattle.bgp_types.specs.Prefixes.{PrefixValue}
 use Rattle.bgp_types.specs.OpenBody.{as_said}
 use Rattle.bgp_types.specs.Texts.{prefix_text}
-use Rattle.bgp_types.specs.declared.attrs.Aggregator.{Aggregator}
 use Rattle.bgp_types.specs.declared.attrs.Attrs.{Attrs}
 use Rattle.bgp_types.specs.declared.message.Message.{Message}
 use Rattle.bgp_types.specs.declared.message.Message.TheVariants.{OpenMsg, UpdateMsg, NoticeMsg, KeepaliveMsg}
@@ -16,10 +15,7 @@ use Rattle.message_words.specs.Notices.{communication}
 use Rattle.report_json.specs.Values.{count}
 use Rattle.report_json.proofs.NoFloats.{Whole, with, number_whole, text_whole, mapped_whole}
 use Rattle.report_json.proofs.Forms.{path_whole}
-use Rattle.message_json.specs.Attrs.{aggregator_json, raw_json, attrs_json}
 use Rattle.message_json.specs.Messages.{prefixes_json, open_json, some_path_json, update_json, notice_json, message_json, answer_json}
-
--- ---- messages
 
 pub prefixes_whole : (prefixes : List PrefixValue) → Whole (prefixes_json prefixes)
 prefixes_whole prefixes = mapped_whole (λ p. string (prefix_text p)) (λ p. refl) prefixes
@@ -34,7 +30,7 @@ some_path_whole (Some a) = path_whole a.path
 update_whole : (u : Update) → Whole (update_json u)
 update_whole u = with (prefixes_whole u.nlri) (with (some_path_whole u.attrs) (with (prefixes_whole u.withdrawn) refl))
 
-pub notice_whole : (n : Notice) → Whole (notice_json n)
+notice_whole : (n : Notice) → Whole (notice_json n)
 notice_whole n = with (text_whole (fault_name n.code n.subcode)) (with (text_whole (communication n)) refl)
 
 pub message_whole : (message : Message) → Whole (message_json message)
@@ -46,13 +42,3 @@ message_whole KeepaliveMsg = refl
 pub answer_whole : (bytes : List ℕ) (answer : Result Message Notice) → Whole (answer_json bytes answer)
 answer_whole bytes (Ok message) = message_whole message
 answer_whole bytes (Err n) = with (notice_whole n) refl
-
--- ---- attributes
-
-aggregator_whole : (aggregator : Option Aggregator) → Whole (aggregator_json aggregator)
-aggregator_whole None = refl
-aggregator_whole (Some a) = refl
-
-pub attrs_whole : (a : Attrs) → Whole (attrs_json a)
-attrs_whole a =
-    with (aggregator_whole a.aggregator) (with (number_whole a.med) (with (path_whole a.path) (with (mapped_whole raw_json (λ r. refl) a.unknown) refl)))

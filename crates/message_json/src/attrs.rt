@@ -1,77 +1,87 @@
 //! The attributes of a route, as JSON.
 
-ghost use Rattle.std.specs.Prelude.{◌≡◌, map, IfOk};
-ghost use Rattle.serde_json.specs.View.{view};
+ghost use Rattle.std.specs.Prelude.{◌≡◌, map, OnOk};
+ghost use Rattle.report_json.specs.Tokens.{with_value};
 ghost use Rattle.report_json.specs.Values.{list_of};
 ghost use Rattle.message_json.specs.Attrs.{speaker_json, aggregator_json, raw_json, attrs_json};
 
-use crate::messages::octets_value;
+use crate::messages::write_octets;
 use bgp_types::{Aggregator, Attrs, NoMemory, RawAttr};
 use message_words::origin_name;
-use report_json::{address_value, count_or_null, path_value, push_value, put_text};
-use serde_json::{Map, Value, put};
+use report_json::{JsonText, write_address, write_count_or_null, write_path};
 use std::alloc::Global;
 
-/// The speaker that formed an aggregate.
-fn speaker_value(alloc: Global, speaker: Aggregator) -> Result<Value, NoMemory>
-    ensures { IfOk result (λ v. view v ≡ speaker_json speaker) }
+/// Adds the speaker that formed an aggregate.
+fn write_speaker(out: &mut JsonText, alloc: Global, speaker: Aggregator) -> Result<(), NoMemory>
+    ensures { OnOk result (out.new ≡ with_value (speaker_json speaker) out.old) }
 {
-    let address = address_value(alloc, speaker.address)?;
-    let mut map = Map::new(alloc);
-    put(&mut map, alloc, "address", address)?;
-    put(&mut map, alloc, "as", Value::from(speaker.as_number))?;
-    put(&mut map, alloc, "partial", Value::from(speaker.partial))?;
-    Ok(Value::Object(map))
+    out.begin_object()?;
+    out.name("address")?;
+    write_address(out, alloc, speaker.address)?;
+    out.name("as")?;
+    out.number(u64::from(speaker.as_number))?;
+    out.name("partial")?;
+    out.truth(speaker.partial)?;
+    out.end_object()
 }
 
-/// The speaker that formed the aggregate, or null.
-fn aggregator_value(alloc: Global, aggregator: Option<Aggregator>) -> Result<Value, NoMemory>
-    ensures { IfOk result (λ v. view v ≡ aggregator_json aggregator) }
+/// Adds the speaker that formed the aggregate, or null.
+fn write_aggregator(
+    out: &mut JsonText,
+    alloc: Global,
+    aggregator: Option<Aggregator>,
+) -> Result<(), NoMemory>
+    ensures { OnOk result (out.new ≡ with_value (aggregator_json aggregator) out.old) }
 {
     match aggregator {
-        Some(speaker) => speaker_value(alloc, speaker),
-        None => Ok(Value::Null),
+        Some(speaker) => write_speaker(out, alloc, speaker),
+        None => out.null(),
     }
 }
 
-/// An attribute of an unknown type.
-fn raw_value(alloc: Global, raw: &RawAttr) -> Result<Value, NoMemory>
-    ensures { IfOk result (λ v. view v ≡ raw_json raw.now) }
+/// Adds an attribute of an unknown type.
+fn write_raw(out: &mut JsonText, alloc: Global, raw: &RawAttr) -> Result<(), NoMemory>
+    ensures { OnOk result (out.new ≡ with_value (raw_json raw.now) out.old) }
 {
-    let octets = octets_value(alloc, &raw.bytes)?;
-    let mut map = Map::new(alloc);
-    put(&mut map, alloc, "octets", octets)?;
-    put(&mut map, alloc, "partial", Value::from(raw.partial))?;
-    put(&mut map, alloc, "type", Value::from(raw.kind))?;
-    Ok(Value::Object(map))
+    out.begin_object()?;
+    out.name("octets")?;
+    write_octets(out, alloc, &raw.bytes)?;
+    out.name("partial")?;
+    out.truth(raw.partial)?;
+    out.name("type")?;
+    out.number(u64::from(raw.kind))?;
+    out.end_object()
 }
 
-/// Attributes of unknown types.
-fn unknown_value(alloc: Global, unknown: &[RawAttr]) -> Result<Value, NoMemory>
-    ensures { IfOk result (λ v. view v ≡ list_of (map raw_json unknown.now)) }
+/// Adds attributes of unknown types.
+fn write_unknown(out: &mut JsonText, alloc: Global, unknown: &[RawAttr]) -> Result<(), NoMemory>
+    ensures { OnOk result (out.new ≡ with_value (list_of (map raw_json unknown.now)) out.old) }
 {
-    let mut list = Vec::with_capacity(alloc, unknown.len())?;
+    out.begin_list()?;
     for raw in unknown {
-        push_value(&mut list, raw_value(alloc, raw)?)?;
+        write_raw(out, alloc, raw)?;
     }
-    Ok(Value::Array(list))
+    out.end_list()
 }
 
-/// Returns all attributes of a route.
-pub fn attrs_value(alloc: Global, attrs: &Attrs) -> Result<Value, NoMemory>
-    ensures { IfOk result (λ v. view v ≡ attrs_json attrs.now) }
+/// Adds all attributes of a route to a text.
+pub fn write_attrs(out: &mut JsonText, alloc: Global, attrs: &Attrs) -> Result<(), NoMemory>
+    ensures { OnOk result (out.new ≡ with_value (attrs_json attrs.now) out.old) }
 {
-    let path = path_value(alloc, &attrs.path)?;
-    let next_hop = address_value(alloc, attrs.next_hop)?;
-    let aggregator = aggregator_value(alloc, attrs.aggregator)?;
-    let unknown = unknown_value(alloc, &attrs.unknown)?;
-    let mut map = Map::new(alloc);
-    put(&mut map, alloc, "aggregator", aggregator)?;
-    put(&mut map, alloc, "atomic", Value::from(attrs.atomic))?;
-    put(&mut map, alloc, "med", count_or_null(attrs.med))?;
-    put(&mut map, alloc, "next_hop", next_hop)?;
-    put_text(&mut map, alloc, "origin", origin_name(attrs.origin))?;
-    put(&mut map, alloc, "path", path)?;
-    put(&mut map, alloc, "unknown", unknown)?;
-    Ok(Value::Object(map))
+    out.begin_object()?;
+    out.name("aggregator")?;
+    write_aggregator(out, alloc, attrs.aggregator)?;
+    out.name("atomic")?;
+    out.truth(attrs.atomic)?;
+    out.name("med")?;
+    write_count_or_null(out, attrs.med)?;
+    out.name("next_hop")?;
+    write_address(out, alloc, attrs.next_hop)?;
+    out.name("origin")?;
+    out.text(origin_name(attrs.origin))?;
+    out.name("path")?;
+    write_path(out, &attrs.path)?;
+    out.name("unknown")?;
+    write_unknown(out, alloc, &attrs.unknown)?;
+    out.end_object()
 }

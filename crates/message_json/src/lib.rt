@@ -5,5 +5,5 @@
 mod attrs;
 mod messages;
 
-pub use attrs::attrs_value;
-pub use messages::{message_value, notice_value, octets_value, prefixes_value, read_value};
+pub use attrs::write_attrs;
+pub use messages::{message_value, prefixes_value, read_value, write_notice};

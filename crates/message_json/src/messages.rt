@@ -1,10 +1,11 @@
 //! Messages as JSON, and octets as a session reads them.
 
-ghost use Rattle.std.specs.Prelude.{◌≡◌, map, IfOk};
+ghost use Rattle.std.specs.Prelude.{◌≡◌, map, IfOk, OnOk};
 ghost use Rattle.hex.specs.Hex.{encode_lower};
 ghost use Rattle.serde_json.specs.Data.{string};
 ghost use Rattle.serde_json.specs.View.{view};
 ghost use Rattle.bgp_story.specs.Legal.{IsGot};
+ghost use Rattle.report_json.specs.Tokens.{with_value};
 ghost use Rattle.report_json.specs.Values.{count, list_of};
 ghost use Rattle.message_json.specs.Messages.{prefixes_json, open_json, some_path_json, update_json, notice_json, message_json, faulty_json, read_json};
 ghost use Rattle.message_json.specs.Messages.{notification_json, keepalive_json};
@@ -13,7 +14,8 @@ use bgp_types::{Attrs, Cap, Expected, Message, NoMemory, Notice, OpenMsg, Prefix
 use bgp_wire::{CodecFault, as_said};
 use message_words::{communication, fault_name, read_got, type_name};
 use report_json::{
-    address_value, count_or_null, path_value, prefix_value, push_value, put_text, text_or_null,
+    JsonText, address_value, count_or_null, path_value, prefix_value, push_value, put_text,
+    text_or_null, write_text_or_null,
 };
 use serde_json::{Map, Value, put};
 use std::alloc::Global;
@@ -82,15 +84,41 @@ fn update_value(alloc: Global, update: &Update) -> Result<Value, NoMemory>
     Ok(Value::Object(map))
 }
 
-/// Returns octets in hexadecimal.
-pub fn octets_value(alloc: Global, octets: &[u8]) -> Result<Value, NoMemory>
+/// Octets in hexadecimal.
+fn octets_value(alloc: Global, octets: &[u8]) -> Result<Value, NoMemory>
     ensures { IfOk result (λ v. view v ≡ string (encode_lower octets.now)) }
 {
     Ok(Value::from(hex::encode(alloc, octets)?))
 }
 
-/// Returns what a NOTIFICATION tells.
-pub fn notice_value(alloc: Global, notice: &Notice) -> Result<Value, NoMemory>
+/// Adds octets in hexadecimal to a text.
+pub(crate) fn write_octets(out: &mut JsonText, alloc: Global, octets: &[u8]) -> Result<(), NoMemory>
+    ensures { OnOk result (out.new ≡ with_value (string (encode_lower octets.now)) out.old) }
+{
+    let text = hex::encode(alloc, octets)?;
+    out.text(text.as_str())
+}
+
+/// Adds what a NOTIFICATION tells to a text.
+pub fn write_notice(out: &mut JsonText, alloc: Global, notice: &Notice) -> Result<(), NoMemory>
+    ensures { OnOk result (out.new ≡ with_value (notice_json notice.now) out.old) }
+{
+    out.begin_object()?;
+    out.name("code")?;
+    out.number(u64::from(notice.code))?;
+    out.name("data")?;
+    write_octets(out, alloc, &notice.info)?;
+    out.name("name")?;
+    write_text_or_null(out, fault_name(notice.code, notice.subcode))?;
+    out.name("subcode")?;
+    out.number(u64::from(notice.subcode))?;
+    out.name("text")?;
+    write_text_or_null(out, communication(notice))?;
+    out.end_object()
+}
+
+/// What a NOTIFICATION tells.
+fn notice_value(alloc: Global, notice: &Notice) -> Result<Value, NoMemory>
     ensures { IfOk result (λ v. view v ≡ notice_json notice.now) }
 {
     let name = text_or_null(alloc, fault_name(notice.code, notice.subcode))?;

@@ -3,3 +3,4 @@ pub mod Listed
 pub mod NoFloats
 pub mod Shown
 pub mod Walked
+pub mod Tokens

@@ -4,3 +4,4 @@ pub mod Run
 pub mod Traces
 pub mod Summary
 pub mod Worked
+pub mod Tokens

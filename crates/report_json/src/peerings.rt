@@ -2,8 +2,10 @@
 
 ghost use Rattle.std.specs.Prelude.{◌≡◌, ◌++◌, map, IfOk, OnOk};
 ghost use Rattle.serde_json.specs.View.{view};
+ghost use Rattle.report_json.specs.Tokens.{with_value};
 ghost use Rattle.report_json.specs.Run.{holder_json, is_moving, session_json, peering_json, peerings_json};
 
+use crate::text::JsonText;
 use crate::values::{push_value, put_text};
 use graft_edge::NoMemory;
 use lab_report::{Lab, Place, SessionView, place_at, router_name, state_name};
@@ -11,8 +13,8 @@ use lab_tables::{LabInput, PeeringInput};
 use serde_json::{Map, Value, put};
 use std::alloc::Global;
 
-/// Returns the router that holds a session, or null.
-pub fn holder_value(
+/// The router that holds a session, or null.
+pub(crate) fn holder_value(
     alloc: Global,
     input: &LabInput,
     place: Option<Place>,
@@ -22,6 +24,20 @@ pub fn holder_value(
     match place {
         Some(Place::Held(router)) => Ok(Value::try_from_str(alloc, router_name(input, router.0))?),
         Some(Place::Moving) | None => Ok(Value::Null),
+    }
+}
+
+/// Adds the router that holds a session, or null.
+pub fn write_holder(
+    out: &mut JsonText,
+    input: &LabInput,
+    place: Option<Place>,
+) -> Result<(), NoMemory>
+    ensures { OnOk result (out.new ≡ with_value (holder_json input.now place) out.old) }
+{
+    match place {
+        Some(Place::Held(router)) => out.text(router_name(input, router.0)),
+        Some(Place::Moving) | None => out.null(),
     }
 }
 

@@ -3,8 +3,10 @@
 ghost use Rattle.std.specs.Prelude.{◌≡◌, ◌++◌, map, slice_get, IfOk, OnOk};
 ghost use Rattle.serde_json.specs.View.{view};
 ghost use Rattle.report_json.specs.Run.{ases_json, part_json, path_json, from_kind, from_name, from_json, best_json, table_json, router_json, routers_json};
+ghost use Rattle.report_json.specs.Tokens.{with_value, with_values};
 ghost use Rattle.report_json.specs.Values.{list_of};
 
+use crate::text::JsonText;
 use crate::values::{prefix_value, push_value, put_text};
 use bgp_types::{AsPath, From, PathPart};
 use graft_edge::NoMemory;
@@ -56,6 +58,49 @@ pub fn path_value(alloc: Global, path: &AsPath) -> Result<Value, NoMemory>
     Ok(Value::Array(list))
 }
 
+/// Adds the ASes of a sequence to a list.
+fn write_ases(out: &mut JsonText, ases: &[u32]) -> Result<(), NoMemory>
+    ensures { OnOk result (out.new ≡ with_values (ases_json ases.now) out.old) }
+{
+    for as_number in ases {
+        out.number(u64::from(*as_number))?;
+    }
+    Ok(())
+}
+
+/// Adds a set of ASes.
+#[tactic(auto, using(crate::proofs::Tokens::with_all))]
+fn write_set(out: &mut JsonText, ases: &[u32]) -> Result<(), NoMemory>
+    ensures { OnOk result (out.new ≡ with_value (list_of (ases_json ases.now)) out.old) }
+{
+    out.begin_list()?;
+    write_ases(out, ases)?;
+    out.end_list()
+}
+
+/// Adds the ASes of a sequence, or a set, to a list.
+fn write_part(out: &mut JsonText, part: &PathPart) -> Result<(), NoMemory>
+    ensures { OnOk result (out.new ≡ with_values (part_json part.now) out.old) }
+{
+    match part {
+        PathPart::Sequence(ases) => write_ases(out, ases),
+        PathPart::Set(ases) => write_set(out, ases),
+    }
+}
+
+/// Adds a path to a text.
+#[tactic(auto, using(crate::proofs::Tokens::with_more))]
+pub fn write_path(out: &mut JsonText, path: &AsPath) -> Result<(), NoMemory>
+    ensures { OnOk result (out.new ≡ with_value (path_json path.now) out.old) }
+{
+    let parts = path.as_slice();
+    out.begin_list()?;
+    for part in parts {
+        write_part(out, part)?;
+    }
+    out.end_list()
+}
+
 // ---- best routes
 
 /// The kind of what a route comes from.
@@ -89,6 +134,29 @@ pub fn from_value(alloc: Global, input: &LabInput, from: From) -> Result<Value, 
     put_text(&mut map, alloc, "kind", kind_of(from))?;
     put(&mut map, alloc, "name", name)?;
     Ok(Value::Object(map))
+}
+
+/// Adds the name of what a route comes from, or null for an own network.
+fn write_from_name(out: &mut JsonText, input: &LabInput, from: From) -> Result<(), NoMemory>
+    ensures { OnOk result (out.new ≡ with_value (from_name input.now from) out.old) }
+{
+    match from {
+        From::Own => out.null(),
+        From::Peering(peering) => out.text(peering_name(input, peering.0)),
+        From::Router(router) => out.text(router_name(input, router.0)),
+    }
+}
+
+/// Adds what a route comes from to a text.
+pub fn write_from(out: &mut JsonText, input: &LabInput, from: From) -> Result<(), NoMemory>
+    ensures { OnOk result (out.new ≡ with_value (from_json input.now from) out.old) }
+{
+    out.begin_object()?;
+    out.name("kind")?;
+    out.text(kind_of(from))?;
+    out.name("name")?;
+    write_from_name(out, input, from)?;
+    out.end_object()
 }
 
 /// A best route.

@@ -1,13 +1,15 @@
 //! The report of a run, as JSON.
 
-ghost use Rattle.std.specs.Prelude.{◌≡◌, IfOk};
+ghost use Rattle.std.specs.Prelude.{◌≡◌, IfOk, OnOk};
 ghost use Rattle.serde_json.specs.View.{view};
 ghost use Rattle.report_json.specs.Run.{settled_json, unsettled_json, stream_full_json, journal_full_json, end_json, report_json as report_json_lem};
+ghost use Rattle.report_json.specs.Tokens.{with_value};
 ghost use Rattle.report_json.specs.Traces.{IsReportJson};
 
 use crate::grafts::grafts_value;
 use crate::peerings::peerings_value;
 use crate::routers::routers_value;
+use crate::text::JsonText;
 use crate::traces::traces_value;
 use crate::values::{json_line, put_text};
 use graft_edge::{NoMemory, Octets};
@@ -67,6 +69,66 @@ pub fn end_value(alloc: Global, input: &LabInput, end: RunEnd) -> Result<Value, 
             stream_full_value(alloc, peering_name(input, peering.0), length)
         }
         RunEnd::JournalFull { events } => journal_full_value(alloc, events),
+    }
+}
+
+fn write_settled(out: &mut JsonText) -> Result<(), NoMemory>
+    ensures { OnOk result (out.new ≡ with_value settled_json out.old) }
+{
+    out.begin_object()?;
+    out.name("end")?;
+    out.text("settled")?;
+    out.end_object()
+}
+
+fn write_unsettled(out: &mut JsonText, step: u32, rounds: u32) -> Result<(), NoMemory>
+    ensures { OnOk result (out.new ≡ with_value (unsettled_json step rounds) out.old) }
+{
+    out.begin_object()?;
+    out.name("end")?;
+    out.text("unsettled")?;
+    out.name("rounds")?;
+    out.number(u64::from(rounds))?;
+    out.name("step")?;
+    out.number(u64::from(step))?;
+    out.end_object()
+}
+
+fn write_stream_full(out: &mut JsonText, peering: &str, length: u32) -> Result<(), NoMemory>
+    ensures { OnOk result (out.new ≡ with_value (stream_full_json peering.now length) out.old) }
+{
+    out.begin_object()?;
+    out.name("end")?;
+    out.text("stream-full")?;
+    out.name("length")?;
+    out.number(u64::from(length))?;
+    out.name("peering")?;
+    out.text(peering)?;
+    out.end_object()
+}
+
+fn write_journal_full(out: &mut JsonText, events: u64) -> Result<(), NoMemory>
+    ensures { OnOk result (out.new ≡ with_value (journal_full_json events) out.old) }
+{
+    out.begin_object()?;
+    out.name("end")?;
+    out.text("journal-full")?;
+    out.name("events")?;
+    out.number(events)?;
+    out.end_object()
+}
+
+/// Adds how the run ended to a text.
+pub fn write_end(out: &mut JsonText, input: &LabInput, end: RunEnd) -> Result<(), NoMemory>
+    ensures { OnOk result (out.new ≡ with_value (end_json input.now end) out.old) }
+{
+    match end {
+        RunEnd::Settled => write_settled(out),
+        RunEnd::Unsettled { step, rounds, .. } => write_unsettled(out, step, rounds),
+        RunEnd::StreamFull { peering, length } => {
+            write_stream_full(out, peering_name(input, peering.0), length)
+        }
+        RunEnd::JournalFull { events } => write_journal_full(out, events),
     }
 }
 

@@ -1,6 +1,6 @@
 //! JSON values by their parts, and the line of one.
 
-ghost use Rattle.std.specs.Prelude.{◌≡◌, [], ◌∷◌, ◌++◌, false, map, option_map, IfOk, OnOk};
+ghost use Rattle.std.specs.Prelude.{◌≡◌, [], ◌∷◌, ◌++◌, false, map, option_map, IfOk, OnOk, string_bytes};
 ghost use Rattle.serde_json.specs.Data.{string, put as with_member};
 ghost use Rattle.serde_json.specs.View.{view, members_view};
 ghost use Rattle.serde_json.specs.Written.{has_float};
@@ -34,23 +34,37 @@ pub fn push_value(list: &mut Vec<Value>, value: Value) -> Result<(), NoMemory>
     Ok(())
 }
 
+/// The text of a prefix.
+pub(crate) fn prefix_string(alloc: Global, prefix: Prefix) -> Result<String, NoMemory>
+    ensures { IfOk result (λ s. string_bytes s ≡ prefix_text prefix) }
+{
+    let mut text = String::new(alloc);
+    write!(text, "{prefix}")?;
+    Ok(text)
+}
+
+/// The text of an address.
+pub(crate) fn address_string(alloc: Global, address: u32) -> Result<String, NoMemory>
+    ensures { IfOk result (λ s. string_bytes s ≡ address_text address) }
+{
+    let address = Address(address);
+    let mut text = String::new(alloc);
+    write!(text, "{address}")?;
+    Ok(text)
+}
+
 /// Returns a prefix.
 pub fn prefix_value(alloc: Global, prefix: Prefix) -> Result<Value, NoMemory>
     ensures { IfOk result (λ v. view v ≡ string (prefix_text prefix)) }
 {
-    let mut text = String::new(alloc);
-    write!(text, "{prefix}")?;
-    Ok(Value::from(text))
+    Ok(Value::from(prefix_string(alloc, prefix)?))
 }
 
 /// Returns an address.
 pub fn address_value(alloc: Global, address: u32) -> Result<Value, NoMemory>
     ensures { IfOk result (λ v. view v ≡ string (address_text address)) }
 {
-    let address = Address(address);
-    let mut text = String::new(alloc);
-    write!(text, "{address}")?;
-    Ok(Value::from(text))
+    Ok(Value::from(address_string(alloc, address)?))
 }
 
 /// Returns a number, or null.

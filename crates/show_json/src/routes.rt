@@ -1,229 +1,249 @@
 //! Routes with all attributes, before and after import policies, as JSON.
 
-ghost use Rattle.std.specs.Prelude.{◌≡◌, ◌+◌, ℕ, List, Some, map, IfOk};
+ghost use Rattle.std.specs.Prelude.{◌≡◌, ◌+◌, ℕ, List, Some, map, OnOk};
 ghost use Rattle.bgp_story.specs.declared.line.Line.{Line};
 ghost use Rattle.lab_tables.specs.declared.input.RouterInput.{RouterInput};
-ghost use Rattle.report_json.specs.Values.{list_of, text_or_null as text_or_null_lem};
-ghost use Rattle.serde_json.specs.View.{view};
+ghost use Rattle.report_json.specs.Tokens.{with_value};
+ghost use Rattle.report_json.specs.Values.{list_of, text_or_null};
 ghost use Rattle.why_view.specs.Sources.{import_rules};
-ghost use Rattle.show_json.specs.Routes.{rule_number, best_json, entry_json, import_json, looped_json, denied_json, kept_out_json, let_in_json};
+ghost use Rattle.show_json.specs.Routes.{rule_number, best_json, entry_json, looped_json, denied_json, kept_out_json, let_in_json};
 ghost use Rattle.show_json.specs.Routes.{accepted_json, imported_json, heard_with, heard_json};
 ghost use Rattle.serde_json.specs.Data.{null};
 
 use bgp_types::{Name, NoMemory, Route};
 use lab_report::BestEntry;
 use lab_tables::{LabInput, PeeringInput};
-use message_json::attrs_value;
-use report_json::{from_value, prefix_value, push_value, put_text};
+use message_json::write_attrs;
+use report_json::{JsonText, write_from, write_prefix};
 use route_policy::Policy;
-use serde_json::{Map, Value, put};
 use show_view::{AttrsEntry, denying_rule, let_in};
 use std::alloc::Global;
 use why_view::is_loop;
 
-/// The number of a rule, from 1, or null.
-pub(crate) fn rule_value(index: Option<usize>) -> Result<Value, NoMemory>
-    ensures { IfOk result (λ v. view v ≡ rule_number index) }
+/// Adds the number of a rule, from 1, or null.
+pub(crate) fn write_rule(out: &mut JsonText, index: Option<usize>) -> Result<(), NoMemory>
+    ensures { OnOk result (out.new ≡ with_value (rule_number index) out.old) }
 {
     match index {
-        Some(index) => Ok(Value::from(index.checked_add(1).ok_or(NoMemory)?)),
-        None => Ok(Value::Null),
+        Some(index) => out.number(index.checked_add(1).ok_or(NoMemory)? as u64),
+        None => out.null(),
     }
 }
 
-/// A name, or null.
-pub(crate) fn name_value(alloc: Global, name: &Option<Name>) -> Result<Value, NoMemory>
-    ensures { IfOk result (λ v. view v ≡ text_or_null_lem name.now) }
+/// Adds a name, or null.
+pub(crate) fn write_name(out: &mut JsonText, name: &Option<Name>) -> Result<(), NoMemory>
+    ensures { OnOk result (out.new ≡ with_value (text_or_null name.now) out.old) }
 {
     match name {
-        Some(name) => Ok(Value::try_from_str(alloc, name.as_str())?),
-        None => Ok(Value::Null),
+        Some(name) => out.text(name.as_str()),
+        None => out.null(),
     }
 }
 
-/// A best route.
-fn best_value(alloc: Global, input: &LabInput, best: &BestEntry) -> Result<Value, NoMemory>
-    ensures { IfOk result (λ v. view v ≡ best_json input.now best.now) }
+/// Adds a best route.
+fn write_best(
+    out: &mut JsonText,
+    alloc: Global,
+    input: &LabInput,
+    best: &BestEntry,
+) -> Result<(), NoMemory>
+    ensures { OnOk result (out.new ≡ with_value (best_json input.now best.now) out.old) }
 {
-    let prefix = prefix_value(alloc, best.prefix)?;
-    let from = from_value(alloc, input, best.from)?;
-    let attrs = attrs_value(alloc, &best.route.attrs)?;
-    let mut map = Map::new(alloc);
-    put(&mut map, alloc, "attrs", attrs)?;
-    put(&mut map, alloc, "from", from)?;
-    put(&mut map, alloc, "pref", Value::from(best.route.pref))?;
-    put(&mut map, alloc, "prefix", prefix)?;
-    Ok(Value::Object(map))
+    out.begin_object()?;
+    out.name("attrs")?;
+    write_attrs(out, alloc, &best.route.attrs)?;
+    out.name("from")?;
+    write_from(out, input, best.from)?;
+    out.name("pref")?;
+    out.number(u64::from(best.route.pref))?;
+    out.name("prefix")?;
+    write_prefix(out, alloc, best.prefix)?;
+    out.end_object()
 }
 
-/// Best routes.
-pub(crate) fn bests_value(
+/// Adds best routes.
+pub(crate) fn write_bests(
+    out: &mut JsonText,
     alloc: Global,
     input: &LabInput,
     table: &[BestEntry],
-) -> Result<Value, NoMemory>
-    ensures { IfOk result (λ v. view v ≡ list_of (map (best_json input.now) table.now)) }
+) -> Result<(), NoMemory>
+    ensures { OnOk result (out.new ≡ with_value (list_of (map (best_json input.now) table.now)) out.old) }
 {
-    let mut list = Vec::with_capacity(alloc, table.len())?;
+    out.begin_list()?;
     for best in table {
-        push_value(&mut list, best_value(alloc, input, best)?)?;
+        write_best(out, alloc, input, best)?;
     }
-    Ok(Value::Array(list))
+    out.end_list()
 }
 
-/// A route of which only attributes are said.
-pub(crate) fn entry_value(alloc: Global, entry: &AttrsEntry) -> Result<Value, NoMemory>
-    ensures { IfOk result (λ v. view v ≡ entry_json entry.now) }
+/// Adds a route of which only attributes are said.
+pub(crate) fn write_entry(
+    out: &mut JsonText,
+    alloc: Global,
+    entry: &AttrsEntry,
+) -> Result<(), NoMemory>
+    ensures { OnOk result (out.new ≡ with_value (entry_json entry.now) out.old) }
 {
-    let prefix = prefix_value(alloc, entry.0)?;
-    let attrs = attrs_value(alloc, &entry.1)?;
-    let mut map = Map::new(alloc);
-    put(&mut map, alloc, "attrs", attrs)?;
-    put(&mut map, alloc, "prefix", prefix)?;
-    Ok(Value::Object(map))
+    out.begin_object()?;
+    out.name("attrs")?;
+    write_attrs(out, alloc, &entry.1)?;
+    out.name("prefix")?;
+    write_prefix(out, alloc, entry.0)?;
+    out.end_object()
 }
 
 // ---- what a session heard
 
-/// What was made of a route that was heard.
-fn import_value(
-    alloc: Global,
-    word: &str,
-    attrs: Value,
-    pref: Value,
-    policy: Value,
-    rule: Value,
-) -> Result<Value, NoMemory>
-    ensures { IfOk result (λ v. view v ≡ import_json word.now (view attrs) (view pref) (view policy) (view rule)) }
+/// Adds that the path of a route has the home AS.
+fn write_looped(out: &mut JsonText) -> Result<(), NoMemory>
+    ensures { OnOk result (out.new ≡ with_value looped_json out.old) }
 {
-    let mut map = Map::new(alloc);
-    put(&mut map, alloc, "attrs", attrs)?;
-    put(&mut map, alloc, "policy", policy)?;
-    put(&mut map, alloc, "pref", pref)?;
-    put_text(&mut map, alloc, "result", word)?;
-    put(&mut map, alloc, "rule", rule)?;
-    Ok(Value::Object(map))
+    out.begin_object()?;
+    out.name("attrs")?;
+    out.null()?;
+    out.name("policy")?;
+    out.null()?;
+    out.name("pref")?;
+    out.null()?;
+    out.name("result")?;
+    out.text("looped")?;
+    out.name("rule")?;
+    out.null()?;
+    out.end_object()
 }
 
-/// A route whose path has the home AS.
-fn looped_value(alloc: Global) -> Result<Value, NoMemory>
-    ensures { IfOk result (λ v. view v ≡ looped_json) }
-{
-    import_value(
-        alloc,
-        "looped",
-        Value::Null,
-        Value::Null,
-        Value::Null,
-        Value::Null,
-    )
-}
-
-/// A route that the import policy denied.
-fn denied_value(
-    alloc: Global,
+/// Adds which rule of the import policy denied a route.
+fn write_denied(
+    out: &mut JsonText,
     peering: &PeeringInput,
     policy: &Option<Policy>,
     entry: &AttrsEntry,
-) -> Result<Value, NoMemory>
+) -> Result<(), NoMemory>
     ensures { (router : RouterInput) → policy.now ≡ import_rules router peering.now.«import»
-        → IfOk result (λ v. view v ≡ denied_json router peering.now entry.now) }
+        → OnOk result (out.new ≡ with_value (denied_json router peering.now entry.now) out.old) }
 {
-    let rule = rule_value(denying_rule(policy, entry)?)?;
-    let name = name_value(alloc, &peering.import)?;
-    import_value(alloc, "denied", Value::Null, Value::Null, name, rule)
+    let rule = denying_rule(policy, entry)?;
+    out.begin_object()?;
+    out.name("attrs")?;
+    out.null()?;
+    out.name("policy")?;
+    write_name(out, &peering.import)?;
+    out.name("pref")?;
+    out.null()?;
+    out.name("result")?;
+    out.text("denied")?;
+    out.name("rule")?;
+    write_rule(out, rule)?;
+    out.end_object()
 }
 
-/// A route that was kept out.
-fn kept_out_value(
-    alloc: Global,
+/// Adds why a route was kept out.
+fn write_kept_out(
+    out: &mut JsonText,
     input: &LabInput,
     peering: &PeeringInput,
     policy: &Option<Policy>,
     entry: &AttrsEntry,
-) -> Result<Value, NoMemory>
+) -> Result<(), NoMemory>
     ensures { (router : RouterInput) → policy.now ≡ import_rules router peering.now.«import»
-        → IfOk result (λ v. view v ≡ kept_out_json input.now router peering.now entry.now) }
+        → OnOk result (out.new ≡ with_value (kept_out_json input.now router peering.now entry.now) out.old) }
 {
     if is_loop(input, &entry.1) {
-        return looped_value(alloc);
+        return write_looped(out);
     }
-    denied_value(alloc, peering, policy, entry)
+    write_denied(out, peering, policy, entry)
 }
 
-/// A route that was let in.
-fn accepted_value(alloc: Global, route: &Route) -> Result<Value, NoMemory>
-    ensures { IfOk result (λ v. view v ≡ accepted_json route.now) }
+/// Adds what was let in of a route.
+fn write_accepted(out: &mut JsonText, alloc: Global, route: &Route) -> Result<(), NoMemory>
+    ensures { OnOk result (out.new ≡ with_value (accepted_json route.now) out.old) }
 {
-    let attrs = attrs_value(alloc, &route.attrs)?;
-    let pref = Value::from(route.pref);
-    import_value(alloc, "accepted", attrs, pref, Value::Null, Value::Null)
+    out.begin_object()?;
+    out.name("attrs")?;
+    write_attrs(out, alloc, &route.attrs)?;
+    out.name("policy")?;
+    out.null()?;
+    out.name("pref")?;
+    out.number(u64::from(route.pref))?;
+    out.name("result")?;
+    out.text("accepted")?;
+    out.name("rule")?;
+    out.null()?;
+    out.end_object()
 }
 
-/// What was let in of a route, or why nothing was.
-fn let_in_value(
+/// Adds what was let in of a route, or why nothing was.
+fn write_let_in(
+    out: &mut JsonText,
     alloc: Global,
     input: &LabInput,
     peering: &PeeringInput,
     policy: &Option<Policy>,
     entry: &AttrsEntry,
     route: &Option<Route>,
-) -> Result<Value, NoMemory>
+) -> Result<(), NoMemory>
     ensures { (router : RouterInput) → policy.now ≡ import_rules router peering.now.«import»
-        → IfOk result (λ v. view v ≡ let_in_json input.now router peering.now entry.now route.now) }
+        → OnOk result (out.new ≡ with_value (let_in_json input.now router peering.now entry.now route.now) out.old) }
 {
     match route {
-        Some(route) => accepted_value(alloc, route),
-        None => kept_out_value(alloc, input, peering, policy, entry),
+        Some(route) => write_accepted(out, alloc, route),
+        None => write_kept_out(out, input, peering, policy, entry),
     }
 }
 
-/// What the import policy of a session makes of a route that it heard.
-fn imported_value(
+/// Adds what the import policy of a session makes of a route that it heard.
+fn write_imported(
+    out: &mut JsonText,
     alloc: Global,
     input: &LabInput,
     peering: &PeeringInput,
     policy: &Option<Policy>,
     entry: &AttrsEntry,
-) -> Result<Value, NoMemory>
+) -> Result<(), NoMemory>
     ensures { (router : ℕ × RouterInput) (number : ℕ) (lines : List Line) → policy.now ≡ import_rules router.1 peering.now.«import»
-        → IfOk result (λ v. view v ≡ imported_json input.now (Some router) (number, peering.now) lines entry.now) }
+        → OnOk result (out.new ≡ with_value (imported_json input.now (Some router) (number, peering.now) lines entry.now) out.old) }
 {
     let route = let_in(input, peering.remote_as, policy, entry.0, &entry.1)?;
-    let_in_value(alloc, input, peering, policy, entry, &route)
+    write_let_in(out, alloc, input, peering, policy, entry, &route)
 }
 
-/// A route that a session heard, with what was made of it.
-fn with_import(alloc: Global, entry: &AttrsEntry, made: Value) -> Result<Value, NoMemory>
-    ensures { IfOk result (λ v. view v ≡ heard_with entry.now (view made)) }
-{
-    let prefix = prefix_value(alloc, entry.0)?;
-    let attrs = attrs_value(alloc, &entry.1)?;
-    let mut map = Map::new(alloc);
-    put(&mut map, alloc, "attrs", attrs)?;
-    put(&mut map, alloc, "import", made)?;
-    put(&mut map, alloc, "prefix", prefix)?;
-    Ok(Value::Object(map))
-}
-
-/// A route that a session heard, before and after the import policy of the router that holds it.
-pub(crate) fn heard_value(
+/// Adds a route that a session heard, before and after the import policy of the router that holds it.
+pub(crate) fn write_heard(
+    out: &mut JsonText,
     alloc: Global,
     input: &LabInput,
     peering: &PeeringInput,
     policy: &Option<Policy>,
     entry: &AttrsEntry,
-) -> Result<Value, NoMemory>
+) -> Result<(), NoMemory>
     ensures { (router : ℕ × RouterInput) (number : ℕ) (lines : List Line) → policy.now ≡ import_rules router.1 peering.now.«import»
-        → IfOk result (λ v. view v ≡ heard_json input.now (Some router) (number, peering.now) lines entry.now) }
+        → OnOk result (out.new ≡ with_value (heard_json input.now (Some router) (number, peering.now) lines entry.now) out.old) }
 {
-    let import = imported_value(alloc, input, peering, policy, entry)?;
-    with_import(alloc, entry, import)
+    out.begin_object()?;
+    out.name("attrs")?;
+    write_attrs(out, alloc, &entry.1)?;
+    out.name("import")?;
+    write_imported(out, alloc, input, peering, policy, entry)?;
+    out.name("prefix")?;
+    write_prefix(out, alloc, entry.0)?;
+    out.end_object()
 }
 
-/// A route that a session heard, which no router holds.
-pub(crate) fn heard_alone(alloc: Global, entry: &AttrsEntry) -> Result<Value, NoMemory>
-    ensures { IfOk result (λ v. view v ≡ heard_with entry.now null) }
+/// Adds a route that a session heard, which no router holds.
+pub(crate) fn write_heard_alone(
+    out: &mut JsonText,
+    alloc: Global,
+    entry: &AttrsEntry,
+) -> Result<(), NoMemory>
+    ensures { OnOk result (out.new ≡ with_value (heard_with entry.now null) out.old) }
 {
-    with_import(alloc, entry, Value::Null)
+    out.begin_object()?;
+    out.name("attrs")?;
+    write_attrs(out, alloc, &entry.1)?;
+    out.name("import")?;
+    out.null()?;
+    out.name("prefix")?;
+    write_prefix(out, alloc, entry.0)?;
+    out.end_object()
 }

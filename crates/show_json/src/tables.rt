@@ -1,87 +1,91 @@
 //! The routes of a session, as JSON.
 
-ghost use Rattle.std.specs.Prelude.{◌≡◌, [], ℕ, List, None, Some, map, IfOk};
+ghost use Rattle.std.specs.Prelude.{◌≡◌, [], ℕ, List, None, Some, map, OnOk};
 ghost use Rattle.bgp_story.specs.declared.line.Line.{Line};
 ghost use Rattle.bgp_story.specs.Legal.{got_open};
 ghost use Rattle.lab_report.specs.declared.lab.Lab.{Lab as LabValue};
 ghost use Rattle.lab_tables.specs.declared.input.RouterInput.{RouterInput as RouterValue};
+ghost use Rattle.report_json.specs.Tokens.{with_value};
 ghost use Rattle.report_json.specs.Values.{list_of};
-ghost use Rattle.serde_json.specs.View.{view};
 ghost use Rattle.why_view.specs.Sources.{import_rules};
 ghost use Rattle.why_view.specs.Stories.{story_peering};
 ghost use Rattle.show_view.specs.Show.{holder_of};
 ghost use Rattle.show_json.specs.Routes.{entry_json, heard_with, heard_json, all_untold};
 ghost use Rattle.serde_json.specs.Data.{null};
-ghost use Rattle.show_json.specs.Show.{routes_json, tables_json};
+ghost use Rattle.show_json.specs.Show.{tables_json};
 
-use crate::routes::{entry_value, heard_alone, heard_value};
-use crate::untold::untold_values;
+use crate::routes::{write_entry, write_heard, write_heard_alone};
+use crate::untold::write_left;
 use adj_rib::AdjRib;
 use bgp_story::Story;
 use bgp_types::{NoMemory, OpenMsg, PeeringId, RouterId, SessionState};
 use lab_report::{Lab, Place};
 use lab_tables::{LabInput, PeeringInput, RouterInput};
-use report_json::push_value;
+use report_json::JsonText;
 use route_policy::{OutView, Policy};
-use serde_json::{Map, Value, put};
 use show_view::{
     AttrsEntry, best_in, entries_of, holder_number, is_established, router_at, told_on,
 };
 use std::alloc::Global;
 use why_view::{import_policy, routes_on};
 
-/// The routes that a session heard, with what the import policy of its router makes of them.
-fn all_heard(
+/// Adds the routes that a session heard, with what the import policy of its router makes of them.
+fn write_all_heard(
+    out: &mut JsonText,
     alloc: Global,
     input: &LabInput,
     peering: &PeeringInput,
     policy: &Option<Policy>,
     entries: &[AttrsEntry],
-) -> Result<Value, NoMemory>
+) -> Result<(), NoMemory>
     ensures { (router : ℕ × RouterValue) (number : ℕ) (lines : List Line) → policy.now ≡ import_rules router.1 peering.now.«import»
-        → IfOk result (λ v. view v ≡ list_of (map (heard_json input.now (Some router) (number, peering.now) lines) entries.now)) }
+        → OnOk result (out.new
+        ≡ with_value (list_of (map (heard_json input.now (Some router) (number, peering.now) lines) entries.now)) out.old) }
 {
-    let mut list = Vec::with_capacity(alloc, entries.len())?;
+    out.begin_list()?;
     for entry in entries {
-        push_value(
-            &mut list,
-            heard_value(alloc, input, peering, policy, entry)?,
-        )?;
+        write_heard(out, alloc, input, peering, policy, entry)?;
     }
-    Ok(Value::Array(list))
+    out.end_list()
 }
 
-/// The routes that a session heard, which no router holds.
-fn all_heard_alone(alloc: Global, entries: &[AttrsEntry]) -> Result<Value, NoMemory>
-    ensures { IfOk result (λ v. view v ≡ list_of (map (λ e. heard_with e null) entries.now)) }
+/// Adds the routes that a session heard, which no router holds.
+fn write_all_heard_alone(
+    out: &mut JsonText,
+    alloc: Global,
+    entries: &[AttrsEntry],
+) -> Result<(), NoMemory>
+    ensures { OnOk result (out.new ≡ with_value (list_of (map (λ e. heard_with e null) entries.now)) out.old) }
 {
-    let mut list = Vec::with_capacity(alloc, entries.len())?;
+    out.begin_list()?;
     for entry in entries {
-        push_value(&mut list, heard_alone(alloc, entry)?)?;
+        write_heard_alone(out, alloc, entry)?;
     }
-    Ok(Value::Array(list))
+    out.end_list()
 }
 
-/// The routes that were told on a session.
-fn all_told(alloc: Global, entries: &[AttrsEntry]) -> Result<Value, NoMemory>
-    ensures { IfOk result (λ v. view v ≡ list_of (map entry_json entries.now)) }
+/// Adds the routes that were told on a session.
+fn write_all_told(out: &mut JsonText, alloc: Global, entries: &[AttrsEntry]) -> Result<(), NoMemory>
+    ensures { OnOk result (out.new ≡ with_value (list_of (map entry_json entries.now)) out.old) }
 {
-    let mut list = Vec::with_capacity(alloc, entries.len())?;
+    out.begin_list()?;
     for entry in entries {
-        push_value(&mut list, entry_value(alloc, entry)?)?;
+        write_entry(out, alloc, entry)?;
     }
-    Ok(Value::Array(list))
+    out.end_list()
 }
 
-/// An empty list.
-fn no_values(alloc: Global) -> Value
-    ensures { view result ≡ list_of [] }
+/// Adds an empty list.
+fn write_none(out: &mut JsonText) -> Result<(), NoMemory>
+    ensures { OnOk result (out.new ≡ with_value (list_of []) out.old) }
 {
-    Value::Array(Vec::new(alloc))
+    out.begin_list()?;
+    out.end_list()
 }
 
-/// The best routes of a session's holder that aren't told on it, if it is established.
-fn all_untold(
+/// Adds the best routes of a session's holder that aren't told on it, if it is established.
+fn write_all_untold(
+    text: &mut JsonText,
     alloc: Global,
     lab: &Lab,
     holder: RouterId,
@@ -90,12 +94,12 @@ fn all_untold(
     peering: &PeeringInput,
     state: SessionState,
     told: &AdjRib,
-) -> Result<Value, NoMemory>
-    ensures { IfOk result (λ v. view v
-        ≡ list_of (all_untold lab.now (Some (holder.0, router.now)) (number.0, peering.now) state told.now)) }
+) -> Result<(), NoMemory>
+    ensures { OnOk result (text.new
+        ≡ with_value (list_of (all_untold lab.now (Some (holder.0, router.now)) (number.0, peering.now) state told.now)) text.old) }
 {
     if !is_established(state) {
-        return Ok(no_values(alloc));
+        return write_none(text);
     }
     let export = import_policy(router, &peering.export)?;
     let out = OutView {
@@ -105,39 +109,36 @@ fn all_untold(
         export: export.as_ref(),
     };
     let table = best_in(lab.tables.get(usize::from(holder.0)));
-    untold_values(alloc, &lab.input, &out, peering, told, table)
+    write_left(text, alloc, &lab.input, &out, peering, told, table)
 }
 
-/// The routes of a session: those that it heard, those that were told, and those that weren't.
-fn routes_value(alloc: Global, heard: Value, told: Value, untold: Value) -> Result<Value, NoMemory>
-    ensures { IfOk result (λ v. view v ≡ routes_json (view heard) (view told) (view untold)) }
-{
-    let mut map = Map::new(alloc);
-    put(&mut map, alloc, "heard", heard)?;
-    put(&mut map, alloc, "told", told)?;
-    put(&mut map, alloc, "untold", untold)?;
-    Ok(Value::Object(map))
-}
-
-/// The routes of a session on its way, which got this OPEN.
-fn tables_alone(
+/// Adds the routes of a session on its way, which got this OPEN.
+fn write_alone(
+    out: &mut JsonText,
     alloc: Global,
     peering: &PeeringInput,
     story: &Story,
     opened: &Option<OpenMsg>,
-) -> Result<Value, NoMemory>
+) -> Result<(), NoMemory>
     ensures { (lab : LabValue) (number : ℕ) → opened.now ≡ got_open (story_peering lab.input peering.now) story.now.lines
-        → IfOk result (λ v. view v ≡ tables_json lab None (number, peering.now) (story_peering lab.input peering.now) story.now.lines) }
+        → OnOk result (out.new
+        ≡ with_value (tables_json lab None (number, peering.now) (story_peering lab.input peering.now) story.now.lines) out.old) }
 {
-    let entries = entries_of(alloc, &routes_on(alloc, peering, story, opened)?)?;
-    let heard = all_heard_alone(alloc, &entries)?;
-    let told = all_told(alloc, &entries_of(alloc, &told_on(alloc, story)?)?)?;
-    let none = no_values(alloc);
-    routes_value(alloc, heard, told, none)
+    let heard = entries_of(alloc, &routes_on(alloc, peering, story, opened)?)?;
+    let told = entries_of(alloc, &told_on(alloc, story)?)?;
+    out.begin_object()?;
+    out.name("heard")?;
+    write_all_heard_alone(out, alloc, &heard)?;
+    out.name("told")?;
+    write_all_told(out, alloc, &told)?;
+    out.name("untold")?;
+    write_none(out)?;
+    out.end_object()
 }
 
-/// The routes of a session that this router holds, and that got this OPEN.
-fn tables_at(
+/// Adds the routes of a session that this router holds, and that got this OPEN.
+fn write_held(
+    out: &mut JsonText,
     alloc: Global,
     lab: &Lab,
     holder: RouterId,
@@ -146,23 +147,32 @@ fn tables_at(
     peering: &PeeringInput,
     story: &Story,
     opened: &Option<OpenMsg>,
-) -> Result<Value, NoMemory>
+) -> Result<(), NoMemory>
     requires { opened.now ≡ got_open (story_peering lab.now.input peering.now) story.now.lines }
-    ensures { IfOk result (λ v. view v
-        ≡ tables_json lab.now (Some (holder.0, router.now)) (number.0, peering.now) (story_peering lab.now.input peering.now) story.now.lines) }
+    ensures { OnOk result (out.new
+        ≡ with_value (tables_json lab.now (Some (holder.0, router.now)) (number.0, peering.now)
+        (story_peering lab.now.input peering.now) story.now.lines) out.old) }
 {
-    let entries = entries_of(alloc, &routes_on(alloc, peering, story, opened)?)?;
     let import = import_policy(router, &peering.import)?;
-    let heard = all_heard(alloc, &lab.input, peering, &import, &entries)?;
-    let out = told_on(alloc, story)?;
-    let told = all_told(alloc, &entries_of(alloc, &out)?)?;
+    let heard = entries_of(alloc, &routes_on(alloc, peering, story, opened)?)?;
+    let rib = told_on(alloc, story)?;
+    let told = entries_of(alloc, &rib)?;
     let state = story.state();
-    let untold = all_untold(alloc, lab, holder, router, number, peering, state, &out)?;
-    routes_value(alloc, heard, told, untold)
+    out.begin_object()?;
+    out.name("heard")?;
+    write_all_heard(out, alloc, &lab.input, peering, &import, &heard)?;
+    out.name("told")?;
+    write_all_told(out, alloc, &told)?;
+    out.name("untold")?;
+    write_all_untold(
+        out, alloc, lab, holder, router, number, peering, state, &rib,
+    )?;
+    out.end_object()
 }
 
-/// The routes of a session at its place. It got this OPEN.
-pub(crate) fn tables_value(
+/// Adds the routes of a session at its place. It got this OPEN.
+pub(crate) fn write_tables(
+    out: &mut JsonText,
     alloc: Global,
     lab: &Lab,
     place: Option<Place>,
@@ -170,16 +180,19 @@ pub(crate) fn tables_value(
     peering: &PeeringInput,
     story: &Story,
     opened: &Option<OpenMsg>,
-) -> Result<Value, NoMemory>
+) -> Result<(), NoMemory>
     requires { opened.now ≡ got_open (story_peering lab.now.input peering.now) story.now.lines }
-    ensures { IfOk result (λ v. view v
-        ≡ tables_json lab.now (holder_of lab.now.input place) (number.0, peering.now) (story_peering lab.now.input peering.now) story.now.lines) }
+    ensures { OnOk result (out.new
+        ≡ with_value (tables_json lab.now (holder_of lab.now.input place) (number.0, peering.now)
+        (story_peering lab.now.input peering.now) story.now.lines) out.old) }
 {
     let Some(holder) = holder_number(place) else {
-        return tables_alone(alloc, peering, story, opened);
+        return write_alone(out, alloc, peering, story, opened);
     };
     match router_at(&lab.input, usize::from(holder.0)) {
-        Some(router) => tables_at(alloc, lab, holder, router, number, peering, story, opened),
-        None => tables_alone(alloc, peering, story, opened),
+        Some(router) => write_held(
+            out, alloc, lab, holder, router, number, peering, story, opened,
+        ),
+        None => write_alone(out, alloc, peering, story, opened),
     }
 }
