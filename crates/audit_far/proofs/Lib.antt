@@ -1,0 +1,5 @@
+mod Segments
+mod Rows
+mod Heads
+mod Begins
+mod Given

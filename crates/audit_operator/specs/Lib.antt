@@ -1,0 +1,4 @@
+pub mod Parts
+pub mod Decides
+pub mod Tasks
+pub mod Opens

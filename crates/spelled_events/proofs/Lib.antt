@@ -1,0 +1,4 @@
+mod Tables
+mod Heard
+mod Routers
+mod Worlds
