@@ -51,6 +51,11 @@ pub with_all : (ds : List Data) (before : List Token) → with_items (items_of d
 with_all [] before = refl
 with_all (d ∷ ds) before = with_all ds (with_value d before)
 
+-- a member behind others
+pub member_added : (name : List ℕ) (d : Data) {before named after whole : List Token} → named ≡ before ++ Token.key name ∷ []
+    → after ≡ with_value d named → before ≡ whole → after ≡ with_value d (whole ++ Token.key name ∷ [])
+member_added name d n v so = v ∙ ap (with_value d) (n ∙ ap (λ ts. ts ++ Token.key name ∷ []) so)
+
 -- ---- one element further: the tokens so far, and those of what is left behind them
 
 module _ {X : Type 0} (xs : List X) (i : ℕ) (x : X) (below : i < length xs) (is : x ≡ slice_index_or xs i x) where

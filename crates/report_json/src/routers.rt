@@ -89,7 +89,6 @@ fn write_part(out: &mut JsonText, part: &PathPart) -> Result<(), NoMemory>
 }
 
 /// Adds a path to a text.
-#[tactic(auto, using(crate::proofs::Tokens::with_more))]
 pub fn write_path(out: &mut JsonText, path: &AsPath) -> Result<(), NoMemory>
     ensures { OnOk result (out.new ≡ with_value (path_json path.now) out.old) }
 {

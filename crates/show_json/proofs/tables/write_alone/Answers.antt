@@ -16,12 +16,12 @@ returns c = λ lab number got.
     let old = c.args.out.now in
     let lines = c.args.story.now.lines in
     let peering = story_peering lab.input c.args.peering.now in
-    let was = ap (λ es. list_of (map (λ e. heard_with e null) es)) (c.deref-3.ensures ∙ c.in_ok-heard.ensures
+    let was = ap (λ es. list_of (map (λ e. heard_with e null) es)) (c.deref.ensures ∙ c.in_ok-heard.ensures
     ∙ ap (λ (routes : Routes). table.entries routes) (c.in_ok-routes_on.ensures lab.input got)) in
-    let put = ap (λ es. list_of (map entry_json es)) (c.deref-4.ensures ∙ c.in_ok-told.ensures
+    let put = ap (λ es. list_of (map entry_json es)) (c.deref-2.ensures ∙ c.in_ok-told.ensures
     ∙ ap (λ (routes : Routes). table.entries routes) c.in_ok-told_on.ensures) in
     let written : OnOk c.end_object.result (c.end_object.new.self ≡ with_value (routes_json
-    (list_of (map (λ e. heard_with e null) c.deref-3.result.now)) (list_of (map entry_json c.deref-4.result.now)) (list_of [])) old) = search rules in
+    (list_of (map (λ e. heard_with e null) c.deref.result.now)) (list_of (map entry_json c.deref-2.result.now)) (list_of [])) old) = search rules in
     on_ok_weaker c.end_object.result
-    (λ w. w ∙ ap (λ (d : Data). with_value d old) (ap (λ (h : Data). routes_json h (list_of (map entry_json c.deref-4.result.now)) (list_of [])) was
+    (λ w. w ∙ ap (λ (d : Data). with_value d old) (ap (λ (h : Data). routes_json h (list_of (map entry_json c.deref-2.result.now)) (list_of [])) was
     ∙ ap (λ (t : Data). routes_json (list_of (map (λ e. heard_with e null) (table.entries (heard peering lines)))) t (list_of [])) put)) written

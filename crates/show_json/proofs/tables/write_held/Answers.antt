@@ -24,17 +24,17 @@ returns c =
     let lines = c.args.story.now.lines in
     let peering = story_peering lab.input c.args.peering.now in
     let form = heard_json lab.input (Some holder) p lines in
-    let got = ap (λ es. list_of (map form es)) (c.deref-2.ensures ∙ c.in_ok-heard.ensures
+    let got = ap (λ es. list_of (map form es)) (c.deref.ensures ∙ c.in_ok-heard.ensures
     ∙ ap (λ (routes : Routes). table.entries routes) (c.in_ok-routes_on.ensures lab.input c.requires)) in
-    let put = ap (λ es. list_of (map entry_json es)) (c.deref-3.ensures ∙ c.in_ok-told.ensures
+    let put = ap (λ es. list_of (map entry_json es)) (c.deref-2.ensures ∙ c.in_ok-told.ensures
     ∙ ap (λ (routes : Routes). table.entries routes) c.in_ok-rib.ensures) in
     let left = ap (λ (s : SessionState). list_of (all_untold lab (Some holder) p s c.in_ok-rib.rib)) c.state-state.ensures
     ∙ ap (λ (routes : Routes). list_of (all_untold lab (Some holder) p (state_of lines) routes)) c.in_ok-rib.ensures in
     let all = list_of (all_untold lab (Some holder) p c.state-state.result c.in_ok-rib.rib) in
     let written : OnOk c.end_object.result (c.end_object.new.self ≡ with_value (routes_json
-    (list_of (map form c.deref-2.result.now)) (list_of (map entry_json c.deref-3.result.now)) all) old) =
+    (list_of (map form c.deref.result.now)) (list_of (map entry_json c.deref-2.result.now)) all) old) =
     search (rules, c.in_ok-write_all_heard.ensures holder p.0 lines c.in_ok-import.ensures) in
     on_ok_weaker c.end_object.result
-    (λ w. w ∙ ap (λ (d : Data). with_value d old) (ap (λ (h : Data). routes_json h (list_of (map entry_json c.deref-3.result.now)) all) got
+    (λ w. w ∙ ap (λ (d : Data). with_value d old) (ap (λ (h : Data). routes_json h (list_of (map entry_json c.deref-2.result.now)) all) got
     ∙ ap (λ (t : Data). routes_json (list_of (map form (table.entries (heard peering lines)))) t all) put
     ∙ ap (routes_json (list_of (map form (table.entries (heard peering lines)))) (list_of (map entry_json (table.entries (told lines))))) left)) written
