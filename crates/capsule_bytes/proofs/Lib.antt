@@ -1,0 +1,11 @@
+pub mod Names
+pub mod Numbers
+pub mod Forms
+pub mod Readings
+pub mod Checked
+pub mod MemberLists
+pub mod Trees
+pub mod Walks
+pub mod OneSpelling
+pub mod Written
+pub mod Whole

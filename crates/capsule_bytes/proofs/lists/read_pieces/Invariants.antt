@@ -1,0 +1,10 @@
+use Rattle.std.proofs.Common.{◌≡◌, length}
+use Rattle.std.specs.Prelude.{None}
+use Rattle.capsule_bytes.specs.Fields.{members}
+use Rattle.capsule_bytes.specs.Capsules.{piece_fields}
+use Rattle.capsule_bytes.specs.Stops.{Passes}
+use Rattle.capsule_bytes.proofs.lists.read_pieces.Given as goal
+
+-- as many members were read as turns were made
+abbrev pub invariant-loop : goal.invariant-loop
+invariant-loop l = (length l.pieces ≡ l.counter) × Passes (members piece_fields None l.pieces) l.initial.cursor l.cursor

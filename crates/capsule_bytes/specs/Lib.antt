@@ -1,0 +1,4 @@
+pub mod Fields
+pub mod Capsules
+pub mod Stops
+pub mod Worked
