@@ -31,6 +31,8 @@ from bgp_choice import path_text
 HEAD, END = b"%% journal 1\n", b"%% end\n"
 NUMBER = rb"(0|[1-9]\d{0,19})"
 LINE = re.compile(b" ".join([NUMBER] * 6) + b"\n")
+LINES = re.compile(b"(?:" + LINE.pattern.replace(b"(", b"(?:") + b")+")
+CHUNK = 1 << 15
 MOST = (2**64, 2**16, 2**16, 2**32, 2**32, 2**32)
 GO = 26
 # The rows of each actor by their numbers, and how many arguments each has; the others are 0.
@@ -107,21 +109,32 @@ def split_text(text):
     raise Misshapen("journal")
 
 
+def in_range(numbers):
+    """Whether the numbers of entries, one after another, are in their ranges."""
+    return all(max(numbers[field::6]) < most for field, most in enumerate(MOST))
+
+
 def entries_from(text, at):
     """The entries of a journal, one by one, from where its first line stands."""
-    number, scan = 0, LINE.match
+    number = 0
+    # Many lines at once, as long as they are well formed; the others one by one.
     while True:
-        found = scan(text, at)
-        if found is None:
+        end = text.rfind(b"\n", at, at + CHUNK) + 1
+        if not LINES.fullmatch(text, at, max(at, end)):
             break
+        numbers = list(map(int, text[at:end].split()))
+        if not in_range(numbers):
+            break
+        yield from zip(*[iter(numbers)] * 6)
+        at, number = end, number + len(numbers) // 6
+    while found := LINE.match(text, at):
         entry = tuple(map(int, found.groups()))
-        if any(map(int.__ge__, entry, MOST)):
+        if not in_range(entry):
             raise Misshapen(f"journal[{number}]")
         yield entry
         at, number = found.end(), number + 1
     if text[at:] != END:
-        ended = text.startswith(END, at)
-        raise Misshapen(f"journal[{number + ended}]")
+        raise Misshapen(f"journal[{number + text.startswith(END, at)}]")
 
 
 def is_prefix(address, length):
@@ -129,17 +142,22 @@ def is_prefix(address, length):
     return length <= 32 and not address & ((1 << (32 - length)) - 1)
 
 
+# What else the arguments of a row are: prefixes, flags and ways.
+TESTS = {
+    6: lambda address, length, _: is_prefix(address, length),
+    7: lambda _, address, length: is_prefix(address, length),
+    20: lambda _, keep, __: keep <= 1,
+    21: lambda _, keep, __: keep <= 1,
+    22: lambda way, _, __: way <= 1,
+}
+
+
 def is_of_row(kind, used, a, b, c):
     """Whether a row with so many arguments can have these."""
-    if (c and used < 3) or (b and used < 2) or (a and used < 1):
+    if used < 3 and (c or (used < 2 and (b or (used < 1 and a)))):
         return False
-    if kind in (20, 21):
-        return b <= 1
-    if kind == 22:
-        return a <= 1
-    if kind in (6, 7):
-        return is_prefix(a, b) if kind == 6 else is_prefix(b, c)
-    return True
+    test = TESTS.get(kind)
+    return test is None or test(a, b, c)
 
 
 class Auditor:

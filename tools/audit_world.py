@@ -133,20 +133,26 @@ class RouterPart:
         self.due_out[p].clear()
         self.changes += 1
 
-    def told_of(self, session, prefix):
-        """What is to be told of a prefix on a session, or none."""
+    def told_of(self, session, prefix, known):
+        """What is to be told of a prefix on a session, or none; `known` has what was found out of the same attributes already."""
         best, peering = self.best.get(prefix), session.peering
         if best is None or best[0] == peering.number:
             return None
-        return exported(self.own.policies.get(peering.export_name), prefix, best[1].attributes, peering, self.world.setup.home_as)
+        attributes = best[1].attributes
+        policy = self.own.policies.get(peering.export_name)
+        # Without rules, prefixes of one length that share their attributes are told alike.
+        key = None if policy else (id(attributes), prefix[1])
+        if key not in known or key is None:
+            known[key] = exported(policy, prefix, attributes, peering, self.world.setup.home_as)
+        return known[key]
 
     def pending(self, session):
         """What is to be told on a session of what is due there and not dirty."""
         p = session.peering.number
         if self.pendings[p][0] != self.changes:
-            ripe = sorted(self.due_out[p] - self.dirty)
-            values = ((prefix, self.told_of(session, prefix)) for prefix in ripe)
-            self.pendings[p] = self.changes, Pending((prefix, value) for prefix, value in values if value != session.told.get(prefix))
+            known, told = {}, session.told
+            values = ((prefix, self.told_of(session, prefix, known)) for prefix in sorted(self.due_out[p] - self.dirty))
+            self.pendings[p] = self.changes, Pending((prefix, value) for prefix, value in values if value != told.get(prefix))
         return self.pendings[p][1]
 
     # ---- places
@@ -482,7 +488,7 @@ class OperatorPart:
 
     def __init__(self, world):
         setup = world.setup
-        self.world, self.group = world, -1
+        self.world, self.group, self.steps = world, -1, set()
         self.placement = [peering.start for peering in setup.peerings]
         # The grafts that were made, by number, and of each peering those without an outcome; what is still to be said, by peering.
         self.log = {}
@@ -497,6 +503,7 @@ class OperatorPart:
         """Begins the next group: an evacuate step gives its grafts now."""
         self.group += 1
         setup = self.world.setup
+        self.steps = set(setup.groups[self.group])
         for number in setup.groups[self.group]:
             step = setup.steps[number]
             if step.do in SAYS:
@@ -527,7 +534,7 @@ class OperatorPart:
 
     def order(self, number, made_by_evacuation, _):
         setup = self.world.setup
-        needs(number in setup.groups[self.group])
+        needs(number in self.steps)
         step = setup.steps[number]
         if step.do in SAYS:
             waiting = self.unsaid[step.peering]
