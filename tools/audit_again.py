@@ -14,7 +14,7 @@ line for each: the name, and
 
 Order: an entry is above the one before by clock and actor. Kind: the actor has a row of this number with such arguments (docs/EVENTS.md).
 Condition: some world follows by the row. Clock: one above the actor's own, or the stamp of the item that it takes if that is greater; that of
-a Go is one above all clocks, and sets all. Inputs are taken to be accepted ones (graftlab check). With --report the report of the last world
+a Go is one above all clocks, and sets all. Inputs are taken to be accepted ones (graftlab check); of another one "bad input" is all that is said. With --report the report of the last world
 follows, without its first line and its traces. The status is 0 where all are runs, 8 where one isn't, 2 where one is no journal.
 """
 import argparse
@@ -95,8 +95,8 @@ TAKES = {
 }
 
 
-class Misshapen(Exception):
-    """A text that is no journal; its argument is the path of the fault."""
+class BadInput(Exception):
+    """A text that is no journal; its argument is the fault."""
 
 
 def split_text(text):
@@ -106,7 +106,7 @@ def split_text(text):
         return text[:last], last + 1 + len(HEAD)
     if text.startswith(HEAD):
         return b"", len(HEAD)
-    raise Misshapen("journal")
+    raise BadInput("shape journal")
 
 
 def in_range(numbers):
@@ -130,11 +130,11 @@ def entries_from(text, at):
     while found := LINE.match(text, at):
         entry = tuple(map(int, found.groups()))
         if not in_range(entry):
-            raise Misshapen(f"journal[{number}]")
+            raise BadInput(f"shape journal[{number}]")
         yield entry
         at, number = found.end(), number + 1
     if text[at:] != END:
-        raise Misshapen(f"journal[{number + text.startswith(END, at)}]")
+        raise BadInput(f"shape journal[{number + text.startswith(END, at)}]")
 
 
 def is_prefix(address, length):
@@ -175,10 +175,10 @@ class Auditor:
         """The clock of an actor's next entry, if it is of this kind and has this first argument."""
         if kind == GO:
             return max(self.clocks) + 1
-        stamp = 0
-        if kind in TAKES:
+        stamp, (_, rows, own) = 0, self.actors[actor]
+        if kind in TAKES and kind in rows:
             try:
-                channel = TAKES[kind](self.world, self.actors[actor][2], a)
+                channel = TAKES[kind](self.world, own, a)
                 stamp = channel[0][0] if channel else 0
             except IndexError:
                 pass
@@ -212,8 +212,11 @@ class Auditor:
 def audit(text):
     """The answer to a journal, and the world behind it; None where it isn't a run."""
     document, at = split_text(text)
-    auditor = Auditor(Setup(document))
-    count = 0
+    try:
+        setup = Setup(document)
+    except (ValueError, KeyError, TypeError) as fault:
+        raise BadInput(f"{type(fault).__name__} {fault}") from fault
+    auditor, count = Auditor(setup), 0
     entries = entries_from(text, at)
     for entry in entries:
         fault = auditor.fault(*entry)
@@ -306,8 +309,8 @@ def main():
         text = journal_of(words.run, name, words.workers) if words.run else read_text(name)
         try:
             answer, world = audit(text)
-        except Misshapen as fault:
-            answer, world = f"bad input: shape {fault.args[0]}", None
+        except BadInput as fault:
+            answer, world = f"bad input: {fault}", None
             status = 2
         print(f"{name}: {answer}")
         if world is None:

@@ -8,8 +8,8 @@ A run sends any slice that may be sent, delivers any segment of a link to any ro
 wait for long: much that graftlab never does, and all of it a run. LAB is an input; its journal, with the clocks of the rows, is written
 to standard output, ready for audit_again.py or graftlab audit. It has at most N entries (100,000), and ends earlier where nothing is left.
 
-With --audit N laboratories (100), made as one_answer.py and hostile_remotes.py make theirs, are run in this way, and PROGRAM audit is asked
-of each journal. A line for each of which its answer isn't that of the replay; then how many there were, how many ended quiet in the last
+With --audit N laboratories (100), made by varied_labs.py and as one_answer.py and hostile_remotes.py make theirs, are run in this way, and
+PROGRAM audit is asked of each journal. A line for each of which its answer isn't that of the replay; then how many there were, how many ended quiet in the last
 group, and how many entries they had. The status is 1 where an answer differs.
 """
 import argparse
@@ -19,6 +19,7 @@ import sys
 
 import hostile_remotes
 import one_answer
+import varied_labs
 from audit_again import END, GO, HEAD, Auditor
 from audit_session import CLOSED, ESTABLISHED, FLIGHT, OPEN_CONFIRM, PAYLOAD
 from audit_setup import SAYS, Setup
@@ -190,10 +191,12 @@ def journal_text(document, entries):
 def laboratories(seed, count):
     """Generated laboratories, as texts."""
     for number in range(count):
-        if number % 2:
+        if number % 4 == 0:
+            yield one_answer.even(random.Random(seed * 1_000_003 + number)).encode()
+        elif number % 4 == 1:
             yield hostile_remotes.Lab(seed, number).text().encode()
         else:
-            yield one_answer.even(random.Random(seed * 1_000_003 + number)).encode()
+            yield varied_labs.Varied(seed * 1_000_003 + number).text().encode()
 
 
 def ask(program, text):
