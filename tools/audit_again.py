@@ -14,8 +14,9 @@ line for each: the name, and
 
 Order: an entry is above the one before by clock and actor. Kind: the actor has a row of this number with such arguments (docs/EVENTS.md).
 Condition: some world follows by the row. Clock: one above the actor's own, or the stamp of the item that it takes if that is greater; that of
-a Go is one above all clocks, and sets all. Inputs are taken to be accepted ones (graftlab check); of another one "bad input" is all that is said. With --report the report of the last world
-follows, without its first line and its traces. The status is 0 where all are runs, 8 where one isn't, 2 where one is no journal.
+a Go is one above all clocks, and sets all. Inputs are taken to be accepted ones (graftlab check); of another one "bad input" is said at most.
+With --report the report of the last world follows, without its first line and its traces. The status is 0 where all are runs, 8 where one
+isn't, 2 where one is no journal.
 """
 import argparse
 import re

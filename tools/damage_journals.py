@@ -168,8 +168,10 @@ def compare(words):
     else:
         named = enumerate(laboratories(words.seed, words.count))
         labs = ((f"laboratory {number} by {workers}", lab, workers) for (number, lab), workers in zip(named, itertools.cycle(WORKERS)))
-    for name, lab, workers in labs:
+    for number, (name, lab, workers) in enumerate(labs):
         comparison.take(name, lab, workers)
+        if sys.stderr.isatty() or words.count > 100:
+            print(f"\r{number + 1}", end="", file=sys.stderr, flush=True)
     comparison.tell()
     return comparison.wrong == 0
 

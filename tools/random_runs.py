@@ -8,9 +8,9 @@ A run sends any slice that may be sent, delivers any segment of a link to any ro
 wait for long: much that graftlab never does, and all of it a run. LAB is an input; its journal, with the clocks of the rows, is written
 to standard output, ready for audit_again.py or graftlab audit. It has at most N entries (100,000), and ends earlier where nothing is left.
 
-With --audit N laboratories (100), made by varied_labs.py and as one_answer.py and hostile_remotes.py make theirs, are run in this way, and
-PROGRAM audit is asked of each journal. A line for each of which its answer isn't that of the replay; then how many there were, how many ended quiet in the last
-group, and how many entries they had. The status is 1 where an answer differs.
+With --audit N laboratories (100), made by varied_labs.py, one_answer.py and hostile_remotes.py, are run in this way, and PROGRAM audit is
+asked of each journal. A line for each of which its answer isn't that of the replay; then how many there were, how many ended quiet in the
+last group, and how many entries they had. The status is 1 where an answer differs.
 """
 import argparse
 import random

@@ -19,6 +19,9 @@ POLICIES = ("in", "out", "both")
 NUMBERS = (1, 23456, 64999, 65001, 65002, 65003, 65535, 65536, 70000, 70001, 4294967295)
 PREFIXES = [f"10.{place}.0.0/{length}" for place in range(6) for length in (15, 16, 20)] + ["0.0.0.0/0", "198.51.100.7/32", "10.0.0.0/8"]
 
+# No two of them are the same once the bits past their lengths are cleared.
+NETWORKS = [prefix for prefix in PREFIXES if not prefix.endswith("/15")]
+
 
 def table(kind, /, **values):
     """A table; a key with an underscore at its end is the word without it, and one without a value isn't there."""
@@ -63,7 +66,7 @@ class Varied:
     def router(self, name):
         held = self.starts.count(name)
         room = held + self.choose.choice([0, 0, 1, 2]) if self.rarely(0.4) else 32
-        networks = self.maybe(self.choose.sample(PREFIXES[:18], self.choose.randint(1, 3)), 0.3)
+        networks = self.maybe(self.choose.sample(NETWORKS, self.choose.randint(1, 3)), 0.3)
         text = table("router", name=name, id=f"10.255.0.{'abcdef'.index(name) + 1}", sessions=room, networks=networks)
         for policy in self.has_policy[name]:
             text += table("router.policy", name=policy) + "".join(self.rule() for _ in range(self.choose.choice([0, 1, 2, 5])))
