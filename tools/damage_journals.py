@@ -17,7 +17,6 @@ to be; such a text is kept in the current folder as journal.N.
 """
 import argparse
 import collections
-import itertools
 import pathlib
 import random
 import subprocess
@@ -166,11 +165,12 @@ def compare(words):
     if words.labs:
         labs = ((f"{name} by {workers}", pathlib.Path(name).read_bytes(), workers) for name in words.labs for workers in WORKERS)
     else:
-        named = enumerate(laboratories(words.seed, words.count))
-        labs = ((f"laboratory {number} by {workers}", lab, workers) for (number, lab), workers in zip(named, itertools.cycle(WORKERS)))
+        # Laboratories of each kind are run by each number of workers.
+        named = ((number, lab, WORKERS[(number + number // 4) % 4]) for number, lab in enumerate(laboratories(words.seed, words.count)))
+        labs = ((f"laboratory {number} by {workers}", lab, workers) for number, lab, workers in named)
     for number, (name, lab, workers) in enumerate(labs):
         comparison.take(name, lab, workers)
-        if sys.stderr.isatty() or words.count > 100:
+        if sys.stderr.isatty():
             print(f"\r{number + 1}", end="", file=sys.stderr, flush=True)
     comparison.tell()
     return comparison.wrong == 0
