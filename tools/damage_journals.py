@@ -2,7 +2,7 @@
 """Damages journals by one change each, and asks the replay of audit_again.py, and a program's audit, what they say of them.
 
     damage_journals.py [--seed N] [--clocks] FILE
-    damage_journals.py --run PROGRAM [--audit] [--reports] [--seed N] [--count N] [--changes N] [--show N] [LAB..]
+    damage_journals.py --run PROGRAM [--audit] [--reports] [--random] [--seed N] [--count N] [--changes N] [--show N] [LAB..]
 
 The first writes the journal in FILE with one change, which the seed decides: an entry is dropped or doubled, or changes places with its
 neighbour, or has another argument, kind, actor or clock. What was changed is said on standard error. With --clocks all clocks are set
@@ -11,7 +11,8 @@ anew, by the rows, up to the first entry that can't happen, so that it is seldom
 The second takes the journals that PROGRAM writes of each LAB, or of N generated laboratories (100), by 1, 2, 4 and 8 workers in turn: the
 replay is to say yes to each, with all its entries, and quiet where the run settled. Then N changes are made to each (4), every other one
 with --clocks, and the answers are counted: no is due to most, and yes where the change leaves a run. With --reports a journal of one worker
-is to end in the world that PROGRAM run reports. With --audit PROGRAM audit is asked of each text, and is to say the same as the replay.
+is to end in the world that PROGRAM run reports. With --random the journals are those of random runs (random_runs.py) of at most 10,000
+entries, in place of PROGRAM's. With --audit PROGRAM audit is asked of each text, and is to say the same as the replay.
 --show prints so many of the damaged journals' answers, with the entries around the change. The status is 1 where something isn't as it is
 to be; such a text is kept in the current folder as journal.N.
 """
@@ -23,24 +24,21 @@ import subprocess
 import sys
 
 import audit_again
-from audit_again import END, HEAD, Auditor, audit, entries_from, journal_of, report_lines, split_text
+from audit_again import END, Auditor, audit, entries_from, journal_of, report_lines, split_text
 from audit_setup import Setup
-from random_runs import laboratories
+from random_runs import journal_text, laboratories, random_run
 
 WORKERS = (1, 2, 4, 8)
 CHANGES = ("dropped", "doubled", "swapped", "argument", "argument", "argument", "kind", "actor", "clock")
 KINDS = (*range(1, 27), 31, 32, 33, 34, 35, 36)
 ACTOR, KIND, FIRST = 1, 2, 3
+MOST = 10_000
 
 
 def parts_of(text):
     """The input and the entries of a journal."""
     document, at = split_text(text)
     return document, list(entries_from(text, at))
-
-
-def text_of(document, entries):
-    return document + b"\n" + HEAD + "".join(" ".join(map(str, entry)) + "\n" for entry in entries).encode() + END
 
 
 def another(choose, value, values):
@@ -91,7 +89,7 @@ def change(text, choose, clocks):
     """A journal with one change; what it is, and where."""
     document, entries = parts_of(text)
     changed, what, place = damaged(entries, choose, [it for it in CHANGES if not clocks or it != "clock"])
-    return text_of(document, with_clocks(document, changed) if clocks else changed), what, place
+    return journal_text(document, with_clocks(document, changed) if clocks else changed), what, place
 
 
 class Comparison:
@@ -119,24 +117,31 @@ class Comparison:
         return answer, world
 
     def take(self, name, lab, workers):
-        """Asks of a laboratory's journal, and of changes to it."""
-        text = journal_of(self.program, lab, workers)
-        if END not in text:
-            print(f"{name}: isn't run")
-            return
-        entries = parts_of(text)[1]
-        ran = subprocess.run([self.program, "run", "--workers", str(workers)], input=lab, capture_output=True, check=False)
-        answer, world = self.ask(name, text)
-        self.whole, self.entries = self.whole + 1, self.entries + len(entries)
-        ends = ("quiet",) if ran.returncode == 0 else ("quiet", "running")
-        if answer not in [f"audit yes events {len(entries)} {end}" for end in ends]:
-            self.fail(name, f"status {ran.returncode}, {len(entries)} entries: {answer}", text)
-        elif self.words.reports and workers == 1:
+        """Asks of a journal of a laboratory, and of changes to it."""
+        if self.words.random:
+            text = journal_text(lab, random_run(lab, self.choose, MOST)[0])
+            self.take_sound(name, text, ("quiet", "running"))
+        else:
+            text = journal_of(self.program, lab, workers)
+            if not text.endswith(END):
+                print(f"{name}: isn't run")
+                return
+            ran = subprocess.run([self.program, "run", "--workers", str(workers)], input=lab, capture_output=True, check=False)
+            world = self.take_sound(name, text, ("quiet",) if ran.returncode == 0 else ("quiet", "running"))
             wanted = [line for line in ran.stdout.decode().splitlines() if not line.startswith(("result", "trace"))]
-            if wanted != list(report_lines(world)):
+            if world and self.words.reports and workers == 1 and wanted != list(report_lines(world)):
                 self.fail(name, "the report is another one", text)
-        for number in range(self.words.changes if entries else 0):
+        for number in range(self.words.changes if parts_of(text)[1] else 0):
             self.take_changed(name, text, number % 2 == 1)
+
+    def take_sound(self, name, text, ends):
+        """Asks of a journal to which the answer is yes; the world behind it."""
+        count = len(parts_of(text)[1])
+        answer, world = self.ask(name, text)
+        self.whole, self.entries = self.whole + 1, self.entries + count
+        if answer not in [f"audit yes events {count} {end}" for end in ends]:
+            self.fail(name, f"{count} entries, {' or '.join(ends)}: {answer}", text)
+        return world
 
     def take_changed(self, name, text, clocks):
         """Asks of a journal with one change."""
@@ -183,6 +188,7 @@ def main():
     parser.add_argument("--run", metavar="PROGRAM")
     parser.add_argument("--audit", action="store_true")
     parser.add_argument("--reports", action="store_true")
+    parser.add_argument("--random", action="store_true")
     parser.add_argument("--count", type=int, default=100)
     parser.add_argument("--changes", type=int, default=4)
     parser.add_argument("--show", type=int, default=0)
