@@ -27,9 +27,6 @@ use Rattle.audit_operator.specs.Opens.{IsSteady}
 use Rattle.audit_operator.specs.Parts.{OperatorStands, operator_part, operator_state}
 use Rattle.audit_operator.specs.declared.operator.AuditedOperator.{AuditedOperator}
 
-pub steady : (o : AuditedOperator) → IsSteady o o
-steady o = record { known = refl; script = refl; numbers = refl }
-
 -- the tasks are those that weren't ordered
 abbrev pub NoneIssued : List Task → Type 0
 NoneIssued tasks = AllByRecursion (λ (task : Task). task.issued ≡ false) tasks

@@ -16,6 +16,7 @@ use tcp_seq::{Segment, Seq, Way};
 
 /// The most bytes that a remote says.
 const MOST_SAID: usize = 1_048_576;
+
 /// A scripted remote: all bytes that it said, and its end of the connection, of which it leaves all input unread.
 /// Contracts see its endpoint over whole numbers.
 #[derive(Drop)]

@@ -12,6 +12,7 @@ use bgp_session::Session;
 use bgp_types::{From, NoMemory, Prefix, Route, SharedAttrs, TryCopy, holds_as};
 use rib_stages::{InEntry, Rib};
 use route_policy::{PREFERENCE, Policy};
+
 /// Returns the route that an import policy makes of attributes that were heard. If the path has the home AS it would be
 /// a loop, so there is no route (RFC 4271, sections 9.1.1 and 9.1.2).
 fn import(

@@ -1,0 +1,16 @@
+mod Following
+mod Inversions
+mod Kept
+mod Searching
+mod Landings
+mod Parcels
+mod LiveSessions
+mod Putting
+mod AtSource
+mod AtTarget
+mod TableEvents
+mod Beginning
+mod Resting
+mod Firsts
+mod Dispatch
+mod Taken

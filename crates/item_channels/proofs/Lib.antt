@@ -1,0 +1,2 @@
+pub mod Empties
+mod Changes

@@ -1,0 +1,17 @@
+mod Seen
+mod Nowhere
+mod Made
+mod Happening
+mod Taken
+mod Routers
+mod FarSides
+mod Operators
+mod Fits
+mod AtNumbers
+mod Begun
+mod First
+mod Quiets
+mod Exact
+mod Replays
+mod Answering
+mod Unsent

@@ -1,0 +1,12 @@
+pub mod States
+pub mod Sound
+pub mod Begins
+pub mod Sent
+pub mod Rests
+pub mod Ruled
+pub mod Grounds
+pub mod Steps
+pub mod Replays
+pub mod Audits
+pub mod Laws
+pub mod Clocks
