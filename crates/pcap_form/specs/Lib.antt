@@ -1,0 +1,6 @@
+pub mod Numbers
+pub mod Pcap
+pub mod Blocks
+pub mod Captures
+pub mod Written
+pub mod Worked
