@@ -21,10 +21,12 @@ use Rattle.lab_top.specs.declared.views.ViewName.{ViewName}
 use Rattle.lab_top.specs.Forms.{summary_in, test_in}
 use Rattle.lab_top.specs.Views.{viewing}
 use Rattle.lab_top.specs.Ends.{AreRefused, AskToCheck, AskToRun, AskForJournal, AskToTest, AskToView, RunsSource, AskToSum, AskToDrill, AskForLab}
-use Rattle.lab_top.specs.Ends.{AskToMake, AskForLine, ReadsInput}
+use Rattle.lab_audit.specs.declared.audited.AuditEnd.{AuditEnd}
+use Rattle.lab_audit.specs.declared.audited.AuditEnd.TheVariants as audit_ends
+use Rattle.lab_top.specs.Ends.{AskToAudit, AskToMake, AskForLine, Audits, ReadsInput, ReadsText, audit_status}
 use Rattle.lab_top.specs.Ends.{TookInput, GaveBadInput, IsStatus, WritesText, WritesReport, WritesJournal, WritesView, Checks, end_status}
 use Rattle.lab_top.specs.Ends.{SaysVerdict, verdict_status, tested_status, HasFailed}
-use Rattle.lab_top.specs.Cases.{Outside, RunsLab, plain_text, Gives, Refuses, Tells, job_status, Cause, tells, checks, refuses, misses, runs}
+use Rattle.lab_top.specs.Cases.{Outside, RunsLab, plain_text, Gives, Refuses, Tells, job_status, Cause, tells, checks, audits, refuses, misses, runs}
 use Rattle.lab_top.specs.Cases.{Did, wrote, unread, Ended, refused, did, no_memory}
 use Rattle.lab_top.proofs.Asking.{of_asked, plain_is_no_lab, plain_reads_none, views_run, took_of, view_status, view_shown, lab_asked}
 use Rattle.lab_top.proofs.Asking.{reads_source, runs_lab, none_run, line_asked, make_asked, no_lab}
@@ -62,23 +64,30 @@ job_of_run _ end = end_of_run end.end
 
 -- the statuses under which a job's text is written whole
 abbrev Planned : ℕ → Type 0
-Planned planned = (planned ≡ 2) ⊎ OfRun planned
+Planned planned = (planned ≡ 2) ⊎ (planned ≡ 8) ⊎ OfRun planned
+
+audit_planned : (planned : ℕ) (end : AuditEnd) → planned ≡ audit_status end → Planned planned
+audit_planned planned audit_ends.NoJournal p = inl p
+audit_planned planned audit_ends.Yes p = inr (inr (inl p))
+audit_planned planned audit_ends.No p = inr (inl p)
 
 planned_by : (job : Job) (left rest : Option (List ℕ)) (text : List ℕ) (planned : ℕ) (lab : Option Lab) → Cause job left rest text planned lab
     → Planned planned
-planned_by job left rest text planned lab (tells t p l) = inr (inl p)
-planned_by job left rest text planned lab (checks form (Ok input) is read t p l) = inr (inl p)
+planned_by job left rest text planned lab (tells t p l) = inr (inr (inl p))
+planned_by job left rest text planned lab (checks form (Ok input) is read t p l) = inr (inr (inl p))
 planned_by job left rest text planned lab (checks form (Err bad) is read t p l) = inl p
+planned_by job left rest text planned lab (audits end is reads p l) = audit_planned planned end p
 planned_by job left rest text planned lab (refuses run why p l) = inl p
 planned_by job left rest text planned lab (misses input view workers name is read none t p l) = inl p
-planned_by job left rest text planned lab (runs bytes end run gives is told ran p l) = inr (subst OfRun (sym p) (job_of_run job end))
+planned_by job left rest text planned lab (runs bytes end run gives is told ran p l) = inr (inr (subst OfRun (sym p) (job_of_run job end)))
 
 status_by : (planned status : ℕ) → Planned planned → status ≡ planned → IsStatus status
 status_by planned status (inl p) e = inr (inr (inl (e ∙ p)))
-status_by planned status (inr (inl p)) e = inl (e ∙ p)
-status_by planned status (inr (inr (inl p))) e = inr (inr (inr (inl (e ∙ p))))
-status_by planned status (inr (inr (inr (inl p)))) e = inr (inr (inr (inr (inr (inr (inr (inl (e ∙ p))))))))
-status_by planned status (inr (inr (inr (inr p)))) e = inr (inr (inr (inr (inr (inr (inr (inr (e ∙ p))))))))
+status_by planned status (inr (inl p)) e = inr (inr (inr (inr (inr (inr (inr (inr (inl (e ∙ p)))))))))
+status_by planned status (inr (inr (inl p))) e = inl (e ∙ p)
+status_by planned status (inr (inr (inr (inl p)))) e = inr (inr (inr (inl (e ∙ p))))
+status_by planned status (inr (inr (inr (inr (inl p))))) e = inr (inr (inr (inr (inr (inr (inr (inl (e ∙ p))))))))
+status_by planned status (inr (inr (inr (inr (inr p))))) e = inr (inr (inr (inr (inr (inr (inr (inr (inr (e ∙ p)))))))))
 
 pub statuses : (words : List (List ℕ)) (o n : Outside) (status : ℕ) (lab : Option Lab) → Ended words o n status lab → IsStatus status
 statuses words o n status lab (refused none (inl whole) l) = inr (inl whole.0)
@@ -96,7 +105,7 @@ abbrev is_of_run : ℕ → Bool
 is_of_run n = n == 0 || n == 3 || n == 7 || n == 9
 
 abbrev is_planned : ℕ → Bool
-is_planned n = n == 2 || is_of_run n
+is_planned n = n == 2 || n == 8 || is_of_run n
 
 of_run_is : (f : ℕ → Bool) → f 0 ≡ true → f 3 ≡ true → f 7 ≡ true → f 9 ≡ true → (status : ℕ) → OfRun status → f status ≡ true
 of_run_is f zero three seven nine status (inl e) = ap f e ∙ zero
@@ -109,7 +118,8 @@ run_status status is = of_run_is is_of_run refl refl refl refl status is
 
 planned_is : (planned : ℕ) → Planned planned → is_planned planned ≡ true
 planned_is planned (inl p) = ap is_planned p
-planned_is planned (inr is) = of_run_is is_planned refl refl refl refl planned is
+planned_is planned (inr (inl p)) = ap is_planned p
+planned_is planned (inr (inr is)) = of_run_is is_planned refl refl refl refl planned is
 
 -- no text of a job is written whole under this status
 not_whole : (other : ℕ) (job : Job) (left rest : Option (List ℕ)) (text : List ℕ) (planned status : ℕ) (lab : Option Lab) → is_planned other ≡ false
@@ -138,13 +148,15 @@ refused_words words o n status lab (no_memory six same l) one = absurd (omega ar
 some_is : (a b : List ℕ) → Some a ≡ Some b → a ≡ b
 some_is a b e = cc
 
-check_is_plain : (job : Job) (form : Form) (told : List ℕ) → plain_text job ≡ Some told → job ≡ jobs.Check form → ⊥
-check_is_plain job form told plain is = let none : None ≡ Some told = subst (λ j. plain_text j ≡ Some told) is plain in let f : ⊥ = cc in f
+not_plain : (job other : Job) (told : List ℕ) → plain_text other ≡ None → plain_text job ≡ Some told → job ≡ other → ⊥
+not_plain job other told none plain is =
+    let both : None ≡ Some told = sym none ∙ subst (λ j. plain_text j ≡ Some told) is plain in let f : ⊥ = cc in f
 
 plain_cause : (job : Job) (left rest : Option (List ℕ)) (text told : List ℕ) (planned : ℕ) (lab : Option Lab) → plain_text job ≡ Some told
     → Cause job left rest text planned lab → (text ≡ told) × (planned ≡ 0)
 plain_cause job left rest text told planned lab plain (tells t p l) = (some_is text told (sym t ∙ plain), p)
-plain_cause job left rest text told planned lab plain (checks form answer is read t p l) = absurd (check_is_plain job form told plain is)
+plain_cause job left rest text told planned lab plain (checks form answer is read t p l) = absurd (not_plain job (jobs.Check form) told refl plain is)
+plain_cause job left rest text told planned lab plain (audits end is reads p l) = absurd (not_plain job jobs.Audit told refl plain is)
 plain_cause job left rest text told planned lab plain (refuses run why p l) = absurd (plain_is_no_lab job told plain run)
 plain_cause job left rest text told planned lab plain (misses input view workers name is read none t p l) =
     absurd (plain_is_no_lab job told plain (subst RunsLab (sym is) (views_run view workers)))
@@ -185,11 +197,15 @@ none_told text e = let f : ⊥ = cc in f
 same_form : (a b : Form) → jobs.Check a ≡ jobs.Check b → b ≡ a
 same_form a b e = cc
 
+check_no_audit : (form : Form) → jobs.Check form ≡ jobs.Audit → ⊥
+check_no_audit form e = let f : ⊥ = cc in f
+
 check_cause : (form : Form) (left rest : Option (List ℕ)) (text : List ℕ) (planned : ℕ) (lab : Option Lab)
     → Cause (jobs.Check form) left rest text planned lab → Verdict form left rest text planned
 check_cause form left rest text planned lab (tells t p l) = absurd (none_told text t)
 check_cause form left rest text planned lab (checks other answer is read t p l) =
     (answer, read, subst (λ f. SaysVerdict f read.bytes answer text) (same_form form other is) t, p)
+check_cause form left rest text planned lab (audits end is reads p l) = absurd (check_no_audit form is)
 check_cause form left rest text planned lab (refuses run why p l) = absurd run
 check_cause form left rest text planned lab (misses input view workers name is read none t p l) = absurd (subst RunsLab (sym is) (views_run view workers))
 check_cause form left rest text planned lab (runs bytes end run gives is told ran p l) = absurd run
@@ -214,6 +230,31 @@ checked_told words o n status lab (did job ask d) form check =
     check_did form o n status lab (of_asked (λ j. Did j o n status lab) words job (jobs.Check form) ask check d)
 checked_told words o n status lab (no_memory six same l) form check = inr (inl six)
 
+-- ---- a journal is audited
+
+audit_cause : (left rest : Option (List ℕ)) (text : List ℕ) (planned : ℕ) (lab : Option Lab) → Cause jobs.Audit left rest text planned lab
+    → (end : AuditEnd) × ReadsText left rest text end × (planned ≡ audit_status end)
+audit_cause left rest text planned lab (tells t p l) = absurd (none_told text t)
+audit_cause left rest text planned lab (checks form answer is read t p l) = absurd (check_no_audit form (sym is))
+audit_cause left rest text planned lab (audits end is reads p l) = (end, reads, p)
+audit_cause left rest text planned lab (refuses run why p l) = absurd run
+audit_cause left rest text planned lab (misses input view workers name is read none t p l) = absurd (subst RunsLab (sym is) (views_run view workers))
+audit_cause left rest text planned lab (runs bytes end run gives is told ran p l) = absurd run
+
+audit_did : (o n : Outside) (status : ℕ) (lab : Option Lab) → Did jobs.Audit o n status lab
+    → (status ≡ 4) ⊎ (status ≡ 6) ⊎ Audits o.left n.left o.write_faults n.write_faults o.written n.written status
+audit_did o n status lab (wrote text planned cause w) =
+    let told = audit_cause o.left n.left text planned lab cause in
+    inr (inr (record { text = text; end = told.0; reads = told.1; wrote = subst (λ k. Wrote text k o n status) told.2 w }))
+audit_did o n status lab (unread reads four rose same l) = inl four
+
+pub audited_told : (words : List (List ℕ)) (o n : Outside) (status : ℕ) (lab : Option Lab) → Ended words o n status lab → AskToAudit words
+    → (status ≡ 4) ⊎ (status ≡ 6) ⊎ Audits o.left n.left o.write_faults n.write_faults o.written n.written status
+audited_told words o n status lab (refused none w l) audit = absurd (none jobs.Audit audit)
+audited_told words o n status lab (did job ask d) audit =
+    audit_did o n status lab (of_asked (λ j. Did j o n status lab) words job jobs.Audit ask audit d)
+audited_told words o n status lab (no_memory six same l) audit = inr (inl six)
+
 -- ---- an input is refused
 
 gave_bad : (words : List (List ℕ)) (left rest : Option (List ℕ)) (text : List ℕ) (job : Job) → Asks words job → Refuses job left rest text
@@ -221,18 +262,28 @@ gave_bad : (words : List (List ℕ)) (left rest : Option (List ℕ)) (text : Lis
 gave_bad words left rest text (jobs.Drill seed workers form) ask why = inr (inl (seed, (form, (workers, ask)), why))
 gave_bad words left rest text _ ask why = inl why
 
-not_of_run : (planned : ℕ) (job : Job) (end : Lab) → planned ≡ job_status job end → planned ≡ 2 → ⊥
-not_of_run planned job end p two = false≢true (ap is_of_run (sym two ∙ p) ∙ run_status (job_status job end) (job_of_run job end))
+not_of_run : (other planned : ℕ) (job : Job) (end : Lab) → is_of_run other ≡ false → planned ≡ job_status job end → planned ≡ other → ⊥
+not_of_run other planned job end fails p is =
+    false≢true (sym fails ∙ ap is_of_run (sym is ∙ p) ∙ run_status (job_status job end) (job_of_run job end))
+
+-- an audit that is refused
+no_journal : (words : List (List ℕ)) (left rest : Option (List ℕ)) (text : List ℕ) (planned : ℕ) (end : AuditEnd) → AskToAudit words
+    → ReadsText left rest text end → planned ≡ audit_status end → planned ≡ 2 → GaveBadInput words left rest text
+no_journal words left rest text planned audit_ends.NoJournal audit reads p two = inr (inr (inr (audit, reads)))
+no_journal words left rest text planned audit_ends.Yes audit reads p two = let zero : planned ≡ 0 = p in absurd (omega (arith, zero, two))
+no_journal words left rest text planned audit_ends.No audit reads p two = let eight : planned ≡ 8 = p in absurd (omega (arith, eight, two))
 
 bad_by : (words : List (List ℕ)) (job : Job) (left rest : Option (List ℕ)) (text : List ℕ) (planned : ℕ) (lab : Option Lab) → Asks words job
     → Cause job left rest text planned lab → planned ≡ 2 → GaveBadInput words left rest text
 bad_by words job left rest text planned lab ask (tells t p l) two = absurd (omega arith)
 bad_by words job left rest text planned lab ask (checks form (Ok input) is read t p l) two = absurd (omega (arith, p))
 bad_by words job left rest text planned lab ask (checks form (Err bad) is read t p l) two = inl (record { answer = Err bad; read = read; why = t })
+bad_by words job left rest text planned lab ask (audits end is reads p l) two =
+    no_journal words left rest text planned end (subst (Asks words) is ask) reads p two
 bad_by words job left rest text planned lab ask (refuses run why p l) two = gave_bad words left rest text job ask why
 bad_by words job left rest text planned lab ask (misses input view workers name is read none t p l) two =
-    inr (inr (record { input = input; view = view; name = name; read = read; asks = (workers, subst (Asks words) is ask); none = none; says = t }))
-bad_by words job left rest text planned lab ask (runs bytes end run gives is told ran p l) two = absurd (not_of_run planned job end p two)
+    inr (inr (inl (record { input = input; view = view; name = name; read = read; asks = (workers, subst (Asks words) is ask); none = none; says = t })))
+bad_by words job left rest text planned lab ask (runs bytes end run gives is told ran p l) two = absurd (not_of_run 2 planned job end refl p two)
 
 pub bad_input : (words : List (List ℕ)) (o n : Outside) (status : ℕ) (lab : Option Lab) → Ended words o n status lab → status ≡ 2
     → (text : List ℕ) × GaveBadInput words o.left n.left text × Appended o.written n.written text
@@ -252,6 +303,7 @@ two_of : (job : Job) (left rest : Option (List ℕ)) (text : List ℕ) (planned 
     → Cause job left rest text planned lab → planned ≡ 2
 two_of job left rest text planned lab run none (tells t p l) = absurd (plain_is_no_lab job text t run)
 two_of job left rest text planned lab run none (checks form answer is read t p l) = absurd (subst RunsLab is run)
+two_of job left rest text planned lab run none (audits end is reads p l) = absurd (subst RunsLab is run)
 two_of job left rest text planned lab run none (refuses lab_run why p l) = p
 two_of job left rest text planned lab run none (misses input view workers name is read unknown t p l) = p
 two_of job left rest text planned lab run none (runs bytes end lab_run gives is told ran p l) = absurd (none_or_some lab end none l)
@@ -346,6 +398,7 @@ came_by : (words : List (List ℕ)) (job : Job) (o n : Outside) (text : List ℕ
     → lab ≡ Some end → Cause job o.left n.left text planned lab → Wrote text planned o n status → Came words o n status end
 came_by words job o n text planned status lab end ask some (tells t p l) w = absurd (none_or_some lab end l some)
 came_by words job o n text planned status lab end ask some (checks form answer is read t p l) w = absurd (none_or_some lab end l some)
+came_by words job o n text planned status lab end ask some (audits told is reads p l) w = absurd (none_or_some lab end l some)
 came_by words job o n text planned status lab end ask some (refuses run why p l) w = absurd (none_or_some lab end l some)
 came_by words job o n text planned status lab end ask some (misses input view workers name is read none t p l) w = absurd (none_or_some lab end l some)
 came_by words job o n text planned status lab end ask some (runs bytes other run gives is told ran p l) w =
@@ -374,7 +427,8 @@ headline words o n status None ended = tt
 headline words o n status (Some end) ended = (came words o n status (Some end) end refl ended).ran
 
 pub no_run : (words : List (List ℕ)) (o n : Outside) (status : ℕ) (lab : Option Lab) → Ended words o n status lab
-    → AreRefused words ⊎ AskToMake words ⊎ ((form : Form) × AskToCheck words form) ⊎ ((line : List ℕ) × AskForLine words line) → lab ≡ None
+    → AreRefused words ⊎ AskToMake words ⊎ ((form : Form) × AskToCheck words form) ⊎ AskToAudit words ⊎ ((line : List ℕ) × AskForLine words line)
+    → lab ≡ None
 no_run words o n status None ended other = refl
 no_run words o n status (Some end) ended other =
     let c = came words o n status (Some end) end refl ended in absurd (no_lab words c.job c.ask other c.run)
@@ -452,6 +506,7 @@ some_by : (job : Job) (left rest : Option (List ℕ)) (text : List ℕ) (planned
     → Cause job left rest text planned lab → IsSome lab
 some_by job left rest text planned lab run is (tells t p l) = absurd (plain_is_no_lab job text t run)
 some_by job left rest text planned lab run is (checks form answer check read t p l) = absurd (subst RunsLab check run)
+some_by job left rest text planned lab run is (audits end audit reads p l) = absurd (subst RunsLab audit run)
 some_by job left rest text planned lab run is (refuses lab_run why p l) = absurd (false≢true (sym (ap is_of_run p) ∙ is))
 some_by job left rest text planned lab run is (misses input view workers name job_is read none t p l) = absurd (false≢true (sym (ap is_of_run p) ∙ is))
 some_by job left rest text planned lab run is (runs bytes end lab_run gives input told ran p l) = subst (λ found. IsSome found) (sym l) refl
@@ -495,6 +550,12 @@ failed_by words job left rest text planned lab ask (tells t p l) nine = absurd (
 failed_by words job left rest text planned lab ask (checks form (Ok input) is read t p l) nine =
     let zero : planned ≡ 0 = p in absurd (omega (arith, zero, nine))
 failed_by words job left rest text planned lab ask (checks form (Err bad) is read t p l) nine = let two : planned ≡ 2 = p in absurd (omega (arith, two, nine))
+failed_by words job left rest text planned lab ask (audits audit_ends.NoJournal is reads p l) nine =
+    let two : planned ≡ 2 = p in absurd (omega (arith, two, nine))
+failed_by words job left rest text planned lab ask (audits audit_ends.Yes is reads p l) nine =
+    let zero : planned ≡ 0 = p in absurd (omega (arith, zero, nine))
+failed_by words job left rest text planned lab ask (audits audit_ends.No is reads p l) nine =
+    let eight : planned ≡ 8 = p in absurd (omega (arith, eight, nine))
 failed_by words job left rest text planned lab ask (refuses run why p l) nine = absurd (omega (arith, p, nine))
 failed_by words job left rest text planned lab ask (misses input view workers name is read none t p l) nine = absurd (omega (arith, p, nine))
 failed_by words job left rest text planned lab ask (runs bytes end run gives is told ran p l) nine =
@@ -509,3 +570,28 @@ failed words o n status lab (did job ask (wrote text planned cause (inl whole)))
 failed words o n status lab (did job ask (wrote text planned cause (inr front))) nine = let five = front.0 in absurd (omega arith)
 failed words o n status lab (did job ask (unread reads four rose same l)) nine = absurd (omega arith)
 failed words o n status lab (no_memory six same l) nine = absurd (omega arith)
+
+-- ---- a journal that no run has
+
+-- 8 is the status of an audit
+denied_by : (words : List (List ℕ)) (job : Job) (left rest : Option (List ℕ)) (text : List ℕ) (planned : ℕ) (lab : Option Lab) → Asks words job
+    → Cause job left rest text planned lab → planned ≡ 8 → AskToAudit words
+denied_by words job left rest text planned lab ask (tells t p l) eight = absurd (omega (arith, p, eight))
+denied_by words job left rest text planned lab ask (checks form (Ok input) is read t p l) eight =
+    let zero : planned ≡ 0 = p in absurd (omega (arith, zero, eight))
+denied_by words job left rest text planned lab ask (checks form (Err bad) is read t p l) eight =
+    let two : planned ≡ 2 = p in absurd (omega (arith, two, eight))
+denied_by words job left rest text planned lab ask (audits end is reads p l) eight = subst (Asks words) is ask
+denied_by words job left rest text planned lab ask (refuses run why p l) eight = absurd (omega (arith, p, eight))
+denied_by words job left rest text planned lab ask (misses input view workers name is read none t p l) eight = absurd (omega (arith, p, eight))
+denied_by words job left rest text planned lab ask (runs bytes end run gives is told ran p l) eight =
+    absurd (not_of_run 8 planned job end refl p eight)
+
+pub denied : (words : List (List ℕ)) (o n : Outside) (status : ℕ) (lab : Option Lab) → Ended words o n status lab → status ≡ 8 → AskToAudit words
+denied words o n status lab (refused none (inl whole) l) eight = let one = whole.0 in absurd (omega arith)
+denied words o n status lab (refused none (inr front) l) eight = let five = front.0 in absurd (omega arith)
+denied words o n status lab (did job ask (wrote text planned cause (inl whole))) eight =
+    denied_by words job o.left n.left text planned lab ask cause (sym whole.0 ∙ eight)
+denied words o n status lab (did job ask (wrote text planned cause (inr front))) eight = let five = front.0 in absurd (omega arith)
+denied words o n status lab (did job ask (unread reads four rose same l)) eight = absurd (omega arith)
+denied words o n status lab (no_memory six same l) eight = absurd (omega arith)

@@ -21,13 +21,16 @@ use Rattle.lab_top.specs.Built.{is_built}
 use Rattle.lab_top.specs.declared.views.ViewName.{ViewName}
 use Rattle.lab_top.specs.Forms.{accepted_in}
 use Rattle.lab_top.specs.Views.{view_named, viewing}
-use Rattle.lab_top.specs.Ends.{AreRefused, ReadsInput, IsRefusal, SaysWhy, TookBadInput, WritesText, unknown_text, not_built_text}
+use Rattle.lab_audit.specs.Told.{IsRefusal, TellsOf, long_text, most_text}
+use Rattle.lab_audit.specs.declared.audited.AuditEnd.TheVariants as audit_ends
+use Rattle.lab_audit.specs.declared.audited.Told.{Told}
+use Rattle.lab_top.specs.Ends.{AreRefused, ReadsInput, ReadsText, audit_status, SaysWhy, TookBadInput, WritesText, unknown_text, not_built_text}
 use Rattle.lab_top.specs.declared.finish.Finish.{Finish}
 use Rattle.lab_top.specs.declared.finish.InputStop.{InputStop}
 use Rattle.lab_top.specs.declared.finish.InputStop.TheVariants as stops
 use Rattle.lab_top.specs.Cases.{Outside, TookWhole, RefusesInput, GivesNoInput, stop_with, ReadsOrStops, AnswersOrStops, WritesOr, FailsUnread, FindsNone}
-use Rattle.lab_top.specs.Cases.{BuiltOr, EndsRun, EndsUnbuilt, StopsFor}
-use Rattle.lab_top.specs.Cases.{ReadsSource, RunsLab, plain_text, Gives, Tells, job_status, Cause, tells, checks, refuses, misses, runs}
+use Rattle.lab_top.specs.Cases.{BuiltOr, EndsAudit, EndsRun, EndsUnbuilt, StopsFor}
+use Rattle.lab_top.specs.Cases.{ReadsSource, RunsLab, plain_text, Gives, Tells, job_status, Cause, tells, checks, audits, refuses, misses, runs}
 use Rattle.lab_top.specs.Cases.{Did, wrote, unread, DidOr, Ended, refused, did, EndsOr}
 use Rattle.lab_top.proofs.Asking.{refuses_of, gives_of}
 
@@ -130,6 +133,20 @@ pub checked_ends : (form : Form) (o n : Outside) (input : LabInput) (text : List
     → text ≡ accepted_in form input → lab ≡ None → WritesText text 0 o.write_faults n.write_faults o.written n.written status
     → Did (jobs.Check form) o n status lab
 checked_ends form o n input text status lab read is none w = wrote text 0 (checks form (Ok input) refl read is refl none) w
+
+-- a text that was audited
+audited_ends : (o n : Outside) (told : Told) (finish : Finish) → ReadsText o.left n.left told.text told.end
+    → EndsAudit told o.write_faults n.write_faults o.written n.written finish → Did jobs.Audit o n finish.status finish.lab
+audited_ends o n told finish reads end = wrote told.text (audit_status told.end) (audits told.end refl reads refl end.0) end.1
+
+pub whole_audited : (o n : Outside) (text : List ℕ) (told : Told) (finish : Finish) → Took o.left n.left text → IsAtEnd n.left
+    → TellsOf text told.text told.end → EndsAudit told o.write_faults n.write_faults o.written n.written finish → Did jobs.Audit o n finish.status finish.lab
+whole_audited o n text told finish took end tells_of = audited_ends o n told finish (record { bytes = text; took = took; says = inl (end, tells_of) })
+
+pub long_audited : (o n : Outside) (told : Told) (finish : Finish) → TookSome o.left n.left (λ n. most_text < n)
+    → (told.text ≡ long_text) × (told.end ≡ audit_ends.NoJournal)
+    → EndsAudit told o.write_faults n.write_faults o.written n.written finish → Did jobs.Audit o n finish.status finish.lab
+long_audited o n told finish some is = audited_ends o n told finish (record { bytes = some.0; took = some.2; says = inr (some.1, is.0, is.1) })
 
 -- an input that hasn't what a view names
 pub unknown_ends : (view : ViewName) (workers : ℕ) (o n : Outside) (input : LabInput) (name text : List ℕ) (status : ℕ) (lab : Option Lab)

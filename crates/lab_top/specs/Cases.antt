@@ -22,8 +22,11 @@ use Rattle.lab_top.specs.Forms.{IsReportIn, summary_in, test_in}
 use Rattle.lab_top.specs.declared.views.ViewName.{ViewName}
 use Rattle.lab_top.specs.declared.views.ViewName.TheVariants as names
 use Rattle.lab_top.specs.Views.{view_named, ShowsView, viewing}
-use Rattle.lab_top.specs.Ends.{AreRefused, ReadsInput, IsRefusal, SaysWhy, TookBadInput, unknown_text, not_built_text, WritesText, SaysVerdict}
-use Rattle.lab_top.specs.Ends.{end_status, tested_status, verdict_status}
+use Rattle.lab_audit.specs.Told.{IsRefusal}
+use Rattle.lab_audit.specs.declared.audited.AuditEnd.{AuditEnd}
+use Rattle.lab_audit.specs.declared.audited.Told.{Told}
+use Rattle.lab_top.specs.Ends.{AreRefused, ReadsInput, ReadsText, SaysWhy, TookBadInput, unknown_text, not_built_text, WritesText, SaysVerdict}
+use Rattle.lab_top.specs.Ends.{audit_status, end_status, tested_status, verdict_status}
 
 -- what the source and the sink tell
 pub record Outside : Type 0 where
@@ -104,6 +107,11 @@ abbrev pub EndsUnbuilt : (faults_before faults_after : ℕ) → (before after : 
 EndsUnbuilt faults_before faults_after before after finish =
     (finish.lab ≡ None) × WritesText not_built_text 2 faults_before faults_after before after finish.status
 
+-- What an audit says is written under its status.
+abbrev pub EndsAudit : Told → (faults_before faults_after : ℕ) → (before after : Option (List ℕ)) → Finish → Type 0
+EndsAudit told faults_before faults_after before after finish =
+    (finish.lab ≡ None) × WritesText told.text (audit_status told.end) faults_before faults_after before after finish.status
+
 -- A job ends whose source gave no input.
 abbrev pub StopsFor : InputStop → (faults_before faults_after : ℕ) → (before after : Option (List ℕ)) → Result Finish NoMemory → Type 0
 StopsFor (stops.Bad text) faults_before faults_after before after end = WritesOr text 2 faults_before faults_after before after end
@@ -124,6 +132,7 @@ ReadsSource _ = Unit {0}
 abbrev pub RunsLab : Job → Type 0
 RunsLab (jobs.Check form) = ⊥
 RunsLab (jobs.Make seed) = ⊥
+RunsLab jobs.Audit = ⊥
 RunsLab jobs.Help = ⊥
 RunsLab jobs.Version = ⊥
 RunsLab _ = Unit {0}
@@ -171,6 +180,8 @@ pub data Cause (job : Job) (left_before left_after : Option (List ℕ)) (text : 
   checks : (form : Form) (answer : Result LabInput BadInput) → job ≡ jobs.Check form → (read : ReadsInput left_before left_after answer)
       → SaysVerdict form read.bytes answer text
       → planned ≡ verdict_status answer → lab ≡ None → Cause job left_before left_after text planned lab
+  audits : (end : AuditEnd) → job ≡ jobs.Audit → ReadsText left_before left_after text end → planned ≡ audit_status end → lab ≡ None
+      → Cause job left_before left_after text planned lab
   refuses : RunsLab job → Refuses job left_before left_after text → planned ≡ 2 → lab ≡ None → Cause job left_before left_after text planned lab
   misses : (input : LabInput) (view : ViewName) (workers : ℕ) (name : List ℕ) → job ≡ viewing view workers → ReadsInput left_before left_after (Ok input)
       → view_named input view ≡ Err name → text ≡ unknown_text input name → planned ≡ 2 → lab ≡ None → Cause job left_before left_after text planned lab

@@ -7,10 +7,13 @@ use Rattle.lab_input.specs.declared.bad.BadInput.TheVariants.{Unknown}
 use Rattle.lab_top.specs.Built.{is_built}
 use Rattle.lab_input.specs.Labs.{input_of, InputOf, too_long}
 use Rattle.lab_hints.specs.Later.{unknown_words}
-use Rattle.lab_hints.specs.Hints.{hint_line, IsHint}
+use Rattle.lab_hints.specs.Hints.{hint_line}
+use Rattle.lab_audit.specs.Told.{IsRefusal, TellsOf, long_text, most_text}
+use Rattle.lab_audit.specs.declared.audited.AuditEnd.{AuditEnd}
+use Rattle.lab_audit.specs.declared.audited.AuditEnd.TheVariants as audit_ends
 use Rattle.lab_words.specs.declared.job.Form.{Form}
 use Rattle.lab_words.specs.declared.job.Job.{Job}
-use Rattle.lab_words.specs.declared.job.Job.TheVariants.{Run, Check, Make, Drill, Journal, Test, Help, Version}
+use Rattle.lab_words.specs.declared.job.Job.TheVariants.{Run, Check, Make, Drill, Journal, Audit, Test, Help, Version}
 use Rattle.lab_words.specs.Asked.{usage_text, version_text, Asks}
 use Rattle.lab_make.specs.Made.{made}
 use Rattle.lab_report.specs.declared.lab.Lab.{Lab}
@@ -40,6 +43,10 @@ AskToRun words form = (workers : ℕ) × Asks words (Run workers form)
 -- They ask for its journal.
 abbrev pub AskForJournal : List (List ℕ) → Type 0
 AskForJournal words = (workers : ℕ) × Asks words (Journal workers)
+
+-- They ask whether a journal is that of a run.
+abbrev pub AskToAudit : List (List ℕ) → Type 0
+AskToAudit words = Asks words Audit
 
 -- They ask which of its expectations hold.
 abbrev pub AskToTest : List (List ℕ) → Form → Type 0
@@ -93,10 +100,6 @@ pub record TookInput (before after : Option (List ℕ)) (input : LabInput) : Typ
   pub end : IsAtEnd after
   pub is : InputOf bytes input
 
--- The text is what is said of bytes that are refused for this fault: a line with the fault, and a hint.
-abbrev pub IsRefusal : List ℕ → BadInput → List ℕ → Type 0
-IsRefusal bytes bad text = (hint : List ℕ) × IsHint bytes bad hint × (text ≡ bad_line bad ++ hint)
-
 -- what is said of an input that hasn't the router or peering of this name
 abbrev pub unknown_text : LabInput → List ℕ → List ℕ
 unknown_text input name = bad_line (Unknown name) ++ hint_line (unknown_words input name)
@@ -125,20 +128,30 @@ pub record NamesUnknown (words : List (List ℕ)) (before after : Option (List �
   pub none : view_named input view ≡ Err name
   pub says : text ≡ unknown_text input name
 
+-- Bytes were taken from a source, and this is what an audit says of them: of all that there were, or that they are more than 256 MiB.
+pub record ReadsText (before after : Option (List ℕ)) (text : List ℕ) (end : AuditEnd) : Type 0 where
+  pub bytes : List ℕ
+  pub took : Took before after bytes
+  pub says : (IsAtEnd after × TellsOf bytes text end) ⊎ ((most_text < length bytes) × (text ≡ long_text) × (end ≡ audit_ends.NoJournal))
+
+-- What was taken from a source is to be audited and is no journal, for the reason that the text says.
+abbrev pub TookNoJournal : (words : List (List ℕ)) → (before after : Option (List ℕ)) → (text : List ℕ) → Type 0
+TookNoJournal words before after text = AskToAudit words × ReadsText before after text audit_ends.NoJournal
+
 -- What is to be checked or run is none, for the reason that the text says: what was taken from a source, or the laboratory of a seed; or it hasn't
--- what the words name.
+-- what the words name; or what is to be audited is no journal.
 abbrev pub GaveBadInput : (words : List (List ℕ)) → (before after : Option (List ℕ)) → (text : List ℕ) → Type 0
 GaveBadInput words before after text =
     TookBadInput before after text ⊎ ((seed : ℕ) × AskToDrill words seed × SaysWhy (made seed) (input_of (made seed)) text)
-    ⊎ NamesUnknown words before after text
+    ⊎ NamesUnknown words before after text ⊎ TookNoJournal words before after text
 
 -- ---- the sink
 
 -- 0 all was done, 1 refused words, 2 refused input, 3 a run that didn't settle, 4 a read failed, 5 a write failed, 6 no memory, 7 a run that met a limit,
--- 9 a settled run of which an expectation doesn't hold
+-- 8 a journal that no run has, 9 a settled run of which an expectation doesn't hold
 abbrev pub IsStatus : ℕ → Type 0
 IsStatus status =
-    (status ≡ 0) ⊎ (status ≡ 1) ⊎ (status ≡ 2) ⊎ (status ≡ 3) ⊎ (status ≡ 4) ⊎ (status ≡ 5) ⊎ (status ≡ 6) ⊎ (status ≡ 7) ⊎ (status ≡ 9)
+    (status ≡ 0) ⊎ (status ≡ 1) ⊎ (status ≡ 2) ⊎ (status ≡ 3) ⊎ (status ≡ 4) ⊎ (status ≡ 5) ⊎ (status ≡ 6) ⊎ (status ≡ 7) ⊎ (status ≡ 8) ⊎ (status ≡ 9)
 
 -- the status under which the report of a run is written
 abbrev pub end_status : RunEnd → ℕ
@@ -177,6 +190,19 @@ pub record Checks (form : Form) (left_before left_after : Option (List ℕ)) (fa
   pub text : List ℕ
   pub says : SaysVerdict form read.bytes answer text
   pub wrote : WritesText text (verdict_status answer) faults_before faults_after before after status
+
+-- the status of an audit
+abbrev pub audit_status : AuditEnd → ℕ
+audit_status audit_ends.NoJournal = 2
+audit_status audit_ends.Yes = 0
+audit_status audit_ends.No = 8
+
+-- What was read from the source was audited, and the answer said.
+pub record Audits (left_before left_after : Option (List ℕ)) (faults_before faults_after : ℕ) (before after : Option (List ℕ)) (status : ℕ) : Type 0 where
+  pub text : List ℕ
+  pub end : AuditEnd
+  pub reads : ReadsText left_before left_after text end
+  pub wrote : WritesText text (audit_status end) faults_before faults_after before after status
 
 -- The report of a run was written under the status of its end: a text that says how the run ended and where packets go then.
 pub record WritesReport (lab : Lab) (form : Form) (faults_before faults_after : ℕ) (before after : Option (List ℕ)) (status : ℕ) : Type 0 where

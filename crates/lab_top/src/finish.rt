@@ -23,6 +23,8 @@ pub const NO_MEMORY: u8 = 6;
 
 pub const LIMIT: u8 = 7;
 
+pub const DENIED: u8 = 8;
+
 /// How a command ends: its status, and the run where there was one.
 #[derive(Debug, Drop)]
 pub struct Finish {

@@ -7,7 +7,7 @@ ghost use Rattle.lab_hints.specs.Hints.{hint_line, long_words};
 ghost use Rattle.lab_report.specs.BadText.{bad_line};
 ghost use Rattle.node_configs.specs.Accepted.{IsAccepted};
 ghost use Rattle.expect_view.specs.Expect.{test_status as test_status_lem};
-ghost use Rattle.lab_top.specs.Ends.{IsRefusal, unknown_text as unknown_text_lem, end_status};
+ghost use Rattle.lab_top.specs.Ends.{unknown_text as unknown_text_lem, end_status};
 ghost use Rattle.lab_top.specs.Views.{viewing};
 ghost use Rattle.lab_top.specs.Cases.{outside, stop_with as stop_with_lem, BytesOrStops, ReadsOrStops, AnswersOrStops, BuiltOr, EndsRun};
 ghost use Rattle.lab_top.specs.Cases.{EndsUnbuilt, StopsFor, DidOr};
@@ -21,7 +21,8 @@ use crate::views::{ViewName, view_named, view_text};
 use expect_view::test_status;
 use graft_edge::{Gate, Name, NoMemory, Octets, ReadStop, Sink, Source, read_all};
 use journal_form::journal_text;
-use lab_hints::{hint_text, long_hint, name_hint};
+use lab_audit::refusal;
+use lab_hints::{long_hint, name_hint};
 use lab_input::{BadInput, LabInput, LabStop, MOST_BYTES, read_lab, too_long};
 use lab_make::make_lab;
 use lab_report::{Lab, RunEnd, bad_text};
@@ -40,16 +41,6 @@ fn too_long_text(alloc: Global) -> Result<Octets, NoMemory>
     let bad = too_long(alloc)?;
     let mut text = bad_text(alloc, &bad)?;
     let hint = long_hint(alloc)?;
-    text.extend(&hint)?;
-    Ok(text)
-}
-
-/// What is said of bytes that are refused for a fault: the fault, and a hint.
-fn refusal(alloc: Global, bytes: &[u8], bad: &BadInput) -> Result<Octets, NoMemory>
-    ensures { IfOk result (IsRefusal bytes.now bad.now) }
-{
-    let mut text = bad_text(alloc, bad)?;
-    let hint = hint_text(alloc, bytes, bad)?;
     text.extend(&hint)?;
     Ok(text)
 }

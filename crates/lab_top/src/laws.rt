@@ -31,13 +31,29 @@ ghost use Rattle.lab_seen.specs.Seen.{SeesSession, far_view, router_table_of};
 ghost use Rattle.lab_run.specs.Ends.{HasMarks};
 ghost use Rattle.lab_run.specs.Forwards.{Forwards};
 ghost use Rattle.lab_run.specs.Runs.{HoldsAlong};
-ghost use Rattle.lab_top.specs.Laws.{Says};
+ghost use Rattle.lab_top.specs.Laws.{JournalsPass, Says};
+
+use journal_form::{a_text_is_read_in_one_way, journals_read_back};
+use lab_setup::{accepted_is_a_setup, accepted_is_in_range};
+use run_auditor::answers_tell_of_runs;
 
 /// A text that has no line of where packets go is no report of a run, where its input has an address to trace and a router.
 pub fn reports_have_their_traces()
     ensures { (lab : Lab) (address : ℕ) (addresses : List ℕ) (router : RouterInput) (routers : List RouterInput)
         → lab.input.trace ≡ address ∷ addresses → lab.input.routers ≡ router ∷ routers → ¬ (IsReport lab (report_text lab)) }
 {}
+
+/// An audit of what `journal` writes says that a run has this journal. The entries' numbers must be in the ranges of
+/// their fields, as those of every journal of a run are.
+pub fn what_is_journaled_passes()
+    ensures { JournalsPass }
+{
+    journals_read_back();
+    a_text_is_read_in_one_way();
+    answers_tell_of_runs();
+    accepted_is_a_setup();
+    accepted_is_in_range();
+}
 
 /// What the headline says of a run, part by part.
 pub fn the_headline_says()

@@ -11,11 +11,12 @@ ghost use Rattle.lab_input.specs.Labs.{InputOf};
 ghost use Rattle.lab_run.specs.Runs.{RanLab};
 ghost use Rattle.lab_top.specs.Forms.{summary_in, test_in};
 ghost use Rattle.lab_top.specs.declared.views.ViewName.{ViewName};
-ghost use Rattle.lab_top.specs.Ends.{AreRefused, AskToCheck, AskToRun, AskForJournal, AskToTest, AskToView, RunsSource, AskToSum, AskToDrill, AskForLab};
+ghost use Rattle.lab_top.specs.Ends.{AreRefused, AskToCheck, AskToRun, AskForJournal, AskToAudit, AskToTest, AskToView, RunsSource, AskToSum, AskToDrill, AskForLab};
 ghost use Rattle.lab_top.specs.Ends.{AskToMake, AskForLine, AskUnread, TookInput, GaveBadInput, IsStatus, WritesText, WritesReport, WritesJournal, WritesView};
-ghost use Rattle.lab_top.specs.Ends.{Checks, end_status, tested_status, HasFailed};
+ghost use Rattle.lab_top.specs.Ends.{Audits, Checks, end_status, tested_status, HasFailed};
 ghost use Rattle.lab_top.specs.Cases.{outside, ReadsSource, DidOr, EndsOr, Ended};
 
+use crate::audit::audit_job;
 use crate::finish::{DONE, Finish, NO_MEMORY, USAGE, end_with, without_run};
 use crate::jobs::{check_job, drill_job, journal_job, make_job, run_job, test_job, view_job};
 use crate::views::ViewName;
@@ -47,6 +48,7 @@ fn do_job<R: Threads + Sync + AllocGlobal, S: Source, K: Sink, G: Gate>(
             form,
         } => drill_job(rt, sink, seed, workers, form, gate),
         Job::Journal { workers } => journal_job(rt, source, sink, workers, gate),
+        Job::Audit => audit_job(alloc, source, sink),
         Job::Timeline { workers, form } => {
             view_job(rt, source, sink, ViewName::Timeline(form), workers, gate)
         }
@@ -120,6 +122,7 @@ fn finish_of<R: Threads + Sync + AllocGlobal, S: Source, K: Sink, G: Gate>(
 /// writes the report to the sink; each actor's turn passes the gate first. `journal` writes the input and the
 /// journal of its run in place of a report, `show`, `timeline`, `why`, `story` and `picture` write a view of it, and
 /// `test` writes which expectations of the input hold of it. `check` reads an input and writes whether it is one.
+/// `audit` reads such a text of an input and a journal, and writes whether some run has that journal.
 /// With `--json` what `check`, `run`, `drill`, `show`, `timeline`, `why` and `test` write is one JSON object.
 /// `make` writes the laboratory of a seed; `drill` runs it and writes the summary. `--help` writes the usage, and
 /// `--version` the version. Other words are refused with the usage and a hint.
@@ -156,8 +159,14 @@ where
     ensures checked { (form : Form) → AskToCheck words.now form → (result.status ≡ 4) ⊎ (result.status ≡ 6)
         ⊎ Checks form (S.left source.old) (S.left source.new) (K.faults sink.old) (K.faults sink.new) (K.written sink.old) (K.written sink.new) result.status }
 
+    // `audit` reads the source to its end, or past the most bytes of a journal's text, and says whether a run has that journal.
+    // Status 8 is that of a journal that no run has.
+    ensures audited { AskToAudit words.now → (result.status ≡ 4) ⊎ (result.status ≡ 6)
+        ⊎ Audits (S.left source.old) (S.left source.new) (K.faults sink.old) (K.faults sink.new) (K.written sink.old) (K.written sink.new) result.status }
+    ensures denied { result.status ≡ 8 → AskToAudit words.now }
+
     // An input is refused only where the bytes are none, or none that can be run yet, or where it hasn't the router or
-    // peering of a view, and then a line says why, and a hint what is wanted.
+    // peering of a view, or where the text that is to be audited is no journal, and then a line says why, and a hint what is wanted.
     ensures bad_input { result.status ≡ 2
         → (text : _) × GaveBadInput words.now (S.left source.old) (S.left source.new) text × Appended (K.written sink.old) (K.written sink.new) text }
     ensures bad_input_unwritten { AskForLab words.now → result.status ≡ 5 → result.lab ≡ None
@@ -176,7 +185,7 @@ where
     ensures ended { AskForLab words.now → (result.status ≡ 0) ⊎ (result.status ≡ 3) ⊎ (result.status ≡ 7) ⊎ (result.status ≡ 9)
         → IsSome result.lab }
     ensures no_run { AreRefused words.now ⊎ AskToMake words.now ⊎ ((form : Form) × AskToCheck words.now form)
-        ⊎ ((line : List ℕ) × AskForLine words.now line) → result.lab ≡ None }
+        ⊎ AskToAudit words.now ⊎ ((line : List ℕ) × AskForLine words.now line) → result.lab ≡ None }
     ensures ran { OnSome result.lab (AskForLab words.now
         × ((result.status ≡ 0) ⊎ (result.status ≡ 3) ⊎ (result.status ≡ 5) ⊎ (result.status ≡ 7) ⊎ (result.status ≡ 9))) }
     ensures input { IfSome result.lab (λ lab. RunsSource words.now → TookInput (S.left source.old) (S.left source.new) lab.input) }

@@ -13,11 +13,11 @@ use Rattle.lab_words.specs.declared.arguments.Arguments.{Arguments}
 use Rattle.lab_words.specs.declared.job.Form.{Form}
 use Rattle.lab_words.specs.declared.job.Form.TheVariants.{Plain, Json}
 use Rattle.lab_words.specs.declared.job.Job.{Job}
-use Rattle.lab_words.specs.declared.job.Job.TheVariants.{Run, Check, Make, Drill, Journal, Timeline, Show, Story, Why, Picture, Test, Help, Version}
+use Rattle.lab_words.specs.declared.job.Job.TheVariants.{Run, Check, Make, Drill, Journal, Audit, Timeline, Show, Story, Why, Picture, Test, Help, Version}
 use Rattle.lab_words.specs.declared.job.WordStop.{WordStop}
 use Rattle.lab_words.specs.declared.job.WordStop.TheVariants.{Usage, NoMemory}
 use Rattle.lab_words.specs.Asked.{given_by, IsSeed, IsWorkersText, IsReadAs, AreArguments, name_of, several, HasArguments, IsJob}
-use Rattle.lab_words.specs.Reading.{Answers, unless, plain, workers_alone, check_with, make_with, drill_with, story_with, why_with, job_named}
+use Rattle.lab_words.specs.Reading.{Answers, unless, plain, workers_alone, check_with, audit_with, make_with, drill_with, story_with, why_with, job_named}
 
 -- ---- what is read is what is taken, row by row
 
@@ -54,6 +54,14 @@ check_fits given =
     let check : Option Job = Some (Check given.form) in
     unless_so P given.subject (unless given.prefix (unless given.workers check))
     (λ s. unless_so P given.prefix (unless given.workers check) (λ p. unless_so P given.workers check (λ w. (refl, (s, p, w, refl)))))
+
+audit_fits : (given : Arguments) → IfSome (plain given.form (audit_with given.subject given.prefix given.workers)) (Fits (codes "audit") given)
+audit_fits given =
+    let P = Fits (codes "audit") given in
+    let audit : Option Job = Some Audit in
+    plain_so P given.form (audit_with given.subject given.prefix given.workers)
+    (λ f. unless_so P given.subject (unless given.prefix (unless given.workers audit))
+    (λ s. unless_so P given.prefix (unless given.workers audit) (λ p. unless_so P given.workers audit (λ w. (refl, (s, p, w, f))))))
 
 make_fits : (given : Arguments) → IfSome (plain given.form (make_with given.seed given.prefix given.workers)) (Fits (codes "make") given)
 make_fits given =
@@ -114,12 +122,13 @@ named_fits name given =
     (row name (codes "make") given _ _ (make_fits given)
     (row name (codes "drill") given _ _ (drill_fits given)
     (row name (codes "journal") given _ _ (plain_fits (codes "journal") given Journal (λ s p f. (refl, ((s, p, refl), f))))
+    (row name (codes "audit") given _ _ (audit_fits given)
     (row name (codes "timeline") given _ _ (formed_fits (codes "timeline") given Timeline (λ s p. (refl, ((s, p, refl), refl))))
     (row name (codes "show") given _ _ (formed_fits (codes "show") given Show (λ s p. (refl, ((s, p, refl), refl))))
     (row name (codes "story") given _ _ (story_fits given)
     (row name (codes "why") given _ _ (why_fits given)
     (row name (codes "picture") given _ _ (plain_fits (codes "picture") given Picture (λ s p f. (refl, ((s, p, refl), f))))
-    (row name (codes "test") given _ None (formed_fits (codes "test") given Test (λ s p. (refl, ((s, p, refl), refl)))) tt))))))))))
+    (row name (codes "test") given _ None (formed_fits (codes "test") given Test (λ s p. (refl, ((s, p, refl), refl)))) tt)))))))))))
 
 -- ---- each job is read by its name: no row before its own has that name
 
@@ -129,6 +138,7 @@ read_by_name given (Check form) has = rw (has.0, has.1, has.2, has.3) refl
 read_by_name given (Make seed) has = rw (has.0, has.1, has.2, has.3) refl
 read_by_name given (Drill seed workers form) has = rw (has.0, has.1, has.2, has.3) refl
 read_by_name given (Journal workers) has = rw (has.0.0, has.0.1, has.0.2, has.1) refl
+read_by_name given Audit has = rw (has.0, has.1, has.2, has.3) refl
 read_by_name given (Timeline workers form) has = rw (has.0.0, has.0.1, has.0.2, has.1) refl
 read_by_name given (Show workers form) has = rw (has.0.0, has.0.1, has.0.2, has.1) refl
 read_by_name given (Story peering workers) has = rw (has.0, has.1, has.2, has.3) refl

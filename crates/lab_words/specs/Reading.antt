@@ -7,7 +7,7 @@ use Rattle.lab_words.specs.declared.arguments.Arguments.{Arguments}
 use Rattle.lab_words.specs.declared.job.Form.{Form}
 use Rattle.lab_words.specs.declared.job.Form.TheVariants.{Plain, Json}
 use Rattle.lab_words.specs.declared.job.Job.{Job}
-use Rattle.lab_words.specs.declared.job.Job.TheVariants.{Run, Check, Make, Drill, Journal, Timeline, Show, Story, Why, Picture, Test}
+use Rattle.lab_words.specs.declared.job.Job.TheVariants.{Run, Check, Make, Drill, Journal, Audit, Timeline, Show, Story, Why, Picture, Test}
 use Rattle.lab_words.specs.declared.job.WordStop.{WordStop}
 use Rattle.lab_words.specs.declared.job.WordStop.TheVariants.{Usage, NoMemory}
 use Rattle.lab_words.specs.Asked.{several}
@@ -38,6 +38,9 @@ workers_alone subject prefix workers = unless subject (unless prefix (Some (seve
 abbrev pub check_with : Option Text → Option PrefixValue → Option ℕ → Form → Option Job
 check_with subject prefix workers form = unless subject (unless prefix (unless workers (Some (Check form))))
 
+abbrev pub audit_with : Option Text → Option PrefixValue → Option ℕ → Option Job
+audit_with subject prefix workers = unless subject (unless prefix (unless workers (Some Audit)))
+
 abbrev pub make_with : Option ℕ → Option PrefixValue → Option ℕ → Option Job
 make_with seed prefix workers = unless prefix (unless workers (option_map Make seed))
 
@@ -59,9 +62,10 @@ job_named name given =
     else (if bytes_eq name (codes "make") then plain given.form (make_with given.seed given.prefix given.workers)
     else (if bytes_eq name (codes "drill") then drill_with given.seed given.prefix given.workers given.form
     else (if bytes_eq name (codes "journal") then plain given.form (option_map Journal (workers_alone given.subject given.prefix given.workers))
+    else (if bytes_eq name (codes "audit") then plain given.form (audit_with given.subject given.prefix given.workers)
     else (if bytes_eq name (codes "timeline") then option_map (λ w. Timeline w given.form) (workers_alone given.subject given.prefix given.workers)
     else (if bytes_eq name (codes "show") then option_map (λ w. Show w given.form) (workers_alone given.subject given.prefix given.workers)
     else (if bytes_eq name (codes "story") then plain given.form (story_with given.subject given.prefix given.workers)
     else (if bytes_eq name (codes "why") then why_with given.subject given.prefix given.workers given.form
     else (if bytes_eq name (codes "picture") then plain given.form (option_map Picture (workers_alone given.subject given.prefix given.workers))
-    else (if bytes_eq name (codes "test") then option_map (λ w. Test w given.form) (workers_alone given.subject given.prefix given.workers) else None))))))))))
+    else (if bytes_eq name (codes "test") then option_map (λ w. Test w given.form) (workers_alone given.subject given.prefix given.workers) else None)))))))))))

@@ -42,6 +42,8 @@ pub enum Job {
     Journal {
         workers: usize,
     },
+    /// Say whether the source is a journal that some run of its laboratory has.
+    Audit,
     /// Run the laboratory of the source, and write its events round by round.
     Timeline {
         workers: usize,
@@ -91,7 +93,7 @@ pub enum WordStop {
 
 /// The usage line of the program.
 pub const USAGE_TEXT: &str =
-    "usage: graftlab run|check|make N|drill N|journal|show|timeline|why ROUTER PREFIX|story PEERING|picture|test [--workers W] [--json]\n";
+    "usage: graftlab run|check|make N|drill N|journal|audit|show|timeline|why ROUTER PREFIX|story PEERING|picture|test [--workers W] [--json]\n";
 
 /// The version line of the program.
 pub const VERSION_TEXT: &str = "graftlab 0.1.0\n";

@@ -2,7 +2,7 @@
 
 ghost use Rattle.std.specs.Prelude.{◌≡◌, option_map};
 ghost use Rattle.lab_words.specs.Asked.{IsJob, given_by};
-ghost use Rattle.lab_words.specs.Reading.{Answers, plain, workers_alone, check_with, make_with, drill_with, story_with, why_with, job_named};
+ghost use Rattle.lab_words.specs.Reading.{Answers, plain, workers_alone, check_with, audit_with, make_with, drill_with, story_with, why_with, job_named};
 
 use crate::arguments::{Arguments, arguments_in};
 use crate::job::{Form, Job, WordStop};
@@ -45,6 +45,16 @@ fn check_with(
 {
     match (subject, prefix, workers) {
         (None, None, None) => Some(Job::Check { form }),
+        _ => None,
+    }
+}
+
+/// Returns the job `audit`, beside which nothing stands.
+fn audit_with(subject: Option<Name>, prefix: Option<Prefix>, workers: Option<usize>) -> Option<Job>
+    ensures { result ≡ audit_with subject prefix workers }
+{
+    match (subject, prefix, workers) {
+        (None, None, None) => Some(Job::Audit),
         _ => None,
     }
 }
@@ -134,6 +144,7 @@ fn job_named(name: &str, arguments: Arguments) -> Option<Job>
             form,
             workers_alone(subject, prefix, workers).map(|workers| Job::Journal { workers }),
         ),
+        "audit" => plain(form, audit_with(subject, prefix, workers)),
         "timeline" => Some(Job::Timeline {
             workers: workers_alone(subject, prefix, workers)?,
             form,

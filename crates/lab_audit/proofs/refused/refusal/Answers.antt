@@ -1,5 +1,5 @@
 use Rattle.std.proofs.Common.{rules}
-use Rattle.lab_top.proofs.jobs.refusal.Goals as goal
+use Rattle.lab_audit.proofs.refused.refusal.Goals as goal
 
 pub returns : goal.returns
 returns c = (c.in_ok-hint.hint, c.in_ok-hint.ensures, search rules)
