@@ -3,6 +3,7 @@ pub mod Opens
 pub mod Numbers
 pub mod Got
 pub mod Reading
+pub mod Again
 pub mod Rounds
 pub mod Offered
 pub mod Exchanged

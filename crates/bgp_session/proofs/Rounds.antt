@@ -25,18 +25,20 @@ use Rattle.bgp_story.specs.Legal.{Peering, Allowed, count_round, hold, hold_expi
 use Rattle.bgp_story.specs.Readings.{Routes, put_bytes, put_in, got_bytes, unless_closed}
 use Rattle.bgp_story.specs.States.{BeginsStory, answer_lines, state_of}
 use Rattle.bgp_story.proofs.Grows.{hold_stays, open_stays}
-use Rattle.session_value.specs.Cases.{PassesRound, put_by, sending}
-use Rattle.session_value.specs.Sessions.{peering_of}
+use Rattle.session_value.specs.Cases.{put_by, sending}
+use Rattle.session_value.specs.Sessions.{SessionValue, peering_of}
+use Rattle.session_value.specs.Ties.{most_put}
 use Rattle.session_value.proofs.Rounds as lines_passed
 use Rattle.session_value.proofs.Rounds.{Answers, ends, says_keepalive, stays, answers_are}
-use Rattle.session_value.proofs.RoundTies.{passes_tied}
 use Rattle.session_value.proofs.Replies.{up_open, while_unclosed}
-use Rattle.session_value.proofs.Rooms.{passed_has_room, most_any}
+use Rattle.session_value.proofs.Rooms.{passed_has_room, most_any, most_unclosed, expired_size, keepalive_size}
 use Rattle.bgp_session.specs.declared.parts.Parts.{Parts}
 use Rattle.bgp_session.specs.declared.answers.TickStep.{TickStep}
 use Rattle.bgp_session.specs.declared.answers.TickStep.TheVariants as tick
-use Rattle.bgp_session.specs.Inner.{AtRound, SessionInvariant, after_line, after_rounds, hold_of, opened_by, round_reply, running, value_of}
-use Rattle.bgp_session.specs.Steps.{MayPass, TellsRound, SessionTicks}
+use Rattle.bgp_session.specs.Inner.{AtRound, HasRoomAt, IsNext, PassedBy, SessionInvariant, after_line, after_rounds, hold_of, opened_by, round_reply, running, value_of}
+use Rattle.bgp_session.specs.Steps.{MayPass, PassesAgain, PassesIfItMay, SessionTicks, TellsRound}
+use Rattle.bgp_session.specs.Running.{RunningSession}
+use Rattle.bgp_session.proofs.Again.{again_tied}
 use Rattle.bgp_session.proofs.Ends.{sent_stands, with_sent}
 use Rattle.bgp_session.proofs.Got.{keepalive_writable, same_line}
 use Rattle.bgp_session.proofs.Numbers.{earlier_all, number_least, numbers_then}
@@ -84,6 +86,20 @@ round_passes h c round state more third =
     (not_over h c more)
     ∙ ap (λ (b : Bool). cond b (Put KeepaliveMsg ∷ [], state) ([], state)) u
 
+pub round_beats : (h c round : ℕ) (state : SessionState) → h - c ≢ 1 → round % (h / 3) ≡ 0
+    → reply_at h (c + 1) round state ≡ (Put KeepaliveMsg ∷ [], state)
+round_beats h c round state more third =
+    let u : eqb (round % (h / 3)) 0 ≡ true = grind (arith, nat_tests) in
+    ap (λ (b : Bool). cond b (Put (NoticeMsg hold_expired) ∷ [], Closed) (cond (eqb (round % (h / 3)) 0) (Put KeepaliveMsg ∷ [], state) ([], state)))
+    (not_over h c more)
+    ∙ ap (λ (b : Bool). cond b (Put KeepaliveMsg ∷ [], state) ([], state)) u
+
+put_beats : length (flat_map (put_in false) (Put KeepaliveMsg ∷ [])) ≡ length (spell KeepaliveMsg false)
+put_beats = ap (λ (xs : List ℕ). length xs) (append-nil (spell KeepaliveMsg false))
+
+put_expires : length (flat_map (put_in false) (Put (NoticeMsg hold_expired) ∷ [])) ≡ length (spell (NoticeMsg hold_expired) false)
+put_expires = ap (λ (xs : List ℕ). length xs) (append-nil (spell (NoticeMsg hold_expired) false))
+
 -- ---- the parts after a round
 
 abbrev pub passed : Parts → ℕ → List Line → Routes → Routes → ℕ → Parts
@@ -120,11 +136,11 @@ module _ (parts : Parts) (round : ℕ) (answer : List Line) (next : SessionState
   octets_are = round_alike (is_wide p lines') (state_of lines) answer next answers
 
   put_is : put_bytes p lines' ≡ put_bytes p lines ++ octets
-  put_is = lines_passed.put_then p lines round answer next at.may.up at.may.runs at.may.later reply allowed
+  put_is = lines_passed.put_then p lines round answer next at.next.up at.next.runs at.next.later reply allowed
       ∙ ap (λ (xs : List ℕ). put_bytes p lines ++ xs) octets_are
 
   got_is : got_bytes lines' ≡ got_bytes lines
-  got_is = lines_passed.got_then p lines round answer next at.may.up at.may.runs at.may.later reply allowed
+  got_is = lines_passed.got_then p lines round answer next at.next.up at.next.runs at.next.later reply allowed
 
   pub round_writable : (m : Option Message) → answer ≡ answer_lines m → IfSome m (λ x. IsWritable x false)
   round_writable m e = round_writable_by (state_of lines) answer next m answers e
@@ -136,16 +152,14 @@ module _ (parts : Parts) (round : ℕ) (answer : List Line) (next : SessionState
     rest = [];
     state = next;
     legal = subst (λ (xs : List Line). Allowed p xs next) (sym (append-nil lines'))
-        (lines_passed.legal_next p lines round answer next at.may.up at.may.runs at.may.later reply (λ _ _. Unit {0}) allowed);
+        (lines_passed.legal_next p lines round answer next at.next.up at.next.runs at.next.later reply (λ _ _. Unit {0}) allowed);
   }
 
+  octets_fit : stream_length parts.end + length octets ≤ most_put next
+  octets_fit = subst (λ (r : List Line × SessionState). stream_length parts.end + length (flat_map (put_in false) r.0) ≤ most_put r.1) reply at.fits
+
   pub passed_room : stream_length parts.end + length octets ≤ 2 ^ 20
-  passed_room =
-      let room = passed_has_room (value_of parts) round answer next at.may.up at.may.room reply in
-      let most = most_any next in
-      let size = ap (λ (xs : List ℕ). length xs) octets_are in
-      let stream = stream_is parts.end (value_of parts).end at.keeps.stands in
-      omega (arith, room, most, size, stream)
+  passed_room = let fits = octets_fit in let most = most_any next in omega (arith, fits, most)
 
   sent : EndStands (with_sent parts.end octets) (endpoint_of (put_bytes p lines ++ octets) (got_bytes lines) (with_sent parts.end octets))
   sent = sent_stands parts.end (put_bytes p lines) (got_bytes lines) octets at.keeps.stands passed_room
@@ -167,15 +181,19 @@ module _ (parts : Parts) (round : ℕ) (answer : List Line) (next : SessionState
     abbrev pub after : Parts
     after = passed parts round answer adj_rib_in adj_rib_out left
 
-    pub passes : PassesRound (value_of parts) round (value_of after)
+    pub passes : PassesAgain (value_of parts) round (value_of after)
     passes = record {
-      up = at.may.up;
-      runs = at.may.runs;
-      later = at.may.later;
-      room = at.may.room;
+      up = at.next.up;
+      runs = at.next.runs;
+      later = at.next.later;
       answer = answer;
       next = next;
       reply = reply;
+      fits =
+          let fits = octets_fit in
+          let size = ap (λ (xs : List ℕ). length xs) octets_are in
+          let stream = stream_is parts.end (value_of parts).end at.keeps.stands in
+          omega (arith, fits, size, stream);
       effect =
           ap (λ (e : Endpoint). record (value_of parts) { story = lines'; adj_rib_in = adj_rib_in; adj_rib_out = adj_rib_out; end = e }) end_is
           ∙ (ap (λ (x : Routes). record (value_of parts) {
@@ -198,14 +216,14 @@ module _ (parts : Parts) (round : ℕ) (answer : List Line) (next : SessionState
     -- it is above those of all rounds before
     number_is : round + 1 ≡ after_rounds lines'
     number_is =
-        let least = number_least round lines at.may.later in
+        let least = number_least round lines at.next.later in
         let then' = numbers_then lines (Tick round) answer (λ n. round_numbers (state_of lines) answer next n answers) in
         omega (arith, least, then')
 
     pub keeps : SessionInvariant after
     keeps = record {
       stands = end_stands;
-      tied = passes_tied (value_of parts) (value_of after) round passes at.keeps.tied;
+      tied = again_tied (value_of parts) (value_of after) round passes at.keeps.tied;
       peering = at.keeps.peering;
       way = at.keeps.way;
       send_first = at.keeps.send_first;
@@ -213,16 +231,16 @@ module _ (parts : Parts) (round : ℕ) (answer : List Line) (next : SessionState
       send_fits = at.keeps.send_fits;
       receive_fits = at.keeps.receive_fits;
       remote_as = at.keeps.remote_as;
-      opened = at.keeps.opened ∙ ap (option_map (opened_by p.first)) (sym (open_stays p lines (Tick round ∷ answer) (state_of lines) allowed at.may.up));
-      left = omega (arith, lefts, at.keeps.left, silent, hold_stays p lines (Tick round ∷ answer) (state_of lines) allowed at.may.up);
+      opened = at.keeps.opened ∙ ap (option_map (opened_by p.first)) (sym (open_stays p lines (Tick round ∷ answer) (state_of lines) allowed at.next.up));
+      left = omega (arith, lefts, at.keeps.left, silent, hold_stays p lines (Tick round ∷ answer) (state_of lines) allowed at.next.up);
       next_round = number_is;
     }
 
   -- what the session is after the round
   pub ticks : (step : TickStep) (mid : Parts) → mid ≡ passed parts round answer parts.adj_rib_in parts.adj_rib_out (parts.left - 1) → next ≢ Closed
       → TellsRound step (value_of parts) round (value_of (passed parts round answer parts.adj_rib_in parts.adj_rib_out (parts.left - 1)))
-      → SessionTicks step (running parts) round (running mid) × SessionInvariant mid
-  ticks step mid is o tells = subst (λ (m : Parts). SessionTicks step (running parts) round (running m) × SessionInvariant m) (sym is) (
+      → PassedBy step (running parts) round (running mid) × SessionInvariant mid
+  ticks step mid is o tells = subst (λ (m : Parts). PassedBy step (running parts) round (running m) × SessionInvariant m) (sym is) (
     record {
       passes = passes parts.adj_rib_in parts.adj_rib_out (parts.left - 1) (sym (while_unclosed next parts.adj_rib_in o))
           (sym (while_unclosed next parts.adj_rib_out o)) refl;
@@ -237,43 +255,46 @@ module _ (parts : Parts) (round : ℕ) (answer : List Line) (next : SessionState
 abbrev pub passed_down : Parts → ℕ → List Line → Parts
 passed_down parts round answer = passed parts round answer parts.adj_rib_in parts.adj_rib_out (parts.left - 1)
 
+pub hold_third : (parts : Parts) (round : ℕ) → SessionInvariant parts → IsNext parts round → 3 ≤ hold_of parts.opened
+hold_third parts round k next = omega (
+  arith,
+  kept_hold parts k,
+  hold_long (peering_of parts.config) parts.story.lines (state_of parts.story.lines) k.tied.allowed next.runs,
+)
+
 module _ (parts : Parts) (round : ℕ) (at : AtRound parts round) where
   -- the hold time has a third
   pub tick_long : 3 ≤ hold_of parts.opened
-  tick_long = omega (
-    arith,
-    kept_hold parts at.keeps,
-    hold_long (peering_of parts.config) parts.story.lines (state_of parts.story.lines) at.keeps.tied.allowed at.may.runs,
-  )
+  tick_long = hold_third parts round at.keeps at.next
 
   pub reply_of : (answer : Option Message) → (round_reply parts round).0 ≡ answer_lines answer
       → round_reply parts round ≡ (answer_lines answer, (round_reply parts round).1)
   reply_of answer e = ap (λ (x : List Line). let r : List Line × SessionState = (x, (round_reply parts round).1) in r) e
 
   up_unclosed : state_of parts.story.lines ≢ Closed
-  up_unclosed = up_open (state_of parts.story.lines) at.may.up
+  up_unclosed = up_open (state_of parts.story.lines) at.next.up
 
   pub beats_to : (mid : Parts) → round_reply parts round ≡ (Put KeepaliveMsg ∷ [], state_of parts.story.lines)
-      → mid ≡ passed_down parts round (Put KeepaliveMsg ∷ []) → SessionTicks tick.Beat (running parts) round (running mid) × SessionInvariant mid
+      → mid ≡ passed_down parts round (Put KeepaliveMsg ∷ []) → PassedBy tick.Beat (running parts) round (running mid) × SessionInvariant mid
   beats_to mid reply is = ticks parts round (Put KeepaliveMsg ∷ []) (state_of parts.story.lines) at reply tick.Beat mid is up_unclosed refl
 
   pub passes_to : (mid : Parts) → round_reply parts round ≡ ([], state_of parts.story.lines) → mid ≡ passed_down parts round []
-      → SessionTicks tick.Plain (running parts) round (running mid) × SessionInvariant mid
+      → PassedBy tick.Plain (running parts) round (running mid) × SessionInvariant mid
   passes_to mid reply is = ticks parts round [] (state_of parts.story.lines) at reply tick.Plain mid is up_unclosed refl
 
   pub expires_to : (prefixes : List PrefixValue) (mid then' : Parts) → round_reply parts round ≡ (Put (NoticeMsg hold_expired) ∷ [], Closed)
       → mid ≡ passed_down parts round (Put (NoticeMsg hold_expired) ∷ [])
       → then' ≡ record mid { adj_rib_in = map.empty; adj_rib_out = map.empty } → prefixes ≡ map.keys parts.adj_rib_in
-      → SessionTicks (tick.Expired prefixes) (running parts) round (running then') × SessionInvariant then'
+      → PassedBy (tick.Expired prefixes) (running parts) round (running then') × SessionInvariant then'
   expires_to prefixes mid then' reply is drops same =
       let answer : List Line = Put (NoticeMsg hold_expired) ∷ [] in
-      subst (λ (m : Parts). SessionTicks (tick.Expired prefixes) (running parts) round (running m) × SessionInvariant m)
+      subst (λ (m : Parts). PassedBy (tick.Expired prefixes) (running parts) round (running m) × SessionInvariant m)
       (sym (drops ∙ ap (λ (m : Parts). let d : Parts = record m { adj_rib_in = map.empty; adj_rib_out = map.empty } in d) is)) (
         record {
           passes = passes parts round answer Closed at reply map.empty map.empty (parts.left - 1) refl refl refl;
           tells = (
             lines_passed.state_next (peering_of parts.config) parts.story.lines round answer
-                Closed at.may.up at.may.runs at.may.later reply at.keeps.tied.allowed,
+                Closed at.next.up at.next.runs at.next.later reply at.keeps.tied.allowed,
             same,
           );
           same_turn = refl;
@@ -284,25 +305,126 @@ module _ (parts : Parts) (round : ℕ) (at : AtRound parts round) where
 -- ---- whether a round may pass
 
 module _ (parts : Parts) (round : ℕ) (k : SessionInvariant parts) where
-  by_looks : is_up (state_of parts.story.lines) ≡ true → 0 < hold_of parts.opened → parts.next_round ≤ round → stream_length parts.end ≤ 1044461
-      → MayPass (value_of parts) round
-  by_looks up runs later room = record {
+  pub is_next : is_up (state_of parts.story.lines) ≡ true → 0 < hold_of parts.opened → (t : Bool) → t ≡ leb parts.next_round round
+      → MatchBool t (IsNext parts round) (¬ IsNext parts round)
+  is_next up runs true e = record {
     up = up;
     runs = omega (arith, runs, kept_hold parts k);
-    later = earlier_all round parts.story.lines (omega (arith, later, k.next_round));
-    room = let stream = stream_is parts.end (value_of parts).end k.stands in omega (arith, room, stream);
+    later = earlier_all round parts.story.lines (let after = k.next_round in grind (arith, nat_tests));
   }
+  is_next up runs false e = λ next. let least = number_least round parts.story.lines next.later in let after = k.next_round in grind (arith, nat_tests)
 
-  pub may_match : (t : Bool) → is_up (state_of parts.story.lines) ≡ true → 0 < hold_of parts.opened → parts.next_round ≤ round
-      → t ≡ leb (stream_length parts.end) 1044461 → MatchBool t (MayPass (value_of parts) round) (¬ MayPass (value_of parts) round)
-  may_match true up runs later e = by_looks up runs later (grind (arith, nat_tests))
-  may_match false up runs later e = λ may. let stream = stream_is parts.end (value_of parts).end k.stands in let room = may.room in grind (arith, nat_tests)
+  pub not_up : is_up (state_of parts.story.lines) ≡ false → ¬ IsNext parts round
+  not_up down next = let up = next.up in cc
 
-  pub not_up : is_up (state_of parts.story.lines) ≡ false → ¬ MayPass (value_of parts) round
-  not_up down may = let up = may.up in cc
+  pub not_held : hold_of parts.opened ≡ 0 → ¬ IsNext parts round
+  not_held none next = omega (arith, none, next.runs, kept_hold parts k)
 
-  pub not_held : hold_of parts.opened ≡ 0 → ¬ MayPass (value_of parts) round
-  not_held none may = omega (arith, none, may.runs, kept_hold parts k)
+  pub may_match : IsNext parts round → (t : Bool) → t ≡ leb (stream_length parts.end) 1044461
+      → MatchBool t (MayPass (value_of parts) round) (¬ MayPass (value_of parts) round)
+  may_match next true e = record {
+    up = next.up;
+    runs = next.runs;
+    later = next.later;
+    room = let stream = stream_is parts.end (value_of parts).end k.stands in grind (arith, nat_tests);
+  }
+  may_match next false e = λ may. let stream = stream_is parts.end (value_of parts).end k.stands in let room = may.room in grind (arith, nat_tests)
 
-  pub not_later : round < parts.next_round → ¬ MayPass (value_of parts) round
-  not_later early may = omega (arith, early, number_least round parts.story.lines may.later, k.next_round)
+  pub may_be_next : MayPass (value_of parts) round → IsNext parts round
+  may_be_next may = record { up = may.up; runs = may.runs; later = may.later }
+
+  -- ---- whether it has room
+
+  module _ (next : IsNext parts round) where
+    abbrev h : ℕ
+    h = hold (peering_of parts.config) parts.story.lines
+
+    abbrev c : ℕ
+    c = silence parts.story.lines
+
+    abbrev s : SessionState
+    s = state_of parts.story.lines
+
+    up_put : stream_length parts.end ≤ 1044480
+    up_put =
+        let stream = stream_is parts.end (value_of parts).end k.stands in
+        let room = k.tied.room in
+        let most = most_unclosed s (up_open s next.up) in
+        omega (arith, stream, room, most)
+
+    pub room_if_over : parts.left ≡ 1 → HasRoomAt parts round
+    room_if_over over =
+        let n : eqb (c + 1) h ≡ true = let left = k.left in grind (arith, nat_tests) in
+        let put = up_put in
+        subst (λ (r : List Line × SessionState). stream_length parts.end + length (flat_map (put_in false) r.0) ≤ most_put r.1)
+        (sym (ap (λ (b : Bool). let r : List Line × SessionState = cond b (Put (NoticeMsg hold_expired) ∷ [], Closed)
+        (cond (eqb (round % (h / 3)) 0) (Put KeepaliveMsg ∷ [], s) ([], s)) in r) n))
+        (let size = expired_size false in let one = put_expires in omega (arith, put, size, one))
+
+    pub room_if_quiet : parts.left ≢ 1 → round % (h / 3) ≢ 0 → HasRoomAt parts round
+    room_if_quiet more quiet =
+        let put = up_put in
+        let most = most_unclosed s (up_open s next.up) in
+        subst (λ (r : List Line × SessionState). stream_length parts.end + length (flat_map (put_in false) r.0) ≤ most_put r.1)
+        (sym (round_passes h c round s (λ e. more (k.left ∙ e)) quiet)) (omega (arith, put, most))
+
+    pub room_if_beats : (t : Bool) → parts.left ≢ 1 → round % (h / 3) ≡ 0 → t ≡ leb (stream_length parts.end) 1044461
+        → MatchBool t (HasRoomAt parts round) (¬ HasRoomAt parts round)
+    room_if_beats t more beats e =
+        let size = keepalive_size false in
+        let most = most_unclosed s (up_open s next.up) in
+        subst (λ (r : List Line × SessionState). MatchBool t (stream_length parts.end + length (flat_map (put_in false) r.0) ≤ most_put r.1)
+        (¬ (stream_length parts.end + length (flat_map (put_in false) r.0) ≤ most_put r.1)))
+        (sym (round_beats h c round s (λ e'. more (k.left ∙ e')) beats)) (by_test t e size most)
+      where
+        by_test : (b : Bool) → b ≡ leb (stream_length parts.end) 1044461 → length (spell KeepaliveMsg false) ≡ 19 → most_put s ≡ 1044480
+            → MatchBool b (stream_length parts.end + length (flat_map (put_in false) (Put KeepaliveMsg ∷ [])) ≤ most_put s)
+            (¬ (stream_length parts.end + length (flat_map (put_in false) (Put KeepaliveMsg ∷ [])) ≤ most_put s))
+        by_test true is size most = let one = put_beats in grind (arith, nat_tests)
+        by_test false is size most = λ fits. let one = put_beats in grind (arith, nat_tests)
+
+  -- with room for a KEEPALIVE there is room for any answer
+  pub at_may : MayPass (value_of parts) round → AtRound parts round
+  at_may may = record {
+    keeps = k;
+    next = may_be_next may;
+    fits = answer_fits (round_reply parts round).0 (round_reply parts round).1 refl;
+  } where
+    answer_fits : (answer : List Line) (next : SessionState) → round_reply parts round ≡ (answer, next)
+        → stream_length parts.end + length (flat_map (put_in false) answer) ≤ most_put next
+    answer_fits answer next reply =
+        let room = passed_has_room (value_of parts) round answer next may.up may.room reply in
+        let same = ap (λ (xs : List ℕ). length xs) (round_alike (is_wide (peering_of parts.config) (parts.story.lines ++ Tick round ∷ answer))
+        (state_of parts.story.lines) answer next
+        (answers_are (hold (peering_of parts.config) parts.story.lines) (silence parts.story.lines + 1) round (state_of parts.story.lines) answer next reply)) in
+        let stream = stream_is parts.end (value_of parts).end k.stands in
+        omega (arith, room, same, stream)
+
+  -- no round passes that has no room
+  pub none_fits : ¬ HasRoomAt parts round → (new : SessionValue) → ¬ PassesAgain (value_of parts) round new
+  none_fits not new again =
+      let same = ap (λ (xs : List ℕ). length xs) (round_alike (is_wide (peering_of parts.config) (parts.story.lines ++ Tick round ∷ again.answer))
+      (state_of parts.story.lines) again.answer again.next
+      (answers_are (hold (peering_of parts.config) parts.story.lines) (silence parts.story.lines + 1) round (state_of parts.story.lines)
+      again.answer again.next again.reply)) in
+      let stream = stream_is parts.end (value_of parts).end k.stands in
+      not (subst (λ (r : List Line × SessionState). stream_length parts.end + length (flat_map (put_in false) r.0) ≤ most_put r.1) (sym again.reply)
+      (let fits = again.fits in omega (arith, fits, same, stream)))
+
+-- where there is room for a KEEPALIVE, the round passes as in every session
+pub ticks_by : (step : TickStep) (old : RunningSession) (round : ℕ) (new : RunningSession) → length old.session.end.stream ≤ 1044461
+    → PassedBy step old round new → SessionTicks step old round new
+ticks_by step old round new room by = record {
+  passes = record {
+    up = by.passes.up;
+    runs = by.passes.runs;
+    later = by.passes.later;
+    room = room;
+    answer = by.passes.answer;
+    next = by.passes.next;
+    reply = by.passes.reply;
+    effect = by.passes.effect;
+  };
+  tells = by.tells;
+  same_turn = by.same_turn;
+}

@@ -1,5 +1,6 @@
 -- The value of a session's parts, and the invariant that they keep.
-use Rattle.std.specs.Prelude.{◌≡◌, ◌≢◌, ℕ, ◌+◌, ◌-◌, ◌^◌, ◌<◌, min, max, List, ◌++◌, Option, Some, None, Result, fold, ◌&&◌}
+use Rattle.std.specs.Prelude.{◌≡◌, ◌≢◌, ℕ, ◌+◌, ◌-◌, ◌^◌, ◌<◌, ◌≤◌, min, max, List, ◌++◌, length, Option, Some, None, Result, All, fold, ◌&&◌, true, false}
+use Rattle.std.specs.List.{flat_map}
 use Rattle.std.specs.Option.{option_map}
 use Rattle.bgp_types.specs.declared.message.Message.{Message}
 use Rattle.bgp_types.specs.declared.message.Notice.{Notice}
@@ -9,17 +10,19 @@ use Rattle.bgp_types.specs.declared.message.SessionState.TheVariants.{Closed}
 use Rattle.bgp_types.specs.FirstFault.{message_of}
 use Rattle.tcp_seq.specs.declared.segment.Way.TheVariants.{Remote}
 use Rattle.tcp_end.specs.Standing.{EndStands}
+use Rattle.tcp_end.specs.State.{stream_length}
 use Rattle.tcp_end.specs.Whole.{endpoint_of}
 use Rattle.bgp_story.specs.declared.line.Line.{Line}
 use Rattle.bgp_story.specs.declared.line.Line.TheVariants.{Put, Got, Tick}
-use Rattle.bgp_story.specs.Legal.{IsGot, expected_next, got_open, reply_at, silence}
+use Rattle.bgp_story.specs.Legal.{IsEarlier, IsGot, expected_next, got_open, is_up, reply_at, silence}
 use Rattle.bgp_story.specs.Opens.{offers}
-use Rattle.bgp_story.specs.Readings.{put_bytes, got_bytes}
+use Rattle.bgp_story.specs.Readings.{put_bytes, put_in, got_bytes}
 use Rattle.bgp_story.specs.States.{state_of}
 use Rattle.session_value.specs.Sessions.{SessionValue, peering_of, hold_time}
-use Rattle.session_value.specs.Ties.{IsTied}
+use Rattle.session_value.specs.Ties.{IsTied, most_put}
 use Rattle.bgp_session.specs.Running.{RunningSession}
-use Rattle.bgp_session.specs.Steps.{MayPass}
+use Rattle.bgp_session.specs.Steps.{PassesAgain, TellsRound}
+use Rattle.bgp_session.specs.declared.answers.TickStep.{TickStep}
 use Rattle.bgp_session.specs.declared.parts.Opened.{Opened}
 use Rattle.bgp_session.specs.declared.parts.Parts.{Parts}
 
@@ -89,7 +92,25 @@ pub record AtFront (parts : Parts) (bytes : List ℕ) : Type 0 where
 abbrev pub round_reply : Parts → ℕ → List Line × SessionState
 round_reply parts round = reply_at (hold_time (value_of parts)) (silence parts.story.lines + 1) round (state_of parts.story.lines)
 
+-- A hold time runs, and the round has a number above that of each round that passed.
+pub record IsNext (parts : Parts) (round : ℕ) : Type 0 where
+  pub up : is_up (state_of parts.story.lines) ≡ true
+  pub runs : 0 < hold_time (value_of parts)
+  pub later : All (IsEarlier round) parts.story.lines
+
+-- there is room for what the round puts
+abbrev pub HasRoomAt : Parts → ℕ → Type 0
+HasRoomAt parts round =
+    stream_length parts.end + length (flat_map (put_in false) (round_reply parts round).0) ≤ most_put (round_reply parts round).1
+
 -- A round that may pass.
 pub record AtRound (parts : Parts) (round : ℕ) : Type 0 where
   pub keeps : SessionInvariant parts
-  pub may : MayPass (value_of parts) round
+  pub next : IsNext parts round
+  pub fits : HasRoomAt parts round
+
+-- what a round did, wherever it had room
+pub record PassedBy (step : TickStep) (before : RunningSession) (round : ℕ) (after : RunningSession) : Type 0 where
+  pub passes : PassesAgain before.session round after.session
+  pub tells : TellsRound step before.session round after.session
+  pub same_turn : after.acked_at_turn ≡ before.acked_at_turn

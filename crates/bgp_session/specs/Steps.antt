@@ -1,24 +1,31 @@
 -- Results of the calls of a session, and the cases by which it changes.
-use Rattle.std.specs.Prelude.{◌≡◌, ◌⊎◌, ℕ, ◌+◌, ◌<◌, ◌≤◌, List, [], ◌∷◌, ◌++◌, length, All, Option, Some, None, IsSome, true}
+use Rattle.std.specs.Prelude.{◌≡◌, ◌⊎◌, ℕ, ◌+◌, ◌<◌, ◌≤◌, List, [], ◌∷◌, ◌++◌, length, All, Option, Some, None, IsSome, Bool, true, false}
 use Rattle.std.specs.FinMap as map
 use Rattle.bgp_types.specs.declared.message.Message.TheVariants.{UpdateMsg, KeepaliveMsg}
 use Rattle.bgp_types.specs.declared.message.OpenMsg.{OpenMsg}
+use Rattle.bgp_types.specs.declared.message.SessionState.{SessionState}
 use Rattle.bgp_types.specs.declared.message.SessionState.TheVariants as states
 use Rattle.bgp_types.specs.declared.message.Update.{Update}
 use Rattle.bgp_types.specs.Spelling.{spell}
 use Rattle.tcp_seq.specs.declared.segment.Segment.{Segment}
 use Rattle.tcp_seq.specs.declared.segment.Way.TheVariants.{Remote}
 use Rattle.tcp_seq.specs.declared.seq.Seq.{Seq}
+use Rattle.tcp_seq.specs.declared.state.EndState.{EndState}
 use Rattle.tcp_seq.specs.Endpoint.{Endpoint, PlacedSegment, IsInStreams, IsAcceptable, IsBeyond, byte_brought, TakesSegment}
 use Rattle.tcp_seq.specs.Placed.{placed}
 use Rattle.tcp_end.specs.declared.arrival.Arrival.{Arrival}
 use Rattle.tcp_end.specs.declared.arrival.Arrival.TheVariants.{Outside, Ahead, Duplicate, Accepted}
+use Rattle.tcp_end.specs.Standing.{EndStands}
+use Rattle.tcp_end.specs.Whole.{endpoint_of}
+use Rattle.bgp_story.specs.declared.line.Line.{Line}
 use Rattle.bgp_story.specs.declared.line.Line.TheVariants.{Put, Tick}
-use Rattle.bgp_story.specs.Legal.{IsEarlier, got_open, is_up, is_wide}
+use Rattle.bgp_story.specs.Legal.{IsEarlier, got_open, is_up, is_wide, reply_at, silence}
+use Rattle.bgp_story.specs.Readings.{got_bytes, unless_closed}
 use Rattle.adj_rib.specs.Changes.{Changed as ChangedRoutes}
 use Rattle.session_value.specs.declared.config.SessionConfig.{SessionConfig}
 use Rattle.session_value.specs.Sessions.{SessionValue, peering_of, state, hold_time}
-use Rattle.session_value.specs.Cases.{GetsFrame, PassesRound}
+use Rattle.session_value.specs.Cases.{GetsFrame, PassesRound, put_by, sending}
+use Rattle.session_value.specs.Ties.{IsTied, most_put}
 use Rattle.bgp_session.specs.Running.{RunningSession}
 use Rattle.bgp_session.specs.Fronts.{CantRead}
 use Rattle.bgp_session.specs.declared.answers.ReadStep.{ReadStep}
@@ -128,3 +135,42 @@ remote_open session = got_open (peering_of session.config) session.story
 
 abbrev pub identifier_of : OpenMsg → ℕ
 identifier_of theirs = theirs.identifier
+
+-- ---- a session that is made again
+
+-- the session with an end of this state
+abbrev pub with_end : SessionValue → EndState → RunningSession
+with_end session end = record {
+  session = record session { end = endpoint_of session.end.stream (got_bytes session.story) end };
+  acked_at_turn = end.acked_at_turn;
+}
+
+-- The state is that of an end of the session's connection, and with this end the session is tied to its story.
+pub record IsEndFor (session : SessionValue) (end : EndState) : Type 0 where
+  pub peering : end.peering ≡ session.config.peering
+  pub way : end.way ≡ Remote
+  pub send_first : end.send_first ≡ session.config.send_first
+  pub receive_first : end.receive_first ≡ session.config.receive_first
+  pub stands : EndStands end (with_end session end).session.end
+  pub tied : IsTied (with_end session end).session
+
+-- A round passes as in `PassesRound`, but only what it puts needs room.
+pub record PassesAgain (before : SessionValue) (round : ℕ) (after : SessionValue) : Type 0 where
+  pub up : is_up (state before) ≡ true
+  pub runs : 0 < hold_time before
+  pub later : All (IsEarlier round) before.story
+  pub answer : List Line
+  pub next : SessionState
+  pub reply : reply_at (hold_time before) (silence before.story + 1) round (state before) ≡ (answer, next)
+  pub fits : length before.end.stream + length (put_by before (before.story ++ Tick round ∷ answer) answer) ≤ most_put next
+  pub effect : after ≡ record before {
+    story = before.story ++ Tick round ∷ answer;
+    adj_rib_in = unless_closed next before.adj_rib_in;
+    adj_rib_out = unless_closed next before.adj_rib_out;
+    end = sending (put_by before (before.story ++ Tick round ∷ answer) answer) before.end;
+  }
+
+-- The round passes. False exactly where no such round may pass; then nothing changes.
+abbrev pub PassesIfItMay : Bool → RunningSession → ℕ → RunningSession → Type 0
+PassesIfItMay true before round after = PassesAgain before.session round after.session × (after.acked_at_turn ≡ before.acked_at_turn)
+PassesIfItMay false before round after = (after ≡ before) × ((next : SessionValue) → ¬ PassesAgain before.session round next)

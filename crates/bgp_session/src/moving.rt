@@ -89,4 +89,11 @@ impl Capsule {
     {
         self.session.config()
     }
+
+    /// Returns the session, to look at.
+    pub fn session(&self) -> &Session
+        ensures { result.now ≡ self.now }
+    {
+        &self.session
+    }
 }

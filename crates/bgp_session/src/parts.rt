@@ -16,7 +16,7 @@ use bgp_types::{Expected, Message, NoMemory, Octets};
 use bgp_wire::write_message;
 use session_value::SessionConfig;
 use std::alloc::Global;
-use tcp_end::{End, SendStop};
+use tcp_end::{End, EndState, SendStop};
 
 /// What the two OPENs settled, once the remote's was received.
 #[derive(Clone, Copy, Debug)]
@@ -71,7 +71,8 @@ pub(crate) fn written(alloc: Global, answer: &Option<Message>) -> Result<Octets,
 
 impl Parts {
     ghost use Rattle.bgp_session.specs.Inner.{SessionInvariant, hold_of};
-    ghost use Rattle.bgp_session.specs.Steps.{identifier_of};
+    ghost use Rattle.bgp_session.specs.Inner.{running, value_of};
+    ghost use Rattle.bgp_session.specs.Steps.{IsEndFor, identifier_of, with_end};
 
     /// Sends octets, and adds to the story the line that caused them, with the message that answers it, if there is
     /// one. If memory runs out, nothing changes.
@@ -138,6 +139,25 @@ impl Parts {
             Some(opened) => Some(opened.identifier),
             None => None,
         }
+    }
+
+    /// Returns a copy of the state of the end.
+    pub(crate) fn end_state(&self) -> Result<EndState, NoMemory>
+        requires { SessionInvariant self.now }
+        ensures end { IfOk result (λ end. IsEndFor (value_of self.now) end) }
+        ensures whole { IfOk result (λ end. running self.now ≡ with_end (value_of self.now) end) }
+    {
+        self.end.state()
+    }
+
+    /// Sets the end.
+    pub(crate) fn set_end(&mut self, end: EndState)
+        requires keeps { SessionInvariant self.old }
+        requires end { IsEndFor (value_of self.old) end }
+        ensures value { running self.new ≡ with_end (value_of self.old) end }
+        ensures keeps { SessionInvariant self.new }
+    {
+        self.end = End::import(end);
     }
 
     /// Returns which messages are expected next.

@@ -13,6 +13,7 @@ ghost use Rattle.session_value.specs.Ties.{IsTied};
 ghost use Rattle.bgp_session.specs.Fronts.{CanRead, CantRead};
 ghost use Rattle.bgp_session.specs.Steps.{ReadsFrameIfAny, MayPass, SessionTicks, SessionEmitsIfAny, SegmentArrives};
 ghost use Rattle.bgp_session.specs.Steps.{identifier_of, offered_length, received_as, remote_open};
+ghost use Rattle.bgp_session.specs.Steps.{IsEndFor, PassesIfItMay, with_end};
 
 use crate::answers::{OfferStop, ReadStep, TickStep};
 use crate::begin::first_parts;
@@ -24,7 +25,7 @@ use bgp_types::{NoMemory, SessionState, Update};
 use session_value::SessionConfig;
 use std::alloc::Global;
 use std::marker::Model;
-use tcp_end::Arrival;
+use tcp_end::{Arrival, EndState};
 use tcp_seq::Segment;
 
 /// A home session, in one box. Contracts see it as one value: its configuration, its story, the routes that it heard
@@ -252,6 +253,31 @@ impl Session {
         ensures { result ≡ option_map identifier_of (remote_open self.now.session) }
     {
         self.parts.remote_identifier()
+    }
+
+    /// Returns a copy of the state of the session's end, as it would be handed over.
+    pub fn end_state(&self) -> Result<EndState, NoMemory>
+        ensures end { IfOk result (λ end. IsEndFor self.now.session end) }
+        ensures whole { IfOk result (λ end. self.now ≡ with_end self.now.session end) }
+    {
+        self.parts.end_state()
+    }
+
+    /// Sets the session's end, when the session is made again. The end must be of the session's connection, send what
+    /// the session has put, and have read what the session has got.
+    pub fn set_end(&mut self, end: EndState)
+        requires { IsEndFor self.old.session end }
+        ensures { self.new ≡ with_end self.old.session end }
+    {
+        self.parts.set_end(end);
+    }
+
+    /// Lets a round pass, when the session is made again. Unlike with `may_pass`, there needs to be room only for what
+    /// the round puts. Returns false if the round may not pass, and then nothing changes.
+    pub fn pass_again(&mut self, round: u32) -> Result<bool, NoMemory>
+        ensures { IfOk result (λ passed. PassesIfItMay passed self.old round self.new) }
+    {
+        self.parts.pass_again(round)
     }
 
     /// Freezes an established session: from then on it can only leave. It takes no memory.

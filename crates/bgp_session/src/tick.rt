@@ -8,8 +8,8 @@ ghost use Rattle.bgp_story.specs.declared.line.Line.TheVariants as lines;
 ghost use Rattle.bgp_story.specs.Legal.{hold_expired, is_up as is_up_lem};
 ghost use Rattle.bgp_story.specs.Readings.{put_in};
 ghost use Rattle.bgp_story.specs.States.{answer_lines, state_of};
-ghost use Rattle.bgp_session.specs.Steps.{MayPass, SessionTicks};
-ghost use Rattle.bgp_session.specs.Inner.{AtRound, SessionInvariant, round_reply, running, value_of};
+ghost use Rattle.bgp_session.specs.Steps.{MayPass, PassesIfItMay};
+ghost use Rattle.bgp_session.specs.Inner.{AtRound, HasRoomAt, IsNext, PassedBy, SessionInvariant, round_reply, running, value_of};
 
 use crate::answers::TickStep;
 use crate::parts::{Parts, written};
@@ -68,7 +68,7 @@ impl Parts {
     fn expire(&mut self, round: u32) -> Result<TickStep, NoMemory>
         requires at { AtRound self.old round }
         requires reply { round_reply self.old round ≡ (lines.Put (messages.NoticeMsg hold_expired) ∷ [], states.Closed) }
-        ensures step { IfOk result (λ step. SessionTicks step (running self.old) round (running self.new)) }
+        ensures step { IfOk result (λ step. PassedBy step (running self.old) round (running self.new)) }
         ensures keeps { SessionInvariant self.new }
     {
         let heard = self.adj_rib_in.prefixes()?;
@@ -82,7 +82,7 @@ impl Parts {
     fn send_keepalive(&mut self, round: u32) -> Result<TickStep, NoMemory>
         requires at { AtRound self.old round }
         requires reply { round_reply self.old round ≡ (lines.Put messages.KeepaliveMsg ∷ [], state_of self.old.story.lines) }
-        ensures step { IfOk result (λ step. SessionTicks step (running self.old) round (running self.new)) }
+        ensures step { IfOk result (λ step. PassedBy step (running self.old) round (running self.new)) }
         ensures keeps { SessionInvariant self.new }
     {
         self.pass_down(round, Some(Message::KeepaliveMsg))?;
@@ -93,17 +93,17 @@ impl Parts {
     fn pass(&mut self, round: u32) -> Result<TickStep, NoMemory>
         requires at { AtRound self.old round }
         requires reply { round_reply self.old round ≡ ([], state_of self.old.story.lines) }
-        ensures step { IfOk result (λ step. SessionTicks step (running self.old) round (running self.new)) }
+        ensures step { IfOk result (λ step. PassedBy step (running self.old) round (running self.new)) }
         ensures keeps { SessionInvariant self.new }
     {
         self.pass_down(round, None)?;
         Ok(TickStep::Plain)
     }
 
-    /// Returns whether a round of this number may pass.
-    pub(crate) fn may_pass(&self, round: u32) -> bool
+    /// Returns whether a hold time runs, and the number is above that of each round that passed.
+    fn is_next(&self, round: u32) -> bool
         requires { SessionInvariant self.now }
-        ensures { MatchBool result (MayPass (value_of self.now) round) (¬ MayPass (value_of self.now) round) }
+        ensures { MatchBool result (IsNext self.now round) (¬ IsNext self.now round) }
     {
         if !is_up(self.story.state()) {
             return false;
@@ -111,16 +111,56 @@ impl Parts {
         if self.hold_so_far() == 0 {
             return false;
         }
-        if u64::from(round) < self.next_round {
+        u64::from(round) >= self.next_round
+    }
+
+    /// Returns whether a round of this number may pass.
+    pub(crate) fn may_pass(&self, round: u32) -> bool
+        requires { SessionInvariant self.now }
+        ensures { MatchBool result (MayPass (value_of self.now) round) (¬ MayPass (value_of self.now) round) }
+    {
+        if !self.is_next(round) {
             return false;
         }
         self.end.stream_len() <= MOST_PUT
     }
 
+    /// Returns whether there is room for what the round puts.
+    fn has_room_at(&self, round: u32) -> bool
+        requires keeps { SessionInvariant self.now }
+        requires next { IsNext self.now round }
+        ensures { MatchBool result (HasRoomAt self.now round) (¬ HasRoomAt self.now round) }
+    {
+        if self.left == 1 {
+            return true;
+        }
+        let keepalive_interval = self.hold_so_far() / 3;
+        if round % keepalive_interval != 0 {
+            return true;
+        }
+        self.end.stream_len() <= MOST_PUT
+    }
+
+    /// Lets a round pass, if it may by its number and there is room for what it puts.
+    pub(crate) fn pass_again(&mut self, round: u32) -> Result<bool, NoMemory>
+        requires { SessionInvariant self.old }
+        ensures passes { IfOk result (λ passed. PassesIfItMay passed (running self.old) round (running self.new)) }
+        ensures keeps { SessionInvariant self.new }
+    {
+        if !self.is_next(round) {
+            return Ok(false);
+        }
+        if !self.has_room_at(round) {
+            return Ok(false);
+        }
+        self.tick(round)?;
+        Ok(true)
+    }
+
     /// Lets a round pass.
     pub(crate) fn tick(&mut self, round: u32) -> Result<TickStep, NoMemory>
         requires { AtRound self.old round }
-        ensures step { IfOk result (λ step. SessionTicks step (running self.old) round (running self.new)) }
+        ensures step { IfOk result (λ step. PassedBy step (running self.old) round (running self.new)) }
         ensures keeps { SessionInvariant self.new }
     {
         if self.left == 1 {

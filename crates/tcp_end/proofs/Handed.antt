@@ -68,6 +68,18 @@ lies e keeps few =
           (omega (arith, base, few)) (omega (arith, base)) (omega (arith, base)) keeps.runs;
     }
 
+-- how far the number expected next is from the first one
+pub base_is : (first got next base : ℕ) → first < 2 ^ 32 → next ≡ plus first got → base ≡ offset_from next first → base ≡ got % 2 ^ 32
+base_is first got next base fits nexts is = omega (arith, fits, nexts, is)
+
+-- the fields of a copy
+pub copy_is : (e : Inside) (waiting ready : List ℕ) (ahead : List Piece) (base : ℕ) → waiting ≡ e.waiting → ready ≡ e.ready
+    → ahead ≡ raised base e.ahead.pieces → base ≡ (e.taken + length e.ready) % 2 ^ 32
+    → record (end_state e) { waiting = waiting; ready = ready; ahead = ahead } ≡ end_state e
+copy_is e waiting ready ahead base waits readies pieces is =
+    let raises : ahead ≡ raised ((e.taken + length e.ready) % 2 ^ 32) e.ahead.pieces = pieces ∙ ap (λ (n : ℕ). raised n e.ahead.pieces) is in
+    λ i. record (end_state e) { waiting = waits i; ready = readies i; ahead = raises i }
+
 pub exported : (e : Inside) (s : EndState) → s ≡ end_state e → EndInvariant e → IsInStream (got s) → IsEndState s
 exported e s is keeps few = subst IsEndState (sym is) (lies e keeps (subst (λ (t : EndState). IsInStream (got t)) is few))
 

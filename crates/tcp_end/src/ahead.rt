@@ -11,7 +11,8 @@ ghost use Rattle.tcp_end.specs.Filling.{end_from, reached, filled};
 ghost use Rattle.tcp_end.specs.Holes.{HasHole, IsCovered};
 ghost use Rattle.tcp_end.specs.Receiving.{Received, ReceivesRun};
 
-use graft_edge::{ByteQueue, Items, NoMemory};
+use graft_edge::{ByteQueue, Items, NoMemory, TryCopy};
+use std::alloc::Global;
 use std::mem;
 use tcp_reasm::{Reasm, in_window, part, remove_front};
 use tcp_seq::{Piece, Pieces, Seq};
@@ -83,6 +84,17 @@ fn add_in_order(ready: &mut ByteQueue, pieces: &[Piece], bytes: &[u8]) -> Result
             Err(error)
         }
     }
+}
+
+/// Returns copies of pieces.
+pub(crate) fn copied(alloc: Global, pieces: &[Piece]) -> Result<Vec<Piece>, NoMemory>
+    ensures { IfOk result (λ copies. copies.items ≡ pieces.now) }
+{
+    let mut copies = Vec::with_capacity(alloc, pieces.len())?;
+    for piece in pieces.iter() {
+        copies.push(piece.copy()?)?;
+    }
+    Ok(copies)
 }
 
 /// Counts the offsets of pieces from offset `base` of the stream, modulo 2^32.

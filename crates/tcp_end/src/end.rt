@@ -10,7 +10,7 @@ ghost use Rattle.tcp_end.specs.Emitting.{CanEmit, IsSlice, IsEmptySlice, EmitsNo
 ghost use Rattle.tcp_end.specs.Arriving.{IsArrival, ChangesByArrival, TakenIn, SaysAck};
 ghost use Rattle.tcp_end.specs.State.{fresh_end, stream_length, unsent, outstanding, got, segment_at, end_next_length, end_again_length, IsSending, IsEndState};
 
-use crate::ahead::{count_from, raise, receive};
+use crate::ahead::{copied, count_from, raise, receive};
 use crate::arrival::{Arrival, SendStop};
 use graft_edge::{ByteQueue, Items, NoMemory, Octets, PeeringId};
 use std::alloc::Global;
@@ -405,6 +405,33 @@ impl End {
     {
         self.ready.drop_front(n);
         self.taken = self.taken.wrapping_add((n % (1 << 32)) as u32);
+    }
+
+    /// Returns a copy of the end's state at rest, as `export` gives it.
+    pub fn state(&self) -> Result<EndState, NoMemory>
+        ensures { IfOk result (λ state. state ≡ self.now) }
+    {
+        let alloc = self.waiting.allocator();
+        let _first = self.receive_first.0;
+        let mut pieces = copied(alloc, self.ahead.pieces())?;
+        raise(
+            &mut pieces,
+            self.ahead.next().offset_from(self.receive_first),
+        );
+        Ok(EndState {
+            way: self.way,
+            peering: self.peering,
+            send_first: self.send_first,
+            acked: self.acked,
+            sent: self.sent,
+            waiting: Octets::from_slice(alloc, self.waiting.as_slice())?,
+            receive_first: self.receive_first,
+            taken: self.taken,
+            ready: Octets::from_slice(alloc, self.ready.as_slice())?,
+            ahead: Items::from_vec(pieces),
+            acked_at_turn: self.acked_at_turn,
+            owed: self.owed,
+        })
     }
 
     /// Returns the end's state at rest, to be handed over. It allocates nothing.
