@@ -1,5 +1,5 @@
 -- How a job ends, of what its parts give.
-use Rattle.std.proofs.Common.{◌≡◌, ℕ, ◌<◌, true, false, List, ◌++◌, length, inl, inr, refl, sym, ap, ◌∙◌, subst, arith}
+use Rattle.std.proofs.Common.{◌≡◌, ℕ, ◌<◌, ◌≤◌, true, false, List, ◌++◌, length, inl, inr, refl, sym, ap, ◌∙◌, subst, arith}
 use Rattle.std.specs.Prelude.{◌⊎◌, nat_lt, Option, Some, None, Result, Ok, Err, IfOk}
 use Rattle.std.proofs.lemmas.Bool.Decides.{nat_tests}
 use Rattle.graft_edge.specs.Outside.{FaultRose, Took, TookSome, IsAtEnd}
@@ -139,9 +139,10 @@ audited_ends : (o n : Outside) (told : Told) (finish : Finish) → ReadsText o.l
     → EndsAudit told o.write_faults n.write_faults o.written n.written finish → Did jobs.Audit o n finish.status finish.lab
 audited_ends o n told finish reads end = wrote told.text (audit_status told.end) (audits told.end refl reads refl end.0) end.1
 
-pub whole_audited : (o n : Outside) (text : List ℕ) (told : Told) (finish : Finish) → Took o.left n.left text → IsAtEnd n.left
-    → TellsOf text told.text told.end → EndsAudit told o.write_faults n.write_faults o.written n.written finish → Did jobs.Audit o n finish.status finish.lab
-whole_audited o n text told finish took end tells_of = audited_ends o n told finish (record { bytes = text; took = took; says = inl (end, tells_of) })
+pub whole_audited : (o n : Outside) (text : List ℕ) (told : Told) (finish : Finish) → Took o.left n.left text → length text ≤ most_text
+    → IsAtEnd n.left → TellsOf text told.text told.end → EndsAudit told o.write_faults n.write_faults o.written n.written finish → Did jobs.Audit o n finish.status finish.lab
+whole_audited o n text told finish took few end tells_of =
+    audited_ends o n told finish (record { bytes = text; took = took; says = inl (end, few, tells_of) })
 
 pub long_audited : (o n : Outside) (told : Told) (finish : Finish) → TookSome o.left n.left (λ n. most_text < n)
     → (told.text ≡ long_text) × (told.end ≡ audit_ends.NoJournal)

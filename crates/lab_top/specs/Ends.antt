@@ -1,5 +1,5 @@
 -- How a command ends: what its status says of the words, the source and the sink.
-use Rattle.std.specs.Prelude.{◌≡◌, ◌⊎◌, ℕ, ◌<◌, false, List, ◌∷◌, ◌++◌, length, Option, Result, Ok, Err, codes}
+use Rattle.std.specs.Prelude.{◌≡◌, ◌⊎◌, ℕ, ◌<◌, ◌≤◌, false, List, ◌∷◌, ◌++◌, length, Option, Result, Ok, Err, codes}
 use Rattle.graft_edge.specs.Outside.{FaultRose, Took, IsAtEnd, Appended, AppendedFront}
 use Rattle.lab_tables.specs.declared.input.LabInput.{LabInput}
 use Rattle.lab_input.specs.declared.bad.BadInput.{BadInput}
@@ -128,11 +128,12 @@ pub record NamesUnknown (words : List (List ℕ)) (before after : Option (List �
   pub none : view_named input view ≡ Err name
   pub says : text ≡ unknown_text input name
 
--- Bytes were taken from a source, and this is what an audit says of them: of all that there were, or that they are more than 256 MiB.
+-- Bytes were taken from a source, and this is what an audit says of them: of all that there were, at most 256 MiB, or that they are more.
 pub record ReadsText (before after : Option (List ℕ)) (text : List ℕ) (end : AuditEnd) : Type 0 where
   pub bytes : List ℕ
   pub took : Took before after bytes
-  pub says : (IsAtEnd after × TellsOf bytes text end) ⊎ ((most_text < length bytes) × (text ≡ long_text) × (end ≡ audit_ends.NoJournal))
+  pub says :
+      (IsAtEnd after × (length bytes ≤ most_text) × TellsOf bytes text end) ⊎ ((most_text < length bytes) × (text ≡ long_text) × (end ≡ audit_ends.NoJournal))
 
 -- What was taken from a source is to be audited and is no journal, for the reason that the text says.
 abbrev pub TookNoJournal : (words : List (List ℕ)) → (before after : Option (List ℕ)) → (text : List ℕ) → Type 0
