@@ -11,6 +11,7 @@ use graft_edge::{NoMemory, PeeringId, RouterId};
 use link_bag::Bag;
 use remote_end::Remote;
 use std::alloc::Global;
+use tcp_seq::Segment;
 
 /// The far side of a peering: the remote's end of the connection, the segments that the link holds each way, and the
 /// router that it points at. Nothing is planned: what happens to a segment is what the journal says.
@@ -73,6 +74,20 @@ impl AuditedFar {
             keepalives: 0,
             last_keepalive: 0,
         })
+    }
+
+    /// Returns the segments in the link on their way to the routers, in the order in which they went in.
+    pub fn homeward(&self) -> &[Segment]
+        ensures { result.now ≡ self.now.homeward }
+    {
+        self.homeward.as_slice()
+    }
+
+    /// Returns the segments in the link on their way to the remote, in the order in which they went in.
+    pub fn remoteward(&self) -> &[Segment]
+        ensures { result.now ≡ self.now.remoteward }
+    {
+        self.remoteward.as_slice()
     }
 
     /// Returns whether no segment is in the link.

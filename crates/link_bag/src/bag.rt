@@ -47,6 +47,13 @@ impl Bag {
         self.segments.is_empty()
     }
 
+    /// Returns the segments, to look at.
+    pub fn as_slice(&self) -> &[Segment]
+        ensures { result.now ≡ self.now }
+    {
+        self.segments.as_slice()
+    }
+
     /// Adds a segment at the end. If memory runs out, the segment is returned and nothing changes;
     /// there is no other failure.
     pub fn put(&mut self, segment: Segment) -> Result<(), Segment>

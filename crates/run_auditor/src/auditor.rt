@@ -22,7 +22,7 @@ use std::alloc::Global;
 /// Replays the journal of a laboratory entry by entry: the actors of the laboratory as the entries so far have left
 /// them, and what is on its way between them.
 #[derive(Drop)]
-pub(crate) struct Auditor {
+pub struct Auditor {
     /// The laboratory, which is only for proofs.
     pub(crate) known: Known,
     /// The routers and the far sides, by their numbers.
@@ -70,8 +70,8 @@ fn first_far_sides(alloc: Global, input: &LabInput) -> Result<Vec<AuditedFar>, N
 }
 
 impl Auditor {
-    /// Returns an auditor of an accepted input, before the first entry.
-    pub(crate) fn new(alloc: Global, input: &LabInput) -> Result<Auditor, NoMemory>
+    /// Returns an auditor of an accepted input, before the first entry: it stands for the first world.
+    pub fn new(alloc: Global, input: &LabInput) -> Result<Auditor, NoMemory>
         requires { IsAccepted input.now }
         ensures setup { IfOk result (λ auditor. auditor.known.setup ≡ setup_of input.now) }
         ensures first { IfOk result (λ auditor. StandsFor auditor (first_world (setup_of input.now))) }
@@ -92,5 +92,12 @@ impl Auditor {
             operator,
             inboxes,
         })
+    }
+
+    /// Returns the far sides, by the numbers of their peerings, to look at.
+    pub fn far_sides(&self) -> &[AuditedFar]
+        ensures { result.now ≡ self.now.far_sides.items }
+    {
+        self.far_sides.as_slice()
     }
 }

@@ -112,7 +112,7 @@ impl Auditor {
     }
 
     /// Returns whether nothing is left to do in the world.
-    pub(crate) fn is_quiet(&self) -> bool
+    pub fn is_quiet(&self) -> bool
         requires { AuditorInvariant self.now }
         ensures { TellsQuiet self.now result }
     {
@@ -226,8 +226,11 @@ impl Auditor {
         }
     }
 
-    /// Takes an entry: its event happens, if it can.
-    pub(crate) fn step(&mut self, entry: &JournalEntry) -> Result<Step, NoMemory>
+    /// Takes an entry: its event happens, if it can. `Made` just where there is an event of this kind and these arguments,
+    /// and it can happen in the world so far: then the auditor stands for the world to which it leads. `Kind` where no event
+    /// of the entry's actor has this kind and these arguments, and `Condition` where its event can't happen: then the auditor
+    /// stands for the same world as before. An entry's clock isn't compared. If memory runs out, the auditor is of no more use.
+    pub fn step(&mut self, entry: &JournalEntry) -> Result<Step, NoMemory>
         requires { AuditorInvariant self.old }
         ensures { IfOk result (λ step. TakesEntry entry.now self.old step self.new) }
     {

@@ -9,4 +9,6 @@ mod laws;
 mod step;
 
 pub use audit::{Audit, Why, audit_journal};
+pub use auditor::Auditor;
 pub use laws::answers_tell_of_runs;
+pub use step::Step;

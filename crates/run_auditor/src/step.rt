@@ -2,7 +2,7 @@
 
 /// What an entry is in the world so far.
 #[derive(Clone, Copy, Debug, PartialEq, Eq, Hash)]
-pub(crate) enum Step {
+pub enum Step {
     /// It is that of an event that could happen, and has happened now. It took an item of the actor of number `from`, and
     /// sent one to that of number `to`, if these are named.
     Made {
