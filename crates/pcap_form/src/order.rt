@@ -4,15 +4,15 @@ ghost use Rattle.std.specs.Prelude.{◌≡◌, ◌+◌, ◌≤◌, length};
 ghost use Rattle.pcap_form.specs.Numbers.{word_at as word_at_lem, half_at as half_at_lem};
 
 /// Whether the octet of a number that counts most stands first, or last.
-#[derive(Clone, Copy, Debug, PartialEq, Eq)]
-pub(crate) enum ByteOrder {
+#[derive(Clone, Copy, Debug, PartialEq, Eq, Hash)]
+pub enum ByteOrder {
     Big,
     Little,
 }
 
 /// Returns the number of the four octets at a place.
 #[tactic(auto, unfolding(crate::specs::Numbers::word_at))]
-pub(crate) fn word_at(order: ByteOrder, octets: &[u8], place: usize) -> u32
+pub fn word_at(order: ByteOrder, octets: &[u8], place: usize) -> u32
     requires { place + 4 ≤ length octets.now }
     ensures { result ≡ word_at_lem order octets.now place }
 {
@@ -26,7 +26,7 @@ pub(crate) fn word_at(order: ByteOrder, octets: &[u8], place: usize) -> u32
 
 /// Returns the number of the two octets at a place.
 #[tactic(auto, unfolding(crate::specs::Numbers::half_at))]
-pub(crate) fn half_at(order: ByteOrder, octets: &[u8], place: usize) -> u16
+pub fn half_at(order: ByteOrder, octets: &[u8], place: usize) -> u16
     requires { place + 2 ≤ length octets.now }
     ensures { result ≡ half_at_lem order octets.now place }
 {

@@ -1,0 +1,5 @@
+pub mod Links
+pub mod Headers
+pub mod Reading
+pub mod Writing
+pub mod Worked
