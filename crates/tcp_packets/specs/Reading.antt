@@ -1,10 +1,12 @@
--- What a packet of a capture is.
-use Rattle.std.specs.Prelude.{ℕ, Bool, if◌then◌else◌, List, drop, Option, Some, None}
+-- The segment of TCP in a packet of a capture.
+use Rattle.std.specs.Prelude.{ℕ, Bool, ◌&&◌, if◌then◌else◌, List, drop, Option, Some, None, Result, Ok, Err}
 use Rattle.pcap_form.specs.declared.order.ByteOrder.TheVariants.{Big}
 use Rattle.pcap_form.specs.Blocks.{Captured}
 use Rattle.pcap_form.specs.Numbers.{word_at, half_at}
 use Rattle.tcp_seq.specs.Numbers.{plus}
 use Rattle.tcp_packets.specs.declared.socket.Socket.{Socket}
+use Rattle.tcp_packets.specs.declared.read.LeftOut.{LeftOut}
+use Rattle.tcp_packets.specs.declared.read.LeftOut.TheVariants.{Fragment, Other}
 use Rattle.tcp_packets.specs.Links.{behind_link}
 use Rattle.tcp_packets.specs.Headers.{is_ipv4, is_tcp, is_fragment, carried, is_segment, is_syn, data_offset}
 
@@ -17,12 +19,6 @@ pub record Segment : Type 0 where
   pub first : ℕ
   pub octets : List ℕ
 
--- a segment of TCP; a fragment of an IPv4 packet that has one; or anything else, a packet that wasn't captured to its end among them
-pub data Packet : Type 0 where
-  OfTcp : Segment → Packet
-  Fragment : Packet
-  Other : Packet
-
 abbrev pub segment_of : (packet segment : List ℕ) → Segment
 segment_of packet segment = record {
   source = record { address = word_at Big packet 12; port = half_at Big segment 0 };
@@ -32,15 +28,18 @@ segment_of packet segment = record {
   octets = drop (data_offset segment) segment;
 }
 
-abbrev pub tcp_packet : List ℕ → Packet
-tcp_packet packet =
-    if is_fragment packet then Fragment
-    else if is_segment (carried packet) then OfTcp (segment_of packet (carried packet))
-    else Other
+-- the segment of an IPv4 packet that carries TCP
+abbrev pub tcp_in : List ℕ → Result Segment LeftOut
+tcp_in packet =
+    if is_fragment packet then Err Fragment
+    else if is_segment (carried packet) then Ok (segment_of packet (carried packet))
+    else Err Other
 
-abbrev pub packet_of : Option (List ℕ) → Packet
-packet_of None = Other
-packet_of (Some packet) = if is_ipv4 packet then (if is_tcp packet then tcp_packet packet else Other) else Other
+abbrev pub segment_in : Option (List ℕ) → Result Segment LeftOut
+segment_in None = Err Other
+segment_in (Some packet) = if is_ipv4 packet && is_tcp packet then tcp_in packet else Err Other
 
-abbrev pub read_packet : Captured → Packet
-read_packet captured = packet_of (behind_link captured.link captured.octets)
+-- A packet of a capture is a segment; or a fragment of an IPv4 packet that carries TCP; or anything else, as is a packet that wasn't captured to its
+-- end.
+abbrev pub read_packet : Captured → Result Segment LeftOut
+read_packet captured = segment_in (behind_link captured.link captured.octets)

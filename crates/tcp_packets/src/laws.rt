@@ -1,10 +1,10 @@
 //! Laws of the packets that are written.
 
-ghost use Rattle.std.specs.Prelude.{◌≡◌, ◌≤◌, ◌^◌, ◌<◌, ◌++◌, ℕ, List, length, take, drop, false};
+ghost use Rattle.std.specs.Prelude.{◌≡◌, ◌≤◌, ◌++◌, ℕ, List, length, take, drop, false, Ok};
 ghost use Rattle.pcap_form.specs.declared.link.LinkType.TheVariants.{Ipv4};
 ghost use Rattle.tcp_seq.specs.declared.segment.Segment.{Segment};
 ghost use Rattle.tcp_packets.specs.declared.socket.Socket.{Socket};
-ghost use Rattle.tcp_packets.specs.Reading.{OfTcp, read_packet};
+ghost use Rattle.tcp_packets.specs.Reading.{read_packet};
 ghost use Rattle.tcp_packets.specs.Writing.{ones_sum, pseudo_header, written_packet};
 ghost use Rattle.tcp_packets.specs.Worked.{worked_keepalive, worked_segment, worked_source, worked_target};
 
@@ -20,7 +20,7 @@ pub fn checksums_are_right()
 pub fn what_is_written_is_read()
     ensures { (source target : Socket) (s : Segment) → length s.bytes ≤ 65495
         → read_packet (record { link = Ipv4; octets = written_packet source target s })
-            ≡ OfTcp (record { source = source; target = target; opens = false; first = s.seq.0; octets = s.bytes }) }
+            ≡ Ok (record { source = source; target = target; opens = false; first = s.seq.0; octets = s.bytes }) }
 {}
 
 /// The packet of a KEEPALIVE, worked by hand.

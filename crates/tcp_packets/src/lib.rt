@@ -9,6 +9,6 @@ mod socket;
 mod write;
 
 pub use laws::{a_packet_worked_by_hand, checksums_are_right, what_is_written_is_read};
-pub use read::{CapturedSegment, Seen, seen};
+pub use read::{CapturedSegment, LeftOut, read_packet};
 pub use socket::Socket;
 pub use write::write_packet;
