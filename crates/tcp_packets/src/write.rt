@@ -8,10 +8,8 @@ use crate::checksum::{checksum, word_sum};
 use crate::socket::Socket;
 use graft_edge::{NoMemory, Octets};
 use std::alloc::Global;
+use tcp_reasm::WINDOW;
 use tcp_seq::Segment;
-
-/// The window of the laboratory's ends.
-const WINDOW: u16 = 16384;
 
 /// Returns the header of IPv4 with a checksum.
 fn ip_header(check: u16, source: Socket, target: Socket, segment: &Segment) -> [u8; 20]
@@ -37,7 +35,7 @@ fn tcp_header(check: u16, source: Socket, target: Socket, segment: &Segment) -> 
     let seq = segment.seq.0.to_be_bytes();
     let ack = segment.ack.0.to_be_bytes();
     let flags = if segment.bytes.is_empty() { 0x10 } else { 0x18 };
-    let window = WINDOW.to_be_bytes();
+    let window = (WINDOW as u16).to_be_bytes();
     let check = check.to_be_bytes();
     [
         from[0], from[1], to[0], to[1], seq[0], seq[1], seq[2], seq[3], ack[0], ack[1], ack[2],
