@@ -1,0 +1,11 @@
+use Rattle.capsule_parts.proofs.Told.{stays_same, telling_more}
+use Rattle.capsule_parts.proofs.retell.tell_lines.Goals as goal
+
+pub loop-line-init : goal.loop-line-init
+loop-line-init c = (stays_same c.args.session.now.session, λ told t. t)
+
+pub loop-line-preserved : goal.loop-line-preserved
+loop-line-preserved c =
+    telling_more c.args.story.now c.args.session.now.session c.loop-line.session.session c.tell_line.new.session.session
+    c.loop-line.line-index c.line-item.result c.loop-line-test.true c.line-item.is c.loop-line.invariant c.in_ok-tell_line.ensures.stays
+    (λ told rest t. (c.in_ok-tell_line.ensures.told told rest t).1)
