@@ -1,15 +1,12 @@
 -- A session that has only begun, with all bytes received.
-use Rattle.std.proofs.Common.{◌≡◌, ℕ, ◌+◌, ◌^◌, ◌≤◌, List, [], ◌∷◌, length, drop, refl, sym, ap, ◌∙◌, subst, arith}
-use Rattle.bgp_types.specs.declared.message.Message.TheVariants.{OpenMsg}
+use Rattle.std.proofs.Common.{◌≡◌, ℕ, ◌≤◌, List, [], length, refl, sym, ap, ◌∙◌, subst, arith}
 use Rattle.tcp_seq.specs.declared.state.EndState.{EndState}
-use Rattle.tcp_seq.specs.Endpoint.{Endpoint}
-use Rattle.tcp_end.specs.Standing.{EndStands}
+use Rattle.tcp_seq.specs.declared.state.Piece.{Piece}
 use Rattle.tcp_end.specs.State.{IsEndState, got}
-use Rattle.bgp_story.specs.declared.line.Line.TheVariants.{Put}
 use Rattle.bgp_story.specs.Legal.{IsPeering}
 use Rattle.session_value.specs.declared.config.SessionConfig.{SessionConfig}
-use Rattle.session_value.specs.Sessions.{SessionValue, begun, peering_of}
-use Rattle.session_value.specs.Ties.{IsOfStory, IsTied}
+use Rattle.session_value.specs.Sessions.{begun, peering_of}
+use Rattle.session_value.specs.Ties.{IsTied}
 use Rattle.session_value.proofs.Ties.{begun_is}
 use Rattle.bgp_session.specs.Running.{RunningSession}
 use Rattle.bgp_session.specs.Steps.{IsEndFor, with_end}
@@ -81,3 +78,25 @@ module _ (config : SessionConfig) (valid : IsPeering (peering_of config)) (recei
     story_is = refl;
     unread_is = ready_left new (begun config).end.stream [] sound none_taken;
   }
+
+-- by what the calls answer
+module _ (config : SessionConfig) (valid : IsPeering (peering_of config)) (received : List ℕ) (few : length received ≤ 1048576)
+    (session : RunningSession) (is : session ≡ begun_session config) (end : EndState) (is_end : IsEndFor session.session end)
+    (whole : session ≡ with_end session.session end) (ahead : List Piece) (none : ahead ≡ []) where
+  its_end : IsEndFor (begun config) end
+  its_end = subst (λ (r : RunningSession). IsEndFor r.session end) is is_end
+
+  its_whole : begun_session config ≡ with_end (begun config) end
+  its_whole = subst (λ (r : RunningSession). r ≡ with_end r.session end) is whole
+
+  abbrev its_new : List Piece → EndState
+  its_new ps = record end { ready = received; ahead = ps }
+
+  pub end_for_begun : IsEndFor session.session (its_new ahead)
+  end_for_begun = subst (λ (r : RunningSession). IsEndFor r.session (its_new ahead)) (sym is)
+      (subst (λ (ps : List Piece). IsEndFor (begun config) (its_new ps)) (sym none) (new_end config valid received few end its_end its_whole))
+
+  pub begun_has : (other : RunningSession) → other ≡ with_end session.session (its_new ahead) → HasBegun config received other.session
+  begun_has other e = subst (λ (r : RunningSession). HasBegun config received r.session)
+      (sym (e ∙ ap (λ (r : RunningSession). with_end r.session (its_new ahead)) is
+      ∙ ap (λ (ps : List Piece). with_end (begun config) (its_new ps)) none)) (has_begun config valid received few end its_end its_whole)

@@ -6,8 +6,7 @@ use Rattle.std.specs.FinMap as map
 use Rattle.std.specs.Option.{option_or}
 use Rattle.std.proofs.lemmas.Bool.{cases_lt}
 use Rattle.std.proofs.Math.Seq.{drop-append_seam, take-append_seam}
-use Rattle.tcp_seq.specs.Endpoint.{Endpoint, byte_from, received, received_bytes, bytes_in_order}
-use Rattle.tcp_seq.specs.Rules.{IsInStream}
+use Rattle.tcp_seq.specs.Endpoint.{Endpoint, received, received_bytes}
 use Rattle.tcp_seq.specs.declared.state.Piece.{Piece}
 use Rattle.tcp_seq.specs.declared.state.EndState.{EndState}
 use Rattle.tcp_seq.proofs.ByteFrom.{byte_past}
@@ -15,7 +14,7 @@ use Rattle.tcp_seq.proofs.Received.{some_none}
 use Rattle.tcp_reasm.specs.Runs.{held}
 use Rattle.tcp_end.specs.Standing.{EndStands}
 use Rattle.tcp_end.specs.State.{IsEndState, LieFrom, got}
-use Rattle.tcp_end.specs.Whole.{arrived_of, endpoint_of}
+use Rattle.tcp_end.specs.Whole.{endpoint_of}
 use Rattle.tcp_end.proofs.Wholes.{get-arrived_of}
 use Rattle.capsule_parts.proofs.Runs.{arrived_in_order}
 

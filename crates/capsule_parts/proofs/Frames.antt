@@ -15,7 +15,7 @@ begins_some octets s nothing = nothing s.front s.rest s.is s.got
 -- ---- a whole message
 
 never : {A : Type 0} → ¬ A → IsTrue false ↔ A
-never no = (λ e. absurd cc, λ a. absurd (no a))
+never not = (λ e. absurd cc, λ a. absurd (not a))
 
 pub whole_none : (octets : List ℕ) → frame_at octets ≡ None → IsTrue false ↔ (frame_at octets ≡ Some (octets, []))
 whole_none octets none = never (λ whole. let e : ◌≡◌ {A = Option (List ℕ × List ℕ)} None (Some (octets, [])) = sym none ∙ whole in cc)

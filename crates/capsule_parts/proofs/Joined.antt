@@ -12,12 +12,18 @@ use Rattle.capsule_parts.proofs.Runs.{above_wider, last_ends, last_replaced, num
 
 -- ---- a piece is added
 
-abbrev with_bytes : Piece → List ℕ → Piece
+abbrev pub with_bytes : Piece → List ℕ → Piece
 with_bytes p bytes = record p { bytes = p.bytes ++ bytes }
+
+-- the bytes of a piece are added, and the pieces lie apart as before
+abbrev pub IsAdded : Piece → (old new : List Piece) → Type 0
+IsAdded piece old new = (numbered_in new ≡ numbered_in old ++ numbered_from piece.offset piece.bytes)
+    × ((below : ℕ) → LieAbove below piece.offset old → below < piece.offset → 0 < length piece.bytes
+    → LieAbove below (piece.offset + length piece.bytes) new)
 
 -- to the last piece, if it follows that
 module _ (rest : List Piece) (last piece : Piece) (follows : last.offset + length last.bytes ≡ piece.offset) where
-  pub follow_bytes : numbered_in (rest ++ with_bytes last piece.bytes ∷ []) ≡ numbered_in (rest ++ last ∷ []) ++ numbered_from piece.offset piece.bytes
+  follow_bytes : numbered_in (rest ++ with_bytes last piece.bytes ∷ []) ≡ numbered_in (rest ++ last ∷ []) ++ numbered_from piece.offset piece.bytes
   follow_bytes =
       numbered_pieces rest (with_bytes last piece.bytes ∷ [])
       ∙ ap (λ (es : List (ℕ × ℕ)). numbered_in rest ++ es) (numbered_one (with_bytes last piece.bytes)
@@ -27,21 +33,25 @@ module _ (rest : List Piece) (last piece : Piece) (follows : last.offset + lengt
       ∙ ap (λ (es : List (ℕ × ℕ)). es ++ numbered_from piece.offset piece.bytes)
       (ap (λ (es : List (ℕ × ℕ)). numbered_in rest ++ es) (sym (numbered_one last)) ∙ sym (numbered_pieces rest (last ∷ [])))
 
-  pub follow_apart : (below : ℕ) → LieAbove below piece.offset (rest ++ last ∷ []) → 0 < length piece.bytes
+  follow_apart : (below : ℕ) → LieAbove below piece.offset (rest ++ last ∷ []) → 0 < length piece.bytes
       → LieAbove below (piece.offset + length piece.bytes) (rest ++ with_bytes last piece.bytes ∷ [])
   follow_apart below lie some =
       let size = length-append last.bytes piece.bytes in
       last_replaced below piece.offset (piece.offset + length piece.bytes) rest last (with_bytes last piece.bytes ∷ []) (omega arith) lie
       (λ n above. (above, omega (arith, size, some), omega (arith, size, follows), tt))
 
+  pub added_to_last : (old new : List Piece) → old ≡ rest ++ last ∷ [] → new ≡ rest ++ with_bytes last piece.bytes ∷ [] → IsAdded piece old new
+  added_to_last old new was is = subst (λ (ps : List Piece). IsAdded piece ps new) (sym was)
+      (subst (IsAdded piece (rest ++ last ∷ [])) (sym is) (follow_bytes, λ below lie above some. follow_apart below lie some))
+
 -- or behind it
 module _ (rest : List Piece) (last piece : Piece) (apart : last.offset + length last.bytes ≢ piece.offset) where
-  pub behind_bytes : numbered_in ((rest ++ last ∷ []) ++ piece ∷ []) ≡ numbered_in (rest ++ last ∷ []) ++ numbered_from piece.offset piece.bytes
+  behind_bytes : numbered_in ((rest ++ last ∷ []) ++ piece ∷ []) ≡ numbered_in (rest ++ last ∷ []) ++ numbered_from piece.offset piece.bytes
   behind_bytes =
       numbered_pieces (rest ++ last ∷ []) (piece ∷ [])
       ∙ ap (λ (es : List (ℕ × ℕ)). numbered_in (rest ++ last ∷ []) ++ es) (numbered_one piece)
 
-  pub behind_apart : (below : ℕ) → LieAbove below piece.offset (rest ++ last ∷ []) → 0 < length piece.bytes
+  behind_apart : (below : ℕ) → LieAbove below piece.offset (rest ++ last ∷ []) → 0 < length piece.bytes
       → LieAbove below (piece.offset + length piece.bytes) ((rest ++ last ∷ []) ++ piece ∷ [])
   behind_apart below lie some =
       let end = last_ends below piece.offset rest last lie in
@@ -49,13 +59,9 @@ module _ (rest : List Piece) (last piece : Piece) (apart : last.offset + length 
       (last_replaced below piece.offset (piece.offset + length piece.bytes) rest last (last ∷ piece ∷ []) (omega arith) lie
       (λ n above. (above, end.0, omega (arith, end.1), (omega (arith, end.1, apart), some, omega arith, tt))))
 
--- or as the first one
-pub first_bytes : (piece : Piece) → numbered_in (piece ∷ []) ≡ numbered_in [] ++ numbered_from piece.offset piece.bytes
-first_bytes piece = numbered_one piece
-
-pub first_apart : (piece : Piece) (below : ℕ) → below < piece.offset → 0 < length piece.bytes
-    → LieAbove below (piece.offset + length piece.bytes) (piece ∷ [])
-first_apart piece below above some = (above, some, omega arith, tt)
+  pub added_behind : (old new : List Piece) → old ≡ rest ++ last ∷ [] → new ≡ (rest ++ last ∷ []) ++ piece ∷ [] → IsAdded piece old new
+  added_behind old new was is = subst (λ (ps : List Piece). IsAdded piece ps new) (sym was)
+      (subst (IsAdded piece (rest ++ last ∷ [])) (sym is) (behind_bytes, λ below lie above some. behind_apart below lie some))
 
 -- ---- all pieces
 

@@ -5,6 +5,7 @@ pub mod Ends
 pub mod Spelled
 pub mod Begun
 pub mod Frames
+pub mod ReadUpdates
 pub mod Offers
 pub mod Puts
 pub mod Told

@@ -1,7 +1,8 @@
 -- Whether an UPDATE may be put.
 use Rattle.std.proofs.Common.{◌≡◌, ◌≢◌, ℕ, ◌+◌, ◌<◌, Bool, true, false, List, [], ◌∷◌, ◌++◌, Option, Some, None, refl, sym, ap, ◌∙◌, subst}
 use Rattle.std.proofs.Common.{append-nil, ◌⊎◌, ◌||◌, inl, inr}
-use Rattle.std.specs.Prelude.{All, MatchBool, IsTrue, ◌↔◌}
+use Rattle.std.specs.Prelude.{All, MatchBool, IsTrue, ◌↔◌, not}
+use Rattle.std.proofs.lemmas.Option.{same_Some}
 use Rattle.std.specs.FinMap as map
 use Rattle.std.specs.List.{AllByRecursion, list_any}
 use Rattle.std.proofs.lemmas.List.Elements.{All-from_recursion, recursion_from_All}
@@ -9,11 +10,26 @@ use Rattle.bgp_types.specs.declared.attrs.Attrs.{Attrs}
 use Rattle.bgp_types.specs.declared.message.Update.{Update}
 use Rattle.bgp_types.specs.Prefixes.{PrefixValue, same_prefix}
 use Rattle.bgp_types.specs.Writable.{HasAttrsFor}
+use Rattle.bgp_types.specs.contracts.attrs.AttrsPartialEq.TheImpl as attrs_eq
+use Rattle.bgp_types.proofs.Equality.{attrs_equal}
 use Rattle.bgp_types.proofs.OnceLaws.{same_itself}
 use Rattle.bgp_story.specs.Readings.{Routes, apply}
 use Rattle.session_value.specs.Cases.{Changes, update_for}
 use Rattle.update_plan.proofs.Told.{value_of_listed}
 use Rattle.capsule_parts.specs.Offered.{IsEitherWay}
+
+-- ---- a route has other attributes, or there is none
+
+pub differs : (entry : Option Attrs) (a b : Attrs) (t : Bool) → entry ≡ Some a → t ≡ not (attrs_eq.eq-value.it a b)
+    → MatchBool t (entry ≢ Some b) (entry ≡ Some b)
+differs entry a b t is says = by_test (attrs_eq.eq-value.it a b) refl says where
+  by_test : (e : Bool) → attrs_eq.eq-value.it a b ≡ e → t ≡ not e → MatchBool t (entry ≢ Some b) (entry ≡ Some b)
+  by_test true e s =
+      subst (λ (x : Bool). MatchBool x (entry ≢ Some b) (entry ≡ Some b)) (sym s) (is ∙ ap (λ (x : Attrs). Some x) ((attrs_equal a b).0 e))
+  by_test false e s = subst (λ (x : Bool). MatchBool x (entry ≢ Some b) (entry ≡ Some b)) (sym s) (λ same.
+      let one : a ≡ b = same_Some a b (sym is ∙ same) in
+      let equal : ◌≡◌ {A = Bool} false true = sym e ∙ (attrs_equal a b).1 one in
+      cc)
 
 -- ---- each prefix of a list is in it
 

@@ -3,14 +3,23 @@ use Rattle.std.proofs.Common.{◌≡◌, ◌≢◌, ℕ, Bool, true, false, List
 use Rattle.std.specs.Prelude.{MatchBool, IsTrue, map}
 use Rattle.bgp_types.specs.declared.message.SessionState.TheVariants.{Established}
 use Rattle.bgp_story.specs.declared.line.Line.{Line}
-use Rattle.bgp_story.specs.Legal.{Peering, is_wide}
+use Rattle.bgp_story.specs.Legal.{Peering, IsPeering, is_wide}
 use Rattle.bgp_story.specs.States.{state_of}
+use Rattle.bgp_story.proofs.Ranges.{peering_of as peering_of_story}
+use Rattle.bgp_story.proofs.Shapes.{allowed_of}
 use Rattle.session_value.specs.declared.config.SessionConfig.{SessionConfig}
 use Rattle.session_value.specs.Sessions.{SessionValue, peering_of, state}
 use Rattle.capsule_bytes.specs.declared.parts.PartLine.{PartLine}
 use Rattle.capsule_parts.specs.Parts.{part_line, part_lines}
 use Rattle.capsule_parts.specs.Retold.{HasBegun, HasTold, IsRetold, IsStoryOf, IsToldSoFar, StaysTold}
 use Rattle.capsule_parts.proofs.Told.{begins_told, ends_told}
+
+pub its_peering : (p : Peering) (received : List ℕ) (octets : List PartLine) (story : List Line) → IsStoryOf p received octets story → IsPeering p
+its_peering p received octets story is = peering_of_story p story is.state (allowed_of p story is.state is.legal)
+
+pub untold : {A : Type 0} (t : Bool) → t ≡ false → MatchBool t A (¬ A) → ¬ A
+untold true e m = absurd cc
+untold false e m = m
 
 pub told_match : (session : SessionValue) (octets : List PartLine) (t wide : Bool) (lines : List Line)
     → wide ≡ is_wide (peering_of session.config) session.story → lines ≡ session.story → state session ≡ Established

@@ -55,7 +55,8 @@ pieces_said (e ∷ es) = in_front_said e.0 e.1 (pieces_of es) ∙ ap (λ (fs : L
 abbrev front_at : ℕ → ℕ → List Piece → Piece → Bool → List Piece
 front_at offset byte ps p t = cond t (record { offset = offset; bytes = byte ∷ p.bytes } ∷ ps) (record { offset = offset; bytes = byte ∷ [] } ∷ p ∷ ps)
 
-apart_front : (offset byte high : ℕ) (ps : List Piece) → LieAbove (offset + 1) high ps → in_front offset byte ps ≡ record { offset = offset; bytes = byte ∷ [] } ∷ ps
+apart_front : (offset byte high : ℕ) (ps : List Piece) → LieAbove (offset + 1) high ps
+    → in_front offset byte ps ≡ record { offset = offset; bytes = byte ∷ [] } ∷ ps
 apart_front offset byte high [] lie = refl
 apart_front offset byte high (p ∷ ps) lie =
     let t : (p.offset == offset + 1) ≡ false = let above = lie.0 in grind (arith, nat_tests) in
@@ -78,13 +79,13 @@ one_piece offset byte high (c ∷ bytes) es ps is lie =
 -- pieces that lie apart are those of their bytes
 pub pieces_are : (below high : ℕ) (ps : List Piece) → LieAbove below high ps → pieces_of (numbered_in ps) ≡ ps
 pieces_are below high [] lie = refl
-pieces_are below high (p ∷ ps) lie = by_bytes p.bytes refl where
-  by_bytes : (bytes : List ℕ) → p.bytes ≡ bytes → pieces_of (numbered_in (p ∷ ps)) ≡ p ∷ ps
-  by_bytes [] e = absurd (omega (arith, lie.1, ap (λ (xs : List ℕ). length xs) e))
-  by_bytes (b ∷ bs) e =
+pieces_are below high (p ∷ ps) lie = by_bytes p.bytes refl (pieces_are (p.offset + length p.bytes) high ps lie.3) where
+  by_bytes : (bytes : List ℕ) → p.bytes ≡ bytes → pieces_of (numbered_in ps) ≡ ps → pieces_of (numbered_in (p ∷ ps)) ≡ p ∷ ps
+  by_bytes [] e are = absurd (omega (arith, lie.1, ap (λ (xs : List ℕ). length xs) e))
+  by_bytes (b ∷ bs) e are =
       let rest : LieAbove (p.offset + length (b ∷ bs)) high ps = subst (λ (xs : List ℕ). LieAbove (p.offset + length xs) high ps) e lie.3 in
       ap (λ (xs : List ℕ). pieces_of (numbered_from p.offset xs ++ numbered_in ps)) e
-      ∙ one_piece p.offset b high bs (numbered_in ps) ps (pieces_are (p.offset + length p.bytes) high ps lie.3) rest
+      ∙ one_piece p.offset b high bs (numbered_in ps) ps are rest
       ∙ ap (λ (xs : List ℕ). let q : Piece = record { offset = p.offset; bytes = xs } in q ∷ ps) (sym e)
 
 -- ---- pieces that lie apart, and those that may touch
@@ -139,7 +140,8 @@ rises_from : (n m : ℕ) (es : List (ℕ × ℕ)) → n ≤ m → Rises m es →
 rises_from n m [] le rises = tt
 rises_from n m (e ∷ es) le rises = (omega (arith, le, rises.0), rises.1)
 
-rises_numbered : (n offset : ℕ) (bytes : List ℕ) (es : List (ℕ × ℕ)) → n ≤ offset → Rises (offset + length bytes) es → Rises n (numbered_from offset bytes ++ es)
+rises_numbered : (n offset : ℕ) (bytes : List ℕ) (es : List (ℕ × ℕ)) → n ≤ offset → Rises (offset + length bytes) es
+    → Rises n (numbered_from offset bytes ++ es)
 rises_numbered n offset [] es le rises = rises_from n (offset + 0) es (omega (arith, le)) rises
 rises_numbered n offset (b ∷ bytes) es le rises = (
   le,

@@ -11,12 +11,12 @@ use Rattle.bgp_types.specs.declared.message.SessionState.{SessionState}
 use Rattle.bgp_types.specs.declared.message.SessionState.TheVariants.{OpenSent, OpenConfirm, Established, Closed}
 use Rattle.bgp_types.specs.Faults.{fault_in}
 use Rattle.bgp_types.specs.FirstFault.{message_of}
-use Rattle.bgp_types.specs.Spelling.{spell}
 use Rattle.bgp_types.specs.Writable.{IsWritable}
 use Rattle.bgp_types.proofs.NoticeLaws.{fault_writable}
 use Rattle.bgp_story.specs.declared.line.Line.{Line}
 use Rattle.bgp_story.specs.declared.line.Line.TheVariants.{Put, Got, Tick}
-use Rattle.bgp_story.specs.Legal.{Peering, Allowed, opened, got, updated, passed, IsPeering, both_offer, expected_next, hold, hold_expired, is_up, is_wide, reply_at, reply_to, silence}
+use Rattle.bgp_story.specs.Legal.{Peering, Allowed, opened, got, updated, passed, IsPeering}
+use Rattle.bgp_story.specs.Legal.{both_offer, expected_next, hold, hold_expired, is_wide, reply_to, silence}
 use Rattle.bgp_story.specs.Readings.{got_in, put_in, got_bytes, put_bytes}
 use Rattle.bgp_story.proofs.Grows.{open_stays}
 use Rattle.bgp_story.proofs.Ranges.{peering_of as its_peering}
@@ -29,7 +29,6 @@ use Rattle.session_value.proofs.Replies.{up_open}
 use Rattle.session_value.proofs.Rooms.{keepalive_size, expired_size}
 use Rattle.session_value.proofs.Rounds.{Answers, ends, says_keepalive, stays, answers_are}
 use Rattle.bgp_session.proofs.Begun.{first_short, first_writable}
-use Rattle.capsule_bytes.specs.declared.parts.PartLine.{PartLine}
 use Rattle.capsule_parts.specs.Parts.{part_line, part_lines}
 use Rattle.capsule_parts.specs.Sound.{PutsWritable, put_in_part, got_in_part, put_octets, got_octets}
 
@@ -97,7 +96,7 @@ module _ (config : SessionConfig) (valid : IsPeering (peering_of config)) where
   wider : (lines more : List Line) (state : SessionState) → Allowed p lines state → state ≢ Closed → AllWritable (is_wide p lines) lines
       → AllWritable (is_wide p (lines ++ more)) lines
   wider lines more OpenSent l o a =
-      subst (λ (xs : List Line). AllWritable (is_wide p (lines ++ more)) xs) (sym (only_opened p lines OpenSent l refl)) (open_any (is_wide p (lines ++ more)), tt)
+      subst (AllWritable (is_wide p (lines ++ more))) (sym (only_opened p lines OpenSent l refl)) (open_any (is_wide p (lines ++ more)), tt)
   wider lines more OpenConfirm l o a =
       subst (λ (w : Bool). AllWritable w lines) (sym (ap (both_offer p.first) (open_stays p lines more OpenConfirm l refl))) a
   wider lines more Established l o a =

@@ -1,11 +1,12 @@
 -- A session tells its story again, a line after another.
-use Rattle.std.proofs.Common.{◌≡◌, ◌≢◌, ℕ, zero, suc, ◌+◌, ◌-◌, ◌<◌, ◌≤◌, Bool, true, false, List, [], ◌∷◌, ◌++◌, length, drop, Option, Some, None, refl, sym, ap, ◌∙◌, subst}
-use Rattle.std.proofs.Common.{append-nil, append_assoc, length-append, arith, inl, inr}
-use Rattle.std.specs.Prelude.{All, map, IsTrue, is_some, slice_index_or, ◌⊎◌}
+use Rattle.std.proofs.Common.{◌≡◌, ◌≢◌, ℕ, ◌+◌, ◌<◌, ◌≤◌, Bool, true, false, List, [], ◌∷◌, ◌++◌, length, drop, Option, Some, None}
+use Rattle.std.proofs.Common.{refl, sym, ap, ◌∙◌, subst, append-nil, append_assoc, length-append, arith, inl, inr}
+use Rattle.std.specs.Prelude.{All, map, IfOk, IsTrue, OnOk, Result, Ok, Err, is_some, slice_index_or, ◌⊎◌}
 use Rattle.std.specs.List.{AllByRecursion, flat_map}
 use Rattle.std.proofs.lemmas.List.{drop-drop}
 use Rattle.std.proofs.lemmas.Grind.{flat_map-append}
 use Rattle.std.proofs.Math.Seq.{drop-append_seam}
+use Rattle.graft_edge.specs.declared.memory.NoMemory.{NoMemory}
 use Rattle.bgp_types.specs.declared.message.Message.{Message}
 use Rattle.bgp_types.specs.declared.message.Message.TheVariants.{OpenMsg, UpdateMsg, NoticeMsg, KeepaliveMsg}
 use Rattle.bgp_types.specs.declared.message.SessionState.{SessionState}
@@ -14,12 +15,12 @@ use Rattle.bgp_types.specs.declared.message.Update.{Update}
 use Rattle.bgp_types.specs.FirstFault.{message_of}
 use Rattle.bgp_types.specs.Header.{kind_in}
 use Rattle.bgp_types.specs.Spelling.{kind_of, spell}
-use Rattle.tcp_seq.specs.Endpoint.{ready_bytes, received_bytes}
+use Rattle.tcp_seq.specs.Endpoint.{received_bytes}
 use Rattle.bgp_story.specs.declared.line.Line.{Line}
 use Rattle.bgp_story.specs.declared.line.Line.TheVariants.{Put, Got, Tick}
 use Rattle.bgp_story.specs.Legal.{Peering, Allowed, opened, got, updated, passed, IsEarlier, IsGot, IsOneWay}
 use Rattle.bgp_story.specs.Legal.{both_offer, expected_next, hold, is_up, is_wide, reply_at, reply_to, silence}
-use Rattle.bgp_story.specs.Readings.{Routes, ChangesTold, IsLegal, got_bytes, got_in, put_bytes, put_in, told, unless_closed}
+use Rattle.bgp_story.specs.Readings.{Routes, ChangesTold, IsLegal, got_bytes, put_bytes, put_in, told, unless_closed}
 use Rattle.bgp_story.specs.States.{state_of}
 use Rattle.bgp_story.proofs.Grows.{got_grows, open_stays, put_grows}
 use Rattle.bgp_story.proofs.Shapes.{IsAnswer, all_weaken, allowed_of, got_answers, passed_answers}
@@ -32,14 +33,13 @@ use Rattle.session_value.specs.Sessions.{SessionValue, peering_of, state, unread
 use Rattle.session_value.specs.Ties.{IsOfStory, most_put}
 use Rattle.session_value.proofs.GotTies.{gets_of_story}
 use Rattle.session_value.proofs.PutTies.{puts_of_story}
-use Rattle.session_value.proofs.Replies.{up_open}
 use Rattle.bgp_session.specs.Running.{RunningSession}
 use Rattle.bgp_session.specs.declared.answers.ReadStep.{ReadStep}
-use Rattle.bgp_session.specs.Steps.{PassesAgain, PassesIfItMay, ReadsFrameIfAny, offered_length}
+use Rattle.bgp_session.specs.Steps.{PassesAgain, PassesIfItMay, ReadsFrameIfAny}
 use Rattle.bgp_session.proofs.Again.{again_of_story}
 use Rattle.capsule_bytes.specs.declared.parts.PartLine.{PartLine}
 use Rattle.capsule_bytes.specs.declared.parts.PartLine.TheVariants as parts
-use Rattle.capsule_parts.specs.Parts.{part_line, part_lines}
+use Rattle.capsule_parts.specs.Parts.{part_line}
 use Rattle.capsule_parts.specs.Offered.{SpellPut}
 use Rattle.capsule_parts.proofs.Items.{item_left}
 use Rattle.capsule_parts.specs.Retold.{GoesOn, ends, gets, puts, passes, HasBegun, IsOwn, IsStoryOf, IsToldSoFar, PutsOwn, StaysTold}
@@ -461,14 +461,15 @@ read_stays (Some step) old new f = record {
 pub read_told : (step : Option ReadStep) (old new : RunningSession) (octets : List ℕ) (story : List Line) (rest : List PartLine) → ReadsFrameIfAny step old new
     → IsToldSoFar story (parts.Got octets ∷ rest) old.session → IsTrue (is_some step) × IsToldSoFar story rest new.session
 read_told None old new octets story rest f t = by_cause f.0 where
-  by_cause : (state old.session ≡ Closed) ⊎ BeginsNothing (unread old.session) → IsTrue (is_some {A = ReadStep} None) × IsToldSoFar story rest new.session
+  by_cause : (state old.session ≡ Closed) ⊎ BeginsNothing (unread old.session) → IsTrue false × IsToldSoFar story rest new.session
   by_cause (inl closed) = absurd ((got_next story rest old.session octets t).unclosed closed)
   by_cause (inr nothing) =
       absurd (nothing octets (got_bytes (got_next story rest old.session octets t).more ++ t.held) (unread_front story rest old.session octets t)
       (got_next story rest old.session octets t).whole)
 read_told (Some step) old new octets story rest f t = (refl, got_same story rest old.session octets t f.bytes new.session f.gets)
 
-pub pass_stays : (passed : Bool) (old : RunningSession) (round : ℕ) (new : RunningSession) → PassesIfItMay passed old round new → StaysTold old.session new.session
+pub pass_stays : (passed : Bool) (old : RunningSession) (round : ℕ) (new : RunningSession) → PassesIfItMay passed old round new
+    → StaysTold old.session new.session
 pass_stays true old round new f = record {
   config = ap (λ (x : SessionValue). x.config) f.0.effect;
   of_story = again_of_story old.session new.session round f.0;
@@ -477,6 +478,11 @@ pass_stays false old round new f = record {
   config = ap (λ (r : RunningSession). r.session.config) f.0;
   of_story = λ is. subst (λ (r : RunningSession). IsOfStory r.session) (sym f.0) is;
 }
+
+pub pass_stays_if : (r : Result Bool NoMemory) (old : RunningSession) (round : ℕ) (new : RunningSession)
+    → IfOk r (λ passed. PassesIfItMay passed old round new) → OnOk r (StaysTold old.session new.session)
+pass_stays_if (Ok t) old round new f = pass_stays t old round new f
+pass_stays_if (Err error) old round new f = tt
 
 pub pass_told : (passed : Bool) (old : RunningSession) (round : ℕ) (new : RunningSession) (story : List Line) (rest : List PartLine)
     → PassesIfItMay passed old round new → IsToldSoFar story (parts.Tick round ∷ rest) old.session → IsTrue passed × IsToldSoFar story rest new.session
@@ -505,15 +511,14 @@ stays_more a b c f g = record { config = g.config ∙ f.config; of_story = λ is
 abbrev pub IsTellingOf : List PartLine → SessionValue → ℕ → SessionValue → Type 0
 IsTellingOf octets first i session = StaysTold first session × ((told : List Line) → IsToldSoFar told octets first → IsToldSoFar told (drop i octets) session)
 
-pub telling_more : (octets : List PartLine) (first before after : SessionValue) (i : ℕ) (line : PartLine) → i < length octets → line ≡ slice_index_or octets i line
-    → IsTellingOf octets first i before → StaysTold before after
-    → ((told : List Line) (rest : List PartLine) → IsToldSoFar told (line ∷ rest) before → IsToldSoFar told rest after)
-    → IsTellingOf octets first (i + 1) after
-telling_more octets first before after i line below is so stays tells = (
-  stays_more first before after so.0 stays,
-  λ story t. tells story (drop (i + 1) octets)
-      (subst (λ (xs : List PartLine). IsToldSoFar story xs before) (item_left octets i line below is) (so.1 story t)),
-)
+module _ (octets : List PartLine) (first before : SessionValue) (i : ℕ) (line : PartLine) (below : i < length octets)
+    (is : line ≡ slice_index_or octets i line) (so : IsTellingOf octets first i before) where
+  pub telling_next : (told : List Line) → IsToldSoFar told octets first → IsToldSoFar told (line ∷ drop (i + 1) octets) before
+  telling_next told t = subst (λ (xs : List PartLine). IsToldSoFar told xs before) (item_left octets i line below is) (so.1 told t)
+
+  pub telling_more : (after : SessionValue) → StaysTold before after
+      → ((told : List Line) (rest : List PartLine) → IsToldSoFar told (line ∷ rest) before → IsToldSoFar told rest after) → IsTellingOf octets first (i + 1) after
+  telling_more after stays tells = (stays_more first before after so.0 stays, λ told t. tells told (drop (i + 1) octets) (telling_next told t))
 
 -- ---- the whole story
 

@@ -1,17 +1,17 @@
 -- The parts of a capsule as a whole.
-use Rattle.std.proofs.Common.{◌≡◌, ◌≢◌, ℕ, ◌+◌, ◌-◌, ◌^◌, ◌<◌, ◌≤◌, Bool, List, [], ◌∷◌, ◌++◌, length, take, drop, refl, sym, ap, ◌∙◌, subst, length-append, arith}
+use Rattle.std.proofs.Common.{◌≡◌, ◌≢◌, ℕ, ◌+◌, ◌-◌, List, [], ◌++◌, length, drop, refl, sym, ap, ◌∙◌, subst, length-append, arith, Option}
 use Rattle.std.specs.Prelude.{All}
 use Rattle.std.proofs.lemmas.List.{length-drop}
+use Rattle.graft_edge.specs.declared.name.Name.{Name}
 use Rattle.bgp_types.specs.declared.message.SessionState.{SessionState}
 use Rattle.bgp_types.specs.declared.message.SessionState.TheVariants.{Established}
-use Rattle.tcp_seq.specs.declared.segment.Way.{Way}
 use Rattle.tcp_seq.specs.declared.segment.Way.TheVariants.{Remote}
 use Rattle.tcp_seq.specs.declared.state.Piece.{Piece}
 use Rattle.tcp_seq.specs.declared.state.EndState.{EndState}
-use Rattle.tcp_seq.specs.Endpoint.{Bytes, Endpoint, bytes_in_order, received, received_bytes}
+use Rattle.tcp_seq.specs.Endpoint.{received, received_bytes}
 use Rattle.tcp_end.specs.Standing.{EndStands}
 use Rattle.tcp_end.specs.State.{IsEndState, LieFrom, got}
-use Rattle.tcp_end.specs.Whole.{arrived_of, endpoint_of, numbered_in}
+use Rattle.tcp_end.specs.Whole.{endpoint_of, numbered_in}
 use Rattle.bgp_story.specs.declared.line.Line.{Line}
 use Rattle.bgp_story.specs.Legal.{Peering, is_wide}
 use Rattle.bgp_story.specs.States.{state_of}
@@ -29,14 +29,15 @@ use Rattle.capsule_bytes.specs.declared.parts.CapsuleParts.{CapsuleParts}
 use Rattle.capsule_bytes.specs.declared.parts.PartChange.{PartChange}
 use Rattle.capsule_bytes.specs.declared.parts.PartLine.{PartLine}
 use Rattle.capsule_parts.specs.Parts.{ahead_of, config_of, end_of, part_lines, parts_of, pieces_of}
-use Rattle.capsule_parts.specs.Sound.{IsAtRest, IsInFlight, IsSound, IsTaken, LieAbove, PutsWritable, put_octets, got_octets}
+use Rattle.capsule_parts.specs.Sound.{IsAtRest, IsSound, LieAbove, PutsWritable, put_octets, got_octets}
 use Rattle.capsule_parts.specs.Retold.{HasSoundEnd, IsRetold, IsStoryOf, with_ready}
-use Rattle.capsule_parts.proofs.Runs.{arrived_ahead, arrived_in_order, lie_from, pieces_are, same_arrived}
+use Rattle.capsule_parts.proofs.Runs.{arrived_ahead, lie_from, pieces_are, same_arrived}
 use Rattle.capsule_parts.proofs.Ends.{read_first, read_within, ready_left, received_all, stands}
 use Rattle.capsule_parts.proofs.Spelled.{got_octets_are, put_octets_are, story_writable}
 
 -- what an endpoint has that is made of a state
-made_ahead : (stream read : List ℕ) (s : EndState) → IsEndState s → s.taken ≡ length read → ahead_of (endpoint_of stream read s) ≡ pieces_of (numbered_in s.ahead)
+made_ahead : (stream read : List ℕ) (s : EndState) → IsEndState s → s.taken ≡ length read
+    → ahead_of (endpoint_of stream read s) ≡ pieces_of (numbered_in s.ahead)
 made_ahead stream read s sound taken =
     let n : length (read ++ s.ready) ≡ got s = length-append read s.ready ∙ ap (λ (k : ℕ). k + length s.ready) (sym taken) in
     ap pieces_of (arrived_ahead (read ++ s.ready) (got s + 16384) s.ahead
@@ -44,13 +45,32 @@ made_ahead stream read s sound taken =
 
 -- ---- the parts that a capsule shows
 
+abbrev pub shown_parts : SessionConfig → (import export : Option Name) → EndState → (held : List ℕ) → List PartLine → List PartChange → CapsuleParts
+shown_parts config import export end held story late = record {
+  peering = config.peering;
+  remote_as = config.remote_as;
+  home_as = config.home_as;
+  identifier = config.identifier;
+  remote_address = config.remote_address;
+  local_address = config.local_address;
+  home_hold = config.home_hold;
+  offered = config.offered;
+  unicast = config.unicast;
+  import = import;
+  export = export;
+  end = end;
+  held = held;
+  story = story;
+  late = late;
+}
+
 module _ (capsule : RunningSession) (s : EndState) (pieces : List Piece) (is_end : IsEndFor capsule.session s)
     (whole : capsule ≡ with_end capsule.session s) (same : numbered_in pieces ≡ numbered_in s.ahead)
     (apart : (below high : ℕ) → LieFrom (below + 1) high s.ahead → LieAbove below high pieces) where
   abbrev p : Peering
   p = peering_of capsule.session.config
 
-  pub tied : IsTied capsule.session
+  tied : IsTied capsule.session
   tied = subst (λ (r : RunningSession). IsTied r.session) (sym whole) is_end.tied
 
   st : EndStands s capsule.session.end
@@ -98,7 +118,15 @@ module _ (capsule : RunningSession) (s : EndState) (pieces : List Piece) (is_end
   pub held_shown : s.ready ≡ unread capsule.session
   held_shown = st.ready
 
-  pub lines_writable : All (PutsWritable (is_wide p capsule.session.story)) capsule.session.story
+  pub shown_whole : (config : SessionConfig) (import export : Option Name) (end : EndState) (held : List ℕ) (story : List PartLine) (late : List PartChange)
+      → config ≡ capsule.session.config → import ≡ config.import → export ≡ config.export → end ≡ end_of capsule → held ≡ unread capsule.session
+      → story ≡ part_lines p capsule.session.story → late ≡ [] → shown_parts config import export end held story late ≡ parts_of capsule
+  shown_whole config import export end held story late c im ex en he st la =
+      let import_is = im ∙ ap (λ (x : SessionConfig). x.import) c in
+      let export_is = ex ∙ ap (λ (x : SessionConfig). x.export) c in
+      λ i. shown_parts (c i) (import_is i) (export_is i) (en i) (he i) (st i) (la i)
+
+  lines_writable : All (PutsWritable (is_wide p capsule.session.story)) capsule.session.story
   lines_writable = story_writable capsule.session tied
 
   pub shown_sound : IsAtRest capsule → IsSound (parts_of capsule)
@@ -332,7 +360,7 @@ module _ (parts : CapsuleParts) (ends : HasSoundEnd parts) (session : SessionVal
     pub its_config : capsule.session.config ≡ config_of parts
     its_config = ap config_of same
 
-    pub its_story : (received : List ℕ) → received ≡ got_octets parts.story ++ parts.held
+    its_story : (received : List ℕ) → received ≡ got_octets parts.story ++ parts.held
         → IsStoryOf (peering_of (config_of parts)) received parts.story capsule.session.story
     its_story received all =
         let c : Peering = peering_of capsule.session.config in
@@ -348,6 +376,13 @@ module _ (parts : CapsuleParts) (ends : HasSoundEnd parts) (session : SessionVal
               let r = ends.flight.room in
               omega (arith, n, r);
         })
+
+    -- also as the configuration and the story that were taken apart
+    pub its_story_in : (config : SessionConfig) (story : List PartLine) (received : List ℕ) → config ≡ config_of parts → story ≡ parts.story
+        → received ≡ got_octets parts.story ++ parts.held → IsStoryOf (peering_of config) received story capsule.session.story
+    its_story_in config story received c s all =
+        subst (λ (x : SessionConfig). IsStoryOf (peering_of x) received story capsule.session.story) (sym c)
+        (subst (λ (xs : List PartLine). IsStoryOf (peering_of (config_of parts)) received xs capsule.session.story) (sym s) (its_story received all))
 
     module _ (story : session.story ≡ capsule.session.story) where
       cfg : session.config ≡ capsule.session.config

@@ -38,14 +38,18 @@ pub record HasSoundEnd (parts : CapsuleParts) : Type 0 where
   pub at_turn : parts.end.acked_at_turn ≤ parts.end.acked
   pub late : parts.late ≡ []
 
+-- as many bytes were taken as were received
+pub record HasTaken (end : EndState) (received : ℕ) : Type 0 where
+  pub taken : end.taken ≡ received
+  pub few : end.taken ≤ 1048576
+  pub none_ready : end.ready ≡ []
+
 -- what of it is asked of the two streams
 pub record HasSoundStreams (end : EndState) (put : List ℕ) (received : ℕ) : Type 0 where
   pub flight : IsInFlight end (length put)
   pub waiting : end.waiting ≡ drop end.acked put
   pub at_turn : end.acked_at_turn ≤ end.acked
-  pub taken : end.taken ≡ received
-  pub few : end.taken ≤ 1048576
-  pub none_ready : end.ready ≡ []
+  pub all_taken : HasTaken end received
 
 -- the end as it goes on: what is held is ready
 abbrev pub with_ready : CapsuleParts → ℕ → EndState

@@ -1,17 +1,18 @@
 //! The capsule that has given parts.
 
-ghost use Rattle.std.specs.Prelude.{◌≡◌, ◌≤◌, ◌-◌, Err, length, IfOk, OnOk};
+ghost use Rattle.std.specs.Prelude.{◌≡◌, ◌≤◌, ◌-◌, ◌++◌, Err, length, IfOk, OnOk};
 ghost use Rattle.session_value.specs.Ties.{IsOfStory};
 ghost use Rattle.bgp_session.specs.Running.{RunningSession};
 ghost use Rattle.capsule_parts.specs.Parts.{parts_of, config_of};
-ghost use Rattle.capsule_parts.specs.Sound.{IsAtRest, IsSound};
-ghost use Rattle.capsule_parts.specs.Retold.{with_ready};
+ghost use Rattle.capsule_parts.specs.Sound.{IsAtRest, IsSound, got_octets as got_octets_lem};
+ghost use Rattle.capsule_parts.specs.Retold.{HasSoundEnd, with_ready};
 
 use crate::check::has_sound_end;
 use crate::retell::retold;
 use crate::stop::PartsStop;
 use crate::story::{got_octets, put_octets};
 use bgp_session::Capsule;
+use bgp_types::Octets;
 use capsule_bytes::{CapsuleParts, PartLines};
 use session_value::SessionConfig;
 use std::alloc::Global;
@@ -61,6 +62,22 @@ fn apart(parts: CapsuleParts) -> (SessionConfig, EndState, PartLines)
     (config, end, story)
 }
 
+/// Returns the octets that the session with these parts has received: those that its story got, and those that are held.
+/// The parts are refused if their end isn't sound.
+fn received_octets(alloc: Global, parts: &CapsuleParts) -> Result<Octets, PartsStop>
+    ensures octets { IfOk result (λ octets. octets ≡ got_octets_lem parts.now.story ++ parts.now.held) }
+    ensures sound { OnOk result (HasSoundEnd parts.now) }
+    ensures unsound { result ≡ Err PartsStop.Unsound → ¬ HasSoundEnd parts.now }
+{
+    let put = put_octets(alloc, parts.story.as_slice())?;
+    let mut received = got_octets(alloc, parts.story.as_slice())?;
+    received.extend(parts.held.as_slice())?;
+    if !has_sound_end(parts, put.as_slice(), received.len()) {
+        return Err(PartsStop::Unsound);
+    }
+    Ok(received)
+}
+
 /// Returns the capsule that has these parts. They are refused where no capsule has them. The routes of its session are
 /// told again by its story.
 pub fn from_parts(alloc: Global, parts: CapsuleParts) -> Result<Capsule, PartsStop>
@@ -72,12 +89,7 @@ pub fn from_parts(alloc: Global, parts: CapsuleParts) -> Result<Capsule, PartsSt
     // A capsule whose parts these are is what is returned.
     ensures same { (capsule : RunningSession) → IsOfStory capsule.session → parts_of capsule ≡ parts → IfOk result (λ made. made ≡ capsule) }
 {
-    let put = put_octets(alloc, parts.story.as_slice())?;
-    let mut received = got_octets(alloc, parts.story.as_slice())?;
-    received.extend(parts.held.as_slice())?;
-    if !has_sound_end(&parts, put.as_slice(), received.len()) {
-        return Err(PartsStop::Unsound);
-    }
+    let received = received_octets(alloc, &parts)?;
     let (config, end, story) = apart(parts);
     let mut session = retold(alloc, config, received, story.as_slice())?;
     session.set_end(end);

@@ -1,4 +1,5 @@
-use Rattle.capsule_parts.proofs.Joined.{above_first, above_further, above_stops}
+use Rattle.std.proofs.Common.{ℕ, ◌+◌, drop, subst, sym}
+use Rattle.capsule_parts.proofs.Joined.{AboveFrom, above_first, above_further, above_stops}
 use Rattle.capsule_parts.proofs.pieces.lie_above.Goals as goal
 
 pub loop-piece-init : goal.loop-piece-init
@@ -11,5 +12,6 @@ returns-then-not-is_above c =
 
 pub loop-piece-preserved : goal.loop-piece-preserved
 loop-piece-preserved c =
-    above_further c.args.below c.args.high c.args.pieces.now c.loop-piece.piece-index c.loop-piece.end c.piece-item.result
-    c.loop-piece-test.true c.piece-item.is c.loop-piece.invariant c.if-not-is_above.ensures
+    subst (λ (n : ℕ). AboveFrom c.args.below c.args.high c.args.pieces.now n (drop (c.loop-piece.piece-index + 1) c.args.pieces.now)) (sym c.end-end.ensures)
+    (above_further c.args.below c.args.high c.args.pieces.now c.loop-piece.piece-index c.loop-piece.end c.piece-item.result
+    c.loop-piece-test.true c.piece-item.is c.loop-piece.invariant c.if-not-is_above.ensures)
