@@ -1,6 +1,6 @@
 -- Pieces are joined, or looked at, one after another.
 use Rattle.std.proofs.Common.{◌≡◌, ◌≢◌, ℕ, ◌+◌, ◌<◌, ◌≤◌, List, [], ◌∷◌, ◌++◌, length, drop, refl, sym, ap, ◌∙◌, subst}
-use Rattle.std.proofs.Common.{take, append-nil, append_assoc, length-append, arith, inl, inr, ◌⊎◌}
+use Rattle.std.proofs.Common.{take, append_assoc, length-append, arith, inl, inr, ◌⊎◌}
 use Rattle.std.specs.Prelude.{slice_index_or}
 use Rattle.std.proofs.lemmas.List.{drop_all, take_all}
 use Rattle.tcp_seq.specs.declared.state.Piece.{Piece}
@@ -147,7 +147,3 @@ module _ (below high : ℕ) (pieces : List Piece) (i end : ℕ) (piece : Piece) 
 
   pub above_stops : ¬ IsPieceAbove end high piece → ¬ LieAbove below high pieces
   above_stops not lie = let l = here.to lie in not (l.0, l.1, l.2)
-
-pub above_all : (below high : ℕ) (pieces : List Piece) (i end : ℕ) → length pieces ≤ i → AboveFrom below high pieces end (drop i pieces)
-    → LieAbove below high pieces
-above_all below high pieces i end past so = so.from (subst (LieAbove end high) (sym (drop_all i pieces past)) tt)

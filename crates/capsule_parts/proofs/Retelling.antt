@@ -1,5 +1,5 @@
 -- Whether a session has told its story to the end.
-use Rattle.std.proofs.Common.{◌≡◌, ◌≢◌, ℕ, Bool, true, false, List, [], sym, ap, ◌∙◌, subst}
+use Rattle.std.proofs.Common.{◌≡◌, ◌≢◌, ℕ, Bool, true, false, List, [], sym, ap, ◌∙◌}
 use Rattle.std.specs.Prelude.{MatchBool, IsTrue, map}
 use Rattle.bgp_types.specs.declared.message.SessionState.TheVariants.{Established}
 use Rattle.bgp_story.specs.declared.line.Line.{Line}
@@ -11,7 +11,7 @@ use Rattle.session_value.specs.declared.config.SessionConfig.{SessionConfig}
 use Rattle.session_value.specs.Sessions.{SessionValue, peering_of, state}
 use Rattle.capsule_bytes.specs.declared.parts.PartLine.{PartLine}
 use Rattle.capsule_parts.specs.Parts.{part_line, part_lines}
-use Rattle.capsule_parts.specs.Retold.{HasBegun, HasTold, IsRetold, IsStoryOf, IsToldSoFar, StaysTold}
+use Rattle.capsule_parts.specs.Retold.{HasBegun, HasTold, IsStoryOf, IsToldSoFar, StaysTold}
 use Rattle.capsule_parts.proofs.Told.{begins_told, ends_told}
 
 pub its_peering : (p : Peering) (received : List ℕ) (octets : List PartLine) (story : List Line) → IsStoryOf p received octets story → IsPeering p
@@ -35,22 +35,19 @@ told_match session octets false wide lines wides are up other = λ told.
     ∙ ap (λ (w : Bool). map (part_line w) lines) (sym wides))
 
 module _ (config : SessionConfig) (received : List ℕ) (octets : List PartLine) (first session : SessionValue)
-    (begun : HasBegun config received first) (stays : StaysTold first session) where
-  pub is_retold : HasTold session octets → IsRetold config octets session
-  is_retold told = record { config_is = stays.config ∙ begun.config_is; of_story = stays.of_story begun.of_story; told = told }
+    (begun : HasBegun config received first) (stays : StaysTold first session) (story : List Line)
+    (is : IsStoryOf (peering_of config) received octets story) (t : Bool)
+    (tells : (told : List Line) → IsToldSoFar told octets first → IsTrue t × IsToldSoFar told [] session) where
+  pub retold_all : IsTrue t
+  retold_all = (tells story (begins_told config received octets story first begun is)).0
 
-  module _ (story : List Line) (is : IsStoryOf (peering_of config) received octets story) (t : Bool)
-      (tells : (told : List Line) → IsToldSoFar told octets first → IsTrue t × IsToldSoFar told [] session) where
-    pub retold_all : IsTrue t
-    retold_all = (tells story (begins_told config received octets story first begun is)).0
+  pub retold_story : session.story ≡ story
+  retold_story = ends_told story session (tells story (begins_told config received octets story first begun is)).1
 
-    pub retold_story : session.story ≡ story
-    retold_story = ends_told story session (tells story (begins_told config received octets story first begun is)).1
-
-    pub has_told : state_of story ≡ Established → HasTold session octets
-    has_told up = record {
-      established = ap state_of retold_story ∙ up;
-      spelled = is.spelled
-          ∙ ap (λ (x : SessionConfig). part_lines (peering_of x) story) (sym (stays.config ∙ begun.config_is))
-          ∙ ap (part_lines (peering_of session.config)) (sym retold_story);
-    }
+  pub has_told : state_of story ≡ Established → HasTold session octets
+  has_told up = record {
+    established = ap state_of retold_story ∙ up;
+    spelled = is.spelled
+        ∙ ap (λ (x : SessionConfig). part_lines (peering_of x) story) (sym (stays.config ∙ begun.config_is))
+        ∙ ap (part_lines (peering_of session.config)) (sym retold_story);
+  }

@@ -1,4 +1,4 @@
-use Rattle.std.proofs.Common.{ℕ, List, Option, Some, None, Ok, Err, subst}
+use Rattle.std.proofs.Common.{Option, Some, None, Ok, Err, subst}
 use Rattle.bgp_frame.specs.declared.front.FrontFrame.{FrontFrame}
 use Rattle.bgp_frame.specs.Next.{IsFrontOf}
 use Rattle.bgp_session.proofs.Fronts.{begins_nothing, first_frame, some_fault}

@@ -1,4 +1,4 @@
-use Rattle.std.proofs.Common.{ℕ, ◌-◌, List, length, take, drop, subst, arith, rules}
+use Rattle.std.proofs.Common.{ℕ, ◌-◌, List, length, drop, subst, arith, rules}
 use Rattle.std.specs.Prelude.{◌≡◌, ◌≢◌, MatchBool}
 use Rattle.std.specs.Cmp.Lexicographic.{told_text}
 use Rattle.std.proofs.lemmas.List.{length-drop, take_all}

@@ -1,4 +1,4 @@
-use Rattle.std.proofs.Common.{ℕ, List, Option, Some, None, Ok, Err, subst}
+use Rattle.std.proofs.Common.{Option, Some, None, Ok, Err, subst}
 use Rattle.bgp_frame.specs.declared.front.FrontFrame.{FrontFrame}
 use Rattle.bgp_frame.specs.Next.{IsFrontOf}
 use Rattle.capsule_parts.proofs.Frames.{whole_err, whole_none, whole_some}

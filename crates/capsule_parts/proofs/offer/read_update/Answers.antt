@@ -1,5 +1,4 @@
-use Rattle.std.proofs.Common.{◌≡◌, ◌≤◌, Ok, refl, ◌∙◌, arith}
-use Rattle.bgp_types.specs.FirstFault.{message_of}
+use Rattle.std.proofs.Common.{refl, ◌∙◌, arith}
 use Rattle.capsule_parts.proofs.ReadUpdates.{expected_in, read_short, read_update, short_writable, some_is_read, some_read, written_whole}
 use Rattle.capsule_parts.proofs.offer.read_update.Goals as goal
 

@@ -1,4 +1,4 @@
-use Rattle.std.proofs.Common.{List, ap, sym, ◌∙◌, ◌∷◌, subst, rules}
+use Rattle.std.proofs.Common.{ap, sym, ◌∙◌, ◌∷◌, subst, rules}
 use Rattle.capsule_bytes.specs.declared.parts.PartLine.{PartLine}
 use Rattle.capsule_bytes.specs.declared.parts.PartLine.TheVariants as parts
 use Rattle.capsule_parts.specs.Retold.{IsToldSoFar}
