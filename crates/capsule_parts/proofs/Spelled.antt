@@ -137,8 +137,3 @@ pub shown_writable : (session : SessionValue) (wide : Bool) (lines : List Line) 
 shown_writable session wide lines tied wides are =
     subst (λ (w : Bool). All (PutsWritable w) lines) (sym wides)
     (subst (All (PutsWritable (is_wide (peering_of session.config) session.story))) (sym are) (story_writable session tied))
-
-pub shown_lines : (session : SessionValue) (wide : Bool) (lines : List Line) → wide ≡ is_wide (peering_of session.config) session.story
-    → lines ≡ session.story → map (part_line wide) lines ≡ part_lines (peering_of session.config) session.story
-shown_lines session wide lines wides are =
-    ap (λ (w : Bool). map (part_line w) lines) wides ∙ ap (λ (xs : List Line). map (part_line (is_wide (peering_of session.config) session.story)) xs) are
