@@ -1,0 +1,13 @@
+pub mod Items
+pub mod Runs
+pub mod Joined
+pub mod Ends
+pub mod Spelled
+pub mod Begun
+pub mod Frames
+pub mod ReadUpdates
+pub mod Offers
+pub mod Puts
+pub mod Told
+pub mod Retelling
+pub mod Whole

@@ -1,0 +1,4 @@
+pub mod Parts
+pub mod Sound
+pub mod Offered
+pub mod Retold
