@@ -1,0 +1,4 @@
+pub mod Directed
+pub mod Peers
+pub mod Flows
+pub mod Readings
