@@ -8,6 +8,7 @@ use Rattle.tcp_packets.specs.declared.socket.Socket.{Socket}
 use Rattle.tcp_packets.specs.declared.read.LeftOut.{LeftOut}
 use Rattle.tcp_packets.specs.Reading.{Segment, read_packet}
 use Rattle.captured_streams.specs.declared.directed.Peer.{Peer}
+use Rattle.captured_streams.specs.declared.directed.Directed.{Directed}
 
 -- BGP's port is at one end (RFC 4271, section 4.2).
 abbrev pub is_bgp : Segment → Bool
@@ -23,12 +24,6 @@ way_of (Some address) s =
 abbrev pub peer_of : Way → Segment → Peer
 peer_of Home s = record { home = s.target; remote = s.source }
 peer_of Remote s = record { home = s.source; remote = s.target }
-
--- a segment between a home end and a remote, one way
-pub record Directed : Type 0 where
-  pub peer : Peer
-  pub way : Way
-  pub segment : Segment
 
 abbrev pub directed_on : Option Way → Segment → List Directed
 directed_on None s = []

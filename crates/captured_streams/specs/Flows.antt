@@ -9,15 +9,12 @@ use Rattle.tcp_reasm.specs.Reassembly.{Reassembly, Puts, TakesReady, nothing_fro
 use Rattle.tcp_packets.specs.Reading.{Segment}
 use Rattle.captured_streams.specs.declared.directed.Peer.{Peer}
 use Rattle.captured_streams.specs.declared.streams.Flow.{Flow}
-use Rattle.captured_streams.specs.Directed.{Directed}
+use Rattle.captured_streams.specs.declared.directed.Directed.{Directed}
+use Rattle.captured_streams.specs.declared.flows.Stream.{Stream}
+use Rattle.captured_streams.specs.declared.flows.Both.{Both}
 use Rattle.captured_streams.specs.Peers.{peer_at}
 
 -- ---- one way of a connection
-
--- A stream so far: how many octets it gave, and the reassembly behind them.
-pub record Stream : Type 0 where
-  pub given : ℕ
-  pub rest : Reassembly
 
 -- A stream begins with the first segment that opens its connection or has octets.
 abbrev pub begins : Segment → Bool
@@ -46,11 +43,6 @@ MayBring Home stream s = is_beyond stream s ≡ false
 MayBring Remote stream s = Unit {0}
 
 -- ---- all connections
-
--- the streams of a connection, to home and to the remote, as far as they have begun
-pub record Both : Type 0 where
-  pub to_home : Option Stream
-  pub to_remote : Option Stream
 
 abbrev pub one_way : Way → Both → Option Stream
 one_way Home both = both.to_home

@@ -3,7 +3,7 @@ use Rattle.std.specs.Prelude.{ℕ, ◌==◌, Bool, ◌&&◌, if◌then◌else◌
 use Rattle.std.specs.List.{any, position}
 use Rattle.tcp_packets.specs.declared.socket.Socket.{Socket}
 use Rattle.captured_streams.specs.declared.directed.Peer.{Peer}
-use Rattle.captured_streams.specs.Directed.{Directed}
+use Rattle.captured_streams.specs.declared.directed.Directed.{Directed}
 
 abbrev pub same_remote : Peer → Peer → Bool
 same_remote one other = one.remote.address == other.remote.address

@@ -2,6 +2,7 @@
 #![tactic(auto)]
 
 mod directed;
+mod flows;
 mod laws;
 mod peers;
 mod stop;

@@ -5,9 +5,11 @@ ghost use Rattle.captured_streams.specs.declared.stop.Hole.{Hole as HoleValue};
 ghost use Rattle.captured_streams.specs.declared.stop.StreamStop.TheVariants as stops;
 ghost use Rattle.captured_streams.specs.Readings.{IsHole, IsReading};
 
-use crate::directed::Peer;
+use crate::directed::{Peer, directed_segments};
+use crate::flows::{bring_all, first_hole};
+use crate::peers::Peers;
 use crate::stop::StreamStop;
-use graft_edge::{Items, NoMemory, Octets};
+use graft_edge::{Items, Octets};
 use pcap_form::Packet;
 use std::alloc::Global;
 use tcp_seq::Way;
@@ -50,5 +52,16 @@ pub fn captured_streams(
     ensures reading { IfOk result (IsReading home packets.now) }
     ensures hole { (hole : HoleValue) → result ≡ Err (stops.Hole hole) → IsHole home packets.now hole }
 {
-    todo!()
+    let found = directed_segments(alloc, home, packets)?;
+    let peers = Peers::of(alloc, &found.segments)?;
+    let all = bring_all(alloc, &peers, &found.segments)?;
+    if let Some(hole) = first_hole(&peers.list, &all.streams) {
+        return Err(StreamStop::Hole(hole));
+    }
+    Ok(Streams {
+        peers: peers.list,
+        flows: all.flows,
+        fragments: found.fragments,
+        later: all.later,
+    })
 }
