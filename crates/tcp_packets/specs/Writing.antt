@@ -41,11 +41,11 @@ ip_header check source target s =
 abbrev pub flags : Segment → ℕ
 flags s = if length s.bytes == 0 then 0x10 else 0x18
 
--- the ports, the numbers, five words, the flags, the window, the checksum, and no urgent octets
+-- the ports, the numbers, five words, the flags, the window of the laboratory's ends, the checksum, and no urgent octets
 abbrev pub tcp_header : (check : ℕ) → Socket → Socket → Segment → List ℕ
 tcp_header check source target s =
     to_be_bytes w16 source.port ++ to_be_bytes w16 target.port ++ to_be_bytes w32 s.seq.0 ++ to_be_bytes w32 s.ack.0
-    ++ 0x50 ∷ flags s ∷ to_be_bytes w16 s.window ++ to_be_bytes w16 check ++ to_be_bytes w16 0
+    ++ 0x50 ∷ flags s ∷ to_be_bytes w16 16384 ++ to_be_bytes w16 check ++ to_be_bytes w16 0
 
 abbrev pub tcp_segment : (check : ℕ) → Socket → Socket → Segment → List ℕ
 tcp_segment check source target s = tcp_header check source target s ++ s.bytes

@@ -1,6 +1,6 @@
 //! Packets of a capture, read as segments.
 
-ghost use Rattle.std.specs.Prelude.{◌≡◌, true, if◌then◌else◌, None, Some};
+ghost use Rattle.std.specs.Prelude.{◌≡◌, ◌^◌, ◌<◌, true, if◌then◌else◌, None, Some, IfOk, IfSome, length};
 ghost use Rattle.tcp_packets.specs.Headers.{carried as carried_lem, is_ipv4 as is_ipv4_lem, is_segment as is_segment_lem};
 ghost use Rattle.tcp_packets.specs.Reading.{read_packet as read_packet_lem, segment_of};
 
@@ -43,7 +43,8 @@ pub enum LeftOut {
 /// Reads the segment of TCP in an IPv4 packet that is no fragment.
 fn segment_in(packet: &[u8]) -> Option<CapturedSegment<'_>>
     requires { is_ipv4_lem packet.now ≡ true }
-    ensures { result ≡ (if is_segment_lem (carried_lem packet.now) then Some (segment_of packet.now (carried_lem packet.now)) else None) }
+    ensures segment { result ≡ (if is_segment_lem (carried_lem packet.now) then Some (segment_of packet.now (carried_lem packet.now)) else None) }
+    ensures short { IfSome result (λ s. length s.octets < 2 ^ 16) }
 {
     let total = usize::from(half_at(ByteOrder::Big, packet, 2));
     let segment = &packet[..total][header_length(packet)..];
@@ -71,7 +72,8 @@ fn segment_in(packet: &[u8]) -> Option<CapturedSegment<'_>>
 /// Reads a packet of a capture as a segment of TCP over IPv4. Its checksums aren't compared: many captures are taken where
 /// these aren't filled in yet. The segment's octets stay where they are.
 pub fn read_packet<'a>(packet: &Packet<'a>) -> Result<CapturedSegment<'a>, LeftOut>
-    ensures { result ≡ read_packet_lem packet.now }
+    ensures segment { result ≡ read_packet_lem packet.now }
+    ensures short { IfOk result (λ s. length s.octets < 2 ^ 16) }
 {
     let packet = behind_link(packet.link(), packet.octets()).ok_or(LeftOut::Other)?;
     if !is_ipv4(packet) || !is_tcp(packet) {

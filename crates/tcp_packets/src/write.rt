@@ -8,6 +8,7 @@ use crate::checksum::{checksum, word_sum};
 use crate::socket::Socket;
 use graft_edge::{NoMemory, Octets};
 use std::alloc::Global;
+use tcp_reasm::WINDOW;
 use tcp_seq::Segment;
 
 /// Returns the header of IPv4 with a checksum.
@@ -34,7 +35,7 @@ fn tcp_header(check: u16, source: Socket, target: Socket, segment: &Segment) -> 
     let seq = segment.seq.0.to_be_bytes();
     let ack = segment.ack.0.to_be_bytes();
     let flags = if segment.bytes.is_empty() { 0x10 } else { 0x18 };
-    let window = segment.window.to_be_bytes();
+    let window = (WINDOW as u16).to_be_bytes();
     let check = check.to_be_bytes();
     [
         from[0], from[1], to[0], to[1], seq[0], seq[1], seq[2], seq[3], ack[0], ack[1], ack[2],
@@ -56,7 +57,8 @@ fn pseudo_header(source: Socket, target: Socket, segment: &Segment) -> [u8; 12]
 }
 
 /// Returns the IPv4 packet of a segment of 65,495 octets at most, between two ends of a connection: 20 octets of IPv4's
-/// header (RFC 791, section 3.1), 20 of TCP's (RFC 9293, section 3.1), and the segment's. Both checksums are right.
+/// header (RFC 791, section 3.1), 20 of TCP's (RFC 9293, section 3.1), and the segment's. The window is 16,384, and both
+/// checksums are right.
 pub fn write_packet(
     alloc: Global,
     source: Socket,
