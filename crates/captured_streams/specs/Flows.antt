@@ -68,7 +68,7 @@ BringsOn all s flows Behind k (Some before) =
     (octets : List ℕ) × (after : Stream) × (more : List Flow) × MayBring s.way before s.segment × Brings before s.segment octets after
     × (flows ≡ record { peer = k; way = s.way; octets = octets } ∷ more) × Behind (set_stream all k s.way after) more
 
--- Segments of later connections of a remote bring nothing.
+-- Segments of other connections bring nothing.
 abbrev pub BringsAt : List Both → Directed → List Flow → (List Both → List Flow → Type 0) → Option ℕ → Type 0
 BringsAt all s flows Behind None = Behind all flows
 BringsAt all s flows Behind (Some k) = BringsOn all s flows Behind k (stream_at (stream_of all k s.way) s.segment)

@@ -14,7 +14,7 @@ use Rattle.captured_streams.specs.declared.directed.Directed.{Directed}
 use Rattle.captured_streams.specs.declared.flows.Stream.{Stream}
 use Rattle.captured_streams.specs.declared.flows.Both.{Both}
 use Rattle.captured_streams.specs.Directed.{directed}
-use Rattle.captured_streams.specs.Peers.{peers, peer_at, is_later}
+use Rattle.captured_streams.specs.Peers.{peers, peer_at, is_other}
 use Rattle.captured_streams.specs.Flows.{AreFlows, none_begun, stream_at, stream_of, is_beyond}
 
 abbrev pub is_left : Result Segment LeftOut → Bool
@@ -32,15 +32,15 @@ HasOctets stream = (offset : ℕ) × (octet : ℕ) × (byte_ahead stream.rest of
 abbrev pub HasRest : List Both → ℕ → Stream → Type 0
 HasRest all k stream = (stream_of all k Home ≡ Some stream) × HasOctets stream
 
--- These are the sessions of a capture: the first connection of each remote, what its segments bring, and how many packets are left out: fragments, and
--- segments of later connections. No remote's stream has octets behind a hole at its end.
+-- These are the sessions of a capture: the first connection of each remote on which it sends octets, what its segments bring, and how many packets are
+-- left out: fragments, and segments of other connections. No remote's stream has octets behind a hole at its end.
 pub record IsReading (home : Option ℕ) (packets : List Captured) (answer : Streams) : Type 0 where
   pub end : List Both
   pub peers_are : answer.peers ≡ peers (directed home packets)
   pub flows : AreFlows answer.peers (none_begun answer.peers) (directed home packets) answer.flows end
   pub whole : (k : ℕ) (stream : Stream) → ¬ HasRest end k stream
   pub fragments : answer.fragments ≡ count_by is_fragment packets
-  pub later : answer.later ≡ count_by (is_later answer.peers) (directed home packets)
+  pub others : answer.others ≡ count_by (is_other answer.peers) (directed home packets)
 
 -- A remote's octets are missing, this many behind its stream's beginning.
 abbrev pub IsOf : List Peer → (k : ℕ) → Stream → Hole → Type 0

@@ -30,4 +30,4 @@ with_slot Remote slot both = record both { to_remote = slot }
 -- a segment of this connection brings these flows, one or none
 abbrev pub BringsNext : List Both → Directed → (k : ℕ) → List Flow → List Both → Type 0
 BringsNext all s k flows after =
-    BringsOn all s flows (λ end more. (end ≡ after) × (more ≡ [])) k (stream_at (stream_of all k s.way) s.segment)
+    BringsOn all s flows (λ end more. (more ≡ []) × (after ≡ end)) k (stream_at (stream_of all k s.way) s.segment)

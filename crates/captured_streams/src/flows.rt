@@ -4,7 +4,7 @@ ghost use Rattle.std.specs.Prelude.{ℕ, ◌≡◌, ◌<◌, ◌^◌, ◌++◌, 
 ghost use Rattle.std.specs.List.{All};
 ghost use Rattle.captured_streams.specs.declared.stop.Hole.{Hole as HoleValue};
 ghost use Rattle.captured_streams.specs.declared.stop.StreamStop.TheVariants as stops;
-ghost use Rattle.captured_streams.specs.Peers.{is_later};
+ghost use Rattle.captured_streams.specs.Peers.{is_other};
 ghost use Rattle.captured_streams.specs.Flows.{begins as begins_lem, stream_at, is_beyond as is_beyond_lem, one_way, Brings, AreFlows, none_begun, stream_of};
 ghost use Rattle.captured_streams.specs.Steps.{IsBeyondAt, IsStep, with_slot, BringsNext};
 ghost use Rattle.captured_streams.specs.Readings.{HasOctets, HasRest, IsBeyond, IsOf};
@@ -171,8 +171,8 @@ pub(crate) struct Brought {
     pub(crate) flows: Items<Flow>,
     /// The streams of each connection.
     pub(crate) streams: Vec<Both>,
-    /// How many segments are those of later connections.
-    pub(crate) later: u64,
+    /// How many segments are those of other connections.
+    pub(crate) others: u64,
 }
 
 /// Returns the streams of this many connections, none of which has begun.
@@ -198,17 +198,17 @@ pub(crate) fn bring_all(
     requires { All (λ s. length s.segment.octets < 2 ^ 16) segments.now }
     ensures flows { IfOk result (λ all. AreFlows peers.now.list (none_begun peers.now.list) segments.now all.flows all.streams.items) }
     ensures len { IfOk result (λ all. length all.streams.items ≡ length peers.now.list) }
-    ensures later { IfOk result (λ all. all.later ≡ count_by (is_later peers.now.list) segments.now) }
+    ensures others { IfOk result (λ all. all.others ≡ count_by (is_other peers.now.list) segments.now) }
     ensures beyond { (hole : HoleValue) → result ≡ Err (stops.Hole hole) → IsBeyond peers.now.list segments.now hole }
 {
     let mut all = Brought {
         flows: Items::new(alloc),
         streams: none_begun_yet(alloc, &peers.list)?,
-        later: 0,
+        others: 0,
     };
     for segment in segments {
         let Some(peer) = peers.at(segment) else {
-            all.later += 1;
+            all.others += 1;
             continue;
         };
         take_segment(alloc, &mut all.streams, &mut all.flows, peer, segment)?;

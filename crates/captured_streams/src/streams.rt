@@ -27,19 +27,20 @@ pub struct Flow {
 /// The sessions of a capture.
 #[derive(Debug, Drop)]
 pub struct Streams {
-    /// The first connection of each remote address, in the order of their first segments.
+    /// The first connection of each remote address on which it sends octets, in their order.
     pub peers: Items<Peer>,
     /// What their segments brought, in the order of the capture. Those of one connection and one way, one behind another,
     /// are its stream.
     pub flows: Items<Flow>,
     /// How many packets were left out as fragments.
     pub fragments: u64,
-    /// How many segments were left out as those of later connections of a remote.
-    pub later: u64,
+    /// How many segments were left out as those of other connections.
+    pub others: u64,
 }
 
 /// Reads the sessions of a capture: segments of TCP over IPv4 with BGP's port, 179, at one end. `home` is the address of the
-/// home end; without it that is the end with BGP's port. Each stream is put in order by a receiver with a window of 16,384
+/// home end; without it that is the end with BGP's port. Of each remote the first connection on which it sends octets is its
+/// session: attempts that failed come before it. Each stream is put in order by a receiver with a window of 16,384
 /// octets, from the segment that opens the connection on, or else from the first one with octets: they may be repeated, out
 /// of order, and overlap, and an octet that is there stays. Of a remote's octets none may be missing; else the error is the
 /// first hole: one in front of a segment beyond the window, in the order of the capture, or else one that is left at its
@@ -62,6 +63,6 @@ pub fn captured_streams(
         peers: peers.list,
         flows: all.flows,
         fragments: found.fragments,
-        later: all.later,
+        others: all.others,
     })
 }
