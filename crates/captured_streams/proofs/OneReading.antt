@@ -18,7 +18,6 @@ use Rattle.captured_streams.specs.Directed.{directed}
 use Rattle.captured_streams.specs.Peers.{peers, peer_at, is_other}
 use Rattle.captured_streams.specs.Flows.{stream_of, stream_at, set_stream, is_beyond, MayBring, BringsOn, BringsAt, AreFlows, none_begun}
 use Rattle.captured_streams.specs.Readings.{IsReading, HasOctets, HasRest, IsOf, IsBeyond, IsLeft, IsHole}
-use Rattle.captured_streams.proofs.Positions.{Some-None}
 use Rattle.captured_streams.proofs.SameStreams.{SameStream, SameSlot, SameAll, all_itself, all_back, same_at, beyond_same, brings_same, all_replaced}
 
 abbrev flow : ℕ → Way → List ℕ → Flow

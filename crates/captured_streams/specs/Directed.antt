@@ -4,7 +4,6 @@ use Rattle.std.specs.List.{flat_map}
 use Rattle.tcp_seq.specs.declared.segment.Way.{Way}
 use Rattle.tcp_seq.specs.declared.segment.Way.TheVariants.{Home, Remote}
 use Rattle.pcap_form.specs.Blocks.{Captured}
-use Rattle.tcp_packets.specs.declared.socket.Socket.{Socket}
 use Rattle.tcp_packets.specs.declared.read.LeftOut.{LeftOut}
 use Rattle.tcp_packets.specs.Reading.{Segment, read_packet}
 use Rattle.captured_streams.specs.declared.directed.Peer.{Peer}

@@ -23,7 +23,7 @@ pub struct Peer {
 }
 
 /// A segment between a home end and a remote, one way.
-#[derive(Debug, Drop)]
+#[derive(Drop)]
 pub(crate) struct Directed<'a> {
     pub(crate) peer: Peer,
     pub(crate) way: Way,
@@ -31,7 +31,7 @@ pub(crate) struct Directed<'a> {
 }
 
 /// What a capture has.
-#[derive(Debug, Drop)]
+#[derive(Drop)]
 pub(crate) struct Found<'a> {
     /// The segments of BGP's connections, in the order of the capture.
     pub(crate) segments: Items<Directed<'a>>,
@@ -85,8 +85,8 @@ fn peer_of(way: Way, segment: &CapturedSegment<'_>) -> Peer
 
 /// Returns the segment that a packet is read as, if it is one of BGP's.
 fn directed_segment<'a>(home: Option<u32>, segment: CapturedSegment<'a>) -> Option<Directed<'a>>
-    ensures segment { let all = directed_in home (Ok segment) in MatchOption result (all ≡ []) (λ s. all ≡ s ∷ []) }
-    ensures same { IfSome result (λ s. s.segment ≡ segment) }
+    ensures segment { let all = directed_in home (Ok segment.entry) in MatchOption result (all ≡ []) (λ s. all ≡ s ∷ []) }
+    ensures same { IfSome result (λ s. s.segment ≡ segment.entry) }
 {
     if !is_bgp(&segment) {
         return None;

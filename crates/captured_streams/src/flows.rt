@@ -1,11 +1,12 @@
 //! The octets of sessions, in order.
 
-ghost use Rattle.std.specs.Prelude.{ℕ, ◌≡◌, ◌<◌, ◌^◌, ◌++◌, length, count_by, Some, Err, IfOk, IfSome, IfNone, OnOk};
+ghost use Rattle.std.specs.Prelude.{ℕ, ◌≡◌, ◌<◌, ◌^◌, ◌++◌, List, length, count_by, Some, Err, IfOk, IfSome, IfNone, OnOk, MatchBool, true};
 ghost use Rattle.std.specs.List.{All};
 ghost use Rattle.captured_streams.specs.declared.stop.Hole.{Hole as HoleValue};
 ghost use Rattle.captured_streams.specs.declared.stop.StreamStop.TheVariants as stops;
+ghost use Rattle.captured_streams.specs.Numbered.{IsNumbered};
 ghost use Rattle.captured_streams.specs.Peers.{is_other};
-ghost use Rattle.captured_streams.specs.Flows.{begins as begins_lem, stream_at, is_beyond as is_beyond_lem, one_way, Brings, AreFlows, none_begun, stream_of};
+ghost use Rattle.captured_streams.specs.Flows.{begins as begins_lem, stream_at, is_beyond as is_beyond_lem, one_way, Brings, MayBring, AreFlows, none_begun, stream_of};
 ghost use Rattle.captured_streams.specs.Steps.{IsBeyondAt, IsStep, with_slot, BringsNext};
 ghost use Rattle.captured_streams.specs.Readings.{HasOctets, HasRest, IsBeyond, IsOf};
 ghost use Rattle.captured_streams.specs.declared.flows.Stream.{Stream as StreamValue};
@@ -22,7 +23,7 @@ use tcp_reasm::{Reasm, WINDOW};
 use tcp_seq::Way;
 
 /// One way of a connection, as far as it was read.
-#[derive(Debug, Drop)]
+#[derive(Drop)]
 pub(crate) struct Stream {
     /// How many octets it gave.
     given: u64,
@@ -31,14 +32,14 @@ pub(crate) struct Stream {
 }
 
 /// The streams of a connection, as far as they have begun.
-#[derive(Debug, Drop)]
+#[derive(Drop)]
 pub(crate) struct Both {
     to_home: Option<Stream>,
     to_remote: Option<Stream>,
 }
 
 /// What a segment does to its stream.
-#[derive(Debug, Drop)]
+#[derive(Drop)]
 enum Step {
     /// The stream hasn't begun.
     Nothing,
@@ -85,6 +86,17 @@ fn is_beyond(stream: &Stream, segment: &CapturedSegment<'_>) -> bool
     ahead < HALF && ahead as usize + segment.octets.len() > WINDOW as usize
 }
 
+/// Whether a segment may bring octets: of what a remote sends nothing may be missing.
+fn may_bring(way: Way, stream: &Stream, segment: &CapturedSegment<'_>) -> bool
+    requires { length segment.now.octets < 2 ^ 16 }
+    ensures { MatchBool result (MayBring way stream.now segment.now) ((way ≡ Way.Home) × (is_beyond_lem stream.now segment.now ≡ true)) }
+{
+    match way {
+        Way::Home => !is_beyond(stream, segment),
+        Way::Remote => true,
+    }
+}
+
 /// Puts the octets of a segment, and returns what is in order then.
 fn bring(
     alloc: Global,
@@ -114,7 +126,7 @@ fn advance(
     let Some(mut stream) = begun(alloc, slot.take(), segment) else {
         return Ok(Step::Nothing);
     };
-    if way == Way::Home && is_beyond(&stream, segment) {
+    if !may_bring(way, &stream, segment) {
         return Ok(Step::Beyond(stream.given));
     }
     let octets = bring(alloc, &mut stream, segment)?;
@@ -179,13 +191,13 @@ pub(crate) struct Brought {
 fn none_begun_yet(alloc: Global, peers: &[Peer]) -> Result<Vec<Both>, NoMemory>
     ensures { IfOk result (λ streams. streams.items ≡ none_begun peers.now) }
 {
-    let mut streams = Vec::new(alloc);
-    for _ in peers {
-        streams.push(Both {
+    let streams = peers
+        .iter()
+        .map(|_| Both {
             to_home: None,
             to_remote: None,
-        })?;
-    }
+        })
+        .collect(alloc)?;
     Ok(streams)
 }
 
@@ -195,7 +207,8 @@ pub(crate) fn bring_all(
     peers: &Peers,
     segments: &[Directed<'_>],
 ) -> Result<Brought, StreamStop>
-    requires { All (λ s. length s.segment.octets < 2 ^ 16) segments.now }
+    requires short { All (λ s. length s.segment.octets < 2 ^ 16) segments.now }
+    requires numbered { IsNumbered peers.now.list peers.now.numbers }
     ensures flows { IfOk result (λ all. AreFlows peers.now.list (none_begun peers.now.list) segments.now all.flows all.streams.items) }
     ensures len { IfOk result (λ all. length all.streams.items ≡ length peers.now.list) }
     ensures others { IfOk result (λ all. all.others ≡ count_by (is_other peers.now.list) segments.now) }

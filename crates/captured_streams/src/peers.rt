@@ -16,7 +16,6 @@ pub(crate) struct Peers {
     pub(crate) list: Items<Peer>,
     /// The number of the connection of each address.
     numbers: BTreeMap<u32, usize>,
-    ghost numbered: { IsNumbered list numbers },
 }
 
 /// Whether a remote sends octets by a segment.
@@ -29,7 +28,8 @@ fn says(segment: &Directed<'_>) -> bool
 impl Peers {
     /// Returns those of a capture's segments.
     pub(crate) fn of(alloc: Global, segments: &[Directed<'_>]) -> Result<Peers, NoMemory>
-        ensures { IfOk result (λ known. known.list ≡ peers segments.now) }
+        ensures peers { IfOk result (λ known. known.list ≡ peers segments.now) }
+        ensures numbered { IfOk result (λ known. IsNumbered known.list known.numbers) }
     {
         let mut list = Items::new(alloc);
         let mut numbers = BTreeMap::new(alloc);
@@ -49,6 +49,7 @@ impl Peers {
 
     /// Returns the number of a segment's connection. There is none if it is another one.
     pub(crate) fn at(&self, segment: &Directed<'_>) -> Option<usize>
+        requires { IsNumbered self.now.list self.now.numbers }
         ensures { result ≡ peer_at self.now.list segment.now }
     {
         let peer = segment.peer;
