@@ -1,6 +1,8 @@
 -- Holes that are left.
-use Rattle.std.proofs.Common.{◌≡◌, ◌≢◌, ℕ, ◌-◌, ◌<◌, ◌≤◌, List, [], ◌∷◌, Option, Some, None, get_or, refl, sym, ap, ◌∙◌, arith}
+use Rattle.std.proofs.Common.{◌≡◌, ◌≢◌, ℕ, ◌-◌, ◌<◌, ◌≤◌, Bool, List, [], ◌∷◌, length, Option, Some, None, get_or, refl, sym, ap, ◌∙◌, arith}
+use Rattle.std.specs.Prelude.{false, ◌==◌}
 use Rattle.std.specs.List.{slice_get}
+use Rattle.std.proofs.lemmas.Bool.{false≢true}
 use Rattle.std.specs.Option.{option_and_then}
 use Rattle.tcp_seq.specs.declared.segment.Way.TheVariants.{Home}
 use Rattle.tcp_seq.specs.declared.state.Piece.{Piece}
@@ -18,13 +20,14 @@ some_held : (ps : List Piece) → AreRuns 0 ps → ps ≢ [] → (offset : ℕ) 
 some_held [] runs some = absurd (some refl)
 some_held (p ∷ ps) runs some = (p.offset, get_or p.bytes (p.offset - p.offset) 0, held_here p ps p.offset (omega arith) (omega (arith, runs.1)))
 
-pub has_octets : (stream : Stream) (ps : List Piece) → ps ≡ stream.rest.pieces → AreRuns 0 ps → ps ≢ [] → HasOctets stream
-has_octets stream ps is runs some =
-    let h = some_held ps runs some in
-    (h.0, h.1, ap (λ (qs : List Piece). held qs h.0) (sym is) ∙ h.2)
+not_empty : (ps : List Piece) (empty : Bool) → empty ≡ (length ps == 0) → empty ≡ false → ps ≢ []
+not_empty ps empty is some e = false≢true (sym some ∙ is ∙ ap (λ (qs : List Piece). length qs == 0) e)
 
-pub no_octets : (stream : Stream) (ps : List Piece) → ps ≡ stream.rest.pieces → ps ≡ [] → ¬ HasOctets stream
-no_octets stream ps is none h = Some-None h.1 (sym h.2 ∙ ap (λ (qs : List Piece). held qs h.0) (sym is ∙ none))
+pub has_octets : (stream : Stream) (ps : List Piece) (empty : Bool) → ps ≡ stream.rest.pieces → AreRuns 0 ps → empty ≡ (length ps == 0)
+    → empty ≡ false → HasOctets stream
+has_octets stream ps empty is runs test some =
+    let h = some_held ps runs (not_empty ps empty test some) in
+    (h.0, h.1, ap (λ (qs : List Piece). held qs h.0) (sym is) ∙ h.2)
 
 -- ---- one connection
 

@@ -1,7 +1,8 @@
 -- The numbers of connections.
-use Rattle.std.proofs.Common.{◌≡◌, ℕ, ◌+◌, ◌<◌, Bool, true, false, cond, List, [], ◌∷◌, ◌++◌, length, Option, Some, None, refl, sym, ap, ◌∙◌, inl, inr, arith}
+use Rattle.std.proofs.Common.{◌≡◌, ℕ, ◌+◌, ◌<◌, Bool, true, false, cond, List, [], ◌∷◌, ◌++◌, length, take, get_or, Option, Some, None, refl, sym, ap, ◌∙◌, inl, inr, arith}
 use Rattle.std.proofs.Common.{length-append}
-use Rattle.std.specs.Prelude.{◌&&◌, ◌==◌}
+use Rattle.std.specs.Prelude.{◌&&◌, ◌==◌, is_some, then_some}
+use Rattle.std.proofs.lemmas.List.Sums.{fold_more}
 use Rattle.std.specs.List.{slice_get, position, list_any}
 use Rattle.std.specs.BTreeMap.{BTreeMap, get, is_at, Updates}
 use Rattle.std.specs.Ordering.{nat_cmp, is_eq}
@@ -15,7 +16,7 @@ use Rattle.tcp_packets.specs.declared.socket.Socket.{Socket}
 use Rattle.captured_streams.specs.declared.directed.Peer.{Peer}
 use Rattle.captured_streams.specs.declared.directed.Directed.{Directed}
 use Rattle.captured_streams.specs.Numbered.{IsNumbered}
-use Rattle.captured_streams.specs.Peers.{same_remote, same_socket, same_peer, says, with_peer, peer_at}
+use Rattle.captured_streams.specs.Peers.{same_remote, same_socket, same_peer, says, with_peer, peers, peer_at}
 use Rattle.captured_streams.proofs.Positions.{Some-None, position_found, position_none, any_here, any_found}
 
 -- ---- equal connections
@@ -55,20 +56,34 @@ module _ (list : List Peer) (numbers : BTreeMap ℕ ℕ) (numbered : IsNumbered 
   ] refl
 
   pub at_some : (k : ℕ) (p : Peer) → get nat_cmp numbers s.peer.remote.address ≡ Some k → slice_get list k ≡ Some p
-      → peer_at list s ≡ cond (same_peer s.peer p) (Some k) None
-  at_some k p got there = elim (peer_at list s) as (λ (o : Option ℕ). peer_at list s ≡ o → o ≡ cond (same_peer s.peer p) (Some k) None) [
-    | None ↦ λ e. sym (cond-false (same_peer s.peer p) (Some k) None (position_none (same_peer s.peer) list e k p there))
+      → peer_at list s ≡ then_some (same_peer s.peer p) k
+  at_some k p got there = elim (peer_at list s) as (λ (o : Option ℕ). peer_at list s ≡ o → o ≡ then_some (same_peer s.peer p) k) [
+    | None ↦ λ e. sym (ap (λ (b : Bool). then_some b k) (position_none (same_peer s.peer) list e k p there))
     | Some j ↦ λ e.
         let f = position_found (same_peer s.peer) list j e in
         let same : j ≡ k = cc (number_of j e, got) in
         let is : f.0 ≡ p = cc (f.1, ap (slice_get list) same, there) in
-        ap (λ (n : ℕ). Some n) same ∙ sym (cond-true (same_peer s.peer p) (Some k) None (ap (same_peer s.peer) (sym is) ∙ f.2))
+        ap (λ (n : ℕ). Some n) same ∙ sym (ap (λ (b : Bool). then_some b k) (ap (same_peer s.peer) (sym is) ∙ f.2))
   ] refl
 
-  pub within : (k : ℕ) → get nat_cmp numbers s.peer.remote.address ≡ Some k → k < length list
-  within k got = let old = numbered.only s.peer.remote.address k got in slice_get_within list k old.0 old.1
+  pub never_past : (k : ℕ) → get nat_cmp numbers s.peer.remote.address ≡ Some k → ¬ (slice_get list k ≡ None)
+  never_past k got past = let old = numbered.only s.peer.remote.address k got in Some-None old.0 (sym old.1 ∙ past)
 
 -- ---- one segment more
+
+some_is : (o : Option ℕ) → is_some o ≡ true → (k : ℕ) × (o ≡ Some k)
+some_is None e = absurd (false≢true e)
+some_is (Some k) e = (k, refl)
+
+pub none_is : (o : Option ℕ) → is_some o ≡ false → o ≡ None
+none_is None e = refl
+none_is (Some k) e = absurd (false≢true (sym e))
+
+pub peers_more : (segments : List Directed) (i : ℕ) (s : Directed) (list new : List Peer) → i < length segments → s ≡ get_or segments i s
+    → list ≡ peers (take i segments) → with_peer list s ≡ new → new ≡ peers (take (i + 1) segments)
+peers_more segments i s list new below at so_far joins =
+    sym joins ∙ ap (λ (known : List Peer). with_peer known s) so_far ∙ ap (with_peer (peers (take i segments))) at
+    ∙ sym (fold_more with_peer [] segments i s below)
 
 pub silent_stays : (list : List Peer) (s : Directed) → says s ≡ false → with_peer list s ≡ list
 silent_stays list s silent = cond-false (says s) (cond (list_any (same_remote s.peer) list) list (list ++ s.peer ∷ [])) list silent
@@ -77,9 +92,11 @@ module _ (list : List Peer) (numbers : BTreeMap ℕ ℕ) (numbered : IsNumbered 
   joins_or_stays : with_peer list s ≡ cond (list_any (same_remote s.peer) list) list (list ++ s.peer ∷ [])
   joins_or_stays = cond-true (says s) (cond (list_any (same_remote s.peer) list) list (list ++ s.peer ∷ [])) list some
 
-  pub known_stays : (k : ℕ) → get nat_cmp numbers s.peer.remote.address ≡ Some k → with_peer list s ≡ list
-  known_stays k got =
-      let old = numbered.only s.peer.remote.address k got in
+  pub known_stays : is_some (get nat_cmp numbers s.peer.remote.address) ≡ true → with_peer list s ≡ list
+  known_stays got =
+      let found = some_is (get nat_cmp numbers s.peer.remote.address) got in
+      let k = found.0 in
+      let old = numbered.only s.peer.remote.address k found.1 in
       joins_or_stays ∙ cond-true (list_any (same_remote s.peer) list) list (list ++ s.peer ∷ [])
       (any_here (same_remote s.peer) list k old.0 old.1 (eq-eqb s.peer.remote.address old.0.remote.address (sym old.2)))
 

@@ -1,9 +1,10 @@
 -- The segments of the packets so far.
-use Rattle.std.proofs.Common.{◌≡◌, ℕ, ◌+◌, ◌<◌, List, [], ◌∷◌, ◌++◌, length, take, get_or, Option, sym, ap, ◌∙◌}
+use Rattle.std.proofs.Common.{◌≡◌, ℕ, ◌+◌, ◌^◌, ◌<◌, List, [], ◌∷◌, ◌++◌, length, take, get_or, Option, sym, ap, ◌∙◌, subst}
 use Rattle.std.specs.Prelude.{true, false, count_by, Result}
-use Rattle.std.specs.List.{flat_map}
+use Rattle.std.specs.List.{flat_map, All}
 use Rattle.std.proofs.lemmas.List.{append-nil, take_more, flat_map_more}
 use Rattle.std.proofs.lemmas.List.Sums.{count_by_more_yes, count_by_more_no}
+use Rattle.std.proofs.lemmas.List.Elements.{All-push}
 use Rattle.pcap_form.specs.Blocks.{Captured}
 use Rattle.tcp_packets.specs.declared.read.LeftOut.{LeftOut}
 use Rattle.tcp_packets.specs.Reading.{Segment, read_packet}
@@ -40,3 +41,11 @@ module _ (home : Option ℕ) (packets : List Captured) (i : ℕ) (p : Captured) 
       → n ≡ count_by is_fragment (take (i + 1) packets)
   fragments_stay n r is other so_far =
       so_far ∙ sym (count_by_more_no is_fragment packets i p below (ap is_fragment (sym at) ∙ sym (ap is_left is) ∙ other))
+
+abbrev pub IsShort : Directed → Type 0
+IsShort s = length s.segment.octets < 2 ^ 16
+
+pub short_more : (old new : List Directed) (d : Directed) (s : Segment) → All IsShort old → new ≡ old ++ d ∷ [] → d.segment ≡ s
+    → length s.octets < 2 ^ 16 → All IsShort new
+short_more old new d s shorts joins same short =
+    subst (All IsShort) (sym joins) (All-push IsShort old d shorts (subst (λ (t : Segment). length t.octets < 2 ^ 16) (sym same) short))

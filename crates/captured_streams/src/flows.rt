@@ -1,12 +1,12 @@
 //! The octets of sessions, in order.
 
-ghost use Rattle.std.specs.Prelude.{ℕ, ◌≡◌, ◌<◌, ◌^◌, ◌++◌, List, length, count_by, Some, Err, IfOk, IfSome, IfNone, OnOk, MatchBool, true};
+ghost use Rattle.std.specs.Prelude.{ℕ, ◌≡◌, ◌<◌, ◌^◌, ◌++◌, List, length, count_by, Some, Err, IfOk, IfSome, IfNone, OnOk};
 ghost use Rattle.std.specs.List.{All};
 ghost use Rattle.captured_streams.specs.declared.stop.Hole.{Hole as HoleValue};
 ghost use Rattle.captured_streams.specs.declared.stop.StreamStop.TheVariants as stops;
 ghost use Rattle.captured_streams.specs.Numbered.{IsNumbered};
 ghost use Rattle.captured_streams.specs.Peers.{is_other};
-ghost use Rattle.captured_streams.specs.Flows.{begins as begins_lem, stream_at, is_beyond as is_beyond_lem, one_way, Brings, MayBring, AreFlows, none_begun, stream_of};
+ghost use Rattle.captured_streams.specs.Flows.{begins as begins_lem, stream_at, is_beyond as is_beyond_lem, one_way, Brings, AreFlows, none_begun, stream_of};
 ghost use Rattle.captured_streams.specs.Steps.{IsBeyondAt, IsStep, with_slot, BringsNext};
 ghost use Rattle.captured_streams.specs.Readings.{HasOctets, HasRest, IsBeyond, IsOf};
 ghost use Rattle.captured_streams.specs.declared.flows.Stream.{Stream as StreamValue};
@@ -86,17 +86,6 @@ fn is_beyond(stream: &Stream, segment: &CapturedSegment<'_>) -> bool
     ahead < HALF && ahead as usize + segment.octets.len() > WINDOW as usize
 }
 
-/// Whether a segment may bring octets: of what a remote sends nothing may be missing.
-fn may_bring(way: Way, stream: &Stream, segment: &CapturedSegment<'_>) -> bool
-    requires { length segment.now.octets < 2 ^ 16 }
-    ensures { MatchBool result (MayBring way stream.now segment.now) ((way ≡ Way.Home) × (is_beyond_lem stream.now segment.now ≡ true)) }
-{
-    match way {
-        Way::Home => !is_beyond(stream, segment),
-        Way::Remote => true,
-    }
-}
-
 /// Puts the octets of a segment, and returns what is in order then.
 fn bring(
     alloc: Global,
@@ -126,7 +115,7 @@ fn advance(
     let Some(mut stream) = begun(alloc, slot.take(), segment) else {
         return Ok(Step::Nothing);
     };
-    if !may_bring(way, &stream, segment) {
+    if way == Way::Home && is_beyond(&stream, segment) {
         return Ok(Step::Beyond(stream.given));
     }
     let octets = bring(alloc, &mut stream, segment)?;

@@ -54,6 +54,7 @@ impl Peers {
     {
         let peer = segment.peer;
         let number = *self.numbers.get(&peer.remote.address)?;
-        (peer == self.list[number]).then_some(number)
+        let known = self.list.get(number)?;
+        (peer == *known).then_some(number)
     }
 }
