@@ -1,7 +1,8 @@
 -- The numbers of connections.
 use Rattle.std.proofs.Common.{◌≡◌, ℕ, ◌+◌, ◌<◌, Bool, true, false, cond, List, [], ◌∷◌, ◌++◌, length, take, get_or, Option, Some, None, refl, sym, ap, ◌∙◌, inl, inr, arith}
 use Rattle.std.proofs.Common.{length-append}
-use Rattle.std.specs.Prelude.{◌&&◌, ◌==◌, is_some, then_some}
+use Rattle.std.specs.Bool.{then_some}
+use Rattle.std.specs.Prelude.{◌&&◌, ◌==◌, is_some}
 use Rattle.std.proofs.lemmas.List.Sums.{fold_more}
 use Rattle.std.specs.List.{slice_get, position, list_any}
 use Rattle.std.specs.BTreeMap.{BTreeMap, get, is_at, Updates}
@@ -66,8 +67,8 @@ module _ (list : List Peer) (numbers : BTreeMap ℕ ℕ) (numbered : IsNumbered 
         ap (λ (n : ℕ). Some n) same ∙ sym (ap (λ (b : Bool). then_some b k) (ap (same_peer s.peer) (sym is) ∙ f.2))
   ] refl
 
-  pub never_past : (k : ℕ) → get nat_cmp numbers s.peer.remote.address ≡ Some k → ¬ (slice_get list k ≡ None)
-  never_past k got past = let old = numbered.only s.peer.remote.address k got in Some-None old.0 (sym old.1 ∙ past)
+  pub within : (k : ℕ) → get nat_cmp numbers s.peer.remote.address ≡ Some k → k < length list
+  within k got = let old = numbered.only s.peer.remote.address k got in slice_get_within list k old.0 old.1
 
 -- ---- one segment more
 

@@ -1,9 +1,11 @@
-use Rattle.std.proofs.Common.{◌≡◌, Some, None, sym, rules, arith}
+use Rattle.std.proofs.Common.{◌≡◌, ◌≤◌, List, length, get_or, Some, None, sym, ap, ◌∙◌, rules, arith}
 use Rattle.std.specs.BTreeMap.{get}
 use Rattle.std.specs.List.{slice_get}
 use Rattle.std.specs.Ordering.{nat_cmp}
 use Rattle.std.proofs.lemmas.Grind.{common_steps}
-use Rattle.captured_streams.proofs.Numbering.{at_none, at_some, never_past}
+use Rattle.std.proofs.lemmas.Option.{slice_get-get_or}
+use Rattle.captured_streams.specs.declared.directed.Peer.{Peer}
+use Rattle.captured_streams.proofs.Numbering.{at_none, at_some, within}
 use Rattle.captured_streams.proofs.peers.Peers.at.Goals as goal
 
 pub returns-in_err-number : goal.returns-in_err-number
@@ -22,8 +24,8 @@ returns-in_err-known c =
     let k = c.in_ok-number.field-0.now in
     let got : get nat_cmp self.numbers s.peer.remote.address ≡ Some k =
     first_of (cc (c.in_ok-number.ensures.value), search rules, grind (arith, common_steps, c.in_ok-number.ensures.value)) in
-    let past : slice_get self.list k ≡ None = first_of (search rules, cc, grind (arith, common_steps)) in
-    absurd (never_past self.list self.numbers c.requires s k got past)
+    let past : length c.deref.result.now ≤ k = first_of (search rules, omega arith, grind (arith, common_steps)) in
+    absurd (omega (arith, past, within self.list self.numbers c.requires s k got, ap (λ (l : List Peer). length l) c.deref.ensures))
 
 pub returns : goal.returns
 returns c =
@@ -33,6 +35,9 @@ returns c =
     let p = c.in_ok-known.known.now in
     let got : get nat_cmp self.numbers s.peer.remote.address ≡ Some k =
     first_of (cc (c.in_ok-number.ensures.value), search rules, grind (arith, common_steps, c.in_ok-number.ensures.value)) in
-    let there : slice_get self.list k ≡ Some p = first_of (search rules, cc, grind (arith, common_steps)) in
+    let read : p ≡ get_or c.deref.result.now k p = first_of (search rules, cc, grind (arith, common_steps)) in
+    let there : slice_get self.list k ≡ Some p =
+    slice_get-get_or self.list k p (within self.list self.numbers c.requires s k got)
+    ∙ ap (λ (q : Peer). Some q) (sym (read ∙ ap (λ (l : List Peer). get_or l k p) c.deref.ensures)) in
     let is = at_some self.list self.numbers c.requires s k p got there in
     first_of (cc (c.then_some.ensures, c.eq.ensures, is), search rules, grind (arith, common_steps))
