@@ -1,5 +1,5 @@
 -- A reading of a whole capture.
-use Rattle.std.proofs.Common.{◌≡◌, ℕ, ◌<◌, List, Option, None, sym, subst, inl, inr}
+use Rattle.std.proofs.Common.{◌≡◌, ℕ, ◌<◌, List, Option, None, subst, inl, inr}
 use Rattle.std.specs.Prelude.{IfNone}
 use Rattle.pcap_form.specs.Blocks.{Captured}
 use Rattle.captured_streams.specs.declared.directed.Peer.{Peer}

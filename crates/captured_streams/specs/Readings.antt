@@ -1,5 +1,5 @@
 -- What a capture is read as: its sessions, and what is missing.
-use Rattle.std.specs.Prelude.{ℕ, ◌≡◌, ◌<◌, ◌⊎◌, true, false, Bool, List, [], ◌∷◌, ◌++◌, count_by, Option, Some, None, Result, Ok, Err, slice_get}
+use Rattle.std.specs.Prelude.{ℕ, ◌≡◌, ◌<◌, ◌⊎◌, true, false, Bool, List, ◌∷◌, ◌++◌, count_by, Option, Some, Result, Err, slice_get}
 use Rattle.tcp_seq.specs.declared.segment.Way.TheVariants.{Home}
 use Rattle.pcap_form.specs.Blocks.{Captured}
 use Rattle.tcp_packets.specs.declared.read.LeftOut.{LeftOut}

@@ -1,9 +1,8 @@
-use Rattle.std.proofs.Common.{◌≡◌, ℕ, List, sym, ap, ◌∙◌, subst}
+use Rattle.std.proofs.Common.{◌≡◌, ℕ, List, ap, ◌∙◌, subst}
 use Rattle.std.specs.Prelude.{count_by}
 use Rattle.captured_streams.specs.declared.directed.Directed.{Directed}
 use Rattle.captured_streams.specs.declared.flows.Both.{Both}
 use Rattle.captured_streams.specs.declared.flows.Stream.{Stream}
-use Rattle.captured_streams.specs.declared.stop.Hole.{Hole}
 use Rattle.captured_streams.specs.Peers.{peers, is_other}
 use Rattle.captured_streams.specs.Flows.{AreFlows, none_begun}
 use Rattle.captured_streams.specs.Readings.{HasRest, IsHole}
