@@ -30,7 +30,8 @@ returns c = λ source target s from to seq short.
     let ipv4 : is_ipv4 packet && is_tcp packet ≡ true = cc in
     let header : nat_le 20 (length segment) ≡ true = le-leb 20 (length segment) (omega arith) in
     let is : is_segment segment ≡ true = cc in
-    let carries : carried packet ≡ segment = ap (λ (n : ℕ). drop 20 (take n packet)) total ∙ ap (drop 20) (take_all (40 + length s.bytes) packet (omega (arith, size))) in
+    let carries : carried packet ≡ segment =
+    ap (λ (n : ℕ). drop 20 (take n packet)) total ∙ ap (drop 20) (take_all (40 + length s.bytes) packet (omega (arith, size))) in
     let in_packet : tcp_in packet ≡ Ok (segment_of packet segment) =
     ap (λ (xs : List ℕ). if is_segment xs then Ok (segment_of packet xs) else Err Other) carries
     ∙ cond-true (is_segment segment) (Ok (segment_of packet segment)) (Err Other) is in
