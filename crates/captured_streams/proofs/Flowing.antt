@@ -53,8 +53,7 @@ slot_stream Home stream both = refl
 slot_stream Remote stream both = refl
 
 module _ (all : List Both) (s : Directed) (k : ℕ) (old new : Both) (there : slice_get all k ≡ Some old)
-  (rest : new ≡ with_slot s.way (one_way s.way new) old) where
-
+    (rest : new ≡ with_slot s.way (one_way s.way new) old) where
   stream_is : stream_of all k s.way ≡ one_way s.way old
   stream_is = ap (option_and_then (one_way s.way)) there
 

@@ -121,8 +121,7 @@ apart a q ne = elim (is_eq (nat_cmp a q)) as (λ (b : Bool). is_eq (nat_cmp a q)
 ] refl
 
 module _ (list : List Peer) (numbers numbers' : BTreeMap ℕ ℕ) (numbered : IsNumbered list numbers) (p : Peer)
-  (none : get nat_cmp numbers p.remote.address ≡ None) (updates : Updates nat_cmp numbers numbers' p.remote.address (Some (length list))) where
-
+    (none : get nat_cmp numbers p.remote.address ≡ None) (updates : Updates nat_cmp numbers numbers' p.remote.address (Some (length list))) where
   last : slice_get (list ++ p ∷ []) (length list) ≡ Some p
   last = get-append_right list (p ∷ []) (length list) 0 (omega arith)
 

@@ -27,8 +27,7 @@ flow k way octets = record { peer = k; way = way; octets = octets }
 
 -- what is so behind a segment is so with it
 module _ (s : Directed) (P Q : List Both → List Flow → Type 0) (R : Type 0)
-  (behind : (a b : List Both) (fs gs : List Flow) → SameAll a b → P a fs → Q b gs → (fs ≡ gs) × R) where
-
+    (behind : (a b : List Both) (fs gs : List Flow) → SameAll a b → P a fs → Q b gs → (fs ≡ gs) × R) where
   on_same : (a b : List Both) (fs gs : List Flow) (k : ℕ) (o p : Option Stream) → SameAll a b → SameSlot o p → BringsOn a s fs P k o
       → BringsOn b s gs Q k p → (fs ≡ gs) × R
   on_same a b fs gs k None None all same one other = behind a b fs gs all one other

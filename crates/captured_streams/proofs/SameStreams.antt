@@ -67,13 +67,15 @@ brings_same a b s xs ys a' b' same one other =
     one.puts.ahead k ∙ ap (λ (o : Option ℕ). option_or o (brought a.rest.next s.first s.octets k)) (same.ahead k)
     ∙ ap (λ (n : ℕ). option_or (byte_ahead b.rest k) (brought n s.first s.octets k)) same.next ∙ sym (other.puts.ahead k) in
     let octets : xs ≡ ys = given_same one.between other.between a'.rest b'.rest [] xs ys (length xs) (length ys) between one.takes other.takes in
-    let count : length xs ≡ length ys = ap (λ (zs : List ℕ). length zs) octets in
-    (octets, record {
-      given = omega (arith, one.given, other.given, same.given, count);
-      next = one.takes.next ∙ ap (λ (n : ℕ). plus n (length xs)) (one.puts.next ∙ same.next ∙ sym other.puts.next)
-          ∙ ap (plus other.between.next) count ∙ sym other.takes.next;
-      ahead = λ k. one.takes.ahead k ∙ between (length xs + k) ∙ ap (λ (n : ℕ). byte_ahead other.between (n + k)) count ∙ sym (other.takes.ahead k);
-    })
+    let count : length xs ≡ length ys = ap (λ (zs : List ℕ). length zs) octets in (
+      octets,
+      record {
+        given = omega (arith, one.given, other.given, same.given, count);
+        next = one.takes.next ∙ ap (λ (n : ℕ). plus n (length xs)) (one.puts.next ∙ same.next ∙ sym other.puts.next)
+            ∙ ap (plus other.between.next) count ∙ sym other.takes.next;
+        ahead = λ k. one.takes.ahead k ∙ between (length xs + k) ∙ ap (λ (n : ℕ). byte_ahead other.between (n + k)) count ∙ sym (other.takes.ahead k);
+      },
+    )
 
 -- ---- one stream is replaced
 

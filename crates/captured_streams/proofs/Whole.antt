@@ -22,8 +22,7 @@ IsFirstRest known all hole =
     (k : ℕ) × (stream : Stream) × HasRest all k stream × ((n : ℕ) (other : Stream) → n < k → ¬ HasRest all n other) × IsOf known k stream hole
 
 module _ (home : Option ℕ) (packets : List Captured) (known : List Peer) (segments : List Directed) (known_is : known ≡ peers (directed home packets))
-  (segments_is : segments ≡ directed home packets) where
-
+    (segments_is : segments ≡ directed home packets) where
   pub beyond_is_hole : (hole : Hole) → IsBeyond known segments hole → IsHole home packets hole
   beyond_is_hole hole b =
       inl (subst (λ (ps : List Peer). IsBeyond ps (directed home packets) hole) known_is

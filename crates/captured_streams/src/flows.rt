@@ -60,11 +60,7 @@ fn begins(segment: &CapturedSegment<'_>) -> bool
 }
 
 /// Returns a stream, which begins with a segment if it hasn't begun before.
-fn begun(
-    alloc: Global,
-    stream: Option<Stream>,
-    segment: &CapturedSegment<'_>,
-) -> Option<Stream>
+fn begun(alloc: Global, stream: Option<Stream>, segment: &CapturedSegment<'_>) -> Option<Stream>
     ensures { result ≡ stream_at stream segment.now }
 {
     match stream {

@@ -1,6 +1,5 @@
 use Rattle.std.proofs.Common.{◌≡◌, Some, None, sym, ◌∙◌, rules, arith}
 use Rattle.std.specs.Prelude.{Err}
-use Rattle.std.proofs.lemmas.Grind.{common_steps}
 use Rattle.captured_streams.specs.declared.stop.StreamStop.TheVariants as stops
 use Rattle.captured_streams.specs.Peers.{peer_at}
 use Rattle.captured_streams.proofs.Bringing.{other_flows, next_flows, others_more, others_stay, beyond_here}
@@ -50,6 +49,6 @@ returns-in_err-take_segment-clause-beyond c = λ hole e.
     let all = c.loop-segment.all in
     let k = c.in-Some.peer in
     let is : Some k ≡ peer_at known s = sym c.in-Some.is ∙ c.at.ensures in
-    let was : c.take_segment.result ≡ Err (stops.Hole hole) = first_of (cc, search rules, grind (arith, common_steps)) in
+    let was : c.take_segment.result ≡ Err (stops.Hole hole) = search rules in
     beyond_here known segments i s c.loop-segment-test.true c.segment-item.is all.flows all.streams.items k hole c.loop-segment.invariant.flows is
     (c.take_segment.ensures.beyond hole was)

@@ -26,8 +26,7 @@ returns-in_ok-push-in-Brings-clause-brings c =
     let new = c.advance_one.new.both in
     let there = slice_get_read all (length all) c.args.peer old refl c.requires.known c.index_mut.ensures.value in
     let step = subst (IsStep s.way (one_way s.way old) s.segment (one_way s.way new)) c.in-Brings.is c.in_ok-advance_one.ensures.step in
-    let flow : Flow = record { peer = c.args.peer; way = s.way; octets = c.in-Brings.octets } in
-    (
+    let flow : Flow = record { peer = c.args.peer; way = s.way; octets = c.in-Brings.octets } in (
       flow ∷ [],
       c.in_ok-push-in-Brings.ensures.ok,
       step_brings all s c.args.peer old new there c.advance_one.ensures.rest c.in-Brings.octets step,
@@ -45,5 +44,5 @@ returns-in-Beyond-clause-beyond c = λ hole e.
     let is : here ≡ hole = cc in (
       sym (ap (λ (h : Hole). h.remote) is),
       subst (λ (n : ℕ). IsBeyondAt s.way (stream_of all c.args.peer s.way) s.segment n) (ap (λ (h : Hole). h.octet) is)
-      (step_beyond all s c.args.peer old new there c.advance_one.ensures.rest c.in-Beyond.octet step),
+          (step_beyond all s c.args.peer old new there c.advance_one.ensures.rest c.in-Beyond.octet step),
     )

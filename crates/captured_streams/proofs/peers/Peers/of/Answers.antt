@@ -1,8 +1,7 @@
-use Rattle.std.proofs.Common.{◌≡◌, ℕ, List, Some, true, false, sym, ◌∙◌, subst, rules, arith}
+use Rattle.std.proofs.Common.{◌≡◌, ℕ, List, Some, true, false, sym, ◌∙◌, subst}
 use Rattle.std.specs.Prelude.{is_some}
 use Rattle.std.specs.BTreeMap.{get, Updates}
 use Rattle.std.specs.Ordering.{nat_cmp}
-use Rattle.std.proofs.lemmas.Grind.{common_steps}
 use Rattle.captured_streams.specs.declared.directed.Peer.{Peer}
 use Rattle.captured_streams.specs.Numbered.{IsNumbered}
 use Rattle.captured_streams.specs.Peers.{says}
@@ -14,9 +13,9 @@ loop-segment-preserved-then-contains_key c =
     let s = c.segment-item.result in
     let list = c.loop-segment.list in
     let numbers = c.loop-segment.numbers in
-    let speaks : says s ≡ true = first_of (cc (c.says.ensures, c.if-not-says.false), search rules, grind (arith, common_steps)) in
+    let speaks : says s ≡ true = cc (c.says.ensures, c.if-not-says.false) in
     let got : is_some (get nat_cmp numbers s.peer.remote.address) ≡ true =
-    first_of (cc (c.contains_key.ensures, c.if-contains_key.true), search rules, grind (arith, common_steps)) in
+    cc (c.contains_key.ensures, c.if-contains_key.true) in
     record {
       list = peers_more c.args.segments.now c.loop-segment.segment-index s list list c.loop-segment-test.true c.segment-item.is
           c.loop-segment.invariant.list (known_stays list numbers c.loop-segment.invariant.numbered s speaks got);
@@ -28,9 +27,9 @@ loop-segment-preserved c =
     let s = c.segment-item.result in
     let list = c.loop-segment.list in
     let numbers = c.loop-segment.numbers in
-    let speaks : says s ≡ true = first_of (cc (c.says.ensures, c.if-not-says.false), search rules, grind (arith, common_steps)) in
+    let speaks : says s ≡ true = cc (c.says.ensures, c.if-not-says.false) in
     let test : is_some (get nat_cmp numbers s.peer.remote.address) ≡ false =
-    first_of (cc (c.contains_key.ensures, c.if-contains_key.false), search rules, grind (arith, common_steps)) in
+    cc (c.contains_key.ensures, c.if-contains_key.false) in
     let none = none_is (get nat_cmp numbers s.peer.remote.address) test in
     let updates = subst (λ (n : ℕ). Updates nat_cmp numbers c.insert.new.self s.peer.remote.address (Some n)) c.len.ensures c.in_ok-insert.ensures.updates in
     record {
