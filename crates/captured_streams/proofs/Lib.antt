@@ -1,0 +1,9 @@
+pub mod Positions
+pub mod Numbering
+pub mod Segments
+pub mod Flowing
+pub mod Bringing
+pub mod Holes
+pub mod Whole
+pub mod SameStreams
+pub mod OneReading
