@@ -119,8 +119,10 @@ both_stop : (known : List Peer) (before before' : List Directed) (s s' : Directe
     (mid mid' : List Both) (k k' : ℕ) (stream stream' : Stream) → before ++ s ∷ rest ≡ before' ++ s' ∷ rest' → SameAll a b
     → AreFlows known a before fs mid → Stops known mid s k stream → AreFlows known b before' gs mid' → Stops known mid' s' k' stream'
     → (fs ≡ gs) × ((k ≡ k') × (stream.given ≡ stream'.given))
-both_stop known [] [] s s' rest rest' a b fs gs mid mid' k k' stream stream' is all one stops other stops' =
-    (one.0 ∙ sym other.0, same_stop known mid mid' s s' k k' stream stream' (head_same s s' rest rest' is) (same_ends a b mid mid' one.1 other.1 all) stops stops')
+both_stop known [] [] s s' rest rest' a b fs gs mid mid' k k' stream stream' is all one stops other stops' = (
+  one.0 ∙ sym other.0,
+  same_stop known mid mid' s s' k k' stream stream' (head_same s s' rest rest' is) (same_ends a b mid mid' one.1 other.1 all) stops stops',
+)
 both_stop known [] (r ∷ before') s s' rest rest' a b fs gs mid mid' k k' stream stream' is all one stops other stops' =
     absurd (stops_there known a b r k stream gs (λ l more. AreFlows known l before' more mid') all
     (subst (λ (q : Directed). Stops known a q k stream) (head_same s r rest (before' ++ s' ∷ rest') is)

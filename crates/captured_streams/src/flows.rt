@@ -146,7 +146,8 @@ fn take_segment(
 ) -> Result<(), StreamStop>
     requires known { peer < length streams.old.items }
     requires short { length segment.now.segment.octets < 2 ^ 16 }
-    ensures brings { OnOk result ((more : List FlowValue) × (flows.new ≡ flows.old ++ more) × BringsNext streams.old.items segment.now peer more streams.new.items) }
+    ensures brings { OnOk result ((more : List FlowValue) × (flows.new ≡ flows.old ++ more)
+        × BringsNext streams.old.items segment.now peer more streams.new.items) }
     ensures len { length streams.new.items ≡ length streams.old.items }
     ensures beyond { (hole : HoleValue) → result ≡ Err (stops.Hole hole) → (hole.remote ≡ segment.now.peer.remote)
         × IsBeyondAt segment.now.way (stream_of streams.old.items peer segment.now.way) segment.now.segment hole.octet }
