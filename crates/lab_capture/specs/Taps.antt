@@ -1,6 +1,6 @@
 -- What is seen at the remotes' sides of the links: each segment as its remote sends it, and each as it reaches its remote.
-use Rattle.std.specs.Prelude.{ℕ, List, [], ◌∷◌, length, Option, None, Some, slice_get}
-use Rattle.std.specs.Option.{option_map}
+use Rattle.std.specs.Prelude.{ℕ, List, [], ◌∷◌, length, nat_le, if◌then◌else◌, Option, None, Some, slice_get}
+use Rattle.std.specs.Option.{option_map, option_and_then}
 use Rattle.tcp_seq.specs.Endpoint.{PlacedSegment}
 use Rattle.tcp_seq.specs.declared.segment.Way.{Way}
 use Rattle.tcp_seq.specs.declared.segment.Way.TheVariants.{Home, Remote}
@@ -17,8 +17,10 @@ seen_by (Send from len) before after = option_map (λ s. (Home, s)) (slice_get a
 seen_by (Reach index keep) before after = option_map (λ s. (Remote, s)) (slice_get before.remoteward index)
 seen_by event before after = None
 
+-- its packet, if it has room in one: 65,535 octets less the 40 of both headers
 abbrev pub packet_at : LabInput → (p : ℕ) → Way × PlacedSegment → Option (List ℕ)
-packet_at input p seen = option_map (λ peering. packet_to seen.0 p peering seen.1) (slice_get input.peerings p)
+packet_at input p seen =
+    if nat_le (length seen.1.bytes) 65495 then option_map (λ peering. packet_to seen.0 p peering seen.1) (slice_get input.peerings p) else None
 
 -- the packet of an event that leads from one world to another, if there is one
 abbrev pub tapped : LabInput → Event → (before after : World) → Option (List ℕ)
