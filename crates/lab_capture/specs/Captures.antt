@@ -4,12 +4,7 @@ use Rattle.std.specs.List.{enumerate_from, flat_map}
 use Rattle.std.specs.List.Sorted.{IsNonDecreasingBy}
 use Rattle.pcap_form.specs.Written.{written}
 use Rattle.pcap_form.specs.declared.packet.CapturedPacket.{CapturedPacket}
-
--- a packet, with the round of its entry, and how many entries of that round come before it in the journal
-pub record Timed : Type 0 where
-  pub round : ℕ
-  pub place : ℕ
-  pub octets : List ℕ
+use Rattle.lab_capture.specs.declared.timed.Timed.{Timed}
 
 abbrev pub timed_at : (rounds : List ℕ) → ℕ × Option (List ℕ) → List Timed
 timed_at rounds (k, None) = []

@@ -17,6 +17,11 @@ home_socket peering = record { address = peering.local_address; port = 179 }
 abbrev pub remote_socket : (p : ℕ) → PeeringInput → Socket
 remote_socket p peering = record { address = peering.remote_address; port = 49152 + p }
 
+-- the source and the target of segments to the home side, and to the remote
+abbrev pub sockets : Way → (p : ℕ) → PeeringInput → Socket × Socket
+sockets Home p peering = (remote_socket p peering, home_socket peering)
+sockets Remote p peering = (home_socket peering, remote_socket p peering)
+
 -- the segment with its sequence numbers, by those of the first octets
 abbrev pub numbered : (p : ℕ) → Way → (own_first other_first : ℕ) → PlacedSegment → Segment
 numbered p way own_first other_first s = record {

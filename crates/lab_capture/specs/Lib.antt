@@ -1,3 +1,5 @@
 pub mod Ends
 pub mod Taps
 pub mod Captures
+pub mod Places
+pub mod Tapping

@@ -1,0 +1,4 @@
+mod Times
+mod Packets
+mod Links
+mod Runs
