@@ -1,25 +1,13 @@
-//! Fields of headers, and tests of whole headers.
+//! Fields of the headers of IPv4 and TCP, and tests of whole headers.
 
 ghost use Rattle.std.specs.Prelude.{◌≡◌, ◌≤◌, length};
-ghost use Rattle.tcp_packets.specs.Links.{type_at as type_at_lem};
 ghost use Rattle.tcp_packets.specs.Headers.{header_length as header_length_lem, is_fragment as is_fragment_lem, is_ipv4 as is_ipv4_lem};
 ghost use Rattle.tcp_packets.specs.Headers.{data_offset as data_offset_lem, is_tcp as is_tcp_lem, is_segment as is_segment_lem, is_syn as is_syn_lem};
 
 use pcap_form::{ByteOrder, half_at};
 
-/// The number of IPv4 among the types of Ethernet.
-const IPV4: u16 = 0x0800;
-
 /// The number of TCP among the protocols of IPv4.
 const TCP: u8 = 6;
-
-/// Returns whether a header of `header` octets is there, and the type at `place` in it is that of IPv4.
-pub(crate) fn is_type_at(octets: &[u8], place: usize, header: usize) -> bool
-    requires { place + 2 ≤ header }
-    ensures { result ≡ type_at_lem octets.now place header }
-{
-    octets.len() >= header && half_at(ByteOrder::Big, octets, place) == IPV4
-}
 
 /// Returns how many octets the header of an IPv4 packet has.
 pub(crate) fn header_length(packet: &[u8]) -> usize

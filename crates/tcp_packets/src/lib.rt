@@ -4,6 +4,7 @@
 mod checksum;
 mod fields;
 mod laws;
+mod links;
 mod read;
 mod socket;
 mod write;

@@ -1,15 +1,13 @@
 //! Packets of a capture, read as segments.
 
-ghost use Rattle.std.specs.Prelude.{◌≡◌, true, false, IfSome, IfNone};
-ghost use Rattle.tcp_packets.specs.Links.{behind_link as behind_link_lem};
+ghost use Rattle.std.specs.Prelude.{◌≡◌, ◌^◌, ◌<◌, true, if◌then◌else◌, None, Some, IfOk, IfSome, length};
 ghost use Rattle.tcp_packets.specs.Headers.{carried as carried_lem, is_ipv4 as is_ipv4_lem, is_segment as is_segment_lem};
 ghost use Rattle.tcp_packets.specs.Reading.{read_packet as read_packet_lem, segment_of};
 
-use crate::fields::{
-    data_offset, header_length, is_fragment, is_ipv4, is_segment, is_syn, is_tcp, is_type_at,
-};
+use crate::fields::{data_offset, header_length, is_fragment, is_ipv4, is_segment, is_syn, is_tcp};
+use crate::links::behind_link;
 use crate::socket::Socket;
-use pcap_form::{ByteOrder, LinkType, Packet, half_at, word_at};
+use pcap_form::{ByteOrder, Packet, half_at, word_at};
 use std::marker::Model;
 use tcp_seq::Seq;
 
@@ -42,27 +40,47 @@ pub enum LeftOut {
     Other,
 }
 
-/// Returns the octets behind the header of the link, if that header says that they are IPv4's. Where there is no such
-/// header, all may be.
-fn behind_link(link: LinkType, octets: &[u8]) -> Option<&[u8]>
-    ensures { result.now ≡ behind_link_lem link octets.now }
-{
-    todo!()
-}
-
 /// Reads the segment of TCP in an IPv4 packet that is no fragment.
 fn segment_in(packet: &[u8]) -> Option<CapturedSegment<'_>>
     requires { is_ipv4_lem packet.now ≡ true }
-    ensures some { IfSome result (λ s. (is_segment_lem (carried_lem packet.now) ≡ true) × (s ≡ segment_of packet.now (carried_lem packet.now))) }
-    ensures none { IfNone result (is_segment_lem (carried_lem packet.now) ≡ false) }
+    ensures segment { result ≡ (if is_segment_lem (carried_lem packet.now) then Some (segment_of packet.now (carried_lem packet.now)) else None) }
+    ensures short { IfSome result (λ s. length s.octets < 2 ^ 16) }
 {
-    todo!()
+    let total = usize::from(half_at(ByteOrder::Big, packet, 2));
+    let segment = &packet[..total][header_length(packet)..];
+    if !is_segment(segment) {
+        return None;
+    }
+    let source = Socket {
+        address: word_at(ByteOrder::Big, packet, 12),
+        port: half_at(ByteOrder::Big, segment, 0),
+    };
+    let target = Socket {
+        address: word_at(ByteOrder::Big, packet, 16),
+        port: half_at(ByteOrder::Big, segment, 2),
+    };
+    let opens = is_syn(segment);
+    Some(CapturedSegment {
+        source,
+        target,
+        opens,
+        first: Seq(word_at(ByteOrder::Big, segment, 4)).plus(u32::from(opens)),
+        octets: &segment[data_offset(segment)..],
+    })
 }
 
 /// Reads a packet of a capture as a segment of TCP over IPv4. Its checksums aren't compared: many captures are taken where
 /// these aren't filled in yet. The segment's octets stay where they are.
 pub fn read_packet<'a>(packet: &Packet<'a>) -> Result<CapturedSegment<'a>, LeftOut>
-    ensures { result ≡ read_packet_lem packet.now }
+    ensures segment { result ≡ read_packet_lem packet.now }
+    ensures short { IfOk result (λ s. length s.octets < 2 ^ 16) }
 {
-    todo!()
+    let packet = behind_link(packet.link(), packet.octets()).ok_or(LeftOut::Other)?;
+    if !is_ipv4(packet) || !is_tcp(packet) {
+        return Err(LeftOut::Other);
+    }
+    if is_fragment(packet) {
+        return Err(LeftOut::Fragment);
+    }
+    segment_in(packet).ok_or(LeftOut::Other)
 }
