@@ -26,16 +26,16 @@ abbrev pub HasItsOffsets : Type 0
 HasItsOffsets = (seq_first ack_first : ℕ) (g : Segment) → seq_first < 2 ^ 32 → ack_first < 2 ^ 32 → g.seq.0 < 2 ^ 32 → g.ack.0 < 2 ^ 32
     → (g.seq.0 ≡ number seq_first (placed seq_first ack_first g).offset) × (g.ack.0 ≡ number ack_first (placed seq_first ack_first g).ack)
 
-pub numbers_kept : HasItsOffsets → (p : ℕ) (way : Way) (peering : PeeringInput) (g : Segment) → peering.home_seq < 2 ^ 32 → peering.remote_seq < 2 ^ 32
-    → g.seq.0 < 2 ^ 32 → g.ack.0 < 2 ^ 32 → g.peering.0 ≡ p
-    → written_packet (sockets way p peering).0 (sockets way p peering).1 (record g { way = way; window = 16384 })
-    ≡ packet_to way p peering (placed_for way peering.home_seq peering.remote_seq g)
-numbers_kept law p Home peering g home remote seq ack own =
-    let kept = law peering.remote_seq peering.home_seq g remote home seq ack in λ i. written_packet (remote_socket p peering) (home_socket peering)
-    (record g { peering = record { 0 = own i }; way = Home; seq = record { 0 = kept.0 i }; ack = record { 0 = kept.1 i }; window = 16384 })
-numbers_kept law p Remote peering g home remote seq ack own =
-    let kept = law peering.home_seq peering.remote_seq g home remote seq ack in λ i. written_packet (home_socket peering) (remote_socket p peering)
-    (record g { peering = record { 0 = own i }; way = Remote; seq = record { 0 = kept.0 i }; ack = record { 0 = kept.1 i }; window = 16384 })
+pub numbers_kept : HasItsOffsets → (way : Way) (peering : PeeringInput) (g : Segment) → peering.home_seq < 2 ^ 32 → peering.remote_seq < 2 ^ 32
+    → g.seq.0 < 2 ^ 32 → g.ack.0 < 2 ^ 32
+    → written_packet (sockets way g.peering.0 peering).0 (sockets way g.peering.0 peering).1 g
+    ≡ packet_to way g.peering.0 peering (placed_for way peering.home_seq peering.remote_seq g)
+numbers_kept law Home peering g home remote seq ack =
+    let kept = law peering.remote_seq peering.home_seq g remote home seq ack in λ i. written_packet (remote_socket g.peering.0 peering) (home_socket peering)
+    (record g { way = Home; seq = record { 0 = kept.0 i }; ack = record { 0 = kept.1 i }; window = 16384 })
+numbers_kept law Remote peering g home remote seq ack =
+    let kept = law peering.home_seq peering.remote_seq g home remote seq ack in λ i. written_packet (home_socket peering) (remote_socket g.peering.0 peering)
+    (record g { way = Remote; seq = record { 0 = kept.0 i }; ack = record { 0 = kept.1 i }; window = 16384 })
 
 -- how long a packet is
 pub length_written : (source target : Socket) (s : Segment) → length (written_packet source target s) ≡ 40 + length s.bytes

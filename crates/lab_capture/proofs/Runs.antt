@@ -22,7 +22,7 @@ use Rattle.run_auditor.specs.declared.step.Step.TheVariants.{Made, Kind, Conditi
 use Rattle.lab_capture.specs.Taps.{tapped, tapped_along}
 use Rattle.lab_capture.specs.Captures.{timed, timed_at}
 use Rattle.lab_capture.specs.Places.{ArePlaces, timed_if}
-use Rattle.lab_capture.specs.Tapping.{AreTapped, IsTapped}
+use Rattle.lab_capture.specs.Tapping.{AreOfRun, IsTapped, StandsBehind}
 use Rattle.lab_capture.specs.declared.timed.Timed.{Timed}
 
 -- ---- the last event of a run
@@ -115,63 +115,67 @@ timed_more rounds taps tap k size =
 
 module _ (one_event : OneEventHasTheEntry) (spelled : PrefixesAreSpelled) (input : LabInput) (sound : IsSetup (setup_of input))
     (ranges : IsInRange (setup_of input)) (rounds : List ℕ) (front : List JournalEntry) (entry : JournalEntry) (old new : Auditor) where
-  pub tapped_more : (packets more : List Timed) (packet : Option (List ℕ)) (round place : ℕ) → old.known.setup ≡ setup_of input
-      → AreTapped input rounds front old packets → IsTapped input entry old packet new → round ≡ get_or rounds (length front) 0
-      → place ≡ count_by (λ r. r == get_or rounds (length front) 0) (take (length front) rounds) → more ≡ packets ++ timed_if round place packet
-      → AreTapped input rounds (front ++ entry ∷ []) new more
-  tapped_more packets more packet round place known so_far tap round_is place_is added events w run are = (stands, is) where
-    ends : EndsWith input (setup_of input) front entry events (first_world (setup_of input)) w run
+  module _ (known : old.known.setup ≡ setup_of input) (stood : StandsBehind input front old) (packet : Option (List ℕ)) (tap : IsTapped input entry old packet new)
+      (events : List Event) (w : World) (run : Run (setup_of input) (first_world (setup_of input)) events w)
+      (are : AreEntriesOf (setup_of input) events (front ++ entry ∷ [])) where
+    abbrev ends : EndsWith input (setup_of input) front entry events (first_world (setup_of input)) w run
     ends = ends_with input (setup_of input) front entry events (first_world (setup_of input)) w run are
 
     before : StandsFor old ends.before
-        × (packets ≡ timed rounds (tapped_along input (setup_of input) (first_world (setup_of input)) ends.earlier ends.before ends.run_before))
-    before = so_far ends.earlier ends.before ends.run_before ends.entries_before
+    before = stood ends.earlier ends.before ends.run_before ends.entries_before
 
-    stands : StandsFor new w
-    stands = stands_behind one_event spelled (setup_of input) sound ranges tap.answer entry ends.event ends.before w new
+    pub stands_more : StandsFor new w
+    stands_more = stands_behind one_event spelled (setup_of input) sound ranges tap.answer entry ends.event ends.before w new
         (record { events = ends.earlier; run = ends.run_before }) ends.own ends.step
-        (subst (λ (s : Setup). AnswersEntry tap.answer s entry ends.before new) known (tap.takes.answers ends.before before.0))
+        (subst (λ (s : Setup). AnswersEntry tap.answer s entry ends.before new) known (tap.takes.answers ends.before before))
 
-    packet_is : packet ≡ tapped input ends.event ends.before w
-    packet_is = tap.packet_is ends.event ends.before w ends.own before.0 stands
-
-    taps : List (Option (List ℕ))
-    taps = tapped_along input (setup_of input) (first_world (setup_of input)) ends.earlier ends.before ends.run_before
-
-    is : more ≡ timed rounds (tapped_along input (setup_of input) (first_world (setup_of input)) events w run)
-    is = added ∙ ((λ i. before.1 i ++ timed_if (round_is i) (place_is i) (packet_is i))
+    pub tapped_more : (packets more : List Timed) (round place : ℕ) → AreOfRun input rounds front packets → round ≡ get_or rounds (length front) 0
+        → place ≡ count_by (λ r. r == get_or rounds (length front) 0) (take (length front) rounds) → more ≡ packets ++ timed_if round place packet
+        → more ≡ timed rounds (tapped_along input (setup_of input) (first_world (setup_of input)) events w run)
+    tapped_more packets more round place so_far round_is place_is added =
+        let packet_is = tap.packet_is ends.event ends.before w ends.own before stands_more in
+        let taps : List (Option (List ℕ)) =
+        tapped_along input (setup_of input) (first_world (setup_of input)) ends.earlier ends.before ends.run_before in
+        let packets_are : packets ≡ timed rounds taps = so_far ends.earlier ends.before ends.run_before ends.entries_before in
+        added ∙ ((λ i. packets_are i ++ timed_if (round_is i) (place_is i) (packet_is i))
         ∙ (sym (timed_more rounds taps (tapped input ends.event ends.before w) (length front)
         (many input (setup_of input) front ends.earlier (first_world (setup_of input)) ends.before ends.run_before ends.entries_before))
         ∙ ap (λ (all : List (Option (List ℕ))). timed rounds all) (sym ends.taps)))
 
 -- ---- the entries of a journal up to an index
 
-pub none_tapped : (input : LabInput) (rounds : List ℕ) (auditor : Auditor) → StandsFor auditor (first_world (setup_of input))
-    → AreTapped input rounds [] auditor []
-none_tapped input rounds auditor stands [] w run are = (subst (λ (x : World). StandsFor auditor x) (sym run) stands, refl)
-none_tapped input rounds auditor stands (event ∷ events) w run are = absurd are
+pub none_stands : (input : LabInput) (auditor : Auditor) → StandsFor auditor (first_world (setup_of input)) → StandsBehind input [] auditor
+none_stands input auditor stands [] w run are = subst (λ (x : World). StandsFor auditor x) (sym run) stands
+none_stands input auditor stands (event ∷ events) w run are = absurd are
+
+pub none_tapped : (input : LabInput) (rounds : List ℕ) → AreOfRun input rounds [] []
+none_tapped input rounds [] w run are = refl
+none_tapped input rounds (event ∷ events) w run are = absurd are
 
 module _ (one_event : OneEventHasTheEntry) (spelled : PrefixesAreSpelled) (input : LabInput) (sound : IsSetup (setup_of input))
-    (ranges : IsInRange (setup_of input)) (rounds places : List ℕ) (are_places : ArePlaces rounds places) (journal : List JournalEntry)
-    (all : length rounds ≡ length journal) (i : ℕ) (below : i < length journal) (old new : Auditor) where
-  pub tapped_next : (entry : JournalEntry) → entry ≡ get_or journal i entry → (packets more : List Timed) (packet : Option (List ℕ)) (round place : ℕ)
-      → old.known.setup ≡ setup_of input → AreTapped input rounds (take i journal) old packets → IsTapped input entry old packet new
-      → round ≡ get_or rounds i 0 → place ≡ get_or places i 0 → more ≡ packets ++ timed_if round place packet
-      → AreTapped input rounds (take (i + 1) journal) new more
-  tapped_next entry is packets more packet round place known so_far tap round_is place_is added =
-      subst (λ (es : List JournalEntry). AreTapped input rounds es new more) (sym further)
-      (tapped_more one_event spelled input sound ranges rounds (take i journal) entry old new packets more packet round place known so_far tap
-      (round_is ∙ ap (λ (k : ℕ). get_or rounds k 0) (sym here))
-      (place_is ∙ (are_places.each i (omega (arith, all, below))
-      ∙ ap (λ (k : ℕ). count_by (λ r. r == get_or rounds k 0) (take k rounds)) (sym here))) added)
-    where
-      further : take (i + 1) journal ≡ take i journal ++ entry ∷ []
-      further = take_more journal i entry below ∙ ap (λ (e : JournalEntry). take i journal ++ e ∷ []) (sym is)
+    (ranges : IsInRange (setup_of input)) (rounds : List ℕ) (journal : List JournalEntry) (i : ℕ) (below : i < length journal) (entry : JournalEntry)
+    (is : entry ≡ get_or journal i entry) (old new : Auditor) (known : old.known.setup ≡ setup_of input) (stood : StandsBehind input (take i journal) old)
+    (packet : Option (List ℕ)) (tap : IsTapped input entry old packet new) where
+  further : take i journal ++ entry ∷ [] ≡ take (i + 1) journal
+  further = sym (take_more journal i entry below ∙ ap (λ (e : JournalEntry). take i journal ++ e ∷ []) (sym is))
 
+  pub stands_next : StandsBehind input (take (i + 1) journal) new
+  stands_next = subst (λ (es : List JournalEntry). StandsBehind input es new) further
+      (stands_more one_event spelled input sound ranges rounds (take i journal) entry old new known stood packet tap)
+
+  pub tapped_next : (places : List ℕ) → ArePlaces rounds places → length rounds ≡ length journal → (packets more : List Timed) (round place : ℕ)
+      → AreOfRun input rounds (take i journal) packets → round ≡ get_or rounds i 0 → place ≡ get_or places i 0 → more ≡ packets ++ timed_if round place packet
+      → AreOfRun input rounds (take (i + 1) journal) more
+  tapped_next places are_places all packets more round place so_far round_is place_is added =
+      subst (λ (es : List JournalEntry). AreOfRun input rounds es more) further (λ events w run are.
+      tapped_more one_event spelled input sound ranges rounds (take i journal) entry old new known stood packet tap events w run are packets more round place
+      so_far (round_is ∙ ap (λ (k : ℕ). get_or rounds k 0) (sym here))
+      (place_is ∙ (are_places.each i (omega (arith, all, below)) ∙ ap (λ (k : ℕ). count_by (λ r. r == get_or rounds k 0) (take k rounds)) (sym here))) added)
+    where
       here : length (take i journal) ≡ i
       here = length-take-le i journal (omega (arith, below))
 
-pub all_tapped : (input : LabInput) (rounds : List ℕ) (journal : List JournalEntry) (n : ℕ) (auditor : Auditor) (packets : List Timed)
-    → length journal ≤ n → AreTapped input rounds (take n journal) auditor packets → AreTapped input rounds journal auditor packets
-all_tapped input rounds journal n auditor packets all so_far =
-    subst (λ (es : List JournalEntry). AreTapped input rounds es auditor packets) (take_all n journal (omega (arith, all))) so_far
+pub all_tapped : (input : LabInput) (rounds : List ℕ) (journal : List JournalEntry) (n : ℕ) (packets : List Timed)
+    → length journal ≤ n → AreOfRun input rounds (take n journal) packets → AreOfRun input rounds journal packets
+all_tapped input rounds journal n packets all so_far =
+    subst (λ (es : List JournalEntry). AreOfRun input rounds es packets) (take_all n journal (omega (arith, all))) so_far

@@ -2,8 +2,16 @@
 use Rattle.std.specs.Prelude.{ℕ, ◌≡◌, ◌-◌, ◌^◌, ◌==◌, min, List, [], ◌∷◌, filter, count_by, map, take, Option, None, Some, get_or}
 use Rattle.std.specs.List.{enumerate_from, flat_map}
 use Rattle.std.specs.List.Sorted.{IsNonDecreasingBy}
+use Rattle.graft_model.specs.First.{first_world}
+use Rattle.graft_model.specs.Parts.{World}
+use Rattle.graft_model.specs.Steps.{Event, Run}
+use Rattle.graft_actors.specs.Laws.{AreEntriesOf}
+use Rattle.entry_rounds.specs.Rounds.{entry_rounds}
+use Rattle.lab_setup.specs.Setups.{setup_of}
+use Rattle.lab_report.specs.declared.lab.Lab.{Lab}
 use Rattle.pcap_form.specs.Written.{written}
 use Rattle.pcap_form.specs.declared.packet.CapturedPacket.{CapturedPacket}
+use Rattle.lab_capture.specs.Taps.{tapped_along}
 use Rattle.lab_capture.specs.declared.timed.Timed.{Timed}
 
 abbrev pub timed_at : (rounds : List ℕ) → ℕ × Option (List ℕ) → List Timed
@@ -29,3 +37,11 @@ pub record IsCaptureOf (rounds : List ℕ) (taps : List (Option (List ℕ))) (oc
   pub packets : List Timed
   pub by_round : AreByRound (timed rounds taps) packets
   pub written : octets ≡ written (map captured packets)
+
+-- The octets are a capture of the lab's run: of each list of events that has its journal's entries and leads somewhere from the first world.
+abbrev pub IsLabCapture : Lab → List ℕ → Type 0
+IsLabCapture lab octets =
+    (events : List Event) (last : World) (run : Run (setup_of lab.input) (first_world (setup_of lab.input)) events last)
+    → AreEntriesOf (setup_of lab.input) events lab.journal
+    → IsCaptureOf (entry_rounds lab.marks lab.journal)
+      (tapped_along lab.input (setup_of lab.input) (first_world (setup_of lab.input)) events last run) octets

@@ -33,11 +33,17 @@ pub record IsTapped (input : LabInput) (entry : JournalEntry) (old : Auditor) (p
   pub packet_is : (event : Event) (w v : World) → IsEntryOf (setup_of input) event entry → StandsFor old w → StandsFor new v
       → packet ≡ tapped input event w v
 
--- If these entries are those of a run, the auditor stands for the world to which it leads, and these are the packets that were tapped.
-abbrev pub AreTapped : LabInput → (rounds : List ℕ) → List JournalEntry → Auditor → List Timed → Type 0
-AreTapped input rounds entries auditor packets =
+-- If these entries are those of a run, these are the packets that are tapped along it.
+abbrev pub AreOfRun : LabInput → (rounds : List ℕ) → List JournalEntry → List Timed → Type 0
+AreOfRun input rounds entries packets =
     (events : List Event) (w : World) (run : Run (setup_of input) (first_world (setup_of input)) events w) → AreEntriesOf (setup_of input) events entries
-    → StandsFor auditor w × (packets ≡ timed rounds (tapped_along input (setup_of input) (first_world (setup_of input)) events w run))
+    → packets ≡ timed rounds (tapped_along input (setup_of input) (first_world (setup_of input)) events w run)
+
+-- If they are those of a run, the auditor stands for the world to which it leads.
+abbrev pub StandsBehind : LabInput → List JournalEntry → Auditor → Type 0
+StandsBehind input entries auditor =
+    (events : List Event) (w : World) → Run (setup_of input) (first_world (setup_of input)) events w → AreEntriesOf (setup_of input) events entries
+    → StandsFor auditor w
 
 -- no packet is longer than IPv4's length field can say
 abbrev pub AllShort : List Timed → Type 0

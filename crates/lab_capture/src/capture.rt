@@ -1,17 +1,10 @@
 //! The capture of a run.
 
-ghost use Rattle.std.specs.Prelude.{◌≡◌, List, length, IfOk};
-ghost use Rattle.graft_model.specs.First.{first_world};
-ghost use Rattle.graft_model.specs.Parts.{World};
-ghost use Rattle.graft_model.specs.Steps.{Event, Run};
-ghost use Rattle.graft_actors.specs.Laws.{AreEntriesOf};
-ghost use Rattle.entry_rounds.specs.Rounds.{entry_rounds as entry_rounds_lem};
-ghost use Rattle.lab_setup.specs.Setups.{setup_of};
+ghost use Rattle.std.specs.Prelude.{◌≡◌, length, IfOk};
 ghost use Rattle.node_configs.specs.Accepted.{IsAccepted};
-ghost use Rattle.lab_capture.specs.Captures.{IsCaptureOf, timed};
+ghost use Rattle.lab_capture.specs.Captures.{IsLabCapture};
 ghost use Rattle.lab_capture.specs.Places.{ArePlaces};
-ghost use Rattle.lab_capture.specs.Taps.{tapped_along};
-ghost use Rattle.lab_capture.specs.Tapping.{AllShort};
+ghost use Rattle.lab_capture.specs.Tapping.{AllShort, AreOfRun};
 
 use crate::tap::tap;
 use crate::timed::{Timed, by_round, captured, places_of, push_timed};
@@ -41,10 +34,7 @@ fn tapped_packets(
     requires accepted { IsAccepted input.now }
     requires rounds { length rounds.now ≡ length journal.now }
     requires places { ArePlaces rounds.now places.now }
-    ensures tapped { (events : List Event) (last : World) (run : Run (setup_of input.now) (first_world (setup_of input.now)) events last)
-        → AreEntriesOf (setup_of input.now) events journal.now
-        → IfOk result (λ packets. packets.items
-            ≡ timed rounds.now (tapped_along input.now (setup_of input.now) (first_world (setup_of input.now)) events last run)) }
+    ensures tapped { IfOk result (λ packets. AreOfRun input.now rounds.now journal.now packets.items) }
     ensures room { IfOk result (λ packets. AllShort packets.items) }
 {
     an_entry_is_of_one_event();
@@ -68,10 +58,7 @@ fn tapped_packets(
 /// grows with the number of entries. Of a journal that no run of the lab's input has nothing is said.
 pub fn capture_octets(alloc: Global, lab: &Lab) -> Result<Octets, NoMemory>
     requires { IsAccepted lab.now.input }
-    ensures { (events : List Event) (last : World) (run : Run (setup_of lab.now.input) (first_world (setup_of lab.now.input)) events last)
-        → AreEntriesOf (setup_of lab.now.input) events lab.now.journal
-        → IfOk result (IsCaptureOf (entry_rounds_lem lab.now.marks lab.now.journal)
-            (tapped_along lab.now.input (setup_of lab.now.input) (first_world (setup_of lab.now.input)) events last run)) }
+    ensures { IfOk result (IsLabCapture lab.now) }
 {
     let rounds = entry_rounds(alloc, &lab.marks, &lab.journal)?;
     let places = places_of(alloc, &rounds, lab.marks.len() + 1)?;

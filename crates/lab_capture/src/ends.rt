@@ -7,7 +7,7 @@ ghost use Rattle.lab_capture.specs.Ends.{home_socket as home_socket_lem, remote_
 ghost use Rattle.lab_capture.specs.Ends.{packet_to, sockets as sockets_lem};
 ghost use Rattle.lab_capture.specs.Tapping.{IsShort, packet_of as packet_of_lem};
 
-use graft_edge::{NoMemory, Octets, PeeringId, TryCopy};
+use graft_edge::{NoMemory, Octets, PeeringId};
 use lab_tables::{LabInput, PeeringInput};
 use std::alloc::Global;
 use tcp_packets::{Socket, write_packet};
@@ -18,9 +18,6 @@ const BGP: u16 = 179;
 
 /// The first of the ports that nobody is assigned (RFC 6335, section 6).
 const FIRST_PORT: u16 = 49152;
-
-/// The window of both ends.
-const WINDOW: u16 = 16384;
 
 /// The most octets of a segment that has room in a packet: 65,535 less the 40 of both headers.
 const MOST_OCTETS: usize = 65495;
@@ -57,20 +54,6 @@ fn sockets(way: Way, number: PeeringId, peering: &PeeringInput) -> (Socket, Sock
     }
 }
 
-/// Returns a copy of a segment, with the window of both ends.
-fn with_window(segment: &Segment) -> Result<Segment, NoMemory>
-    ensures { IfOk result (λ copy. copy ≡ record segment.now { window = 16384 }) }
-{
-    Ok(Segment {
-        peering: segment.peering,
-        way: segment.way,
-        seq: segment.seq,
-        ack: segment.ack,
-        window: WINDOW,
-        bytes: segment.bytes.copy()?,
-    })
-}
-
 /// Returns the packet of a segment of a peering.
 fn written(
     alloc: Global,
@@ -86,8 +69,7 @@ fn written(
     let _firsts = (peering.home_seq, peering.remote_seq);
     let _numbers = (segment.seq.0, segment.ack.0);
     let (source, target) = sockets(segment.way, segment.peering, peering);
-    let numbered = with_window(segment)?;
-    write_packet(alloc, source, target, &numbered)
+    write_packet(alloc, source, target, segment)
 }
 
 /// Returns the packet of a segment, if it has room in one. A peering that the input doesn't have has no packets.
