@@ -2,3 +2,4 @@ mod Times
 mod Packets
 mod Links
 mod Runs
+mod Entries

@@ -19,14 +19,14 @@ use Rattle.graft_actors.specs.Items.{IsSegmentOf, segment_of}
 use Rattle.graft_actors.specs.Laws.{IsEntryOf}
 use Rattle.graft_actors.proofs.Numbers.{there}
 use Rattle.ring_net.specs.declared.entry.JournalEntry.{JournalEntry}
-use Rattle.audit_far.specs.Parts.{FarInvariant, far_part}
+use Rattle.audit_far.specs.Parts.{far_part}
 use Rattle.audit_far.specs.declared.far.AuditedFar.{AuditedFar}
 use Rattle.lab_tables.specs.declared.input.LabInput.{LabInput}
 use Rattle.lab_setup.specs.Setups.{setup_of}
 use Rattle.run_auditor.specs.Sound.{AuditorInvariant}
 use Rattle.run_auditor.specs.States.{StandsFor, own_of}
 use Rattle.run_auditor.specs.declared.auditor.Auditor.{Auditor}
-use Rattle.lab_capture.specs.Taps.{packet_at, seen_by, tapped}
+use Rattle.lab_capture.specs.Taps.{packet_at, tapped}
 use Rattle.lab_capture.specs.Tapping.{packet_of}
 
 -- ---- the far sides of a world

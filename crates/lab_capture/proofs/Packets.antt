@@ -18,7 +18,6 @@ use Rattle.lab_tables.specs.declared.input.PeeringInput.{PeeringInput}
 use Rattle.lab_setup.specs.Setups.{setup_of, peering_setup}
 use Rattle.lab_setup.proofs.Setups.{peering_there}
 use Rattle.lab_capture.specs.Ends.{packet_to, sockets, home_socket, remote_socket}
-use Rattle.lab_capture.specs.Taps.{packet_at}
 use Rattle.lab_capture.specs.Tapping.{packet_of}
 
 -- a segment's numbers are those of the offsets at which it is placed

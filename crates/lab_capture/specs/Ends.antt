@@ -1,6 +1,5 @@
 -- Segments of a peering, as packets.
 use Rattle.std.specs.Prelude.{ℕ, ◌+◌, List}
-use Rattle.graft_edge.specs.declared.ids.PeeringId.{PeeringId}
 use Rattle.tcp_seq.specs.Endpoint.{PlacedSegment}
 use Rattle.tcp_seq.specs.Numbers.{number}
 use Rattle.tcp_seq.specs.declared.segment.Segment.{Segment}

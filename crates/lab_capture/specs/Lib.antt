@@ -3,3 +3,4 @@ pub mod Taps
 pub mod Captures
 pub mod Places
 pub mod Tapping
+pub mod Laws

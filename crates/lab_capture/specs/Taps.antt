@@ -8,7 +8,6 @@ use Rattle.graft_model.specs.Setups.{Setup}
 use Rattle.graft_model.specs.Parts.{FarPart, World}
 use Rattle.graft_model.specs.Steps.{Event, ByRouter, ByFar, ByOperator, FarEvent, Send, Reach, Run}
 use Rattle.lab_tables.specs.declared.input.LabInput.{LabInput}
-use Rattle.lab_tables.specs.declared.input.PeeringInput.{PeeringInput}
 use Rattle.lab_capture.specs.Ends.{packet_to}
 
 -- What a remote sends is the segment that goes into its link then, behind those that are there; what reaches it is the segment at an index of its link.

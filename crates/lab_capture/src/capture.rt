@@ -11,7 +11,6 @@ use crate::timed::{Timed, by_round, captured, places_of, push_timed};
 use entry_rounds::entry_rounds;
 use graft_actors::an_entry_is_of_one_event;
 use graft_edge::{NoMemory, Octets};
-use graft_laws::runs_lead_to_one_world;
 use lab_report::Lab;
 use lab_setup::{accepted_is_a_setup, accepted_is_in_range};
 use lab_tables::LabInput;
@@ -35,10 +34,9 @@ fn tapped_packets(
     requires rounds { length rounds.now ≡ length journal.now }
     requires places { ArePlaces rounds.now places.now }
     ensures tapped { IfOk result (λ packets. AreOfRun input.now rounds.now journal.now packets.items) }
-    ensures room { IfOk result (λ packets. AllShort packets.items) }
+    ensures short { IfOk result (λ packets. AllShort packets.items) }
 {
     an_entry_is_of_one_event();
-    runs_lead_to_one_world();
     prefixes_are_spelled();
     accepted_is_a_setup();
     accepted_is_in_range();

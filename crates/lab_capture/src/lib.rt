@@ -3,7 +3,9 @@
 
 mod capture;
 mod ends;
+mod laws;
 mod tap;
 mod timed;
 
 pub use capture::capture_octets;
+pub use laws::one_capture;

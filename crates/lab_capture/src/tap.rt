@@ -34,7 +34,10 @@ fn far_event(input: &LabInput, entry: &JournalEntry) -> Option<(usize, FarEvent)
         _ => return None,
     };
     let peering = usize::from(entry.actor).checked_sub(input.routers.len())?;
-    (peering < input.peerings.len()).then_some((peering, event))
+    if peering >= input.peerings.len() {
+        return None;
+    }
+    Some((peering, event))
 }
 
 /// Takes an entry, and returns the packet that is tapped at its event, if one is: of the segment that its remote sends, or of

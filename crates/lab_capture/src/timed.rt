@@ -65,7 +65,7 @@ pub(crate) fn push_timed(
 pub(crate) fn by_round(packets: Vec<Timed>) -> Result<Vec<Timed>, NoMemory>
     requires { AllShort packets.items }
     ensures order { IfOk result (λ sorted. AreByRound packets.items sorted.items) }
-    ensures room { IfOk result (λ sorted. AllShort sorted.items) }
+    ensures short { IfOk result (λ sorted. AllShort sorted.items) }
 {
     let mut packets = packets;
     packets.sort_by_key(|packet| packet.round)?;
