@@ -3,7 +3,8 @@ use Rattle.std.proofs.Common.{◌≡◌, ◌≢◌, ℕ, ◌+◌, ◌<◌, ◌�
 use Rattle.ring_net.specs.declared.entry.JournalEntry.{JournalEntry}
 use Rattle.graft_model.specs.Codes.{EventHasPrefix, actor_code, far_code}
 use Rattle.graft_model.specs.Setups.{peerings_in, routers_in}
-use Rattle.graft_model.specs.Steps.{ByFar, FarEvent}
+use Rattle.graft_model.specs.Steps.{ByFar}
+use Rattle.graft_model.specs.declared.event.FarEvent.{FarEvent}
 use Rattle.graft_model.specs.declared.code.Code.{Code}
 use Rattle.graft_model.specs.declared.event.ActorEvent.{ActorEvent}
 use Rattle.graft_model.specs.declared.event.ActorEvent.TheVariants.{OfFar}

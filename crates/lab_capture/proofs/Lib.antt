@@ -3,3 +3,4 @@ mod Packets
 mod Links
 mod Runs
 mod Entries
+mod Tapped

@@ -1,5 +1,5 @@
 -- What is seen of an event, by the links of the auditor's far sides.
-use Rattle.std.proofs.Common.{◌≡◌, ℕ, zero, suc, ◌+◌, ◌<◌, List, [], ◌∷◌, length, map, Option, Some, None, refl, sym, ap, ◌∙◌, subst}
+use Rattle.std.proofs.Common.{◌≡◌, ℕ, zero, suc, ◌+◌, ◌<◌, Bool, List, [], ◌∷◌, length, map, Option, Some, None, refl, sym, ap, ◌∙◌, subst}
 use Rattle.std.specs.Prelude.{slice_get, unwrap_or}
 use Rattle.std.specs.Option.{option_map, option_and_then}
 use Rattle.std.specs.List.{AllByRecursion}
@@ -12,8 +12,9 @@ use Rattle.tcp_seq.specs.declared.segment.Way.TheVariants.{Home, Remote}
 use Rattle.graft_model.specs.Setups.{Setup, routers_in}
 use Rattle.graft_model.specs.Parts.{FarPart, World}
 use Rattle.graft_model.specs.First.{first_far}
-use Rattle.graft_model.specs.Steps.{Event, ByRouter, ByFar, ByOperator, FarEvent}
-use Rattle.graft_model.specs.Steps.{Say, Send, Take, Pass, Reach, Lose, Point, Beat}
+use Rattle.graft_model.specs.Steps.{Event, ByRouter, ByFar, ByOperator}
+use Rattle.graft_model.specs.declared.event.FarEvent.{FarEvent}
+use Rattle.graft_model.specs.declared.event.FarEvent.TheVariants.{Say, Send, Take, Pass, Reach, Lose, Point, Beat}
 use Rattle.graft_actors.specs.Actors.{ActorName, ActorPart, FarIs, FarSide, actor_at}
 use Rattle.graft_actors.specs.Items.{IsSegmentOf, segment_of}
 use Rattle.graft_actors.specs.Laws.{IsEntryOf}
@@ -94,7 +95,7 @@ sent input p x y before after far new n many = in_link input p Home y.homeward n
 
 module _ (input : LabInput) (f : Auditor) (inv : AuditorInvariant f) (setup : f.known.setup ≡ setup_of input) (p : ℕ) (x : AuditedFar)
     (at : slice_get f.far_sides.items p ≡ Some x) (w : World) (s : StandsFor f w) where
-  pub reach_seen : (v : World) (index : ℕ) (keep : _)
+  pub reach_seen : (v : World) (index : ℕ) (keep : Bool)
       → option_and_then (packet_of input) (slice_get x.remoteward index) ≡ tapped input (ByFar p (Reach index keep)) w v
   reach_seen v index keep = reached input p x (w.far p) (is_far input f inv setup p x at w s) index
 
@@ -106,7 +107,7 @@ module _ (input : LabInput) (f : Auditor) (inv : AuditorInvariant f) (setup : f.
 
 -- nothing is seen of any other event
 pub none_seen : (input : LabInput) (p : ℕ) (event : FarEvent) → ((from len : ℕ) → event ≡ Send from len → ⊥)
-    → ((index : ℕ) (keep : _) → event ≡ Reach index keep → ⊥) → (w v : World) → None ≡ tapped input (ByFar p event) w v
+    → ((index : ℕ) (keep : Bool) → event ≡ Reach index keep → ⊥) → (w v : World) → None ≡ tapped input (ByFar p event) w v
 none_seen input p (Say step) send reach w v = refl
 none_seen input p (Send from len) send reach w v = absurd (send from len refl)
 none_seen input p (Take router) send reach w v = refl

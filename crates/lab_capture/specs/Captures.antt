@@ -44,4 +44,4 @@ IsLabCapture lab octets =
     (events : List Event) (last : World) (run : Run (setup_of lab.input) (first_world (setup_of lab.input)) events last)
     → AreEntriesOf (setup_of lab.input) events lab.journal
     → IsCaptureOf (entry_rounds lab.marks lab.journal)
-      (tapped_along lab.input (setup_of lab.input) (first_world (setup_of lab.input)) events last run) octets
+    (tapped_along lab.input (setup_of lab.input) (first_world (setup_of lab.input)) events last run) octets

@@ -6,7 +6,9 @@ use Rattle.tcp_seq.specs.declared.segment.Way.{Way}
 use Rattle.tcp_seq.specs.declared.segment.Way.TheVariants.{Home, Remote}
 use Rattle.graft_model.specs.Setups.{Setup}
 use Rattle.graft_model.specs.Parts.{FarPart, World}
-use Rattle.graft_model.specs.Steps.{Event, ByRouter, ByFar, ByOperator, FarEvent, Send, Reach, Run}
+use Rattle.graft_model.specs.Steps.{Event, ByRouter, ByFar, ByOperator, Run}
+use Rattle.graft_model.specs.declared.event.FarEvent.{FarEvent}
+use Rattle.graft_model.specs.declared.event.FarEvent.TheVariants.{Send, Reach}
 use Rattle.lab_tables.specs.declared.input.LabInput.{LabInput}
 use Rattle.lab_capture.specs.Ends.{packet_to}
 

@@ -55,11 +55,7 @@ fn sockets(way: Way, number: PeeringId, peering: &PeeringInput) -> (Socket, Sock
 }
 
 /// Returns the packet of a segment of a peering.
-fn written(
-    alloc: Global,
-    peering: &PeeringInput,
-    segment: &Segment,
-) -> Result<Octets, NoMemory>
+fn written(alloc: Global, peering: &PeeringInput, segment: &Segment) -> Result<Octets, NoMemory>
     requires { length segment.now.bytes ≤ 65495 }
     ensures packet { IfOk result (λ octets. octets ≡ packet_to segment.now.way segment.now.peering.0 peering.now
         (placed_for segment.now.way peering.now.home_seq peering.now.remote_seq segment.now)) }
@@ -73,11 +69,7 @@ fn written(
 }
 
 /// Returns the packet of a segment, if it has room in one. A peering that the input doesn't have has no packets.
-fn packet_of(
-    alloc: Global,
-    input: &LabInput,
-    segment: &Segment,
-) -> Result<Option<Octets>, NoMemory>
+fn packet_of(alloc: Global, input: &LabInput, segment: &Segment) -> Result<Option<Octets>, NoMemory>
     ensures packet { IfOk result (λ packet. packet ≡ packet_of_lem input.now segment.now) }
     ensures short { IfOk result (λ packet. IfSome packet IsShort) }
 {

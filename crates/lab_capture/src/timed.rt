@@ -25,11 +25,7 @@ pub struct Timed {
 }
 
 /// Returns of each entry how many entries before it have its round, by the rounds of all entries, each of which is below `end`.
-pub(crate) fn places_of(
-    alloc: Global,
-    rounds: &[usize],
-    end: usize,
-) -> Result<Vec<usize>, NoMemory>
+pub(crate) fn places_of(alloc: Global, rounds: &[usize], end: usize) -> Result<Vec<usize>, NoMemory>
     requires { All (λ round. round < end) rounds.now }
     ensures { IfOk result (λ places. ArePlaces rounds.now places.items) }
 {
@@ -84,10 +80,7 @@ fn captured_packet(packet: Timed) -> CapturedPacket
 }
 
 /// Returns the packets with their times.
-pub(crate) fn captured(
-    alloc: Global,
-    packets: Vec<Timed>,
-) -> Result<Vec<CapturedPacket>, NoMemory>
+pub(crate) fn captured(alloc: Global, packets: Vec<Timed>) -> Result<Vec<CapturedPacket>, NoMemory>
     requires { AllShort packets.items }
     ensures packets { IfOk result (λ list. list.items ≡ map captured_lem packets.items) }
     ensures short { IfOk result (λ list. AreShort list.items) }
