@@ -1,21 +1,17 @@
 -- Entries of far sides.
 use Rattle.std.proofs.Common.{◌≡◌, ◌≢◌, ℕ, ◌+◌, ◌<◌, ◌≤◌, length, refl, sym, ap, ◌∙◌, arith}
 use Rattle.ring_net.specs.declared.entry.JournalEntry.{JournalEntry}
-use Rattle.graft_model.specs.Codes.{EventHasPrefix, actor_code, far_code}
+use Rattle.graft_model.specs.Codes.{far_code}
 use Rattle.graft_model.specs.Setups.{peerings_in, routers_in}
 use Rattle.graft_model.specs.Steps.{ByFar}
 use Rattle.graft_model.specs.declared.event.FarEvent.{FarEvent}
 use Rattle.graft_model.specs.declared.code.Code.{Code}
-use Rattle.graft_model.specs.declared.event.ActorEvent.{ActorEvent}
-use Rattle.graft_model.specs.declared.event.ActorEvent.TheVariants.{OfFar}
 use Rattle.graft_actors.specs.Laws.{IsEntryOf}
 use Rattle.graft_actors.specs.Makes.{HasCode}
 use Rattle.lab_tables.specs.declared.input.LabInput.{LabInput}
 use Rattle.lab_setup.specs.Setups.{setup_of}
+use Rattle.lab_capture.specs.Tapping.{code_in}
 use Rattle.lab_setup.proofs.Ready.{as_many_peerings, as_many_routers}
-
-abbrev pub code_in : JournalEntry → Code
-code_in entry = record { kind = entry.kind; a = entry.a; b = entry.b; c = entry.c }
 
 coded_as : (code : Code) (entry : JournalEntry) → HasCode code entry → code ≡ code_in entry
 coded_as code entry has = λ i. record { kind = sym has.kind i; a = sym has.a i; b = sym has.b i; c = sym has.c i }
@@ -29,16 +25,9 @@ has_code code entry is = record {
 }
 
 module _ (input : LabInput) (entry : JournalEntry) where
-  -- no event has this code, or another actor's has it
-  pub no_event : ((event : ActorEvent) → EventHasPrefix event → actor_code event ≢ code_in entry)
-      → (p : ℕ) (event : FarEvent) → ¬ IsEntryOf (setup_of input) (ByFar p event) entry
-  no_event none p event own = none (OfFar event) tt (coded_as (far_code event) entry own.coded)
-
-  pub other_event : ((one other : ActorEvent) → actor_code one ≡ actor_code other → one ≡ other) → (found : ActorEvent)
-      → actor_code found ≡ code_in entry → ((event : FarEvent) → found ≡ OfFar event → ⊥)
-      → (p : ℕ) (event : FarEvent) → ¬ IsEntryOf (setup_of input) (ByFar p event) entry
-  other_event one found is other p event own =
-      other event (one found (OfFar event) (is ∙ sym (coded_as (far_code event) entry own.coded)))
+  -- no far side's event has this code
+  pub no_event : ((event : FarEvent) → far_code event ≢ code_in entry) → (p : ℕ) (event : FarEvent) → ¬ IsEntryOf (setup_of input) (ByFar p event) entry
+  no_event none p event own = none event (coded_as (far_code event) entry own.coded)
 
   -- no far side has the actor's number
   pub below_all : entry.actor < length input.routers → (p : ℕ) (event : FarEvent) → ¬ IsEntryOf (setup_of input) (ByFar p event) entry
@@ -54,7 +43,7 @@ module _ (input : LabInput) (entry : JournalEntry) where
       let known : p < peerings_in (setup_of input) = own.there in
       omega (arith, at, more, routers, peerings, maker, known)
 
-  pub far_entry : (n : ℕ) (event : FarEvent) → actor_code (OfFar event) ≡ code_in entry → entry.actor ≡ length input.routers + n → n < length input.peerings
+  pub far_entry : (n : ℕ) (event : FarEvent) → far_code event ≡ code_in entry → entry.actor ≡ length input.routers + n → n < length input.peerings
       → IsEntryOf (setup_of input) (ByFar n event) entry
   far_entry n event is at below = record {
     there = (let peerings = as_many_peerings input in omega (arith, below, peerings));

@@ -2,7 +2,6 @@
 use Rattle.std.proofs.Common.{◌≡◌, ℕ, ◌+◌, ◌<◌, ◌≤◌, ◌^◌, Bool, true, false, List, length, cond, refl, sym, ap, ◌∙◌, arith}
 use Rattle.std.specs.Prelude.{Option, Some, None, slice_get, option_map, unwrap_or, nat_le}
 use Rattle.std.proofs.lemmas.Bool.Decides.{nat_tests}
-use Rattle.std.proofs.lemmas.List.{length-append}
 use Rattle.tcp_seq.specs.Numbers.{number}
 use Rattle.tcp_seq.specs.Endpoint.{PlacedSegment}
 use Rattle.tcp_seq.specs.Placed.{placed}
@@ -10,7 +9,6 @@ use Rattle.tcp_seq.specs.declared.segment.Segment.{Segment}
 use Rattle.tcp_seq.specs.declared.segment.Way.{Way}
 use Rattle.tcp_seq.specs.declared.segment.Way.TheVariants.{Home, Remote}
 use Rattle.tcp_packets.specs.Writing.{written_packet}
-use Rattle.tcp_packets.specs.declared.socket.Socket.{Socket}
 use Rattle.graft_model.specs.Setups.{PeeringSetup}
 use Rattle.graft_actors.specs.Items.{home_first, remote_first, placed_for, segment_of}
 use Rattle.lab_tables.specs.declared.input.LabInput.{LabInput}
@@ -36,10 +34,6 @@ numbers_kept law Remote peering g home remote seq ack =
     let kept = law peering.home_seq peering.remote_seq g home remote seq ack in λ i. written_packet (home_socket peering) (remote_socket g.peering.0 peering)
     (record g { way = Remote; seq = record { 0 = kept.0 i }; ack = record { 0 = kept.1 i }; window = 16384 })
 
--- how long a packet is
-pub length_written : (source target : Socket) (s : Segment) → length (written_packet source target s) ≡ 40 + length s.bytes
-length_written source target s = simp (length-append {A = ℕ}) (omega arith)
-
 module _ (input : LabInput) (g : Segment) where
   bytes_kept : (way : Way) (home remote : ℕ) → (placed_for way home remote g).bytes ≡ g.bytes
   bytes_kept Home home remote = refl
@@ -49,14 +43,6 @@ module _ (input : LabInput) (g : Segment) where
   size : length (segment_of (setup_of input) g).bytes ≡ length g.bytes
   size = ap (λ (bytes : List ℕ). length bytes)
       (bytes_kept g.way (home_first (setup_of input) g.peering.0) (remote_first (setup_of input) g.peering.0))
-
-  -- a segment with more octets than have room, or of a peering that isn't there
-  pub long : 65495 < length g.bytes → None ≡ packet_of input g
-  long more = by_test (nat_le (length (segment_of (setup_of input) g).bytes) 65495) refl where
-    by_test : (t : Bool) → nat_le (length (segment_of (setup_of input) g).bytes) 65495 ≡ t
-        → None ≡ cond t (option_map (λ peering. packet_to g.way g.peering.0 peering (segment_of (setup_of input) g)) (slice_get input.peerings g.peering.0)) None
-    by_test false e = refl
-    by_test true e = absurd (grind (arith, nat_tests, size))
 
   module _ (peering : PeeringInput) (there : slice_get input.peerings g.peering.0 ≡ Some peering) where
     in_setup : slice_get (setup_of input).peerings g.peering.0 ≡ Some (peering_setup input (g.peering.0, peering))
@@ -83,6 +69,7 @@ module _ (input : LabInput) (g : Segment) where
         by_test false e = absurd (grind (arith, nat_tests, size))
         by_test true e = sym (ap (λ (o : Option PeeringInput). option_map (λ x. packet_to g.way g.peering.0 x (segment_of (setup_of input) g)) o) there)
 
+  -- a peering that isn't there has no packets
   pub without_peering : slice_get input.peerings g.peering.0 ≡ None → None ≡ packet_of input g
   without_peering none = by_test (nat_le (length (segment_of (setup_of input) g).bytes) 65495) where
     by_test : (t : Bool)

@@ -1,7 +1,8 @@
 -- What is tapped at an entry that an auditor takes.
-use Rattle.std.proofs.Common.{◌≡◌, ℕ, ◌<◌, Bool, List, length, Option, Some, None, sym, ap, ◌∙◌, subst}
+use Rattle.std.proofs.Common.{◌≡◌, ℕ, ◌<◌, Bool, List, length, get_or, Option, Some, None, sym, ap, ◌∙◌, subst}
 use Rattle.std.specs.Prelude.{slice_get}
 use Rattle.std.specs.Option.{option_and_then}
+use Rattle.std.proofs.lemmas.Option.{slice_get-get_or}
 use Rattle.ring_net.specs.declared.entry.JournalEntry.{JournalEntry}
 use Rattle.graft_model.specs.Setups.{Setup, peerings_in}
 use Rattle.graft_model.specs.Parts.{World}
@@ -63,3 +64,9 @@ module _ (input : LabInput) (entry : JournalEntry) (old new : Auditor) (inv : Au
           ∙ (send_seen input old inv known p x at w stands new takes.sound (takes.setup ∙ known) y there v stands_too from len n many
           ∙ ap (λ (e : Event). tapped input e w v) (sym (ap (λ (e : FarEvent). ByFar p e) is_send) ∙ same other is));
     }
+
+-- the far side that is read at an index
+pub far_read : (f : Auditor) (p : ℕ) (x : AuditedFar) (xs : List AuditedFar) → p < length f.far_sides.items → xs ≡ f.far_sides.items
+    → x ≡ get_or xs p x → slice_get f.far_sides.items p ≡ Some x
+far_read f p x xs below are is =
+    slice_get-get_or f.far_sides.items p x below ∙ ap Some (sym (is ∙ ap (λ (l : List AuditedFar). get_or l p x) are))

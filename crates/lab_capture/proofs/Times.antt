@@ -1,15 +1,15 @@
 -- Packets with their rounds and places.
-use Rattle.std.proofs.Common.{◌≡◌, ◌≢◌, ◌==◌, ◌+◌, ◌<◌, ◌≤◌, ℕ, Bool, true, false, cond, List, [], ◌∷◌, ◌++◌, length, map, take, set, get_or, count_by, Option, Some, None, refl, sym, ap, ◌∙◌, subst, arith}
+use Rattle.std.proofs.Common.{◌≡◌, ◌≢◌, ◌==◌, ◌+◌, ◌<◌, ◌≤◌, ℕ, Bool, true, false, cond, List, [], ◌∷◌, ◌++◌, length, map, take, set, get_or, count_by, Option, Some, None, refl, sym, ap, ◌∙◌, subst, below_more, arith}
 use Rattle.std.specs.Prelude.{All, IfSome}
 use Rattle.std.specs.List.{AllByRecursion, filter, enumerate_from, prefix_len}
 use Rattle.std.specs.List.Sorted.{ties}
 use Rattle.std.specs.Ordering.{nat_cmp, is_lt}
 use Rattle.std.proofs.lemmas.Bool.{eqb-true}
 use Rattle.std.proofs.lemmas.Bool.Decides.{nat_tests}
-use Rattle.std.proofs.lemmas.List.{append-nil, get_or-set_same, get_or-set_other, length-map}
+use Rattle.std.proofs.lemmas.List.{append-nil, get_or-set_same, get_or-set_other, get_or_append_left, get_or_push, length-map, length-take-le}
 use Rattle.std.proofs.lemmas.List.Elements.{All-from_recursion, All-nil, All-push, recursion_from_All}
 use Rattle.std.proofs.lemmas.List.FromFn.{length-enumerate_from}
-use Rattle.std.proofs.lemmas.List.Sums.{count_by_more_no, count_by_more_yes, prefix_len-le-length}
+use Rattle.std.proofs.lemmas.List.Sums.{count_by-le-length, count_by_more_no, count_by_more_yes, prefix_len-le-length}
 use Rattle.ring_net.specs.declared.entry.JournalEntry.{JournalEntry}
 use Rattle.attr_codec.proofs.SortLaws.{sort_rises}
 use Rattle.bgp_types.specs.Rising.{in_rising}
@@ -67,6 +67,22 @@ counts_more rounds counts i round below is fits so_far r r_below = by_test (roun
       let other : r ≢ round = λ same. grind (arith, nat_tests) in
       get_or-set_other counts round r (get_or counts round 0 + 1) 0 other
       ∙ (so_far r r_below ∙ sym (count_by_more_no (λ x. x == r) rounds i 0 below (at_it false e)))
+
+-- no more than there are entries so far
+pub counts_low : (rounds counts : List ℕ) (i r : ℕ) → i < length rounds → get_or counts r 0 ≡ count_by (λ x. x == r) (take i rounds) → get_or counts r 0 ≤ i
+counts_low rounds counts i r below is =
+    let few = count_by-le-length (λ x. x == r) (take i rounds) in
+    let size : length (take i rounds) ≡ i = length-take-le i rounds (omega (arith, below)) in
+    omega (arith, few, size, is)
+
+abbrev HasPlace : (rounds places : List ℕ) (k : ℕ) → Type 0
+HasPlace rounds places k = get_or places k 0 ≡ count_by (λ r. r == get_or rounds k 0) (take k rounds)
+
+pub places_more : (rounds places more : List ℕ) (i place : ℕ) → length places ≡ i → ((k : ℕ) → k < i → HasPlace rounds places k)
+    → place ≡ count_by (λ r. r == get_or rounds i 0) (take i rounds) → more ≡ places ++ place ∷ [] → (k : ℕ) → k < i + 1 → HasPlace rounds more k
+places_more rounds places more i place size so_far is added = below_more (HasPlace rounds more) i
+    (λ k h. ap (λ (l : List ℕ). get_or l k 0) added ∙ (get_or_append_left places (place ∷ []) 0 k (omega (arith, h, size)) ∙ so_far k h))
+    (ap (λ (l : List ℕ). get_or l i 0) added ∙ (get_or_push places place 0 i size ∙ is))
 
 -- the rounds of entries are no later than the last mark
 pub rounds_end : (marks : List (List ℕ)) (journal : List JournalEntry) → All (λ round. round < length marks + 1) (entry_rounds marks journal)

@@ -2,6 +2,7 @@
 use Rattle.std.specs.Prelude.{ℕ, ◌≡◌, ◌≤◌, List, length, All, Option}
 use Rattle.tcp_seq.specs.declared.segment.Segment.{Segment}
 use Rattle.ring_net.specs.declared.entry.JournalEntry.{JournalEntry}
+use Rattle.graft_model.specs.declared.code.Code.{Code}
 use Rattle.graft_model.specs.Parts.{World}
 use Rattle.graft_model.specs.First.{first_world}
 use Rattle.graft_model.specs.Steps.{Event, Run}
@@ -24,6 +25,10 @@ IsShort octets = length octets ≤ 65535
 -- the packet of a segment of the program, if it has room in one
 abbrev pub packet_of : LabInput → Segment → Option (List ℕ)
 packet_of input g = packet_at input g.peering.0 (g.way, segment_of (setup_of input) g)
+
+-- the kind and the arguments of an entry
+abbrev pub code_in : JournalEntry → Code
+code_in entry = record { kind = entry.kind; a = entry.a; b = entry.b; c = entry.c }
 
 -- The auditor has taken an entry, with this answer. The packet is that of the entry's event between any worlds for which the auditor stood before and
 -- stands now.

@@ -1,6 +1,6 @@
 //! Segments of a peering, as packets.
 
-ghost use Rattle.std.specs.Prelude.{◌≡◌, ◌≤◌, length, IfOk, IfSome, slice_get};
+ghost use Rattle.std.specs.Prelude.{◌≡◌, ◌≤◌, ◌<◌, ◌^◌, length, IfOk, IfSome, option_copied, slice_get};
 ghost use Rattle.std.specs.Option.{option_and_then};
 ghost use Rattle.graft_actors.specs.Items.{placed_for};
 ghost use Rattle.lab_capture.specs.Ends.{home_socket as home_socket_lem, remote_socket as remote_socket_lem};
@@ -54,6 +54,21 @@ fn sockets(way: Way, number: PeeringId, peering: &PeeringInput) -> (Socket, Sock
     }
 }
 
+/// The numbers of the first octets of both sides and those of a segment have 32 bits, as their types say.
+fn have_32_bits(home: u32, remote: u32, seq: u32, ack: u32)
+    ensures home { home < 2 ^ 32 }
+    ensures remote { remote < 2 ^ 32 }
+    ensures seq { seq < 2 ^ 32 }
+    ensures ack { ack < 2 ^ 32 }
+{}
+
+/// Returns the peering of this number.
+fn peering_at(input: &LabInput, number: PeeringId) -> Option<&PeeringInput>
+    ensures { option_copied result ≡ slice_get input.now.peerings number.0 }
+{
+    input.peerings.get(usize::from(number.0))
+}
+
 /// Returns the packet of a segment of a peering.
 fn written(alloc: Global, peering: &PeeringInput, segment: &Segment) -> Result<Octets, NoMemory>
     requires { length segment.now.bytes ≤ 65495 }
@@ -62,8 +77,12 @@ fn written(alloc: Global, peering: &PeeringInput, segment: &Segment) -> Result<O
     ensures short { IfOk result IsShort }
 {
     a_segment_has_its_offsets();
-    let _firsts = (peering.home_seq, peering.remote_seq);
-    let _numbers = (segment.seq.0, segment.ack.0);
+    have_32_bits(
+        peering.home_seq,
+        peering.remote_seq,
+        segment.seq.0,
+        segment.ack.0,
+    );
     let (source, target) = sockets(segment.way, segment.peering, peering);
     write_packet(alloc, source, target, segment)
 }
@@ -76,7 +95,7 @@ fn packet_of(alloc: Global, input: &LabInput, segment: &Segment) -> Result<Optio
     if segment.bytes.len() > MOST_OCTETS {
         return Ok(None);
     }
-    let Some(peering) = input.peerings.get(usize::from(segment.peering.0)) else {
+    let Some(peering) = peering_at(input, segment.peering) else {
         return Ok(None);
     };
     Ok(Some(written(alloc, peering, segment)?))

@@ -1,12 +1,13 @@
 //! What is seen of an entry.
 
-ghost use Rattle.std.specs.Prelude.{ℕ, ◌≡◌, IfOk, IfSome, IfNone};
+ghost use Rattle.std.specs.Prelude.{ℕ, ◌≡◌, ◌≢◌, IfOk, IfSome, IfNone};
+ghost use Rattle.graft_model.specs.Codes.{far_code};
 ghost use Rattle.graft_model.specs.Steps.{ByFar};
 ghost use Rattle.graft_model.specs.declared.event.FarEvent as events;
 ghost use Rattle.graft_actors.specs.Laws.{IsEntryOf};
 ghost use Rattle.lab_setup.specs.Setups.{setup_of};
 ghost use Rattle.run_auditor.specs.Sound.{AuditorInvariant};
-ghost use Rattle.lab_capture.specs.Tapping.{IsShort, IsTapped};
+ghost use Rattle.lab_capture.specs.Tapping.{IsShort, IsTapped, code_in};
 
 use crate::ends::packet_at;
 use graft_actors::an_entry_is_of_one_event;
@@ -17,23 +18,45 @@ use ring_net::JournalEntry;
 use run_auditor::Auditor;
 use std::alloc::Global;
 
+/// Returns the kind and the arguments of an entry.
+fn code_of(entry: &JournalEntry) -> Code
+    ensures { result ≡ code_in entry.now }
+{
+    Code {
+        kind: entry.kind,
+        a: entry.a,
+        b: entry.b,
+        c: entry.c,
+    }
+}
+
+/// Returns the event of a far side with this code, if there is one.
+fn event_of_far(code: Code) -> Option<FarEvent>
+    ensures some { IfSome result (λ event. far_code event ≡ code) }
+    ensures none { IfNone result ((event : events.FarEvent) → far_code event ≢ code) }
+{
+    codes_are_exact();
+    let Some(event) = event_of(code) else {
+        return None;
+    };
+    let ActorEvent::OfFar(event) = event else {
+        return None;
+    };
+    Some(event)
+}
+
 /// Returns the event of an entry and its peering, if it is an event of a far side of the laboratory.
 fn far_event(input: &LabInput, entry: &JournalEntry) -> Option<(usize, FarEvent)>
     ensures some { IfSome result (λ x. IsEntryOf (setup_of input.now) (ByFar x.0 x.1) entry.now) }
     ensures none { IfNone result ((p : ℕ) (event : events.FarEvent) → ¬ IsEntryOf (setup_of input.now) (ByFar p event) entry.now) }
 {
-    codes_are_exact();
-    let code = Code {
-        kind: entry.kind,
-        a: entry.a,
-        b: entry.b,
-        c: entry.c,
-    };
-    let event = match event_of(code)? {
-        ActorEvent::OfFar(event) => event,
-        _ => return None,
-    };
-    let peering = usize::from(entry.actor).checked_sub(input.routers.len())?;
+    let event = event_of_far(code_of(entry))?;
+    let actor = usize::from(entry.actor);
+    let routers = input.routers.len();
+    if actor < routers {
+        return None;
+    }
+    let peering = actor - routers;
     if peering >= input.peerings.len() {
         return None;
     }

@@ -1,6 +1,6 @@
 //! Packets with the rounds and places of their entries.
 
-ghost use Rattle.std.specs.Prelude.{◌≡◌, ◌<◌, ◌++◌, All, map, IfOk, OnOk};
+ghost use Rattle.std.specs.Prelude.{ℕ, ◌≡◌, ◌+◌, ◌-◌, ◌^◌, ◌<◌, ◌++◌, All, length, map, slice_index, slice_set, IfOk, OnOk};
 ghost use Rattle.pcap_form.specs.Written.{AreShort};
 ghost use Rattle.lab_capture.specs.Captures.{AreByRound, captured as captured_lem};
 ghost use Rattle.lab_capture.specs.Places.{ArePlaces, timed_if};
@@ -24,18 +24,43 @@ pub struct Timed {
     pub octets: Octets,
 }
 
+/// Counts one more entry of a round, and returns how many there were before.
+fn count(counts: &mut [usize], round: usize) -> usize
+    requires there { round < length counts.old }
+    requires room { slice_index counts.old round < 2 ^ 64 - 1 }
+    ensures before { result ≡ slice_index counts.old round }
+    ensures counts { counts.new ≡ slice_set counts.old round (slice_index counts.old round + 1) }
+{
+    let before = counts[round];
+    counts[round] += 1;
+    before
+}
+
+/// Returns of each entry how many entries before it have its round, by the rounds of all entries. By round none is counted yet.
+fn places_along(
+    alloc: Global,
+    counts: &mut [usize],
+    rounds: &[usize],
+) -> Result<Vec<usize>, NoMemory>
+    requires there { All (λ round. round < length counts.old) rounds.now }
+    requires none { (round : ℕ) → round < length counts.old → slice_index counts.old round ≡ 0 }
+    ensures { IfOk result (λ places. ArePlaces rounds.now places.items) }
+{
+    let mut places = Vec::with_capacity(alloc, rounds.len())?;
+    for round in rounds {
+        let place = count(counts, *round);
+        places.push(place)?;
+    }
+    Ok(places)
+}
+
 /// Returns of each entry how many entries before it have its round, by the rounds of all entries, each of which is below `end`.
 pub(crate) fn places_of(alloc: Global, rounds: &[usize], end: usize) -> Result<Vec<usize>, NoMemory>
     requires { All (λ round. round < end) rounds.now }
     ensures { IfOk result (λ places. ArePlaces rounds.now places.items) }
 {
     let mut counts = vec![in alloc; 0usize; end]?;
-    let mut places = Vec::with_capacity(alloc, rounds.len())?;
-    for round in rounds {
-        places.push(counts[*round])?;
-        counts[*round] += 1;
-    }
-    Ok(places)
+    places_along(alloc, &mut counts, rounds)
 }
 
 /// Adds a packet with its round and its place, if there is one.

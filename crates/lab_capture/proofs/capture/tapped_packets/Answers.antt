@@ -1,10 +1,10 @@
-use Rattle.std.proofs.Common.{◌≡◌, ◌<◌, ◌≤◌, ℕ, List, length, get_or, ◌∙◌, refl, sym, subst, arith}
+use Rattle.std.proofs.Common.{◌≡◌, ◌<◌, ℕ, [], List, length, get_or, ◌∙◌, refl, sym, subst, arith}
 use Rattle.std.proofs.lemmas.List.{get_or_default}
 use Rattle.graft_model.specs.Setups.{IsSetup}
 use Rattle.graft_laws.specs.Ranges.{IsInRange}
 use Rattle.ring_net.specs.declared.entry.JournalEntry.{JournalEntry}
 use Rattle.lab_setup.specs.Setups.{setup_of}
-use Rattle.lab_capture.specs.Tapping.{AllShort, IsTapped}
+use Rattle.lab_capture.specs.Tapping.{AllShort, AreOfRun, IsTapped}
 use Rattle.lab_capture.proofs.Runs.{all_tapped, none_stands, none_tapped, stands_next, tapped_next}
 use Rattle.lab_capture.proofs.Times.{none_short, short_more}
 use Rattle.lab_capture.proofs.capture.tapped_packets.Goals as goal
@@ -18,8 +18,8 @@ loop-index-init c = record {
   setup = c.in_ok-auditor.ensures.setup;
   sound = c.in_ok-auditor.ensures.sound;
   stands = none_stands c.args.input.now c.in_ok-auditor.auditor c.in_ok-auditor.ensures.first;
-  tapped = none_tapped c.args.input.now c.args.rounds.now;
-  short = none_short;
+  tapped = subst (AreOfRun c.args.input.now c.args.rounds.now []) (sym c.new-packets.ensures.items) (none_tapped c.args.input.now c.args.rounds.now);
+  short = subst AllShort (sym c.new-packets.ensures.items) none_short;
 }
 
 pub loop-index-preserved : goal.loop-index-preserved
