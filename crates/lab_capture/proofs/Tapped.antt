@@ -5,7 +5,6 @@ use Rattle.std.specs.Option.{option_and_then}
 use Rattle.std.proofs.lemmas.Option.{slice_get-get_or}
 use Rattle.ring_net.specs.declared.entry.JournalEntry.{JournalEntry}
 use Rattle.graft_model.specs.Setups.{Setup, peerings_in}
-use Rattle.graft_model.specs.Parts.{World}
 use Rattle.graft_model.specs.Steps.{Event, ByFar}
 use Rattle.graft_model.specs.declared.event.FarEvent.{FarEvent}
 use Rattle.graft_model.specs.declared.event.FarEvent.TheVariants.{Send, Reach}

@@ -1,5 +1,5 @@
 -- What is seen at the remotes' sides of the links: each segment as its remote sends it, and each as it reaches its remote.
-use Rattle.std.specs.Prelude.{ℕ, List, [], ◌∷◌, length, nat_le, if◌then◌else◌, Option, None, Some, slice_get}
+use Rattle.std.specs.Prelude.{ℕ, List, [], ◌∷◌, length, nat_le, if◌then◌else◌, Option, None, slice_get}
 use Rattle.std.specs.Option.{option_map, option_and_then}
 use Rattle.tcp_seq.specs.Endpoint.{PlacedSegment}
 use Rattle.tcp_seq.specs.declared.segment.Way.{Way}

@@ -1,4 +1,4 @@
-use Rattle.std.proofs.Common.{◌≡◌, ◌<◌, ℕ, [], List, length, get_or, ◌∙◌, refl, sym, subst, arith}
+use Rattle.std.proofs.Common.{◌≡◌, ◌<◌, [], length, get_or, ◌∙◌, refl, sym, subst}
 use Rattle.std.proofs.lemmas.List.{get_or_default}
 use Rattle.graft_model.specs.Setups.{IsSetup}
 use Rattle.graft_laws.specs.Ranges.{IsInRange}

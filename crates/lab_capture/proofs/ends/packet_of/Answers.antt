@@ -1,4 +1,4 @@
-use Rattle.std.proofs.Common.{◌≡◌, ◌∙◌, ◌≤◌, List, ℕ, length, Some, option_copied, sym, ap, arith}
+use Rattle.std.proofs.Common.{◌∙◌, ◌≤◌, List, ℕ, length, Some, option_copied, sym, ap, arith}
 use Rattle.lab_capture.proofs.Packets.{with_room, without_peering}
 use Rattle.lab_capture.proofs.ends.packet_of.Goals as goal
 

@@ -1,6 +1,5 @@
-use Rattle.std.proofs.Common.{◌≡◌, ◌∙◌, sym, ap}
-use Rattle.graft_model.specs.Codes.{actor_code, far_code}
-use Rattle.graft_model.specs.declared.event.ActorEvent.{ActorEvent}
+use Rattle.std.proofs.Common.{◌∙◌, sym, ap}
+use Rattle.graft_model.specs.Codes.{actor_code}
 use Rattle.graft_model.specs.declared.event.ActorEvent.TheVariants.{OfFar}
 use Rattle.lab_capture.proofs.tap.event_of_far.Goals as goal
 

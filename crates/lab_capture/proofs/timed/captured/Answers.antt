@@ -1,8 +1,7 @@
-use Rattle.std.proofs.Common.{◌≡◌, [], ◌∷◌, ◌++◌, List, length, map, refl, sym, ap, ◌∙◌, subst, append_assoc, append-nil, map-append, arith}
+use Rattle.std.proofs.Common.{◌≡◌, [], ◌∷◌, ◌++◌, List, length, map, refl, sym, ap, ◌∙◌, subst, append_assoc, append-nil, arith}
 use Rattle.std.specs.Vec.Iter.{into_iter_items}
-use Rattle.std.proofs.lemmas.List.{nil_from_length}
+use Rattle.std.proofs.lemmas.List.{map-append, nil_from_length}
 use Rattle.pcap_form.specs.Written.{AreShort}
-use Rattle.pcap_form.specs.declared.packet.CapturedPacket.{CapturedPacket}
 use Rattle.lab_capture.specs.Captures.{captured}
 use Rattle.lab_capture.specs.declared.timed.Timed.{Timed}
 use Rattle.lab_capture.proofs.Times.{short_captured}
