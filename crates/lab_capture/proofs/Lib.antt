@@ -1,0 +1,6 @@
+mod Times
+mod Packets
+mod Links
+mod Runs
+mod Entries
+mod Tapped
