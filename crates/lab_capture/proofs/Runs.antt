@@ -1,5 +1,6 @@
 -- The packets that are tapped along a run.
-use Rattle.std.proofs.Common.{◌≡◌, ℕ, suc, ◌+◌, ◌<◌, ◌≤◌, ◌==◌, List, [], ◌∷◌, ◌++◌, length, take, get_or, count_by, Option, Some, None, refl, sym, ap, ◌∙◌, subst, append_assoc, append-nil, arith}
+use Rattle.std.proofs.Common.{◌≡◌, ℕ, suc, ◌+◌, ◌<◌, ◌≤◌, ◌==◌, List, [], ◌∷◌, ◌++◌, length, take}
+use Rattle.std.proofs.Common.{get_or, count_by, Option, Some, None, refl, sym, ap, ◌∙◌, subst, append_assoc, append-nil, arith}
 use Rattle.std.specs.List.{enumerate_from, flat_map}
 use Rattle.std.proofs.lemmas.List.{length-take-le, take_all, take_more}
 use Rattle.ring_net.specs.declared.entry.JournalEntry.{JournalEntry}
@@ -115,7 +116,8 @@ timed_more rounds taps tap k size =
 
 module _ (one_event : OneEventHasTheEntry) (spelled : PrefixesAreSpelled) (input : LabInput) (sound : IsSetup (setup_of input))
     (ranges : IsInRange (setup_of input)) (rounds : List ℕ) (front : List JournalEntry) (entry : JournalEntry) (old new : Auditor) where
-  module _ (known : old.known.setup ≡ setup_of input) (stood : StandsBehind input front old) (packet : Option (List ℕ)) (tap : IsTapped input entry old packet new)
+  module _ (known : old.known.setup ≡ setup_of input) (stood : StandsBehind input front old) (packet : Option (List ℕ))
+      (tap : IsTapped input entry old packet new)
       (events : List Event) (w : World) (run : Run (setup_of input) (first_world (setup_of input)) events w)
       (are : AreEntriesOf (setup_of input) events (front ++ entry ∷ [])) where
     abbrev ends : EndsWith input (setup_of input) front entry events (first_world (setup_of input)) w run
