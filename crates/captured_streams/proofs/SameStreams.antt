@@ -1,7 +1,7 @@
 -- Streams that can't be told apart: their reassemblies expect the same number, and have the same octets ahead.
 use Rattle.std.proofs.Common.{◌≡◌, ℕ, suc, zero, ◌+◌, ◌^◌, ◌<◌, ◌≤◌, ltb, List, [], ◌∷◌, length, Option, Some, None, set, get_or}
 use Rattle.std.proofs.Common.{refl, sym, ap, ◌∙◌, subst, inl, inr, arith}
-use Rattle.std.specs.Prelude.{◌&&◌}
+use Rattle.std.specs.Prelude.{◌&&◌, ◌==◌, not}
 use Rattle.std.specs.List.{slice_get}
 use Rattle.std.specs.Option.{option_or, option_and_then}
 use Rattle.std.proofs.Math.ListN.{length-set}
@@ -59,7 +59,8 @@ same_at (Some a) None s same = absurd same
 
 pub beyond_same : (a b : Stream) (s : Segment) → SameStream a b → is_beyond a s ≡ is_beyond b s
 beyond_same a b s same =
-    ap (λ (n : ℕ). ltb (offset_from s.first n) (2 ^ 31) && ltb 16384 (offset_from s.first n + length s.octets)) same.next
+    ap (λ (n : ℕ). not (length s.octets == 0) && ltb (offset_from s.first n) (2 ^ 31) && ltb 16384 (offset_from s.first n + length s.octets))
+    same.next
 
 pub brings_same : (a b : Stream) (s : Segment) (xs ys : List ℕ) (a' b' : Stream) → SameStream a b → Brings a s xs a' → Brings b s ys b'
     → (xs ≡ ys) × SameStream a' b'

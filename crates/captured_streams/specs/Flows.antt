@@ -28,7 +28,8 @@ stream_at None s = if begins s then Some (record { given = 0; rest = nothing_fro
 -- Half of all numbers are ahead of that one, and the others behind (RFC 9293, section 3.4).
 abbrev pub is_beyond : Stream → Segment → Bool
 is_beyond stream s =
-    nat_lt (offset_from s.first stream.rest.next) (2 ^ 31) && nat_lt 16384 (offset_from s.first stream.rest.next + length s.octets)
+    not (length s.octets == 0) && nat_lt (offset_from s.first stream.rest.next) (2 ^ 31)
+    && nat_lt 16384 (offset_from s.first stream.rest.next + length s.octets)
 
 -- what a segment brings that is in order then: its octets are put, and all that is ready is given; an octet that is there stays
 pub record Brings (before : Stream) (s : Segment) (octets : List ℕ) (after : Stream) : Type 0 where

@@ -79,7 +79,9 @@ fn is_beyond(stream: &Stream, segment: &CapturedSegment<'_>) -> bool
     ensures { result ≡ is_beyond_lem stream.now segment.now }
 {
     let ahead = segment.first.offset_from(stream.rest.next());
-    ahead < HALF && ahead as usize + segment.octets.len() > WINDOW as usize
+    !segment.octets.is_empty()
+        && ahead < HALF
+        && ahead as usize + segment.octets.len() > WINDOW as usize
 }
 
 /// Puts the octets of a segment, and returns what is in order then.
