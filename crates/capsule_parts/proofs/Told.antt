@@ -517,7 +517,8 @@ module _ (octets : List PartLine) (first before : SessionValue) (i : ℕ) (line 
   telling_next told t = subst (λ (xs : List PartLine). IsToldSoFar told xs before) (item_left octets i line below is) (so.1 told t)
 
   pub telling_more : (after : SessionValue) → StaysTold before after
-      → ((told : List Line) (rest : List PartLine) → IsToldSoFar told (line ∷ rest) before → IsToldSoFar told rest after) → IsTellingOf octets first (i + 1) after
+      → ((told : List Line) (rest : List PartLine) → IsToldSoFar told (line ∷ rest) before → IsToldSoFar told rest after)
+      → IsTellingOf octets first (i + 1) after
   telling_more after stays tells = (stays_more first before after so.0 stays, λ told t. tells told (drop (i + 1) octets) (telling_next told t))
 
 -- ---- the whole story
