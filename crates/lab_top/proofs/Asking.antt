@@ -96,12 +96,13 @@ pub lab_asked : (words : List (List ℕ)) (job : Job) → Asks words job → Run
 lab_asked words (jobs.Run workers form) ask lab = inl (inl (form, (workers, ask)))
 lab_asked words (jobs.Drill seed workers form) ask lab = inr (seed, (form, (workers, ask)))
 lab_asked words (jobs.Journal workers) ask lab = inl (inr (inl (workers, ask)))
-lab_asked words (jobs.Timeline workers form) ask lab = inl (inr (inr (inr (names.Timeline form, (workers, ask)))))
-lab_asked words (jobs.Show workers form) ask lab = inl (inr (inr (inr (names.Show form, (workers, ask)))))
-lab_asked words (jobs.Story name workers) ask lab = inl (inr (inr (inr (names.Story name, (workers, ask)))))
-lab_asked words (jobs.Why name prefix workers form) ask lab = inl (inr (inr (inr (names.Why name prefix form, (workers, ask)))))
-lab_asked words (jobs.Picture workers) ask lab = inl (inr (inr (inr (names.Picture, (workers, ask)))))
-lab_asked words (jobs.Test workers form) ask lab = inl (inr (inr (inl (form, (workers, ask)))))
+lab_asked words (jobs.Capture workers) ask lab = inl (inr (inr (inl (workers, ask))))
+lab_asked words (jobs.Timeline workers form) ask lab = inl (inr (inr (inr (inr (names.Timeline form, (workers, ask))))))
+lab_asked words (jobs.Show workers form) ask lab = inl (inr (inr (inr (inr (names.Show form, (workers, ask))))))
+lab_asked words (jobs.Story name workers) ask lab = inl (inr (inr (inr (inr (names.Story name, (workers, ask))))))
+lab_asked words (jobs.Why name prefix workers form) ask lab = inl (inr (inr (inr (inr (names.Why name prefix form, (workers, ask))))))
+lab_asked words (jobs.Picture workers) ask lab = inl (inr (inr (inr (inr (names.Picture, (workers, ask))))))
+lab_asked words (jobs.Test workers form) ask lab = inl (inr (inr (inr (inl (form, (workers, ask))))))
 lab_asked words _ ask lab = absurd lab
 
 -- the job that words ask for
@@ -114,8 +115,9 @@ Both job = RunsLab job × ReadsSource job
 source_job : (words : List (List ℕ)) → RunsSource words → Asked words Both
 source_job words (inl run) = (jobs.Run run.1.0 run.0, run.1.1, (tt, tt))
 source_job words (inr (inl journal)) = (jobs.Journal journal.0, journal.1, (tt, tt))
-source_job words (inr (inr (inl test))) = (jobs.Test test.1.0 test.0, test.1.1, (tt, tt))
-source_job words (inr (inr (inr view))) = (viewing view.0 view.1.0, view.1.1, (views_run view.0 view.1.0, views_read view.0 view.1.0))
+source_job words (inr (inr (inl capture))) = (jobs.Capture capture.0, capture.1, (tt, tt))
+source_job words (inr (inr (inr (inl test)))) = (jobs.Test test.1.0 test.0, test.1.1, (tt, tt))
+source_job words (inr (inr (inr (inr view)))) = (viewing view.0 view.1.0, view.1.1, (views_run view.0 view.1.0, views_read view.0 view.1.0))
 
 lab_job : (words : List (List ℕ)) → AskForLab words → Asked words RunsLab
 lab_job words (inl source) = let job = source_job words source in (job.0, job.1, job.2.0)

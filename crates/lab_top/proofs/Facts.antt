@@ -20,11 +20,11 @@ use Rattle.expect_view.specs.Expect.{all_hold, test_status}
 use Rattle.lab_top.specs.declared.views.ViewName.{ViewName}
 use Rattle.lab_top.specs.Forms.{summary_in, test_in}
 use Rattle.lab_top.specs.Views.{viewing}
-use Rattle.lab_top.specs.Ends.{AreRefused, AskToCheck, AskToRun, AskForJournal, AskToTest, AskToView, RunsSource, AskToSum, AskToDrill, AskForLab}
+use Rattle.lab_top.specs.Ends.{AreRefused, AskToCheck, AskToRun, AskForJournal, AskForCapture, AskToTest, AskToView, RunsSource, AskToSum, AskToDrill, AskForLab}
 use Rattle.lab_audit.specs.declared.audited.AuditEnd.{AuditEnd}
 use Rattle.lab_audit.specs.declared.audited.AuditEnd.TheVariants as audit_ends
 use Rattle.lab_top.specs.Ends.{AskToAudit, AskToMake, AskForLine, Audits, ReadsInput, ReadsText, audit_status}
-use Rattle.lab_top.specs.Ends.{TookInput, GaveBadInput, IsStatus, WritesText, WritesReport, WritesJournal, WritesView, Checks, end_status}
+use Rattle.lab_top.specs.Ends.{TookInput, GaveBadInput, IsStatus, WritesText, WritesReport, WritesJournal, WritesCapture, WritesView, Checks, end_status}
 use Rattle.lab_top.specs.Ends.{SaysVerdict, verdict_status, tested_status, HasFailed}
 use Rattle.lab_top.specs.Cases.{Outside, RunsLab, plain_text, Gives, Refuses, Tells, job_status, Cause, tells, checks, audits, refuses, misses, runs}
 use Rattle.lab_top.specs.Cases.{Did, wrote, unread, Ended, refused, did, no_memory}
@@ -482,6 +482,14 @@ journaled words o n status (Some end) ended = λ journal.
     let took = of_asked (λ j. Gives j o.left n.left c.bytes) words c.job (jobs.Journal journal.0) c.ask journal.1 c.gives in
     let said = said_of words o n status end c (jobs.Journal journal.0) journal.1 in
     record { bytes = c.bytes; took = took.took; end = took.end; is = c.is; wrote = subst (λ t. Wrote t (end_status end.end) o n status) said.0 said.1 }
+
+pub captured : (words : List (List ℕ)) (o n : Outside) (status : ℕ) (lab : Option Lab) → Ended words o n status lab
+    → IfSome lab (λ end. AskForCapture words → WritesCapture end o.write_faults n.write_faults o.written n.written status)
+captured words o n status None ended = tt
+captured words o n status (Some end) ended = λ capture.
+    let c = came words o n status (Some end) end refl ended in
+    let said = said_of words o n status end c (jobs.Capture capture.0) capture.1 in
+    record { octets = c.text; capture = said.0; wrote = said.1 }
 
 pub tested : (words : List (List ℕ)) (o n : Outside) (status : ℕ) (lab : Option Lab) → Ended words o n status lab
     → IfSome lab (λ end. (form : Form) → AskToTest words form → Wrote (test_in form end) (tested_status end) o n status)

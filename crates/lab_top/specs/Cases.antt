@@ -13,6 +13,7 @@ use Rattle.lab_words.specs.Hints.{refused_text}
 use Rattle.lab_make.specs.Made.{made}
 use Rattle.lab_report.specs.declared.lab.Lab.{Lab}
 use Rattle.journal_form.specs.Journals.{journal_text}
+use Rattle.lab_capture.specs.Captures.{IsLabCapture}
 use Rattle.lab_run.specs.Runs.{RanLab}
 use Rattle.lab_top.specs.declared.finish.Finish.{Finish}
 use Rattle.lab_top.specs.declared.finish.InputStop.{InputStop}
@@ -154,11 +155,12 @@ abbrev pub Refuses : Job → (before after : Option (List ℕ)) → (text : List
 Refuses (jobs.Drill seed workers form) before after text = SaysWhy (made seed) (input_of (made seed)) text
 Refuses _ before after text = TookBadInput before after text
 
--- What is written of a run: its report, its summary, its input and its journal, a view, or which of its expectations hold.
+-- What is written of a run: its report, its summary, its input and its journal, its capture, a view, or which of its expectations hold.
 abbrev pub Tells : Job → (bytes : List ℕ) → Lab → (text : List ℕ) → Type 0
 Tells (jobs.Run workers form) bytes lab text = IsReportIn form lab text
 Tells (jobs.Drill seed workers form) bytes lab text = text ≡ summary_in form lab
 Tells (jobs.Journal workers) bytes lab text = text ≡ journal_text bytes lab.journal
+Tells (jobs.Capture workers) bytes lab text = IsLabCapture lab text
 Tells (jobs.Timeline workers form) bytes lab text = ShowsView lab (names.Timeline form) text
 Tells (jobs.Show workers form) bytes lab text = ShowsView lab (names.Show form) text
 Tells (jobs.Story name workers) bytes lab text = ShowsView lab (names.Story name) text

@@ -13,7 +13,7 @@ use Rattle.lab_audit.specs.declared.audited.AuditEnd.{AuditEnd}
 use Rattle.lab_audit.specs.declared.audited.AuditEnd.TheVariants as audit_ends
 use Rattle.lab_words.specs.declared.job.Form.{Form}
 use Rattle.lab_words.specs.declared.job.Job.{Job}
-use Rattle.lab_words.specs.declared.job.Job.TheVariants.{Run, Check, Make, Drill, Journal, Audit, Test, Help, Version}
+use Rattle.lab_words.specs.declared.job.Job.TheVariants.{Run, Check, Make, Drill, Journal, Audit, Capture, Test, Help, Version}
 use Rattle.lab_words.specs.Asked.{usage_text, version_text, Asks}
 use Rattle.lab_make.specs.Made.{made}
 use Rattle.lab_report.specs.declared.lab.Lab.{Lab}
@@ -21,6 +21,7 @@ use Rattle.lab_report.specs.declared.lab.RunEnd.{RunEnd}
 use Rattle.lab_report.specs.declared.lab.RunEnd.TheVariants.{Settled, Unsettled, StreamFull, JournalFull}
 use Rattle.lab_report.specs.BadText.{bad_line}
 use Rattle.journal_form.specs.Journals.{journal_text}
+use Rattle.lab_capture.specs.Captures.{IsLabCapture}
 use Rattle.expect_view.specs.Expect.{all_hold, test_status}
 use Rattle.lab_top.specs.declared.views.ViewName.{ViewName}
 use Rattle.lab_top.specs.Forms.{accepted_in, IsReportIn}
@@ -44,6 +45,10 @@ AskToRun words form = (workers : ℕ) × Asks words (Run workers form)
 abbrev pub AskForJournal : List (List ℕ) → Type 0
 AskForJournal words = (workers : ℕ) × Asks words (Journal workers)
 
+-- They ask for its capture.
+abbrev pub AskForCapture : List (List ℕ) → Type 0
+AskForCapture words = (workers : ℕ) × Asks words (Capture workers)
+
 -- They ask whether a journal is that of a run.
 abbrev pub AskToAudit : List (List ℕ) → Type 0
 AskToAudit words = Asks words Audit
@@ -59,7 +64,8 @@ AskToView words name = (workers : ℕ) × Asks words (viewing name workers)
 -- They ask for a run of what the source has.
 abbrev pub RunsSource : List (List ℕ) → Type 0
 RunsSource words =
-    ((form : Form) × AskToRun words form) ⊎ AskForJournal words ⊎ ((form : Form) × AskToTest words form) ⊎ ((name : ViewName) × AskToView words name)
+    ((form : Form) × AskToRun words form) ⊎ AskForJournal words ⊎ AskForCapture words ⊎ ((form : Form) × AskToTest words form)
+    ⊎ ((name : ViewName) × AskToView words name)
 
 -- They ask for a run of the laboratory of this seed, and for its summary.
 abbrev pub AskToSum : List (List ℕ) → ℕ → Form → Type 0
@@ -219,6 +225,12 @@ pub record WritesJournal (left_before left_after : Option (List ℕ)) (lab : Lab
   pub end : IsAtEnd left_after
   pub is : InputOf bytes lab.input
   pub wrote : WritesText (journal_text bytes lab.journal) (end_status lab.end) faults_before faults_after before after status
+
+-- A capture of a run was written under the status of its end.
+pub record WritesCapture (lab : Lab) (faults_before faults_after : ℕ) (before after : Option (List ℕ)) (status : ℕ) : Type 0 where
+  pub octets : List ℕ
+  pub capture : IsLabCapture lab octets
+  pub wrote : WritesText octets (end_status lab.end) faults_before faults_after before after status
 
 -- The view of a run that has this name was written under the status of its end.
 pub record WritesView (lab : Lab) (name : ViewName) (faults_before faults_after : ℕ) (before after : Option (List ℕ)) (status : ℕ) : Type 0 where

@@ -1,7 +1,7 @@
 //! What each job does.
 
 ghost use Rattle.std.specs.Prelude.{◌≡◌, ◌≤◌, ◌<◌, ◌++◌, ℕ, List, Option, IfOk};
-ghost use Rattle.lab_words.specs.declared.job.Job.TheVariants.{Run, Check, Make, Drill, Journal, Test};
+ghost use Rattle.lab_words.specs.declared.job.Job.TheVariants.{Run, Check, Make, Drill, Journal, Capture, Test};
 ghost use Rattle.lab_input.specs.Labs.{too_long as too_long_bad};
 ghost use Rattle.lab_hints.specs.Hints.{hint_line, long_words};
 ghost use Rattle.lab_report.specs.BadText.{bad_line};
@@ -22,6 +22,7 @@ use expect_view::test_status;
 use graft_edge::{Gate, Name, NoMemory, Octets, ReadStop, Sink, Source, read_all};
 use journal_form::journal_text;
 use lab_audit::refusal;
+use lab_capture::capture_octets;
 use lab_hints::{long_hint, name_hint};
 use lab_input::{BadInput, LabInput, LabStop, MOST_BYTES, read_lab, too_long};
 use lab_make::make_lab;
@@ -214,6 +215,32 @@ pub(crate) fn journal_job<R: Threads + Sync + AllocGlobal, S: Source, K: Sink, G
         Some(lab) => {
             let text = journal_text(alloc, &bytes, lab.journal.as_slice())?;
             Ok(end_run(sink, &text, lab))
+        }
+        None => Ok(end_unbuilt(sink)),
+    }
+}
+
+/// Reads an input from the source, runs it and writes a capture of the run.
+pub(crate) fn capture_job<R: Threads + Sync + AllocGlobal, S: Source, K: Sink, G: Gate>(
+    rt: &R,
+    source: &mut S,
+    sink: &mut K,
+    workers: usize,
+    gate: &G,
+) -> Result<Finish, NoMemory>
+    requires workers { (1 ≤ workers) × (workers ≤ 8) }
+    ensures { DidOr (Capture workers) (outside (S.left source.old) (S.faults source.old) (K.written sink.old)
+        (K.faults sink.old)) (outside (S.left source.new) (S.faults source.new) (K.written sink.new) (K.faults sink.new)) result }
+{
+    let alloc = rt.alloc();
+    let input = match read_source(alloc, source) {
+        Ok(input) => input,
+        Err(stop) => return end_stopped(sink, stop),
+    };
+    match run_built(rt, input, workers, gate)? {
+        Some(lab) => {
+            let octets = capture_octets(alloc, &lab)?;
+            Ok(end_run(sink, &octets, lab))
         }
         None => Ok(end_unbuilt(sink)),
     }

@@ -11,14 +11,14 @@ ghost use Rattle.lab_input.specs.Labs.{InputOf};
 ghost use Rattle.lab_run.specs.Runs.{RanLab};
 ghost use Rattle.lab_top.specs.Forms.{summary_in, test_in};
 ghost use Rattle.lab_top.specs.declared.views.ViewName.{ViewName};
-ghost use Rattle.lab_top.specs.Ends.{AreRefused, AskToCheck, AskToRun, AskForJournal, AskToAudit, AskToTest, AskToView, RunsSource, AskToSum, AskToDrill, AskForLab};
-ghost use Rattle.lab_top.specs.Ends.{AskToMake, AskForLine, AskUnread, TookInput, GaveBadInput, IsStatus, WritesText, WritesReport, WritesJournal, WritesView};
+ghost use Rattle.lab_top.specs.Ends.{AreRefused, AskToCheck, AskToRun, AskForJournal, AskForCapture, AskToAudit, AskToTest, AskToView, RunsSource, AskToSum, AskToDrill, AskForLab};
+ghost use Rattle.lab_top.specs.Ends.{AskToMake, AskForLine, AskUnread, TookInput, GaveBadInput, IsStatus, WritesText, WritesReport, WritesJournal, WritesCapture, WritesView};
 ghost use Rattle.lab_top.specs.Ends.{Audits, Checks, end_status, tested_status, HasFailed};
 ghost use Rattle.lab_top.specs.Cases.{outside, ReadsSource, DidOr, EndsOr, Ended};
 
 use crate::audit::audit_job;
 use crate::finish::{DONE, Finish, NO_MEMORY, USAGE, end_with, without_run};
-use crate::jobs::{check_job, drill_job, journal_job, make_job, run_job, test_job, view_job};
+use crate::jobs::{capture_job, check_job, drill_job, journal_job, make_job, run_job, test_job, view_job};
 use crate::views::ViewName;
 use graft_edge::{Gate, NoMemory, Sink, Source, Words};
 use lab_words::{Job, USAGE_TEXT, VERSION_TEXT, WordStop, read_words, refused_text};
@@ -49,6 +49,7 @@ fn do_job<R: Threads + Sync + AllocGlobal, S: Source, K: Sink, G: Gate>(
         } => drill_job(rt, sink, seed, workers, form, gate),
         Job::Journal { workers } => journal_job(rt, source, sink, workers, gate),
         Job::Audit => audit_job(alloc, source, sink),
+        Job::Capture { workers } => capture_job(rt, source, sink, workers, gate),
         Job::Timeline { workers, form } => {
             view_job(rt, source, sink, ViewName::Timeline(form), workers, gate)
         }
@@ -120,7 +121,7 @@ fn finish_of<R: Threads + Sync + AllocGlobal, S: Source, K: Sink, G: Gate>(
 
 /// Does what the words of a command ask for. `run` reads an input from the source to its end, runs it and
 /// writes the report to the sink; each actor's turn passes the gate first. `journal` writes the input and the
-/// journal of its run in place of a report, `show`, `timeline`, `why`, `story` and `picture` write a view of it, and
+/// journal of its run in place of a report, `capture` a pcap file of what its remotes' links carried, `show`, `timeline`, `why`, `story` and `picture` write a view of it, and
 /// `test` writes which expectations of the input hold of it. `check` reads an input and writes whether it is one.
 /// `audit` reads such a text of an input and a journal, and writes whether some run has that journal.
 /// With `--json` what `check`, `run`, `drill`, `show`, `timeline`, `why` and `test` write is one JSON object.
@@ -202,7 +203,7 @@ where
 
     // Its text is written whole, under the status of its end, or a write failed and a front of it stands: a report,
     // which ends with where packets go to the addresses of the input, a summary, the input with the journal behind it,
-    // or a view: a timeline, all that there is at its end, the story of a peering's session, why a router has its route
+    // a capture of what taps at the links of the remotes see, or a view: a timeline, all that there is at its end, the story of a peering's session, why a router has its route
     // to a prefix, or a picture; each in the form that is asked for. Of a test it is which expectations of the input
     // hold, and the status is 9 where the run is settled and one of them doesn't.
     ensures reported { IfSome result.lab (λ lab. (form : Form) → AskToRun words.now form
@@ -211,6 +212,8 @@ where
         (end_status lab.end) (K.faults sink.old) (K.faults sink.new) (K.written sink.old) (K.written sink.new) result.status) }
     ensures journaled { IfSome result.lab (λ lab. AskForJournal words.now → WritesJournal (S.left source.old)
         (S.left source.new) lab (K.faults sink.old) (K.faults sink.new) (K.written sink.old) (K.written sink.new) result.status) }
+    ensures captured { IfSome result.lab (λ lab. AskForCapture words.now
+        → WritesCapture lab (K.faults sink.old) (K.faults sink.new) (K.written sink.old) (K.written sink.new) result.status) }
     ensures tested { IfSome result.lab (λ lab. (form : Form) → AskToTest words.now form
         → WritesText (test_in form lab) (tested_status lab) (K.faults sink.old) (K.faults sink.new) (K.written sink.old) (K.written sink.new) result.status) }
     ensures viewed { IfSome result.lab (λ lab. (name : ViewName) → AskToView words.now name

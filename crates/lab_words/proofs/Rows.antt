@@ -13,7 +13,7 @@ use Rattle.lab_words.specs.declared.arguments.Arguments.{Arguments}
 use Rattle.lab_words.specs.declared.job.Form.{Form}
 use Rattle.lab_words.specs.declared.job.Form.TheVariants.{Plain, Json}
 use Rattle.lab_words.specs.declared.job.Job.{Job}
-use Rattle.lab_words.specs.declared.job.Job.TheVariants.{Run, Check, Make, Drill, Journal, Audit, Timeline, Show, Story, Why, Picture, Test, Help, Version}
+use Rattle.lab_words.specs.declared.job.Job.TheVariants.{Run, Check, Make, Drill, Journal, Audit, Capture, Timeline, Show, Story, Why, Picture, Test, Help, Version}
 use Rattle.lab_words.specs.declared.job.WordStop.{WordStop}
 use Rattle.lab_words.specs.declared.job.WordStop.TheVariants.{Usage, NoMemory}
 use Rattle.lab_words.specs.Asked.{given_by, IsSeed, IsWorkersText, IsReadAs, AreArguments, name_of, several, HasArguments, IsJob}
@@ -123,12 +123,13 @@ named_fits name given =
     (row name (codes "drill") given _ _ (drill_fits given)
     (row name (codes "journal") given _ _ (plain_fits (codes "journal") given Journal (λ s p f. (refl, ((s, p, refl), f))))
     (row name (codes "audit") given _ _ (audit_fits given)
+    (row name (codes "capture") given _ _ (plain_fits (codes "capture") given Capture (λ s p f. (refl, ((s, p, refl), f))))
     (row name (codes "timeline") given _ _ (formed_fits (codes "timeline") given Timeline (λ s p. (refl, ((s, p, refl), refl))))
     (row name (codes "show") given _ _ (formed_fits (codes "show") given Show (λ s p. (refl, ((s, p, refl), refl))))
     (row name (codes "story") given _ _ (story_fits given)
     (row name (codes "why") given _ _ (why_fits given)
     (row name (codes "picture") given _ _ (plain_fits (codes "picture") given Picture (λ s p f. (refl, ((s, p, refl), f))))
-    (row name (codes "test") given _ None (formed_fits (codes "test") given Test (λ s p. (refl, ((s, p, refl), refl)))) tt)))))))))))
+    (row name (codes "test") given _ None (formed_fits (codes "test") given Test (λ s p. (refl, ((s, p, refl), refl)))) tt))))))))))))
 
 -- ---- each job is read by its name: no row before its own has that name
 
@@ -139,6 +140,7 @@ read_by_name given (Make seed) has = rw (has.0, has.1, has.2, has.3) refl
 read_by_name given (Drill seed workers form) has = rw (has.0, has.1, has.2, has.3) refl
 read_by_name given (Journal workers) has = rw (has.0.0, has.0.1, has.0.2, has.1) refl
 read_by_name given Audit has = rw (has.0, has.1, has.2, has.3) refl
+read_by_name given (Capture workers) has = rw (has.0.0, has.0.1, has.0.2, has.1) refl
 read_by_name given (Timeline workers form) has = rw (has.0.0, has.0.1, has.0.2, has.1) refl
 read_by_name given (Show workers form) has = rw (has.0.0, has.0.1, has.0.2, has.1) refl
 read_by_name given (Story peering workers) has = rw (has.0, has.1, has.2, has.3) refl

@@ -10,12 +10,12 @@ use Rattle.lab_words.specs.declared.arguments.Arguments.{Arguments}
 use Rattle.lab_words.specs.declared.job.Form.{Form}
 use Rattle.lab_words.specs.declared.job.Form.TheVariants.{Plain, Json}
 use Rattle.lab_words.specs.declared.job.Job.{Job}
-use Rattle.lab_words.specs.declared.job.Job.TheVariants.{Run, Check, Make, Drill, Journal, Audit, Timeline, Show, Story, Why, Picture, Test, Help, Version}
+use Rattle.lab_words.specs.declared.job.Job.TheVariants.{Run, Check, Make, Drill, Journal, Audit, Capture, Timeline, Show, Story, Why, Picture, Test, Help, Version}
 
 -- the usage line of the program
 abbrev pub usage_text : List ℕ
 usage_text =
-    codes "usage: graftlab run|check|make N|drill N|journal|audit|show|timeline|why ROUTER PREFIX|story PEERING|picture|test [--workers W] [--json]" ++ 10 ∷ []
+    codes "usage: graftlab run|check|make N|drill N|journal|audit|capture|show|timeline|why ROUTER PREFIX|story PEERING|picture|test [--workers W] [--json]" ++ 10 ∷ []
 
 -- the version line of the program
 abbrev pub version_text : List ℕ
@@ -120,6 +120,7 @@ name_of (Make seed) = codes "make"
 name_of (Drill seed workers form) = codes "drill"
 name_of (Journal workers) = codes "journal"
 name_of Audit = codes "audit"
+name_of (Capture workers) = codes "capture"
 name_of (Timeline workers form) = codes "timeline"
 name_of (Show workers form) = codes "show"
 name_of (Story peering workers) = codes "story"
@@ -147,6 +148,7 @@ HasArguments given (Drill seed workers form) =
     (given.seed ≡ Some seed) × (given.prefix ≡ None) × (workers ≡ several given.workers) × (form ≡ given.form)
 HasArguments given (Journal workers) = AreWorkersAlone given workers × (given.form ≡ Plain)
 HasArguments given Audit = (given.subject ≡ None) × (given.prefix ≡ None) × (given.workers ≡ None) × (given.form ≡ Plain)
+HasArguments given (Capture workers) = AreWorkersAlone given workers × (given.form ≡ Plain)
 HasArguments given (Timeline workers form) = AreWorkersAlone given workers × (form ≡ given.form)
 HasArguments given (Show workers form) = AreWorkersAlone given workers × (form ≡ given.form)
 HasArguments given (Story peering workers) =
@@ -190,6 +192,7 @@ HasNumbers (Run workers form) = AreFew workers
 HasNumbers (Make seed) = IsSmall seed
 HasNumbers (Drill seed workers form) = IsSmall seed × AreFew workers
 HasNumbers (Journal workers) = AreFew workers
+HasNumbers (Capture workers) = AreFew workers
 HasNumbers (Timeline workers form) = AreFew workers
 HasNumbers (Show workers form) = AreFew workers
 HasNumbers (Story peering workers) = AreFew workers

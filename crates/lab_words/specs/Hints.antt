@@ -23,6 +23,7 @@ job_forms =
     ∷ (codes "drill", codes "drill takes a seed from 1 to 9999, and maybe --workers W, with W from 1 to 8, and --json: graftlab drill 7")
     ∷ (codes "journal", workers_alone_form)
     ∷ (codes "audit", codes "audit takes nothing else; the text of a journal comes on standard input: graftlab audit < journal.txt")
+    ∷ (codes "capture", workers_alone_form)
     ∷ (codes "show", formed_form)
     ∷ (codes "timeline", formed_form)
     ∷ (codes "why", codes "why takes a router and a prefix, and maybe --workers W, with W from 1 to 8, and --json: graftlab why east 10.0.0.0/8 < lab.toml")
@@ -43,7 +44,7 @@ abbrev pub job_names : List Text
 job_names = map (λ row. row.0) job_forms
 
 abbrev pub jobs_words : Text
-jobs_words = codes "the first word is a job: run check make drill journal audit show timeline why story picture test"
+jobs_words = codes "the first word is a job: run check make drill journal audit capture show timeline why story picture test"
     ++ codes "; an input comes on standard input: graftlab run < lab.toml"
 
 -- the job that may be meant, or all of them

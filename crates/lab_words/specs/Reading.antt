@@ -7,7 +7,7 @@ use Rattle.lab_words.specs.declared.arguments.Arguments.{Arguments}
 use Rattle.lab_words.specs.declared.job.Form.{Form}
 use Rattle.lab_words.specs.declared.job.Form.TheVariants.{Plain, Json}
 use Rattle.lab_words.specs.declared.job.Job.{Job}
-use Rattle.lab_words.specs.declared.job.Job.TheVariants.{Run, Check, Make, Drill, Journal, Audit, Timeline, Show, Story, Why, Picture, Test}
+use Rattle.lab_words.specs.declared.job.Job.TheVariants.{Run, Check, Make, Drill, Journal, Audit, Capture, Timeline, Show, Story, Why, Picture, Test}
 use Rattle.lab_words.specs.declared.job.WordStop.{WordStop}
 use Rattle.lab_words.specs.declared.job.WordStop.TheVariants.{Usage, NoMemory}
 use Rattle.lab_words.specs.Asked.{several}
@@ -63,9 +63,10 @@ job_named name given =
     else (if bytes_eq name (codes "drill") then drill_with given.seed given.prefix given.workers given.form
     else (if bytes_eq name (codes "journal") then plain given.form (option_map Journal (workers_alone given.subject given.prefix given.workers))
     else (if bytes_eq name (codes "audit") then plain given.form (audit_with given.subject given.prefix given.workers)
+    else (if bytes_eq name (codes "capture") then plain given.form (option_map Capture (workers_alone given.subject given.prefix given.workers))
     else (if bytes_eq name (codes "timeline") then option_map (λ w. Timeline w given.form) (workers_alone given.subject given.prefix given.workers)
     else (if bytes_eq name (codes "show") then option_map (λ w. Show w given.form) (workers_alone given.subject given.prefix given.workers)
     else (if bytes_eq name (codes "story") then plain given.form (story_with given.subject given.prefix given.workers)
     else (if bytes_eq name (codes "why") then why_with given.subject given.prefix given.workers given.form
     else (if bytes_eq name (codes "picture") then plain given.form (option_map Picture (workers_alone given.subject given.prefix given.workers))
-    else (if bytes_eq name (codes "test") then option_map (λ w. Test w given.form) (workers_alone given.subject given.prefix given.workers) else None)))))))))))
+    else (if bytes_eq name (codes "test") then option_map (λ w. Test w given.form) (workers_alone given.subject given.prefix given.workers) else None))))))))))))

@@ -19,7 +19,7 @@ const WORKERS_AND_JSON: &str =
 
 /// Which jobs there are.
 const JOBS_TEXT: &str =
-    "the first word is a job: run check make drill journal audit show timeline why story picture test; an input comes on standard input: graftlab run < lab.toml";
+    "the first word is a job: run check make drill journal audit capture show timeline why story picture test; an input comes on standard input: graftlab run < lab.toml";
 
 /// Returns what the job of a name takes, if there is one.
 fn form_of(name: &str) -> Option<&'static str>
@@ -38,6 +38,7 @@ fn form_of(name: &str) -> Option<&'static str>
         "audit" => Some(
             "audit takes nothing else; the text of a journal comes on standard input: graftlab audit < journal.txt",
         ),
+        "capture" => Some(WORKERS_ALONE),
         "show" => Some(WORKERS_AND_JSON),
         "timeline" => Some(WORKERS_AND_JSON),
         "why" => Some(
@@ -57,8 +58,8 @@ fn meant_by(alloc: Global, word: &str) -> Result<Option<&'static str>, NoMemory>
     ensures { IfOk result (λ near. option_map (λ name. name.now) near ≡ nearest_lem job_names word.now) }
 {
     let names = [
-        "run", "check", "make", "drill", "journal", "audit", "show", "timeline", "why", "story",
-        "picture", "test",
+        "run", "check", "make", "drill", "journal", "audit", "capture", "show", "timeline", "why",
+        "story", "picture", "test",
     ];
     nearest(alloc, &names, word)
 }

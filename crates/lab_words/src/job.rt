@@ -44,6 +44,10 @@ pub enum Job {
     },
     /// Say whether the source is a journal that some run of its laboratory has.
     Audit,
+    /// Run the laboratory of the source, and write what taps at the links of its remotes see, as a pcap file.
+    Capture {
+        workers: usize,
+    },
     /// Run the laboratory of the source, and write its events round by round.
     Timeline {
         workers: usize,
@@ -93,7 +97,7 @@ pub enum WordStop {
 
 /// The usage line of the program.
 pub const USAGE_TEXT: &str =
-    "usage: graftlab run|check|make N|drill N|journal|audit|show|timeline|why ROUTER PREFIX|story PEERING|picture|test [--workers W] [--json]\n";
+    "usage: graftlab run|check|make N|drill N|journal|audit|capture|show|timeline|why ROUTER PREFIX|story PEERING|picture|test [--workers W] [--json]\n";
 
 /// The version line of the program.
 pub const VERSION_TEXT: &str = "graftlab 0.1.0\n";

@@ -145,6 +145,10 @@ fn job_named(name: &str, arguments: Arguments) -> Option<Job>
             workers_alone(subject, prefix, workers).map(|workers| Job::Journal { workers }),
         ),
         "audit" => plain(form, audit_with(subject, prefix, workers)),
+        "capture" => plain(
+            form,
+            workers_alone(subject, prefix, workers).map(|workers| Job::Capture { workers }),
+        ),
         "timeline" => Some(Job::Timeline {
             workers: workers_alone(subject, prefix, workers)?,
             form,

@@ -1,6 +1,6 @@
 use Rattle.lab_top.proofs.Facts.{statuses, usage_told, refused_words, made_told, line_told, checked_told, audited_told, denied, bad_input, bad_unwritten, read_failed}
 use Rattle.lab_top.proofs.Facts.{write_failed, nothing_written, failed, run_ended, no_run, ran, input_taken, drilled, headline}
-use Rattle.lab_top.proofs.Facts.{reported, summed, journaled, tested, viewed}
+use Rattle.lab_top.proofs.Facts.{reported, summed, journaled, captured, tested, viewed}
 use Rattle.lab_top.proofs.top.graft_main.Goals as goal
 
 pub returns-clause-statuses : goal.returns-clause-statuses
@@ -71,6 +71,9 @@ returns-clause-summed g c = summed _ _ _ _ _ c.finish_of.ensures.ended
 
 pub returns-clause-journaled : goal.returns-clause-journaled
 returns-clause-journaled g c = journaled _ _ _ _ _ c.finish_of.ensures.ended
+
+pub returns-clause-captured : goal.returns-clause-captured
+returns-clause-captured g c = captured _ _ _ _ _ c.finish_of.ensures.ended
 
 pub returns-clause-tested : goal.returns-clause-tested
 returns-clause-tested g c = tested _ _ _ _ _ c.finish_of.ensures.ended

@@ -1,0 +1,4 @@
+pub mod Messages
+pub mod Opens
+pub mod Steps
+pub mod Imports
