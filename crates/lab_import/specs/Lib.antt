@@ -1,0 +1,4 @@
+pub mod Texts
+pub mod Limits
+pub mod Inputs
+pub mod Captures

@@ -1,0 +1,54 @@
+//! A capture and its laboratory.
+
+ghost use Rattle.std.specs.Prelude.{◌≡◌, IfErr, IfOk};
+ghost use Rattle.lab_import.specs.Captures.{fault_line as fault_line_lem, IsFault, IsImported};
+
+use crate::text::{TextStop, lab_text};
+use captured_streams::{Hole, StreamStop, captured_streams};
+use graft_edge::{NoMemory, Octets};
+use imported_sessions::{ImportStop, import_sessions};
+use pcap_form::{CaptureStop, read_capture};
+use std::alloc::Global;
+use tcp_packets::Socket;
+use thiserror::Error;
+
+/// The most octets of a capture.
+pub const MOST_CAPTURE: usize = 268_435_456;
+
+/// Why a capture isn't imported.
+#[derive(Clone, Copy, Debug, PartialEq, Eq, Hash, Error)]
+pub enum CaptureFault {
+    /// The place in the file of the first field that is cut off or wrong.
+    #[error("form {0}")]
+    Form(usize),
+    /// The first octet of a remote that is missing.
+    #[error("a hole")]
+    Missing(Hole),
+    /// The first remote that doesn't begin with a sound OPEN.
+    #[error("no OPEN")]
+    NoOpen(Socket),
+    /// The place in a remote's stream of the first octet that has no room in an input.
+    #[error("limit {1}")]
+    Limit(Socket, u64),
+    /// The text isn't read as the laboratory. This isn't known to happen.
+    #[error("unread")]
+    Unread,
+    #[error("no memory")]
+    NoMemory,
+}
+
+/// Imports a capture, pcap or pcapng: the text of a laboratory with its sessions of BGP over TCP and IPv4, in which each remote says just the octets that
+/// it says in the capture. `home` is the address of the home side; without it that is the end with port 179 (RFC 4271, section
+/// 4.2). The text is always one that `read_lab` accepts. A file that is no capture is refused first, then a hole in what a
+/// remote says, then a remote without an OPEN, then what has no room in an input.
+pub fn import_capture(alloc: Global, home: Option<u32>, file: &[u8]) -> Result<Octets, CaptureFault>
+    ensures imported { IfOk result (IsImported home file.now) }
+    ensures fault { IfErr result (IsFault home file.now) }
+{
+}
+
+/// Returns the line that is said of a fault.
+pub fn fault_line(alloc: Global, fault: CaptureFault) -> Result<Octets, NoMemory>
+    ensures { IfOk result (λ line. line ≡ fault_line_lem fault) }
+{
+}

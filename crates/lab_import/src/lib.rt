@@ -1,0 +1,8 @@
+//! A capture of BGP sessions becomes a laboratory.
+#![tactic(auto)]
+
+mod capture;
+mod limits;
+mod text;
+
+pub use capture::{CaptureFault, MOST_CAPTURE, fault_line, import_capture};
