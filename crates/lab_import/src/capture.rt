@@ -1,6 +1,8 @@
 //! A capture and its laboratory.
 
-ghost use Rattle.std.specs.Prelude.{◌≡◌, IfErr, IfOk};
+ghost use Rattle.std.specs.Prelude.{◌≡◌, Err, IfOk};
+ghost use Rattle.lab_import.specs.declared.capture.CaptureFault.{CaptureFault as FaultValue};
+ghost use Rattle.lab_import.specs.declared.capture.Unimported.TheVariants as stops;
 ghost use Rattle.lab_import.specs.Captures.{fault_line as fault_line_lem, IsFault, IsImported};
 
 use crate::text::{TextStop, lab_text};
@@ -33,6 +35,13 @@ pub enum CaptureFault {
     /// The text isn't read as the laboratory. This isn't known to happen.
     #[error("unread")]
     Unread,
+}
+
+/// Why there is no laboratory of a capture.
+#[derive(Clone, Copy, Debug, PartialEq, Eq, Hash, Error)]
+pub enum Unimported {
+    #[error("bad capture: {0}")]
+    Fault(CaptureFault),
     #[error("no memory")]
     NoMemory,
 }
@@ -41,9 +50,9 @@ pub enum CaptureFault {
 /// it says in the capture. `home` is the address of the home side; without it that is the end with port 179 (RFC 4271, section
 /// 4.2). The text is always one that `read_lab` accepts. A file that is no capture is refused first, then a hole in what a
 /// remote says, then a remote without an OPEN, then what has no room in an input.
-pub fn import_capture(alloc: Global, home: Option<u32>, file: &[u8]) -> Result<Octets, CaptureFault>
+pub fn import_capture(alloc: Global, home: Option<u32>, file: &[u8]) -> Result<Octets, Unimported>
     ensures imported { IfOk result (IsImported home file.now) }
-    ensures fault { IfErr result (IsFault home file.now) }
+    ensures fault { (fault : FaultValue) → result ≡ Err (stops.Fault fault) → IsFault home file.now fault }
 {
 }
 

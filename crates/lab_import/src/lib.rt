@@ -5,4 +5,4 @@ mod capture;
 mod limits;
 mod text;
 
-pub use capture::{CaptureFault, MOST_CAPTURE, fault_line, import_capture};
+pub use capture::{CaptureFault, MOST_CAPTURE, Unimported, fault_line, import_capture};
