@@ -69,6 +69,10 @@ IsFault home file (NoOpen remote) = (s : Streams) × HasStreams home file s × I
 IsFault home file (Limit remote octet) = IsLimit home file remote octet
 IsFault home file Unread = IsUnread home file
 
+-- the limit of octets of a capture
+abbrev pub most_capture : ℕ
+most_capture = 268435456
+
 -- ---- what is said of it
 
 abbrev pub socket_text : Socket → List ℕ
