@@ -1,4 +1,4 @@
-use Rattle.std.proofs.Common.{arith, ◌≡◌, ◌<◌, length, ◌∙◌, ap, sym, ℕ, List, take, drop, false}
+use Rattle.std.proofs.Common.{arith, ◌≡◌, ◌<◌, length, ◌∙◌, ap, ℕ, List, take, drop, false}
 use Rattle.tcp_seq.specs.Numbers.{plus}
 use Rattle.tcp_packets.specs.Reading.{Segment}
 use Rattle.captured_streams.specs.declared.directed.Directed.{Directed}
