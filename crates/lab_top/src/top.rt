@@ -1,6 +1,6 @@
 //! The program's top call.
 
-ghost use Rattle.std.specs.Prelude.{◌≡◌, ◌⊎◌, ℕ, List, None, IsSome, IsSomeAnd, IfSome, OnSome};
+ghost use Rattle.std.specs.Prelude.{◌≡◌, ◌⊎◌, ℕ, List, Option, None, IsSome, IsSomeAnd, IfSome, OnSome};
 ghost use Rattle.graft_edge.specs.Outside.{FaultRose, Appended, AppendedFront};
 ghost use Rattle.lab_words.specs.declared.job.Form.{Form};
 ghost use Rattle.lab_words.specs.declared.job.Job.TheVariants.{Make};
