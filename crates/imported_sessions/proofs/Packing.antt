@@ -1,12 +1,12 @@
 -- Messages that are packed into steps.
-use Rattle.std.proofs.Common.{◌≡◌, ℕ, zero, suc, ◌+◌, ◌-◌, ◌<◌, ◌≤◌, Bool, true, false, eqb, leb, List, [], ◌∷◌, ◌++◌, length, take, drop, get_or, set}
+use Rattle.std.proofs.Common.{◌≡◌, ℕ, zero, suc, ◌+◌, ◌-◌, ◌<◌, ◌≤◌, Bool, true, false, cond, eqb, leb, List, [], ◌∷◌, ◌++◌, length, take, drop, get_or, set}
 use Rattle.std.proofs.Common.{Option, Some, None, ◌⊎◌, refl, sym, ap, ◌∙◌, subst, inl, inr, append_assoc, length-append, arith}
 use Rattle.std.specs.Prelude.{◌&&◌, All, slice_get}
-use Rattle.std.specs.List.{flat_map}
-use Rattle.std.proofs.lemmas.Bool.{and_cases, and_left, and_parts, cases_lt, eq-eqb, le-leb, lt-leb, ne_eqb, eqb-true, eqb-false, leb-true, leb-false, false≢true}
-use Rattle.std.proofs.lemmas.List.{append-nil, length_push, set_split, drop_all, take_more, take_all}
+use Rattle.std.specs.List.{filter, flat_map}
+use Rattle.std.proofs.lemmas.Bool.{and_cases, and_left, and_parts, cases_lt, cond-false, cond-true, eq-eqb, le-leb, lt-leb, ne_eqb, eqb-true, eqb-false, leb-true, leb-false, false≢true}
+use Rattle.std.proofs.lemmas.List.{append-nil, length_push, set_split, drop_all, get_or_at, take_more, take_all}
 use Rattle.std.proofs.lemmas.List.Concat.{flat_map-append}
-use Rattle.std.proofs.lemmas.List.Elements.{All-nil, All-cons, All-push}
+use Rattle.std.proofs.lemmas.List.Elements.{All-nil, All-cons, All-get_or, All-push, filter-append}
 use Rattle.std.proofs.lemmas.Option.{same_Some, none-some, get_or_from_slice_get, slice_get_within}
 use Rattle.tcp_seq.proofs.Lookups.{get-append_left, get-append_right}
 use Rattle.imported_sessions.specs.declared.imported.Said.{Said}
@@ -202,3 +202,48 @@ module _ (step : Option Said) (last message : Said) (is : Some last ≡ step) wh
       ne_eqb last.peer message.peer ne
       ∙ sym (and_left (eqb last.peer message.peer) (leb (length last.octets + length message.octets) 4096) (ne_eqb last.peer message.peer ne))
       ∙ ap (λ (o : Option Said). has_room o message) is
+
+-- the last step with the octets of a message that has room in it
+pub joined_last : (steps : List Said) (message : Said) → has_room (last_of steps) message ≡ true → (i : ℕ) → i ≡ length steps - 1 → (old : Said)
+    → old ≡ get_or steps i old → (octets : List ℕ) → octets ≡ old.octets ++ message.octets → (all : List Said) → ArePacked all steps
+    → ArePacked (all ++ message ∷ []) (set steps i (record old { octets = octets }))
+joined_last steps message room i at old is octets joined all p =
+    let r = room_is (last_of steps) message room in
+    let split = last_split steps r.0 r.1 in
+    let front = take (length steps - 1) steps in
+    let same : old ≡ r.0 = is ∙ ap (λ j. get_or steps j old) at ∙ get_or_from_slice_get steps (length steps - 1) r.0 old r.1 in
+    let peer : old.peer ≡ message.peer = ap (λ (s : Said). s.peer) same ∙ r.2 in
+    let fits : length old.octets + length message.octets ≤ 4096 =
+    subst (λ (s : Said). length s.octets + length message.octets ≤ 4096) (sym same) r.3 in
+    let parts : steps ≡ front ++ old ∷ [] = split.1 ∙ ap (λ (s : Said). front ++ s ∷ []) (sym same) in
+    let whole : ArePacked (all ++ message ∷ []) (front ++ record old { octets = octets } ∷ []) =
+    subst (λ (xs : List ℕ). ArePacked (all ++ message ∷ []) (front ++ record old { octets = xs } ∷ [])) (sym joined)
+    (joins_step front old message peer fits all (subst (ArePacked all) parts p)) in
+    subst (ArePacked (all ++ message ∷ []))
+    (sym (ap (λ j. set steps j (record old { octets = octets })) at ∙ last_set steps (record old { octets = octets }) split.0)) whole
+
+-- ---- messages that are kept
+
+module _ {X : Type 0} (p : X → Bool) (xs : List X) (x : X) where
+  pub kept_more : p x ≡ true → filter p (xs ++ x ∷ []) ≡ filter p xs ++ x ∷ []
+  kept_more e = filter-append p xs (x ∷ []) ∙ ap (λ ys. filter p xs ++ ys) (cond-true (p x) (x ∷ []) [] e)
+
+  pub left_more : p x ≡ false → filter p (xs ++ x ∷ []) ≡ filter p xs
+  left_more e = filter-append p xs (x ∷ []) ∙ ap (λ ys. filter p xs ++ ys) (cond-false (p x) (x ∷ []) [] e) ∙ append-nil (filter p xs)
+
+-- what holds of each element holds of the next one
+pub holds_here : {X : Type 0} (P : X → Type 0) (all before rest : List X) (x : X) → All P all → before ++ x ∷ rest ≡ all → P x
+holds_here P all before rest x each parts =
+    let size : length (before ++ x ∷ rest) ≡ length before + suc (length rest) = length-append before (x ∷ rest) in
+    subst P (ap (λ ys. get_or ys (length before) x) (sym parts) ∙ get_or_at before x rest x (length before) refl)
+    (All-get_or P all (length before) x (omega (arith, size, ap length parts)) each)
+
+pub filter_both : {X : Type 0} (p q : X → Bool) → ((x : X) → p x ≡ true → q x ≡ true) → (xs : List X) → filter p (filter q xs) ≡ filter p xs
+filter_both p q within [] = refl
+filter_both p q within (x ∷ xs) = by_test (filter_both p q within xs) (q x) refl (p x) refl where
+  by_test : filter p (filter q xs) ≡ filter p xs → (t : Bool) → q x ≡ t → (u : Bool) → p x ≡ u
+      → filter p (cond t (x ∷ filter q xs) (filter q xs)) ≡ cond u (x ∷ filter p xs) (filter p xs)
+  by_test rest true e true f = cond-true (p x) (x ∷ filter p (filter q xs)) (filter p (filter q xs)) f ∙ ap (λ ys. x ∷ ys) rest
+  by_test rest true e false f = cond-false (p x) (x ∷ filter p (filter q xs)) (filter p (filter q xs)) f ∙ rest
+  by_test rest false e true f = absurd (false≢true (sym e ∙ within x f))
+  by_test rest false e false f = rest

@@ -50,3 +50,7 @@ next_is f count xs before rest x is parts =
       sym (get_or_at before x rest x (length before) refl) ∙ ap (λ ys. get_or ys (length before) x) parts
           ∙ at f f count xs is (length before) x below,
     )
+
+-- where nothing is left, there are as many as there were
+pub all_counted : {A : Type 0} (xs before rest : List A) → before ++ rest ≡ xs → length rest ≡ 0 → length before ≡ length xs
+all_counted xs before rest parts none = omega (arith, none, ap length parts, length-append before rest)

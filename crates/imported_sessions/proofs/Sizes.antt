@@ -33,10 +33,10 @@ module _ {X Y : Type 0} (P : Y → Type 0) where
 
   all_found : (f : X → Option Y) → ((x : X) (y : Y) → f x ≡ Some y → P y) → (xs : List X) → All P (filter_map f xs)
   all_found f each [] = All-nil P
-  all_found f each (x ∷ xs) = by_front (f x) refl where
-    by_front : (o : Option Y) → f x ≡ o → All P (cons_option o (filter_map f xs))
-    by_front None e = all_found f each xs
-    by_front (Some y) e = All-cons P y (filter_map f xs) (each x y e) (all_found f each xs)
+  all_found f each (x ∷ xs) = by_front (all_found f each xs) (f x) refl where
+    by_front : All P (filter_map f xs) → (o : Option Y) → f x ≡ o → All P (cons_option o (filter_map f xs))
+    by_front rest None e = rest
+    by_front rest (Some y) e = All-cons P y (filter_map f xs) (each x y e) rest
 
 all_in_range : (P : ℕ → Type 0) (a n : ℕ) → ((k : ℕ) → k < a + n → P k) → All P (range_with_len a n)
 all_in_range P a zero each = All-nil P

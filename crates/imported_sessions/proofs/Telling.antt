@@ -67,11 +67,11 @@ module _ (keeps : ℕ → Bool) (k : ℕ) (kept : keeps k ≡ true) (h : ℕ →
         let rest = once (a + 1) n (omega (arith, low, ne)) (omega (arith, high)) in
         by_test (keeps a) (others a ne) rest
   ]
-  where
-    by_test : (t : Bool) → h a ≡ [] → flat_map h (filter keeps (range_with_len (a + 1) n)) ≡ h k
-        → flat_map h (cond t (a ∷ filter keeps (range_with_len (a + 1) n)) (filter keeps (range_with_len (a + 1) n))) ≡ h k
-    by_test true none rest = ap (λ xs. xs ++ flat_map h (filter keeps (range_with_len (a + 1) n))) none ∙ rest
-    by_test false none rest = rest
+    where
+      by_test : (t : Bool) → h a ≡ [] → flat_map h (filter keeps (range_with_len (a + 1) n)) ≡ h k
+          → flat_map h (cond t (a ∷ filter keeps (range_with_len (a + 1) n)) (filter keeps (range_with_len (a + 1) n))) ≡ h k
+      by_test true none rest = ap (λ xs. xs ++ flat_map h (filter keeps (range_with_len (a + 1) n))) none ∙ rest
+      by_test false none rest = rest
 
 -- ---- the octets of one remote
 
@@ -91,21 +91,20 @@ module _ (k : ℕ) where
   by_kept : (keeps : ℕ → Bool) → keeps k ≡ true → (all : List Said)
       → flat_map (octets_by k) (filter (λ said. keeps said.peer) all) ≡ flat_map (octets_by k) all
   by_kept keeps kept [] = refl
-  by_kept keeps kept (said ∷ all) = by_test (keeps said.peer) refl where
-    by_test : (t : Bool) → keeps said.peer ≡ t
+  by_kept keeps kept (said ∷ all) = by_test (by_kept keeps kept all) (keeps said.peer) refl where
+    by_test : flat_map (octets_by k) (filter (λ said. keeps said.peer) all) ≡ flat_map (octets_by k) all → (t : Bool) → keeps said.peer ≡ t
         → flat_map (octets_by k) (cond t (said ∷ filter (λ said. keeps said.peer) all) (filter (λ said. keeps said.peer) all))
         ≡ octets_by k said ++ flat_map (octets_by k) all
-    by_test true e = ap (λ (xs : List ℕ). octets_by k said ++ xs) (by_kept keeps kept all)
-    by_test false e =
+    by_test rest true e = ap (λ (xs : List ℕ). octets_by k said ++ xs) rest
+    by_test rest false e =
         let ne : said.peer ≡ k → ⊥ = λ same. false≢true (sym e ∙ ap keeps same ∙ kept) in
-        by_kept keeps kept all
-        ∙ ap (λ (xs : List ℕ). xs ++ flat_map (octets_by k) all) (sym (cond-false (eqb said.peer k) said.octets [] (ne_eqb said.peer k ne)))
+        rest ∙ ap (λ (xs : List ℕ). xs ++ flat_map (octets_by k) all) (sym (cond-false (eqb said.peer k) said.octets [] (ne_eqb said.peer k ne)))
 
   -- ---- in steps
 
   by_part : (peer : ℕ) (part : List Said) → All (λ said. said.peer ≡ peer) part → flat_map (octets_by k) part ≡ cond (eqb peer k) (octets_in part) []
   by_part peer [] one = both (eqb peer k) where
-    both : (t : Bool) → [] ≡ cond t [] []
+    both : (t : Bool) → ◌≡◌ {A = List ℕ} [] (cond t [] [])
     both true = refl
     both false = refl
   by_part peer (said ∷ part) one =
@@ -260,11 +259,12 @@ peering_tells s home_as k peer p e = by_test (is_external s home_as k) refl (rem
 
 found : {X Y : Type 0} (f : X → Option Y) (xs : List X) (n : ℕ) (y : Y) → slice_get (filter_map f xs) n ≡ Some y → (x : X) × (f x ≡ Some y)
 found f [] n y e = absurd (none-some y e)
-found {X} {Y} f (x ∷ xs) n y e = by_front (f x) refl n e where
-  by_front : (o : Option Y) → f x ≡ o → (n : ℕ) → slice_get (cons_option o (filter_map f xs)) n ≡ Some y → (x : X) × (f x ≡ Some y)
-  by_front None is n e = found f xs n y e
-  by_front (Some z) is zero e = (x, is ∙ e)
-  by_front (Some z) is (suc n) e = found f xs n y e
+found {X} {Y} f (x ∷ xs) n y e = by_front (λ m e. found f xs m y e) (f x) refl n e where
+  by_front : ((m : ℕ) → slice_get (filter_map f xs) m ≡ Some y → (x : X) × (f x ≡ Some y)) → (o : Option Y) → f x ≡ o → (n : ℕ)
+      → slice_get (cons_option o (filter_map f xs)) n ≡ Some y → (x : X) × (f x ≡ Some y)
+  by_front rest None is n e = rest n e
+  by_front rest (Some z) is zero e = (x, is ∙ e)
+  by_front rest (Some z) is (suc n) e = rest n e
 
 pub says_all : (s : Streams) (i : Imported) → IsImport s i → SayAll s i
 says_all s i imported n p at =

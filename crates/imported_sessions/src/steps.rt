@@ -60,9 +60,10 @@ pub(crate) fn pack(
 {
     let mut steps = Vec::new(alloc);
     for message in said.into_vec() {
-        if is_external(opened, home_as, message.peer) {
-            push_message(&mut steps, message)?;
+        if !is_external(opened, home_as, message.peer) {
+            continue;
         }
+        push_message(&mut steps, message)?;
     }
     Ok(steps)
 }
