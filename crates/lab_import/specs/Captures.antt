@@ -15,7 +15,7 @@ use Rattle.lab_import.specs.Limits.{Fits, IsBeyond}
 use Rattle.lab_import.specs.Inputs.{input_of_import, IsTextOf}
 use Rattle.lab_import.specs.declared.limits.Beyond.{Beyond}
 use Rattle.lab_import.specs.declared.capture.CaptureFault.{CaptureFault}
-use Rattle.lab_import.specs.declared.capture.CaptureFault.TheVariants.{Form, Missing, NoOpen, Limit, Unread, NoMemory}
+use Rattle.lab_import.specs.declared.capture.CaptureFault.TheVariants.{Form, Missing, NoOpen, Limit, Unread}
 
 -- ---- what is imported
 
@@ -68,7 +68,10 @@ IsFault home file (Missing hole) = (packets : List Captured) × IsCapture file p
 IsFault home file (NoOpen remote) = (s : Streams) × HasStreams home file s × IsFirstWithoutOpen s remote
 IsFault home file (Limit remote octet) = IsLimit home file remote octet
 IsFault home file Unread = IsUnread home file
-IsFault home file NoMemory = Unit {0}
+
+-- the limit of octets of a capture
+abbrev pub most_capture : ℕ
+most_capture = 268435456
 
 -- ---- what is said of it
 
@@ -85,4 +88,3 @@ fault_line (Missing hole) = remote_line hole.remote (codes "hole") hole.octet
 fault_line (NoOpen remote) = remote_line remote (codes "bgp") 0
 fault_line (Limit remote octet) = remote_line remote (codes "limit") octet
 fault_line Unread = line (codes "bad capture: unread")
-fault_line NoMemory = line (codes "no memory")

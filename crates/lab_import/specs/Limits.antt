@@ -14,12 +14,13 @@ use Rattle.lab_import.specs.declared.limits.Beyond.{Beyond}
 abbrev pub fits_peering : (n : ℕ) → ImportedPeering → Bool
 fits_peering n p = nat_lt n 32 && not (is_no_host p.remote_address) && not (is_no_host p.local_address)
 
-abbrev pub opening_of : Imported → (peer : ℕ) → List ℕ
-opening_of i peer = unwrap_or (option_map (λ p. p.opening) (find (λ p. p.peer == peer) i.peerings)) []
+-- what the remote of a connection says at first
+abbrev pub opening_at : List ImportedPeering → (peer : ℕ) → List ℕ
+opening_at peerings peer = unwrap_or (option_map (λ p. p.opening) (find (λ p. p.peer == peer) peerings)) []
 
 -- the place of a step's first octet in the stream of its remote, counted from 0
 abbrev pub place_of : Imported → (n : ℕ) → Said → ℕ
-place_of i n step = length (opening_of i step.peer) + length (flat_map (octets_by step.peer) (take n i.steps))
+place_of i n step = length (opening_at i.peerings step.peer) + length (flat_map (octets_by step.peer) (take n i.steps))
 
 -- how long the text is with its first n steps
 abbrev pub length_with : Imported → (n : ℕ) → ℕ
@@ -29,17 +30,22 @@ length_with i n = length (head_text i) + length (steps_text (take n i.steps)) + 
 abbrev pub fits_step : Imported → (n : ℕ) → Said → Bool
 fits_step i n step = nat_lt n 4095 && nat_le (place_of i n step + length step.octets) 1048576 && nat_le (length_with i (suc n)) 4194304
 
+abbrev pub AllPeeringsFit : Imported → Type 0
+AllPeeringsFit i = (n : ℕ) (p : ImportedPeering) → slice_get i.peerings n ≡ Some p → fits_peering n p ≡ true
+
+abbrev pub AllStepsFit : Imported → Type 0
+AllStepsFit i = (n : ℕ) (step : Said) → slice_get i.steps n ≡ Some step → fits_step i n step ≡ true
+
 -- All have room.
 pub record Fits (i : Imported) : Type 0 where
-  pub peerings : (n : ℕ) (p : ImportedPeering) → slice_get i.peerings n ≡ Some p → fits_peering n p ≡ true
-  pub steps : (n : ℕ) (step : Said) → slice_get i.steps n ≡ Some step → fits_step i n step ≡ true
+  pub peerings : AllPeeringsFit i
+  pub steps : AllStepsFit i
 
 -- this is the first peering that has no room, or else the first step
 pub data IsBeyond (i : Imported) (beyond : Beyond) : Type 0 where
   peering : (n : ℕ) (p : ImportedPeering) → slice_get i.peerings n ≡ Some p → fits_peering n p ≡ false
       → ((m : ℕ) (other : ImportedPeering) → m < n → slice_get i.peerings m ≡ Some other → fits_peering m other ≡ true)
       → beyond ≡ record { peer = p.peer; octet = 0 } → IsBeyond i beyond
-  step : ((m : ℕ) (p : ImportedPeering) → slice_get i.peerings m ≡ Some p → fits_peering m p ≡ true)
-      → (n : ℕ) (step : Said) → slice_get i.steps n ≡ Some step → fits_step i n step ≡ false
+  step : AllPeeringsFit i → (n : ℕ) (step : Said) → slice_get i.steps n ≡ Some step → fits_step i n step ≡ false
       → ((m : ℕ) (other : Said) → m < n → slice_get i.steps m ≡ Some other → fits_step i m other ≡ true)
       → beyond ≡ record { peer = step.peer; octet = place_of i n step } → IsBeyond i beyond

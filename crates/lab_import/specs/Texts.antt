@@ -12,17 +12,17 @@ use Rattle.imported_sessions.specs.declared.imported.Imported.{Imported}
 abbrev pub line : List ℕ → List ℕ
 line text = text ++ 10 ∷ []
 
-abbrev pub number_key : (key : List ℕ) → ℕ → List ℕ
+unfoldable pub number_key : (key : List ℕ) → ℕ → List ℕ
 number_key key n = line (key ++ codes " = " ++ decimal n)
 
-abbrev pub text_key : (key text : List ℕ) → List ℕ
+unfoldable pub text_key : (key text : List ℕ) → List ℕ
 text_key key text = line (key ++ codes " = \"" ++ text ++ codes "\"")
 
 abbrev pub flag_text : Bool → List ℕ
 flag_text true = codes "true"
 flag_text false = codes "false"
 
-abbrev pub flag_key : (key : List ℕ) → Bool → List ℕ
+unfoldable pub flag_key : (key : List ℕ) → Bool → List ℕ
 flag_key key flag = line (key ++ codes " = " ++ flag_text flag)
 
 -- ---- tables
@@ -77,7 +77,7 @@ abbrev pub left_out_text : Imported → List ℕ
 left_out_text i =
     line (codes "# Imported from a capture. Left out were, in packets and in sessions:")
     ++ line (codes "# fragments " ++ decimal i.fragments ++ codes ", of other connections " ++ decimal i.others ++ codes ", within the home AS "
-        ++ decimal i.internal)
+    ++ decimal i.internal)
 
 abbrev pub head_text : Imported → List ℕ
 head_text i =

@@ -1,5 +1,22 @@
 //! What has no room in an input.
 
+ghost use Rattle.std.specs.Prelude.{◌≡◌, ℕ, ◌&&◌, nat_lt, nat_le, length, min, true, false, Some, slice_get, IfSome, IfNone, unwrap_or};
+ghost use Rattle.std.specs.BTreeMap.{get};
+ghost use Rattle.std.specs.Ordering.{nat_cmp};
+ghost use Rattle.imported_sessions.specs.declared.imported.ImportedPeering.{ImportedPeering as PeeringValue};
+ghost use Rattle.lab_import.specs.Limits.{AllPeeringsFit, IsBeyond, fits_peering as fits_peering_lem, opening_at};
+
+use bgp_types::is_no_host;
+use imported_sessions::{Imported, ImportedPeering};
+use lab_input::{MOST_BYTES, MOST_OCTETS};
+use std::collections::BTreeMap;
+
+/// The most peerings of an input.
+const MOST_PEERINGS: usize = 32;
+
+/// The most steps of an input, without the settle behind them.
+const MOST_STEPS: usize = 4095;
+
 /// The first peering or step of imported sessions that has no room.
 #[derive(Clone, Copy, Debug, PartialEq, Eq)]
 pub(crate) struct Beyond {
@@ -7,4 +24,58 @@ pub(crate) struct Beyond {
     pub(crate) peer: usize,
     /// The place of its first octet in the stream of the remote, counted from 0.
     pub(crate) octet: u64,
+}
+
+/// Whether a peering has room: at most so many are before it, and its addresses are those of hosts.
+fn fits_peering(n: usize, peering: &ImportedPeering) -> bool
+    ensures { result ≡ fits_peering_lem n peering.now }
+{
+    n < MOST_PEERINGS && !is_no_host(peering.remote_address) && !is_no_host(peering.local_address)
+}
+
+/// Returns the first peering that has no room.
+pub(crate) fn peering_beyond(imported: &Imported) -> Option<Beyond>
+    ensures some { IfSome result (IsBeyond imported.now) }
+    ensures none { IfNone result (AllPeeringsFit imported.now) }
+{
+    for (n, peering) in imported.peerings.iter().enumerate() {
+        if !fits_peering(n, peering) {
+            return Some(Beyond {
+                peer: peering.peer,
+                octet: 0,
+            });
+        }
+    }
+    None
+}
+
+/// Returns how many octets the opening of a connection's peering has.
+fn opening_len(peerings: &[ImportedPeering], peer: usize) -> u64
+    ensures { result ≡ length (opening_at peerings.now peer) }
+{
+    match peerings.iter().find(|peering| peering.peer == peer) {
+        Some(peering) => peering.opening.len() as u64,
+        None => 0,
+    }
+}
+
+/// Returns how many octets a remote has said so far. One that has said nothing in a step has said its opening.
+pub(crate) fn said_so_far(
+    said: &BTreeMap<usize, u64>,
+    peerings: &[ImportedPeering],
+    peer: usize,
+) -> u64
+    ensures { result ≡ unwrap_or (get nat_cmp said.now peer) (length (opening_at peerings.now peer)) }
+{
+    match said.get(&peer) {
+        Some(octets) => *octets,
+        None => opening_len(peerings, peer),
+    }
+}
+
+/// Whether a step has room behind so many others, where its octets end at this place and the text has this length with it.
+pub(crate) fn fits_step(n: usize, end: u64, len: usize) -> bool
+    ensures { result ≡ nat_lt n 4095 && nat_le end 1048576 && nat_le len 4194304 }
+{
+    n < MOST_STEPS && end <= MOST_OCTETS && len <= MOST_BYTES
 }
