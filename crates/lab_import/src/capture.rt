@@ -6,7 +6,8 @@ ghost use Rattle.lab_import.specs.declared.capture.Unimported.TheVariants as sto
 ghost use Rattle.lab_import.specs.declared.capture.CaptureFault.TheVariants as faults;
 ghost use Rattle.lab_import.specs.Captures.{fault_line as fault_line_lem, remote_line as remote_line_lem, HasStreams, IsFault, IsImported};
 
-use crate::text::{TextStop, lab_text};
+use crate::limits::TextStop;
+use crate::text::{is_read, lab_text};
 use bgp_types::Address;
 use captured_streams::{Hole, StreamStop, Streams, captured_streams};
 use graft_edge::{Items, NoMemory, Octets};
@@ -48,6 +49,17 @@ pub enum Unimported {
     NoMemory,
 }
 
+impl From<NoMemory> for Unimported {
+    ghost use Rattle.std.specs.Prelude.{◌≡◌};
+    ghost use Rattle.lab_import.specs.declared.capture.Unimported.TheVariants as stops;
+
+    ghost from_gives = { λ _ stop. stop ≡ stops.NoMemory };
+
+    fn from(_error: NoMemory) -> Unimported {
+        Unimported::NoMemory
+    }
+}
+
 /// Reads the sessions of a capture.
 fn read_streams(alloc: Global, home: Option<u32>, file: &[u8]) -> Result<Streams, Unimported>
     ensures streams { IfOk result (HasStreams home file.now) }
@@ -81,15 +93,18 @@ pub fn import_capture(alloc: Global, home: Option<u32>, file: &[u8]) -> Result<O
         }
         Err(ImportStop::NoMemory) => return Err(Unimported::NoMemory),
     };
-    match lab_text(alloc, &imported) {
-        Ok(text) => Ok(text),
+    let text = match lab_text(alloc, &imported) {
+        Ok(text) => text,
         Err(TextStop::Beyond(beyond)) => {
             let remote = streams.peers[beyond.peer].remote;
-            Err(Unimported::Fault(CaptureFault::Limit(remote, beyond.octet)))
+            return Err(Unimported::Fault(CaptureFault::Limit(remote, beyond.octet)));
         }
-        Err(TextStop::Unread) => Err(Unimported::Fault(CaptureFault::Unread)),
-        Err(TextStop::NoMemory) => Err(Unimported::NoMemory),
+        Err(TextStop::NoMemory) => return Err(Unimported::NoMemory),
+    };
+    if !is_read(alloc, &text, &imported)? {
+        return Err(Unimported::Fault(CaptureFault::Unread));
     }
+    Ok(text)
 }
 
 /// Returns the line of a fault in the form of a file.

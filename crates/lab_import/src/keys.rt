@@ -11,6 +11,7 @@ use std::alloc::Global;
 use std::fmt::Write;
 
 /// Adds a key with a number.
+#[tactic(auto, unfolding(crate::specs::Texts::number_key))]
 pub(crate) fn push_number(text: &mut String, key: &str, number: u64) -> Result<(), NoMemory>
     ensures { OnOk result (string_bytes text.new ≡ string_bytes text.old ++ number_key key.now number) }
 {
@@ -19,6 +20,7 @@ pub(crate) fn push_number(text: &mut String, key: &str, number: u64) -> Result<(
 }
 
 /// Adds a key with a text in which nothing is to be escaped.
+#[tactic(auto, unfolding(crate::specs::Texts::text_key))]
 pub(crate) fn push_text(text: &mut String, key: &str, value: &str) -> Result<(), NoMemory>
     ensures { OnOk result (string_bytes text.new ≡ string_bytes text.old ++ text_key key.now value.now) }
 {
@@ -27,6 +29,7 @@ pub(crate) fn push_text(text: &mut String, key: &str, value: &str) -> Result<(),
 }
 
 /// Adds a key with a name that ends in a number.
+#[tactic(auto, unfolding(crate::specs::Texts::text_key))]
 pub(crate) fn push_name(
     text: &mut String,
     key: &str,
@@ -40,6 +43,7 @@ pub(crate) fn push_name(
 }
 
 /// Adds a key with an address.
+#[tactic(auto, unfolding(crate::specs::Texts::text_key))]
 pub(crate) fn push_address(text: &mut String, key: &str, address: u32) -> Result<(), NoMemory>
     ensures { OnOk result (string_bytes text.new ≡ string_bytes text.old ++ text_key key.now (address_text address)) }
 {
@@ -69,6 +73,7 @@ fn flag_text(flag: bool) -> &'static str
 }
 
 /// Adds a key with a flag.
+#[tactic(auto, unfolding(crate::specs::Texts::flag_key))]
 pub(crate) fn push_flag(text: &mut String, key: &str, flag: bool) -> Result<(), NoMemory>
     ensures { OnOk result (string_bytes text.new ≡ string_bytes text.old ++ flag_key key.now flag) }
 {

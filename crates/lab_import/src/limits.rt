@@ -1,13 +1,13 @@
 //! What has no room in an input.
 
-ghost use Rattle.std.specs.Prelude.{◌≡◌, ℕ, ◌&&◌, nat_lt, nat_le, length, min, true, false, Some, slice_get, IfSome, IfNone, unwrap_or};
+ghost use Rattle.std.specs.Prelude.{◌≡◌, ◌&&◌, nat_lt, nat_le, length, IfSome, IfNone, unwrap_or};
 ghost use Rattle.std.specs.BTreeMap.{get};
 ghost use Rattle.std.specs.Ordering.{nat_cmp};
-ghost use Rattle.imported_sessions.specs.declared.imported.ImportedPeering.{ImportedPeering as PeeringValue};
-ghost use Rattle.lab_import.specs.Limits.{AllPeeringsFit, IsBeyond, fits_peering as fits_peering_lem, opening_at};
+ghost use Rattle.lab_import.specs.Limits.{AllPeeringsFit, IsPeeringBeyond, fits_peering as fits_peering_lem, opening_at};
 
 use bgp_types::is_no_host;
-use imported_sessions::{Imported, ImportedPeering};
+use graft_edge::NoMemory;
+use imported_sessions::ImportedPeering;
 use lab_input::{MOST_BYTES, MOST_OCTETS};
 use std::collections::BTreeMap;
 
@@ -26,6 +26,25 @@ pub(crate) struct Beyond {
     pub(crate) octet: u64,
 }
 
+/// Why there is no text.
+#[derive(Clone, Copy, Debug, PartialEq, Eq)]
+pub(crate) enum TextStop {
+    /// The first peering or step that has no room in an input.
+    Beyond(Beyond),
+    NoMemory,
+}
+
+impl From<NoMemory> for TextStop {
+    ghost use Rattle.std.specs.Prelude.{◌≡◌};
+    ghost use Rattle.lab_import.specs.declared.limits.TextStop.TheVariants as stops;
+
+    ghost from_gives = { λ _ stop. stop ≡ stops.NoMemory };
+
+    fn from(_error: NoMemory) -> TextStop {
+        TextStop::NoMemory
+    }
+}
+
 /// Whether a peering has room: at most so many are before it, and its addresses are those of hosts.
 fn fits_peering(n: usize, peering: &ImportedPeering) -> bool
     ensures { result ≡ fits_peering_lem n peering.now }
@@ -34,11 +53,11 @@ fn fits_peering(n: usize, peering: &ImportedPeering) -> bool
 }
 
 /// Returns the first peering that has no room.
-pub(crate) fn peering_beyond(imported: &Imported) -> Option<Beyond>
-    ensures some { IfSome result (IsBeyond imported.now) }
-    ensures none { IfNone result (AllPeeringsFit imported.now) }
+pub(crate) fn peering_beyond(peerings: &[ImportedPeering]) -> Option<Beyond>
+    ensures some { IfSome result (IsPeeringBeyond peerings.now) }
+    ensures none { IfNone result (AllPeeringsFit peerings.now) }
 {
-    for (n, peering) in imported.peerings.iter().enumerate() {
+    for (n, peering) in peerings.iter().enumerate() {
         if !fits_peering(n, peering) {
             return Some(Beyond {
                 peer: peering.peer,

@@ -2,19 +2,19 @@
 
 ghost use Rattle.std.specs.Prelude.{◌≡◌, ◌++◌, Err, length, OnOk, string_bytes};
 ghost use Rattle.lab_import.specs.Texts.{head_text, step_text, steps_text, tail_text};
-ghost use Rattle.lab_import.specs.Limits.{AllPeeringsFit, AllStepsFit, IsBeyond};
+ghost use Rattle.lab_import.specs.Limits.{AllStepsFit, IsStepBeyond};
 ghost use Rattle.lab_import.specs.declared.limits.Beyond.{Beyond as BeyondValue};
-ghost use Rattle.lab_import.specs.declared.text.TextStop.TheVariants as stops;
+ghost use Rattle.lab_import.specs.declared.limits.TextStop.TheVariants as stops;
 
 use crate::keys::{push_octets, push_text};
-use crate::limits::{Beyond, fits_step, said_so_far};
+use crate::limits::{Beyond, TextStop, fits_step, said_so_far};
 use crate::tables::push_peering_name;
-use crate::text::TextStop;
 use graft_edge::NoMemory;
 use imported_sessions::{Imported, Said};
 use std::alloc::Global;
 use std::collections::BTreeMap;
 
+#[tactic(auto, unfolding(crate::specs::Texts::step_text))]
 fn push_step(text: &mut String, alloc: Global, step: &Said) -> Result<(), NoMemory>
     ensures { OnOk result (string_bytes text.new ≡ string_bytes text.old ++ step_text step.now) }
 {
@@ -35,10 +35,9 @@ pub(crate) fn push_steps(
 ) -> Result<(), TextStop>
     requires head { string_bytes text.old ≡ head_text imported.now }
     requires tail { tail ≡ length (tail_text imported.now) }
-    requires peerings { AllPeeringsFit imported.now }
     ensures text { OnOk result (string_bytes text.new ≡ string_bytes text.old ++ steps_text imported.now.steps) }
     ensures fits { OnOk result (AllStepsFit imported.now) }
-    ensures beyond { (beyond : BeyondValue) → result ≡ Err (stops.Beyond beyond) → IsBeyond imported.now beyond }
+    ensures beyond { (beyond : BeyondValue) → result ≡ Err (stops.Beyond beyond) → IsStepBeyond imported.now beyond }
 {
     let mut said = BTreeMap::new(alloc);
     for (n, step) in imported.steps.iter().enumerate() {

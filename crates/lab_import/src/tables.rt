@@ -42,6 +42,7 @@ pub(crate) fn push_peering_name(text: &mut String, key: &str, peer: usize) -> Re
     push_name(text, key, "p", number)
 }
 
+#[tactic(auto, unfolding(crate::specs::Texts::router_table))]
 fn push_router(text: &mut String, number: u64, id: u32) -> Result<(), NoMemory>
     ensures { OnOk result (string_bytes text.new ≡ string_bytes text.old ++ router_table number id) }
 {
@@ -54,6 +55,7 @@ fn push_router(text: &mut String, number: u64, id: u32) -> Result<(), NoMemory>
 }
 
 /// Adds the names, the AS, the addresses and the identifier of a peering.
+#[tactic(auto, unfolding(crate::specs::Texts::peering_ends))]
 fn push_peering_ends(text: &mut String, peering: &ImportedPeering) -> Result<(), NoMemory>
     ensures { OnOk result (string_bytes text.new ≡ string_bytes text.old ++ peering_ends peering.now) }
 {
@@ -67,6 +69,7 @@ fn push_peering_ends(text: &mut String, peering: &ImportedPeering) -> Result<(),
 }
 
 /// Adds what the two sides of a peering say at first.
+#[tactic(auto, unfolding(crate::specs::Texts::peering_opens))]
 fn push_peering_opens(
     text: &mut String,
     alloc: Global,
@@ -99,6 +102,7 @@ fn push_peerings(
 }
 
 /// Adds what was left out, as a comment.
+#[tactic(auto, unfolding(crate::specs::Texts::left_out_text))]
 fn push_left_out(text: &mut String, imported: &Imported) -> Result<(), NoMemory>
     ensures { OnOk result (string_bytes text.new ≡ string_bytes text.old ++ left_out_text imported.now) }
 {
@@ -114,6 +118,7 @@ fn push_left_out(text: &mut String, imported: &Imported) -> Result<(), NoMemory>
 }
 
 /// Returns what stands in front of the steps.
+#[tactic(auto, unfolding(crate::specs::Texts::head_text))]
 pub(crate) fn head_of(alloc: Global, imported: &Imported) -> Result<String, NoMemory>
     ensures { IfOk result (λ text. string_bytes text ≡ head_text imported.now) }
 {
@@ -129,6 +134,7 @@ pub(crate) fn head_of(alloc: Global, imported: &Imported) -> Result<String, NoMe
 }
 
 /// Adds a graft of a peering, as a comment.
+#[tactic(auto, unfolding(crate::specs::Texts::graft_text))]
 fn push_graft(text: &mut String, peering: &ImportedPeering) -> Result<(), NoMemory>
     ensures { OnOk result (string_bytes text.new ≡ string_bytes text.old ++ graft_text peering.now) }
 {
@@ -150,6 +156,7 @@ fn push_grafts(text: &mut String, peerings: &[ImportedPeering]) -> Result<(), No
 }
 
 /// Returns what stands behind the steps: the grafts as comments, and a settle.
+#[tactic(auto, unfolding(crate::specs::Texts::tail_text))]
 pub(crate) fn tail_of(alloc: Global, imported: &Imported) -> Result<String, NoMemory>
     ensures { IfOk result (λ text. string_bytes text ≡ tail_text imported.now) }
 {
