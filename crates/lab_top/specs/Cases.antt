@@ -113,6 +113,11 @@ abbrev pub EndsAudit : Told → (faults_before faults_after : ℕ) → (before a
 EndsAudit told faults_before faults_after before after finish =
     (finish.lab ≡ None) × WritesText told.text (audit_status told.end) faults_before faults_after before after finish.status
 
+-- What is said of a capture, and its status.
+abbrev pub EndsImport : (text : List ℕ) → (planned : ℕ) → (faults_before faults_after : ℕ) → (before after : Option (List ℕ)) → Finish → Type 0
+EndsImport text planned faults_before faults_after before after finish =
+    (finish.lab ≡ None) × WritesText text planned faults_before faults_after before after finish.status
+
 -- A job ends whose source gave no input.
 abbrev pub StopsFor : InputStop → (faults_before faults_after : ℕ) → (before after : Option (List ℕ)) → Result Finish NoMemory → Type 0
 StopsFor (stops.Bad text) faults_before faults_after before after end = WritesOr text 2 faults_before faults_after before after end
@@ -134,6 +139,7 @@ abbrev pub RunsLab : Job → Type 0
 RunsLab (jobs.Check form) = ⊥
 RunsLab (jobs.Make seed) = ⊥
 RunsLab jobs.Audit = ⊥
+RunsLab (jobs.Import home) = ⊥
 RunsLab jobs.Help = ⊥
 RunsLab jobs.Version = ⊥
 RunsLab _ = Unit {0}
@@ -183,6 +189,8 @@ pub data Cause (job : Job) (left_before left_after : Option (List ℕ)) (text : 
       → SaysVerdict form read.bytes answer text
       → planned ≡ verdict_status answer → lab ≡ None → Cause job left_before left_after text planned lab
   audits : (end : AuditEnd) → job ≡ jobs.Audit → ReadsText left_before left_after text end → planned ≡ audit_status end → lab ≡ None
+      → Cause job left_before left_after text planned lab
+  imports : (home : Option ℕ) → job ≡ jobs.Import home → ReadsCapture home left_before left_after text planned → lab ≡ None
       → Cause job left_before left_after text planned lab
   refuses : RunsLab job → Refuses job left_before left_after text → planned ≡ 2 → lab ≡ None → Cause job left_before left_after text planned lab
   misses : (input : LabInput) (view : ViewName) (workers : ℕ) (name : List ℕ) → job ≡ viewing view workers → ReadsInput left_before left_after (Ok input)

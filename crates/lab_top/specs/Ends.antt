@@ -13,7 +13,7 @@ use Rattle.lab_audit.specs.declared.audited.AuditEnd.{AuditEnd}
 use Rattle.lab_audit.specs.declared.audited.AuditEnd.TheVariants as audit_ends
 use Rattle.lab_words.specs.declared.job.Form.{Form}
 use Rattle.lab_words.specs.declared.job.Job.{Job}
-use Rattle.lab_words.specs.declared.job.Job.TheVariants.{Run, Check, Make, Drill, Journal, Audit, Capture, Test, Help, Version}
+use Rattle.lab_words.specs.declared.job.Job.TheVariants.{Run, Check, Make, Drill, Journal, Audit, Capture, Import, Test, Help, Version}
 use Rattle.lab_words.specs.Asked.{usage_text, version_text, Asks}
 use Rattle.lab_make.specs.Made.{made}
 use Rattle.lab_report.specs.declared.lab.Lab.{Lab}
@@ -22,6 +22,9 @@ use Rattle.lab_report.specs.declared.lab.RunEnd.TheVariants.{Settled, Unsettled,
 use Rattle.lab_report.specs.BadText.{bad_line}
 use Rattle.journal_form.specs.Journals.{journal_text}
 use Rattle.lab_capture.specs.Captures.{IsLabCapture}
+use Rattle.lab_import.specs.Captures.{fault_line, IsFault, IsImported, most_capture}
+use Rattle.lab_import.specs.declared.capture.CaptureFault.{CaptureFault}
+use Rattle.lab_import.specs.declared.capture.CaptureFault.TheVariants.{Form}
 use Rattle.expect_view.specs.Expect.{all_hold, test_status}
 use Rattle.lab_top.specs.declared.views.ViewName.{ViewName}
 use Rattle.lab_top.specs.Forms.{accepted_in, IsReportIn}
@@ -48,6 +51,10 @@ AskForJournal words = (workers : ℕ) × Asks words (Journal workers)
 -- They ask for its capture.
 abbrev pub AskForCapture : List (List ℕ) → Type 0
 AskForCapture words = (workers : ℕ) × Asks words (Capture workers)
+
+-- They ask for the laboratory of a capture, with its home side at this address or at BGP's port.
+abbrev pub AskToImport : List (List ℕ) → (home : Option ℕ) → Type 0
+AskToImport words home = Asks words (Import home)
 
 -- They ask whether a journal is that of a run.
 abbrev pub AskToAudit : List (List ℕ) → Type 0
@@ -145,12 +152,33 @@ pub record ReadsText (before after : Option (List ℕ)) (text : List ℕ) (end :
 abbrev pub TookNoJournal : (words : List (List ℕ)) → (before after : Option (List ℕ)) → (text : List ℕ) → Type 0
 TookNoJournal words before after text = AskToAudit words × ReadsText before after text audit_ends.NoJournal
 
+-- what is said of a capture with more octets than one may have
+abbrev pub long_capture : List ℕ
+long_capture = fault_line (Form most_capture)
+
+-- The text is the laboratory that is imported from these octets, or the line for their fault; and this is its status.
+abbrev pub SaysImport : (home : Option ℕ) → List ℕ → (text : List ℕ) → (status : ℕ) → Type 0
+SaysImport home octets text status =
+    (IsImported home octets text × (status ≡ 0)) ⊎ ((fault : CaptureFault) × IsFault home octets fault × (text ≡ fault_line fault) × (status ≡ 2))
+
+-- Octets were taken from a source, and this is what is imported of them: of all that there were, at most 256 MiB, or that they are more.
+pub record ReadsCapture (home : Option ℕ) (before after : Option (List ℕ)) (text : List ℕ) (status : ℕ) : Type 0 where
+  pub octets : List ℕ
+  pub took : Took before after octets
+  pub says :
+      (IsAtEnd after × (length octets ≤ most_capture) × SaysImport home octets text status)
+      ⊎ ((most_capture < length octets) × (text ≡ long_capture) × (status ≡ 2))
+
+-- What was taken from a source is to be imported and isn't, for the reason that the text says.
+abbrev pub TookNoCapture : (words : List (List ℕ)) → (before after : Option (List ℕ)) → (text : List ℕ) → Type 0
+TookNoCapture words before after text = (home : Option ℕ) × AskToImport words home × ReadsCapture home before after text 2
+
 -- What is to be checked or run is none, for the reason that the text says: what was taken from a source, or the laboratory of a seed; or it hasn't
--- what the words name; or what is to be audited is no journal.
+-- what the words name; or what is to be audited is no journal; or what is to be imported isn't.
 abbrev pub GaveBadInput : (words : List (List ℕ)) → (before after : Option (List ℕ)) → (text : List ℕ) → Type 0
 GaveBadInput words before after text =
     TookBadInput before after text ⊎ ((seed : ℕ) × AskToDrill words seed × SaysWhy (made seed) (input_of (made seed)) text)
-    ⊎ NamesUnknown words before after text ⊎ TookNoJournal words before after text
+    ⊎ NamesUnknown words before after text ⊎ TookNoJournal words before after text ⊎ TookNoCapture words before after text
 
 -- ---- the sink
 
@@ -210,6 +238,14 @@ pub record Audits (left_before left_after : Option (List ℕ)) (faults_before fa
   pub end : AuditEnd
   pub reads : ReadsText left_before left_after text end
   pub wrote : WritesText text (audit_status end) faults_before faults_after before after status
+
+-- What was read from the source was imported, or its fault said.
+pub record Imports (home : Option ℕ) (left_before left_after : Option (List ℕ)) (faults_before faults_after : ℕ) (before after : Option (List ℕ)) (status : ℕ)
+    : Type 0 where
+  pub text : List ℕ
+  pub planned : ℕ
+  pub reads : ReadsCapture home left_before left_after text planned
+  pub wrote : WritesText text planned faults_before faults_after before after status
 
 -- The report of a run was written under the status of its end: a text that says how the run ended and where packets go then.
 pub record WritesReport (lab : Lab) (form : Form) (faults_before faults_after : ℕ) (before after : Option (List ℕ)) (status : ℕ) : Type 0 where

@@ -5,6 +5,7 @@ mod audit;
 mod built;
 mod finish;
 mod forms;
+mod imports;
 mod jobs;
 mod laws;
 mod top;

@@ -11,13 +11,14 @@ ghost use Rattle.lab_input.specs.Labs.{InputOf};
 ghost use Rattle.lab_run.specs.Runs.{RanLab};
 ghost use Rattle.lab_top.specs.Forms.{summary_in, test_in};
 ghost use Rattle.lab_top.specs.declared.views.ViewName.{ViewName};
-ghost use Rattle.lab_top.specs.Ends.{AreRefused, AskToCheck, AskToRun, AskForJournal, AskForCapture, AskToAudit, AskToTest, AskToView, RunsSource, AskToSum, AskToDrill, AskForLab};
+ghost use Rattle.lab_top.specs.Ends.{AreRefused, AskToCheck, AskToRun, AskForJournal, AskForCapture, AskToAudit, AskToImport, AskToTest, AskToView, RunsSource, AskToSum, AskToDrill, AskForLab};
 ghost use Rattle.lab_top.specs.Ends.{AskToMake, AskForLine, AskUnread, TookInput, GaveBadInput, IsStatus, WritesText, WritesReport, WritesJournal, WritesCapture, WritesView};
-ghost use Rattle.lab_top.specs.Ends.{Audits, Checks, end_status, tested_status, HasFailed};
+ghost use Rattle.lab_top.specs.Ends.{Audits, Checks, Imports, end_status, tested_status, HasFailed};
 ghost use Rattle.lab_top.specs.Cases.{outside, ReadsSource, DidOr, EndsOr, Ended};
 
 use crate::audit::audit_job;
 use crate::finish::{DONE, Finish, NO_MEMORY, USAGE, end_with, without_run};
+use crate::imports::import_job;
 use crate::jobs::{capture_job, check_job, drill_job, journal_job, make_job, run_job, test_job, view_job};
 use crate::views::ViewName;
 use graft_edge::{Gate, NoMemory, Sink, Source, Words};
@@ -50,6 +51,7 @@ fn do_job<R: Threads + Sync + AllocGlobal, S: Source, K: Sink, G: Gate>(
         Job::Journal { workers } => journal_job(rt, source, sink, workers, gate),
         Job::Audit => audit_job(alloc, source, sink),
         Job::Capture { workers } => capture_job(rt, source, sink, workers, gate),
+        Job::Import { home } => import_job(alloc, source, sink, home),
         Job::Timeline { workers, form } => {
             view_job(rt, source, sink, ViewName::Timeline(form), workers, gate)
         }
@@ -121,9 +123,10 @@ fn finish_of<R: Threads + Sync + AllocGlobal, S: Source, K: Sink, G: Gate>(
 
 /// Does what the words of a command ask for. `run` reads an input from the source to its end, runs it and
 /// writes the report to the sink; each actor's turn passes the gate first. `journal` writes the input and the
-/// journal of its run in place of a report, `capture` a pcap file of what its remotes' links carried, `show`, `timeline`, `why`, `story` and `picture` write a view of it, and
-/// `test` writes which expectations of the input hold of it. `check` reads an input and writes whether it is one.
-/// `audit` reads such a text of an input and a journal, and writes whether some run has that journal.
+/// journal of its run in place of a report, `capture` a pcap file of what taps at the links of its remotes see, `show`,
+/// `timeline`, `why`, `story` and `picture` write a view of it, and `test` writes which expectations of the input hold of it. `check` reads an input and writes whether it is one.
+/// `audit` reads such a text of an input and a journal, and writes whether some run has that journal. `import` reads a
+/// capture of sessions, pcap or pcapng, and writes the laboratory that has them.
 /// With `--json` what `check`, `run`, `drill`, `show`, `timeline`, `why` and `test` write is one JSON object.
 /// `make` writes the laboratory of a seed; `drill` runs it and writes the summary. `--help` writes the usage, and
 /// `--version` the version. Other words are refused with the usage and a hint.
@@ -166,8 +169,14 @@ where
         ⊎ Audits (S.left source.old) (S.left source.new) (K.faults sink.old) (K.faults sink.new) (K.written sink.old) (K.written sink.new) result.status }
     ensures denied { result.status ≡ 8 → AskToAudit words.now }
 
+    // `import` reads the source to its end, or past the most octets of a capture, and writes a laboratory in which each remote
+    // says just the octets that it says in the capture; or its first fault.
+    ensures imported { (home : Option ℕ) → AskToImport words.now home → (result.status ≡ 4) ⊎ (result.status ≡ 6)
+        ⊎ Imports home (S.left source.old) (S.left source.new) (K.faults sink.old) (K.faults sink.new) (K.written sink.old) (K.written sink.new) result.status }
+
     // An input is refused only where the bytes are none, or none that can be run yet, or where it hasn't the router or
-    // peering of a view, or where the text that is to be audited is no journal, and then a line says why, and a hint what is wanted.
+    // peering of a view, or where the text that is to be audited is no journal, or what is to be imported isn't, and then a
+    // line says why, and mostly a hint what is wanted.
     ensures bad_input { result.status ≡ 2
         → (text : _) × GaveBadInput words.now (S.left source.old) (S.left source.new) text × Appended (K.written sink.old) (K.written sink.new) text }
     ensures bad_input_unwritten { AskForLab words.now → result.status ≡ 5 → result.lab ≡ None
@@ -186,7 +195,7 @@ where
     ensures ended { AskForLab words.now → (result.status ≡ 0) ⊎ (result.status ≡ 3) ⊎ (result.status ≡ 7) ⊎ (result.status ≡ 9)
         → IsSome result.lab }
     ensures no_run { AreRefused words.now ⊎ AskToMake words.now ⊎ ((form : Form) × AskToCheck words.now form)
-        ⊎ AskToAudit words.now ⊎ ((line : List ℕ) × AskForLine words.now line) → result.lab ≡ None }
+        ⊎ AskToAudit words.now ⊎ ((home : Option ℕ) × AskToImport words.now home) ⊎ ((line : List ℕ) × AskForLine words.now line) → result.lab ≡ None }
     ensures ran { OnSome result.lab (AskForLab words.now
         × ((result.status ≡ 0) ⊎ (result.status ≡ 3) ⊎ (result.status ≡ 5) ⊎ (result.status ≡ 7) ⊎ (result.status ≡ 9))) }
     ensures input { IfSome result.lab (λ lab. RunsSource words.now → TookInput (S.left source.old) (S.left source.new) lab.input) }
@@ -203,9 +212,10 @@ where
 
     // Its text is written whole, under the status of its end, or a write failed and a front of it stands: a report,
     // which ends with where packets go to the addresses of the input, a summary, the input with the journal behind it,
-    // a capture of what taps at the links of the remotes see, or a view: a timeline, all that there is at its end, the story of a peering's session, why a router has its route
-    // to a prefix, or a picture; each in the form that is asked for. Of a test it is which expectations of the input
-    // hold, and the status is 9 where the run is settled and one of them doesn't.
+    // a capture of what taps at the links of the remotes see, or a view: a timeline, all that there is at its end, the
+    // story of a peering's session, why a router has its route to a prefix, or a picture; each in the form that is asked
+    // for. Of a test it is which expectations of the input hold, and the status is 9 where the run is settled and one of
+    // them doesn't.
     ensures reported { IfSome result.lab (λ lab. (form : Form) → AskToRun words.now form
         → WritesReport lab form (K.faults sink.old) (K.faults sink.new) (K.written sink.old) (K.written sink.new) result.status) }
     ensures summed { IfSome result.lab (λ lab. (form : Form) → ((seed : ℕ) × AskToSum words.now seed form) → WritesText (summary_in form lab)

@@ -1,21 +1,21 @@
 -- Which words are a command of the program, and the job that they ask for.
-use Rattle.std.specs.Prelude.{◌≡◌, ℕ, ◌+◌, ◌<◌, ◌≤◌, true, List, [], ◌∷◌, ◌++◌, length, Option, Some, None, codes, if◌then◌else◌}
+use Rattle.std.specs.Prelude.{◌≡◌, ℕ, ◌+◌, ◌<◌, ◌≤◌, true, List, [], ◌∷◌, ◌++◌, length, Option, Some, None, is_some, codes, if◌then◌else◌}
 use Rattle.std.specs.Str.{bytes_eq}
 use Rattle.std.specs.Str.Parse.{IsNumeral, digits_value}
 use Rattle.clap.specs.Words.{App, Row, Rule, Text, first_of, matches_of, new_app, new_rule, with_rule, fault_of, Kinds}
 use Rattle.bgp_types.specs.Finds.{Finds}
-use Rattle.bgp_types.specs.Texts.{IsPrefixText}
+use Rattle.bgp_types.specs.Texts.{IsAddressText, IsPrefixText}
 use Rattle.clap.specs.declared.builder.action.ArgAction.TheVariants.{SetTrue}
 use Rattle.lab_words.specs.declared.arguments.Arguments.{Arguments}
 use Rattle.lab_words.specs.declared.job.Form.{Form}
 use Rattle.lab_words.specs.declared.job.Form.TheVariants.{Plain, Json}
 use Rattle.lab_words.specs.declared.job.Job.{Job}
-use Rattle.lab_words.specs.declared.job.Job.TheVariants.{Run, Check, Make, Drill, Journal, Audit, Capture, Timeline, Show, Story, Why, Picture, Test, Help, Version}
+use Rattle.lab_words.specs.declared.job.Job.TheVariants.{Run, Check, Make, Drill, Journal, Audit, Capture, Import, Timeline, Show, Story, Why, Picture, Test, Help, Version}
 
 -- the usage line of the program
 abbrev pub usage_text : List ℕ
 usage_text =
-    codes "usage: graftlab run|check|make N|drill N|journal|audit|capture|show|timeline|why ROUTER PREFIX|story PEERING|picture|test [--workers W] [--json]" ++ 10 ∷ []
+    codes "usage: graftlab run|check|make N|drill N|journal|audit|capture|import [HOME]|show|timeline|why ROUTER PREFIX|story PEERING|picture|test [--workers W] [--json]" ++ 10 ∷ []
 
 -- the version line of the program
 abbrev pub version_text : List ℕ
@@ -86,6 +86,10 @@ abbrev pub IsSeed : Option Text → ℕ → Type 0
 IsSeed None seed = ⊥
 IsSeed (Some text) seed = IsSeedText text seed
 
+abbrev pub IsAddress : Option Text → ℕ → Type 0
+IsAddress None address = ⊥
+IsAddress (Some text) address = IsAddressText text address
+
 -- The text writes a number of workers: one digit from 1 to 8.
 abbrev pub IsWorkersText : Text → ℕ → Type 0
 IsWorkersText text workers = (1 ≤ workers) × (workers ≤ 8) × (text ≡ (48 + workers) ∷ [])
@@ -102,10 +106,11 @@ abbrev pub form_of : Option Text → Form
 form_of None = Plain
 form_of (Some text) = if bytes_eq text (codes "true") then Json else Plain
 
--- These texts are read as these arguments: a subject is kept as it is, and is a seed where it writes one.
+-- These texts are read as these arguments: a subject is kept as it is, and is a seed or an address where it writes one.
 pub record AreArguments (subject prefix workers json : Option Text) (arguments : Arguments) : Type 0 where
   pub as_subject : arguments.subject ≡ subject
   pub as_seed : Finds (IsSeed subject) arguments.seed
+  pub as_address : Finds (IsAddress subject) arguments.address
   pub as_prefix : IsReadAs IsPrefixText prefix arguments.prefix
   pub as_workers : IsReadAs IsWorkersText workers arguments.workers
   pub as_form : arguments.form ≡ form_of json
@@ -121,6 +126,7 @@ name_of (Drill seed workers form) = codes "drill"
 name_of (Journal workers) = codes "journal"
 name_of Audit = codes "audit"
 name_of (Capture workers) = codes "capture"
+name_of (Import home) = codes "import"
 name_of (Timeline workers form) = codes "timeline"
 name_of (Show workers form) = codes "show"
 name_of (Story peering workers) = codes "story"
@@ -139,6 +145,10 @@ several (Some workers) = workers
 abbrev pub AreWorkersAlone : Arguments → ℕ → Type 0
 AreWorkersAlone arguments workers = (arguments.subject ≡ None) × (arguments.prefix ≡ None) × (workers ≡ several arguments.workers)
 
+-- Nothing is given, or an address.
+abbrev pub IsHome : Arguments → Option ℕ → Type 0
+IsHome arguments home = (home ≡ arguments.address) × (is_some arguments.subject ≡ is_some arguments.address)
+
 -- What stands beside the name of a job. `--help` and `--version` are names of no line.
 abbrev pub HasArguments : Arguments → Job → Type 0
 HasArguments given (Run workers form) = AreWorkersAlone given workers × (form ≡ given.form)
@@ -149,6 +159,8 @@ HasArguments given (Drill seed workers form) =
 HasArguments given (Journal workers) = AreWorkersAlone given workers × (given.form ≡ Plain)
 HasArguments given Audit = (given.subject ≡ None) × (given.prefix ≡ None) × (given.workers ≡ None) × (given.form ≡ Plain)
 HasArguments given (Capture workers) = AreWorkersAlone given workers × (given.form ≡ Plain)
+HasArguments given (Import home) =
+    IsHome given home × (given.prefix ≡ None) × (given.workers ≡ None) × (given.form ≡ Plain)
 HasArguments given (Timeline workers form) = AreWorkersAlone given workers × (form ≡ given.form)
 HasArguments given (Show workers form) = AreWorkersAlone given workers × (form ≡ given.form)
 HasArguments given (Story peering workers) =

@@ -24,6 +24,7 @@ job_forms =
     ∷ (codes "journal", workers_alone_form)
     ∷ (codes "audit", codes "audit takes nothing else; the text of a journal comes on standard input: graftlab audit < journal.txt")
     ∷ (codes "capture", workers_alone_form)
+    ∷ (codes "import", codes "import takes maybe the address of the home side; a capture comes on standard input: graftlab import 192.0.2.2 < run.pcap")
     ∷ (codes "show", formed_form)
     ∷ (codes "timeline", formed_form)
     ∷ (codes "why", codes "why takes a router and a prefix, and maybe --workers W, with W from 1 to 8, and --json: graftlab why east 10.0.0.0/8 < lab.toml")
@@ -44,7 +45,7 @@ abbrev pub job_names : List Text
 job_names = map (λ row. row.0) job_forms
 
 abbrev pub jobs_words : Text
-jobs_words = codes "the first word is a job: run check make drill journal audit capture show timeline why story picture test"
+jobs_words = codes "the first word is a job: run check make drill journal audit capture import show timeline why story picture test"
     ++ codes "; an input comes on standard input: graftlab run < lab.toml"
 
 -- the job that may be meant, or all of them

@@ -7,7 +7,7 @@ use Rattle.lab_words.specs.declared.arguments.Arguments.{Arguments}
 use Rattle.lab_words.specs.declared.job.Form.{Form}
 use Rattle.lab_words.specs.declared.job.Form.TheVariants.{Plain, Json}
 use Rattle.lab_words.specs.declared.job.Job.{Job}
-use Rattle.lab_words.specs.declared.job.Job.TheVariants.{Run, Check, Make, Drill, Journal, Audit, Capture, Timeline, Show, Story, Why, Picture, Test}
+use Rattle.lab_words.specs.declared.job.Job.TheVariants.{Run, Check, Make, Drill, Journal, Audit, Capture, Import, Timeline, Show, Story, Why, Picture, Test}
 use Rattle.lab_words.specs.declared.job.WordStop.{WordStop}
 use Rattle.lab_words.specs.declared.job.WordStop.TheVariants.{Usage, NoMemory}
 use Rattle.lab_words.specs.Asked.{several}
@@ -41,6 +41,15 @@ check_with subject prefix workers form = unless subject (unless prefix (unless w
 abbrev pub audit_with : Option Text → Option PrefixValue → Option ℕ → Option Job
 audit_with subject prefix workers = unless subject (unless prefix (unless workers (Some Audit)))
 
+-- no address, where nothing is given; or the address that is
+abbrev pub home_with : Option Text → Option ℕ → Option (Option ℕ)
+home_with None None = Some None
+home_with (Some text) (Some address) = Some (Some address)
+home_with _ _ = None
+
+abbrev pub import_with : Option Text → Option ℕ → Option PrefixValue → Option ℕ → Option Job
+import_with subject address prefix workers = unless prefix (unless workers (option_map Import (home_with subject address)))
+
 abbrev pub make_with : Option ℕ → Option PrefixValue → Option ℕ → Option Job
 make_with seed prefix workers = unless prefix (unless workers (option_map Make seed))
 
@@ -64,9 +73,10 @@ job_named name given =
     else (if bytes_eq name (codes "journal") then plain given.form (option_map Journal (workers_alone given.subject given.prefix given.workers))
     else (if bytes_eq name (codes "audit") then plain given.form (audit_with given.subject given.prefix given.workers)
     else (if bytes_eq name (codes "capture") then plain given.form (option_map Capture (workers_alone given.subject given.prefix given.workers))
+    else (if bytes_eq name (codes "import") then plain given.form (import_with given.subject given.address given.prefix given.workers)
     else (if bytes_eq name (codes "timeline") then option_map (λ w. Timeline w given.form) (workers_alone given.subject given.prefix given.workers)
     else (if bytes_eq name (codes "show") then option_map (λ w. Show w given.form) (workers_alone given.subject given.prefix given.workers)
     else (if bytes_eq name (codes "story") then plain given.form (story_with given.subject given.prefix given.workers)
     else (if bytes_eq name (codes "why") then why_with given.subject given.prefix given.workers given.form
     else (if bytes_eq name (codes "picture") then plain given.form (option_map Picture (workers_alone given.subject given.prefix given.workers))
-    else (if bytes_eq name (codes "test") then option_map (λ w. Test w given.form) (workers_alone given.subject given.prefix given.workers) else None))))))))))))
+    else (if bytes_eq name (codes "test") then option_map (λ w. Test w given.form) (workers_alone given.subject given.prefix given.workers) else None)))))))))))))

@@ -18,6 +18,8 @@ pub(crate) struct Arguments {
     pub subject: Option<Name>,
     /// The seed that this text writes, if it writes one.
     pub seed: Option<u32>,
+    /// The address that it writes, if it writes one.
+    pub address: Option<u32>,
     pub prefix: Option<Prefix>,
     pub workers: Option<usize>,
     pub form: Form,

@@ -19,7 +19,7 @@ const WORKERS_AND_JSON: &str =
 
 /// Which jobs there are.
 const JOBS_TEXT: &str =
-    "the first word is a job: run check make drill journal audit capture show timeline why story picture test; an input comes on standard input: graftlab run < lab.toml";
+    "the first word is a job: run check make drill journal audit capture import show timeline why story picture test; an input comes on standard input: graftlab run < lab.toml";
 
 /// Returns what the job of a name takes, if there is one.
 fn form_of(name: &str) -> Option<&'static str>
@@ -39,6 +39,9 @@ fn form_of(name: &str) -> Option<&'static str>
             "audit takes nothing else; the text of a journal comes on standard input: graftlab audit < journal.txt",
         ),
         "capture" => Some(WORKERS_ALONE),
+        "import" => Some(
+            "import takes maybe the address of the home side; a capture comes on standard input: graftlab import 192.0.2.2 < run.pcap",
+        ),
         "show" => Some(WORKERS_AND_JSON),
         "timeline" => Some(WORKERS_AND_JSON),
         "why" => Some(
@@ -58,8 +61,8 @@ fn meant_by(alloc: Global, word: &str) -> Result<Option<&'static str>, NoMemory>
     ensures { IfOk result (λ near. option_map (λ name. name.now) near ≡ nearest_lem job_names word.now) }
 {
     let names = [
-        "run", "check", "make", "drill", "journal", "audit", "capture", "show", "timeline", "why",
-        "story", "picture", "test",
+        "run", "check", "make", "drill", "journal", "audit", "capture", "import", "show", "timeline",
+        "why", "story", "picture", "test",
     ];
     nearest(alloc, &names, word)
 }

@@ -48,6 +48,10 @@ pub enum Job {
     Capture {
         workers: usize,
     },
+    /// Write the laboratory of the sessions in the capture of the source; the home side is at this address, or without it at port 179.
+    Import {
+        home: Option<u32>,
+    },
     /// Run the laboratory of the source, and write its events round by round.
     Timeline {
         workers: usize,
@@ -97,7 +101,7 @@ pub enum WordStop {
 
 /// The usage line of the program.
 pub const USAGE_TEXT: &str =
-    "usage: graftlab run|check|make N|drill N|journal|audit|capture|show|timeline|why ROUTER PREFIX|story PEERING|picture|test [--workers W] [--json]\n";
+    "usage: graftlab run|check|make N|drill N|journal|audit|capture|import [HOME]|show|timeline|why ROUTER PREFIX|story PEERING|picture|test [--workers W] [--json]\n";
 
 /// The version line of the program.
 pub const VERSION_TEXT: &str = "graftlab 0.1.0\n";

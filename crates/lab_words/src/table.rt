@@ -2,7 +2,7 @@
 
 ghost use Rattle.std.specs.Prelude.{◌≡◌, option_map};
 ghost use Rattle.lab_words.specs.Asked.{IsJob, given_by};
-ghost use Rattle.lab_words.specs.Reading.{Answers, plain, workers_alone, check_with, audit_with, make_with, drill_with, story_with, why_with, job_named};
+ghost use Rattle.lab_words.specs.Reading.{Answers, plain, workers_alone, check_with, audit_with, home_with, import_with, make_with, drill_with, story_with, why_with, job_named};
 
 use crate::arguments::{Arguments, arguments_in};
 use crate::job::{Form, Job, WordStop};
@@ -57,6 +57,32 @@ fn audit_with(subject: Option<Name>, prefix: Option<Prefix>, workers: Option<usi
         (None, None, None) => Some(Job::Audit),
         _ => None,
     }
+}
+
+/// Returns the address that is given, or none where nothing is given.
+fn home_with(subject: Option<Name>, address: Option<u32>) -> Option<Option<u32>>
+    ensures { result ≡ home_with subject address }
+{
+    match (subject, address) {
+        (None, None) => Some(None),
+        (Some(_), Some(address)) => Some(Some(address)),
+        _ => None,
+    }
+}
+
+/// Returns the job `import`, beside which nothing stands, or an address.
+fn import_with(
+    subject: Option<Name>,
+    address: Option<u32>,
+    prefix: Option<Prefix>,
+    workers: Option<usize>,
+) -> Option<Job>
+    ensures { result ≡ import_with subject address prefix workers }
+{
+    if prefix.is_some() || workers.is_some() {
+        return None;
+    }
+    home_with(subject, address).map(|home| Job::Import { home })
 }
 
 /// Returns the job `make`, beside which a seed stands.
@@ -128,6 +154,7 @@ fn job_named(name: &str, arguments: Arguments) -> Option<Job>
     let Arguments {
         subject,
         seed,
+        address,
         prefix,
         workers,
         form,
@@ -149,6 +176,7 @@ fn job_named(name: &str, arguments: Arguments) -> Option<Job>
             form,
             workers_alone(subject, prefix, workers).map(|workers| Job::Capture { workers }),
         ),
+        "import" => plain(form, import_with(subject, address, prefix, workers)),
         "timeline" => Some(Job::Timeline {
             workers: workers_alone(subject, prefix, workers)?,
             form,

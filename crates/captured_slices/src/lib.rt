@@ -1,0 +1,6 @@
+//! What a remote says is read from its segments, in whatever order, however often and in whatever pieces they come.
+#![tactic(auto)]
+
+mod laws;
+
+pub use laws::slices_are_joined;
