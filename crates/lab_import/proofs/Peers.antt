@@ -81,10 +81,10 @@ module _ {X : Type 0} (P : X → Type 0) where
 -- ---- peerings
 
 peer_is : (s : Streams) (k : ℕ) (peer : Peer) (p : ImportedPeering)
-    → option_map (λ «open». peering_with s k peer «open» (home_open s k)) (remote_open s k) ≡ Some p → p.peer ≡ k
-peer_is s k peer p e = elim (remote_open s k) as (λ o. option_map (λ «open». peering_with s k peer «open» (home_open s k)) o ≡ Some p → p.peer ≡ k) [
+    → option_map (λ o. peering_with s k peer o (home_open s k)) (remote_open s k) ≡ Some p → p.peer ≡ k
+peer_is s k peer p e = elim (remote_open s k) as (λ q. option_map (λ o. peering_with s k peer o (home_open s k)) q ≡ Some p → p.peer ≡ k) [
   | None ↦ λ e. absurd (None-Some p e)
-  | Some «open» ↦ λ e. sym (ap (λ q. q.peer) (Some-same (peering_with s k peer «open» (home_open s k)) p e))
+  | Some o ↦ λ e. sym (ap (λ q. q.peer) (Some-same (peering_with s k peer o (home_open s k)) p e))
 ] e
 
 module _ (s : Streams) (home_as : ℕ) where
@@ -94,12 +94,12 @@ module _ (s : Streams) (home_as : ℕ) where
   kept_below : (k : ℕ) → is_external s home_as k ≡ true → IsBelow k
   kept_below k e =
       (Decides-ltb k (length s.peers)).0
-      (and_parts (nat_lt k (length s.peers)) (option_map_or (λ «open». not (has_as home_as «open»)) (remote_open s k) false) e).0
+      (and_parts (nat_lt k (length s.peers)) (option_map_or (λ o. not (has_as home_as o)) (remote_open s k) false) e).0
 
   peering_below : (x : ℕ × Peer) (p : ImportedPeering) → peering_at s home_as x ≡ Some p → IsBelow p.peer
   peering_below (k, peer) p e = elim (is_external s home_as k)
       as (λ (b : Bool). is_external s home_as k ≡ b
-      → cond b (option_map (λ «open». peering_with s k peer «open» (home_open s k)) (remote_open s k)) None ≡ Some p → IsBelow p.peer) [
+      → cond b (option_map (λ o. peering_with s k peer o (home_open s k)) (remote_open s k)) None ≡ Some p → IsBelow p.peer) [
         | true ↦ λ kept is. subst IsBelow (sym (peer_is s k peer p is)) (kept_below k kept)
         | false ↦ λ left is. absurd (None-Some p is)
       ] refl e
