@@ -1,3 +1,3 @@
+pub mod Pairs
 pub mod Peers
-pub mod Sameness
 pub mod StepsSoFar

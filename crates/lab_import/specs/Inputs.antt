@@ -1,5 +1,5 @@
 -- The laboratory that a text of imported sessions stands for.
-use Rattle.std.specs.Prelude.{ℕ, ◌≡◌, ◌+◌, ◌==◌, false, List, [], ◌∷◌, ◌++◌, codes, decimal, map, position, unwrap_or, None}
+use Rattle.std.specs.Prelude.{ℕ, ◌≡◌, ◌+◌, ◌==◌, false, List, [], ◌∷◌, ◌++◌, codes, map, position, unwrap_or, None}
 use Rattle.lab_tables.specs.declared.input.LabInput.{LabInput}
 use Rattle.lab_tables.specs.declared.input.RouterInput.{RouterInput}
 use Rattle.lab_tables.specs.declared.input.PeeringInput.{PeeringInput}
@@ -13,8 +13,8 @@ use Rattle.lab_import.specs.Texts.{first_id, peering_name, second_id, text_of}
 use Rattle.lab_import.specs.Limits.{Fits}
 
 -- a router with room for all sessions
-abbrev pub router_named : (name : List ℕ) → (id : ℕ) → RouterInput
-router_named name id = record {
+abbrev pub router_of : (name : List ℕ) → (id : ℕ) → RouterInput
+router_of name id = record {
   name = name;
   id = id;
   sessions = 32;
@@ -22,9 +22,6 @@ router_named name id = record {
   networks = [];
   policies = [];
 }
-
-abbrev pub router_of : (number id : ℕ) → RouterInput
-router_of number id = router_named (codes "r" ++ decimal number) id
 
 abbrev pub peering_of : ImportedPeering → PeeringInput
 peering_of p = record {
@@ -58,7 +55,7 @@ step_of peerings step = Raw (record { 0 = number_of peerings step.peer }) step.o
 abbrev pub input_of_import : Imported → LabInput
 input_of_import i = record {
   home_as = i.home_as;
-  routers = router_of 1 (first_id i) ∷ router_of 2 (second_id i) ∷ [];
+  routers = router_of (codes "r1") (first_id i) ∷ router_of (codes "r2") (second_id i) ∷ [];
   costs = [];
   peerings = map peering_of i.peerings;
   faults = [];

@@ -39,9 +39,9 @@ first_id i = unwrap_or i.home_id 0x0AFF0001
 abbrev pub second_id : Imported → ℕ
 second_id i = if first_id i == 0x0AFF0002 then 0x0AFF0001 else 0x0AFF0002
 
-unfoldable pub router_table : (number id : ℕ) → List ℕ
-router_table number id =
-    line (codes "[[router]]") ++ text_key (codes "name") (codes "r" ++ decimal number) ++ text_key (codes "id") (address_text id)
+unfoldable pub router_table : (name : List ℕ) → (id : ℕ) → List ℕ
+router_table name id =
+    line (codes "[[router]]") ++ text_key (codes "name") name ++ text_key (codes "id") (address_text id)
     ++ line (number_key (codes "sessions") 32)
 
 unfoldable pub peering_ends : ImportedPeering → List ℕ
@@ -81,7 +81,7 @@ left_out_text i =
 
 unfoldable pub head_text : Imported → List ℕ
 head_text i =
-    line (left_out_text i) ++ line (number_key (codes "home_as") i.home_as) ++ router_table 1 (first_id i) ++ router_table 2 (second_id i)
+    line (left_out_text i) ++ line (number_key (codes "home_as") i.home_as) ++ router_table (codes "r1") (first_id i) ++ router_table (codes "r2") (second_id i)
     ++ flat_map peering_table i.peerings
 
 unfoldable pub tail_text : Imported → List ℕ

@@ -1,7 +1,7 @@
 //! What has no room in an input.
 
-ghost use Rattle.std.specs.Prelude.{◌≡◌, ◌&&◌, nat_lt, nat_le, length, IfSome, IfNone, unwrap_or};
-ghost use Rattle.std.specs.BTreeMap.{get};
+ghost use Rattle.std.specs.Prelude.{◌≡◌, ◌==◌, ◌&&◌, nat_lt, nat_le, length, find, option_copied, Some, IfSome, IfNone, OnOk, unwrap_or};
+ghost use Rattle.std.specs.BTreeMap.{get, Updates};
 ghost use Rattle.std.specs.Ordering.{nat_cmp};
 ghost use Rattle.lab_import.specs.Limits.{AllPeeringsFit, IsPeeringBeyond, fits_peering as fits_peering_lem, opening_at};
 
@@ -11,10 +11,10 @@ use imported_sessions::ImportedPeering;
 use lab_input::{MOST_BYTES, MOST_OCTETS};
 use std::collections::BTreeMap;
 
-/// The most peerings of an input.
+/// The limit of peerings of an input.
 const MOST_PEERINGS: usize = 32;
 
-/// The most steps of an input, without the settle behind them.
+/// The limit of steps of an input, without the settle behind them.
 const MOST_STEPS: usize = 4095;
 
 /// The first peering or step of imported sessions that has no room.
@@ -45,7 +45,7 @@ impl From<NoMemory> for TextStop {
     }
 }
 
-/// Whether a peering has room: at most so many are before it, and its addresses are those of hosts.
+/// Whether a peering has room behind `n` others: an input may have one more, and its addresses are those of hosts.
 fn fits_peering(n: usize, peering: &ImportedPeering) -> bool
     ensures { result ≡ fits_peering_lem n peering.now }
 {
@@ -68,17 +68,31 @@ pub(crate) fn peering_beyond(peerings: &[ImportedPeering]) -> Option<Beyond>
     None
 }
 
+/// Whether a peering is that of a connection.
+pub(crate) fn is_of(peer: usize, peering: &ImportedPeering) -> bool
+    ensures { result ≡ (peering.now.peer == peer) }
+{
+    peering.peer == peer
+}
+
+/// Returns the peering of a connection.
+fn peering_at(peerings: &[ImportedPeering], peer: usize) -> Option<&ImportedPeering>
+    ensures { option_copied result ≡ find (λ p. p.peer == peer) peerings.now }
+{
+    peerings.iter().find(|peering| is_of(peer, peering))
+}
+
 /// Returns how many octets the opening of a connection's peering has.
 fn opening_len(peerings: &[ImportedPeering], peer: usize) -> u64
     ensures { result ≡ length (opening_at peerings.now peer) }
 {
-    match peerings.iter().find(|peering| peering.peer == peer) {
+    match peering_at(peerings, peer) {
         Some(peering) => peering.opening.len() as u64,
         None => 0,
     }
 }
 
-/// Returns how many octets a remote has said so far. One that has said nothing in a step has said its opening.
+/// Returns how many octets a remote has said so far: if none in a step, those of its opening.
 pub(crate) fn said_so_far(
     said: &BTreeMap<usize, u64>,
     peerings: &[ImportedPeering],
@@ -92,7 +106,19 @@ pub(crate) fn said_so_far(
     }
 }
 
-/// Whether a step has room behind so many others, where its octets end at this place and the text has this length with it.
+/// Notes how many octets a remote has said.
+pub(crate) fn note_said(
+    said: &mut BTreeMap<usize, u64>,
+    peer: usize,
+    octets: u64,
+) -> Result<(), NoMemory>
+    ensures { OnOk result (Updates nat_cmp said.old said.new peer (Some octets)) }
+{
+    said.insert(peer, octets)?;
+    Ok(())
+}
+
+/// Whether a step has room behind `n` others, if its octets end at place `end` of its remote's stream and the text has `len` bytes with it.
 pub(crate) fn fits_step(n: usize, end: u64, len: usize) -> bool
     ensures { result ≡ nat_lt n 4095 && nat_le end 1048576 && nat_le len 4194304 }
 {

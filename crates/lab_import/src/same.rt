@@ -1,11 +1,12 @@
 //! Whether an input is the laboratory of imported sessions.
 
-ghost use Rattle.std.specs.Prelude.{◌≡◌, ◌≢◌, [], ◌∷◌, ◌++◌, map, None, false, MatchBool, IfOk};
+ghost use Rattle.std.specs.Prelude.{◌≡◌, ◌≢◌, ◌==◌, [], ◌∷◌, ◌++◌, codes, map, position, None, MatchBool, IfOk};
 ghost use Rattle.lab_tables.specs.declared.input.Step.TheVariants.{Settle};
 ghost use Rattle.lab_import.specs.Texts.{first_id as first_id_lem, second_id as second_id_lem, peering_name};
-ghost use Rattle.lab_import.specs.Inputs.{input_of_import, number_of as number_of_lem, peering_of, router_of, step_of, router_named};
+ghost use Rattle.lab_import.specs.Inputs.{input_of_import, number_of as number_of_lem, peering_of, router_of, step_of};
 ghost use Rattle.lab_import.specs.Inputs.{HasEnds, HasDefaults, HasOpens, HasNothingElse};
 
+use crate::limits::is_of;
 use crate::tables::{first_id, second_id};
 use graft_edge::NoMemory;
 use imported_sessions::{Imported, ImportedPeering, Said};
@@ -14,7 +15,7 @@ use std::alloc::Global;
 
 /// Whether a router has this name and this identifier, and nothing but room for all sessions.
 fn same_router(router: &RouterInput, name: &str, id: u32) -> bool
-    ensures { MatchBool result (router.now ≡ router_named name.now id) (router.now ≢ router_named name.now id) }
+    ensures { MatchBool result (router.now ≡ router_of name.now id) (router.now ≢ router_of name.now id) }
 {
     router.name.as_str() == name
         && router.id == id
@@ -26,7 +27,7 @@ fn same_router(router: &RouterInput, name: &str, id: u32) -> bool
 
 /// Whether these are the two routers.
 fn same_routers(routers: &[RouterInput], imported: &Imported) -> bool
-    ensures { let two = router_of 1 (first_id_lem imported.now) ∷ router_of 2 (second_id_lem imported.now) ∷ [] in
+    ensures { let two = router_of (codes "r1") (first_id_lem imported.now) ∷ router_of (codes "r2") (second_id_lem imported.now) ∷ [] in
         MatchBool result (routers.now ≡ two) (routers.now ≢ two) }
 {
     let [first, second] = routers else {
@@ -114,14 +115,18 @@ fn same_peerings(
     Ok(true)
 }
 
+/// Returns the number of a connection's peering, if it has one.
+fn position_of(peerings: &[ImportedPeering], peer: usize) -> Option<usize>
+    ensures { result ≡ position (λ p. p.peer == peer) peerings.now }
+{
+    peerings.iter().position(|peering| is_of(peer, peering))
+}
+
 /// Returns the number of a connection's peering.
 fn number_of(peerings: &[ImportedPeering], peer: usize) -> usize
     ensures { result ≡ number_of_lem peerings.now peer }
 {
-    peerings
-        .iter()
-        .position(|peering| peering.peer == peer)
-        .unwrap_or(0)
+    position_of(peerings, peer).unwrap_or(0)
 }
 
 /// Whether a step says this.

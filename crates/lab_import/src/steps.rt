@@ -7,7 +7,7 @@ ghost use Rattle.lab_import.specs.declared.limits.Beyond.{Beyond as BeyondValue}
 ghost use Rattle.lab_import.specs.declared.limits.TextStop.TheVariants as stops;
 
 use crate::keys::{push_octets, push_text};
-use crate::limits::{Beyond, TextStop, fits_step, said_so_far};
+use crate::limits::{Beyond, TextStop, fits_step, note_said, said_so_far};
 use crate::tables::push_peering_name;
 use graft_edge::NoMemory;
 use imported_sessions::{Imported, Said};
@@ -50,7 +50,7 @@ pub(crate) fn push_steps(
                 octet: place,
             }));
         }
-        said.insert(step.peer, end).map_err(NoMemory::from)?;
+        note_said(&mut said, step.peer, end)?;
     }
     Ok(())
 }

@@ -43,11 +43,11 @@ pub(crate) fn push_peering_name(text: &mut String, key: &str, peer: usize) -> Re
 }
 
 #[tactic(auto, unfolding(crate::specs::Texts::router_table))]
-fn push_router(text: &mut String, number: u64, id: u32) -> Result<(), NoMemory>
-    ensures { OnOk result (string_bytes text.new ≡ string_bytes text.old ++ router_table number id) }
+fn push_router(text: &mut String, name: &str, id: u32) -> Result<(), NoMemory>
+    ensures { OnOk result (string_bytes text.new ≡ string_bytes text.old ++ router_table name.now id) }
 {
     text.push_str("[[router]]\n")?;
-    push_name(text, "name", "r", number)?;
+    push_text(text, "name", name)?;
     push_address(text, "id", id)?;
     push_number(text, "sessions", 32)?;
     text.push_str("\n")?;
@@ -65,7 +65,8 @@ fn push_peering_ends(text: &mut String, peering: &ImportedPeering) -> Result<(),
     push_number(text, "remote_as", u64::from(peering.remote_as))?;
     push_address(text, "remote_address", peering.remote_address)?;
     push_address(text, "local_address", peering.local_address)?;
-    push_address(text, "remote_id", peering.remote_id)
+    push_address(text, "remote_id", peering.remote_id)?;
+    Ok(())
 }
 
 /// Adds what the two sides of a peering say at first.
@@ -127,8 +128,8 @@ pub(crate) fn head_of(alloc: Global, imported: &Imported) -> Result<String, NoMe
     text.push_str("\n")?;
     push_number(&mut text, "home_as", u64::from(imported.home_as))?;
     text.push_str("\n")?;
-    push_router(&mut text, 1, first_id(imported))?;
-    push_router(&mut text, 2, second_id(imported))?;
+    push_router(&mut text, "r1", first_id(imported))?;
+    push_router(&mut text, "r2", second_id(imported))?;
     push_peerings(&mut text, alloc, &imported.peerings)?;
     Ok(text)
 }

@@ -5,7 +5,7 @@ use Rattle.lab_import.proofs.tables.push_peering_ends.Goals as goal
 pub returns : goal.returns
 unfolding peering_ends
 returns c =
-    simp (
+    simp append_assoc (simp (
       c.in_ok-push_address-2.ensures,
       c.in_ok-push_address.ensures,
       c.in_ok-push_number.ensures,
@@ -13,4 +13,4 @@ returns c =
       c.in_ok-push_peering_name.ensures,
       c.in_ok-push_str.ensures.bytes,
       append_assoc,
-    ) at c.push_address-3.ensures
+    ) at c.in_ok-push_address-3.ensures)
