@@ -1,3 +1,4 @@
 pub mod Pairs
 pub mod Peers
+pub mod Readings
 pub mod StepsSoFar

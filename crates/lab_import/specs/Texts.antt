@@ -44,19 +44,23 @@ router_table name id =
     line (codes "[[router]]") ++ text_key (codes "name") name ++ text_key (codes "id") (address_text id)
     ++ line (number_key (codes "sessions") 32)
 
-unfoldable pub peering_ends : ImportedPeering → List ℕ
-peering_ends p =
+unfoldable pub peering_names : ImportedPeering → List ℕ
+peering_names p =
     line (codes "[[peering]]") ++ text_key (codes "name") (peering_name p.peer) ++ text_key (codes "at") (codes "r1")
-    ++ number_key (codes "remote_as") p.remote_as ++ text_key (codes "remote_address") (address_text p.remote_address)
-    ++ text_key (codes "local_address") (address_text p.local_address) ++ text_key (codes "remote_id") (address_text p.remote_id)
+    ++ number_key (codes "remote_as") p.remote_as
+
+unfoldable pub peering_addresses : ImportedPeering → List ℕ
+peering_addresses p =
+    text_key (codes "remote_address") (address_text p.remote_address) ++ text_key (codes "local_address") (address_text p.local_address)
+    ++ text_key (codes "remote_id") (address_text p.remote_id)
 
 unfoldable pub peering_opens : ImportedPeering → List ℕ
 peering_opens p =
     number_key (codes "hold") p.hold ++ text_key (codes "opening") (encode_lower p.opening) ++ flag_key (codes "as4") p.as4
     ++ flag_key (codes "remote_as4") p.remote_as4 ++ number_key (codes "home_hold") p.home_hold ++ line (flag_key (codes "unicast") p.unicast)
 
-abbrev pub peering_table : ImportedPeering → List ℕ
-peering_table p = peering_ends p ++ peering_opens p
+unfoldable pub peering_table : ImportedPeering → List ℕ
+peering_table p = peering_names p ++ peering_addresses p ++ peering_opens p
 
 -- ---- steps
 

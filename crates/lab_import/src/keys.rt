@@ -1,9 +1,9 @@
 //! Lines of a text in TOML.
 
-ghost use Rattle.std.specs.Prelude.{◌≡◌, ◌++◌, OnOk, string_bytes, decimal};
+ghost use Rattle.std.specs.Prelude.{◌≡◌, ◌++◌, OnOk, string_bytes};
 ghost use Rattle.hex.specs.Hex.{encode_lower};
 ghost use Rattle.bgp_types.specs.Texts.{address_text};
-ghost use Rattle.lab_import.specs.Texts.{number_key, text_key, flag_text as flag_text_lem, flag_key};
+ghost use Rattle.lab_import.specs.Texts.{number_key, peering_name, text_key, flag_text as flag_text_lem, flag_key};
 
 use bgp_types::Address;
 use graft_edge::NoMemory;
@@ -28,17 +28,13 @@ pub(crate) fn push_text(text: &mut String, key: &str, value: &str) -> Result<(),
     Ok(())
 }
 
-/// Adds a key with a name that ends in a number.
+/// Adds a key with the name of a connection's peering.
 #[tactic(auto, unfolding(crate::specs::Texts::text_key))]
-pub(crate) fn push_name(
-    text: &mut String,
-    key: &str,
-    letter: &str,
-    number: u64,
-) -> Result<(), NoMemory>
-    ensures { OnOk result (string_bytes text.new ≡ string_bytes text.old ++ text_key key.now (letter.now ++ decimal number)) }
+pub(crate) fn push_peering_name(text: &mut String, key: &str, peer: usize) -> Result<(), NoMemory>
+    ensures { OnOk result (string_bytes text.new ≡ string_bytes text.old ++ text_key key.now (peering_name peer)) }
 {
-    write!(text, "{key} = \"{letter}{number}\"\n")?;
+    let number = (peer as u64).checked_add(1).ok_or(NoMemory)?;
+    write!(text, "{key} = \"p{number}\"\n")?;
     Ok(())
 }
 

@@ -6,9 +6,8 @@ ghost use Rattle.lab_import.specs.Limits.{AllStepsFit, IsStepBeyond};
 ghost use Rattle.lab_import.specs.declared.limits.Beyond.{Beyond as BeyondValue};
 ghost use Rattle.lab_import.specs.declared.limits.TextStop.TheVariants as stops;
 
-use crate::keys::{push_octets, push_text};
+use crate::keys::{push_octets, push_peering_name, push_text};
 use crate::limits::{Beyond, TextStop, fits_step, note_said, said_so_far};
-use crate::tables::push_peering_name;
 use graft_edge::NoMemory;
 use imported_sessions::{Imported, Said};
 use std::alloc::Global;

@@ -2,10 +2,12 @@
 
 ghost use Rattle.std.specs.Prelude.{◌≡◌, ◌++◌, IfOk, OnOk, string_bytes};
 ghost use Rattle.std.specs.List.{flat_map};
-ghost use Rattle.lab_import.specs.Texts.{first_id as first_id_lem, second_id as second_id_lem, router_table, peering_ends, peering_opens, peering_table};
-ghost use Rattle.lab_import.specs.Texts.{peering_name, text_key, graft_text, left_out_text, head_text, tail_text};
+ghost use Rattle.lab_import.specs.Texts.{first_id as first_id_lem, second_id as second_id_lem, router_table, peering_names, peering_addresses, peering_opens, peering_table};
+ghost use Rattle.lab_import.specs.Texts.{graft_text, left_out_text, head_text, tail_text};
 
-use crate::keys::{push_address, push_flag, push_name, push_number, push_octets, push_text};
+use crate::keys::{
+    push_address, push_flag, push_number, push_octets, push_peering_name, push_text,
+};
 use graft_edge::NoMemory;
 use imported_sessions::{Imported, ImportedPeering};
 use std::alloc::Global;
@@ -34,14 +36,6 @@ pub(crate) fn second_id(imported: &Imported) -> u32
     }
 }
 
-/// Adds the name of a connection's peering.
-pub(crate) fn push_peering_name(text: &mut String, key: &str, peer: usize) -> Result<(), NoMemory>
-    ensures { OnOk result (string_bytes text.new ≡ string_bytes text.old ++ text_key key.now (peering_name peer)) }
-{
-    let number = (peer as u64).checked_add(1).ok_or(NoMemory)?;
-    push_name(text, key, "p", number)
-}
-
 #[tactic(auto, unfolding(crate::specs::Texts::router_table))]
 fn push_router(text: &mut String, name: &str, id: u32) -> Result<(), NoMemory>
     ensures { OnOk result (string_bytes text.new ≡ string_bytes text.old ++ router_table name.now id) }
@@ -54,19 +48,25 @@ fn push_router(text: &mut String, name: &str, id: u32) -> Result<(), NoMemory>
     Ok(())
 }
 
-/// Adds the names, the AS, the addresses and the identifier of a peering.
-#[tactic(auto, unfolding(crate::specs::Texts::peering_ends))]
-fn push_peering_ends(text: &mut String, peering: &ImportedPeering) -> Result<(), NoMemory>
-    ensures { OnOk result (string_bytes text.new ≡ string_bytes text.old ++ peering_ends peering.now) }
+/// Adds the name of a peering, its router and the remote's AS.
+#[tactic(auto, unfolding(crate::specs::Texts::peering_names))]
+fn push_peering_names(text: &mut String, peering: &ImportedPeering) -> Result<(), NoMemory>
+    ensures { OnOk result (string_bytes text.new ≡ string_bytes text.old ++ peering_names peering.now) }
 {
     text.push_str("[[peering]]\n")?;
     push_peering_name(text, "name", peering.peer)?;
     push_text(text, "at", "r1")?;
-    push_number(text, "remote_as", u64::from(peering.remote_as))?;
+    push_number(text, "remote_as", u64::from(peering.remote_as))
+}
+
+/// Adds the addresses of a peering and the remote's identifier.
+#[tactic(auto, unfolding(crate::specs::Texts::peering_addresses))]
+fn push_peering_addresses(text: &mut String, peering: &ImportedPeering) -> Result<(), NoMemory>
+    ensures { OnOk result (string_bytes text.new ≡ string_bytes text.old ++ peering_addresses peering.now) }
+{
     push_address(text, "remote_address", peering.remote_address)?;
     push_address(text, "local_address", peering.local_address)?;
-    push_address(text, "remote_id", peering.remote_id)?;
-    Ok(())
+    push_address(text, "remote_id", peering.remote_id)
 }
 
 /// Adds what the two sides of a peering say at first.
@@ -88,6 +88,15 @@ fn push_peering_opens(
     Ok(())
 }
 
+#[tactic(auto, unfolding(crate::specs::Texts::peering_table))]
+fn push_peering(text: &mut String, alloc: Global, peering: &ImportedPeering) -> Result<(), NoMemory>
+    ensures { OnOk result (string_bytes text.new ≡ string_bytes text.old ++ peering_table peering.now) }
+{
+    push_peering_names(text, peering)?;
+    push_peering_addresses(text, peering)?;
+    push_peering_opens(text, alloc, peering)
+}
+
 fn push_peerings(
     text: &mut String,
     alloc: Global,
@@ -96,8 +105,7 @@ fn push_peerings(
     ensures { OnOk result (string_bytes text.new ≡ string_bytes text.old ++ flat_map peering_table peerings.now) }
 {
     for peering in peerings {
-        push_peering_ends(text, peering)?;
-        push_peering_opens(text, alloc, peering)?;
+        push_peering(text, alloc, peering)?;
     }
     Ok(())
 }
