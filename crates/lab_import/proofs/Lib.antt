@@ -1,0 +1,4 @@
+pub mod Pairs
+pub mod Peers
+pub mod Readings
+pub mod StepsSoFar
