@@ -51,13 +51,13 @@ module _ (known : List Peer) (p : Peer) (distinct : AreDistinct known) (none : l
 distinct_with : (known : List Peer) (s : Directed) → AreDistinct known → AreDistinct (with_peer known s)
 distinct_with known s distinct = elim (says s)
     as (λ (b : Bool). AreDistinct (if b then (if list_any (same_remote s.peer) known then known else known ++ s.peer ∷ []) else known)) [
-  | false ↦ distinct
-  | true ↦ elim (list_any (same_remote s.peer) known)
-      as (λ (b : Bool). list_any (same_remote s.peer) known ≡ b → AreDistinct (if b then known else known ++ s.peer ∷ [])) [
-    | true ↦ λ e. distinct
-    | false ↦ λ e. distinct_more known s.peer distinct e
-  ] refl
-]
+      | false ↦ distinct
+      | true ↦ elim (list_any (same_remote s.peer) known)
+          as (λ (b : Bool). list_any (same_remote s.peer) known ≡ b → AreDistinct (if b then known else known ++ s.peer ∷ [])) [
+            | true ↦ λ e. distinct
+            | false ↦ λ e. distinct_more known s.peer distinct e
+          ] refl
+    ]
 
 distinct_all : (known : List Peer) (all : List Directed) → AreDistinct known → AreDistinct (fold with_peer known all)
 distinct_all known [] distinct = distinct

@@ -95,14 +95,14 @@ begun_of first said reach (Some stream) before s done fits closed so_far starts 
     subst (λ (st : Stream). IsSoFar first said reach (Some st) done) same so_far
 begun_of first said reach None before s done fits closed so_far starts at = elim (begins s)
     as (λ (b : Bool). begins s ≡ b → begun_if b s ≡ Some before → IsSoFar first said reach (Some before) done) [
-  | true ↦ λ e is.
-      let same : fresh s ≡ before = cc is in
-      let some : s.octets ≢ [] = λ empty. false≢true (
-        sym (ap (λ (o : Bool). o || not (length s.octets == 0)) closed ∙ ap (λ (xs : List ℕ). false || not (length xs == 0)) empty) ∙ e
-      ) in
-      subst (λ (st : Stream). IsSoFar first said reach (Some st) done) same (begin_of first said reach s fits (starts refl some), so_far)
-  | false ↦ λ e is. absurd (none-some before is)
-] refl at
+      | true ↦ λ e is.
+          let same : fresh s ≡ before = cc is in
+          let some : s.octets ≢ [] = λ empty. false≢true (
+          sym (ap (λ (o : Bool). o || not (length s.octets == 0)) closed ∙ ap (λ (xs : List ℕ). false || not (length xs == 0)) empty) ∙ e
+          ) in
+          subst (λ (st : Stream). IsSoFar first said reach (Some st) done) same (begin_of first said reach s fits (starts refl some), so_far)
+      | false ↦ λ e is. absurd (none-some before is)
+    ] refl at
 
 has_begun : (slot : Option Stream) (before : Stream) (s : Segment) (place : ℕ) → stream_at slot s ≡ Some before → HasIn slot place → Has before place
 has_begun None before s place at has = absurd has
@@ -122,7 +122,8 @@ module _ (first : ℕ) (said : List ℕ) (reach : ℕ) (s : Segment) (rest : Lis
   here_or_later : Reaches first said reach (s ∷ rest) → ReachesHere ⊎ Reaches first said reach rest
   here_or_later (zero, other, offset, there, slice, some, is) =
       let same : other ≡ s = cc there in
-      inl (offset, subst (λ (t : Segment). IsSliceAt first said offset t × (t.octets ≢ []) × (reach ≡ offset + length t.octets)) same (slice, some, is))
+      let h = subst (λ (t : Segment). IsSliceAt first said offset t × (t.octets ≢ []) × (reach ≡ offset + length t.octets)) same (slice, some, is) in
+      inl (offset, h.0, h.1, h.2)
   here_or_later (suc n, other, offset, there, slice, some, is) = inr (n, other, offset, there, slice, some, is)
 
   -- a segment without octets changes nothing
@@ -171,7 +172,7 @@ module _ (first : ℕ) (said : List ℕ) (reach : ℕ) (s : Segment) (rest : Lis
       so_far = (
         of_stream_still first said reach said_fits reach_fits before s slice_here.0 before_is.0 slice_here.1 slice_here.2 octets after brings,
         ap (λ (xs : List ℕ). xs ++ octets) before_is.1
-        ∙ taken_more first said reach said_fits reach_fits before s slice_here.0 before_is.0 slice_here.1 slice_here.2 octets after brings,
+            ∙ taken_more first said reach said_fits reach_fits before s slice_here.0 before_is.0 slice_here.1 slice_here.2 octets after brings,
       );
       each = λ n other there. remains.each (suc n) other there;
       starts = λ none. absurd (none-some after (sym none));

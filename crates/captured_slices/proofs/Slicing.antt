@@ -107,8 +107,8 @@ module _ (first : ℕ) (said : List ℕ) (reach : ℕ) (said_fits : length said 
   brought_there near j from below = (
     get_or s.octets (before.given + j - offset) 0,
     brought_is j
-    ∙ ap (λ (b : Bool). if b then byte_from offset s.octets (before.given + j) else None) (lt-ltb j 16384 (in_window near j from below))
-    ∙ byte_within offset s.octets (before.given + j) from below,
+        ∙ ap (λ (b : Bool). if b then byte_from offset s.octets (before.given + j) else None) (lt-ltb j 16384 (in_window near j from below))
+        ∙ byte_within offset s.octets (before.given + j) from below,
   )
 
   -- ---- the stream behind it
@@ -118,9 +118,9 @@ module _ (first : ℕ) (said : List ℕ) (reach : ℕ) (said_fits : length said 
         → (before.given + j < reach) × (slice_get said (before.given + j) ≡ Some octet)
     between_from j octet is = elim (or_some (byte_ahead before.rest j) (brought before.rest.next s.first s.octets j) octet
         (sym (brings.puts.ahead j) ∙ is)) [
-      | inl old ↦ of.ahead j octet old
-      | inr new ↦ brought_from j octet new.1
-    ]
+          | inl old ↦ of.ahead j octet old
+          | inr new ↦ brought_from j octet new.1
+        ]
 
     given_at : (k octet : ℕ) → slice_get octets k ≡ Some octet → byte_ahead brings.between k ≡ Some octet
     given_at k octet at =

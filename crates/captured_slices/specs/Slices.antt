@@ -31,12 +31,12 @@ sent_by home peer packets = filter_map (λ packet. sent_in home peer (read_packe
 
 -- ---- slices
 
--- The segment has the octets at an offset of what its remote says, whose first octet has this sequence number. It has no more octets than fit in the
--- window.
+-- The segment has the octets at an offset of what its remote says, whose first octet has this sequence number. It has no more octets than are taken in
+-- one piece.
 pub record IsSliceAt (first : ℕ) (said : List ℕ) (offset : ℕ) (s : Segment) : Type 0 where
   pub closed : s.opens ≡ false
   pub number_is : s.first ≡ number first offset
-  pub short : length s.octets ≤ 16384
+  pub short : length s.octets ≤ 4096
   pub within : offset + length s.octets ≤ length said
   pub octets_are : s.octets ≡ take (length s.octets) (drop offset said)
 
