@@ -1,0 +1,5 @@
+mod Types
+mod Slicing
+mod Remaining
+mod Distinct
+mod Joining
