@@ -21,7 +21,8 @@ use Rattle.imported_sessions.proofs.Packing.{filter_both}
 use Rattle.imported_sessions.proofs.Sizes.{ended_all_sized}
 
 -- no message behind an opening is too long for a step
-pub told_short : (count : ℕ) (flows : List Flow) (said : List Said) → said ≡ told_by count flows (length flows) → All (λ message. length message.octets ≤ 4096) said
+pub told_short : (count : ℕ) (flows : List Flow) (said : List Said) → said ≡ told_by count flows (length flows)
+    → All (λ message. length message.octets ≤ 4096) said
 told_short count flows said is =
     let ended = flat_map (ended_at flows) (range_with_len 0 (length flows)) in
     subst (All (λ message. length message.octets ≤ 4096)) (sym is)

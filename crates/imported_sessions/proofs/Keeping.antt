@@ -1,5 +1,6 @@
 -- Sessions that are kept, one behind another.
-use Rattle.std.proofs.Common.{◌≡◌, ℕ, zero, suc, ◌+◌, ◌<◌, Bool, true, false, cond, eqb, not, List, [], ◌∷◌, ◌++◌, length, map, take, get_or, Option, Some, None}
+use Rattle.std.proofs.Common.{◌≡◌, ℕ, zero, suc, ◌+◌, ◌<◌, Bool, true, false, cond, eqb, not, List, [], ◌∷◌, ◌++◌, length, map, take, get_or, Option}
+use Rattle.std.proofs.Common.{Some, None}
 use Rattle.std.proofs.Common.{refl, sym, ap, ◌∙◌, append_assoc, arith}
 use Rattle.std.specs.Prelude.{filter, slice_get}
 use Rattle.std.specs.List.{flat_map, filter_map, cons_option, enumerate_from, range_with_len}
@@ -112,8 +113,8 @@ external_here s opened all home_as k session at =
 
 pub same_kept : (s : Streams) (home_as n m : ℕ) (earlier : List Said) (ps qs : List ImportedPeering) (internal : ℕ) (ss ts : List Said)
     → AreKept s home_as n earlier ps internal ss → m ≡ n → qs ≡ ps → ts ≡ ss → AreKept s home_as m earlier qs internal ts
-same_kept s home_as n m earlier ps qs internal ss ts k len peerings steps = record {
-  peerings_are = peerings ∙ k.peerings_are ∙ ap (λ j. filter_map (peering_at s home_as) (enumerate_from 0 (take j s.peers))) (sym len);
-  counted = ap (λ (xs : List ImportedPeering). internal + length xs) peerings ∙ k.counted ∙ sym len;
-  steps_are = steps ∙ k.steps_are ∙ ap (λ j. earlier ++ flat_map (last_of s.flows) (filter (is_external s home_as) (range_with_len 0 j))) (sym len);
+same_kept s home_as n m earlier ps qs internal ss ts k size peerings steps = record {
+  peerings_are = peerings ∙ k.peerings_are ∙ ap (λ j. filter_map (peering_at s home_as) (enumerate_from 0 (take j s.peers))) (sym size);
+  counted = ap (λ (xs : List ImportedPeering). internal + length xs) peerings ∙ k.counted ∙ sym size;
+  steps_are = steps ∙ k.steps_are ∙ ap (λ j. earlier ++ flat_map (last_of s.flows) (filter (is_external s home_as) (range_with_len 0 j))) (sym size);
 }

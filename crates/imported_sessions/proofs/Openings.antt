@@ -1,5 +1,6 @@
 -- Sessions whose remotes begin with sound OPENs.
-use Rattle.std.proofs.Common.{◌≡◌, ℕ, zero, suc, ◌+◌, ◌<◌, ◌≤◌, Bool, true, false, not, eqb, ltb, List, [], ◌∷◌, ◌++◌, length, map, take, drop, get_or, cond, is_some}
+use Rattle.std.proofs.Common.{◌≡◌, ℕ, zero, suc, ◌+◌, ◌<◌, ◌≤◌, Bool, true, false, not, eqb, ltb, List, [], ◌∷◌, ◌++◌, length, map, take, drop}
+use Rattle.std.proofs.Common.{get_or, cond, is_some}
 use Rattle.std.proofs.Common.{Option, Some, None, IsSome, refl, sym, ap, ◌∙◌, subst, inl, inr, arith}
 use Rattle.std.specs.Prelude.{◌&&◌, ◌||◌, slice_get, IfOk, Result, Ok, Err}
 use Rattle.std.specs.BTreeSet.{BTreeSet, contains}
@@ -30,7 +31,8 @@ use Rattle.imported_sessions.specs.declared.opened.Opened.{Opened}
 use Rattle.imported_sessions.specs.Heard.{opening_of, session_at, session_of}
 use Rattle.imported_sessions.specs.Messages.{stream, messages as messages_of, opening, unfinished}
 use Rattle.imported_sessions.specs.Opened.{AreAllOpened, AreOpened, IsOpened, is_external_in, open_told}
-use Rattle.imported_sessions.specs.Opens.{any_as, as_of, first_home, first_open, has_as, home_open, home_opens, is_external, IsHomeAs, remote_open, remote_opens}
+use Rattle.imported_sessions.specs.Opens.{any_as, as_of, first_home, first_open, has_as, home_open, home_opens, is_external, IsHomeAs, remote_open}
+use Rattle.imported_sessions.specs.Opens.{remote_opens}
 use Rattle.imported_sessions.proofs.Fronts.{first_octets_read, opening_reads}
 use Rattle.imported_sessions.proofs.Packing.{in_more}
 use Rattle.imported_sessions.proofs.Ranges.{next_is}
@@ -146,7 +148,8 @@ each_opens s opened all k low = by_session (slice_get opened k) refl where
 
 -- ---- the AS of the home side
 
-module _ {A B : Type 0} (h : A → Option B) (xs : List A) (i : ℕ) (x : A) (low : i < length xs) (at : x ≡ get_or xs i x) (none : filter_map h (take i xs) ≡ []) where
+module _ {A B : Type 0} (h : A → Option B) (xs : List A) (i : ℕ) (x : A) (low : i < length xs) (at : x ≡ get_or xs i x)
+    (none : filter_map h (take i xs) ≡ []) where
   pub first_found : (y : B) → h x ≡ Some y → Some y ≡ slice_get (filter_map h xs) 0
   first_found y some = sym (
       ap (λ (ys : List A). slice_get (filter_map h ys) 0) (sym (take-append-drop i xs))

@@ -3,7 +3,8 @@ use Rattle.std.proofs.Common.{◌≡◌, ℕ, zero, suc, ◌+◌, ◌-◌, ◌<�
 use Rattle.std.proofs.Common.{Option, Some, None, ◌⊎◌, refl, sym, ap, ◌∙◌, subst, inl, inr, append_assoc, length-append, arith}
 use Rattle.std.specs.Prelude.{◌&&◌, All, slice_get}
 use Rattle.std.specs.List.{filter, flat_map}
-use Rattle.std.proofs.lemmas.Bool.{and_cases, and_left, and_parts, cases_lt, cond-false, cond-true, eq-eqb, le-leb, lt-leb, ne_eqb, eqb-true, eqb-false, leb-true, leb-false, false≢true}
+use Rattle.std.proofs.lemmas.Bool.{and_cases, and_left, and_parts, cases_lt, cond-false, cond-true, eq-eqb, le-leb, lt-leb, ne_eqb, eqb-true}
+use Rattle.std.proofs.lemmas.Bool.{eqb-false, leb-true, leb-false, false≢true}
 use Rattle.std.proofs.lemmas.List.{append-nil, length_push, set_split, drop_all, get_or_at, take_more, take_all}
 use Rattle.std.proofs.lemmas.List.Concat.{flat_map-append}
 use Rattle.std.proofs.lemmas.List.Elements.{All-nil, All-cons, All-get_or, All-push, filter-append}
